@@ -1,0 +1,68 @@
+//! Bytes that go out.
+
+ghost use Rattle.std.specs.Prelude.{◌≡◌, ℕ, ◌≤◌, ◌<◌, List, length, Option, IfOk, OnOk, OnErr, IsErrOf};
+ghost use Rattle.std.specs.Io.KnownBytes.{WriteAppends, Appends};
+ghost use Rattle.lb_base.specs.Causes.{Rose};
+ghost use Rattle.lb_base.specs.Known.{AppendsPart};
+ghost use Rattle.lb_base.specs.declared.sink.GiveErr.TheVariants as errors;
+
+use crate::source::Failed;
+use std::alloc::AllocError;
+
+/// Why a sink did not take bytes.
+#[derive(Clone, Copy, Debug, PartialEq, Eq)]
+pub enum GiveErr {
+    /// The outside failed; the count of faults rose.
+    Failed,
+    /// Memory ran out; nothing was taken.
+    Memory,
+}
+
+impl From<Failed> for GiveErr {
+    ghost from_gives = { λ _ e. e ≡ errors.Failed };
+
+    fn from(_failed: Failed) -> GiveErr {
+        GiveErr::Failed
+    }
+}
+
+impl From<AllocError> for GiveErr {
+    ghost from_gives = { λ _ e. e ≡ errors.Memory };
+
+    fn from(_want: AllocError) -> GiveErr {
+        GiveErr::Memory
+    }
+}
+
+/// A sink of bytes.
+pub trait Sink {
+    /// What it was given, where it tells.
+    ghost held: { Self → Option (List ℕ) };
+
+    /// How many faults there were.
+    ghost faults: { Self → ℕ };
+
+    /// Gives the bytes at the front of `from`, and answers how many it took: at least one where
+    /// there is one. After an `Err` nothing was taken.
+    fn give(&mut self, from: &[u8]) -> Result<usize, GiveErr>
+        ensures within { IfOk result (λ n. n ≤ length from.now) }
+        ensures some { IfOk result (λ n. 0 < length from.now → 0 < n) }
+        ensures bytes { WriteAppends (held self.old) (held self.new) result from.now }
+        ensures later { faults self.old ≤ faults self.new }
+        ensures cause { IsErrOf result errors.Failed → Rose (faults self.old) (faults self.new) };
+}
+
+/// Gives all of the bytes. After an `Err` a front of them was given, and not all.
+pub fn give_all<K: Sink>(sink: &mut K, bytes: &[u8]) -> Result<(), GiveErr>
+    ensures ok { OnOk result (Appends (K.held sink.old) (K.held sink.new) bytes.now) }
+    ensures err { OnErr result (AppendsPart (K.held sink.old) (K.held sink.new) bytes.now) }
+    ensures later { K.faults sink.old ≤ K.faults sink.new }
+    ensures fault { IsErrOf result errors.Failed → Rose (K.faults sink.old) (K.faults sink.new) }
+{
+    let mut given = 0;
+    while given < bytes.len() {
+        let more = sink.give(&bytes[given..])?;
+        given += more;
+    }
+    Ok(())
+}
