@@ -1,0 +1,7 @@
+-- Digests of SHA-1: twenty bytes.
+use Rattle.std.specs.Prelude.{ℕ, List}
+use Rattle.xdr_codec.specs.Format.{Format}
+use Rattle.xdr_codec.specs.Xdr.{fixed_form}
+
+abbrev pub digest_form : Format (List ℕ)
+digest_form = fixed_form 20

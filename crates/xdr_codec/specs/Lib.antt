@@ -1,0 +1,16 @@
+pub mod Format
+pub mod Laws
+pub mod Compose
+pub mod Xdr
+pub mod Choice
+pub mod Repeat
+pub mod Chain
+pub mod Whole
+pub mod Exact
+pub mod Tables
+pub mod Status
+pub mod Handle
+pub mod Digest
+pub mod Attr
+pub mod Answers
+pub mod Rows

@@ -1,0 +1,71 @@
+//! Answers behind their status.
+
+ghost use Rattle.std.specs.Prelude.{◌≡◌, ◌++◌, OnOk};
+ghost use Rattle.xdr_codec.specs.Format.{Gives};
+ghost use Rattle.xdr_codec.specs.Answers.{outcome_form, outcome_of, outcome_number, answer_form, short_answer};
+
+use crate::fault::{Fault, ReadError};
+use crate::item::Item;
+use crate::reader::Reader;
+use crate::status::{Status, from_number, number};
+use crate::writer::Writer;
+use std::alloc::{AllocError, Global};
+
+/// An answer: status OK and the body, or why not and what goes with it.
+#[derive(Drop, Debug)]
+pub enum Answer<T, F> {
+    Done(T),
+    Failed(Status, F),
+}
+
+/// Whether the call was done, or why not.
+#[tactic(auto, unfolding(crate::specs::Answers::outcome_form))]
+fn read_outcome(reader: &mut Reader) -> Result<Option<Status>, ReadError>
+    ensures { Gives result reader.new (outcome_form.read reader.old) }
+{
+    let at = reader.at();
+    let value = reader.u32()?;
+    if value == 0 {
+        return Ok(None);
+    }
+    match from_number(value) {
+        Some(status) => Ok(Some(status)),
+        None => Err(ReadError::Fault(Fault::BadValue { at, value })),
+    }
+}
+
+#[tactic(auto, unfolding(crate::specs::Answers::outcome_form))]
+fn write_outcome(writer: &mut Writer, outcome: Option<Status>) -> Result<(), AllocError>
+    ensures { OnOk result (writer.new ≡ writer.old ++ outcome_form.spell outcome) }
+{
+    match outcome {
+        None => writer.u32(0),
+        Some(status) => writer.u32(number(status)),
+    }
+}
+
+impl<T: Item, F: Item> Item for Answer<T, F> {
+    ghost form = { answer_form T.form F.form };
+
+    ghost short = { short_answer T.short F.short };
+
+    fn read(alloc: Global, reader: &mut Reader) -> Result<Answer<T, F>, ReadError> {
+        match read_outcome(reader)? {
+            None => Ok(Answer::Done(T::read(alloc, reader)?)),
+            Some(status) => Ok(Answer::Failed(status, F::read(alloc, reader)?)),
+        }
+    }
+
+    fn write(&self, writer: &mut Writer) -> Result<(), AllocError> {
+        match self {
+            Answer::Done(body) => {
+                write_outcome(writer, None)?;
+                body.write(writer)
+            }
+            Answer::Failed(status, body) => {
+                write_outcome(writer, Some(*status))?;
+                body.write(writer)
+            }
+        }
+    }
+}

@@ -1,0 +1,193 @@
+//! Items of any type.
+
+ghost use Rattle.std.specs.Prelude.{◌≡◌, ℕ, OnOk, ◌++◌, All, length, ◌<◌, ◌≤◌, ◌^◌, IfSome};
+ghost use Rattle.std.specs.List.{flat_map};
+ghost use Rattle.xdr_codec.specs.Format.{Format, Gives, Input};
+ghost use Rattle.xdr_codec.specs.Xdr.{u32_form, u64_form, bool_form};
+ghost use Rattle.xdr_codec.specs.Choice.{optional};
+ghost use Rattle.xdr_codec.specs.Repeat.{repeated, counted};
+ghost use Rattle.xdr_codec.specs.Chain.{chained, link_spell};
+
+use crate::fault::{Fault, ReadError};
+use crate::reader::Reader;
+use crate::writer::Writer;
+use lb_base::items::Items;
+use std::alloc::{AllocError, Global};
+
+/// What has a format.
+pub trait Item: Sized + Drop {
+    // how it is spelled and read
+    ghost form: { Format Self };
+
+    // its byte strings and lists are no longer than their maxima
+    ghost short: { Self → Type 0 };
+
+    /// Reads one from the front of a record. After an `Err` the reader may stand anywhere in it.
+    fn read(alloc: Global, reader: &mut Reader) -> Result<Self, ReadError>
+        ensures { Gives result reader.new (form.read reader.old) };
+
+    /// Writes its spelling. After an `Err` the writer may hold a part of it.
+    fn write(&self, writer: &mut Writer) -> Result<(), AllocError>
+        ensures spelled { OnOk result (writer.new ≡ writer.old ++ form.spell self.now) }
+        ensures fits { OnOk result (short self.now → form.Fits self.now) };
+}
+
+impl Item for u32 {
+    ghost form = { u32_form };
+
+    ghost short = { λ _. Unit {0} };
+
+    fn read(_alloc: Global, reader: &mut Reader) -> Result<u32, ReadError> {
+        reader.u32()
+    }
+
+    fn write(&self, writer: &mut Writer) -> Result<(), AllocError> {
+        writer.u32(*self)
+    }
+}
+
+impl Item for u64 {
+    ghost form = { u64_form };
+
+    ghost short = { λ _. Unit {0} };
+
+    fn read(_alloc: Global, reader: &mut Reader) -> Result<u64, ReadError> {
+        reader.u64()
+    }
+
+    fn write(&self, writer: &mut Writer) -> Result<(), AllocError> {
+        writer.u64(*self)
+    }
+}
+
+impl Item for bool {
+    ghost form = { bool_form };
+
+    ghost short = { λ _. Unit {0} };
+
+    fn read(_alloc: Global, reader: &mut Reader) -> Result<bool, ReadError> {
+        reader.bool()
+    }
+
+    fn write(&self, writer: &mut Writer) -> Result<(), AllocError> {
+        writer.bool(*self)
+    }
+}
+
+impl Item for () {
+    ghost use Rattle.xdr_codec.specs.Compose.{nothing};
+
+    ghost form = { nothing tt };
+
+    ghost short = { λ _. Unit {0} };
+
+    fn read(_alloc: Global, _reader: &mut Reader) -> Result<(), ReadError> {
+        Ok(())
+    }
+
+    fn write(&self, _writer: &mut Writer) -> Result<(), AllocError> {
+        Ok(())
+    }
+}
+
+impl<T: Item> Item for Option<T> {
+    ghost form = { optional T.form };
+
+    ghost short = { λ o. IfSome o T.short };
+
+    fn read(alloc: Global, reader: &mut Reader) -> Result<Option<T>, ReadError> {
+        if reader.bool()? {
+            Ok(Some(T::read(alloc, reader)?))
+        } else {
+            Ok(None)
+        }
+    }
+
+    fn write(&self, writer: &mut Writer) -> Result<(), AllocError> {
+        match self {
+            None => writer.bool(false),
+            Some(item) => {
+                writer.bool(true)?;
+                item.write(writer)
+            }
+        }
+    }
+}
+
+/// So many items.
+fn read_many<T: Item>(alloc: Global, count: u32, reader: &mut Reader) -> Result<Items<T>, ReadError>
+    ensures { Gives result reader.new ((repeated T.form count).read reader.old) }
+{
+    let mut items = Vec::new(alloc);
+    for _ in 0..count {
+        let item = T::read(alloc, reader)?;
+        items.push(item)?;
+    }
+    Ok(Items::from_vec(items))
+}
+
+/// Items behind their number.
+pub fn read_counted<T: Item>(
+    alloc: Global,
+    max: u32,
+    reader: &mut Reader,
+) -> Result<Items<T>, ReadError>
+    ensures { Gives result reader.new ((counted max T.form).read reader.old) }
+{
+    let count = reader.count(max)?;
+    read_many(alloc, count, reader)
+}
+
+fn write_many<T: Item>(writer: &mut Writer, items: &[T]) -> Result<(), AllocError>
+    ensures spelled { OnOk result (writer.new ≡ writer.old ++ flat_map T.form.spell items.now) }
+    ensures fits { OnOk result (All T.short items.now → All T.form.Fits items.now) }
+{
+    for item in items {
+        item.write(writer)?;
+    }
+    Ok(())
+}
+
+/// Items, each behind a true, and a false.
+pub fn read_chain<T: Item>(alloc: Global, reader: &mut Reader) -> Result<Items<T>, ReadError>
+    ensures { Gives result reader.new ((chained T.form).read reader.old) }
+{
+    let most = reader.left();
+    let mut items = Vec::new(alloc);
+    for _ in 0..most {
+        match Option::read(alloc, reader)? {
+            None => return Ok(Items::from_vec(items)),
+            Some(item) => items.push(item)?,
+        }
+    }
+    Err(ReadError::Fault(Fault::Short { at: reader.at() }))
+}
+
+fn write_link<T: Item>(writer: &mut Writer, item: &T) -> Result<(), AllocError>
+    ensures spelled { OnOk result (writer.new ≡ writer.old ++ link_spell T.form item.now) }
+    ensures fits { OnOk result (T.short item.now → T.form.Fits item.now) }
+{
+    writer.bool(true)?;
+    item.write(writer)
+}
+
+/// Items, each behind a true, and a false.
+pub fn write_chain<T: Item>(writer: &mut Writer, items: &[T]) -> Result<(), AllocError>
+    ensures spelled { OnOk result (writer.new ≡ writer.old ++ (chained T.form).spell items.now) }
+    ensures fits { OnOk result (All T.short items.now → All T.form.Fits items.now) }
+{
+    for item in items {
+        write_link(writer, item)?;
+    }
+    writer.bool(false)
+}
+
+/// Items behind their number.
+#[tactic(auto, unfolding(crate::specs::Xdr::count_form, crate::specs::Xdr::u32_form))]
+pub fn write_counted<T: Item>(writer: &mut Writer, items: &[T]) -> Result<(), AllocError>
+    ensures spelled { (max : ℕ) → OnOk result (writer.new ≡ writer.old ++ (counted max T.form).spell items.now) }
+    ensures fits { OnOk result ((max : ℕ) → length items.now ≤ max → max < 2 ^ 32 → All T.short items.now → (counted max T.form).Fits items.now) }
+{
+    writer.u32((items.len() % 0x1_0000_0000) as u32)?;
+    write_many(writer, items)
+}

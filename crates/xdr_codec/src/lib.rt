@@ -1,0 +1,17 @@
+//! XDR items: formats as values with laws, a reader and a writer, and the parts of messages that
+//! NFS and LBFS share.
+#![tactic(auto)]
+
+pub mod answer;
+pub mod attr;
+pub mod digest;
+pub mod fault;
+pub mod handle;
+pub mod item;
+pub mod laws;
+pub mod reader;
+pub mod status;
+#[cfg(test)]
+mod tests;
+pub mod whole;
+pub mod writer;
