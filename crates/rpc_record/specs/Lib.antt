@@ -1,0 +1,6 @@
+pub mod Records
+pub mod Progress
+pub mod Framed
+pub mod Header
+pub mod Messages
+pub mod Rows

@@ -1,0 +1,35 @@
+//! What records keep, whatever the pieces in which their bytes come.
+
+ghost use Rattle.std.specs.Prelude.{◌≡◌, ℕ, List, ◌++◌};
+ghost use Rattle.std.specs.List.{concat};
+ghost use Rattle.xdr_codec.specs.Format.{IsBytes};
+ghost use Rattle.rpc_record.specs.Framed.{Framed, IsFramed};
+ghost use Rattle.rpc_record.specs.Messages.{IsHeader, call_spell, CallFits, call_read, reply_spell, ReplyFits, reply_read};
+ghost use Rattle.rpc_record.specs.Records.{split, continued, all_fed, nothing_read, stream, CanSend, Came};
+
+/// The records that are split off are those that the bytes carry in fragments, and a refusal
+/// comes exactly where a bad header stands behind them.
+pub fn records_are_framed()
+    ensures sound { (bytes : List ℕ) → IsBytes bytes → IsFramed bytes (split bytes) }
+    ensures complete { (records : List (List ℕ)) (bytes rest : List ℕ) → Framed records bytes rest → split bytes ≡ record { records = records ++ (split rest).records; rest = (split rest).rest; spoilt = (split rest).spoilt } }
+{}
+
+/// However bytes are cut into pieces, the pieces give the records of the whole, one after the
+/// other; and a stream that is spoilt stays so.
+pub fn cuts_do_not_matter()
+    ensures pieces { (pieces : List (List ℕ)) → all_fed nothing_read pieces ≡ split (concat pieces) }
+    ensures more { (bytes more : List ℕ) → split (bytes ++ more) ≡ continued (split bytes) more }
+{}
+
+/// Of records that were sent, each as one fragment, those come whose bytes have come, and what is
+/// left over is the beginning of the others.
+pub fn streams_come_whole()
+    ensures { (records : List (List ℕ)) (bytes behind : List ℕ) → CanSend records → bytes ++ behind ≡ stream records → Came records behind (split bytes) }
+{}
+
+/// A header is read exactly where its spelling stands, and what is spelled is read again, whatever
+/// follows it.
+pub fn headers_are_exact()
+    ensures calls { IsHeader call_spell CallFits call_read }
+    ensures replies { IsHeader reply_spell ReplyFits reply_read }
+{}

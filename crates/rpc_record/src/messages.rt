@@ -1,0 +1,90 @@
+//! Whole headers of calls and replies (RFC 5531, section 9).
+//!
+//! A reader is left behind the header, where the arguments or the result begin.
+
+ghost use Rattle.std.specs.Prelude.{◌≡◌, ◌++◌, ◌≤◌, length, OnOk};
+ghost use Rattle.rpc_record.specs.Header.{short_reply};
+ghost use Rattle.rpc_record.specs.Messages.{HeaderGives, call_read, call_spell, CallFits, reply_read, reply_spell, ReplyFits};
+
+use crate::header::{CallHead, ReplyHead};
+use crate::refusal::HeaderError;
+use std::alloc::{AllocError, Global};
+use xdr_codec::item::Item;
+use xdr_codec::reader::Reader;
+use xdr_codec::writer::Writer;
+
+/// The number of a call (msg_type).
+const CALL: u32 = 0;
+
+/// The number of a reply (msg_type).
+const REPLY: u32 = 1;
+
+/// The header of a call.
+#[derive(Drop, Debug)]
+pub struct Call {
+    /// The number by which its reply is known.
+    pub xid: u32,
+    /// The version of RPC; a call of another version than 2 is answered by `RpcMismatch`.
+    pub rpcvers: u32,
+    pub head: CallHead,
+}
+
+/// The header of a reply.
+#[derive(Drop, Debug)]
+pub struct Reply {
+    /// The number of the call that it answers.
+    pub xid: u32,
+    pub head: ReplyHead,
+}
+
+impl Call {
+    /// Reads the header of a call; `BadType` where the message is not a call.
+    pub fn read(alloc: Global, reader: &mut Reader) -> Result<Call, HeaderError>
+        ensures { HeaderGives result reader.new (call_read reader.old) }
+    {
+        let xid = reader.u32()?;
+        let value = reader.u32()?;
+        if value != CALL {
+            return Err(HeaderError::BadType { value });
+        }
+        let rpcvers = reader.u32()?;
+        let head = CallHead::read(alloc, reader)?;
+        Ok(Call { xid, rpcvers, head })
+    }
+
+    /// Writes the header; only memory can be wanting.
+    pub fn write(&self, writer: &mut Writer) -> Result<(), AllocError>
+        ensures spelled { OnOk result (writer.new ≡ writer.old ++ call_spell self.now) }
+        ensures fits { OnOk result (length self.now.head.cred.body ≤ 400 → length self.now.head.verf.body ≤ 400 → CallFits self.now) }
+    {
+        writer.u32(self.xid)?;
+        writer.u32(CALL)?;
+        writer.u32(self.rpcvers)?;
+        self.head.write(writer)
+    }
+}
+
+impl Reply {
+    /// Reads the header of a reply; `BadType` where the message is not a reply.
+    pub fn read(alloc: Global, reader: &mut Reader) -> Result<Reply, HeaderError>
+        ensures { HeaderGives result reader.new (reply_read reader.old) }
+    {
+        let xid = reader.u32()?;
+        let value = reader.u32()?;
+        if value != REPLY {
+            return Err(HeaderError::BadType { value });
+        }
+        let head = ReplyHead::read(alloc, reader)?;
+        Ok(Reply { xid, head })
+    }
+
+    /// Writes the header; only memory can be wanting.
+    pub fn write(&self, writer: &mut Writer) -> Result<(), AllocError>
+        ensures spelled { OnOk result (writer.new ≡ writer.old ++ reply_spell self.now) }
+        ensures fits { OnOk result (short_reply self.now.head → ReplyFits self.now) }
+    {
+        writer.u32(self.xid)?;
+        writer.u32(REPLY)?;
+        self.head.write(writer)
+    }
+}

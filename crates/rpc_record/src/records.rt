@@ -1,0 +1,151 @@
+//! Records out of a stream of bytes that comes in pieces.
+
+ghost use Rattle.std.specs.Prelude.{◌≡◌, ◌≤◌, IfOk, OnErr, drop, length};
+ghost use Rattle.rpc_record.specs.Records.{nothing_read, fed};
+ghost use Rattle.rpc_record.specs.Progress.{Reaches, IsCut};
+
+use crate::fragments::{Found, Progress, START, find, join};
+use crate::refusal::Refusal;
+use lb_base::items::{Bytes, Items};
+use std::alloc::{AllocError, Global};
+use std::marker::Model;
+
+/// What a piece of a stream completed.
+#[derive(Drop, Debug)]
+pub struct Fed {
+    /// The records that end in the piece, in order.
+    pub records: Items<Bytes>,
+    /// Why no record can follow, if none can.
+    pub spoilt: Option<Refusal>,
+}
+
+/// What was found in some bytes.
+struct Cut {
+    /// The whole records.
+    pub records: Vec<Bytes>,
+    /// How many bytes are done with.
+    pub used: usize,
+    /// What is known of the record that begins behind them.
+    pub progress: Progress,
+    /// Why no record can follow.
+    pub spoilt: Option<Refusal>,
+}
+
+/// The whole records at the front of some bytes, of the first of which so much is known.
+fn cut_off(alloc: Global, bytes: &Vec<u8>, known: Progress) -> Result<Cut, AllocError>
+    requires { Reaches bytes.now.items known }
+    ensures { IfOk result (λ cut. IsCut bytes.now.items cut) }
+{
+    let mut records = Vec::new(alloc);
+    let mut known = known;
+    let mut used = 0;
+    let mut left = bytes.as_slice();
+    loop {
+        match find(left, known) {
+            Found::Whole { end } => {
+                records.push(join(alloc, left)?)?;
+                left = left.split_at(end).1;
+                used += end;
+                known = START;
+            }
+            Found::Begun(progress) => {
+                return Ok(Cut {
+                    records,
+                    used,
+                    progress,
+                    spoilt: None,
+                });
+            }
+            Found::Bad(why) => {
+                return Ok(Cut {
+                    records,
+                    used: bytes.len(),
+                    progress: START,
+                    spoilt: Some(why),
+                });
+            }
+        }
+    }
+}
+
+/// Forgets the first bytes; those behind them move to the front.
+fn forget(bytes: &mut Vec<u8>, used: usize)
+    requires { used ≤ length bytes.old.items }
+    ensures { bytes.new.items ≡ drop used bytes.old.items }
+{
+    let left = bytes.len() - used;
+    bytes.copy_within(used.., 0);
+    bytes.truncate(left);
+}
+
+/// One end of a stream of records.
+#[derive(Drop)]
+pub struct Records {
+    rest: Vec<u8>,
+    known: Progress,
+    spoilt: Option<Refusal>,
+}
+
+impl Model for Records {
+    ghost use Rattle.rpc_record.specs.Records.{Unread};
+    ghost use Rattle.rpc_record.specs.Progress.{Reaches};
+
+    ghost Value = { Unread };
+
+    ghost view = { λ r. record { rest = r.rest.items; spoilt = r.spoilt } };
+
+    ghost invariant = { λ r. Reaches r.rest.items r.known };
+}
+
+impl Records {
+    /// Nothing has come yet.
+    pub fn new(alloc: Global) -> Records
+        ensures { result ≡ nothing_read }
+    {
+        Records {
+            rest: Vec::new(alloc),
+            known: START,
+            spoilt: None,
+        }
+    }
+
+    /// Takes a piece of the stream, and gives the records that end in it.
+    ///
+    /// Once a header was met that no record may have, it gives no record, and the same refusal
+    /// ever after. Where memory runs out, the piece was not taken.
+    pub fn feed(&mut self, alloc: Global, piece: &[u8]) -> Result<Fed, AllocError>
+        ensures ok { IfOk result (λ given. fed self.old piece.now ≡ (self.new, given)) }
+        ensures err { OnErr result (self.new ≡ self.old) }
+    {
+        if let Some(why) = self.spoilt {
+            return Ok(Fed {
+                records: Items::new(alloc),
+                spoilt: Some(why),
+            });
+        }
+        let kept = self.rest.len();
+        self.rest.extend_from_slice(piece)?;
+        match cut_off(alloc, &self.rest, self.known) {
+            Err(failed) => {
+                self.rest.truncate(kept);
+                Err(failed)
+            }
+            Ok(
+                Cut {
+                    records,
+                    used,
+                    progress,
+                    spoilt,
+                },
+            ) => {
+                forget(&mut self.rest, used);
+                self.known = progress;
+                self.spoilt = spoilt;
+                Ok(Fed {
+                    records: Items::from_vec(records),
+                    spoilt,
+                })
+            }
+        }
+    }
+}

@@ -1,0 +1,56 @@
+//! Why bytes are no record, and why a record is not sent.
+
+ghost use Rattle.std.specs.Prelude.{◌≡◌};
+ghost use Rattle.rpc_record.specs.declared.refusal.MarkError.TheVariants.{Memory};
+ghost use Rattle.rpc_record.specs.Messages.{told};
+
+use std::alloc::AllocError;
+use xdr_codec::fault::{Fault, ReadError};
+
+/// Why a stream is spoilt: a header that no record may have.
+#[derive(Clone, Copy, Debug, PartialEq, Eq)]
+pub enum Refusal {
+    /// The headers of a record promise so many bytes, which are more than 131,072.
+    TooBig { len: usize },
+    /// A record has a 1,025th fragment.
+    TooManyFragments,
+}
+
+/// Why a record was not marked.
+#[derive(Debug, Drop, PartialEq, Eq)]
+pub enum MarkError {
+    /// It has so many bytes, which are more than 131,072.
+    TooBig { len: usize },
+    /// Memory ran out.
+    Memory,
+}
+
+impl From<AllocError> for MarkError {
+    ghost from_gives = { λ _ e. e ≡ Memory };
+
+    fn from(_e: AllocError) -> MarkError {
+        MarkError::Memory
+    }
+}
+
+/// Why a record does not begin with the header that was asked for.
+#[derive(Debug, Drop)]
+pub enum HeaderError {
+    /// An item of the header could not be read.
+    Xdr(Fault),
+    /// The message is of another type, which has this number.
+    BadType { value: u32 },
+    /// Memory ran out.
+    Memory,
+}
+
+impl From<ReadError> for HeaderError {
+    ghost from_gives = { λ e told_of. told_of ≡ told e };
+
+    fn from(error: ReadError) -> HeaderError {
+        match error {
+            ReadError::Memory => HeaderError::Memory,
+            ReadError::Fault(fault) => HeaderError::Xdr(fault),
+        }
+    }
+}
