@@ -1,0 +1,3 @@
+pub mod Calls
+pub mod Lb
+pub mod Rows

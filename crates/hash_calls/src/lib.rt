@@ -1,0 +1,9 @@
+//! The calls of LBFS (Muthitacharoen, Chen and Mazieres, SOSP 2001), program 0x20004C42: arguments
+//! and answers as values, read from a record and written to it.
+#![tactic(auto)]
+
+pub mod call;
+pub mod lb;
+pub mod message;
+#[cfg(test)]
+mod tests;
