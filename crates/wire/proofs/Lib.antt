@@ -1,0 +1,4 @@
+pub mod Again
+pub mod Said
+pub mod Bounds
+pub mod Sizes

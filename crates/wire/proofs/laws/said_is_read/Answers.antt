@@ -1,0 +1,5 @@
+use Rattle.wire.proofs.Again.{said_again}
+use Rattle.wire.proofs.laws.said_is_read.Goals as goal
+
+pub returns : goal.returns
+returns c = said_again

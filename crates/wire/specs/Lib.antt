@@ -1,0 +1,4 @@
+pub mod Message
+pub mod Parse
+pub mod Size
+pub mod Rows

@@ -1,0 +1,153 @@
+-- Which message a record is, or why it is none.
+use Rattle.std.specs.Prelude.{◌≡◌, ℕ, List, [], ◌∷◌, Bool, true, false, ◌&&◌, ◌==◌, if◌then◌else◌, Option, Some, None, Result, Ok, Err, IsSome}
+use Rattle.xdr_codec.specs.declared.fault.Fault.{Fault}
+use Rattle.xdr_codec.specs.declared.fault.Fault.TheVariants.{Short, BadBool, BadFill, TooLong, Trailing, BadValue}
+use Rattle.xdr_codec.specs.declared.fault.ReadError.{ReadError}
+use Rattle.xdr_codec.specs.declared.fault.ReadError.TheVariants as errors
+use Rattle.xdr_codec.specs.Format.{Input, whole_at, ended}
+use Rattle.xdr_codec.specs.Xdr.{u32_form}
+use Rattle.nfs3_calls.specs.Nfs as nfs
+use Rattle.hash_calls.specs.Lb as lb
+use Rattle.rpc_record.specs.Header.{front_form, call_form, reply_form}
+use Rattle.wire.specs.Message.{nfs_number, lbfs_number, program_of, args_of, result_of}
+use Rattle.rpc_record.specs.declared.header.Direction.{Direction}
+use Rattle.rpc_record.specs.declared.header.Direction.TheVariants as direction
+use Rattle.rpc_record.specs.declared.header.CallHead.{CallHead}
+use Rattle.rpc_record.specs.declared.header.Accept.TheVariants as accept
+use Rattle.rpc_record.specs.declared.header.Denial.TheVariants as denial
+use Rattle.rpc_record.specs.declared.header.ReplyHead.{ReplyHead}
+use Rattle.rpc_record.specs.declared.header.ReplyHead.TheVariants.{Accepted, Denied}
+use Rattle.wire.specs.declared.message.Body.{Body}
+use Rattle.wire.specs.declared.message.Side.{Side}
+use Rattle.wire.specs.declared.message.Side.TheVariants.{Server, Client, Either}
+use Rattle.wire.specs.declared.message.Program.{Program}
+use Rattle.wire.specs.declared.message.Program.TheVariants as program
+use Rattle.wire.specs.declared.message.Pending.{Pending}
+use Rattle.wire.specs.declared.message.Waiting.{Waiting}
+use Rattle.wire.specs.declared.message.RpcRefusal.{RpcRefusal}
+use Rattle.wire.specs.declared.message.RpcRefusal.TheVariants as refusal
+use Rattle.wire.specs.declared.message.Message.{Message}
+use Rattle.wire.specs.declared.message.Message.TheVariants.{Call, Answer, Refuse, Unfit}
+use Rattle.wire.specs.declared.message.WireErr.{WireErr}
+use Rattle.wire.specs.declared.message.WireErr.TheVariants.{NotRpc, UnknownXid, Garbage, Memory}
+
+-- ---- what is expected
+
+-- where NFS and LBFS are served
+abbrev pub serves_files : Side → Bool
+serves_files Server = true
+serves_files Client = false
+serves_files Either = true
+
+abbrev pub serves : Side → Program → Bool
+serves side (program.Nfs p) = serves_files side
+serves side (program.Lb p) = serves_files side
+
+-- what waits under an xid
+abbrev pub waiting : ℕ → List Pending → Option Program
+waiting xid [] = None
+waiting xid (p ∷ others) =
+    let later : Option Program = waiting xid others in
+    if p.xid == xid then Some p.program else later
+
+-- a message that may come: a call of a program that is served, or an answer that is waited for
+abbrev pub IsExpected : Waiting → Message → Type 0
+IsExpected w (Call xid b) = serves w.side (program_of b) ≡ true
+IsExpected w (Answer xid b) = waiting xid w.calls ≡ Some (program_of b)
+IsExpected w (Refuse xid why) = IsSome (waiting xid w.calls)
+IsExpected w (Unfit xid why) = Unit {0}
+
+-- ---- a record is tested in this order
+
+-- where the item begins that could not be read
+abbrev pub fault_at : Fault → ℕ
+fault_at (Short at) = at
+fault_at (BadBool at value) = at
+fault_at (BadFill at) = at
+fault_at (TooLong at len max) = at
+fault_at (Trailing at) = at
+fault_at (BadValue at value) = at
+
+-- what a reader's refusal is called in a header, and in an answer
+abbrev pub not_rpc : ReadError → WireErr
+not_rpc errors.Memory = Memory
+not_rpc (errors.Fault fault) = NotRpc (fault_at fault)
+
+abbrev pub garbage : ReadError → WireErr
+garbage errors.Memory = Memory
+garbage (errors.Fault fault) = Garbage (fault_at fault)
+
+-- what is read, and then; or why not
+abbrev pub read_or : {A B : Type 0} → (ℕ → WireErr) → Result A Fault → (A → Result B WireErr) → Result B WireErr
+read_or wrong (Ok a) go = go a
+read_or wrong (Err fault) go = Err (wrong (fault_at fault))
+
+abbrev pub procedure_of : {P : Type 0} → (P → Program) → Option P → Result Program RpcRefusal
+procedure_of name (Some p) = Ok (name p)
+procedure_of name None = Err refusal.ProcUnavail
+
+abbrev pub versioned : (own version : ℕ) → Result Program RpcRefusal → Result Program RpcRefusal
+versioned own version found = if version == own then found else Err (refusal.ProgMismatch own own)
+
+-- the program, then its version, then the procedure
+abbrev pub called : Side → CallHead → Result Program RpcRefusal
+called side h =
+    if serves_files side && h.program == nfs_number then versioned 3 h.version (procedure_of program.Nfs (nfs.proc_of h.procedure))
+    else if serves_files side && h.program == lbfs_number then versioned 1 h.version (procedure_of program.Lb (lb.proc_of h.procedure))
+    else Err refusal.ProgUnavail
+
+-- the arguments fill the rest of the record
+abbrev pub with_args : ℕ → Result Body Fault → Message
+with_args xid (Ok b) = Call xid b
+with_args xid (Err fault) = Unfit xid refusal.GarbageArgs
+
+abbrev pub taken : ℕ → Result Program RpcRefusal → Input → Message
+taken xid (Ok p) i = with_args xid (whole_at i.at (args_of p) i.rest)
+taken xid (Err why) i = Unfit xid why
+
+-- a call behind the version of RPC
+abbrev pub parse_call_body : Side → ℕ → Input → Result Message WireErr
+parse_call_body side xid i = read_or NotRpc (call_form.read i) (λ head. Ok (taken xid (called side head.0) head.1))
+
+-- a call, from the version of RPC on
+abbrev pub parse_call : Side → ℕ → Input → Result Message WireErr
+parse_call side xid i =
+    read_or NotRpc (u32_form.read i) (λ version.
+    if version.0 == 2 then parse_call_body side xid version.1
+    else Ok (Unfit xid (refusal.RpcMismatch 2 2)))
+
+abbrev pub refusal_of : ReplyHead → Option RpcRefusal
+refusal_of (Accepted verf accept.Success) = None
+refusal_of (Accepted verf accept.ProgUnavail) = Some refusal.ProgUnavail
+refusal_of (Accepted verf (accept.ProgMismatch v)) = Some (refusal.ProgMismatch v.low v.high)
+refusal_of (Accepted verf accept.ProcUnavail) = Some refusal.ProcUnavail
+refusal_of (Accepted verf accept.GarbageArgs) = Some refusal.GarbageArgs
+refusal_of (Accepted verf accept.SystemErr) = Some refusal.SystemErr
+refusal_of (Denied (denial.RpcMismatch v)) = Some (refusal.RpcMismatch v.low v.high)
+refusal_of (Denied (denial.AuthError why)) = Some (refusal.AuthError why)
+
+-- the result fills the rest of the record, and nothing follows a refusal
+abbrev pub replied : ℕ → Program → Option RpcRefusal → Input → Result Message WireErr
+replied xid p None i = read_or Garbage (whole_at i.at (result_of p) i.rest) (λ b. Ok (Answer xid b))
+replied xid p (Some why) i = read_or Garbage (ended i) (λ _. Ok (Refuse xid why))
+
+-- an answer to what waits under its xid
+abbrev pub parse_reply : ℕ → Option Program → Input → Result Message WireErr
+parse_reply xid (Some p) i = read_or Garbage (reply_form.read i) (λ head. replied xid p (refusal_of head.0) head.1)
+parse_reply xid None i = Err (UnknownXid xid)
+
+abbrev pub parse_by : Waiting → ℕ → Direction → Input → Result Message WireErr
+parse_by w xid direction.Call i = parse_call w.side xid i
+parse_by w xid direction.Reply i = parse_reply xid (waiting xid w.calls) i
+
+-- the message that a record is where these are expected, or why it is none; never for want of memory
+abbrev pub parse_of : Waiting → List ℕ → Result Message WireErr
+parse_of w bytes = read_or NotRpc (front_form.read (record { at = 0; rest = bytes })) (λ front. parse_by w front.0.xid front.0.direction front.1)
+
+-- what a function returned is the message that the record is, or why it is none, unless memory ran out
+abbrev pub IsParsed : Result Message WireErr → Result Message WireErr → Type 0
+IsParsed (Ok m) parsed = parsed ≡ Ok m
+IsParsed (Err Memory) parsed = Unit {0}
+IsParsed (Err (NotRpc at)) parsed = parsed ≡ Err (NotRpc at)
+IsParsed (Err (UnknownXid xid)) parsed = parsed ≡ Err (UnknownXid xid)
+IsParsed (Err (Garbage at)) parsed = parsed ≡ Err (Garbage at)

@@ -1,0 +1,32 @@
+//! What holds of every message and every record.
+
+ghost use Rattle.std.specs.Prelude.{◌≡◌, ℕ, List, Ok, false};
+ghost use Rattle.xdr_codec.specs.Format.{IsBytes};
+ghost use Rattle.wire.specs.Message.{message_spell, is_unfit, IsSpelled, MessageFits, Says};
+ghost use Rattle.wire.specs.Parse.{parse_of, IsExpected};
+ghost use Rattle.wire.specs.Size.{IsSmall};
+ghost use Rattle.wire.specs.declared.message.Message.{Message};
+ghost use Rattle.wire.specs.declared.message.Waiting.{Waiting};
+
+/// What is sent is read again by the other end: a call where its program is served, an answer or
+/// a refusal where its xid waits for it.
+pub fn sent_is_read()
+    ensures { (w : Waiting) (m : Message) → IsSpelled m → IsExpected w m → parse_of w (message_spell m) ≡ Ok m }
+{}
+
+/// Every record that says a message is read as it, whatever its authentication items are.
+pub fn said_is_read()
+    ensures { (w : Waiting) (m : Message) (bytes : List ℕ) → IsExpected w m → Says m bytes → parse_of w bytes ≡ Ok m }
+{}
+
+/// A message has a record of at most 131,072 bytes, where a READ gives at most 65,536: so record
+/// marking never finds it too big.
+pub fn small_fits()
+    ensures { (m : Message) → IsSpelled m → IsSmall m → MessageFits m }
+{}
+
+/// What is read as a message, other than a call that can't be taken, says it; it is a call whose
+/// program is served, or answers what waits under its xid.
+pub fn read_is_said()
+    ensures { (w : Waiting) (m : Message) (bytes : List ℕ) → IsBytes bytes → is_unfit m ≡ false → parse_of w bytes ≡ Ok m → Says m bytes × IsExpected w m }
+{}

@@ -1,0 +1,9 @@
+//! Messages: a record to a message, and a message to its record.
+#![tactic(auto)]
+
+pub mod laws;
+pub mod message;
+pub mod parse;
+pub mod spell;
+#[cfg(test)]
+mod tests;

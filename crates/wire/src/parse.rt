@@ -1,0 +1,260 @@
+//! Which message a record is.
+
+ghost use Rattle.std.specs.Prelude.{◌≡◌, Ok, None};
+ghost use Rattle.nfs3_calls.specs.Nfs.{proc_of as nfs_proc_of};
+ghost use Rattle.hash_calls.specs.Lb.{proc_of as lb_proc_of};
+ghost use Rattle.wire.specs.declared.message.Program.TheVariants as programs;
+ghost use Rattle.wire.specs.Parse.{IsParsed, parse_of, parse_call, parse_call_body, parse_reply, replied, with_args, called, versioned, procedure_of, refusal_of, fault_at, waiting, garbage, not_rpc};
+ghost use Rattle.wire.specs.Message.{args_of, result_of};
+ghost use Rattle.xdr_codec.specs.Format.{GivesAll, whole_at};
+
+use crate::message::{
+    Body, LBFS_PROGRAM, LBFS_VERSION, Message, NFS_PROGRAM, NFS_VERSION, Pending, Program,
+    RPC_VERSION, RpcRefusal, Side, Waiting, WireErr,
+};
+use hash_calls::lb;
+use hash_calls::message::LbProc;
+use nfs3_calls::message::NfsProc;
+use nfs3_calls::nfs;
+use rpc_record::header::{Accept, CallHead, Denial, Direction, Front, ReplyHead};
+use std::alloc::Global;
+use xdr_codec::fault::{Fault, ReadError};
+use xdr_codec::item::Item;
+use xdr_codec::reader::Reader;
+
+/// The message that a record is, where these calls may come and these answers are waited for.
+///
+/// A record is tested in this order. Too short for an xid and a direction, or another direction:
+/// `NotRpc`. A call: another version of RPC, `Unfit`; a header that ends early, or an
+/// authentication item out of its grammar, `NotRpc`; a program that isn't served, its version, the
+/// procedure, the arguments, `Unfit`. An answer: an xid under which nothing waits, `UnknownXid`;
+/// outside its grammar, `Garbage`. Places count from the record's first byte.
+pub fn parse(alloc: Global, bytes: &[u8], expected: &Waiting) -> Result<Message, WireErr>
+    ensures exact { IsParsed result (parse_of expected.now bytes.now) }
+{
+    let mut reader = Reader::new(bytes);
+    match Front::read(alloc, &mut reader) {
+        Err(error) => Err(not_rpc(error)),
+        Ok(front) => match front.direction {
+            Direction::Call => call(alloc, expected.side, front.xid, &mut reader),
+            Direction::Reply => {
+                let program = awaited(front.xid, expected.calls.as_slice());
+                reply(alloc, front.xid, program, &mut reader)
+            }
+        },
+    }
+}
+
+fn place(fault: Fault) -> usize
+    ensures { result ≡ fault_at fault }
+{
+    match fault {
+        Fault::Short { at }
+        | Fault::BadBool { at, .. }
+        | Fault::BadFill { at }
+        | Fault::TooLong { at, .. }
+        | Fault::Trailing { at }
+        | Fault::BadValue { at, .. } => at,
+    }
+}
+
+fn not_rpc(error: ReadError) -> WireErr
+    ensures { result ≡ not_rpc error }
+{
+    match error {
+        ReadError::Memory => WireErr::Memory,
+        ReadError::Fault(fault) => WireErr::NotRpc { at: place(fault) },
+    }
+}
+
+fn garbage(error: ReadError) -> WireErr
+    ensures { result ≡ garbage error }
+{
+    match error {
+        ReadError::Memory => WireErr::Memory,
+        ReadError::Fault(fault) => WireErr::Garbage { at: place(fault) },
+    }
+}
+
+/// What waits under the xid.
+fn awaited(xid: u32, calls: &[Pending]) -> Option<Program>
+    ensures { result ≡ waiting xid calls.now }
+{
+    for pending in calls {
+        if pending.xid == xid {
+            return Some(pending.program);
+        }
+    }
+    None
+}
+
+/// The program and procedure that a header names, where they are served.
+fn called(side: Side, head: &CallHead) -> Result<Program, RpcRefusal>
+    ensures { result ≡ called side head.now }
+{
+    if side.serves_files() && head.program == NFS_PROGRAM {
+        return nfs_called(head.version, head.procedure);
+    }
+    if side.serves_files() && head.program == LBFS_PROGRAM {
+        return lb_called(head.version, head.procedure);
+    }
+    Err(RpcRefusal::ProgUnavail)
+}
+
+fn nfs_called(version: u32, procedure: u32) -> Result<Program, RpcRefusal>
+    ensures { result ≡ versioned 3 version (procedure_of programs.Nfs (nfs_proc_of procedure)) }
+{
+    if version != NFS_VERSION {
+        return Err(RpcRefusal::ProgMismatch {
+            low: NFS_VERSION,
+            high: NFS_VERSION,
+        });
+    }
+    match NfsProc::of_number(procedure) {
+        Some(procedure) => Ok(Program::Nfs(procedure)),
+        None => Err(RpcRefusal::ProcUnavail),
+    }
+}
+
+fn lb_called(version: u32, procedure: u32) -> Result<Program, RpcRefusal>
+    ensures { result ≡ versioned 1 version (procedure_of programs.Lb (lb_proc_of procedure)) }
+{
+    if version != LBFS_VERSION {
+        return Err(RpcRefusal::ProgMismatch {
+            low: LBFS_VERSION,
+            high: LBFS_VERSION,
+        });
+    }
+    match LbProc::of_number(procedure) {
+        Some(procedure) => Ok(Program::Lb(procedure)),
+        None => Err(RpcRefusal::ProcUnavail),
+    }
+}
+
+/// A call, from the version of RPC on.
+fn call(alloc: Global, side: Side, xid: u32, reader: &mut Reader) -> Result<Message, WireErr>
+    ensures { IsParsed result (parse_call side xid reader.old) }
+{
+    match reader.u32() {
+        Err(error) => Err(not_rpc(error)),
+        Ok(version) => {
+            if version == RPC_VERSION {
+                call_body(alloc, side, xid, reader)
+            } else {
+                Ok(Message::Unfit(
+                    xid,
+                    RpcRefusal::RpcMismatch {
+                        low: RPC_VERSION,
+                        high: RPC_VERSION,
+                    },
+                ))
+            }
+        }
+    }
+}
+
+/// A call behind the version of RPC.
+fn call_body(alloc: Global, side: Side, xid: u32, reader: &mut Reader) -> Result<Message, WireErr>
+    ensures { IsParsed result (parse_call_body side xid reader.old) }
+{
+    match CallHead::read(alloc, reader) {
+        Err(error) => Err(not_rpc(error)),
+        Ok(head) => match called(side, &head) {
+            Err(refusal) => Ok(Message::Unfit(xid, refusal)),
+            Ok(program) => arguments(alloc, xid, program, reader),
+        },
+    }
+}
+
+fn arguments(
+    alloc: Global,
+    xid: u32,
+    program: Program,
+    reader: &mut Reader,
+) -> Result<Message, WireErr>
+    ensures { IsParsed result (Ok (with_args xid (whole_at reader.old.at (args_of program) reader.old.rest))) }
+{
+    match read_args(alloc, program, reader) {
+        Ok(body) => Ok(Message::Call(xid, body)),
+        Err(ReadError::Memory) => Err(WireErr::Memory),
+        Err(ReadError::Fault(_)) => Ok(Message::Unfit(xid, RpcRefusal::GarbageArgs)),
+    }
+}
+
+fn read_args(alloc: Global, program: Program, reader: &mut Reader) -> Result<Body, ReadError>
+    ensures { GivesAll result (whole_at reader.old.at (args_of program) reader.old.rest) }
+{
+    match program {
+        Program::Nfs(procedure) => Ok(Body::Nfs(nfs::read_args(alloc, procedure, reader)?)),
+        Program::Lb(procedure) => Ok(Body::Lb(lb::read_args(alloc, procedure, reader)?)),
+    }
+}
+
+fn read_result(alloc: Global, program: Program, reader: &mut Reader) -> Result<Body, ReadError>
+    ensures { GivesAll result (whole_at reader.old.at (result_of program) reader.old.rest) }
+{
+    match program {
+        Program::Nfs(procedure) => Ok(Body::Nfs(nfs::read_answer(alloc, procedure, reader)?)),
+        Program::Lb(procedure) => Ok(Body::Lb(lb::read_answer(alloc, procedure, reader)?)),
+    }
+}
+
+/// An answer to what waits under its xid.
+fn reply(
+    alloc: Global,
+    xid: u32,
+    program: Option<Program>,
+    reader: &mut Reader,
+) -> Result<Message, WireErr>
+    ensures { IsParsed result (parse_reply xid program reader.old) }
+{
+    let Some(program) = program else {
+        return Err(WireErr::UnknownXid { xid });
+    };
+    match ReplyHead::read(alloc, reader) {
+        Err(error) => Err(garbage(error)),
+        Ok(head) => match refusal(&head) {
+            None => answer(alloc, xid, program, reader),
+            Some(why) => match reader.end() {
+                Err(error) => Err(garbage(error)),
+                Ok(()) => Ok(Message::Refuse(xid, why)),
+            },
+        },
+    }
+}
+
+fn answer(
+    alloc: Global,
+    xid: u32,
+    program: Program,
+    reader: &mut Reader,
+) -> Result<Message, WireErr>
+    ensures { IsParsed result (replied xid program None reader.old) }
+{
+    match read_result(alloc, program, reader) {
+        Err(error) => Err(garbage(error)),
+        Ok(body) => Ok(Message::Answer(xid, body)),
+    }
+}
+
+/// Why a call was refused, if it was.
+fn refusal(head: &ReplyHead) -> Option<RpcRefusal>
+    ensures { result ≡ refusal_of head.now }
+{
+    match head {
+        ReplyHead::Accepted(_, Accept::Success) => None,
+        ReplyHead::Accepted(_, Accept::ProgUnavail) => Some(RpcRefusal::ProgUnavail),
+        ReplyHead::Accepted(_, Accept::ProgMismatch(versions)) => Some(RpcRefusal::ProgMismatch {
+            low: versions.low,
+            high: versions.high,
+        }),
+        ReplyHead::Accepted(_, Accept::ProcUnavail) => Some(RpcRefusal::ProcUnavail),
+        ReplyHead::Accepted(_, Accept::GarbageArgs) => Some(RpcRefusal::GarbageArgs),
+        ReplyHead::Accepted(_, Accept::SystemErr) => Some(RpcRefusal::SystemErr),
+        ReplyHead::Denied(Denial::RpcMismatch(versions)) => Some(RpcRefusal::RpcMismatch {
+            low: versions.low,
+            high: versions.high,
+        }),
+        ReplyHead::Denied(Denial::AuthError(why)) => Some(RpcRefusal::AuthError(*why)),
+    }
+}

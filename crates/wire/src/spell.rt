@@ -1,0 +1,117 @@
+//! The record of a message.
+
+ghost use Rattle.std.specs.Prelude.{◌≡◌, ◌++◌, ◌<◌, ◌^◌, IfOk, OnOk};
+ghost use Rattle.wire.specs.Message.{message_spell, body_spell, refusal_head, call_head, no_auth, IsShort, IsSpelled, IsShortBody, BodyFits, RefusalFits};
+ghost use Rattle.rpc_record.specs.Header.{front_form, call_form};
+
+use crate::message::{Body, Message, Program, RPC_VERSION, RpcRefusal};
+use hash_calls::lb;
+use lb_base::items::Bytes;
+use nfs3_calls::nfs;
+use rpc_record::header::{Accept, Auth, CallHead, Denial, Direction, Front, ReplyHead, Versions};
+use std::alloc::{AllocError, Global};
+use xdr_codec::item::Item;
+use xdr_codec::writer::Writer;
+
+/// The record of a message, with no authentication (flavor 0 and no body).
+///
+/// A call that can't be taken has none: what is sent in answer to `Unfit` is its refusal as
+/// `Refuse`.
+pub fn spell(alloc: Global, message: &Message) -> Result<Bytes, AllocError>
+    ensures spelled { IfOk result (λ bytes. bytes ≡ message_spell message.now) }
+    ensures fits { OnOk result (IsShort message.now → IsSpelled message.now) }
+{
+    let mut writer = Writer::new(alloc);
+    put(alloc, &mut writer, message)?;
+    Ok(writer.done())
+}
+
+fn put(alloc: Global, writer: &mut Writer, message: &Message) -> Result<(), AllocError>
+    ensures spelled { OnOk result (writer.new ≡ writer.old ++ message_spell message.now) }
+    ensures fits { OnOk result (IsShort message.now → IsSpelled message.now) }
+{
+    match message {
+        Message::Call(xid, body) => {
+            put_front(writer, *xid, Direction::Call)?;
+            writer.u32(RPC_VERSION)?;
+            put_call(alloc, writer, body.program())?;
+            put_body(writer, body)
+        }
+        Message::Answer(xid, body) => {
+            put_front(writer, *xid, Direction::Reply)?;
+            let head = ReplyHead::Accepted(no_auth(alloc), Accept::Success);
+            head.write(writer)?;
+            put_body(writer, body)
+        }
+        Message::Refuse(xid, why) => {
+            put_front(writer, *xid, Direction::Reply)?;
+            refusal_head(alloc, *why).write(writer)
+        }
+        Message::Unfit(_, _) => Ok(()),
+    }
+}
+
+fn put_front(writer: &mut Writer, xid: u32, direction: Direction) -> Result<(), AllocError>
+    ensures spelled { OnOk result (writer.new ≡ writer.old ++ front_form.spell (record { xid = xid; direction = direction })) }
+    ensures fits { xid < 2 ^ 32 }
+{
+    Front { xid, direction }.write(writer)
+}
+
+fn put_call(alloc: Global, writer: &mut Writer, program: Program) -> Result<(), AllocError>
+    ensures { OnOk result (writer.new ≡ writer.old ++ call_form.spell (call_head no_auth no_auth program)) }
+{
+    call_head(alloc, program).write(writer)
+}
+
+fn put_body(writer: &mut Writer, body: &Body) -> Result<(), AllocError>
+    ensures spelled { OnOk result (writer.new ≡ writer.old ++ body_spell body.now) }
+    ensures fits { OnOk result (IsShortBody body.now → BodyFits body.now) }
+{
+    match body {
+        Body::Nfs(message) => nfs::put(writer, message),
+        Body::Lb(message) => lb::put(writer, message),
+    }
+}
+
+/// No authentication.
+fn no_auth(alloc: Global) -> Auth
+    ensures { result ≡ no_auth }
+{
+    Auth {
+        flavor: 0,
+        body: Bytes::new(alloc),
+    }
+}
+
+fn call_head(alloc: Global, program: Program) -> CallHead
+    ensures { result ≡ call_head no_auth no_auth program }
+{
+    CallHead {
+        program: program.number(),
+        version: program.version(),
+        procedure: program.procedure(),
+        cred: no_auth(alloc),
+        verf: no_auth(alloc),
+    }
+}
+
+fn refusal_head(alloc: Global, why: RpcRefusal) -> ReplyHead
+    ensures value { result ≡ refusal_head no_auth why }
+    ensures fits { RefusalFits why }
+{
+    let verf = no_auth(alloc);
+    match why {
+        RpcRefusal::ProgUnavail => ReplyHead::Accepted(verf, Accept::ProgUnavail),
+        RpcRefusal::ProgMismatch { low, high } => {
+            ReplyHead::Accepted(verf, Accept::ProgMismatch(Versions { low, high }))
+        }
+        RpcRefusal::ProcUnavail => ReplyHead::Accepted(verf, Accept::ProcUnavail),
+        RpcRefusal::GarbageArgs => ReplyHead::Accepted(verf, Accept::GarbageArgs),
+        RpcRefusal::SystemErr => ReplyHead::Accepted(verf, Accept::SystemErr),
+        RpcRefusal::RpcMismatch { low, high } => {
+            ReplyHead::Denied(Denial::RpcMismatch(Versions { low, high }))
+        }
+        RpcRefusal::AuthError(why) => ReplyHead::Denied(Denial::AuthError(why)),
+    }
+}
