@@ -1,0 +1,4 @@
+pub mod LegalLemmas
+pub mod Marks
+pub mod OpeningLemmas
+pub mod Places

@@ -1,0 +1,6 @@
+pub mod Index
+pub mod Register
+pub mod Summary
+pub mod Test
+pub mod Text
+pub mod Rows

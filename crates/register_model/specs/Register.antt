@@ -1,0 +1,164 @@
+-- Files as registers of whole contents: what a history is, what a file holds at a moment, and when a
+-- history is legal.
+--
+-- Steps are numbered from 1, and a moment is the number of a step. An operation begins at a step, mostly
+-- ends at one, and may have a point: the step at which it read the file or changed it.
+use Rattle.std.specs.Prelude.{◌≡◌, ◌≢◌, ℕ, ◌≤◌, List, [], ◌∷◌, Bool, true, false, ◌&&◌, ◌||◌, ◌==◌, nat_lt, if◌then◌else◌, Option, Some, None, unwrap_or, find, filter, All, AllPairs, IsTrue, IsSome}
+use Rattle.std.specs.Option.{option_map, option_map_or}
+use Rattle.register_model.specs.declared.op.Word.{Word}
+use Rattle.register_model.specs.declared.op.Word.TheVariants.{Open, Close, Make, Remove, Rename}
+use Rattle.register_model.specs.declared.op.Outcome.{Outcome}
+use Rattle.register_model.specs.declared.op.Outcome.TheVariants as outcome
+use Rattle.register_model.specs.declared.op.Op.{Op}
+use Rattle.register_model.specs.declared.op.Opening.{Opening}
+
+-- the files that were there at first, the operations in the order of their begins, and the number of steps
+pub record History : Type 0 where
+  pub opening : List Opening
+  pub ops : List Op
+  pub steps : ℕ
+
+-- what a file is at a moment: a whole content, or absent
+abbrev pub Value : Type 0
+Value = Option (List ℕ)
+
+abbrev pub Absent : Value
+Absent = None
+
+-- ---- changes
+
+-- the words of which an operation changes a register, where it has a point
+abbrev pub changes : Word → Bool
+changes Close = true
+changes Make = true
+changes Remove = true
+changes Rename = true
+changes _ = false
+
+-- what a change makes of its file: a close stores its value, a make leaves the empty content, and a
+-- remove, and a rename over the file, leave nothing
+abbrev pub value_from : Word → List ℕ → Value
+value_from Close value = Some value
+value_from Make value = Some []
+value_from _ value = Absent
+
+-- whether an operation changed the file before the moment
+abbrev pub changed_before : ℕ → ℕ → Op → Bool
+changed_before file moment o = changes o.word && (o.file == file) && option_map_or (λ p. nat_lt p moment) o.point false
+
+-- of an operation and perhaps another the one with the later point
+abbrev pub later : Op → Option Op → Option Op
+later o None = Some o
+later o (Some q) = if nat_lt (unwrap_or o.point 0) (unwrap_or q.point 0) then Some q else Some o
+
+-- the operation with the greatest point
+abbrev pub latest : List Op → Option Op
+latest [] = None
+latest (o ∷ os) = later o (latest os)
+
+-- ---- the value at a moment
+
+-- the content of a file among those of the start
+abbrev pub content_of : List Opening → ℕ → Value
+content_of opening file = option_map (λ f. f.content) (find (λ f. f.file == file) opening)
+
+-- what the file was at first
+abbrev pub value_at_first : History → ℕ → Value
+value_at_first h file = content_of h.opening file
+
+-- what the last change made of the file, or what it was before any
+abbrev pub value_after : Value → Option Op → Value
+value_after first None = first
+value_after first (Some o) = value_from o.word o.value
+
+-- what a file is at a moment: as the change of it with the greatest point below the moment left it, or as
+-- it was at first
+abbrev pub value_at : History → ℕ → ℕ → Value
+value_at h file moment = value_after (value_at_first h file) (latest (filter (changed_before file moment) h.ops))
+
+-- ---- how operations end
+
+abbrev pub is_opened : Outcome → Bool
+is_opened (outcome.Opened len sha1) = true
+is_opened _ = false
+
+abbrev pub is_closed : Outcome → Bool
+is_closed (outcome.Closed version len sha1) = true
+is_closed _ = false
+
+abbrev pub is_done : Outcome → Bool
+is_done outcome.Done = true
+is_done _ = false
+
+-- refused since the file is gone: NFS3ERR_STALE of RFC 1813, 70
+abbrev pub is_stale : Outcome → Bool
+is_stale (outcome.Refused status) = status == 70
+is_stale _ = false
+
+abbrev pub is_lost : Outcome → Bool
+is_lost outcome.Lost = true
+is_lost _ = false
+
+-- nobody was told whether it was done
+abbrev pub is_untold : Outcome → Bool
+is_untold outcome.Lost = true
+is_untold outcome.Running = true
+is_untold _ = false
+
+-- whether an operation of this word on this file ended as a change that was made; a rename is over a file
+-- where it has the id of one
+abbrev pub success : Word → ℕ → Outcome → Bool
+success Close file o = is_closed o
+success Make file o = is_done o
+success Remove file o = is_done o
+success Rename file o = is_done o && nat_lt 0 file
+success _ file o = false
+
+abbrev pub succeeded : Op → Bool
+succeeded o = success o.word o.file o.outcome
+
+-- ---- what makes a history legal
+
+-- of two operations of which one may change a file, the points differ
+abbrev pub IsApart : Op → Op → Type 0
+IsApart a b = IsTrue (changes a.word || changes b.word) → (p : ℕ) → a.point ≡ Some p → b.point ≢ Some p
+
+-- a point isn't before the begin, and not after the end either, unless the operation was lost
+abbrev pub IsWithin : Op → Type 0
+IsWithin o = (p : ℕ) → o.point ≡ Some p → (o.begin ≤ p) × (is_lost o.outcome ≡ false → (e : ℕ) → o.end ≡ Some e → p ≤ e)
+
+-- an open that got a content has a point, and got the whole content that the file had there
+abbrev pub OpensWhole : History → Op → Type 0
+OpensWhole h o = o.word ≡ Open → IsTrue (is_opened o.outcome) → (p : ℕ) × (o.point ≡ Some p) × (value_at h o.file p ≡ Some o.value)
+
+-- an open that was told that the file is gone has a point, and the file was absent there
+abbrev pub FindsGone : History → Op → Type 0
+FindsGone h o = o.word ≡ Open → IsTrue (is_stale o.outcome) → (p : ℕ) × (o.point ≡ Some p) × (value_at h o.file p ≡ Absent)
+
+-- a make is of an absent file, any other change of one that is there
+abbrev pub IsFit : Word → Value → Type 0
+IsFit Make before = before ≡ Absent
+IsFit _ before = IsSome before
+
+-- a change that succeeded has a point, and each change fits what the file was at its point
+abbrev pub ChangesOnce : History → Op → Type 0
+ChangesOnce h o = (IsTrue (succeeded o) → IsSome o.point) × (IsTrue (changes o.word) → (p : ℕ) → o.point ≡ Some p → IsFit o.word (value_at h o.file p))
+
+-- what was to change a file and failed has no point, unless nobody was told
+abbrev pub ChangesNothing : Op → Type 0
+ChangesNothing o = IsTrue (changes o.word) → succeeded o ≡ false → is_untold o.outcome ≡ false → o.point ≡ None
+
+-- Six facts make a history legal.
+pub record IsLegal (h : History) : Type 0 where
+  -- No operation has a point in common with a change.
+  pub apart : AllPairs IsApart h.ops
+  -- Each point lies between the begin and the end of its operation.
+  pub within : All IsWithin h.ops
+  -- Each open that succeeded got the whole content of its file at its point.
+  pub opens : All (OpensWhole h) h.ops
+  -- Each open that was told of a missing file has a point at which the file was absent.
+  pub absences : All (FindsGone h) h.ops
+  -- Each change that succeeded was made at its point, once and wholly, on a file that it fits.
+  pub successes : All (ChangesOnce h) h.ops
+  -- Each change that failed was never made.
+  pub failures : All ChangesNothing h.ops

@@ -1,0 +1,107 @@
+-- The text of a history, and of its summary.
+use Rattle.std.specs.Prelude.{ℕ, ◌+◌, List, [], ◌∷◌, ◌++◌, length, Option, Some, None, codes}
+use Rattle.std.specs.List.{flat_map}
+use Rattle.std.specs.Fmt.{decimal}
+use Rattle.hex.specs.Hex.{encode_lower}
+use Rattle.register_model.specs.declared.op.Word.{Word}
+use Rattle.register_model.specs.declared.op.Word.TheVariants as word
+use Rattle.register_model.specs.declared.op.Outcome.{Outcome}
+use Rattle.register_model.specs.declared.op.Outcome.TheVariants as outcome
+use Rattle.register_model.specs.declared.op.Traffic.{Traffic}
+use Rattle.register_model.specs.declared.op.Op.{Op}
+use Rattle.register_model.specs.declared.summary.Endings.{Endings}
+use Rattle.register_model.specs.declared.summary.Totals.{Totals}
+use Rattle.register_model.specs.declared.summary.Counts.{Counts}
+use Rattle.register_model.specs.Register.{History}
+use Rattle.register_model.specs.Summary.{counts_of, totals_of}
+
+abbrev pub word_text : Word → List ℕ
+word_text word.Open = codes "open"
+word_text word.Write = codes "write"
+word_text word.Trunc = codes "trunc"
+word_text word.Read = codes "read"
+word_text word.Close = codes "close"
+word_text word.Abandon = codes "abandon"
+word_text word.Make = codes "make"
+word_text word.Mkdir = codes "mkdir"
+word_text word.Remove = codes "remove"
+word_text word.Rmdir = codes "rmdir"
+word_text word.Rename = codes "rename"
+word_text word.List = codes "list"
+word_text word.Look = codes "look"
+
+-- a blank and a number
+abbrev pub number : ℕ → List ℕ
+number n = codes " " ++ decimal n
+
+-- a blank and bytes in hexadecimal
+abbrev pub bytes_text : List ℕ → List ℕ
+bytes_text bytes = codes " " ++ encode_lower bytes
+
+-- a blank and a moment, `-` where there is none
+abbrev pub moment : Option ℕ → List ℕ
+moment None = codes " -"
+moment (Some n) = number n
+
+abbrev pub outcome_text : Outcome → List ℕ
+outcome_text (outcome.Opened len sha1) = codes "Opened" ++ number len ++ bytes_text sha1
+outcome_text (outcome.Piece len sha1) = codes "Piece" ++ number len ++ bytes_text sha1
+outcome_text (outcome.Closed version len sha1) = codes "Closed" ++ number version ++ number len ++ bytes_text sha1
+outcome_text outcome.Done = codes "Done"
+outcome_text (outcome.Names names) = codes "Names" ++ number (length names) ++ flat_map bytes_text names
+outcome_text (outcome.Seen file kind version len) = codes "Seen" ++ number file ++ number kind ++ number version ++ number len
+outcome_text outcome.Busy = codes "Busy"
+outcome_text outcome.NotOpen = codes "NotOpen"
+outcome_text outcome.AlreadyOpen = codes "AlreadyOpen"
+outcome_text outcome.Lost = codes "Lost"
+outcome_text (outcome.Changed first last) = codes "Changed" ++ number first ++ number last
+outcome_text (outcome.Refused status) = codes "Refused" ++ number status
+outcome_text outcome.PeerMemory = codes "PeerMemory"
+outcome_text (outcome.BadPeer fault) = codes "BadPeer" ++ number fault
+outcome_text (outcome.TooBig len) = codes "TooBig" ++ number len
+outcome_text outcome.Memory = codes "Memory"
+outcome_text outcome.NoLink = codes "NoLink"
+outcome_text outcome.Running = codes "Running"
+
+abbrev pub traffic_text : Traffic → List ℕ
+traffic_text t = codes " cond" ++ number t.cond ++ codes " tmp" ++ number t.tmp ++ codes " read" ++ number t.read ++ codes " data" ++ number t.data
+
+-- whose operation it is, and on what
+abbrev pub op_name : ℕ → Op → List ℕ
+op_name n o = codes "op" ++ number n ++ codes " client" ++ number o.client ++ codes " " ++ word_text o.word ++ codes " file" ++ number o.file
+
+-- when it was
+abbrev pub op_times : Op → List ℕ
+op_times o = codes " begin" ++ number o.begin ++ codes " end" ++ moment o.end ++ codes " point" ++ moment o.point
+
+-- the line of the operation with this number
+abbrev pub op_line : ℕ → Op → List ℕ
+op_line n o = op_name n o ++ op_times o ++ codes " " ++ outcome_text o.outcome ++ traffic_text o.traffic ++ codes "\n"
+
+-- the lines of operations, the first of them with this number
+abbrev pub op_lines : ℕ → List Op → List ℕ
+op_lines n [] = []
+op_lines n (o ∷ os) = op_line n o ++ op_lines (n + 1) os
+
+abbrev pub end_line : History → List ℕ
+end_line h = codes "end ops" ++ number (length h.ops) ++ codes " steps" ++ number h.steps ++ codes "\n"
+
+abbrev pub history_text : History → List ℕ
+history_text h = codes "lbfs-history 1\n" ++ op_lines 1 h.ops ++ end_line h
+
+-- those that were done, and those that were not
+abbrev pub done_text : Endings → List ℕ
+done_text e = codes " opened" ++ number e.opened ++ codes " closed" ++ number e.closed ++ codes " other" ++ number e.other
+
+abbrev pub undone_text : Endings → List ℕ
+undone_text e = codes " refused" ++ number e.refused ++ codes " running" ++ number e.running
+
+-- three lines of counts; the last is the number of entries in the journal of the server
+abbrev pub ops_line : Counts → List ℕ
+ops_line c = codes "ops" ++ number c.ops ++ done_text c.endings ++ undone_text c.endings ++ codes "\n"
+
+abbrev pub totals_line : Totals → List ℕ
+totals_line t = codes "cond" ++ number t.cond ++ codes " tmp" ++ number t.tmp ++ codes " read" ++ number t.read ++ codes " data" ++ number t.data ++ codes "\n"
+
+abbrev pub summary_text : History → ℕ → List ℕ
+summary_text h journal = ops_line (counts_of h) ++ totals_line (totals_of h.ops) ++ codes "journal" ++ number journal ++ codes "\n"

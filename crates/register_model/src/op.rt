@@ -1,0 +1,232 @@
+//! The operations of a history, and how they ended.
+
+ghost use Rattle.std.specs.Prelude.{◌≡◌};
+ghost use Rattle.register_model.specs.Register.{changes, is_opened, is_closed, is_done, is_stale, is_lost, is_untold, succeeded};
+ghost use Rattle.register_model.specs.Test.{is_open};
+ghost use Rattle.register_model.specs.Summary.{is_running, is_other, is_refused};
+
+use lb_base::items::{Bytes, Items, Name};
+
+/// The status of RFC 1813 by which a file is gone, NFS3ERR_STALE.
+const STALE: u32 = 70;
+
+/// What an operation was to do.
+#[derive(Clone, Copy, Debug, PartialEq, Eq)]
+pub enum Word {
+    Open,
+    Write,
+    Trunc,
+    Read,
+    Close,
+    Abandon,
+    Make,
+    Mkdir,
+    Remove,
+    Rmdir,
+    Rename,
+    List,
+    Look,
+}
+
+/// How an operation ended. Lengths are bytes, digests the 20 bytes of SHA-1.
+#[derive(Drop)]
+pub enum Outcome {
+    /// An open got the whole content.
+    Opened {
+        len: u64,
+        sha1: Bytes,
+    },
+    /// A read gave these bytes of an open file.
+    Piece {
+        len: u64,
+        sha1: Bytes,
+    },
+    /// A close replaced the file, which now has this version.
+    Closed {
+        version: u64,
+        len: u64,
+        sha1: Bytes,
+    },
+    /// It was done, and has nothing to tell.
+    Done,
+    /// The names of a directory.
+    Names(Items<Name>),
+    /// What was found: a file or a directory, by its kind of RFC 1813 (1 and 2).
+    Seen {
+        file: u64,
+        kind: u32,
+        version: u64,
+        len: u64,
+    },
+    /// The client had an operation under way.
+    Busy,
+    /// The file isn't open there.
+    NotOpen,
+    /// The file is open there already.
+    AlreadyOpen,
+    /// The connection was lost first: it may have been done or not.
+    Lost,
+    /// Each attempt to fetch the content met a change; these are the last attempt's two versions.
+    Changed {
+        first: u64,
+        last: u64,
+    },
+    /// The server refused it, with this status.
+    Refused(u32),
+    /// The server lacked memory.
+    PeerMemory,
+    /// The other end broke the protocol; the number says how.
+    BadPeer(u32),
+    /// The file would have had so many bytes, above the limit of a file.
+    TooBig(u128),
+    /// The client lacked memory.
+    Memory,
+    /// The client had no connection.
+    NoLink,
+    /// It hasn't ended.
+    Running,
+}
+
+/// What an operation sent and received.
+#[derive(Clone, Copy, Debug, PartialEq, Eq)]
+pub struct Traffic {
+    /// CONDWRITE calls sent.
+    pub cond: u64,
+    /// TMPWRITE calls sent.
+    pub tmp: u64,
+    /// READ calls sent.
+    pub read: u64,
+    /// Bytes of file data: those sent by TMPWRITE and those received by READ.
+    pub data: u64,
+}
+
+/// One operation of a client. Its number is its place in the history, from 1; steps are numbered
+/// from 1 too.
+#[derive(Drop)]
+pub struct Op {
+    /// The client's number, from 1.
+    pub client: u32,
+    pub word: Word,
+    /// The file's id, 0 where none is known.
+    pub file: u64,
+    /// The step that began it.
+    pub begin: u64,
+    /// The step that ended it, if one did.
+    pub end: Option<u64>,
+    /// The step at which the file's content was read or changed, if one did.
+    pub point: Option<u64>,
+    pub outcome: Outcome,
+    /// The content that an open got, the content that a close stored; else nothing.
+    pub value: Bytes,
+    pub traffic: Traffic,
+}
+
+/// A file that was there before the first step.
+#[derive(Drop)]
+pub struct Opening {
+    /// The file's id.
+    pub file: u64,
+    pub content: Bytes,
+}
+
+impl Word {
+    /// Whether it opens a file.
+    pub fn is_open(self) -> bool
+        ensures { result ≡ is_open self }
+    {
+        matches!(self, Word::Open)
+    }
+
+    /// Whether it changes the content of a file where it is done.
+    pub fn changes(self) -> bool
+        ensures { result ≡ changes self }
+    {
+        matches!(self, Word::Close | Word::Make | Word::Remove | Word::Rename)
+    }
+}
+
+impl Outcome {
+    /// An open got its content.
+    pub fn is_opened(&self) -> bool
+        ensures { result ≡ is_opened self.now }
+    {
+        matches!(self, Outcome::Opened { .. })
+    }
+
+    /// A close replaced its file.
+    pub fn is_closed(&self) -> bool
+        ensures { result ≡ is_closed self.now }
+    {
+        matches!(self, Outcome::Closed { .. })
+    }
+
+    /// It was done, with nothing to tell.
+    pub fn is_done(&self) -> bool
+        ensures { result ≡ is_done self.now }
+    {
+        matches!(self, Outcome::Done)
+    }
+
+    /// It was refused since its file is gone.
+    pub fn is_stale(&self) -> bool
+        ensures { result ≡ is_stale self.now }
+    {
+        match self {
+            Outcome::Refused(status) => *status == STALE,
+            _ => false,
+        }
+    }
+
+    /// The connection was lost before it ended.
+    pub fn is_lost(&self) -> bool
+        ensures { result ≡ is_lost self.now }
+    {
+        matches!(self, Outcome::Lost)
+    }
+
+    /// Nobody was told whether it was done.
+    pub fn is_untold(&self) -> bool
+        ensures { result ≡ is_untold self.now }
+    {
+        matches!(self, Outcome::Lost | Outcome::Running)
+    }
+
+    /// It hasn't ended.
+    pub fn is_running(&self) -> bool
+        ensures { result ≡ is_running self.now }
+    {
+        matches!(self, Outcome::Running)
+    }
+
+    /// It was done, and was neither an open nor a close.
+    pub fn is_other(&self) -> bool
+        ensures { result ≡ is_other self.now }
+    {
+        matches!(
+            self,
+            Outcome::Done | Outcome::Piece { .. } | Outcome::Names(_) | Outcome::Seen { .. }
+        )
+    }
+
+    /// It ended, and was not done.
+    pub fn is_refused(&self) -> bool
+        ensures { result ≡ is_refused self.now }
+    {
+        !(self.is_opened() || self.is_closed() || self.is_other() || self.is_running())
+    }
+}
+
+impl Op {
+    /// It ended as a change of its file that was made. A rename is over a file where it has the id
+    /// of one.
+    pub fn succeeded(&self) -> bool
+        ensures { result ≡ succeeded self.now }
+    {
+        match self.word {
+            Word::Close => self.outcome.is_closed(),
+            Word::Make | Word::Remove => self.outcome.is_done(),
+            Word::Rename => self.outcome.is_done() && 0 < self.file,
+            _ => false,
+        }
+    }
+}

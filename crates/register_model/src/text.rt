@@ -1,0 +1,225 @@
+//! The text of a history, and that of its counts.
+
+ghost use Rattle.std.specs.Prelude.{◌≡◌, ℕ, ◌+◌, ◌<◌, ◌^◌, List, ◌++◌, length, OnOk, IfOk, string_bytes};
+ghost use Rattle.register_model.specs.declared.op.Outcome.TheVariants as outcome;
+ghost use Rattle.register_model.specs.Text.{history_text, summary_text, done_text, undone_text, ops_line, totals_line, op_name, op_times, op_line, op_lines, end_line, outcome_text, word_text, bytes_text, moment, traffic_text};
+
+use crate::history::History;
+use crate::op::{Op, Outcome, Traffic, Word};
+use crate::summary::{Counts, Endings, Totals, summary};
+use lb_base::items::{Bytes, Items, Name};
+use std::alloc::{AllocError, Global};
+use std::fmt::Write;
+
+/// The word as a trace has it.
+fn word_of(word: Word) -> &'static str
+    ensures { result.now ≡ word_text word }
+{
+    match word {
+        Word::Open => "open",
+        Word::Write => "write",
+        Word::Trunc => "trunc",
+        Word::Read => "read",
+        Word::Close => "close",
+        Word::Abandon => "abandon",
+        Word::Make => "make",
+        Word::Mkdir => "mkdir",
+        Word::Remove => "remove",
+        Word::Rmdir => "rmdir",
+        Word::Rename => "rename",
+        Word::List => "list",
+        Word::Look => "look",
+    }
+}
+
+/// A blank and the bytes in hexadecimal.
+fn put_bytes(alloc: Global, out: &mut String, bytes: &Bytes) -> Result<(), AllocError>
+    ensures { OnOk result (string_bytes out.new ≡ string_bytes out.old ++ bytes_text bytes.now) }
+{
+    let digits = hex::encode(alloc, bytes.as_slice())?;
+    write!(out, " {digits}")
+}
+
+/// A blank and a moment, or `-`.
+fn put_moment(out: &mut String, step: Option<u64>) -> Result<(), AllocError>
+    ensures { OnOk result (string_bytes out.new ≡ string_bytes out.old ++ moment step) }
+{
+    match step {
+        Some(step) => write!(out, " {step}"),
+        None => out.push_str(" -"),
+    }
+}
+
+/// The names of a directory, with their count.
+fn put_names(alloc: Global, out: &mut String, names: &Items<Name>) -> Result<(), AllocError>
+    ensures { OnOk result (string_bytes out.new ≡ string_bytes out.old ++ outcome_text (outcome.Names names.now)) }
+{
+    let count = names.len();
+    write!(out, "Names {count}")?;
+    for name in names.as_slice() {
+        put_bytes(alloc, out, name)?;
+    }
+    Ok(())
+}
+
+/// How an operation ended.
+fn put_outcome(alloc: Global, out: &mut String, ended: &Outcome) -> Result<(), AllocError>
+    ensures { OnOk result (string_bytes out.new ≡ string_bytes out.old ++ outcome_text ended.now) }
+{
+    match ended {
+        Outcome::Opened { len, sha1 } => {
+            write!(out, "Opened {len}")?;
+            put_bytes(alloc, out, sha1)
+        }
+        Outcome::Piece { len, sha1 } => {
+            write!(out, "Piece {len}")?;
+            put_bytes(alloc, out, sha1)
+        }
+        Outcome::Closed { version, len, sha1 } => {
+            write!(out, "Closed {version} {len}")?;
+            put_bytes(alloc, out, sha1)
+        }
+        Outcome::Done => out.push_str("Done"),
+        Outcome::Names(names) => put_names(alloc, out, names),
+        Outcome::Seen {
+            file,
+            kind,
+            version,
+            len,
+        } => write!(out, "Seen {file} {kind} {version} {len}"),
+        Outcome::Busy => out.push_str("Busy"),
+        Outcome::NotOpen => out.push_str("NotOpen"),
+        Outcome::AlreadyOpen => out.push_str("AlreadyOpen"),
+        Outcome::Lost => out.push_str("Lost"),
+        Outcome::Changed { first, last } => write!(out, "Changed {first} {last}"),
+        Outcome::Refused(status) => write!(out, "Refused {status}"),
+        Outcome::PeerMemory => out.push_str("PeerMemory"),
+        Outcome::BadPeer(fault) => write!(out, "BadPeer {fault}"),
+        Outcome::TooBig(len) => write!(out, "TooBig {len}"),
+        Outcome::Memory => out.push_str("Memory"),
+        Outcome::NoLink => out.push_str("NoLink"),
+        Outcome::Running => out.push_str("Running"),
+    }
+}
+
+/// What an operation sent and received.
+fn put_traffic(out: &mut String, traffic: &Traffic) -> Result<(), AllocError>
+    ensures { OnOk result (string_bytes out.new ≡ string_bytes out.old ++ traffic_text traffic.now) }
+{
+    let Traffic {
+        cond,
+        tmp,
+        read,
+        data,
+    } = *traffic;
+    write!(out, " cond {cond} tmp {tmp} read {read} data {data}")
+}
+
+/// Whose operation it is, and on what.
+fn put_name(out: &mut String, number: u64, op: &Op) -> Result<(), AllocError>
+    ensures { OnOk result (string_bytes out.new ≡ string_bytes out.old ++ op_name number op.now) }
+{
+    let word = word_of(op.word);
+    let (client, file) = (op.client, op.file);
+    write!(out, "op {number} client {client} {word} file {file}")
+}
+
+/// When it was.
+fn put_times(out: &mut String, op: &Op) -> Result<(), AllocError>
+    ensures { OnOk result (string_bytes out.new ≡ string_bytes out.old ++ op_times op.now) }
+{
+    let begin = op.begin;
+    write!(out, " begin {begin} end")?;
+    put_moment(out, op.end)?;
+    out.push_str(" point")?;
+    put_moment(out, op.point)
+}
+
+/// The line of an operation with its number.
+fn put_op(alloc: Global, out: &mut String, number: u64, op: &Op) -> Result<(), AllocError>
+    ensures { OnOk result (string_bytes out.new ≡ string_bytes out.old ++ op_line number op.now) }
+{
+    put_name(out, number, op)?;
+    put_times(out, op)?;
+    out.push_str(" ")?;
+    put_outcome(alloc, out, &op.outcome)?;
+    put_traffic(out, &op.traffic)?;
+    out.push_str("\n")
+}
+
+/// The lines of all operations.
+fn put_ops(alloc: Global, out: &mut String, ops: &[Op]) -> Result<(), AllocError>
+    ensures { OnOk result (string_bytes out.new ≡ string_bytes out.old ++ op_lines 1 ops.now) }
+{
+    let mut number = 1;
+    for op in ops {
+        put_op(alloc, out, number, op)?;
+        number += 1;
+    }
+    Ok(())
+}
+
+/// The text of a history: its first line, a line for each operation, and its last line.
+pub fn text(alloc: Global, history: &History) -> Result<Bytes, AllocError>
+    ensures { IfOk result (λ bytes. bytes ≡ history_text history.now) }
+{
+    let mut out = String::new(alloc);
+    out.push_str("lbfs-history 1\n")?;
+    put_ops(alloc, &mut out, history.ops())?;
+    let (count, steps) = (history.ops().len(), history.steps());
+    write!(out, "end ops {count} steps {steps}\n")?;
+    Ok(Items::from_vec(out.into_bytes()))
+}
+
+/// How many operations were done.
+fn put_done(out: &mut String, endings: &Endings) -> Result<(), AllocError>
+    ensures { OnOk result (string_bytes out.new ≡ string_bytes out.old ++ done_text endings.now) }
+{
+    let (opened, closed, other) = (endings.opened, endings.closed, endings.other);
+    write!(out, " opened {opened} closed {closed} other {other}")
+}
+
+/// How many were not.
+fn put_undone(out: &mut String, endings: &Endings) -> Result<(), AllocError>
+    ensures { OnOk result (string_bytes out.new ≡ string_bytes out.old ++ undone_text endings.now) }
+{
+    let (refused, running) = (endings.refused, endings.running);
+    write!(out, " refused {refused} running {running}")
+}
+
+/// How many operations there were, and how they ended.
+fn put_counts(out: &mut String, counts: &Counts) -> Result<(), AllocError>
+    ensures { OnOk result (string_bytes out.new ≡ string_bytes out.old ++ ops_line counts.now) }
+{
+    let ops = counts.ops;
+    write!(out, "ops {ops}")?;
+    put_done(out, &counts.endings)?;
+    put_undone(out, &counts.endings)?;
+    out.push_str("\n")
+}
+
+/// What all of them sent and received.
+fn put_totals(out: &mut String, totals: &Totals) -> Result<(), AllocError>
+    ensures { OnOk result (string_bytes out.new ≡ string_bytes out.old ++ totals_line totals.now) }
+{
+    let Totals {
+        cond,
+        tmp,
+        read,
+        data,
+    } = *totals;
+    write!(out, "cond {cond} tmp {tmp} read {read} data {data}\n")
+}
+
+/// The counts of a history in three lines; the last is the number of entries in the server's
+/// journal, which is given.
+pub fn summary_text(alloc: Global, history: &History, journal: u64) -> Result<Bytes, AllocError>
+    ensures { IfOk result (λ bytes. bytes ≡ summary_text history.now journal) }
+{
+    let counts = summary(history);
+    let mut out = String::new(alloc);
+    put_counts(&mut out, &counts)?;
+    put_totals(&mut out, &counts.totals)?;
+    write!(out, "journal {journal}\n")?;
+    Ok(Items::from_vec(out.into_bytes()))
+}
