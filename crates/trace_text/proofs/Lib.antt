@@ -1,0 +1,4 @@
+pub mod Again
+pub mod Cuts
+pub mod Decimals
+pub mod Numbers

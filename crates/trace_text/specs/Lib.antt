@@ -1,0 +1,6 @@
+pub mod Parts
+pub mod Fields
+pub mod Grammar
+pub mod Reading
+pub mod Refusals
+pub mod Rows

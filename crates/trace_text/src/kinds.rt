@@ -1,0 +1,184 @@
+//! Each kind of line, from the words behind its first.
+
+ghost use Rattle.std.specs.Prelude.{◌≡◌, false, None, bytes_eq, codes, MatchOption};
+ghost use Rattle.trace_text.specs.Grammar.{version_of, term_of, drift_of, clients_of, file_of, join_of, open_of, command_of, do_of, pass_of, line_from};
+ghost use Rattle.trace_text.specs.Reading.{Gives};
+
+use crate::fields;
+use crate::line::{Command, Line, LineErr};
+use crate::parts::Words;
+use lb_base::items::Items;
+use std::alloc::Global;
+
+/// The longest term and the largest drift, in milliseconds.
+const AN_HOUR: u64 = 3_600_000;
+
+/// The most clients.
+const MOST_CLIENTS: u64 = 16;
+
+/// `lbfs-trace 1`.
+fn version(words: &mut Words) -> Option<Line>
+    ensures { result ≡ version_of words.old }
+{
+    let version = words.next()?;
+    words.end()?;
+    if version == b"1".as_slice() {
+        Some(Line::Version)
+    } else {
+        None
+    }
+}
+
+/// `term T`.
+fn term(words: &mut Words) -> Option<Line>
+    ensures { result ≡ term_of words.old }
+{
+    let term = words.next()?;
+    words.end()?;
+    Some(Line::Term(fields::number_within(1, AN_HOUR, term)?))
+}
+
+/// `drift E`.
+fn drift(words: &mut Words) -> Option<Line>
+    ensures { result ≡ drift_of words.old }
+{
+    let drift = words.next()?;
+    words.end()?;
+    Some(Line::Drift(fields::number_within(0, AN_HOUR, drift)?))
+}
+
+/// `clients N`.
+fn clients(words: &mut Words) -> Option<Line>
+    ensures { result ≡ clients_of words.old }
+{
+    let count = words.next()?;
+    words.end()?;
+    Some(Line::Clients(fields::number_within(1, MOST_CLIENTS, count)?))
+}
+
+/// The two words of a file.
+fn file_words<'a>(words: &mut Words<'a>) -> Option<(&'a [u8], &'a [u8])>
+    ensures { MatchOption result (file_of words.old ≡ None) (λ p. file_of words.old ≡ Some (Line.File p.0.now p.1.now)) }
+{
+    let name = words.next()?;
+    let content = words.next()?;
+    words.end()?;
+    let content = fields::content(content)?;
+    if fields::is_name(name) {
+        Some((name, content))
+    } else {
+        None
+    }
+}
+
+/// `file NAME CONTENT`.
+fn file(alloc: Global, words: &mut Words) -> Result<Line, LineErr>
+    ensures { Gives result (file_of words.old) }
+{
+    let (name, content) = file_words(words).ok_or(LineErr::BadLine)?;
+    Ok(Line::File {
+        name: Items::from_vec(Vec::from_slice(alloc, name)?),
+        content: Items::from_vec(Vec::from_slice(alloc, content)?),
+    })
+}
+
+/// `join C c s`.
+fn join(words: &mut Words) -> Option<Line>
+    ensures { result ≡ join_of words.old }
+{
+    let client = words.next()?;
+    let at = words.next()?;
+    let server = words.next()?;
+    words.end()?;
+    Some(Line::Join {
+        client: fields::number(client)?,
+        at: fields::reading(at)?,
+        server: fields::reading(server)?,
+    })
+}
+
+/// `open #ID`.
+fn open(words: &mut Words) -> Option<Command>
+    ensures { result ≡ open_of words.old }
+{
+    let place = words.next()?;
+    words.end()?;
+    Some(Command::Open(fields::id(place)?))
+}
+
+/// A command that begins with this word.
+fn command(word: &[u8], words: &mut Words) -> Option<Command>
+    ensures { result ≡ command_of word.now words.old }
+{
+    if word == b"open".as_slice() {
+        open(words)
+    } else {
+        None
+    }
+}
+
+/// `do C c COMMAND`.
+fn command_line(words: &mut Words) -> Option<Line>
+    ensures { result ≡ do_of words.old }
+{
+    let client = words.next()?;
+    let at = words.next()?;
+    let word = words.next()?;
+    Some(Line::Do {
+        client: fields::number(client)?,
+        at: fields::reading(at)?,
+        command: command(word, words)?,
+    })
+}
+
+/// `pass S k s c`.
+fn pass(words: &mut Words) -> Option<Line>
+    ensures { result ≡ pass_of words.old }
+{
+    let session = words.next()?;
+    let rounds = words.next()?;
+    let server = words.next()?;
+    let at = words.next()?;
+    words.end()?;
+    Some(Line::Pass {
+        session: fields::number(session)?,
+        rounds: fields::number(rounds)?,
+        server: fields::reading(server)?,
+        at: fields::reading(at)?,
+    })
+}
+
+/// A line other than a file's that begins with this word.
+fn read_small(kind: &[u8], words: &mut Words) -> Option<Line>
+    requires { bytes_eq kind.now (codes "file") ≡ false }
+    ensures { result ≡ line_from kind.now words.old }
+{
+    if kind == b"lbfs-trace".as_slice() {
+        version(words)
+    } else if kind == b"term".as_slice() {
+        term(words)
+    } else if kind == b"drift".as_slice() {
+        drift(words)
+    } else if kind == b"clients".as_slice() {
+        clients(words)
+    } else if kind == b"join".as_slice() {
+        join(words)
+    } else if kind == b"do".as_slice() {
+        command_line(words)
+    } else if kind == b"pass".as_slice() {
+        pass(words)
+    } else {
+        None
+    }
+}
+
+/// A line that begins with this word.
+pub(crate) fn read_kind(alloc: Global, kind: &[u8], words: &mut Words) -> Result<Line, LineErr>
+    ensures { Gives result (line_from kind.now words.old) }
+{
+    if kind == b"file".as_slice() {
+        file(alloc, words)
+    } else {
+        read_small(kind, words).ok_or(LineErr::BadLine)
+    }
+}

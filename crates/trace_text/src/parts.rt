@@ -1,0 +1,89 @@
+//! The lines of a text, and the words of a line.
+
+ghost use Rattle.std.specs.Prelude.{◌≡◌, ℕ, ◌<◌, ◌≤◌, ◌==◌, List, [], ◌∷◌, length, MatchOption, IfSome, position};
+ghost use Rattle.std.specs.List.{position_or_len, before_first, after_first};
+ghost use Rattle.trace_text.specs.Parts.{lines_of, words_of, words_left};
+
+use std::marker::Model;
+
+/// The place of the first such byte.
+fn place_of(byte: u8, text: &[u8]) -> Option<usize>
+    ensures { result ≡ position (λ b. b == byte) text.now }
+{
+    text.iter().position(|b| *b == byte)
+}
+
+/// What stands before the first such byte, and after it.
+fn cut(byte: u8, text: &[u8]) -> Option<(&[u8], &[u8])>
+    ensures { MatchOption result (length text.now ≤ position_or_len (λ b. b == byte) text.now) (λ p. (position_or_len (λ b. b == byte) text.now < length text.now) × (p.0.now ≡ before_first (λ b. b == byte) text.now) × (p.1.now ≡ after_first (λ b. b == byte) text.now)) }
+{
+    let place = place_of(byte, text)?;
+    Some((&text[..place], &text[place + 1..]))
+}
+
+/// The first line of a text, without its line feed, and the text after it; `None` where the text is
+/// empty.
+pub fn first_line(text: &[u8]) -> Option<(&[u8], &[u8])>
+    ensures line { MatchOption result (text.now ≡ []) (λ p. lines_of text.now ≡ p.0.now ∷ lines_of p.1.now) }
+    ensures shorter { IfSome result (λ p. length p.1.now < length text.now) }
+{
+    if text.is_empty() {
+        return None;
+    }
+    match cut(b'\n', text) {
+        Some((line, after)) => Some((line, after)),
+        None => Some((text, &[])),
+    }
+}
+
+/// The first word of a line, and what is left behind its space, if there is one.
+fn first_word(line: &[u8]) -> (&[u8], Option<&[u8]>)
+    ensures { words_of line.now ≡ result.0.now ∷ words_left result.1 }
+{
+    match cut(b' ', line) {
+        Some((word, rest)) => (word, Some(rest)),
+        None => (line, None),
+    }
+}
+
+/// The words of a line that are left.
+#[derive(Drop)]
+pub(crate) struct Words<'a> {
+    left: Option<&'a [u8]>,
+}
+
+impl<'a> Model for Words<'a> {
+    ghost use Rattle.std.specs.Prelude.{ℕ, List};
+    ghost use Rattle.trace_text.specs.Parts.{words_left};
+
+    ghost Value = { List (List ℕ) };
+
+    ghost view = { λ w. words_left w.left };
+}
+
+impl<'a> Words<'a> {
+    pub(crate) fn new(line: &'a [u8]) -> Words<'a>
+        ensures { result ≡ words_of line.now }
+    {
+        Words { left: Some(line) }
+    }
+
+    /// Takes a word.
+    pub(crate) fn next(&mut self) -> Option<&'a [u8]>
+        ensures { MatchOption result (self.old ≡ []) (λ w. self.old ≡ w.now ∷ self.new) }
+    {
+        let (word, rest) = first_word(self.left?);
+        self.left = rest;
+        Some(word)
+    }
+
+    /// That no word is left.
+    pub(crate) fn end(&self) -> Option<()>
+        ensures { MatchOption result ((w : List ℕ) × (ws : List (List ℕ)) × (self.now ≡ w ∷ ws)) (λ _. self.now ≡ []) }
+    {
+        match self.left {
+            None => Some(()),
+            Some(_) => None,
+        }
+    }
+}
