@@ -1,0 +1,6 @@
+pub mod Chains
+pub mod Feeding
+pub mod Found
+pub mod Only
+pub mod Scanned
+pub mod Windows

@@ -1,0 +1,28 @@
+//! Chunks.
+
+ghost use Rattle.std.specs.Prelude.{◌≡◌, ◌++◌, OnOk};
+ghost use Rattle.chunk_cut.specs.Chunks.{listed};
+
+use lb_base::items::Items;
+use std::alloc::AllocError;
+
+/// A chunk of a content.
+#[derive(Clone, Copy, Debug, PartialEq, Eq)]
+pub struct Chunk {
+    /// Where it begins, in bytes from the start of the content.
+    pub start: u64,
+    /// How many bytes it has, at most 65,536.
+    pub len: u64,
+    /// The SHA-1 digest of its bytes, by which it is known.
+    pub digest: [u8; 20],
+}
+
+/// Adds the chunk that there may be to the list.
+pub fn list(chunks: &mut Items<Chunk>, chunk: Option<Chunk>) -> Result<(), AllocError>
+    ensures { OnOk result (chunks.new ≡ chunks.old ++ listed chunk) }
+{
+    if let Some(chunk) = chunk {
+        chunks.push(chunk)?;
+    }
+    Ok(())
+}

@@ -1,0 +1,54 @@
+//! The search for the end of the chunk under way.
+
+ghost use Rattle.std.specs.Prelude.{◌≡◌, ℕ, ◌+◌, ◌%◌, ◌^◌, ◌<◌, ◌≤◌, ◌⊎◌, List, ◌++◌, length, take, IsTrue, ◌↔◌, IfSome, MatchOption};
+ghost use Rattle.chunk_cut.specs.Cutting.{IsUnderWay};
+ghost use Rattle.chunk_cut.specs.Ends.{IsLeastEnd};
+
+use rabin_window::{WINDOW_LEN, Window};
+
+/// The least number of bytes of a chunk that is not the last.
+pub const LEAST: u64 = 2_048;
+
+/// The most bytes of a chunk.
+pub const MOST: u64 = 65_536;
+
+// A window is marked by these low bits of its fingerprint.
+const MARK_BITS: u64 = 0x1FFF;
+
+const MARK: u64 = 0x78;
+
+// No window that ends nearer than `LEAST` is looked at, so the bytes before are not needed.
+const UNWATCHED: u64 = LEAST - WINDOW_LEN as u64;
+
+/// Finds the end of the chunk under way, which has `len` bytes, in the piece that follows: how many
+/// bytes of it the chunk still has, or `None` where it goes on past the piece.
+pub fn find_end(window: &mut Window, len: u64, piece: &[u8]) -> Option<usize>
+    requires { len + length piece.now < 2 ^ 64 }
+    ensures within { IfSome result (λ n. (0 < n) × (n ≤ length piece.now)) }
+    ensures end { (content : List ℕ) (s : ℕ) → IsUnderWay content s len window.old → MatchOption result (IsUnderWay (content ++ piece.now) s (len + length piece.now) window.new) (λ n. (length window.new ≡ 48) × IsLeastEnd (content ++ take n piece.now) s (length (content ++ take n piece.now))) }
+{
+    let skipped = unwatched(len, piece.len());
+    'bytes: for i in skipped..piece.len() {
+        window.push(piece[i]);
+        if is_end(window.value(), len + i as u64 + 1) {
+            return Some(i + 1);
+        }
+    }
+    None
+}
+
+// How many of the bytes that follow, of which there are `count`, are in no window that is looked at.
+fn unwatched(len: u64, count: usize) -> usize
+    ensures within { result ≤ count }
+    ensures before { (len + result ≤ 2000) ⊎ (result ≡ 0) }
+{
+    let watched = UNWATCHED.saturating_sub(len) as usize;
+    watched.min(count)
+}
+
+// Whether a chunk of `len` bytes ends with the window of this fingerprint.
+fn is_end(print: u64, len: u64) -> bool
+    ensures { IsTrue result ↔ (2048 ≤ len) × ((print % 2 ^ 13 ≡ 0x78) ⊎ (len ≡ 65536)) }
+{
+    len >= LEAST && (print & MARK_BITS == MARK || len == MOST)
+}

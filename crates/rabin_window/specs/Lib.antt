@@ -1,0 +1,3 @@
+pub mod Fingerprint
+pub mod Ring
+pub mod Rows
