@@ -1,0 +1,102 @@
+-- What the server answers to each call. It changes nothing.
+use Rattle.std.specs.Prelude.{◌≡◌, ℕ, ◌+◌, ◌/◌, ◌%◌, List, [], ◌∷◌, length, take, drop, find, min, Option, Some, None, Result, Ok, Err, Bool, true, false, ◌&&◌, ◌||◌, ◌==◌, nat_lt, nat_le, if◌then◌else◌}
+use Rattle.sha1.specs.Sha1.{sha1}
+use Rattle.xdr_codec.specs.Handle.{file_of}
+use Rattle.xdr_codec.specs.declared.status.Status.{Status}
+use Rattle.xdr_codec.specs.declared.status.Status.TheVariants as status
+use Rattle.xdr_codec.specs.declared.attr.Attr.{Attr}
+use Rattle.xdr_codec.specs.declared.attr.Time.{Time}
+use Rattle.xdr_codec.specs.declared.attr.Kind.TheVariants as kind
+use Rattle.xdr_codec.specs.declared.answer.Answer.{Answer}
+use Rattle.xdr_codec.specs.declared.answer.Answer.TheVariants.{Done, Failed}
+use Rattle.hash_calls.specs.declared.call.HashRange.{HashRange}
+use Rattle.hash_calls.specs.declared.call.Hashes.{Hashes}
+use Rattle.hash_calls.specs.declared.call.Pair.{Pair}
+use Rattle.nfs3_calls.specs.declared.call.Range.{Range}
+use Rattle.nfs3_calls.specs.declared.call.Piece.{Piece}
+use Rattle.server_core.specs.declared.file.File.{File}
+
+-- what a handle names: the root directory, whose id is 1, or a file
+pub data Node : Type 0 where
+  root : Node
+  file : File → Node
+
+abbrev pub file_node : Option File → Result Node Status
+file_node None = Err status.Stale
+file_node (Some f) = Ok (file f)
+
+-- a handle of another form is BADHANDLE, and an id that is not in the tree STALE
+abbrev pub node_named : List File → Option ℕ → Result Node Status
+node_named files None = Err status.BadHandle
+node_named files (Some id) = elim (id == 1) [ true ↦ Ok root | false ↦ file_node (find (λ f. f.id == id) files) ]
+
+abbrev pub node_of : List File → List ℕ → Result Node Status
+node_of files handle = node_named files (file_of handle)
+
+-- ---- attributes (RFC 1813 section 2.6)
+
+-- all three times show the version
+abbrev pub time_of : ℕ → Time
+time_of version = record { seconds = version / 1000000000; nanoseconds = version % 1000000000 }
+
+abbrev pub attr_of : File → Attr
+attr_of f = record {
+  kind = kind.File;
+  mode = 420;
+  nlink = 1;
+  uid = 0;
+  gid = 0;
+  size = length f.content;
+  used = length f.content;
+  rdev_major = 0;
+  rdev_minor = 0;
+  fsid = 0x4C424653;
+  fileid = f.id;
+  atime = time_of f.version;
+  mtime = time_of f.version;
+  ctime = time_of f.version;
+}
+
+-- ---- GETHASH
+
+-- whether the one chunk of a content meets the range
+abbrev pub meets : List ℕ → ℕ → ℕ → Bool
+meets content offset count = nat_lt offset (length content) && nat_lt 0 count
+
+-- the chunks that meet the range, by digest and size: a file is one chunk, or none where it is empty
+abbrev pub pairs_if : Bool → List ℕ → List Pair
+pairs_if true content = record { digest = sha1 content; size = length content } ∷ []
+pairs_if false content = []
+
+abbrev pub hashes_of : File → HashRange → Hashes
+hashes_of f r = record {
+  version = f.version;
+  term = 0;
+  size = length f.content;
+  pairs = pairs_if (meets f.content r.offset r.count) f.content;
+  eof = meets f.content r.offset r.count || nat_le (length f.content) r.offset;
+}
+
+abbrev pub hash_answer : Result Node Status → HashRange → Answer Hashes Unit
+hash_answer (Err s) r = Failed s tt
+hash_answer (Ok root) r = Failed status.IsDir tt
+hash_answer (Ok (file f)) r = Done (hashes_of f r)
+
+-- ---- READ (RFC 1813 section 3.3.6)
+
+-- the bytes from the offset on, at most as many as are asked for, and at most 65,536
+abbrev pub piece_bytes : List ℕ → Range → List ℕ
+piece_bytes content r = take (min r.count 65536) (drop r.offset content)
+
+abbrev pub piece_of : File → Range → Piece
+piece_of f r = record {
+  attr = Some (attr_of f);
+  count = length (piece_bytes f.content r);
+  eof = nat_le (length f.content) (r.offset + length (piece_bytes f.content r));
+  bytes = piece_bytes f.content r;
+}
+
+abbrev pub read_answer : Result Node Status → Range → Answer Piece (Option Attr)
+read_answer (Err s) r = Failed s None
+read_answer (Ok root) r = Failed status.Inval None
+read_answer (Ok (file f)) r = Done (piece_of f r)

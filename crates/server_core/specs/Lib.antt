@@ -1,0 +1,5 @@
+pub mod State
+pub mod Answers
+pub mod Step
+pub mod View
+pub mod Hashed

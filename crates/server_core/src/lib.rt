@@ -1,0 +1,13 @@
+//! The server: a tree of files, and one event after another on it.
+//!
+//! It stands on `wire`'s messages and knows no bytes of the wire: a message comes in, messages go
+//! out, each to a session. One event is one atomic step.
+#![tactic(auto)]
+
+mod answers;
+pub mod event;
+pub mod file;
+mod inner;
+pub mod server;
+#[cfg(test)]
+mod tests;

@@ -1,0 +1,74 @@
+//! The server.
+
+ghost use Rattle.std.specs.Prelude.{◌≡◌, ◌<◌, ◌^◌, [], ◌∷◌, ◌++◌, false, true, OnOk, OnErr};
+ghost use Rattle.server_core.specs.Step.{server_step, IsFileBounded, IsTimed, IsMissed};
+ghost use Rattle.server_core.specs.declared.event.Told.TheVariants as told;
+
+use crate::event::{Event, Outs, Told};
+use crate::file::File;
+use crate::inner::Inner;
+use lb_base::items::Items;
+use std::alloc::{AllocError, Global};
+use std::marker::Model;
+
+/// A server of a tree of files.
+#[derive(Drop)]
+pub struct Server {
+    inner: Inner,
+}
+
+impl Model for Server {
+    ghost use Rattle.server_core.specs.State.{State};
+
+    ghost Value = { State };
+
+    ghost use Rattle.server_core.specs.View.{state_of, IsBounded};
+
+    ghost view = { λ s. state_of s.inner };
+
+    ghost invariant = { λ s. IsBounded s.inner };
+}
+
+impl Server {
+    /// A server with no file and no session. It takes no memory.
+    pub fn new(alloc: Global) -> Server
+        ensures { result ≡ record { files = []; sessions = []; made = 0; last = 0 } }
+    {
+        Server {
+            inner: Inner {
+                files: Vec::new(alloc),
+                sessions: Vec::new(alloc),
+                made: 0,
+                last: 0,
+            },
+        }
+    }
+
+    /// Puts a file behind the others. The one error is want of memory, and the server then stays
+    /// as it was.
+    pub fn add_file(&mut self, file: File) -> Result<(), AllocError>
+        requires { IsFileBounded file }
+        ensures ok { OnOk result (self.new ≡ record self.old { files = self.old.files ++ file ∷ [] }) }
+        ensures err { OnErr result (self.new ≡ self.old) }
+    {
+        self.inner.add_file(file)
+    }
+
+    /// One event, whose reading of the clock is below 2^63. Where memory runs out nothing is sent
+    /// or told, and all stays as it was, but for the last moment.
+    pub fn step(&mut self, alloc: Global, event: Event) -> Outs
+        requires { IsTimed event }
+        ensures exact { result.missed ≡ false → server_step self.old event ≡ (self.new, result) }
+        ensures missed { result.missed ≡ true → IsMissed self.old self.new }
+        ensures silent { result.missed ≡ true → result ≡ record { send = []; told = told.Nothing; missed = true } }
+    {
+        match self.inner.step(alloc, event) {
+            Ok(outs) => outs,
+            Err(_) => Outs {
+                send: Items::new(alloc),
+                told: Told::Nothing,
+                missed: true,
+            },
+        }
+    }
+}

@@ -1,0 +1,152 @@
+//! A server of one file, asked for it and for what isn't there.
+
+use crate::event::{Event, Outs, Told};
+use crate::file::File;
+use crate::server::Server;
+use hash_calls::call::HashRange;
+use hash_calls::message::Lb;
+use lb_base::items::Bytes;
+use nfs3_calls::call::Range;
+use nfs3_calls::message::Nfs;
+use std::alloc::{AllocError, Global};
+use std::test::Fail;
+use wire::message::{Body, Message};
+use xdr_codec::answer::Answer;
+use xdr_codec::handle::Handle;
+use xdr_codec::status::Status;
+
+// FIPS 180-2, appendix A.1: the digest of "abc".
+const ABC: [u8; 20] = [
+    0xa9, 0x99, 0x3e, 0x36, 0x47, 0x06, 0x81, 0x6a, 0xba, 0x3e, 0x25, 0x71, 0x78, 0x50, 0xc2, 0x6c,
+    0x9c, 0xd0, 0xd8, 0x9d,
+];
+
+/// A server whose file 2 is "abc", with no session.
+fn server(alloc: Global) -> Result<Server, AllocError> {
+    let mut server = Server::new(alloc);
+    let content = Bytes::copy_of(alloc, b"abc")?;
+    server.add_file(File {
+        id: 2,
+        version: 1,
+        content,
+    })?;
+    Ok(server)
+}
+
+fn handle(alloc: Global, id: u64) -> Result<Handle, AllocError> {
+    Handle::of_file(alloc, id)
+}
+
+fn asked(alloc: Global, server: &mut Server, body: Body) -> Outs {
+    server.step(
+        alloc,
+        Event::Got {
+            session: 1,
+            message: Message::Call(7, body),
+            now: 0,
+        },
+    )
+}
+
+/// The one answer that is sent, to session 1 under xid 7.
+fn answer(outs: Outs) -> Option<Body> {
+    let sent = outs.send.into_vec().pop()?;
+    match sent.message {
+        Message::Answer(7, body) if sent.session == 1 => Some(body),
+        _ => None,
+    }
+}
+
+fn hash(alloc: Global, handle: Handle) -> Result<Option<Body>, AllocError> {
+    let mut server = server(alloc)?;
+    server.step(alloc, Event::Connect);
+    let range = HashRange {
+        handle,
+        offset: 0,
+        count: u32::MAX,
+    };
+    Ok(answer(asked(alloc, &mut server, Body::Lb(Lb::GetHash(range)))))
+}
+
+fn read(alloc: Global, handle: Handle, offset: u64) -> Result<Option<Body>, AllocError> {
+    let mut server = server(alloc)?;
+    server.step(alloc, Event::Connect);
+    let range = Range {
+        handle,
+        offset,
+        count: 2,
+    };
+    Ok(answer(asked(alloc, &mut server, Body::Nfs(Nfs::Read(range)))))
+}
+
+#[test]
+fn tells_chunks(rt: HostRuntime) -> Result<(), Fail> {
+    let alloc = rt.alloc();
+    let Some(Body::Lb(Lb::GetHashAnswer(Answer::Done(hashes)))) = hash(alloc, handle(alloc, 2)?)?
+    else {
+        return Err("no chunks".into());
+    };
+    assert_eq!(rt; hashes.size, 3);
+    assert!(rt; hashes.eof);
+    let pair = hashes.pairs.as_slice().first().ok_or("no pair")?;
+    assert_eq!(rt; pair.size, 3);
+    assert_eq!(rt; pair.digest, ABC);
+    Ok(())
+}
+
+#[test]
+fn reads(rt: HostRuntime) -> Result<(), Fail> {
+    let alloc = rt.alloc();
+    let Some(Body::Nfs(Nfs::ReadAnswer(Answer::Done(piece)))) = read(alloc, handle(alloc, 2)?, 1)?
+    else {
+        return Err("no bytes".into());
+    };
+    assert_eq!(rt; piece.bytes.as_slice(), b"bc".as_slice());
+    assert_eq!(rt; piece.count, 2);
+    assert!(rt; piece.eof);
+    Ok(())
+}
+
+#[test]
+fn refuses(rt: HostRuntime) -> Result<(), Fail> {
+    let alloc = rt.alloc();
+    assert!(rt;
+        matches!(
+            hash(alloc, handle(alloc, 1)?)?,
+            Some(Body::Lb(Lb::GetHashAnswer(Answer::Failed(Status::IsDir, ()))))
+        )
+    );
+    assert!(rt;
+        matches!(
+            read(alloc, handle(alloc, 1)?, 0)?,
+            Some(Body::Nfs(Nfs::ReadAnswer(Answer::Failed(Status::Inval, None))))
+        )
+    );
+    assert!(rt;
+        matches!(
+            hash(alloc, handle(alloc, 3)?)?,
+            Some(Body::Lb(Lb::GetHashAnswer(Answer::Failed(Status::Stale, ()))))
+        )
+    );
+    let foreign = Handle::new(Bytes::copy_of(alloc, b"LB")?).ok_or("long")?;
+    assert!(rt;
+        matches!(
+            read(alloc, foreign, 0)?,
+            Some(Body::Nfs(Nfs::ReadAnswer(Answer::Failed(Status::BadHandle, None))))
+        )
+    );
+    Ok(())
+}
+
+#[test]
+fn serves_sessions_alone(rt: HostRuntime) -> Result<(), Fail> {
+    let alloc = rt.alloc();
+    let mut server = server(alloc)?;
+    let before = asked(alloc, &mut server, Body::Lb(Lb::Null));
+    assert!(rt; answer(before).is_none());
+    let made = server.step(alloc, Event::Connect);
+    assert_eq!(rt; made.told, Told::Session(1));
+    let after = asked(alloc, &mut server, Body::Lb(Lb::Null));
+    assert!(rt; matches!(answer(after), Some(Body::Lb(Lb::NullAnswer))));
+    Ok(())
+}
