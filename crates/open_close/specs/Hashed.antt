@@ -1,0 +1,42 @@
+-- The byte lists whose digests the client compares with a chunk's name.
+use Rattle.std.specs.Prelude.{ℕ, List, [], ◌∷◌, length, Option, Some, None, Result, Ok, Err, Bool, true, false, ◌==◌}
+use Rattle.xdr_codec.specs.declared.answer.Answer.TheVariants.{Done, Failed}
+use Rattle.hash_calls.specs.declared.call.Pair.{Pair}
+use Rattle.nfs3_calls.specs.declared.call.Piece.{Piece}
+use Rattle.nfs3_calls.specs.declared.message.Nfs.TheVariants as nfs
+use Rattle.wire.specs.declared.message.Body.{Body}
+use Rattle.wire.specs.declared.message.Body.TheVariants as body
+use Rattle.wire.specs.declared.message.Message.{Message}
+use Rattle.wire.specs.declared.message.Message.TheVariants as message
+use Rattle.wire.specs.declared.message.WireErr.{WireErr}
+use Rattle.open_close.specs.declared.task.Fetch.{Fetch}
+use Rattle.open_close.specs.declared.task.Stage.{Stage}
+use Rattle.open_close.specs.declared.task.Stage.TheVariants as stage
+use Rattle.open_close.specs.declared.task.Task.{Task}
+use Rattle.open_close.specs.State.{State}
+use Rattle.open_close.specs.Step.{xid_of}
+
+abbrev pub compared_if : Bool → List ℕ → List (List ℕ)
+compared_if true bytes = bytes ∷ []
+compared_if false bytes = []
+
+-- the bytes of a READ whose length is the wanted chunk's
+abbrev pub compared : List Pair → Piece → List (List ℕ)
+compared [] piece = []
+compared (p ∷ ps) piece = compared_if (length piece.bytes == p.size) piece.bytes
+
+abbrev pub took_compared : Stage → Body → List (List ℕ)
+took_compared (stage.Reading f) (body.Nfs (nfs.ReadAnswer (Done piece))) = compared f.left piece
+took_compared _ b = []
+
+abbrev pub answer_compared : Task → Body → Bool → List (List ℕ)
+answer_compared t b true = took_compared t.stage b
+answer_compared t b false = []
+
+abbrev pub message_compared : Option Task → Message → List (List ℕ)
+message_compared (Some t) (message.Answer xid b) = answer_compared t b (xid == xid_of t.stage)
+message_compared _ m = []
+
+abbrev pub client_hashed : State → Result Message WireErr → List (List ℕ)
+client_hashed s (Ok m) = message_compared s.task m
+client_hashed s (Err e) = []

@@ -1,0 +1,5 @@
+pub mod State
+pub mod Shape
+pub mod Step
+pub mod View
+pub mod Hashed

@@ -1,0 +1,37 @@
+-- What a client is.
+use Rattle.std.specs.Prelude.{ℕ, List, [], ◌∷◌, Option, Some, None, Bool, false}
+use Rattle.hash_calls.specs.declared.message.LbProc.TheVariants as lb_proc
+use Rattle.nfs3_calls.specs.declared.message.NfsProc.TheVariants as nfs_proc
+use Rattle.wire.specs.declared.message.Pending.{Pending}
+use Rattle.wire.specs.declared.message.Program.TheVariants as program
+use Rattle.wire.specs.declared.message.Waiting.{Waiting}
+use Rattle.wire.specs.declared.message.Side.TheVariants as side
+use Rattle.open_close.specs.declared.task.Local.{Local}
+use Rattle.open_close.specs.declared.task.Task.{Task}
+use Rattle.open_close.specs.declared.task.Stage.{Stage}
+use Rattle.open_close.specs.declared.task.Stage.TheVariants as stage
+
+pub record State : Type 0 where
+  -- whether a connection is joined
+  pub linked : Bool
+  -- the xid of the next call on it
+  pub next : ℕ
+  -- the open files
+  pub opened : List Local
+  -- the operation under way
+  pub task : Option Task
+
+abbrev pub start : State
+start = record { linked = false; next = 1; opened = []; task = None }
+
+-- the calls that wait for their answers
+abbrev pub pending_in : Stage → List Pending
+pending_in (stage.Hashing xid) = record { xid = xid; program = program.Lb lb_proc.GetHash } ∷ []
+pending_in (stage.Reading f) = record { xid = f.xid; program = program.Nfs nfs_proc.Read } ∷ []
+
+abbrev pub pending : Option Task → List Pending
+pending None = []
+pending (Some t) = pending_in t.stage
+
+abbrev pub waiting_of : State → Waiting
+waiting_of s = record { side = side.Client; calls = pending s.task }

@@ -1,0 +1,228 @@
+-- One command, or one message, of the client.
+use Rattle.std.specs.Prelude.{◌≡◌, ℕ, ◌+◌, ◌-◌, ◌<◌, List, [], ◌∷◌, ◌++◌, length, Option, Some, None, Result, Ok, Err, Bool, true, false, ◌==◌, nat_lt, bytes_eq, slice_get, remove, is_some, option_map}
+use Rattle.std.specs.List.{list_any}
+use Rattle.sha1.specs.Sha1.{sha1}
+use Rattle.xdr_codec.specs.Handle.{handle_bytes}
+use Rattle.xdr_codec.specs.declared.answer.Answer.TheVariants.{Done, Failed}
+use Rattle.xdr_codec.specs.declared.status.Status.{Status}
+use Rattle.hash_calls.specs.declared.call.Hashes.{Hashes}
+use Rattle.hash_calls.specs.declared.call.Pair.{Pair}
+use Rattle.hash_calls.specs.declared.message.Lb.TheVariants as lb
+use Rattle.nfs3_calls.specs.declared.call.Piece.{Piece}
+use Rattle.nfs3_calls.specs.declared.message.Nfs.TheVariants as nfs
+use Rattle.wire.specs.declared.message.Body.{Body}
+use Rattle.wire.specs.declared.message.Body.TheVariants as body
+use Rattle.wire.specs.declared.message.Message.{Message}
+use Rattle.wire.specs.declared.message.Message.TheVariants as message
+use Rattle.wire.specs.declared.message.RpcRefusal.{RpcRefusal}
+use Rattle.wire.specs.declared.message.RpcRefusal.TheVariants as refusal
+use Rattle.wire.specs.declared.message.WireErr.{WireErr}
+use Rattle.wire.specs.declared.message.WireErr.TheVariants as wire
+use Rattle.trace_text.specs.declared.line.Command.{Command}
+use Rattle.trace_text.specs.declared.line.Command.TheVariants as command
+use Rattle.open_close.specs.declared.acts.Acts.{Acts}
+use Rattle.open_close.specs.declared.acts.BadPeer.{BadPeer}
+use Rattle.open_close.specs.declared.acts.BadPeer.TheVariants as bad
+use Rattle.open_close.specs.declared.acts.Ended.{Ended}
+use Rattle.open_close.specs.declared.acts.Outcome.{Outcome}
+use Rattle.open_close.specs.declared.acts.Outcome.TheVariants as outcome
+use Rattle.open_close.specs.declared.task.Fetch.{Fetch}
+use Rattle.open_close.specs.declared.task.Local.{Local}
+use Rattle.open_close.specs.declared.task.Stage.{Stage}
+use Rattle.open_close.specs.declared.task.Stage.TheVariants as stage
+use Rattle.open_close.specs.declared.task.Task.{Task}
+use Rattle.open_close.specs.Shape.{Broken, broken_of, not_same}
+use Rattle.open_close.specs.State.{State}
+
+-- ---- what is done
+
+abbrev pub nothing_done : Acts
+nothing_done = record { send = []; ended = None; counts = record { read = 0; bytes = 0 }; missed = false }
+
+-- a message is sent, and a READ is counted
+abbrev pub sends : Message → ℕ → ℕ → Acts
+sends m reads more = record { send = m ∷ []; ended = None; counts = record { read = reads; bytes = more }; missed = false }
+
+-- the operation ends so, resting on the call with this xid
+abbrev pub ends : Outcome → ℕ → ℕ → Acts
+ends o xid more = record { send = []; ended = Some (record { outcome = o; rests_on = xid }); counts = record { read = 0; bytes = more }; missed = false }
+
+-- ---- the calls
+
+abbrev pub hash_call : ℕ → ℕ → Message
+hash_call xid file = message.Call xid (body.Lb (lb.GetHash (record { handle = handle_bytes file; offset = 0; count = 4294967295 })))
+
+abbrev pub read_call : ℕ → ℕ → ℕ → ℕ → Message
+read_call xid file offset count = message.Call xid (body.Nfs (nfs.Read (record { handle = handle_bytes file; offset = offset; count = count })))
+
+-- ---- a command
+
+abbrev pub is_open : List Local → ℕ → Bool
+is_open opened file = list_any (λ l. l.file == file) opened
+
+-- a session has 4,294,967,295 xids, and an operation begins only where 1,000,000 of them are left
+abbrev pub has_xids : ℕ → Bool
+has_xids next = nat_lt next 4293967297
+
+abbrev pub may_ask : State → Bool
+may_ask s = elim s.linked [ true ↦ has_xids s.next | false ↦ false ]
+
+abbrev pub asks_hashes : State → ℕ → Bool → State × Acts
+asks_hashes s file true = (record s { next = s.next + 1; task = Some (record { file = file; stage = stage.Hashing s.next }) }, sends (hash_call s.next file) 0 0)
+asks_hashes s file false = (s, ends outcome.NoLink 0 0)
+
+abbrev pub opens_if : State → ℕ → Bool → State × Acts
+opens_if s file true = (s, ends outcome.AlreadyOpen 0 0)
+opens_if s file false = asks_hashes s file (may_ask s)
+
+abbrev pub opens : State → ℕ → Option Task → State × Acts
+opens s file (Some t) = (s, ends outcome.Busy 0 0)
+opens s file None = opens_if s file (is_open s.opened file)
+
+abbrev pub command_step : State → Command → State × Acts
+command_step s (command.Open file) = opens s file s.task
+
+-- ---- an operation ends
+
+abbrev pub idle : State → State
+idle s = record s { task = None }
+
+-- after a peer's fault the connection counts as cut
+abbrev pub bad_peer : State → BadPeer → ℕ → State × Acts
+bad_peer s f more = (record s { task = None; linked = false }, ends (outcome.BadPeer f) 0 more)
+
+abbrev pub refused : State → Status → ℕ → State × Acts
+refused s status xid = (idle s, ends (outcome.Refused status) xid 0)
+
+abbrev pub opened_with : State → ℕ → ℕ → List ℕ → ℕ → ℕ → State × Acts
+opened_with s file version bytes asked more = (record s { task = None; opened = s.opened ++ record { file = file; version = version; bytes = bytes } ∷ [] }, ends (outcome.Opened file (length bytes) (sha1 bytes)) asked more)
+
+-- ---- the chunks of a file
+
+-- the first chunk that is left, of this size, is asked for, or there is none and the file is whole
+abbrev pub reads_first : State → ℕ → ℕ → ℕ → List ℕ → List Pair → ℕ → Option ℕ → State × Acts
+reads_first s file asked version bytes left more None = opened_with s file version bytes asked more
+reads_first s file asked version bytes left more (Some size) =
+    (record s { next = s.next + 1; task = Some (record { file = file; stage = stage.Reading (record { asked = asked; xid = s.next; version = version; left = left; bytes = bytes }) }) }, sends (read_call s.next file (length bytes) size) 1 more)
+
+abbrev pub first_size : List Pair → Option ℕ
+first_size left = option_map (λ p. p.size) (slice_get left 0)
+
+abbrev pub reads_on : State → ℕ → ℕ → ℕ → List ℕ → List Pair → ℕ → State × Acts
+reads_on s file asked version bytes left more = reads_first s file asked version bytes left more (first_size left)
+
+abbrev pub told_shape : State → ℕ → ℕ → Hashes → Broken → State × Acts
+told_shape s file xid h None = reads_on s file xid h.version [] h.pairs 0
+told_shape s file xid h (Some b) = bad_peer s (bad.Shape b.0 b.1) 0
+
+-- what is wrong with the bytes of a chunk: their length, or their digest
+abbrev pub fault_in_digest : Pair → List ℕ → Bool → Option BadPeer
+fault_in_digest p bytes true = None
+fault_in_digest p bytes false = Some (bad.Digest (sha1 bytes) p.digest)
+
+abbrev pub fault_in : Pair → List ℕ → Bool → Option BadPeer
+fault_in p bytes true = fault_in_digest p bytes (bytes_eq (sha1 bytes) p.digest)
+fault_in p bytes false = Some (bad.Shape (length bytes) p.size)
+
+abbrev pub told_bytes : State → ℕ → Fetch → List ℕ → Option BadPeer → State × Acts
+told_bytes s file f bytes None = reads_on s file f.asked f.version (f.bytes ++ bytes) (remove f.left 0) (length bytes)
+told_bytes s file f bytes (Some b) = bad_peer s b (length bytes)
+
+abbrev pub told_piece : State → ℕ → Fetch → Piece → Option Pair → State × Acts
+told_piece s file f piece None = bad_peer s (bad.UnknownXid f.xid) 0
+told_piece s file f piece (Some p) = told_bytes s file f piece.bytes (fault_in p piece.bytes (length piece.bytes == p.size))
+
+-- ---- a message
+
+-- the number of a refusal: an accept_stat, or 10 and a reject_stat (RFC 5531 section 9)
+abbrev pub refusal_code : RpcRefusal → ℕ
+refusal_code refusal.ProgUnavail = 1
+refusal_code (refusal.ProgMismatch low high) = 2
+refusal_code refusal.ProcUnavail = 3
+refusal_code refusal.GarbageArgs = 4
+refusal_code refusal.SystemErr = 5
+refusal_code (refusal.RpcMismatch low high) = 10
+refusal_code (refusal.AuthError why) = 11
+
+abbrev pub denied : State → RpcRefusal → State × Acts
+denied s refusal.SystemErr = (idle s, ends outcome.PeerMemory 0 0)
+denied s r = bad_peer s (bad.Denied (refusal_code r)) 0
+
+-- an answer to the call that waits
+abbrev pub took : State → ℕ → Stage → Body → State × Acts
+took s file (stage.Hashing xid) (body.Lb (lb.GetHashAnswer (Failed status u))) = refused s status xid
+took s file (stage.Hashing xid) (body.Lb (lb.GetHashAnswer (Done h))) = told_shape s file xid h (broken_of h)
+took s file (stage.Reading f) (body.Nfs (nfs.ReadAnswer (Failed status a))) = refused s status f.xid
+took s file (stage.Reading f) (body.Nfs (nfs.ReadAnswer (Done piece))) = told_piece s file f piece (slice_get f.left 0)
+took s file (stage.Hashing xid) b = bad_peer s (bad.UnknownXid xid) 0
+took s file (stage.Reading f) b = bad_peer s (bad.UnknownXid f.xid) 0
+
+abbrev pub xid_of : Stage → ℕ
+xid_of (stage.Hashing xid) = xid
+xid_of (stage.Reading f) = f.xid
+
+abbrev pub took_if : State → Task → ℕ → Body → Bool → State × Acts
+took_if s t xid b true = took s t.file t.stage b
+took_if s t xid b false = bad_peer s (bad.UnknownXid xid) 0
+
+abbrev pub denied_if : State → ℕ → RpcRefusal → Bool → State × Acts
+denied_if s xid r true = denied s r
+denied_if s xid r false = bad_peer s (bad.UnknownXid xid) 0
+
+-- with no operation under way nothing waits, and a fault has no outcome
+abbrev pub cut_off : State → State × Acts
+cut_off s = (record s { linked = false }, nothing_done)
+
+-- an answer takes the operation under way, and its step says what is under way then
+abbrev pub got_message : State → Option Task → Message → State × Acts
+got_message s (Some t) (message.Answer xid b) = took_if (idle s) t xid b (xid == xid_of t.stage)
+got_message s (Some t) (message.Refuse xid r) = denied_if (idle s) xid r (xid == xid_of t.stage)
+got_message s None (message.Answer xid b) = cut_off s
+got_message s None (message.Refuse xid r) = cut_off s
+got_message s task (message.Unfit xid r) = (s, sends (message.Refuse xid r) 0 0)
+got_message s task (message.Call xid b) = (s, nothing_done)
+
+abbrev pub fault_of : WireErr → BadPeer
+fault_of (wire.NotRpc at) = bad.Garbage at
+fault_of (wire.UnknownXid xid) = bad.UnknownXid xid
+fault_of (wire.Garbage at) = bad.Garbage at
+fault_of wire.Memory = bad.Garbage 0
+
+abbrev pub got_fault : State → Option Task → WireErr → State × Acts
+got_fault s (Some t) e = bad_peer s (fault_of e) 0
+got_fault s None e = cut_off s
+
+-- what comes from the other end: a message, or why a record is none
+abbrev pub got_step : State → Result Message WireErr → State × Acts
+got_step s (Ok m) = got_message s s.task m
+got_step s (Err e) = got_fault s s.task e
+
+-- ---- the connection
+
+abbrev pub joined : State → State
+joined s = record s { linked = true; next = 1 }
+
+-- ---- want of memory
+
+-- what is done where memory ran out, and what ends by it
+abbrev pub misses : Option Ended → Acts
+misses ended = record { send = []; ended = ended; counts = record { read = 0; bytes = 0 }; missed = true }
+
+abbrev pub by_memory : Ended
+by_memory = record { outcome = outcome.Memory; rests_on = 0 }
+
+abbrev pub lost_if : Bool → Option Ended
+lost_if true = Some by_memory
+lost_if false = None
+
+-- the operation under way ends, if there is one
+abbrev pub lost : Option Task → Option Ended
+lost task = lost_if (is_some task)
+
+-- ---- what may come
+
+-- want of memory is this end's own, and nothing that came
+abbrev pub IsTold : Result Message WireErr → Type 0
+IsTold (Ok m) = Unit {0}
+IsTold (Err wire.Memory) = ⊥
+IsTold (Err e) = Unit {0}
