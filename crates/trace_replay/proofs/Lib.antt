@@ -1,0 +1,15 @@
+pub mod Lists
+pub mod Bytes
+pub mod Kept
+pub mod Parsed
+pub mod Takes
+pub mod Fits
+pub mod Up
+pub mod Opening
+pub mod Down
+pub mod Fit
+pub mod Lines
+pub mod Grammar
+pub mod Runs
+pub mod Deeds
+pub mod Promise

@@ -1,0 +1,109 @@
+-- Messages taken from the bytes between the two ends.
+use Rattle.std.specs.Prelude.{ℕ, zero, suc, ◌+◌, List, [], ◌∷◌, ◌++◌, Option, Some, None, Result, Ok, Err, Bool, true, false, ◌&&◌, slice_get, slice_set}
+use Rattle.rpc_record.specs.Records.{fed}
+use Rattle.wire.specs.Parse.{parse_of}
+use Rattle.wire.specs.declared.message.Message.{Message}
+use Rattle.wire.specs.declared.message.Message.TheVariants as message
+use Rattle.wire.specs.declared.message.WireErr.{WireErr}
+use Rattle.wire.specs.declared.message.Side.TheVariants as side
+use Rattle.wire.specs.declared.message.Waiting.{Waiting}
+use Rattle.server_core.specs.Step.{server_step}
+use Rattle.server_core.specs.declared.event.Event.TheVariants as event
+use Rattle.open_close.specs.State.{waiting_of}
+use Rattle.open_close.specs.Step.{got_step}
+use Rattle.open_close.specs.State as client
+use Rattle.open_close.specs.declared.acts.Acts.{Acts}
+use Rattle.register_model.specs.declared.op.Op.{Op}
+use Rattle.trace_replay.specs.declared.link.Taken.{Taken}
+use Rattle.trace_replay.specs.World.{World, bytes_of, messages_of, op_after, running_after}
+
+-- ---- the server's end
+
+-- the server asks for nothing, so nothing waits there
+abbrev pub server_waiting : Waiting
+server_waiting = record { side = side.Server; calls = [] }
+
+-- a call that was taken is remembered with its step
+abbrev pub taken_with : List Taken → Message → ℕ → List Taken
+taken_with taken (message.Call xid body) step = taken ++ record { xid = xid; step = step } ∷ []
+taken_with taken _ step = taken
+
+-- a message is taken by the server, in a step
+abbrev pub server_got : World → Message → World
+server_got w m =
+    let r = server_step w.server (event.Got 1 m 0) in
+    record w {
+      steps = w.steps + 1;
+      server = r.0;
+      link = record w.link { taken = taken_with w.link.taken m (w.steps + 1); down = w.link.down ++ bytes_of (messages_of r.1.send) };
+    }
+
+-- bytes that are no message change nothing at the server
+abbrev pub server_takes_if : World → Result Message WireErr → World
+server_takes_if w (Ok m) = server_got w m
+server_takes_if w (Err e) = record w { steps = w.steps + 1 }
+
+abbrev pub server_takes : World → List ℕ → World
+server_takes w bytes = server_takes_if w (parse_of server_waiting bytes)
+
+abbrev pub server_takes_all : World → List (List ℕ) → World
+server_takes_all w [] = w
+server_takes_all w (r ∷ rs) = server_takes_all (server_takes w r) rs
+
+-- all bytes that are on their way up reach the server
+abbrev pub up_all : World → World
+up_all w =
+    let r = fed w.link.server_end w.link.up in
+    server_takes_all (record w { link = record w.link { up = []; server_end = r.0 } }) r.1.records
+
+-- ---- the client's end
+
+-- what becomes of the operations when the client did this in a step, while the one of this place was under way
+abbrev pub ops_after : List Op → Option Op → ℕ → client.State → List Taken → ℕ → Acts → List Op
+ops_after ops None place c taken step acts = ops
+ops_after ops (Some o) place c taken step acts = slice_set ops place (op_after o c taken step acts)
+
+-- the client did this in a step
+abbrev pub acted : World → client.State → Acts → Option ℕ → World
+acted w c acts None = record w { steps = w.steps + 1; client = c; link = record w.link { up = w.link.up ++ bytes_of acts.send } }
+acted w c acts (Some place) =
+    record w {
+      steps = w.steps + 1;
+      client = c;
+      link = record w.link { up = w.link.up ++ bytes_of acts.send };
+      ops = ops_after w.ops (slice_get w.ops place) place c w.link.taken (w.steps + 1) acts;
+      running = running_after place acts.ended;
+    }
+
+abbrev pub client_takes : World → List ℕ → World
+client_takes w bytes =
+    let r = got_step w.client (parse_of (waiting_of w.client) bytes) in
+    acted w r.0 r.1 w.running
+
+abbrev pub client_takes_all : World → List (List ℕ) → World
+client_takes_all w [] = w
+client_takes_all w (r ∷ rs) = client_takes_all (client_takes w r) rs
+
+-- all bytes that are on their way down reach the client
+abbrev pub down_all : World → World
+down_all w =
+    let r = fed w.link.client_end w.link.down in
+    client_takes_all (record w { link = record w.link { down = []; client_end = r.0 } }) r.1.records
+
+-- ---- both
+
+abbrev pub is_none : List ℕ → Bool
+is_none [] = true
+is_none (b ∷ bs) = false
+
+-- nothing is on its way
+abbrev pub is_still : World → Bool
+is_still w = is_none w.link.up && is_none w.link.down
+
+abbrev pub round : World → World
+round w = down_all (up_all w)
+
+-- so many rounds, or as many as anything is on its way before
+abbrev pub passes : ℕ → World → World
+passes zero w = w
+passes (suc k) w = elim (is_still w) [ true ↦ w | false ↦ passes k (round w) ]

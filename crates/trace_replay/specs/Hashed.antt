@@ -1,0 +1,54 @@
+-- The byte lists whose digests are sent or compared in a run, as names of chunks.
+use Rattle.std.specs.Prelude.{ℕ, zero, suc, List, [], ◌∷◌, ◌++◌, Option, Some, None, Result, Ok, Err, true, false}
+use Rattle.rpc_record.specs.Records.{fed}
+use Rattle.wire.specs.Parse.{parse_of}
+use Rattle.wire.specs.declared.message.Message.{Message}
+use Rattle.wire.specs.declared.message.WireErr.{WireErr}
+use Rattle.server_core.specs.Hashed.{server_hashed}
+use Rattle.open_close.specs.Hashed.{client_hashed}
+use Rattle.open_close.specs.State.{waiting_of}
+use Rattle.trace_text.specs.Parts.{lines_of}
+use Rattle.trace_text.specs.Grammar.{line_of}
+use Rattle.trace_text.specs.declared.line.Line.{Line}
+use Rattle.trace_text.specs.declared.line.Line.TheVariants as line
+use Rattle.trace_replay.specs.World.{World, start}
+use Rattle.trace_replay.specs.Delivery.{server_waiting, server_takes, client_takes, up_all, round, is_still}
+use Rattle.trace_replay.specs.Run.{line_in}
+
+abbrev pub server_share : World → Result Message WireErr → List (List ℕ)
+server_share w (Ok m) = server_hashed w.server.files m
+server_share w (Err e) = []
+
+abbrev pub up_records : World → List (List ℕ) → List (List ℕ)
+up_records w [] = []
+up_records w (r ∷ rs) = server_share w (parse_of server_waiting r) ++ up_records (server_takes w r) rs
+
+abbrev pub up_hashed : World → List (List ℕ)
+up_hashed w =
+    let r = fed w.link.server_end w.link.up in
+    up_records (record w { link = record w.link { up = []; server_end = r.0 } }) r.1.records
+
+abbrev pub down_records : World → List (List ℕ) → List (List ℕ)
+down_records w [] = []
+down_records w (r ∷ rs) = client_hashed w.client (parse_of (waiting_of w.client) r) ++ down_records (client_takes w r) rs
+
+abbrev pub down_hashed : World → List (List ℕ)
+down_hashed w =
+    let r = fed w.link.client_end w.link.down in
+    down_records (record w { link = record w.link { down = []; client_end = r.0 } }) r.1.records
+
+abbrev pub passes_hashed : ℕ → World → List (List ℕ)
+passes_hashed zero w = []
+passes_hashed (suc k) w = elim (is_still w) [ true ↦ [] | false ↦ up_hashed w ++ down_hashed (up_all w) ++ passes_hashed k (round w) ]
+
+abbrev pub line_hashed : World → Option Line → List (List ℕ)
+line_hashed w (Some (line.Pass n k s r)) = passes_hashed k w
+line_hashed w _ = []
+
+abbrev pub hashed_from : World → List (List ℕ) → List (List ℕ)
+hashed_from w [] = []
+hashed_from w (l ∷ ls) = elim (line_in w (line_of l)) [ None ↦ [] | Some v ↦ line_hashed w (line_of l) ++ hashed_from v ls ]
+
+-- of a whole run
+abbrev pub hashed : List ℕ → List (List ℕ)
+hashed input = hashed_from start (lines_of input)

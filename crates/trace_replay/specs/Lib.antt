@@ -1,0 +1,9 @@
+pub mod World
+pub mod Delivery
+pub mod Run
+pub mod Hashed
+pub mod Faithful
+pub mod Traces
+pub mod Rows
+pub mod Turns
+pub mod View

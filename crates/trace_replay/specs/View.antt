@@ -1,0 +1,10 @@
+-- The world's fields as a world.
+use Rattle.trace_replay.specs.declared.inner.Inner.{Inner}
+use Rattle.trace_replay.specs.declared.link.Link.{Link as Fields}
+use Rattle.trace_replay.specs.World.{World, Link}
+
+abbrev pub link_of : Fields → Link
+link_of l = record { up = l.up.items; down = l.down.items; server_end = l.server_end; client_end = l.client_end; taken = l.taken.items }
+
+abbrev pub world_of : Inner → World
+world_of w = record { stage = w.stage; opening = w.opening.items; server = w.server; client = w.client; link = link_of w.link; steps = w.steps; ops = w.ops.items; running = w.running }

@@ -1,0 +1,171 @@
+//! The world's fields, and what the lines of a trace do to them.
+
+ghost use Rattle.std.specs.Prelude.{◌≡◌, OnOk, IfOk, length, ◌+◌, ◌&&◌};
+ghost use Rattle.trace_replay.specs.World.{World};
+ghost use Rattle.trace_replay.specs.Delivery.{is_none, is_still, round, passes};
+ghost use Rattle.trace_replay.specs.Run.{with_file, joins, begun, does};
+ghost use Rattle.trace_replay.specs.Turns.{turned};
+ghost use Rattle.trace_replay.specs.View.{world_of};
+ghost use Rattle.trace_text.specs.declared.line.Command.TheVariants as command;
+
+use crate::link::{Link, Stage};
+use crate::outbox::put_all;
+use crate::turn::Turn;
+use crate::{client_end, ops, server_end};
+use lb_base::items::Bytes;
+use open_close::client::Client;
+use register_model::op::{Op, Opening};
+use server_core::event::Event;
+use server_core::file::File;
+use server_core::server::Server;
+use std::alloc::{AllocError, Global};
+use trace_text::line::Command;
+
+/// The most bytes of a file. No line of a trace has more.
+const FILE_MOST: usize = 67_108_864;
+
+/// A world's fields.
+#[derive(Drop)]
+pub struct Inner {
+    pub stage: Stage,
+    /// The files that the trace opens with.
+    pub opening: Vec<Opening>,
+    pub server: Server,
+    pub client: Client,
+    pub link: Link,
+    /// How many steps there were.
+    pub steps: u64,
+    pub ops: Vec<Op>,
+    /// The place of the operation under way.
+    pub running: Option<usize>,
+}
+
+/// The count with so many steps more. No run comes to 2^64 steps, so there it is want of memory.
+pub fn count_on(steps: u64, more: u64) -> Result<u64, AllocError>
+    ensures { IfOk result (λ n. n ≡ steps + more) }
+{
+    steps.checked_add(more).ok_or(AllocError)
+}
+
+/// Whether there are no bytes.
+fn is_none(bytes: &Vec<u8>) -> bool
+    ensures { result ≡ is_none bytes.now.items }
+{
+    bytes.is_empty()
+}
+
+impl Inner {
+    /// Whether nothing is on its way.
+    fn is_still(&self) -> bool
+        ensures { result ≡ is_still (world_of self.now) }
+    {
+        is_none(&self.link.up) && is_none(&self.link.down)
+    }
+
+    /// All bytes on their way up reach the server, and then all bytes on their way down the client.
+    fn round(&mut self, alloc: Global) -> Result<(), AllocError>
+        ensures { OnOk result (world_of self.new ≡ round (world_of self.old)) }
+    {
+        server_end::up_all(alloc, self)?;
+        client_end::down_all(alloc, self)
+    }
+
+    /// So many rounds, or as many as anything is on its way before.
+    fn passes(&mut self, alloc: Global, count: u64) -> Result<(), AllocError>
+        ensures { OnOk result (world_of self.new ≡ passes count (world_of self.old)) }
+    {
+        let mut left = count;
+        'rounds: while left > 0 {
+            if self.is_still() {
+                return Ok(());
+            }
+            self.round(alloc)?;
+            left -= 1;
+        }
+        Ok(())
+    }
+
+    /// A file of the root gets the next id, from 2, and version 1.
+    fn with_file(&mut self, alloc: Global, content: Bytes) -> Result<(), AllocError>
+        ensures { OnOk result (world_of self.new ≡ with_file (world_of self.old) content) }
+    {
+        if FILE_MOST < content.len() {
+            return Err(AllocError);
+        }
+        let id = self.opening.len() as u64 + 2;
+        let copy = content.try_clone(alloc)?;
+        self.server.add_file(File {
+            id,
+            version: 1,
+            content: copy,
+        })?;
+        self.opening.push(Opening { file: id, content })?;
+        self.stage = Stage::Join;
+        Ok(())
+    }
+
+    /// The client joins: a step of the server, and one of the client.
+    fn joins(&mut self, alloc: Global) -> Result<(), AllocError>
+        ensures { OnOk result (world_of self.new ≡ joins (world_of self.old)) }
+    {
+        let steps = count_on(self.steps, 2)?;
+        let outs = self.server.step(alloc, Event::Connect);
+        if outs.missed {
+            return Err(AllocError);
+        }
+        self.client.joined();
+        self.link = Link::new(alloc);
+        self.steps = steps;
+        self.stage = Stage::Do;
+        Ok(())
+    }
+
+    /// The client opens a file: an operation begins, and perhaps ends, in one step.
+    fn opens(&mut self, alloc: Global, file: u64) -> Result<(), AllocError>
+        ensures { OnOk result (world_of self.new ≡ does (world_of self.old) (command.Open file)) }
+    {
+        let step = count_on(self.steps, 1)?;
+        let acts = self.client.command(alloc, Command::Open(file));
+        if acts.missed {
+            return Err(AllocError);
+        }
+        let taken = Vec::new(alloc);
+        let mut op = ops::begun(alloc, file, step);
+        ops::note(alloc, &mut op, &self.client, &taken, step, &acts)?;
+        self.running = ops::running_after(self.ops.len(), &acts.ended);
+        self.ops.push(op)?;
+        put_all(alloc, &mut self.link.up, acts.send.as_slice())?;
+        self.link.taken = taken;
+        self.steps = step;
+        self.stage = Stage::Pass;
+        Ok(())
+    }
+
+    /// The client does what it is told to.
+    fn does(&mut self, alloc: Global, command: Command) -> Result<(), AllocError>
+        ensures { OnOk result (world_of self.new ≡ does (world_of self.old) command) }
+    {
+        match command {
+            Command::Open(file) => self.opens(alloc, file),
+        }
+    }
+
+    /// What a line in place asks for.
+    pub fn turn(&mut self, alloc: Global, turn: Turn) -> Result<(), AllocError>
+        ensures { OnOk result (world_of self.new ≡ turned (world_of self.old) turn) }
+    {
+        match turn {
+            Turn::At(stage) => {
+                self.stage = stage;
+                Ok(())
+            }
+            Turn::File(content) => self.with_file(alloc, content),
+            Turn::Join => self.joins(alloc),
+            Turn::Do(command) => self.does(alloc, command),
+            Turn::Pass(rounds) => {
+                self.stage = Stage::End;
+                self.passes(alloc, rounds)
+            }
+        }
+    }
+}

@@ -1,0 +1,57 @@
+//! Messages put on their way, each as a record of one fragment.
+
+ghost use Rattle.std.specs.Prelude.{◌≡◌, ◌++◌, IfOk, OnOk};
+ghost use Rattle.rpc_record.specs.Records.{marked};
+ghost use Rattle.wire.specs.Message.{message_spell};
+ghost use Rattle.trace_replay.specs.World.{bytes_of, messages_of};
+
+use lb_base::items::Bytes;
+use rpc_record::MOST_BYTES;
+use rpc_record::marking::mark;
+use server_core::event::Sent;
+use std::alloc::{AllocError, Global};
+use wire::message::Message;
+use wire::spell::spell;
+
+/// The record of one fragment. Neither end sends more than a record may have, so there it is want
+/// of memory.
+fn record_of(alloc: Global, contents: &[u8]) -> Result<Bytes, AllocError>
+    ensures { IfOk result (λ bytes. bytes ≡ marked contents.now) }
+{
+    if MOST_BYTES < contents.len() {
+        return Err(AllocError);
+    }
+    match mark(alloc, contents) {
+        Ok(bytes) => Ok(bytes),
+        Err(_) => Err(AllocError),
+    }
+}
+
+/// Puts a message behind the bytes.
+fn put(alloc: Global, bytes: &mut Vec<u8>, message: &Message) -> Result<(), AllocError>
+    ensures { OnOk result (bytes.new.items ≡ bytes.old.items ++ marked (message_spell message.now)) }
+{
+    let spelled = spell(alloc, message)?;
+    let marked = record_of(alloc, spelled.as_slice())?;
+    bytes.extend_from_slice(marked.as_slice())
+}
+
+/// Puts messages behind the bytes, in order.
+pub fn put_all(alloc: Global, bytes: &mut Vec<u8>, messages: &[Message]) -> Result<(), AllocError>
+    ensures { OnOk result (bytes.new.items ≡ bytes.old.items ++ bytes_of messages.now) }
+{
+    for message in messages {
+        put(alloc, bytes, message)?;
+    }
+    Ok(())
+}
+
+/// Puts what a server sends behind the bytes, in order.
+pub fn put_sent(alloc: Global, bytes: &mut Vec<u8>, sent: &[Sent]) -> Result<(), AllocError>
+    ensures { OnOk result (bytes.new.items ≡ bytes.old.items ++ bytes_of (messages_of sent.now)) }
+{
+    for one in sent {
+        put(alloc, bytes, &one.message)?;
+    }
+    Ok(())
+}

@@ -1,0 +1,93 @@
+//! Bytes that reach the server.
+
+ghost use Rattle.std.specs.Prelude.{◌≡◌, OnOk};
+ghost use Rattle.trace_replay.specs.Delivery.{server_waiting, taken_with, server_got, server_takes, server_takes_all, up_all};
+ghost use Rattle.trace_replay.specs.View.{world_of};
+
+use crate::inner::{Inner, count_on};
+use crate::link::Taken;
+use crate::outbox::put_sent;
+use crate::reading::read;
+use lb_base::items::{Bytes, Items};
+use server_core::event::Event;
+use std::alloc::{AllocError, Global};
+use std::mem;
+use wire::message::{Message, Side, Waiting};
+
+/// The number of the client's session.
+const SESSION: u32 = 1;
+
+/// The server asks for nothing, so nothing waits there.
+fn server_waiting(alloc: Global) -> Waiting
+    ensures { result ≡ server_waiting }
+{
+    Waiting {
+        side: Side::Server,
+        calls: Items::new(alloc),
+    }
+}
+
+/// Remembers a call that is taken, with its step.
+fn remember(taken: &mut Vec<Taken>, message: &Message, step: u64) -> Result<(), AllocError>
+    ensures { OnOk result (taken.new.items ≡ taken_with taken.old.items message.now step) }
+{
+    match message {
+        Message::Call(xid, _) => {
+            taken.push(Taken { xid: *xid, step })?;
+            Ok(())
+        }
+        Message::Answer(..) | Message::Refuse(..) | Message::Unfit(..) => Ok(()),
+    }
+}
+
+/// The server takes a message, in a step.
+fn got(alloc: Global, world: &mut Inner, message: Message) -> Result<(), AllocError>
+    ensures { OnOk result (world_of world.new ≡ server_got (world_of world.old) message) }
+{
+    let step = count_on(world.steps, 1)?;
+    remember(&mut world.link.taken, &message, step)?;
+    let event = Event::Got {
+        session: SESSION,
+        message,
+        now: 0,
+    };
+    let outs = world.server.step(alloc, event);
+    if outs.missed {
+        return Err(AllocError);
+    }
+    put_sent(alloc, &mut world.link.down, outs.send.as_slice())?;
+    world.steps = step;
+    Ok(())
+}
+
+/// The server takes a record, in a step. Bytes that are no message change nothing else.
+fn takes(alloc: Global, world: &mut Inner, bytes: &[u8]) -> Result<(), AllocError>
+    ensures { OnOk result (world_of world.new ≡ server_takes (world_of world.old) bytes.now) }
+{
+    match read(alloc, bytes, &server_waiting(alloc))? {
+        Ok(message) => got(alloc, world, message),
+        Err(_) => {
+            world.steps = count_on(world.steps, 1)?;
+            Ok(())
+        }
+    }
+}
+
+/// The server takes records, in order.
+fn takes_all(alloc: Global, world: &mut Inner, records: &[Bytes]) -> Result<(), AllocError>
+    ensures { OnOk result (world_of world.new ≡ server_takes_all (world_of world.old) records.now) }
+{
+    for bytes in records {
+        takes(alloc, world, bytes.as_slice())?;
+    }
+    Ok(())
+}
+
+/// All bytes that are on their way up reach the server.
+pub fn up_all(alloc: Global, world: &mut Inner) -> Result<(), AllocError>
+    ensures { OnOk result (world_of world.new ≡ up_all (world_of world.old)) }
+{
+    let up = mem::replace(&mut world.link.up, Vec::new(alloc));
+    let fed = world.link.server_end.feed(alloc, &up)?;
+    takes_all(alloc, world, fed.records.as_slice())
+}

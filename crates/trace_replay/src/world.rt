@@ -1,0 +1,92 @@
+//! The world that a trace runs in.
+
+ghost use Rattle.std.specs.Prelude.{◌≡◌, Some, IfOk, IfErr, OnOk};
+ghost use Rattle.trace_replay.specs.World.{start};
+ghost use Rattle.trace_replay.specs.Run.{line_step, in_header, history_of};
+ghost use Rattle.trace_replay.specs.Turns.{IsRefused};
+
+use crate::fault::TraceErr;
+use crate::inner::Inner;
+use crate::link::{Link, Stage};
+use crate::turn::turn_of;
+use lb_base::items::Items;
+use open_close::client::Client;
+use register_model::history::History;
+use server_core::server::Server;
+use std::alloc::{AllocError, Global};
+use std::marker::Model;
+use trace_text::line::Line;
+
+/// The two ends of a trace, and what is on its way between them.
+#[derive(Drop)]
+pub struct World {
+    inner: Inner,
+}
+
+impl Model for World {
+    ghost use Rattle.trace_replay.specs.World as worlds;
+
+    ghost Value = { worlds.World };
+
+    ghost use Rattle.trace_replay.specs.View.{world_of};
+
+    ghost view = { λ w. world_of w.inner };
+}
+
+impl World {
+    /// The world before the first line. It takes no memory.
+    pub fn new(alloc: Global) -> World
+        ensures { result ≡ start }
+    {
+        World {
+            inner: Inner {
+                stage: Stage::Version,
+                opening: Vec::new(alloc),
+                server: Server::new(alloc),
+                client: Client::new(alloc),
+                link: Link::new(alloc),
+                steps: 0,
+                ops: Vec::new(alloc),
+                running: None,
+            },
+        }
+    }
+
+    /// Does what the line of this number says. `BadLine` with that number: the line stands out of
+    /// place, and the world stays as it was. `Memory`: the world may be left half-way, and is of no
+    /// further use.
+    pub fn apply(&mut self, alloc: Global, number: u64, line: Line) -> Result<(), TraceErr>
+        ensures ok { OnOk result (line_step self.old self.old.stage line ≡ Some self.new) }
+        ensures err { IfErr result (λ e. IsRefused e number line self.old self.new) }
+    {
+        let Some(turn) = turn_of(self.inner.stage, line) else {
+            return Err(TraceErr::BadLine(number));
+        };
+        self.inner.turn(alloc, turn)?;
+        Ok(())
+    }
+
+    /// Whether lines of the header are still wanted.
+    pub fn in_header(&self) -> bool
+        ensures { result ≡ in_header self.now.stage }
+    {
+        matches!(
+            self.inner.stage,
+            Stage::Version | Stage::Term | Stage::Drift | Stage::Clients
+        )
+    }
+
+    /// The history that the world has come to. The one error is want of memory.
+    pub fn history(self, alloc: Global) -> Result<History, AllocError>
+        ensures { IfOk result (λ h. h ≡ history_of self) }
+    {
+        let World { inner } = self;
+        let Inner {
+            opening,
+            ops,
+            steps,
+            ..
+        } = inner;
+        History::new(alloc, Items::from_vec(opening), Items::from_vec(ops), steps)
+    }
+}
