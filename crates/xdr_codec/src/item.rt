@@ -1,6 +1,6 @@
 //! Items of any type.
 
-ghost use Rattle.std.specs.Prelude.{◌≡◌, ℕ, OnOk, ◌++◌, All, length, ◌<◌, ◌≤◌, ◌^◌, IfSome};
+ghost use Rattle.std.specs.Prelude.{◌≡◌, ℕ, OnOk, OnErr, ◌++◌, All, length, ◌<◌, ◌≤◌, ◌^◌, IfSome};
 ghost use Rattle.std.specs.List.{flat_map};
 ghost use Rattle.xdr_codec.specs.Format.{Format, Gives, Input};
 ghost use Rattle.xdr_codec.specs.Xdr.{u32_form, u64_form, bool_form};
@@ -22,7 +22,8 @@ pub trait Item: Sized + Drop {
     // its byte strings and lists are no longer than their maxima
     ghost short: { Self → Type 0 };
 
-    /// Reads one from the front of a record. After an `Err` the reader may stand anywhere in it.
+    /// Reads one from the front of a record. After an `Err` the reader is left inside the item, at
+    /// any place of it; `read_item` keeps its place.
     fn read(alloc: Global, reader: &mut Reader) -> Result<Self, ReadError>
         ensures { Gives result reader.new (form.read reader.old) };
 
@@ -30,6 +31,20 @@ pub trait Item: Sized + Drop {
     fn write(&self, writer: &mut Writer) -> Result<(), AllocError>
         ensures spelled { OnOk result (writer.new ≡ writer.old ++ form.spell self.now) }
         ensures fits { OnOk result (short self.now → form.Fits self.now) };
+}
+
+/// Reads one item from the front of a record, as `Item::read` does; after an `Err`, want of memory
+/// too, the reader is where it was.
+pub fn read_item<T: Item>(alloc: Global, reader: &mut Reader) -> Result<T, ReadError>
+    ensures gives { Gives result reader.new (T.form.read reader.old) }
+    ensures stays { OnErr result (reader.new ≡ reader.old) }
+{
+    let start = reader.here();
+    let read = T::read(alloc, reader);
+    if read.is_err() {
+        *reader = start;
+    }
+    read
 }
 
 impl Item for u32 {
@@ -126,8 +141,8 @@ fn read_many<T: Item>(alloc: Global, count: u32, reader: &mut Reader) -> Result<
     Ok(Items::from_vec(items))
 }
 
-/// Items behind their number.
-pub fn read_counted<T: Item>(
+/// The number, and so many items.
+fn read_number_and<T: Item>(
     alloc: Global,
     max: u32,
     reader: &mut Reader,
@@ -136,6 +151,23 @@ pub fn read_counted<T: Item>(
 {
     let count = reader.count(max)?;
     read_many(alloc, count, reader)
+}
+
+/// Items behind their number, which is at most `max`. After an `Err` the reader is where it was.
+pub fn read_counted<T: Item>(
+    alloc: Global,
+    max: u32,
+    reader: &mut Reader,
+) -> Result<Items<T>, ReadError>
+    ensures gives { Gives result reader.new ((counted max T.form).read reader.old) }
+    ensures stays { OnErr result (reader.new ≡ reader.old) }
+{
+    let start = reader.here();
+    let read = read_number_and(alloc, max, reader);
+    if read.is_err() {
+        *reader = start;
+    }
+    read
 }
 
 fn write_many<T: Item>(writer: &mut Writer, items: &[T]) -> Result<(), AllocError>
@@ -148,8 +180,8 @@ fn write_many<T: Item>(writer: &mut Writer, items: &[T]) -> Result<(), AllocErro
     Ok(())
 }
 
-/// Items, each behind a true, and a false.
-pub fn read_chain<T: Item>(alloc: Global, reader: &mut Reader) -> Result<Items<T>, ReadError>
+/// Links up to the false.
+fn read_links<T: Item>(alloc: Global, reader: &mut Reader) -> Result<Items<T>, ReadError>
     ensures { Gives result reader.new ((chained T.form).read reader.old) }
 {
     let most = reader.left();
@@ -161,6 +193,19 @@ pub fn read_chain<T: Item>(alloc: Global, reader: &mut Reader) -> Result<Items<T
         }
     }
     Err(ReadError::Fault(Fault::Short { at: reader.at() }))
+}
+
+/// Items, each behind a true, and a false. After an `Err` the reader is where it was.
+pub fn read_chain<T: Item>(alloc: Global, reader: &mut Reader) -> Result<Items<T>, ReadError>
+    ensures gives { Gives result reader.new ((chained T.form).read reader.old) }
+    ensures stays { OnErr result (reader.new ≡ reader.old) }
+{
+    let start = reader.here();
+    let read = read_links(alloc, reader);
+    if read.is_err() {
+        *reader = start;
+    }
+    read
 }
 
 fn write_link<T: Item>(writer: &mut Writer, item: &T) -> Result<(), AllocError>

@@ -68,6 +68,16 @@ impl<'a> Reader<'a> {
         self.rest.len()
     }
 
+    /// A reader at the same place, to go back to.
+    pub fn here(&self) -> Reader<'a>
+        ensures { result ≡ self.now }
+    {
+        Reader {
+            rest: self.rest,
+            at: self.at,
+        }
+    }
+
     /// Nothing is left; else `Trailing`. Takes no memory.
     pub fn end(&self) -> Result<(), ReadError>
         ensures gives { GivesAll result (ended self.now) }

@@ -5,7 +5,7 @@ use crate::attr::{Attr, Kind, Time};
 use crate::digest::Digest;
 use crate::fault::{Fault, ReadError};
 use crate::handle::Handle;
-use crate::item::{read_chain, read_counted, write_chain, write_counted};
+use crate::item::{read_chain, read_counted, read_item, write_chain, write_counted};
 use crate::reader::Reader;
 use crate::status::Status;
 use crate::whole::{read_whole, write_whole};
@@ -169,5 +169,25 @@ fn refuses_at_its_place(rt: HostRuntime) -> Result<(), Fail> {
     assert_eq!(rt; short, Some(Fault::Short { at: 0 }));
     let kind = fault(read_whole::<Kind>(alloc, 4, &[0, 0, 0, 3]));
     assert_eq!(rt; kind, Some(Fault::BadValue { at: 4, value: 3 }));
+    let trailing = fault(read_whole::<Kind>(alloc, 4, &[0, 0, 0, 1, 0, 0, 0, 0]));
+    assert_eq!(rt; trailing, Some(Fault::Trailing { at: 8 }));
+    Ok(())
+}
+
+#[test]
+fn a_refused_item_moves_nothing(rt: HostRuntime) -> Result<(), Fail> {
+    let alloc = rt.alloc();
+    let bytes = [0, 0, 0, 1, 0, 0, 0, 3];
+    let mut reader = Reader::new(&bytes);
+    let kind = fault(read_item::<Option<Kind>>(alloc, &mut reader));
+    assert_eq!(rt; kind, Some(Fault::BadValue { at: 4, value: 3 }));
+    assert_eq!(rt; reader.at(), 0);
+    let counted = fault(read_counted::<u64>(alloc, 1, &mut reader));
+    assert_eq!(rt; counted, Some(Fault::Short { at: 4 }));
+    assert_eq!(rt; reader.at(), 0);
+    let chain = fault(read_chain::<u64>(alloc, &mut reader));
+    assert_eq!(rt; chain, Some(Fault::Short { at: 4 }));
+    assert_eq!(rt; reader.at(), 0);
+    assert_eq!(rt; read_item::<Option<u32>>(alloc, &mut reader)?, Some(3));
     Ok(())
 }

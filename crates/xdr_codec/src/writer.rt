@@ -2,8 +2,8 @@
 //!
 //! Each call writes its item's spelling, or answers `AllocError`; then nothing was written.
 
-ghost use Rattle.std.specs.Prelude.{◌≡◌, ◌++◌, [], ◌<◌, ◌≤◌, ◌^◌, length, OnOk, OnErr, replicate};
-ghost use Rattle.xdr_codec.specs.Xdr.{u32_form, u64_form, bool_form, padded, opaque_spell, fill_len};
+ghost use Rattle.std.specs.Prelude.{◌≡◌, ℕ, ◌++◌, [], ◌<◌, ◌≤◌, ◌^◌, length, OnOk, OnErr, replicate};
+ghost use Rattle.xdr_codec.specs.Xdr.{u32_form, u64_form, bool_form, fixed_form, opaque_form, padded, opaque_spell, fill_len};
 
 use lb_base::items::Bytes;
 use std::alloc::{AllocError, Global};
@@ -95,8 +95,10 @@ impl Writer {
     }
 
     /// Bytes whose number the format says, and zeros up to a multiple of four.
+    #[tactic(auto, unfolding(crate::specs::Xdr::fixed_form))]
     pub fn fixed(&mut self, bytes: &[u8]) -> Result<(), AllocError>
         ensures spelled { OnOk result (self.new ≡ self.old ++ padded bytes.now) }
+        ensures fits { (fixed_form (length bytes.now)).Fits bytes.now }
         ensures stays { OnErr result (self.new ≡ self.old) }
     {
         self.put(&[], bytes)
@@ -107,6 +109,7 @@ impl Writer {
     #[tactic(auto, unfolding(crate::specs::Xdr::opaque_spell))]
     pub fn opaque(&mut self, bytes: &[u8]) -> Result<(), AllocError>
         ensures spelled { OnOk result (self.new ≡ self.old ++ opaque_spell bytes.now) }
+        ensures fits { (max : ℕ) → length bytes.now ≤ max → max < 2 ^ 32 → (opaque_form max).Fits bytes.now }
         ensures stays { OnErr result (self.new ≡ self.old) }
     {
         let len = (bytes.len() % 0x1_0000_0000) as u32;
