@@ -1,8 +1,9 @@
 //! Whole headers of calls and replies (RFC 5531, section 9).
 //!
-//! A reader is left behind the header, where the arguments or the result begin.
+//! A reader is left behind the header, where the arguments or the result begin; after a refusal it
+//! is where it was.
 
-ghost use Rattle.std.specs.Prelude.{◌≡◌, ◌++◌, ◌≤◌, length, OnOk};
+ghost use Rattle.std.specs.Prelude.{◌≡◌, ◌++◌, ◌≤◌, length, OnOk, OnErr};
 ghost use Rattle.rpc_record.specs.Header.{short_reply};
 ghost use Rattle.rpc_record.specs.Messages.{HeaderGives, call_read, call_spell, CallFits, reply_read, reply_spell, ReplyFits};
 
@@ -37,19 +38,46 @@ pub struct Reply {
     pub head: ReplyHead,
 }
 
+/// The header of a call; a refusal leaves the reader inside it.
+fn read_call(alloc: Global, reader: &mut Reader) -> Result<Call, HeaderError>
+    ensures { HeaderGives result reader.new (call_read reader.old) }
+{
+    let xid = reader.u32()?;
+    let value = reader.u32()?;
+    if value != CALL {
+        return Err(HeaderError::BadType { value });
+    }
+    let rpcvers = reader.u32()?;
+    let head = CallHead::read(alloc, reader)?;
+    Ok(Call { xid, rpcvers, head })
+}
+
+/// The header of a reply; a refusal leaves the reader inside it.
+fn read_reply(alloc: Global, reader: &mut Reader) -> Result<Reply, HeaderError>
+    ensures { HeaderGives result reader.new (reply_read reader.old) }
+{
+    let xid = reader.u32()?;
+    let value = reader.u32()?;
+    if value != REPLY {
+        return Err(HeaderError::BadType { value });
+    }
+    let head = ReplyHead::read(alloc, reader)?;
+    Ok(Reply { xid, head })
+}
+
 impl Call {
-    /// Reads the header of a call; `BadType` where the message is not a call.
+    /// Reads the header of a call; `BadType` where the message is not a call. After an `Err`, want
+    /// of memory too, the reader is where it was.
     pub fn read(alloc: Global, reader: &mut Reader) -> Result<Call, HeaderError>
-        ensures { HeaderGives result reader.new (call_read reader.old) }
+        ensures gives { HeaderGives result reader.new (call_read reader.old) }
+        ensures stays { OnErr result (reader.new ≡ reader.old) }
     {
-        let xid = reader.u32()?;
-        let value = reader.u32()?;
-        if value != CALL {
-            return Err(HeaderError::BadType { value });
+        let start = reader.here();
+        let read = read_call(alloc, reader);
+        if read.is_err() {
+            *reader = start;
         }
-        let rpcvers = reader.u32()?;
-        let head = CallHead::read(alloc, reader)?;
-        Ok(Call { xid, rpcvers, head })
+        read
     }
 
     /// Writes the header; only memory can be wanting.
@@ -65,17 +93,18 @@ impl Call {
 }
 
 impl Reply {
-    /// Reads the header of a reply; `BadType` where the message is not a reply.
+    /// Reads the header of a reply; `BadType` where the message is not a reply. After an `Err`, want
+    /// of memory too, the reader is where it was.
     pub fn read(alloc: Global, reader: &mut Reader) -> Result<Reply, HeaderError>
-        ensures { HeaderGives result reader.new (reply_read reader.old) }
+        ensures gives { HeaderGives result reader.new (reply_read reader.old) }
+        ensures stays { OnErr result (reader.new ≡ reader.old) }
     {
-        let xid = reader.u32()?;
-        let value = reader.u32()?;
-        if value != REPLY {
-            return Err(HeaderError::BadType { value });
+        let start = reader.here();
+        let read = read_reply(alloc, reader);
+        if read.is_err() {
+            *reader = start;
         }
-        let head = ReplyHead::read(alloc, reader)?;
-        Ok(Reply { xid, head })
+        read
     }
 
     /// Writes the header; only memory can be wanting.

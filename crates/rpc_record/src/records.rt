@@ -73,6 +73,9 @@ fn forget(bytes: &mut Vec<u8>, used: usize)
     requires { used ≤ length bytes.old.items }
     ensures { bytes.new.items ≡ drop used bytes.old.items }
 {
+    if used == 0 {
+        return;
+    }
     let left = bytes.len() - used;
     bytes.copy_within(used.., 0);
     bytes.truncate(left);

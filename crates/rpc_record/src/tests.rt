@@ -151,10 +151,14 @@ fn reads_and_writes_replies(rt: HostRuntime) -> Result<(), Fail> {
 #[test]
 fn another_type_is_refused(rt: HostRuntime) -> Result<(), Fail> {
     let alloc = rt.alloc();
-    let call = Call::read(alloc, &mut Reader::new(&DENIED));
+    let mut reader = Reader::new(&DENIED);
+    let call = Call::read(alloc, &mut reader);
     assert!(rt; matches!(call, Err(HeaderError::BadType { value: 1 })));
-    let reply = Reply::read(alloc, &mut Reader::new(&CALL));
+    assert_eq!(rt; reader.at(), 0, "a refusal moves nothing");
+    let mut reader = Reader::new(&CALL);
+    let reply = Reply::read(alloc, &mut reader);
     assert!(rt; matches!(reply, Err(HeaderError::BadType { value: 0 })));
+    assert_eq!(rt; reader.at(), 0, "a refusal moves nothing");
     let short = Reply::read(alloc, &mut Reader::new(&DENIED[..18]));
     assert!(rt; matches!(short, Err(HeaderError::Xdr(Fault::Short { at: 16 }))));
     Ok(())
