@@ -1,4 +1,5 @@
--- The text of a history, and of its summary.
+-- The text of a history, and of its summary: lines of words that are parted by one blank. Numbers are
+-- decimal, and digests and names hexadecimal.
 use Rattle.std.specs.Prelude.{ℕ, ◌+◌, List, [], ◌∷◌, ◌++◌, length, Option, Some, None, codes}
 use Rattle.std.specs.List.{flat_map}
 use Rattle.std.specs.Fmt.{decimal}
@@ -15,6 +16,7 @@ use Rattle.register_model.specs.declared.summary.Counts.{Counts}
 use Rattle.register_model.specs.Register.{History}
 use Rattle.register_model.specs.Summary.{counts_of, totals_of}
 
+-- a word as the command of a trace has it
 abbrev pub word_text : Word → List ℕ
 word_text word.Open = codes "open"
 word_text word.Write = codes "write"
@@ -38,11 +40,12 @@ number n = codes " " ++ decimal n
 abbrev pub bytes_text : List ℕ → List ℕ
 bytes_text bytes = codes " " ++ encode_lower bytes
 
--- a blank and a moment, `-` where there is none
+-- a blank and a moment, or `-` where there is none
 abbrev pub moment : Option ℕ → List ℕ
 moment None = codes " -"
 moment (Some n) = number n
 
+-- how an operation ended: a word, and the numbers, digest or names that belong to it
 abbrev pub outcome_text : Outcome → List ℕ
 outcome_text (outcome.Opened len sha1) = codes "Opened" ++ number len ++ bytes_text sha1
 outcome_text (outcome.Piece len sha1) = codes "Piece" ++ number len ++ bytes_text sha1
@@ -63,14 +66,15 @@ outcome_text outcome.Memory = codes "Memory"
 outcome_text outcome.NoLink = codes "NoLink"
 outcome_text outcome.Running = codes "Running"
 
+-- what an operation sent and received
 abbrev pub traffic_text : Traffic → List ℕ
 traffic_text t = codes " cond" ++ number t.cond ++ codes " tmp" ++ number t.tmp ++ codes " read" ++ number t.read ++ codes " data" ++ number t.data
 
--- whose operation it is, and on what
+-- an operation's number, its client, its word and its file
 abbrev pub op_name : ℕ → Op → List ℕ
 op_name n o = codes "op" ++ number n ++ codes " client" ++ number o.client ++ codes " " ++ word_text o.word ++ codes " file" ++ number o.file
 
--- when it was
+-- when it began and ended, and its point
 abbrev pub op_times : Op → List ℕ
 op_times o = codes " begin" ++ number o.begin ++ codes " end" ++ moment o.end ++ codes " point" ++ moment o.point
 
@@ -83,25 +87,30 @@ abbrev pub op_lines : ℕ → List Op → List ℕ
 op_lines n [] = []
 op_lines n (o ∷ os) = op_line n o ++ op_lines (n + 1) os
 
+-- the last line: how many operations and steps there were
 abbrev pub end_line : History → List ℕ
 end_line h = codes "end ops" ++ number (length h.ops) ++ codes " steps" ++ number h.steps ++ codes "\n"
 
+-- the whole text: the first line names the format and its version
 abbrev pub history_text : History → List ℕ
 history_text h = codes "lbfs-history 1\n" ++ op_lines 1 h.ops ++ end_line h
 
--- those that were done, and those that were not
+-- how many operations were done
 abbrev pub done_text : Endings → List ℕ
 done_text e = codes " opened" ++ number e.opened ++ codes " closed" ++ number e.closed ++ codes " other" ++ number e.other
 
+-- how many were not, or not yet
 abbrev pub undone_text : Endings → List ℕ
 undone_text e = codes " refused" ++ number e.refused ++ codes " running" ++ number e.running
 
--- three lines of counts; the last is the number of entries in the journal of the server
+-- how many operations there were, and how they ended
 abbrev pub ops_line : Counts → List ℕ
 ops_line c = codes "ops" ++ number c.ops ++ done_text c.endings ++ undone_text c.endings ++ codes "\n"
 
+-- what all of them sent and received
 abbrev pub totals_line : Totals → List ℕ
 totals_line t = codes "cond" ++ number t.cond ++ codes " tmp" ++ number t.tmp ++ codes " read" ++ number t.read ++ codes " data" ++ number t.data ++ codes "\n"
 
+-- three lines of counts; the last is the number of entries in the server's journal, which is given
 abbrev pub summary_text : History → ℕ → List ℕ
 summary_text h journal = ops_line (counts_of h) ++ totals_line (totals_of h.ops) ++ codes "journal" ++ number journal ++ codes "\n"

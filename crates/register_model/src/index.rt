@@ -23,7 +23,9 @@ pub struct Mark {
 /// The changes of a history by their points, and by file and point.
 #[derive(Drop)]
 pub struct Index {
+    /// The marks of all changes, by point.
     pub by_point: Vec<Mark>,
+    /// The same marks by file, those of one file by point.
     pub by_file: Vec<Mark>,
 }
 

@@ -7,6 +7,8 @@ mod index;
 pub mod legal;
 pub mod op;
 mod openings;
+#[cfg(test)]
+mod plain;
 pub mod summary;
 #[cfg(test)]
 mod tests;

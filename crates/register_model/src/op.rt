@@ -7,24 +7,37 @@ ghost use Rattle.register_model.specs.Summary.{is_running, is_other, is_refused}
 
 use lb_base::items::{Bytes, Items, Name};
 
-/// The status of RFC 1813 by which a file is gone, NFS3ERR_STALE.
+/// The status by which a file is gone: NFS3ERR_STALE of RFC 1813, section 2.6.
 const STALE: u32 = 70;
 
-/// What an operation was to do.
+/// What an operation was to do: the first word of its command.
 #[derive(Clone, Copy, Debug, PartialEq, Eq)]
 pub enum Word {
+    /// Opens a file: the client gets its whole content, as it is at one moment.
     Open,
+    /// Writes bytes into the client's copy of an open file.
     Write,
+    /// Cuts that copy to a length, or fills it with zeros up to it.
     Trunc,
+    /// Reads bytes of that copy.
     Read,
+    /// Closes a file: that copy replaces the whole file at one moment.
     Close,
+    /// Drops that copy, and leaves the file as it is.
     Abandon,
+    /// Makes an empty file.
     Make,
+    /// Makes a directory.
     Mkdir,
+    /// Removes a file.
     Remove,
+    /// Removes an empty directory.
     Rmdir,
+    /// Gives a file or a directory another name; a file that had that name is gone.
     Rename,
+    /// Lists the names of a directory.
     List,
+    /// Looks up what a name stands for.
     Look,
 }
 
@@ -33,29 +46,40 @@ pub enum Word {
 pub enum Outcome {
     /// An open got the whole content.
     Opened {
+        /// The content's length.
         len: u64,
+        /// The content's digest.
         sha1: Bytes,
     },
-    /// A read gave these bytes of an open file.
+    /// A read gave bytes of an open file.
     Piece {
+        /// How many bytes it gave.
         len: u64,
+        /// Their digest.
         sha1: Bytes,
     },
-    /// A close replaced the file, which now has this version.
+    /// A close replaced the file.
     Closed {
+        /// The version that the file has since then.
         version: u64,
+        /// The length of its content.
         len: u64,
+        /// The digest of its content.
         sha1: Bytes,
     },
     /// It was done, and has nothing to tell.
     Done,
     /// The names of a directory.
     Names(Items<Name>),
-    /// What was found: a file or a directory, by its kind of RFC 1813 (1 and 2).
+    /// What a name stands for.
     Seen {
+        /// The id of the file or directory.
         file: u64,
+        /// Its kind (ftype3 of RFC 1813, section 2.5): 1 for a file, 2 for a directory.
         kind: u32,
+        /// Its version.
         version: u64,
+        /// The length of a file; of a directory the number of its names.
         len: u64,
     },
     /// The client had an operation under way.
@@ -66,12 +90,14 @@ pub enum Outcome {
     AlreadyOpen,
     /// The connection was lost first: it may have been done or not.
     Lost,
-    /// Each attempt to fetch the content met a change; these are the last attempt's two versions.
+    /// Each attempt of an open to fetch the content met a change of the file.
     Changed {
+        /// The version with which the last attempt began.
         first: u64,
+        /// The version that it then met.
         last: u64,
     },
-    /// The server refused it, with this status.
+    /// The server refused it, with this status (nfsstat3 of RFC 1813, section 2.6).
     Refused(u32),
     /// The server lacked memory.
     PeerMemory,
@@ -106,6 +132,7 @@ pub struct Traffic {
 pub struct Op {
     /// The client's number, from 1.
     pub client: u32,
+    /// What it was to do.
     pub word: Word,
     /// The file's id, 0 where none is known.
     pub file: u64,
@@ -115,9 +142,11 @@ pub struct Op {
     pub end: Option<u64>,
     /// The step at which the file's content was read or changed, if one did.
     pub point: Option<u64>,
+    /// How it ended, or that it hasn't.
     pub outcome: Outcome,
-    /// The content that an open got, the content that a close stored; else nothing.
+    /// The content that an open got, or that a close stores; of any other operation, no byte.
     pub value: Bytes,
+    /// What it sent and received.
     pub traffic: Traffic,
 }
 
@@ -126,6 +155,7 @@ pub struct Op {
 pub struct Opening {
     /// The file's id.
     pub file: u64,
+    /// Its whole content.
     pub content: Bytes,
 }
 

@@ -14,9 +14,9 @@ pub struct Endings {
     pub opened: usize,
     /// Closes that replaced a file.
     pub closed: usize,
-    /// Others that were done.
+    /// Others that were done, whether or not they had something to tell.
     pub other: usize,
-    /// Those that ended otherwise.
+    /// Those that ended and were not done: refused, lost or failed.
     pub refused: usize,
     /// Those that have not ended.
     pub running: usize,
@@ -40,7 +40,9 @@ pub struct Totals {
 pub struct Counts {
     /// All operations.
     pub ops: usize,
+    /// How many of them ended in each way.
     pub endings: Endings,
+    /// What all of them sent and received.
     pub totals: Totals,
 }
 

@@ -1,8 +1,12 @@
-//! Histories that are legal, and one for each fact that breaks it by one number.
+//! Histories that are legal, and one for each fact that breaks it by one number; thousands of
+//! operations; the fast test beside a plain one; and the texts.
+
+ghost use Rattle.std.specs.Prelude.{◌<◌};
 
 use crate::history::History;
 use crate::legal::is_legal;
 use crate::op::{Op, Opening, Outcome, Traffic, Word};
+use crate::plain;
 use crate::summary::summary;
 use crate::text::{summary_text, text};
 use lb_base::items::{Bytes, Items};
@@ -81,77 +85,39 @@ fn add(
     Ok(())
 }
 
-/// A file 2 is opened, replaced, opened and removed, and then not found.
-fn add_changes(alloc: Global, ops: &mut Vec<Op>) -> Result<(), AllocError> {
-    add(
-        alloc,
-        ops,
-        Word::Open,
-        2,
-        (1, Some(3), Some(2)),
-        opened(alloc),
-        b"a",
-    )?;
-    add(
-        alloc,
-        ops,
-        Word::Close,
-        2,
-        (4, Some(8), Some(6)),
-        closed(alloc),
-        b"b",
-    )?;
-    add(
-        alloc,
-        ops,
-        Word::Open,
-        2,
-        (5, Some(9), Some(7)),
-        opened(alloc),
-        b"b",
-    )?;
-    add(
-        alloc,
-        ops,
-        Word::Remove,
-        2,
-        (6, Some(12), Some(11)),
-        Outcome::Done,
-        b"",
-    )?;
-    add(
-        alloc,
-        ops,
-        Word::Open,
-        2,
-        (9, Some(15), Some(14)),
-        Outcome::Refused(70),
-        b"",
-    )
+/// File 2 is opened, replaced, and opened again while the close is under way.
+fn add_close(alloc: Global, ops: &mut Vec<Op>) -> Result<(), AllocError> {
+    let times = (1, Some(3), Some(2));
+    add(alloc, ops, Word::Open, 2, times, opened(alloc), b"a")?;
+    let times = (4, Some(8), Some(6));
+    add(alloc, ops, Word::Close, 2, times, closed(alloc), b"b")?;
+    let times = (5, Some(9), Some(7));
+    add(alloc, ops, Word::Open, 2, times, opened(alloc), b"b")
 }
 
-/// Then a file 3 is made, and a close of file 4 fails.
+/// Then file 2 is removed, and not found.
+fn add_removal(alloc: Global, ops: &mut Vec<Op>) -> Result<(), AllocError> {
+    let times = (6, Some(12), Some(11));
+    add(alloc, ops, Word::Remove, 2, times, Outcome::Done, b"")?;
+    let times = (9, Some(15), Some(14));
+    let gone = Outcome::Refused(70);
+    add(alloc, ops, Word::Open, 2, times, gone, b"")
+}
+
+/// Then file 3 is made, and a close of file 4 fails.
+fn add_others(alloc: Global, ops: &mut Vec<Op>) -> Result<(), AllocError> {
+    let times = (16, Some(18), Some(17));
+    add(alloc, ops, Word::Make, 3, times, Outcome::Done, b"")?;
+    let full = Outcome::Refused(28);
+    add(alloc, ops, Word::Close, 4, (19, Some(22), None), full, b"e")
+}
+
+/// A legal history in which each fact speaks of some operation.
 fn legal_ops(alloc: Global) -> Result<Vec<Op>, AllocError> {
     let mut ops = Vec::new(alloc);
-    add_changes(alloc, &mut ops)?;
-    add(
-        alloc,
-        &mut ops,
-        Word::Make,
-        3,
-        (16, Some(18), Some(17)),
-        Outcome::Done,
-        b"",
-    )?;
-    add(
-        alloc,
-        &mut ops,
-        Word::Close,
-        4,
-        (19, Some(22), None),
-        Outcome::Refused(28),
-        b"e",
-    )?;
+    add_close(alloc, &mut ops)?;
+    add_removal(alloc, &mut ops)?;
+    add_others(alloc, &mut ops)?;
     Ok(ops)
 }
 
@@ -249,33 +215,105 @@ fn a_change_that_failed_was_never_made(rt: HostRuntime) -> Result<(), Fail> {
     Ok(())
 }
 
+/// File 2 is closed and opened again, many times, a step for each; the last open got the content.
+fn add_many(alloc: Global, ops: &mut Vec<Op>, rounds: u32, last: &[u8]) -> Result<(), AllocError> {
+    for round in 0..rounds {
+        let step = 2 * u64::from(round) + 1;
+        let times = (step, Some(step), Some(step));
+        add(alloc, ops, Word::Close, 2, times, closed(alloc), b"b")?;
+        let content = if round + 1 == rounds { last } else { b"b" };
+        let step = step + 1;
+        let times = (step, Some(step), Some(step));
+        add(alloc, ops, Word::Open, 2, times, opened(alloc), content)?;
+    }
+    Ok(())
+}
+
+/// What the test, and the plain one, say of many rounds of which the last open got the content.
+fn verdicts(alloc: Global, rounds: u32, last: &[u8]) -> Result<(bool, bool), AllocError> {
+    let mut ops = Vec::new(alloc);
+    add_many(alloc, &mut ops, rounds, last)?;
+    let history = history(alloc, ops)?;
+    Ok((is_legal(&history), plain::is_legal(&history)))
+}
+
 #[test]
 fn thousands_of_operations_are_decided(rt: HostRuntime) -> Result<(), Fail> {
-    let alloc = rt.alloc();
-    let mut ops = Vec::new(alloc);
-    for k in 0..4000u64 {
-        let step = 2 * k + 1;
-        add(
-            alloc,
-            &mut ops,
-            Word::Close,
-            2,
-            (step, Some(step), Some(step)),
-            closed(alloc),
-            b"b",
-        )?;
-        let step = step + 1;
-        add(
-            alloc,
-            &mut ops,
-            Word::Open,
-            2,
-            (step, Some(step), Some(step)),
-            opened(alloc),
-            b"b",
-        )?;
+    assert!(rt; verdicts(rt.alloc(), 2000, b"b")? == (true, true));
+    assert!(rt; verdicts(rt.alloc(), 2000, b"a")? == (false, false));
+    Ok(())
+}
+
+/// The next number of a fixed sequence, below the bound.
+fn next(state: &mut u64, bound: u64) -> u64
+    requires { 0 < bound }
+    ensures { result < bound }
+{
+    *state = state
+        .wrapping_mul(6364136223846793005)
+        .wrapping_add(1442695040888963407);
+    (*state >> 33) % bound
+}
+
+fn some_word(state: &mut u64) -> Word {
+    match next(state, 5) {
+        0 => Word::Close,
+        1 => Word::Make,
+        2 => Word::Remove,
+        3 => Word::Rename,
+        _ => Word::Open,
     }
-    assert!(rt; is_legal(&history(alloc, ops)?));
+}
+
+fn some_outcome(alloc: Global, state: &mut u64) -> Outcome {
+    match next(state, 6) {
+        0 => opened(alloc),
+        1 => closed(alloc),
+        2 => Outcome::Refused(70),
+        3 => Outcome::Lost,
+        4 => Outcome::Running,
+        _ => Outcome::Done,
+    }
+}
+
+/// A moment below 8, or none.
+fn some_moment(state: &mut u64) -> Option<u64> {
+    if next(state, 4) == 0 {
+        None
+    } else {
+        Some(next(state, 8))
+    }
+}
+
+/// An operation on file 2 or 3, whose begin, end and point are any.
+fn add_some(alloc: Global, ops: &mut Vec<Op>, state: &mut u64) -> Result<(), AllocError> {
+    let word = some_word(state);
+    let file = 2 + next(state, 2);
+    let begin = next(state, 4);
+    let end = some_moment(state);
+    let point = some_moment(state);
+    let outcome = some_outcome(alloc, state);
+    let value = if next(state, 2) == 0 { b"a" } else { b"b" };
+    add(alloc, ops, word, file, (begin, end, point), outcome, value)
+}
+
+#[test]
+fn the_fast_test_agrees_with_the_plain_one(rt: HostRuntime) -> Result<(), Fail> {
+    let alloc = rt.alloc();
+    let mut state = 1;
+    let mut legal: u32 = 0;
+    for _ in 0..3000 {
+        let mut ops = Vec::new(alloc);
+        for _ in 0..1 + next(&mut state, 4) {
+            add_some(alloc, &mut ops, &mut state)?;
+        }
+        let history = history(alloc, ops)?;
+        assert!(rt; is_legal(&history) == plain::is_legal(&history));
+        if is_legal(&history) {
+            legal = legal.saturating_add(1);
+        }
+    }
+    assert!(rt; 100 < legal && legal < 2900);
     Ok(())
 }
 
