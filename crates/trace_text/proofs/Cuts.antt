@@ -1,8 +1,8 @@
--- The first line of a text, and the first word of a line.
+-- The first line of a text, and its first part at a byte.
 use Rattle.std.proofs.Common.{◌≡◌, ℕ, suc, ◌+◌, ◌<◌, ◌≤◌, ◌==◌, List, [], ◌∷◌, Bool, true, false, not, cond, length, take, drop, arith, refl}
 use Rattle.std.specs.List.{position_or_len, before_first, after_first, onto_first}
 use Rattle.std.proofs.lemmas.List.Splits.{slice_split_first}
-use Rattle.trace_text.specs.Parts.{lines_of, words_of}
+use Rattle.trace_text.specs.Parts.{cut_at, lines_of, words_of}
 
 first_by : (b : Bool) (x : ℕ) (xs : List ℕ) (n : ℕ) → cond (not b) (1 + n) 0 < suc (length xs) → (n < length xs → lines_of xs ≡ take n xs ∷ lines_of (drop (n + 1) xs)) → cond b ([] ∷ lines_of xs) (onto_first x (lines_of xs)) ≡ take (cond (not b) (1 + n) 0) (x ∷ xs) ∷ lines_of (drop (cond (not b) (1 + n) 0 + 1) (x ∷ xs))
 first_by true x xs n h later = refl
@@ -39,14 +39,14 @@ some_word (x ∷ xs) = by (x == 32) (words_of xs)
     by false [] = (x ∷ [], [], refl)
     by false (part ∷ parts) = (x ∷ part, parts, refl)
 
-one_by : (b : Bool) (x : ℕ) (xs : List ℕ) (n : ℕ) → suc (length xs) ≤ cond (not b) (1 + n) 0 → (length xs ≤ n → words_of xs ≡ xs ∷ []) → cond b ([] ∷ words_of xs) (onto_first x (words_of xs)) ≡ (x ∷ xs) ∷ []
-one_by true x xs n h later = absurd (omega arith)
-one_by false x xs n h later = rw (later (omega arith)) refl
+one_by : (c : ℕ) (b : Bool) (x : ℕ) (xs : List ℕ) (n : ℕ) → suc (length xs) ≤ cond (not b) (1 + n) 0 → (length xs ≤ n → cut_at c xs ≡ xs ∷ []) → cond b ([] ∷ cut_at c xs) (onto_first x (cut_at c xs)) ≡ (x ∷ xs) ∷ []
+one_by c true x xs n h later = absurd (omega arith)
+one_by c false x xs n h later = rw (later (omega arith)) refl
 
--- a line without a space is one word
-pub only_word : (xs : List ℕ) → length xs ≤ position_or_len (λ b. b == 32) xs → words_of xs ≡ xs ∷ []
-only_word [] h = refl
-only_word (x ∷ xs) h = one_by (x == 32) x xs (position_or_len (λ b. b == 32) xs) h (only_word xs)
+-- a text without such a byte is one part
+pub only_part : (c : ℕ) (xs : List ℕ) → length xs ≤ position_or_len (λ b. b == c) xs → cut_at c xs ≡ xs ∷ []
+only_part c [] h = refl
+only_part c (x ∷ xs) h = one_by c (x == c) x xs (position_or_len (λ b. b == c) xs) h (only_part c xs)
 
-pub first_word_of : (line : List ℕ) → position_or_len (λ b. b == 32) line < length line → words_of line ≡ before_first (λ b. b == 32) line ∷ words_of (after_first (λ b. b == 32) line)
-first_word_of line h = slice_split_first (λ b. b == 32) line 0 h
+pub first_part_of : (c : ℕ) (text : List ℕ) → position_or_len (λ b. b == c) text < length text → cut_at c text ≡ before_first (λ b. b == c) text ∷ cut_at c (after_first (λ b. b == c) text)
+first_part_of c text h = slice_split_first (λ b. b == c) text 0 h

@@ -1,4 +1,7 @@
 pub mod Again
+pub mod Contents
 pub mod Cuts
 pub mod Decimals
+pub mod Ids
+pub mod Joined
 pub mod Numbers

@@ -1,9 +1,9 @@
 -- What a line of a trace says.
-use Rattle.std.specs.Prelude.{ℕ, List, [], ◌∷◌, Option, Some, None, codes, bytes_eq, if◌then◌else◌}
+use Rattle.std.specs.Prelude.{ℕ, List, [], ◌∷◌, Bool, ◌||◌, ◌==◌, length, take, Option, Some, None, codes, bytes_eq, if◌then◌else◌}
 use Rattle.trace_text.specs.declared.line.Command.{Command}
 use Rattle.trace_text.specs.declared.line.Command.TheVariants.{Open}
 use Rattle.trace_text.specs.declared.line.Line.{Line}
-use Rattle.trace_text.specs.declared.line.Line.TheVariants.{Version, Term, Drift, Clients, File, Join, Do, Pass}
+use Rattle.trace_text.specs.declared.line.Line.TheVariants.{Version, Term, Drift, Clients, File, Join, Do, Pass, Skipped}
 use Rattle.trace_text.specs.Fields.{◌>>=◌, number_of, number_within, reading_of, name_of, content_of, id_of}
 use Rattle.trace_text.specs.Parts.{words_of}
 
@@ -75,6 +75,10 @@ abbrev pub said_by : List (List ℕ) → Option Line
 said_by [] = None
 said_by (kind ∷ words) = line_from kind words
 
+-- an empty line, or one that begins with `#`
+abbrev pub is_skipped : List ℕ → Bool
+is_skipped line = length line == 0 || bytes_eq (take 1 line) (codes "#")
+
 -- what the line says, where it is in the grammar
 abbrev pub line_of : List ℕ → Option Line
-line_of line = said_by (words_of line)
+line_of line = if is_skipped line then Some Skipped else said_by (words_of line)

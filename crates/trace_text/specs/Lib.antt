@@ -1,4 +1,5 @@
 pub mod Parts
+pub mod Content
 pub mod Fields
 pub mod Grammar
 pub mod Reading

@@ -9,11 +9,19 @@ abbrev pub lines_of : List ℕ → List (List ℕ)
 lines_of [] = []
 lines_of (b ∷ bs) = if b == 10 then [] ∷ lines_of bs else onto_first b (lines_of bs)
 
--- The words, parted at each space (32). There is always one word, and between two spaces an empty one.
-abbrev pub words_of : List ℕ → List (List ℕ)
-words_of line = slice_split (λ b. b == 32) line
+-- The parts at each such byte. There is always one, and between two such bytes an empty one.
+abbrev pub cut_at : ℕ → List ℕ → List (List ℕ)
+cut_at byte text = slice_split (λ b. b == byte) text
 
--- the words of what is left of a line, which is nothing behind the last word
+-- the words, parted at each space (32)
+abbrev pub words_of : List ℕ → List (List ℕ)
+words_of line = cut_at 32 line
+
+-- the parts of what is left of a text, which is nothing behind the last part
+abbrev pub parts_left : ℕ → Option (Bor (List ℕ)) → List (List ℕ)
+parts_left byte None = []
+parts_left byte (Some rest) = cut_at byte rest.now
+
+-- the words of what is left of a line
 abbrev pub words_left : Option (Bor (List ℕ)) → List (List ℕ)
-words_left None = []
-words_left (Some rest) = words_of rest.now
+words_left rest = parts_left 32 rest

@@ -1,12 +1,21 @@
 -- What is written for a refusal.
 use Rattle.std.specs.Prelude.{ℕ, List, ◌++◌, codes, decimal}
 use Rattle.trace_text.specs.declared.refusal.LineFault.{LineFault}
-use Rattle.trace_text.specs.declared.refusal.LineFault.TheVariants.{Grammar}
+use Rattle.trace_text.specs.declared.refusal.LineFault.TheVariants.{Grammar, Limit}
+use Rattle.trace_text.specs.declared.refusal.Limit.{Limit as Limits}
+use Rattle.trace_text.specs.declared.refusal.Limit.TheVariants.{Lines, File, Tree, Sessions}
 use Rattle.trace_text.specs.declared.refusal.Refusal.{Refusal}
 use Rattle.trace_text.specs.declared.refusal.Refusal.TheVariants.{Words, LimitBytes, Line}
 
+abbrev pub limit_of : Limits → List ℕ
+limit_of Lines = codes "lines"
+limit_of File = codes "file"
+limit_of Tree = codes "tree"
+limit_of Sessions = codes "sessions"
+
 abbrev pub fault_of : LineFault → List ℕ
 fault_of Grammar = codes "grammar"
+fault_of (Limit which) = codes "limit " ++ limit_of which
 
 abbrev pub refusal_of : Refusal → List ℕ
 refusal_of Words = codes "refused words\n"

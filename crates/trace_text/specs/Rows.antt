@@ -1,12 +1,17 @@
 -- Worked lines.
 use Rattle.std.specs.Prelude.{◌≡◌, ℕ, List, [], ◌∷◌, ◌++◌, Option, Some, None, refl, codes, replicate, map}
 use Rattle.std.specs.Fmt.{digits}
+use Rattle.hex.specs.Hex.{decode_pairs}
+use Rattle.trace_text.specs.declared.content.Part.TheVariants.{Bytes, Zeros, Marks, Random}
 use Rattle.trace_text.specs.declared.line.Command.TheVariants.{Open}
 use Rattle.trace_text.specs.declared.line.Line.{Line}
-use Rattle.trace_text.specs.declared.line.Line.TheVariants.{Version, Term, Drift, Clients, File, Join, Do, Pass}
-use Rattle.trace_text.specs.declared.refusal.LineFault.TheVariants.{Grammar}
+use Rattle.trace_text.specs.declared.line.Line.TheVariants.{Version, Term, Drift, Clients, File, Join, Do, Pass, Skipped}
+use Rattle.trace_text.specs.declared.refusal.Limit.TheVariants.{Lines, Tree, Sessions}
+use Rattle.trace_text.specs.declared.refusal.Limit.TheVariants.{File as OfFile}
+use Rattle.trace_text.specs.declared.refusal.LineFault.TheVariants.{Grammar, Limit}
 use Rattle.trace_text.specs.declared.refusal.Refusal.TheVariants.{Words, LimitBytes}
 use Rattle.trace_text.specs.declared.refusal.Refusal.TheVariants.{Line as LineRefused}
+use Rattle.trace_text.specs.Content.{mark, random_bytes, content_bytes, content_length}
 use Rattle.trace_text.specs.Fields.{content_of, name_of}
 use Rattle.trace_text.specs.Grammar.{line_of}
 use Rattle.trace_text.specs.Parts.{lines_of, words_of}
@@ -16,7 +21,7 @@ abbrev said : List (List ℕ) → List (Option Line)
 said lines = map line_of lines
 
 -- a whole trace
-trace : said (lines_of (codes "lbfs-trace 1\nterm 60000\ndrift 100\nclients 1\nfile a t:abc\njoin 1 0 0\ndo 1 0 open #2\npass 1 4 0 0\n")) ≡ (Some Version ∷ Some (Term 60000) ∷ Some (Drift 100) ∷ Some (Clients 1) ∷ Some (File (codes "a") (codes "abc")) ∷ Some (Join 1 0 0) ∷ Some (Do 1 0 (Open 2)) ∷ Some (Pass 1 4 0 0) ∷ [])
+trace : said (lines_of (codes "lbfs-trace 1\nterm 60000\ndrift 100\nclients 1\nfile a t:abc\njoin 1 0 0\ndo 1 0 open #2\npass 1 4 0 0\n")) ≡ (Some Version ∷ Some (Term 60000) ∷ Some (Drift 100) ∷ Some (Clients 1) ∷ Some (File (codes "a") (Bytes (codes "abc") ∷ [])) ∷ Some (Join 1 0 0) ∷ Some (Do 1 0 (Open 2)) ∷ Some (Pass 1 4 0 0) ∷ [])
 trace = refl
 
 -- each line feed ends a line, and the last line may lack it
@@ -46,17 +51,17 @@ two_spaces : words_of (codes "a  b ") ≡ (codes "a" ∷ [] ∷ codes "b" ∷ []
 two_spaces = refl
 
 -- lines at the edges of the grammar
-taken : said (codes "term 1" ∷ codes "term 3600000" ∷ codes "drift 0" ∷ codes "drift 3600000" ∷ codes "clients 16" ∷ codes "file ... -" ∷ codes "file a-Z_0.9 t:." ∷ codes "join 18446744073709551615 9223372036854775807 0" ∷ codes "do 0 0 open #0" ∷ codes "pass 0 18446744073709551615 0 9223372036854775807" ∷ []) ≡ (Some (Term 1) ∷ Some (Term 3600000) ∷ Some (Drift 0) ∷ Some (Drift 3600000) ∷ Some (Clients 16) ∷ Some (File (codes "...") []) ∷ Some (File (codes "a-Z_0.9") (codes ".")) ∷ Some (Join 18446744073709551615 9223372036854775807 0) ∷ Some (Do 0 0 (Open 0)) ∷ Some (Pass 0 18446744073709551615 0 9223372036854775807) ∷ [])
+taken : said (codes "term 1" ∷ codes "term 3600000" ∷ codes "drift 0" ∷ codes "drift 3600000" ∷ codes "clients 16" ∷ codes "file ... -" ∷ codes "file a-Z_0.9 t:." ∷ codes "join 18446744073709551615 9223372036854775807 0" ∷ codes "do 0 0 open #0" ∷ codes "pass 0 18446744073709551615 0 9223372036854775807" ∷ []) ≡ (Some (Term 1) ∷ Some (Term 3600000) ∷ Some (Drift 0) ∷ Some (Drift 3600000) ∷ Some (Clients 16) ∷ Some (File (codes "...") []) ∷ Some (File (codes "a-Z_0.9") (Bytes (codes ".") ∷ [])) ∷ Some (Join 18446744073709551615 9223372036854775807 0) ∷ Some (Do 0 0 (Open 0)) ∷ Some (Pass 0 18446744073709551615 0 9223372036854775807) ∷ [])
 taken = refl
 
 -- no line of the grammar
-refused : said (codes "" ∷ codes "# term 1" ∷ codes "terms 1" ∷ codes "Term 1" ∷ codes "term" ∷ codes "term " ∷ codes "term  1" ∷ codes "term 1 " ∷ codes " term 1" ∷ codes "term\t1" ∷ codes "term 1\r" ∷ codes "term 1 1" ∷ []) ≡ replicate 12 None
+refused : said (codes "terms 1" ∷ codes "Term 1" ∷ codes "term" ∷ codes "term " ∷ codes "term  1" ∷ codes "term 1 " ∷ codes " term 1" ∷ codes "term\t1" ∷ codes "term 1\r" ∷ codes "term 1 1" ∷ []) ≡ replicate 10 None
 refused = refl
 
 refused_number : said (codes "term 01" ∷ codes "drift 00" ∷ codes "drift +1" ∷ codes "drift -0" ∷ codes "drift 1a" ∷ codes "drift 0x1" ∷ codes "term 0" ∷ codes "term 3600001" ∷ codes "drift 3600001" ∷ codes "clients 0" ∷ codes "clients 17" ∷ codes "join 18446744073709551616 0 0" ∷ codes "join 1 9223372036854775808 0" ∷ codes "join 1 0 9223372036854775808" ∷ codes "pass 1 18446744073709551616 0 0" ∷ codes "lbfs-trace 2" ∷ codes "lbfs-trace 01" ∷ []) ≡ replicate 17 None
 refused_number = refl
 
-refused_file : said (codes "file a" ∷ codes "file  -" ∷ codes "file . -" ∷ codes "file .. -" ∷ codes "file a/b -" ∷ codes "file a~ -" ∷ codes "file a --" ∷ codes "file a t:" ∷ codes "file a t:a+t:b" ∷ codes "file a x:00" ∷ codes "file a t" ∷ codes "file a abc" ∷ codes "file a t:a b" ∷ []) ≡ replicate 13 None
+refused_file : said (codes "file a" ∷ codes "file  -" ∷ codes "file . -" ∷ codes "file .. -" ∷ codes "file a/b -" ∷ codes "file a~ -" ∷ codes "file a --" ∷ codes "file a t:" ∷ codes "file a t" ∷ codes "file a abc" ∷ codes "file a t:a b" ∷ []) ≡ replicate 11 None
 refused_file = refl
 
 refused_event : said (codes "join 1 0" ∷ codes "join 1 0 0 0" ∷ codes "do 1 0" ∷ codes "do 1 0 open" ∷ codes "do 1 0 open 2" ∷ codes "do 1 0 open #" ∷ codes "do 1 0 open #02" ∷ codes "do 1 0 open ##2" ∷ codes "do 1 0 open #2 #3" ∷ codes "do 1 0 close #2" ∷ codes "pass 1 4 0" ∷ codes "pass 1 4 0 0 0" ∷ []) ≡ replicate 12 None
@@ -66,20 +71,69 @@ refused_event = refl
 above : line_of (codes "file " ++ (195 ∷ 169 ∷ codes " -")) ≡ None
 above = refl
 
--- the longest names and texts
+-- the longest name
 longest_name : name_of (replicate 255 97) ≡ Some (replicate 255 97)
 longest_name = refl
 
 longer_name : name_of (replicate 256 97) ≡ None
 longer_name = refl
 
-longest_text : content_of (codes "t:" ++ replicate 2048 97) ≡ Some (replicate 2048 97)
-longest_text = refl
+-- empty lines and remarks, whatever bytes they hold
+skipped : said (codes "" ∷ codes "#" ∷ codes "# term 1" ∷ codes "#2" ∷ (35 ∷ 0 ∷ 255 ∷ 13 ∷ []) ∷ []) ≡ replicate 5 (Some Skipped)
+skipped = refl
 
-longer_text : content_of (codes "t:" ++ replicate 2049 97) ≡ None
-longer_text = refl
+not_skipped : said (codes " " ∷ codes " # a" ∷ codes "\r" ∷ codes "\t#" ∷ []) ≡ replicate 4 None
+not_skipped = refl
+
+-- a content of each kind of part
+contents : map content_of (codes "-" ∷ codes "t:a.Z_0-" ∷ codes "x:00ff" ∷ codes "z:3" ∷ codes "m:2" ∷ codes "r:0:5" ∷ []) ≡ (Some [] ∷ Some (Bytes (codes "a.Z_0-") ∷ []) ∷ Some (Bytes (0 ∷ 255 ∷ []) ∷ []) ∷ Some (Zeros 3 ∷ []) ∷ Some (Marks 2 ∷ []) ∷ Some (Random 0 5 ∷ []) ∷ [])
+unfolding decode_pairs
+contents = refl
+
+joined : content_of (codes "t:abc+z:3+x:0a+m:1+r:7:5") ≡ Some (Bytes (codes "abc") ∷ Zeros 3 ∷ Bytes (10 ∷ []) ∷ Marks 1 ∷ Random 7 5 ∷ [])
+unfolding decode_pairs
+joined = refl
+
+-- the largest numbers, and a text of 2,049 letters
+large : map content_of (codes "z:18446744073709551615" ∷ codes "m:18446744073709551615" ∷ codes "r:18446744073709551615:18446744073709551615" ∷ []) ≡ (Some (Zeros 18446744073709551615 ∷ []) ∷ Some (Marks 18446744073709551615 ∷ []) ∷ Some (Random 18446744073709551615 18446744073709551615 ∷ []) ∷ [])
+large = refl
+
+long_text : content_of (codes "t:" ++ replicate 2049 97) ≡ Some (Bytes (replicate 2049 97) ∷ [])
+long_text = refl
+
+-- no part
+refused_text : map content_of (codes "t:" ∷ codes "t:a~" ∷ codes "t:a:b" ∷ codes "t" ∷ codes "abc" ∷ codes "T:a" ∷ codes "" ∷ []) ≡ replicate 7 None
+refused_text = refl
+
+refused_hex : map content_of (codes "x:" ∷ codes "x:0" ∷ codes "x:00f" ∷ codes "x:FF" ∷ codes "x:0A" ∷ codes "x:0g" ∷ codes "x:0x00" ∷ []) ≡ replicate 7 None
+unfolding decode_pairs
+refused_hex = refl
+
+refused_count : map content_of (codes "z:" ∷ codes "z:0" ∷ codes "z:01" ∷ codes "z:+1" ∷ codes "z:18446744073709551616" ∷ codes "m:" ∷ codes "m:0" ∷ codes "m:18446744073709551616" ∷ []) ≡ replicate 8 None
+refused_count = refl
+
+refused_random : map content_of (codes "r:" ∷ codes "r:1" ∷ codes "r:1:" ∷ codes "r::1" ∷ codes "r:1:0" ∷ codes "r:01:1" ∷ codes "r:1:01" ∷ codes "r:1:1:1" ∷ codes "r:18446744073709551616:1" ∷ codes "r:1:18446744073709551616" ∷ []) ≡ replicate 10 None
+refused_random = refl
+
+refused_join : map content_of (codes "+" ∷ codes "+t:a" ∷ codes "t:a+" ∷ codes "t:a++t:b" ∷ codes "-+t:a" ∷ codes "t:a+-" ∷ codes "--" ∷ codes "y:1" ∷ codes "t:a+y:1" ∷ codes "t:a b" ∷ codes "t:a+z:0" ∷ []) ≡ replicate 11 None
+refused_join = refl
+
+-- the generator's bytes, as another program gives them
+random : random_bytes 1 40 ≡ (108 ∷ 130 ∷ 165 ∷ 98 ∷ 203 ∷ 128 ∷ 141 ∷ 16 ∷ 214 ∷ 50 ∷ 190 ∷ 137 ∷ 200 ∷ 81 ∷ 62 ∷ 191 ∷ 108 ∷ 146 ∷ 159 ∷ 52 ∷ 221 ∷ 250 ∷ 140 ∷ 159 ∷ 99 ∷ 201 ∷ 150 ∷ 14 ∷ 246 ∷ 227 ∷ 72 ∷ 163 ∷ 82 ∷ 140 ∷ 138 ∷ 63 ∷ 204 ∷ 47 ∷ 4 ∷ 78 ∷ [])
+random = refl
+
+random_of_largest : random_bytes 18446744073709551615 3 ≡ (187 ∷ 177 ∷ 143 ∷ [])
+random_of_largest = refl
+
+-- a content's bytes are those of its parts, in their order
+bytes : content_bytes (Bytes (codes "abc") ∷ Zeros 3 ∷ Bytes (10 ∷ []) ∷ Marks 1 ∷ Random 7 5 ∷ []) ≡ codes "abc" ++ (0 ∷ 0 ∷ 0 ∷ 10 ∷ []) ++ replicate 2047 0 ++ (120 ∷ 126 ∷ 244 ∷ 232 ∷ 69 ∷ 68 ∷ [])
+unfolding mark
+bytes = refl
+
+lengths : map content_length ([] ∷ (Bytes (codes "abc") ∷ Zeros 3 ∷ Bytes (10 ∷ []) ∷ Marks 1 ∷ Random 7 5 ∷ []) ∷ (Zeros 18446744073709551615 ∷ Zeros 1 ∷ []) ∷ (Marks 18446744073709551615 ∷ []) ∷ []) ≡ (0 ∷ 2060 ∷ 18446744073709551616 ∷ 37778931862957161707520 ∷ [])
+lengths = refl
 
 -- the texts of refusals
-refusals : map refusal_of (Words ∷ LimitBytes ∷ LineRefused 12 Grammar ∷ []) ≡ (codes "refused words\n" ∷ codes "refused limit bytes\n" ∷ codes "refused line 12 grammar\n" ∷ [])
+refusals : map refusal_of (Words ∷ LimitBytes ∷ LineRefused 12 Grammar ∷ LineRefused 65537 (Limit Lines) ∷ LineRefused 5 (Limit OfFile) ∷ LineRefused 6 (Limit Tree) ∷ LineRefused 7 (Limit Sessions) ∷ []) ≡ (codes "refused words\n" ∷ codes "refused limit bytes\n" ∷ codes "refused line 12 grammar\n" ∷ codes "refused line 65537 limit lines\n" ∷ codes "refused line 5 limit file\n" ∷ codes "refused line 6 limit tree\n" ∷ codes "refused line 7 limit sessions\n" ∷ [])
 unfolding digits
 refusals = refl

@@ -1,15 +1,12 @@
 //! What the words of a line stand for.
 
-ghost use Rattle.std.specs.Prelude.{◌≡◌, ℕ, ◌+◌, ◌-◌, ◌*◌, ◌<◌, ◌≤◌, ◌^◌, ◌==◌, true, List, [], ◌∷◌, length, option_map, MatchOption};
+ghost use Rattle.std.specs.Prelude.{◌≡◌, ℕ, ◌+◌, ◌-◌, ◌*◌, ◌<◌, ◌≤◌, ◌^◌, ◌==◌, true, List, [], ◌∷◌, length, MatchOption};
 ghost use Rattle.std.specs.List.{list_all};
 ghost use Rattle.std.specs.Char.{is_ascii_digit};
-ghost use Rattle.trace_text.specs.Fields.{has_leading_zero, is_decimal, value_from, value_of, number_of, number_within, reading_of, is_letter, is_text, is_name, content_of, id_of};
+ghost use Rattle.trace_text.specs.Fields.{has_leading_zero, is_decimal, value_from, value_of, number_of, number_within, reading_of, is_letter, is_text, is_name, id_of};
 
 /// The longest name, in bytes.
 const LONGEST_NAME: usize = 255;
-
-/// The longest text, in bytes.
-const LONGEST_TEXT: usize = 2048;
 
 /// The last reading of a clock, in milliseconds.
 const LAST_READING: u64 = i64::MAX as u64;
@@ -95,33 +92,21 @@ fn are_letters(text: &[u8]) -> bool
     text.iter().all(|b| is_letter(*b))
 }
 
-/// Whether these are letters, at least one and at most so many.
-fn is_text(most: usize, text: &[u8]) -> bool
-    ensures { result ≡ is_text most text.now }
+/// Whether these are letters, at least one.
+pub(crate) fn is_text(text: &[u8]) -> bool
+    ensures { result ≡ is_text text.now }
 {
-    !text.is_empty() && text.len() <= most && are_letters(text)
+    !text.is_empty() && are_letters(text)
 }
 
 /// Whether this is the name of a file.
 pub(crate) fn is_name(word: &[u8]) -> bool
     ensures { result ≡ is_name word.now }
 {
-    is_text(LONGEST_NAME, word) && word != b".".as_slice() && word != b"..".as_slice()
-}
-
-/// The bytes of a file.
-pub(crate) fn content(word: &[u8]) -> Option<&[u8]>
-    ensures { option_map (λ s. s.now) result ≡ content_of word.now }
-{
-    if word == b"-".as_slice() {
-        return Some(&[]);
-    }
-    let text = word.strip_prefix(b"t:")?;
-    if is_text(LONGEST_TEXT, text) {
-        Some(text)
-    } else {
-        None
-    }
+    is_text(word)
+        && word.len() <= LONGEST_NAME
+        && word != b".".as_slice()
+        && word != b"..".as_slice()
 }
 
 /// The id of a file.

@@ -1,13 +1,14 @@
 //! Each kind of line, from the words behind its first.
 
-ghost use Rattle.std.specs.Prelude.{◌≡◌, false, None, bytes_eq, codes, MatchOption};
+ghost use Rattle.std.specs.Prelude.{◌≡◌, false, true, [], ◌∷◌, None, bytes_eq, codes, MatchOption};
+ghost use Rattle.trace_text.specs.Fields.{is_name};
 ghost use Rattle.trace_text.specs.Grammar.{version_of, term_of, drift_of, clients_of, file_of, join_of, open_of, command_of, do_of, pass_of, line_from};
 ghost use Rattle.trace_text.specs.Reading.{Gives};
 
-use crate::fields;
 use crate::line::{Command, Line, LineErr};
 use crate::parts::Words;
-use lb_base::items::Items;
+use crate::{fields, pieces};
+use lb_base::items::Name;
 use std::alloc::Global;
 
 /// The longest term and the largest drift, in milliseconds.
@@ -56,14 +57,13 @@ fn clients(words: &mut Words) -> Option<Line>
     Some(Line::Clients(fields::number_within(1, MOST_CLIENTS, count)?))
 }
 
-/// The two words of a file.
+/// The words of a file's name and content.
 fn file_words<'a>(words: &mut Words<'a>) -> Option<(&'a [u8], &'a [u8])>
-    ensures { MatchOption result (file_of words.old ≡ None) (λ p. file_of words.old ≡ Some (Line.File p.0.now p.1.now)) }
+    ensures { MatchOption result (file_of words.old ≡ None) (λ p. (words.old ≡ p.0.now ∷ p.1.now ∷ []) × (is_name p.0.now ≡ true)) }
 {
     let name = words.next()?;
     let content = words.next()?;
     words.end()?;
-    let content = fields::content(content)?;
     if fields::is_name(name) {
         Some((name, content))
     } else {
@@ -76,9 +76,10 @@ fn file(alloc: Global, words: &mut Words) -> Result<Line, LineErr>
     ensures { Gives result (file_of words.old) }
 {
     let (name, content) = file_words(words).ok_or(LineErr::BadLine)?;
+    let content = pieces::content(alloc, content)?;
     Ok(Line::File {
-        name: Items::from_vec(Vec::from_slice(alloc, name)?),
-        content: Items::from_vec(Vec::from_slice(alloc, content)?),
+        name: Name::copy_of(alloc, name)?,
+        content,
     })
 }
 

@@ -1,7 +1,9 @@
 //! What holds of the grammar, whatever the text is.
 
-ghost use Rattle.std.specs.Prelude.{◌≡◌, ℕ, ◌<◌, ◌^◌, ◌==◌, false, List, [], ◌∷◌, ◌++◌, Some, decimal, flat_map};
+ghost use Rattle.std.specs.Prelude.{◌≡◌, ℕ, ◌<◌, ◌^◌, ◌==◌, false, List, [], ◌∷◌, ◌++◌, Some, decimal, flat_map, length};
 ghost use Rattle.std.specs.List.{list_any, AllByRecursion};
+ghost use Rattle.trace_text.specs.declared.content.Part.{Part};
+ghost use Rattle.trace_text.specs.Content.{content_bytes, content_length};
 ghost use Rattle.trace_text.specs.Fields.{number_of};
 ghost use Rattle.trace_text.specs.Parts.{lines_of};
 
@@ -14,4 +16,9 @@ pub fn lines_are_read_again()
 pub fn numbers_are_decimal()
     ensures read { (n : ℕ) → n < 2 ^ 64 → number_of (decimal n) ≡ Some n }
     ensures only { (word : List ℕ) (n : ℕ) → number_of word ≡ Some n → word ≡ decimal n }
+{}
+
+/// A content has as many bytes as its length says.
+pub fn contents_have_their_length()
+    ensures { (content : List Part) → length (content_bytes content) ≡ content_length content }
 {}

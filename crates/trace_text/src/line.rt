@@ -1,14 +1,15 @@
 //! What a line of a trace says.
 
 ghost use Rattle.std.specs.Prelude.{◌≡◌};
-ghost use Rattle.trace_text.specs.Grammar.{line_of};
+ghost use Rattle.trace_text.specs.Grammar.{is_skipped, line_of};
 ghost use Rattle.trace_text.specs.Reading.{Gives};
 ghost use Rattle.trace_text.specs.declared.line.LineErr.TheVariants as errors;
 
+use crate::content::Content;
 use crate::kinds::read_kind;
 use crate::parts::Words;
-use lb_base::items::{Bytes, Name};
-use std::alloc::{AllocError, Global};
+use lb_base::items::Name;
+use std::alloc::{AllocError, AllocFailed, Global};
 
 /// A command of a client.
 #[derive(Clone, Copy, Debug, PartialEq, Eq)]
@@ -28,10 +29,11 @@ pub enum Line {
     Drift(u64),
     /// `clients N`: how many clients there are, 1 to 16.
     Clients(u64),
-    /// `file NAME CONTENT`: a file that is there from the start.
+    /// `file NAME CONTENT`: a file that is there from the start, in the root. The name has 1 to 255
+    /// bytes; the content may be of any length, and its bytes are not built yet.
     File {
         name: Name,
-        content: Bytes,
+        content: Content,
     },
     /// `join C c s`: the client gets a session.
     Join {
@@ -52,6 +54,8 @@ pub enum Line {
         server: u64,
         at: u64,
     },
+    /// An empty line, or one that begins with `#`, whatever bytes follow: it says nothing.
+    Skipped,
 }
 
 /// Why a line was not read.
@@ -71,11 +75,30 @@ impl From<AllocError> for LineErr {
     }
 }
 
+/// Whether a line is empty or begins with `#`.
+fn is_skipped(line: &[u8]) -> bool
+    ensures { result ≡ is_skipped line.now }
+{
+    line.is_empty() || line.starts_with(b"#")
+}
+
+impl<T: Drop> From<AllocFailed<T>> for LineErr {
+    ghost from_gives = { λ _ e. e ≡ errors.Memory };
+
+    fn from(_e: AllocFailed<T>) -> LineErr {
+        LineErr::Memory
+    }
+}
+
 impl Line {
-    /// Reads a line, which stands here without its line feed, in time linear in its length.
+    /// Reads a line, which stands here without its line feed, in time linear in its length. The
+    /// error is `BadLine` where the line is not in the grammar, or `Memory`.
     pub fn read(alloc: Global, line: &[u8]) -> Result<Line, LineErr>
         ensures { Gives result (line_of line.now) }
     {
+        if is_skipped(line) {
+            return Ok(Line::Skipped);
+        }
         let mut words = Words::new(line);
         let kind = words.next().ok_or(LineErr::BadLine)?;
         read_kind(alloc, kind, &mut words)

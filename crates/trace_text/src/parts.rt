@@ -2,7 +2,7 @@
 
 ghost use Rattle.std.specs.Prelude.{◌≡◌, ℕ, ◌<◌, ◌≤◌, ◌==◌, List, [], ◌∷◌, length, MatchOption, IfSome, position};
 ghost use Rattle.std.specs.List.{position_or_len, before_first, after_first};
-ghost use Rattle.trace_text.specs.Parts.{lines_of, words_of, words_left};
+ghost use Rattle.trace_text.specs.Parts.{cut_at, lines_of, parts_left, words_of};
 
 use std::marker::Model;
 
@@ -14,7 +14,7 @@ fn place_of(byte: u8, text: &[u8]) -> Option<usize>
 }
 
 /// What stands before the first such byte, and after it.
-fn cut(byte: u8, text: &[u8]) -> Option<(&[u8], &[u8])>
+pub(crate) fn cut(byte: u8, text: &[u8]) -> Option<(&[u8], &[u8])>
     ensures { MatchOption result (length text.now ≤ position_or_len (λ b. b == byte) text.now) (λ p. (position_or_len (λ b. b == byte) text.now < length text.now) × (p.0.now ≡ before_first (λ b. b == byte) text.now) × (p.1.now ≡ after_first (λ b. b == byte) text.now)) }
 {
     let place = place_of(byte, text)?;
@@ -36,13 +36,14 @@ pub fn first_line(text: &[u8]) -> Option<(&[u8], &[u8])>
     }
 }
 
-/// The first word of a line, and what is left behind its space, if there is one.
-fn first_word(line: &[u8]) -> (&[u8], Option<&[u8]>)
-    ensures { words_of line.now ≡ result.0.now ∷ words_left result.1 }
+/// What stands before the first such byte, and what is left behind it, if there is one.
+pub(crate) fn first_part(byte: u8, text: &[u8]) -> (&[u8], Option<&[u8]>)
+    ensures parts { cut_at byte text.now ≡ result.0.now ∷ parts_left byte result.1 }
+    ensures shorter { IfSome result.1 (λ rest. length rest.now < length text.now) }
 {
-    match cut(b' ', line) {
-        Some((word, rest)) => (word, Some(rest)),
-        None => (line, None),
+    match cut(byte, text) {
+        Some((part, rest)) => (part, Some(rest)),
+        None => (text, None),
     }
 }
 
@@ -62,6 +63,7 @@ impl<'a> Model for Words<'a> {
 }
 
 impl<'a> Words<'a> {
+    /// All words of the line.
     pub(crate) fn new(line: &'a [u8]) -> Words<'a>
         ensures { result ≡ words_of line.now }
     {
@@ -72,7 +74,7 @@ impl<'a> Words<'a> {
     pub(crate) fn next(&mut self) -> Option<&'a [u8]>
         ensures { MatchOption result (self.old ≡ []) (λ w. self.old ≡ w.now ∷ self.new) }
     {
-        let (word, rest) = first_word(self.left?);
+        let (word, rest) = first_part(b' ', self.left?);
         self.left = rest;
         Some(word)
     }

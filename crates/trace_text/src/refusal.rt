@@ -5,11 +5,26 @@ ghost use Rattle.trace_text.specs.Refusals.{fault_of, refusal_of};
 
 use std::alloc::{AllocError, Global};
 
+/// A limit of traces. Which line goes beyond it is the business of the world that runs them.
+#[derive(Clone, Copy, Debug, PartialEq, Eq)]
+pub enum Limit {
+    /// How many lines a trace may have, those that are skipped among them.
+    Lines,
+    /// How many bytes a file may have.
+    File,
+    /// How many bytes all files may have together.
+    Tree,
+    /// How many sessions there may be at once.
+    Sessions,
+}
+
 /// What is wrong with a line.
 #[derive(Clone, Copy, Debug, PartialEq, Eq)]
 pub enum LineFault {
     /// It is not in the grammar.
     Grammar,
+    /// It goes beyond this limit.
+    Limit(Limit),
 }
 
 impl LineFault {
@@ -19,6 +34,10 @@ impl LineFault {
     {
         match self {
             LineFault::Grammar => "grammar",
+            LineFault::Limit(Limit::Lines) => "limit lines",
+            LineFault::Limit(Limit::File) => "limit file",
+            LineFault::Limit(Limit::Tree) => "limit tree",
+            LineFault::Limit(Limit::Sessions) => "limit sessions",
         }
     }
 }
