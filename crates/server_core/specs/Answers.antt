@@ -1,5 +1,5 @@
 -- What the server answers to each call. It changes nothing.
-use Rattle.std.specs.Prelude.{◌≡◌, ℕ, ◌+◌, ◌/◌, ◌%◌, List, [], ◌∷◌, length, take, drop, find, min, Option, Some, None, Result, Ok, Err, Bool, true, false, ◌&&◌, ◌||◌, ◌==◌, nat_lt, nat_le, if◌then◌else◌}
+use Rattle.std.specs.Prelude.{ℕ, ◌+◌, ◌/◌, ◌%◌, List, [], ◌∷◌, length, take, drop, min, Option, Some, None, Result, Ok, Err, Bool, true, false, ◌&&◌, ◌||◌, ◌==◌, nat_lt, nat_le}
 use Rattle.sha1.specs.Sha1.{sha1}
 use Rattle.xdr_codec.specs.Handle.{file_of}
 use Rattle.xdr_codec.specs.declared.status.Status.{Status}
@@ -15,6 +15,7 @@ use Rattle.hash_calls.specs.declared.call.Pair.{Pair}
 use Rattle.nfs3_calls.specs.declared.call.Range.{Range}
 use Rattle.nfs3_calls.specs.declared.call.Piece.{Piece}
 use Rattle.server_core.specs.declared.file.File.{File}
+use Rattle.server_core.specs.State.{file_at}
 
 -- what a handle names: the root directory, whose id is 1, or a file
 pub data Node : Type 0 where
@@ -26,11 +27,11 @@ file_node None = Err status.Stale
 file_node (Some f) = Ok (file f)
 
 -- a handle of another form is BADHANDLE, and an id that is not in the tree STALE
-abbrev pub node_named : List File → Option ℕ → Result Node Status
+abbrev pub node_named : List (ℕ × File) → Option ℕ → Result Node Status
 node_named files None = Err status.BadHandle
-node_named files (Some id) = elim (id == 1) [ true ↦ Ok root | false ↦ file_node (find (λ f. f.id == id) files) ]
+node_named files (Some id) = elim (id == 1) [ true ↦ Ok root | false ↦ file_node (file_at files id) ]
 
-abbrev pub node_of : List File → List ℕ → Result Node Status
+abbrev pub node_of : List (ℕ × File) → List ℕ → Result Node Status
 node_of files handle = node_named files (file_of handle)
 
 -- ---- attributes (RFC 1813 section 2.6)

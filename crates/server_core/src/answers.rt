@@ -1,8 +1,10 @@
 //! What the server answers to each call.
 
-ghost use Rattle.std.specs.Prelude.{◌≡◌, ◌==◌, ◌≤◌, ◌<◌, ◌^◌, length, take, drop, min, find, IfOk, IfSome};
+ghost use Rattle.std.specs.Prelude.{◌≡◌, ◌==◌, ◌≤◌, ◌<◌, ◌^◌, length, take, drop, min, IfOk, IfSome};
 ghost use Rattle.std.specs.List.{All};
+ghost use Rattle.std.specs.Map.{values_of};
 ghost use Rattle.std.specs.Option.{option_copied};
+ghost use Rattle.server_core.specs.State.{file_at};
 ghost use Rattle.server_core.specs.Answers.{node_of, time_of, attr_of, meets, pairs_if, hashes_of, hash_answer, piece_bytes, piece_of, read_answer};
 ghost use Rattle.server_core.specs.Step.{IsFileBounded};
 
@@ -12,6 +14,7 @@ use lb_base::items::{Bytes, Items};
 use nfs3_calls::call::{Piece, Range};
 use sha1::Sha1;
 use std::alloc::{AllocError, Global};
+use std::collections::BTreeMap;
 use xdr_codec::answer::Answer;
 use xdr_codec::attr::{Attr, Kind, Time};
 use xdr_codec::status::Status;
@@ -23,12 +26,12 @@ const ROOT: u64 = 1;
 const READ_MOST: u32 = 65536;
 
 /// The file with the id.
-fn find_file(files: &Vec<File>, id: u64) -> Option<&File>
-    requires { All IsFileBounded files.now.items }
-    ensures found { option_copied result ≡ find (λ f. f.id == id) files.now.items }
+fn find_file(files: &BTreeMap<u64, File>, id: u64) -> Option<&File>
+    requires { All IsFileBounded (values_of files.now.entries) }
+    ensures found { option_copied result ≡ file_at files.now.entries id }
     ensures bounded { IfSome result (λ f. IsFileBounded f.now) }
 {
-    files.iter().find(|f| f.id == id)
+    files.get(&id)
 }
 
 /// The time that shows a version.
@@ -102,11 +105,11 @@ fn hashes_of(alloc: Global, file: &File, range: &HashRange) -> Result<Hashes, Al
 /// What a GETHASH is answered. The one error is want of memory.
 pub fn hash_answer(
     alloc: Global,
-    files: &Vec<File>,
+    files: &BTreeMap<u64, File>,
     range: &HashRange,
 ) -> Result<Answer<Hashes, ()>, AllocError>
-    requires { All IsFileBounded files.now.items }
-    ensures { IfOk result (λ a. a ≡ hash_answer (node_of files.now.items range.now.handle) range.now) }
+    requires { All IsFileBounded (values_of files.now.entries) }
+    ensures { IfOk result (λ a. a ≡ hash_answer (node_of files.now.entries range.now.handle) range.now) }
 {
     let Some(id) = range.handle.file_of() else {
         return Ok(Answer::Failed(Status::BadHandle, ()));
@@ -150,11 +153,11 @@ fn piece_of(alloc: Global, file: &File, range: &Range) -> Result<Piece, AllocErr
 /// What a READ is answered. The one error is want of memory.
 pub fn read_answer(
     alloc: Global,
-    files: &Vec<File>,
+    files: &BTreeMap<u64, File>,
     range: &Range,
 ) -> Result<Answer<Piece, Option<Attr>>, AllocError>
-    requires { All IsFileBounded files.now.items }
-    ensures { IfOk result (λ a. a ≡ read_answer (node_of files.now.items range.now.handle) range.now) }
+    requires { All IsFileBounded (values_of files.now.entries) }
+    ensures { IfOk result (λ a. a ≡ read_answer (node_of files.now.entries range.now.handle) range.now) }
 {
     let Some(id) = range.handle.file_of() else {
         return Ok(Answer::Failed(Status::BadHandle, None));

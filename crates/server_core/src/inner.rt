@@ -2,6 +2,8 @@
 
 ghost use Rattle.std.specs.Prelude.{◌≡◌, ◌==◌, ◌<◌, ◌^◌, [], ◌∷◌, ◌++◌, OnOk, OnErr, IfOk};
 ghost use Rattle.std.specs.List.{list_any, All};
+ghost use Rattle.std.specs.Map.{values_of};
+ghost use Rattle.server_core.specs.State.{with_file};
 ghost use Rattle.server_core.specs.Step.{server_step, outs, to, called, answered, got, connect, has_room, IsFileBounded, IsTimed, IsMissed};
 ghost use Rattle.server_core.specs.View.{state_of, IsBounded};
 ghost use Rattle.server_core.specs.declared.event.Event.TheVariants as event;
@@ -13,13 +15,14 @@ use hash_calls::message::Lb;
 use lb_base::items::Items;
 use nfs3_calls::message::Nfs;
 use std::alloc::{AllocError, Global};
-use wire::message::{Body, Message};
+use std::collections::BTreeMap;
+use wire::message::{Body, Message, RpcRefusal};
 
-/// A server's fields: the files of the root, the sessions that stand, how many were ever made, and
-/// the last moment used, in milliseconds of the server's clock.
+/// A server's fields: the files of the root by their ids, the sessions that stand, how many were
+/// ever made, and the last moment used, in milliseconds of the server's clock.
 #[derive(Drop)]
 pub struct Inner {
-    pub files: Vec<File>,
+    pub files: BTreeMap<u64, File>,
     pub sessions: Vec<u32>,
     pub made: u32,
     pub last: u64,
@@ -45,10 +48,15 @@ fn one(alloc: Global, session: u32, message: Message) -> Result<Outs, AllocError
     Ok(many(send))
 }
 
-/// What is answered to a call's arguments, or nothing where they are none of a call.
-fn answer_to(alloc: Global, files: &Vec<File>, body: &Body) -> Result<Option<Body>, AllocError>
-    requires { All IsFileBounded files.now.items }
-    ensures { IfOk result (λ b. b ≡ called files.now.items body.now) }
+/// What is answered to a call's arguments, or nothing where they are of no call that this server
+/// does.
+fn answer_to(
+    alloc: Global,
+    files: &BTreeMap<u64, File>,
+    body: &Body,
+) -> Result<Option<Body>, AllocError>
+    requires { All IsFileBounded (values_of files.now.entries) }
+    ensures { IfOk result (λ b. b ≡ called files.now.entries body.now) }
 {
     Ok(match body {
         Body::Lb(Lb::Null) => Some(Body::Lb(Lb::NullAnswer)),
@@ -65,32 +73,35 @@ fn answer_to(alloc: Global, files: &Vec<File>, body: &Body) -> Result<Option<Bod
     })
 }
 
-/// A call of a session that stands.
+/// A call of a session that stands. One that this server doesn't do is refused.
 fn answer(
     alloc: Global,
-    files: &Vec<File>,
+    files: &BTreeMap<u64, File>,
     session: u32,
     xid: u32,
     body: &Body,
 ) -> Result<Outs, AllocError>
-    requires { All IsFileBounded files.now.items }
-    ensures { IfOk result (λ o. o ≡ answered session xid (called files.now.items body.now)) }
+    requires { All IsFileBounded (values_of files.now.entries) }
+    ensures { IfOk result (λ o. o ≡ answered session xid (called files.now.entries body.now)) }
 {
     match answer_to(alloc, files, body)? {
         Some(body) => one(alloc, session, Message::Answer(xid, body)),
-        None => Ok(many(Vec::new(alloc))),
+        None => {
+            let refuse = Message::Refuse(xid, RpcRefusal::ProcUnavail);
+            one(alloc, session, refuse)
+        }
     }
 }
 
 /// A message of a session that stands.
 fn take(
     alloc: Global,
-    files: &Vec<File>,
+    files: &BTreeMap<u64, File>,
     session: u32,
     message: &Message,
 ) -> Result<Outs, AllocError>
-    requires { All IsFileBounded files.now.items }
-    ensures { IfOk result (λ o. o ≡ got files.now.items session message.now) }
+    requires { All IsFileBounded (values_of files.now.entries) }
+    ensures { IfOk result (λ o. o ≡ got files.now.entries session message.now) }
 {
     match message {
         Message::Call(xid, body) => answer(alloc, files, session, *xid, body),
@@ -107,15 +118,15 @@ fn stands(sessions: &Vec<u32>, session: u32) -> bool
 }
 
 impl Inner {
-    /// Puts a file behind the others. An `Err` changes nothing.
+    /// Puts a file under its id, in place of one that was there. An `Err` changes nothing.
     pub fn add_file(&mut self, file: File) -> Result<(), AllocError>
         requires bounded { IsBounded self.old }
         requires file { IsFileBounded file }
-        ensures ok { OnOk result (state_of self.new ≡ record (state_of self.old) { files = (state_of self.old).files ++ file ∷ [] }) }
+        ensures ok { OnOk result (state_of self.new ≡ record (state_of self.old) { files = with_file (state_of self.old).files file }) }
         ensures err { OnErr result (state_of self.new ≡ state_of self.old) }
         ensures bounded { IsBounded self.new }
     {
-        self.files.push(file)?;
+        self.files.insert(file.id, file)?;
         Ok(())
     }
 

@@ -1,6 +1,7 @@
 //! The server.
 
-ghost use Rattle.std.specs.Prelude.{◌≡◌, ◌<◌, ◌^◌, [], ◌∷◌, ◌++◌, false, true, OnOk, OnErr};
+ghost use Rattle.std.specs.Prelude.{◌≡◌, ◌<◌, ◌^◌, [], false, true, OnOk, OnErr};
+ghost use Rattle.server_core.specs.State.{with_file};
 ghost use Rattle.server_core.specs.Step.{server_step, IsFileBounded, IsTimed, IsMissed};
 ghost use Rattle.server_core.specs.declared.event.Told.TheVariants as told;
 
@@ -9,6 +10,7 @@ use crate::file::File;
 use crate::inner::Inner;
 use lb_base::items::Items;
 use std::alloc::{AllocError, Global};
+use std::collections::BTreeMap;
 use std::marker::Model;
 
 /// A server of a tree of files.
@@ -36,7 +38,7 @@ impl Server {
     {
         Server {
             inner: Inner {
-                files: Vec::new(alloc),
+                files: BTreeMap::new(alloc),
                 sessions: Vec::new(alloc),
                 made: 0,
                 last: 0,
@@ -44,11 +46,11 @@ impl Server {
         }
     }
 
-    /// Puts a file behind the others. The one error is want of memory, and the server then stays
-    /// as it was.
+    /// Puts a file under its id, in place of one that was there. The one error is want of memory,
+    /// and the server then stays as it was.
     pub fn add_file(&mut self, file: File) -> Result<(), AllocError>
         requires { IsFileBounded file }
-        ensures ok { OnOk result (self.new ≡ record self.old { files = self.old.files ++ file ∷ [] }) }
+        ensures ok { OnOk result (self.new ≡ record self.old { files = with_file self.old.files file }) }
         ensures err { OnErr result (self.new ≡ self.old) }
     {
         self.inner.add_file(file)

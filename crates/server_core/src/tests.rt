@@ -10,7 +10,7 @@ use nfs3_calls::call::Range;
 use nfs3_calls::message::Nfs;
 use std::alloc::{AllocError, Global};
 use std::test::Fail;
-use wire::message::{Body, Message};
+use wire::message::{Body, Message, RpcRefusal};
 use xdr_codec::answer::Answer;
 use xdr_codec::handle::Handle;
 use xdr_codec::status::Status;
@@ -53,6 +53,15 @@ fn answer(outs: Outs) -> Option<Body> {
     let sent = outs.send.into_vec().pop()?;
     match sent.message {
         Message::Answer(7, body) if sent.session == 1 => Some(body),
+        _ => None,
+    }
+}
+
+/// Why the one call is refused, to session 1 under xid 7.
+fn refusal(outs: Outs) -> Option<RpcRefusal> {
+    let sent = outs.send.into_vec().pop()?;
+    match sent.message {
+        Message::Refuse(7, refusal) if sent.session == 1 => Some(refusal),
         _ => None,
     }
 }
@@ -148,5 +157,15 @@ fn serves_sessions_alone(rt: HostRuntime) -> Result<(), Fail> {
     assert_eq!(rt; made.told, Told::Session(1));
     let after = asked(alloc, &mut server, Body::Lb(Lb::Null));
     assert!(rt; matches!(answer(after), Some(Body::Lb(Lb::NullAnswer))));
+    Ok(())
+}
+
+#[test]
+fn refuses_what_it_does_not_do(rt: HostRuntime) -> Result<(), Fail> {
+    let alloc = rt.alloc();
+    let mut server = server(alloc)?;
+    server.step(alloc, Event::Connect);
+    let told = asked(alloc, &mut server, Body::Lb(Lb::NullAnswer));
+    assert!(rt; matches!(refusal(told), Some(RpcRefusal::ProcUnavail)));
     Ok(())
 }
