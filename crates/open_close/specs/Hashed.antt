@@ -1,6 +1,6 @@
 -- The byte lists whose digests the client compares with a chunk's name.
-use Rattle.std.specs.Prelude.{ℕ, List, [], ◌∷◌, length, Option, Some, None, Result, Ok, Err, Bool, true, false, ◌==◌}
-use Rattle.xdr_codec.specs.declared.answer.Answer.TheVariants.{Done, Failed}
+use Rattle.std.specs.Prelude.{ℕ, List, [], ◌∷◌, length, Option, Some, Result, Ok, Err, Bool, true, false, ◌==◌}
+use Rattle.xdr_codec.specs.declared.answer.Answer.TheVariants.{Done}
 use Rattle.hash_calls.specs.declared.call.Pair.{Pair}
 use Rattle.nfs3_calls.specs.declared.call.Piece.{Piece}
 use Rattle.nfs3_calls.specs.declared.message.Nfs.TheVariants as nfs
@@ -9,7 +9,6 @@ use Rattle.wire.specs.declared.message.Body.TheVariants as body
 use Rattle.wire.specs.declared.message.Message.{Message}
 use Rattle.wire.specs.declared.message.Message.TheVariants as message
 use Rattle.wire.specs.declared.message.WireErr.{WireErr}
-use Rattle.open_close.specs.declared.task.Fetch.{Fetch}
 use Rattle.open_close.specs.declared.task.Stage.{Stage}
 use Rattle.open_close.specs.declared.task.Stage.TheVariants as stage
 use Rattle.open_close.specs.declared.task.Task.{Task}

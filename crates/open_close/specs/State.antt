@@ -1,5 +1,8 @@
 -- What a client is.
 use Rattle.std.specs.Prelude.{ℕ, List, [], ◌∷◌, Option, Some, None, Bool, false}
+use Rattle.std.specs.BTreeMap.{insert_entry, is_at}
+use Rattle.std.specs.Map.{lookup}
+use Rattle.std.specs.Ordering.{nat_cmp}
 use Rattle.hash_calls.specs.declared.message.LbProc.TheVariants as lb_proc
 use Rattle.nfs3_calls.specs.declared.message.NfsProc.TheVariants as nfs_proc
 use Rattle.wire.specs.declared.message.Pending.{Pending}
@@ -16,13 +19,21 @@ pub record State : Type 0 where
   pub linked : Bool
   -- the xid of the next call on it
   pub next : ℕ
-  -- the open files
-  pub opened : List Local
+  -- the open files, each with its id, by rising id
+  pub opened : List (ℕ × Local)
   -- the operation under way
   pub task : Option Task
 
 abbrev pub start : State
 start = record { linked = false; next = 1; opened = []; task = None }
+
+-- the open file with the id
+abbrev pub local_at : List (ℕ × Local) → ℕ → Option Local
+local_at opened file = lookup (is_at (nat_cmp file)) opened
+
+-- the open files, with this one under its id
+abbrev pub with_local : List (ℕ × Local) → ℕ → Local → List (ℕ × Local)
+with_local opened file local = insert_entry nat_cmp opened file local
 
 -- the calls that wait for their answers
 abbrev pub pending_in : Stage → List Pending

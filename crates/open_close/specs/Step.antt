@@ -1,6 +1,5 @@
 -- One command, or one message, of the client.
-use Rattle.std.specs.Prelude.{◌≡◌, ℕ, ◌+◌, ◌-◌, ◌<◌, List, [], ◌∷◌, ◌++◌, length, Option, Some, None, Result, Ok, Err, Bool, true, false, ◌==◌, nat_lt, bytes_eq, slice_get, remove, is_some, option_map}
-use Rattle.std.specs.List.{list_any}
+use Rattle.std.specs.Prelude.{ℕ, ◌+◌, List, [], ◌∷◌, ◌++◌, length, Option, Some, None, Result, Ok, Err, Bool, true, false, ◌==◌, nat_lt, bytes_eq, slice_get, remove, is_some, option_map}
 use Rattle.sha1.specs.Sha1.{sha1}
 use Rattle.xdr_codec.specs.Handle.{handle_bytes}
 use Rattle.xdr_codec.specs.declared.answer.Answer.TheVariants.{Done, Failed}
@@ -31,8 +30,8 @@ use Rattle.open_close.specs.declared.task.Local.{Local}
 use Rattle.open_close.specs.declared.task.Stage.{Stage}
 use Rattle.open_close.specs.declared.task.Stage.TheVariants as stage
 use Rattle.open_close.specs.declared.task.Task.{Task}
-use Rattle.open_close.specs.Shape.{Broken, broken_of, not_same}
-use Rattle.open_close.specs.State.{State}
+use Rattle.open_close.specs.Shape.{Broken, broken_of}
+use Rattle.open_close.specs.State.{State, local_at, with_local}
 
 -- ---- what is done
 
@@ -57,8 +56,8 @@ read_call xid file offset count = message.Call xid (body.Nfs (nfs.Read (record {
 
 -- ---- a command
 
-abbrev pub is_open : List Local → ℕ → Bool
-is_open opened file = list_any (λ l. l.file == file) opened
+abbrev pub is_open : List (ℕ × Local) → ℕ → Bool
+is_open opened file = is_some (local_at opened file)
 
 -- a session has 4,294,967,295 xids, and an operation begins only where 1,000,000 of them are left
 abbrev pub has_xids : ℕ → Bool
@@ -95,7 +94,7 @@ abbrev pub refused : State → Status → ℕ → State × Acts
 refused s status xid = (idle s, ends (outcome.Refused status) xid 0)
 
 abbrev pub opened_with : State → ℕ → ℕ → List ℕ → ℕ → ℕ → State × Acts
-opened_with s file version bytes asked more = (record s { task = None; opened = s.opened ++ record { file = file; version = version; bytes = bytes } ∷ [] }, ends (outcome.Opened file (length bytes) (sha1 bytes)) asked more)
+opened_with s file version bytes asked more = (record s { task = None; opened = with_local s.opened file (record { version = version; bytes = bytes }) }, ends (outcome.Opened file (length bytes) (sha1 bytes)) asked more)
 
 -- ---- the chunks of a file
 

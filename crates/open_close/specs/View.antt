@@ -8,7 +8,7 @@ use Rattle.open_close.specs.declared.task.Task.{Task}
 use Rattle.open_close.specs.State.{State, pending}
 
 abbrev pub state_of : Inner → State
-state_of s = record { linked = s.linked; next = s.next; opened = s.opened.items; task = s.task }
+state_of s = record { linked = s.linked; next = s.next; opened = s.opened.entries; task = s.task }
 
 -- each chunk that may still be asked for has an xid
 abbrev pub HasXids : ℕ → Stage → Type 0

@@ -1,8 +1,8 @@
 //! The client.
 
-ghost use Rattle.std.specs.Prelude.{◌≡◌, ◌==◌, false, true, find, option_map, Some};
+ghost use Rattle.std.specs.Prelude.{◌≡◌, ◌==◌, false, true, option_map, Some};
 ghost use Rattle.std.specs.Option.{option_copied};
-ghost use Rattle.open_close.specs.State.{start, waiting_of};
+ghost use Rattle.open_close.specs.State.{start, waiting_of, local_at};
 ghost use Rattle.open_close.specs.Step.{command_step, got_step, idle, joined, misses, by_memory, lost, lost_if, IsTold};
 
 use crate::acts::{Acts, Counts, Ended, Outcome};
@@ -10,6 +10,7 @@ use crate::inner::Inner;
 use crate::parts;
 use lb_base::items::Items;
 use std::alloc::Global;
+use std::collections::BTreeMap;
 use std::marker::Model;
 use trace_text::line::Command;
 use wire::message::{Message, Side, Waiting, WireErr};
@@ -67,7 +68,7 @@ impl Client {
             inner: Inner {
                 linked: false,
                 next: 1,
-                opened: Vec::new(alloc),
+                opened: BTreeMap::new(alloc),
                 task: None,
                 waiting: Waiting {
                     side: Side::Client,
@@ -131,7 +132,7 @@ impl Client {
 
     /// The local content of an open file; none where it isn't open. It takes no memory.
     pub fn local(&self, file: u64) -> Option<&[u8]>
-        ensures { option_copied result ≡ option_map (λ l. l.bytes) (find (λ l. l.file == file) self.now.opened) }
+        ensures { option_copied result ≡ option_map (λ l. l.bytes) (local_at self.now.opened file) }
     {
         parts::find_local(&self.inner.opened, file).map(|l| l.bytes.as_slice())
     }

@@ -17,6 +17,7 @@ use nfs3_calls::call::Piece;
 use nfs3_calls::message::Nfs;
 use sha1::Sha1;
 use std::alloc::{AllocError, Global};
+use std::collections::BTreeMap;
 use trace_text::line::Command;
 use wire::message::{Body, Message, RpcRefusal, Waiting, WireErr};
 use xdr_codec::answer::Answer;
@@ -26,12 +27,12 @@ use xdr_codec::status::Status;
 const XID_END: u32 = 4_293_967_297;
 
 /// A client's fields: whether a connection is joined, the xid of the next call on it, the open
-/// files, the operation under way, and the calls that wait for it.
+/// files by their ids, the operation under way, and the calls that wait for it.
 #[derive(Drop)]
 pub struct Inner {
     pub linked: bool,
     pub next: u32,
-    pub opened: Vec<Local>,
+    pub opened: BTreeMap<u64, Local>,
     pub task: Option<Task>,
     pub waiting: Waiting,
 }
@@ -156,11 +157,11 @@ impl Inner {
             sha1: Sha1::digest(fetch.bytes.as_slice()),
         };
         let asked = fetch.asked;
-        self.opened.push(Local {
-            file,
+        let local = Local {
             version: fetch.version,
             bytes: fetch.bytes,
-        })?;
+        };
+        self.opened.insert(file, local)?;
         self.stop(alloc);
         Ok(parts::ends(alloc, outcome, asked, bytes))
     }

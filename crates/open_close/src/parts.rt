@@ -1,9 +1,8 @@
 //! The plain parts of a step: the calls, what is done, and what is wrong with what came.
 
-ghost use Rattle.std.specs.Prelude.{◌≡◌, ◌==◌, [], ◌∷◌, length, find, option_map, slice_get, ◌<◌, IfOk, IfSome, bytes_eq};
-ghost use Rattle.std.specs.List.{list_any};
+ghost use Rattle.std.specs.Prelude.{◌≡◌, ◌==◌, [], ◌∷◌, length, option_map, slice_get, ◌<◌, IfOk, IfSome, bytes_eq};
 ghost use Rattle.std.specs.Option.{option_copied};
-ghost use Rattle.open_close.specs.State.{pending_in};
+ghost use Rattle.open_close.specs.State.{pending_in, local_at};
 ghost use Rattle.open_close.specs.Step.{nothing_done, sends, ends, hash_call, read_call, xid_of, is_open, first_size, fault_in, refusal_code, fault_of};
 
 use crate::acts::{Acts, BadPeer, Counts, Ended, Outcome};
@@ -15,6 +14,7 @@ use nfs3_calls::call::Range;
 use nfs3_calls::message::{Nfs, NfsProc};
 use sha1::Sha1;
 use std::alloc::{AllocError, Global};
+use std::collections::BTreeMap;
 use wire::message::{Body, Message, Pending, Program, RpcRefusal, WireErr};
 use xdr_codec::handle::Handle;
 
@@ -117,17 +117,17 @@ pub fn xid_of(stage: &Stage) -> u32
 }
 
 /// Whether the file is open.
-pub fn is_open(opened: &Vec<Local>, file: u64) -> bool
-    ensures { result ≡ is_open opened.now.items file }
+pub fn is_open(opened: &BTreeMap<u64, Local>, file: u64) -> bool
+    ensures { result ≡ is_open opened.now.entries file }
 {
-    opened.iter().any(|l| l.file == file)
+    opened.contains_key(&file)
 }
 
 /// The open file.
-pub fn find_local(opened: &Vec<Local>, file: u64) -> Option<&Local>
-    ensures { option_copied result ≡ find (λ l. l.file == file) opened.now.items }
+pub fn find_local(opened: &BTreeMap<u64, Local>, file: u64) -> Option<&Local>
+    ensures { option_copied result ≡ local_at opened.now.entries file }
 {
-    opened.iter().find(|l| l.file == file)
+    opened.get(&file)
 }
 
 /// The size of the first chunk.

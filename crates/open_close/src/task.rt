@@ -3,12 +3,12 @@
 use hash_calls::call::Pair;
 use lb_base::items::{Bytes, Items};
 
-/// An open file, with its local bytes.
+/// What a client has of an open file. It stands under the file's id.
 #[derive(Drop)]
 pub struct Local {
-    pub file: u64,
     /// The version that its content was fetched in.
     pub version: u64,
+    /// Its local content.
     pub bytes: Bytes,
 }
 

@@ -131,6 +131,7 @@ fn opens(rt: HostRuntime) -> Result<(), Fail> {
     assert_eq!(rt; len, 3);
     assert_eq!(rt; sha1, ABC);
     assert_eq!(rt; client.local(2).ok_or("not open")?, b"abc".as_slice());
+    assert!(rt; client.local(1).is_none());
     let again = outcome(open(alloc, &mut client));
     assert!(rt; matches!(again, Some(Outcome::AlreadyOpen)));
     Ok(())
