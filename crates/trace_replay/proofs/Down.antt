@@ -1,5 +1,7 @@
 -- What is on its way down reaches the client.
-use Rattle.std.proofs.Common.{◌≡◌, ℕ, ◌+◌, ◌<◌, ◌≤◌, ◌^◌, List, [], ◌∷◌, ◌++◌, inl, inr, Option, Some, None, Bool, true, false, length, refl, sym, ap, ◌∙◌, arith, subst, IsTrue}
+use Rattle.std.proofs.Common.{◌≡◌, ℕ, ◌+◌, ◌*◌, ◌<◌, ◌≤◌, ◌^◌, List, [], ◌∷◌, ◌++◌, ◌⊎◌, inl, inr, Option, Some, None, Bool, true, false, length, refl, sym, ap, ◌∙◌, arith, subst, IsTrue}
+use Rattle.std.proofs.lemmas.Bool.{eqb-true}
+use Rattle.std.proofs.lemmas.Bool.Decides.{nat_tests}
 use Rattle.std.specs.Prelude.{cond, option_map, slice_get, slice_set, find, ◌==◌, IsSome, Result, Ok}
 use Rattle.rpc_record.specs.Records.{nothing_read}
 use Rattle.xdr_codec.specs.declared.status.Status.{Status}
@@ -30,13 +32,19 @@ use Rattle.open_close.specs.declared.task.Stage.{Stage as Phase}
 use Rattle.open_close.specs.declared.task.Stage.TheVariants as phase
 use Rattle.open_close.specs.declared.task.Task.{Task}
 use Rattle.register_model.specs.declared.op.Op.{Op}
+use Rattle.register_model.specs.Register.{is_opened}
 use Rattle.register_model.specs.declared.op.Opening.{Opening}
+use Rattle.register_model.specs.declared.op.Outcome.{Outcome}
+use Rattle.open_close.proofs.Locals.{local_at_itself, local_at_another}
+use Rattle.server_core.specs.Step.{stands}
 use Rattle.register_model.specs.declared.op.Word.TheVariants as word
 use Rattle.trace_replay.specs.declared.link.Taken.{Taken}
-use Rattle.trace_replay.specs.World.{World, bytes_of, op_after, running_after, taken_at, local_of}
+use Rattle.trace_replay.specs.Faithful.{Deed}
+use Rattle.trace_replay.specs.World.{World, bytes_of, op_after, op_ended, counted, running_after, taken_at, local_of}
 use Rattle.trace_replay.specs.Delivery.{acted, ops_after, down_all}
-use Rattle.trace_replay.proofs.Lists.{nothing_there, some_is, of_replaced, at_replaced, find_appended}
-use Rattle.trace_replay.proofs.Kept.{IsKept, IsRight, Way, Busy, Idle, Asking, Fetching, InPhase, Down, Taking, SmallFile, is_running, at_first, file_as, node_at, whole_range, hashes_told, piece_range, piece_told, pair_of}
+use Rattle.trace_replay.proofs.Lists.{nothing_there, some_is, of_replaced, at_replaced, length_replaced}
+use Rattle.trace_replay.proofs.Kept.{IsKept, IsRight, Cause, IsOf, IsApart, IsJoined, Way, Busy, Idle, Asking, Fetching, InPhase, Down, Taking, SmallFile, is_running, is_unlinked, spare, at_first, file_as, node_at, whole_range, hashes_told, piece_range, piece_told, pair_of}
+use Rattle.trace_replay.proofs.Growth.{Grows, no_truth, grows_replaced, cause_grows, origin_grows, origin_later, matches_replaced}
 use Rattle.trace_replay.proofs.Opening.{Found, is_root, is_gone, is_file, looked, hashes_none, hashes_one, not_broken, piece_taken, told_one, same_number}
 use Rattle.trace_replay.proofs.Fits.{hashes_fit, piece_fits}
 use Rattle.trace_replay.proofs.Takes.{down_read, down_none, down_one}
@@ -93,15 +101,77 @@ none_runs ops running place op new only is there told i o at runs = elim (of_rep
 abbrev pub new_op : World → client.State → Acts → Op → Op
 new_op w c acts op = op_after op c w.link.taken (w.steps + 1) acts
 
+-- what of an operation its client's step leaves as it was, and when it ended
+after_begin : (op : Op) (c : client.State) (taken : List Taken) (step : ℕ) (e : Option Ended) → (op_ended op c taken step e).begin ≡ op.begin
+after_begin op c taken step None = refl
+after_begin op c taken step (Some e) = refl
+
+after_file : (op : Op) (c : client.State) (taken : List Taken) (step : ℕ) (e : Option Ended) → (op_ended op c taken step e).file ≡ op.file
+after_file op c taken step None = refl
+after_file op c taken step (Some e) = refl
+
+after_client : (op : Op) (c : client.State) (taken : List Taken) (step : ℕ) (e : Option Ended) → (op_ended op c taken step e).client ≡ op.client
+after_client op c taken step None = refl
+after_client op c taken step (Some e) = refl
+
+after_word : (op : Op) (c : client.State) (taken : List Taken) (step : ℕ) (e : Option Ended) → (op_ended op c taken step e).word ≡ op.word
+after_word op c taken step None = refl
+after_word op c taken step (Some e) = refl
+
+new_begin : (w : World) (c : client.State) (acts : Acts) (op : Op) → (new_op w c acts op).begin ≡ op.begin
+new_begin w c acts op = after_begin _ c w.link.taken (w.steps + 1) acts.ended
+
+new_file : (w : World) (c : client.State) (acts : Acts) (op : Op) → (new_op w c acts op).file ≡ op.file
+new_file w c acts op = after_file _ c w.link.taken (w.steps + 1) acts.ended
+
+new_client : (w : World) (c : client.State) (acts : Acts) (op : Op) → (new_op w c acts op).client ≡ op.client
+new_client w c acts op = after_client _ c w.link.taken (w.steps + 1) acts.ended
+
+new_word : (w : World) (c : client.State) (acts : Acts) (op : Op) → (new_op w c acts op).word ≡ op.word
+new_word w c acts op = after_word _ c w.link.taken (w.steps + 1) acts.ended
+
+new_end : (w : World) (c : client.State) (acts : Acts) (op : Op) (e : Ended) → acts.ended ≡ Some e → (new_op w c acts op).end ≡ Some (w.steps + 1)
+new_end w c acts op e is = ap (λ (x : Option Ended). (op_ended (record op { traffic = counted op.traffic acts.counts }) c w.link.taken (w.steps + 1) x).end) is
+
+begun_by : (o new op : Op) (now : ℕ) → o ≡ new → new.begin ≡ op.begin → op.begin ≤ now → o.begin ≤ now + 1
+begun_by o new op now is begin le = let same : o.begin ≡ op.begin = ap (λ (x : Op). x.begin) is ∙ begin in omega (arith, same, le)
+
+xids_less : (next last more ops s t : ℕ) → next ≡ last → more ≡ ops → s ≡ 0 → last + t ≤ 2 * ops + 1 → next + s ≤ 2 * more + 1
+xids_less next last more ops s t e f g le = omega (arith, e, f, g, le)
+
+-- where an operation is under way, the client joined
+inl_no : (w : World) (t : Task) → w.client.task ≡ Some t → IsApart w ⊎ IsJoined w → IsJoined w
+inl_no w t is (inl h) = nothing_there t (sym h.1 ∙ is)
+inl_no w t is (inr h) = h
+
+joined_still : (w v : World) → v.client.linked ≡ w.client.linked → IsJoined w → stands v.server 1 ≡ stands w.server 1 → IsApart v ⊎ IsJoined v
+joined_still w v linked h same = inr (linked ∙ h.0, same ∙ h.1)
+
+-- an operation that goes on, or ends, is still that of its command
+pub still_of : (d : Deed) (op new : Op) → new.client ≡ op.client → new.word ≡ op.word → new.file ≡ op.file → is_unlinked new.outcome ≡ false → IsOf d op → IsOf d new
+still_of d op new client is named linked h = record { client = client ∙ h.client; word = is ∙ h.word; file = named ∙ h.file; unlinked = λ e. absurd_bool (is_unlinked new.outcome) linked e }
+  where
+    absurd_bool : {A : Type 0} (b : Bool) → b ≡ false → b ≡ true → A
+    absurd_bool b e f = absurd cc
+
+-- what an operation that ended makes of the open files, beside those that were there
+abbrev pub OpensOnly : World → client.State → ℕ → Op → Type 0
+OpensOnly w c place new = (name : ℕ) (l : Local) → client.local_at c.opened name ≡ Some l → ((name ≡ new.file) × IsTrue (is_opened new.outcome)) ⊎ (client.local_at w.client.opened name ≡ Some l)
+
 -- the world after an operation ended rightly
-pub ended_kept : (w : World) (t : Task) (c : client.State) (acts : Acts) (e : Ended) → w.client.task ≡ Some t → IsKept w → (busy : Busy w t)
-    → c.task ≡ None → acts.ended ≡ Some e → acts.send ≡ [] → w.link.up ≡ []
-    → IsRight w.opening (new_op w c acts busy.under.op) → is_running (new_op w c acts busy.under.op).outcome ≡ false
-    → IsKept (after_acts w c acts busy.under.place busy.under.op)
-ended_kept w t c acts e is k busy no_task end none up right told =
+pub ended_kept : (n : ℕ) (ds : List Deed) (j : Bool) (w : World) (t : Task) (c : client.State) (acts : Acts) (e : Ended) → w.client.task ≡ Some t → IsKept n ds j w → (busy : Busy w t)
+    → c.task ≡ None → c.linked ≡ w.client.linked → c.next ≡ w.client.next → OpensOnly w c busy.under.place (new_op w c acts busy.under.op) → acts.ended ≡ Some e → acts.send ≡ [] → w.link.up ≡ []
+    → IsRight w.opening (new_op w c acts busy.under.op) → Cause w.opening w.ops (new_op w c acts busy.under.op) (new_op w c acts busy.under.op).outcome → is_running (new_op w c acts busy.under.op).outcome ≡ false
+    → is_unlinked (new_op w c acts busy.under.op).outcome ≡ false → IsKept n ds j (after_acts w c acts busy.under.place busy.under.op)
+ended_kept n ds j w t c acts e is k busy no_task linked next opens end none up right cause told tied =
     let place = busy.under.place in
-    let new = new_op w c acts busy.under.op in
-    let v = after_acts w c acts place busy.under.op in
+    let op = busy.under.op in
+    let new = new_op w c acts op in
+    let v = after_acts w c acts place op in
+    let begin : new.begin ≡ op.begin = new_begin w c acts op in
+    let named : new.file ≡ op.file = new_file w c acts op in
+    let ends : new.end ≡ Some (w.steps + 1) = new_end w c acts op e end in
+    let grows : Grows w.ops v.ops w.steps = grows_replaced w.ops place op new w.steps busy.under.there begin named busy.under.not_ended (λ z at. let last : w.steps + 1 ≡ z = some_is (w.steps + 1) z (sym ends ∙ at) in omega (arith, last)) in
     let idle : Idle v = record {
       none = ap (running_after place) end;
       up = ap (λ (x : List Message). w.link.up ++ bytes_of x) none ∙ none_before w.link.up [] up;
@@ -110,31 +180,46 @@ ended_kept w t c acts e is k busy no_task end none up right told =
     record {
       files = k.files;
       small = k.small;
+      numbered = k.numbered;
+      few_files = k.few_files;
+      few_ops = subst (λ (m : ℕ). m < n) (sym (length_replaced w.ops place new)) k.few_ops;
       server_end = k.server_end;
       client_end = refl;
       rights = λ i o at. elim (of_replaced w.ops place new i o at) [
         | inl h ↦ subst (λ (x : Op). IsRight w.opening x) (sym h.1) right
         | inr h ↦ k.rights i o h
       ];
-      only = λ i o at runs. absurd (none_runs w.ops w.running place busy.under.op new k.only busy.under.is_running busy.under.there told i o at runs);
+      begun = λ i o at. elim (of_replaced w.ops place new i o at) [
+        | inl h ↦ begun_by o new op w.steps h.1 begin (k.begun place op busy.under.there)
+        | inr h ↦ omega (arith, k.begun i o h)
+      ];
+      causes = λ i o at. elim (of_replaced w.ops place new i o at) [
+        | inl h ↦ subst (λ (x : Op). Cause w.opening v.ops x x.outcome) (sym h.1) (cause_grows w.opening w.ops v.ops w.steps new new.outcome grows (subst (λ (m : ℕ). m ≤ w.steps) (sym begin) (k.begun place op busy.under.there)) cause)
+        | inr h ↦ cause_grows w.opening w.ops v.ops w.steps o o.outcome grows (k.begun i o h) (k.causes i o h)
+      ];
+      only = λ i o at runs. absurd (none_runs w.ops w.running place op new k.only busy.under.is_running busy.under.there told i o at runs);
+      locals = λ name l at. elim (opens name l at) [
+        | inl h ↦ (place, new, at_replaced w.ops place new op busy.under.there, sym h.0, h.1, w.steps + 1, ends, omega arith)
+        | inr h ↦ origin_later v.ops name (w.steps + 1) (w.steps + 1 + 1) (omega arith) (origin_grows w.ops v.ops w.steps name (w.steps + 1) grows (k.locals name l h))
+      ];
+      deeds = matches_replaced ds w.ops place op new k.deeds busy.under.there (λ d h. still_of d op new (new_client w c acts op) (new_word w c acts op) named tied h);
+      xids = xids_less c.next w.client.next (length v.ops) (length w.ops) (spare c.task) (spare w.client.task) next (length_replaced w.ops place new) (ap spare no_task) k.xids;
+      linked = linked ∙ k.linked;
+      joined = joined_still w v linked (inl_no w t is k.joined) refl;
       way = subst (λ (x : Option Task). Way v x) (sym no_task) idle;
       fresh = fresh_busy w v t w.stage is k.fresh;
     }
 
 -- ---- the outcomes
 
-pub no_truth : {A : Type 0} → IsTrue false → A
-no_truth e = absurd cc
-
 -- a refusal that is not of a file that is gone
-pub refused_right : (opening : List Opening) (w : World) (c : client.State) (name xid begin : ℕ) (op : Op) → op.word ≡ word.Open → op.file ≡ name → name ≡ 1
-    → IsRight opening (new_op w c (refused c status.IsDir xid).1 op)
-refused_right opening w c name xid begin op is_open file one = record {
+pub refused_right : (opening : List Opening) (w : World) (c : client.State) (xid begin : ℕ) (op : Op) → op.client ≡ 1 → op.word ≡ word.Open → IsRight opening (new_op w c (refused c status.IsDir xid).1 op)
+refused_right opening w c xid begin op one is_open = record {
+  client = one;
   word = is_open;
   within = λ p e. nothing_there p e;
   opens = λ e. no_truth e;
   gone = λ e. no_truth e;
-  cause = inl (refl, file ∙ one);
 }
 
 -- a point at which the GETHASH was taken lies within
@@ -144,36 +229,54 @@ point_within at begin now q is b n p e =
     (omega (arith, same), λ z end. let last : now + 1 ≡ z = some_is (now + 1) z end in omega (arith, same, last))
 
 -- the file is gone
-pub gone_right : (opening : List Opening) (w : World) (c : client.State) (name xid begin : ℕ) (op : Op) → op.word ≡ word.Open → op.file ≡ name → op.begin ≡ begin → at_first opening name ≡ None
+pub gone_right : (opening : List Opening) (w : World) (c : client.State) (name xid begin : ℕ) (op : Op) → op.client ≡ 1 → op.word ≡ word.Open → op.file ≡ name → op.begin ≡ begin → at_first opening name ≡ None
     → Taking w.link.taken xid begin w.steps → IsRight opening (new_op w c (refused c status.Stale xid).1 op)
-gone_right opening w c name xid begin op is_open file begun none taking =
+gone_right opening w c name xid begin op one is_open file begun none taking =
     let at = taken_is w.link.taken xid begin w.steps taking in
     let gone : at_first opening op.file ≡ None = ap (λ (n : ℕ). at_first opening n) file ∙ none in
     record {
+      client = one;
       word = is_open;
       within = λ p e. subst (λ (b : ℕ). (b ≤ p) × ((z : ℕ) → Some (w.steps + 1) ≡ Some z → p ≤ z)) (sym begun) (point_within (taken_at w.link.taken xid) begin w.steps taking.0 at taking.3 taking.4 p e);
       opens = λ e. no_truth e;
       gone = λ e. (taking.0, at, gone);
-      cause = inr (refl, gone);
     }
 
 -- the whole content came
-pub opened_right : (opening : List Opening) (w : World) (c : client.State) (name version xid begin more : ℕ) (x : List ℕ) (op : Op) → op.word ≡ word.Open → op.file ≡ name → op.begin ≡ begin → at_first opening name ≡ Some x
-    → find (λ l. l.file == name) c.opened ≡ None → Taking w.link.taken xid begin w.steps
-    → IsRight opening (new_op w (opened_with c name version x xid more).0 (opened_with c name version x xid more).1 op)
-opened_right opening w c name version xid begin more x op is_open file begun there closed taking =
+pub opened_right : (opening : List Opening) (w : World) (c : client.State) (name version xid begin more : ℕ) (x : List ℕ) (op : Op) → op.client ≡ 1 → op.word ≡ word.Open → op.file ≡ name → op.begin ≡ begin → at_first opening name ≡ Some x
+    → Taking w.link.taken xid begin w.steps → IsRight opening (new_op w (opened_with c name version x xid more).0 (opened_with c name version x xid more).1 op)
+opened_right opening w c name version xid begin more x op one is_open file begun there taking =
     let at = taken_is w.link.taken xid begin w.steps taking in
-    let local : Local = record { file = name; version = version; bytes = x } in
+    let local : Local = record { version = version; bytes = x } in
     let first : at_first opening op.file ≡ Some x = ap (λ (n : ℕ). at_first opening n) file ∙ there in
     let value : local_of (opened_with c name version x xid more).0 name ≡ x =
-    ap (λ (o : Option Local). elim o [ None ↦ [] | Some l ↦ l.bytes ]) (find_appended (λ l. l.file == name) c.opened local closed (same_number name)) in
+    ap (λ (o : Option Local). elim o [ None ↦ [] | Some l ↦ l.bytes ]) (local_at_itself c.opened name local) in
     record {
+      client = one;
       word = is_open;
       within = λ p e. subst (λ (b : ℕ). (b ≤ p) × ((z : ℕ) → Some (w.steps + 1) ≡ Some z → p ≤ z)) (sym begun) (point_within (taken_at w.link.taken xid) begin w.steps taking.0 at taking.3 taking.4 p e);
       opens = λ e. (taking.0, at, first ∙ ap (λ (y : List ℕ). Some y) (sym value));
       gone = λ e. no_truth e;
-      cause = subst (λ (v : Option (List ℕ)). IsSome v) (sym first) refl;
     }
+
+-- an open file is the new one, or was there
+local_is : (opened : List (ℕ × Local)) (name : ℕ) (local : Local) (id : ℕ) (l : Local) → client.local_at (client.with_local opened name local) id ≡ Some l → (id ≡ name) ⊎ (client.local_at opened id ≡ Some l)
+local_is opened name local id l at = by (id == name) refl
+  where
+    other : (b : Bool) → (id == name) ≡ b → b ≡ false → id ≡ name → ⊥
+    other b e f same = grind (arith, nat_tests, e, f, same)
+
+    by : (b : Bool) → (id == name) ≡ b → (id ≡ name) ⊎ (client.local_at opened id ≡ Some l)
+    by true e = inl (eqb-true id name e)
+    by false e = inr (sym (local_at_another opened name local id (other false e refl)) ∙ at)
+
+-- it is one more open file
+pub opened_only : (w : World) (c : client.State) (name version xid more place : ℕ) (x : List ℕ) (op : Op) → op.file ≡ name → c.opened ≡ w.client.opened
+    → OpensOnly w (opened_with c name version x xid more).0 place (new_op w (opened_with c name version x xid more).0 (opened_with c name version x xid more).1 op)
+opened_only w c name version xid more place x op file same id l at = elim (local_is c.opened name (record { version = version; bytes = x }) id l at) [
+  | inl h ↦ inl (h ∙ sym file, refl)
+  | inr h ↦ inr (ap (λ (es : List (ℕ × Local)). client.local_at es id) (sym same) ∙ h)
+]
 
 -- ---- the client's step
 
@@ -204,16 +307,18 @@ piece_expected s name f b e is =
 
 -- ---- the world after the READ was sent
 
-pub going_kept : (w : World) (t u : Task) (c : client.State) (m : Message) → w.client.task ≡ Some t → IsKept w → (busy : Busy w t) → c.task ≡ Some u → c.opened ≡ w.client.opened → u.file ≡ t.file
+pub going_kept : (n : ℕ) (ds : List Deed) (j : Bool) (w : World) (t u : Task) (c : client.State) (m : Message) → w.client.task ≡ Some t → IsKept n ds j w → (busy : Busy w t) → c.task ≡ Some u → c.opened ≡ w.client.opened → c.linked ≡ w.client.linked → u.file ≡ t.file
+    → c.next + spare c.task ≤ w.client.next + spare w.client.task
     → InPhase w.opening (after_acts w c (sends m 1 0) busy.under.place busy.under.op).link u.file u.stage c.next busy.begin (w.steps + 1)
-    → IsKept (after_acts w c (sends m 1 0) busy.under.place busy.under.op)
-going_kept w t u c m is k busy task opened same phase =
+    → IsKept n ds j (after_acts w c (sends m 1 0) busy.under.place busy.under.op)
+going_kept n ds j w t u c m is k busy task opened linked same xids phase =
     let place = busy.under.place in
     let op = busy.under.op in
     let new = new_op w c (sends m 1 0) op in
     let v = after_acts w c (sends m 1 0) place op in
     let was = k.rights place op busy.under.there in
-    let right : IsRight w.opening new = record { word = was.word; within = was.within; opens = was.opens; gone = was.gone; cause = was.cause } in
+    let right : IsRight w.opening new = record { client = was.client; word = was.word; within = was.within; opens = was.opens; gone = was.gone } in
+    let grows : Grows w.ops v.ops w.steps = grows_replaced w.ops place op new w.steps busy.under.there refl refl busy.under.not_ended (λ z at. nothing_there z (sym busy.under.no_end ∙ at)) in
     let busy_now : Busy v u = record {
       begin = busy.begin;
       under = record {
@@ -229,38 +334,64 @@ going_kept w t u c m is k busy task opened same phase =
         not_ended = busy.under.not_ended;
         word = busy.under.word;
       };
-      small = subst (λ (n : ℕ). n < 2 ^ 64) (sym same) busy.small;
+      small = subst (λ (i : ℕ). i < 2 ^ 64) (sym same) busy.small;
       stands = busy.stands;
-      closed = ap (λ (ls : List Local). find (λ l. l.file == u.file) ls) opened ∙ ap (λ (n : ℕ). find (λ l. l.file == n) w.client.opened) same ∙ busy.closed;
+      closed = ap (λ (ls : List (ℕ × Local)). client.local_at ls u.file) opened ∙ ap (λ (i : ℕ). client.local_at w.client.opened i) same ∙ busy.closed;
       phase = phase;
     } in
     record {
       files = k.files;
       small = k.small;
+      numbered = k.numbered;
+      few_files = k.few_files;
+      few_ops = subst (λ (i : ℕ). i < n) (sym (length_replaced w.ops place new)) k.few_ops;
       server_end = k.server_end;
       client_end = refl;
       rights = λ i o at. elim (of_replaced w.ops place new i o at) [
         | inl h ↦ subst (λ (x : Op). IsRight w.opening x) (sym h.1) right
         | inr h ↦ k.rights i o h
       ];
+      begun = λ i o at. elim (of_replaced w.ops place new i o at) [
+        | inl h ↦ begun_by o new op w.steps h.1 refl (k.begun place op busy.under.there)
+        | inr h ↦ omega (arith, k.begun i o h)
+      ];
+      causes = λ i o at. elim (of_replaced w.ops place new i o at) [
+        | inl h ↦ subst (λ (x : Op). Cause w.opening v.ops x x.outcome) (sym h.1) (cause_grows w.opening w.ops v.ops w.steps new new.outcome grows (k.begun place op busy.under.there) (subst (λ (x : Outcome). Cause w.opening w.ops new x) (sym busy.under.not_ended) tt))
+        | inr h ↦ cause_grows w.opening w.ops v.ops w.steps o o.outcome grows (k.begun i o h) (k.causes i o h)
+      ];
       only = λ i o at runs. elim (of_replaced w.ops place new i o at) [
-        | inl h ↦ ap (λ (n : ℕ). Some n) (sym h.0)
+        | inl h ↦ ap (λ (i : ℕ). Some i) (sym h.0)
         | inr h ↦ sym busy.under.is_running ∙ k.only i o h runs
       ];
+      locals = λ name l at. origin_later v.ops name (w.steps + 1) (w.steps + 1 + 1) (omega arith) (origin_grows w.ops v.ops w.steps name (w.steps + 1) grows (k.locals name l (ap (λ (es : List (ℕ × Local)). client.local_at es name) (sym opened) ∙ at)));
+      deeds = matches_replaced ds w.ops place op new k.deeds busy.under.there (λ d h. record { client = h.client; word = h.word; file = h.file; unlinked = h.unlinked });
+      xids = xids_going (c.next + spare c.task) (w.client.next + spare w.client.task) (length v.ops) (length w.ops) xids (length_replaced w.ops place new) k.xids;
+      linked = linked ∙ k.linked;
+      joined = joined_still w v linked (inl_no w t is k.joined) refl;
       way = subst (λ (x : Option Task). Way v x) (sym task) busy_now;
       fresh = fresh_busy w v t w.stage is k.fresh;
     }
+  where
+    xids_going : (a b more ops : ℕ) → a ≤ b → more ≡ ops → b ≤ 2 * ops + 1 → a ≤ 2 * more + 1
+    xids_going a b more ops le e h = omega (arith, le, e, h)
 
 -- ---- the answer that is on its way
+
+-- one xid less may still be used
+one_less : (next s : ℕ) → s ≡ 1 → next + 1 + 0 ≤ next + s
+one_less next s e = omega (arith, e)
+
+opened_cause : (opening : List Opening) (name : ℕ) (x : List ℕ) (id : ℕ) → id ≡ name → at_first opening name ≡ Some x → IsSome (at_first opening id)
+opened_cause opening name x id e there = subst (λ (v : Option (List ℕ)). IsSome v) (sym (ap (λ (i : ℕ). at_first opening i) e ∙ there)) refl
 
 abbrev pub task_of : ℕ → Phase → Task
 task_of name p = record { file = name; stage = p }
 
 -- the answer to the GETHASH, of which the client makes this
-pub hash_goes : (w : World) (name xid : ℕ) (r : client.State × Acts) → w.client.task ≡ Some (task_of name (phase.Hashing xid)) → IsKept w → (busy : Busy w (task_of name (phase.Hashing xid)))
+pub hash_goes : (n : ℕ) (ds : List Deed) (j : Bool) (w : World) (name xid : ℕ) (r : client.State × Acts) → w.client.task ≡ Some (task_of name (phase.Hashing xid)) → IsKept n ds j w → (busy : Busy w (task_of name (phase.Hashing xid)))
     → xid < 4293967297 → Down w.link (message.Answer xid (hashes_told w.opening name)) → took (idle w.client) name (phase.Hashing xid) (hashes_told w.opening name) ≡ r
     → down_all w ≡ after_acts w r.0 r.1 busy.under.place busy.under.op
-hash_goes w name xid r e k busy small down is =
+hash_goes n ds j w name xid r e k busy small down is =
     down_is w (message.Answer xid (hashes_told w.opening name)) r busy.under.place busy.under.op k.client_end down.1
     (hashes_fit w.opening name xid (omega (arith, small)) k.small)
     (hash_expected w.client name xid (hashes_told w.opening name) e refl)
@@ -284,15 +415,16 @@ took_chunk s opening name xid o node some short =
     ∙ ap (shape_of s name xid) (hashes_one o name some)
     ∙ ap (λ (b : Broken). told_shape s name xid (told_one o.content) b) (not_broken o.content some short)
 
-pub hash_found : (w : World) (name xid : ℕ) → w.client.task ≡ Some (task_of name (phase.Hashing xid)) → IsKept w → (busy : Busy w (task_of name (phase.Hashing xid)))
+pub hash_found : (n : ℕ) (ds : List Deed) (j : Bool) (w : World) (name xid : ℕ) → w.client.task ≡ Some (task_of name (phase.Hashing xid)) → IsKept n ds j w → (busy : Busy w (task_of name (phase.Hashing xid)))
     → Asking w.opening w.link name xid w.client.next busy.begin w.steps → Down w.link (message.Answer xid (hashes_told w.opening name)) → Taking w.link.taken xid busy.begin w.steps
-    → (o : Opening) → at_first w.opening name ≡ Some o.content → node_at w.opening name ≡ Ok (as_file (file_as o)) → SmallFile o → (x : List ℕ) → o.content ≡ x → IsKept (down_all w)
-hash_found w name xid e k busy asking down taking o there node short [] none =
+    → (o : Opening) → at_first w.opening name ≡ Some o.content → node_at w.opening name ≡ Ok (as_file (file_as o)) → SmallFile o → (x : List ℕ) → o.content ≡ x → IsKept n ds j (down_all w)
+hash_found n ds j w name xid e k busy asking down taking o there node short [] none =
     let r = opened_with (idle w.client) name 1 [] xid 0 in
-    subst IsKept (sym (hash_goes w name xid r e k busy asking.small down (took_empty (idle w.client) w.opening name xid o node none)))
-    (ended_kept w (task_of name (phase.Hashing xid)) r.0 r.1 _ e k busy refl refl refl down.0
-    (opened_right w.opening w (idle w.client) name 1 xid busy.begin 0 [] busy.under.op busy.under.word busy.under.file busy.under.begun (there ∙ ap (λ (x : List ℕ). Some x) none) busy.closed taking) refl)
-hash_found w name xid e k busy asking down taking o there node short (b ∷ bs) is =
+    subst (IsKept n ds j) (sym (hash_goes n ds j w name xid r e k busy asking.small down (took_empty (idle w.client) w.opening name xid o node none)))
+    (ended_kept n ds j w (task_of name (phase.Hashing xid)) r.0 r.1 _ e k busy refl refl refl (opened_only w (idle w.client) name 1 xid 0 busy.under.place [] busy.under.op busy.under.file refl) refl refl down.0
+    (opened_right w.opening w (idle w.client) name 1 xid busy.begin 0 [] busy.under.op (k.rights busy.under.place busy.under.op busy.under.there).client busy.under.word busy.under.file busy.under.begun (there ∙ ap (λ (x : List ℕ). Some x) none) taking)
+    (opened_cause w.opening name [] busy.under.op.file busy.under.file (there ∙ ap (λ (x : List ℕ). Some x) none)) refl refl)
+hash_found n ds j w name xid e k busy asking down taking o there node short (b ∷ bs) is =
     let some : 0 < length o.content = subst (λ (x : List ℕ). 0 < length x) (sym is) (omega arith) in
     let f : Fetch = record { asked = xid; xid = w.client.next; version = 1; left = pair_of o.content ∷ []; bytes = [] } in
     let r = reads_on (idle w.client) name xid 1 [] (pair_of o.content ∷ []) 0 in
@@ -309,27 +441,28 @@ hash_found w name xid e k busy asking down taking o there node short (b ∷ bs) 
       taking = (taking.0, taking.1, taking.2, taking.3, omega (arith, taking.4));
       way = inl (none_before w.link.up _ down.0, refl);
     } in
-    subst IsKept (sym (hash_goes w name xid r e k busy asking.small down (took_chunk (idle w.client) w.opening name xid o node some short.0)))
-    (going_kept w (task_of name (phase.Hashing xid)) (task_of name (phase.Reading f)) r.0 (read_call w.client.next name 0 (length o.content)) e k busy refl refl refl fetching)
+    subst (IsKept n ds j) (sym (hash_goes n ds j w name xid r e k busy asking.small down (took_chunk (idle w.client) w.opening name xid o node some short.0)))
+    (going_kept n ds j w (task_of name (phase.Hashing xid)) (task_of name (phase.Reading f)) r.0 (read_call w.client.next name 0 (length o.content)) e k busy refl refl refl refl (one_less w.client.next (spare w.client.task) (ap spare e)) fetching)
 
-pub hash_answered : (w : World) (name xid : ℕ) → w.client.task ≡ Some (task_of name (phase.Hashing xid)) → IsKept w → (busy : Busy w (task_of name (phase.Hashing xid)))
+pub hash_answered : (n : ℕ) (ds : List Deed) (j : Bool) (w : World) (name xid : ℕ) → w.client.task ≡ Some (task_of name (phase.Hashing xid)) → IsKept n ds j w → (busy : Busy w (task_of name (phase.Hashing xid)))
     → Asking w.opening w.link name xid w.client.next busy.begin w.steps → Down w.link (message.Answer xid (hashes_told w.opening name)) → Taking w.link.taken xid busy.begin w.steps → Found w.opening name
-    → IsKept (down_all w)
-hash_answered w name xid e k busy asking down taking (is_root one node) =
+    → IsKept n ds j (down_all w)
+hash_answered n ds j w name xid e k busy asking down taking (is_root one node) =
     let r = refused (idle w.client) status.IsDir xid in
-    subst IsKept (sym (hash_goes w name xid r e k busy asking.small down (ap (took_hashes (idle w.client) name xid) node)))
-    (ended_kept w (task_of name (phase.Hashing xid)) r.0 r.1 _ e k busy refl refl refl down.0
-    (refused_right w.opening w (idle w.client) name xid busy.begin busy.under.op busy.under.word busy.under.file one) refl)
-hash_answered w name xid e k busy asking down taking (is_gone none node) =
+    subst (IsKept n ds j) (sym (hash_goes n ds j w name xid r e k busy asking.small down (ap (took_hashes (idle w.client) name xid) node)))
+    (ended_kept n ds j w (task_of name (phase.Hashing xid)) r.0 r.1 _ e k busy refl refl refl (λ id l at. inr at) refl refl down.0
+    (refused_right w.opening w (idle w.client) xid busy.begin busy.under.op (k.rights busy.under.place busy.under.op busy.under.there).client busy.under.word) (inl (refl, busy.under.file ∙ one)) refl refl)
+hash_answered n ds j w name xid e k busy asking down taking (is_gone none node) =
     let r = refused (idle w.client) status.Stale xid in
-    subst IsKept (sym (hash_goes w name xid r e k busy asking.small down (ap (took_hashes (idle w.client) name xid) node)))
-    (ended_kept w (task_of name (phase.Hashing xid)) r.0 r.1 _ e k busy refl refl refl down.0
-    (gone_right w.opening w (idle w.client) name xid busy.begin busy.under.op busy.under.word busy.under.file busy.under.begun none taking) refl)
-hash_answered w name xid e k busy asking down taking (is_file o there node short) = hash_found w name xid e k busy asking down taking o there node short o.content refl
+    subst (IsKept n ds j) (sym (hash_goes n ds j w name xid r e k busy asking.small down (ap (took_hashes (idle w.client) name xid) node)))
+    (ended_kept n ds j w (task_of name (phase.Hashing xid)) r.0 r.1 _ e k busy refl refl refl (λ id l at. inr at) refl refl down.0
+    (gone_right w.opening w (idle w.client) name xid busy.begin busy.under.op (k.rights busy.under.place busy.under.op busy.under.there).client busy.under.word busy.under.file busy.under.begun none taking)
+    (inr (refl, ap (λ (i : ℕ). at_first w.opening i) busy.under.file ∙ none)) refl refl)
+hash_answered n ds j w name xid e k busy asking down taking (is_file o there node short) = hash_found n ds j w name xid e k busy asking down taking o there node short o.content refl
 
-pub piece_answered : (w : World) (name : ℕ) (f : Fetch) → w.client.task ≡ Some (task_of name (phase.Reading f)) → IsKept w → (busy : Busy w (task_of name (phase.Reading f)))
-    → (fetching : Fetching w.opening w.link name f busy.begin w.steps) → Down w.link (message.Answer f.xid (piece_told w.opening name (length fetching.opened.content))) → IsKept (down_all w)
-piece_answered w name f e k busy fetching down =
+pub piece_answered : (n : ℕ) (ds : List Deed) (j : Bool) (w : World) (name : ℕ) (f : Fetch) → w.client.task ≡ Some (task_of name (phase.Reading f)) → IsKept n ds j w → (busy : Busy w (task_of name (phase.Reading f)))
+    → (fetching : Fetching w.opening w.link name f busy.begin w.steps) → Down w.link (message.Answer f.xid (piece_told w.opening name (length fetching.opened.content))) → IsKept n ds j (down_all w)
+piece_answered n ds j w name f e k busy fetching down =
     let o = fetching.opened in
     let x = o.content in
     let size = length x in
@@ -342,23 +475,24 @@ piece_answered w name f e k busy fetching down =
     (piece_fits w.opening name size f.xid (omega (arith, fetching.small)) k.small)
     (piece_expected w.client name f (piece_told w.opening name size) e refl)
     (took_is w.client name (phase.Reading f) (piece_told w.opening name size) e ∙ took_it) busy.under.is_running busy.under.there in
-    subst IsKept (sym is)
-    (ended_kept w (task_of name (phase.Reading f)) r.0 r.1 _ e k busy refl refl refl down.0
-    (opened_right w.opening w (idle w.client) name f.version f.asked busy.begin size x busy.under.op busy.under.word busy.under.file busy.under.begun fetching.there busy.closed fetching.taking) refl)
+    subst (IsKept n ds j) (sym is)
+    (ended_kept n ds j w (task_of name (phase.Reading f)) r.0 r.1 _ e k busy refl refl refl (opened_only w (idle w.client) name f.version f.asked size busy.under.place x busy.under.op busy.under.file refl) refl refl down.0
+    (opened_right w.opening w (idle w.client) name f.version f.asked busy.begin size x busy.under.op (k.rights busy.under.place busy.under.op busy.under.there).client busy.under.word busy.under.file busy.under.begun fetching.there fetching.taking)
+    (opened_cause w.opening name x busy.under.op.file busy.under.file fetching.there) refl refl)
 
-down_busy : (w : World) (name : ℕ) (p : Phase) → w.client.task ≡ Some (task_of name p) → IsKept w → Busy w (task_of name p) → IsKept (down_all w)
-down_busy w name (phase.Hashing xid) e k busy = elim busy.phase.way [
-  | inl up ↦ subst IsKept (sym (down_none w k.client_end up.0.1)) k
-  | inr down ↦ hash_answered w name xid e k busy busy.phase down.0 down.1 (looked w.opening name k.small)
+down_busy : (n : ℕ) (ds : List Deed) (j : Bool) (w : World) (name : ℕ) (p : Phase) → w.client.task ≡ Some (task_of name p) → IsKept n ds j w → Busy w (task_of name p) → IsKept n ds j (down_all w)
+down_busy n ds j w name (phase.Hashing xid) e k busy = elim busy.phase.way [
+  | inl up ↦ subst (IsKept n ds j) (sym (down_none w k.client_end up.0.1)) k
+  | inr down ↦ hash_answered n ds j w name xid e k busy busy.phase down.0 down.1 (looked w.opening name k.small)
 ]
-down_busy w name (phase.Reading f) e k busy = elim busy.phase.way [
-  | inl up ↦ subst IsKept (sym (down_none w k.client_end up.1)) k
-  | inr down ↦ piece_answered w name f e k busy busy.phase down
+down_busy n ds j w name (phase.Reading f) e k busy = elim busy.phase.way [
+  | inl up ↦ subst (IsKept n ds j) (sym (down_none w k.client_end up.1)) k
+  | inr down ↦ piece_answered n ds j w name f e k busy busy.phase down
 ]
 
-down_task : (w : World) (o : Option Task) → w.client.task ≡ o → Way w o → IsKept w → IsKept (down_all w)
-down_task w None e idle k = subst IsKept (sym (down_none w k.client_end idle.down)) k
-down_task w (Some t) e busy k = down_busy w t.file t.stage e k busy
+down_task : (n : ℕ) (ds : List Deed) (j : Bool) (w : World) (o : Option Task) → w.client.task ≡ o → Way w o → IsKept n ds j w → IsKept n ds j (down_all w)
+down_task n ds j w None e idle k = subst (IsKept n ds j) (sym (down_none w k.client_end idle.down)) k
+down_task n ds j w (Some t) e busy k = down_busy n ds j w t.file t.stage e k busy
 
-pub kept_down : (w : World) → IsKept w → IsKept (down_all w)
-kept_down w k = down_task w w.client.task refl k.way k
+pub kept_down : (n : ℕ) (ds : List Deed) (j : Bool) (w : World) → IsKept n ds j w → IsKept n ds j (down_all w)
+kept_down n ds j w k = down_task n ds j w w.client.task refl k.way k

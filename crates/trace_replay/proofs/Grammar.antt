@@ -1,15 +1,14 @@
--- What the grammar of lines keeps of their numbers and contents.
-use Rattle.std.proofs.Common.{◌≡◌, ℕ, ◌<◌, ◌≤◌, ◌^◌, List, [], ◌∷◌, Option, Some, None, Bool, true, false, length, take, drop, refl, arith, subst}
-use Rattle.std.specs.Prelude.{cond, codes, bytes_eq, nat_lt, nat_le, ◌&&◌, ◌==◌, not}
-use Rattle.std.specs.List.{list_all}
+-- What the grammar of lines keeps of their numbers.
+use Rattle.std.proofs.Common.{◌≡◌, ℕ, ◌<◌, ◌^◌, List, [], ◌∷◌, Option, Some, None, Bool, true, false, take, drop, refl, arith, subst}
+use Rattle.std.specs.Prelude.{cond, codes, bytes_eq, nat_lt}
 use Rattle.std.proofs.lemmas.Bool.Decides.{nat_tests}
-use Rattle.trace_text.specs.Fields.{◌>>=◌, value_from, value_of, is_decimal, number_of, number_within, reading_of, name_of, is_text, is_letter, text_of, content_of, id_of}
-use Rattle.trace_text.specs.Grammar.{version_of, term_of, drift_of, clients_of, file_of, join_of, open_of, command_of, do_of, pass_of, line_from, said_by, line_of}
+use Rattle.trace_text.specs.Fields.{◌>>=◌, value_from, value_of, is_decimal, number_of, number_within, reading_of, name_of, content_of, id_of}
+use Rattle.trace_text.specs.Grammar.{version_of, term_of, drift_of, clients_of, file_of, join_of, open_of, command_of, do_of, pass_of, line_from, said_by, is_skipped, line_of}
 use Rattle.trace_text.specs.Parts.{words_of}
 use Rattle.trace_text.specs.declared.line.Command.{Command}
 use Rattle.trace_text.specs.declared.line.Command.TheVariants.{Open}
 use Rattle.trace_text.specs.declared.line.Line.{Line}
-use Rattle.trace_text.specs.declared.line.Line.TheVariants.{Version, Term, Drift, Clients, File, Join, Do, Pass}
+use Rattle.trace_text.specs.declared.line.Line.TheVariants.{Version, Term, Drift, Clients, File, Join, Do, Pass, Skipped}
 use Rattle.trace_replay.proofs.Fit.{IsFit}
 
 -- ---- a fact of what is there, if anything is
@@ -48,23 +47,6 @@ of_number word = of_either (λ n. n < 2 ^ 64) (is_decimal word) (value_of word) 
 of_id : (word : List ℕ) → Of (λ n. n < 2 ^ 64) (id_of word)
 of_id word = of_either (λ n. n < 2 ^ 64) (bytes_eq (take 1 word) (codes "#")) (number_of (drop 1 word)) None (of_number (drop 1 word)) tt
 
-both_true : (a b c : Bool) → (a && b && c) ≡ true → b ≡ true
-both_true true true c e = refl
-both_true true false c e = absurd cc
-both_true false b c e = absurd cc
-
-of_text : (text : List ℕ) → Of (λ c. length c ≤ 2048) (text_of text)
-of_text text = by text (is_text 2048 text) refl
-  where
-    by : (text : List ℕ) (b : Bool) → is_text 2048 text ≡ b → Of (λ c. length c ≤ 2048) (cond b (Some text) None)
-    by text true e = let short : nat_le (length text) 2048 ≡ true = both_true (not (length text == 0)) (nat_le (length text) 2048) (list_all is_letter text) e in grind (arith, nat_tests, short)
-    by text false e = tt
-
-of_content : (word : List ℕ) → Of (λ c. length c ≤ 2048) (content_of word)
-of_content word =
-    of_either (λ c. length c ≤ 2048) (bytes_eq word (codes "-")) (Some []) _ (omega arith)
-    (of_either (λ c. length c ≤ 2048) (bytes_eq (take 2 word) (codes "t:")) (text_of (drop 2 word)) None (of_text (drop 2 word)) tt)
-
 -- ---- lines
 
 of_version : (ws : List (List ℕ)) → Of IsFit (version_of ws)
@@ -90,7 +72,7 @@ of_clients (v ∷ w ∷ ws) = tt
 of_file : (ws : List (List ℕ)) → Of IsFit (file_of ws)
 of_file [] = tt
 of_file (v ∷ []) = tt
-of_file (v ∷ w ∷ []) = of_then (λ a. Unit {0}) IsFit (name_of v) (λ n. content_of w >>= λ c. Some (File n c)) (of_any (name_of v)) (λ n h. of_then (λ c. length c ≤ 2048) IsFit (content_of w) (λ c. Some (File n c)) (of_content w) (λ c short. short))
+of_file (v ∷ w ∷ []) = of_then (λ a. Unit {0}) IsFit (name_of v) (λ n. content_of w >>= λ c. Some (File n c)) (of_any (name_of v)) (λ n h. of_then (λ a. Unit {0}) IsFit (content_of w) (λ c. Some (File n c)) (of_any (content_of w)) (λ c i. tt))
 of_file (v ∷ w ∷ x ∷ ws) = tt
 
 of_join : (ws : List (List ℕ)) → Of IsFit (join_of ws)
@@ -139,4 +121,4 @@ of_said [] = tt
 of_said (w ∷ ws) = of_kind w ws
 
 pub fit_line : (l : List ℕ) (x : Line) → line_of l ≡ Some x → IsFit x
-fit_line l x e = of_it IsFit (line_of l) x (of_said (words_of l)) e
+fit_line l x e = of_it IsFit (line_of l) x (of_either IsFit (is_skipped l) (Some Skipped) (said_by (words_of l)) tt (of_said (words_of l))) e

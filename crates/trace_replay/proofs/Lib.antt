@@ -1,6 +1,8 @@
 pub mod Lists
 pub mod Bytes
+pub mod Keys
 pub mod Kept
+pub mod Growth
 pub mod Parsed
 pub mod Takes
 pub mod Fits
@@ -8,8 +10,8 @@ pub mod Up
 pub mod Opening
 pub mod Down
 pub mod Fit
+pub mod Asked
 pub mod Lines
 pub mod Grammar
 pub mod Runs
-pub mod Deeds
 pub mod Promise

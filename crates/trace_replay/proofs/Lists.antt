@@ -1,5 +1,5 @@
 -- Lists by place: what an element appended, or put in another's place, makes of them.
-use Rattle.std.proofs.Common.{◌≡◌, ℕ, zero, suc, List, [], ◌∷◌, ◌++◌, ◌⊎◌, inl, inr, Option, Some, None, Bool, true, false, length, refl, sym, ap, ◌∙◌}
+use Rattle.std.proofs.Common.{◌≡◌, ℕ, zero, suc, ◌+◌, List, [], ◌∷◌, ◌++◌, ◌⊎◌, inl, inr, Option, Some, None, Bool, true, false, length, refl, sym, ap, ◌∙◌, arith}
 use Rattle.std.specs.Prelude.{slice_get, slice_set, All, find, map, cond, option_map}
 use Rattle.std.proofs.lemmas.Option.{slice_get-get_or}
 
@@ -36,6 +36,28 @@ pub at_replaced : {A : Type 0} (xs : List A) (i : ℕ) (x y : A) → slice_get x
 at_replaced [] i x y e = nothing_there y e
 at_replaced (z ∷ xs) zero x y e = refl
 at_replaced (z ∷ xs) (suc i) x y e = at_replaced xs i x y e
+
+-- an element of a list is there when another is appended, and when one at another place is replaced
+pub kept_appended : {A : Type 0} (xs : List A) (x : A) (k : ℕ) (y : A) → slice_get xs k ≡ Some y → slice_get (xs ++ x ∷ []) k ≡ Some y
+kept_appended [] x k y e = nothing_there y e
+kept_appended (z ∷ xs) x zero y e = e
+kept_appended (z ∷ xs) x (suc k) y e = kept_appended xs x k y e
+
+pub else_replaced : {A : Type 0} (xs : List A) (i : ℕ) (x : A) (k : ℕ) (y : A) → slice_get xs k ≡ Some y → (k ≡ i) ⊎ (slice_get (slice_set xs i x) k ≡ Some y)
+else_replaced [] i x k y e = inr e
+else_replaced (z ∷ xs) zero x zero y e = inl refl
+else_replaced (z ∷ xs) zero x (suc k) y e = inr e
+else_replaced (z ∷ xs) (suc i) x zero y e = inr e
+else_replaced (z ∷ xs) (suc i) x (suc k) y e = elim (else_replaced xs i x k y e) [ inl h ↦ inl (ap suc h) | inr h ↦ inr h ]
+
+pub length_replaced : {A : Type 0} (xs : List A) (i : ℕ) (x : A) → length (slice_set xs i x) ≡ length xs
+length_replaced [] i x = refl
+length_replaced (z ∷ xs) zero x = refl
+length_replaced (z ∷ xs) (suc i) x = ap suc (length_replaced xs i x)
+
+pub length_appended : {A : Type 0} (xs : List A) (x : A) → length (xs ++ x ∷ []) ≡ length xs + 1
+length_appended [] x = refl
+length_appended (z ∷ xs) x = omega (arith, length_appended xs x)
 
 -- a view that replacing keeps at its place is kept of all
 pub map_replaced : {A B : Type 0} (f : A → B) (xs : List A) (i : ℕ) (x y : A) → slice_get xs i ≡ Some y → f x ≡ f y → map f (slice_set xs i x) ≡ map f xs

@@ -1,7 +1,7 @@
 -- What is found in the opening tree under a name, and what the client makes of what it is told of it.
 use Rattle.std.proofs.Common.{◌≡◌, ℕ, ◌+◌, ◌<◌, ◌≤◌, List, [], ◌∷◌, ◌++◌, Option, Some, None, Bool, true, false, length, min, refl, ap, ◌∙◌, arith, subst, cond}
 use Rattle.std.proofs.lemmas.List.{take_all}
-use Rattle.std.specs.Prelude.{map, find, ◌==◌, ◌&&◌, ◌||◌, nat_lt, nat_le, option_map, slice_get, remove, Result, Ok, Err, bytes_eq}
+use Rattle.std.specs.Prelude.{find, ◌==◌, ◌&&◌, ◌||◌, nat_lt, nat_le, option_map, slice_get, remove, Result, Ok, Err, bytes_eq}
 use Rattle.std.proofs.lemmas.Bool.Decides.{nat_tests}
 use Rattle.std.proofs.lemmas.Bool.{eqb-true}
 use Rattle.std.proofs.lemmas.Slice.Eq.{bytes_eq-Decides}
@@ -16,8 +16,8 @@ use Rattle.open_close.specs.Shape.{broken_of, file_limit, chunk_most}
 use Rattle.open_close.specs.Step.{told_piece, told_bytes, fault_in, fault_in_digest, reads_on, opened_with}
 use Rattle.open_close.specs.declared.task.Fetch.{Fetch}
 use Rattle.register_model.specs.declared.op.Opening.{Opening}
-use Rattle.trace_replay.proofs.Lists.{nothing_there, some_is, find_map}
-use Rattle.trace_replay.proofs.Kept.{at_first, file_as, Small, SmallFile, node_at, whole_range, piece_range, pair_of}
+use Rattle.trace_replay.proofs.Lists.{nothing_there, some_is}
+use Rattle.trace_replay.proofs.Kept.{in_tree, at_first, file_as, Small, SmallFile, Numbered, node_at, whole_range, piece_range, pair_of}
 
 -- ---- the tree
 
@@ -29,6 +29,24 @@ small_found (p ∷ os) name o small e = by p o (p.file == name) (find (λ q. q.f
     by p o true found here later e = subst (λ (q : Opening). SmallFile q) (some_is p o e) here
     by p o false found here later e = later e
 
+-- the next id is free
+pub free_id : (os : List Opening) (n m : ℕ) → Numbered n os → n + length os ≤ m → in_tree os m ≡ None
+free_id [] n m numbered le = refl
+free_id (o ∷ os) n m numbered le = by o (o.file == m) (in_tree os m) (let is : o.file ≡ n = numbered.0 in grind (arith, nat_tests, is, le)) (free_id os (n + 1) m numbered.1 (omega (arith, le)))
+  where
+    by : (o : Opening) (b : Bool) (found : Option Opening) → b ≡ false → found ≡ None → cond b (Some o) found ≡ None
+    by o true found e later = absurd cc
+    by o false found e later = later
+
+pub numbered_more : (os : List Opening) (n : ℕ) (o : Opening) → Numbered n os → o.file ≡ n + length os → Numbered n (os ++ o ∷ [])
+numbered_more [] n o numbered is = (omega (arith, is), tt)
+numbered_more (p ∷ os) n o numbered is = (numbered.0, numbered_more os (n + 1) o numbered.1 (omega (arith, is)))
+
+-- what is found of another id is what was found before
+pub in_tree_more : (os : List Opening) (o : Opening) (name : ℕ) → (o.file == name) ≡ false → in_tree (os ++ o ∷ []) name ≡ in_tree os name
+in_tree_more [] o name other = ap (λ (b : Bool). cond b (Some o) None) other
+in_tree_more (p ∷ os) o name other = ap (λ (found : Option Opening). cond (p.file == name) (Some p) found) (in_tree_more os o name other)
+
 -- the root, nothing, or a file
 pub data Found (os : List Opening) (name : ℕ) : Type 0 where
   is_root : name ≡ 1 → node_at os name ≡ Ok root → Found os name
@@ -37,13 +55,10 @@ pub data Found (os : List Opening) (name : ℕ) : Type 0 where
 
 -- what a name gives where it is the root's, or is looked for in the tree
 abbrev named_by : List Opening → ℕ → Bool → Result Node Status
-named_by os name b = elim b [ true ↦ Ok root | false ↦ file_node (find (λ f. f.id == name) (map file_as os)) ]
-
-abbrev in_tree : List Opening → ℕ → Option Opening
-in_tree os name = find (λ o. o.file == name) os
+named_by os name b = elim b [ true ↦ Ok root | false ↦ file_node (option_map file_as (in_tree os name)) ]
 
 not_root : (os : List Opening) (name : ℕ) → (name == 1) ≡ false → node_at os name ≡ file_node (option_map file_as (in_tree os name))
-not_root os name e = ap (named_by os name) e ∙ ap file_node (find_map file_as (λ f. f.id == name) (λ o. o.file == name) (λ o. refl) os)
+not_root os name e = ap (named_by os name) e
 
 found_in : (os : List Opening) (name : ℕ) (found : Option Opening) → Small os → (name == 1) ≡ false → in_tree os name ≡ found → Found os name
 found_in os name None small other e = is_gone (ap (λ (o : Option Opening). option_map (λ o. o.content) o) e) (not_root os name other ∙ ap (λ (o : Option Opening). file_node (option_map file_as o)) e)

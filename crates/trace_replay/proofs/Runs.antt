@@ -1,6 +1,6 @@
 -- What a whole run keeps, and what that makes of its history.
-use Rattle.std.proofs.Common.{◌≡◌, ℕ, suc, ◌+◌, List, [], ◌∷◌, inl, inr, Option, Some, None, Bool, true, false, length, refl, sym, ap, ◌∙◌, arith, subst}
-use Rattle.std.specs.Prelude.{slice_get, ◌||◌, ◌&&◌, ◌==◌, All, filter, cond, nat_lt, Result, Ok, Err}
+use Rattle.std.proofs.Common.{◌≡◌, ℕ, zero, suc, ◌+◌, ◌≤◌, List, [], ◌∷◌, ◌++◌, inl, inr, Option, Some, None, Bool, true, false, length, refl, sym, ap, ◌∙◌, arith, subst, append_assoc, append-nil}
+use Rattle.std.specs.Prelude.{slice_get, ◌||◌, ◌&&◌, ◌==◌, Contains, filter, cond, nat_lt, Result, Ok, Err}
 use Rattle.std.specs.Option.{option_map_or}
 use Rattle.trace_text.specs.Parts.{lines_of}
 use Rattle.trace_text.specs.Grammar.{line_of}
@@ -20,61 +20,100 @@ use Rattle.register_model.specs.declared.op.Word.TheVariants as word
 use Rattle.wire.specs.declared.message.Message.{Message}
 use Rattle.trace_replay.specs.World.{World, start, bytes_of}
 use Rattle.trace_replay.specs.Delivery.{is_still, is_none}
-use Rattle.trace_replay.specs.Run.{ended, in_header, line_in, run_from, run, history_of}
-use Rattle.trace_replay.specs.Faithful.{HasCause}
-use Rattle.trace_replay.proofs.Lists.{nothing_there, all_by_place}
+use Rattle.trace_replay.specs.Run.{ended, in_header, refused, asked_by, turned, run_from, run, history_of}
+use Rattle.trace_replay.specs.Faithful.{Deed, deed_in, linked_by, deeds_from, HasCause, WasBusy, WasOpen, IsDone, AreDone}
+use Rattle.trace_replay.specs.declared.fault.Refused.{Refused}
+use Rattle.trace_replay.specs.declared.turn.Turn.{Turn}
+use Rattle.trace_text.specs.declared.refusal.LineFault.{LineFault}
+use Rattle.trace_text.specs.declared.refusal.LineFault.TheVariants.{Grammar}
+use Rattle.std.proofs.lemmas.List.Elements.{Contains-append_right}
+use Rattle.trace_replay.proofs.Lists.{nothing_there, some_is, all_by_place}
 use Rattle.trace_replay.proofs.Bytes.{some_bytes}
-use Rattle.trace_replay.proofs.Kept.{IsKept, Way, InPhase, Cause, is_running, at_first, hashes_told, piece_told}
-use Rattle.trace_replay.proofs.Fit.{IsFit}
-use Rattle.trace_replay.proofs.Lines.{kept_step}
+use Rattle.trace_replay.proofs.Kept.{IsKept, Way, InPhase, Cause, Beside, Origin, IsOf, Matches, is_running, is_unlinked, at_first, hashes_told, piece_told}
+use Rattle.trace_replay.proofs.Lines.{kept_turn}
+use Rattle.trace_replay.proofs.Asked.{Allows, deeds_by, linked_then, asking, refused_line, in_place}
 use Rattle.trace_replay.proofs.Grammar.{fit_line}
 
 -- ---- the whole run
 
-pub kept_start : IsKept start
+pub kept_start : IsKept 1 [] false start
 kept_start = record {
-  files = refl;
+  files = λ name. refl;
   small = tt;
+  numbered = tt;
+  few_files = omega arith;
+  few_ops = omega arith;
   server_end = refl;
   client_end = refl;
   rights = λ i o at. nothing_there o at;
+  begun = λ i o at. nothing_there o at;
+  causes = λ i o at. nothing_there o at;
   only = λ i o at runs. nothing_there o at;
+  locals = λ f l at. nothing_there l at;
+  deeds = tt;
+  xids = omega arith;
+  linked = refl;
+  joined = inl (refl, refl, refl, refl, refl);
   way = record { none = refl; up = refl; down = refl };
-  fresh = ((refl, refl, refl, refl), refl);
+  fresh = λ e. (refl, refl);
 }
 
-kept_line : (w : World) (l : Option Line) (v : World) → ((x : Line) → l ≡ Some x → IsFit x) → IsKept w → line_in w l ≡ Some v → IsKept v
-kept_line w None v fit k e = nothing_there v e
-kept_line w (Some x) v fit k e = kept_step w w.stage x v k.fresh k (fit x refl) e
-
-abbrev pub ran : World → Result World ℕ
+abbrev pub ran : World → Result World Refused
 ran w = Ok w
 
 ok_is : (a b : World) → ran a ≡ ran b → a ≡ b
 ok_is a b e = cc
 
-pub no_world : {A : Type 0} (n : ℕ) (v : World) → Err n ≡ Ok v → A
-no_world n v e = absurd cc
+no_world : {A : Type 0} (r : Refused) (v : World) → Err r ≡ ran v → A
+no_world r v e = absurd cc
 
-pub ended_is : (w : World) (n : ℕ) (b : Bool) (v : World) → ended w n b ≡ Ok v → w ≡ v
-ended_is w n true v e = no_world n v e
+ended_is : (w : World) (n : ℕ) (b : Bool) (v : World) → ended w n b ≡ Ok v → w ≡ v
+ended_is w n true v e = no_world _ v e
 ended_is w n false v e = ok_is w v e
 
 -- the rest of a run
-abbrev pub next_run : ℕ → List (List ℕ) → Option World → Result World ℕ
-next_run n ls o = elim o [ None ↦ Err n | Some u ↦ run_from u (n + 1) ls ]
+abbrev next_run : World → ℕ → List (List ℕ) → Result Turn LineFault → Result World Refused
+next_run w n ls r = elim r [ Err f ↦ Err (refused n f) | Ok t ↦ run_from (turned w t) (n + 1) ls ]
 
-pub kept_run : (ls : List (List ℕ)) (w : World) (n : ℕ) (v : World) → IsKept w → run_from w n ls ≡ Ok v → IsKept v
-kept_run [] w n v k e = subst IsKept (ended_is w n (in_header w.stage) v e) k
-kept_run (l ∷ ls) w n v k e = by l w n ls v (line_in w (line_of l)) (λ u is. kept_run ls u (n + 1) v (kept_line w (line_of l) u (fit_line l) k is)) refl e
+-- what is known of the turn that a line asks for
+in_line : (w : World) (n : ℕ) (l : List ℕ) (o : Option Line) (t : Turn) → line_of l ≡ o → asked_by w n o ≡ asking t
+    → Allows w t × (n ≤ 65536) × ((j : Bool) → deed_in j o ≡ deeds_by j t) × ((j : Bool) → linked_by j o ≡ linked_then j t)
+in_line w n l None t e is = refused_line Grammar t is
+in_line w n l (Some x) t e is = let h = in_place w n x t (fit_line l x e) is in (h.0.allows, h.1, h.0.deeds, h.0.linked)
+
+-- where the client has joined behind these lines
+abbrev joined_by : Bool → List (List ℕ) → Bool
+joined_by j [] = j
+joined_by j (l ∷ ls) = joined_by (linked_by j (line_of l)) ls
+
+-- the world that lines end in, which are so many more
+abbrev Kept : ℕ → List Deed → Bool → List (List ℕ) → World → Type 0
+Kept n ds j ls v = IsKept (n + length ls) (ds ++ deeds_from j ls) (joined_by j ls) v
+
+pub kept_run : (ls : List (List ℕ)) (n : ℕ) (ds : List Deed) (j : Bool) (w v : World) → IsKept n ds j w → run_from w n ls ≡ Ok v → Kept n ds j ls v
+kept_run [] n ds j w v k e =
+    let none : n ≡ n + 0 = omega arith in
+    subst (λ (u : World). IsKept (n + 0) (ds ++ []) j u) (ended_is w n (in_header w.stage) v e) (subst (λ (es : List Deed). IsKept (n + 0) es j w) (sym (append-nil ds)) (subst (λ (m : ℕ). IsKept m ds j w) none k))
+kept_run (l ∷ ls) n ds j w v k e =
+    by l ls n ds j w v k (asked_by w n (line_of l)) (λ t es i u. kept_run ls (n + 1) es i u v) refl e
   where
-    by : (l : List ℕ) (w : World) (n : ℕ) (ls : List (List ℕ)) (v : World) (o : Option World) → ((u : World) → line_in w (line_of l) ≡ Some u → run_from u (n + 1) ls ≡ Ok v → IsKept v) → line_in w (line_of l) ≡ o
-        → next_run n ls o ≡ ran v → IsKept v
-    by l w n ls v None go is e = no_world n v e
-    by l w n ls v (Some u) go is e = go u is e
+    by : (l : List ℕ) (ls : List (List ℕ)) (n : ℕ) (ds : List Deed) (j : Bool) (w v : World) → IsKept n ds j w → (r : Result Turn LineFault)
+        → ((t : Turn) (es : List Deed) (i : Bool) (u : World) → IsKept (n + 1) es i u → run_from u (n + 1) ls ≡ Ok v → Kept (n + 1) es i ls v)
+        → asked_by w n (line_of l) ≡ r → next_run w n ls r ≡ ran v → Kept n ds j (l ∷ ls) v
+    by l ls n ds j w v k (Err f) go is e = no_world (refused n f) v e
+    by l ls n ds j w v k (Ok t) go is e =
+        let h = in_line w n l (line_of l) t refl is in
+        let more = go t (ds ++ deeds_by j t) (linked_then j t) (turned w t) (kept_turn n ds j w t h.1 h.0 k) e in
+        subst (λ (m : ℕ). IsKept m (ds ++ deeds_from j (l ∷ ls)) (joined_by j (l ∷ ls)) v) (count n ls)
+        (subst (λ (i : Bool). IsKept (n + 1 + length ls) (ds ++ (deed_in j (line_of l) ++ deeds_from i ls)) (joined_by i ls) v) (sym (h.3 j))
+        (subst (λ (es : List Deed). IsKept (n + 1 + length ls) (ds ++ (es ++ deeds_from (linked_then j t) ls)) (joined_by (linked_then j t) ls) v) (sym (h.2 j))
+        (subst (λ (es : List Deed). IsKept (n + 1 + length ls) es (joined_by (linked_then j t) ls) v) (append_assoc ds (deeds_by j t) (deeds_from (linked_then j t) ls)) more)))
+      where
+        count : (n : ℕ) (ls : List (List ℕ)) → n + 1 + length ls ≡ n + suc (length ls)
+        count n ls = omega arith
 
-pub kept_all : (input : List ℕ) (w : World) → run input ≡ Ok w → IsKept w
-kept_all input w e = kept_run (lines_of input) start 1 w kept_start e
+pub kept_all : (input : List ℕ) (w : World) → run input ≡ Ok w → Kept 1 [] false (lines_of input) w
+kept_all input w e = kept_run (lines_of input) 1 [] false start w kept_start e
 
 -- ---- legality
 
@@ -87,8 +126,8 @@ none_change file moment (o ∷ ops) opens =
     by : (o : Op) (rest : List Op) → changed_before file moment o ≡ false → rest ≡ [] → cond (changed_before file moment o) (o ∷ rest) rest ≡ []
     by o rest unchanged none = ap (λ (b : Bool). cond b (o ∷ rest) rest) unchanged ∙ none
 
-at_any_moment : (w : World) (file moment : ℕ) → IsKept w → value_at (history_of w) file moment ≡ at_first w.opening file
-at_any_moment w file moment k = ap (λ (os : List Op). register.value_after (at_first w.opening file) (latest os)) (none_change file moment w.ops (λ i o at. (k.rights i o at).word))
+at_any_moment : (n : ℕ) (ds : List Deed) (j : Bool) (w : World) (file moment : ℕ) → IsKept n ds j w → value_at (history_of w) file moment ≡ at_first w.opening file
+at_any_moment n ds j w file moment k = ap (λ (os : List Op). register.value_after (at_first w.opening file) (latest os)) (none_change file moment w.ops (λ i o at. (k.rights i o at).word))
 
 false_is : {A : Type 0} (b : Bool) → b ≡ false → b ≡ true → A
 false_is b e f = absurd cc
@@ -102,15 +141,15 @@ no_success o e = ap (λ (x : Word). register.success x o.file o.outcome) e
 neither : (a b : Word) → a ≡ word.Open → b ≡ word.Open → (changes a || changes b) ≡ false
 neither a b e f = ap (λ (x : Word). changes x || changes b) e ∙ ap changes f
 
-pub legal_kept : (w : World) → IsKept w → IsLegal (history_of w)
-legal_kept w k =
+pub legal_kept : (n : ℕ) (ds : List Deed) (j : Bool) (w : World) → IsKept n ds j w → IsLegal (history_of w)
+legal_kept n ds j w k =
     let open_at : (i : ℕ) (o : Op) → slice_get w.ops i ≡ Some o → o.word ≡ word.Open = λ i o at. (k.rights i o at).word in
     let all_open = all_by_place (λ (o : Op). o.word ≡ word.Open) w.ops open_at in
     record {
       apart = λ i j d less within. λ change. false_is _ (neither _ _ (all_open i d (omega (arith, less, within))) (all_open j d within)) change;
       within = all_by_place IsWithin w.ops (λ i o at. λ p e. let h = (k.rights i o at).within p e in (h.0, λ lost. h.1));
-      opens = all_by_place (OpensWhole (history_of w)) w.ops (λ i o at. λ is_open opened. let h = (k.rights i o at).opens opened in (h.0, h.1, at_any_moment w o.file h.0 k ∙ h.2));
-      absences = all_by_place (FindsGone (history_of w)) w.ops (λ i o at. λ is_open stale. let h = (k.rights i o at).gone stale in (h.0, h.1, at_any_moment w o.file h.0 k ∙ h.2));
+      opens = all_by_place (OpensWhole (history_of w)) w.ops (λ i o at. λ is_open opened. let h = (k.rights i o at).opens opened in (h.0, h.1, at_any_moment n ds j w o.file h.0 k ∙ h.2));
+      absences = all_by_place (FindsGone (history_of w)) w.ops (λ i o at. λ is_open stale. let h = (k.rights i o at).gone stale in (h.0, h.1, at_any_moment n ds j w o.file h.0 k ∙ h.2));
       successes = all_by_place (ChangesOnce (history_of w)) w.ops (λ i o at. ((λ yes. false_is _ (no_success o (open_at i o at)) yes), λ yes. false_is _ (no_change o (open_at i o at)) yes));
       failures = all_by_place ChangesNothing w.ops (λ i o at. λ yes. false_is _ (no_change o (open_at i o at)) yes);
     }
@@ -145,11 +184,37 @@ running_on : (w : World) (o : Option Task) (i : ℕ) → Way w o → w.running �
 running_on w None i idle e = nothing_there i (sym idle.none ∙ e)
 running_on w (Some t) i busy e = not_still w t.file w.client.next busy.begin w.steps t.stage busy.phase
 
-caused : (w : World) (file : ℕ) (o : Outcome) → Cause w.opening file o → (is_running o ≡ true → is_still w ≡ false) → HasCause w file o
-caused w file (told.Opened len sha1) c runs = c
-caused w file (told.Refused status) c runs = c
-caused w file told.Running c runs = runs refl
-caused w file o c runs = absurd c
+contained : (ops : List Op) (k : ℕ) (o : Op) → slice_get ops k ≡ Some o → Contains ops o
+contained [] k o at = nothing_there o at
+contained (q ∷ ops) zero o at = subst (λ (x : Op). Contains (q ∷ ops) x) (some_is q o at) (0, omega arith, refl)
+contained (q ∷ ops) (suc k) o at = Contains-append_right (q ∷ []) ops o (contained ops k o at)
 
-pub caused_kept : (w : World) → IsKept w → All (λ o. HasCause w o.file o.outcome) w.ops
-caused_kept w k = all_by_place (λ (o : Op). HasCause w o.file o.outcome) w.ops (λ i o at. caused w o.file o.outcome (k.rights i o at).cause (λ runs. running_on w w.client.task i k.way (k.only i o at runs)))
+busy_caused : (n : ℕ) (ds : List Deed) (j : Bool) (w : World) (o : Op) → IsKept n ds j w → o.client ≡ 1 → Beside w.ops o → WasBusy w.ops o
+busy_caused n ds j w o k one h = (h.1, contained w.ops h.0 h.1 h.2, (k.rights h.0 h.1 h.2).client ∙ sym one, h.3, h.4)
+
+open_caused : (n : ℕ) (ds : List Deed) (j : Bool) (w : World) (o : Op) → IsKept n ds j w → o.client ≡ 1 → Origin w.ops o.file o.begin → WasOpen w.ops o
+open_caused n ds j w o k one h = (h.1, contained w.ops h.0 h.1 h.2, (k.rights h.0 h.1 h.2).client ∙ sym one, h.3, h.4, h.5, h.6, h.7)
+
+caused : (n : ℕ) (ds : List Deed) (j : Bool) (w : World) (linked : Bool) (o : Op) (t : Outcome) → IsKept n ds j w → o.client ≡ 1 → Cause w.opening w.ops o t → (is_running t ≡ true → is_still w ≡ false) → (is_unlinked t ≡ true → linked ≡ false) → HasCause w linked o t
+caused n ds j w linked o (told.Opened len sha1) k one c runs tied = c
+caused n ds j w linked o (told.Refused status) k one c runs tied = c
+caused n ds j w linked o told.Running k one c runs tied = runs refl
+caused n ds j w linked o told.Busy k one c runs tied = busy_caused n ds j w o k one c
+caused n ds j w linked o told.AlreadyOpen k one c runs tied = open_caused n ds j w o k one c
+caused n ds j w linked o told.NoLink k one c runs tied = tied refl
+caused n ds j w linked o t k one c runs tied = absurd c
+
+-- each command has its one operation, and that its cause
+done_each : (w : World) (ds : List Deed) (os : List Op) → Matches ds os → ((k : ℕ) (d : Deed) (o : Op) → slice_get os k ≡ Some o → IsOf d o → IsDone w d o) → AreDone w ds os
+done_each w [] [] m each = tt
+done_each w (d ∷ ds) (o ∷ os) m each = (each 0 d o refl m.0, done_each w ds os m.1 (λ k. each (suc k)))
+done_each w [] (o ∷ os) m each = absurd m
+done_each w (d ∷ ds) [] m each = absurd m
+
+pub faithful_kept : (n : ℕ) (ds : List Deed) (j : Bool) (w : World) → IsKept n ds j w → AreDone w ds w.ops
+faithful_kept n ds j w k = done_each w ds w.ops k.deeds (λ i d o at of. record {
+  client = of.client;
+  word = of.word;
+  file = of.file;
+  cause = caused n ds j w d.linked o o.outcome k (k.rights i o at).client (k.causes i o at) (λ runs. running_on w w.client.task i k.way (k.only i o at runs)) of.unlinked;
+})

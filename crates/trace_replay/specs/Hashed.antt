@@ -1,5 +1,5 @@
 -- The byte lists whose digests are sent or compared in a run, as names of chunks.
-use Rattle.std.specs.Prelude.{ℕ, zero, suc, List, [], ◌∷◌, ◌++◌, Option, Some, None, Result, Ok, Err, true, false}
+use Rattle.std.specs.Prelude.{ℕ, zero, suc, ◌+◌, List, [], ◌∷◌, ◌++◌, Result, Ok, Err, true, false}
 use Rattle.rpc_record.specs.Records.{fed}
 use Rattle.wire.specs.Parse.{parse_of}
 use Rattle.wire.specs.declared.message.Message.{Message}
@@ -9,11 +9,12 @@ use Rattle.open_close.specs.Hashed.{client_hashed}
 use Rattle.open_close.specs.State.{waiting_of}
 use Rattle.trace_text.specs.Parts.{lines_of}
 use Rattle.trace_text.specs.Grammar.{line_of}
-use Rattle.trace_text.specs.declared.line.Line.{Line}
-use Rattle.trace_text.specs.declared.line.Line.TheVariants as line
+use Rattle.trace_replay.specs.declared.link.Stage.TheVariants as stage
+use Rattle.trace_replay.specs.declared.turn.Turn.{Turn}
+use Rattle.trace_replay.specs.declared.turn.Turn.TheVariants as turn
 use Rattle.trace_replay.specs.World.{World, start}
 use Rattle.trace_replay.specs.Delivery.{server_waiting, server_takes, client_takes, up_all, round, is_still}
-use Rattle.trace_replay.specs.Run.{line_in}
+use Rattle.trace_replay.specs.Run.{asked_by, turned}
 
 abbrev pub server_share : World → Result Message WireErr → List (List ℕ)
 server_share w (Ok m) = server_hashed w.server.files m
@@ -41,14 +42,14 @@ abbrev pub passes_hashed : ℕ → World → List (List ℕ)
 passes_hashed zero w = []
 passes_hashed (suc k) w = elim (is_still w) [ true ↦ [] | false ↦ up_hashed w ++ down_hashed (up_all w) ++ passes_hashed k (round w) ]
 
-abbrev pub line_hashed : World → Option Line → List (List ℕ)
-line_hashed w (Some (line.Pass n k s r)) = passes_hashed k w
-line_hashed w _ = []
+abbrev pub turn_hashed : World → Turn → List (List ℕ)
+turn_hashed w (turn.Pass k) = passes_hashed k (record w { stage = stage.Events })
+turn_hashed w _ = []
 
-abbrev pub hashed_from : World → List (List ℕ) → List (List ℕ)
-hashed_from w [] = []
-hashed_from w (l ∷ ls) = elim (line_in w (line_of l)) [ None ↦ [] | Some v ↦ line_hashed w (line_of l) ++ hashed_from v ls ]
+abbrev pub hashed_from : World → ℕ → List (List ℕ) → List (List ℕ)
+hashed_from w n [] = []
+hashed_from w n (l ∷ ls) = elim (asked_by w n (line_of l)) [ Err f ↦ [] | Ok t ↦ turn_hashed w t ++ hashed_from (turned w t) (n + 1) ls ]
 
 -- of a whole run
 abbrev pub hashed : List ℕ → List (List ℕ)
-hashed input = hashed_from start (lines_of input)
+hashed input = hashed_from start 1 (lines_of input)

@@ -1,3 +1,4 @@
+pub mod Names
 pub mod World
 pub mod Delivery
 pub mod Run

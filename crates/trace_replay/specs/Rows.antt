@@ -1,7 +1,7 @@
 -- Worked traces, whole: what each run ends in, computed from the definitions.
-use Rattle.std.specs.Prelude.{◌≡◌, ℕ, List, [], ◌++◌, Result, Ok, Err, codes, refl}
+use Rattle.std.specs.Prelude.{◌≡◌, ℕ, List, [], ◌∷◌, ◌++◌, Result, Ok, Err, codes, map, refl}
 use Rattle.std.specs.Fmt.{digits}
-use Rattle.hex.specs.Hex.{encode_with}
+use Rattle.hex.specs.Hex.{encode_with, decode_pairs}
 use Rattle.sha1.specs.Sha1.{sha1, digest_bytes, hash_after, compress, rounds, schedule, first_words}
 use Rattle.xdr_codec.specs.Answers.{outcome_form}
 use Rattle.xdr_codec.specs.Attr.{time_form, kind_form, attr_form}
@@ -13,43 +13,88 @@ use Rattle.nfs3_calls.specs.Calls.{range_form}
 use Rattle.rpc_record.specs.Records.{record_of}
 use Rattle.rpc_record.specs.Header.{direction_form, front_form, auth_form, call_form, versions_form, accept_form, denial_form, reply_form}
 use Rattle.register_model.specs.Text.{history_text}
-use Rattle.trace_replay.specs.World.{World}
-use Rattle.trace_replay.specs.Run.{run, history_of}
+use Rattle.trace_text.specs.Refusals.{refusal_of}
+use Rattle.trace_text.specs.declared.refusal.Refusal.TheVariants as refusal
+use Rattle.trace_replay.specs.declared.fault.Refused.{Refused}
+use Rattle.trace_replay.specs.World.{World, start}
+use Rattle.trace_replay.specs.declared.link.Stage.TheVariants as stage
+use Rattle.trace_replay.specs.declared.turn.Turn.TheVariants as turn
+use Rattle.trace_text.specs.declared.content.Part.TheVariants.{Zeros}
+use Rattle.trace_text.specs.declared.line.Line.TheVariants as line
+use Rattle.trace_text.specs.declared.refusal.Limit.TheVariants as limit
+use Rattle.trace_text.specs.declared.refusal.LineFault.TheVariants.{Limit}
+use Rattle.trace_replay.specs.Run.{asked, run, history_of}
 
-abbrev pub text_of : Result World ℕ → Result (List ℕ) ℕ
-text_of (Ok w) = Ok (history_text (history_of w))
-text_of (Err n) = Err n
+-- what is written for a run
+abbrev pub text_of : Result World Refused → List ℕ
+text_of (Ok w) = history_text (history_of w)
+text_of (Err r) = refusal_of (refusal.Line r.line r.fault)
 
 abbrev pub header : List ℕ
 header = codes "lbfs-trace 1\nterm 60000\ndrift 100\nclients 1\n"
 
-pub empty_trace : text_of (run []) ≡ Err 1
+pub empty_trace : text_of (run []) ≡ codes "refused line 1 grammar\n"
+unfolding digits
 empty_trace = refl
 
-pub header_alone : text_of (run header) ≡ Ok (codes "lbfs-history 1\nend ops 0 steps 0\n")
+pub header_alone : text_of (run header) ≡ (codes "lbfs-history 1\nend ops 0 steps 0\n")
 unfolding record_of digits
 header_alone = refl
 
 -- one file, one open, all passed
 pub one_open : text_of (run (header ++ codes "file a t:abc\njoin 1 0 0\ndo 1 0 open #2\npass 1 4 0 0\n"))
-    ≡ Ok (codes "lbfs-history 1\nop 1 client 1 open file 2 begin 3 end 7 point 4 Opened 3 a9993e364706816aba3e25717850c26c9cd0d89d cond 0 tmp 0 read 1 data 3\nend ops 1 steps 7\n")
+    ≡ (codes "lbfs-history 1\nop 1 client 1 open file 2 begin 3 end 7 point 4 Opened 3 a9993e364706816aba3e25717850c26c9cd0d89d cond 0 tmp 0 read 1 data 3\nend ops 1 steps 7\n")
 unfolding record_of digits encode_with sha1 digest_bytes hash_after compress rounds schedule first_words outcome_form time_form kind_form attr_form u32_form u64_form bool_form bytes_form fixed_form count_form opaque_spell opaque_read hashes_form pair_form hash_range_form piece_form range_form direction_form front_form auth_form call_form versions_form accept_form denial_form reply_form
 one_open = refl
 
 -- an open of a file that is not there
 pub no_file : text_of (run (header ++ codes "file a t:abc\njoin 1 0 0\ndo 1 0 open #9\npass 1 2 0 0\n"))
-    ≡ Ok (codes "lbfs-history 1\nop 1 client 1 open file 9 begin 3 end 5 point 4 Refused 70 cond 0 tmp 0 read 0 data 0\nend ops 1 steps 5\n")
+    ≡ (codes "lbfs-history 1\nop 1 client 1 open file 9 begin 3 end 5 point 4 Refused 70 cond 0 tmp 0 read 0 data 0\nend ops 1 steps 5\n")
 unfolding record_of digits encode_with outcome_form time_form kind_form attr_form u32_form u64_form bool_form bytes_form fixed_form count_form opaque_spell opaque_read hashes_form pair_form hash_range_form piece_form range_form direction_form front_form auth_form call_form versions_form accept_form denial_form reply_form
 no_file = refl
 
 -- nothing was passed
 pub not_passed : text_of (run (header ++ codes "file a t:abc\njoin 1 0 0\ndo 1 0 open #9\n"))
-    ≡ Ok (codes "lbfs-history 1\nop 1 client 1 open file 9 begin 3 end - point - Running cond 0 tmp 0 read 0 data 0\nend ops 1 steps 3\n")
+    ≡ (codes "lbfs-history 1\nop 1 client 1 open file 9 begin 3 end - point - Running cond 0 tmp 0 read 0 data 0\nend ops 1 steps 3\n")
 unfolding record_of digits opaque_spell opaque_read u32_form u64_form count_form bytes_form hash_range_form front_form direction_form auth_form call_form
 not_passed = refl
 
 -- the root is a directory
 pub root : text_of (run (header ++ codes "join 1 0 0\ndo 1 0 open #1\npass 1 2 0 0"))
-    ≡ Ok (codes "lbfs-history 1\nop 1 client 1 open file 1 begin 3 end 5 point - Refused 21 cond 0 tmp 0 read 0 data 0\nend ops 1 steps 5\n")
+    ≡ (codes "lbfs-history 1\nop 1 client 1 open file 1 begin 3 end 5 point - Refused 21 cond 0 tmp 0 read 0 data 0\nend ops 1 steps 5\n")
 unfolding record_of digits encode_with outcome_form time_form kind_form attr_form u32_form u64_form bool_form bytes_form fixed_form count_form opaque_spell opaque_read hashes_form pair_form hash_range_form piece_form range_form direction_form front_form auth_form call_form versions_form accept_form denial_form reply_form
 root = refl
+
+-- each ending of an open that its own client tells, and one that goes on
+pub own_endings : text_of (run (header ++ codes "file a t:abc\ndo 1 0 open #2\njoin 1 0 0\ndo 1 0 open #9\npass 1 2 0 0\ndo 1 0 open #2\ndo 1 0 open #2\n"))
+    ≡ codes "lbfs-history 1\nop 1 client 1 open file 2 begin 1 end 1 point - NoLink cond 0 tmp 0 read 0 data 0\nop 2 client 1 open file 9 begin 4 end 6 point 5 Refused 70 cond 0 tmp 0 read 0 data 0\nop 3 client 1 open file 2 begin 7 end - point - Running cond 0 tmp 0 read 0 data 0\nop 4 client 1 open file 2 begin 8 end 8 point - Busy cond 0 tmp 0 read 0 data 0\nend ops 4 steps 8\n"
+unfolding record_of digits encode_with outcome_form time_form kind_form attr_form u32_form u64_form bool_form bytes_form fixed_form count_form opaque_spell opaque_read hashes_form pair_form hash_range_form piece_form range_form direction_form front_form auth_form call_form versions_form accept_form denial_form reply_form
+own_endings = refl
+
+-- two files of which one is empty, skipped lines, and an open of a file that is open
+pub two_files : text_of (run (codes "\n# a trace\n" ++ header ++ codes "file a -\n\nfile b x:6162+z:1\njoin 1 0 0\ndo 1 0 open #3\npass 1 3 0 0\ndo 1 0 open #3\n#\ndo 1 0 open #2\npass 1 9 0 0\npass 1 9 0 0"))
+    ≡ codes "lbfs-history 1\nop 1 client 1 open file 3 begin 3 end 7 point 4 Opened 3 97d6f5d51e5815cdf64cc9935b8d73c50bd906a2 cond 0 tmp 0 read 1 data 3\nop 2 client 1 open file 3 begin 8 end 8 point - AlreadyOpen cond 0 tmp 0 read 0 data 0\nop 3 client 1 open file 2 begin 9 end 11 point 10 Opened 0 da39a3ee5e6b4b0d3255bfef95601890afd80709 cond 0 tmp 0 read 0 data 0\nend ops 3 steps 11\n"
+unfolding record_of digits encode_with decode_pairs sha1 digest_bytes hash_after compress rounds schedule first_words outcome_form time_form kind_form attr_form u32_form u64_form bool_form bytes_form fixed_form count_form opaque_spell opaque_read hashes_form pair_form hash_range_form piece_form range_form direction_form front_form auth_form call_form versions_form accept_form denial_form reply_form
+two_files = refl
+
+-- the first line that is refused: lines that are skipped count
+abbrev refused_by : List ℕ → List ℕ
+refused_by lines = text_of (run (header ++ lines))
+
+pub refusals : map refused_by (codes "\n#\nfile a -\nfile a -\n" ∷ codes "file a z:2049\n" ∷ codes "file a z:2048\nfile a z:2049" ∷ codes "file a z:18446744073709551615+z:18446744073709551615\n" ∷ codes "join 1 0 0\njoin 1 0 0\n" ∷ codes "do 1 0 open #1\nfile a -\n" ∷ codes "pass 1 1 0 0\n" ∷ codes "join 1 0 0\npass 2 1 0 0\n" ∷ codes "do 2 0 open #1\n" ∷ codes "join 1 1 0\n" ∷ [])
+    ≡ (codes "refused line 8 grammar\n" ∷ codes "refused line 5 limit file\n" ∷ codes "refused line 6 grammar\n" ∷ codes "refused line 5 limit file\n" ∷ codes "refused line 6 grammar\n" ∷ codes "refused line 6 grammar\n" ∷ codes "refused line 5 grammar\n" ∷ codes "refused line 6 grammar\n" ∷ codes "refused line 5 grammar\n" ∷ codes "refused line 5 grammar\n" ∷ [])
+unfolding record_of digits
+refusals = refl
+
+-- limits that no trace comes to yet: the bytes of all files together, at their edge and past it, and a second session
+abbrev full : World
+full = record start { stage = stage.Files; size = 1073741823 }
+
+pub tree_edge : asked full 9 (line.File (codes "a") (Zeros 1 ∷ [])) ≡ Ok (turn.File (codes "a") (Zeros 1 ∷ []))
+tree_edge = refl
+
+pub tree_limit : asked full 9 (line.File (codes "a") (Zeros 2 ∷ [])) ≡ Err (Limit limit.Tree)
+tree_limit = refl
+
+pub session_limit : asked (record start { stage = stage.Events; sessions = 1 }) 9 (line.Join 1 0 0) ≡ Err (Limit limit.Sessions)
+session_limit = refl

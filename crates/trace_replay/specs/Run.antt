@@ -1,11 +1,17 @@
 -- A trace run line by line.
-use Rattle.std.specs.Prelude.{ℕ, ◌+◌, List, [], ◌∷◌, ◌++◌, length, Option, Some, None, Result, Ok, Err, Bool, true, false, ◌&&◌, ◌==◌}
+use Rattle.std.specs.Prelude.{ℕ, ◌+◌, List, [], ◌∷◌, ◌++◌, length, Option, Some, None, Result, Ok, Err, Bool, true, false, not, ◌&&◌, ◌==◌, nat_lt, nat_le}
 use Rattle.trace_text.specs.Parts.{lines_of}
 use Rattle.trace_text.specs.Grammar.{line_of}
+use Rattle.trace_text.specs.Content.{content_length, content_bytes}
+use Rattle.trace_text.specs.declared.content.Part.{Part}
 use Rattle.trace_text.specs.declared.line.Command.{Command}
 use Rattle.trace_text.specs.declared.line.Command.TheVariants as command
 use Rattle.trace_text.specs.declared.line.Line.{Line}
 use Rattle.trace_text.specs.declared.line.Line.TheVariants as line
+use Rattle.trace_text.specs.declared.refusal.Limit.TheVariants as limit
+use Rattle.trace_text.specs.declared.refusal.LineFault.{LineFault}
+use Rattle.trace_text.specs.declared.refusal.LineFault.TheVariants.{Grammar, Limit}
+use Rattle.server_core.specs.State as server
 use Rattle.server_core.specs.Step.{server_step}
 use Rattle.server_core.specs.declared.event.Event.TheVariants as event
 use Rattle.open_close.specs.State as client
@@ -15,28 +21,46 @@ use Rattle.register_model.specs.Register.{History}
 use Rattle.register_model.specs.declared.op.Op.{Op}
 use Rattle.register_model.specs.declared.op.Outcome.TheVariants as told
 use Rattle.register_model.specs.declared.op.Word.TheVariants as word
+use Rattle.trace_replay.specs.declared.fault.Refused.{Refused}
 use Rattle.trace_replay.specs.declared.link.Stage.{Stage}
 use Rattle.trace_replay.specs.declared.link.Stage.TheVariants as stage
-use Rattle.trace_replay.specs.World.{World, start, new_link, bytes_of, op_after, running_after}
+use Rattle.trace_replay.specs.declared.turn.Turn.{Turn}
+use Rattle.trace_replay.specs.declared.turn.Turn.TheVariants as turn
+use Rattle.trace_replay.specs.Names.{has_name, with_name}
+use Rattle.trace_replay.specs.World.{World, start, new_link, bytes_of, op_after, running_with, taken_on}
 use Rattle.trace_replay.specs.Delivery.{passes}
+
+-- ---- limits
+
+abbrev pub line_most : ℕ
+line_most = 65536
+
+-- the most bytes of a file of a trace
+abbrev pub file_most : ℕ
+file_most = 2048
+
+-- the most bytes of all files of a trace together
+abbrev pub tree_most : ℕ
+tree_most = 1073741824
 
 -- ---- the opening tree
 
 -- a file of the root gets the next id, from 2, and version 1
-abbrev pub with_file : World → List ℕ → World
-with_file w content =
+abbrev pub with_file : World → List ℕ → List ℕ → World
+with_file w name content =
     let id = length w.opening + 2 in
     record w {
-      stage = stage.Join;
+      names = with_name w.names name;
       opening = w.opening ++ record { file = id; content = content } ∷ [];
-      server = record w.server { files = w.server.files ++ record { id = id; version = 1; content = content } ∷ [] };
+      size = w.size + length content;
+      server = record w.server { files = server.with_file w.server.files (record { id = id; version = 1; content = content }) };
     }
 
 -- ---- events
 
 -- the client joins: a step of the server, and one of the client
 abbrev pub joins : World → World
-joins w = record w { stage = stage.Do; server = (server_step w.server event.Connect).0; client = joined w.client; link = new_link; steps = w.steps + 2 }
+joins w = record w { server = (server_step w.server event.Connect).0; client = joined w.client; sessions = w.sessions + 1; link = new_link; steps = w.steps + 2 }
 
 -- an operation that begins
 abbrev pub begun : ℕ → ℕ → Op
@@ -46,41 +70,90 @@ begun file step = record { client = 1; word = word.Open; file = file; begin = st
 abbrev pub commanded : World → ℕ → client.State → Acts → World
 commanded w file c acts =
     record w {
-      stage = stage.Pass;
       steps = w.steps + 1;
       client = c;
-      link = record w.link { up = w.link.up ++ bytes_of acts.send; taken = [] };
+      link = record w.link { up = w.link.up ++ bytes_of acts.send; taken = taken_on w.running w.link.taken };
       ops = w.ops ++ op_after (begun file (w.steps + 1)) c [] (w.steps + 1) acts ∷ [];
-      running = running_after (length w.ops) acts.ended;
+      running = running_with w.running (length w.ops) acts.ended;
     }
 
 abbrev pub does : World → Command → World
 does w (command.Open file) = let r = command_step w.client (command.Open file) in commanded w file r.0 r.1
 
+-- ---- what a line asks for
+
+abbrev pub asks_if : Bool → Turn → Result Turn LineFault
+asks_if true t = Ok t
+asks_if false t = Err Grammar
+
+-- a content within the limits of a file, and of the tree
+abbrev pub sized : (is_long is_much : Bool) → Turn → Result Turn LineFault
+sized true is_much t = Err (Limit limit.File)
+sized false true t = Err (Limit limit.Tree)
+sized false false t = Ok t
+
+-- a file whose name is free
+abbrev pub named : (is_taken : Bool) (size : ℕ) → List ℕ → List Part → Result Turn LineFault
+named true size name content = Err Grammar
+named false size name content = sized (nat_lt file_most (content_length content)) (nat_lt tree_most (size + content_length content)) (turn.File name content)
+
+-- one session can be joined
+abbrev pub joins_if : (is_free is_first : Bool) → Result Turn LineFault
+joins_if false is_first = Err Grammar
+joins_if true false = Err (Limit limit.Sessions)
+joins_if true true = Ok turn.Join
+
+-- An event names a client and a session that are there, and the readings 0. A client that joined does not join again.
+abbrev pub event_asks : (linked : Bool) (sessions : ℕ) → Line → Result Turn LineFault
+event_asks linked sessions (line.Join c r s) = joins_if ((c == 1) && (r == 0) && (s == 0) && not linked) (sessions == 0)
+event_asks linked sessions (line.Do c r k) = asks_if ((c == 1) && (r == 0)) (turn.Do k)
+event_asks linked sessions (line.Pass n k s r) = asks_if (nat_lt 0 n && nat_le n sessions && (s == 0) && (r == 0)) (turn.Pass k)
+event_asks linked sessions _ = Err Grammar
+
+-- First comes the header, then the files, and then the events.
+abbrev pub asks_at : World → Stage → Line → Result Turn LineFault
+asks_at w stage.Version line.Version = Ok (turn.At stage.Term)
+asks_at w stage.Term (line.Term t) = Ok (turn.At stage.Drift)
+asks_at w stage.Drift (line.Drift d) = Ok (turn.At stage.Clients)
+asks_at w stage.Clients (line.Clients n) = asks_if (n == 1) (turn.At stage.Files)
+asks_at w stage.Files (line.File name content) = named (has_name w.names name) w.size name content
+asks_at w stage.Files l = event_asks w.client.linked w.sessions l
+asks_at w stage.Events l = event_asks w.client.linked w.sessions l
+asks_at w s l = Err Grammar
+
+-- skipped lines stand anywhere
+abbrev pub asks : World → Line → Result Turn LineFault
+asks w line.Skipped = Ok turn.Skip
+asks w l = asks_at w w.stage l
+
+-- a line past the limit of lines is refused by that, unless it is outside the grammar
+abbrev pub asks_within : (is_within : Bool) → Result Turn LineFault → Result Turn LineFault
+asks_within true asked = asked
+asks_within false (Err Grammar) = Err Grammar
+asks_within false _ = Err (Limit limit.Lines)
+
+-- what the line of this number asks for
+abbrev pub asked : World → ℕ → Line → Result Turn LineFault
+asked w n l = asks_within (nat_le n line_most) (asks w l)
+
+-- ---- what it does
+
+abbrev pub turned : World → Turn → World
+turned w turn.Skip = w
+turned w (turn.At s) = record w { stage = s }
+turned w (turn.File name content) = with_file w name (content_bytes content)
+turned w turn.Join = joins (record w { stage = stage.Events })
+turned w (turn.Do k) = does (record w { stage = stage.Events }) k
+turned w (turn.Pass k) = passes k (record w { stage = stage.Events })
+
 -- ---- lines
 
-abbrev pub and_then : Bool → World → Option World
-and_then true w = Some w
-and_then false w = None
+abbrev pub refused : ℕ → LineFault → Refused
+refused n f = record { line = n; fault = f }
 
-abbrev pub at : World → Stage → Option World
-at w s = Some (record w { stage = s })
-
-abbrev pub join_line : World → ℕ → ℕ → ℕ → Option World
-join_line w client reading server = and_then ((client == 1) && (reading == 0) && (server == 0)) (joins w)
-
--- a line in the order of a trace: what it makes of the world, or nothing where it stands out of place
-abbrev pub line_step : World → Stage → Line → Option World
-line_step w stage.Version line.Version = at w stage.Term
-line_step w stage.Term (line.Term t) = at w stage.Drift
-line_step w stage.Drift (line.Drift d) = at w stage.Clients
-line_step w stage.Clients (line.Clients n) = and_then (n == 1) (record w { stage = stage.File })
-line_step w stage.File (line.File name content) = Some (with_file w content)
-line_step w stage.File (line.Join c r s) = join_line w c r s
-line_step w stage.Join (line.Join c r s) = join_line w c r s
-line_step w stage.Do (line.Do c r k) = and_then ((c == 1) && (r == 0)) (does w k)
-line_step w stage.Pass (line.Pass n k s r) = and_then ((n == 1) && (s == 0) && (r == 0)) (passes k (record w { stage = stage.End }))
-line_step w _ l = None
+abbrev pub asked_by : World → ℕ → Option Line → Result Turn LineFault
+asked_by w n None = Err Grammar
+asked_by w n (Some l) = asked w n l
 
 abbrev pub in_header : Stage → Bool
 in_header stage.Version = true
@@ -90,20 +163,16 @@ in_header stage.Clients = true
 in_header _ = false
 
 -- the whole header has to be there
-abbrev pub ended : World → ℕ → Bool → Result World ℕ
-ended w n true = Err n
+abbrev pub ended : World → ℕ → Bool → Result World Refused
+ended w n true = Err (refused n Grammar)
 ended w n false = Ok w
 
-abbrev pub line_in : World → Option Line → Option World
-line_in w None = None
-line_in w (Some l) = line_step w w.stage l
-
--- the world after the lines, or the number of the first that is refused
-abbrev pub run_from : World → ℕ → List (List ℕ) → Result World ℕ
+-- the world after the lines, or the first of them that is refused
+abbrev pub run_from : World → ℕ → List (List ℕ) → Result World Refused
 run_from w n [] = ended w n (in_header w.stage)
-run_from w n (l ∷ ls) = elim (line_in w (line_of l)) [ None ↦ Err n | Some v ↦ run_from v (n + 1) ls ]
+run_from w n (l ∷ ls) = elim (asked_by w n (line_of l)) [ Err f ↦ Err (refused n f) | Ok t ↦ run_from (turned w t) (n + 1) ls ]
 
-abbrev pub run : List ℕ → Result World ℕ
+abbrev pub run : List ℕ → Result World Refused
 run input = run_from start 1 (lines_of input)
 
 -- the history that a world has come to

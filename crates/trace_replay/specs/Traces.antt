@@ -2,19 +2,20 @@
 use Rattle.std.specs.Prelude.{◌≡◌, ℕ, List, Result, Ok, Err, Contains}
 use Rattle.sha1.specs.Sha1.{sha1}
 use Rattle.register_model.specs.Register.{History, IsLegal}
+use Rattle.trace_replay.specs.declared.fault.Refused.{Refused}
 use Rattle.trace_replay.specs.declared.fault.TraceErr.{TraceErr}
-use Rattle.trace_replay.specs.declared.fault.TraceErr.TheVariants.{BadLine, Memory}
+use Rattle.trace_replay.specs.declared.fault.TraceErr.TheVariants as errors
 use Rattle.trace_replay.specs.World.{World}
 use Rattle.trace_replay.specs.Run.{history_of}
 use Rattle.trace_replay.specs.Hashed.{hashed}
 use Rattle.trace_replay.specs.Faithful.{IsFaithful}
 
-abbrev pub Fails : TraceErr → Result World ℕ → Type 0
-Fails (BadLine n) ran = ran ≡ Err n
-Fails Memory ran = Unit {0}
+abbrev pub Fails : TraceErr → Result World Refused → Type 0
+Fails errors.Memory ran = Unit {0}
+Fails (errors.Refused r) ran = ran ≡ Err r
 
 -- the history of the world that the lines end in, or the first line that is refused, unless memory runs out
-abbrev pub Gives : Result History TraceErr → Result World ℕ → Type 0
+abbrev pub Gives : Result History TraceErr → Result World Refused → Type 0
 Gives (Ok h) ran = (w : World) × (ran ≡ Ok w) × (h ≡ history_of w)
 Gives (Err e) ran = Fails e ran
 

@@ -1,23 +1,24 @@
--- What a line in place asks of the world.
-use Rattle.std.specs.Prelude.{◌≡◌, ℕ, None}
+-- What a line that is applied makes of the world, or why it is refused.
+use Rattle.std.specs.Prelude.{◌≡◌, ℕ, ◌≤◌, Ok, Err}
+use Rattle.trace_text.specs.Content.{content_length}
 use Rattle.trace_text.specs.declared.line.Line.{Line}
 use Rattle.trace_replay.specs.declared.fault.TraceErr.{TraceErr}
-use Rattle.trace_replay.specs.declared.fault.TraceErr.TheVariants.{BadLine, Memory}
-use Rattle.trace_replay.specs.declared.link.Stage.TheVariants as stage
+use Rattle.trace_replay.specs.declared.fault.TraceErr.TheVariants as errors
 use Rattle.trace_replay.specs.declared.turn.Turn.{Turn}
 use Rattle.trace_replay.specs.declared.turn.Turn.TheVariants as turn
 use Rattle.trace_replay.specs.World.{World}
-use Rattle.trace_replay.specs.Delivery.{passes}
-use Rattle.trace_replay.specs.Run.{with_file, joins, does, line_step}
+use Rattle.trace_replay.specs.Run.{file_most, asked, turned}
 
-abbrev pub turned : World → Turn → World
-turned w (turn.At s) = record w { stage = s }
-turned w (turn.File content) = with_file w content
-turned w turn.Join = joins w
-turned w (turn.Do command) = does w command
-turned w (turn.Pass k) = passes k (record w { stage = stage.End })
+-- a content within the limit of a file
+abbrev pub IsTurnBounded : Turn → Type 0
+IsTurnBounded (turn.File name content) = content_length content ≤ file_most
+IsTurnBounded t = Unit {0}
 
--- a line that is refused by its number stands out of place, and changed nothing
-abbrev pub IsRefused : TraceErr → ℕ → Line → World → World → Type 0
-IsRefused (BadLine n) number line old new = (n ≡ number) × (line_step old old.stage line ≡ None) × (new ≡ old)
-IsRefused Memory number line old new = Unit {0}
+-- a line in place was applied
+abbrev pub IsApplied : World → ℕ → Line → World → Type 0
+IsApplied old n l new = (t : Turn) × (asked old n l ≡ Ok t) × (new ≡ turned old t)
+
+-- a line that is refused changed nothing; where memory ran out, nothing is said
+abbrev pub IsRefused : TraceErr → World → ℕ → Line → World → Type 0
+IsRefused errors.Memory old n l new = Unit {0}
+IsRefused (errors.Refused r) old n l new = (r.line ≡ n) × (asked old n l ≡ Err r.fault) × (new ≡ old)

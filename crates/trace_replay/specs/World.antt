@@ -37,14 +37,20 @@ pub record Link : Type 0 where
 abbrev pub new_link : Link
 new_link = record { up = []; down = []; server_end = nothing_read; client_end = nothing_read; taken = [] }
 
+-- ---- the world
+
 pub record World : Type 0 where
   -- which lines may come next
   pub stage : Stage
-  -- the files that the trace opens with
+  -- the names of the files that the trace opens with, in order
+  pub names : List (List ℕ)
+  -- those files, and the bytes of their contents together
   pub opening : List Opening
+  pub size : ℕ
   pub server : server.State
   pub client : client.State
-  -- the client's session, whose number is 1
+  -- how many sessions the trace joined: now at most one, whose number is 1
+  pub sessions : ℕ
   pub link : Link
   -- how many steps there were
   pub steps : ℕ
@@ -55,9 +61,12 @@ pub record World : Type 0 where
 abbrev pub start : World
 start = record {
   stage = stage.Version;
+  names = [];
   opening = [];
+  size = 0;
   server = record { files = []; sessions = []; made = 0; last = 0 };
   client = client.start;
+  sessions = 0;
   link = new_link;
   steps = 0;
   ops = [];
@@ -109,7 +118,7 @@ point_if false taken xid = None
 
 -- the local content of an open file
 abbrev pub local_of : client.State → ℕ → List ℕ
-local_of c file = elim (find (λ l. l.file == file) c.opened) [ None ↦ [] | Some l ↦ l.bytes ]
+local_of c file = elim (client.local_at c.opened file) [ None ↦ [] | Some l ↦ l.bytes ]
 
 -- the content that an open got
 abbrev pub value_of : client.State → Outcome → List ℕ
@@ -133,3 +142,13 @@ op_after o c taken step acts = op_ended (record o { traffic = counted o.traffic 
 abbrev pub running_after : ℕ → Option Ended → Option ℕ
 running_after place None = Some place
 running_after place (Some e) = None
+
+-- the operation under way after a command, whose own operation is at this place: the one that was under way before, if any
+abbrev pub running_with : Option ℕ → ℕ → Option Ended → Option ℕ
+running_with None place ended = running_after place ended
+running_with (Some p) place ended = Some p
+
+-- the calls that were taken, as a command leaves them: those of the operation under way
+abbrev pub taken_on : Option ℕ → List Taken → List Taken
+taken_on None taken = []
+taken_on (Some p) taken = taken

@@ -4,12 +4,22 @@ ghost use Rattle.std.specs.Prelude.{◌≡◌};
 ghost use Rattle.trace_replay.specs.declared.fault.TraceErr.TheVariants as errors;
 
 use std::alloc::AllocError;
+use trace_text::refusal::LineFault;
+
+/// A line that is refused.
+#[derive(Clone, Copy, Debug, PartialEq, Eq)]
+pub struct Refused {
+    /// Its number, from 1. All lines count, skipped ones too.
+    pub line: u64,
+    /// Why.
+    pub fault: LineFault,
+}
 
 /// Why a trace is not run.
 #[derive(Clone, Copy, Debug, PartialEq, Eq)]
 pub enum TraceErr {
-    /// A line, numbered from 1, is outside the grammar, or stands out of place.
-    BadLine(u64),
+    /// The first line that is refused.
+    Refused(Refused),
     /// Memory ran out.
     Memory,
 }

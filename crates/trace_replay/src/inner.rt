@@ -1,14 +1,16 @@
 //! The world's fields, and what the lines of a trace do to them.
 
-ghost use Rattle.std.specs.Prelude.{◌≡◌, OnOk, IfOk, length, ◌+◌, ◌&&◌};
+ghost use Rattle.std.specs.Prelude.{◌≡◌, OnOk, IfOk, length, ◌+◌, ◌≤◌, ◌&&◌};
+ghost use Rattle.trace_text.specs.Content.{content_length, content_bytes};
 ghost use Rattle.trace_replay.specs.World.{World};
 ghost use Rattle.trace_replay.specs.Delivery.{is_none, is_still, round, passes};
-ghost use Rattle.trace_replay.specs.Run.{with_file, joins, begun, does};
-ghost use Rattle.trace_replay.specs.Turns.{turned};
+ghost use Rattle.trace_replay.specs.Run.{file_most, with_file, joins, begun, does, turned};
+ghost use Rattle.trace_replay.specs.Turns.{IsTurnBounded};
 ghost use Rattle.trace_replay.specs.View.{world_of};
 ghost use Rattle.trace_text.specs.declared.line.Command.TheVariants as command;
 
 use crate::link::{Link, Stage};
+use crate::names::Names;
 use crate::outbox::put_all;
 use crate::turn::Turn;
 use crate::{client_end, ops, server_end};
@@ -19,19 +21,23 @@ use server_core::event::Event;
 use server_core::file::File;
 use server_core::server::Server;
 use std::alloc::{AllocError, Global};
+use trace_text::content::{Content, build};
 use trace_text::line::Command;
-
-/// The most bytes of a file. No line of a trace has more.
-const FILE_MOST: usize = 67_108_864;
 
 /// A world's fields.
 #[derive(Drop)]
 pub struct Inner {
     pub stage: Stage,
+    /// The names of the files that the trace opens with.
+    pub names: Names,
     /// The files that the trace opens with.
     pub opening: Vec<Opening>,
+    /// The bytes of their contents together.
+    pub size: u64,
     pub server: Server,
     pub client: Client,
+    /// How many sessions the trace joined.
+    pub sessions: u64,
     pub link: Link,
     /// How many steps there were.
     pub steps: u64,
@@ -86,21 +92,21 @@ impl Inner {
     }
 
     /// A file of the root gets the next id, from 2, and version 1.
-    fn with_file(&mut self, alloc: Global, content: Bytes) -> Result<(), AllocError>
-        ensures { OnOk result (world_of self.new ≡ with_file (world_of self.old) content) }
+    fn with_file(&mut self, alloc: Global, name: &Bytes, content: Bytes) -> Result<(), AllocError>
+        requires { length content ≤ file_most }
+        ensures { OnOk result (world_of self.new ≡ with_file (world_of self.old) name.now content) }
     {
-        if FILE_MOST < content.len() {
-            return Err(AllocError);
-        }
+        let size = count_on(self.size, content.len() as u64)?;
         let id = self.opening.len() as u64 + 2;
         let copy = content.try_clone(alloc)?;
+        self.names.add(alloc, name.as_slice())?;
         self.server.add_file(File {
             id,
             version: 1,
             content: copy,
         })?;
         self.opening.push(Opening { file: id, content })?;
-        self.stage = Stage::Join;
+        self.size = size;
         Ok(())
     }
 
@@ -109,6 +115,7 @@ impl Inner {
         ensures { OnOk result (world_of self.new ≡ joins (world_of self.old)) }
     {
         let steps = count_on(self.steps, 2)?;
+        let sessions = count_on(self.sessions, 1)?;
         let outs = self.server.step(alloc, Event::Connect);
         if outs.missed {
             return Err(AllocError);
@@ -116,7 +123,7 @@ impl Inner {
         self.client.joined();
         self.link = Link::new(alloc);
         self.steps = steps;
-        self.stage = Stage::Do;
+        self.sessions = sessions;
         Ok(())
     }
 
@@ -129,15 +136,14 @@ impl Inner {
         if acts.missed {
             return Err(AllocError);
         }
-        let taken = Vec::new(alloc);
         let mut op = ops::begun(alloc, file, step);
-        ops::note(alloc, &mut op, &self.client, &taken, step, &acts)?;
-        self.running = ops::running_after(self.ops.len(), &acts.ended);
+        ops::note(alloc, &mut op, &self.client, &Vec::new(alloc), step, &acts)?;
+        let running = ops::running_with(self.running, self.ops.len(), &acts.ended);
         self.ops.push(op)?;
         put_all(alloc, &mut self.link.up, acts.send.as_slice())?;
-        self.link.taken = taken;
+        ops::taken_on(self.running, &mut self.link.taken);
+        self.running = running;
         self.steps = step;
-        self.stage = Stage::Pass;
         Ok(())
     }
 
@@ -150,20 +156,37 @@ impl Inner {
         }
     }
 
+    /// A file of this name and content, which is within the limit of a file.
+    fn builds(&mut self, alloc: Global, name: &Bytes, content: &Content) -> Result<(), AllocError>
+        requires { content_length content.now ≤ file_most }
+        ensures { OnOk result (world_of self.new ≡ with_file (world_of self.old) name.now (content_bytes content.now)) }
+    {
+        let bytes = build(alloc, content)?;
+        self.with_file(alloc, name, bytes)
+    }
+
     /// What a line in place asks for.
     pub fn turn(&mut self, alloc: Global, turn: Turn) -> Result<(), AllocError>
+        requires { IsTurnBounded turn }
         ensures { OnOk result (world_of self.new ≡ turned (world_of self.old) turn) }
     {
         match turn {
+            Turn::Skip => Ok(()),
             Turn::At(stage) => {
                 self.stage = stage;
                 Ok(())
             }
-            Turn::File(content) => self.with_file(alloc, content),
-            Turn::Join => self.joins(alloc),
-            Turn::Do(command) => self.does(alloc, command),
+            Turn::File { name, content } => self.builds(alloc, &name, &content),
+            Turn::Join => {
+                self.stage = Stage::Events;
+                self.joins(alloc)
+            }
+            Turn::Do(command) => {
+                self.stage = Stage::Events;
+                self.does(alloc, command)
+            }
             Turn::Pass(rounds) => {
-                self.stage = Stage::End;
+                self.stage = Stage::Events;
                 self.passes(alloc, rounds)
             }
         }

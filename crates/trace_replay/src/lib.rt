@@ -9,6 +9,7 @@ pub mod fault;
 mod inner;
 pub mod law;
 pub mod link;
+pub mod names;
 mod ops;
 mod outbox;
 mod reading;

@@ -18,16 +18,10 @@ pub enum Stage {
     Drift,
     /// The line with the number of clients.
     Clients,
-    /// The line with the one file, or what may follow it.
-    File,
-    /// The line that joins the client.
-    Join,
-    /// The line with the client's command.
-    Do,
-    /// The line that passes all messages.
-    Pass,
-    /// No further line.
-    End,
+    /// A file of the opening tree, or an event.
+    Files,
+    /// An event.
+    Events,
 }
 
 /// A call that the server took, and the step at which it did.

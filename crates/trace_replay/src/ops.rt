@@ -2,7 +2,7 @@
 
 ghost use Rattle.std.specs.Prelude.{◌≡◌, ◌==◌, find, slice_get, IfOk, OnOk};
 ghost use Rattle.std.specs.Option.{option_copied};
-ghost use Rattle.trace_replay.specs.World.{fault_number, told_of, has_point, taken_at, point_if, local_of, value_of, counted, ended_op, op_after, running_after};
+ghost use Rattle.trace_replay.specs.World.{fault_number, told_of, has_point, taken_at, point_if, local_of, value_of, counted, ended_op, op_after, running_after, running_with, taken_on};
 ghost use Rattle.trace_replay.specs.Delivery.{ops_after};
 ghost use Rattle.trace_replay.specs.Run.{begun};
 
@@ -206,5 +206,25 @@ pub fn running_after(place: usize, ended: &Option<Ended>) -> Option<usize>
     match ended {
         None => Some(place),
         Some(_) => None,
+    }
+}
+
+/// The operation under way after a command, whose own operation is at this place: the one that was
+/// under way before, if any.
+pub fn running_with(running: Option<usize>, place: usize, ended: &Option<Ended>) -> Option<usize>
+    ensures { result ≡ running_with running place ended.now }
+{
+    match running {
+        None => running_after(place, ended),
+        Some(under) => Some(under),
+    }
+}
+
+/// Leaves the calls that were taken as a command does: those of the operation under way.
+pub fn taken_on(running: Option<usize>, taken: &mut Vec<Taken>)
+    ensures { taken.new.items ≡ taken_on running taken.old.items }
+{
+    if running.is_none() {
+        taken.clear();
     }
 }

@@ -1,17 +1,31 @@
 //! A trace run line by line.
 
-ghost use Rattle.trace_replay.specs.Run.{run};
+ghost use Rattle.std.specs.Prelude.{◌≡◌};
+ghost use Rattle.trace_text.specs.declared.refusal.LineFault.TheVariants.{Grammar};
+ghost use Rattle.trace_replay.specs.Run.{run, refused};
 ghost use Rattle.trace_replay.specs.Traces.{Gives};
+ghost use Rattle.trace_replay.specs.declared.fault.TraceErr.TheVariants as errors;
 
-use crate::fault::TraceErr;
+use crate::fault::{Refused, TraceErr};
 use crate::world::World;
 use register_model::history::History;
 use std::alloc::Global;
 use trace_text::line::{Line, LineErr};
 use trace_text::parts::first_line;
+use trace_text::refusal::LineFault;
 
-/// The history that a trace comes to. `BadLine`: the first line that is outside the grammar or out
-/// of place, and the one behind the last where the header is not whole.
+/// The refusal of a line outside the grammar.
+fn bad_line(line: u64) -> TraceErr
+    ensures { result ≡ errors.Refused (refused line Grammar) }
+{
+    TraceErr::Refused(Refused {
+        line,
+        fault: LineFault::Grammar,
+    })
+}
+
+/// The history that a trace comes to. `Refused`: the first line that is outside the grammar, out
+/// of place or past a limit, or the one behind the last where the header is not whole.
 pub fn replay(alloc: Global, input: &[u8]) -> Result<History, TraceErr>
     ensures { Gives result (run input.now) }
 {
@@ -21,7 +35,7 @@ pub fn replay(alloc: Global, input: &[u8]) -> Result<History, TraceErr>
     'lines: while let Some((line, left)) = first_line(rest) {
         let line = match Line::read(alloc, line) {
             Ok(line) => line,
-            Err(LineErr::BadLine) => return Err(TraceErr::BadLine(number)),
+            Err(LineErr::BadLine) => return Err(bad_line(number)),
             Err(LineErr::Memory) => return Err(TraceErr::Memory),
         };
         world.apply(alloc, number, line)?;
@@ -29,7 +43,7 @@ pub fn replay(alloc: Global, input: &[u8]) -> Result<History, TraceErr>
         rest = left;
     }
     if world.in_header() {
-        return Err(TraceErr::BadLine(number));
+        return Err(bad_line(number));
     }
     let history = world.history(alloc)?;
     Ok(history)

@@ -1,23 +1,39 @@
-//! The order of a trace's lines.
+//! What a line of a trace asks for, and which lines are refused.
 
-ghost use Rattle.std.specs.Prelude.{◌≡◌, true};
-ghost use Rattle.std.specs.Option.{option_map};
+ghost use Rattle.std.specs.Prelude.{◌≡◌, true, false, IfOk};
+ghost use Rattle.trace_replay.specs.Names.{has_name};
 ghost use Rattle.trace_replay.specs.World.{World};
-ghost use Rattle.trace_replay.specs.Run.{line_step, and_then, in_header};
+ghost use Rattle.trace_replay.specs.Run.{asks_if, named, joins_if, event_asks, asks_at, asks, asks_within, asked, in_header};
+ghost use Rattle.trace_replay.specs.Turns.{IsTurnBounded};
+ghost use Rattle.trace_replay.specs.View.{world_of};
 ghost use Rattle.trace_replay.specs.declared.link.Stage.TheVariants as stage;
-ghost use Rattle.trace_replay.specs.Turns.{turned};
 
+use crate::inner::Inner;
 use crate::link::Stage;
+use crate::names::Names;
 use lb_base::items::Bytes;
+use trace_text::content::{Content, length_within};
 use trace_text::line::{Command, Line};
+use trace_text::refusal::{Limit, LineFault};
+
+/// The most lines of a trace.
+pub const LINE_MOST: u64 = 65_536;
+
+/// The most bytes of a file of a trace.
+pub const FILE_MOST: u64 = 2_048;
+
+/// The most bytes of all files of a trace together.
+pub const TREE_MOST: u64 = 1_073_741_824;
 
 /// What a line in place asks of the world.
 #[derive(Drop)]
 pub enum Turn {
+    /// Nothing: the line is skipped.
+    Skip,
     /// Nothing but that other lines come next.
     At(Stage),
-    /// A file of this content.
-    File(Bytes),
+    /// A file of the root.
+    File { name: Bytes, content: Content },
     /// The client joins.
     Join,
     /// The client's command.
@@ -27,111 +43,153 @@ pub enum Turn {
 }
 
 /// A turn that is taken where something holds.
-fn turn_if(holds: bool, turn: Turn) -> Option<Turn>
-    ensures { (w : World) → and_then holds (turned w turn) ≡ option_map (turned w) result }
+fn asks_if(holds: bool, turn: Turn) -> Result<Turn, LineFault>
+    ensures { result ≡ asks_if holds turn }
 {
-    if holds { Some(turn) } else { None }
+    if holds {
+        Ok(turn)
+    } else {
+        Err(LineFault::Grammar)
+    }
 }
 
 /// What a line of the header asks for, in its place.
-fn header_turn(stage: Stage, line: &Line) -> Option<Turn>
+fn header_asks(stage: Stage, line: &Line) -> Result<Turn, LineFault>
     requires { in_header stage ≡ true }
-    ensures { (w : World) → line_step w stage line.now ≡ option_map (turned w) result }
+    ensures { (w : World) → result ≡ asks_at w stage line.now }
 {
     match stage {
         Stage::Version => match line {
-            Line::Version => Some(Turn::At(Stage::Term)),
-            _ => None,
+            Line::Version => Ok(Turn::At(Stage::Term)),
+            _ => Err(LineFault::Grammar),
         },
         Stage::Term => match line {
-            Line::Term(_) => Some(Turn::At(Stage::Drift)),
-            _ => None,
+            Line::Term(_) => Ok(Turn::At(Stage::Drift)),
+            _ => Err(LineFault::Grammar),
         },
         Stage::Drift => match line {
-            Line::Drift(_) => Some(Turn::At(Stage::Clients)),
-            _ => None,
+            Line::Drift(_) => Ok(Turn::At(Stage::Clients)),
+            _ => Err(LineFault::Grammar),
         },
         Stage::Clients => match line {
-            Line::Clients(count) => turn_if(*count == 1, Turn::At(Stage::File)),
-            _ => None,
+            Line::Clients(count) => asks_if(*count == 1, Turn::At(Stage::Files)),
+            _ => Err(LineFault::Grammar),
         },
-        _ => None,
+        _ => Err(LineFault::Grammar),
     }
 }
 
-/// What a line asks for before the client joined, where a file may come.
-fn file_turn(line: Line) -> Option<Turn>
-    ensures { (w : World) → line_step w stage.File line ≡ option_map (turned w) result }
+/// A content within the limits of a file, and of the tree, which has so many bytes already.
+fn sized(name: Bytes, content: Content, size: u64) -> Result<Turn, LineFault>
+    ensures { result ≡ named false size name content }
 {
-    match line {
-        Line::File {
-            name: _name,
-            content,
-        } => Some(Turn::File(content)),
-        Line::Join { client, at, server } => {
-            turn_if(client == 1 && at == 0 && server == 0, Turn::Join)
-        }
-        _ => None,
+    let Some(len) = length_within(&content, FILE_MOST) else {
+        return Err(LineFault::Limit(Limit::File));
+    };
+    if size > TREE_MOST || TREE_MOST - size < len {
+        return Err(LineFault::Limit(Limit::Tree));
     }
+    Ok(Turn::File { name, content })
 }
 
-/// What a line asks for before the client joined, where no file may come.
-fn join_turn(line: &Line) -> Option<Turn>
-    ensures { (w : World) → line_step w stage.Join line.now ≡ option_map (turned w) result }
+/// What a file asks for: its name is free, and its content within the limits.
+fn file_asks(names: &Names, size: u64, name: Bytes, content: Content) -> Result<Turn, LineFault>
+    ensures { result ≡ named (has_name names.now name) size name content }
 {
-    match line {
-        Line::Join { client, at, server } => {
-            turn_if(*client == 1 && *at == 0 && *server == 0, Turn::Join)
-        }
-        _ => None,
+    if names.has(name.as_slice()) {
+        return Err(LineFault::Grammar);
     }
+    sized(name, content, size)
 }
 
-/// What a line asks for after the client joined.
-fn do_turn(line: &Line) -> Option<Turn>
-    ensures { (w : World) → line_step w stage.Do line.now ≡ option_map (turned w) result }
+/// A client that is free joins the first session.
+fn joins_if(is_free: bool, is_first: bool) -> Result<Turn, LineFault>
+    ensures { result ≡ joins_if is_free is_first }
+{
+    if !is_free {
+        return Err(LineFault::Grammar);
+    }
+    if !is_first {
+        return Err(LineFault::Limit(Limit::Sessions));
+    }
+    Ok(Turn::Join)
+}
+
+/// What an event asks for, where a client has joined or not, and so many sessions were made.
+fn event_asks(is_linked: bool, sessions: u64, line: Line) -> Result<Turn, LineFault>
+    ensures { result ≡ event_asks is_linked sessions line }
 {
     match line {
+        Line::Join { client, at, server } => joins_if(
+            client == 1 && at == 0 && server == 0 && !is_linked,
+            sessions == 0,
+        ),
         Line::Do {
             client,
             at,
             command,
-        } => turn_if(*client == 1 && *at == 0, Turn::Do(*command)),
-        _ => None,
-    }
-}
-
-/// What a line asks for after the client's command.
-fn pass_turn(line: &Line) -> Option<Turn>
-    ensures { (w : World) → line_step w stage.Pass line.now ≡ option_map (turned w) result }
-{
-    match line {
+        } => asks_if(client == 1 && at == 0, Turn::Do(command)),
         Line::Pass {
             session,
             rounds,
             server,
             at,
-        } => turn_if(
-            *session == 1 && *server == 0 && *at == 0,
-            Turn::Pass(*rounds),
+        } => asks_if(
+            0 < session && session <= sessions && server == 0 && at == 0,
+            Turn::Pass(rounds),
         ),
-        _ => None,
+        _ => Err(LineFault::Grammar),
     }
 }
 
-/// What the line asks for where such lines may come next, or nothing where it stands out of place.
-pub fn turn_of(stage: Stage, line: Line) -> Option<Turn>
-    ensures { (w : World) → line_step w stage line ≡ option_map (turned w) result }
+/// What a line behind the header asks for, where a file may come.
+fn files_asks(world: &Inner, line: Line) -> Result<Turn, LineFault>
+    ensures { result ≡ asks_at (world_of world.now) stage.Files line }
 {
-    match stage {
-        Stage::Version => header_turn(Stage::Version, &line),
-        Stage::Term => header_turn(Stage::Term, &line),
-        Stage::Drift => header_turn(Stage::Drift, &line),
-        Stage::Clients => header_turn(Stage::Clients, &line),
-        Stage::File => file_turn(line),
-        Stage::Join => join_turn(&line),
-        Stage::Do => do_turn(&line),
-        Stage::Pass => pass_turn(&line),
-        Stage::End => None,
+    match line {
+        Line::File { name, content } => file_asks(&world.names, world.size, name, content),
+        line => event_asks(world.client.linked(), world.sessions, line),
     }
+}
+
+/// What a line asks for that isn't skipped.
+fn asks_at(world: &Inner, line: Line) -> Result<Turn, LineFault>
+    ensures { result ≡ asks_at (world_of world.now) world.now.stage line }
+{
+    match world.stage {
+        Stage::Files => files_asks(world, line),
+        Stage::Events => event_asks(world.client.linked(), world.sessions, line),
+        stage => header_asks(stage, &line),
+    }
+}
+
+/// What a line asks for, whatever its number.
+fn asks(world: &Inner, line: Line) -> Result<Turn, LineFault>
+    ensures { result ≡ asks (world_of world.now) line }
+{
+    match line {
+        Line::Skipped => Ok(Turn::Skip),
+        line => asks_at(world, line),
+    }
+}
+
+/// A line past the limit of lines is refused by that, unless it is outside the grammar.
+fn asks_within(is_within: bool, asked: Result<Turn, LineFault>) -> Result<Turn, LineFault>
+    ensures { result ≡ asks_within is_within asked }
+{
+    if is_within {
+        return asked;
+    }
+    match asked {
+        Err(LineFault::Grammar) => Err(LineFault::Grammar),
+        _ => Err(LineFault::Limit(Limit::Lines)),
+    }
+}
+
+/// What the line of this number asks for, or why it is refused.
+pub fn asked(world: &Inner, number: u64, line: Line) -> Result<Turn, LineFault>
+    ensures asked { result ≡ asked (world_of world.now) number line }
+    ensures bounded { IfOk result IsTurnBounded }
+{
+    asks_within(number <= LINE_MOST, asks(world, line))
 }

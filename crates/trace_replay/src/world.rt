@@ -1,14 +1,15 @@
 //! The world that a trace runs in.
 
-ghost use Rattle.std.specs.Prelude.{◌≡◌, Some, IfOk, IfErr, OnOk};
+ghost use Rattle.std.specs.Prelude.{◌≡◌, IfOk, IfErr, OnOk};
 ghost use Rattle.trace_replay.specs.World.{start};
-ghost use Rattle.trace_replay.specs.Run.{line_step, in_header, history_of};
-ghost use Rattle.trace_replay.specs.Turns.{IsRefused};
+ghost use Rattle.trace_replay.specs.Run.{in_header, history_of};
+ghost use Rattle.trace_replay.specs.Turns.{IsApplied, IsRefused};
 
-use crate::fault::TraceErr;
+use crate::fault::{Refused, TraceErr};
 use crate::inner::Inner;
 use crate::link::{Link, Stage};
-use crate::turn::turn_of;
+use crate::names::Names;
+use crate::turn::asked;
 use lb_base::items::Items;
 use open_close::client::Client;
 use register_model::history::History;
@@ -41,9 +42,12 @@ impl World {
         World {
             inner: Inner {
                 stage: Stage::Version,
+                names: Names::new(alloc),
                 opening: Vec::new(alloc),
+                size: 0,
                 server: Server::new(alloc),
                 client: Client::new(alloc),
+                sessions: 0,
                 link: Link::new(alloc),
                 steps: 0,
                 ops: Vec::new(alloc),
@@ -52,15 +56,21 @@ impl World {
         }
     }
 
-    /// Does what the line of this number says. `BadLine` with that number: the line stands out of
-    /// place, and the world stays as it was. `Memory`: the world may be left half-way, and is of no
-    /// further use.
+    /// Does what the line of this number says. `Refused` with that number: the line is outside the
+    /// grammar or stands out of place, or breaks a limit, and the world stays as it was. `Memory`:
+    /// the world may be left half-way, and is of no further use.
     pub fn apply(&mut self, alloc: Global, number: u64, line: Line) -> Result<(), TraceErr>
-        ensures ok { OnOk result (line_step self.old self.old.stage line ≡ Some self.new) }
-        ensures err { IfErr result (λ e. IsRefused e number line self.old self.new) }
+        ensures ok { OnOk result (IsApplied self.old number line self.new) }
+        ensures err { IfErr result (λ e. IsRefused e self.old number line self.new) }
     {
-        let Some(turn) = turn_of(self.inner.stage, line) else {
-            return Err(TraceErr::BadLine(number));
+        let turn = match asked(&self.inner, number, line) {
+            Ok(turn) => turn,
+            Err(fault) => {
+                return Err(TraceErr::Refused(Refused {
+                    line: number,
+                    fault,
+                }));
+            }
         };
         self.inner.turn(alloc, turn)?;
         Ok(())
