@@ -1,6 +1,7 @@
 -- What a run with the word `replay` that ends with status 0 was of, and what it wrote.
 use Rattle.std.proofs.Common.{◌≡◌, ℕ, List, [], ◌∷◌, Bool, true, false, Option, Some, Result, Ok, Err, codes, length, nat_lt, refl, subst, arith}
 use Rattle.std.specs.Io.KnownBytes.{Appends}
+use Rattle.trace_replay.specs.declared.fault.Refused.{Refused}
 use Rattle.trace_replay.specs.World.{World}
 use Rattle.trace_replay.specs.Run.{run}
 use Rattle.trace_replay.specs.Traces.{IsKeptPromise}
@@ -13,7 +14,7 @@ KeepsPromises = (input : List ℕ) (w : World) → run input ≡ Ok w → IsKept
 no_success : {A : Type 0} → ◌≡◌ {A = ℕ} 0 5 → A
 no_success e = absurd (omega (arith, e))
 
-told_whole : (input : List ℕ) (held held' : Option (List ℕ)) (ran : Result World ℕ) → KeepsPromises → run input ≡ ran
+told_whole : (input : List ℕ) (held held' : Option (List ℕ)) (ran : Result World Refused) → KeepsPromises → run input ≡ ran
     → 0 ≡ code_of (told ran).0 → Appends held held' (told ran).1 → IsReplayed held held' input
 told_whole input held held' (Ok w) kept e zero given = (w, e, given, kept input w e)
 told_whole input held held' (Err n) kept e zero given = no_success zero

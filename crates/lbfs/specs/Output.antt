@@ -5,8 +5,8 @@ use Rattle.chunk_cut.specs.Chunks.{chunks_of}
 use Rattle.chunk_cut.specs.declared.chunk.Chunk.{Chunk}
 use Rattle.register_model.specs.Text.{history_text}
 use Rattle.trace_text.specs.Refusals.{refusal_of}
-use Rattle.trace_text.specs.declared.refusal.LineFault.TheVariants.{Grammar}
 use Rattle.trace_text.specs.declared.refusal.Refusal.TheVariants as refusal
+use Rattle.trace_replay.specs.declared.fault.Refused.{Refused}
 use Rattle.trace_replay.specs.World.{World}
 use Rattle.trace_replay.specs.Run.{run, history_of}
 use Rattle.lbfs.specs.Words.{command_of}
@@ -37,9 +37,9 @@ abbrev pub cut_text : List ℕ → List ℕ
 cut_text content = flat_map chunk_line (chunks_of content) ++ codes "chunks " ++ decimal (length (chunks_of content)) ++ codes " bytes " ++ decimal (length content) ++ codes "\n"
 
 -- the history of the world that a trace comes to, or the first line that is refused
-abbrev pub told : Result World ℕ → Status × List ℕ
+abbrev pub told : Result World Refused → Status × List ℕ
 told (Ok w) = (status.Done, history_text (history_of w))
-told (Err number) = (status.Refused, refusal_of (refusal.Line number Grammar))
+told (Err r) = (status.Refused, refusal_of (refusal.Line r.line r.fault))
 
 abbrev pub replay_output : List ℕ → Status × List ℕ
 replay_output input = told (run input)

@@ -10,9 +10,9 @@ use crate::words::Command;
 use lb_base::items::{Bytes, Items};
 use register_model::text;
 use std::alloc::{AllocError, Global};
-use trace_replay::fault::TraceErr;
+use trace_replay::fault::{Refused, TraceErr};
 use trace_replay::run::replay;
-use trace_text::refusal::{LineFault, Refusal};
+use trace_text::refusal::Refusal;
 
 /// How a run ends.
 #[derive(Clone, Copy, Debug, PartialEq, Eq)]
@@ -74,10 +74,14 @@ fn replayed(alloc: Global, input: &[u8]) -> Result<Output, AllocError>
             status: Status::Done,
             text: text::text(alloc, &history)?,
         }),
-        Err(TraceErr::BadLine(number)) => {
-            let fault = LineFault::Grammar;
-            refused(alloc, Status::Refused, Refusal::Line { number, fault })
-        }
+        Err(TraceErr::Refused(Refused { line, fault })) => refused(
+            alloc,
+            Status::Refused,
+            Refusal::Line {
+                number: line,
+                fault,
+            },
+        ),
         Err(TraceErr::Memory) => Err(AllocError),
     }
 }

@@ -19,6 +19,13 @@ const ONE_OPEN: &str = "file a t:abc\njoin 1 0 0\ndo 1 0 open #2\npass 1 4 0 0\n
 const ONE_HISTORY: &str =
     "lbfs-history 1\nop 1 client 1 open file 2 begin 3 end 7 point 4 Opened 3 a9993e364706816aba3e25717850c26c9cd0d89d cond 0 tmp 0 read 1 data 3\nend ops 1 steps 7\n";
 
+/// Opens that the client itself ends, and one that goes on.
+const WHOLE_SESSION: &str =
+    "file a t:abc\ndo 1 0 open #2\njoin 1 0 0\ndo 1 0 open #9\npass 1 2 0 0\ndo 1 0 open #2\ndo 1 0 open #2\n";
+
+const SESSION_HISTORY: &str =
+    "lbfs-history 1\nop 1 client 1 open file 2 begin 1 end 1 point - NoLink cond 0 tmp 0 read 0 data 0\nop 2 client 1 open file 9 begin 4 end 6 point 5 Refused 70 cond 0 tmp 0 read 0 data 0\nop 3 client 1 open file 2 begin 7 end - point - Running cond 0 tmp 0 read 0 data 0\nop 4 client 1 open file 2 begin 8 end 8 point - Busy cond 0 tmp 0 read 0 data 0\nend ops 4 steps 8\n";
+
 fn words(alloc: Global, words: &[&str]) -> Result<Vec<String>, AllocError> {
     let mut list = Vec::new(alloc);
     for word in words {
@@ -74,6 +81,7 @@ fn traces_give_histories(rt: HostRuntime) -> Result<(), Fail> {
             refused,
         ),
         ("file a t:abc\njoin 1 0 0\ndo 1 0 open #9\n", running),
+        (WHOLE_SESSION, SESSION_HISTORY),
     ] {
         let input = joined(alloc, &[HEADER.as_bytes(), trace.as_bytes()])?;
         expect(&rt, alloc, &["replay"], input, 0, history.as_bytes())?;
@@ -114,26 +122,76 @@ fn headers_are_whole_and_in_order(rt: HostRuntime) -> Result<(), Fail> {
 // Each of these stands behind the header.
 #[test]
 fn lines_outside_the_grammar_are_refused(rt: HostRuntime) -> Result<(), Fail> {
-    let lines: [(&[u8], u64); 9] = [
+    let lines: [(&[u8], u64); 10] = [
         (b"file a t:abc\r\n", 5),
         (b"file\ta t:abc\n", 5),
         (b"file a  t:abc\n", 5),
         (b"file a t:\xE9\n", 5),
-        (b"\n", 5),
+        (b"\n#\n \n", 7),
         (b"file a t:abc\njoin 01 0 0\n", 6),
         (b"join 1 0 0\ndo 1 0 open #18446744073709551616\n", 6),
         (b"file a t:abc\njoin 1 0 0\njoin 1 0 0\n", 7),
-        (
-            b"file a t:abc\njoin 1 0 0\ndo 1 0 open #2\npass 1 4 0 0\npass 1 4 0 0\n",
-            9,
-        ),
+        (b"# \xE9\nfile a t:abc\n\nfile a -\n", 8),
+        (b"join 1 0 0\nfile a -\n", 6),
     ];
     for (text, line) in lines {
         let input = joined(rt.alloc(), &[HEADER.as_bytes(), text])?;
         expect_refused(&rt, rt.alloc(), input, line)?;
     }
-    let parts: [&[u8]; 3] = [HEADER.as_bytes(), b"file a t:", &[b'x'; 2049]];
-    expect_refused(&rt, rt.alloc(), joined(rt.alloc(), &parts)?, 5)?;
+    Ok(())
+}
+
+/// The refusal of a line of this number, which goes beyond this limit.
+fn expect_limit(
+    rt: &impl Abort,
+    alloc: Global,
+    parts: &[&[u8]],
+    line: u64,
+    limit: &str,
+) -> Result<(), AllocError> {
+    let text = format!(in alloc; "refused line {line} limit {limit}\n")?;
+    let input = joined(alloc, parts)?;
+    expect(rt, alloc, &["replay"], input, 5, text.as_bytes())
+}
+
+// 65,532 lines behind the header are all that a trace may have.
+#[test]
+fn limits_are_kept(rt: HostRuntime) -> Result<(), Fail> {
+    let alloc = rt.alloc();
+    let header = HEADER.as_bytes();
+    expect_limit(
+        &rt,
+        alloc,
+        &[header, b"file a t:", &[b'x'; 2049]],
+        5,
+        "file",
+    )?;
+    expect_limit(&rt, alloc, &[header, b"file a z:2049\n"], 5, "file")?;
+    let lines = &[b'\n'; 65_532];
+    let none = b"lbfs-history 1\nend ops 0 steps 0\n";
+    expect(
+        &rt,
+        alloc,
+        &["replay"],
+        joined(alloc, &[header, lines])?,
+        0,
+        none,
+    )?;
+    expect_limit(&rt, alloc, &[header, lines, b"\n"], 65_537, "lines")?;
+    expect_limit(&rt, alloc, &[header, lines, b"#"], 65_537, "lines")?;
+    expect_limit(
+        &rt,
+        alloc,
+        &[header, lines, b"file a z:2049"],
+        65_537,
+        "lines",
+    )?;
+    expect_refused(
+        &rt,
+        alloc,
+        joined(alloc, &[header, lines, b"file a"])?,
+        65_537,
+    )?;
     Ok(())
 }
 
@@ -250,15 +308,27 @@ impl Source for Zeros {
     }
 }
 
-#[test]
-fn longer_inputs_are_refused(rt: HostRuntime) -> Result<(), Fail> {
-    let alloc = rt.alloc();
+/// What `replay` writes for so many zeros. They are one line, which no grammar has.
+fn expect_zeros(
+    rt: &impl Abort,
+    alloc: Global,
+    left: usize,
+    text: &[u8],
+) -> Result<(), AllocError> {
     let outside = Outside {
-        source: Zeros { left: 67_108_865 },
+        source: Zeros { left },
         sink: SureSink::new(alloc, 100),
     };
     let (status, outside) = run(alloc, &words(alloc, &["replay"])?, outside);
     assert_eq!(rt; status, 5);
-    assert_eq!(rt; outside.sink.held(), b"refused limit bytes\n".as_slice());
+    assert_eq!(rt; outside.sink.held(), text);
+    Ok(())
+}
+
+#[test]
+fn longer_inputs_are_refused(rt: HostRuntime) -> Result<(), Fail> {
+    let alloc = rt.alloc();
+    expect_zeros(&rt, alloc, 67_108_864, b"refused line 1 grammar\n")?;
+    expect_zeros(&rt, alloc, 67_108_865, b"refused limit bytes\n")?;
     Ok(())
 }
