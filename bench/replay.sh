@@ -1,0 +1,64 @@
+#!/usr/bin/env bash
+# Measures how the time of `replay` grows with its trace: 65,536 lines against 16,384 of the same
+# kind, turn about in one run. It reports what it finds and judges nothing. Single times move with
+# the machine's load: only the ratios of one run say something.
+#
+#   bench/replay.sh [ROUNDS]     5 rounds, where not said otherwise
+set -euo pipefail
+cd "$(dirname "$0")/.."
+
+rounds=${1:-5}
+work=$(mktemp -d)
+trap 'rm -rf "$work"' EXIT
+
+# A trace of so many lines: make KIND LINES
+#   files    as many files as lines allow, each of which is opened over the wire
+#   opens    one file, opened again and again
+#   skipped  lines that are skipped
+make() {
+    awk -v kind="$1" -v lines="$2" 'BEGIN {
+        print "lbfs-trace 1\nterm 60000\ndrift 100\nclients 1"
+        left = lines - 4
+        if (kind == "files") {
+            count = int((left - 1) / 3)
+            for (i = 1; i <= count; i++) print "file f" i " t:content" i "+z:64"
+            print "join 1 0 0"
+            for (i = 1; i <= count; i++) print "do 1 0 open #" (i + 1) "\npass 1 9 0 0"
+            left -= 3 * count + 1
+        }
+        if (kind == "opens") {
+            print "file f t:abc\njoin 1 0 0\ndo 1 0 open #2\npass 1 9 0 0"
+            left -= 4
+            while (left-- > 0) print "do 1 0 open #2"
+        }
+        while (left-- > 0) print "# a line that is skipped"
+    }'
+}
+
+# The time of a replay, in microseconds.
+spent() {
+    local from to
+    from=$(date +%s%N)
+    bin/lbfs replay <"$1" >"$work/out"
+    to=$(date +%s%N)
+    echo $(((to - from) / 1000))
+}
+
+for kind in files opens skipped; do
+    make "$kind" 16384 >"$work/short"
+    make "$kind" 65536 >"$work/long"
+    short='' long=''
+    for _ in $(seq "$rounds"); do
+        time=$(spent "$work/short")
+        [[ -n $short && $short -le $time ]] || short=$time
+        time=$(spent "$work/long")
+        [[ -n $long && $long -le $time ]] || long=$time
+    done
+    awk -v kind="$kind" -v a="$short" -v b="$long" \
+        'BEGIN { printf "%s: 16384 lines %d us, 65536 lines %d us, ratio %.2f\n", kind, a, b, b / a }'
+    tail -n 1 "$work/out"
+done
+if command -v /usr/bin/time >/dev/null; then
+    make files 65536 >"$work/long"
+    /usr/bin/time -f 'files, 65536 lines: at most %M KiB held' bin/lbfs replay <"$work/long" >/dev/null
+fi
