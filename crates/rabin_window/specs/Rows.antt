@@ -1,5 +1,6 @@
--- Fingerprints of a few windows. Those of the last three were found by a program of another
--- language that divides lists of bits.
+-- Fingerprints of a few windows. Those of the last three were found by a Python program. It makes
+-- the list of all bits, takes away the 54 bits of the modulus wherever a bit is set, from the front,
+-- and reads the last 53 as a number.
 use Rattle.std.specs.Prelude.{◌≡◌, [], ◌∷◌, ◌++◌, replicate, refl}
 use Rattle.rabin_window.specs.Fingerprint.{fp}
 

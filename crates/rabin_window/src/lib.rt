@@ -1,4 +1,5 @@
-//! Rabin's fingerprint of bytes, and of the last 48 bytes of a stream as they come.
+//! Rabin's fingerprint of bytes, and of the last 48 bytes of a stream as they come: what the LBFS
+//! paper (SOSP 2001, section 3.1) finds the ends of chunks by.
 #![tactic(auto)]
 
 ghost use Rattle.std.specs.Prelude.{◌≡◌, ⊤, ℕ, ◌+◌, ◌*◌, ◌^◌, ◌<◌, List, [], ◌∷◌, ◌++◌, length, drop, take, replicate};
@@ -19,8 +20,9 @@ pub const WINDOW_LEN: usize = 48;
 // The low 45 bits: what of a fingerprint stays below the modulus when it moves up by a byte.
 const LOW: u64 = 0x1FFF_FFFF_FFFF;
 
-/// The fingerprint of the bytes: the remainder of the polynomial of their bits, the first byte's
-/// most significant bit the highest, modulo 0x3DA3358B4DC173, which is of degree 53.
+/// The fingerprint of the bytes, a number below 2^53: the remainder of the polynomial of their bits,
+/// the first byte's most significant bit the highest, modulo 0x3DA3358B4DC173, which is of degree
+/// 53. That of no bytes is 0.
 pub fn fp(bytes: &[u8]) -> u64
     ensures { result ≡ fp bytes.now }
 {
@@ -90,7 +92,7 @@ impl Window {
         }
     }
 
-    /// The fingerprint of the window.
+    /// The fingerprint of the window, which is below 2^53.
     pub fn value(&self) -> u64
         ensures { result ≡ fp self.now }
     {

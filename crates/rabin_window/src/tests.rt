@@ -1,6 +1,7 @@
 use crate::{Window, fp};
 
-// Fingerprints that a program of another language found, which divides the list of all bits.
+// Fingerprints of 48 bytes that a Python program found. It makes the list of all bits, takes away the
+// 54 bits of the modulus wherever a bit is set, from the front, and reads the last 53 as a number.
 const TEXT: &[u8] = b"The quick brown fox jumps over the lazy dog!!!!!";
 
 const TEXT_PRINT: u64 = 0x000A_A4E5_1B2A_F875;
