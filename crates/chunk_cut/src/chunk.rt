@@ -1,6 +1,6 @@
 //! Chunks.
 
-ghost use Rattle.std.specs.Prelude.{◌≡◌, ◌++◌, OnOk};
+ghost use Rattle.std.specs.Prelude.{◌≡◌, ◌++◌, OnOk, OnErr};
 ghost use Rattle.chunk_cut.specs.Chunks.{listed};
 
 use lb_base::items::Items;
@@ -17,9 +17,11 @@ pub struct Chunk {
     pub digest: [u8; 20],
 }
 
-/// Adds the chunk that there may be to the list.
-pub fn list(chunks: &mut Items<Chunk>, chunk: Option<Chunk>) -> Result<(), AllocError>
-    ensures { OnOk result (chunks.new ≡ chunks.old ++ listed chunk) }
+/// Adds the chunk that there may be to the list. The one error is want of memory, and the list then
+/// stays as it was.
+pub(crate) fn list(chunks: &mut Items<Chunk>, chunk: Option<Chunk>) -> Result<(), AllocError>
+    ensures ok { OnOk result (chunks.new ≡ chunks.old ++ listed chunk) }
+    ensures err { OnErr result (chunks.new ≡ chunks.old) }
 {
     if let Some(chunk) = chunk {
         chunks.push(chunk)?;

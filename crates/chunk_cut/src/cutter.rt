@@ -48,7 +48,8 @@ impl Cutter {
     }
 
     /// Takes the next bytes of the content, and gives the chunks that end in them. All bytes that it
-    /// was fed and these are to be fewer than 2^64. Where memory runs out, it is unchanged.
+    /// was fed and these are to be fewer than 2^64. The one error is want of memory, and the cutter
+    /// then stays as it was: the work is done on a copy.
     pub fn feed(&mut self, alloc: Global, piece: &[u8]) -> Result<Items<Chunk>, AllocError>
         requires { fed self.old + length piece.now < 2 ^ 64 }
         ensures chunks { (content : List ℕ) → IsFed self.old content → IfOk result (λ chunks. complete (content ++ piece.now) ≡ complete content ++ chunks) }

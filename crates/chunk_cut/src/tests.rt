@@ -1,3 +1,5 @@
+ghost use Rattle.std.specs.Prelude.{◌≤◌, length};
+
 use crate::chunk::{self, Chunk};
 use crate::cutter::Cutter;
 use crate::{cut, digest};
@@ -6,7 +8,7 @@ use std::alloc::{AllocError, Global};
 use std::process::Abort;
 use std::test::Fail;
 
-// Digests of what the comments say, by another program.
+// Digests of what the comments say, by the hashlib of Python 3.
 
 // Of 2,047 zeros and 0x78.
 const MARKED: [u8; 20] = [
@@ -50,9 +52,41 @@ const LATE: [u8; 20] = [
     0xA9, 0x33, 0x51, 0xA3,
 ];
 
+// Of the chunks of `mixed` of 20,000 bytes. That these are its chunks was found by a Python program
+// which takes the 48 bytes before each place as one number, and divides it bit by bit.
+const MIXED: [[u8; 20]; 4] = [
+    [
+        0xF6, 0x45, 0x89, 0x52, 0xE1, 0x53, 0x4C, 0xAB, 0xCC, 0xF2, 0xD8, 0xDC, 0xEC, 0x6F, 0xB1,
+        0x61, 0x6A, 0x98, 0xD6, 0x81,
+    ],
+    [
+        0x8B, 0x38, 0x22, 0xD4, 0x18, 0xDD, 0xBD, 0xF5, 0x94, 0x3E, 0xEB, 0x2C, 0x4A, 0x58, 0xE6,
+        0x26, 0x78, 0xD5, 0x96, 0xAF,
+    ],
+    [
+        0xC9, 0x4D, 0x04, 0x4F, 0x91, 0x40, 0x57, 0x9A, 0xA9, 0xCC, 0x26, 0x8F, 0x09, 0x4B, 0xC3,
+        0x02, 0xE3, 0xA9, 0x26, 0x66,
+    ],
+    [
+        0xAE, 0x21, 0xBB, 0x8F, 0x17, 0xDC, 0x35, 0x4E, 0x1C, 0x85, 0xE1, 0x5C, 0x31, 0xB6, 0x84,
+        0x4F, 0xFA, 0x35, 0x0A, 0xDD,
+    ],
+];
+
 fn zeros(alloc: Global, count: usize) -> Result<Vec<u8>, AllocError> {
     let mut bytes = Vec::new(alloc);
     bytes.resize(count, 0)?;
+    Ok(bytes)
+}
+
+// Bytes that look like chance: the second of each number of a linear congruence.
+fn mixed(alloc: Global, count: usize) -> Result<Vec<u8>, AllocError> {
+    let mut bytes = Vec::new(alloc);
+    let mut state: u32 = 1;
+    for _ in 0..count {
+        state = state.wrapping_mul(1_103_515_245).wrapping_add(12_345);
+        bytes.push(state.to_be_bytes()[1])?;
+    }
     Ok(bytes)
 }
 
@@ -103,7 +137,47 @@ fn the_most_bytes(rt: HostRuntime) -> Result<(), Fail> {
     Ok(())
 }
 
-// Every two pieces of a content give the chunks of the whole.
+// Windows are marked at 4,095, 7,910, 8,465 and 18,240; the third is too near to the second.
+#[test]
+fn marks_among_other_bytes(rt: HostRuntime) -> Result<(), Fail> {
+    let content = mixed(rt.alloc(), 20_000)?;
+    let wanted = [
+        (0, 4095, MIXED[0]),
+        (4095, 3815, MIXED[1]),
+        (7910, 10_330, MIXED[2]),
+        (18_240, 1760, MIXED[3]),
+    ];
+    expect(&rt, &cut(rt.alloc(), &content)?, &wanted);
+    Ok(())
+}
+
+// The chunks of a content that comes in three pieces, the second and the third from these places on.
+fn in_pieces(
+    rt: &impl Abort,
+    alloc: Global,
+    content: &[u8],
+    second: usize,
+    third: usize,
+) -> Result<Items<Chunk>, AllocError>
+    requires order { second ≤ third }
+    requires within { third ≤ length content.now }
+{
+    let mut cutter = Cutter::new();
+    let mut chunks = cutter.feed(alloc, &content[..second])?;
+    let more = cutter.feed(alloc, &content[second..third])?;
+    let most = cutter.feed(alloc, &content[third..])?;
+    assert_eq!(rt; cutter.fed(), content.len() as u64);
+    for chunk in more.into_vec() {
+        chunks.push(chunk)?;
+    }
+    for chunk in most.into_vec() {
+        chunks.push(chunk)?;
+    }
+    chunk::list(&mut chunks, cutter.finish())?;
+    Ok(chunks)
+}
+
+// Every two pieces of a content give the chunks of the whole, also with no bytes or one between.
 #[test]
 fn pieces(rt: HostRuntime) -> Result<(), Fail> {
     let mut content = zeros(rt.alloc(), 2047)?;
@@ -111,14 +185,23 @@ fn pieces(rt: HostRuntime) -> Result<(), Fail> {
     content.extend_from_slice(&[0; 10])?;
     let wanted = [(0, 2048, MARKED), (2048, 10, TEN_ZEROS)];
     for place in 0..content.len() + 1 {
-        let mut cutter = Cutter::new();
-        let mut chunks = cutter.feed(rt.alloc(), &content[..place])?;
-        let more = cutter.feed(rt.alloc(), &content[place..])?;
-        assert_eq!(rt; cutter.fed(), 2058);
-        for chunk in more.into_vec() {
-            chunks.push(chunk)?;
-        }
-        chunk::list(&mut chunks, cutter.finish())?;
+        let chunks = in_pieces(&rt, rt.alloc(), &content, place, place)?;
+        expect(&rt, &chunks, &wanted);
+    }
+    for place in 0..content.len() {
+        let chunks = in_pieces(&rt, rt.alloc(), &content, place, place + 1)?;
+        expect(&rt, &chunks, &wanted);
+    }
+    Ok(())
+}
+
+// Pieces that end about the place where a chunk has its most bytes, and ends without a mark.
+#[test]
+fn pieces_about_the_most_bytes(rt: HostRuntime) -> Result<(), Fail> {
+    let content = zeros(rt.alloc(), 65_537)?;
+    let wanted = [(0, 65_536, LONGEST), (65_536, 1, ZERO)];
+    for place in 65_480..content.len() {
+        let chunks = in_pieces(&rt, rt.alloc(), &content, place, place + 1)?;
         expect(&rt, &chunks, &wanted);
     }
     Ok(())

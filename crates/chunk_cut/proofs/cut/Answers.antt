@@ -12,6 +12,6 @@ whole content chunks last e f =
 pub returns : goal.returns
 returns c =
     let none = c.new-cutter.ensures.empty in
-    c.in_ok-list.ensures
+    c.in_ok-list.ensures.ok
     ∙ whole c.args.content.now c.in_ok-chunks.chunks c.finish.result (c.in_ok-chunks.ensures.chunks [] none)
     (c.finish.ensures c.args.content.now (c.in_ok-chunks.ensures.content [] none))

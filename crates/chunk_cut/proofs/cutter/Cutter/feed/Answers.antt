@@ -13,7 +13,7 @@ chunks-preserved c = record {
   content = λ content was. fed_part content c.args.piece.now c.chunks.taken c.advance-more.result.0 c.args.self.now c.chunks.cutter c.advance-more.new.self c.chunks.invariant.content c.advance-more.ensures.content was;
   chunks = λ content was.
       completed_part content c.args.piece.now c.chunks.taken c.advance-more.result.0 c.args.self.now c.chunks.cutter c.chunks.chunks (listed c.advance-more.result.1) c.chunks.invariant.content c.chunks.invariant.chunks c.advance-more.ensures.chunk was
-      ∙ ap (λ (cs : List Chunk). complete content ++ cs) (sym c.in_ok-list.ensures);
+      ∙ ap (λ (cs : List Chunk). complete content ++ cs) (sym c.in_ok-list.ensures.ok);
 }
 
 whole : (piece : List ℕ) (taken : ℕ) → length piece ≤ taken → take taken piece ≡ piece
