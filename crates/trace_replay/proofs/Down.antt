@@ -39,11 +39,12 @@ use Rattle.open_close.proofs.Locals.{local_at_itself, local_at_another}
 use Rattle.server_core.specs.Step.{stands}
 use Rattle.register_model.specs.declared.op.Word.TheVariants as word
 use Rattle.trace_replay.specs.declared.link.Taken.{Taken}
-use Rattle.trace_replay.specs.Faithful.{Deed}
+use Rattle.trace_replay.specs.Faithful.{Deed, is_running}
+use Rattle.sha1.specs.Sha1.{sha1}
 use Rattle.trace_replay.specs.World.{World, bytes_of, op_after, op_ended, counted, running_after, taken_at, local_of}
 use Rattle.trace_replay.specs.Delivery.{acted, ops_after, down_all}
 use Rattle.trace_replay.proofs.Lists.{nothing_there, some_is, of_replaced, at_replaced, length_replaced}
-use Rattle.trace_replay.proofs.Kept.{IsKept, IsRight, Cause, IsOf, IsApart, IsJoined, Way, Busy, Idle, Asking, Fetching, InPhase, Down, Taking, SmallFile, is_running, is_unlinked, spare, at_first, file_as, node_at, whole_range, hashes_told, piece_range, piece_told, pair_of}
+use Rattle.trace_replay.proofs.Kept.{IsKept, IsRight, Cause, IsOf, IsApart, IsJoined, Way, Busy, Idle, Asking, Fetching, InPhase, Down, Taking, SmallFile, is_unlinked, spare, at_first, file_as, node_at, whole_range, hashes_told, piece_range, piece_told, pair_of}
 use Rattle.trace_replay.proofs.Growth.{Grows, no_truth, grows_replaced, cause_grows, origin_grows, origin_later, matches_replaced}
 use Rattle.trace_replay.proofs.Opening.{Found, is_root, is_gone, is_file, looked, hashes_none, hashes_one, not_broken, piece_taken, told_one, same_number}
 use Rattle.trace_replay.proofs.Fits.{hashes_fit, piece_fits}
@@ -220,6 +221,7 @@ refused_right opening w c xid begin op one is_open = record {
   within = λ p e. nothing_there p e;
   opens = λ e. no_truth e;
   gone = λ e. no_truth e;
+  end = refl;
 }
 
 -- a point at which the GETHASH was taken lies within
@@ -240,23 +242,27 @@ gone_right opening w c name xid begin op one is_open file begun none taking =
       within = λ p e. subst (λ (b : ℕ). (b ≤ p) × ((z : ℕ) → Some (w.steps + 1) ≡ Some z → p ≤ z)) (sym begun) (point_within (taken_at w.link.taken xid) begin w.steps taking.0 at taking.3 taking.4 p e);
       opens = λ e. no_truth e;
       gone = λ e. (taking.0, at, gone);
+      end = refl;
     }
+
+-- what is open is what came
+pub opened_value : (c : client.State) (name version xid more : ℕ) (x : List ℕ) → local_of (opened_with c name version x xid more).0 name ≡ x
+opened_value c name version xid more x = ap (λ (o : Option Local). elim o [ None ↦ [] | Some l ↦ l.bytes ]) (local_at_itself c.opened name (record { version = version; bytes = x }))
 
 -- the whole content came
 pub opened_right : (opening : List Opening) (w : World) (c : client.State) (name version xid begin more : ℕ) (x : List ℕ) (op : Op) → op.client ≡ 1 → op.word ≡ word.Open → op.file ≡ name → op.begin ≡ begin → at_first opening name ≡ Some x
     → Taking w.link.taken xid begin w.steps → IsRight opening (new_op w (opened_with c name version x xid more).0 (opened_with c name version x xid more).1 op)
 opened_right opening w c name version xid begin more x op one is_open file begun there taking =
     let at = taken_is w.link.taken xid begin w.steps taking in
-    let local : Local = record { version = version; bytes = x } in
     let first : at_first opening op.file ≡ Some x = ap (λ (n : ℕ). at_first opening n) file ∙ there in
-    let value : local_of (opened_with c name version x xid more).0 name ≡ x =
-    ap (λ (o : Option Local). elim o [ None ↦ [] | Some l ↦ l.bytes ]) (local_at_itself c.opened name local) in
+    let value = opened_value c name version xid more x in
     record {
       client = one;
       word = is_open;
       within = λ p e. subst (λ (b : ℕ). (b ≤ p) × ((z : ℕ) → Some (w.steps + 1) ≡ Some z → p ≤ z)) (sym begun) (point_within (taken_at w.link.taken xid) begin w.steps taking.0 at taking.3 taking.4 p e);
       opens = λ e. (taking.0, at, first ∙ ap (λ (y : List ℕ). Some y) (sym value));
       gone = λ e. no_truth e;
+      end = refl;
     }
 
 -- an open file is the new one, or was there
@@ -317,7 +323,7 @@ going_kept n ds j w t u c m is k busy task opened linked same xids phase =
     let new = new_op w c (sends m 1 0) op in
     let v = after_acts w c (sends m 1 0) place op in
     let was = k.rights place op busy.under.there in
-    let right : IsRight w.opening new = record { client = was.client; word = was.word; within = was.within; opens = was.opens; gone = was.gone } in
+    let right : IsRight w.opening new = record { client = was.client; word = was.word; within = was.within; opens = was.opens; gone = was.gone; end = was.end } in
     let grows : Grows w.ops v.ops w.steps = grows_replaced w.ops place op new w.steps busy.under.there refl refl busy.under.not_ended (λ z at. nothing_there z (sym busy.under.no_end ∙ at)) in
     let busy_now : Busy v u = record {
       begin = busy.begin;
@@ -381,8 +387,12 @@ going_kept n ds j w t u c m is k busy task opened linked same xids phase =
 one_less : (next s : ℕ) → s ≡ 1 → next + 1 + 0 ≤ next + s
 one_less next s e = omega (arith, e)
 
-opened_cause : (opening : List Opening) (name : ℕ) (x : List ℕ) (id : ℕ) → id ≡ name → at_first opening name ≡ Some x → IsSome (at_first opening id)
-opened_cause opening name x id e there = subst (λ (v : Option (List ℕ)). IsSome v) (sym (ap (λ (i : ℕ). at_first opening i) e ∙ there)) refl
+-- what an open that ended tells of its content
+opened_cause : (opening : List Opening) (c : client.State) (name version xid more : ℕ) (x : List ℕ) (id : ℕ) → id ≡ name → at_first opening name ≡ Some x
+    → IsSome (at_first opening id) × (length x ≡ length (local_of (opened_with c name version x xid more).0 name)) × (sha1 x ≡ sha1 (local_of (opened_with c name version x xid more).0 name))
+opened_cause opening c name version xid more x id e there =
+    let value = sym (opened_value c name version xid more x) in
+    (subst (λ (v : Option (List ℕ)). IsSome v) (sym (ap (λ (i : ℕ). at_first opening i) e ∙ there)) refl, ap (λ (y : List ℕ). length y) value, ap sha1 value)
 
 abbrev pub task_of : ℕ → Phase → Task
 task_of name p = record { file = name; stage = p }
@@ -423,7 +433,7 @@ hash_found n ds j w name xid e k busy asking down taking o there node short [] n
     subst (IsKept n ds j) (sym (hash_goes n ds j w name xid r e k busy asking.small down (took_empty (idle w.client) w.opening name xid o node none)))
     (ended_kept n ds j w (task_of name (phase.Hashing xid)) r.0 r.1 _ e k busy refl refl refl (opened_only w (idle w.client) name 1 xid 0 busy.under.place [] busy.under.op busy.under.file refl) refl refl down.0
     (opened_right w.opening w (idle w.client) name 1 xid busy.begin 0 [] busy.under.op (k.rights busy.under.place busy.under.op busy.under.there).client busy.under.word busy.under.file busy.under.begun (there ∙ ap (λ (x : List ℕ). Some x) none) taking)
-    (opened_cause w.opening name [] busy.under.op.file busy.under.file (there ∙ ap (λ (x : List ℕ). Some x) none)) refl refl)
+    (opened_cause w.opening (idle w.client) name 1 xid 0 [] busy.under.op.file busy.under.file (there ∙ ap (λ (x : List ℕ). Some x) none)) refl refl)
 hash_found n ds j w name xid e k busy asking down taking o there node short (b ∷ bs) is =
     let some : 0 < length o.content = subst (λ (x : List ℕ). 0 < length x) (sym is) (omega arith) in
     let f : Fetch = record { asked = xid; xid = w.client.next; version = 1; left = pair_of o.content ∷ []; bytes = [] } in
@@ -478,7 +488,7 @@ piece_answered n ds j w name f e k busy fetching down =
     subst (IsKept n ds j) (sym is)
     (ended_kept n ds j w (task_of name (phase.Reading f)) r.0 r.1 _ e k busy refl refl refl (opened_only w (idle w.client) name f.version f.asked size busy.under.place x busy.under.op busy.under.file refl) refl refl down.0
     (opened_right w.opening w (idle w.client) name f.version f.asked busy.begin size x busy.under.op (k.rights busy.under.place busy.under.op busy.under.there).client busy.under.word busy.under.file busy.under.begun fetching.there fetching.taking)
-    (opened_cause w.opening name x busy.under.op.file busy.under.file fetching.there) refl refl)
+    (opened_cause w.opening (idle w.client) name f.version f.asked size x busy.under.op.file busy.under.file fetching.there) refl refl)
 
 down_busy : (n : ℕ) (ds : List Deed) (j : Bool) (w : World) (name : ℕ) (p : Phase) → w.client.task ≡ Some (task_of name p) → IsKept n ds j w → Busy w (task_of name p) → IsKept n ds j (down_all w)
 down_busy n ds j w name (phase.Hashing xid) e k busy = elim busy.phase.way [

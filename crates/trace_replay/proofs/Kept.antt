@@ -1,6 +1,6 @@
 -- What each line of a trace keeps of the world.
 use Rattle.std.proofs.Common.{◌≡◌, ℕ, ◌+◌, ◌*◌, ◌<◌, ◌≤◌, ◌^◌, List, [], ◌∷◌, ◌⊎◌, Option, Some, None, Bool, true, false, length, IsTrue}
-use Rattle.std.specs.Prelude.{slice_get, find, ◌==◌, IsSome, Result, Ok, option_map}
+use Rattle.std.specs.Prelude.{slice_get, find, ◌==◌, not, is_some, IsSome, Result, Ok, option_map}
 use Rattle.sha1.specs.Sha1.{sha1}
 use Rattle.rpc_record.specs.Records.{nothing_read}
 use Rattle.xdr_codec.specs.Handle.{handle_bytes}
@@ -35,7 +35,7 @@ use Rattle.trace_replay.specs.declared.link.Stage.{Stage}
 use Rattle.trace_replay.specs.declared.link.Stage.TheVariants as stage
 use Rattle.trace_replay.specs.declared.link.Taken.{Taken}
 use Rattle.trace_replay.specs.World.{World, Link, bytes_of}
-use Rattle.trace_replay.specs.Faithful.{Deed}
+use Rattle.trace_replay.specs.Faithful.{Deed, is_running}
 
 -- ---- the opening tree
 
@@ -69,10 +69,6 @@ Numbered n (o ∷ os) = (o.file ≡ n) × Numbered (n + 1) os
 
 -- ---- operations
 
-abbrev pub is_running : Outcome → Bool
-is_running told.Running = true
-is_running _ = false
-
 abbrev pub is_unlinked : Outcome → Bool
 is_unlinked told.NoLink = true
 is_unlinked _ = false
@@ -84,6 +80,7 @@ pub record IsRight (opening : List Opening) (o : Op) : Type 0 where
   pub within : (p : ℕ) → o.point ≡ Some p → (o.begin ≤ p) × ((e : ℕ) → o.end ≡ Some e → p ≤ e)
   pub opens : IsTrue (is_opened o.outcome) → (p : ℕ) × (o.point ≡ Some p) × (at_first opening o.file ≡ Some o.value)
   pub gone : IsTrue (is_stale o.outcome) → (p : ℕ) × (o.point ≡ Some p) × (at_first opening o.file ≡ None)
+  pub end : is_some o.end ≡ not (is_running o.outcome)
 
 -- one of these operations was under way when this one began
 abbrev pub Beside : List Op → Op → Type 0
@@ -95,7 +92,7 @@ Origin ops file moment = (k : ℕ) × (q : Op) × (slice_get ops k ≡ Some q) �
 
 -- an outcome of an operation among these has its cause, as far as it is known by now
 abbrev pub Cause : List Opening → List Op → Op → Outcome → Type 0
-Cause opening ops o (told.Opened len sha1) = IsSome (at_first opening o.file)
+Cause opening ops o (told.Opened len digest) = IsSome (at_first opening o.file) × (len ≡ length o.value) × (digest ≡ sha1 o.value)
 Cause opening ops o (told.Refused status) = ((status ≡ 21) × (o.file ≡ 1)) ⊎ ((status ≡ 70) × (at_first opening o.file ≡ None))
 Cause opening ops o told.Running = Unit {0}
 Cause opening ops o told.Busy = Beside ops o

@@ -26,7 +26,7 @@ use Rattle.trace_replay.specs.declared.link.Stage.TheVariants as stage
 use Rattle.trace_replay.specs.declared.link.Taken.{Taken}
 use Rattle.trace_replay.specs.declared.turn.Turn.{Turn}
 use Rattle.trace_replay.specs.declared.turn.Turn.TheVariants as turn
-use Rattle.trace_replay.specs.Faithful.{Deed}
+use Rattle.trace_replay.specs.Faithful.{Deed, is_running}
 use Rattle.trace_replay.specs.World.{World, Link, op_after, running_with, taken_on, told_of}
 use Rattle.trace_replay.specs.Delivery.{is_still, passes, round, up_all}
 use Rattle.trace_replay.specs.Run.{with_file, joins, begun, commanded, does, turned}
@@ -34,7 +34,7 @@ use Rattle.trace_replay.proofs.Lists.{nothing_there, of_appended, at_end, kept_a
 use Rattle.trace_replay.proofs.Opening.{free_id, numbered_more, in_tree_more}
 use Rattle.trace_replay.proofs.Asked.{Allows, deeds_by, linked_then}
 use Rattle.trace_replay.proofs.Growth.{Grows, no_truth, grows_appended, cause_grows, origin_grows, origin_later, matches_appended}
-use Rattle.trace_replay.proofs.Kept.{IsKept, IsRight, Cause, Beside, Way, Busy, Idle, InPhase, IsUntouched, IsApart, IsJoined, is_early, is_running, is_unlinked, spare, HoldsTree, Small, SmallFile, file_as, in_tree, Taking}
+use Rattle.trace_replay.proofs.Kept.{IsKept, IsRight, Cause, Beside, Way, Busy, Idle, InPhase, IsUntouched, IsApart, IsJoined, is_early, is_unlinked, spare, HoldsTree, Small, SmallFile, file_as, in_tree, Taking}
 use Rattle.trace_replay.proofs.Up.{kept_up, none_before}
 use Rattle.trace_replay.proofs.Down.{kept_down}
 
@@ -241,9 +241,9 @@ abbrev pub after_told : World → ℕ → Ending → World
 after_told w file o = record w { steps = w.steps + 1; link = record w.link { up = w.link.up ++ []; taken = taken_on w.running w.link.taken }; ops = w.ops ++ told_op w file o ∷ []; running = running_with w.running (length w.ops) (Some (record { outcome = o; rests_on = 0 })) }
 
 told_right : (w : World) (file : ℕ) (o : Ending) → ByClient o → IsRight w.opening (told_op w file o)
-told_right w file outcome.Busy h = record { client = refl; word = refl; within = λ p e. nothing_there p e; opens = λ e. no_truth e; gone = λ e. no_truth e }
-told_right w file outcome.AlreadyOpen h = record { client = refl; word = refl; within = λ p e. nothing_there p e; opens = λ e. no_truth e; gone = λ e. no_truth e }
-told_right w file outcome.NoLink h = record { client = refl; word = refl; within = λ p e. nothing_there p e; opens = λ e. no_truth e; gone = λ e. no_truth e }
+told_right w file outcome.Busy h = record { client = refl; word = refl; within = λ p e. nothing_there p e; opens = λ e. no_truth e; gone = λ e. no_truth e; end = refl }
+told_right w file outcome.AlreadyOpen h = record { client = refl; word = refl; within = λ p e. nothing_there p e; opens = λ e. no_truth e; gone = λ e. no_truth e; end = refl }
+told_right w file outcome.NoLink h = record { client = refl; word = refl; within = λ p e. nothing_there p e; opens = λ e. no_truth e; gone = λ e. no_truth e; end = refl }
 told_right w file o h = absurd h
 
 told_ended : (o : Ending) → ByClient o → is_running (told_of o) ≡ false
@@ -363,7 +363,7 @@ kept_asked n ds j w file few small events none linked closed k =
     let v = after_asked w file in
     let grows : Grows w.ops v.ops w.steps = grows_appended w.ops new w.steps in
     let stood = stood_joined w linked k.joined in
-    let right : IsRight w.opening new = record { client = refl; word = refl; within = λ p e. nothing_there p e; opens = λ e. no_truth e; gone = λ e. no_truth e } in
+    let right : IsRight w.opening new = record { client = refl; word = refl; within = λ p e. nothing_there p e; opens = λ e. no_truth e; gone = λ e. no_truth e; end = refl } in
     record {
       files = k.files;
       small = k.small;

@@ -21,7 +21,7 @@ use Rattle.wire.specs.declared.message.Message.{Message}
 use Rattle.trace_replay.specs.World.{World, start, bytes_of}
 use Rattle.trace_replay.specs.Delivery.{is_still, is_none}
 use Rattle.trace_replay.specs.Run.{ended, in_header, refused, asked_by, turned, run_from, run, history_of}
-use Rattle.trace_replay.specs.Faithful.{Deed, deed_in, linked_by, deeds_from, HasCause, WasBusy, WasOpen, IsDone, AreDone}
+use Rattle.trace_replay.specs.Faithful.{Deed, is_running, deed_in, linked_by, deeds_from, HasCause, WasBusy, WasOpen, IsDone, AreDone}
 use Rattle.trace_replay.specs.declared.fault.Refused.{Refused}
 use Rattle.trace_replay.specs.declared.turn.Turn.{Turn}
 use Rattle.trace_text.specs.declared.refusal.LineFault.{LineFault}
@@ -29,7 +29,7 @@ use Rattle.trace_text.specs.declared.refusal.LineFault.TheVariants.{Grammar}
 use Rattle.std.proofs.lemmas.List.Elements.{Contains-append_right}
 use Rattle.trace_replay.proofs.Lists.{nothing_there, some_is, all_by_place}
 use Rattle.trace_replay.proofs.Bytes.{some_bytes}
-use Rattle.trace_replay.proofs.Kept.{IsKept, Way, InPhase, Cause, Beside, Origin, IsOf, Matches, is_running, is_unlinked, at_first, hashes_told, piece_told}
+use Rattle.trace_replay.proofs.Kept.{IsKept, Way, InPhase, Cause, Beside, Origin, IsOf, Matches, is_unlinked, at_first, hashes_told, piece_told}
 use Rattle.trace_replay.proofs.Lines.{kept_turn}
 use Rattle.trace_replay.proofs.Asked.{Allows, deeds_by, linked_then, asking, refused_line, in_place}
 use Rattle.trace_replay.proofs.Grammar.{fit_line}
@@ -217,4 +217,5 @@ faithful_kept n ds j w k = done_each w ds w.ops k.deeds (λ i d o at of. record 
   word = of.word;
   file = of.file;
   cause = caused n ds j w d.linked o o.outcome k (k.rights i o at).client (k.causes i o at) (λ runs. running_on w w.client.task i k.way (k.only i o at runs)) of.unlinked;
+  end = (k.rights i o at).end;
 })

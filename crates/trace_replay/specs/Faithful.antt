@@ -1,5 +1,6 @@
 -- When the history of a run is faithful to its trace.
-use Rattle.std.specs.Prelude.{◌≡◌, ℕ, ◌<◌, List, [], ◌∷◌, ◌++◌, ◌⊎◌, Bool, true, false, Option, Some, IsSome, IsTrue, Contains}
+use Rattle.std.specs.Prelude.{◌≡◌, ℕ, ◌<◌, List, [], ◌∷◌, ◌++◌, length, ◌⊎◌, Bool, true, false, not, Option, Some, is_some, IsSome, IsTrue, Contains}
+use Rattle.sha1.specs.Sha1.{sha1}
 use Rattle.trace_text.specs.Parts.{lines_of}
 use Rattle.trace_text.specs.Grammar.{line_of}
 use Rattle.trace_text.specs.declared.line.Command.TheVariants as command
@@ -50,11 +51,11 @@ WasBusy ops o = (q : Op) × Contains ops q × (q.client ≡ o.client) × (q.begi
 abbrev pub WasOpen : List Op → Op → Type 0
 WasOpen ops o = (q : Op) × Contains ops q × (q.client ≡ o.client) × (q.file ≡ o.file) × IsTrue (is_opened q.outcome) × (e : ℕ) × (q.end ≡ Some e) × (e < o.begin)
 
--- An open that ended got its file's content, or was refused: by the server, the root, which is a directory, by 21
+-- An open that ended got its file's content, whose length and SHA-1 it tells, or was refused: by the server, the root, which is a directory, by 21
 -- (NFS3ERR_ISDIR of RFC 1813), and a file that is not in the tree by 70 (NFS3ERR_STALE); by its own client, since it
 -- was busy, had the file open, or had not joined. One that did not end has bytes that were not delivered.
 abbrev pub HasCause : World → (linked : Bool) → Op → Outcome → Type 0
-HasCause w linked o (told.Opened len sha1) = IsSome (value_at_first (history_of w) o.file)
+HasCause w linked o (told.Opened len digest) = IsSome (value_at_first (history_of w) o.file) × (len ≡ length o.value) × (digest ≡ sha1 o.value)
 HasCause w linked o (told.Refused status) = ((status ≡ 21) × (o.file ≡ 1)) ⊎ ((status ≡ 70) × (value_at_first (history_of w) o.file ≡ Absent))
 HasCause w linked o told.Running = is_still w ≡ false
 HasCause w linked o told.Busy = WasBusy w.ops o
@@ -62,12 +63,18 @@ HasCause w linked o told.AlreadyOpen = WasOpen w.ops o
 HasCause w linked o told.NoLink = linked ≡ false
 HasCause w linked o _ = ⊥
 
+abbrev pub is_running : Outcome → Bool
+is_running told.Running = true
+is_running _ = false
+
 -- an operation is that of a command, and ended as its cause has it
 pub record IsDone (w : World) (d : Deed) (o : Op) : Type 0 where
   pub client : o.client ≡ d.client
   pub word : o.word ≡ d.word
   pub file : o.file ≡ d.file
   pub cause : HasCause w d.linked o o.outcome
+  -- it has an end exactly where it is not running
+  pub end : is_some o.end ≡ not (is_running o.outcome)
 
 -- each command has its one operation, in order
 abbrev pub AreDone : World → List Deed → List Op → Type 0
