@@ -3,7 +3,12 @@
 # and how its time grows with the input. It reports what it finds and judges nothing. Single times
 # move with the machine's load: only the ratios of one run say something.
 #
-#   bench/cut.sh [MIB [ROUNDS]]     of 64 MiB and 5 rounds, where not said otherwise
+# Build the program first (`rt run </dev/null` in crates/lbfs): else bin/lbfs runs the sources
+# unproved and slow. Our times hold what the shell script bin/lbfs takes before it begins, which
+# shows with small inputs.
+#
+#   bench/cut.sh [MIB [ROUNDS]]     of 64 MiB and 5 rounds, where not said otherwise; MIB is at
+#                                   most 64, since `cut` takes no more
 set -euo pipefail
 cd "$(dirname "$0")/.."
 

@@ -50,7 +50,9 @@ impl Status {
 /// What is to be written, and the status that it is written with.
 #[derive(Drop, Debug)]
 pub struct Output {
+    /// How the run ends once the text is written.
     pub status: Status,
+    /// The bytes to write.
     pub text: Bytes,
 }
 

@@ -22,7 +22,9 @@ const MOST_BYTES: usize = 67_108_864;
 /// What the program reads and writes.
 #[derive(Drop)]
 pub struct Outside<S, K> {
+    /// What it reads its input from.
     pub source: S,
+    /// What it writes its output to.
     pub sink: K,
 }
 

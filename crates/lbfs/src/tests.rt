@@ -223,7 +223,7 @@ fn zeros_and(alloc: Global, count: usize, tail: &[u8]) -> Result<Bytes, AllocErr
     Ok(Items::from_vec(bytes))
 }
 
-// The digests are by another program.
+// The digests are by the hashlib of Python 3.
 #[test]
 fn contents_are_cut(rt: HostRuntime) -> Result<(), Fail> {
     let alloc = rt.alloc();
@@ -308,10 +308,11 @@ impl Source for Zeros {
     }
 }
 
-/// What `replay` writes for so many zeros. They are one line, which no grammar has.
+/// What is written for so many zeros, which are one line that no grammar has.
 fn expect_zeros(
     rt: &impl Abort,
     alloc: Global,
+    asked: &str,
     left: usize,
     text: &[u8],
 ) -> Result<(), AllocError> {
@@ -319,7 +320,7 @@ fn expect_zeros(
         source: Zeros { left },
         sink: SureSink::new(alloc, 100),
     };
-    let (status, outside) = run(alloc, &words(alloc, &["replay"])?, outside);
+    let (status, outside) = run(alloc, &words(alloc, &[asked])?, outside);
     assert_eq!(rt; status, 5);
     assert_eq!(rt; outside.sink.held(), text);
     Ok(())
@@ -328,7 +329,15 @@ fn expect_zeros(
 #[test]
 fn longer_inputs_are_refused(rt: HostRuntime) -> Result<(), Fail> {
     let alloc = rt.alloc();
-    expect_zeros(&rt, alloc, 67_108_864, b"refused line 1 grammar\n")?;
-    expect_zeros(&rt, alloc, 67_108_865, b"refused limit bytes\n")?;
+    let long = b"refused limit bytes\n";
+    expect_zeros(
+        &rt,
+        alloc,
+        "replay",
+        67_108_864,
+        b"refused line 1 grammar\n",
+    )?;
+    expect_zeros(&rt, alloc, "replay", 67_108_865, long)?;
+    expect_zeros(&rt, alloc, "cut", 67_108_865, long)?;
     Ok(())
 }
