@@ -1,4 +1,5 @@
--- The changes of a history as marks, which stand in two orders.
+-- The changes of a history as marks, which stand in two orders. What is promised stands in Register.antt;
+-- this is only how the fast test goes about it.
 use Rattle.std.specs.Prelude.{◌≡◌, ℕ, ◌+◌, ◌<◌, ◌≤◌, List, [], ◌∷◌, length, Bool, true, false, ◌&&◌, ◌||◌, ◌==◌, not, nat_lt, Option, Some, None, slice_index_or}
 use Rattle.std.specs.List.{list_any, cons_option}
 use Rattle.std.specs.List.Sorted.{IsNonDecreasingBy}

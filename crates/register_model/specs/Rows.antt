@@ -547,3 +547,89 @@ still_there = refl
 
 pub taken_away : value_at lives 2 13 ≡ Absent
 taken_away = refl
+
+-- ---- lines of operations over restarts, caches, relays and other sessions
+
+-- a close that waited for the leases of the start before
+pub close_after_a_restart : op_line 5 (op 2 word.Close 2 21 (Some 32) (Some 31) (outcome.Closed 2 1 sha1_b) (codes "b") (sent 1 1 0 1))
+    ≡ codes "op 5 client 2 close file 2 begin 21 end 32 point 31 Closed 2 1 e9d71f5ee7c92d6dc9e92ffdad17b8bd49418f98 cond 1 tmp 1 read 0 data 1\n"
+unfolding digits encode_with
+close_after_a_restart = refl
+
+-- an open while its content is fresh, over a restart
+pub fresh_over_a_restart : op_line 6 (op 1 word.Open 2 29 (Some 29) (Some 29) (outcome.Opened 1 sha1_a) (codes "a") (sent 0 0 0 0))
+    ≡ codes "op 6 client 1 open file 2 begin 29 end 29 point 29 Opened 1 86f7e437faa5a7fce15d1ddcb9eaeaea377667b8 cond 0 tmp 0 read 0 data 0\n"
+unfolding digits encode_with
+fresh_over_a_restart = refl
+
+-- a close whose base was replaced
+pub close_of_another_base : op_line 7 (op 2 word.Close 2 28 (Some 44) None (outcome.Refused 20005) (codes "c") (sent 1 1 0 1))
+    ≡ codes "op 7 client 2 close file 2 begin 28 end 44 point - Refused 20005 cond 1 tmp 1 read 0 data 1\n"
+unfolding digits encode_with
+close_of_another_base = refl
+
+-- a close that was lost, and never took effect
+pub lost_and_never : op_line 3 (op 1 word.Close 2 11 (Some 18) None outcome.Lost (codes "b") (sent 1 1 0 1))
+    ≡ codes "op 3 client 1 close file 2 begin 11 end 18 point - Lost cond 1 tmp 1 read 0 data 1\n"
+unfolding digits encode_with
+lost_and_never = refl
+
+-- a close that was lost, and took effect late
+pub lost_and_late : op_line 3 (op 1 word.Close 2 11 (Some 18) (Some 36) outcome.Lost (codes "b") (sent 1 1 0 1))
+    ≡ codes "op 3 client 1 close file 2 begin 11 end 18 point 36 Lost cond 1 tmp 1 read 0 data 1\n"
+unfolding digits encode_with
+lost_and_late = refl
+
+-- the close that went before it
+pub close_beside_the_lost : op_line 6 (op 2 word.Close 2 25 (Some 34) (Some 33) (outcome.Closed 2 1 sha1_c) (codes "c") (sent 1 1 0 1))
+    ≡ codes "op 6 client 2 close file 2 begin 25 end 34 point 33 Closed 2 1 84a516841ba77a5b4648de2cd0dfcb30ea46dbb4 cond 1 tmp 1 read 0 data 1\n"
+unfolding digits encode_with
+close_beside_the_lost = refl
+
+-- an open behind both
+pub open_behind_both : op_line 7 (op 2 word.Open 2 37 (Some 40) (Some 38) (outcome.Opened 1 sha1_c) (codes "c") (sent 0 0 0 0))
+    ≡ codes "op 7 client 2 open file 2 begin 37 end 40 point 38 Opened 1 84a516841ba77a5b4648de2cd0dfcb30ea46dbb4 cond 0 tmp 0 read 0 data 0\n"
+unfolding digits encode_with
+open_behind_both = refl
+
+-- an open of a path whose names are fresh
+pub open_by_a_fresh_name : op_line 3 (op 1 word.Open 3 15 (Some 15) (Some 15) (outcome.Opened 1 sha1_a) (codes "a") (sent 0 0 0 0))
+    ≡ codes "op 3 client 1 open file 3 begin 15 end 15 point 15 Opened 1 86f7e437faa5a7fce15d1ddcb9eaeaea377667b8 cond 0 tmp 0 read 0 data 0\n"
+unfolding digits encode_with
+open_by_a_fresh_name = refl
+
+-- a removal that waited for a file and its directory
+pub remove_of_a_leased_name : op_line 4 (op 2 word.Remove 3 16 (Some 26) (Some 25) outcome.Done [] (sent 0 0 0 0))
+    ≡ codes "op 4 client 2 remove file 3 begin 16 end 26 point 25 Done cond 0 tmp 0 read 0 data 0\n"
+unfolding digits encode_with
+remove_of_a_leased_name = refl
+
+-- an open whose chunk was known from before
+pub open_from_a_cache_file : op_line 1 (op 1 word.Open 2 3 (Some 5) (Some 4) (outcome.Opened 3 sha1_abc) (codes "abc") (sent 0 0 0 0))
+    ≡ codes "op 1 client 1 open file 2 begin 3 end 5 point 4 Opened 3 a9993e364706816aba3e25717850c26c9cd0d89d cond 0 tmp 0 read 0 data 0\n"
+unfolding digits encode_with
+open_from_a_cache_file = refl
+
+-- an open through a relay
+pub open_through_a_relay : op_line 1 (op 1 word.Open 2 5 (Some 13) (Some 7) (outcome.Opened 1 sha1_a) (codes "a") (sent 0 0 1 1))
+    ≡ codes "op 1 client 1 open file 2 begin 5 end 13 point 7 Opened 1 86f7e437faa5a7fce15d1ddcb9eaeaea377667b8 cond 0 tmp 0 read 1 data 1\n"
+unfolding digits encode_with
+open_through_a_relay = refl
+
+-- an open while its content is fresh, behind a relay
+pub fresh_behind_a_relay : op_line 3 (op 1 word.Open 2 15 (Some 15) (Some 15) (outcome.Opened 1 sha1_a) (codes "a") (sent 0 0 0 0))
+    ≡ codes "op 3 client 1 open file 2 begin 15 end 15 point 15 Opened 1 86f7e437faa5a7fce15d1ddcb9eaeaea377667b8 cond 0 tmp 0 read 0 data 0\n"
+unfolding digits encode_with
+fresh_behind_a_relay = refl
+
+-- a close that waited for the relay
+pub close_behind_a_relay : op_line 4 (op 2 word.Close 2 22 (Some 36) (Some 35) (outcome.Closed 2 1 sha1_b) (codes "b") (sent 1 1 0 1))
+    ≡ codes "op 4 client 2 close file 2 begin 22 end 36 point 35 Closed 2 1 e9d71f5ee7c92d6dc9e92ffdad17b8bd49418f98 cond 1 tmp 1 read 0 data 1\n"
+unfolding digits encode_with
+close_behind_a_relay = refl
+
+-- an open behind the commit of a session without a client
+pub open_of_what_a_stranger_left : op_line 1 (op 1 word.Open 2 7 (Some 9) (Some 8) (outcome.Opened 0 sha1_none) [] (sent 0 0 0 0))
+    ≡ codes "op 1 client 1 open file 2 begin 7 end 9 point 8 Opened 0 da39a3ee5e6b4b0d3255bfef95601890afd80709 cond 0 tmp 0 read 0 data 0\n"
+unfolding digits encode_with
+open_of_what_a_stranger_left = refl

@@ -1,4 +1,5 @@
--- Legality as a test, an operation at a time.
+-- Legality as a test, an operation at a time. What is promised stands in Register.antt; this is only how
+-- the fast test goes about it.
 use Rattle.std.specs.Prelude.{ℕ, List, Bool, true, false, ◌&&◌, ◌||◌, not, nat_eq, nat_le, Option, Some, None, is_some, is_none}
 use Rattle.std.specs.List.{list_all}
 use Rattle.std.specs.Option.{option_map_or}

@@ -75,7 +75,7 @@ pub enum Outcome {
     Seen {
         /// The id of the file or directory.
         file: u64,
-        /// Its kind (ftype3 of RFC 1813, section 2.5): 1 for a file, 2 for a directory.
+        /// Its kind (ftype3 of RFC 1813, section 2.6): 1 for a file, 2 for a directory.
         kind: u32,
         /// Its version.
         version: u64,
