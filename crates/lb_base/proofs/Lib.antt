@@ -1,3 +1,2 @@
 pub mod KnownLemmas
-pub mod ListFacts
 pub mod SourceLemmas

@@ -1,4 +1,3 @@
 pub mod Causes
 pub mod Known
-pub mod Lists
 pub mod Memory

@@ -1,7 +1,8 @@
 -- Headers are read exactly as they are spelled.
-use Rattle.std.proofs.Common.{◌≡◌, ℕ, ◌+◌, ◌<◌, ◌^◌, Bool, true, false, cond, List, ◌++◌, length, Result, Ok, Err, refl, ap, ◌∙◌, subst, append_assoc, lit<, eq-eqb}
+use Rattle.std.proofs.Common.{◌≡◌, ℕ, ◌+◌, ◌<◌, ◌^◌, Bool, true, false, cond, List, [], ◌++◌, length, Result, Ok, Err, refl, sym, ap, ◌∙◌, subst, append_assoc, lit<, eq-eqb}
 use Rattle.std.specs.Prelude.{◌==◌}
 use Rattle.std.proofs.lemmas.Bool.{eqb-true}
+use Rattle.std.proofs.lemmas.List.{append-nil}
 use Rattle.xdr_codec.specs.declared.fault.Fault.{Fault}
 use Rattle.xdr_codec.specs.Format.{Input, Format, IsBytes, Takes, behind}
 use Rattle.xdr_codec.specs.Laws.{Takes-then, behind-then}
@@ -74,14 +75,47 @@ call_spelled i c j fits e = let m = message_takes 0 call_body make_call i c j fi
 pub reply_spelled : (i : Input) (r : Reply) (j : Input) → IsBytes i.rest → reply_read i ≡ Ok (r, j) → Takes i (reply_spell r) j × ReplyFits r
 reply_spelled i r j fits e = let m = message_takes 1 reply_form make_reply i r j fits e in subst (λ (z : Reply). Takes i (reply_spell z) j × ReplyFits z) m.2 (m.3, (m.4, m.5))
 
+-- ---- what follows from both
+
+refused_gives_none : {A : Type 0} (r : Result A HeaderError) (why : HeaderError) (a : A) → r ≡ Err why → ¬ (r ≡ Ok a)
+refused_gives_none (Ok b) why a e h = absurd cc
+refused_gives_none (Err other) why a e h = absurd cc
+
+abbrev pub Again : {A : Type 0} → (A → List ℕ) → (A → Type 0) → (Input → Result (A × Input) HeaderError) → Type 0
+Again {A} spell Fits read = (a : A) (at : ℕ) (rest : List ℕ) → Fits a → read (record { at = at; rest = spell a ++ rest }) ≡ Ok (a, behind at (spell a) rest)
+
+pub no_spelling : {A : Type 0} (spell : A → List ℕ) (Fits : A → Type 0) (read : Input → Result (A × Input) HeaderError) → Again spell Fits read
+    → (i : Input) (why : HeaderError) → read i ≡ Err why → (a : A) (rest : List ℕ) → Fits a → ¬ (i.rest ≡ spell a ++ rest)
+no_spelling {A} spell Fits read again i why e a rest fits is =
+    let given : read i ≡ Ok (a, behind i.at (spell a) rest) = ap (λ (r : List ℕ). read (record { at = i.at; rest = r })) is ∙ again a i.at rest fits in
+    refused_gives_none (read i) why (a, behind i.at (spell a) rest) e given
+
+pub no_prefix : {A : Type 0} (spell : A → List ℕ) (Fits : A → Type 0) (read : Input → Result (A × Input) HeaderError) → Again spell Fits read
+    → (a b : A) (more : List ℕ) → Fits a → Fits b → spell a ++ more ≡ spell b → (a ≡ b) × (more ≡ [])
+no_prefix {A} spell Fits read again a b more fits_a fits_b e =
+    let one : read (record { at = 0; rest = spell b ++ [] }) ≡ Ok (a, behind 0 (spell a) more) = ap (λ (r : List ℕ). read (record { at = 0; rest = r })) (append-nil (spell b) ∙ sym e) ∙ again a 0 more fits_a in
+    let two : read (record { at = 0; rest = spell b ++ [] }) ≡ Ok (b, behind 0 (spell b) []) = again b 0 [] fits_b in
+    let same = found_is {A = A × Input} (a, behind 0 (spell a) more) (b, behind 0 (spell b) []) (sym one ∙ two) in
+    (ap (λ p. p.0) same, ap (λ p. p.1.rest) same)
+
+pub call_again : Again call_spell CallFits call_read
+call_again c at rest fits = message_again 0 call_body make_call c.xid (c.rpcvers, c.head) at rest (small_fits 0 (lit< tt)) fits.0 fits.1
+
+pub reply_again : Again reply_spell ReplyFits reply_read
+reply_again r at rest fits = message_again 1 reply_form make_reply r.xid r.head at rest (small_fits 1 (lit< tt)) fits.0 fits.1
+
 pub call_exact : IsHeader call_spell CallFits call_read
 call_exact = record {
   spelled = call_spelled;
-  again = λ c at rest fits. message_again 0 call_body make_call c.xid (c.rpcvers, c.head) at rest (small_fits 0 (lit< tt)) fits.0 fits.1;
+  again = call_again;
+  refused = no_spelling call_spell CallFits call_read call_again;
+  prefix = no_prefix call_spell CallFits call_read call_again;
 }
 
 pub reply_exact : IsHeader reply_spell ReplyFits reply_read
 reply_exact = record {
   spelled = reply_spelled;
-  again = λ r at rest fits. message_again 1 reply_form make_reply r.xid r.head at rest (small_fits 1 (lit< tt)) fits.0 fits.1;
+  again = reply_again;
+  refused = no_spelling reply_spell ReplyFits reply_read reply_again;
+  prefix = no_prefix reply_spell ReplyFits reply_read reply_again;
 }

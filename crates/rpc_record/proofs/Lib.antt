@@ -8,3 +8,5 @@ pub mod Headers
 pub mod Exact
 pub mod Framing
 pub mod Reframing
+pub mod Spoiling
+pub mod Refusing

@@ -4,9 +4,13 @@ use Rattle.std.specs.Int.{w32, to_be_bytes}
 use Rattle.std.specs.List.{flat_map, concat}
 use Rattle.rpc_record.specs.Records.{most_bytes, most_fragments, Begun, Bad, Parts, record_of}
 
+-- a fragment's header: the top bit says that it is the last of its record, and the others how many bytes follow
+abbrev pub header_spell : Bool → ℕ → List ℕ
+header_spell last len = to_be_bytes w32 ((if last then 2 ^ 31 else 0) + len)
+
 -- a fragment: its header, and its bytes
 abbrev pub fragment_spell : Bool → List ℕ → List ℕ
-fragment_spell last body = to_be_bytes w32 ((if last then 2 ^ 31 else 0) + length body) ++ body
+fragment_spell last body = header_spell last (length body) ++ body
 
 -- a record in fragments: those before the last, and the last
 pub record Cutting : Type 0 where

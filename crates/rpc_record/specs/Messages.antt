@@ -1,5 +1,5 @@
 -- Whole headers of calls and replies (RFC 5531, section 9: rpc_msg).
-use Rattle.std.specs.Prelude.{◌≡◌, ℕ, List, ◌++◌, Result, Ok, Err, ◌==◌, if◌then◌else◌}
+use Rattle.std.specs.Prelude.{◌≡◌, ℕ, List, [], ◌++◌, Result, Ok, Err, ◌==◌, if◌then◌else◌}
 use Rattle.xdr_codec.specs.declared.fault.Fault.{Fault}
 use Rattle.xdr_codec.specs.declared.fault.ReadError.{ReadError}
 use Rattle.xdr_codec.specs.declared.fault.ReadError.TheVariants as errors
@@ -61,7 +61,13 @@ HeaderGives (Err Memory) new read = Unit {0}
 HeaderGives (Err (Xdr fault)) new read = read ≡ Err (Xdr fault)
 HeaderGives (Err (BadType value)) new read = read ≡ Err (BadType value)
 
--- reading takes exactly a header's spelling, and each spelling is read, whatever follows it
+-- reading takes exactly a header's spelling, each spelling has one header, and none is a proper prefix of another
 pub record IsHeader {A : Type 0} (spell : A → List ℕ) (Fits : A → Type 0) (read : Input → Result (A × Input) HeaderError) : Type 0 where
+  -- what is read is a header that fits, exactly its bytes stood there, and the place is behind them
   pub spelled : (i : Input) (a : A) (j : Input) → IsBytes i.rest → read i ≡ Ok (a, j) → Takes i (spell a) j × Fits a
+  -- a spelling is read, whatever follows it
   pub again : (a : A) (at : ℕ) (rest : List ℕ) → Fits a → read (record { at = at; rest = spell a ++ rest }) ≡ Ok (a, behind at (spell a) rest)
+  -- where reading is refused, no spelling begins
+  pub refused : (i : Input) (why : HeaderError) → read i ≡ Err why → (a : A) (rest : List ℕ) → Fits a → ¬ (i.rest ≡ spell a ++ rest)
+  -- no spelling is a proper prefix of another, and no two headers have one spelling
+  pub prefix : (a b : A) (more : List ℕ) → Fits a → Fits b → spell a ++ more ≡ spell b → (a ≡ b) × (more ≡ [])

@@ -1,8 +1,9 @@
 -- Worked examples.
-use Rattle.std.specs.Prelude.{◌≡◌, ℕ, ◌*◌, List, [], ◌∷◌, ◌++◌, Some, None, replicate, length}
+use Rattle.std.specs.Prelude.{◌≡◌, false, ℕ, ◌*◌, List, [], ◌∷◌, ◌++◌, Some, None, replicate, length}
 use Rattle.std.proofs.Common.{refl}
 use Rattle.rpc_record.specs.declared.refusal.Refusal.TheVariants.{TooBig, TooManyFragments}
 use Rattle.rpc_record.specs.Records.{record_of, split, marked, fed, nothing_read}
+use Rattle.rpc_record.specs.Spoilt.{Start, start_spell, promised, header_count}
 
 abbrev contents : List ℕ
 contents = 0 ∷ 0 ∷ 0 ∷ 7 ∷ 0 ∷ 0 ∷ 0 ∷ 0 ∷ 9 ∷ []
@@ -45,6 +46,16 @@ most_bytes_row = refl
 sum_row : split (0 ∷ 0 ∷ 0 ∷ 1 ∷ 5 ∷ 0 ∷ 2 ∷ 0 ∷ 0 ∷ []) ≡ record { records = []; rest = []; spoilt = Some (TooBig 131073) }
 unfolding record_of
 sum_row = refl
+
+-- and these are the bytes of that start: a whole fragment, and a header that promises too much beside it
+abbrev sum_start : Start
+sum_start = record { earlier = (5 ∷ []) ∷ []; last = false; len = 131072 }
+
+start_row : start_spell sum_start ≡ 0 ∷ 0 ∷ 0 ∷ 1 ∷ 5 ∷ 0 ∷ 2 ∷ 0 ∷ 0 ∷ []
+start_row = refl
+
+promised_row : (promised sum_start ≡ 131073) × (header_count sum_start ≡ 2)
+promised_row = (refl, refl)
 
 -- a piece after a piece
 pieces_row : (fed (fed nothing_read (128 ∷ 0 ∷ [])).0 (0 ∷ 1 ∷ 9 ∷ 128 ∷ [])) ≡ (record { rest = 128 ∷ []; spoilt = None }, record { records = (9 ∷ []) ∷ []; spoilt = None })

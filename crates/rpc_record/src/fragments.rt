@@ -1,4 +1,5 @@
-//! Fragments of records: what their headers say, and how far a record is known.
+//! Fragments of records (RFC 5531, section 11): what their headers say, and how far a record is
+//! known.
 
 ghost use Rattle.std.specs.Prelude.{◌≡◌, ℕ, List, IfOk};
 ghost use Rattle.rpc_record.specs.Records.{header_of, HasRecord};
@@ -8,10 +9,11 @@ use crate::refusal::Refusal;
 use lb_base::items::{Bytes, Items};
 use std::alloc::{AllocError, Global};
 
-/// The most bytes of one record.
+/// The most bytes of one record, over all its fragments and without their headers: a limit of this
+/// project, as the next one.
 pub const MOST_BYTES: usize = 131_072;
 
-/// The most fragments of one record.
+/// The most fragments of one record, empty ones too.
 pub const MOST_FRAGMENTS: u32 = 1024;
 
 /// The top bit of a header: its fragment is the last of the record.

@@ -1,4 +1,5 @@
-//! The headers of RPC messages (RFC 5531, sections 8 and 9), part by part.
+//! The headers of RPC messages (RFC 5531, sections 8 and 9), part by part. Each number has four
+//! bytes, the highest first.
 
 ghost use Rattle.std.specs.Prelude.{◌≡◌, ◌++◌, ◌≤◌, length, OnOk};
 ghost use Rattle.rpc_record.specs.Header.{auth_form, accept_form};
@@ -10,74 +11,94 @@ use xdr_codec::item::Item;
 use xdr_codec::reader::Reader;
 use xdr_codec::writer::Writer;
 
-/// Whether a message is a call or a reply (msg_type).
+/// Whether a message is a call or a reply (RFC 5531, section 9: msg_type). Other numbers are refused
+/// as `BadValue`.
 #[derive(Clone, Copy, Debug, PartialEq, Eq, Drop)]
 pub enum Direction {
+    /// The number 0.
     Call,
+    /// The number 1.
     Reply,
 }
 
-/// What every message begins with (rpc_msg).
+/// What every message begins with (RFC 5531, section 9: rpc_msg).
 #[derive(Clone, Copy, Debug, PartialEq, Eq, Drop)]
 pub struct Front {
+    /// The number by which a reply is known as that of its call.
     pub xid: u32,
+    /// Which of the two it is.
     pub direction: Direction,
 }
 
-/// An authentication item: its flavor, and at most 400 bytes (opaque_auth).
+/// Who is asking, or proof of it (RFC 5531, section 8.2: opaque_auth). More than 400 bytes are
+/// refused as `TooLong`.
 #[derive(Drop, Debug)]
 pub struct Auth {
+    /// Which form the body has (auth_flavor); any number is read.
     pub flavor: u32,
+    /// At most 400 bytes, whose form the flavor says. They aren't looked at.
     pub body: Bytes,
 }
 
-/// What a call's header says behind the version of RPC (call_body).
+/// What a call's header says behind the version of RPC (RFC 5531, section 9: call_body).
 #[derive(Drop, Debug)]
 pub struct CallHead {
+    /// The program's number (prog).
     pub program: u32,
+    /// The program's version (vers).
     pub version: u32,
+    /// The procedure of that version (proc).
     pub procedure: u32,
+    /// Who is asking.
     pub cred: Auth,
+    /// What shows that it is so.
     pub verf: Auth,
 }
 
-/// The lowest and the highest version that are supported (mismatch_info).
+/// The versions that are supported (RFC 5531, section 9: mismatch_info).
 #[derive(Clone, Copy, Debug, PartialEq, Eq, Drop)]
 pub struct Versions {
+    /// The lowest.
     pub low: u32,
+    /// The highest.
     pub high: u32,
 }
 
-/// What became of a call that was accepted (accept_stat, and what follows it).
+/// What became of a call that was accepted (RFC 5531, section 9: accept_stat, and what follows it).
+/// Other numbers than 0 to 5 are refused as `BadValue`.
 #[derive(Clone, Copy, Debug, PartialEq, Eq, Drop)]
 pub enum Accept {
-    /// The result follows.
+    /// 0: the result follows the header.
     Success,
-    /// The program is not served here.
+    /// 1: the program is not served here.
     ProgUnavail,
-    /// The program is served, in other versions.
+    /// 2: the program is served, in these other versions.
     ProgMismatch(Versions),
-    /// The program has no such procedure.
+    /// 3: the program has no such procedure.
     ProcUnavail,
-    /// The arguments could not be read.
+    /// 4: the arguments could not be read.
     GarbageArgs,
-    /// The server could not do it, as for want of memory.
+    /// 5: the server could not do it, as for want of memory.
     SystemErr,
 }
 
-/// Why a call was denied (reject_stat, and what follows it).
+/// Why a call was denied (RFC 5531, section 9: reject_stat, and what follows it). Other numbers than
+/// 0 and 1 are refused as `BadValue`.
 #[derive(Clone, Copy, Debug, PartialEq, Eq, Drop)]
 pub enum Denial {
-    /// RPC is spoken in other versions.
+    /// 0: RPC is spoken in these other versions.
     RpcMismatch(Versions),
-    /// The caller is not let in, for the reason of this number (auth_stat).
+    /// 1: the caller is not let in, for the reason of this number (auth_stat); any number is read.
     AuthError(u32),
 }
 
-/// The header of a reply behind its direction (reply_body).
+/// The header of a reply behind its type (RFC 5531, section 9: reply_body, by its reply_stat). Other
+/// numbers than 0 and 1 are refused as `BadValue`.
 #[derive(Drop, Debug)]
 pub enum ReplyHead {
+    /// 0: the server's verifier, and what became of the call (accepted_reply).
     Accepted(Auth, Accept),
+    /// 1: why the call was not taken (rejected_reply).
     Denied(Denial),
 }
 

@@ -1,10 +1,14 @@
 //! What records keep, whatever the pieces in which their bytes come.
 
-ghost use Rattle.std.specs.Prelude.{◌≡◌, ℕ, List, ◌++◌};
+ghost use Rattle.std.specs.Prelude.{◌≡◌, ◌↔◌, ℕ, List, [], ◌++◌, Some};
 ghost use Rattle.std.specs.List.{concat};
 ghost use Rattle.xdr_codec.specs.Format.{IsBytes};
 ghost use Rattle.rpc_record.specs.Framed.{Framed, IsFramed};
-ghost use Rattle.rpc_record.specs.Messages.{IsHeader, call_spell, CallFits, call_read, reply_spell, ReplyFits, reply_read};
+ghost use Rattle.rpc_record.specs.Spoilt.{SpoiltBehind, Spoils};
+ghost use Rattle.rpc_record.specs.declared.refusal.Refusal.{Refusal};
+ghost use Rattle.rpc_record.specs.Header.{reply_form};
+ghost use Rattle.rpc_record.specs.Refused.{IsRefusal};
+ghost use Rattle.rpc_record.specs.Messages.{IsHeader, call_body, call_spell, CallFits, call_read, reply_spell, ReplyFits, reply_read};
 ghost use Rattle.rpc_record.specs.Records.{split, continued, all_fed, nothing_read, stream, CanSend, Came};
 
 /// The records that are split off are those that the bytes carry in fragments, and a refusal
@@ -12,6 +16,14 @@ ghost use Rattle.rpc_record.specs.Records.{split, continued, all_fed, nothing_re
 pub fn records_are_framed()
     ensures sound { (bytes : List ℕ) → IsBytes bytes → IsFramed bytes (split bytes) }
     ensures complete { (records : List (List ℕ)) (bytes rest : List ℕ) → Framed records bytes rest → split bytes ≡ record { records = records ++ (split rest).records; rest = (split rest).rest; spoilt = (split rest).spoilt } }
+{}
+
+/// Pieces, however they were cut, are refused exactly where a start of a record stands behind
+/// whole records in their joined bytes whose headers promise more than 131,072 bytes, or which has
+/// a 1,025th header; and those records come beside the refusal.
+pub fn refusals_are_of_spoilt_streams()
+    ensures exact { (pieces : List (List ℕ)) (why : Refusal) → IsBytes (concat pieces) → ((all_fed nothing_read pieces).spoilt ≡ Some why) ↔ Spoils (concat pieces) why }
+    ensures beside { (pieces records : List (List ℕ)) (why : Refusal) → SpoiltBehind records (concat pieces) why → all_fed nothing_read pieces ≡ record { records = records; rest = []; spoilt = Some why } }
 {}
 
 /// However bytes are cut into pieces, the pieces give the records of the whole, one after the
@@ -28,8 +40,15 @@ pub fn streams_come_whole()
 {}
 
 /// A header is read exactly where its spelling stands, and what is spelled is read again, whatever
-/// follows it.
+/// follows it; where reading is refused no spelling begins, and none is a proper prefix of another.
 pub fn headers_are_exact()
     ensures calls { IsHeader call_spell CallFits call_read }
     ensures replies { IsHeader reply_spell ReplyFits reply_read }
+{}
+
+/// A header is refused for another type exactly where an xid and that type's number stand, and for
+/// a fault exactly where the bytes end within these two, or what the type has is so refused.
+pub fn refused_headers_have_their_causes()
+    ensures calls { IsRefusal 0 call_body call_read }
+    ensures replies { IsRefusal 1 reply_form reply_read }
 {}

@@ -1,4 +1,4 @@
-//! Records into a stream of bytes.
+//! Records into a stream of bytes (RFC 5531, section 11).
 
 ghost use Rattle.std.specs.Prelude.{◌≡◌, ◌<◌, ◌≤◌, length, MatchResult};
 ghost use Rattle.rpc_record.specs.Records.{marked, most_bytes};
@@ -11,7 +11,8 @@ use std::alloc::Global;
 
 /// A record as its only fragment: its header, and its bytes.
 ///
-/// More than 131,072 bytes are refused; else only memory can be wanting.
+/// More than 131,072 bytes are refused as `TooBig`; else only memory can be wanting, and then nothing
+/// is left.
 pub fn mark(alloc: Global, contents: &[u8]) -> Result<Bytes, MarkError>
     ensures too_big { most_bytes < length contents.now → result ≡ Err (errors.TooBig (length contents.now)) }
     ensures fits { length contents.now ≤ most_bytes → MatchResult result (λ bytes. bytes ≡ marked contents.now) (λ e. e ≡ errors.Memory) }

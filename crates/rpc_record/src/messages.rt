@@ -1,7 +1,7 @@
 //! Whole headers of calls and replies (RFC 5531, section 9).
 //!
 //! A reader is left behind the header, where the arguments or the result begin; after a refusal it
-//! is where it was.
+//! is where it was. A writer holds the header behind what it held, or only what it held.
 
 ghost use Rattle.std.specs.Prelude.{◌≡◌, ◌++◌, ◌≤◌, length, OnOk, OnErr};
 ghost use Rattle.rpc_record.specs.Header.{short_reply};
@@ -20,21 +20,23 @@ const CALL: u32 = 0;
 /// The number of a reply (msg_type).
 const REPLY: u32 = 1;
 
-/// The header of a call.
+/// The header of a call (RFC 5531, section 9: rpc_msg with a call_body).
 #[derive(Drop, Debug)]
 pub struct Call {
     /// The number by which its reply is known.
     pub xid: u32,
     /// The version of RPC; a call of another version than 2 is answered by `RpcMismatch`.
     pub rpcvers: u32,
+    /// The rest of it.
     pub head: CallHead,
 }
 
-/// The header of a reply.
+/// The header of a reply (RFC 5531, section 9: rpc_msg with a reply_body).
 #[derive(Drop, Debug)]
 pub struct Reply {
     /// The number of the call that it answers.
     pub xid: u32,
+    /// What became of that call.
     pub head: ReplyHead,
 }
 
@@ -65,9 +67,31 @@ fn read_reply(alloc: Global, reader: &mut Reader) -> Result<Reply, HeaderError>
     Ok(Reply { xid, head })
 }
 
+/// The header of a call; want of memory leaves a part of it.
+fn write_call(call: &Call, writer: &mut Writer) -> Result<(), AllocError>
+    ensures spelled { OnOk result (writer.new ≡ writer.old ++ call_spell call.now) }
+    ensures fits { OnOk result (length call.now.head.cred.body ≤ 400 → length call.now.head.verf.body ≤ 400 → CallFits call.now) }
+{
+    writer.u32(call.xid)?;
+    writer.u32(CALL)?;
+    writer.u32(call.rpcvers)?;
+    call.head.write(writer)
+}
+
+/// The header of a reply; want of memory leaves a part of it.
+fn write_reply(reply: &Reply, writer: &mut Writer) -> Result<(), AllocError>
+    ensures spelled { OnOk result (writer.new ≡ writer.old ++ reply_spell reply.now) }
+    ensures fits { OnOk result (short_reply reply.now.head → ReplyFits reply.now) }
+{
+    writer.u32(reply.xid)?;
+    writer.u32(REPLY)?;
+    reply.head.write(writer)
+}
+
 impl Call {
-    /// Reads the header of a call; `BadType` where the message is not a call. After an `Err`, want
-    /// of memory too, the reader is where it was.
+    /// Reads the header of a call: `BadType` where the message is of another type, `Xdr` with the
+    /// first fault where an item could not be read, and `Memory`. After an `Err`, want of memory
+    /// too, the reader is where it was.
     pub fn read(alloc: Global, reader: &mut Reader) -> Result<Call, HeaderError>
         ensures gives { HeaderGives result reader.new (call_read reader.old) }
         ensures stays { OnErr result (reader.new ≡ reader.old) }
@@ -80,21 +104,23 @@ impl Call {
         read
     }
 
-    /// Writes the header; only memory can be wanting.
+    /// Writes the header; only memory can be wanting, and then the writer holds what it held. The
+    /// bodies of both authentication items are to have at most 400 bytes, else no end reads it.
     pub fn write(&self, writer: &mut Writer) -> Result<(), AllocError>
         ensures spelled { OnOk result (writer.new ≡ writer.old ++ call_spell self.now) }
         ensures fits { OnOk result (length self.now.head.cred.body ≤ 400 → length self.now.head.verf.body ≤ 400 → CallFits self.now) }
+        ensures stays { OnErr result (writer.new ≡ writer.old) }
     {
-        writer.u32(self.xid)?;
-        writer.u32(CALL)?;
-        writer.u32(self.rpcvers)?;
-        self.head.write(writer)
+        let mut header = writer.part();
+        write_call(self, &mut header)?;
+        writer.append(header)
     }
 }
 
 impl Reply {
-    /// Reads the header of a reply; `BadType` where the message is not a reply. After an `Err`, want
-    /// of memory too, the reader is where it was.
+    /// Reads the header of a reply: `BadType` where the message is of another type, `Xdr` with the
+    /// first fault where an item could not be read, and `Memory`. After an `Err`, want of memory
+    /// too, the reader is where it was.
     pub fn read(alloc: Global, reader: &mut Reader) -> Result<Reply, HeaderError>
         ensures gives { HeaderGives result reader.new (reply_read reader.old) }
         ensures stays { OnErr result (reader.new ≡ reader.old) }
@@ -107,13 +133,15 @@ impl Reply {
         read
     }
 
-    /// Writes the header; only memory can be wanting.
+    /// Writes the header; only memory can be wanting, and then the writer holds what it held. The
+    /// body of a verifier is to have at most 400 bytes, else no end reads it.
     pub fn write(&self, writer: &mut Writer) -> Result<(), AllocError>
         ensures spelled { OnOk result (writer.new ≡ writer.old ++ reply_spell self.now) }
         ensures fits { OnOk result (short_reply self.now.head → ReplyFits self.now) }
+        ensures stays { OnErr result (writer.new ≡ writer.old) }
     {
-        writer.u32(self.xid)?;
-        writer.u32(REPLY)?;
-        self.head.write(writer)
+        let mut header = writer.part();
+        write_reply(self, &mut header)?;
+        writer.append(header)
     }
 }

@@ -1,4 +1,4 @@
-//! Records out of a stream of bytes that comes in pieces.
+//! Records out of a stream of bytes that comes in pieces (RFC 5531, section 11).
 
 ghost use Rattle.std.specs.Prelude.{◌≡◌, ◌≤◌, IfOk, OnErr, drop, length};
 ghost use Rattle.rpc_record.specs.Records.{nothing_read, fed};
@@ -81,7 +81,8 @@ fn forget(bytes: &mut Vec<u8>, used: usize)
     bytes.truncate(left);
 }
 
-/// One end of a stream of records.
+/// One end of a stream of records. A record has at most 131,072 bytes, in at most 1,024 fragments;
+/// fragments of no bytes are taken, and count.
 #[derive(Drop)]
 pub struct Records {
     rest: Vec<u8>,
@@ -101,7 +102,7 @@ impl Model for Records {
 }
 
 impl Records {
-    /// Nothing has come yet.
+    /// Nothing has come yet. Takes no memory.
     pub fn new(alloc: Global) -> Records
         ensures { result ≡ nothing_read }
     {
@@ -112,10 +113,18 @@ impl Records {
         }
     }
 
+    /// How many bytes came behind the last whole record; none once the stream is spoilt.
+    pub fn rest_len(&self) -> usize
+        ensures { result ≡ length self.now.rest }
+    {
+        self.rest.len()
+    }
+
     /// Takes a piece of the stream, and gives the records that end in it.
     ///
-    /// Once a header was met that no record may have, it gives no record, and the same refusal
-    /// ever after. Where memory runs out, the piece was not taken.
+    /// As soon as all four bytes of a header are there that no record may have, it says why, beside
+    /// the records before it; from then on it gives no record, and the same refusal ever after.
+    /// The one error is want of memory: the piece was then not taken.
     pub fn feed(&mut self, alloc: Global, piece: &[u8]) -> Result<Fed, AllocError>
         ensures ok { IfOk result (λ given. fed self.old piece.now ≡ (self.new, given)) }
         ensures err { OnErr result (self.new ≡ self.old) }

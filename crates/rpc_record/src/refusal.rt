@@ -11,7 +11,10 @@ use xdr_codec::fault::{Fault, ReadError};
 #[derive(Clone, Copy, Debug, PartialEq, Eq)]
 pub enum Refusal {
     /// The headers of a record promise so many bytes, which are more than 131,072.
-    TooBig { len: usize },
+    TooBig {
+        /// How many the headers promise, with the one that passes the limit.
+        len: usize,
+    },
     /// A record has a 1,025th fragment.
     TooManyFragments,
 }
@@ -20,7 +23,10 @@ pub enum Refusal {
 #[derive(Debug, Drop, PartialEq, Eq)]
 pub enum MarkError {
     /// It has so many bytes, which are more than 131,072.
-    TooBig { len: usize },
+    TooBig {
+        /// How many it has.
+        len: usize,
+    },
     /// Memory ran out.
     Memory,
 }
@@ -39,7 +45,10 @@ pub enum HeaderError {
     /// An item of the header could not be read.
     Xdr(Fault),
     /// The message is of another type, which has this number.
-    BadType { value: u32 },
+    BadType {
+        /// The number that stands there.
+        value: u32,
+    },
     /// Memory ran out.
     Memory,
 }

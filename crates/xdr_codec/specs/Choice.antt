@@ -10,9 +10,6 @@ use Rattle.xdr_codec.specs.Xdr.{u32_form, bool_form, if_ok}
 
 -- ---- an item that may be there
 
-abbrev pub some_of : {A : Type 0} → Option A → Option A
-some_of o = o
-
 abbrev pub option_forms : {A : Type 0} → Format A → Bool → Format (Option A)
 option_forms f true = variant Some (λ o. o) (λ a. refl) some_there f
   where

@@ -1,6 +1,6 @@
 -- The numbers of the statuses (RFC 1813, section 2.6; from 20001 on those of LBFS).
-use Rattle.std.specs.Prelude.{◌≡◌, ℕ, List, [], ◌∷◌, Option, Some, refl}
-use Rattle.xdr_codec.specs.Tables.{named, named_there}
+use Rattle.std.specs.Prelude.{ℕ, List, [], ◌∷◌, Option}
+use Rattle.xdr_codec.specs.Tables.{named}
 use Rattle.xdr_codec.specs.declared.status.Status.{Status}
 use Rattle.xdr_codec.specs.declared.status.Status.TheVariants.{Perm, NoEnt, Io, Acces, Exist, NotDir, IsDir, Inval, FBig, NoSpc, NameTooLong, NotEmpty, Stale, BadHandle, BadCookie, NotSupp, TooSmall, ServerFault, Jukebox, HashNotFound, FdInUse, BadFd, TooManyTemps}
 
@@ -34,31 +34,3 @@ statuses = Perm ∷ NoEnt ∷ Io ∷ Acces ∷ Exist ∷ NotDir ∷ IsDir ∷ In
 
 abbrev pub status_of : ℕ → Option Status
 status_of n = named status_number n statuses
-
-pub status_home : (s : Status) → status_of (status_number s) ≡ Some s
-status_home Perm = refl
-status_home NoEnt = refl
-status_home Io = refl
-status_home Acces = refl
-status_home Exist = refl
-status_home NotDir = refl
-status_home IsDir = refl
-status_home Inval = refl
-status_home FBig = refl
-status_home NoSpc = refl
-status_home NameTooLong = refl
-status_home NotEmpty = refl
-status_home Stale = refl
-status_home BadHandle = refl
-status_home BadCookie = refl
-status_home NotSupp = refl
-status_home TooSmall = refl
-status_home ServerFault = refl
-status_home Jukebox = refl
-status_home HashNotFound = refl
-status_home FdInUse = refl
-status_home BadFd = refl
-status_home TooManyTemps = refl
-
-pub status_there : (n : ℕ) (s : Status) → status_of n ≡ Some s → status_number s ≡ n
-status_there n s e = named_there status_number n statuses s e

@@ -1,4 +1,4 @@
-//! Answers behind their status.
+//! Answers behind their status (RFC 1813, section 3: a union on nfsstat3; RFC 4506, section 4.15).
 
 ghost use Rattle.std.specs.Prelude.{◌≡◌, ◌++◌, OnOk};
 ghost use Rattle.xdr_codec.specs.Format.{Gives};
@@ -11,10 +11,12 @@ use crate::status::{Status, from_number, number};
 use crate::writer::Writer;
 use std::alloc::{AllocError, Global};
 
-/// An answer: status OK and the body, or why not and what goes with it.
+/// An answer. A number that is no status is refused as `BadValue`.
 #[derive(Drop, Debug)]
 pub enum Answer<T, F> {
+    /// Status OK, the number 0, and the body.
     Done(T),
+    /// Why not, and what goes with it.
     Failed(Status, F),
 }
 

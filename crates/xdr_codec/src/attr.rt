@@ -8,36 +8,54 @@ use crate::reader::Reader;
 use crate::writer::Writer;
 use std::alloc::{AllocError, Global};
 
-/// What a node is. Other numbers of ftype3 are refused as `BadValue`.
+/// What a node is (ftype3). Other numbers than 1 and 2 are refused as `BadValue`.
 #[derive(Clone, Copy, Debug, PartialEq, Eq, Drop)]
 pub enum Kind {
+    /// The number 1 (NF3REG).
     File,
+    /// The number 2 (NF3DIR).
     Directory,
 }
 
-/// A time since 1970.
+/// A time since the first moment of 1970, UTC (nfstime3).
 #[derive(Clone, Copy, Debug, PartialEq, Eq, Drop)]
 pub struct Time {
+    /// Whole seconds.
     pub seconds: u32,
+    /// And so many nanoseconds; any number is read.
     pub nanoseconds: u32,
 }
 
 /// The attributes of a file or a directory: 84 bytes, in the order of fattr3.
 #[derive(Clone, Copy, Debug, PartialEq, Eq, Drop)]
 pub struct Attr {
+    /// What it is (type).
     pub kind: Kind,
+    /// Who may do what with it, as bits.
     pub mode: u32,
+    /// How many names it has.
     pub nlink: u32,
+    /// The owner's number.
     pub uid: u32,
+    /// The group's number.
     pub gid: u32,
+    /// Its size in bytes.
     pub size: u64,
+    /// How many bytes of the disk it takes.
     pub used: u64,
+    /// The first number of a device (rdev.specdata1).
     pub rdev_major: u32,
+    /// The second number of a device (rdev.specdata2).
     pub rdev_minor: u32,
+    /// The file system's number.
     pub fsid: u64,
+    /// Its number within the file system.
     pub fileid: u64,
+    /// When it was last read.
     pub atime: Time,
+    /// When its content last changed.
     pub mtime: Time,
+    /// When its attributes last changed.
     pub ctime: Time,
 }
 

@@ -31,7 +31,7 @@ impl Model for Handle {
 const MARK: [u8; 8] = [0x4c, 0x42, 0x30, 0x31, 0, 0, 0, 0];
 
 impl Handle {
-    /// A handle of any bytes; none where there are more than 64.
+    /// A handle of any bytes; none where there are more than 64. Takes no memory.
     pub fn new(bytes: Bytes) -> Option<Handle>
         ensures some { IfSome result (λ h. h ≡ bytes) }
         ensures none { IfNone result (64 < length bytes) }
@@ -42,7 +42,8 @@ impl Handle {
         Some(Handle { bytes })
     }
 
-    /// The handle that this file system gives for a file's number.
+    /// The handle that this file system gives for a file's number: 16 bytes, its mark and the
+    /// number, the highest byte first. The one error is want of memory.
     pub fn of_file(alloc: Global, id: u64) -> Result<Handle, AllocError>
         ensures { IfOk result (λ h. h ≡ handle_bytes id) }
     {

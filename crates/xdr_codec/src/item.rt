@@ -27,7 +27,8 @@ pub trait Item: Sized + Drop {
     fn read(alloc: Global, reader: &mut Reader) -> Result<Self, ReadError>
         ensures { Gives result reader.new (form.read reader.old) };
 
-    /// Writes its spelling. After an `Err` the writer may hold a part of it.
+    /// Writes its spelling; only memory can be wanting. After an `Err` the writer may hold a part of
+    /// it; `write_item` leaves what it held.
     fn write(&self, writer: &mut Writer) -> Result<(), AllocError>
         ensures spelled { OnOk result (writer.new ≡ writer.old ++ form.spell self.now) }
         ensures fits { OnOk result (short self.now → form.Fits self.now) };
@@ -45,6 +46,18 @@ pub fn read_item<T: Item>(alloc: Global, reader: &mut Reader) -> Result<T, ReadE
         *reader = start;
     }
     read
+}
+
+/// Writes one item, as `Item::write` does; after an `Err`, which says that memory ran out, the
+/// writer holds what it held.
+pub fn write_item<T: Item>(writer: &mut Writer, item: &T) -> Result<(), AllocError>
+    ensures spelled { OnOk result (writer.new ≡ writer.old ++ T.form.spell item.now) }
+    ensures fits { OnOk result (T.short item.now → T.form.Fits item.now) }
+    ensures stays { OnErr result (writer.new ≡ writer.old) }
+{
+    let mut part = writer.part();
+    item.write(&mut part)?;
+    writer.append(part)
 }
 
 impl Item for u32 {
@@ -153,7 +166,8 @@ fn read_number_and<T: Item>(
     read_many(alloc, count, reader)
 }
 
-/// Items behind their number, which is at most `max`. After an `Err` the reader is where it was.
+/// Items behind their number, which is at most `max`, else `TooLong` (RFC 4506, section 4.13). After
+/// an `Err` the reader is where it was.
 pub fn read_counted<T: Item>(
     alloc: Global,
     max: u32,
@@ -195,7 +209,8 @@ fn read_links<T: Item>(alloc: Global, reader: &mut Reader) -> Result<Items<T>, R
     Err(ReadError::Fault(Fault::Short { at: reader.at() }))
 }
 
-/// Items, each behind a true, and a false. After an `Err` the reader is where it was.
+/// Items, each behind a true, and a false (RFC 4506, section 4.19). After an `Err` the reader is
+/// where it was.
 pub fn read_chain<T: Item>(alloc: Global, reader: &mut Reader) -> Result<Items<T>, ReadError>
     ensures gives { Gives result reader.new ((chained T.form).read reader.old) }
     ensures stays { OnErr result (reader.new ≡ reader.old) }
@@ -216,8 +231,8 @@ fn write_link<T: Item>(writer: &mut Writer, item: &T) -> Result<(), AllocError>
     item.write(writer)
 }
 
-/// Items, each behind a true, and a false.
-pub fn write_chain<T: Item>(writer: &mut Writer, items: &[T]) -> Result<(), AllocError>
+/// Links up to the false; want of memory leaves a part of them.
+fn write_links<T: Item>(writer: &mut Writer, items: &[T]) -> Result<(), AllocError>
     ensures spelled { OnOk result (writer.new ≡ writer.old ++ (chained T.form).spell items.now) }
     ensures fits { OnOk result (All T.short items.now → All T.form.Fits items.now) }
 {
@@ -227,12 +242,37 @@ pub fn write_chain<T: Item>(writer: &mut Writer, items: &[T]) -> Result<(), Allo
     writer.bool(false)
 }
 
-/// Items behind their number.
+/// Items, each behind a true, and a false (RFC 4506, section 4.19). After an `Err`, which says that
+/// memory ran out, the writer holds what it held.
+pub fn write_chain<T: Item>(writer: &mut Writer, items: &[T]) -> Result<(), AllocError>
+    ensures spelled { OnOk result (writer.new ≡ writer.old ++ (chained T.form).spell items.now) }
+    ensures fits { OnOk result (All T.short items.now → All T.form.Fits items.now) }
+    ensures stays { OnErr result (writer.new ≡ writer.old) }
+{
+    let mut part = writer.part();
+    write_links(&mut part, items)?;
+    writer.append(part)
+}
+
+/// The number, and the items; want of memory leaves a part of them.
 #[tactic(auto, unfolding(crate::specs::Xdr::count_form, crate::specs::Xdr::u32_form))]
-pub fn write_counted<T: Item>(writer: &mut Writer, items: &[T]) -> Result<(), AllocError>
+fn write_number_and<T: Item>(writer: &mut Writer, items: &[T]) -> Result<(), AllocError>
     ensures spelled { (max : ℕ) → OnOk result (writer.new ≡ writer.old ++ (counted max T.form).spell items.now) }
     ensures fits { OnOk result ((max : ℕ) → length items.now ≤ max → max < 2 ^ 32 → All T.short items.now → (counted max T.form).Fits items.now) }
 {
     writer.u32((items.len() % 0x1_0000_0000) as u32)?;
     write_many(writer, items)
+}
+
+/// Items behind their number (RFC 4506, section 4.13). They are to be fewer than 2 ^ 32, as those of
+/// any message that fits are. After an `Err`, which says that memory ran out, the writer holds what
+/// it held.
+pub fn write_counted<T: Item>(writer: &mut Writer, items: &[T]) -> Result<(), AllocError>
+    ensures spelled { (max : ℕ) → OnOk result (writer.new ≡ writer.old ++ (counted max T.form).spell items.now) }
+    ensures fits { OnOk result ((max : ℕ) → length items.now ≤ max → max < 2 ^ 32 → All T.short items.now → (counted max T.form).Fits items.now) }
+    ensures stays { OnErr result (writer.new ≡ writer.old) }
+{
+    let mut part = writer.part();
+    write_number_and(&mut part, items)?;
+    writer.append(part)
 }

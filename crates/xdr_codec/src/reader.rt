@@ -1,4 +1,4 @@
-//! Reading items from the front of a record.
+//! Reading items from the front of a record (RFC 4506).
 //!
 //! The place of a refusal is where the item that failed begins, counted from the record's first
 //! byte. An opaque is one item, which begins at its length: `Short` and `BadFill` of its bytes
@@ -39,7 +39,7 @@ fn is_fill(fill: &[u8]) -> bool
 }
 
 impl<'a> Reader<'a> {
-    /// A whole record.
+    /// A whole record. Takes no memory.
     pub fn new(bytes: &'a [u8]) -> Reader<'a>
         ensures { result ≡ record { at = 0; rest = bytes.now } }
     {
@@ -89,7 +89,8 @@ impl<'a> Reader<'a> {
         Ok(())
     }
 
-    /// A number below 2 ^ 32. Takes no memory.
+    /// A number below 2 ^ 32: four bytes, the highest first (RFC 4506, section 4.2); `Short` where
+    /// fewer are left. Takes no memory.
     #[tactic(auto, unfolding(crate::specs::Xdr::u32_form))]
     pub fn u32(&mut self) -> Result<u32, ReadError>
         ensures gives { Gives result self.new (u32_form.read self.old) }
@@ -106,7 +107,8 @@ impl<'a> Reader<'a> {
         Ok(number)
     }
 
-    /// A number below 2 ^ 64. Takes no memory.
+    /// A number below 2 ^ 64: eight bytes, the highest first (RFC 4506, section 4.5); `Short` where
+    /// fewer are left. Takes no memory.
     #[tactic(auto, unfolding(crate::specs::Xdr::u64_form))]
     pub fn u64(&mut self) -> Result<u64, ReadError>
         ensures gives { Gives result self.new (u64_form.read self.old) }
@@ -125,7 +127,7 @@ impl<'a> Reader<'a> {
         Ok(number)
     }
 
-    /// A truth value: 0 or 1, else `BadBool`. Takes no memory.
+    /// A truth value: the number 0 or 1, else `BadBool` (RFC 4506, section 4.4). Takes no memory.
     #[tactic(auto, unfolding(crate::specs::Xdr::bool_form))]
     pub fn bool(&mut self) -> Result<bool, ReadError>
         ensures gives { Gives result self.new (bool_form.read self.old) }
@@ -144,7 +146,7 @@ impl<'a> Reader<'a> {
         }
     }
 
-    /// Whether an item is there; where it is, it follows. Takes no memory.
+    /// Whether an item is there; where it is, it follows (RFC 4506, section 4.19). Takes no memory.
     pub fn opt(&mut self) -> Result<bool, ReadError>
         ensures gives { Gives result self.new (bool_form.read self.old) }
         ensures stays { OnErr result (self.new ≡ self.old) }
@@ -153,7 +155,8 @@ impl<'a> Reader<'a> {
         self.bool()
     }
 
-    /// A length of at most `max`, else `TooLong`. Takes no memory.
+    /// A length of at most `max`, in bytes or in items, else `TooLong` (RFC 4506, sections 4.10 and
+    /// 4.13). Takes no memory.
     #[tactic(auto, unfolding(crate::specs::Xdr::count_form))]
     pub fn count(&mut self, max: u32) -> Result<u32, ReadError>
         ensures gives { Gives result self.new ((count_form max).read self.old) }
@@ -171,7 +174,8 @@ impl<'a> Reader<'a> {
         Ok(len)
     }
 
-    /// So many bytes, and zeros up to a multiple of four.
+    /// So many bytes, and zeros up to a multiple of four, else `BadFill` (RFC 4506, section 4.9);
+    /// `Short` where fewer are left. The bytes are copied.
     #[tactic(auto, unfolding(crate::specs::Xdr::fixed_form, crate::specs::Xdr::bytes_form))]
     pub fn fixed(&mut self, alloc: Global, len: usize) -> Result<Bytes, ReadError>
         ensures gives { Gives result self.new ((fixed_form len).read self.old) }
@@ -182,7 +186,7 @@ impl<'a> Reader<'a> {
         self.bytes(alloc, at, len)
     }
 
-    /// Twenty bytes. Takes no memory.
+    /// Twenty bytes, as `fixed` reads them. Takes no memory.
     #[tactic(auto, unfolding(crate::specs::Xdr::fixed_form))]
     pub fn digest(&mut self) -> Result<[u8; 20], ReadError>
         ensures gives { Gives result self.new ((fixed_form 20).read self.old) }
@@ -200,7 +204,8 @@ impl<'a> Reader<'a> {
         Ok(digest)
     }
 
-    /// At most `max` bytes behind their number.
+    /// At most `max` bytes behind their number, else `TooLong`, and zeros up to a multiple of four,
+    /// else `BadFill` (RFC 4506, section 4.10); `Short` where fewer are left. The bytes are copied.
     pub fn opaque(&mut self, alloc: Global, max: u32) -> Result<Bytes, ReadError>
         ensures gives { Gives result self.new ((opaque_form max).read self.old) }
         ensures stays { OnErr result (self.new ≡ self.old) }

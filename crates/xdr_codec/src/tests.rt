@@ -5,7 +5,7 @@ use crate::attr::{Attr, Kind, Time};
 use crate::digest::Digest;
 use crate::fault::{Fault, ReadError};
 use crate::handle::Handle;
-use crate::item::{read_chain, read_counted, read_item, write_chain, write_counted};
+use crate::item::{read_chain, read_counted, read_item, write_chain, write_counted, write_item};
 use crate::reader::Reader;
 use crate::status::Status;
 use crate::whole::{read_whole, write_whole};
@@ -99,6 +99,18 @@ fn writes_what_another_program_wrote(rt: HostRuntime) -> Result<(), Fail> {
     write_counted(&mut writer, &[1u32, 65536, 4294967295])?;
     write_chain(&mut writer, &[7u64, 8])?;
     assert_eq!(rt; writer.done().as_slice(), ITEMS.as_slice());
+    Ok(())
+}
+
+#[test]
+fn writes_an_item_behind_another(rt: HostRuntime) -> Result<(), Fail> {
+    let mut writer = Writer::new(rt.alloc());
+    write_item(&mut writer, &9u32)?;
+    write_item(&mut writer, &Some(3u32))?;
+    assert_eq!(rt;
+        writer.done().as_slice(),
+        [0, 0, 0, 9, 0, 0, 0, 1, 0, 0, 0, 3].as_slice()
+    );
     Ok(())
 }
 

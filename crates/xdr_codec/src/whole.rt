@@ -33,7 +33,8 @@ fn fill<T: Item>(alloc: Global, start: usize, bytes: &[u8]) -> Result<T, ReadErr
     Ok(item)
 }
 
-/// The bytes that spell an item.
+/// The bytes that spell an item. The one error is want of memory; then nothing is left of what was
+/// written.
 pub fn write_whole<T: Item>(alloc: Global, item: &T) -> Result<Bytes, AllocError>
     ensures spelled { IfOk result (λ bytes. bytes ≡ T.form.spell item.now) }
     ensures fits { OnOk result (T.short item.now → T.form.Fits item.now) }

@@ -1,6 +1,7 @@
-//! Writing items to the end of a record.
+//! Writing items to the end of a record (RFC 4506).
 //!
-//! Each call writes its item's spelling, or answers `AllocError`; then nothing was written.
+//! Each call writes its item's spelling, which is a multiple of four bytes, or answers `AllocError`,
+//! the one error that there is; then nothing was written.
 
 ghost use Rattle.std.specs.Prelude.{◌≡◌, ℕ, ◌++◌, [], ◌<◌, ◌≤◌, ◌^◌, length, OnOk, OnErr, replicate};
 ghost use Rattle.xdr_codec.specs.Xdr.{u32_form, u64_form, bool_form, fixed_form, opaque_form, padded, opaque_spell, fill_len};
@@ -36,7 +37,7 @@ fn fill(len: usize) -> &'static [u8]
 }
 
 impl Writer {
-    /// A record with nothing in it.
+    /// A record with nothing in it. Takes no memory.
     pub fn new(alloc: Global) -> Writer
         ensures { result ≡ [] }
     {
@@ -45,7 +46,29 @@ impl Writer {
         }
     }
 
-    /// The bytes that were written.
+    /// Nothing yet, for what is to be appended whole or not at all. Takes no memory.
+    pub fn part(&self) -> Writer
+        ensures { result ≡ [] }
+    {
+        Writer::new(*self.out.allocator())
+    }
+
+    /// All that a part holds, behind what was written. It is copied only where something was
+    /// written before.
+    pub fn append(&mut self, part: Writer) -> Result<(), AllocError>
+        ensures spelled { OnOk result (self.new ≡ self.old ++ part) }
+        ensures stays { OnErr result (self.new ≡ self.old) }
+    {
+        let Writer { out } = part;
+        if self.out.is_empty() {
+            self.out = out;
+            return Ok(());
+        }
+        self.out.extend_from_slice(&out)?;
+        Ok(())
+    }
+
+    /// The bytes that were written. Takes no memory.
     pub fn done(self) -> Bytes
         ensures { result ≡ self }
     {
@@ -53,7 +76,7 @@ impl Writer {
         Bytes::from_vec(out)
     }
 
-    /// A number.
+    /// A number below 2 ^ 32: four bytes, the highest first (RFC 4506, section 4.2).
     #[tactic(auto, unfolding(crate::specs::Xdr::u32_form))]
     pub fn u32(&mut self, value: u32) -> Result<(), AllocError>
         ensures spelled { OnOk result (self.new ≡ self.old ++ u32_form.spell value) }
@@ -64,7 +87,7 @@ impl Writer {
         Ok(())
     }
 
-    /// A number of eight bytes.
+    /// A number below 2 ^ 64: eight bytes, the highest first (RFC 4506, section 4.5).
     #[tactic(auto, unfolding(crate::specs::Xdr::u64_form))]
     pub fn u64(&mut self, value: u64) -> Result<(), AllocError>
         ensures spelled { OnOk result (self.new ≡ self.old ++ u64_form.spell value) }
@@ -75,7 +98,7 @@ impl Writer {
         Ok(())
     }
 
-    /// A truth value.
+    /// A truth value: the number 0 or 1 (RFC 4506, section 4.4).
     #[tactic(auto, unfolding(crate::specs::Xdr::bool_form))]
     pub fn bool(&mut self, value: bool) -> Result<(), AllocError>
         ensures spelled { OnOk result (self.new ≡ self.old ++ bool_form.spell value) }
@@ -85,7 +108,7 @@ impl Writer {
         self.u32(if value { 1 } else { 0 })
     }
 
-    /// Whether an item is there; where it is, it is to follow.
+    /// Whether an item is there; where it is, it is to follow (RFC 4506, section 4.19).
     pub fn opt(&mut self, value: bool) -> Result<(), AllocError>
         ensures spelled { OnOk result (self.new ≡ self.old ++ bool_form.spell value) }
         ensures fits { bool_form.Fits value }
@@ -94,7 +117,8 @@ impl Writer {
         self.bool(value)
     }
 
-    /// Bytes whose number the format says, and zeros up to a multiple of four.
+    /// Bytes whose number the format says, and zeros up to a multiple of four (RFC 4506, section
+    /// 4.9).
     #[tactic(auto, unfolding(crate::specs::Xdr::fixed_form))]
     pub fn fixed(&mut self, bytes: &[u8]) -> Result<(), AllocError>
         ensures spelled { OnOk result (self.new ≡ self.old ++ padded bytes.now) }
@@ -104,8 +128,8 @@ impl Writer {
         self.put(&[], bytes)
     }
 
-    /// Bytes behind their number. They are to be fewer than 2 ^ 32, as those of any message that
-    /// fits are.
+    /// Bytes behind their number, and zeros up to a multiple of four (RFC 4506, section 4.10). They
+    /// are to be fewer than 2 ^ 32, as those of any message that fits are.
     #[tactic(auto, unfolding(crate::specs::Xdr::opaque_spell))]
     pub fn opaque(&mut self, bytes: &[u8]) -> Result<(), AllocError>
         ensures spelled { OnOk result (self.new ≡ self.old ++ opaque_spell bytes.now) }
