@@ -1,3 +1,4 @@
+pub mod Choices
 pub mod Calls
 pub mod Nfs
 pub mod Rows

@@ -1,4 +1,4 @@
-//! The arguments and the answer of each call.
+//! The calls on one file: ACCESS and READ.
 
 ghost use Rattle.std.specs.Prelude.{◌≡◌, ◌++◌, OnOk};
 
@@ -11,23 +11,86 @@ use xdr_codec::item::Item;
 use xdr_codec::reader::Reader;
 use xdr_codec::writer::Writer;
 
-/// What a READ asks for: `count` bytes of a file from `offset` on (RFC 1813, section 3.3.6:
-/// READ3args).
+/// What an ACCESS asks for (RFC 1813, section 3.3.4: ACCESS3args).
+#[derive(Debug, Drop)]
+pub struct Access {
+    /// The file or directory (RFC 1813, section 3.3.4: object).
+    pub handle: Handle,
+    /// A bit for each right that is asked for (RFC 1813, section 3.3.4: access).
+    pub bits: u32,
+}
+
+/// What an ACCESS gave (RFC 1813, section 3.3.4: ACCESS3resok).
+#[derive(Clone, Copy, Debug, PartialEq, Eq, Drop)]
+pub struct Granted {
+    /// The attributes of the file or directory (RFC 1813, section 3.3.4: obj_attributes).
+    pub attr: Option<Attr>,
+    /// A bit for each right that is granted (RFC 1813, section 3.3.4: access).
+    pub bits: u32,
+}
+
+/// What a READ asks for (RFC 1813, section 3.3.6: READ3args).
 #[derive(Drop)]
 pub struct Range {
+    /// The file (RFC 1813, section 3.3.6: file).
     pub handle: Handle,
+    /// The place of the first byte, counted from 0 (RFC 1813, section 3.3.6: offset).
     pub offset: u64,
+    /// How many bytes (RFC 1813, section 3.3.6: count).
     pub count: u32,
 }
 
-/// What a READ gave: the file's attributes, the number of bytes, whether they reach the file's
-/// end, and the bytes (RFC 1813, section 3.3.6: READ3resok).
+/// What a READ gave (RFC 1813, section 3.3.6: READ3resok).
 #[derive(Drop)]
 pub struct Piece {
+    /// The file's attributes (RFC 1813, section 3.3.6: file_attributes).
     pub attr: Option<Attr>,
+    /// How many bytes were read (RFC 1813, section 3.3.6: count).
     pub count: u32,
+    /// Whether they reach the file's end (RFC 1813, section 3.3.6: eof).
     pub eof: bool,
+    /// The bytes, fewer than 2^32 (RFC 1813, section 3.3.6: data).
     pub bytes: Bytes,
+}
+
+#[tactic(auto, unfolding(crate::specs::Calls::access_form))]
+impl Item for Access {
+    ghost use Rattle.nfs3_calls.specs.Calls.{access_form};
+
+    ghost form = { access_form };
+
+    ghost short = { λ _. Unit {0} };
+
+    fn read(alloc: Global, reader: &mut Reader) -> Result<Access, ReadError> {
+        let handle = Handle::read(alloc, reader)?;
+        let bits = reader.u32()?;
+        Ok(Access { handle, bits })
+    }
+
+    fn write(&self, writer: &mut Writer) -> Result<(), AllocError> {
+        self.handle.write(writer)?;
+        writer.u32(self.bits)
+    }
+}
+
+#[tactic(auto, unfolding(crate::specs::Calls::granted_form))]
+impl Item for Granted {
+    ghost use Rattle.nfs3_calls.specs.Calls.{granted_form};
+
+    ghost form = { granted_form };
+
+    ghost short = { λ _. Unit {0} };
+
+    fn read(alloc: Global, reader: &mut Reader) -> Result<Granted, ReadError> {
+        let attr = Option::read(alloc, reader)?;
+        let bits = reader.u32()?;
+        Ok(Granted { attr, bits })
+    }
+
+    fn write(&self, writer: &mut Writer) -> Result<(), AllocError> {
+        self.attr.write(writer)?;
+        writer.u32(self.bits)
+    }
 }
 
 #[tactic(auto, unfolding(crate::specs::Calls::range_form))]

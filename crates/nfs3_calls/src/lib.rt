@@ -3,7 +3,14 @@
 #![tactic(auto)]
 
 pub mod call;
+pub mod change;
+pub mod fs_info;
+pub mod listing;
+pub mod making;
 pub mod message;
 pub mod nfs;
+pub mod place;
 #[cfg(test)]
 mod tests;
+#[cfg(test)]
+mod vectors;

@@ -1,5 +1,4 @@
-use Rattle.std.proofs.Common.{refl}
 use Rattle.nfs3_calls.proofs.nfs.all_answer.Goals as goal
 
-pub returns : goal.returns
-returns c = rw (c.in_ok-message.ensures, c.in_ok-end.ensures.gives) refl
+pub returns-clause-exact : goal.returns-clause-exact
+returns-clause-exact c = rw c.in_ok-message.ensures c.at_end.ensures.gives
