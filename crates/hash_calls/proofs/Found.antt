@@ -1,17 +1,16 @@
--- What was read from all that was left is spelled so.
-use Rattle.std.proofs.Common.{◌≡◌, Result, Ok, Err, ◌∙◌, sym}
+-- What was read from all that was left is one of the messages wanted, and spelled so.
+use Rattle.std.proofs.Common.{◌≡◌, List, ℕ, Result, Ok, Err, refl, ◌∙◌, sym}
 use Rattle.std.specs.Prelude.{IfOk}
 use Rattle.xdr_codec.specs.declared.fault.ReadError.{ReadError}
-use Rattle.xdr_codec.specs.Format.{Input, IsBytes, GivesAll, whole_at}
+use Rattle.xdr_codec.specs.declared.fault.ReadError.TheVariants as errors
+use Rattle.xdr_codec.specs.Format.{Format, Input, IsBytes, GivesAll, Fails, ended, whole_at}
 use Rattle.xdr_codec.specs.Whole.{whole_found}
-use Rattle.hash_calls.specs.declared.message.LbProc.{LbProc}
-use Rattle.hash_calls.specs.declared.message.Lb.{Lb}
-use Rattle.hash_calls.specs.Lb.{args_form, answer_of, lb_spell, IsArgs, IsAnswer, args_fit, answer_fits, args_same, answer_same}
 
-pub found_args : (p : LbProc) (i : Input) (r : Result Lb ReadError) → GivesAll r (whole_at i.at (args_form p) i.rest) → IfOk r (λ m. IsBytes i.rest → IsArgs p m × (i.rest ≡ lb_spell m))
-found_args p i (Ok m) gives = λ fits. let w = whole_found i.at (args_form p) i.rest m fits gives in (args_fit p m w.0, w.1 ∙ sym (args_same p m))
-found_args p i (Err e) gives = tt
+pub found : {M : Type 0} (f : Format M) (Is : M → Type 0) (spell : M → List ℕ) → ((m : M) → f.Fits m → Is m) → ((m : M) → spell m ≡ f.spell m) → (i : Input) (r : Result M ReadError) → GivesAll r (whole_at i.at f i.rest) → IfOk r (λ m. IsBytes i.rest → Is m × (i.rest ≡ spell m))
+found f Is spell fit same i (Ok m) gives = λ fits. let w = whole_found i.at f i.rest m fits gives in (fit m w.0, w.1 ∙ sym (same m))
+found f Is spell fit same i (Err e) gives = tt
 
-pub found_answer : (p : LbProc) (i : Input) (r : Result Lb ReadError) → GivesAll r (whole_at i.at (answer_of p) i.rest) → IfOk r (λ m. IsBytes i.rest → IsAnswer p m × (i.rest ≡ lb_spell m))
-found_answer p i (Ok m) gives = λ fits. let w = whole_found i.at (answer_of p) i.rest m fits gives in (answer_fits p m w.0, w.1 ∙ sym (answer_same p m))
-found_answer p i (Err e) gives = tt
+-- what was left behind what was read is why nothing is given
+pub left : {M : Type 0} (f : Format M) (i j : Input) (m : M) (e : ReadError) → f.read i ≡ Ok (m, j) → Fails e (ended j) → Fails e (whole_at i.at f i.rest)
+left f i j m errors.Memory read fails = tt
+left f i j m (errors.Fault d) read fails = rw (read, fails) refl

@@ -2,19 +2,43 @@
 use Rattle.std.specs.Prelude.{◌≡◌, ℕ, List, [], ◌∷◌, ◌++◌, true, false, Ok, Err, replicate, refl}
 use Rattle.std.specs.Int.{w32, to_be_bytes}
 use Rattle.std.specs.List.{flat_map}
-use Rattle.xdr_codec.specs.declared.fault.Fault.TheVariants.{TooLong}
-use Rattle.xdr_codec.specs.declared.status.Status.TheVariants.{Stale}
+use Rattle.xdr_codec.specs.declared.fault.Fault.TheVariants.{TooLong, Trailing, BadValue}
+use Rattle.xdr_codec.specs.declared.status.Status.TheVariants.{Stale, HashNotFound}
 use Rattle.xdr_codec.specs.declared.answer.Answer.TheVariants.{Done, Failed}
+use Rattle.xdr_codec.specs.declared.attr.Kind.TheVariants.{File}
+use Rattle.xdr_codec.specs.declared.attr.Attr.{Attr}
 use Rattle.xdr_codec.specs.Format.{whole}
-use Rattle.xdr_codec.specs.Xdr.{u32_form, u64_form, bool_form, count_form, opaque_spell, bytes_form, fixed_form}
+use Rattle.xdr_codec.specs.Xdr.{u32_form, u64_form, bool_form, count_form, opaque_spell, opaque_read, bytes_form, fixed_form}
+use Rattle.xdr_codec.specs.Attr.{attr_form, kind_form, time_form}
+use Rattle.xdr_codec.specs.Handle.{handle_bytes}
 use Rattle.xdr_codec.specs.Answers.{outcome_form}
-use Rattle.hash_calls.specs.Calls.{range_form, pair_form, hashes_form}
-use Rattle.hash_calls.specs.Lb.{answer_of, lb_spell}
+use Rattle.hash_calls.specs.Calls.{leased_form, range_form, pair_form, hashes_form, new_temp_form, temp_piece_form, cond_piece_form, commit_form, committed_form}
+use Rattle.hash_calls.specs.Lb.{args_form, answer_of, lb_spell}
+use Rattle.hash_calls.specs.Back as back
 use Rattle.hash_calls.specs.declared.message.LbProc.TheVariants as proc
-use Rattle.hash_calls.specs.declared.message.Lb.TheVariants.{GetHash, GetHashAnswer}
+use Rattle.hash_calls.specs.declared.message.Lb.TheVariants.{GetLease, GetLeaseAnswer, GetHash, GetHashAnswer, MkTmpFile, MkTmpFileAnswer, TmpWrite, CondWrite, CondWriteAnswer, CommitTmp, CommitTmpAnswer}
+use Rattle.hash_calls.specs.declared.message.BackProc.TheVariants as back_proc
+use Rattle.hash_calls.specs.declared.message.Back.TheVariants.{Recall, RecallAnswer}
 
 abbrev words : List ℕ → List ℕ
 words ws = flat_map (to_be_bytes w32) ws
+
+-- ---- GETLEASE
+
+lease_row : whole (args_form proc.GetLease) (words (16 ∷ 1279406129 ∷ 0 ∷ 0 ∷ 2 ∷ [])) ≡ Ok (GetLease (handle_bytes 2))
+unfolding opaque_read count_form bytes_form u32_form
+lease_row = refl
+
+-- a file of 5 bytes, its numbers all different where they can be
+abbrev attr : Attr
+attr = record { kind = File; mode = 420; nlink = 1; uid = 1001; gid = 1002; size = 5; used = 6; rdev_major = 3; rdev_minor = 4; fsid = 1279411795; fileid = 2; atime = record { seconds = 7; nanoseconds = 8 }; mtime = record { seconds = 9; nanoseconds = 10 }; ctime = record { seconds = 11; nanoseconds = 12 } }
+
+-- version 7, and a lease of a minute
+leased_row : lb_spell (GetLeaseAnswer (Done (record { attr = attr; version = 7; term = 60000 }))) ≡ words (0 ∷ 1 ∷ 420 ∷ 1 ∷ 1001 ∷ 1002 ∷ 0 ∷ 5 ∷ 0 ∷ 6 ∷ 3 ∷ 4 ∷ 0 ∷ 1279411795 ∷ 0 ∷ 2 ∷ 7 ∷ 8 ∷ 9 ∷ 10 ∷ 11 ∷ 12 ∷ 0 ∷ 7 ∷ 60000 ∷ [])
+unfolding outcome_form leased_form attr_form kind_form time_form u32_form u64_form
+leased_row = refl
+
+-- ---- GETHASH
 
 -- the chunks that meet 100 bytes from 5 on, of the file "LB01"
 range_row : lb_spell (GetHash (record { handle = 76 ∷ 66 ∷ 48 ∷ 49 ∷ []; offset = 5; count = 100 })) ≡ words (4 ∷ 1279406129 ∷ 0 ∷ 5 ∷ 100 ∷ [])
@@ -40,3 +64,69 @@ chunks_row = refl
 stale_row : whole (answer_of proc.GetHash) (words (70 ∷ [])) ≡ Ok (GetHashAnswer (Failed Stale tt))
 unfolding outcome_form u32_form
 stale_row = refl
+
+-- ---- MKTMPFILE
+
+new_temp_row : whole (args_form proc.MkTmpFile) (words (3 ∷ 16 ∷ 1279406129 ∷ 0 ∷ 0 ∷ 2 ∷ [])) ≡ Ok (MkTmpFile (record { fd = 3; handle = handle_bytes 2 }))
+unfolding new_temp_form opaque_read count_form bytes_form u32_form
+new_temp_row = refl
+
+done_row : whole (answer_of proc.MkTmpFile) (words (0 ∷ [])) ≡ Ok (MkTmpFileAnswer (Done tt))
+unfolding outcome_form u32_form
+done_row = refl
+
+-- nothing stands behind the status of a failure
+behind_row : whole (answer_of proc.MkTmpFile) (words (20002 ∷ 0 ∷ [])) ≡ Err (Trailing 4)
+unfolding outcome_form u32_form
+behind_row = refl
+
+-- ---- TMPWRITE
+
+-- "hello", from 2 ^ 32 + 5 on
+temp_piece_row : lb_spell (TmpWrite (record { fd = 3; offset = 4294967301; bytes = 104 ∷ 101 ∷ 108 ∷ 108 ∷ 111 ∷ [] })) ≡ words (3 ∷ 1 ∷ 5 ∷ 5 ∷ 1751477356 ∷ 1862270976 ∷ [])
+unfolding temp_piece_form opaque_spell u32_form u64_form
+temp_piece_row = refl
+
+-- 65,537 bytes are one too many
+bytes_row : whole (args_form proc.TmpWrite) (words (3 ∷ 0 ∷ 0 ∷ 65537 ∷ [])) ≡ Err (TooLong 12 65537 65536)
+unfolding temp_piece_form opaque_read count_form bytes_form u32_form u64_form
+bytes_row = refl
+
+-- ---- CONDWRITE
+
+-- 2,050 bytes from 2,048 on
+cond_piece_row : whole (args_form proc.CondWrite) (words (3 ∷ 0 ∷ 2048 ∷ 2050 ∷ []) ++ replicate 20 171) ≡ Ok (CondWrite (record { fd = 3; offset = 2048; count = 2050; digest = replicate 20 171 }))
+unfolding cond_piece_form fixed_form bytes_form u32_form u64_form
+cond_piece_row = refl
+
+not_found_row : whole (answer_of proc.CondWrite) (words (20001 ∷ [])) ≡ Ok (CondWriteAnswer (Failed HashNotFound tt))
+unfolding outcome_form u32_form
+not_found_row = refl
+
+-- 71 is no status
+status_row : whole (answer_of proc.CondWrite) (words (71 ∷ [])) ≡ Err (BadValue 0 71)
+unfolding outcome_form u32_form
+status_row = refl
+
+-- ---- COMMITTMP
+
+commit_row : whole (args_form proc.CommitTmp) (words (3 ∷ 16 ∷ 1279406129 ∷ 0 ∷ 0 ∷ 2 ∷ 0 ∷ 4098 ∷ [])) ≡ Ok (CommitTmp (record { fd = 3; handle = handle_bytes 2; size = 4098 }))
+unfolding commit_form opaque_read count_form bytes_form u32_form u64_form
+commit_row = refl
+
+committed_row : lb_spell (CommitTmpAnswer (Done (record { version = 8; term = 59900 }))) ≡ words (0 ∷ 0 ∷ 8 ∷ 59900 ∷ [])
+unfolding outcome_form committed_form u32_form u64_form
+committed_row = refl
+
+-- ---- the callback program
+
+recall_row : whole (back.args_form back_proc.Recall) (words (16 ∷ 1279406129 ∷ 0 ∷ 0 ∷ 2 ∷ [])) ≡ Ok (Recall (handle_bytes 2))
+unfolding opaque_read count_form bytes_form u32_form
+recall_row = refl
+
+recalled_row : whole (back.answer_of back_proc.Recall) [] ≡ Ok RecallAnswer
+recalled_row = refl
+
+-- it has no status
+no_status_row : whole (back.answer_of back_proc.Recall) (words (0 ∷ [])) ≡ Err (Trailing 0)
+no_status_row = refl

@@ -2,8 +2,9 @@
 
 ghost use Rattle.std.specs.Prelude.{◌≡◌, ◌++◌, OnOk};
 
-use lb_base::items::Items;
+use lb_base::items::{Bytes, Items};
 use std::alloc::{AllocError, Global};
+use xdr_codec::attr::Attr;
 use xdr_codec::digest::Digest;
 use xdr_codec::fault::ReadError;
 use xdr_codec::handle::Handle;
@@ -11,31 +12,136 @@ use xdr_codec::item::{Item, read_counted, write_counted};
 use xdr_codec::reader::Reader;
 use xdr_codec::writer::Writer;
 
+/// The most chunks that one GETHASH gives.
+pub const MOST_PAIRS: u32 = 1024;
+
+/// The most bytes that one TMPWRITE carries.
+pub const MOST_WRITTEN: u32 = 65_536;
+
+/// What a GETLEASE gave.
+#[derive(Drop)]
+pub struct Leased {
+    /// The file's attributes.
+    pub attr: Attr,
+    /// The file's version.
+    pub version: u64,
+    /// How long the lease holds, in milliseconds; 0 where there is none.
+    pub term: u32,
+}
+
 /// What a GETHASH asks for: the chunks of a file that meet `count` bytes from `offset` on.
 #[derive(Drop)]
 pub struct HashRange {
+    /// The file.
     pub handle: Handle,
+    /// The place of the range's first byte in the file.
     pub offset: u64,
+    /// How many bytes the range has; it may reach past the file's end.
     pub count: u32,
 }
 
-/// A chunk: the SHA-1 digest of its bytes, and its size in bytes.
+/// A chunk of a file.
 #[derive(Drop)]
 pub struct Pair {
+    /// The SHA-1 digest of the chunk's bytes.
     pub digest: Digest,
+    /// How many bytes the chunk has.
     pub size: u32,
 }
 
-/// What a GETHASH gave: the file's version, the lease's term in milliseconds (0: no lease), the
-/// file's size in bytes, at most 1024 chunks in their order, and whether the file's last chunk is
-/// among them or `offset` was at or past the size.
+/// What a GETHASH gave.
 #[derive(Drop)]
 pub struct Hashes {
+    /// The file's version.
     pub version: u64,
+    /// How long the lease holds, in milliseconds; 0 where there is none.
     pub term: u32,
+    /// How many bytes the file has.
     pub size: u64,
+    /// The chunks in their order, at most `MOST_PAIRS`.
     pub pairs: Items<Pair>,
+    /// Whether the file's last chunk is among them, or the range began at or past the file's end.
     pub eof: bool,
+}
+
+/// What a MKTMPFILE asks for: a temporary file with nothing in it.
+#[derive(Drop)]
+pub struct NewTemp {
+    /// The number under which the asker will name the temporary file.
+    pub fd: u32,
+    /// A file that is there.
+    pub handle: Handle,
+}
+
+/// What a TMPWRITE asks for: bytes put into a temporary file.
+#[derive(Drop)]
+pub struct TempPiece {
+    /// The number of the temporary file.
+    pub fd: u32,
+    /// The place of the first byte in the temporary file.
+    pub offset: u64,
+    /// At most `MOST_WRITTEN` bytes.
+    pub bytes: Bytes,
+}
+
+/// What a CONDWRITE asks for: bytes put into a temporary file that are told by their digest, where
+/// the other end knows such bytes.
+#[derive(Drop)]
+pub struct CondPiece {
+    /// The number of the temporary file.
+    pub fd: u32,
+    /// The place of the first byte in the temporary file.
+    pub offset: u64,
+    /// How many bytes.
+    pub count: u32,
+    /// The SHA-1 digest of the bytes.
+    pub digest: Digest,
+}
+
+/// What a COMMITTMP asks for: a file's content replaced by that of a temporary file.
+#[derive(Drop)]
+pub struct Commit {
+    /// The number of the temporary file, which ends.
+    pub fd: u32,
+    /// The file that gets the content.
+    pub handle: Handle,
+    /// How many bytes the temporary file is to have.
+    pub size: u64,
+}
+
+/// What a COMMITTMP gave.
+#[derive(Drop)]
+pub struct Committed {
+    /// The file's version from now on.
+    pub version: u64,
+    /// How long the lease holds, in milliseconds; 0 where there is none.
+    pub term: u32,
+}
+
+#[tactic(auto, unfolding(crate::specs::Calls::leased_form))]
+impl Item for Leased {
+    ghost use Rattle.hash_calls.specs.Calls.{leased_form};
+
+    ghost form = { leased_form };
+
+    ghost short = { λ _. Unit {0} };
+
+    fn read(alloc: Global, reader: &mut Reader) -> Result<Leased, ReadError> {
+        let attr = Attr::read(alloc, reader)?;
+        let version = reader.u64()?;
+        let term = reader.u32()?;
+        Ok(Leased {
+            attr,
+            version,
+            term,
+        })
+    }
+
+    fn write(&self, writer: &mut Writer) -> Result<(), AllocError> {
+        self.attr.write(writer)?;
+        writer.u64(self.version)?;
+        writer.u32(self.term)
+    }
 }
 
 #[tactic(auto, unfolding(crate::specs::Calls::range_form))]
@@ -97,7 +203,7 @@ impl Item for Hashes {
         let version = reader.u64()?;
         let term = reader.u32()?;
         let size = reader.u64()?;
-        let pairs = read_counted(alloc, 1024, reader)?;
+        let pairs = read_counted(alloc, MOST_PAIRS, reader)?;
         let eof = reader.bool()?;
         Ok(Hashes {
             version,
@@ -114,5 +220,119 @@ impl Item for Hashes {
         writer.u64(self.size)?;
         write_counted(writer, self.pairs.as_slice())?;
         writer.bool(self.eof)
+    }
+}
+
+#[tactic(auto, unfolding(crate::specs::Calls::new_temp_form))]
+impl Item for NewTemp {
+    ghost use Rattle.hash_calls.specs.Calls.{new_temp_form};
+
+    ghost form = { new_temp_form };
+
+    ghost short = { λ _. Unit {0} };
+
+    fn read(alloc: Global, reader: &mut Reader) -> Result<NewTemp, ReadError> {
+        let fd = reader.u32()?;
+        let handle = Handle::read(alloc, reader)?;
+        Ok(NewTemp { fd, handle })
+    }
+
+    fn write(&self, writer: &mut Writer) -> Result<(), AllocError> {
+        writer.u32(self.fd)?;
+        self.handle.write(writer)
+    }
+}
+
+#[tactic(auto, unfolding(crate::specs::Calls::temp_piece_form))]
+impl Item for TempPiece {
+    ghost use Rattle.std.specs.Prelude.{length, ◌≤◌};
+    ghost use Rattle.hash_calls.specs.Calls.{temp_piece_form};
+
+    ghost form = { temp_piece_form };
+
+    ghost short = { λ p. length p.bytes ≤ 65536 };
+
+    fn read(alloc: Global, reader: &mut Reader) -> Result<TempPiece, ReadError> {
+        let fd = reader.u32()?;
+        let offset = reader.u64()?;
+        let bytes = reader.opaque(alloc, MOST_WRITTEN)?;
+        Ok(TempPiece { fd, offset, bytes })
+    }
+
+    fn write(&self, writer: &mut Writer) -> Result<(), AllocError> {
+        writer.u32(self.fd)?;
+        writer.u64(self.offset)?;
+        writer.opaque(self.bytes.as_slice())
+    }
+}
+
+#[tactic(auto, unfolding(crate::specs::Calls::cond_piece_form))]
+impl Item for CondPiece {
+    ghost use Rattle.hash_calls.specs.Calls.{cond_piece_form};
+
+    ghost form = { cond_piece_form };
+
+    ghost short = { λ _. Unit {0} };
+
+    fn read(alloc: Global, reader: &mut Reader) -> Result<CondPiece, ReadError> {
+        let fd = reader.u32()?;
+        let offset = reader.u64()?;
+        let count = reader.u32()?;
+        let digest = Item::read(alloc, reader)?;
+        Ok(CondPiece {
+            fd,
+            offset,
+            count,
+            digest,
+        })
+    }
+
+    fn write(&self, writer: &mut Writer) -> Result<(), AllocError> {
+        writer.u32(self.fd)?;
+        writer.u64(self.offset)?;
+        writer.u32(self.count)?;
+        self.digest.write(writer)
+    }
+}
+
+#[tactic(auto, unfolding(crate::specs::Calls::commit_form))]
+impl Item for Commit {
+    ghost use Rattle.hash_calls.specs.Calls.{commit_form};
+
+    ghost form = { commit_form };
+
+    ghost short = { λ _. Unit {0} };
+
+    fn read(alloc: Global, reader: &mut Reader) -> Result<Commit, ReadError> {
+        let fd = reader.u32()?;
+        let handle = Handle::read(alloc, reader)?;
+        let size = reader.u64()?;
+        Ok(Commit { fd, handle, size })
+    }
+
+    fn write(&self, writer: &mut Writer) -> Result<(), AllocError> {
+        writer.u32(self.fd)?;
+        self.handle.write(writer)?;
+        writer.u64(self.size)
+    }
+}
+
+#[tactic(auto, unfolding(crate::specs::Calls::committed_form))]
+impl Item for Committed {
+    ghost use Rattle.hash_calls.specs.Calls.{committed_form};
+
+    ghost form = { committed_form };
+
+    ghost short = { λ _. Unit {0} };
+
+    fn read(_alloc: Global, reader: &mut Reader) -> Result<Committed, ReadError> {
+        let version = reader.u64()?;
+        let term = reader.u32()?;
+        Ok(Committed { version, term })
+    }
+
+    fn write(&self, writer: &mut Writer) -> Result<(), AllocError> {
+        writer.u64(self.version)?;
+        writer.u32(self.term)
     }
 }

@@ -1,9 +1,13 @@
-//! The calls of LBFS (Muthitacharoen, Chen and Mazieres, SOSP 2001), program 0x20004C42: arguments
-//! and answers as values, read from a record and written to it.
+//! The calls of LBFS (Muthitacharoen, Chen and Mazieres, SOSP 2001), program 0x20004C42, and of its
+//! callback program, 0x20004C43: arguments and answers as values, read from a record and written to
+//! it.
 #![tactic(auto)]
 
+pub mod back;
 pub mod call;
 pub mod lb;
 pub mod message;
 #[cfg(test)]
 mod tests;
+#[cfg(test)]
+mod vectors;

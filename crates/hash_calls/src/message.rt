@@ -2,17 +2,29 @@
 
 ghost use Rattle.std.specs.Prelude.{◌≡◌};
 ghost use Rattle.hash_calls.specs.Lb.{proc_number, proc_of, lb_proc};
+ghost use Rattle.hash_calls.specs.Back.{proc_number as back_number, proc_of as back_of, back_proc};
 
-use crate::call::{HashRange, Hashes};
+use crate::call::{Commit, Committed, CondPiece, HashRange, Hashes, Leased, NewTemp, TempPiece};
 use xdr_codec::answer::Answer;
+use xdr_codec::handle::Handle;
 
-/// The procedures of LBFS that are known.
+/// The procedures of LBFS, program 0x20004C42.
 #[derive(Clone, Copy, PartialEq, Eq, Drop)]
 pub enum LbProc {
     /// Does nothing.
     Null,
-    /// Gives the digests of a file's chunks.
+    /// Gives a file's attributes and version, and a lease on it.
+    GetLease,
+    /// Gives the digests of a file's chunks, and a lease on it.
     GetHash,
+    /// Makes a temporary file.
+    MkTmpFile,
+    /// Puts bytes into a temporary file.
+    TmpWrite,
+    /// Puts bytes that the server knows into a temporary file, told by their digest.
+    CondWrite,
+    /// Replaces a file's content by a temporary file's.
+    CommitTmp,
 }
 
 impl LbProc {
@@ -22,7 +34,12 @@ impl LbProc {
     {
         match self {
             LbProc::Null => 0,
+            LbProc::GetLease => 1,
             LbProc::GetHash => 2,
+            LbProc::MkTmpFile => 3,
+            LbProc::TmpWrite => 4,
+            LbProc::CondWrite => 5,
+            LbProc::CommitTmp => 6,
         }
     }
 
@@ -32,19 +49,48 @@ impl LbProc {
     {
         match number {
             0 => Some(LbProc::Null),
+            1 => Some(LbProc::GetLease),
             2 => Some(LbProc::GetHash),
+            3 => Some(LbProc::MkTmpFile),
+            4 => Some(LbProc::TmpWrite),
+            5 => Some(LbProc::CondWrite),
+            6 => Some(LbProc::CommitTmp),
             _ => None,
         }
     }
 }
 
-/// The arguments of a call, or what it gave.
+/// The arguments of a call of LBFS, or what it gave: a failure answer is the status alone.
 #[derive(Drop)]
 pub enum Lb {
+    /// NULL has no arguments.
     Null,
+    /// NULL gives nothing, and no status.
     NullAnswer,
+    /// The file that a GETLEASE is about.
+    GetLease(Handle),
+    /// What a GETLEASE gave.
+    GetLeaseAnswer(Answer<Leased, ()>),
+    /// The part of a file that a GETHASH is about.
     GetHash(HashRange),
+    /// The chunks that a GETHASH gave.
     GetHashAnswer(Answer<Hashes, ()>),
+    /// The temporary file that a MKTMPFILE is to make.
+    MkTmpFile(NewTemp),
+    /// Whether a MKTMPFILE was done.
+    MkTmpFileAnswer(Answer<(), ()>),
+    /// The bytes that a TMPWRITE puts into a temporary file.
+    TmpWrite(TempPiece),
+    /// Whether a TMPWRITE was done.
+    TmpWriteAnswer(Answer<(), ()>),
+    /// The digest of the bytes that a CONDWRITE puts into a temporary file.
+    CondWrite(CondPiece),
+    /// Whether a CONDWRITE was done.
+    CondWriteAnswer(Answer<(), ()>),
+    /// The temporary file and the file that a COMMITTMP is about.
+    CommitTmp(Commit),
+    /// What a COMMITTMP gave.
+    CommitTmpAnswer(Answer<Committed, ()>),
 }
 
 impl Lb {
@@ -54,7 +100,70 @@ impl Lb {
     {
         match self {
             Lb::Null | Lb::NullAnswer => LbProc::Null,
+            Lb::GetLease(_) | Lb::GetLeaseAnswer(_) => LbProc::GetLease,
             Lb::GetHash(_) | Lb::GetHashAnswer(_) => LbProc::GetHash,
+            Lb::MkTmpFile(_) | Lb::MkTmpFileAnswer(_) => LbProc::MkTmpFile,
+            Lb::TmpWrite(_) | Lb::TmpWriteAnswer(_) => LbProc::TmpWrite,
+            Lb::CondWrite(_) | Lb::CondWriteAnswer(_) => LbProc::CondWrite,
+            Lb::CommitTmp(_) | Lb::CommitTmpAnswer(_) => LbProc::CommitTmp,
+        }
+    }
+}
+
+/// The procedures of the callback program, 0x20004C43, which the server calls on a client's
+/// connection.
+#[derive(Clone, Copy, PartialEq, Eq, Drop)]
+pub enum BackProc {
+    /// Does nothing.
+    Null,
+    /// Asks for a lease to be given up.
+    Recall,
+}
+
+impl BackProc {
+    /// The number of the procedure.
+    pub fn number(self) -> u32
+        ensures { result ≡ back_number self }
+    {
+        match self {
+            BackProc::Null => 0,
+            BackProc::Recall => 1,
+        }
+    }
+
+    /// The procedure that has the number.
+    pub fn of_number(number: u32) -> Option<BackProc>
+        ensures { result ≡ back_of number }
+    {
+        match number {
+            0 => Some(BackProc::Null),
+            1 => Some(BackProc::Recall),
+            _ => None,
+        }
+    }
+}
+
+/// The arguments of a call of the callback program, or what it gave.
+#[derive(Drop)]
+pub enum Back {
+    /// NULL has no arguments.
+    Null,
+    /// NULL gives nothing, and no status.
+    NullAnswer,
+    /// The file whose lease a RECALL asks for.
+    Recall(Handle),
+    /// RECALL gives nothing, and no status.
+    RecallAnswer,
+}
+
+impl Back {
+    /// The procedure that is called or answered.
+    pub fn procedure(&self) -> BackProc
+        ensures { result ≡ back_proc self.now }
+    {
+        match self {
+            Back::Null | Back::NullAnswer => BackProc::Null,
+            Back::Recall(_) | Back::RecallAnswer => BackProc::Recall,
         }
     }
 }

@@ -1,5 +1,13 @@
 use Rattle.std.proofs.Common.{refl}
+use Rattle.std.proofs.lemmas.Result.{err_from_is_err_and}
+use Rattle.hash_calls.specs.Lb.{answer_of}
+use Rattle.hash_calls.proofs.Found.{left}
 use Rattle.hash_calls.proofs.lb.all_answer.Goals as goal
 
-pub returns : goal.returns
-returns c = rw (c.in_ok-message.ensures, c.in_ok-end.ensures.gives) refl
+pub returns-in_err-end-clause-exact : goal.returns-in_err-end-clause-exact
+returns-in_err-end-clause-exact c =
+    let p = err_from_is_err_and c.from_residual-in_err-end.result c.from_residual-in_err-end.ensures.1 in
+    rw (p.1, p.2) (left (answer_of c.args.procedure) c.args.rest.now c.answer.new.reader c.in_ok-message.message c.in_err-end.field-0.0 c.in_ok-message.ensures c.in_err-end.ensures.gives)
+
+pub returns-clause-exact : goal.returns-clause-exact
+returns-clause-exact c = rw (c.in_ok-message.ensures, c.in_ok-end.ensures.gives) refl
