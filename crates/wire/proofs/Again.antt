@@ -7,12 +7,17 @@ use Rattle.xdr_codec.specs.Format.{Input, behind, whole_at}
 use Rattle.xdr_codec.specs.Xdr.{u32_form}
 use Rattle.xdr_codec.specs.Whole.{whole_again}
 use Rattle.nfs3_calls.specs.Nfs as nfs
+use Rattle.nfs3_calls.specs.declared.message.NfsProc.{NfsProc}
 use Rattle.nfs3_calls.specs.declared.message.NfsProc.TheVariants as nfs_proc
 use Rattle.hash_calls.specs.Lb as lb
+use Rattle.hash_calls.specs.declared.message.LbProc.{LbProc}
 use Rattle.hash_calls.specs.declared.message.LbProc.TheVariants as lb_proc
+use Rattle.hash_calls.specs.Back as back
+use Rattle.hash_calls.specs.declared.message.BackProc.{BackProc}
+use Rattle.hash_calls.specs.declared.message.BackProc.TheVariants as back_proc
 use Rattle.rpc_record.specs.Header.{direction_form, front_form, auth_form, call_form, versions_form, accept_form, denial_form, reply_form}
 use Rattle.wire.specs.Message.{program_of, body_spell, args_of, result_of, is_call, BodyFits, RefusalFits, IsSpelled, Says, call_head, refusal_head, message_spell, no_auth, call_spell, answer_spell, refuse_spell}
-use Rattle.wire.specs.Parse.{serves, waiting, IsExpected, read_or, called, with_args, taken, parse_call_body, parse_call, refusal_of, replied, parse_reply, parse_by, parse_of}
+use Rattle.wire.specs.Parse.{serves_callbacks, serves, waiting, IsExpected, read_or, called, with_args, taken, parse_call_body, parse_call, refusal_of, replied, parse_reply, parse_by, parse_of}
 use Rattle.rpc_record.specs.declared.header.Direction.{Direction}
 use Rattle.rpc_record.specs.declared.header.Direction.TheVariants as direction
 use Rattle.rpc_record.specs.declared.header.Front.{Front}
@@ -23,6 +28,7 @@ use Rattle.rpc_record.specs.declared.header.ReplyHead.TheVariants.{Accepted}
 use Rattle.wire.specs.declared.message.Body.{Body}
 use Rattle.wire.specs.declared.message.Body.TheVariants as body
 use Rattle.wire.specs.declared.message.Side.{Side}
+use Rattle.wire.specs.declared.message.Side.TheVariants.{Server, Client, Either}
 use Rattle.wire.specs.declared.message.Program.{Program}
 use Rattle.wire.specs.declared.message.Program.TheVariants as program
 use Rattle.wire.specs.declared.message.RpcRefusal.{RpcRefusal}
@@ -37,14 +43,38 @@ use Rattle.wire.specs.declared.message.WireErr.TheVariants.{NotRpc, Garbage}
 args_again : (at : ℕ) (b : Body) → is_call b ≡ true → BodyFits b → whole_at at (args_of (program_of b)) (body_spell b) ≡ Ok b
 args_again at (body.Nfs n) is fits = whole_again at (args_of (program.Nfs (nfs.nfs_proc n))) (body.Nfs n) (n, refl, nfs.fits_args (nfs.nfs_proc n) n (is, (refl, fits)))
 args_again at (body.Lb l) is fits = whole_again at (args_of (program.Lb (lb.lb_proc l))) (body.Lb l) (l, refl, lb.fits_args (lb.lb_proc l) l (is, (refl, fits)))
+args_again at (body.Back b) is fits = whole_again at (args_of (program.Back (back.back_proc b))) (body.Back b) (b, refl, back.fits_args (back.back_proc b) b (is, (refl, fits)))
 
 result_again : (at : ℕ) (b : Body) → is_call b ≡ false → BodyFits b → whole_at at (result_of (program_of b)) (body_spell b) ≡ Ok b
 result_again at (body.Nfs n) is fits = whole_again at (result_of (program.Nfs (nfs.nfs_proc n))) (body.Nfs n) (n, refl, nfs.fits_answer (nfs.nfs_proc n) n (is, (refl, fits)))
 result_again at (body.Lb l) is fits = whole_again at (result_of (program.Lb (lb.lb_proc l))) (body.Lb l) (l, refl, lb.fits_answer (lb.lb_proc l) l (is, (refl, fits)))
+result_again at (body.Back b) is fits = whole_again at (result_of (program.Back (back.back_proc b))) (body.Back b) (b, refl, back.fits_answer (back.back_proc b) b (is, (refl, fits)))
+
+-- ---- procedures
+
+-- each has a number of its own, below 2 ^ 32
+
+nfs_home : (p : NfsProc) → nfs.proc_of (nfs.proc_number p) ≡ Some p
+nfs_home p = elim p as (λ p. nfs.proc_of (nfs.proc_number p) ≡ Some p) [ nfs_proc.Null ↦ refl | nfs_proc.GetAttr ↦ refl | nfs_proc.Lookup ↦ refl | nfs_proc.Access ↦ refl | nfs_proc.Read ↦ refl | nfs_proc.Create ↦ refl | nfs_proc.MkDir ↦ refl | nfs_proc.Remove ↦ refl | nfs_proc.RmDir ↦ refl | nfs_proc.Rename ↦ refl | nfs_proc.ReadDir ↦ refl | nfs_proc.FsInfo ↦ refl ]
+
+nfs_small : (p : NfsProc) → nfs.proc_number p < 2 ^ 32
+nfs_small p = elim p as (λ p. nfs.proc_number p < 2 ^ 32) [ nfs_proc.Null ↦ lit< tt | nfs_proc.GetAttr ↦ lit< tt | nfs_proc.Lookup ↦ lit< tt | nfs_proc.Access ↦ lit< tt | nfs_proc.Read ↦ lit< tt | nfs_proc.Create ↦ lit< tt | nfs_proc.MkDir ↦ lit< tt | nfs_proc.Remove ↦ lit< tt | nfs_proc.RmDir ↦ lit< tt | nfs_proc.Rename ↦ lit< tt | nfs_proc.ReadDir ↦ lit< tt | nfs_proc.FsInfo ↦ lit< tt ]
+
+lb_home : (p : LbProc) → lb.proc_of (lb.proc_number p) ≡ Some p
+lb_home p = elim p as (λ p. lb.proc_of (lb.proc_number p) ≡ Some p) [ lb_proc.Null ↦ refl | lb_proc.GetLease ↦ refl | lb_proc.GetHash ↦ refl | lb_proc.MkTmpFile ↦ refl | lb_proc.TmpWrite ↦ refl | lb_proc.CondWrite ↦ refl | lb_proc.CommitTmp ↦ refl ]
+
+lb_small : (p : LbProc) → lb.proc_number p < 2 ^ 32
+lb_small p = elim p as (λ p. lb.proc_number p < 2 ^ 32) [ lb_proc.Null ↦ lit< tt | lb_proc.GetLease ↦ lit< tt | lb_proc.GetHash ↦ lit< tt | lb_proc.MkTmpFile ↦ lit< tt | lb_proc.TmpWrite ↦ lit< tt | lb_proc.CondWrite ↦ lit< tt | lb_proc.CommitTmp ↦ lit< tt ]
+
+back_home : (p : BackProc) → back.proc_of (back.proc_number p) ≡ Some p
+back_home p = elim p as (λ p. back.proc_of (back.proc_number p) ≡ Some p) [ back_proc.Null ↦ refl | back_proc.Recall ↦ refl ]
+
+back_small : (p : BackProc) → back.proc_number p < 2 ^ 32
+back_small p = elim p as (λ p. back.proc_number p < 2 ^ 32) [ back_proc.Null ↦ lit< tt | back_proc.Recall ↦ lit< tt ]
 
 -- ---- headers
 
-front_fits : (xid : ℕ) (d : Direction) → xid < 2 ^ 32 → front_form.Fits (record { xid = xid; direction = d })
+pub front_fits : (xid : ℕ) (d : Direction) → xid < 2 ^ 32 → front_form.Fits (record { xid = xid; direction = d })
 unfolding front_form direction_form u32_form
 front_fits xid direction.Call lt = (lt, lit< tt)
 front_fits xid direction.Reply lt = (lt, lit< tt)
@@ -53,12 +83,11 @@ two_fits : u32_form.Fits 2
 unfolding u32_form
 two_fits = lit< tt
 
-call_fits : (cred verf : Auth) (p : Program) → auth_form.Fits cred → auth_form.Fits verf → call_form.Fits (call_head cred verf p)
+pub call_fits : (cred verf : Auth) (p : Program) → auth_form.Fits cred → auth_form.Fits verf → call_form.Fits (call_head cred verf p)
 unfolding call_form u32_form
-call_fits cred verf (program.Nfs nfs_proc.Null) c v = (lit< tt, (lit< tt, (lit< tt, (c, v))))
-call_fits cred verf (program.Nfs nfs_proc.Read) c v = (lit< tt, (lit< tt, (lit< tt, (c, v))))
-call_fits cred verf (program.Lb lb_proc.Null) c v = (lit< tt, (lit< tt, (lit< tt, (c, v))))
-call_fits cred verf (program.Lb lb_proc.GetHash) c v = (lit< tt, (lit< tt, (lit< tt, (c, v))))
+call_fits cred verf (program.Nfs p) c v = (lit< tt, (lit< tt, (nfs_small p, (c, v))))
+call_fits cred verf (program.Lb p) c v = (lit< tt, (lit< tt, (lb_small p, (c, v))))
+call_fits cred verf (program.Back p) c v = (lit< tt, (lit< tt, (back_small p, (c, v))))
 
 success_fits : (verf : Auth) → auth_form.Fits verf → reply_form.Fits (Accepted verf accept.Success)
 unfolding reply_form accept_form u32_form
@@ -83,12 +112,16 @@ refusal_again verf refusal.SystemErr = refl
 refusal_again verf (refusal.RpcMismatch low high) = refl
 refusal_again verf (refusal.AuthError why) = refl
 
+back_called : (side : Side) (cred verf : Auth) (p : BackProc) → serves_callbacks side ≡ true → called side (call_head cred verf (program.Back p)) ≡ Ok (program.Back p)
+back_called Server cred verf p e = absurd cc
+back_called Client cred verf p e = rw (back_home p) refl
+back_called Either cred verf p e = rw (back_home p) refl
+
 -- the numbers of a program that is served name it
 called_again : (side : Side) (cred verf : Auth) (p : Program) → serves side p ≡ true → called side (call_head cred verf p) ≡ Ok p
-called_again side cred verf (program.Nfs nfs_proc.Null) e = rw e refl
-called_again side cred verf (program.Nfs nfs_proc.Read) e = rw e refl
-called_again side cred verf (program.Lb lb_proc.Null) e = rw e refl
-called_again side cred verf (program.Lb lb_proc.GetHash) e = rw e refl
+called_again side cred verf (program.Nfs p) e = rw (e, nfs_home p) refl
+called_again side cred verf (program.Lb p) e = rw (e, lb_home p) refl
+called_again side cred verf (program.Back p) e = back_called side cred verf p e
 
 -- ---- messages
 

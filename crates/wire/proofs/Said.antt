@@ -11,9 +11,10 @@ use Rattle.xdr_codec.specs.Xdr.{u32_form}
 use Rattle.xdr_codec.specs.Whole.{whole_found, ended_ok}
 use Rattle.nfs3_calls.specs.Nfs as nfs
 use Rattle.hash_calls.specs.Lb as lb
+use Rattle.hash_calls.specs.Back as back
 use Rattle.rpc_record.specs.Header.{front_form, auth_form, call_form, versions_form, accept_form, denial_form, reply_form}
-use Rattle.wire.specs.Message.{nfs_number, lbfs_number, program_of, body_spell, args_of, result_of, is_call, BodyFits, RefusalFits, Says, call_head, refusal_head, no_auth, answer_spell, refuse_spell, is_unfit}
-use Rattle.wire.specs.Parse.{serves_files, serves, waiting, IsExpected, read_or, versioned, procedure_of, called, with_args, taken, parse_call_body, parse_call, refusal_of, replied, parse_reply, parse_by, parse_of}
+use Rattle.wire.specs.Message.{nfs_number, lbfs_number, back_number, program_of, body_spell, args_of, result_of, is_call, BodyFits, RefusalFits, Says, call_head, refusal_head, no_auth, answer_spell, refuse_spell, is_unfit}
+use Rattle.wire.specs.Parse.{serves_files, serves_callbacks, serves, waiting, IsExpected, read_or, versioned, procedure_of, called, with_args, taken, parse_call_body, parse_call, refusal_of, replied, parse_reply, parse_by, parse_of}
 use Rattle.wire.proofs.Again.{no_auth_fits}
 use Rattle.rpc_record.specs.declared.header.Direction.{Direction}
 use Rattle.rpc_record.specs.declared.header.Direction.TheVariants as direction
@@ -92,16 +93,25 @@ named_lb side h p served is e =
     let q = procedure_found program.Lb (lb.proc_of h.procedure) p v.1 in
     subst (IsNamed side h) q.2 (served, head_is h (program.Lb q.0) is (eqb-true h.version 1 v.0) (sym (named_there lb.proc_number h.procedure lb.procs q.0 q.1)))
 
-one_of : {P : Type 0} (a b : Bool) (x y : Result Program RpcRefusal) (p : Program) → (a ≡ true → x ≡ Ok p → P) → (b ≡ true → y ≡ Ok p → P) → cond a x (cond b y (Err refusal.ProgUnavail)) ≡ Ok p → P
-one_of true b x y p f g e = f refl e
-one_of false true x y p f g e = g refl e
-one_of false false x y p f g e = absurd cc
+named_back : (side : Side) (h : CallHead) (p : Program) → serves_callbacks side ≡ true → h.program ≡ back_number → versioned 1 h.version (procedure_of program.Back (back.proc_of h.procedure)) ≡ Ok p → IsNamed side h p
+named_back side h p served is e =
+    let v = version_found 1 (h.version == 1) (procedure_of program.Back (back.proc_of h.procedure)) p e in
+    let q = procedure_found program.Back (back.proc_of h.procedure) p v.1 in
+    subst (IsNamed side h) q.2 (served, head_is h (program.Back q.0) is (eqb-true h.version 1 v.0) (sym (named_there back.proc_number h.procedure back.procs q.0 q.1)))
+
+-- a program that was found is one of those whose test holds
+one_of : {P : Type 0} (a b c : Bool) (x y z : Result Program RpcRefusal) (p : Program) → (a ≡ true → x ≡ Ok p → P) → (b ≡ true → y ≡ Ok p → P) → (c ≡ true → z ≡ Ok p → P) → cond a x (cond b y (cond c z (Err refusal.ProgUnavail))) ≡ Ok p → P
+one_of true b c x y z p f g h e = f refl e
+one_of false true c x y z p f g h e = g refl e
+one_of false false true x y z p f g h e = h refl e
+one_of false false false x y z p f g h e = absurd cc
 
 called_named : (side : Side) (h : CallHead) (p : Program) → called side h ≡ Ok p → IsNamed side h p
 called_named side h p e =
-    one_of (serves_files side && (h.program == nfs_number)) (serves_files side && (h.program == lbfs_number)) (versioned 3 h.version (procedure_of program.Nfs (nfs.proc_of h.procedure))) (versioned 1 h.version (procedure_of program.Lb (lb.proc_of h.procedure))) p
+    one_of (serves_files side && (h.program == nfs_number)) (serves_files side && (h.program == lbfs_number)) (serves_callbacks side && (h.program == back_number)) (versioned 3 h.version (procedure_of program.Nfs (nfs.proc_of h.procedure))) (versioned 1 h.version (procedure_of program.Lb (lb.proc_of h.procedure))) (versioned 1 h.version (procedure_of program.Back (back.proc_of h.procedure))) p
     (λ is found. let both = both_true (serves_files side) (h.program == nfs_number) is in named_nfs side h p both.0 (eqb-true h.program nfs_number both.1) found)
     (λ is found. let both = both_true (serves_files side) (h.program == lbfs_number) is in named_lb side h p both.0 (eqb-true h.program lbfs_number both.1) found)
+    (λ is found. let both = both_true (serves_callbacks side) (h.program == back_number) is in named_back side h p both.0 (eqb-true h.program back_number both.1) found)
     e
 
 -- ---- bodies
@@ -121,6 +131,10 @@ args_found (program.Lb q) at rest b fits e =
     let w = whole_found at (args_of (program.Lb q)) rest b fits e in
     let h = lb.args_fit q w.0.0 w.0.2 in
     (subst (HasArgs (program.Lb q)) w.0.1 (h.0, (h.1.1, ap program.Lb h.1.0)), w.1)
+args_found (program.Back q) at rest b fits e =
+    let w = whole_found at (args_of (program.Back q)) rest b fits e in
+    let h = back.args_fit q w.0.0 w.0.2 in
+    (subst (HasArgs (program.Back q)) w.0.1 (h.0, (h.1.1, ap program.Back h.1.0)), w.1)
 
 result_found : (p : Program) (at : ℕ) (rest : List ℕ) (b : Body) → IsBytes rest → whole_at at (result_of p) rest ≡ Ok b → HasResult p b × (rest ≡ body_spell b)
 result_found (program.Nfs q) at rest b fits e =
@@ -131,6 +145,10 @@ result_found (program.Lb q) at rest b fits e =
     let w = whole_found at (result_of (program.Lb q)) rest b fits e in
     let h = lb.answer_fits q w.0.0 w.0.2 in
     (subst (HasResult (program.Lb q)) w.0.1 (h.0, (h.1.1, ap program.Lb h.1.0)), w.1)
+result_found (program.Back q) at rest b fits e =
+    let w = whole_found at (result_of (program.Back q)) rest b fits e in
+    let h = back.answer_fits q w.0.0 w.0.2 in
+    (subst (HasResult (program.Back q)) w.0.1 (h.0, (h.1.1, ap program.Back h.1.0)), w.1)
 
 -- ---- calls
 

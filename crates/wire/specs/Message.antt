@@ -5,6 +5,7 @@ use Rattle.xdr_codec.specs.Compose.{embedded}
 use Rattle.xdr_codec.specs.Xdr.{u32_form}
 use Rattle.nfs3_calls.specs.Nfs as nfs
 use Rattle.hash_calls.specs.Lb as lb
+use Rattle.hash_calls.specs.Back as back
 use Rattle.rpc_record.specs.Header.{front_form, auth_form, call_form, reply_form}
 use Rattle.rpc_record.specs.declared.header.Direction.TheVariants as direction
 use Rattle.rpc_record.specs.declared.header.Auth.{Auth}
@@ -31,17 +32,24 @@ nfs_number = 100003
 abbrev pub lbfs_number : ℕ
 lbfs_number = 536890434
 
+-- 0x20004C43
+abbrev pub back_number : ℕ
+back_number = 536890435
+
 abbrev pub program_number : Program → ℕ
 program_number (program.Nfs p) = nfs_number
 program_number (program.Lb p) = lbfs_number
+program_number (program.Back p) = back_number
 
 abbrev pub program_version : Program → ℕ
 program_version (program.Nfs p) = 3
 program_version (program.Lb p) = 1
+program_version (program.Back p) = 1
 
 abbrev pub procedure_number : Program → ℕ
 procedure_number (program.Nfs p) = nfs.proc_number p
 procedure_number (program.Lb p) = lb.proc_number p
+procedure_number (program.Back p) = back.proc_number p
 
 -- ---- bodies
 
@@ -49,32 +57,39 @@ procedure_number (program.Lb p) = lb.proc_number p
 abbrev pub program_of : Body → Program
 program_of (body.Nfs n) = program.Nfs (nfs.nfs_proc n)
 program_of (body.Lb l) = program.Lb (lb.lb_proc l)
+program_of (body.Back b) = program.Back (back.back_proc b)
 
 abbrev pub body_spell : Body → List ℕ
 body_spell (body.Nfs n) = nfs.nfs_spell n
 body_spell (body.Lb l) = lb.lb_spell l
+body_spell (body.Back b) = back.back_spell b
 
 abbrev pub args_of : Program → Format Body
 args_of (program.Nfs p) = embedded body.Nfs body_spell (nfs.args_form p) (λ _. nfs.args_same p _)
 args_of (program.Lb p) = embedded body.Lb body_spell (lb.args_form p) (λ _. lb.args_same p _)
+args_of (program.Back p) = embedded body.Back body_spell (back.args_form p) (λ _. back.args_same p _)
 
 abbrev pub result_of : Program → Format Body
 result_of (program.Nfs p) = embedded body.Nfs body_spell (nfs.answer_of p) (λ _. nfs.answer_same p _)
 result_of (program.Lb p) = embedded body.Lb body_spell (lb.answer_of p) (λ _. lb.answer_same p _)
+result_of (program.Back p) = embedded body.Back body_spell (back.answer_of p) (λ _. back.answer_same p _)
 
 abbrev pub is_call : Body → Bool
 is_call (body.Nfs n) = nfs.is_call n
 is_call (body.Lb l) = lb.is_call l
+is_call (body.Back b) = back.is_call b
 
 -- its byte strings, lists and numbers are within their maxima
 abbrev pub BodyFits : Body → Type 0
 BodyFits (body.Nfs n) = nfs.NfsFits n
 BodyFits (body.Lb l) = lb.LbFits l
+BodyFits (body.Back b) = back.BackFits b
 
 -- its byte strings and lists are within their maxima, which its types do not say
 abbrev pub IsShortBody : Body → Type 0
 IsShortBody (body.Nfs n) = nfs.IsShort n
 IsShortBody (body.Lb l) = lb.IsShort l
+IsShortBody (body.Back b) = Unit {0}
 
 -- ---- spellings, with any authentication items
 

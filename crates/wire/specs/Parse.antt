@@ -8,8 +8,9 @@ use Rattle.xdr_codec.specs.Format.{Input, whole_at, ended}
 use Rattle.xdr_codec.specs.Xdr.{u32_form}
 use Rattle.nfs3_calls.specs.Nfs as nfs
 use Rattle.hash_calls.specs.Lb as lb
+use Rattle.hash_calls.specs.Back as back
 use Rattle.rpc_record.specs.Header.{front_form, call_form, reply_form}
-use Rattle.wire.specs.Message.{nfs_number, lbfs_number, program_of, args_of, result_of}
+use Rattle.wire.specs.Message.{nfs_number, lbfs_number, back_number, program_of, args_of, result_of}
 use Rattle.rpc_record.specs.declared.header.Direction.{Direction}
 use Rattle.rpc_record.specs.declared.header.Direction.TheVariants as direction
 use Rattle.rpc_record.specs.declared.header.CallHead.{CallHead}
@@ -39,9 +40,16 @@ serves_files Server = true
 serves_files Client = false
 serves_files Either = true
 
+-- where the callback program is served
+abbrev pub serves_callbacks : Side → Bool
+serves_callbacks Server = false
+serves_callbacks Client = true
+serves_callbacks Either = true
+
 abbrev pub serves : Side → Program → Bool
 serves side (program.Nfs p) = serves_files side
 serves side (program.Lb p) = serves_files side
+serves side (program.Back p) = serves_callbacks side
 
 -- what waits under an xid
 abbrev pub waiting : ℕ → List Pending → Option Program
@@ -94,6 +102,7 @@ abbrev pub called : Side → CallHead → Result Program RpcRefusal
 called side h =
     if serves_files side && h.program == nfs_number then versioned 3 h.version (procedure_of program.Nfs (nfs.proc_of h.procedure))
     else if serves_files side && h.program == lbfs_number then versioned 1 h.version (procedure_of program.Lb (lb.proc_of h.procedure))
+    else if serves_callbacks side && h.program == back_number then versioned 1 h.version (procedure_of program.Back (back.proc_of h.procedure))
     else Err refusal.ProgUnavail
 
 -- the arguments fill the rest of the record

@@ -7,15 +7,19 @@ use Rattle.xdr_codec.specs.Answers.{outcome_form}
 use Rattle.xdr_codec.specs.declared.answer.Answer.TheVariants.{Done}
 use Rattle.nfs3_calls.specs.declared.message.NfsProc.TheVariants as nfs_proc
 use Rattle.nfs3_calls.specs.declared.message.Nfs.TheVariants as nfs
-use Rattle.nfs3_calls.specs.Calls.{range_form}
+use Rattle.nfs3_calls.specs.Calls.{range_form, place_form, new_file_form}
+use Rattle.nfs3_calls.specs.Choices.{how_made_form, set_attr_form, set_time_form}
+use Rattle.xdr_codec.specs.Handle.{handle_bytes}
 use Rattle.hash_calls.specs.declared.message.LbProc.TheVariants as lb_proc
 use Rattle.hash_calls.specs.declared.message.Lb.TheVariants as lb
 use Rattle.hash_calls.specs.Calls.{hashes_form}
+use Rattle.hash_calls.specs.declared.message.BackProc.TheVariants as back_proc
+use Rattle.hash_calls.specs.declared.message.Back.TheVariants as back
 use Rattle.rpc_record.specs.Header.{direction_form, front_form, auth_form, call_form, accept_form, denial_form, reply_form}
 use Rattle.wire.specs.Message.{message_spell}
 use Rattle.wire.specs.Parse.{parse_of}
 use Rattle.wire.specs.declared.message.Side.{Side}
-use Rattle.wire.specs.declared.message.Side.TheVariants.{Server, Client}
+use Rattle.wire.specs.declared.message.Side.TheVariants.{Server, Client, Either}
 use Rattle.wire.specs.declared.message.Body.TheVariants as body
 use Rattle.wire.specs.declared.message.Program.TheVariants as program
 use Rattle.wire.specs.declared.message.Program.{Program}
@@ -52,6 +56,31 @@ other_side_row : parse_of (calls_at Client) null_call ≡ Ok (Unfit 7 refusal.Pr
 unfolding front_form direction_form call_form auth_form u32_form opaque_read count_form bytes_form
 other_side_row = refl
 
+-- a recall of the lease on file 2
+abbrev recall : List ℕ
+recall = words (1 ∷ 0 ∷ 2 ∷ 536890435 ∷ 1 ∷ 1 ∷ 0 ∷ 0 ∷ 0 ∷ 0 ∷ 16 ∷ 1279406129 ∷ 0 ∷ 0 ∷ 2 ∷ [])
+
+recall_row : parse_of (calls_at Client) recall ≡ Ok (Call 1 (body.Back (back.Recall (handle_bytes 2))))
+unfolding front_form direction_form call_form auth_form u32_form opaque_read count_form bytes_form
+recall_row = refl
+
+recall_spelled_row : message_spell (Call 1 (body.Back (back.Recall (handle_bytes 2)))) ≡ recall
+unfolding front_form direction_form call_form auth_form u32_form opaque_spell
+recall_spelled_row = refl
+
+-- a server is called no callback; where records of either end are read, both programs are served
+recall_there_row : parse_of (calls_at Server) recall ≡ Ok (Unfit 1 refusal.ProgUnavail)
+unfolding front_form direction_form call_form auth_form u32_form opaque_read count_form bytes_form
+recall_there_row = refl
+
+either_recall_row : parse_of (calls_at Either) recall ≡ Ok (Call 1 (body.Back (back.Recall (handle_bytes 2))))
+unfolding front_form direction_form call_form auth_form u32_form opaque_read count_form bytes_form
+either_recall_row = refl
+
+either_null_row : parse_of (calls_at Either) null_call ≡ Ok (Call 7 (body.Lb lb.Null))
+unfolding front_form direction_form call_form auth_form u32_form opaque_read count_form bytes_form
+either_null_row = refl
+
 -- authentication items are read over: here flavor 1 with four bytes
 auth_row : parse_of (calls_at Server) (words (7 ∷ 0 ∷ 2 ∷ 100003 ∷ 3 ∷ 0 ∷ 1 ∷ 4 ∷ 9 ∷ 0 ∷ 0 ∷ [])) ≡ Ok (Call 7 (body.Nfs nfs.Null))
 unfolding front_form direction_form call_form auth_form u32_form opaque_read count_form bytes_form
@@ -85,6 +114,35 @@ procedure_row : parse_of (calls_at Server) (words (7 ∷ 0 ∷ 2 ∷ 100003 ∷ 
 unfolding front_form direction_form call_form auth_form u32_form opaque_read count_form bytes_form
 procedure_row = refl
 
+back_version_row : parse_of (calls_at Client) (words (7 ∷ 0 ∷ 2 ∷ 536890435 ∷ 9 ∷ 99 ∷ 0 ∷ 0 ∷ 0 ∷ 0 ∷ [])) ≡ Ok (Unfit 7 (refusal.ProgMismatch 1 1))
+unfolding front_form direction_form call_form auth_form u32_form opaque_read count_form bytes_form
+back_version_row = refl
+
+-- READ is procedure 6 of NFS, and WRITE, 7, is not served
+write_row : parse_of (calls_at Server) (words (7 ∷ 0 ∷ 2 ∷ 100003 ∷ 3 ∷ 7 ∷ 0 ∷ 0 ∷ 0 ∷ 0 ∷ [])) ≡ Ok (Unfit 7 refusal.ProcUnavail)
+unfolding front_form direction_form call_form auth_form u32_form opaque_read count_form bytes_form
+write_row = refl
+
+-- a LOOKUP of the name "a" in the root, whose fill isn't zero
+fill_row : parse_of (calls_at Server) (words (9 ∷ 0 ∷ 2 ∷ 100003 ∷ 3 ∷ 3 ∷ 0 ∷ 0 ∷ 0 ∷ 0 ∷ 16 ∷ 1279406129 ∷ 0 ∷ 0 ∷ 1 ∷ 1 ∷ 1627389953 ∷ [])) ≡ Ok (Unfit 9 refusal.GarbageArgs)
+unfolding front_form direction_form call_form auth_form u32_form opaque_read count_form bytes_form place_form
+fill_row = refl
+
+-- the same with fill that is zero
+lookup_row : parse_of (calls_at Server) (words (9 ∷ 0 ∷ 2 ∷ 100003 ∷ 3 ∷ 3 ∷ 0 ∷ 0 ∷ 0 ∷ 0 ∷ 16 ∷ 1279406129 ∷ 0 ∷ 0 ∷ 1 ∷ 1 ∷ 1627389952 ∷ [])) ≡ Ok (Call 9 (body.Nfs (nfs.Lookup (record { dir = handle_bytes 1; name = 97 ∷ [] }))))
+unfolding front_form direction_form call_form auth_form u32_form opaque_read count_form bytes_form place_form
+lookup_row = refl
+
+-- a CREATE whose first truth value is 2
+bool_row : parse_of (calls_at Server) (words (9 ∷ 0 ∷ 2 ∷ 100003 ∷ 3 ∷ 8 ∷ 0 ∷ 0 ∷ 0 ∷ 0 ∷ 16 ∷ 1279406129 ∷ 0 ∷ 0 ∷ 1 ∷ 1 ∷ 1627389952 ∷ 0 ∷ 2 ∷ 0 ∷ 0 ∷ 0 ∷ 0 ∷ 0 ∷ [])) ≡ Ok (Unfit 9 refusal.GarbageArgs)
+unfolding front_form direction_form call_form auth_form u32_form bool_form opaque_read count_form bytes_form place_form new_file_form how_made_form set_attr_form set_time_form
+bool_row = refl
+
+-- a GETATTR with a word behind its handle
+behind_handle_row : parse_of (calls_at Server) (words (9 ∷ 0 ∷ 2 ∷ 100003 ∷ 3 ∷ 1 ∷ 0 ∷ 0 ∷ 0 ∷ 0 ∷ 16 ∷ 1279406129 ∷ 0 ∷ 0 ∷ 1 ∷ 0 ∷ [])) ≡ Ok (Unfit 9 refusal.GarbageArgs)
+unfolding front_form direction_form call_form auth_form u32_form opaque_read count_form bytes_form
+behind_handle_row = refl
+
 -- a word too many behind the arguments
 trailing_row : parse_of (calls_at Server) (words (7 ∷ 0 ∷ 2 ∷ 100003 ∷ 3 ∷ 0 ∷ 0 ∷ 0 ∷ 0 ∷ 0 ∷ 1 ∷ [])) ≡ Ok (Unfit 7 refusal.GarbageArgs)
 unfolding front_form direction_form call_form auth_form u32_form opaque_read count_form bytes_form
@@ -110,6 +168,15 @@ auth_length_row = refl
 null_answer_row : parse_of (awaits 7 (program.Lb lb_proc.Null)) (words (7 ∷ 1 ∷ 0 ∷ 0 ∷ 0 ∷ 0 ∷ [])) ≡ Ok (Answer 7 (body.Lb lb.NullAnswer))
 unfolding front_form direction_form reply_form auth_form accept_form u32_form opaque_read count_form bytes_form
 null_answer_row = refl
+
+-- a RECALL is answered by a header alone, and a status behind it is garbage
+recalled_row : parse_of (awaits 7 (program.Back back_proc.Recall)) (words (7 ∷ 1 ∷ 0 ∷ 0 ∷ 0 ∷ 0 ∷ [])) ≡ Ok (Answer 7 (body.Back back.RecallAnswer))
+unfolding front_form direction_form reply_form auth_form accept_form u32_form opaque_read count_form bytes_form
+recalled_row = refl
+
+recall_status_row : parse_of (awaits 7 (program.Back back_proc.Recall)) (words (7 ∷ 1 ∷ 0 ∷ 0 ∷ 0 ∷ 0 ∷ 0 ∷ [])) ≡ Err (Garbage 24)
+unfolding front_form direction_form reply_form auth_form accept_form u32_form opaque_read count_form bytes_form
+recall_status_row = refl
 
 -- an empty file of version 1, and a lease of a minute
 hashes_row : parse_of (awaits 1 (program.Lb lb_proc.GetHash)) (words (1 ∷ 1 ∷ 0 ∷ 0 ∷ 0 ∷ 0 ∷ 0 ∷ 0 ∷ 1 ∷ 60000 ∷ 0 ∷ 0 ∷ 0 ∷ 1 ∷ [])) ≡ Ok (Answer 1 (body.Lb (lb.GetHashAnswer (Done (record { version = 1; term = 60000; size = 0; pairs = []; eof = true })))))

@@ -2,9 +2,9 @@
 
 ghost use Rattle.std.specs.Prelude.{◌≡◌};
 ghost use Rattle.wire.specs.Message.{program_of, program_number, program_version, procedure_number};
-ghost use Rattle.wire.specs.Parse.{serves_files};
+ghost use Rattle.wire.specs.Parse.{serves_files, serves_callbacks};
 
-use hash_calls::message::{Lb, LbProc};
+use hash_calls::message::{Back, BackProc, Lb, LbProc};
 use lb_base::items::Items;
 use nfs3_calls::message::{Nfs, NfsProc};
 
@@ -20,87 +20,118 @@ pub const LBFS_PROGRAM: u32 = 0x2000_4c42;
 /// The version of LBFS.
 pub const LBFS_VERSION: u32 = 1;
 
+/// The program number of the callback program, which a server calls on a client's connection.
+pub const BACK_PROGRAM: u32 = 0x2000_4c43;
+
+/// The version of the callback program.
+pub const BACK_VERSION: u32 = 1;
+
 /// The version of RPC (RFC 5531, section 9).
 pub const RPC_VERSION: u32 = 2;
 
-/// What a program's call or answer says.
+/// What a program's call or answer says: the arguments in a `Call`, what the call gave in an
+/// `Answer`.
 #[derive(Drop)]
 pub enum Body {
+    /// Of NFS version 3 (RFC 1813, section 3.3).
     Nfs(Nfs),
+    /// Of LBFS.
     Lb(Lb),
+    /// Of the callback program.
+    Back(Back),
 }
 
 /// Why a call is refused (RFC 5531, section 9: accept_stat other than SUCCESS, and reject_stat).
 #[derive(Clone, Copy, Debug, PartialEq, Eq, Drop)]
 pub enum RpcRefusal {
-    /// No such program here.
+    /// No such program here (PROG_UNAVAIL, 1).
     ProgUnavail,
-    /// Only the versions from `low` to `high` of the program.
+    /// Only the versions from `low` to `high` of the program (PROG_MISMATCH, 2). `parse` gives 3
+    /// and 3 for NFS, and 1 and 1 for the other two.
     ProgMismatch { low: u32, high: u32 },
-    /// No such procedure.
+    /// No such procedure (PROC_UNAVAIL, 3).
     ProcUnavail,
-    /// The arguments are no spelling of any.
+    /// The arguments are outside their grammar, or don't fill the record (GARBAGE_ARGS, 4).
     GarbageArgs,
-    /// Want of memory.
+    /// Want of memory (SYSTEM_ERR, 5). `parse` never gives it to a call.
     SystemErr,
-    /// Only the versions from `low` to `high` of RPC.
+    /// Only the versions from `low` to `high` of RPC (RPC_MISMATCH, a reject_stat). `parse` gives 2
+    /// and 2.
     RpcMismatch { low: u32, high: u32 },
-    /// The caller isn't known, with the auth_stat.
+    /// The caller isn't known (AUTH_ERROR, a reject_stat), with the auth_stat: any number. `parse`
+    /// never gives it to a call.
     AuthError(u32),
 }
 
-/// A message under its transaction number, the xid.
+/// A message under its transaction number, the xid. One record holds one message.
 #[derive(Drop)]
 pub enum Message {
     /// A call of a program that is served here.
     Call(u32, Body),
-    /// What a call gave.
+    /// What a call gave (accept_stat SUCCESS, 0).
     Answer(u32, Body),
-    /// An answer that refuses a call.
+    /// An answer that refuses a call, and holds nothing else.
     Refuse(u32, RpcRefusal),
     /// A call that can't be taken, and the refusal that is to be sent back. It is read alone, and
     /// never sent.
     Unfit(u32, RpcRefusal),
 }
 
-/// Whose programs are served: a server's, NFS and LBFS; a client's; or any.
+/// Which end reads a record, and so which programs are served there.
 #[derive(Clone, Copy, PartialEq, Eq, Drop)]
 pub enum Side {
+    /// A server: NFS and LBFS. The callback program is `ProgUnavail` here.
     Server,
+    /// A client: the callback program. NFS and LBFS are `ProgUnavail` here.
     Client,
+    /// Both, where records of either end are read: all three programs.
     Either,
 }
 
-/// A program and a procedure that was called.
+/// A program and a procedure of it.
 #[derive(Clone, Copy, PartialEq, Eq, Drop)]
 pub enum Program {
+    /// NFS version 3 (RFC 1813), program 100003.
     Nfs(NfsProc),
+    /// LBFS version 1, program 0x20004C42.
     Lb(LbProc),
+    /// The callback program, version 1, program 0x20004C43.
+    Back(BackProc),
 }
 
 /// A call that waits for its answer.
 #[derive(Clone, Copy, PartialEq, Eq, Drop)]
 pub struct Pending {
+    /// The number under which its answer comes.
     pub xid: u32,
+    /// What was called, and so what its answer holds.
     pub program: Program,
 }
 
 /// What may come: calls of the programs served, and answers to the calls that wait.
 #[derive(Drop)]
 pub struct Waiting {
+    /// The end that waits.
     pub side: Side,
+    /// The calls without an answer yet, any number of them. Where two have one xid, an answer is
+    /// taken as the first's. `parse` takes none out: its caller does so with the answer.
     pub calls: Items<Pending>,
 }
 
 /// Why a record is no message.
 #[derive(Clone, Copy, Debug, PartialEq, Eq, Drop)]
 pub enum WireErr {
-    /// No RPC message, from the item at `at`, counted from the record's first byte.
+    /// No RPC message: too short for an xid and a direction, another direction than 0 and 1, or a
+    /// call whose header ends early or has an authentication item outside its grammar (above 400
+    /// bytes, or with fill that isn't zero). The item that failed begins `at` bytes behind the
+    /// record's first; for an opaque that is its length.
     NotRpc { at: usize },
-    /// An answer to a call that doesn't wait.
+    /// An answer to a call that doesn't wait, whatever else is wrong with it.
     UnknownXid { xid: u32 },
-    /// An answer outside its grammar, from the item at `at`.
+    /// An answer to a call that waits, whose header or result is outside its grammar or doesn't
+    /// fill the record. The item that failed begins `at` bytes behind the record's first.
     Garbage { at: usize },
+    /// Memory ran out; the record may be a message.
     Memory,
 }
 
@@ -112,6 +143,7 @@ impl Body {
         match self {
             Body::Nfs(message) => Program::Nfs(message.procedure()),
             Body::Lb(message) => Program::Lb(message.procedure()),
+            Body::Back(message) => Program::Back(message.procedure()),
         }
     }
 }
@@ -124,6 +156,7 @@ impl Program {
         match self {
             Program::Nfs(_) => NFS_PROGRAM,
             Program::Lb(_) => LBFS_PROGRAM,
+            Program::Back(_) => BACK_PROGRAM,
         }
     }
 
@@ -134,6 +167,7 @@ impl Program {
         match self {
             Program::Nfs(_) => NFS_VERSION,
             Program::Lb(_) => LBFS_VERSION,
+            Program::Back(_) => BACK_VERSION,
         }
     }
 
@@ -144,6 +178,7 @@ impl Program {
         match self {
             Program::Nfs(procedure) => procedure.number(),
             Program::Lb(procedure) => procedure.number(),
+            Program::Back(procedure) => procedure.number(),
         }
     }
 }
@@ -156,6 +191,16 @@ impl Side {
         match self {
             Side::Server | Side::Either => true,
             Side::Client => false,
+        }
+    }
+
+    /// Whether the callback program is served.
+    pub fn serves_callbacks(self) -> bool
+        ensures { result ≡ serves_callbacks self }
+    {
+        match self {
+            Side::Client | Side::Either => true,
+            Side::Server => false,
         }
     }
 }

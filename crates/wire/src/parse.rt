@@ -3,17 +3,18 @@
 ghost use Rattle.std.specs.Prelude.{◌≡◌, Ok, None};
 ghost use Rattle.nfs3_calls.specs.Nfs.{proc_of as nfs_proc_of};
 ghost use Rattle.hash_calls.specs.Lb.{proc_of as lb_proc_of};
+ghost use Rattle.hash_calls.specs.Back.{proc_of as back_proc_of};
 ghost use Rattle.wire.specs.declared.message.Program.TheVariants as programs;
 ghost use Rattle.wire.specs.Parse.{IsParsed, parse_of, parse_call, parse_call_body, parse_reply, replied, with_args, called, versioned, procedure_of, refusal_of, fault_at, waiting, garbage, not_rpc};
 ghost use Rattle.wire.specs.Message.{args_of, result_of};
 ghost use Rattle.xdr_codec.specs.Format.{GivesAll, whole_at};
 
 use crate::message::{
-    Body, LBFS_PROGRAM, LBFS_VERSION, Message, NFS_PROGRAM, NFS_VERSION, Pending, Program,
-    RPC_VERSION, RpcRefusal, Side, Waiting, WireErr,
+    BACK_PROGRAM, BACK_VERSION, Body, LBFS_PROGRAM, LBFS_VERSION, Message, NFS_PROGRAM,
+    NFS_VERSION, Pending, Program, RPC_VERSION, RpcRefusal, Side, Waiting, WireErr,
 };
-use hash_calls::lb;
-use hash_calls::message::LbProc;
+use hash_calls::message::{BackProc, LbProc};
+use hash_calls::{back, lb};
 use nfs3_calls::message::NfsProc;
 use nfs3_calls::nfs;
 use rpc_record::header::{Accept, CallHead, Denial, Direction, Front, ReplyHead};
@@ -45,7 +46,8 @@ pub fn parse(alloc: Global, bytes: &[u8], expected: &Waiting) -> Result<Message,
     }
 }
 
-fn place(fault: Fault) -> usize
+/// Where the item begins that could not be read, counted from the record's first byte.
+pub fn place(fault: Fault) -> usize
     ensures { result ≡ fault_at fault }
 {
     match fault {
@@ -98,6 +100,9 @@ fn called(side: Side, head: &CallHead) -> Result<Program, RpcRefusal>
     if side.serves_files() && head.program == LBFS_PROGRAM {
         return lb_called(head.version, head.procedure);
     }
+    if side.serves_callbacks() && head.program == BACK_PROGRAM {
+        return back_called(head.version, head.procedure);
+    }
     Err(RpcRefusal::ProgUnavail)
 }
 
@@ -127,6 +132,21 @@ fn lb_called(version: u32, procedure: u32) -> Result<Program, RpcRefusal>
     }
     match LbProc::of_number(procedure) {
         Some(procedure) => Ok(Program::Lb(procedure)),
+        None => Err(RpcRefusal::ProcUnavail),
+    }
+}
+
+fn back_called(version: u32, procedure: u32) -> Result<Program, RpcRefusal>
+    ensures { result ≡ versioned 1 version (procedure_of programs.Back (back_proc_of procedure)) }
+{
+    if version != BACK_VERSION {
+        return Err(RpcRefusal::ProgMismatch {
+            low: BACK_VERSION,
+            high: BACK_VERSION,
+        });
+    }
+    match BackProc::of_number(procedure) {
+        Some(procedure) => Ok(Program::Back(procedure)),
         None => Err(RpcRefusal::ProcUnavail),
     }
 }
@@ -187,6 +207,7 @@ fn read_args(alloc: Global, program: Program, reader: &mut Reader) -> Result<Bod
     match program {
         Program::Nfs(procedure) => Ok(Body::Nfs(nfs::read_args(alloc, procedure, reader)?)),
         Program::Lb(procedure) => Ok(Body::Lb(lb::read_args(alloc, procedure, reader)?)),
+        Program::Back(procedure) => Ok(Body::Back(back::read_args(alloc, procedure, reader)?)),
     }
 }
 
@@ -196,6 +217,7 @@ fn read_result(alloc: Global, program: Program, reader: &mut Reader) -> Result<B
     match program {
         Program::Nfs(procedure) => Ok(Body::Nfs(nfs::read_answer(alloc, procedure, reader)?)),
         Program::Lb(procedure) => Ok(Body::Lb(lb::read_answer(alloc, procedure, reader)?)),
+        Program::Back(procedure) => Ok(Body::Back(back::read_answer(procedure, reader)?)),
     }
 }
 

@@ -5,7 +5,7 @@ ghost use Rattle.wire.specs.Message.{message_spell, body_spell, refusal_head, ca
 ghost use Rattle.rpc_record.specs.Header.{front_form, call_form};
 
 use crate::message::{Body, Message, Program, RPC_VERSION, RpcRefusal};
-use hash_calls::lb;
+use hash_calls::{back, lb};
 use lb_base::items::Bytes;
 use nfs3_calls::nfs;
 use rpc_record::header::{Accept, Auth, CallHead, Denial, Direction, Front, ReplyHead, Versions};
@@ -15,8 +15,9 @@ use xdr_codec::writer::Writer;
 
 /// The record of a message, with no authentication (flavor 0 and no body).
 ///
-/// A call that can't be taken has none: what is sent in answer to `Unfit` is its refusal as
-/// `Refuse`.
+/// A call that can't be taken has none, and gives no bytes: what is sent in answer to `Unfit` is its
+/// refusal as `Refuse`. Lists and byte strings of the message must be within their maxima for the
+/// other end to read it. Record marking takes at most 131,072 bytes.
 pub fn spell(alloc: Global, message: &Message) -> Result<Bytes, AllocError>
     ensures spelled { IfOk result (λ bytes. bytes ≡ message_spell message.now) }
     ensures fits { OnOk result (IsShort message.now → IsSpelled message.now) }
@@ -71,6 +72,7 @@ fn put_body(writer: &mut Writer, body: &Body) -> Result<(), AllocError>
     match body {
         Body::Nfs(message) => nfs::put(writer, message),
         Body::Lb(message) => lb::put(writer, message),
+        Body::Back(message) => back::put(writer, message),
     }
 }
 
