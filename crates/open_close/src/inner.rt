@@ -1,6 +1,6 @@
 //! The client's fields, and one command or one message on them.
 
-ghost use Rattle.std.specs.Prelude.{◌≡◌, ◌+◌, ◌<◌, ◌≤◌, ◌==◌, ◌^◌, length, true, None, Some, slice_get, IfOk, OnErr};
+ghost use Rattle.std.specs.Prelude.{◌≡◌, ◌+◌, ◌<◌, ◌≤◌, ◌==◌, ◌^◌, length, true, None, Some, slice_get, IfOk, OnErr, false};
 ghost use Rattle.open_close.specs.State.{State};
 ghost use Rattle.open_close.specs.Step.{command_step, asks_hashes, opens_if, opens, bad_peer, refused, opened_with, reads_first, reads_on, told_shape, told_bytes, told_piece, denied, took, took_if, denied_if, xid_of, cut_off, got_message, got_fault, got_step, idle, has_xids, may_ask, is_open};
 ghost use Rattle.open_close.specs.View.{state_of, IsSound, HasXids};
@@ -42,6 +42,7 @@ impl Inner {
     pub fn command(&mut self, alloc: Global, command: Command) -> Result<Acts, AllocError>
         requires { IsSound self.old }
         ensures ok { IfOk result (λ a. command_step (state_of self.old) command ≡ (state_of self.new, a)) }
+        ensures done { IfOk result (λ a. a.missed ≡ false) }
         ensures err { OnErr result (state_of self.new ≡ state_of self.old) }
         ensures sound { IsSound self.new }
     {
@@ -54,6 +55,7 @@ impl Inner {
     fn open(&mut self, alloc: Global, file: u64) -> Result<Acts, AllocError>
         requires { IsSound self.old }
         ensures ok { IfOk result (λ a. opens (state_of self.old) file self.old.task ≡ (state_of self.new, a)) }
+        ensures done { IfOk result (λ a. a.missed ≡ false) }
         ensures err { OnErr result (state_of self.new ≡ state_of self.old) }
         ensures sound { IsSound self.new }
     {
@@ -75,6 +77,7 @@ impl Inner {
         requires sound { IsSound self.old }
         requires xids { self.old.next < 4293967297 }
         ensures ok { IfOk result (λ a. asks_hashes (state_of self.old) file true ≡ (state_of self.new, a)) }
+        ensures done { IfOk result (λ a. a.missed ≡ false) }
         ensures err { OnErr result (state_of self.new ≡ state_of self.old) }
         ensures sound { IsSound self.new }
     {
@@ -103,6 +106,7 @@ impl Inner {
     fn bad_peer(&mut self, alloc: Global, fault: BadPeer, bytes: u64) -> Acts
         requires { IsSound self.old }
         ensures ok { bad_peer (state_of self.old) fault bytes ≡ (state_of self.new, result) }
+        ensures done { result.missed ≡ false }
         ensures sound { IsSound self.new }
     {
         self.stop(alloc);
@@ -114,6 +118,7 @@ impl Inner {
     fn refused(&mut self, alloc: Global, status: Status, xid: u32) -> Acts
         requires { IsSound self.old }
         ensures ok { refused (state_of self.old) status xid ≡ (state_of self.new, result) }
+        ensures done { result.missed ≡ false }
         ensures sound { IsSound self.new }
     {
         self.stop(alloc);
@@ -124,6 +129,7 @@ impl Inner {
     fn denied(&mut self, alloc: Global, refusal: RpcRefusal) -> Acts
         requires { IsSound self.old }
         ensures ok { denied (state_of self.old) refusal ≡ (state_of self.new, result) }
+        ensures done { result.missed ≡ false }
         ensures sound { IsSound self.new }
     {
         match refusal {
@@ -148,6 +154,7 @@ impl Inner {
     ) -> Result<Acts, AllocError>
         requires { IsSound self.old }
         ensures ok { IfOk result (λ a. opened_with (state_of self.old) file fetch.version fetch.bytes fetch.asked bytes ≡ (state_of self.new, a)) }
+        ensures done { IfOk result (λ a. a.missed ≡ false) }
         ensures err { OnErr result (idle (state_of self.new) ≡ idle (state_of self.old)) }
         ensures sound { IsSound self.new }
     {
@@ -179,6 +186,7 @@ impl Inner {
         requires some { 0 < length fetch.left }
         requires xids { self.old.next + length fetch.left < 2 ^ 32 }
         ensures ok { IfOk result (λ a. reads_first (state_of self.old) file fetch.asked fetch.version fetch.bytes fetch.left bytes (Some size) ≡ (state_of self.new, a)) }
+        ensures done { IfOk result (λ a. a.missed ≡ false) }
         ensures err { OnErr result (state_of self.new ≡ state_of self.old) }
         ensures sound { IsSound self.new }
     {
@@ -205,6 +213,7 @@ impl Inner {
         requires sound { IsSound self.old }
         requires xids { self.old.next + length fetch.left < 2 ^ 32 }
         ensures ok { IfOk result (λ a. reads_on (state_of self.old) file fetch.asked fetch.version fetch.bytes fetch.left bytes ≡ (state_of self.new, a)) }
+        ensures done { IfOk result (λ a. a.missed ≡ false) }
         ensures err { OnErr result (idle (state_of self.new) ≡ idle (state_of self.old)) }
         ensures sound { IsSound self.new }
     {
@@ -225,6 +234,7 @@ impl Inner {
         requires sound { IsSound self.old }
         requires xids { self.old.next + 1024 < 2 ^ 32 }
         ensures ok { IfOk result (λ a. told_shape (state_of self.old) file asked hashes (broken_of hashes) ≡ (state_of self.new, a)) }
+        ensures done { IfOk result (λ a. a.missed ≡ false) }
         ensures err { OnErr result (idle (state_of self.new) ≡ idle (state_of self.old)) }
         ensures sound { IsSound self.new }
     {
@@ -256,6 +266,7 @@ impl Inner {
         requires some { 0 < length fetch.left }
         requires xids { self.old.next + length fetch.left ≤ 2 ^ 32 }
         ensures ok { IfOk result (λ a. told_bytes (state_of self.old) file fetch bytes.now None ≡ (state_of self.new, a)) }
+        ensures done { IfOk result (λ a. a.missed ≡ false) }
         ensures err { OnErr result (idle (state_of self.new) ≡ idle (state_of self.old)) }
         ensures sound { IsSound self.new }
     {
@@ -275,6 +286,7 @@ impl Inner {
         requires sound { IsSound self.old }
         requires xids { self.old.next + length fetch.left ≤ 2 ^ 32 }
         ensures ok { IfOk result (λ a. told_piece (state_of self.old) file fetch piece (slice_get fetch.left 0) ≡ (state_of self.new, a)) }
+        ensures done { IfOk result (λ a. a.missed ≡ false) }
         ensures err { OnErr result (idle (state_of self.new) ≡ idle (state_of self.old)) }
         ensures sound { IsSound self.new }
     {
@@ -293,6 +305,7 @@ impl Inner {
         requires sound { IsSound self.old }
         requires xids { HasXids self.old.next task.stage }
         ensures ok { IfOk result (λ a. took (state_of self.old) task.file task.stage body ≡ (state_of self.new, a)) }
+        ensures done { IfOk result (λ a. a.missed ≡ false) }
         ensures err { OnErr result (idle (state_of self.new) ≡ idle (state_of self.old)) }
         ensures sound { IsSound self.new }
     {
@@ -306,7 +319,8 @@ impl Inner {
                 Answer::Failed(status, _) => Ok(self.refused(alloc, status, fetch.xid)),
                 Answer::Done(piece) => self.told_piece(alloc, file, fetch, piece),
             },
-            (stage, _) => {
+            (stage, other) => {
+                drop(other);
                 let xid = parts::xid_of(&stage);
                 Ok(self.bad_peer(alloc, BadPeer::UnknownXid { xid }, 0))
             }
@@ -317,15 +331,18 @@ impl Inner {
     fn answered(&mut self, alloc: Global, xid: u32, body: Body) -> Result<Acts, AllocError>
         requires { IsSound self.old }
         ensures ok { IfOk result (λ a. got_message (state_of self.old) self.old.task (message.Answer xid body) ≡ (state_of self.new, a)) }
+        ensures done { IfOk result (λ a. a.missed ≡ false) }
         ensures err { OnErr result (idle (state_of self.new) ≡ idle (state_of self.old)) }
         ensures sound { IsSound self.new }
     {
         let Some(task) = self.stop(alloc) else {
+            drop(body);
             return Ok(self.cut_off(alloc));
         };
         if xid == parts::xid_of(&task.stage) {
             self.took(alloc, task, body)
         } else {
+            drop(body);
             Ok(self.bad_peer(alloc, BadPeer::UnknownXid { xid }, 0))
         }
     }
@@ -334,6 +351,7 @@ impl Inner {
     fn was_refused(&mut self, alloc: Global, xid: u32, refusal: RpcRefusal) -> Acts
         requires { IsSound self.old }
         ensures ok { got_message (state_of self.old) self.old.task (message.Refuse xid refusal) ≡ (state_of self.new, result) }
+        ensures done { result.missed ≡ false }
         ensures sound { IsSound self.new }
     {
         let Some(task) = self.stop(alloc) else {
@@ -350,6 +368,7 @@ impl Inner {
     fn cut_off(&mut self, alloc: Global) -> Acts
         requires { IsSound self.old }
         ensures ok { cut_off (state_of self.old) ≡ (state_of self.new, result) }
+        ensures done { result.missed ≡ false }
         ensures sound { IsSound self.new }
     {
         self.linked = false;
@@ -360,6 +379,7 @@ impl Inner {
     fn got_fault(&mut self, alloc: Global, fault: WireErr) -> Acts
         requires { IsSound self.old }
         ensures ok { got_fault (state_of self.old) self.old.task fault ≡ (state_of self.new, result) }
+        ensures done { result.missed ≡ false }
         ensures sound { IsSound self.new }
     {
         if self.task.is_none() {
@@ -372,6 +392,7 @@ impl Inner {
     fn got_message(&mut self, alloc: Global, message: Message) -> Result<Acts, AllocError>
         requires { IsSound self.old }
         ensures ok { IfOk result (λ a. got_message (state_of self.old) self.old.task message ≡ (state_of self.new, a)) }
+        ensures done { IfOk result (λ a. a.missed ≡ false) }
         ensures err { OnErr result (idle (state_of self.new) ≡ idle (state_of self.old)) }
         ensures sound { IsSound self.new }
     {
@@ -382,7 +403,10 @@ impl Inner {
                 let refuse = Message::Refuse(xid, refusal);
                 parts::sends(alloc, refuse, Counts { read: 0, bytes: 0 })
             }
-            Message::Call(..) => Ok(parts::nothing_done(alloc)),
+            Message::Call(_, body) => {
+                drop(body);
+                Ok(parts::nothing_done(alloc))
+            }
         }
     }
 
@@ -394,6 +418,7 @@ impl Inner {
     ) -> Result<Acts, AllocError>
         requires { IsSound self.old }
         ensures ok { IfOk result (λ a. got_step (state_of self.old) message ≡ (state_of self.new, a)) }
+        ensures done { IfOk result (λ a. a.missed ≡ false) }
         ensures err { OnErr result (idle (state_of self.new) ≡ idle (state_of self.old)) }
         ensures sound { IsSound self.new }
     {

@@ -92,12 +92,18 @@ fn asking(alloc: Global) -> Client {
 
 /// Whether the chunks of a file are asked for, under xid 1.
 fn asks_hashes(acts: Acts) -> bool {
-    matches!(sent(acts), Some(Message::Call(1, Body::Lb(Lb::GetHash(_)))))
+    let message = sent(acts);
+    let asks = matches!(&message, Some(Message::Call(1, Body::Lb(Lb::GetHash(_)))));
+    drop(message);
+    asks
 }
 
 /// Whether bytes are asked for, under xid 2.
 fn asks_bytes(acts: Acts) -> bool {
-    matches!(sent(acts), Some(Message::Call(2, Body::Nfs(Nfs::Read(_)))))
+    let message = sent(acts);
+    let asks = matches!(&message, Some(Message::Call(2, Body::Nfs(Nfs::Read(_)))));
+    drop(message);
+    asks
 }
 
 /// A client that was told the one chunk of file 2, and asked the server for its bytes.

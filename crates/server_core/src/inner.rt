@@ -1,6 +1,6 @@
 //! The server's fields, and one event on them.
 
-ghost use Rattle.std.specs.Prelude.{◌≡◌, ◌==◌, ◌<◌, ◌^◌, [], ◌∷◌, ◌++◌, OnOk, OnErr, IfOk};
+ghost use Rattle.std.specs.Prelude.{◌≡◌, ◌==◌, ◌<◌, ◌^◌, [], ◌∷◌, ◌++◌, OnOk, OnErr, IfOk, false};
 ghost use Rattle.std.specs.List.{list_any, All};
 ghost use Rattle.std.specs.Map.{values_of};
 ghost use Rattle.server_core.specs.State.{with_file};
@@ -41,9 +41,10 @@ fn many(send: Vec<Sent>) -> Outs
 
 /// One message, and nothing else.
 fn one(alloc: Global, session: u32, message: Message) -> Result<Outs, AllocError>
-    ensures { IfOk result (λ o. o ≡ to session message) }
+    ensures said { IfOk result (λ o. o ≡ to session message) }
+    ensures done { IfOk result (λ o. o.missed ≡ false) }
 {
-    let mut send = Vec::with_capacity(alloc, 1)?;
+    let mut send = Vec::new(alloc);
     send.push(Sent { session, message })?;
     Ok(many(send))
 }
@@ -82,7 +83,8 @@ fn answer(
     body: &Body,
 ) -> Result<Outs, AllocError>
     requires { All IsFileBounded (values_of files.now.entries) }
-    ensures { IfOk result (λ o. o ≡ answered session xid (called files.now.entries body.now)) }
+    ensures said { IfOk result (λ o. o ≡ answered session xid (called files.now.entries body.now)) }
+    ensures done { IfOk result (λ o. o.missed ≡ false) }
 {
     match answer_to(alloc, files, body)? {
         Some(body) => one(alloc, session, Message::Answer(xid, body)),
@@ -101,7 +103,8 @@ fn take(
     message: &Message,
 ) -> Result<Outs, AllocError>
     requires { All IsFileBounded (values_of files.now.entries) }
-    ensures { IfOk result (λ o. o ≡ got files.now.entries session message.now) }
+    ensures said { IfOk result (λ o. o ≡ got files.now.entries session message.now) }
+    ensures done { IfOk result (λ o. o.missed ≡ false) }
 {
     match message {
         Message::Call(xid, body) => answer(alloc, files, session, *xid, body),
@@ -135,6 +138,7 @@ impl Inner {
         requires bounded { IsBounded self.old }
         requires timed { IsTimed event }
         ensures ok { IfOk result (λ o. server_step (state_of self.old) event ≡ (state_of self.new, o)) }
+        ensures done { IfOk result (λ o. o.missed ≡ false) }
         ensures err { OnErr result (IsMissed (state_of self.old) (state_of self.new)) }
         ensures bounded { IsBounded self.new }
     {
@@ -148,7 +152,9 @@ impl Inner {
                 message,
                 now,
             } => {
-                let outs = self.got(alloc, session, &message, now)?;
+                let outs = self.got(alloc, session, &message, now);
+                drop(message);
+                let outs = outs?;
                 Ok(outs)
             }
         }
@@ -158,6 +164,7 @@ impl Inner {
     fn connect(&mut self, alloc: Global) -> Result<Outs, AllocError>
         requires { IsBounded self.old }
         ensures ok { IfOk result (λ o. connect (state_of self.old) (has_room (state_of self.old)) ≡ (state_of self.new, o)) }
+        ensures done { IfOk result (λ o. o.missed ≡ false) }
         ensures err { OnErr result (state_of self.new ≡ state_of self.old) }
         ensures bounded { IsBounded self.new }
     {
@@ -182,6 +189,7 @@ impl Inner {
     ) -> Result<Outs, AllocError>
         requires { IsBounded self.old }
         ensures ok { IfOk result (λ o. server_step (state_of self.old) (event.Got session message.now now) ≡ (state_of self.new, o)) }
+        ensures done { IfOk result (λ o. o.missed ≡ false) }
         ensures err { OnErr result (IsMissed (state_of self.old) (state_of self.new)) }
         ensures bounded { IsBounded self.new }
     {

@@ -3,15 +3,16 @@
 use crate::event::{Event, Outs, Told};
 use crate::file::File;
 use crate::server::Server;
-use hash_calls::call::HashRange;
+use hash_calls::call::{HashRange, Hashes};
 use hash_calls::message::Lb;
 use lb_base::items::Bytes;
-use nfs3_calls::call::Range;
+use nfs3_calls::call::{Piece, Range};
 use nfs3_calls::message::Nfs;
 use std::alloc::{AllocError, Global};
 use std::test::Fail;
 use wire::message::{Body, Message, RpcRefusal};
 use xdr_codec::answer::Answer;
+use xdr_codec::attr::Attr;
 use xdr_codec::handle::Handle;
 use xdr_codec::status::Status;
 
@@ -53,8 +54,40 @@ fn answer(outs: Outs) -> Option<Body> {
     let sent = outs.send.into_vec().pop()?;
     match sent.message {
         Message::Answer(7, body) if sent.session == 1 => Some(body),
-        _ => None,
+        other => {
+            drop(other);
+            None
+        }
     }
+}
+
+/// What a GETHASH gave.
+fn hash_answer(told: Option<Body>) -> Option<Answer<Hashes, ()>> {
+    match told? {
+        Body::Lb(Lb::GetHashAnswer(answer)) => Some(answer),
+        other => {
+            drop(other);
+            None
+        }
+    }
+}
+
+/// What a READ gave.
+fn read_answer(told: Option<Body>) -> Option<Answer<Piece, Option<Attr>>> {
+    match told? {
+        Body::Nfs(Nfs::ReadAnswer(answer)) => Some(answer),
+        other => {
+            drop(other);
+            None
+        }
+    }
+}
+
+/// Whether this answers a NULL of LBFS.
+fn is_null(told: Option<Body>) -> bool {
+    let is = matches!(&told, Some(Body::Lb(Lb::NullAnswer)));
+    drop(told);
+    is
 }
 
 /// Why the one call is refused, to session 1 under xid 7.
@@ -62,11 +95,14 @@ fn refusal(outs: Outs) -> Option<RpcRefusal> {
     let sent = outs.send.into_vec().pop()?;
     match sent.message {
         Message::Refuse(7, refusal) if sent.session == 1 => Some(refusal),
-        _ => None,
+        other => {
+            drop(other);
+            None
+        }
     }
 }
 
-fn hash(alloc: Global, handle: Handle) -> Result<Option<Body>, AllocError> {
+fn hash(alloc: Global, handle: Handle) -> Result<Option<Answer<Hashes, ()>>, AllocError> {
     let mut server = server(alloc)?;
     server.step(alloc, Event::Connect);
     let range = HashRange {
@@ -74,10 +110,15 @@ fn hash(alloc: Global, handle: Handle) -> Result<Option<Body>, AllocError> {
         offset: 0,
         count: u32::MAX,
     };
-    Ok(answer(asked(alloc, &mut server, Body::Lb(Lb::GetHash(range)))))
+    let outs = asked(alloc, &mut server, Body::Lb(Lb::GetHash(range)));
+    Ok(hash_answer(answer(outs)))
 }
 
-fn read(alloc: Global, handle: Handle, offset: u64) -> Result<Option<Body>, AllocError> {
+fn read(
+    alloc: Global,
+    handle: Handle,
+    offset: u64,
+) -> Result<Option<Answer<Piece, Option<Attr>>>, AllocError> {
     let mut server = server(alloc)?;
     server.step(alloc, Event::Connect);
     let range = Range {
@@ -85,14 +126,14 @@ fn read(alloc: Global, handle: Handle, offset: u64) -> Result<Option<Body>, Allo
         offset,
         count: 2,
     };
-    Ok(answer(asked(alloc, &mut server, Body::Nfs(Nfs::Read(range)))))
+    let outs = asked(alloc, &mut server, Body::Nfs(Nfs::Read(range)));
+    Ok(read_answer(answer(outs)))
 }
 
 #[test]
 fn tells_chunks(rt: HostRuntime) -> Result<(), Fail> {
     let alloc = rt.alloc();
-    let Some(Body::Lb(Lb::GetHashAnswer(Answer::Done(hashes)))) = hash(alloc, handle(alloc, 2)?)?
-    else {
+    let Some(Answer::Done(hashes)) = hash(alloc, handle(alloc, 2)?)? else {
         return Err("no chunks".into());
     };
     assert_eq!(rt; hashes.size, 3);
@@ -106,8 +147,7 @@ fn tells_chunks(rt: HostRuntime) -> Result<(), Fail> {
 #[test]
 fn reads(rt: HostRuntime) -> Result<(), Fail> {
     let alloc = rt.alloc();
-    let Some(Body::Nfs(Nfs::ReadAnswer(Answer::Done(piece)))) = read(alloc, handle(alloc, 2)?, 1)?
-    else {
+    let Some(Answer::Done(piece)) = read(alloc, handle(alloc, 2)?, 1)? else {
         return Err("no bytes".into());
     };
     assert_eq!(rt; piece.bytes.as_slice(), b"bc".as_slice());
@@ -122,26 +162,26 @@ fn refuses(rt: HostRuntime) -> Result<(), Fail> {
     assert!(rt;
         matches!(
             hash(alloc, handle(alloc, 1)?)?,
-            Some(Body::Lb(Lb::GetHashAnswer(Answer::Failed(Status::IsDir, ()))))
+            Some(Answer::Failed(Status::IsDir, ()))
         )
     );
     assert!(rt;
         matches!(
             read(alloc, handle(alloc, 1)?, 0)?,
-            Some(Body::Nfs(Nfs::ReadAnswer(Answer::Failed(Status::Inval, None))))
+            Some(Answer::Failed(Status::Inval, None))
         )
     );
     assert!(rt;
         matches!(
             hash(alloc, handle(alloc, 3)?)?,
-            Some(Body::Lb(Lb::GetHashAnswer(Answer::Failed(Status::Stale, ()))))
+            Some(Answer::Failed(Status::Stale, ()))
         )
     );
     let foreign = Handle::new(Bytes::copy_of(alloc, b"LB")?).ok_or("long")?;
     assert!(rt;
         matches!(
             read(alloc, foreign, 0)?,
-            Some(Body::Nfs(Nfs::ReadAnswer(Answer::Failed(Status::BadHandle, None))))
+            Some(Answer::Failed(Status::BadHandle, None))
         )
     );
     Ok(())
@@ -152,11 +192,11 @@ fn serves_sessions_alone(rt: HostRuntime) -> Result<(), Fail> {
     let alloc = rt.alloc();
     let mut server = server(alloc)?;
     let before = asked(alloc, &mut server, Body::Lb(Lb::Null));
-    assert!(rt; answer(before).is_none());
+    assert!(rt; before.send.is_empty());
     let made = server.step(alloc, Event::Connect);
     assert_eq!(rt; made.told, Told::Session(1));
     let after = asked(alloc, &mut server, Body::Lb(Lb::Null));
-    assert!(rt; matches!(answer(after), Some(Body::Lb(Lb::NullAnswer))));
+    assert!(rt; is_null(answer(after)));
     Ok(())
 }
 

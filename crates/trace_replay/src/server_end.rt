@@ -1,6 +1,6 @@
 //! Bytes that reach the server.
 
-ghost use Rattle.std.specs.Prelude.{◌≡◌, OnOk};
+ghost use Rattle.std.specs.Prelude.{◌≡◌, ◌+◌, OnOk, IfOk};
 ghost use Rattle.trace_replay.specs.Delivery.{server_waiting, taken_with, server_got, server_takes, server_takes_all, up_all};
 ghost use Rattle.trace_replay.specs.View.{world_of};
 
@@ -40,12 +40,27 @@ fn remember(taken: &mut Vec<Taken>, message: &Message, step: u64) -> Result<(), 
     }
 }
 
+/// The step in which a message is taken, which is remembered with it.
+fn note(world: &mut Inner, message: &Message) -> Result<u64, AllocError>
+    ensures step { IfOk result (λ step. step ≡ world.old.steps + 1) }
+    ensures noted { OnOk result (world_of world.new ≡ record (world_of world.old) { link = record (world_of world.old).link { taken = taken_with (world_of world.old).link.taken message.now ((world_of world.old).steps + 1) } }) }
+{
+    let step = count_on(world.steps, 1)?;
+    remember(&mut world.link.taken, message, step)?;
+    Ok(step)
+}
+
 /// The server takes a message, in a step.
 fn got(alloc: Global, world: &mut Inner, message: Message) -> Result<(), AllocError>
     ensures { OnOk result (world_of world.new ≡ server_got (world_of world.old) message) }
 {
-    let step = count_on(world.steps, 1)?;
-    remember(&mut world.link.taken, &message, step)?;
+    let step = match note(world, &message) {
+        Ok(step) => step,
+        Err(error) => {
+            drop(message);
+            return Err(error);
+        }
+    };
     let event = Event::Got {
         session: SESSION,
         message,
