@@ -1,0 +1,4 @@
+pub mod Arguments
+pub mod Pieces
+pub mod Sent
+pub mod Parsed

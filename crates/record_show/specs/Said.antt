@@ -1,0 +1,28 @@
+-- What a record is, where every call and no answer is expected.
+use Rattle.std.specs.Prelude.{◌≡◌, Result, Ok, Err}
+use Rattle.wire.specs.Message.{program_of}
+use Rattle.wire.specs.declared.message.Body.{Body}
+use Rattle.wire.specs.declared.message.Message.{Message}
+use Rattle.wire.specs.declared.message.Message.TheVariants as message
+use Rattle.wire.specs.declared.message.WireErr.{WireErr}
+use Rattle.wire.specs.declared.message.WireErr.TheVariants as wire
+use Rattle.record_show.specs.Line.{read_line}
+use Rattle.record_show.specs.declared.line.Line.{Line}
+use Rattle.record_show.specs.declared.reading.Said.{Said}
+use Rattle.record_show.specs.declared.reading.Said.TheVariants.{Call, Unfit, NoMessage, NoCall, Unknown}
+
+-- what was read
+abbrev pub said_of : Result Message WireErr → Said
+said_of (Ok (message.Call xid b)) = Call xid (program_of b)
+said_of (Ok (message.Unfit xid why)) = Unfit xid why
+said_of (Err (wire.NotRpc at)) = NoMessage at
+said_of (Err wire.Memory) = Unknown
+said_of _ = NoCall
+
+-- what was read is that; nothing is said where memory ran out
+abbrev pub IsSaid : Said → Result Message WireErr → Type 0
+IsSaid (Call xid p) read = (b : Body) × (read ≡ Ok (message.Call xid b)) × (program_of b ≡ p)
+IsSaid (Unfit xid why) read = read ≡ Ok (message.Unfit xid why)
+IsSaid (NoMessage at) read = read ≡ Err (wire.NotRpc at)
+IsSaid NoCall read = (answer : Line) → read_line read answer ≡ answer
+IsSaid Unknown read = Unit {0}
