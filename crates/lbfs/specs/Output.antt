@@ -3,6 +3,7 @@ use Rattle.std.specs.Prelude.{◌≡◌, ◌⊎◌, ℕ, List, [], ◌∷◌, �
 use Rattle.hex.specs.Hex.{encode_lower}
 use Rattle.chunk_cut.specs.Chunks.{chunks_of}
 use Rattle.chunk_cut.specs.declared.chunk.Chunk.{Chunk}
+use Rattle.record_show.specs.Show.{shown}
 use Rattle.register_model.specs.Text.{history_text}
 use Rattle.trace_text.specs.Refusals.{refusal_of}
 use Rattle.trace_text.specs.declared.refusal.Refusal.TheVariants as refusal
@@ -47,6 +48,7 @@ replay_output input = told (run input)
 abbrev pub command_output : Command → List ℕ → Status × List ℕ
 command_output command.Replay input = replay_output input
 command_output command.Cut input = (status.Done, cut_text input)
+command_output command.Show input = (status.Done, shown input)
 
 -- the most bytes that an input may have
 abbrev pub most_bytes : ℕ

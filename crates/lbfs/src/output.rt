@@ -8,6 +8,7 @@ ghost use Rattle.lbfs.specs.declared.output.Status.TheVariants as status;
 use crate::chunk_lines::cut_text;
 use crate::words::Command;
 use lb_base::items::{Bytes, Items};
+use record_show::show::shown;
 use register_model::text;
 use std::alloc::{AllocError, Global};
 use trace_replay::fault::{Refused, TraceErr};
@@ -98,6 +99,10 @@ pub fn command_output(alloc: Global, command: Command, input: &[u8]) -> Result<O
         Command::Cut => Ok(Output {
             status: Status::Done,
             text: cut_text(alloc, input)?,
+        }),
+        Command::Show => Ok(Output {
+            status: Status::Done,
+            text: shown(alloc, input)?,
         }),
     }
 }

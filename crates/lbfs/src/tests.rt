@@ -11,6 +11,8 @@ use std::alloc::{AllocError, Global};
 use std::process::Abort;
 use std::test::Fail;
 
+mod show;
+
 const HEADER: &str = "lbfs-trace 1\nterm 60000\ndrift 100\nclients 1\n";
 
 /// What follows the header, and the history that it comes to.

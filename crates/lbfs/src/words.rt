@@ -10,6 +10,8 @@ pub enum Command {
     Replay,
     /// `cut`: the chunks of a content.
     Cut,
+    /// `show`: the records of a stream.
+    Show,
 }
 
 /// The command with this name.
@@ -20,6 +22,8 @@ fn command_named(word: &[u8]) -> Option<Command>
         Some(Command::Replay)
     } else if word == b"cut".as_slice() {
         Some(Command::Cut)
+    } else if word == b"show".as_slice() {
+        Some(Command::Show)
     } else {
         None
     }
