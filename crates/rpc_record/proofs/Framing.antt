@@ -1,5 +1,5 @@
 -- The records that are split off are those that were framed.
-use Rattle.std.proofs.Common.{◌≡◌, ℕ, zero, suc, ◌+◌, ◌%◌, ◌^◌, ◌<◌, ◌≤◌, List, [], ◌∷◌, ◌++◌, length, drop, true, false, Some, refl, sym, ap, ◌∙◌, arith, length-append, append_assoc, map}
+use Rattle.std.proofs.Common.{◌≡◌, ℕ, zero, suc, ◌+◌, ◌%◌, ◌^◌, ◌<◌, ◌≤◌, List, [], ◌∷◌, ◌++◌, length, drop, true, false, Option, Some, None, refl, sym, ap, ◌∙◌, arith, length-append, append_assoc, map}
 use Rattle.std.specs.Prelude.{All, nat_le}
 use Rattle.std.specs.Int.{w32, from_be_bytes, to_be_bytes}
 use Rattle.std.specs.List.{flat_map, concat}
@@ -7,10 +7,11 @@ use Rattle.std.proofs.lemmas.Bool.{lt-leb}
 use Rattle.std.proofs.lemmas.List.{take_at, drop_at, length-append}
 use Rattle.std.proofs.lemmas.Nat.{from_be_bytes-to_be_bytes_4}
 use Rattle.rpc_record.specs.declared.fragments.Header.{Header}
-use Rattle.rpc_record.specs.Records.{header_word, header_of, Whole, front, record_of, most_bytes, split}
+use Rattle.rpc_record.specs.declared.refusal.Refusal.{Refusal}
+use Rattle.rpc_record.specs.Records.{header_word, header_of, Whole, Begun, front, record_of, HasRecord, most_bytes, Parts, split, Unread, fed}
 use Rattle.rpc_record.specs.Framed.{fragment_spell, Cutting, cutting_contents, cutting_spell, CuttingFits, Framed}
 use Rattle.rpc_record.proofs.Fronts.{front_last, front_more, append_none}
-use Rattle.rpc_record.proofs.Splitting.{with_records, split_whole, prepended}
+use Rattle.rpc_record.proofs.Splitting.{with_records, split_whole, split_begun, split_rest_begun, prepended, only_rest}
 use Rattle.rpc_record.proofs.Streaming.{header_at, last_header, word_header, All-head, All-tail}
 
 abbrev pub other_header : ℕ → Header
@@ -88,3 +89,19 @@ framed_split (c ∷ cuttings) rest fit =
 
 pub framed_is_split : (records : List (List ℕ)) (bytes rest : List ℕ) → Framed records bytes rest → split bytes ≡ with_records records (split rest)
 framed_is_split records bytes rest f = ap split f.spelled ∙ framed_split f.cuttings rest f.fit ∙ ap (λ (rs : List (List ℕ)). with_records rs (split rest)) f.contents
+
+-- ---- what is left holds no whole record
+
+left_begun : (rest : List ℕ) (spoilt : Option Refusal) (piece : List ℕ) → (fed (record { rest = rest; spoilt = spoilt }) piece).0.spoilt ≡ None → record_of (fed (record { rest = rest; spoilt = spoilt }) piece).0.rest ≡ Begun
+left_begun rest None piece e = split_rest_begun (rest ++ piece) e
+left_begun rest (Some why) piece e = absurd cc
+
+pub fed_leaves : (unread : Unread) (piece contents : List ℕ) → (fed unread piece).0.spoilt ≡ None → ¬ HasRecord (fed unread piece).0.rest contents
+fed_leaves unread piece contents e has = let no : Whole contents has.0 ≡ Begun = sym has.1 ∙ left_begun unread.rest unread.spoilt piece e in absurd cc
+
+pub fed_unframed : (unread : Unread) (piece contents behind : List ℕ) (records : List (List ℕ)) → (fed unread piece).0.spoilt ≡ None → ¬ Framed (contents ∷ records) (fed unread piece).0.rest behind
+fed_unframed unread piece contents behind records e f =
+    let rest : List ℕ = (fed unread piece).0.rest in
+    let both : only_rest rest ≡ with_records (contents ∷ records) (split behind) = sym (split_begun rest (left_begun unread.rest unread.spoilt piece e)) ∙ framed_is_split (contents ∷ records) rest behind f in
+    let no : [] ≡ contents ∷ (records ++ (split behind).records) = ap (λ (p : Parts). p.records) both in
+    absurd cc

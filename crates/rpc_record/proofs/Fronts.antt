@@ -5,8 +5,9 @@ use Rattle.std.specs.Int.{w32, from_be_bytes}
 use Rattle.std.proofs.lemmas.Bool.{ltb-false, le-ltb, lt-ltb, cases_lt}
 use Rattle.std.proofs.lemmas.List.{take-append-le, drop-append-le, length-drop}
 use Rattle.rpc_record.specs.declared.fragments.Header.{Header}
+use Rattle.rpc_record.specs.declared.refusal.Refusal.{Refusal}
 use Rattle.rpc_record.specs.declared.refusal.Refusal.TheVariants.{TooBig, TooManyFragments}
-use Rattle.rpc_record.specs.Records.{header_word, header_of, Front, Whole, Begun, Bad, fragment, front, most_bytes}
+use Rattle.rpc_record.specs.Records.{header_word, header_of, Front, Whole, Begun, Bad, fragment, none_more, front, most_bytes}
 
 -- a header has four bytes
 pub header_long : (bytes : List ℕ) (h : Header) → header_of bytes ≡ Some h → 4 ≤ length bytes
@@ -54,8 +55,15 @@ pub front_none : (more : ℕ) (contents bytes : List ℕ) → header_of bytes �
 front_none zero contents bytes e = rw (e, front) refl
 front_none (suc more) contents bytes e = rw (e, front) refl
 
-pub front_out : (contents bytes : List ℕ) (h : Header) → header_of bytes ≡ Some h → front zero contents bytes ≡ Bad TooManyFragments
+-- a record that may have no more fragments
+pub front_out : (contents bytes : List ℕ) (h : Header) → header_of bytes ≡ Some h → front zero contents bytes ≡ Bad (none_more h contents)
 front_out contents bytes h e = rw (e, front) refl
+
+pub out_big : (h : Header) (contents : List ℕ) → most_bytes < length contents + h.len → none_more h contents ≡ TooBig (length contents + h.len)
+out_big h contents lt = let t : nat_lt most_bytes (length contents + h.len) ≡ true = lt-ltb _ _ lt in rw t refl
+
+pub out_many : (h : Header) (contents : List ℕ) → length contents + h.len ≤ most_bytes → none_more h contents ≡ TooManyFragments
+out_many h contents le = let t : nat_lt most_bytes (length contents + h.len) ≡ false = le-ltb _ _ le in rw t refl
 
 abbrev pub front_later : ℕ → List ℕ → List ℕ → Header → Front
 front_later more contents bytes h = front more (contents ++ take h.len (drop 4 bytes)) (drop h.len (drop 4 bytes))
@@ -71,9 +79,10 @@ drop_parts n bytes behind le = rw (drop-append-le 4 bytes behind (omega (arith, 
 pub take_parts : (n : ℕ) (bytes behind : List ℕ) → 4 + n ≤ length bytes → take n (drop 4 (bytes ++ behind)) ≡ take n (drop 4 bytes)
 take_parts n bytes behind le = rw (drop-append-le 4 bytes behind (omega (arith, le))) (take-append-le n (drop 4 bytes) behind (omega (arith, le, length-drop 4 bytes)))
 
--- a header that promises too much
-pub front_big : (more : ℕ) (contents bytes behind : List ℕ) (h : Header) → header_of bytes ≡ Some h → most_bytes < length contents + h.len → front (suc more) contents (bytes ++ behind) ≡ Bad (TooBig (length contents + h.len))
-front_big more contents bytes behind h e lt =
+-- a header that promises too much, however many fragments may come
+pub front_big : (more : ℕ) (contents bytes behind : List ℕ) (h : Header) → header_of bytes ≡ Some h → most_bytes < length contents + h.len → front more contents (bytes ++ behind) ≡ Bad (TooBig (length contents + h.len))
+front_big zero contents bytes behind h e lt = front_out contents (bytes ++ behind) h (header_more bytes behind h e) ∙ ap (λ (why : Refusal). Bad why) (out_big h contents lt)
+front_big (suc more) contents bytes behind h e lt =
     front_some more contents (bytes ++ behind) h (header_more bytes behind h e) ∙ fragment_big h contents (drop 4 (bytes ++ behind)) (front_later more contents (bytes ++ behind) h) lt
 
 -- a last fragment, which is whole
@@ -133,7 +142,7 @@ front_grows zero contents bytes behind = by_header (header_of bytes) refl
   where
     by_header : (o : Option Header) → header_of bytes ≡ o → Grown behind (front zero contents bytes) (front zero contents (bytes ++ behind))
     by_header None e = grown_by behind (front zero contents bytes) Begun (front zero contents (bytes ++ behind)) (front zero contents (bytes ++ behind)) (front_none zero contents bytes e) refl tt
-    by_header (Some h) e = grown_by behind (front zero contents bytes) (Bad TooManyFragments) (front zero contents (bytes ++ behind)) (Bad TooManyFragments) (front_out contents bytes h e) (front_out contents (bytes ++ behind) h (header_more bytes behind h e)) refl
+    by_header (Some h) e = grown_by behind (front zero contents bytes) (Bad (none_more h contents)) (front zero contents (bytes ++ behind)) (Bad (none_more h contents)) (front_out contents bytes h e) (front_out contents (bytes ++ behind) h (header_more bytes behind h e)) refl
 front_grows (suc n) contents bytes behind = by_header (header_of bytes) refl (λ c b. front_grows n c b behind)
   where
     plain : front (suc n) contents (bytes ++ []) ≡ front (suc n) contents bytes
@@ -147,7 +156,7 @@ front_grows (suc n) contents bytes behind = by_header (header_of bytes) refl (λ
         let old : Front = front (suc n) contents bytes in
         let new : Front = front (suc n) contents (bytes ++ behind) in
         elim (shape h contents bytes) [
-          | big lt ↦ grown_by behind old (Bad (TooBig (length contents + h.len))) new (Bad (TooBig (length contents + h.len))) (sym plain ∙ front_big n contents bytes [] h e lt) (front_big n contents bytes behind h e lt) refl
+          | big lt ↦ grown_by behind old (Bad (TooBig (length contents + h.len))) new (Bad (TooBig (length contents + h.len))) (sym plain ∙ front_big (suc n) contents bytes [] h e lt) (front_big (suc n) contents bytes behind h e lt) refl
           | short le lt ↦ grown_by behind old Begun new new (front_short n contents bytes h e le lt) refl tt
           | last le long is ↦ grown_by behind old (Whole c (after ++ [])) new (Whole c (after ++ behind)) (sym plain ∙ front_last n contents bytes [] h e le long is) (front_last n contents bytes behind h e le long is) (ap (λ (z : List ℕ). Whole c (z ++ behind)) (sym (append_none after)))
           | more le long is ↦ grown_by behind old (front n c after) new (front n c (after ++ behind)) (sym plain ∙ front_more n contents bytes [] h e le long is ∙ ap (λ (z : List ℕ). front n c z) (append_none after)) (front_more n contents bytes behind h e le long is) (later c after)

@@ -20,7 +20,7 @@ joins_by : (n : ℕ) (h : Header) (bytes contents left whole after : List ℕ) �
 joins_by zero h bytes contents left whole after same is e = let bad = front_out contents left h e in absurd cc
 joins_by (suc n) h bytes contents left whole after same is e =
     elim (shape h contents left) [
-      | big lt ↦ let bad = sym plain ∙ front_big n contents left [] h e lt in absurd cc
+      | big lt ↦ let bad = sym plain ∙ front_big (suc n) contents left [] h e lt in absurd cc
       | short le lt ↦ let bad = front_short n contents left h e le lt in absurd cc
       | last le long true_is ↦ record {
         long = long;

@@ -112,7 +112,7 @@ read_back (suc n) contents bytes whole after fits e = by_header (header_of bytes
     by_header None head later = let bad : Whole whole after ≡ Begun = sym e ∙ front_none (suc n) contents bytes head in absurd cc
     by_header (Some h) head later =
         elim (shape h contents bytes) [
-          | big lt ↦ let bad = sym e ∙ sym plain ∙ front_big n contents bytes [] h head lt in absurd cc
+          | big lt ↦ let bad = sym e ∙ sym plain ∙ front_big (suc n) contents bytes [] h head lt in absurd cc
           | short le lt ↦ let bad : Whole whole after ≡ Begun = sym e ∙ front_short n contents bytes h head le lt in absurd cc
           | last le long is ↦ back_last n contents bytes whole after h fits e head le long is
           | more le long is ↦

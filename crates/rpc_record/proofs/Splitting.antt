@@ -4,8 +4,8 @@ use Rattle.std.specs.List.{concat}
 use Rattle.std.proofs.lemmas.List.{length-drop}
 use Rattle.rpc_record.specs.declared.fragments.Header.{Header}
 use Rattle.rpc_record.specs.declared.refusal.Refusal.{Refusal}
-use Rattle.rpc_record.specs.declared.refusal.Refusal.TheVariants.{TooBig, TooManyFragments}
-use Rattle.rpc_record.specs.Records.{header_of, Front, Whole, Begun, Bad, front, record_of, Parts, split_in, split, nothing_read, continued, all_fed}
+use Rattle.rpc_record.specs.declared.refusal.Refusal.TheVariants.{TooBig}
+use Rattle.rpc_record.specs.Records.{header_of, none_more, Front, Whole, Begun, Bad, front, record_of, Parts, split_in, split, nothing_read, continued, all_fed}
 use Rattle.rpc_record.proofs.Fronts.{front_none, front_out, front_big, front_short, front_last, front_more, big, short, last, more, shape, Grown, front_grows, append_none}
 
 -- ---- a whole record takes some bytes
@@ -28,7 +28,7 @@ front_shorter zero contents bytes = by_header (header_of bytes) refl
   where
     by_header : (o : Option Header) → header_of bytes ≡ o → Shorter bytes (front zero contents bytes)
     by_header None e = shorter_by bytes (front zero contents bytes) Begun (front_none zero contents bytes e) tt
-    by_header (Some h) e = shorter_by bytes (front zero contents bytes) (Bad TooManyFragments) (front_out contents bytes h e) tt
+    by_header (Some h) e = shorter_by bytes (front zero contents bytes) (Bad (none_more h contents)) (front_out contents bytes h e) tt
 front_shorter (suc n) contents bytes = by_header (header_of bytes) refl (λ c b. front_shorter n c b)
   where
     plain : front (suc n) contents (bytes ++ []) ≡ front (suc n) contents bytes
@@ -41,7 +41,7 @@ front_shorter (suc n) contents bytes = by_header (header_of bytes) refl (λ c b.
         let after : List ℕ = drop h.len (drop 4 bytes) in
         let old : Front = front (suc n) contents bytes in
         elim (shape h contents bytes) [
-          | big lt ↦ shorter_by bytes old (Bad (TooBig (length contents + h.len))) (sym plain ∙ front_big n contents bytes [] h e lt) tt
+          | big lt ↦ shorter_by bytes old (Bad (TooBig (length contents + h.len))) (sym plain ∙ front_big (suc n) contents bytes [] h e lt) tt
           | short le lt ↦ shorter_by bytes old Begun (front_short n contents bytes h e le lt) tt
           | last le long is ↦ shorter_by bytes old (Whole c (after ++ [])) (sym plain ∙ front_last n contents bytes [] h e le long is) (omega (arith, long, length-append after [], length-drop h.len (drop 4 bytes), length-drop 4 bytes))
           | more le long is ↦ shorter_by bytes old (front n c after) (sym plain ∙ front_more n contents bytes [] h e le long is ∙ ap (λ (z : List ℕ). front n c z) (append_none after)) (shorter_than after bytes (front n c after) (omega (arith, length-drop h.len (drop 4 bytes), length-drop 4 bytes)) (later c after))

@@ -1,9 +1,9 @@
 -- A refusal comes exactly where a start of a record stands that breaks a limit.
-use Rattle.std.proofs.Common.{◌≡◌, ◌↔◌, ℕ, zero, suc, ◌+◌, ◌^◌, ◌<◌, ◌≤◌, List, [], ◌∷◌, ◌++◌, length, take, drop, Bool, true, false, Option, Some, None, refl, sym, ap, ◌∙◌, subst, arith, length-append, append_assoc}
+use Rattle.std.proofs.Common.{◌≡◌, ◌↔◌, ℕ, zero, suc, ◌+◌, ◌^◌, ◌<◌, ◌≤◌, List, [], ◌∷◌, ◌++◌, length, take, drop, Bool, true, false, Option, Some, None, refl, sym, ap, ◌∙◌, subst, arith, length-append, append_assoc, inl, inr}
 use Rattle.std.specs.Prelude.{nat_lt}
 use Rattle.std.specs.Int.{w32, from_be_bytes, to_be_bytes}
 use Rattle.std.specs.List.{flat_map, concat}
-use Rattle.std.proofs.lemmas.Bool.{le-ltb}
+use Rattle.std.proofs.lemmas.Bool.{le-ltb, cases_lt}
 use Rattle.std.proofs.lemmas.List.{length-take, length-drop, take-append-drop, drop_at, append-nil}
 use Rattle.std.proofs.lemmas.Nat.{from_be_bytes-to_be_bytes_4}
 use Rattle.xdr_codec.specs.Format.{IsBytes}
@@ -11,10 +11,10 @@ use Rattle.xdr_codec.specs.Laws.{IsBytes-drop}
 use Rattle.rpc_record.specs.declared.fragments.Header.{Header}
 use Rattle.rpc_record.specs.declared.refusal.Refusal.{Refusal}
 use Rattle.rpc_record.specs.declared.refusal.Refusal.TheVariants.{TooBig, TooManyFragments}
-use Rattle.rpc_record.specs.Records.{header_word, header_of, Whole, Begun, Bad, front, record_of, most_bytes, Parts, split, all_fed, nothing_read}
+use Rattle.rpc_record.specs.Records.{header_word, header_of, Whole, Begun, Bad, none_more, front, record_of, most_bytes, Parts, split, all_fed, nothing_read}
 use Rattle.rpc_record.specs.Framed.{header_spell, fragment_spell, Framed, cutting_spell, IsFramed, Ends}
 use Rattle.rpc_record.specs.Spoilt.{Start, start_spell, StartFits, Breaks, SpoiltBehind, Spoils}
-use Rattle.rpc_record.proofs.Fronts.{header_long, fragment_big, front_none, front_out, front_some, front_later, front_big, front_short, front_last, front_more, big, short, last, more, shape, append_none}
+use Rattle.rpc_record.proofs.Fronts.{header_long, fragment_big, front_none, front_out, out_big, out_many, front_some, front_later, front_big, front_short, front_last, front_more, big, short, last, more, shape, append_none}
 use Rattle.rpc_record.proofs.Splitting.{with_records, split_bad, pieces_fed}
 use Rattle.rpc_record.proofs.Streaming.{header_at, word_header}
 use Rattle.rpc_record.proofs.Framing.{word_other, other_reads, framed_is_split}
@@ -33,23 +33,31 @@ spelled_header false len bytes lt =
 
 -- which limit is broken, where so many more fragments may come, and so many bytes were promised before
 abbrev pub BreaksFrom : ℕ → ℕ → List (List ℕ) → ℕ → Refusal → Type 0
-BreaksFrom n before earlier len (TooBig sum) = (length earlier < n) × ((before + length (concat earlier)) + len ≡ sum) × (most_bytes < sum)
-BreaksFrom n before earlier len TooManyFragments = length earlier ≡ n
+BreaksFrom n before earlier len (TooBig sum) = (length earlier ≤ n) × ((before + length (concat earlier)) + len ≡ sum) × (most_bytes < sum)
+BreaksFrom n before earlier len TooManyFragments = (length earlier ≡ n) × ((before + length (concat earlier)) + len ≤ most_bytes)
 
 breaks_on : (n before : ℕ) (body : List ℕ) (earlier : List (List ℕ)) (len : ℕ) (why : Refusal) → BreaksFrom (suc n) before (body ∷ earlier) len why → BreaksFrom n (before + length body) earlier len why
 breaks_on n before body earlier len (TooBig sum) h = (omega (arith, h.0), omega (arith, h.1, length-append body (concat earlier)), h.2)
-breaks_on n before body earlier len TooManyFragments h = omega (arith, h)
+breaks_on n before body earlier len TooManyFragments h = (omega (arith, h.0), omega (arith, h.1, length-append body (concat earlier)))
 
 breaks_back : (n before : ℕ) (body : List ℕ) (earlier : List (List ℕ)) (len : ℕ) (why : Refusal) → BreaksFrom n (before + length body) earlier len why → BreaksFrom (suc n) before (body ∷ earlier) len why
 breaks_back n before body earlier len (TooBig sum) h = (omega (arith, h.0), omega (arith, h.1, length-append body (concat earlier)), h.2)
-breaks_back n before body earlier len TooManyFragments h = ap suc h
+breaks_back n before body earlier len TooManyFragments h = (ap suc h.0, omega (arith, h.1, length-append body (concat earlier)))
+
+-- why a record that may have no more fragments has no such header
+out_as : (h : Header) (contents : List ℕ) (why : Refusal) → BreaksFrom zero (length contents) [] h.len why → none_more h contents ≡ why
+out_as h contents (TooBig sum) b =
+    let same : length contents + h.len ≡ sum = omega (arith, b.1) in
+    out_big h contents (omega (arith, b.2, same)) ∙ ap (λ (k : ℕ). TooBig k) same
+out_as h contents TooManyFragments b = out_many h contents (omega (arith, b.1))
 
 pub start_reads : (n : ℕ) (contents : List ℕ) (earlier : List (List ℕ)) (top : Bool) (len : ℕ) (tail : List ℕ) (why : Refusal) → len < 2 ^ 31 → length contents + length (concat earlier) ≤ most_bytes → BreaksFrom n (length contents) earlier len why
     → front n contents ((flat_map (fragment_spell false) earlier ++ header_spell top len) ++ tail) ≡ Bad why
-start_reads zero contents [] top len tail (TooBig sum) lt le h = absurd (omega (arith, h.0))
-start_reads zero contents [] top len tail TooManyFragments lt le h = front_out contents (header_spell top len ++ tail) (record { last = top; len = len }) (spelled_header top len tail lt)
+start_reads zero contents [] top len tail why lt le h =
+    let header : Header = record { last = top; len = len } in
+    front_out contents (header_spell top len ++ tail) header (spelled_header top len tail lt) ∙ ap (λ (w : Refusal). Bad w) (out_as header contents why h)
 start_reads zero contents (body ∷ earlier) top len tail (TooBig sum) lt le h = absurd (omega (arith, h.0))
-start_reads zero contents (body ∷ earlier) top len tail TooManyFragments lt le h = absurd (omega (arith, h))
+start_reads zero contents (body ∷ earlier) top len tail TooManyFragments lt le h = absurd (omega (arith, h.0))
 start_reads (suc n) contents [] top len tail (TooBig sum) lt le h =
     let header : Header = record { last = top; len = len } in
     let bytes : List ℕ = header_spell top len ++ tail in
@@ -57,7 +65,7 @@ start_reads (suc n) contents [] top len tail (TooBig sum) lt le h =
     front_some n contents bytes header (spelled_header top len tail lt)
     ∙ fragment_big header contents (drop 4 bytes) (front_later n contents bytes header) (omega (arith, h.2, same))
     ∙ ap (λ (k : ℕ). Bad (TooBig k)) same
-start_reads (suc n) contents [] top len tail TooManyFragments lt le h = absurd (omega (arith, h))
+start_reads (suc n) contents [] top len tail TooManyFragments lt le h = absurd (omega (arith, h.0))
 start_reads (suc n) contents (body ∷ earlier) top len tail why lt le h =
     let others : List ℕ = flat_map (fragment_spell false) earlier in
     let head : List ℕ = header_spell top len in
@@ -71,7 +79,7 @@ start_reads (suc n) contents (body ∷ earlier) top len tail why lt le h =
 
 breaks_from : (s : Start) (why : Refusal) → Breaks s why → BreaksFrom 1024 0 s.earlier s.len why
 breaks_from s (TooBig sum) h = (omega (arith, h.0), omega (arith, h.1), h.2)
-breaks_from s TooManyFragments h = omega (arith, h)
+breaks_from s TooManyFragments h = (omega (arith, h.0), omega (arith, h.1))
 
 pub start_is_bad : (s : Start) (tail : List ℕ) (why : Refusal) → StartFits s → Breaks s why → record_of (start_spell s ++ tail) ≡ Bad why
 unfolding record_of
@@ -134,14 +142,21 @@ back_on n contents bytes why h fits e long is k =
           ∙ sym (append_assoc (fragment_spell false body) (others ++ head) k.tail) ∙ ap (λ (z : List ℕ). z ++ k.tail) (sym (append_assoc (fragment_spell false body) others head));
     }
 
+breaks_out : (h : Header) (contents : List ℕ) → BreaksFrom zero (length contents) [] h.len (none_more h contents)
+breaks_out h contents =
+    elim (cases_lt most_bytes (length contents + h.len)) [
+      | inl lt ↦ subst (BreaksFrom zero (length contents) [] h.len) (sym (out_big h contents lt)) (omega arith, omega arith, lt)
+      | inr le ↦ subst (BreaksFrom zero (length contents) [] h.len) (sym (out_many h contents le)) (refl, omega (arith, le))
+    ]
+
 pub bad_back : (n : ℕ) (contents bytes : List ℕ) (why : Refusal) → IsBytes bytes → length contents ≤ most_bytes → front n contents bytes ≡ Bad why → BadBack n contents bytes why
 bad_back zero contents bytes why fits le e = by_header (header_of bytes) refl
   where
     by_header : (o : Option Header) → header_of bytes ≡ o → BadBack zero contents bytes why
     by_header None head = let no : Bad why ≡ Begun = sym e ∙ front_none zero contents bytes head in absurd cc
     by_header (Some h) head =
-        let same : why ≡ TooManyFragments = bad_is why TooManyFragments (sym e ∙ front_out contents bytes h head) in
-        subst (λ (w : Refusal). BadBack zero contents bytes w) (sym same) (back_one zero contents bytes TooManyFragments h fits head le refl)
+        let same : why ≡ none_more h contents = bad_is why (none_more h contents) (sym e ∙ front_out contents bytes h head) in
+        subst (λ (w : Refusal). BadBack zero contents bytes w) (sym same) (back_one zero contents bytes (none_more h contents) h fits head le (breaks_out h contents))
 bad_back (suc n) contents bytes why fits le e = by_header (header_of bytes) refl (λ c b f l k. bad_back n c b why f l k)
   where
     plain : front (suc n) contents (bytes ++ []) ≡ front (suc n) contents bytes
@@ -154,7 +169,7 @@ bad_back (suc n) contents bytes why fits le e = by_header (header_of bytes) refl
         let rest : List ℕ = drop h.len (drop 4 bytes) in
         elim (shape h contents bytes) [
           | big lt ↦
-              let same : why ≡ TooBig (length contents + h.len) = bad_is why (TooBig (length contents + h.len)) (sym e ∙ sym plain ∙ front_big n contents bytes [] h head lt) in
+              let same : why ≡ TooBig (length contents + h.len) = bad_is why (TooBig (length contents + h.len)) (sym e ∙ sym plain ∙ front_big (suc n) contents bytes [] h head lt) in
               subst (λ (w : Refusal). BadBack (suc n) contents bytes w) (sym same) (back_one (suc n) contents bytes (TooBig (length contents + h.len)) h fits head le (omega arith, omega arith, lt))
           | short small lt ↦ let no : Bad why ≡ Begun = sym e ∙ front_short n contents bytes h head small lt in absurd cc
           | last small long is ↦ let no : Bad why ≡ Whole (contents ++ body) (rest ++ []) = sym e ∙ sym plain ∙ front_last n contents bytes [] h head small long is in absurd cc
@@ -166,7 +181,7 @@ bad_back (suc n) contents bytes why fits le e = by_header (header_of bytes) refl
 
 breaks_as : (earlier : List (List ℕ)) (top : Bool) (len : ℕ) (why : Refusal) → BreaksFrom 1024 0 earlier len why → Breaks (record { earlier = earlier; last = top; len = len }) why
 breaks_as earlier top len (TooBig sum) h = (omega (arith, h.0), omega (arith, h.1), h.2)
-breaks_as earlier top len TooManyFragments h = omega (arith, h)
+breaks_as earlier top len TooManyFragments h = (omega (arith, h.0), omega (arith, h.1))
 
 pub record_bad_back : (bytes : List ℕ) (why : Refusal) → IsBytes bytes → record_of bytes ≡ Bad why → BadBack 1024 [] bytes why
 unfolding record_of

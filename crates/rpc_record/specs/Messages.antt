@@ -1,6 +1,7 @@
 -- Whole headers of calls and replies (RFC 5531, section 9: rpc_msg).
-use Rattle.std.specs.Prelude.{◌≡◌, ℕ, List, [], ◌++◌, Result, Ok, Err, ◌==◌, if◌then◌else◌}
+use Rattle.std.specs.Prelude.{◌≡◌, ℕ, List, [], ◌++◌, Result, Ok, Err, nat_lt, ◌==◌, if◌then◌else◌}
 use Rattle.xdr_codec.specs.declared.fault.Fault.{Fault}
+use Rattle.xdr_codec.specs.declared.fault.Fault.TheVariants.{BadValue}
 use Rattle.xdr_codec.specs.declared.fault.ReadError.{ReadError}
 use Rattle.xdr_codec.specs.declared.fault.ReadError.TheVariants as errors
 use Rattle.xdr_codec.specs.Format.{Input, Format, IsBytes, Takes, behind}
@@ -26,12 +27,14 @@ read_then (Err fault) go = Err (Xdr fault)
 abbrev pub message_spell : {A : Type 0} → ℕ → Format A → ℕ → A → List ℕ
 message_spell kind body xid a = u32_form.spell xid ++ (u32_form.spell kind ++ body.spell a)
 
-abbrev pub if_kind : {B : Type 0} → (kind seen : ℕ) → Result B HeaderError → Result B HeaderError
-if_kind kind seen later = if seen == kind then later else Err (BadType seen)
+-- what follows a message's type, which stands at this place, where it is the header's own; a number that is neither a call's nor
+-- a reply's is no type, and the other of the two is a fault of this header
+abbrev pub if_kind : {B : Type 0} → (kind place seen : ℕ) → Result B HeaderError → Result B HeaderError
+if_kind kind place seen later = if nat_lt 1 seen then Err (BadType seen) else if seen == kind then later else Err (Xdr (BadValue place seen))
 
 abbrev pub message_read : {A B : Type 0} → ℕ → Format A → (ℕ → A → B) → Input → Result (B × Input) HeaderError
 message_read kind body make i =
-    read_then (u32_form.read i) (λ xid. read_then (u32_form.read xid.1) (λ seen. if_kind kind seen.0 (read_then (body.read seen.1) (λ a. Ok (make xid.0 a.0, a.1)))))
+    read_then (u32_form.read i) (λ xid. read_then (u32_form.read xid.1) (λ seen. if_kind kind xid.1.at seen.0 (read_then (body.read seen.1) (λ a. Ok (make xid.0 a.0, a.1)))))
 
 abbrev pub call_body : Format (ℕ × CallHead)
 call_body = u32_form ⋆ call_form

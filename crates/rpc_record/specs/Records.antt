@@ -43,9 +43,14 @@ fragment h contents behind later =
     else if h.last then Whole (contents ++ take h.len behind) (drop h.len behind)
     else later
 
+-- why a record of which these contents were read, and which may have no more fragments, has none of this header:
+-- where it also promises too much, that is the reason
+abbrev pub none_more : Header → List ℕ → Refusal
+none_more h contents = if nat_lt most_bytes (length contents + h.len) then TooBig (length contents + h.len) else TooManyFragments
+
 -- the rest of a record, of which these contents were read, and which may have so many more fragments
 abbrev pub front : ℕ → List ℕ → List ℕ → Front
-front zero contents bytes = elim (header_of bytes) [ None ↦ Begun | Some h ↦ Bad TooManyFragments ]
+front zero contents bytes = elim (header_of bytes) [ None ↦ Begun | Some h ↦ Bad (none_more h contents) ]
 front (suc more) contents bytes =
     elim (header_of bytes) [
       | None ↦ Begun

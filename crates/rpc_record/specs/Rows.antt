@@ -29,6 +29,11 @@ too_many_row : split (empties 1025) ≡ record { records = []; rest = []; spoilt
 unfolding record_of
 too_many_row = refl
 
+-- where that header also promises a byte too many, this is why
+both_row : split (empties 1024 ++ 0 ∷ 2 ∷ 0 ∷ 1 ∷ []) ≡ record { records = []; rest = []; spoilt = Some (TooBig 131073) }
+unfolding record_of
+both_row = refl
+
 most_fragments_row : split (empties 1023 ++ marked []) ≡ record { records = [] ∷ []; rest = []; spoilt = None }
 unfolding record_of
 most_fragments_row = refl

@@ -26,10 +26,11 @@ promised s = length (concat s.earlier) + s.len
 abbrev pub StartFits : Start → Type 0
 StartFits s = (s.len < 2 ^ 31) × (length (concat s.earlier) ≤ most_bytes)
 
--- why no record may begin so: its headers promise more than the most bytes, or it has one header more than the most fragments
+-- why no record may begin so: its headers promise more than the most bytes, or no more than these, but it has one header more
+-- than the most fragments
 abbrev pub Breaks : Start → Refusal → Type 0
-Breaks s (TooBig len) = (header_count s ≤ most_fragments) × (promised s ≡ len) × (most_bytes < len)
-Breaks s TooManyFragments = header_count s ≡ most_fragments + 1
+Breaks s (TooBig len) = (header_count s ≤ most_fragments + 1) × (promised s ≡ len) × (most_bytes < len)
+Breaks s TooManyFragments = (header_count s ≡ most_fragments + 1) × (promised s ≤ most_bytes)
 
 -- behind these records stands such a start, whatever follows it
 pub record SpoiltBehind (records : List (List ℕ)) (bytes : List ℕ) (why : Refusal) : Type 0 where

@@ -88,12 +88,12 @@ fn look(bytes: &[u8], known: Progress) -> Step
     let Some(header) = header_of(left) else {
         return Step::Done(Found::Begun(known));
     };
-    if known.more == 0 {
-        return Step::Done(Found::Bad(Refusal::TooManyFragments));
-    }
     let promised = known.promised + header.len;
     if MOST_BYTES < promised {
         return Step::Done(Found::Bad(Refusal::TooBig { len: promised }));
+    }
+    if known.more == 0 {
+        return Step::Done(Found::Bad(Refusal::TooManyFragments));
     }
     if left.len() < 4 + header.len {
         return Step::Done(Found::Begun(known));

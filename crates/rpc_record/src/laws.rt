@@ -1,6 +1,7 @@
-//! What records keep, whatever the pieces in which their bytes come.
+//! What holds of records, whatever the pieces in which their bytes come, and of the headers of calls
+//! and replies.
 
-ghost use Rattle.std.specs.Prelude.{◌≡◌, ◌↔◌, ℕ, List, [], ◌++◌, Some};
+ghost use Rattle.std.specs.Prelude.{◌≡◌, ◌↔◌, ℕ, List, [], ◌∷◌, ◌++◌, Some, None};
 ghost use Rattle.std.specs.List.{concat};
 ghost use Rattle.xdr_codec.specs.Format.{IsBytes};
 ghost use Rattle.rpc_record.specs.Framed.{Framed, IsFramed};
@@ -9,18 +10,21 @@ ghost use Rattle.rpc_record.specs.declared.refusal.Refusal.{Refusal};
 ghost use Rattle.rpc_record.specs.Header.{reply_form};
 ghost use Rattle.rpc_record.specs.Refused.{IsRefusal};
 ghost use Rattle.rpc_record.specs.Messages.{IsHeader, call_body, call_spell, CallFits, call_read, reply_spell, ReplyFits, reply_read};
-ghost use Rattle.rpc_record.specs.Records.{split, continued, all_fed, nothing_read, stream, CanSend, Came};
+ghost use Rattle.rpc_record.specs.Records.{Unread, HasRecord, split, fed, continued, all_fed, nothing_read, stream, CanSend, Came};
 
 /// The records that are split off are those that the bytes carry in fragments, and a refusal
-/// comes exactly where a bad header stands behind them.
+/// comes exactly where a bad header stands behind them. Where there is none, what a piece leaves of a
+/// stream holds no whole record: none is at its front, and none stands there in any fragments.
 pub fn records_are_framed()
     ensures sound { (bytes : List ℕ) → IsBytes bytes → IsFramed bytes (split bytes) }
     ensures complete { (records : List (List ℕ)) (bytes rest : List ℕ) → Framed records bytes rest → split bytes ≡ record { records = records ++ (split rest).records; rest = (split rest).rest; spoilt = (split rest).spoilt } }
+    ensures left { (unread : Unread) (piece contents : List ℕ) → (fed unread piece).0.spoilt ≡ None → ¬ HasRecord (fed unread piece).0.rest contents }
+    ensures unframed { (unread : Unread) (piece contents behind : List ℕ) (records : List (List ℕ)) → (fed unread piece).0.spoilt ≡ None → ¬ Framed (contents ∷ records) (fed unread piece).0.rest behind }
 {}
 
 /// Pieces, however they were cut, are refused exactly where a start of a record stands behind
 /// whole records in their joined bytes whose headers promise more than 131,072 bytes, or which has
-/// a 1,025th header; and those records come beside the refusal.
+/// a 1,025th header and promises no more than these; and those records come beside the refusal.
 pub fn refusals_are_of_spoilt_streams()
     ensures exact { (pieces : List (List ℕ)) (why : Refusal) → IsBytes (concat pieces) → ((all_fed nothing_read pieces).spoilt ≡ Some why) ↔ Spoils (concat pieces) why }
     ensures beside { (pieces records : List (List ℕ)) (why : Refusal) → SpoiltBehind records (concat pieces) why → all_fed nothing_read pieces ≡ record { records = records; rest = []; spoilt = Some why } }
@@ -46,8 +50,9 @@ pub fn headers_are_exact()
     ensures replies { IsHeader reply_spell ReplyFits reply_read }
 {}
 
-/// A header is refused for another type exactly where an xid and that type's number stand, and for
-/// a fault exactly where the bytes end within these two, or what the type has is so refused.
+/// A header is refused for its type exactly where an xid stands and a number that is neither a
+/// call's nor a reply's, and for a fault exactly where the bytes end within these two, or the type
+/// is the other of the two, which is `BadValue` at its place, or what the type has is so refused.
 pub fn refused_headers_have_their_causes()
     ensures calls { IsRefusal 0 call_body call_read }
     ensures replies { IsRefusal 1 reply_form reply_read }

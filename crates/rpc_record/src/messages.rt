@@ -10,6 +10,7 @@ ghost use Rattle.rpc_record.specs.Messages.{HeaderGives, call_read, call_spell, 
 use crate::header::{CallHead, ReplyHead};
 use crate::refusal::HeaderError;
 use std::alloc::{AllocError, Global};
+use xdr_codec::fault::Fault;
 use xdr_codec::item::Item;
 use xdr_codec::reader::Reader;
 use xdr_codec::writer::Writer;
@@ -45,9 +46,13 @@ fn read_call(alloc: Global, reader: &mut Reader) -> Result<Call, HeaderError>
     ensures { HeaderGives result reader.new (call_read reader.old) }
 {
     let xid = reader.u32()?;
+    let at = reader.at();
     let value = reader.u32()?;
-    if value != CALL {
+    if REPLY < value {
         return Err(HeaderError::BadType { value });
+    }
+    if value != CALL {
+        return Err(HeaderError::Xdr(Fault::BadValue { at, value }));
     }
     let rpcvers = reader.u32()?;
     let head = CallHead::read(alloc, reader)?;
@@ -59,9 +64,13 @@ fn read_reply(alloc: Global, reader: &mut Reader) -> Result<Reply, HeaderError>
     ensures { HeaderGives result reader.new (reply_read reader.old) }
 {
     let xid = reader.u32()?;
+    let at = reader.at();
     let value = reader.u32()?;
-    if value != REPLY {
+    if REPLY < value {
         return Err(HeaderError::BadType { value });
+    }
+    if value != REPLY {
+        return Err(HeaderError::Xdr(Fault::BadValue { at, value }));
     }
     let head = ReplyHead::read(alloc, reader)?;
     Ok(Reply { xid, head })
@@ -89,9 +98,10 @@ fn write_reply(reply: &Reply, writer: &mut Writer) -> Result<(), AllocError>
 }
 
 impl Call {
-    /// Reads the header of a call: `BadType` where the message is of another type, `Xdr` with the
-    /// first fault where an item could not be read, and `Memory`. After an `Err`, want of memory
-    /// too, the reader is where it was.
+    /// Reads the header of a call: `BadType` where the message's type is neither a call's nor a
+    /// reply's, `Xdr` with the first fault where an item could not be read (a reply's type is
+    /// `BadValue` at its place), and `Memory`. After an `Err`, want of memory too, the reader is
+    /// where it was.
     pub fn read(alloc: Global, reader: &mut Reader) -> Result<Call, HeaderError>
         ensures gives { HeaderGives result reader.new (call_read reader.old) }
         ensures stays { OnErr result (reader.new ≡ reader.old) }
@@ -118,9 +128,10 @@ impl Call {
 }
 
 impl Reply {
-    /// Reads the header of a reply: `BadType` where the message is of another type, `Xdr` with the
-    /// first fault where an item could not be read, and `Memory`. After an `Err`, want of memory
-    /// too, the reader is where it was.
+    /// Reads the header of a reply: `BadType` where the message's type is neither a call's nor a
+    /// reply's, `Xdr` with the first fault where an item could not be read (a call's type is
+    /// `BadValue` at its place), and `Memory`. After an `Err`, want of memory too, the reader is
+    /// where it was.
     pub fn read(alloc: Global, reader: &mut Reader) -> Result<Reply, HeaderError>
         ensures gives { HeaderGives result reader.new (reply_read reader.old) }
         ensures stays { OnErr result (reader.new ≡ reader.old) }

@@ -15,7 +15,7 @@ pub enum Refusal {
         /// How many the headers promise, with the one that passes the limit.
         len: usize,
     },
-    /// A record has a 1,025th fragment.
+    /// A record has a 1,025th fragment, whose header doesn't promise too many bytes as well.
     TooManyFragments,
 }
 
@@ -42,9 +42,9 @@ impl From<AllocError> for MarkError {
 /// Why a record does not begin with the header that was asked for.
 #[derive(Debug, Drop)]
 pub enum HeaderError {
-    /// An item of the header could not be read.
+    /// An item of the header could not be read, or is the type of the other header.
     Xdr(Fault),
-    /// The message is of another type, which has this number.
+    /// The message's type is this number, which is neither a call's nor a reply's.
     BadType {
         /// The number that stands there.
         value: u32,

@@ -90,6 +90,21 @@ fn empty_fragments_count(rt: HostRuntime) -> Result<(), Fail> {
 }
 
 #[test]
+fn the_length_is_refused_before_the_number(rt: HostRuntime) -> Result<(), Fail> {
+    let alloc = rt.alloc();
+    let mut records = Records::new(alloc);
+    let fed = records.feed(alloc, &[0; 4096])?;
+    assert_eq!(rt; fed.spoilt, None);
+    let fed = records.feed(alloc, &[0, 2, 0, 1])?;
+    assert_eq!(rt; fed.spoilt, Some(Refusal::TooBig { len: 131_073 }));
+    let mut records = Records::new(alloc);
+    records.feed(alloc, &[0; 4096])?;
+    let fed = records.feed(alloc, &[0; 4])?;
+    assert_eq!(rt; fed.spoilt, Some(Refusal::TooManyFragments));
+    Ok(())
+}
+
+#[test]
 fn marks_up_to_the_limit(rt: HostRuntime) -> Result<(), Fail> {
     let alloc = rt.alloc();
     let marked = mark(alloc, &WHOLE[4..]);
@@ -166,12 +181,27 @@ fn another_type_is_refused(rt: HostRuntime) -> Result<(), Fail> {
     let alloc = rt.alloc();
     let mut reader = Reader::new(&DENIED);
     let call = Call::read(alloc, &mut reader);
-    assert!(rt; matches!(call, Err(HeaderError::BadType { value: 1 })));
+    assert!(rt;
+        matches!(
+            call,
+            Err(HeaderError::Xdr(Fault::BadValue { at: 4, value: 1 }))
+        )
+    );
     assert_eq!(rt; reader.at(), 0, "a refusal moves nothing");
     let mut reader = Reader::new(&CALL);
     let reply = Reply::read(alloc, &mut reader);
-    assert!(rt; matches!(reply, Err(HeaderError::BadType { value: 0 })));
+    assert!(rt;
+        matches!(
+            reply,
+            Err(HeaderError::Xdr(Fault::BadValue { at: 4, value: 0 }))
+        )
+    );
     assert_eq!(rt; reader.at(), 0, "a refusal moves nothing");
+    let neither = [0, 0, 0, 9, 0, 0, 0, 2];
+    let call = Call::read(alloc, &mut Reader::new(&neither));
+    assert!(rt; matches!(call, Err(HeaderError::BadType { value: 2 })));
+    let reply = Reply::read(alloc, &mut Reader::new(&neither));
+    assert!(rt; matches!(reply, Err(HeaderError::BadType { value: 2 })));
     let short = Reply::read(alloc, &mut Reader::new(&DENIED[..18]));
     assert!(rt; matches!(short, Err(HeaderError::Xdr(Fault::Short { at: 16 }))));
     Ok(())

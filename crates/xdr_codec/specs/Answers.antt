@@ -1,4 +1,5 @@
--- An answer: its status, 0 where the call was done, and what goes with it.
+-- An answer: its status, 0 where the call was done, and what goes with it (RFC 1813, section 2.6: nfsstat3, and section 3: a
+-- union on it; RFC 4506, section 4.15).
 use Rattle.std.specs.Prelude.{◌≡◌, ◌↔◌, ℕ, List, ◌∷◌, ◌++◌, map, Option, Some, None, ◌^◌, ◌<◌, refl}
 use Rattle.std.proofs.Common.{lit<, ap, sym, subst}
 use Rattle.xdr_codec.specs.declared.fault.Fault.TheVariants.{BadValue}

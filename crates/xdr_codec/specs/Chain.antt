@@ -1,4 +1,4 @@
--- Items that may be there, up to the first that isn't.
+-- Items that may be there, up to the first that isn't (RFC 4506, section 4.19: optional-data as a linked list).
 use Rattle.std.proofs.Common.{◌≡◌, ℕ, zero, suc, ◌+◌, ◌<◌, true, false, List, [], ◌∷◌, ◌++◌, length, Option, Some, None, Result, Ok, Err, refl, sym, ap, subst, ◌∙◌, append_assoc, arith, length-append}
 use Rattle.std.specs.Prelude.{All}
 use Rattle.std.specs.List.{flat_map}
@@ -10,9 +10,11 @@ use Rattle.xdr_codec.specs.Laws.{bind_ok, done, ok_is, Takes-then, behind-then, 
 use Rattle.xdr_codec.specs.Xdr.{bool_form, bool_fits, bool_len}
 use Rattle.xdr_codec.specs.Choice.{optional}
 
+-- an item behind a true
 abbrev pub link_spell : {A : Type 0} → Format A → A → List ℕ
 link_spell f x = (optional f).spell (Some x)
 
+-- all of them, and a false
 abbrev pub chain_spell : {A : Type 0} → Format A → List A → List ℕ
 chain_spell f xs = flat_map (link_spell f) xs ++ (optional f).spell None
 

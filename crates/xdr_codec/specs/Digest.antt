@@ -1,4 +1,4 @@
--- Digests of SHA-1: twenty bytes.
+-- Digests of SHA-1: twenty bytes with no length before them (RFC 4506, section 4.9).
 use Rattle.std.specs.Prelude.{ℕ, List}
 use Rattle.xdr_codec.specs.Format.{Format}
 use Rattle.xdr_codec.specs.Xdr.{fixed_form}

@@ -5,7 +5,8 @@ use Rattle.xdr_codec.specs.declared.fault.Fault.{Fault}
 use Rattle.xdr_codec.specs.Format.{Input, Format, IsBytes, behind}
 use Rattle.xdr_codec.specs.Laws.{ok_is, no_value}
 
--- Reading takes exactly a value's spelling, each spelling has one value, and none is a proper prefix of another.
+-- Reading takes exactly the spelling of a value that fits, and each such spelling is read as that value, whatever follows it;
+-- where reading is refused no such spelling begins; none is a proper prefix of another, and no two values have one.
 pub record IsExact {A : Type 0} (f : Format A) : Type 0 where
   -- what is read is a value that fits, exactly its bytes stood there, and the place is behind them
   pub spelled : (i : Input) (a : A) (j : Input) → IsBytes i.rest → f.read i ≡ Ok (a, j) → f.Fits a × (i.rest ≡ f.spell a ++ j.rest) × (j.at ≡ i.at + length (f.spell a))

@@ -9,7 +9,7 @@ use Rattle.xdr_codec.specs.Laws.{bind_ok, done, ok_is, Takes-then, behind-then, 
 use Rattle.xdr_codec.specs.Compose.{tagged}
 use Rattle.xdr_codec.specs.Xdr.{count_form}
 
--- ---- items one after the other
+-- ---- items one after the other (RFC 4506, section 4.12)
 
 abbrev pub repeated_read : {A : Type 0} → Format A → ℕ → Input → Result (List A × Input) Fault
 repeated_read f zero i = Ok ([], i)
@@ -42,6 +42,6 @@ repeated_again {A} f (suc n) (x ∷ xs) at rest fits =
 abbrev pub repeated : {A : Type 0} → Format A → ℕ → Format (List A)
 repeated f n = record { spell = flat_map f.spell; read = repeated_read f n; Fits = λ xs. (length xs ≡ n) × All f.Fits xs; takes = repeated_takes f n; again = repeated_again f n }
 
--- items behind their number
+-- items behind their number (RFC 4506, section 4.13)
 abbrev pub counted : {A : Type 0} → ℕ → Format A → Format (List A)
 counted max f = tagged length (count_form max) (repeated f) (λ n xs small fits. fits.0)

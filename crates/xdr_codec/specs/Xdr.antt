@@ -1,4 +1,4 @@
--- The items of XDR: numbers, truth values and byte strings (RFC 4506, sections 4.1 to 4.10).
+-- The items of XDR: numbers, truth values and byte strings (RFC 4506, sections 4.2, 4.4, 4.5, 4.9 and 4.10).
 use Rattle.std.proofs.Common.{◌≡◌, ℕ, zero, suc, ◌+◌, ◌-◌, ◌%◌, ◌^◌, ◌<◌, ◌≤◌, Bool, true, false, cond, List, [], ◌∷◌, ◌++◌, length, take, drop, Option, Some, None, Result, Ok, Err, refl, sym, ap, subst, ◌∙◌, append_assoc, arith, length-append, length-drop, lit<}
 use Rattle.std.specs.Prelude.{nat_lt, ◌==◌, if◌then◌else◌, replicate, ◌&&◌}
 use Rattle.std.specs.Int.{Width, w32, w64, byte_len, from_be_bytes, to_be_bytes}
@@ -12,7 +12,7 @@ use Rattle.xdr_codec.specs.Format.{Input, Format, IsBytes, Takes, behind, ◌>>=
 use Rattle.xdr_codec.specs.Laws.{bind_ok, guard_ok, done, ok_is, IsBytes-take, IsBytes-drop}
 use Rattle.xdr_codec.specs.Compose.{refined, tagged}
 
--- ---- numbers
+-- ---- numbers without a sign, of four bytes and of eight (RFC 4506, sections 4.2 and 4.5)
 
 pub record IsWide (w : Width) (limit : ℕ) : Type 0 where
   pub len : (n : ℕ) → length (to_be_bytes w n) ≡ byte_len w
@@ -61,7 +61,7 @@ u32_form = record { spell = to_be_bytes w32; read = number_read w32; Fits = λ n
 unfoldable pub u64_form : Format ℕ
 u64_form = record { spell = to_be_bytes w64; read = number_read w64; Fits = λ n. n < 2 ^ 64; takes = number_takes w64 (2 ^ 64) wide64; again = number_again w64 (2 ^ 64) wide64 }
 
--- ---- truth values
+-- ---- truth values (RFC 4506, section 4.4)
 
 abbrev pub bool_of : ℕ → Option Bool
 bool_of zero = Some false
@@ -95,7 +95,7 @@ pub bool_len : (b : Bool) → length (bool_form.spell b) ≡ 4
 unfolding bool_form u32_form
 bool_len b = refl
 
--- ---- bytes of a known number, with zeros up to a multiple of four
+-- ---- bytes of a known number, with zeros up to a multiple of four (RFC 4506, section 4.9)
 
 abbrev pub fill_len : ℕ → ℕ
 fill_len n = (4 - n % 4) % 4
@@ -171,7 +171,7 @@ bytes_form place n = record { spell = padded; read = bytes_read place n; Fits = 
 unfoldable pub fixed_form : ℕ → Format (List ℕ)
 fixed_form n = record { spell = padded; read = λ i. bytes_read i.at n i; Fits = λ bytes. length bytes ≡ n; takes = λ i. bytes_takes i.at n i; again = λ bytes at. bytes_again at n bytes at }
 
--- ---- a length with a maximum
+-- ---- a length with a maximum (RFC 4506, sections 4.10 and 4.13)
 
 abbrev pub count_read : ℕ → Input → Result (ℕ × Input) Fault
 count_read max i = do
@@ -195,7 +195,7 @@ count_again max n at rest fits =
 unfoldable pub count_form : ℕ → Format ℕ
 count_form max = record { spell = to_be_bytes w32; read = count_read max; Fits = λ n. (n < 2 ^ 32) × (n ≤ max); takes = count_takes max; again = count_again max }
 
--- ---- bytes behind their number: one item, which begins at the number
+-- ---- bytes behind their number: one item, which begins at the number (RFC 4506, section 4.10)
 
 pub opaque_one : (place max n : ℕ) (bytes : List ℕ) → (count_form max).Fits n → (bytes_form place n).Fits bytes → length bytes ≡ n
 unfolding bytes_form

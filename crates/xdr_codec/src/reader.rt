@@ -2,7 +2,8 @@
 //!
 //! The place of a refusal is where the item that failed begins, counted from the record's first
 //! byte. An opaque is one item, which begins at its length: `Short` and `BadFill` of its bytes
-//! name the length's place too. After a refusal the reader stays where it was.
+//! name the length's place too. After a refusal, and where memory is wanting, the reader stays where
+//! it was.
 
 ghost use Rattle.std.specs.Prelude.{◌≡◌, ℕ, ◌+◌, ◌<◌, ◌≤◌, ◌^◌, length, IfOk, OnErr, IsErrOf};
 ghost use Rattle.xdr_codec.specs.Format.{Input, Gives, GivesAll, ended};
@@ -175,7 +176,8 @@ impl<'a> Reader<'a> {
     }
 
     /// So many bytes, and zeros up to a multiple of four, else `BadFill` (RFC 4506, section 4.9);
-    /// `Short` where fewer are left. The bytes are copied.
+    /// `Short` where fewer are left. The bytes are copied: `Memory` where there is none for them.
+    /// After an `Err`, `Memory` too, the reader is where it was.
     #[tactic(auto, unfolding(crate::specs::Xdr::fixed_form, crate::specs::Xdr::bytes_form))]
     pub fn fixed(&mut self, alloc: Global, len: usize) -> Result<Bytes, ReadError>
         ensures gives { Gives result self.new ((fixed_form len).read self.old) }
@@ -205,7 +207,9 @@ impl<'a> Reader<'a> {
     }
 
     /// At most `max` bytes behind their number, else `TooLong`, and zeros up to a multiple of four,
-    /// else `BadFill` (RFC 4506, section 4.10); `Short` where fewer are left. The bytes are copied.
+    /// else `BadFill` (RFC 4506, section 4.10); `Short` where fewer are left. The bytes are copied:
+    /// `Memory` where there is none for them. After an `Err`, `Memory` too, the reader is where it
+    /// was, before the number.
     pub fn opaque(&mut self, alloc: Global, max: u32) -> Result<Bytes, ReadError>
         ensures gives { Gives result self.new ((opaque_form max).read self.old) }
         ensures stays { OnErr result (self.new ≡ self.old) }

@@ -1,57 +1,59 @@
-//! Why a call failed: the statuses of NFS version 3 (RFC 1813, section 2.6) and of LBFS, but OK,
-//! which an answer that was done has.
+//! Why a call failed: those statuses of NFS version 3 (RFC 1813, section 2.6: nfsstat3) that the
+//! calls here may be answered with, and those of LBFS. OK, the number 0, is none: it is what an
+//! answer has that was done.
 
 ghost use Rattle.std.specs.Prelude.{◌≡◌};
 ghost use Rattle.xdr_codec.specs.Status.{status_number, status_of};
 
-/// A status other than OK.
+/// A status other than OK, by its number. The numbers of other statuses of RFC 1813, as ROFS, stand
+/// for nothing: an answer with one of them is refused as `BadValue`.
 #[derive(Clone, Copy, Debug, PartialEq, Eq)]
 pub enum Status {
-    /// The asker is not the owner.
+    /// 1, NFS3ERR_PERM: the asker is not the owner.
     Perm,
-    /// No such name.
+    /// 2, NFS3ERR_NOENT: no such name.
     NoEnt,
-    /// The store failed.
+    /// 5, NFS3ERR_IO: the store failed.
     Io,
-    /// Access is denied.
+    /// 13, NFS3ERR_ACCES: access is denied.
     Acces,
-    /// The name is taken.
+    /// 17, NFS3ERR_EXIST: the name is taken.
     Exist,
-    /// Not a directory.
+    /// 20, NFS3ERR_NOTDIR: not a directory.
     NotDir,
-    /// A directory.
+    /// 21, NFS3ERR_ISDIR: a directory.
     IsDir,
-    /// An argument is not valid.
+    /// 22, NFS3ERR_INVAL: an argument is not valid.
     Inval,
-    /// A file would be too large.
+    /// 27, NFS3ERR_FBIG: a file would be too large.
     FBig,
-    /// The store is full.
+    /// 28, NFS3ERR_NOSPC: the store is full.
     NoSpc,
-    /// The name is too long.
+    /// 63, NFS3ERR_NAMETOOLONG: the name is too long.
     NameTooLong,
-    /// The directory is not empty.
+    /// 66, NFS3ERR_NOTEMPTY: the directory is not empty.
     NotEmpty,
-    /// The handle names nothing any more.
+    /// 70, NFS3ERR_STALE: the handle names nothing any more.
     Stale,
-    /// The handle was never given.
+    /// 10001, NFS3ERR_BADHANDLE: the handle was never given.
     BadHandle,
-    /// A directory's cookie is stale.
+    /// 10003, NFS3ERR_BAD_COOKIE: a directory's cookie is stale.
     BadCookie,
-    /// The operation is not supported.
+    /// 10004, NFS3ERR_NOTSUPP: the operation is not supported.
     NotSupp,
-    /// The reply would be larger than was asked for.
+    /// 10005, NFS3ERR_TOOSMALL: the reply would be larger than was asked for.
     TooSmall,
-    /// The server failed otherwise.
+    /// 10006, NFS3ERR_SERVERFAULT: the server failed otherwise.
     ServerFault,
-    /// Not now; ask again later.
+    /// 10008, NFS3ERR_JUKEBOX: not now; ask again later.
     Jukebox,
-    /// LBFS: no chunk with this digest is known.
+    /// 20001, of LBFS: no chunk with this digest is known.
     HashNotFound,
-    /// LBFS: the temporary file is there already.
+    /// 20002, of LBFS: the temporary file is there already.
     FdInUse,
-    /// LBFS: no such temporary file.
+    /// 20003, of LBFS: no such temporary file.
     BadFd,
-    /// LBFS: the session has too many temporary files.
+    /// 20004, of LBFS: the session has too many temporary files.
     TooManyTemps,
 }
 

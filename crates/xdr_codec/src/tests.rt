@@ -68,7 +68,7 @@ fn reads_what_another_program_wrote(rt: HostRuntime) -> Result<(), Fail> {
     assert_eq!(rt; reader.u32()?, 4023456789);
     assert_eq!(rt; reader.u64()?, 0x0123_4567_89ab_cdef);
     assert!(rt; reader.bool()?);
-    assert!(rt; !reader.opt()?);
+    assert!(rt; !reader.bool()?);
     assert_eq!(rt;
         reader.fixed(rt.alloc(), 5)?.as_slice(),
         b"hello".as_slice()
@@ -99,6 +99,25 @@ fn writes_what_another_program_wrote(rt: HostRuntime) -> Result<(), Fail> {
     write_counted(&mut writer, &[1u32, 65536, 4294967295])?;
     write_chain(&mut writer, &[7u64, 8])?;
     assert_eq!(rt; writer.done().as_slice(), ITEMS.as_slice());
+    Ok(())
+}
+
+// Made by Python 3.11's xdrlib: an item that is there, and one that isn't.
+//   p = xdrlib.Packer(); p.pack_bool(True); p.pack_uint(7); p.pack_bool(False)
+const OPTIONAL: [u8; 12] = [0, 0, 0, 0x01, 0, 0, 0, 0x07, 0, 0, 0, 0];
+
+#[test]
+fn items_that_may_be_there(rt: HostRuntime) -> Result<(), Fail> {
+    let mut reader = Reader::new(&OPTIONAL);
+    assert!(rt; reader.opt()?);
+    assert_eq!(rt; reader.u32()?, 7);
+    assert!(rt; !reader.opt()?);
+    reader.end()?;
+    let mut writer = Writer::new(rt.alloc());
+    writer.opt(true)?;
+    writer.u32(7)?;
+    writer.opt(false)?;
+    assert_eq!(rt; writer.done().as_slice(), OPTIONAL.as_slice());
     Ok(())
 }
 

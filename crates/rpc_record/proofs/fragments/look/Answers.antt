@@ -7,11 +7,11 @@ pub returns-in_default : goal.returns-in_default
 returns-in_default c = (reach_none _ _ c.requires (ap header_of (sym c.split_at.ensures.back) ∙ sym c.in_default.ensures), c.requires)
 
 pub returns-then-known-eq0 : goal.returns-then-known-eq0
-returns-then-known-eq0 c = reach_out _ _ c.in-Some.header c.requires (ap header_of (sym c.split_at.ensures.back) ∙ sym c.in-Some.ensures) c.if-known-eq0.true
+returns-then-known-eq0 c = reach_out _ _ c.in-Some.header c.requires (ap header_of (sym c.split_at.ensures.back) ∙ sym c.in-Some.ensures) c.if-known-eq0.true (omega (arith, c.if-promised-gt-MOST_BYTES.false))
 
 pub returns-then-promised-gt-MOST_BYTES : goal.returns-then-promised-gt-MOST_BYTES
 returns-then-promised-gt-MOST_BYTES c =
-    reach_big _ _ c.in-Some.header c.requires (ap header_of (sym c.split_at.ensures.back) ∙ sym c.in-Some.ensures) (omega (arith, c.if-known-eq0.false)) c.if-promised-gt-MOST_BYTES.true
+    reach_big _ _ c.in-Some.header c.requires (ap header_of (sym c.split_at.ensures.back) ∙ sym c.in-Some.ensures) c.if-promised-gt-MOST_BYTES.true
 
 pub returns-then-left-header : goal.returns-then-left-header
 returns-then-left-header c = (
