@@ -114,8 +114,8 @@ pub fn read_answer(procedure: BackProc, rest: &mut Reader) -> Result<Back, ReadE
     kept_answer(procedure, rest)
 }
 
-/// Writes the one spelling of the message behind what is written.
-pub fn put(writer: &mut Writer, message: &Back) -> Result<(), AllocError>
+/// Writes the one spelling of the message; want of memory leaves a part of it.
+fn put_in(writer: &mut Writer, message: &Back) -> Result<(), AllocError>
     ensures spelled { OnOk result (writer.new ≡ writer.old ++ back_spell message.now) }
     ensures fits { OnOk result (BackFits message.now) }
 {
@@ -125,12 +125,24 @@ pub fn put(writer: &mut Writer, message: &Back) -> Result<(), AllocError>
     }
 }
 
+/// Writes the one spelling of the message behind what is written. After an `Err`, which says that
+/// memory ran out, the writer holds what it held.
+pub fn put(writer: &mut Writer, message: &Back) -> Result<(), AllocError>
+    ensures spelled { OnOk result (writer.new ≡ writer.old ++ back_spell message.now) }
+    ensures fits { OnOk result (BackFits message.now) }
+    ensures stays { OnErr result (writer.new ≡ writer.old) }
+{
+    let mut part = writer.part();
+    put_in(&mut part, message)?;
+    writer.append(part)
+}
+
 /// The one spelling of the message.
 pub fn write(alloc: Global, message: &Back) -> Result<Bytes, AllocError>
     ensures spelled { IfOk result (λ bytes. bytes ≡ back_spell message.now) }
     ensures fits { OnOk result (BackFits message.now) }
 {
     let mut writer = Writer::new(alloc);
-    put(&mut writer, message)?;
+    put_in(&mut writer, message)?;
     Ok(writer.done())
 }

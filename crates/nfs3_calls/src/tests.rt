@@ -19,7 +19,6 @@ use xdr_codec::fault::{Fault, ReadError};
 use xdr_codec::handle::Handle;
 use xdr_codec::reader::Reader;
 use xdr_codec::status::Status;
-use xdr_codec::whole::read_whole;
 
 const VERIFIER: u64 = 0x0123_4567_89ab_cdef;
 
@@ -376,8 +375,8 @@ fn what_the_file_system_can_do(rt: HostRuntime) -> Result<(), Fail> {
 fn is_name_read(alloc: Global, len: usize) -> Result<bool, Fail> {
     let name = vec![in alloc; b'n'; len]?;
     let bytes = spelled(alloc, Nfs::Lookup(place(alloc, 1, &name)?))?;
-    let read: Place = read_whole(alloc, 0, bytes.as_slice())?;
-    Ok(read.name.as_slice() == name.as_slice())
+    let read = read_args(alloc, NfsProc::Lookup, &mut Reader::new(bytes.as_slice()))?;
+    Ok(matches!(&read, Nfs::Lookup(place) if place.name.as_slice() == name.as_slice()))
 }
 
 /// What is wrong with the bytes.
@@ -469,7 +468,7 @@ fn arguments_refused_at_their_place(rt: HostRuntime) -> Result<(), Fail> {
 }
 
 #[test]
-fn answers_refused_at_their_place(rt: HostRuntime) -> Result<(), Fail> {
+fn values_in_answers_are_refused_at_their_place(rt: HostRuntime) -> Result<(), Fail> {
     let (at, value) = (24, 71);
     let status = Fault::BadValue { at, value };
     let (at, value) = (28, 3);
@@ -483,6 +482,19 @@ fn answers_refused_at_their_place(rt: HostRuntime) -> Result<(), Fail> {
     for (procedure, words, place, value, want) in [
         (NfsProc::GetAttr, GETATTR_FAILED, 0, 71, status),
         (NfsProc::GetAttr, GETATTR_OK, 1, 3, kind),
+        (NfsProc::Create, CREATE_OK, 1, 2, handle),
+        (NfsProc::Read, READ_OK, 24, 2, eof),
+        (NfsProc::ReadDir, READDIR_OK, 32, 2, link),
+    ] {
+        let refused = answer_fault(rt.alloc(), procedure, words, place, value)?;
+        assert_eq!(rt; refused, Some(want));
+    }
+    Ok(())
+}
+
+#[test]
+fn answers_are_refused_where_they_end(rt: HostRuntime) -> Result<(), Fail> {
+    for (procedure, words, place, value, want) in [
         (
             NfsProc::GetAttr,
             GETATTR_OK,
@@ -497,9 +509,6 @@ fn answers_refused_at_their_place(rt: HostRuntime) -> Result<(), Fail> {
             0,
             Fault::Short { at: 28 },
         ),
-        (NfsProc::Create, CREATE_OK, 1, 2, handle),
-        (NfsProc::Read, READ_OK, 24, 2, eof),
-        (NfsProc::ReadDir, READDIR_OK, 32, 2, link),
         (
             NfsProc::ReadDir,
             READDIR_OK,
