@@ -2,10 +2,10 @@
 #![tactic(auto)]
 
 pub mod laws;
-pub mod line;
-pub mod names;
-pub mod reading;
+mod line;
+mod names;
+mod reading;
 pub mod show;
-pub mod stat;
+mod stat;
 #[cfg(test)]
 mod tests;

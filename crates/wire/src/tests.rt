@@ -68,11 +68,23 @@ fn bytes(alloc: Global, words: &[u32]) -> Result<Bytes, AllocError> {
     Ok(Items::from_vec(bytes))
 }
 
-fn read(alloc: Global, words: &[u32], expected: &Waiting) -> Result<Message, WireErr> {
-    match bytes(alloc, words) {
-        Ok(bytes) => parse(alloc, bytes.as_slice(), expected),
-        Err(_) => Err(WireErr::Memory),
+/// What was read, in a small value: a message is let go before anything is claimed of it.
+fn seen_of(read: &Result<Message, WireErr>) -> Seen {
+    match read {
+        Ok(Message::Call(xid, body)) => Seen::Call(*xid, body.program()),
+        Ok(Message::Answer(xid, body)) => Seen::Answer(*xid, body.program()),
+        Ok(Message::Refuse(xid, why)) => Seen::Refuse(*xid, *why),
+        Ok(Message::Unfit(xid, why)) => Seen::Unfit(*xid, *why),
+        Err(error) => Seen::Nothing(*error),
     }
+}
+
+/// What the record is at this end.
+fn look_at(alloc: Global, record: &[u8], expected: &Waiting) -> Seen {
+    let read = parse(alloc, record, expected);
+    let seen = seen_of(&read);
+    drop(read);
+    seen
 }
 
 /// An end at which nothing waits.
@@ -94,28 +106,25 @@ fn awaits(alloc: Global, side: Side, xid: u32, program: Program) -> Result<Waiti
 }
 
 /// What the words are at this end.
-fn look(alloc: Global, words: &[u32], expected: &Waiting) -> Seen {
-    match read(alloc, words, expected) {
-        Ok(Message::Call(xid, body)) => Seen::Call(xid, body.program()),
-        Ok(Message::Answer(xid, body)) => Seen::Answer(xid, body.program()),
-        Ok(Message::Refuse(xid, why)) => Seen::Refuse(xid, why),
-        Ok(Message::Unfit(xid, why)) => Seen::Unfit(xid, why),
-        Err(error) => Seen::Nothing(error),
-    }
+fn look(alloc: Global, words: &[u32], expected: &Waiting) -> Result<Seen, AllocError> {
+    let record = bytes(alloc, words)?;
+    Ok(look_at(alloc, record.as_slice(), expected))
 }
 
-/// The record that is sent of the message that the words are, where they are one.
-fn sent(alloc: Global, words: &[u32], expected: &Waiting) -> Option<Bytes> {
-    match read(alloc, words, expected) {
-        Ok(message) => spell(alloc, &message).ok(),
+/// The record that is sent of what was read, where that is a message.
+fn spelling(alloc: Global, read: &Result<Message, WireErr>) -> Option<Bytes> {
+    match read {
+        Ok(message) => spell(alloc, message).ok(),
         Err(_) => None,
     }
 }
 
-/// Whether that record has the same words.
+/// Whether the message that the words are is sent in the same words.
 fn spelled(alloc: Global, words: &[u32], expected: &Waiting) -> Result<bool, AllocError> {
     let want = bytes(alloc, words)?;
-    let sent = sent(alloc, words, expected);
+    let read = parse(alloc, want.as_slice(), expected);
+    let sent = spelling(alloc, &read);
+    drop(read);
     Ok(matches!(&sent, Some(sent) if *sent == want))
 }
 
@@ -127,19 +136,40 @@ fn calls_are_read_and_sent(rt: HostRuntime) -> Result<(), Fail> {
         (Side::Server, LOOKUP, 9, Program::Nfs(NfsProc::Lookup)),
         (Side::Client, RECALL, 1, Program::Back(BackProc::Recall)),
     ] {
-        assert!(rt; look(alloc, words, &at(alloc, side)) == Seen::Call(xid, program));
+        assert!(rt; look(alloc, words, &at(alloc, side))? == Seen::Call(xid, program));
         assert!(rt; spelled(alloc, words, &at(alloc, side))?);
-        assert!(rt; look(alloc, words, &at(alloc, Side::Either)) == Seen::Call(xid, program));
+        assert!(rt; look(alloc, words, &at(alloc, Side::Either))? == Seen::Call(xid, program));
     }
     Ok(())
 }
 
+/// The file whose lease is recalled.
+fn recalled(body: &Body) -> Option<u64> {
+    match body {
+        Body::Back(back) => match back {
+            Back::Recall(handle) => handle.file_of(),
+            _ => None,
+        },
+        _ => None,
+    }
+}
+
+/// The file whose lease the call recalls.
+fn recalled_by(read: &Result<Message, WireErr>) -> Option<u64> {
+    match read {
+        Ok(Message::Call(_, body)) => recalled(body),
+        _ => None,
+    }
+}
+
 #[test]
 fn a_recall_names_its_file(rt: HostRuntime) -> Result<(), Fail> {
-    let message = read(rt.alloc(), RECALL, &at(rt.alloc(), Side::Client))?;
-    assert!(rt;
-        matches!(&message, Message::Call(1, Body::Back(Back::Recall(handle))) if handle.file_of() == Some(2))
-    );
+    let alloc = rt.alloc();
+    let record = bytes(alloc, RECALL)?;
+    let read = parse(alloc, record.as_slice(), &at(alloc, Side::Client));
+    let file = recalled_by(&read);
+    drop(read);
+    assert_eq!(rt; file, Some(2));
     Ok(())
 }
 
@@ -152,7 +182,7 @@ fn each_end_refuses_the_others_programs(rt: HostRuntime) -> Result<(), Fail> {
         (Side::Server, RECALL, 1),
     ] {
         let want = Seen::Unfit(xid, RpcRefusal::ProgUnavail);
-        assert!(rt; look(alloc, words, &at(alloc, side)) == want);
+        assert!(rt; look(alloc, words, &at(alloc, side))? == want);
     }
     Ok(())
 }
@@ -167,7 +197,7 @@ fn answers_are_read_and_sent(rt: HostRuntime) -> Result<(), Fail> {
         (&[5, 1, 0, 0, 0, 0, 70], 5, Program::Nfs(NfsProc::GetAttr)),
     ] {
         let waits = awaits(alloc, Side::Client, xid, program)?;
-        assert!(rt; look(alloc, words, &waits) == Seen::Answer(xid, program));
+        assert!(rt; look(alloc, words, &waits)? == Seen::Answer(xid, program));
         assert!(rt; spelled(alloc, words, &waits)?);
     }
     Ok(())
@@ -193,7 +223,7 @@ fn refusals_are_read_and_sent(rt: HostRuntime) -> Result<(), Fail> {
         ),
         (&[9, 1, 1, 1, 2], RpcRefusal::AuthError(2)),
     ] {
-        assert!(rt; look(alloc, words, &waits) == Seen::Refuse(9, why));
+        assert!(rt; look(alloc, words, &waits)? == Seen::Refuse(9, why));
         assert!(rt; spelled(alloc, words, &waits)?);
     }
     Ok(())
@@ -235,7 +265,7 @@ fn unfit_calls_name_what_is_sent_back(rt: HostRuntime) -> Result<(), Fail> {
         ([2, BACK, lbfs, 1], RpcRefusal::GarbageArgs),
     ] {
         let words = [7, 0, head[0], head[1], head[2], head[3], 0, 0, 0, 0];
-        assert!(rt; look(alloc, &words, &at(alloc, Side::Either)) == Seen::Unfit(7, why));
+        assert!(rt; look(alloc, &words, &at(alloc, Side::Either))? == Seen::Unfit(7, why));
     }
     Ok(())
 }
@@ -297,7 +327,7 @@ fn arguments_outside_their_grammar_are_garbage(rt: HostRuntime) -> Result<(), Fa
     let alloc = rt.alloc();
     for words in [BAD_FILL, TRAILING, BAD_BOOL] {
         let want = Seen::Unfit(9, RpcRefusal::GarbageArgs);
-        assert!(rt; look(alloc, words, &at(alloc, Side::Server)) == want);
+        assert!(rt; look(alloc, words, &at(alloc, Side::Server))? == want);
     }
     Ok(())
 }
@@ -327,19 +357,30 @@ fn other_records_are_no_messages(rt: HostRuntime) -> Result<(), Fail> {
         (&[8, 1, 0, 0, 0, 0, 0, 0], WireErr::Garbage { at: 24 }),
         (&[8, 1, 0, 0, 0, 6], WireErr::Garbage { at: 20 }),
     ] {
-        assert!(rt; look(alloc, words, &waits) == Seen::Nothing(error));
+        assert!(rt; look(alloc, words, &waits)? == Seen::Nothing(error));
     }
     Ok(())
+}
+
+/// The term of the lease, the number of chunks, and whether they are all.
+fn hashed(read: &Result<Message, WireErr>) -> Option<(u32, usize, bool)> {
+    match read {
+        Ok(Message::Answer(1, Body::Lb(Lb::GetHashAnswer(Answer::Done(hashes))))) => {
+            Some((hashes.term, hashes.pairs.len(), hashes.eof))
+        }
+        _ => None,
+    }
 }
 
 #[test]
 fn an_empty_file_has_no_chunks(rt: HostRuntime) -> Result<(), Fail> {
     let alloc = rt.alloc();
     let waits = awaits(alloc, Side::Client, 1, Program::Lb(LbProc::GetHash))?;
-    let message = read(alloc, NO_HASHES, &waits)?;
-    assert!(rt;
-        matches!(&message, Message::Answer(1, Body::Lb(Lb::GetHashAnswer(Answer::Done(hashes)))) if hashes.term == 60_000 && hashes.pairs.is_empty() && hashes.eof)
-    );
+    let record = bytes(alloc, NO_HASHES)?;
+    let read = parse(alloc, record.as_slice(), &waits);
+    let told = hashed(&read);
+    drop(read);
+    assert_eq!(rt; told, Some((60_000, 0, true)));
     Ok(())
 }
 
@@ -405,12 +446,13 @@ fn with_credentials(alloc: Global, words: u32) -> Result<Bytes, AllocError> {
 #[test]
 fn credentials_have_at_most_400_bytes(rt: HostRuntime) -> Result<(), Fail> {
     let alloc = rt.alloc();
+    let server = at(alloc, Side::Server);
     let most = with_credentials(alloc, 100)?;
-    let read = parse(alloc, most.as_slice(), &at(alloc, Side::Server))?;
-    assert!(rt; matches!(&read, Message::Call(7, Body::Lb(Lb::Null))));
+    let taken = Seen::Call(7, Program::Lb(LbProc::Null));
+    assert!(rt; look_at(alloc, most.as_slice(), &server) == taken);
     let above = with_credentials(alloc, 101)?;
-    let refused = parse(alloc, above.as_slice(), &at(alloc, Side::Server)).err();
-    assert!(rt; refused == Some(WireErr::NotRpc { at: 28 }));
+    let refused = Seen::Nothing(WireErr::NotRpc { at: 28 });
+    assert!(rt; look_at(alloc, above.as_slice(), &server) == refused);
     Ok(())
 }
 
@@ -427,6 +469,6 @@ fn an_xid_that_waits_twice_is_the_firsts(rt: HostRuntime) -> Result<(), Fail> {
         calls: Items::from_vec(calls),
     };
     let want = Seen::Answer(1, Program::Lb(LbProc::GetHash));
-    assert!(rt; look(alloc, NO_HASHES, &waits) == want);
+    assert!(rt; look(alloc, NO_HASHES, &waits)? == want);
     Ok(())
 }
