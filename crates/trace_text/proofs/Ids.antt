@@ -1,20 +1,25 @@
--- What the grammar keeps of the id in a line.
+-- What the grammar keeps of the numbers in a command.
 use Rattle.std.proofs.Common.{◌≡◌, ℕ, ◌<◌, ◌^◌, List, [], ◌∷◌, Option, Some, None, Bool, true, false, take, drop, refl, arith, subst}
 use Rattle.std.specs.Prelude.{cond, codes, bytes_eq, nat_lt}
 use Rattle.std.proofs.lemmas.Bool.Decides.{nat_tests}
-use Rattle.trace_text.specs.Fields.{◌>>=◌, value_from, value_of, is_decimal, number_of, number_within, reading_of, name_of, content_of, id_of}
-use Rattle.trace_text.specs.Grammar.{version_of, term_of, drift_of, clients_of, file_of, join_of, open_of, command_of, do_of, pass_of, line_from, said_by, is_skipped, line_of}
+use Rattle.trace_text.specs.Fields.{◌>>=◌, value_from, value_of, is_decimal, number_of, number_within, reading_of, amount_of, name_of, content_of, id_of}
+use Rattle.trace_text.specs.Grammar.{version_of, term_of, drift_of, clients_of, file_of, join_of, open_of, write_of, trunc_of, read_of, close_of, abandon_of, command_of, do_of, up_of, down_of, pass_of, settle_of, cut_of, hang_of, event_from, line_from, said_by, is_skipped, line_of}
 use Rattle.trace_text.specs.Parts.{words_of}
 use Rattle.trace_text.specs.declared.line.Command.{Command}
-use Rattle.trace_text.specs.declared.line.Command.TheVariants.{Open}
+use Rattle.trace_text.specs.declared.line.Command.TheVariants.{Open, Write, Trunc, Read, Close, Abandon}
 use Rattle.trace_text.specs.declared.line.Line.{Line}
-use Rattle.trace_text.specs.declared.line.Line.TheVariants.{Version, Term, Drift, Clients, File, Join, Do, Pass, Skipped}
+use Rattle.trace_text.specs.declared.line.Line.TheVariants.{Version, Term, Drift, Clients, File, Join, Do, Up, Down, Pass, Settle, Cut, Hang, Skipped}
 
--- the id in a command has at most 64 bits
+-- the numbers in a command have at most 64 bits
 abbrev pub IsSmall : Command → Type 0
 IsSmall (Open id) = id < 2 ^ 64
+IsSmall (Write id offset content) = (id < 2 ^ 64) × (offset < 2 ^ 64)
+IsSmall (Trunc id size) = (id < 2 ^ 64) × (size < 2 ^ 64)
+IsSmall (Read id offset count) = (id < 2 ^ 64) × (offset < 2 ^ 64) × (count < 2 ^ 64)
+IsSmall (Close id) = id < 2 ^ 64
+IsSmall (Abandon id) = id < 2 ^ 64
 
--- the id in a line, if it has one, has at most 64 bits
+-- the numbers in the command of a line, if it has one, have at most 64 bits
 abbrev pub IsFit : Line → Type 0
 IsFit (Do client at command) = IsSmall command
 IsFit line = Unit {0}
@@ -101,14 +106,60 @@ of_open [] = tt
 of_open (v ∷ []) = of_then (λ n. n < 2 ^ 64) IsSmall (id_of v) (λ n. Some (Open n)) (of_id v) (λ n h. h)
 of_open (v ∷ w ∷ ws) = tt
 
+of_write : (ws : List (List ℕ)) → Of IsSmall (write_of ws)
+of_write [] = tt
+of_write (v ∷ []) = tt
+of_write (v ∷ w ∷ []) = tt
+of_write (v ∷ w ∷ x ∷ []) = of_then (λ n. n < 2 ^ 64) IsSmall (id_of v) _ (of_id v) (λ f h. of_then (λ n. n < 2 ^ 64) IsSmall (number_of w) _ (of_number w) (λ o i. of_then (λ c. Unit {0}) IsSmall (content_of x) (λ c. Some (Write f o c)) (of_any (content_of x)) (λ c j. (h, i))))
+of_write (v ∷ w ∷ x ∷ y ∷ ws) = tt
+
+of_trunc : (ws : List (List ℕ)) → Of IsSmall (trunc_of ws)
+of_trunc [] = tt
+of_trunc (v ∷ []) = tt
+of_trunc (v ∷ w ∷ []) = of_then (λ n. n < 2 ^ 64) IsSmall (id_of v) _ (of_id v) (λ f h. of_then (λ n. n < 2 ^ 64) IsSmall (number_of w) (λ n. Some (Trunc f n)) (of_number w) (λ n i. (h, i)))
+of_trunc (v ∷ w ∷ x ∷ ws) = tt
+
+of_read : (ws : List (List ℕ)) → Of IsSmall (read_of ws)
+of_read [] = tt
+of_read (v ∷ []) = tt
+of_read (v ∷ w ∷ []) = tt
+of_read (v ∷ w ∷ x ∷ []) = of_then (λ n. n < 2 ^ 64) IsSmall (id_of v) _ (of_id v) (λ f h. of_then (λ n. n < 2 ^ 64) IsSmall (number_of w) _ (of_number w) (λ o i. of_then (λ n. n < 2 ^ 64) IsSmall (number_of x) (λ n. Some (Read f o n)) (of_number x) (λ n j. (h, i, j))))
+of_read (v ∷ w ∷ x ∷ y ∷ ws) = tt
+
+of_close : (ws : List (List ℕ)) → Of IsSmall (close_of ws)
+of_close [] = tt
+of_close (v ∷ []) = of_then (λ n. n < 2 ^ 64) IsSmall (id_of v) (λ n. Some (Close n)) (of_id v) (λ n h. h)
+of_close (v ∷ w ∷ ws) = tt
+
+of_abandon : (ws : List (List ℕ)) → Of IsSmall (abandon_of ws)
+of_abandon [] = tt
+of_abandon (v ∷ []) = of_then (λ n. n < 2 ^ 64) IsSmall (id_of v) (λ n. Some (Abandon n)) (of_id v) (λ n h. h)
+of_abandon (v ∷ w ∷ ws) = tt
+
 of_command : (word : List ℕ) (ws : List (List ℕ)) → Of IsSmall (command_of word ws)
-of_command word ws = of_either IsSmall (bytes_eq word (codes "open")) (open_of ws) None (of_open ws) tt
+of_command word ws =
+    of_either IsSmall (bytes_eq word (codes "open")) _ _ (of_open ws) (of_either IsSmall (bytes_eq word (codes "write")) _ _ (of_write ws) (of_either IsSmall (bytes_eq word (codes "trunc")) _ _ (of_trunc ws)
+    (of_either IsSmall (bytes_eq word (codes "read")) _ _ (of_read ws) (of_either IsSmall (bytes_eq word (codes "close")) _ _ (of_close ws) (of_either IsSmall (bytes_eq word (codes "abandon")) (abandon_of ws) None (of_abandon ws) tt)))))
 
 of_do : (ws : List (List ℕ)) → Of IsFit (do_of ws)
 of_do [] = tt
 of_do (v ∷ []) = tt
 of_do (v ∷ w ∷ []) = tt
 of_do (v ∷ w ∷ x ∷ ws) = of_then (λ a. Unit {0}) IsFit (number_of v) _ (of_any (number_of v)) (λ c h. of_then (λ a. Unit {0}) IsFit (reading_of w) _ (of_any (reading_of w)) (λ a i. of_then IsSmall IsFit (command_of x ws) (λ k. Some (Do c a k)) (of_command x ws) (λ k j. j)))
+
+of_up : (ws : List (List ℕ)) → Of IsFit (up_of ws)
+of_up [] = tt
+of_up (v ∷ []) = tt
+of_up (v ∷ w ∷ []) = tt
+of_up (v ∷ w ∷ x ∷ []) = of_then (λ a. Unit {0}) IsFit (number_of v) _ (of_any (number_of v)) (λ n h. of_then (λ a. Unit {0}) IsFit (amount_of w) _ (of_any (amount_of w)) (λ m i. of_then (λ a. Unit {0}) IsFit (reading_of x) (λ s. Some (Up n m s)) (of_any (reading_of x)) (λ s j. tt)))
+of_up (v ∷ w ∷ x ∷ y ∷ ws) = tt
+
+of_down : (ws : List (List ℕ)) → Of IsFit (down_of ws)
+of_down [] = tt
+of_down (v ∷ []) = tt
+of_down (v ∷ w ∷ []) = tt
+of_down (v ∷ w ∷ x ∷ []) = of_then (λ a. Unit {0}) IsFit (number_of v) _ (of_any (number_of v)) (λ n h. of_then (λ a. Unit {0}) IsFit (amount_of w) _ (of_any (amount_of w)) (λ m i. of_then (λ a. Unit {0}) IsFit (reading_of x) (λ a. Some (Down n m a)) (of_any (reading_of x)) (λ a j. tt)))
+of_down (v ∷ w ∷ x ∷ y ∷ ws) = tt
 
 of_pass : (ws : List (List ℕ)) → Of IsFit (pass_of ws)
 of_pass [] = tt
@@ -118,11 +169,33 @@ of_pass (v ∷ w ∷ x ∷ []) = tt
 of_pass (v ∷ w ∷ x ∷ y ∷ []) = of_then (λ a. Unit {0}) IsFit (number_of v) _ (of_any (number_of v)) (λ n h. of_then (λ a. Unit {0}) IsFit (number_of w) _ (of_any (number_of w)) (λ k i. of_then (λ a. Unit {0}) IsFit (reading_of x) _ (of_any (reading_of x)) (λ s j. of_then (λ a. Unit {0}) IsFit (reading_of y) (λ a. Some (Pass n k s a)) (of_any (reading_of y)) (λ a l. tt))))
 of_pass (v ∷ w ∷ x ∷ y ∷ z ∷ ws) = tt
 
+of_settle : (ws : List (List ℕ)) → Of IsFit (settle_of ws)
+of_settle [] = tt
+of_settle (v ∷ []) = of_then (λ a. Unit {0}) IsFit (reading_of v) (λ s. Some (Settle s)) (of_any (reading_of v)) (λ s h. tt)
+of_settle (v ∷ w ∷ ws) = tt
+
+of_cut : (ws : List (List ℕ)) → Of IsFit (cut_of ws)
+of_cut [] = tt
+of_cut (v ∷ []) = tt
+of_cut (v ∷ w ∷ []) = of_then (λ a. Unit {0}) IsFit (number_of v) _ (of_any (number_of v)) (λ c h. of_then (λ a. Unit {0}) IsFit (reading_of w) (λ a. Some (Cut c a)) (of_any (reading_of w)) (λ a i. tt))
+of_cut (v ∷ w ∷ x ∷ ws) = tt
+
+of_hang : (ws : List (List ℕ)) → Of IsFit (hang_of ws)
+of_hang [] = tt
+of_hang (v ∷ []) = tt
+of_hang (v ∷ w ∷ []) = of_then (λ a. Unit {0}) IsFit (number_of v) _ (of_any (number_of v)) (λ n h. of_then (λ a. Unit {0}) IsFit (reading_of w) (λ s. Some (Hang n s)) (of_any (reading_of w)) (λ s i. tt))
+of_hang (v ∷ w ∷ x ∷ ws) = tt
+
+of_event : (kind : List ℕ) (ws : List (List ℕ)) → Of IsFit (event_from kind ws)
+of_event kind ws =
+    of_either IsFit (bytes_eq kind (codes "join")) _ _ (of_join ws) (of_either IsFit (bytes_eq kind (codes "do")) _ _ (of_do ws) (of_either IsFit (bytes_eq kind (codes "up")) _ _ (of_up ws)
+    (of_either IsFit (bytes_eq kind (codes "down")) _ _ (of_down ws) (of_either IsFit (bytes_eq kind (codes "pass")) _ _ (of_pass ws) (of_either IsFit (bytes_eq kind (codes "settle")) _ _ (of_settle ws)
+    (of_either IsFit (bytes_eq kind (codes "cut")) _ _ (of_cut ws) (of_either IsFit (bytes_eq kind (codes "hang")) (hang_of ws) None (of_hang ws) tt)))))))
+
 of_kind : (kind : List ℕ) (ws : List (List ℕ)) → Of IsFit (line_from kind ws)
 of_kind kind ws =
     of_either IsFit (bytes_eq kind (codes "lbfs-trace")) _ _ (of_version ws) (of_either IsFit (bytes_eq kind (codes "term")) _ _ (of_term ws) (of_either IsFit (bytes_eq kind (codes "drift")) _ _ (of_drift ws)
-    (of_either IsFit (bytes_eq kind (codes "clients")) _ _ (of_clients ws) (of_either IsFit (bytes_eq kind (codes "file")) _ _ (of_file ws) (of_either IsFit (bytes_eq kind (codes "join")) _ _ (of_join ws)
-    (of_either IsFit (bytes_eq kind (codes "do")) _ _ (of_do ws) (of_either IsFit (bytes_eq kind (codes "pass")) (pass_of ws) None (of_pass ws) tt)))))))
+    (of_either IsFit (bytes_eq kind (codes "clients")) _ _ (of_clients ws) (of_either IsFit (bytes_eq kind (codes "file")) (file_of ws) (event_from kind ws) (of_file ws) (of_event kind ws)))))
 
 of_said : (ws : List (List ℕ)) → Of IsFit (said_by ws)
 of_said [] = tt
@@ -131,6 +204,6 @@ of_said (w ∷ ws) = of_kind w ws
 of_line : (line : List ℕ) → Of IsFit (line_of line)
 of_line line = of_either IsFit (is_skipped line) (Some Skipped) (said_by (words_of line)) tt (of_said (words_of line))
 
--- the id in a line that was read has at most 64 bits
+-- the numbers in the command of a line that was read have at most 64 bits
 pub fit_line : (line : List ℕ) (said : Line) → line_of line ≡ Some said → IsFit said
 fit_line line said e = of_it IsFit (line_of line) said (of_line line) e

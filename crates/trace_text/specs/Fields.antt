@@ -6,6 +6,8 @@ use Rattle.std.specs.Char.{is_ascii_digit, is_ascii_alphanumeric}
 use Rattle.hex.specs.Hex.{decode_of}
 use Rattle.trace_text.specs.declared.content.Part.{Part}
 use Rattle.trace_text.specs.declared.content.Part.TheVariants.{Bytes, Zeros, Marks, Random}
+use Rattle.trace_text.specs.declared.line.Amount.{Amount}
+use Rattle.trace_text.specs.declared.line.Amount.TheVariants as amount
 use Rattle.trace_text.specs.Parts.{cut_at}
 
 -- the value, and what follows from it
@@ -41,6 +43,10 @@ number_within low high word = number_of word >>= λ n. if nat_le low n && nat_le
 -- a reading of a clock
 abbrev pub reading_of : List ℕ → Option ℕ
 reading_of word = number_within 0 (2 ^ 63 - 1) word
+
+-- how many bytes: `all`, or a number
+abbrev pub amount_of : List ℕ → Option Amount
+amount_of word = if bytes_eq word (codes "all") then Some amount.All else number_of word >>= λ n. Some (amount.Bytes n)
 
 -- A-Z a-z 0-9 . _ -
 abbrev pub is_letter : ℕ → Bool

@@ -1,10 +1,11 @@
 -- What a line of a trace says.
 use Rattle.std.specs.Prelude.{ℕ, List, [], ◌∷◌, Bool, ◌||◌, ◌==◌, length, take, Option, Some, None, codes, bytes_eq, if◌then◌else◌}
+use Rattle.trace_text.specs.declared.content.Part.{Part}
 use Rattle.trace_text.specs.declared.line.Command.{Command}
-use Rattle.trace_text.specs.declared.line.Command.TheVariants.{Open}
+use Rattle.trace_text.specs.declared.line.Command.TheVariants.{Open, Write, Trunc, Read, Close, Abandon}
 use Rattle.trace_text.specs.declared.line.Line.{Line}
-use Rattle.trace_text.specs.declared.line.Line.TheVariants.{Version, Term, Drift, Clients, File, Join, Do, Pass, Skipped}
-use Rattle.trace_text.specs.Fields.{◌>>=◌, number_of, number_within, reading_of, name_of, content_of, id_of}
+use Rattle.trace_text.specs.declared.line.Line.TheVariants.{Version, Term, Drift, Clients, File, Join, Do, Up, Down, Pass, Settle, Cut, Hang, Skipped}
+use Rattle.trace_text.specs.Fields.{◌>>=◌, number_of, number_within, reading_of, amount_of, name_of, content_of, id_of}
 use Rattle.trace_text.specs.Parts.{words_of}
 
 -- lbfs-trace 1
@@ -43,20 +44,103 @@ abbrev pub open_of : List (List ℕ) → Option Command
 open_of (place ∷ []) = id_of place >>= λ n. Some (Open n)
 open_of words = None
 
+-- a write of this content, if it is one
+abbrev pub write_with : ℕ → ℕ → Option (List Part) → Option Command
+write_with file offset content = content >>= λ c. Some (Write file offset c)
+
+-- write #ID OFFSET CONTENT
+abbrev pub write_of : List (List ℕ) → Option Command
+write_of (place ∷ offset ∷ content ∷ []) =
+    id_of place >>= λ f. number_of offset >>= λ o. write_with f o (content_of content)
+write_of words = None
+
+-- trunc #ID SIZE
+abbrev pub trunc_of : List (List ℕ) → Option Command
+trunc_of (place ∷ size ∷ []) = id_of place >>= λ f. number_of size >>= λ n. Some (Trunc f n)
+trunc_of words = None
+
+-- read #ID OFFSET COUNT
+abbrev pub read_of : List (List ℕ) → Option Command
+read_of (place ∷ offset ∷ count ∷ []) =
+    id_of place >>= λ f. number_of offset >>= λ o. number_of count >>= λ n. Some (Read f o n)
+read_of words = None
+
+-- close #ID
+abbrev pub close_of : List (List ℕ) → Option Command
+close_of (place ∷ []) = id_of place >>= λ n. Some (Close n)
+close_of words = None
+
+-- abandon #ID
+abbrev pub abandon_of : List (List ℕ) → Option Command
+abandon_of (place ∷ []) = id_of place >>= λ n. Some (Abandon n)
+abandon_of words = None
+
+-- a command that begins with this word
 abbrev pub command_of : List ℕ → List (List ℕ) → Option Command
-command_of word words = if bytes_eq word (codes "open") then open_of words else None
+command_of word words =
+    if bytes_eq word (codes "open") then open_of words
+    else if bytes_eq word (codes "write") then write_of words
+    else if bytes_eq word (codes "trunc") then trunc_of words
+    else if bytes_eq word (codes "read") then read_of words
+    else if bytes_eq word (codes "close") then close_of words
+    else if bytes_eq word (codes "abandon") then abandon_of words
+    else None
+
+-- a client's command at this reading, if it is one
+abbrev pub do_with : ℕ → ℕ → Option Command → Option Line
+do_with client at command = command >>= λ k. Some (Do client at k)
 
 -- do C c COMMAND
 abbrev pub do_of : List (List ℕ) → Option Line
 do_of (client ∷ at ∷ word ∷ words) =
-    number_of client >>= λ c. reading_of at >>= λ a. command_of word words >>= λ k. Some (Do c a k)
+    number_of client >>= λ c. reading_of at >>= λ a. do_with c a (command_of word words)
 do_of words = None
+
+-- up S n s
+abbrev pub up_of : List (List ℕ) → Option Line
+up_of (session ∷ amount ∷ server ∷ []) =
+    number_of session >>= λ n. amount_of amount >>= λ m. reading_of server >>= λ s. Some (Up n m s)
+up_of words = None
+
+-- down S n c
+abbrev pub down_of : List (List ℕ) → Option Line
+down_of (session ∷ amount ∷ at ∷ []) =
+    number_of session >>= λ n. amount_of amount >>= λ m. reading_of at >>= λ a. Some (Down n m a)
+down_of words = None
 
 -- pass S k s c
 abbrev pub pass_of : List (List ℕ) → Option Line
 pass_of (session ∷ rounds ∷ server ∷ at ∷ []) =
     number_of session >>= λ n. number_of rounds >>= λ k. reading_of server >>= λ s. reading_of at >>= λ a. Some (Pass n k s a)
 pass_of words = None
+
+-- settle s
+abbrev pub settle_of : List (List ℕ) → Option Line
+settle_of (server ∷ []) = reading_of server >>= λ s. Some (Settle s)
+settle_of words = None
+
+-- cut C c
+abbrev pub cut_of : List (List ℕ) → Option Line
+cut_of (client ∷ at ∷ []) = number_of client >>= λ c. reading_of at >>= λ a. Some (Cut c a)
+cut_of words = None
+
+-- hang S s
+abbrev pub hang_of : List (List ℕ) → Option Line
+hang_of (session ∷ server ∷ []) = number_of session >>= λ n. reading_of server >>= λ s. Some (Hang n s)
+hang_of words = None
+
+-- an event that begins with this word
+abbrev pub event_from : List ℕ → List (List ℕ) → Option Line
+event_from kind words =
+    if bytes_eq kind (codes "join") then join_of words
+    else if bytes_eq kind (codes "do") then do_of words
+    else if bytes_eq kind (codes "up") then up_of words
+    else if bytes_eq kind (codes "down") then down_of words
+    else if bytes_eq kind (codes "pass") then pass_of words
+    else if bytes_eq kind (codes "settle") then settle_of words
+    else if bytes_eq kind (codes "cut") then cut_of words
+    else if bytes_eq kind (codes "hang") then hang_of words
+    else None
 
 -- what a line says that begins with this word
 abbrev pub line_from : List ℕ → List (List ℕ) → Option Line
@@ -66,10 +150,7 @@ line_from kind words =
     else if bytes_eq kind (codes "drift") then drift_of words
     else if bytes_eq kind (codes "clients") then clients_of words
     else if bytes_eq kind (codes "file") then file_of words
-    else if bytes_eq kind (codes "join") then join_of words
-    else if bytes_eq kind (codes "do") then do_of words
-    else if bytes_eq kind (codes "pass") then pass_of words
-    else None
+    else event_from kind words
 
 abbrev pub said_by : List (List ℕ) → Option Line
 said_by [] = None

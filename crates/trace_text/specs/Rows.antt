@@ -3,9 +3,10 @@ use Rattle.std.specs.Prelude.{◌≡◌, ℕ, List, [], ◌∷◌, ◌++◌, Opt
 use Rattle.std.specs.Fmt.{digits}
 use Rattle.hex.specs.Hex.{decode_pairs}
 use Rattle.trace_text.specs.declared.content.Part.TheVariants.{Bytes, Zeros, Marks, Random}
-use Rattle.trace_text.specs.declared.line.Command.TheVariants.{Open}
+use Rattle.trace_text.specs.declared.line.Amount.TheVariants as amount
+use Rattle.trace_text.specs.declared.line.Command.TheVariants.{Open, Write, Trunc, Read, Close, Abandon}
 use Rattle.trace_text.specs.declared.line.Line.{Line}
-use Rattle.trace_text.specs.declared.line.Line.TheVariants.{Version, Term, Drift, Clients, File, Join, Do, Pass, Skipped}
+use Rattle.trace_text.specs.declared.line.Line.TheVariants.{Version, Term, Drift, Clients, File, Join, Do, Up, Down, Pass, Settle, Cut, Hang, Skipped}
 use Rattle.trace_text.specs.declared.refusal.Limit.TheVariants.{Lines, Tree, Sessions}
 use Rattle.trace_text.specs.declared.refusal.Limit.TheVariants.{File as OfFile}
 use Rattle.trace_text.specs.declared.refusal.LineFault.TheVariants.{Grammar, Limit}
@@ -54,6 +55,18 @@ two_spaces = refl
 taken : said (codes "term 1" ∷ codes "term 3600000" ∷ codes "drift 0" ∷ codes "drift 3600000" ∷ codes "clients 16" ∷ codes "file ... -" ∷ codes "file a-Z_0.9 t:." ∷ codes "join 18446744073709551615 9223372036854775807 0" ∷ codes "do 0 0 open #0" ∷ codes "pass 0 18446744073709551615 0 9223372036854775807" ∷ []) ≡ (Some (Term 1) ∷ Some (Term 3600000) ∷ Some (Drift 0) ∷ Some (Drift 3600000) ∷ Some (Clients 16) ∷ Some (File (codes "...") []) ∷ Some (File (codes "a-Z_0.9") (Bytes (codes ".") ∷ [])) ∷ Some (Join 18446744073709551615 9223372036854775807 0) ∷ Some (Do 0 0 (Open 0)) ∷ Some (Pass 0 18446744073709551615 0 9223372036854775807) ∷ [])
 taken = refl
 
+-- each command of a client
+commands : said (codes "do 1 2 open #3" ∷ codes "do 1 2 write #3 4 t:ab+z:5" ∷ codes "do 1 2 write #3 4 -" ∷ codes "do 1 2 trunc #3 4" ∷ codes "do 1 2 read #3 4 5" ∷ codes "do 1 2 close #3" ∷ codes "do 1 2 abandon #3" ∷ []) ≡ (Some (Do 1 2 (Open 3)) ∷ Some (Do 1 2 (Write 3 4 (Bytes (codes "ab") ∷ Zeros 5 ∷ []))) ∷ Some (Do 1 2 (Write 3 4 [])) ∷ Some (Do 1 2 (Trunc 3 4)) ∷ Some (Do 1 2 (Read 3 4 5)) ∷ Some (Do 1 2 (Close 3)) ∷ Some (Do 1 2 (Abandon 3)) ∷ [])
+commands = refl
+
+-- its edges
+commands_at_edges : said (codes "do 0 0 write #0 0 -" ∷ codes "do 0 9223372036854775807 write #18446744073709551615 18446744073709551615 z:18446744073709551615" ∷ codes "do 0 0 trunc #0 0" ∷ codes "do 0 0 trunc #18446744073709551615 18446744073709551615" ∷ codes "do 0 0 read #0 0 0" ∷ codes "do 0 0 read #18446744073709551615 18446744073709551615 18446744073709551615" ∷ codes "do 0 0 close #18446744073709551615" ∷ codes "do 0 0 abandon #0" ∷ []) ≡ (Some (Do 0 0 (Write 0 0 [])) ∷ Some (Do 0 9223372036854775807 (Write 18446744073709551615 18446744073709551615 (Zeros 18446744073709551615 ∷ []))) ∷ Some (Do 0 0 (Trunc 0 0)) ∷ Some (Do 0 0 (Trunc 18446744073709551615 18446744073709551615)) ∷ Some (Do 0 0 (Read 0 0 0)) ∷ Some (Do 0 0 (Read 18446744073709551615 18446744073709551615 18446744073709551615)) ∷ Some (Do 0 0 (Close 18446744073709551615)) ∷ Some (Do 0 0 (Abandon 0)) ∷ [])
+commands_at_edges = refl
+
+-- each event, and its edges
+events : said (codes "up 1 2 3" ∷ codes "up 1 all 3" ∷ codes "down 1 2 3" ∷ codes "down 1 all 3" ∷ codes "settle 1" ∷ codes "cut 1 2" ∷ codes "hang 1 2" ∷ codes "up 0 0 0" ∷ codes "up 18446744073709551615 18446744073709551615 9223372036854775807" ∷ codes "down 18446744073709551615 all 9223372036854775807" ∷ codes "down 0 0 0" ∷ codes "settle 0" ∷ codes "settle 9223372036854775807" ∷ codes "cut 18446744073709551615 9223372036854775807" ∷ codes "hang 18446744073709551615 9223372036854775807" ∷ []) ≡ (Some (Up 1 (amount.Bytes 2) 3) ∷ Some (Up 1 amount.All 3) ∷ Some (Down 1 (amount.Bytes 2) 3) ∷ Some (Down 1 amount.All 3) ∷ Some (Settle 1) ∷ Some (Cut 1 2) ∷ Some (Hang 1 2) ∷ Some (Up 0 (amount.Bytes 0) 0) ∷ Some (Up 18446744073709551615 (amount.Bytes 18446744073709551615) 9223372036854775807) ∷ Some (Down 18446744073709551615 amount.All 9223372036854775807) ∷ Some (Down 0 (amount.Bytes 0) 0) ∷ Some (Settle 0) ∷ Some (Settle 9223372036854775807) ∷ Some (Cut 18446744073709551615 9223372036854775807) ∷ Some (Hang 18446744073709551615 9223372036854775807) ∷ [])
+events = refl
+
 -- no line of the grammar
 refused : said (codes "terms 1" ∷ codes "Term 1" ∷ codes "term" ∷ codes "term " ∷ codes "term  1" ∷ codes "term 1 " ∷ codes " term 1" ∷ codes "term\t1" ∷ codes "term 1\r" ∷ codes "term 1 1" ∷ []) ≡ replicate 10 None
 refused = refl
@@ -64,8 +77,40 @@ refused_number = refl
 refused_file : said (codes "file a" ∷ codes "file  -" ∷ codes "file . -" ∷ codes "file .. -" ∷ codes "file a/b -" ∷ codes "file a~ -" ∷ codes "file a --" ∷ codes "file a t:" ∷ codes "file a t" ∷ codes "file a abc" ∷ codes "file a t:a b" ∷ []) ≡ replicate 11 None
 refused_file = refl
 
-refused_event : said (codes "join 1 0" ∷ codes "join 1 0 0 0" ∷ codes "do 1 0" ∷ codes "do 1 0 open" ∷ codes "do 1 0 open 2" ∷ codes "do 1 0 open #" ∷ codes "do 1 0 open #02" ∷ codes "do 1 0 open ##2" ∷ codes "do 1 0 open #2 #3" ∷ codes "do 1 0 close #2" ∷ codes "pass 1 4 0" ∷ codes "pass 1 4 0 0 0" ∷ []) ≡ replicate 12 None
+refused_event : said (codes "join 1 0" ∷ codes "join 1 0 0 0" ∷ codes "do 1 0" ∷ codes "do 1 0 open" ∷ codes "do 1 0 open 2" ∷ codes "do 1 0 open #" ∷ codes "do 1 0 open #02" ∷ codes "do 1 0 open ##2" ∷ codes "do 1 0 open #2 #3" ∷ codes "do 1 0 Open #2" ∷ codes "pass 1 4 0" ∷ codes "pass 1 4 0 0 0" ∷ []) ≡ replicate 12 None
 refused_event = refl
+
+-- no command
+refused_write : said (codes "do 1 2 write" ∷ codes "do 1 2 write #3" ∷ codes "do 1 2 write #3 4" ∷ codes "do 1 2 write #3 4 " ∷ codes "do 1 2 write #3 4 - -" ∷ codes "do 1 2 write #3 4 t:a t:b" ∷ codes "do 1 2 write  #3 4 -" ∷ codes "do 1 2 write #3  4 -" ∷ codes "do 1 2 write #3 4 -\n" ∷ codes "do 1 2 write 3 4 -" ∷ codes "do 1 2 write #03 4 -" ∷ codes "do 1 2 write #3 04 -" ∷ codes "do 1 2 write #3 -1 -" ∷ codes "do 1 2 write #3 4 abc" ∷ codes "do 1 2 write #3 t:a 4" ∷ codes "do 1 2 write\t#3 4 -" ∷ codes "do 1 2 Write #3 4 -" ∷ codes "do 1 2 write #3 18446744073709551616 -" ∷ codes "do 1 2 write #18446744073709551616 4 -" ∷ codes "do 1 9223372036854775808 write #3 4 -" ∷ []) ≡ replicate 20 None
+refused_write = refl
+
+refused_trunc : said (codes "do 1 2 trunc" ∷ codes "do 1 2 trunc #3" ∷ codes "do 1 2 trunc #3 4 5" ∷ codes "do 1 2 trunc #3  4" ∷ codes "do 1 2 trunc 3 4" ∷ codes "do 1 2 trunc #3 #4" ∷ codes "do 1 2 trunc #3 04" ∷ codes "do 1 2 trunc #3 -1" ∷ codes "do 1 2 trunc #3\t4" ∷ codes "do 1 2 trunc #3 18446744073709551616" ∷ codes "do 1 2 truncate #3 4" ∷ []) ≡ replicate 11 None
+refused_trunc = refl
+
+refused_read : said (codes "do 1 2 read" ∷ codes "do 1 2 read #3 4" ∷ codes "do 1 2 read #3 4 5 6" ∷ codes "do 1 2 read #3 4  5" ∷ codes "do 1 2 read 3 4 5" ∷ codes "do 1 2 read #3 04 5" ∷ codes "do 1 2 read #3 4 05" ∷ codes "do 1 2 read #3 4 all" ∷ codes "do 1 2 read #3 4 -1" ∷ codes "do 1 2 read #3 4 18446744073709551616" ∷ codes "do 1 2 READ #3 4 5" ∷ []) ≡ replicate 11 None
+refused_read = refl
+
+refused_close : said (codes "do 1 2 close" ∷ codes "do 1 2 close " ∷ codes "do 1 2 close 3" ∷ codes "do 1 2 close #" ∷ codes "do 1 2 close #03" ∷ codes "do 1 2 close # 3" ∷ codes "do 1 2 close #3 " ∷ codes "do 1 2 close #3 #4" ∷ codes "do 1 2 close\t#3" ∷ codes "do 1 2 Close #3" ∷ codes "do 1 close #3" ∷ codes "do 1 2 close #18446744073709551616" ∷ []) ≡ replicate 12 None
+refused_close = refl
+
+refused_abandon : said (codes "do 1 2 abandon" ∷ codes "do 1 2 abandon 3" ∷ codes "do 1 2 abandon #03" ∷ codes "do 1 2 abandon #3 #4" ∷ codes "do 1 2 abandon  #3" ∷ codes "do 1 2 abandoned #3" ∷ codes "do 1 2 abandon #18446744073709551616" ∷ []) ≡ replicate 7 None
+refused_abandon = refl
+
+-- no event
+refused_up : said (codes "up" ∷ codes "up 1 all" ∷ codes "up 1 all 3 4" ∷ codes "up 1  all 3" ∷ codes "up 1 All 3" ∷ codes "up 1 ALL 3" ∷ codes "up 1 al 3" ∷ codes "up 1 alle 3" ∷ codes "up 1 -1 3" ∷ codes "up 1 02 3" ∷ codes "up 01 2 3" ∷ codes "up 1 2 03" ∷ codes "up 1 2\t3" ∷ codes "up 1 2 all" ∷ codes "up all 2 3" ∷ codes "up #1 2 3" ∷ codes "up 1 18446744073709551616 3" ∷ codes "up 1 2 9223372036854775808" ∷ codes "up 18446744073709551616 2 3" ∷ []) ≡ replicate 19 None
+refused_up = refl
+
+refused_down : said (codes "down" ∷ codes "down 1 all" ∷ codes "down 1 all 3 4" ∷ codes "down 1  all 3" ∷ codes "down 1 All 3" ∷ codes "down 1 ALL 3" ∷ codes "down 1 al 3" ∷ codes "down 1 alle 3" ∷ codes "down 1 -1 3" ∷ codes "down 1 02 3" ∷ codes "down 01 2 3" ∷ codes "down 1 2 03" ∷ codes "down 1 2\t3" ∷ codes "down 1 2 all" ∷ codes "down all 2 3" ∷ codes "down #1 2 3" ∷ codes "down 1 18446744073709551616 3" ∷ codes "down 1 2 9223372036854775808" ∷ codes "down 18446744073709551616 2 3" ∷ []) ≡ replicate 19 None
+refused_down = refl
+
+refused_settle : said (codes "settle" ∷ codes "settle " ∷ codes "settle  1" ∷ codes "settle 1 2" ∷ codes "settle 01" ∷ codes "settle -1" ∷ codes "settle all" ∷ codes "settle\t1" ∷ codes "Settle 1" ∷ codes "settle 9223372036854775808" ∷ []) ≡ replicate 10 None
+refused_settle = refl
+
+refused_cut : said (codes "cut" ∷ codes "cut 1" ∷ codes "cut 1 2 3" ∷ codes "cut 1  2" ∷ codes "cut 01 2" ∷ codes "cut 1 02" ∷ codes "cut -1 2" ∷ codes "cut 1\t2" ∷ codes "cut #1 2" ∷ codes "Cut 1 2" ∷ codes "cut 18446744073709551616 2" ∷ codes "cut 1 9223372036854775808" ∷ []) ≡ replicate 12 None
+refused_cut = refl
+
+refused_hang : said (codes "hang" ∷ codes "hang 1" ∷ codes "hang 1 2 3" ∷ codes "hang  1 2" ∷ codes "hang 01 2" ∷ codes "hang 1 02" ∷ codes "hang -1 2" ∷ codes "hang 1\t2" ∷ codes "hang all 2" ∷ codes "Hang 1 2" ∷ codes "hang 18446744073709551616 2" ∷ codes "hang 1 9223372036854775808" ∷ []) ≡ replicate 12 None
+refused_hang = refl
 
 -- a byte above 127 is no letter
 above : line_of (codes "file " ++ (195 ∷ 169 ∷ codes " -")) ≡ None

@@ -32,35 +32,41 @@ const MARK: u64 = 2048;
 /// The last byte of a mark.
 const MARK_END: u8 = 0x78;
 
-/// The number of bytes of a part, where it has at most 64 bits.
-fn part_length(part: &Part) -> Option<u64>
-    ensures { MatchOption result (2 ^ 64 ≤ part_length part.now) (λ n. n ≡ part_length part.now) }
+/// The number of bytes of a part.
+fn part_length(part: &Part) -> u128
+    ensures { result ≡ part_length part.now }
 {
     match part {
-        Part::Bytes(bytes) => Some(bytes.len() as u64),
-        Part::Zeros(count) => Some(*count),
-        Part::Marks(count) => count.checked_mul(MARK),
-        Part::Random { seed: _seed, count } => Some(*count),
+        Part::Bytes(bytes) => bytes.len() as u128,
+        Part::Zeros(count) => u128::from(*count),
+        Part::Marks(count) => u128::from(*count) * u128::from(MARK),
+        Part::Random { seed: _seed, count } => u128::from(*count),
     }
 }
 
-/// A length with a part more, where it has at most 64 bits.
-fn with_part(length: u64, part: &Part) -> Option<u64>
-    ensures { MatchOption result (2 ^ 64 ≤ length + part_length part.now) (λ n. n ≡ length + part_length part.now) }
+/// The number of bytes of a content, or `None` where it has more than 128 bits. It takes no memory,
+/// and time linear in the number of parts.
+pub fn length(content: &Content) -> Option<u128>
+    ensures { MatchOption result (2 ^ 128 ≤ content_length content.now) (λ n. n ≡ content_length content.now) }
 {
-    length.checked_add(part_length(part)?)
+    let mut length = 0u128;
+    for part in content.as_slice() {
+        length = length.checked_add(part_length(part))?;
+    }
+    Some(length)
 }
 
-/// The number of bytes of a content, where it is at most `most`, else `None`, also where it has
-/// more than 64 bits. It takes no memory, and time linear in the number of parts.
+/// The number of bytes of a content, where it is at most `most`, else `None`. It takes no memory,
+/// and time linear in the number of parts.
 pub fn length_within(content: &Content, most: u64) -> Option<u64>
     ensures { result ≡ (if nat_le (content_length content.now) most then Some (content_length content.now) else None) }
 {
-    let mut length = 0u64;
-    for part in content.as_slice() {
-        length = with_part(length, part)?;
+    let length = length(content)?;
+    if length <= u128::from(most) {
+        Some(length as u64)
+    } else {
+        None
     }
-    if length <= most { Some(length) } else { None }
 }
 
 /// Adds so many zero bytes.

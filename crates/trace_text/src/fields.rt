@@ -3,7 +3,9 @@
 ghost use Rattle.std.specs.Prelude.{◌≡◌, ℕ, ◌+◌, ◌-◌, ◌*◌, ◌<◌, ◌≤◌, ◌^◌, ◌==◌, true, List, [], ◌∷◌, length, MatchOption};
 ghost use Rattle.std.specs.List.{list_all};
 ghost use Rattle.std.specs.Char.{is_ascii_digit};
-ghost use Rattle.trace_text.specs.Fields.{has_leading_zero, is_decimal, value_from, value_of, number_of, number_within, reading_of, is_letter, is_text, is_name, id_of};
+ghost use Rattle.trace_text.specs.Fields.{has_leading_zero, is_decimal, value_from, value_of, number_of, number_within, reading_of, amount_of, is_letter, is_text, is_name, id_of};
+
+use crate::line::Amount;
 
 /// The longest name, in bytes.
 const LONGEST_NAME: usize = 255;
@@ -76,6 +78,17 @@ pub(crate) fn reading(word: &[u8]) -> Option<u64>
     ensures { result ≡ reading_of word.now }
 {
     number_within(0, LAST_READING, word)
+}
+
+/// How many bytes: `all`, or a number.
+pub(crate) fn amount(word: &[u8]) -> Option<Amount>
+    ensures { result ≡ amount_of word.now }
+{
+    if word == b"all".as_slice() {
+        Some(Amount::All)
+    } else {
+        Some(Amount::Bytes(number(word)?))
+    }
 }
 
 /// Whether a byte is a letter of names.

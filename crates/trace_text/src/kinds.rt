@@ -1,11 +1,12 @@
-//! Each kind of line, from the words behind its first.
+//! Each kind of line, from the words behind its first: the lines that say what there is at first.
 
 ghost use Rattle.std.specs.Prelude.{◌≡◌, false, true, [], ◌∷◌, None, bytes_eq, codes, MatchOption};
 ghost use Rattle.trace_text.specs.Fields.{is_name};
-ghost use Rattle.trace_text.specs.Grammar.{version_of, term_of, drift_of, clients_of, file_of, join_of, open_of, command_of, do_of, pass_of, line_from};
+ghost use Rattle.trace_text.specs.Grammar.{version_of, term_of, drift_of, clients_of, file_of, line_from};
 ghost use Rattle.trace_text.specs.Reading.{Gives};
 
-use crate::line::{Command, Line, LineErr};
+use crate::events::{command_line, event};
+use crate::line::{Line, LineErr};
 use crate::parts::Words;
 use crate::{fields, pieces};
 use lb_base::items::Name;
@@ -83,75 +84,10 @@ fn file(alloc: Global, words: &mut Words) -> Result<Line, LineErr>
     })
 }
 
-/// `join C c s`.
-fn join(words: &mut Words) -> Option<Line>
-    ensures { result ≡ join_of words.old }
-{
-    let client = words.next()?;
-    let at = words.next()?;
-    let server = words.next()?;
-    words.end()?;
-    Some(Line::Join {
-        client: fields::number(client)?,
-        at: fields::reading(at)?,
-        server: fields::reading(server)?,
-    })
-}
-
-/// `open #ID`.
-fn open(words: &mut Words) -> Option<Command>
-    ensures { result ≡ open_of words.old }
-{
-    let place = words.next()?;
-    words.end()?;
-    Some(Command::Open(fields::id(place)?))
-}
-
-/// A command that begins with this word.
-fn command(word: &[u8], words: &mut Words) -> Option<Command>
-    ensures { result ≡ command_of word.now words.old }
-{
-    if word == b"open".as_slice() {
-        open(words)
-    } else {
-        None
-    }
-}
-
-/// `do C c COMMAND`.
-fn command_line(words: &mut Words) -> Option<Line>
-    ensures { result ≡ do_of words.old }
-{
-    let client = words.next()?;
-    let at = words.next()?;
-    let word = words.next()?;
-    Some(Line::Do {
-        client: fields::number(client)?,
-        at: fields::reading(at)?,
-        command: command(word, words)?,
-    })
-}
-
-/// `pass S k s c`.
-fn pass(words: &mut Words) -> Option<Line>
-    ensures { result ≡ pass_of words.old }
-{
-    let session = words.next()?;
-    let rounds = words.next()?;
-    let server = words.next()?;
-    let at = words.next()?;
-    words.end()?;
-    Some(Line::Pass {
-        session: fields::number(session)?,
-        rounds: fields::number(rounds)?,
-        server: fields::reading(server)?,
-        at: fields::reading(at)?,
-    })
-}
-
-/// A line other than a file's that begins with this word.
+/// A line without a content that begins with this word.
 fn read_small(kind: &[u8], words: &mut Words) -> Option<Line>
-    requires { bytes_eq kind.now (codes "file") ≡ false }
+    requires file { bytes_eq kind.now (codes "file") ≡ false }
+    requires command { bytes_eq kind.now (codes "do") ≡ false }
     ensures { result ≡ line_from kind.now words.old }
 {
     if kind == b"lbfs-trace".as_slice() {
@@ -162,14 +98,8 @@ fn read_small(kind: &[u8], words: &mut Words) -> Option<Line>
         drift(words)
     } else if kind == b"clients".as_slice() {
         clients(words)
-    } else if kind == b"join".as_slice() {
-        join(words)
-    } else if kind == b"do".as_slice() {
-        command_line(words)
-    } else if kind == b"pass".as_slice() {
-        pass(words)
     } else {
-        None
+        event(kind, words)
     }
 }
 
@@ -179,6 +109,8 @@ pub(crate) fn read_kind(alloc: Global, kind: &[u8], words: &mut Words) -> Result
 {
     if kind == b"file".as_slice() {
         file(alloc, words)
+    } else if kind == b"do".as_slice() {
+        command_line(alloc, words)
     } else {
         read_small(kind, words).ok_or(LineErr::BadLine)
     }

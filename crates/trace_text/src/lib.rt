@@ -2,7 +2,9 @@
 //! parts, and the texts of refusals. What the lines do is the business of the world that runs them.
 #![tactic(auto)]
 
+mod commands;
 pub mod content;
+mod events;
 mod fields;
 mod kinds;
 pub mod laws;

@@ -11,14 +11,48 @@ use crate::parts::Words;
 use lb_base::items::Name;
 use std::alloc::{AllocError, AllocFailed, Global};
 
-/// A command of a client.
-#[derive(Clone, Copy, Debug, PartialEq, Eq)]
+/// A command of a client. Offsets, sizes and counts are in bytes; they and the ids are any numbers
+/// of 64 bits. Whether the file is open and what then comes of it is the client's business.
+#[derive(Debug, Drop)]
 pub enum Command {
     /// `open #ID`: opens the file with this id.
     Open(u64),
+    /// `write #ID OFFSET CONTENT`: puts the content into the open file, from the offset on. The
+    /// content may be of any length, also none, and its bytes are not built yet.
+    Write {
+        file: u64,
+        offset: u64,
+        content: Content,
+    },
+    /// `trunc #ID SIZE`: gives the open file this size.
+    Trunc {
+        file: u64,
+        size: u64,
+    },
+    /// `read #ID OFFSET COUNT`: gives at most so many bytes of the open file, from the offset on.
+    Read {
+        file: u64,
+        offset: u64,
+        count: u64,
+    },
+    /// `close #ID`: commits the content of the open file, and closes it.
+    Close(u64),
+    /// `abandon #ID`: closes the open file, and forgets what was written.
+    Abandon(u64),
 }
 
-/// A line of a trace. Readings, terms and drifts are in milliseconds.
+/// How many bytes of a queue are delivered.
+#[derive(Clone, Copy, Debug, PartialEq, Eq)]
+pub enum Amount {
+    /// `all`: those that are queued at that moment.
+    All,
+    /// A decimal number, 0 to 2^64 - 1: the first so many, or as many as there are.
+    Bytes(u64),
+}
+
+/// A line of a trace. Terms, drifts and readings are in milliseconds. A reading is 0 to 2^63 - 1:
+/// `at` is one of the client's clock, `server` one of the server's. Clients, sessions and rounds are
+/// any numbers of 64 bits: whether there is such a client or session is the business of the world.
 #[derive(Debug, Drop)]
 pub enum Line {
     /// `lbfs-trace 1`: the first line.
@@ -47,12 +81,38 @@ pub enum Line {
         at: u64,
         command: Command,
     },
+    /// `up S n s`: so many bytes that the session's client sent reach the server.
+    Up {
+        session: u64,
+        amount: Amount,
+        server: u64,
+    },
+    /// `down S n c`: so many bytes that the server sent reach the session's client.
+    Down {
+        session: u64,
+        amount: Amount,
+        at: u64,
+    },
     /// `pass S k s c`: so many times all bytes of the session go up, and then down.
     Pass {
         session: u64,
         rounds: u64,
         server: u64,
         at: u64,
+    },
+    /// `settle s`: the server makes the first of the waiting changes that nothing holds up.
+    Settle {
+        server: u64,
+    },
+    /// `cut C c`: the client sees its connection lost.
+    Cut {
+        client: u64,
+        at: u64,
+    },
+    /// `hang S s`: the server sees the session lost.
+    Hang {
+        session: u64,
+        server: u64,
     },
     /// An empty line, or one that begins with `#`, whatever bytes follow: it says nothing.
     Skipped,

@@ -4,7 +4,7 @@
 ghost use Rattle.std.specs.Prelude.{◌≡◌, length};
 ghost use Rattle.trace_text.specs.Parts.{lines_of};
 
-use crate::content::{Content, build, length_within};
+use crate::content::{Content, build, length, length_within};
 use crate::line::{Command, Line, LineErr};
 use crate::parts::first_line;
 use crate::refusal::{Limit, LineFault, Refusal};
@@ -64,104 +64,136 @@ fn texts_fall_into_lines(rt: HostRuntime) -> Result<(), Fail> {
     Ok(())
 }
 
+/// A line of each kind, and what it is read as.
+const KINDS: [(&str, &str); 21] = [
+    ("lbfs-trace 1", "Version"),
+    ("term 60000", "Term(60000)"),
+    ("drift 100", "Drift(100)"),
+    ("clients 1", "Clients(1)"),
+    ("join 1 2 3", "Join { client: 1, at: 2, server: 3 }"),
+    (
+        "do 1 2 open #3",
+        "Do { client: 1, at: 2, command: Open(3) }",
+    ),
+    (
+        "do 1 2 trunc #3 4",
+        "Do { client: 1, at: 2, command: Trunc { file: 3, size: 4 } }",
+    ),
+    (
+        "do 1 2 read #3 4 5",
+        "Do { client: 1, at: 2, command: Read { file: 3, offset: 4, count: 5 } }",
+    ),
+    (
+        "do 1 2 close #3",
+        "Do { client: 1, at: 2, command: Close(3) }",
+    ),
+    (
+        "do 1 2 abandon #3",
+        "Do { client: 1, at: 2, command: Abandon(3) }",
+    ),
+    ("up 1 all 2", "Up { session: 1, amount: All, server: 2 }"),
+    ("up 1 0 2", "Up { session: 1, amount: Bytes(0), server: 2 }"),
+    ("down 1 all 2", "Down { session: 1, amount: All, at: 2 }"),
+    ("down 1 7 2", "Down { session: 1, amount: Bytes(7), at: 2 }"),
+    (
+        "pass 1 4 2 3",
+        "Pass { session: 1, rounds: 4, server: 2, at: 3 }",
+    ),
+    ("settle 3", "Settle { server: 3 }"),
+    ("cut 1 2", "Cut { client: 1, at: 2 }"),
+    ("hang 1 3", "Hang { session: 1, server: 3 }"),
+    ("", "Skipped"),
+    ("#", "Skipped"),
+    ("# term 1", "Skipped"),
+];
+
 #[test]
 fn a_line_of_each_kind_is_read(rt: HostRuntime) -> Result<(), Fail> {
     let alloc = rt.alloc();
-    assert!(rt; matches!(Line::read(alloc, b"lbfs-trace 1")?, Line::Version));
-    assert!(rt; matches!(Line::read(alloc, b"term 60000")?, Line::Term(60_000)));
-    assert!(rt; matches!(Line::read(alloc, b"drift 100")?, Line::Drift(100)));
-    assert!(rt; matches!(Line::read(alloc, b"clients 1")?, Line::Clients(1)));
+    for (text, want) in KINDS {
+        let line = Line::read(alloc, text.as_bytes())?;
+        assert_eq!(rt; format!(in alloc; "{line:?}")?.as_str(), want, "of {text}");
+    }
+    Ok(())
+}
+
+#[test]
+fn a_remark_and_a_file_are_read(rt: HostRuntime) -> Result<(), Fail> {
+    let alloc = rt.alloc();
+    let remark = Line::read(alloc, b"#\x00\xff\r")?;
+    assert!(rt; matches!(remark, Line::Skipped));
     let Line::File { name, content } = Line::read(alloc, b"file a.txt t:abc")? else {
         panic!(rt; "a file");
     };
     assert_eq!(rt; name.as_slice(), b"a.txt".as_slice());
     assert_eq!(rt; build(alloc, &content)?.as_slice(), b"abc".as_slice());
-    let join = Line::read(alloc, b"join 1 2 3")?;
-    assert!(rt;
-        matches!(
-            join,
-            Line::Join {
-                client: 1,
-                at: 2,
-                server: 3
-            }
-        )
-    );
-    let command = Line::read(alloc, b"do 1 2 open #3")?;
-    assert!(rt;
-        matches!(
-            command,
-            Line::Do {
-                client: 1,
-                at: 2,
-                command: Command::Open(3)
-            }
-        )
-    );
-    let pass = Line::read(alloc, b"pass 1 4 2 3")?;
-    assert!(rt;
-        matches!(
-            pass,
-            Line::Pass {
-                session: 1,
-                rounds: 4,
-                server: 2,
-                at: 3
-            }
-        )
-    );
     Ok(())
+}
+
+#[test]
+fn a_write_is_read(rt: HostRuntime) -> Result<(), Fail> {
+    let alloc = rt.alloc();
+    let Line::Do {
+        client: 1,
+        at: 2,
+        command: Command::Write {
+            file: 3,
+            offset: 4,
+            content,
+        },
+    } = Line::read(alloc, b"do 1 2 write #3 4 t:ab+z:1")?
+    else {
+        panic!(rt; "a write");
+    };
+    assert_eq!(rt; build(alloc, &content)?.as_slice(), b"ab\x00".as_slice());
+    Ok(())
+}
+
+/// Whether no line of the text is in the grammar.
+fn refuses_all(alloc: Global, text: &[u8]) -> bool {
+    let mut rest = text;
+    'lines: while let Some((line, after)) = first_line(rest) {
+        if !matches!(Line::read(alloc, line), Err(LineErr::BadLine)) {
+            return false;
+        }
+        rest = after;
+    }
+    true
 }
 
 #[test]
 fn other_lines_are_refused(rt: HostRuntime) -> Result<(), Fail> {
-    let lines = [
-        " ",
-        " # a remark",
-        "term",
-        "term ",
-        "term  1",
-        "term 1 ",
-        " term 1",
-        "term\t1",
-        "term 1\r",
-        "term 01",
-        "term 0",
-        "term 3600001",
-        "drift 3600001",
-        "clients 17",
-        "lbfs-trace 2",
-        "file . -",
-        "file .. -",
-        "file a/b -",
-        "file \u{e9} -",
-        "file a",
+    let texts = [
+        " \n # a remark\nterm\nterm \nterm  1\nterm 1 \n term 1\nterm\t1\nterm 1\r\nterm 01",
+        "term 0\nterm 3600001\ndrift 3600001\nclients 17\nlbfs-trace 2\nfile . -\nfile .. -",
+        "file a/b -\nfile \u{e9} -\nfile a\nfile a t:a b\njoin 1 9223372036854775808 0",
+        "join 18446744073709551616 0 0\ndo 1 0 open 2\npass 1 4 0",
+        "file a \nfile a t:\nfile a x:\nfile a x:0\nfile a x:00f\nfile a x:FF\nfile a x:0A",
+        "file a z:\nfile a z:0\nfile a z:01\nfile a m:0\nfile a r:1\nfile a r:1:0",
+        "file a r:01:1\nfile a r:1:1:1\nfile a z:18446744073709551616\nfile a +t:a",
+        "file a t:a+\nfile a t:a++t:b\nfile a -+t:a\nfile a t:a+-\nfile a y:1\nfile a t:a+y:1",
         "file a t:a b",
-        "join 1 9223372036854775808 0",
-        "join 18446744073709551616 0 0",
-        "do 1 0 open 2",
-        "do 1 0 close #2",
-        "pass 1 4 0",
-        "settle 0",
+        "do 1 2 write #3 4\ndo 1 2 write #3 4 - -\ndo 1 2 write  #3 4 -\ndo 1 2 write #03 4 -",
+        "do 1 2 write #3 04 -\ndo 1 2 write\t#3 4 -\ndo 1 2 write 3 4 -\ndo 1 2 write #3 -1 -",
+        "do 1 2 write #3 4 abc\ndo 1 2 trunc #3\ndo 1 2 trunc #3 4 5\ndo 1 2 trunc #3  4",
+        "do 1 2 trunc #3 04\ndo 1 2 trunc #3\t4\ndo 1 2 trunc 3 4\ndo 1 2 trunc #3 -1",
+        "do 1 2 read #3 4\ndo 1 2 read #3 4 5 6\ndo 1 2 read #3  4 5\ndo 1 2 read #3 4 05",
+        "do 1 2 read #3 4\t5\ndo 1 2 read 3 4 5\ndo 1 2 read #3 -1 5\ndo 1 2 read #3 4 all",
+        "do 1 2 close\ndo 1 2 close #3 #4\ndo 1 2 close  #3\ndo 1 2 close #03",
+        "do 1 2 close\t#3\ndo 1 2 close 3\ndo 1 2 close #-1\ndo 1 2 Close #3\ndo 1 2 abandon",
+        "do 1 2 abandon #3 4\ndo 1 2 abandon  #3\ndo 1 2 abandon #03\ndo 1 2 abandon\t#3",
+        "do 1 2 abandon 3\ndo 1 2 abandon #18446744073709551616",
+        "up 1 all\nup 1 all 2 3\nup 1  all 2\nup 1 All 2\nup 1 -1 2\nup 1 02 2\nup 1\tall 2",
+        "up 1 18446744073709551616 2\ndown 1 all\ndown 1 all 2 3\ndown 1 all  2\ndown 1 ALL 2",
+        "down 1 -1 2\ndown 1 all 02\ndown 1 all\t2\ndown 1 all 9223372036854775808\nsettle",
+        "settle 1 2\nsettle  1\nsettle 01\nsettle\t1\nsettle -1\nsettle all",
+        "settle 9223372036854775808\ncut 1\ncut 1 2 3\ncut 1  2\ncut 01 2\ncut 1\t2\ncut -1 2",
+        "cut #1 2\nhang 1\nhang 1 2 3\nhang  1 2\nhang 1 02\nhang 1\t2\nhang 1 -1\nhang all 2",
     ];
-    for line in lines {
-        let read = Line::read(rt.alloc(), line.as_bytes());
-        assert!(rt; matches!(read, Err(LineErr::BadLine)), "at {line}");
+    for text in texts {
+        assert!(rt; refuses_all(rt.alloc(), text.as_bytes()), "at {text}");
     }
-    Ok(())
-}
-
-#[test]
-fn empty_lines_and_remarks_are_skipped(rt: HostRuntime) -> Result<(), Fail> {
-    let lines = [
-        b"".as_slice(),
-        b"#".as_slice(),
-        b"# a remark".as_slice(),
-        b"#\x00\xff\r".as_slice(),
-    ];
-    for line in lines {
-        assert!(rt; matches!(Line::read(rt.alloc(), line)?, Line::Skipped));
-    }
+    assert!(rt; !refuses_all(rt.alloc(), b"settle 01\nsettle 1"));
     Ok(())
 }
 
@@ -232,36 +264,16 @@ fn lengths_need_no_bytes(rt: HostRuntime) -> Result<(), Fail> {
 }
 
 #[test]
-fn other_contents_are_refused(rt: HostRuntime) -> Result<(), Fail> {
-    let words = [
-        "",
-        "t:",
-        "x:",
-        "x:0",
-        "x:00f",
-        "x:FF",
-        "x:0A",
-        "z:",
-        "z:0",
-        "z:01",
-        "m:0",
-        "r:1",
-        "r:1:0",
-        "r:01:1",
-        "r:1:1:1",
-        "z:18446744073709551616",
-        "+t:a",
-        "t:a+",
-        "t:a++t:b",
-        "-+t:a",
-        "t:a+-",
-        "y:1",
-        "t:a+y:1",
-        "t:a b",
+fn lengths_have_up_to_128_bits(rt: HostRuntime) -> Result<(), Fail> {
+    let cases = [
+        ("-", 0),
+        ("t:abc+z:3+x:0a+m:1+r:7:5", 2060),
+        ("z:18446744073709551615+t:a", 18_446_744_073_709_551_616),
+        ("m:18446744073709551615", 37_778_931_862_957_161_707_520),
     ];
-    for word in words {
-        let read = content(rt.alloc(), word);
-        assert!(rt; matches!(read, Err(LineErr::BadLine)), "at {word}");
+    for (word, want) in cases {
+        let content = content(rt.alloc(), word)?;
+        assert_eq!(rt; length(&content), Some(want), "of {word}");
     }
     Ok(())
 }
