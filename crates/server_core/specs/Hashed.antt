@@ -17,6 +17,7 @@ abbrev pub chunks_told : Result Node Status → HashRange → List (List ℕ)
 chunks_told (Ok (file f)) r = chunks_if (meets f.content r.offset r.count) f.content
 chunks_told _ r = []
 
+-- The server compares no bytes with a CONDWRITE's digest, since it knows none by their digest.
 abbrev pub server_hashed : List (ℕ × File) → Message → List (List ℕ)
 server_hashed files (message.Call xid (body.Lb (lb.GetHash r))) = chunks_told (node_of files r.handle) r
 server_hashed files _ = []

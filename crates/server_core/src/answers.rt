@@ -6,6 +6,7 @@ ghost use Rattle.std.specs.Map.{values_of};
 ghost use Rattle.std.specs.Option.{option_copied};
 ghost use Rattle.server_core.specs.State.{file_at};
 ghost use Rattle.server_core.specs.Answers.{node_of, time_of, attr_of, meets, pairs_if, hashes_of, hash_answer, piece_bytes, piece_of, read_answer};
+ghost use Rattle.server_core.specs.Asking.{target_in};
 ghost use Rattle.server_core.specs.Step.{IsFileBounded};
 
 use crate::file::File;
@@ -17,6 +18,7 @@ use std::alloc::{AllocError, Global};
 use std::collections::BTreeMap;
 use xdr_codec::answer::Answer;
 use xdr_codec::attr::{Attr, Kind, Time};
+use xdr_codec::handle::Handle;
 use xdr_codec::status::Status;
 
 /// The id of the root directory.
@@ -32,6 +34,23 @@ fn find_file(files: &BTreeMap<u64, File>, id: u64) -> Option<&File>
     ensures bounded { IfSome result (λ f. IsFileBounded f.now) }
 {
     files.get(&id)
+}
+
+/// The id of the file that a handle names, or why it names none.
+pub fn target_in(files: &BTreeMap<u64, File>, handle: &Handle) -> Result<u64, Status>
+    requires { All IsFileBounded (values_of files.now.entries) }
+    ensures { result ≡ target_in (node_of files.now.entries handle.now) }
+{
+    let Some(id) = handle.file_of() else {
+        return Err(Status::BadHandle);
+    };
+    if id == ROOT {
+        return Err(Status::IsDir);
+    }
+    match find_file(files, id) {
+        Some(file) => Ok(file.id),
+        None => Err(Status::Stale),
+    }
 }
 
 /// The time that shows a version.

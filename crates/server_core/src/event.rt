@@ -14,6 +14,10 @@ pub enum Event {
         message: Message,
         now: u64,
     },
+    /// A change that waits may be made, at a reading of the server's clock in milliseconds.
+    Settle {
+        now: u64,
+    },
 }
 
 /// A message to a session.
@@ -32,6 +36,10 @@ pub enum Told {
     Session(u32),
     /// No further session can stand.
     Full,
+    /// The session whose change left the queue: it was made, or its file is gone.
+    Settled(u32),
+    /// No change waits that can be made.
+    NotReady,
 }
 
 /// What a server does in one step.

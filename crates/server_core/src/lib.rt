@@ -5,9 +5,17 @@
 #![tactic(auto)]
 
 mod answers;
+mod change;
+mod closing;
 pub mod event;
 pub mod file;
 mod inner;
+pub mod journal;
+mod outs;
 pub mod server;
+mod settling;
+mod temp;
+mod temps;
 #[cfg(test)]
 mod tests;
+mod tree;

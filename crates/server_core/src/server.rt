@@ -1,13 +1,14 @@
 //! The server.
 
 ghost use Rattle.std.specs.Prelude.{◌≡◌, ◌<◌, ◌^◌, [], false, true, OnOk, OnErr};
-ghost use Rattle.server_core.specs.State.{with_file};
-ghost use Rattle.server_core.specs.Step.{server_step, IsFileBounded, IsTimed, IsMissed};
+ghost use Rattle.server_core.specs.State.{empty};
+ghost use Rattle.server_core.specs.Step.{server_step, opens_with, IsFileBounded, IsTimed, missed_at, MayMiss};
 ghost use Rattle.server_core.specs.declared.event.Told.TheVariants as told;
 
 use crate::event::{Event, Outs, Told};
 use crate::file::File;
 use crate::inner::Inner;
+use crate::journal::Entry;
 use lb_base::items::Items;
 use std::alloc::{AllocError, Global};
 use std::collections::BTreeMap;
@@ -34,11 +35,16 @@ impl Model for Server {
 impl Server {
     /// A server with no file and no session. It takes no memory.
     pub fn new(alloc: Global) -> Server
-        ensures { result ≡ record { files = []; sessions = []; made = 0; last = 0 } }
+        ensures { result ≡ empty }
     {
         Server {
             inner: Inner {
                 files: BTreeMap::new(alloc),
+                changes: 0,
+                journal: Vec::new(alloc),
+                temps: BTreeMap::new(alloc),
+                waits: Vec::new(alloc),
+                held: 0,
                 sessions: Vec::new(alloc),
                 made: 0,
                 last: 0,
@@ -46,22 +52,33 @@ impl Server {
         }
     }
 
-    /// Puts a file under its id, in place of one that was there. The one error is want of memory,
-    /// and the server then stays as it was.
+    /// Puts a file under its id, in place of one that was there: the tree opens with it, before
+    /// any change waits. The one error is want of memory, as which a count of bytes past 64 bits
+    /// counts too, and the server then stays as it was.
     pub fn add_file(&mut self, file: File) -> Result<(), AllocError>
-        requires { IsFileBounded file }
-        ensures ok { OnOk result (self.new ≡ record self.old { files = with_file self.old.files file }) }
+        requires file { IsFileBounded file }
+        requires quiet { self.old.waits ≡ [] }
+        ensures ok { OnOk result (self.new ≡ opens_with self.old file) }
         ensures err { OnErr result (self.new ≡ self.old) }
     {
         self.inner.add_file(file)
     }
 
+    /// The changes that were made, the oldest first.
+    pub fn journal(&self) -> &[Entry]
+        ensures { result.now ≡ self.now.journal }
+    {
+        self.inner.journal.as_slice()
+    }
+
     /// One event, whose reading of the clock is below 2^63. Where memory runs out nothing is sent
-    /// or told, and all stays as it was, but for the last moment.
+    /// or told, and all stays as it was, but for the moment of the reading; making a change never
+    /// meets that.
     pub fn step(&mut self, alloc: Global, event: Event) -> Outs
         requires { IsTimed event }
         ensures exact { result.missed ≡ false → server_step self.old event ≡ (self.new, result) }
-        ensures missed { result.missed ≡ true → IsMissed self.old self.new }
+        ensures missed { result.missed ≡ true → self.new ≡ missed_at self.old event }
+        ensures sure { result.missed ≡ true → MayMiss event }
         ensures silent { result.missed ≡ true → result ≡ record { send = []; told = told.Nothing; missed = true } }
     {
         match self.inner.step(alloc, event) {

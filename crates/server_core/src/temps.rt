@@ -1,0 +1,116 @@
+//! The temporary files of all sessions, by their keys.
+
+ghost use Rattle.std.specs.Prelude.{◌≡◌, ◌==◌, [], Some, length, filter, OnOk, OnErr, IsSome};
+ghost use Rattle.std.specs.List.{All};
+ghost use Rattle.std.specs.Map.{values_of};
+ghost use Rattle.std.specs.Option.{option_copied};
+ghost use Rattle.server_core.specs.Closing.{room_fault};
+ghost use Rattle.server_core.specs.Temps.{key_of, temp_at, with_temp, without_temp, temps_of, piece_fault, with_piece, IsTempKeyed, Temp};
+
+use crate::temp::Temp;
+use lb_base::items::Bytes;
+use std::alloc::{AllocError, Global};
+use std::collections::BTreeMap;
+use xdr_codec::status::Status;
+
+/// The temporary files by their keys.
+pub type Temps = BTreeMap<u64, Temp>;
+
+/// The most temporary files of a session.
+const TEMPS_MOST: usize = 16;
+
+/// A temporary file's key: its session, and its number behind it.
+fn key_of(session: u32, fd: u32) -> u64
+    ensures { result ≡ key_of session fd }
+{
+    u64::from(session) * 4_294_967_296 + u64::from(fd)
+}
+
+/// The temporary file that a session has under a number.
+pub fn find(temps: &Temps, session: u32, fd: u32) -> Option<&Temp>
+    ensures { option_copied result ≡ temp_at temps.now.entries session fd }
+{
+    temps.get(&key_of(session, fd))
+}
+
+/// How many temporary files a session has.
+fn count_of(temps: &Temps, session: u32) -> usize
+    ensures { result ≡ temps_of temps.now.entries session }
+{
+    temps
+        .values()
+        .filter(|temp| temp.session() == session)
+        .count()
+}
+
+/// Why the session can't have a further temporary file under this number.
+pub fn room_fault(temps: &Temps, session: u32, fd: u32) -> Option<Status>
+    ensures { result ≡ room_fault temps.now.entries session fd }
+{
+    if temps.contains_key(&key_of(session, fd)) {
+        Some(Status::FdInUse)
+    } else if count_of(temps, session) >= TEMPS_MOST {
+        Some(Status::TooManyTemps)
+    } else {
+        None
+    }
+}
+
+/// Why a piece of so many bytes can't be put at this place of a temporary file.
+pub fn piece_fault(temps: &Temps, session: u32, fd: u32, offset: u64, count: u64) -> Option<Status>
+    ensures { result ≡ piece_fault (temp_at temps.now.entries session fd) offset count }
+{
+    match find(temps, session, fd) {
+        Some(temp) => temp.range_fault(offset, count),
+        None => Some(Status::BadFd),
+    }
+}
+
+/// A new temporary file, with nothing in it. The one error is want of memory, and all then stays
+/// as it was.
+pub fn make(
+    alloc: Global,
+    temps: &mut Temps,
+    session: u32,
+    fd: u32,
+    target: u64,
+) -> Result<(), AllocError>
+    requires { All IsTempKeyed temps.old.entries }
+    ensures ok { OnOk result (temps.new.entries ≡ with_temp temps.old.entries (record { session = session; fd = fd; target = target; pieces = [] })) }
+    ensures err { OnErr result (temps.new.entries ≡ temps.old.entries) }
+    ensures keyed { All IsTempKeyed temps.new.entries }
+{
+    let temp = Temp::new(alloc, session, fd, target);
+    temps.insert(key_of(session, fd), temp)?;
+    Ok(())
+}
+
+/// Puts a piece into a temporary file that is there. The one error is want of memory, and all then
+/// stays as it was.
+pub fn put(
+    temps: &mut Temps,
+    session: u32,
+    fd: u32,
+    offset: u64,
+    bytes: Bytes,
+) -> Result<(), AllocError>
+    requires there { IsSome (temp_at temps.old.entries session fd) }
+    requires keyed { All IsTempKeyed temps.old.entries }
+    ensures ok { (t : Temp) → temp_at temps.old.entries session fd ≡ Some t → OnOk result (temps.new.entries ≡ with_temp temps.old.entries (with_piece t offset bytes)) }
+    ensures err { OnErr result (temps.new.entries ≡ temps.old.entries) }
+    ensures keyed { All IsTempKeyed temps.new.entries }
+{
+    match temps.get_mut(&key_of(session, fd)) {
+        Some(temp) => temp.put(offset, bytes),
+        None => Ok(()),
+    }
+}
+
+/// Ends a temporary file, if there is one under the number. It takes no memory.
+pub fn end(temps: &mut Temps, session: u32, fd: u32)
+    requires { All IsTempKeyed temps.old.entries }
+    ensures ended { temps.new.entries ≡ without_temp temps.old.entries session fd }
+    ensures keyed { All IsTempKeyed temps.new.entries }
+{
+    temps.remove(&key_of(session, fd));
+}
