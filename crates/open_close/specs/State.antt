@@ -1,8 +1,10 @@
 -- What a client is.
-use Rattle.std.specs.Prelude.{ℕ, List, [], ◌∷◌, Option, Some, None, Bool, false}
+use Rattle.std.specs.Prelude.{ℕ, List, [], ◌∷◌, map, filter, not, Option, Some, None, Bool, false, option_map, unwrap_or}
 use Rattle.std.specs.BTreeMap.{insert_entry, is_at}
-use Rattle.std.specs.Map.{lookup}
+use Rattle.std.specs.Map.{lookup, keys_of}
+use Rattle.std.specs.List.Sorted.{IsStrictlySortedBy}
 use Rattle.std.specs.Ordering.{nat_cmp}
+use Rattle.hash_calls.specs.declared.message.LbProc.{LbProc}
 use Rattle.hash_calls.specs.declared.message.LbProc.TheVariants as lb_proc
 use Rattle.nfs3_calls.specs.declared.message.NfsProc.TheVariants as nfs_proc
 use Rattle.wire.specs.declared.message.Pending.{Pending}
@@ -11,6 +13,9 @@ use Rattle.wire.specs.declared.message.Waiting.{Waiting}
 use Rattle.wire.specs.declared.message.Side.TheVariants as side
 use Rattle.open_close.specs.declared.task.Local.{Local}
 use Rattle.open_close.specs.declared.task.Task.{Task}
+use Rattle.open_close.specs.declared.task.Under.{Under}
+use Rattle.open_close.specs.declared.task.Way.{Way}
+use Rattle.open_close.specs.declared.task.Way.TheVariants as way
 use Rattle.open_close.specs.declared.task.Stage.{Stage}
 use Rattle.open_close.specs.declared.task.Stage.TheVariants as stage
 
@@ -19,13 +24,21 @@ pub record State : Type 0 where
   pub linked : Bool
   -- the xid of the next call on it
   pub next : ℕ
+  -- the number of the next temporary file on it
+  pub fds : ℕ
   -- the open files, each with its id, by rising id
   pub opened : List (ℕ × Local)
   -- the operation under way
   pub task : Option Task
 
 abbrev pub start : State
-start = record { linked = false; next = 1; opened = []; task = None }
+start = record { linked = false; next = 1; fds = 1; opened = []; task = None }
+
+-- ---- open files
+
+-- their ids rise
+abbrev pub IsRising : List (ℕ × Local) → Type 0
+IsRising opened = IsStrictlySortedBy nat_cmp (keys_of opened)
 
 -- the open file with the id
 abbrev pub local_at : List (ℕ × Local) → ℕ → Option Local
@@ -35,10 +48,29 @@ local_at opened file = lookup (is_at (nat_cmp file)) opened
 abbrev pub with_local : List (ℕ × Local) → ℕ → Local → List (ℕ × Local)
 with_local opened file local = insert_entry nat_cmp opened file local
 
--- the calls that wait for their answers
+-- the open files without this one
+abbrev pub without_local : List (ℕ × Local) → ℕ → List (ℕ × Local)
+without_local opened file = filter (λ e. not (is_at (nat_cmp file) e.0)) opened
+
+-- the local content of an open file
+abbrev pub local_bytes : List (ℕ × Local) → ℕ → List ℕ
+local_bytes opened file = unwrap_or (option_map (λ l. l.bytes) (local_at opened file)) []
+
+-- ---- calls that wait for their answers
+
+abbrev pub way_proc : Way → LbProc
+way_proc way.Named = lb_proc.CondWrite
+way_proc way.Whole = lb_proc.TmpWrite
+
+abbrev pub pending_of : Under → Pending
+pending_of u = record { xid = u.xid; program = program.Lb (way_proc u.way) }
+
 abbrev pub pending_in : Stage → List Pending
 pending_in (stage.Hashing xid) = record { xid = xid; program = program.Lb lb_proc.GetHash } ∷ []
 pending_in (stage.Reading f) = record { xid = f.xid; program = program.Nfs nfs_proc.Read } ∷ []
+pending_in (stage.Making xid fd) = record { xid = xid; program = program.Lb lb_proc.MkTmpFile } ∷ []
+pending_in (stage.Storing st) = map pending_of st.under
+pending_in (stage.Committing xid) = record { xid = xid; program = program.Lb lb_proc.CommitTmp } ∷ []
 
 abbrev pub pending : Option Task → List Pending
 pending None = []

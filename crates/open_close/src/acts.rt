@@ -1,7 +1,6 @@
 //! What a client does in one step.
 
-use lb_base::items::Items;
-use wire::message::Message;
+use crate::sends::Sends;
 use xdr_codec::digest::Digest;
 use xdr_codec::status::Status;
 
@@ -24,11 +23,33 @@ pub enum BadPeer {
 #[derive(Drop)]
 pub enum Outcome {
     /// The file is open: the length and the SHA-1 of its whole content.
-    Opened { file: u64, len: u64, sha1: Digest },
+    Opened {
+        file: u64,
+        len: u64,
+        sha1: Digest,
+    },
+    /// A part of an open file: its length and its SHA-1.
+    Piece {
+        len: u64,
+        sha1: Digest,
+    },
+    /// The file has this version since then: the length and the SHA-1 of its whole content.
+    Closed {
+        file: u64,
+        version: u64,
+        len: u64,
+        sha1: Digest,
+    },
+    /// It was done, and has nothing to tell.
+    Done,
     /// An operation is under way already.
     Busy,
+    /// The file isn't open.
+    NotOpen,
     /// The file is open already.
     AlreadyOpen,
+    /// The file would have had so many bytes, above the limit of a file.
+    TooBig(u128),
     /// No connection is joined, or it has fewer than 1,000,000 xids left.
     NoLink,
     /// The server answered this status.
@@ -52,9 +73,13 @@ pub struct Ended {
 /// What was sent and received for an operation in a step.
 #[derive(Clone, Copy, Debug, PartialEq, Eq, Drop)]
 pub struct Counts {
+    /// CONDWRITE calls sent.
+    pub cond: u64,
+    /// TMPWRITE calls sent.
+    pub tmp: u64,
     /// READ calls sent.
     pub read: u64,
-    /// Bytes of files received by READ.
+    /// Bytes of files sent by TMPWRITE or received by READ.
     pub bytes: u64,
 }
 
@@ -62,7 +87,7 @@ pub struct Counts {
 #[derive(Drop)]
 pub struct Acts {
     /// The messages that it sends, in order.
-    pub send: Items<Message>,
+    pub send: Sends,
     /// How the operation under way ended, if it did.
     pub ended: Option<Ended>,
     pub counts: Counts,

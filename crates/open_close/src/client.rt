@@ -3,11 +3,12 @@
 ghost use Rattle.std.specs.Prelude.{◌≡◌, ◌==◌, false, true, option_map, Some};
 ghost use Rattle.std.specs.Option.{option_copied};
 ghost use Rattle.open_close.specs.State.{start, waiting_of, local_at};
-ghost use Rattle.open_close.specs.Step.{command_step, got_step, idle, joined, misses, by_memory, lost, lost_if, IsTold};
+ghost use Rattle.open_close.specs.Step.{command_step, got_step, idle, joined, misses, by_memory, lost, lost_if, IsTold, IsCommitting};
 
-use crate::acts::{Acts, Counts, Ended, Outcome};
+use crate::acts::{Acts, Ended, Outcome};
 use crate::inner::Inner;
 use crate::parts;
+use crate::sends::Sends;
 use lb_base::items::Items;
 use std::alloc::Global;
 use std::collections::BTreeMap;
@@ -38,9 +39,9 @@ fn misses(alloc: Global, ended: Option<Ended>) -> Acts
     ensures { result ≡ misses ended }
 {
     Acts {
-        send: Items::new(alloc),
+        send: Sends::none(alloc),
         ended,
-        counts: Counts { read: 0, bytes: 0 },
+        counts: parts::no_counts(),
         missed: true,
     }
 }
@@ -68,6 +69,7 @@ impl Client {
             inner: Inner {
                 linked: false,
                 next: 1,
+                fds: 1,
                 opened: BTreeMap::new(alloc),
                 task: None,
                 waiting: Waiting {
@@ -91,12 +93,14 @@ impl Client {
     }
 
     /// What comes from the other end: a message, or why a record is none. Where memory runs out
-    /// nothing else is done than that the operation under way ends by that, if there is one.
+    /// nothing else is done than that the operation under way ends by that, if there is one. Once
+    /// COMMITTMP was sent it takes no memory.
     pub fn got(&mut self, alloc: Global, message: Result<Message, WireErr>) -> Acts
         requires { IsTold message }
         ensures exact { result.missed ≡ false → got_step self.old message ≡ (self.new, result) }
         ensures missed { result.missed ≡ true → self.new ≡ idle self.old }
         ensures silent { result.missed ≡ true → result ≡ misses (lost self.old.task) }
+        ensures calm { IsCommitting self.old.task → result.missed ≡ false }
     {
         let is_busy = self.inner.task.is_some();
         match self.inner.got(alloc, message) {
@@ -115,12 +119,13 @@ impl Client {
         &self.inner.waiting
     }
 
-    /// A connection is joined, and its first xid is 1.
+    /// A connection is joined, and its first xid is 1, as is the number of its first temporary file.
     pub fn joined(&mut self)
         ensures { self.new ≡ joined self.old }
     {
         self.inner.linked = true;
         self.inner.next = 1;
+        self.inner.fds = 1;
     }
 
     /// Whether a connection is joined.

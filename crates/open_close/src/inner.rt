@@ -1,37 +1,33 @@
 //! The client's fields, and one command or one message on them.
 
-ghost use Rattle.std.specs.Prelude.{◌≡◌, ◌+◌, ◌<◌, ◌≤◌, ◌==◌, ◌^◌, length, true, None, Some, slice_get, IfOk, OnErr, false};
-ghost use Rattle.open_close.specs.State.{State};
-ghost use Rattle.open_close.specs.Step.{command_step, asks_hashes, opens_if, opens, bad_peer, refused, opened_with, reads_first, reads_on, told_shape, told_bytes, told_piece, denied, took, took_if, denied_if, xid_of, cut_off, got_message, got_fault, got_step, idle, has_xids, may_ask, is_open};
-ghost use Rattle.open_close.specs.View.{state_of, IsSound, HasXids};
-ghost use Rattle.open_close.specs.Shape.{broken_of};
+ghost use Rattle.std.specs.Prelude.{◌≡◌, ◌+◌, ◌<◌, ◌≤◌, ◌==◌, ◌^◌, length, true, None, Some, slice_get, IfOk, OnOk, OnErr, false};
+ghost use Rattle.open_close.specs.State.{State, without_local};
+ghost use Rattle.open_close.specs.Step.{command_step, bad_peer, refused, denied, took, took_if, waits_for, denied_if, cut_off, got_message, got_fault, got_step, idle, may_ask, has_xids, InCommit, IsCommitting};
+ghost use Rattle.open_close.specs.View.{state_of, IsSound, HasXids, IsWithin};
+ghost use Rattle.open_close.specs.declared.acts.BadPeer.TheVariants as bad;
 ghost use Rattle.wire.specs.declared.message.Message.TheVariants as message;
 
-use crate::acts::{Acts, BadPeer, Counts, Outcome};
-use crate::task::{Fetch, Local, Stage, Task};
-use crate::{parts, shape};
-use hash_calls::call::Hashes;
-use hash_calls::message::Lb;
-use lb_base::items::{Bytes, Items};
-use nfs3_calls::call::Piece;
-use nfs3_calls::message::Nfs;
-use sha1::Sha1;
+use crate::acts::{Acts, BadPeer, Outcome};
+use crate::parts;
+use crate::task::{Local, Stage, Task};
+use lb_base::items::Items;
 use std::alloc::{AllocError, Global};
 use std::collections::BTreeMap;
 use trace_text::line::Command;
 use wire::message::{Body, Message, RpcRefusal, Waiting, WireErr};
-use xdr_codec::answer::Answer;
 use xdr_codec::status::Status;
 
 /// An operation begins only below this xid: 1,000,000 are left then.
-const XID_END: u32 = 4_293_967_297;
+pub const XID_END: u32 = 4_293_967_297;
 
-/// A client's fields: whether a connection is joined, the xid of the next call on it, the open
-/// files by their ids, the operation under way, and the calls that wait for it.
+/// A client's fields: whether a connection is joined, the xid of the next call on it, the number of
+/// the next temporary file on it, the open files by their ids, the operation under way, and the calls
+/// that wait for it.
 #[derive(Drop)]
 pub struct Inner {
     pub linked: bool,
     pub next: u32,
+    pub fds: u32,
     pub opened: BTreeMap<u64, Local>,
     pub task: Option<Task>,
     pub waiting: Waiting,
@@ -48,47 +44,49 @@ impl Inner {
     {
         match command {
             Command::Open(file) => self.open(alloc, file),
+            Command::Write {
+                file,
+                offset,
+                content,
+            } => self.write(alloc, file, offset, content),
+            Command::Trunc { file, size } => self.trunc(alloc, file, size),
+            Command::Read {
+                file,
+                offset,
+                count,
+            } => Ok(self.read_part(alloc, file, offset, count)),
+            Command::Close(file) => self.close(alloc, file),
+            Command::Abandon(file) => Ok(self.abandon(alloc, file)),
         }
     }
 
-    /// A command to open a file. An `Err` changes nothing.
-    fn open(&mut self, alloc: Global, file: u64) -> Result<Acts, AllocError>
-        requires { IsSound self.old }
-        ensures ok { IfOk result (λ a. opens (state_of self.old) file self.old.task ≡ (state_of self.new, a)) }
-        ensures done { IfOk result (λ a. a.missed ≡ false) }
-        ensures err { OnErr result (state_of self.new ≡ state_of self.old) }
-        ensures sound { IsSound self.new }
+    /// Whether an operation may begin: a connection is joined, and has enough xids.
+    pub fn may_ask(&self) -> bool
+        ensures { result ≡ may_ask (state_of self.now) }
     {
-        if self.task.is_some() {
-            return Ok(parts::ends(alloc, Outcome::Busy, 0, 0));
-        }
-        if parts::is_open(&self.opened, file) {
-            return Ok(parts::ends(alloc, Outcome::AlreadyOpen, 0, 0));
-        }
-        if !self.linked || self.next >= XID_END {
-            return Ok(parts::ends(alloc, Outcome::NoLink, 0, 0));
-        }
-        let acts = self.ask_hashes(alloc, file)?;
-        Ok(acts)
+        self.linked && self.next < XID_END
     }
 
-    /// The file's chunks are asked for. An `Err` changes nothing.
-    fn ask_hashes(&mut self, alloc: Global, file: u64) -> Result<Acts, AllocError>
+    /// The operation under way has come this far, and this is the next xid. An `Err` changes nothing.
+    pub fn wait(
+        &mut self,
+        alloc: Global,
+        file: u64,
+        stage: Stage,
+        next: u32,
+    ) -> Result<(), AllocError>
         requires sound { IsSound self.old }
-        requires xids { self.old.next < 4293967297 }
-        ensures ok { IfOk result (λ a. asks_hashes (state_of self.old) file true ≡ (state_of self.new, a)) }
-        ensures done { IfOk result (λ a. a.missed ≡ false) }
+        requires rises { self.old.next ≤ next }
+        requires xids { HasXids next stage }
+        requires fits { IsWithin stage }
+        ensures ok { OnOk result (state_of self.new ≡ record (state_of self.old) { next = next; task = Some (record { file = file; stage = stage }) }) }
         ensures err { OnErr result (state_of self.new ≡ state_of self.old) }
         ensures sound { IsSound self.new }
     {
-        let xid = self.next;
-        let call = parts::hash_call(alloc, xid, file)?;
-        let acts = parts::sends(alloc, call, Counts { read: 0, bytes: 0 })?;
-        let stage = Stage::Hashing(xid);
         self.waiting.calls = parts::pending_in(alloc, &stage)?;
-        self.next += 1;
+        self.next = next;
         self.task = Some(Task { file, stage });
-        Ok(acts)
+        Ok(())
     }
 
     /// The operation under way is given out, and no other is. It takes no memory.
@@ -102,8 +100,19 @@ impl Inner {
         self.task.take()
     }
 
+    /// The file is no longer open. It takes no memory.
+    #[tactic(auto, using(crate::proofs::Bounds::locals_without, crate::proofs::Locals::remove_is_without))]
+    pub fn forget(&mut self, file: u64)
+        requires { IsSound self.old }
+        ensures rest { state_of self.new ≡ record (state_of self.old) { opened = without_local self.old.opened.entries file } }
+        ensures sound { IsSound self.new }
+    {
+        let local = self.opened.remove(&file);
+        drop(local);
+    }
+
     /// The operation ends by the peer's fault, and the connection counts as cut.
-    fn bad_peer(&mut self, alloc: Global, fault: BadPeer, bytes: u64) -> Acts
+    pub fn bad_peer(&mut self, alloc: Global, fault: BadPeer, bytes: u64) -> Acts
         requires { IsSound self.old }
         ensures ok { bad_peer (state_of self.old) fault bytes ≡ (state_of self.new, result) }
         ensures done { result.missed ≡ false }
@@ -115,7 +124,7 @@ impl Inner {
     }
 
     /// The operation ends by a status.
-    fn refused(&mut self, alloc: Global, status: Status, xid: u32) -> Acts
+    pub fn refused(&mut self, alloc: Global, status: Status, xid: u32) -> Acts
         requires { IsSound self.old }
         ensures ok { refused (state_of self.old) status xid ≡ (state_of self.new, result) }
         ensures done { result.missed ≡ false }
@@ -144,206 +153,59 @@ impl Inner {
         }
     }
 
-    /// The file is whole and open. An `Err` changes nothing but the operation under way.
-    fn opened_with(
-        &mut self,
-        alloc: Global,
-        file: u64,
-        fetch: Fetch,
-        bytes: u64,
-    ) -> Result<Acts, AllocError>
+    /// An answer to nothing that waits.
+    pub fn unawaited(&mut self, alloc: Global, xid: u32) -> Acts
         requires { IsSound self.old }
-        ensures ok { IfOk result (λ a. opened_with (state_of self.old) file fetch.version fetch.bytes fetch.asked bytes ≡ (state_of self.new, a)) }
-        ensures done { IfOk result (λ a. a.missed ≡ false) }
-        ensures err { OnErr result (idle (state_of self.new) ≡ idle (state_of self.old)) }
+        ensures ok { bad_peer (state_of self.old) (bad.UnknownXid xid) 0 ≡ (state_of self.new, result) }
+        ensures done { result.missed ≡ false }
         ensures sound { IsSound self.new }
     {
-        let outcome = Outcome::Opened {
-            file,
-            len: fetch.bytes.len() as u64,
-            sha1: Sha1::digest(fetch.bytes.as_slice()),
-        };
-        let asked = fetch.asked;
-        let local = Local {
-            version: fetch.version,
-            bytes: fetch.bytes,
-        };
-        self.opened.insert(file, local)?;
-        self.stop(alloc);
-        Ok(parts::ends(alloc, outcome, asked, bytes))
+        self.bad_peer(alloc, BadPeer::UnknownXid { xid }, 0)
     }
 
-    /// The first chunk that is left is asked for, of this size. An `Err` changes nothing.
-    fn read(
-        &mut self,
-        alloc: Global,
-        file: u64,
-        mut fetch: Fetch,
-        size: u32,
-        bytes: u64,
-    ) -> Result<Acts, AllocError>
-        requires sound { IsSound self.old }
-        requires some { 0 < length fetch.left }
-        requires xids { self.old.next + length fetch.left < 2 ^ 32 }
-        ensures ok { IfOk result (λ a. reads_first (state_of self.old) file fetch.asked fetch.version fetch.bytes fetch.left bytes (Some size) ≡ (state_of self.new, a)) }
-        ensures done { IfOk result (λ a. a.missed ≡ false) }
-        ensures err { OnErr result (state_of self.new ≡ state_of self.old) }
-        ensures sound { IsSound self.new }
-    {
-        let xid = self.next;
-        let call = parts::read_call(alloc, xid, file, fetch.bytes.len() as u64, size)?;
-        let acts = parts::sends(alloc, call, Counts { read: 1, bytes })?;
-        fetch.xid = xid;
-        let stage = Stage::Reading(fetch);
-        self.waiting.calls = parts::pending_in(alloc, &stage)?;
-        self.next = xid + 1;
-        self.task = Some(Task { file, stage });
-        Ok(acts)
-    }
-
-    /// The next chunk is asked for, or there is none left and the file is whole. An `Err` changes
-    /// nothing but the operation under way.
-    fn reads_on(
-        &mut self,
-        alloc: Global,
-        file: u64,
-        fetch: Fetch,
-        bytes: u64,
-    ) -> Result<Acts, AllocError>
-        requires sound { IsSound self.old }
-        requires xids { self.old.next + length fetch.left < 2 ^ 32 }
-        ensures ok { IfOk result (λ a. reads_on (state_of self.old) file fetch.asked fetch.version fetch.bytes fetch.left bytes ≡ (state_of self.new, a)) }
-        ensures done { IfOk result (λ a. a.missed ≡ false) }
-        ensures err { OnErr result (idle (state_of self.new) ≡ idle (state_of self.old)) }
-        ensures sound { IsSound self.new }
-    {
-        match parts::first_size(fetch.left.as_slice()) {
-            None => self.opened_with(alloc, file, fetch, bytes),
-            Some(size) => self.read(alloc, file, fetch, size, bytes),
-        }
-    }
-
-    /// The file's chunks are known. An `Err` changes nothing but the operation under way.
-    fn told_hashes(
-        &mut self,
-        alloc: Global,
-        file: u64,
-        asked: u32,
-        hashes: Hashes,
-    ) -> Result<Acts, AllocError>
-        requires sound { IsSound self.old }
-        requires xids { self.old.next + 1024 < 2 ^ 32 }
-        ensures ok { IfOk result (λ a. told_shape (state_of self.old) file asked hashes (broken_of hashes) ≡ (state_of self.new, a)) }
-        ensures done { IfOk result (λ a. a.missed ≡ false) }
-        ensures err { OnErr result (idle (state_of self.new) ≡ idle (state_of self.old)) }
-        ensures sound { IsSound self.new }
-    {
-        match shape::broken_of(&hashes) {
-            Some((got, wanted)) => Ok(self.bad_peer(alloc, BadPeer::Shape { got, wanted }, 0)),
-            None => {
-                let fetch = Fetch {
-                    asked,
-                    xid: asked,
-                    version: hashes.version,
-                    left: hashes.pairs,
-                    bytes: Bytes::new(alloc),
-                };
-                self.reads_on(alloc, file, fetch, 0)
-            }
-        }
-    }
-
-    /// The bytes of the first chunk that is left have come, and are right. An `Err` changes nothing
-    /// but the operation under way.
-    fn keep(
-        &mut self,
-        alloc: Global,
-        file: u64,
-        mut fetch: Fetch,
-        bytes: &[u8],
-    ) -> Result<Acts, AllocError>
-        requires sound { IsSound self.old }
-        requires some { 0 < length fetch.left }
-        requires xids { self.old.next + length fetch.left ≤ 2 ^ 32 }
-        ensures ok { IfOk result (λ a. told_bytes (state_of self.old) file fetch bytes.now None ≡ (state_of self.new, a)) }
-        ensures done { IfOk result (λ a. a.missed ≡ false) }
-        ensures err { OnErr result (idle (state_of self.new) ≡ idle (state_of self.old)) }
-        ensures sound { IsSound self.new }
-    {
-        fetch.left.remove(0);
-        fetch.bytes.extend_from_slice(bytes)?;
-        self.reads_on(alloc, file, fetch, bytes.len() as u64)
-    }
-
-    /// The bytes of a READ have come. An `Err` changes nothing but the operation under way.
-    fn told_piece(
-        &mut self,
-        alloc: Global,
-        file: u64,
-        fetch: Fetch,
-        piece: Piece,
-    ) -> Result<Acts, AllocError>
-        requires sound { IsSound self.old }
-        requires xids { self.old.next + length fetch.left ≤ 2 ^ 32 }
-        ensures ok { IfOk result (λ a. told_piece (state_of self.old) file fetch piece (slice_get fetch.left 0) ≡ (state_of self.new, a)) }
-        ensures done { IfOk result (λ a. a.missed ≡ false) }
-        ensures err { OnErr result (idle (state_of self.new) ≡ idle (state_of self.old)) }
-        ensures sound { IsSound self.new }
-    {
-        let bytes = piece.bytes.as_slice();
-        let Some(pair) = fetch.left.as_slice().first() else {
-            return Ok(self.bad_peer(alloc, BadPeer::UnknownXid { xid: fetch.xid }, 0));
-        };
-        match parts::fault_in(pair, bytes) {
-            Some(fault) => Ok(self.bad_peer(alloc, fault, bytes.len() as u64)),
-            None => self.keep(alloc, file, fetch, bytes),
-        }
-    }
-
-    /// An answer to the call that waits. An `Err` changes nothing but the operation under way.
-    fn took(&mut self, alloc: Global, task: Task, body: Body) -> Result<Acts, AllocError>
+    /// An answer to a call that waits. An `Err` changes nothing but the operation under way, and
+    /// doesn't come once COMMITTMP was sent.
+    fn took(&mut self, alloc: Global, task: Task, xid: u32, body: Body) -> Result<Acts, AllocError>
         requires sound { IsSound self.old }
         requires xids { HasXids self.old.next task.stage }
-        ensures ok { IfOk result (λ a. took (state_of self.old) task.file task.stage body ≡ (state_of self.new, a)) }
+        requires fits { IsWithin task.stage }
+        ensures ok { IfOk result (λ a. took (state_of self.old) task.file task.stage xid body ≡ (state_of self.new, a)) }
         ensures done { IfOk result (λ a. a.missed ≡ false) }
         ensures err { OnErr result (idle (state_of self.new) ≡ idle (state_of self.old)) }
+        ensures calm { OnErr result (InCommit task.stage → ⊥) }
         ensures sound { IsSound self.new }
     {
         let file = task.file;
-        match (task.stage, body) {
-            (Stage::Hashing(xid), Body::Lb(Lb::GetHashAnswer(answer))) => match answer {
-                Answer::Failed(status, _) => Ok(self.refused(alloc, status, xid)),
-                Answer::Done(hashes) => self.told_hashes(alloc, file, xid, hashes),
-            },
-            (Stage::Reading(fetch), Body::Nfs(Nfs::ReadAnswer(answer))) => match answer {
-                Answer::Failed(status, _) => Ok(self.refused(alloc, status, fetch.xid)),
-                Answer::Done(piece) => self.told_piece(alloc, file, fetch, piece),
-            },
-            (stage, other) => {
-                drop(other);
-                let xid = parts::xid_of(&stage);
-                Ok(self.bad_peer(alloc, BadPeer::UnknownXid { xid }, 0))
-            }
+        match task.stage {
+            Stage::Hashing(asked) => self.took_hashes(alloc, file, asked, xid, body),
+            Stage::Reading(fetch) => self.took_piece(alloc, file, fetch, xid, body),
+            Stage::Making(asked, fd) => self.took_temp(alloc, file, asked, fd, xid, body),
+            Stage::Storing(store) => self.took_stored(alloc, file, store, xid, body),
+            Stage::Committing(asked) => Ok(self.took_commit(alloc, file, asked, xid, body)),
         }
     }
 
-    /// An answer. An `Err` changes nothing but the operation under way.
+    /// An answer. An `Err` changes nothing but the operation under way, and doesn't come once
+    /// COMMITTMP was sent.
     fn answered(&mut self, alloc: Global, xid: u32, body: Body) -> Result<Acts, AllocError>
         requires { IsSound self.old }
         ensures ok { IfOk result (λ a. got_message (state_of self.old) self.old.task (message.Answer xid body) ≡ (state_of self.new, a)) }
         ensures done { IfOk result (λ a. a.missed ≡ false) }
         ensures err { OnErr result (idle (state_of self.new) ≡ idle (state_of self.old)) }
+        ensures calm { OnErr result (IsCommitting self.old.task → ⊥) }
         ensures sound { IsSound self.new }
     {
+        let is_awaited = parts::is_awaited(self.waiting.calls.as_slice(), xid);
         let Some(task) = self.stop(alloc) else {
             drop(body);
             return Ok(self.cut_off(alloc));
         };
-        if xid == parts::xid_of(&task.stage) {
-            self.took(alloc, task, body)
+        if is_awaited {
+            self.took(alloc, task, xid, body)
         } else {
+            drop(task);
             drop(body);
-            Ok(self.bad_peer(alloc, BadPeer::UnknownXid { xid }, 0))
+            Ok(self.unawaited(alloc, xid))
         }
     }
 
@@ -354,13 +216,14 @@ impl Inner {
         ensures done { result.missed ≡ false }
         ensures sound { IsSound self.new }
     {
-        let Some(task) = self.stop(alloc) else {
+        let is_awaited = parts::is_awaited(self.waiting.calls.as_slice(), xid);
+        if self.stop(alloc).is_none() {
             return self.cut_off(alloc);
-        };
-        if xid == parts::xid_of(&task.stage) {
+        }
+        if is_awaited {
             self.denied(alloc, refusal)
         } else {
-            self.bad_peer(alloc, BadPeer::UnknownXid { xid }, 0)
+            self.unawaited(alloc, xid)
         }
     }
 
@@ -388,12 +251,14 @@ impl Inner {
         self.bad_peer(alloc, parts::fault_of(fault), 0)
     }
 
-    /// A message. An `Err` changes nothing but the operation under way.
+    /// A message. An `Err` changes nothing but the operation under way, and doesn't come once
+    /// COMMITTMP was sent.
     fn got_message(&mut self, alloc: Global, message: Message) -> Result<Acts, AllocError>
         requires { IsSound self.old }
         ensures ok { IfOk result (λ a. got_message (state_of self.old) self.old.task message ≡ (state_of self.new, a)) }
         ensures done { IfOk result (λ a. a.missed ≡ false) }
         ensures err { OnErr result (idle (state_of self.new) ≡ idle (state_of self.old)) }
+        ensures calm { OnErr result (IsCommitting self.old.task → ⊥) }
         ensures sound { IsSound self.new }
     {
         match message {
@@ -401,7 +266,7 @@ impl Inner {
             Message::Refuse(xid, refusal) => Ok(self.was_refused(alloc, xid, refusal)),
             Message::Unfit(xid, refusal) => {
                 let refuse = Message::Refuse(xid, refusal);
-                parts::sends(alloc, refuse, Counts { read: 0, bytes: 0 })
+                Ok(parts::sends(alloc, refuse, 0, 0))
             }
             Message::Call(_, body) => {
                 drop(body);
@@ -410,7 +275,8 @@ impl Inner {
         }
     }
 
-    /// What comes from the other end. An `Err` changes nothing but the operation under way.
+    /// What comes from the other end. An `Err` changes nothing but the operation under way, and
+    /// doesn't come once COMMITTMP was sent.
     pub fn got(
         &mut self,
         alloc: Global,
@@ -420,6 +286,7 @@ impl Inner {
         ensures ok { IfOk result (λ a. got_step (state_of self.old) message ≡ (state_of self.new, a)) }
         ensures done { IfOk result (λ a. a.missed ≡ false) }
         ensures err { OnErr result (idle (state_of self.new) ≡ idle (state_of self.old)) }
+        ensures calm { OnErr result (IsCommitting self.old.task → ⊥) }
         ensures sound { IsSound self.new }
     {
         match message {

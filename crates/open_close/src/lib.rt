@@ -6,9 +6,15 @@
 #![tactic(auto)]
 
 pub mod acts;
+mod chunks;
 pub mod client;
+mod closing;
+mod commands;
 mod inner;
+mod local;
+mod opening;
 mod parts;
+pub mod sends;
 mod shape;
 pub mod task;
 #[cfg(test)]

@@ -1,6 +1,6 @@
 //! Whether a GETHASH answer can be one of a whole file.
 
-ghost use Rattle.std.specs.Prelude.{◌≡◌, ◌*◌, ◌≤◌, length};
+ghost use Rattle.std.specs.Prelude.{◌≡◌, ◌*◌, ◌≤◌, length, None};
 ghost use Rattle.open_close.specs.Shape.{broken_pair, broken_pairs, broken_whole, broken_of, size_sum};
 
 use hash_calls::call::{Hashes, Pair};
@@ -62,7 +62,8 @@ fn size_sum(pairs: &[Pair]) -> u64
 /// Whether sizes that differ from the file's, or a chunk that is missing, break the whole.
 fn broken_whole(hashes: &Hashes) -> Option<(u64, u64)>
     requires { length hashes.now.pairs ≤ 1024 }
-    ensures { result ≡ broken_whole hashes.now }
+    ensures broken { result ≡ broken_whole hashes.now }
+    ensures sum { result ≡ None → size_sum hashes.now.pairs ≡ hashes.now.size }
 {
     let sum = size_sum(hashes.pairs.as_slice());
     if sum != hashes.size {
@@ -78,6 +79,7 @@ fn broken_whole(hashes: &Hashes) -> Option<(u64, u64)>
 pub fn broken_of(hashes: &Hashes) -> Option<(u64, u64)>
     ensures broken { result ≡ broken_of hashes.now }
     ensures few { result ≡ None → length hashes.now.pairs ≤ 1024 }
+    ensures sum { result ≡ None → size_sum hashes.now.pairs ≤ 67108864 }
 {
     if hashes.size > FILE_LIMIT {
         return Some((hashes.size, FILE_LIMIT));

@@ -1,0 +1,136 @@
+//! The commands on an open file that need no message.
+
+ghost use Rattle.std.specs.Prelude.{◌≡◌, ◌≤◌, length, None, Some, IfOk, OnErr, false};
+ghost use Rattle.std.specs.List.{All};
+ghost use Rattle.std.specs.Map.{values_of};
+ghost use Rattle.open_close.specs.State.{State, local_at};
+ghost use Rattle.open_close.specs.Step.{on_local, writes, truncates, reads, abandons, done_with};
+ghost use Rattle.open_close.specs.View.{state_of, IsSound, IsLocalBounded};
+
+use crate::acts::{Acts, Outcome};
+use crate::inner::Inner;
+use crate::local::{self, LOCAL_MOST};
+use crate::parts;
+use crate::task::Local;
+use lb_base::items::Bytes;
+use sha1::Sha1;
+use std::alloc::{AllocError, Global};
+use trace_text::content::{self, Content};
+
+impl Inner {
+    /// The file is open with this content, whatever it was before. An `Err` changes nothing.
+    #[tactic(auto, using(crate::proofs::Bounds::locals_with))]
+    fn put(
+        &mut self,
+        alloc: Global,
+        file: u64,
+        version: u64,
+        bytes: Bytes,
+    ) -> Result<Acts, AllocError>
+        requires sound { IsSound self.old }
+        requires small { length bytes ≤ 67108864 }
+        ensures ok { IfOk result (λ a. done_with (state_of self.old) file (record { version = version; bytes = bytes }) bytes ≡ (state_of self.new, a)) }
+        ensures done { IfOk result (λ a. a.missed ≡ false) }
+        ensures err { OnErr result (state_of self.new ≡ state_of self.old) }
+        ensures sound { IsSound self.new }
+    {
+        self.opened.insert(file, Local { version, bytes })?;
+        Ok(parts::ends(alloc, Outcome::Done, 0, 0))
+    }
+
+    /// A command to write a content into an open file. An `Err` changes nothing.
+    #[tactic(auto, using(trace_text::proofs::Contents::content_size))]
+    pub fn write(
+        &mut self,
+        alloc: Global,
+        file: u64,
+        offset: u64,
+        content: Content,
+    ) -> Result<Acts, AllocError>
+        requires { IsSound self.old }
+        ensures ok { IfOk result (λ a. on_local (state_of self.old) self.old.task (local_at self.old.opened.entries file) (writes (state_of self.old) file offset content) ≡ (state_of self.new, a)) }
+        ensures done { IfOk result (λ a. a.missed ≡ false) }
+        ensures err { OnErr result (state_of self.new ≡ state_of self.old) }
+        ensures sound { IsSound self.new }
+    {
+        if self.task.is_some() {
+            return Ok(parts::ends(alloc, Outcome::Busy, 0, 0));
+        }
+        let Some(local) = parts::find_local(&self.opened, file) else {
+            return Ok(parts::ends(alloc, Outcome::NotOpen, 0, 0));
+        };
+        let count = content::length(&content).ok_or(AllocError)?;
+        if count == 0 {
+            return Ok(parts::ends(alloc, Outcome::Done, 0, 0));
+        }
+        let old = local.bytes.as_slice();
+        let size = local::written_size(old.len() as u64, offset, count)?;
+        if size > LOCAL_MOST {
+            return Ok(parts::ends(alloc, Outcome::TooBig(size), 0, 0));
+        }
+        let more = content::build(alloc, &content)?;
+        let bytes = local::written(alloc, old, offset, more.as_slice())?;
+        let version = local.version;
+        self.put(alloc, file, version, bytes)
+    }
+
+    /// A command to give an open file a size. An `Err` changes nothing.
+    pub fn trunc(&mut self, alloc: Global, file: u64, size: u64) -> Result<Acts, AllocError>
+        requires { IsSound self.old }
+        ensures ok { IfOk result (λ a. on_local (state_of self.old) self.old.task (local_at self.old.opened.entries file) (truncates (state_of self.old) file size) ≡ (state_of self.new, a)) }
+        ensures done { IfOk result (λ a. a.missed ≡ false) }
+        ensures err { OnErr result (state_of self.new ≡ state_of self.old) }
+        ensures sound { IsSound self.new }
+    {
+        if self.task.is_some() {
+            return Ok(parts::ends(alloc, Outcome::Busy, 0, 0));
+        }
+        let Some(local) = parts::find_local(&self.opened, file) else {
+            return Ok(parts::ends(alloc, Outcome::NotOpen, 0, 0));
+        };
+        if u128::from(size) > LOCAL_MOST {
+            return Ok(parts::ends(alloc, Outcome::TooBig(u128::from(size)), 0, 0));
+        }
+        let bytes = local::truncated(alloc, local.bytes.as_slice(), size)?;
+        let version = local.version;
+        self.put(alloc, file, version, bytes)
+    }
+
+    /// A command to read a part of an open file. It takes no memory.
+    pub fn read_part(&mut self, alloc: Global, file: u64, offset: u64, count: u64) -> Acts
+        requires { IsSound self.old }
+        ensures ok { on_local (state_of self.old) self.old.task (local_at self.old.opened.entries file) (reads (state_of self.old) offset count) ≡ (state_of self.new, result) }
+        ensures done { result.missed ≡ false }
+        ensures sound { IsSound self.new }
+    {
+        if self.task.is_some() {
+            return parts::ends(alloc, Outcome::Busy, 0, 0);
+        }
+        let Some(local) = parts::find_local(&self.opened, file) else {
+            return parts::ends(alloc, Outcome::NotOpen, 0, 0);
+        };
+        let piece = local::part_of(local.bytes.as_slice(), offset, count);
+        let outcome = Outcome::Piece {
+            len: piece.len() as u64,
+            sha1: Sha1::digest(piece),
+        };
+        parts::ends(alloc, outcome, 0, 0)
+    }
+
+    /// A command to forget what was written to an open file, and close it. It takes no memory.
+    pub fn abandon(&mut self, alloc: Global, file: u64) -> Acts
+        requires { IsSound self.old }
+        ensures ok { on_local (state_of self.old) self.old.task (local_at self.old.opened.entries file) (abandons (state_of self.old) file) ≡ (state_of self.new, result) }
+        ensures done { result.missed ≡ false }
+        ensures sound { IsSound self.new }
+    {
+        if self.task.is_some() {
+            return parts::ends(alloc, Outcome::Busy, 0, 0);
+        }
+        if !parts::is_open(&self.opened, file) {
+            return parts::ends(alloc, Outcome::NotOpen, 0, 0);
+        }
+        self.forget(file);
+        parts::ends(alloc, Outcome::Done, 0, 0)
+    }
+}
