@@ -4,14 +4,16 @@ use Rattle.std.specs.Prelude.{◌&&◌, ◌==◌, not, nat_lt, nat_le, Result, O
 use Rattle.std.proofs.lemmas.Bool.{eqb-true}
 use Rattle.std.proofs.lemmas.Bool.Decides.{nat_tests}
 use Rattle.trace_text.specs.Content.{content_length}
+use Rattle.trace_text.proofs.Ids.{IsSmall, IsFit}
 use Rattle.trace_text.specs.declared.content.Part.{Part}
+use Rattle.trace_text.specs.declared.line.Command.{Command}
 use Rattle.trace_text.specs.declared.line.Command.TheVariants as command
 use Rattle.trace_text.specs.declared.line.Line.{Line}
 use Rattle.trace_text.specs.declared.line.Line.TheVariants as line
 use Rattle.trace_text.specs.declared.refusal.LineFault.{LineFault}
 use Rattle.trace_text.specs.declared.refusal.LineFault.TheVariants.{Grammar, Limit}
-use Rattle.register_model.specs.declared.op.Word.TheVariants as word
 use Rattle.trace_replay.specs.Names.{has_name}
+use Rattle.trace_replay.specs.Commands.{file_of}
 use Rattle.trace_replay.specs.declared.link.Stage.{Stage}
 use Rattle.trace_replay.specs.declared.link.Stage.TheVariants as stage
 use Rattle.trace_replay.specs.declared.turn.Turn.{Turn}
@@ -19,17 +21,25 @@ use Rattle.trace_replay.specs.declared.turn.Turn.TheVariants as turn
 use Rattle.trace_replay.specs.Faithful.{Deed, deed_in, linked_by}
 use Rattle.trace_replay.specs.Run.{line_most, file_most, asks_if, sized, named, joins_if, event_asks, asks_at, asks, asks_within, asked}
 use Rattle.trace_replay.specs.World.{World}
-use Rattle.trace_replay.proofs.Fit.{IsFit}
 use Rattle.trace_replay.proofs.Kept.{is_early}
 
 -- the commands that a turn has, where the client had joined or not, and whether it has joined then
 abbrev pub deeds_by : Bool → Turn → List Deed
-deeds_by linked (turn.Do (command.Open file)) = record { client = 1; word = word.Open; file = file; linked = linked } ∷ []
+deeds_by linked (turn.Do k) = record { client = 1; command = k; linked = linked } ∷ []
 deeds_by linked t = []
 
 abbrev pub linked_then : Bool → Turn → Bool
 linked_then linked turn.Join = true
 linked_then linked t = linked
+
+-- the id in a command has at most 64 bits
+pub small_file : (k : Command) → IsSmall k → file_of k < 2 ^ 64
+small_file (command.Open file) h = h
+small_file (command.Write file offset content) h = h.0
+small_file (command.Trunc file size) h = h.0
+small_file (command.Read file offset count) h = h.0
+small_file (command.Close file) h = h
+small_file (command.Abandon file) h = h
 
 -- what a turn may rely on
 abbrev pub Allows : World → Turn → Type 0
@@ -37,7 +47,8 @@ Allows w turn.Skip = Unit {0}
 Allows w (turn.At s) = is_early w.stage ≡ true
 Allows w (turn.File name content) = (w.stage ≡ stage.Files) × (content_length content ≤ file_most)
 Allows w turn.Join = w.client.linked ≡ false
-Allows w (turn.Do (command.Open file)) = file < 2 ^ 64
+Allows w (turn.Do k) = IsSmall k
+Allows w turn.Settle = Unit {0}
 Allows w (turn.Pass k) = Unit {0}
 
 -- a line in place: what its turn may rely on, and which commands it has
@@ -107,11 +118,12 @@ join_place w c r s true true t h is = place w (line.Join c r s) turn.Join t is (
 
 event_place : (w : World) (l : Line) (t : Turn) → IsFit l → event_asks w.client.linked w.sessions l ≡ asking t → IsInPlace w l t
 event_place w (line.Join c r s) t fit is = join_place w c r s _ _ t (λ e. free (c == 1) (r == 0) (s == 0) w.client.linked e) is
-event_place w (line.Do c r (command.Open file)) t fit is = when _ w (line.Do c r (command.Open file)) (turn.Do (command.Open file)) t is (λ e. record {
+event_place w (line.Do c r k) t fit is = when _ w (line.Do c r k) (turn.Do k) t is (λ e. record {
   allows = fit;
-  deeds = λ b. ap (λ (n : ℕ). record { client = n; word = word.Open; file = file; linked = b } ∷ []) (eqb-true c 1 (first_true (c == 1) (r == 0) e));
+  deeds = λ b. ap (λ (n : ℕ). record { client = n; command = k; linked = b } ∷ []) (eqb-true c 1 (first_true (c == 1) (r == 0) e));
   linked = λ b. refl;
 })
+event_place w (line.Settle s) t fit is = when _ w (line.Settle s) turn.Settle t is (λ e. record { allows = tt; deeds = λ b. refl; linked = λ b. refl })
 event_place w (line.Pass n k s r) t fit is = when _ w (line.Pass n k s r) (turn.Pass k) t is (λ e. record { allows = tt; deeds = λ b. refl; linked = λ b. refl })
 event_place w l t fit is = refused_line Grammar t is
 

@@ -1,288 +1,65 @@
 -- What is on its way down reaches the client.
-use Rattle.std.proofs.Common.{◌≡◌, ℕ, ◌+◌, ◌*◌, ◌<◌, ◌≤◌, ◌^◌, List, [], ◌∷◌, ◌++◌, ◌⊎◌, inl, inr, Option, Some, None, Bool, true, false, length, refl, sym, ap, ◌∙◌, arith, subst, IsTrue}
+use Rattle.std.proofs.Common.{◌≡◌, ℕ, ◌+◌, ◌<◌, ◌≤◌, ◌^◌, List, [], ◌∷◌, ◌⊎◌, inl, inr, Option, Some, None, Bool, true, false, length, refl, sym, ap, ◌∙◌, arith, subst, IsTrue}
 use Rattle.std.proofs.lemmas.Bool.{eqb-true}
 use Rattle.std.proofs.lemmas.Bool.Decides.{nat_tests}
-use Rattle.std.specs.Prelude.{cond, option_map, slice_get, slice_set, find, ◌==◌, IsSome, Result, Ok}
+use Rattle.std.specs.Prelude.{cond, option_map, slice_get, slice_set, find, ◌==◌, is_some, IsSome, Ok, unwrap_or, if◌then◌else◌}
+use Rattle.sha1.specs.Sha1.{sha1}
 use Rattle.rpc_record.specs.Records.{nothing_read}
+use Rattle.xdr_codec.specs.declared.answer.Answer.TheVariants.{Done}
 use Rattle.xdr_codec.specs.declared.status.Status.{Status}
 use Rattle.xdr_codec.specs.declared.status.Status.TheVariants as status
-use Rattle.hash_calls.specs.declared.call.Hashes.{Hashes}
 use Rattle.hash_calls.specs.declared.message.Lb.TheVariants as lb
-use Rattle.hash_calls.specs.declared.message.LbProc.TheVariants as lb_proc
-use Rattle.nfs3_calls.specs.declared.message.NfsProc.TheVariants as nfs_proc
-use Rattle.wire.specs.declared.message.Program.TheVariants as program
-use Rattle.open_close.specs.State.{waiting_of, pending}
-use Rattle.nfs3_calls.specs.declared.message.Nfs.TheVariants as nfs
 use Rattle.wire.specs.declared.message.Body.{Body}
 use Rattle.wire.specs.declared.message.Body.TheVariants as body
 use Rattle.wire.specs.declared.message.Message.{Message}
 use Rattle.wire.specs.declared.message.Message.TheVariants as message
-use Rattle.wire.specs.declared.message.Program.{Program}
-use Rattle.wire.specs.Parse.{IsExpected, waiting}
-use Rattle.wire.specs.Message.{program_of, MessageFits}
-use Rattle.server_core.specs.Answers.{Node, file as as_file, hash_answer, read_answer}
+use Rattle.wire.specs.Parse.{IsExpected}
+use Rattle.wire.specs.Message.{MessageFits}
+use Rattle.server_core.specs.State as server
+use Rattle.server_core.specs.declared.file.File.{File}
 use Rattle.open_close.specs.State as client
-use Rattle.open_close.specs.Shape.{Broken, broken_of}
-use Rattle.open_close.specs.Step.{idle, got_step, got_message, sends, took, took_if, refused, opened_with, reads_on, told_shape, read_call, xid_of}
+use Rattle.open_close.specs.State.{waiting_of}
+use Rattle.open_close.specs.Closing.{no_counts, chunks_of, cond_call, tmp_call, commit_call}
+use Rattle.server_core.specs.Answers.{file as as_file}
+use Rattle.open_close.specs.Step.{acts as acts_of, idle, got_step, took, waits_for, refused, opened_with, closed, read_call, reads_counted}
 use Rattle.open_close.specs.declared.acts.Acts.{Acts}
-use Rattle.open_close.specs.declared.acts.Ended.{Ended}
+use Rattle.open_close.specs.declared.acts.Counts.{Counts}
+use Rattle.open_close.specs.declared.acts.Outcome.{Outcome as Ending}
+use Rattle.open_close.specs.declared.acts.Outcome.TheVariants as outcome
 use Rattle.open_close.specs.declared.task.Fetch.{Fetch}
 use Rattle.open_close.specs.declared.task.Local.{Local}
 use Rattle.open_close.specs.declared.task.Stage.{Stage as Phase}
 use Rattle.open_close.specs.declared.task.Stage.TheVariants as phase
+use Rattle.open_close.specs.declared.task.Store.{Store}
 use Rattle.open_close.specs.declared.task.Task.{Task}
+use Rattle.open_close.proofs.Locals.{local_at_itself, local_at_another, without_at_itself, without_at_another}
+use Rattle.register_model.specs.Register.{Value, changes}
 use Rattle.register_model.specs.declared.op.Op.{Op}
-use Rattle.register_model.specs.Register.{is_opened}
 use Rattle.register_model.specs.declared.op.Opening.{Opening}
 use Rattle.register_model.specs.declared.op.Outcome.{Outcome}
-use Rattle.open_close.proofs.Locals.{local_at_itself, local_at_another}
-use Rattle.server_core.specs.Step.{stands}
+use Rattle.register_model.specs.declared.op.Outcome.TheVariants as told
+use Rattle.register_model.specs.declared.op.Traffic.{Traffic}
+use Rattle.register_model.specs.declared.op.Word.{Word}
 use Rattle.register_model.specs.declared.op.Word.TheVariants as word
+use Rattle.trace_text.specs.declared.line.Command.{Command}
+use Rattle.trace_text.specs.declared.line.Command.TheVariants as command
 use Rattle.trace_replay.specs.declared.link.Taken.{Taken}
-use Rattle.trace_replay.specs.Faithful.{Deed, is_running}
-use Rattle.sha1.specs.Sha1.{sha1}
-use Rattle.trace_replay.specs.World.{World, bytes_of, op_after, op_ended, counted, running_after, taken_at, local_of}
-use Rattle.trace_replay.specs.Delivery.{acted, ops_after, down_all}
-use Rattle.trace_replay.proofs.Lists.{nothing_there, some_is, of_replaced, at_replaced, length_replaced}
-use Rattle.trace_replay.proofs.Kept.{IsKept, IsRight, Cause, IsOf, IsApart, IsJoined, Way, Busy, Idle, Asking, Fetching, InPhase, Down, Taking, SmallFile, is_unlinked, spare, at_first, file_as, node_at, whole_range, hashes_told, piece_range, piece_told, pair_of}
-use Rattle.trace_replay.proofs.Growth.{Grows, no_truth, grows_replaced, cause_grows, origin_grows, origin_later, matches_replaced}
-use Rattle.trace_replay.proofs.Opening.{Found, is_root, is_gone, is_file, looked, hashes_none, hashes_one, not_broken, piece_taken, told_one, same_number}
-use Rattle.trace_replay.proofs.Fits.{hashes_fit, piece_fits}
+use Rattle.trace_replay.specs.Commands.{word_of, file_of}
+use Rattle.trace_replay.specs.Faithful.{Deed, after_one, leaves, no_traffic, close_traffic}
+use Rattle.trace_replay.specs.World.{World, bytes_of, ended_op, counted, taken_at, point_if, has_point, value_of, told_of}
+use Rattle.trace_replay.specs.Delivery.{acted, down_all}
+use Rattle.trace_replay.proofs.Lists.{nothing_there, some_is, length_replaced, of_replaced}
+use Rattle.trace_replay.proofs.Values.{value_in, value_same, value_inert}
+use Rattle.trace_replay.proofs.Contents.{after_calm_as}
+use Rattle.trace_replay.proofs.Kept.{IsKept, IsRight, IsOf, Cause, RefusedBy, OpenedBy, ClosedBy, RunningOf, Entered, Under_way, Busy, InPhase, Earlier, Taking, Asking, Fetching, Closing, Making, Naming, Sending, Storing, naming, sending, Going, asked, waits, made, Committing, Down, Quiet, at_first, node_at, hashes_told, piece_told, chunk_of, temp_with, pieces_of, storing, named_chunk, whole_chunk, pair_of, spare}
+use Rattle.trace_replay.proofs.Growth.{no_truth, right_later}
+use Rattle.trace_replay.proofs.Trees.{none_before}
+use Rattle.trace_replay.proofs.ServerRows.{Found, is_root, is_gone, is_file, looked}
+use Rattle.trace_replay.proofs.Fits.{hashes_fit, piece_fits, made_fits, unknown_fits, sent_fits, committed_fits}
+use Rattle.trace_replay.proofs.ClientRows.{task_of, same_number, took_is, waits_hashing, waits_reading, waits_making, waits_storing, waits_committing, expected_hashing, expected_reading, expected_making, expected_naming, expected_sending, expected_committing, took_root, took_gone, took_empty, took_chunk, goes_read, took_piece}
+use Rattle.trace_replay.proofs.ClientCloses.{goes_commit, goes_store, made_answer, unknown_answer, sent_answer, made_empty, made_chunk, unknown, sent, committed}
+use Rattle.trace_replay.proofs.Steps.{after_acts, acted_busy, going_kept, EndsRightly, ended_kept}
 use Rattle.trace_replay.proofs.Takes.{down_read, down_none, down_one}
-use Rattle.trace_replay.proofs.Up.{fresh_busy, none_before}
-
--- ---- the operation under way after a step of its client
-
-abbrev pub after_acts : World → client.State → Acts → ℕ → Op → World
-after_acts w c acts place op = record (down_read w) {
-  steps = w.steps + 1;
-  client = c;
-  link = record (down_read w).link { up = w.link.up ++ bytes_of acts.send };
-  ops = slice_set w.ops place (op_after op c w.link.taken (w.steps + 1) acts);
-  running = running_after place acts.ended;
-}
-
-abbrev with_op : World → client.State → Acts → ℕ → Option Op → World
-with_op w c acts place o = record (down_read w) {
-  steps = w.steps + 1;
-  client = c;
-  link = record (down_read w).link { up = w.link.up ++ bytes_of acts.send };
-  ops = ops_after w.ops o place c w.link.taken (w.steps + 1) acts;
-  running = running_after place acts.ended;
-}
-
-pub acted_busy : (w : World) (c : client.State) (acts : Acts) (place : ℕ) (op : Op) → w.running ≡ Some place → slice_get w.ops place ≡ Some op → acted (down_read w) c acts w.running ≡ after_acts w c acts place op
-acted_busy w c acts place op r o = ap (λ (x : Option ℕ). acted (down_read w) c acts x) r ∙ ap (λ (x : Option Op). with_op w c acts place x) o
-
--- ---- an operation that ends
-
--- the step at which the GETHASH was taken
-pub taken_is : (taken : List Taken) (xid begin now : ℕ) (h : Taking taken xid begin now) → taken_at taken xid ≡ Some h.0
-taken_is taken xid begin now h =
-    ap (λ (x : List Taken). taken_at x xid) h.2 ∙ first xid h.0 h.1 (xid == xid) (same_number xid)
-  where
-    first : (xid p : ℕ) (ts : List Taken) (b : Bool) → b ≡ true → option_map (λ t. t.step) (cond b (Some (record { xid = xid; step = p })) (find (λ t. t.xid == xid) ts)) ≡ Some p
-    first xid p ts true e = refl
-    first xid p ts false e = absurd cc
-
--- in a list in which the one running operation was replaced by one that is not, none runs
-pub none_runs : (ops : List Op) (running : Option ℕ) (place : ℕ) (op new : Op) → ((i : ℕ) (o : Op) → slice_get ops i ≡ Some o → is_running o.outcome ≡ true → running ≡ Some i)
-    → running ≡ Some place → slice_get ops place ≡ Some op → is_running new.outcome ≡ false → (i : ℕ) (o : Op) → slice_get (slice_set ops place new) i ≡ Some o → is_running o.outcome ≡ true → ⊥
-none_runs ops running place op new only is there told i o at runs = elim (of_replaced ops place new i o at) [
-  | inl h ↦ not_new o new h.1 told runs
-  | inr h ↦
-      let same : i ≡ place = some_is i place (sym (only i o h runs) ∙ is) in
-      let here : slice_get (slice_set ops place new) place ≡ Some o = subst (λ (n : ℕ). slice_get (slice_set ops place new) n ≡ Some o) same at in
-      not_new o new (some_is o new (sym here ∙ at_replaced ops place new op there)) told runs
-]
-  where
-    not_new : (o new : Op) → o ≡ new → is_running new.outcome ≡ false → is_running o.outcome ≡ true → ⊥
-    not_new o new same told runs = let f : is_running o.outcome ≡ false = ap (λ (x : Op). is_running x.outcome) same ∙ told in cc
-
-abbrev pub new_op : World → client.State → Acts → Op → Op
-new_op w c acts op = op_after op c w.link.taken (w.steps + 1) acts
-
--- what of an operation its client's step leaves as it was, and when it ended
-after_begin : (op : Op) (c : client.State) (taken : List Taken) (step : ℕ) (e : Option Ended) → (op_ended op c taken step e).begin ≡ op.begin
-after_begin op c taken step None = refl
-after_begin op c taken step (Some e) = refl
-
-after_file : (op : Op) (c : client.State) (taken : List Taken) (step : ℕ) (e : Option Ended) → (op_ended op c taken step e).file ≡ op.file
-after_file op c taken step None = refl
-after_file op c taken step (Some e) = refl
-
-after_client : (op : Op) (c : client.State) (taken : List Taken) (step : ℕ) (e : Option Ended) → (op_ended op c taken step e).client ≡ op.client
-after_client op c taken step None = refl
-after_client op c taken step (Some e) = refl
-
-after_word : (op : Op) (c : client.State) (taken : List Taken) (step : ℕ) (e : Option Ended) → (op_ended op c taken step e).word ≡ op.word
-after_word op c taken step None = refl
-after_word op c taken step (Some e) = refl
-
-new_begin : (w : World) (c : client.State) (acts : Acts) (op : Op) → (new_op w c acts op).begin ≡ op.begin
-new_begin w c acts op = after_begin _ c w.link.taken (w.steps + 1) acts.ended
-
-new_file : (w : World) (c : client.State) (acts : Acts) (op : Op) → (new_op w c acts op).file ≡ op.file
-new_file w c acts op = after_file _ c w.link.taken (w.steps + 1) acts.ended
-
-new_client : (w : World) (c : client.State) (acts : Acts) (op : Op) → (new_op w c acts op).client ≡ op.client
-new_client w c acts op = after_client _ c w.link.taken (w.steps + 1) acts.ended
-
-new_word : (w : World) (c : client.State) (acts : Acts) (op : Op) → (new_op w c acts op).word ≡ op.word
-new_word w c acts op = after_word _ c w.link.taken (w.steps + 1) acts.ended
-
-new_end : (w : World) (c : client.State) (acts : Acts) (op : Op) (e : Ended) → acts.ended ≡ Some e → (new_op w c acts op).end ≡ Some (w.steps + 1)
-new_end w c acts op e is = ap (λ (x : Option Ended). (op_ended (record op { traffic = counted op.traffic acts.counts }) c w.link.taken (w.steps + 1) x).end) is
-
-begun_by : (o new op : Op) (now : ℕ) → o ≡ new → new.begin ≡ op.begin → op.begin ≤ now → o.begin ≤ now + 1
-begun_by o new op now is begin le = let same : o.begin ≡ op.begin = ap (λ (x : Op). x.begin) is ∙ begin in omega (arith, same, le)
-
-xids_less : (next last more ops s t : ℕ) → next ≡ last → more ≡ ops → s ≡ 0 → last + t ≤ 2 * ops + 1 → next + s ≤ 2 * more + 1
-xids_less next last more ops s t e f g le = omega (arith, e, f, g, le)
-
--- where an operation is under way, the client joined
-inl_no : (w : World) (t : Task) → w.client.task ≡ Some t → IsApart w ⊎ IsJoined w → IsJoined w
-inl_no w t is (inl h) = nothing_there t (sym h.1 ∙ is)
-inl_no w t is (inr h) = h
-
-joined_still : (w v : World) → v.client.linked ≡ w.client.linked → IsJoined w → stands v.server 1 ≡ stands w.server 1 → IsApart v ⊎ IsJoined v
-joined_still w v linked h same = inr (linked ∙ h.0, same ∙ h.1)
-
--- an operation that goes on, or ends, is still that of its command
-pub still_of : (d : Deed) (op new : Op) → new.client ≡ op.client → new.word ≡ op.word → new.file ≡ op.file → is_unlinked new.outcome ≡ false → IsOf d op → IsOf d new
-still_of d op new client is named linked h = record { client = client ∙ h.client; word = is ∙ h.word; file = named ∙ h.file; unlinked = λ e. absurd_bool (is_unlinked new.outcome) linked e }
-  where
-    absurd_bool : {A : Type 0} (b : Bool) → b ≡ false → b ≡ true → A
-    absurd_bool b e f = absurd cc
-
--- what an operation that ended makes of the open files, beside those that were there
-abbrev pub OpensOnly : World → client.State → ℕ → Op → Type 0
-OpensOnly w c place new = (name : ℕ) (l : Local) → client.local_at c.opened name ≡ Some l → ((name ≡ new.file) × IsTrue (is_opened new.outcome)) ⊎ (client.local_at w.client.opened name ≡ Some l)
-
--- the world after an operation ended rightly
-pub ended_kept : (n : ℕ) (ds : List Deed) (j : Bool) (w : World) (t : Task) (c : client.State) (acts : Acts) (e : Ended) → w.client.task ≡ Some t → IsKept n ds j w → (busy : Busy w t)
-    → c.task ≡ None → c.linked ≡ w.client.linked → c.next ≡ w.client.next → OpensOnly w c busy.under.place (new_op w c acts busy.under.op) → acts.ended ≡ Some e → acts.send ≡ [] → w.link.up ≡ []
-    → IsRight w.opening (new_op w c acts busy.under.op) → Cause w.opening w.ops (new_op w c acts busy.under.op) (new_op w c acts busy.under.op).outcome → is_running (new_op w c acts busy.under.op).outcome ≡ false
-    → is_unlinked (new_op w c acts busy.under.op).outcome ≡ false → IsKept n ds j (after_acts w c acts busy.under.place busy.under.op)
-ended_kept n ds j w t c acts e is k busy no_task linked next opens end none up right cause told tied =
-    let place = busy.under.place in
-    let op = busy.under.op in
-    let new = new_op w c acts op in
-    let v = after_acts w c acts place op in
-    let begin : new.begin ≡ op.begin = new_begin w c acts op in
-    let named : new.file ≡ op.file = new_file w c acts op in
-    let ends : new.end ≡ Some (w.steps + 1) = new_end w c acts op e end in
-    let grows : Grows w.ops v.ops w.steps = grows_replaced w.ops place op new w.steps busy.under.there begin named busy.under.not_ended (λ z at. let last : w.steps + 1 ≡ z = some_is (w.steps + 1) z (sym ends ∙ at) in omega (arith, last)) in
-    let idle : Idle v = record {
-      none = ap (running_after place) end;
-      up = ap (λ (x : List Message). w.link.up ++ bytes_of x) none ∙ none_before w.link.up [] up;
-      down = refl;
-    } in
-    record {
-      files = k.files;
-      small = k.small;
-      numbered = k.numbered;
-      few_files = k.few_files;
-      few_ops = subst (λ (m : ℕ). m < n) (sym (length_replaced w.ops place new)) k.few_ops;
-      server_end = k.server_end;
-      client_end = refl;
-      rights = λ i o at. elim (of_replaced w.ops place new i o at) [
-        | inl h ↦ subst (λ (x : Op). IsRight w.opening x) (sym h.1) right
-        | inr h ↦ k.rights i o h
-      ];
-      begun = λ i o at. elim (of_replaced w.ops place new i o at) [
-        | inl h ↦ begun_by o new op w.steps h.1 begin (k.begun place op busy.under.there)
-        | inr h ↦ omega (arith, k.begun i o h)
-      ];
-      causes = λ i o at. elim (of_replaced w.ops place new i o at) [
-        | inl h ↦ subst (λ (x : Op). Cause w.opening v.ops x x.outcome) (sym h.1) (cause_grows w.opening w.ops v.ops w.steps new new.outcome grows (subst (λ (m : ℕ). m ≤ w.steps) (sym begin) (k.begun place op busy.under.there)) cause)
-        | inr h ↦ cause_grows w.opening w.ops v.ops w.steps o o.outcome grows (k.begun i o h) (k.causes i o h)
-      ];
-      only = λ i o at runs. absurd (none_runs w.ops w.running place op new k.only busy.under.is_running busy.under.there told i o at runs);
-      locals = λ name l at. elim (opens name l at) [
-        | inl h ↦ (place, new, at_replaced w.ops place new op busy.under.there, sym h.0, h.1, w.steps + 1, ends, omega arith)
-        | inr h ↦ origin_later v.ops name (w.steps + 1) (w.steps + 1 + 1) (omega arith) (origin_grows w.ops v.ops w.steps name (w.steps + 1) grows (k.locals name l h))
-      ];
-      deeds = matches_replaced ds w.ops place op new k.deeds busy.under.there (λ d h. still_of d op new (new_client w c acts op) (new_word w c acts op) named tied h);
-      xids = xids_less c.next w.client.next (length v.ops) (length w.ops) (spare c.task) (spare w.client.task) next (length_replaced w.ops place new) (ap spare no_task) k.xids;
-      linked = linked ∙ k.linked;
-      joined = joined_still w v linked (inl_no w t is k.joined) refl;
-      way = subst (λ (x : Option Task). Way v x) (sym no_task) idle;
-      fresh = fresh_busy w v t w.stage is k.fresh;
-    }
-
--- ---- the outcomes
-
--- a refusal that is not of a file that is gone
-pub refused_right : (opening : List Opening) (w : World) (c : client.State) (xid begin : ℕ) (op : Op) → op.client ≡ 1 → op.word ≡ word.Open → IsRight opening (new_op w c (refused c status.IsDir xid).1 op)
-refused_right opening w c xid begin op one is_open = record {
-  client = one;
-  word = is_open;
-  within = λ p e. nothing_there p e;
-  opens = λ e. no_truth e;
-  gone = λ e. no_truth e;
-  end = refl;
-}
-
--- a point at which the GETHASH was taken lies within
-pub point_within : (at : Option ℕ) (begin now q : ℕ) → at ≡ Some q → begin ≤ q → q ≤ now → (p : ℕ) → at ≡ Some p → (begin ≤ p) × ((e : ℕ) → Some (now + 1) ≡ Some e → p ≤ e)
-point_within at begin now q is b n p e =
-    let same : q ≡ p = some_is q p (sym is ∙ e) in
-    (omega (arith, same), λ z end. let last : now + 1 ≡ z = some_is (now + 1) z end in omega (arith, same, last))
-
--- the file is gone
-pub gone_right : (opening : List Opening) (w : World) (c : client.State) (name xid begin : ℕ) (op : Op) → op.client ≡ 1 → op.word ≡ word.Open → op.file ≡ name → op.begin ≡ begin → at_first opening name ≡ None
-    → Taking w.link.taken xid begin w.steps → IsRight opening (new_op w c (refused c status.Stale xid).1 op)
-gone_right opening w c name xid begin op one is_open file begun none taking =
-    let at = taken_is w.link.taken xid begin w.steps taking in
-    let gone : at_first opening op.file ≡ None = ap (λ (n : ℕ). at_first opening n) file ∙ none in
-    record {
-      client = one;
-      word = is_open;
-      within = λ p e. subst (λ (b : ℕ). (b ≤ p) × ((z : ℕ) → Some (w.steps + 1) ≡ Some z → p ≤ z)) (sym begun) (point_within (taken_at w.link.taken xid) begin w.steps taking.0 at taking.3 taking.4 p e);
-      opens = λ e. no_truth e;
-      gone = λ e. (taking.0, at, gone);
-      end = refl;
-    }
-
--- what is open is what came
-pub opened_value : (c : client.State) (name version xid more : ℕ) (x : List ℕ) → local_of (opened_with c name version x xid more).0 name ≡ x
-opened_value c name version xid more x = ap (λ (o : Option Local). elim o [ None ↦ [] | Some l ↦ l.bytes ]) (local_at_itself c.opened name (record { version = version; bytes = x }))
-
--- the whole content came
-pub opened_right : (opening : List Opening) (w : World) (c : client.State) (name version xid begin more : ℕ) (x : List ℕ) (op : Op) → op.client ≡ 1 → op.word ≡ word.Open → op.file ≡ name → op.begin ≡ begin → at_first opening name ≡ Some x
-    → Taking w.link.taken xid begin w.steps → IsRight opening (new_op w (opened_with c name version x xid more).0 (opened_with c name version x xid more).1 op)
-opened_right opening w c name version xid begin more x op one is_open file begun there taking =
-    let at = taken_is w.link.taken xid begin w.steps taking in
-    let first : at_first opening op.file ≡ Some x = ap (λ (n : ℕ). at_first opening n) file ∙ there in
-    let value = opened_value c name version xid more x in
-    record {
-      client = one;
-      word = is_open;
-      within = λ p e. subst (λ (b : ℕ). (b ≤ p) × ((z : ℕ) → Some (w.steps + 1) ≡ Some z → p ≤ z)) (sym begun) (point_within (taken_at w.link.taken xid) begin w.steps taking.0 at taking.3 taking.4 p e);
-      opens = λ e. (taking.0, at, first ∙ ap (λ (y : List ℕ). Some y) (sym value));
-      gone = λ e. no_truth e;
-      end = refl;
-    }
-
--- an open file is the new one, or was there
-local_is : (opened : List (ℕ × Local)) (name : ℕ) (local : Local) (id : ℕ) (l : Local) → client.local_at (client.with_local opened name local) id ≡ Some l → (id ≡ name) ⊎ (client.local_at opened id ≡ Some l)
-local_is opened name local id l at = by (id == name) refl
-  where
-    other : (b : Bool) → (id == name) ≡ b → b ≡ false → id ≡ name → ⊥
-    other b e f same = grind (arith, nat_tests, e, f, same)
-
-    by : (b : Bool) → (id == name) ≡ b → (id ≡ name) ⊎ (client.local_at opened id ≡ Some l)
-    by true e = inl (eqb-true id name e)
-    by false e = inr (sym (local_at_another opened name local id (other false e refl)) ∙ at)
-
--- it is one more open file
-pub opened_only : (w : World) (c : client.State) (name version xid more place : ℕ) (x : List ℕ) (op : Op) → op.file ≡ name → c.opened ≡ w.client.opened
-    → OpensOnly w (opened_with c name version x xid more).0 place (new_op w (opened_with c name version x xid more).0 (opened_with c name version x xid more).1 op)
-opened_only w c name version xid more place x op file same id l at = elim (local_is c.opened name (record { version = version; bytes = x }) id l at) [
-  | inl h ↦ inl (h ∙ sym file, refl)
-  | inr h ↦ inr (ap (λ (es : List (ℕ × Local)). client.local_at es id) (sym same) ∙ h)
-]
 
 -- ---- the client's step
 
@@ -293,216 +70,585 @@ down_is w m r place op end down fits expected is runs there =
     ∙ ap (λ (x : client.State × Acts). acted (down_read w) x.0 x.1 w.running) is
     ∙ acted_busy w r.0 r.1 place op runs there
 
--- an answer to the call that waits is taken
-pub took_is : (s : client.State) (name : ℕ) (p : Phase) (b : Body) → s.task ≡ Some (record { file = name; stage = p }) → got_step s (Ok (message.Answer (xid_of p) b)) ≡ took (idle s) name p b
-took_is s name p b e =
-    ap (λ (o : Option Task). got_message s o (message.Answer (xid_of p) b)) e
-    ∙ ap (λ (t : Bool). took_if (idle s) (record { file = name; stage = p }) (xid_of p) b t) (same_number (xid_of p))
+-- fewer than 2^32 changes were ever made
+few_changes : (n : ℕ) (ds : List Deed) (j : Bool) (w : World) → IsKept n ds j w → w.server.changes < 2 ^ 32
+few_changes n ds j w k = omega (arith, k.tree.changes, k.past.few, k.past.lines)
 
-pub hash_expected : (s : client.State) (name xid : ℕ) (b : Body) → s.task ≡ Some (record { file = name; stage = phase.Hashing xid }) → program_of b ≡ program.Lb lb_proc.GetHash → IsExpected (waiting_of s) (message.Answer xid b)
-hash_expected s name xid b e is =
-    ap (λ (o : Option Task). waiting xid (pending o)) e
-    ∙ ap (λ (t : Bool). cond t (Some (program.Lb lb_proc.GetHash)) None) (same_number xid)
-    ∙ ap (λ (p : Program). Some p) (sym is)
+-- ---- the ends of an open
 
-pub piece_expected : (s : client.State) (name : ℕ) (f : Fetch) (b : Body) → s.task ≡ Some (record { file = name; stage = phase.Reading f }) → program_of b ≡ program.Nfs nfs_proc.Read → IsExpected (waiting_of s) (message.Answer f.xid b)
-piece_expected s name f b e is =
-    ap (λ (o : Option Task). waiting f.xid (pending o)) e
-    ∙ ap (λ (t : Bool). cond t (Some (program.Nfs nfs_proc.Read)) None) (same_number f.xid)
-    ∙ ap (λ (p : Program). Some p) (sym is)
+-- the step at which the GETHASH was taken
+taken_is : (opening : List Opening) (ops : List Op) (files : List (ℕ × File)) (file : ℕ) (taken : List Taken) (xid begin now : ℕ) (h : Taking opening ops files file taken xid begin now) → taken_at taken xid ≡ Some h.0
+taken_is opening ops files file taken xid begin now h =
+    ap (λ (x : List Taken). taken_at x xid) h.2 ∙ first xid h.0 h.1 (xid == xid) (same_number xid)
+  where
+    first : (xid p : ℕ) (ts : List Taken) (b : Bool) → b ≡ true → option_map (λ t. t.step) (cond b (Some (record { xid = xid; step = p })) (find (λ t. t.xid == xid) ts)) ≡ Some p
+    first xid p ts true e = refl
+    first xid p ts false e = absurd cc
 
--- ---- the world after the READ was sent
+not_change : {A : Type 0} (w : Word) → w ≡ word.Open → changes w ≡ true → A
+not_change w e c = absurd (no (ap changes (sym e) ∙ c))
+  where
+    no : false ≡ true → ⊥
+    no x = cc
 
-pub going_kept : (n : ℕ) (ds : List Deed) (j : Bool) (w : World) (t u : Task) (c : client.State) (m : Message) → w.client.task ≡ Some t → IsKept n ds j w → (busy : Busy w t) → c.task ≡ Some u → c.opened ≡ w.client.opened → c.linked ≡ w.client.linked → u.file ≡ t.file
-    → c.next + spare c.task ≤ w.client.next + spare w.client.task
-    → InPhase w.opening (after_acts w c (sends m 1 0) busy.under.place busy.under.op).link u.file u.stage c.next busy.begin (w.steps + 1)
-    → IsKept n ds j (after_acts w c (sends m 1 0) busy.under.place busy.under.op)
-going_kept n ds j w t u c m is k busy task opened linked same xids phase =
-    let place = busy.under.place in
-    let op = busy.under.op in
-    let new = new_op w c (sends m 1 0) op in
-    let v = after_acts w c (sends m 1 0) place op in
-    let was = k.rights place op busy.under.there in
-    let right : IsRight w.opening new = record { client = was.client; word = was.word; within = was.within; opens = was.opens; gone = was.gone; end = was.end } in
-    let grows : Grows w.ops v.ops w.steps = grows_replaced w.ops place op new w.steps busy.under.there refl refl busy.under.not_ended (λ z at. nothing_there z (sym busy.under.no_end ∙ at)) in
-    let busy_now : Busy v u = record {
-      begin = busy.begin;
-      under = record {
-        place = place;
-        op = new;
-        there = at_replaced w.ops place new op busy.under.there;
-        is_running = refl;
-        file = busy.under.file ∙ sym same;
-        begun = busy.under.begun;
-        by_now = omega (arith, busy.under.by_now);
-        no_point = busy.under.no_point;
-        no_end = busy.under.no_end;
-        not_ended = busy.under.not_ended;
-        word = busy.under.word;
-      };
-      small = subst (λ (i : ℕ). i < 2 ^ 64) (sym same) busy.small;
-      stands = busy.stands;
-      closed = ap (λ (ls : List (ℕ × Local)). client.local_at ls u.file) opened ∙ ap (λ (i : ℕ). client.local_at w.client.opened i) same ∙ busy.closed;
-      phase = phase;
-    } in
+not_close : {A : Type 0} (w : Word) → w ≡ word.Open → w ≡ word.Close → A
+not_close w e c = absurd (no (sym e ∙ c))
+  where
+    no : word.Open ≡ word.Close → ⊥
+    no x = cc
+
+-- a command with the word of an open opens its file
+opens_it : (k : Command) → word_of k ≡ word.Open → k ≡ command.Open (file_of k)
+opens_it (command.Open f) e = refl
+opens_it (command.Write f o c) e = absurd cc
+opens_it (command.Trunc f s) e = absurd cc
+opens_it (command.Read f o c) e = absurd cc
+opens_it (command.Close f) e = absurd cc
+opens_it (command.Abandon f) e = absurd cc
+
+closes_it : (k : Command) → word_of k ≡ word.Close → k ≡ command.Close (file_of k)
+closes_it (command.Open f) e = absurd cc
+closes_it (command.Write f o c) e = absurd cc
+closes_it (command.Trunc f s) e = absurd cc
+closes_it (command.Read f o c) e = absurd cc
+closes_it (command.Close f) e = refl
+closes_it (command.Abandon f) e = absurd cc
+
+-- the command of an open under way
+open_of : (d : Deed) (o : Op) (name : ℕ) → IsOf d o → o.word ≡ word.Open → o.file ≡ name → d.command ≡ command.Open name
+open_of d o name of is_open named = opens_it d.command (sym of.word ∙ is_open) ∙ ap (λ (f : ℕ). command.Open f) (sym of.file ∙ named)
+
+close_of : (d : Deed) (o : Op) (name : ℕ) → IsOf d o → o.word ≡ word.Close → o.file ≡ name → d.command ≡ command.Close name
+close_of d o name of is_close named = closes_it d.command (sym of.word ∙ is_close) ∙ ap (λ (f : ℕ). command.Close f) (sym of.file ∙ named)
+
+-- an operation that ended, as its parts
+abbrev ended_as : Op → (point : Option ℕ) (value : List ℕ) (t : Outcome) (traffic : Traffic) (step : ℕ) → Op
+ended_as o point value t traffic step = record o { end = Some step; point = point; outcome = t; value = value; traffic = traffic }
+
+some_end : (now e : ℕ) → Some (now + 1) ≡ Some e → now + 1 ≡ e
+some_end now e h = some_is (now + 1) e h
+
+-- an open has no point, or one at which its file was not there
+abbrev Gone : World → Op → Option ℕ → Type 0
+Gone w op point = (point ≡ None) ⊎ ((p : ℕ) × (point ≡ Some p) × (op.begin ≤ p) × (p ≤ w.steps) × (value_in w.opening w.ops op.file p ≡ None) × Earlier w.ops p)
+
+-- an open that was refused
+pub open_refused : (ds : List Deed) (w : World) (c : client.State) (place : ℕ) (op : Op) (status : ℕ) → slice_get w.ops place ≡ Some op → op.word ≡ word.Open → op.point ≡ None → op.outcome ≡ told.Running → op.traffic ≡ no_traffic → IsRight w.opening w.ops w.steps op
+    → (point : Option ℕ) → Gone w op point → (IsTrue (status == 70) → IsSome point)
+    → ((d : Deed) → IsOf d op → RefusedBy w.opening d.command status)
+    → c.opened ≡ w.client.opened → ((file : ℕ) (l : Local) → client.local_at w.client.opened file ≡ Some l → IsSome (at_first w.opening file) × (length l.bytes ≤ 2048))
+    → EndsRightly ds w c place op (ended_as op point op.value (told.Refused status) no_traffic (w.steps + 1))
+open_refused ds w c place op status there is_open none running traffic right point where_it gone cause opened locals =
+    let new = ended_as op point op.value (told.Refused status) no_traffic (w.steps + 1) in
+    let values : (file p : ℕ) → value_in w.opening (slice_set w.ops place new) file p ≡ value_in w.opening w.ops file p = λ file p. value_inert w.opening w.ops place op new file p there (inl (ap changes is_open)) (inl (ap changes is_open)) in
     record {
-      files = k.files;
-      small = k.small;
-      numbered = k.numbered;
-      few_files = k.few_files;
-      few_ops = subst (λ (i : ℕ). i < n) (sym (length_replaced w.ops place new)) k.few_ops;
-      server_end = k.server_end;
-      client_end = refl;
-      rights = λ i o at. elim (of_replaced w.ops place new i o at) [
-        | inl h ↦ subst (λ (x : Op). IsRight w.opening x) (sym h.1) right
-        | inr h ↦ k.rights i o h
-      ];
-      begun = λ i o at. elim (of_replaced w.ops place new i o at) [
-        | inl h ↦ begun_by o new op w.steps h.1 refl (k.begun place op busy.under.there)
-        | inr h ↦ omega (arith, k.begun i o h)
-      ];
-      causes = λ i o at. elim (of_replaced w.ops place new i o at) [
-        | inl h ↦ subst (λ (x : Op). Cause w.opening v.ops x x.outcome) (sym h.1) (cause_grows w.opening w.ops v.ops w.steps new new.outcome grows (k.begun place op busy.under.there) (subst (λ (x : Outcome). Cause w.opening w.ops new x) (sym busy.under.not_ended) tt))
-        | inr h ↦ cause_grows w.opening w.ops v.ops w.steps o o.outcome grows (k.begun i o h) (k.causes i o h)
-      ];
-      only = λ i o at runs. elim (of_replaced w.ops place new i o at) [
-        | inl h ↦ ap (λ (i : ℕ). Some i) (sym h.0)
-        | inr h ↦ sym busy.under.is_running ∙ k.only i o h runs
-      ];
-      locals = λ name l at. origin_later v.ops name (w.steps + 1) (w.steps + 1 + 1) (omega arith) (origin_grows w.ops v.ops w.steps name (w.steps + 1) grows (k.locals name l (ap (λ (es : List (ℕ × Local)). client.local_at es name) (sym opened) ∙ at)));
-      deeds = matches_replaced ds w.ops place op new k.deeds busy.under.there (λ d h. record { client = h.client; word = h.word; file = h.file; unlinked = h.unlinked });
-      xids = xids_going (c.next + spare c.task) (w.client.next + spare w.client.task) (length v.ops) (length w.ops) xids (length_replaced w.ops place new) k.xids;
-      linked = linked ∙ k.linked;
-      joined = joined_still w v linked (inl_no w t is k.joined) refl;
-      way = subst (λ (x : Option Task). Way v x) (sym task) busy_now;
-      fresh = fresh_busy w v t w.stage is k.fresh;
+      values = values;
+      right = record {
+        client = right.client;
+        begun = omega (arith, right.begun);
+        within = λ p at. within p at where_it;
+        opens = λ e. no_truth e;
+        gone = λ e. found values where_it (gone e);
+        change = λ e p at. not_change op.word is_open e;
+        closed = λ e. no_truth e;
+        only = inl is_open;
+        unmade = λ e a b. not_close op.word is_open e;
+        end = refl;
+        traffic = refl;
+      };
+      cause = λ d l of was. cause d of;
+      point = λ e. not_change op.word is_open e;
+      apart = λ i p b at pn pb c. absurd (apart i p b at pn pb c where_it);
+      value = λ e. refl;
+      told = refl;
+      locals = λ d of file. ap (λ (es : List (ℕ × Local)). option_map (λ l. l.bytes) (client.local_at es file)) opened ∙ sym (after_calm_as file d new _ (told.Refused status) refl refl);
+      there = λ file l at. locals file l (ap (λ (es : List (ℕ × Local)). client.local_at es file) (sym opened) ∙ at);
     }
   where
-    xids_going : (a b more ops : ℕ) → a ≤ b → more ≡ ops → b ≤ 2 * ops + 1 → a ≤ 2 * more + 1
-    xids_going a b more ops le e h = omega (arith, le, e, h)
+    within : (p : ℕ) → point ≡ Some p → Gone w op point → (op.begin ≤ p) × (p ≤ w.steps + 1) × ((e : ℕ) → Some (w.steps + 1) ≡ Some e → p ≤ e)
+    within p at (inl n) = nothing_there p (sym n ∙ at)
+    within p at (inr h) =
+        let same : h.0 ≡ p = some_is h.0 p (sym h.1 ∙ at) in
+        (omega (arith, same, h.2), omega (arith, same, h.3), λ e end. let last = some_end w.steps e end in omega (arith, same, h.3, last))
 
--- ---- the answer that is on its way
+    none_some : {A : Type 0} → point ≡ None → IsSome point → A
+    none_some n s = no_truth (subst (λ (x : Option ℕ). IsSome x) n s)
 
--- one xid less may still be used
-one_less : (next s : ℕ) → s ≡ 1 → next + 1 + 0 ≤ next + s
-one_less next s e = omega (arith, e)
+    found : ((file p : ℕ) → value_in w.opening (slice_set w.ops place (ended_as op point op.value (told.Refused status) no_traffic (w.steps + 1))) file p ≡ value_in w.opening w.ops file p) → Gone w op point → IsSome point
+        → (p : ℕ) × (point ≡ Some p) × (value_in w.opening (slice_set w.ops place (ended_as op point op.value (told.Refused status) no_traffic (w.steps + 1))) op.file p ≡ None)
+    found values (inl n) s = none_some n s
+    found values (inr h) s = (h.0, h.1, values op.file h.0 ∙ h.4)
 
--- what an open that ended tells of its content
-opened_cause : (opening : List Opening) (c : client.State) (name version xid more : ℕ) (x : List ℕ) (id : ℕ) → id ≡ name → at_first opening name ≡ Some x
-    → IsSome (at_first opening id) × (length x ≡ length (local_of (opened_with c name version x xid more).0 name)) × (sha1 x ≡ sha1 (local_of (opened_with c name version x xid more).0 name))
-opened_cause opening c name version xid more x id e there =
-    let value = sym (opened_value c name version xid more x) in
-    (subst (λ (v : Option (List ℕ)). IsSome v) (sym (ap (λ (i : ℕ). at_first opening i) e ∙ there)) refl, ap (λ (y : List ℕ). length y) value, ap sha1 value)
+    apart : (i p : ℕ) (b : Op) → slice_get w.ops i ≡ Some b → point ≡ Some p → b.point ≡ Some p → changes b.word ≡ true → Gone w op point → ⊥
+    apart i p b at pn pb c (inl n) = nothing_there p (sym n ∙ pn)
+    apart i p b at pn pb c (inr h) =
+        let same : h.0 ≡ p = some_is h.0 p (sym h.1 ∙ pn) in
+        let lt = h.5 i b p at c pb in omega (arith, same, lt)
 
-abbrev pub task_of : ℕ → Phase → Task
-task_of name p = record { file = name; stage = p }
+-- an open that got its file's content
+pub open_done : (ds : List Deed) (w : World) (place name version call more : ℕ) (op : Op) (x : List ℕ) (traffic : Traffic) → slice_get w.ops place ≡ Some op → op.word ≡ word.Open → op.file ≡ name → op.point ≡ None → op.outcome ≡ told.Running → IsRight w.opening w.ops w.steps op
+    → (p : ℕ) → op.begin ≤ p → p ≤ w.steps → value_in w.opening w.ops name p ≡ Some x → Earlier w.ops p → traffic ≡ record no_traffic { read = length (chunks_of x); «data» = length x }
+    → IsSome (at_first w.opening name) → length x ≤ 2048
+    → ((file : ℕ) (l : Local) → client.local_at w.client.opened file ≡ Some l → IsSome (at_first w.opening file) × (length l.bytes ≤ 2048))
+    → EndsRightly ds w (opened_with (idle (idle w.client)) name version x call more).0 place op (ended_as op (Some p) x (told.Opened (length x) (sha1 x)) traffic (w.steps + 1))
+open_done ds w place name version call more op x traffic there is_open named none running right p begin by_now value earlier spent first short locals =
+    let new = ended_as op (Some p) x (told.Opened (length x) (sha1 x)) traffic (w.steps + 1) in
+    let values : (file q : ℕ) → value_in w.opening (slice_set w.ops place new) file q ≡ value_in w.opening w.ops file q = λ file q. value_inert w.opening w.ops place op new file q there (inl (ap changes is_open)) (inl (ap changes is_open)) in
+    record {
+      values = values;
+      right = record {
+        client = right.client;
+        begun = omega (arith, right.begun);
+        within = λ q at. let same : p ≡ q = some_is p q at in (omega (arith, same, begin), omega (arith, same, by_now), λ e end. let last = some_end w.steps e end in omega (arith, same, by_now, last));
+        opens = λ e. (p, refl, values op.file p ∙ ap (λ (f : ℕ). value_in w.opening w.ops f p) named ∙ value);
+        gone = λ e. no_truth e;
+        change = λ e q at. not_change op.word is_open e;
+        closed = λ e. no_truth e;
+        only = inl is_open;
+        unmade = λ e a b. not_close op.word is_open e;
+        end = refl;
+        traffic = spent;
+      };
+      cause = λ d l of was. subst (λ (k : Command). OpenedBy w.opening k new (length x) (sha1 x)) (sym (open_of d op name of is_open named)) (first, refl, refl);
+      point = λ e. not_change op.word is_open e;
+      apart = λ i q b at pn pb c. let same : p ≡ q = some_is p q pn in let lt = earlier i b q at c pb in absurd (less p q same lt);
+      value = λ e. not_change op.word is_open e;
+      told = refl;
+      locals = λ d of file. opens d (open_of d op name of is_open named) file;
+      there = λ file l at. elim (local_is w.client.opened name (record { version = version; bytes = x }) file l at) [
+        | inl h ↦ (subst (λ (f : ℕ). IsSome (at_first w.opening f)) (sym h.0) first, subst (λ (y : Local). length y.bytes ≤ 2048) h.1 short)
+        | inr h ↦ locals file l h
+      ];
+    }
+  where
+    less : (p q : ℕ) → p ≡ q → q < p → ⊥
+    less p q e lt = omega (arith, e, lt)
 
--- the answer to the GETHASH, of which the client makes this
-pub hash_goes : (n : ℕ) (ds : List Deed) (j : Bool) (w : World) (name xid : ℕ) (r : client.State × Acts) → w.client.task ≡ Some (task_of name (phase.Hashing xid)) → IsKept n ds j w → (busy : Busy w (task_of name (phase.Hashing xid)))
-    → xid < 4293967297 → Down w.link (message.Answer xid (hashes_told w.opening name)) → took (idle w.client) name (phase.Hashing xid) (hashes_told w.opening name) ≡ r
-    → down_all w ≡ after_acts w r.0 r.1 busy.under.place busy.under.op
+    other : (file : ℕ) (b : Bool) → (name == file) ≡ b → b ≡ false → file ≡ name → ⊥
+    other file b e f same = grind (arith, nat_tests, e, f, same)
+
+    local_is : (opened : List (ℕ × Local)) (name : ℕ) (local : Local) (file : ℕ) (l : Local) → client.local_at (client.with_local opened name local) file ≡ Some l → ((file ≡ name) × (local ≡ l)) ⊎ (client.local_at opened file ≡ Some l)
+    local_is opened name local file l at = by (name == file) refl
+      where
+        apart : (b : Bool) → (name == file) ≡ b → b ≡ false → file ≡ name → ⊥
+        apart b e f same = grind (arith, nat_tests, e, f, same)
+
+        by : (b : Bool) → (name == file) ≡ b → ((file ≡ name) × (local ≡ l)) ⊎ (client.local_at opened file ≡ Some l)
+        by true e =
+            let same : name ≡ file = eqb-true name file e in
+            inl (sym same, some_is local l (sym (local_at_itself opened name local) ∙ subst (λ (f : ℕ). client.local_at (client.with_local opened name local) f ≡ Some l) (sym same) at))
+        by false e = inr (sym (local_at_another opened name local file (apart false e refl)) ∙ at)
+
+    opens : (d : Deed) → d.command ≡ command.Open name → (file : ℕ) → option_map (λ l. l.bytes) (client.local_at (client.with_local w.client.opened name (record { version = version; bytes = x })) file) ≡ after_one file d (ended_as op (Some p) x (told.Opened (length x) (sha1 x)) traffic (w.steps + 1)) (option_map (λ l. l.bytes) (client.local_at w.client.opened file))
+    opens d is file = by (name == file) refl
+      where
+        as_open : (b : Bool) → (name == file) ≡ b → after_one file d (ended_as op (Some p) x (told.Opened (length x) (sha1 x)) traffic (w.steps + 1)) (option_map (λ l. l.bytes) (client.local_at w.client.opened file)) ≡ (if b then Some x else option_map (λ l. l.bytes) (client.local_at w.client.opened file))
+        as_open b e =
+            ap (λ (k : Command). if file_of k == file then leaves k (told.Opened (length x) (sha1 x)) x (option_map (λ l. l.bytes) (client.local_at w.client.opened file)) else option_map (λ l. l.bytes) (client.local_at w.client.opened file)) is
+            ∙ ap (λ (t : Bool). if t then Some x else option_map (λ l. l.bytes) (client.local_at w.client.opened file)) e
+
+        by : (b : Bool) → (name == file) ≡ b → option_map (λ l. l.bytes) (client.local_at (client.with_local w.client.opened name (record { version = version; bytes = x })) file) ≡ after_one file d (ended_as op (Some p) x (told.Opened (length x) (sha1 x)) traffic (w.steps + 1)) (option_map (λ l. l.bytes) (client.local_at w.client.opened file))
+        by true e =
+            let same : name ≡ file = eqb-true name file e in
+            subst (λ (f : ℕ). option_map (λ l. l.bytes) (client.local_at (client.with_local w.client.opened name (record { version = version; bytes = x })) f) ≡ Some x) same (ap (λ (o : Option Local). option_map (λ l. l.bytes) o) (local_at_itself w.client.opened name (record { version = version; bytes = x })))
+            ∙ sym (as_open true e)
+        by false e = ap (λ (o : Option Local). option_map (λ l. l.bytes) o) (local_at_another w.client.opened name (record { version = version; bytes = x }) file (other file false e refl)) ∙ sym (as_open false e)
+
+-- ---- the end of a close
+
+-- a close that replaced its file
+pub close_done : (ds : List Deed) (w : World) (place name version xid : ℕ) (op : Op) (traffic : Traffic) → slice_get w.ops place ≡ Some op → op.word ≡ word.Close → op.file ≡ name → op.outcome ≡ told.Running → IsRight w.opening w.ops w.steps op
+    → Entered w.settled w.server.journal op.point name version (length op.value) (sha1 op.value) → traffic ≡ close_traffic op.value
+    → ((i p : ℕ) (b : Op) → slice_get w.ops i ≡ Some b → op.point ≡ Some p → b.point ≡ Some p → changes b.word ≡ true → i ≡ place)
+    → ((file : ℕ) (l : Local) → client.local_at w.client.opened file ≡ Some l → IsSome (at_first w.opening file) × (length l.bytes ≤ 2048))
+    → EndsRightly ds w (closed (idle w.client) name version op.value xid).0 place op (ended_as op op.point op.value (told.Closed version (length op.value) (sha1 op.value)) traffic (w.steps + 1))
+close_done ds w place name version xid op traffic there is_close named running right entered spent apart locals =
+    let new = ended_as op op.point op.value (told.Closed version (length op.value) (sha1 op.value)) traffic (w.steps + 1) in
+    let values : (file q : ℕ) → value_in w.opening (slice_set w.ops place new) file q ≡ value_in w.opening w.ops file q = λ file q. value_same w.opening w.ops place op new file q there refl refl refl refl in
+    let later = right_later w.opening w.ops (slice_set w.ops place new) w.steps (w.steps + 1) op (λ file q le. values file q) (omega arith) right in
+    record {
+      values = values;
+      right = record {
+        client = right.client;
+        begun = later.begun;
+        within = λ q at. let h = right.within q at in (h.0, omega (arith, h.1), λ e end. let last = some_end w.steps e end in omega (arith, h.1, last));
+        opens = λ e. no_truth e;
+        gone = λ e. no_truth e;
+        change = later.change;
+        closed = λ e. subst (λ (x : Option ℕ). IsSome x) (sym entered.3) refl;
+        only = right.only;
+        unmade = λ e a b. not_both a;
+        end = refl;
+        traffic = spent;
+      };
+      cause = λ d l of was.
+          let it = close_of d op name of is_close named in
+          let mine : l ≡ Some op.value = subst (λ (k : Command). RunningOf k op l) it (subst (λ (x : Outcome). Cause (record { opening = w.opening; ops = w.ops; settled = w.settled; journal = w.server.journal }) d op l x) running was) in
+          subst (λ (k : Command). ClosedBy (record { opening = w.opening; ops = slice_set w.ops place new; settled = w.settled; journal = w.server.journal }) k new version (length op.value) (sha1 op.value) l) (sym it) (mine, refl, refl, entered);
+      point = λ e. refl;
+      apart = apart;
+      value = λ e. refl;
+      told = refl;
+      locals = λ d of file. closes d (close_of d op name of is_close named) file;
+      there = λ file l at. locals file l (was_there file l at);
+    }
+  where
+    not_both : {A : Type 0} → true ≡ false → A
+    not_both e = absurd cc
+
+    was_there : (file : ℕ) (l : Local) → client.local_at (client.without_local w.client.opened name) file ≡ Some l → client.local_at w.client.opened file ≡ Some l
+    was_there file l at = by (name == file) refl
+      where
+        another : (b : Bool) → (name == file) ≡ b → b ≡ false → file ≡ name → ⊥
+        another b e f same = grind (arith, nat_tests, e, f, same)
+
+        by : (b : Bool) → (name == file) ≡ b → client.local_at w.client.opened file ≡ Some l
+        by true e =
+            let same : name ≡ file = eqb-true name file e in
+            nothing_there l (sym (without_at_itself w.client.opened name) ∙ subst (λ (f : ℕ). client.local_at (client.without_local w.client.opened name) f ≡ Some l) (sym same) at)
+        by false e = sym (without_at_another w.client.opened name file (another false e refl)) ∙ at
+
+    closes : (d : Deed) → d.command ≡ command.Close name → (file : ℕ) → option_map (λ l. l.bytes) (client.local_at (client.without_local w.client.opened name) file) ≡ after_one file d (ended_as op op.point op.value (told.Closed version (length op.value) (sha1 op.value)) traffic (w.steps + 1)) (option_map (λ l. l.bytes) (client.local_at w.client.opened file))
+    closes d is file = by (name == file) refl
+      where
+        another : (b : Bool) → (name == file) ≡ b → b ≡ false → file ≡ name → ⊥
+        another b e f same = grind (arith, nat_tests, e, f, same)
+
+        as_close : (b : Bool) → (name == file) ≡ b → after_one file d (ended_as op op.point op.value (told.Closed version (length op.value) (sha1 op.value)) traffic (w.steps + 1)) (option_map (λ l. l.bytes) (client.local_at w.client.opened file)) ≡ (if b then None else option_map (λ l. l.bytes) (client.local_at w.client.opened file))
+        as_close b e =
+            ap (λ (k : Command). if file_of k == file then leaves k (told.Closed version (length op.value) (sha1 op.value)) op.value (option_map (λ l. l.bytes) (client.local_at w.client.opened file)) else option_map (λ l. l.bytes) (client.local_at w.client.opened file)) is
+            ∙ ap (λ (t : Bool). if t then None else option_map (λ l. l.bytes) (client.local_at w.client.opened file)) e
+
+        by : (b : Bool) → (name == file) ≡ b → option_map (λ l. l.bytes) (client.local_at (client.without_local w.client.opened name) file) ≡ after_one file d (ended_as op op.point op.value (told.Closed version (length op.value) (sha1 op.value)) traffic (w.steps + 1)) (option_map (λ l. l.bytes) (client.local_at w.client.opened file))
+        by true e =
+            let same : name ≡ file = eqb-true name file e in
+            subst (λ (f : ℕ). option_map (λ l. l.bytes) (client.local_at (client.without_local w.client.opened name) f) ≡ None) same (ap (λ (o : Option Local). option_map (λ l. l.bytes) o) (without_at_itself w.client.opened name))
+            ∙ sym (as_close true e)
+        by false e = ap (λ (o : Option Local). option_map (λ l. l.bytes) o) (without_at_another w.client.opened name file (another false e refl)) ∙ sym (as_close false e)
+
+-- ---- an operation that ended, by the client's step
+
+ended_op_as : (op : Op) (c : client.State) (taken : List Taken) (step xid : ℕ) (o : Ending) (counts : Counts) (wd : Word) (point : Option ℕ) (value : List ℕ) (traffic : Traffic) → op.word ≡ wd → point_if (has_point wd o) taken xid op.point ≡ point → value_of op.value c o ≡ value → counted op.traffic counts ≡ traffic
+    → ended_op (record op { traffic = counted op.traffic counts }) c taken step (record { outcome = o; rests_on = xid }) ≡ ended_as op point value (told_of o) traffic step
+ended_op_as op c taken step xid o counts wd point value traffic is_word is_point is_value is_traffic =
+    ap (λ (x : Word). ended_as op (point_if (has_point x o) taken xid op.point) (value_of op.value c o) (told_of o) (counted op.traffic counts) step) is_word
+    ∙ ap (λ (x : Option ℕ). ended_as op x (value_of op.value c o) (told_of o) (counted op.traffic counts) step) is_point
+    ∙ ap (λ (x : List ℕ). ended_as op point x (told_of o) (counted op.traffic counts) step) is_value
+    ∙ ap (λ (x : Traffic). ended_as op point value (told_of o) x step) is_traffic
+
+-- what is open with its content has it as its local content
+opened_value : (opened : List (ℕ × Local)) (name version : ℕ) (x : List ℕ) → client.local_bytes (client.with_local opened name (record { version = version; bytes = x })) name ≡ x
+opened_value opened name version x = ap (λ (o : Option Local). unwrap_or (option_map (λ l. l.bytes) o) []) (local_at_itself opened name (record { version = version; bytes = x }))
+
+-- the file of an id that is not there was not there at first, and one that is there was
+first_gone : (n : ℕ) (ds : List Deed) (j : Bool) (w : World) (name : ℕ) → IsKept n ds j w → server.file_at w.server.files name ≡ None → at_first w.opening name ≡ None
+first_gone n ds j w name k none = by (at_first w.opening name) (sym (k.tree.same name) ∙ ap is_some none)
+  where
+    by : (v : Value) → is_some v ≡ false → v ≡ None
+    by None e = refl
+    by (Some x) e = absurd cc
+
+first_there : (n : ℕ) (ds : List Deed) (j : Bool) (w : World) (name : ℕ) (f : File) → IsKept n ds j w → server.file_at w.server.files name ≡ Some f → IsSome (at_first w.opening name)
+first_there n ds j w name f k there = sym (k.tree.same name) ∙ ap is_some there
+
+-- ---- what a client that goes on leaves as it was
+
+going_taking : (w : World) (place file xid : ℕ) (op new : Op) → slice_get w.ops place ≡ Some op → new.word ≡ op.word → new.file ≡ op.file → new.point ≡ op.point → new.value ≡ op.value → Taking w.opening w.ops w.server.files file w.link.taken xid op.begin w.steps
+    → Taking w.opening (slice_set w.ops place new) w.server.files file w.link.taken xid op.begin (w.steps + 1)
+going_taking w place file xid op new there is_word named is_point is_value h = (h.0, h.1, h.2, h.3, omega (arith, h.4), value_same w.opening w.ops place op new file h.0 there is_word named is_point is_value ∙ h.5, earlier)
+  where
+    earlier : Earlier (slice_set w.ops place new) h.0
+    earlier i o q at c point = elim (of_replaced w.ops place new i o at) [
+      | inl is ↦ h.6 place op q there (ap changes (sym is_word ∙ ap (λ (x : Op). x.word) (sym is.1)) ∙ c) (sym is_point ∙ ap (λ (x : Op). x.point) (sym is.1) ∙ point)
+      | inr was ↦ h.6 i o q was c point
+    ]
+
+-- the same operation with other traffic
+abbrev going_op : Op → Counts → Op
+going_op o counts = record o { traffic = counted o.traffic counts }
+
+closing_going : (w : World) (c : client.State) (m : Message) (counts : Counts) (place name : ℕ) (op : Op) → c.opened ≡ w.client.opened → Closing w op place name → Closing (after_acts w c (acts_of (m ∷ []) counts) place op) (going_op op counts) place name
+closing_going w c m counts place name op opened h = record { word = h.word; short = h.short; local = ap (λ (es : List (ℕ × Local)). client.local_bytes es name) opened ∙ h.local; known = h.known; found = h.found; there = h.there; node = h.node }
+
+-- xids that may still be used, one fewer
+fewer : (next s m l : ℕ) → s ≡ m → l + 1 ≤ m → next + 1 + l ≤ next + s
+fewer next s m l e le = omega (arith, e, le)
+
+-- ---- the answer to a GETHASH
+
+-- what the client makes of it
+hash_goes : (n : ℕ) (ds : List Deed) (j : Bool) (w : World) (name xid : ℕ) (r : client.State × Acts) → w.client.task ≡ Some (task_of name (phase.Hashing xid)) → IsKept n ds j w → (busy : Busy w (task_of name (phase.Hashing xid)))
+    → xid < 4293967297 → Down w.link (message.Answer xid (hashes_told w.server.files name)) → took (idle w.client) name (phase.Hashing xid) xid (hashes_told w.server.files name) ≡ r
+    → down_all w ≡ after_acts w r.0 r.1 busy.place busy.op
 hash_goes n ds j w name xid r e k busy small down is =
-    down_is w (message.Answer xid (hashes_told w.opening name)) r busy.under.place busy.under.op k.client_end down.1
-    (hashes_fit w.opening name xid (omega (arith, small)) k.small)
-    (hash_expected w.client name xid (hashes_told w.opening name) e refl)
-    (took_is w.client name (phase.Hashing xid) (hashes_told w.opening name) e ∙ is) busy.under.is_running busy.under.there
+    down_is w (message.Answer xid (hashes_told w.server.files name)) r busy.place busy.op k.client_end down.1
+    (hashes_fit w.server.changes w.server.files xid name (omega (arith, small)) (few_changes n ds j w k) k.tree.ours)
+    (expected_hashing w.client name xid (hashes_told w.server.files name) e refl)
+    (took_is w.client name (phase.Hashing xid) xid (hashes_told w.server.files name) e (waits_hashing xid) ∙ is) busy.is_running busy.there
 
-abbrev pub took_hashes : client.State → ℕ → ℕ → Result Node Status → client.State × Acts
-took_hashes s name xid n = took s name (phase.Hashing xid) (body.Lb (lb.GetHashAnswer (hash_answer n (whole_range name))))
+hash_refused : (n : ℕ) (ds : List Deed) (j : Bool) (w : World) (name xid : ℕ) (s : Status) (status : ℕ) (point : Option ℕ) → w.client.task ≡ Some (task_of name (phase.Hashing xid)) → IsKept n ds j w → (busy : Busy w (task_of name (phase.Hashing xid))) → Asking w busy.op name xid
+    → Down w.link (message.Answer xid (hashes_told w.server.files name)) → took (idle w.client) name (phase.Hashing xid) xid (hashes_told w.server.files name) ≡ refused (idle w.client) s xid
+    → told_of (outcome.Refused s) ≡ told.Refused status → point_if (has_point word.Open (outcome.Refused s)) w.link.taken xid busy.op.point ≡ point → Gone w busy.op point → (IsTrue (status == 70) → IsSome point)
+    → ((d : Deed) → IsOf d busy.op → RefusedBy w.opening d.command status) → IsKept n ds j (down_all w)
+hash_refused n ds j w name xid s status point e k busy a down is told_is point_is gone some cause =
+    let r = refused (idle w.client) s xid in
+    let op = busy.op in
+    let new = ended_as op point op.value (told_of (outcome.Refused s)) no_traffic (w.steps + 1) in
+    let ends : ended_op (record op { traffic = counted op.traffic (reads_counted 0 0) }) r.0 w.link.taken (w.steps + 1) (record { outcome = outcome.Refused s; rests_on = xid }) ≡ ended_as op point op.value (told.Refused status) no_traffic (w.steps + 1) =
+    ended_op_as op r.0 w.link.taken (w.steps + 1) xid (outcome.Refused s) (reads_counted 0 0) word.Open point op.value no_traffic a.word point_is refl (ap (λ (t : Traffic). counted t (reads_counted 0 0)) a.traffic)
+    ∙ ap (λ (t : Outcome). ended_as op point op.value t no_traffic (w.steps + 1)) told_is in
+    subst (IsKept n ds j) (sym (hash_goes n ds j w name xid r e k busy a.small down is))
+    (ended_kept n ds j w (task_of name (phase.Hashing xid)) r.0 r.1 (record { outcome = outcome.Refused s; rests_on = xid }) e k busy refl refl refl refl refl refl down.0 a.quiet
+    (subst (λ (x : Op). EndsRightly ds w r.0 busy.place op x) (sym ends)
+    (open_refused ds w r.0 busy.place op status busy.there a.word (busy.no_point a.word) busy.not_ended a.traffic (k.past.rights busy.place op busy.there) point gone some cause refl k.client.there)))
 
-abbrev shape_of : client.State → ℕ → ℕ → Hashes → client.State × Acts
-shape_of s name xid h = told_shape s name xid h (broken_of h)
+hash_root : (n : ℕ) (ds : List Deed) (j : Bool) (w : World) (name xid : ℕ) → w.client.task ≡ Some (task_of name (phase.Hashing xid)) → IsKept n ds j w → (busy : Busy w (task_of name (phase.Hashing xid))) → Asking w busy.op name xid
+    → Down w.link (message.Answer xid (hashes_told w.server.files name)) → took (idle w.client) name (phase.Hashing xid) xid (hashes_told w.server.files name) ≡ refused (idle w.client) status.IsDir xid → name ≡ 1 → IsKept n ds j (down_all w)
+hash_root n ds j w name xid e k busy a down is one =
+    hash_refused n ds j w name xid status.IsDir 21 None e k busy a down is refl (busy.no_point a.word) (inl refl) (λ h. no_truth h)
+    (λ d of. subst (λ (c : Command). RefusedBy w.opening c 21) (sym (open_of d busy.op name of a.word busy.file)) (inl (refl, one)))
 
--- an empty file is whole with its GETHASH
-pub took_empty : (s : client.State) (opening : List Opening) (name xid : ℕ) (o : Opening) → node_at opening name ≡ Ok (as_file (file_as o)) → o.content ≡ [] → took_hashes s name xid (node_at opening name) ≡ opened_with s name 1 [] xid 0
-took_empty s opening name xid o node none = ap (took_hashes s name xid) node ∙ ap (shape_of s name xid) (hashes_none o name none)
+hash_gone : (n : ℕ) (ds : List Deed) (j : Bool) (w : World) (name xid : ℕ) → w.client.task ≡ Some (task_of name (phase.Hashing xid)) → IsKept n ds j w → (busy : Busy w (task_of name (phase.Hashing xid))) → Asking w busy.op name xid
+    → Down w.link (message.Answer xid (hashes_told w.server.files name)) → Taking w.opening w.ops w.server.files name w.link.taken xid busy.op.begin w.steps
+    → took (idle w.client) name (phase.Hashing xid) xid (hashes_told w.server.files name) ≡ refused (idle w.client) status.Stale xid → server.file_at w.server.files name ≡ None → IsKept n ds j (down_all w)
+hash_gone n ds j w name xid e k busy a down taking is none =
+    let missing : value_in w.opening w.ops busy.op.file taking.0 ≡ None = ap (λ (f : ℕ). value_in w.opening w.ops f taking.0) busy.file ∙ taking.5 ∙ ap (λ (o : Option File). option_map (λ f. f.content) o) none in
+    hash_refused n ds j w name xid status.Stale 70 (Some taking.0) e k busy a down is refl (taken_is w.opening w.ops w.server.files name w.link.taken xid busy.op.begin w.steps taking)
+    (inr (taking.0, refl, taking.3, taking.4, missing, taking.6)) (λ h. refl)
+    (λ d of. subst (λ (c : Command). RefusedBy w.opening c 70) (sym (open_of d busy.op name of a.word busy.file)) (inr (refl, first_gone n ds j w name k none)))
 
--- any other is asked for by one READ
-pub took_chunk : (s : client.State) (opening : List Opening) (name xid : ℕ) (o : Opening) → node_at opening name ≡ Ok (as_file (file_as o)) → 0 < length o.content → length o.content ≤ 2048
-    → took_hashes s name xid (node_at opening name) ≡ reads_on s name xid 1 [] (pair_of o.content ∷ []) 0
-took_chunk s opening name xid o node some short =
-    ap (took_hashes s name xid) node
-    ∙ ap (shape_of s name xid) (hashes_one o name some)
-    ∙ ap (λ (b : Broken). told_shape s name xid (told_one o.content) b) (not_broken o.content some short)
+-- the whole content is there
+opened_kept : (n : ℕ) (ds : List Deed) (j : Bool) (w : World) (t : Task) (name version call more : ℕ) (x : List ℕ) (f : File) → w.client.task ≡ Some t → IsKept n ds j w → (busy : Busy w t) → busy.op.word ≡ word.Open → busy.op.file ≡ name → w.link.up ≡ [] → Quiet w.server
+    → (taking : Taking w.opening w.ops w.server.files name w.link.taken call busy.op.begin w.steps) → server.file_at w.server.files name ≡ Some f → f.content ≡ x → counted busy.op.traffic (reads_counted 0 more) ≡ record no_traffic { read = length (chunks_of x); «data» = length x }
+    → IsKept n ds j (after_acts w (opened_with (idle w.client) name version x call more).0 (opened_with (idle w.client) name version x call more).1 busy.place busy.op)
+opened_kept n ds j w t name version call more x f e k busy is_open named up quiet taking there is_x spent =
+    let r = opened_with (idle w.client) name version x call more in
+    let op = busy.op in
+    let traffic : Traffic = record no_traffic { read = length (chunks_of x); «data» = length x } in
+    let value : value_in w.opening w.ops name taking.0 ≡ Some x = taking.5 ∙ ap (λ (o : Option File). option_map (λ f. f.content) o) there ∙ ap (λ (y : List ℕ). Some y) is_x in
+    let short : length x ≤ 2048 = subst (λ (y : List ℕ). length y ≤ 2048) is_x (k.tree.ours name f there).short in
+    let ends : ended_op (record op { traffic = counted op.traffic (reads_counted 0 more) }) r.0 w.link.taken (w.steps + 1) (record { outcome = outcome.Opened name (length x) (sha1 x); rests_on = call }) ≡ ended_as op (Some taking.0) x (told.Opened (length x) (sha1 x)) traffic (w.steps + 1) =
+    ended_op_as op r.0 w.link.taken (w.steps + 1) call (outcome.Opened name (length x) (sha1 x)) (reads_counted 0 more) word.Open (Some taking.0) x traffic is_open (taken_is w.opening w.ops w.server.files name w.link.taken call op.begin w.steps taking) (opened_value w.client.opened name version x) spent in
+    ended_kept n ds j w t r.0 r.1 (record { outcome = outcome.Opened name (length x) (sha1 x); rests_on = call }) e k busy refl refl refl refl refl refl up quiet
+    (subst (λ (y : Op). EndsRightly ds w r.0 busy.place op y) (sym ends)
+    (open_done ds w busy.place name version call more op x traffic busy.there is_open named (busy.no_point is_open) busy.not_ended (k.past.rights busy.place op busy.there) taking.0 taking.3 taking.4 value taking.6 refl (first_there n ds j w name f k there) short k.client.there))
 
-pub hash_found : (n : ℕ) (ds : List Deed) (j : Bool) (w : World) (name xid : ℕ) → w.client.task ≡ Some (task_of name (phase.Hashing xid)) → IsKept n ds j w → (busy : Busy w (task_of name (phase.Hashing xid)))
-    → Asking w.opening w.link name xid w.client.next busy.begin w.steps → Down w.link (message.Answer xid (hashes_told w.opening name)) → Taking w.link.taken xid busy.begin w.steps
-    → (o : Opening) → at_first w.opening name ≡ Some o.content → node_at w.opening name ≡ Ok (as_file (file_as o)) → SmallFile o → (x : List ℕ) → o.content ≡ x → IsKept n ds j (down_all w)
-hash_found n ds j w name xid e k busy asking down taking o there node short [] none =
-    let r = opened_with (idle w.client) name 1 [] xid 0 in
-    subst (IsKept n ds j) (sym (hash_goes n ds j w name xid r e k busy asking.small down (took_empty (idle w.client) w.opening name xid o node none)))
-    (ended_kept n ds j w (task_of name (phase.Hashing xid)) r.0 r.1 _ e k busy refl refl refl (opened_only w (idle w.client) name 1 xid 0 busy.under.place [] busy.under.op busy.under.file refl) refl refl down.0
-    (opened_right w.opening w (idle w.client) name 1 xid busy.begin 0 [] busy.under.op (k.rights busy.under.place busy.under.op busy.under.there).client busy.under.word busy.under.file busy.under.begun (there ∙ ap (λ (x : List ℕ). Some x) none) taking)
-    (opened_cause w.opening (idle w.client) name 1 xid 0 [] busy.under.op.file busy.under.file (there ∙ ap (λ (x : List ℕ). Some x) none)) refl refl)
-hash_found n ds j w name xid e k busy asking down taking o there node short (b ∷ bs) is =
-    let some : 0 < length o.content = subst (λ (x : List ℕ). 0 < length x) (sym is) (omega arith) in
-    let f : Fetch = record { asked = xid; xid = w.client.next; version = 1; left = pair_of o.content ∷ []; bytes = [] } in
-    let r = reads_on (idle w.client) name xid 1 [] (pair_of o.content ∷ []) 0 in
-    let v = after_acts w r.0 r.1 busy.under.place busy.under.op in
-    let fetching : Fetching w.opening v.link name f busy.begin (w.steps + 1) = record {
-      opened = o;
+hash_file : (n : ℕ) (ds : List Deed) (j : Bool) (w : World) (name xid : ℕ) → w.client.task ≡ Some (task_of name (phase.Hashing xid)) → IsKept n ds j w → (busy : Busy w (task_of name (phase.Hashing xid))) → (a : Asking w busy.op name xid)
+    → Down w.link (message.Answer xid (hashes_told w.server.files name)) → Taking w.opening w.ops w.server.files name w.link.taken xid busy.op.begin w.steps → (f : File) → server.file_at w.server.files name ≡ Some f → node_at w.server.files name ≡ Ok (as_file f) → (x : List ℕ) → f.content ≡ x → IsKept n ds j (down_all w)
+hash_file n ds j w name xid e k busy a down taking f there node [] none =
+    subst (IsKept n ds j) (sym (hash_goes n ds j w name xid (opened_with (idle w.client) name f.version [] xid 0) e k busy a.small down (took_empty (idle w.client) w.server.files name xid xid f node none)))
+    (opened_kept n ds j w (task_of name (phase.Hashing xid)) name f.version xid 0 [] f e k busy a.word busy.file down.0 a.quiet taking there none (ap (λ (t : Traffic). counted t (reads_counted 0 0)) a.traffic))
+hash_file n ds j w name xid e k busy a down taking f there node (b ∷ bs) is =
+    let some : 0 < length f.content = subst (λ (x : List ℕ). 0 < length x) (sym is) (omega arith) in
+    let short : length f.content ≤ 2048 = (k.tree.ours name f there).short in
+    let c = goes_read (idle w.client) name xid f.version f.content in
+    let g : Fetch = record { asked = xid; xid = w.client.next; version = f.version; left = pair_of f.content ∷ []; bytes = [] } in
+    let m = read_call w.client.next name 0 (length f.content) in
+    let new = going_op busy.op (reads_counted 1 0) in
+    let fetching : Fetching (after_acts w c (acts_of (m ∷ []) (reads_counted 1 0)) busy.place busy.op) new name g = record {
+      word = a.word;
+      quiet = a.quiet;
+      traffic = ap (λ (t : Traffic). counted t (reads_counted 1 0)) a.traffic;
+      found = f;
       there = there;
       node = node;
-      short = short;
       some = some;
       left = refl;
       bytes = refl;
-      small = omega (arith, asking.small, asking.raised);
-      taking = (taking.0, taking.1, taking.2, taking.3, omega (arith, taking.4));
-      way = inl (none_before w.link.up _ down.0, refl);
+      small = omega (arith, a.small, a.raised);
+      taking = going_taking w busy.place name xid busy.op new busy.there refl refl refl refl taking;
+      way = inl (none_before w.link.up (bytes_of (m ∷ [])) down.0, refl);
     } in
-    subst (IsKept n ds j) (sym (hash_goes n ds j w name xid r e k busy asking.small down (took_chunk (idle w.client) w.opening name xid o node some short.0)))
-    (going_kept n ds j w (task_of name (phase.Hashing xid)) (task_of name (phase.Reading f)) r.0 (read_call w.client.next name 0 (length o.content)) e k busy refl refl refl refl (one_less w.client.next (spare w.client.task) (ap spare e)) fetching)
+    subst (IsKept n ds j) (sym (hash_goes n ds j w name xid (c, acts_of (m ∷ []) (reads_counted 1 0)) e k busy a.small down (took_chunk (idle w.client) w.server.files name xid xid f node some short)))
+    (going_kept n ds j w (task_of name (phase.Hashing xid)) (task_of name (phase.Reading g)) c m (reads_counted 1 0) e k busy refl refl refl (omega (arith, k.client.fds)) refl (fewer w.client.next (spare w.client.task) 1 0 (ap spare e) (omega arith)) fetching)
 
-pub hash_answered : (n : ℕ) (ds : List Deed) (j : Bool) (w : World) (name xid : ℕ) → w.client.task ≡ Some (task_of name (phase.Hashing xid)) → IsKept n ds j w → (busy : Busy w (task_of name (phase.Hashing xid)))
-    → Asking w.opening w.link name xid w.client.next busy.begin w.steps → Down w.link (message.Answer xid (hashes_told w.opening name)) → Taking w.link.taken xid busy.begin w.steps → Found w.opening name
-    → IsKept n ds j (down_all w)
-hash_answered n ds j w name xid e k busy asking down taking (is_root one node) =
-    let r = refused (idle w.client) status.IsDir xid in
-    subst (IsKept n ds j) (sym (hash_goes n ds j w name xid r e k busy asking.small down (ap (took_hashes (idle w.client) name xid) node)))
-    (ended_kept n ds j w (task_of name (phase.Hashing xid)) r.0 r.1 _ e k busy refl refl refl (λ id l at. inr at) refl refl down.0
-    (refused_right w.opening w (idle w.client) xid busy.begin busy.under.op (k.rights busy.under.place busy.under.op busy.under.there).client busy.under.word) (inl (refl, busy.under.file ∙ one)) refl refl)
-hash_answered n ds j w name xid e k busy asking down taking (is_gone none node) =
-    let r = refused (idle w.client) status.Stale xid in
-    subst (IsKept n ds j) (sym (hash_goes n ds j w name xid r e k busy asking.small down (ap (took_hashes (idle w.client) name xid) node)))
-    (ended_kept n ds j w (task_of name (phase.Hashing xid)) r.0 r.1 _ e k busy refl refl refl (λ id l at. inr at) refl refl down.0
-    (gone_right w.opening w (idle w.client) name xid busy.begin busy.under.op (k.rights busy.under.place busy.under.op busy.under.there).client busy.under.word busy.under.file busy.under.begun none taking)
-    (inr (refl, ap (λ (i : ℕ). at_first w.opening i) busy.under.file ∙ none)) refl refl)
-hash_answered n ds j w name xid e k busy asking down taking (is_file o there node short) = hash_found n ds j w name xid e k busy asking down taking o there node short o.content refl
+asking_down : (n : ℕ) (ds : List Deed) (j : Bool) (w : World) (name xid : ℕ) → w.client.task ≡ Some (task_of name (phase.Hashing xid)) → IsKept n ds j w → (busy : Busy w (task_of name (phase.Hashing xid))) → Asking w busy.op name xid
+    → Down w.link (message.Answer xid (hashes_told w.server.files name)) → Taking w.opening w.ops w.server.files name w.link.taken xid busy.op.begin w.steps → Found w.server.files name → IsKept n ds j (down_all w)
+asking_down n ds j w name xid e k busy a down taking (is_root one node) = hash_root n ds j w name xid e k busy a down (took_root (idle w.client) w.server.files name xid xid node) one
+asking_down n ds j w name xid e k busy a down taking (is_gone none node) = hash_gone n ds j w name xid e k busy a down taking (took_gone (idle w.client) w.server.files name xid xid node) none
+asking_down n ds j w name xid e k busy a down taking (is_file f there node) = hash_file n ds j w name xid e k busy a down taking f there node f.content refl
 
-pub piece_answered : (n : ℕ) (ds : List Deed) (j : Bool) (w : World) (name : ℕ) (f : Fetch) → w.client.task ≡ Some (task_of name (phase.Reading f)) → IsKept n ds j w → (busy : Busy w (task_of name (phase.Reading f)))
-    → (fetching : Fetching w.opening w.link name f busy.begin w.steps) → Down w.link (message.Answer f.xid (piece_told w.opening name (length fetching.opened.content))) → IsKept n ds j (down_all w)
-piece_answered n ds j w name f e k busy fetching down =
-    let o = fetching.opened in
-    let x = o.content in
-    let size = length x in
-    let r = opened_with (idle w.client) name f.version x f.asked size in
-    let took_it : took (idle w.client) name (phase.Reading f) (piece_told w.opening name size) ≡ r =
-    ap (λ (n : Result Node Status). took (idle w.client) name (phase.Reading f) (body.Nfs (nfs.ReadAnswer (read_answer n (piece_range name size))))) fetching.node
-    ∙ piece_taken (idle w.client) name f o fetching.short.0 fetching.bytes fetching.left in
-    let is : down_all w ≡ after_acts w r.0 r.1 busy.under.place busy.under.op =
-    down_is w (message.Answer f.xid (piece_told w.opening name size)) r busy.under.place busy.under.op k.client_end down.1
-    (piece_fits w.opening name size f.xid (omega (arith, fetching.small)) k.small)
-    (piece_expected w.client name f (piece_told w.opening name size) e refl)
-    (took_is w.client name (phase.Reading f) (piece_told w.opening name size) e ∙ took_it) busy.under.is_running busy.under.there in
+-- ---- counts
+
+zero_plus : (m : ℕ) → 0 + m ≡ m
+zero_plus m = omega arith
+
+plus_zero : (m : ℕ) → m + 0 ≡ m
+plus_zero m = omega arith
+
+-- ---- the answer to a READ
+
+fetching_down : (n : ℕ) (ds : List Deed) (j : Bool) (w : World) (name : ℕ) (g : Fetch) → w.client.task ≡ Some (task_of name (phase.Reading g)) → IsKept n ds j w → (busy : Busy w (task_of name (phase.Reading g))) → (a : Fetching w busy.op name g)
+    → Down w.link (message.Answer g.xid (piece_told w.server.files name (length a.found.content))) → IsKept n ds j (down_all w)
+fetching_down n ds j w name g e k busy a down =
+    let x = a.found.content in
+    let short : length x ≤ 2048 = (k.tree.ours name a.found a.there).short in
+    let r = opened_with (idle w.client) name g.version x g.asked (length x) in
+    let is : down_all w ≡ after_acts w r.0 r.1 busy.place busy.op =
+    down_is w (message.Answer g.xid (piece_told w.server.files name (length x))) r busy.place busy.op k.client_end down.1
+    (piece_fits w.server.changes w.server.files g.xid name (length x) (omega (arith, a.small)) (few_changes n ds j w k) k.tree.ours)
+    (expected_reading w.client name g (piece_told w.server.files name (length x)) e refl)
+    (took_is w.client name (phase.Reading g) g.xid (piece_told w.server.files name (length x)) e (waits_reading g) ∙ took_piece (idle w.client) w.server.files name g g.xid a.found a.node short a.bytes a.left) busy.is_running busy.there in
     subst (IsKept n ds j) (sym is)
-    (ended_kept n ds j w (task_of name (phase.Reading f)) r.0 r.1 _ e k busy refl refl refl (opened_only w (idle w.client) name f.version f.asked size busy.under.place x busy.under.op busy.under.file refl) refl refl down.0
-    (opened_right w.opening w (idle w.client) name f.version f.asked busy.begin size x busy.under.op (k.rights busy.under.place busy.under.op busy.under.there).client busy.under.word busy.under.file busy.under.begun fetching.there fetching.taking)
-    (opened_cause w.opening (idle w.client) name f.version f.asked size x busy.under.op.file busy.under.file fetching.there) refl refl)
+    (opened_kept n ds j w (task_of name (phase.Reading g)) name g.version g.asked (length x) x a.found e k busy a.word busy.file down.0 a.quiet a.taking a.there refl
+    (ap (λ (t : Traffic). counted t (reads_counted 0 (length x))) a.traffic ∙ ap (λ (m : ℕ). record no_traffic { read = 1; «data» = m }) (zero_plus (length x)) ∙ one_read x a.some))
+  where
+    one_read : (x : List ℕ) → 0 < length x → record no_traffic { read = 1; «data» = length x } ≡ record no_traffic { read = length (chunks_of x); «data» = length x }
+    one_read [] some = absurd (omega (arith, some))
+    one_read (b ∷ bs) some = refl
 
-down_busy : (n : ℕ) (ds : List Deed) (j : Bool) (w : World) (name : ℕ) (p : Phase) → w.client.task ≡ Some (task_of name p) → IsKept n ds j w → Busy w (task_of name p) → IsKept n ds j (down_all w)
-down_busy n ds j w name (phase.Hashing xid) e k busy = elim busy.phase.way [
-  | inl up ↦ subst (IsKept n ds j) (sym (down_none w k.client_end up.0.1)) k
-  | inr down ↦ hash_answered n ds j w name xid e k busy busy.phase down.0 down.1 (looked w.opening name k.small)
-]
-down_busy n ds j w name (phase.Reading f) e k busy = elim busy.phase.way [
+-- ---- the answers to the calls of a close
+
+-- the client goes on with another call
+close_goes : (n : ℕ) (ds : List Deed) (j : Bool) (w : World) (name xid : ℕ) (p : Phase) (b : Body) (c : client.State) (m : Message) (counts : Counts) → w.client.task ≡ Some (task_of name p) → IsKept n ds j w → (busy : Busy w (task_of name p))
+    → Down w.link (message.Answer xid b) → MessageFits (message.Answer xid b) → IsExpected (waiting_of w.client) (message.Answer xid b) → waits_for p xid ≡ true → took (idle w.client) name p xid b ≡ (c, acts_of (m ∷ []) counts)
+    → (q : Phase) → c.task ≡ Some (task_of name q) → c.opened ≡ w.client.opened → c.linked ≡ w.client.linked → c.fds ≤ c.next → c.next + spare c.task ≤ w.client.next + spare w.client.task
+    → InPhase (after_acts w c (acts_of (m ∷ []) counts) busy.place busy.op) (going_op busy.op counts) busy.place name q → IsKept n ds j (down_all w)
+close_goes n ds j w name xid p b c m counts e k busy down fits expected waiting is q task opened linked fds xids phase =
+    subst (IsKept n ds j) (sym (down_is w (message.Answer xid b) (c, acts_of (m ∷ []) counts) busy.place busy.op k.client_end down.1 fits expected (took_is w.client name p xid b e waiting ∙ is) busy.is_running busy.there))
+    (going_kept n ds j w (task_of name p) (task_of name q) c m counts e k busy task opened linked fds refl xids phase)
+
+-- the COMMITTMP goes out
+committing_next : (w : World) (place name fd : ℕ) (op : Op) (counts : Counts) (size : ℕ) → Closing w op place name → w.link.up ≡ [] → w.client.next < 4293967300 → fd < 2 ^ 32 → size ≡ length op.value → w.server.temps ≡ temp_with fd name (pieces_of op.value) → w.server.waits ≡ [] → op.point ≡ None → w.server.changes ≤ length w.ops
+    → counted op.traffic counts ≡ close_traffic op.value
+    → Committing (after_acts w (goes_commit w.client name) (acts_of (commit_call w.client.next fd name size ∷ []) counts) place op) (going_op op counts) place name w.client.next
+committing_next w place name fd op counts size closing up small fits is temps none unmade room spent =
+    let m = commit_call w.client.next fd name size in
+    record {
+      closing = closing_going w (goes_commit w.client name) m counts place name op refl closing;
+      small = small;
+      traffic = spent;
+      way = asked fd fits (none_before w.link.up (bytes_of (m ∷ [])) up ∙ ap (λ (s : ℕ). bytes_of (commit_call w.client.next fd name s ∷ [])) is, refl) temps none unmade (omega (arith, room, length_replaced w.ops place (going_op op counts)));
+    }
+
+-- the temporary file is there
+making_down : (n : ℕ) (ds : List Deed) (j : Bool) (w : World) (name xid fd : ℕ) → w.client.task ≡ Some (task_of name (phase.Making xid fd)) → IsKept n ds j w → (busy : Busy w (task_of name (phase.Making xid fd))) → (a : Making w busy.op busy.place name xid fd)
+    → Down w.link (message.Answer xid made_answer) → w.server.temps ≡ temp_with fd name [] → w.server.waits ≡ [] → (x : List ℕ) → busy.op.value ≡ x → IsKept n ds j (down_all w)
+making_down n ds j w name xid fd e k busy a down temps none [] is =
+    close_goes n ds j w name xid (phase.Making xid fd) made_answer (goes_commit w.client name) (commit_call w.client.next fd name 0) no_counts e k busy down (made_fits xid (omega (arith, a.small.0))) (expected_making w.client name xid fd made_answer e refl) (waits_making xid fd)
+    (made_empty w.client name xid fd busy.op.value a.closing.local is) (phase.Committing w.client.next) refl refl refl (omega (arith, k.client.fds)) (fewer w.client.next (spare w.client.task) 3 0 (ap spare e) (omega arith))
+    (committing_next w busy.place name fd busy.op no_counts 0 a.closing down.0 (omega (arith, a.small.0, a.raised)) a.small.1 (sym (ap (λ (y : List ℕ). length y) is)) (temps ∙ ap (λ (y : List ℕ). temp_with fd name (pieces_of y)) (sym is)) none a.unmade a.room
+    (ap (λ (t : Traffic). counted t no_counts) a.traffic ∙ ap close_traffic (sym is)))
+making_down n ds j w name xid fd e k busy a down temps none (b ∷ bs) is =
+    let op = busy.op in
+    let some : 0 < length op.value = subst (λ (y : List ℕ). 0 < length y) (sym is) (omega arith) in
+    let counts : Counts = record no_counts { cond = 1 } in
+    let m = cond_call w.client.next fd (chunk_of op.value) in
+    let st = storing w.client.next fd (named_chunk w.client.next op.value) in
+    close_goes n ds j w name xid (phase.Making xid fd) made_answer (goes_store w.client name fd (named_chunk w.client.next op.value)) m counts e k busy down (made_fits xid (omega (arith, a.small.0))) (expected_making w.client name xid fd made_answer e refl) (waits_making xid fd)
+    (made_chunk w.client name xid fd op.value a.closing.local some) (phase.Storing st) refl refl refl (omega (arith, k.client.fds)) (fewer w.client.next (spare w.client.task) 3 2 (ap spare e) (omega arith))
+    (naming w.client.next fd refl (record {
+      closing = closing_going w (goes_store w.client name fd (named_chunk w.client.next op.value)) m counts busy.place name op refl a.closing;
+      some = some;
+      small = (omega (arith, a.small.0, a.raised), a.small.1);
+      raised = refl;
+      traffic = ap (λ (t : Traffic). counted t counts) a.traffic;
+      unmade = a.unmade;
+      room = omega (arith, a.room, length_replaced w.ops busy.place (going_op op counts));
+      temps = (temps, none);
+      way = inl (none_before w.link.up (bytes_of (m ∷ [])) down.0, refl);
+    }))
+
+-- the server does not know the chunk
+naming_down : (n : ℕ) (ds : List Deed) (j : Bool) (w : World) (name xid fd : ℕ) (st : Store) → w.client.task ≡ Some (task_of name (phase.Storing st)) → IsKept n ds j w → (busy : Busy w (task_of name (phase.Storing st))) → st ≡ storing xid fd (named_chunk xid busy.op.value) → (a : Naming w busy.op busy.place name xid fd)
+    → Down w.link (message.Answer xid unknown_answer) → IsKept n ds j (down_all w)
+naming_down n ds j w name xid fd st e k busy is a down =
+    let op = busy.op in
+    let x = op.value in
+    let e' : w.client.task ≡ Some (task_of name (phase.Storing (storing xid fd (named_chunk xid x)))) = e ∙ ap (λ (y : Store). Some (task_of name (phase.Storing y))) is in
+    let counts : Counts = record no_counts { tmp = 1; bytes = length x } in
+    let m = tmp_call w.client.next fd x (chunk_of x) in
+    close_goes n ds j w name xid (phase.Storing st) unknown_answer (goes_store w.client name fd (whole_chunk w.client.next x)) m counts e k busy down (unknown_fits xid (omega (arith, a.small.0))) (expected_naming w.client name xid fd x unknown_answer e' refl)
+    (ap (λ (y : Store). waits_for (phase.Storing y) xid) is ∙ waits_storing xid fd (named_chunk xid x) refl)
+    (ap (λ (y : Store). took (idle w.client) name (phase.Storing y) xid unknown_answer) is ∙ unknown w.client name xid fd x a.closing.local)
+    (phase.Storing (storing w.client.next fd (whole_chunk w.client.next x))) refl refl refl (omega (arith, k.client.fds)) (fewer w.client.next (spare w.client.task) 2 1 (ap spare e') (omega arith))
+    (sending w.client.next fd refl (record {
+      closing = closing_going w (goes_store w.client name fd (whole_chunk w.client.next x)) m counts busy.place name op refl a.closing;
+      some = a.some;
+      small = (omega (arith, a.small.0, a.raised), a.small.1);
+      raised = refl;
+      traffic = ap (λ (t : Traffic). counted t counts) a.traffic ∙ ap (λ (m : ℕ). record no_traffic { cond = 1; tmp = 1; «data» = m }) (zero_plus (length x));
+      unmade = a.unmade;
+      room = omega (arith, a.room, length_replaced w.ops busy.place (going_op op counts));
+      way = inl ((none_before w.link.up (bytes_of (m ∷ [])) down.0, refl), a.temps.0, a.temps.1);
+    }))
+
+-- its bytes are in the temporary file
+sending_down : (n : ℕ) (ds : List Deed) (j : Bool) (w : World) (name xid fd : ℕ) (st : Store) → w.client.task ≡ Some (task_of name (phase.Storing st)) → IsKept n ds j w → (busy : Busy w (task_of name (phase.Storing st))) → st ≡ storing xid fd (whole_chunk xid busy.op.value) → (a : Sending w busy.op busy.place name xid fd)
+    → Down w.link (message.Answer xid sent_answer) → w.server.temps ≡ temp_with fd name (pieces_of busy.op.value) → w.server.waits ≡ [] → IsKept n ds j (down_all w)
+sending_down n ds j w name xid fd st e k busy is a down temps none =
+    let op = busy.op in
+    let x = op.value in
+    let e' : w.client.task ≡ Some (task_of name (phase.Storing (storing xid fd (whole_chunk xid x)))) = e ∙ ap (λ (y : Store). Some (task_of name (phase.Storing y))) is in
+    close_goes n ds j w name xid (phase.Storing st) sent_answer (goes_commit w.client name) (commit_call w.client.next fd name (length x)) no_counts e k busy down (sent_fits xid (omega (arith, a.small.0))) (expected_sending w.client name xid fd x sent_answer e' refl)
+    (ap (λ (y : Store). waits_for (phase.Storing y) xid) is ∙ waits_storing xid fd (whole_chunk xid x) refl)
+    (ap (λ (y : Store). took (idle w.client) name (phase.Storing y) xid sent_answer) is ∙ sent w.client name xid fd x a.closing.local)
+    (phase.Committing w.client.next) refl refl refl (omega (arith, k.client.fds)) (fewer w.client.next (spare w.client.task) 1 0 (ap spare e') (omega arith))
+    (committing_next w busy.place name fd op no_counts (length x) a.closing down.0 (omega (arith, a.small.0, a.raised)) a.small.1 refl temps none a.unmade a.room (ap (λ (t : Traffic). counted t no_counts) a.traffic ∙ ap (λ (m : ℕ). record no_traffic { cond = 1; tmp = 1; «data» = m }) (plus_zero (length x)) ∙ all_sent x a.some))
+  where
+    all_sent : (x : List ℕ) → 0 < length x → record no_traffic { cond = 1; tmp = 1; «data» = length x } ≡ close_traffic x
+    all_sent [] some = absurd (omega (arith, some))
+    all_sent (b ∷ bs) some = refl
+
+-- the file was replaced
+committed_down : (n : ℕ) (ds : List Deed) (j : Bool) (w : World) (name xid version : ℕ) → w.client.task ≡ Some (task_of name (phase.Committing xid)) → IsKept n ds j w → (busy : Busy w (task_of name (phase.Committing xid))) → (a : Committing w busy.op busy.place name xid)
+    → Down w.link (message.Answer xid (body.Lb (lb.CommitTmpAnswer (Done (record { version = version; term = 0 }))))) → version < 2 ^ 64 → Quiet w.server → Entered w.settled w.server.journal busy.op.point name version (length busy.op.value) (sha1 busy.op.value) → IsKept n ds j (down_all w)
+committed_down n ds j w name xid version e k busy a down fits quiet entered =
+    let op = busy.op in
+    let x = op.value in
+    let b : Body = body.Lb (lb.CommitTmpAnswer (Done (record { version = version; term = 0 }))) in
+    let r = closed (idle w.client) name version x xid in
+    let is : down_all w ≡ after_acts w r.0 r.1 busy.place op =
+    down_is w (message.Answer xid b) r busy.place op k.client_end down.1 (committed_fits xid version (omega (arith, a.small)) fits) (expected_committing w.client name xid b e refl)
+    (took_is w.client name (phase.Committing xid) xid b e (waits_committing xid) ∙ committed w.client name xid x (record { version = version; term = 0 }) a.closing.local) busy.is_running busy.there in
+    let ends : ended_op (record op { traffic = counted op.traffic (reads_counted 0 0) }) r.0 w.link.taken (w.steps + 1) (record { outcome = outcome.Closed name version (length x) (sha1 x); rests_on = xid }) ≡ ended_as op op.point x (told.Closed version (length x) (sha1 x)) (counted (close_traffic x) (reads_counted 0 0)) (w.steps + 1) =
+    ended_op_as op r.0 w.link.taken (w.steps + 1) xid (outcome.Closed name version (length x) (sha1 x)) (reads_counted 0 0) word.Close op.point x (counted (close_traffic x) (reads_counted 0 0)) a.closing.word refl refl (ap (λ (t : Traffic). counted t (reads_counted 0 0)) a.traffic) in
+    subst (IsKept n ds j) (sym is)
+    (ended_kept n ds j w (task_of name (phase.Committing xid)) r.0 r.1 (record { outcome = outcome.Closed name version (length x) (sha1 x); rests_on = xid }) e k busy refl refl refl refl refl refl down.0 quiet
+    (subst (λ (y : Op). EndsRightly ds w r.0 busy.place op y) (sym ends)
+    (close_done ds w busy.place name version xid op (counted (close_traffic x) (reads_counted 0 0)) busy.there a.closing.word busy.file busy.not_ended (k.past.rights busy.place op busy.there) entered (no_more x)
+    (λ i p q at pn pb c. k.past.apart i busy.place p q op at busy.there c pb pn) k.client.there)))
+  where
+    no_more : (x : List ℕ) → counted (close_traffic x) (reads_counted 0 0) ≡ close_traffic x
+    no_more [] = refl
+    no_more (b ∷ bs) = ap (λ (m : ℕ). record no_traffic { cond = 1; tmp = 1; «data» = m }) (plus_zero (length (b ∷ bs)))
+
+-- ---- any phase
+
+storing_down : (n : ℕ) (ds : List Deed) (j : Bool) (w : World) (name : ℕ) (st : Store) → w.client.task ≡ Some (task_of name (phase.Storing st)) → IsKept n ds j w → (busy : Busy w (task_of name (phase.Storing st))) → Storing w busy.op busy.place name st → IsKept n ds j (down_all w)
+storing_down n ds j w name st e k busy (naming xid fd is a) = elim a.way [
   | inl up ↦ subst (IsKept n ds j) (sym (down_none w k.client_end up.1)) k
-  | inr down ↦ piece_answered n ds j w name f e k busy busy.phase down
+  | inr down ↦ naming_down n ds j w name xid fd st e k busy is a down
+]
+storing_down n ds j w name st e k busy (sending xid fd is a) = elim a.way [
+  | inl up ↦ subst (IsKept n ds j) (sym (down_none w k.client_end up.0.1)) k
+  | inr down ↦ sending_down n ds j w name xid fd st e k busy is a down.0 down.1 down.2
 ]
 
-down_task : (n : ℕ) (ds : List Deed) (j : Bool) (w : World) (o : Option Task) → w.client.task ≡ o → Way w o → IsKept n ds j w → IsKept n ds j (down_all w)
-down_task n ds j w None e idle k = subst (IsKept n ds j) (sym (down_none w k.client_end idle.down)) k
-down_task n ds j w (Some t) e busy k = down_busy n ds j w t.file t.stage e k busy
+going_down : (n : ℕ) (ds : List Deed) (j : Bool) (w : World) (name xid : ℕ) → w.client.task ≡ Some (task_of name (phase.Committing xid)) → IsKept n ds j w → (busy : Busy w (task_of name (phase.Committing xid))) → Committing w busy.op busy.place name xid → Going w busy.op name xid → IsKept n ds j (down_all w)
+going_down n ds j w name xid e k busy a (asked fd fits up temps none unmade room) = subst (IsKept n ds j) (sym (down_none w k.client_end up.1)) k
+going_down n ds j w name xid e k busy a (waits still temps one unmade) = subst (IsKept n ds j) (sym (down_none w k.client_end still.1)) k
+going_down n ds j w name xid e k busy a (made version down fits quiet entered) = committed_down n ds j w name xid version e k busy a down fits quiet entered
+
+down_busy : (n : ℕ) (ds : List Deed) (j : Bool) (w : World) (name : ℕ) (p : Phase) → w.client.task ≡ Some (task_of name p) → IsKept n ds j w → (busy : Busy w (task_of name p)) → InPhase w busy.op busy.place name p → IsKept n ds j (down_all w)
+down_busy n ds j w name (phase.Hashing xid) e k busy a = elim a.way [
+  | inl up ↦ subst (IsKept n ds j) (sym (down_none w k.client_end up.0.1)) k
+  | inr down ↦ asking_down n ds j w name xid e k busy a down.0 down.1 (looked w.server.files name)
+]
+down_busy n ds j w name (phase.Reading g) e k busy a = elim a.way [
+  | inl up ↦ subst (IsKept n ds j) (sym (down_none w k.client_end up.1)) k
+  | inr down ↦ fetching_down n ds j w name g e k busy a down
+]
+down_busy n ds j w name (phase.Making xid fd) e k busy a = elim a.way [
+  | inl up ↦ subst (IsKept n ds j) (sym (down_none w k.client_end up.0.1)) k
+  | inr down ↦ making_down n ds j w name xid fd e k busy a down.0 down.1 down.2 busy.op.value refl
+]
+down_busy n ds j w name (phase.Storing st) e k busy a = storing_down n ds j w name st e k busy a
+down_busy n ds j w name (phase.Committing xid) e k busy a = going_down n ds j w name xid e k busy a a.way
+
+down_task : (n : ℕ) (ds : List Deed) (j : Bool) (w : World) (o : Option Task) → w.client.task ≡ o → Under_way w o → IsKept n ds j w → IsKept n ds j (down_all w)
+down_task n ds j w None e still k = subst (IsKept n ds j) (sym (down_none w k.client_end still.still.1)) k
+down_task n ds j w (Some t) e busy k = down_busy n ds j w t.file t.stage e k busy busy.phase
 
 pub kept_down : (n : ℕ) (ds : List Deed) (j : Bool) (w : World) → IsKept n ds j w → IsKept n ds j (down_all w)
 kept_down n ds j w k = down_task n ds j w w.client.task refl k.way k

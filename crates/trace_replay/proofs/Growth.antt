@@ -1,84 +1,303 @@
--- What operations that begin, go on or end leave true of the others.
-use Rattle.std.proofs.Common.{◌≡◌, ℕ, zero, suc, ◌<◌, ◌≤◌, List, [], ◌∷◌, ◌++◌, ◌⊎◌, inl, inr, Some, false, refl, sym, ap, ◌∙◌, arith, subst, IsTrue}
-use Rattle.std.specs.Prelude.{slice_get, slice_set}
-use Rattle.register_model.specs.Register.{is_opened}
+-- What operations that begin, go on, end or change their files leave true of all others.
+use Rattle.std.proofs.Common.{◌≡◌, ℕ, zero, suc, ◌+◌, ◌<◌, ◌≤◌, List, [], ◌∷◌, ◌++◌, ◌⊎◌, inl, inr, Option, Some, None, true, false, length, refl, sym, ap, ◌∙◌, arith, subst, IsTrue}
+use Rattle.std.specs.Prelude.{slice_get, slice_set, IsSome}
+use Rattle.register_model.specs.Register.{Value, changes}
 use Rattle.register_model.specs.declared.op.Op.{Op}
 use Rattle.register_model.specs.declared.op.Opening.{Opening}
 use Rattle.register_model.specs.declared.op.Outcome.{Outcome}
 use Rattle.register_model.specs.declared.op.Outcome.TheVariants as told
-use Rattle.trace_replay.specs.Faithful.{Deed}
-use Rattle.trace_replay.proofs.Lists.{nothing_there, some_is, kept_appended, else_replaced, at_replaced}
-use Rattle.trace_replay.proofs.Kept.{Beside, Origin, Cause, IsOf, Matches}
-
--- each operation is still there, with its begin and its file; one that had opened a file ended as it did, and one that
--- ended since did so after this moment
-abbrev pub Grows : List Op → List Op → ℕ → Type 0
-Grows ops more now =
-    (k : ℕ) (q : Op) → slice_get ops k ≡ Some q
-    → (r : Op) × (slice_get more k ≡ Some r) × (r.begin ≡ q.begin) × (r.file ≡ q.file) × (IsTrue (is_opened q.outcome) → (r.end ≡ q.end) × IsTrue (is_opened r.outcome)) × ((e : ℕ) → r.end ≡ Some e → (q.end ≡ Some e) ⊎ (now < e))
+use Rattle.server_core.specs.declared.journal.Entry.{Entry}
+use Rattle.trace_text.specs.declared.line.Command.{Command}
+use Rattle.trace_text.specs.declared.line.Command.TheVariants as command
+use Rattle.trace_replay.specs.Commands.{file_of}
+use Rattle.trace_replay.specs.Faithful.{Deed, is_running, local_before}
+use Rattle.trace_replay.proofs.Lists.{nothing_there, some_is, of_appended, at_end, kept_appended, length_appended, of_replaced, at_replaced, else_replaced, length_replaced}
+use Rattle.trace_replay.proofs.Values.{value_in, value_appended}
+use Rattle.trace_replay.proofs.Contents.{before_appended, before_replaced}
+use Rattle.trace_replay.proofs.Kept.{IsRight, IsOf, IsPast, IsLogged, Beside, Entered, Known, Cause, ClosedBy}
 
 pub no_truth : {A : Type 0} → IsTrue false → A
 no_truth e = absurd cc
 
-not_opened : {A : Type 0} (o : Outcome) → o ≡ told.Running → IsTrue (is_opened o) → A
-not_opened o e opened = no_truth (subst (λ (x : Outcome). IsTrue (is_opened x)) e opened)
+-- ---- what a value of before is later
 
--- ---- one more, and one in another's place
+-- the values at moments by now are as they were
+abbrev pub Settles : List Opening → (ops more : List Op) → (now : ℕ) → Type 0
+Settles opening ops more now = (file p : ℕ) → p ≤ now → value_in opening more file p ≡ value_in opening ops file p
 
-pub grows_appended : (ops : List Op) (new : Op) (now : ℕ) → Grows ops (ops ++ new ∷ []) now
-grows_appended ops new now = λ k q at. (q, kept_appended ops new k q at, refl, refl, (λ opened. (refl, opened)), λ e end. inl end)
+-- each operation is still there with its begin, and one that ended since did so after this moment
+abbrev pub Begins : (ops more : List Op) → (now : ℕ) → Type 0
+Begins ops more now = (k : ℕ) (q : Op) → slice_get ops k ≡ Some q → (r : Op) × (slice_get more k ≡ Some r) × (r.begin ≡ q.begin) × ((e : ℕ) → r.end ≡ Some e → (q.end ≡ Some e) ⊎ (now < e))
 
-pub grows_replaced : (ops : List Op) (place : ℕ) (op new : Op) (now : ℕ) → slice_get ops place ≡ Some op → new.begin ≡ op.begin → new.file ≡ op.file → op.outcome ≡ told.Running → ((e : ℕ) → new.end ≡ Some e → now < e)
-    → Grows ops (slice_set ops place new) now
-grows_replaced ops place op new now there begin named runs late = λ k q at. elim (else_replaced ops place new k q at) [
+-- a list has what it had
+abbrev pub Holds : {A : Type 0} → (xs more : List A) → Type 0
+Holds {A = A} xs more = (i : ℕ) (x : A) → slice_get xs i ≡ Some x → slice_get more i ≡ Some x
+
+pub holds_same : {A : Type 0} (xs : List A) → Holds xs xs
+holds_same xs i x at = at
+
+pub holds_appended : {A : Type 0} (xs : List A) (y : A) → Holds xs (xs ++ y ∷ [])
+holds_appended xs y i x at = kept_appended xs y i x at
+
+-- what is right of an operation stays so
+pub right_later : (opening : List Opening) (ops more : List Op) (now then : ℕ) (o : Op) → Settles opening ops more now → now ≤ then → IsRight opening ops now o → IsRight opening more then o
+right_later opening ops more now then o settles later h = record {
+  client = h.client;
+  begun = omega (arith, h.begun, later);
+  within = λ p at. let w = h.within p at in (w.0, omega (arith, w.1, later), w.2);
+  opens = λ e. let g = h.opens e in (g.0, g.1, settles o.file g.0 (h.within g.0 g.1).1 ∙ g.2);
+  gone = λ e. let g = h.gone e in (g.0, g.1, settles o.file g.0 (h.within g.0 g.1).1 ∙ g.2);
+  change = λ c p at. subst (λ (v : Value). IsSome v) (sym (settles o.file p (h.within p at).1)) (h.change c p at);
+  closed = h.closed;
+  only = h.only;
+  unmade = h.unmade;
+  end = h.end;
+  traffic = h.traffic;
+}
+
+-- ---- causes
+
+pub beside_later : (ops more : List Op) (now : ℕ) (o : Op) → Begins ops more now → o.begin ≤ now → Beside ops o → Beside more o
+beside_later ops more now o begins by_now h =
+    let g = begins h.0 h.1 h.2 in
+    (h.0, g.0, g.1, omega (arith, h.3, g.2), λ e end. elim (g.3 e end) [ inl same ↦ h.4 e same | inr late ↦ omega (arith, by_now, late) ])
+
+pub entered_later : (settled more : List ℕ) (journal grown : List Entry) (point : Option ℕ) (file version len : ℕ) (digest : List ℕ) → Holds settled more → Holds journal grown → Entered settled journal point file version len digest → Entered more grown point file version len digest
+entered_later settled more journal grown point file version len digest s j h = (h.0, h.1, h.2, h.3, s h.0 h.1 h.4, j h.0 h.2 h.5, h.6, h.7, h.8, h.9)
+
+closed_later : (a b : Known) (k : Command) (o : Op) (version len : ℕ) (digest : List ℕ) (l : Option (List ℕ)) → Holds a.settled b.settled → Holds a.journal b.journal → ClosedBy a k o version len digest l → ClosedBy b k o version len digest l
+closed_later a b (command.Close f) o version len digest l s j h = (h.0, h.1, h.2, entered_later a.settled b.settled a.journal b.journal o.point f version len digest s j h.3)
+closed_later a b k o version len digest l s j h = absurd h
+
+-- what the causes speak of goes on
+pub record Goes (a b : Known) (now : ℕ) : Type 0 where
+  pub opening : b.opening ≡ a.opening
+  pub begins : Begins a.ops b.ops now
+  pub settled : Holds a.settled b.settled
+  pub journal : Holds a.journal b.journal
+
+pub cause_later : (a b : Known) (now : ℕ) (d : Deed) (o : Op) (l : Option (List ℕ)) (t : Outcome) → Goes a b now → o.begin ≤ now → Cause a d o l t → Cause b d o l t
+cause_later a b now d o l (told.Opened len digest) g by_now c = subst (λ (os : List Opening). Cause (record b { opening = os }) d o l (told.Opened len digest)) (sym g.opening) c
+cause_later a b now d o l (told.Piece len digest) g by_now c = c
+cause_later a b now d o l (told.Closed version len digest) g by_now c = closed_later a b d.command o version len digest l g.settled g.journal c
+cause_later a b now d o l told.Done g by_now c = c
+cause_later a b now d o l (told.Refused status) g by_now c = subst (λ (os : List Opening). Cause (record b { opening = os }) d o l (told.Refused status)) (sym g.opening) c
+cause_later a b now d o l told.Running g by_now c = c
+cause_later a b now d o l told.Busy g by_now c = beside_later a.ops b.ops now o g.begins by_now c
+cause_later a b now d o l told.NotOpen g by_now c = c
+cause_later a b now d o l told.AlreadyOpen g by_now c = c
+cause_later a b now d o l (told.TooBig size) g by_now c = c
+cause_later a b now d o l told.NoLink g by_now c = c
+cause_later a b now d o l t g by_now c = absurd c
+
+-- ---- a step in which no operation changed
+
+pub logged_later : (ops : List Op) (settled : List ℕ) (journal : List Entry) (now then : ℕ) → now ≤ then → IsLogged ops settled journal now → IsLogged ops settled journal then
+logged_later ops settled journal now then later h = record { count = h.count; by_now = λ i p at. omega (arith, h.by_now i p at, later); rising = h.rising; made = h.made; only = h.only }
+
+pub past_later : (n : ℕ) (ds : List Deed) (opening : List Opening) (ops : List Op) (running : Option ℕ) (settled : List ℕ) (journal : List Entry) (now then : ℕ) → now ≤ then
+    → IsPast n ds opening ops running settled journal now → IsPast n ds opening ops running settled journal then
+past_later n ds opening ops running settled journal now then later h = record {
+  lines = h.lines;
+  few = h.few;
+  count = h.count;
+  of = h.of;
+  rights = λ k o at. right_later opening ops ops now then o (λ file p le. refl) later (h.rights k o at);
+  causes = h.causes;
+  apart = h.apart;
+  only = h.only;
+  logged = logged_later ops settled journal now then later h.logged;
+}
+
+-- ---- one more operation
+
+begins_appended : (ops : List Op) (new : Op) (now : ℕ) → Begins ops (ops ++ new ∷ []) now
+begins_appended ops new now k q at = (q, kept_appended ops new k q at, refl, λ e end. inl end)
+
+logged_appended : (ops : List Op) (new : Op) (settled : List ℕ) (journal : List Entry) (now : ℕ) → new.point ≡ None → IsLogged ops settled journal now → IsLogged (ops ++ new ∷ []) settled journal now
+logged_appended ops new settled journal now none h = record {
+  count = h.count;
+  by_now = h.by_now;
+  rising = h.rising;
+  made = λ i p e s j. let g = h.made i p e s j in (g.0, g.1, kept_appended ops new g.0 g.1 g.2, g.3, g.4, g.5, g.6, g.7);
+  only = λ k p o at c point. elim (of_appended ops new k o at) [
+    | inl is ↦ nothing_there p (sym none ∙ ap (λ (x : Op). x.point) (sym is.1) ∙ point)
+    | inr was ↦ h.only k p o was c point
+  ];
+}
+
+-- an operation with no point is appended, in a step later than all of them
+pub past_appended : (n : ℕ) (ds : List Deed) (opening : List Opening) (ops : List Op) (running after : Option ℕ) (settled : List ℕ) (journal : List Entry) (now : ℕ) (d : Deed) (new : Op)
+    → n ≤ 65536 → new.point ≡ None → IsOf d new → IsRight opening (ops ++ new ∷ []) (now + 1) new
+    → Cause (record { opening = opening; ops = ops ++ new ∷ []; settled = settled; journal = journal }) d new (local_before (ds ++ d ∷ []) (ops ++ new ∷ []) (length ops) (file_of d.command)) new.outcome
+    → ((k : ℕ) → running ≡ Some k → after ≡ Some k) → (is_running new.outcome ≡ true → after ≡ Some (length ops))
+    → IsPast n ds opening ops running settled journal now → IsPast (n + 1) (ds ++ d ∷ []) opening (ops ++ new ∷ []) after settled journal (now + 1)
+past_appended n ds opening ops running after settled journal now d new line none of right cause still runs h =
+    let settles : Settles opening ops (ops ++ new ∷ []) now = λ file p le. value_appended opening ops new file p (inr none) in
+    let goes : Goes (record { opening = opening; ops = ops; settled = settled; journal = journal }) (record { opening = opening; ops = ops ++ new ∷ []; settled = settled; journal = journal }) now =
+    record { opening = refl; begins = begins_appended ops new now; settled = holds_same settled; journal = holds_same journal } in
+    record {
+      lines = omega (arith, line);
+      few = subst (λ (m : ℕ). m < n + 1) (sym (length_appended ops new)) (omega (arith, h.few));
+      count = length_appended ds d ∙ ap (λ (m : ℕ). m + 1) h.count ∙ sym (length_appended ops new);
+      of = λ k e o at there. elim (of_appended ops new k o there) [
+        | inl is ↦ subst (λ (x : Op). IsOf e x) (sym is.1) (subst (λ (x : Deed). IsOf x new) (sym (last_deed e (subst (λ (m : ℕ). slice_get (ds ++ d ∷ []) m ≡ Some e) is.0 at))) of)
+        | inr was ↦ h.of k e o (deed_was k e o was at) was
+      ];
+      rights = λ k o at. elim (of_appended ops new k o at) [
+        | inl is ↦ subst (λ (x : Op). IsRight opening (ops ++ new ∷ []) (now + 1) x) (sym is.1) right
+        | inr was ↦ right_later opening ops (ops ++ new ∷ []) now (now + 1) o settles (omega arith) (h.rights k o was)
+      ];
+      causes = λ k e o at there. elim (of_appended ops new k o there) [
+        | inl is ↦ cause_new k e o is.0 is.1 (last_deed e (subst (λ (m : ℕ). slice_get (ds ++ d ∷ []) m ≡ Some e) is.0 at))
+        | inr was ↦
+            let was_deed = deed_was k e o was at in
+            subst (λ (l : Option (List ℕ)). Cause (record { opening = opening; ops = ops ++ new ∷ []; settled = settled; journal = journal }) e o l o.outcome) (sym (before_appended ds ops d new k (file_of e.command) h.count (below ops k o was)))
+            (cause_later _ _ now e o _ o.outcome goes (h.rights k o was).begun (h.causes k e o was_deed was))
+      ];
+      apart = λ i j p a b at other c pa pb. elim (of_appended ops new i a at) [
+        | inl is ↦ nothing_there p (sym none ∙ ap (λ (x : Op). x.point) (sym is.1) ∙ pa)
+        | inr was ↦ elim (of_appended ops new j b other) [
+          | inl is ↦ nothing_there p (sym none ∙ ap (λ (x : Op). x.point) (sym is.1) ∙ pb)
+          | inr is ↦ h.apart i j p a b was is c pa pb
+        ]
+      ];
+      only = λ k o at r. elim (of_appended ops new k o at) [
+        | inl is ↦ runs (ap (λ (x : Op). is_running x.outcome) (sym is.1) ∙ r) ∙ ap (λ (m : ℕ). Some m) (sym is.0)
+        | inr was ↦ still k (h.only k o was r)
+      ];
+      logged = logged_later _ settled journal now (now + 1) (omega arith) (logged_appended ops new settled journal now none h.logged);
+    }
+  where
+    below : (ops : List Op) (k : ℕ) (o : Op) → slice_get ops k ≡ Some o → k ≤ length ops
+    below [] k o at = nothing_there o at
+    below (q ∷ qs) zero o at = omega arith
+    below (q ∷ qs) (suc k) o at = let le = below qs k o at in omega (arith, le)
+
+    under : (ops : List Op) (k : ℕ) (o : Op) → slice_get ops k ≡ Some o → k < length ops
+    under [] k o at = nothing_there o at
+    under (q ∷ qs) zero o at = omega arith
+    under (q ∷ qs) (suc k) o at = let lt = under qs k o at in omega (arith, lt)
+
+    last_deed : (e : Deed) → slice_get (ds ++ d ∷ []) (length ops) ≡ Some e → e ≡ d
+    last_deed e at = some_is e d (sym (subst (λ (m : ℕ). slice_get (ds ++ d ∷ []) m ≡ Some e) (sym h.count) at) ∙ at_end ds d)
+
+    not_last : (k : ℕ) (o : Op) → slice_get ops k ≡ Some o → k ≡ length ds → ⊥
+    not_last k o was is = let lt = under ops k o was in omega (arith, lt, is, h.count)
+
+    deed_was : (k : ℕ) (e : Deed) (o : Op) → slice_get ops k ≡ Some o → slice_get (ds ++ d ∷ []) k ≡ Some e → slice_get ds k ≡ Some e
+    deed_was k e o was at = elim (of_appended ds d k e at) [
+      | inl is ↦ absurd (not_last k o was is.0)
+      | inr there ↦ there
+    ]
+
+    cause_new : (k : ℕ) (e : Deed) (o : Op) → k ≡ length ops → o ≡ new → e ≡ d → Cause (record { opening = opening; ops = ops ++ new ∷ []; settled = settled; journal = journal }) e o (local_before (ds ++ d ∷ []) (ops ++ new ∷ []) k (file_of e.command)) o.outcome
+    cause_new k e o at is deed =
+        subst (λ (x : Op). Cause (record { opening = opening; ops = ops ++ new ∷ []; settled = settled; journal = journal }) e x (local_before (ds ++ d ∷ []) (ops ++ new ∷ []) k (file_of e.command)) x.outcome) (sym is)
+        (subst (λ (y : Deed). Cause (record { opening = opening; ops = ops ++ new ∷ []; settled = settled; journal = journal }) y new (local_before (ds ++ d ∷ []) (ops ++ new ∷ []) k (file_of y.command)) new.outcome) (sym deed)
+        (subst (λ (m : ℕ). Cause (record { opening = opening; ops = ops ++ new ∷ []; settled = settled; journal = journal }) d new (local_before (ds ++ d ∷ []) (ops ++ new ∷ []) m (file_of d.command)) new.outcome) (sym at) cause))
+
+-- ---- one in another's place
+
+-- the operation under way is another one now, which began as it did
+begins_replaced : (ops : List Op) (place : ℕ) (op new : Op) (now : ℕ) → slice_get ops place ≡ Some op → new.begin ≡ op.begin → ((e : ℕ) → new.end ≡ Some e → (op.end ≡ Some e) ⊎ (now < e)) → Begins ops (slice_set ops place new) now
+begins_replaced ops place op new now there begin late = λ k q at. elim (else_replaced ops place new k q at) [
   | inl same ↦
       let is : q ≡ op = some_is q op (sym (subst (λ (n : ℕ). slice_get ops n ≡ Some q) same at) ∙ there) in (
         new,
         subst (λ (n : ℕ). slice_get (slice_set ops place new) n ≡ Some new) (sym same) (at_replaced ops place new op there),
         begin ∙ ap (λ (x : Op). x.begin) (sym is),
-        named ∙ ap (λ (x : Op). x.file) (sym is),
-        (λ opened. not_opened q.outcome (ap (λ (x : Op). x.outcome) is ∙ runs) opened),
-        λ e end. inr (late e end),
+        λ e end. elim (late e end) [ inl was ↦ inl (ap (λ (x : Op). x.end) is ∙ was) | inr then ↦ inr then ],
       )
-  | inr kept ↦ (q, kept, refl, refl, (λ opened. (refl, opened)), λ e end. inl end)
+  | inr kept ↦ (q, kept, refl, λ e end. inl end)
 ]
 
--- ---- causes
+-- The new operation is one of the same command. Of those behind it each was refused since the client was busy.
+pub record Replaces (ds : List Deed) (ops : List Op) (place : ℕ) (op new : Op) (now : ℕ) : Type 0 where
+  pub there : slice_get ops place ≡ Some op
+  pub client : new.client ≡ op.client
+  pub word : new.word ≡ op.word
+  pub file : new.file ≡ op.file
+  pub begin : new.begin ≡ op.begin
+  pub end : (e : ℕ) → new.end ≡ Some e → (op.end ≡ Some e) ⊎ (now < e)
+  pub behind : (k : ℕ) (o : Op) → slice_get ops k ≡ Some o → place < k → o.outcome ≡ told.Busy
 
-pub beside_grows : (ops more : List Op) (now : ℕ) (o : Op) → Grows ops more now → o.begin ≤ now → Beside ops o → Beside more o
-beside_grows ops more now o grows by_now h =
-    let g = grows h.0 h.1 h.2 in
-    (h.0, g.0, g.1, omega (arith, h.3, g.2), λ e end. elim (g.5 e end) [ inl same ↦ h.4 e same | inr late ↦ omega (arith, by_now, late) ])
+busy_cause : (a : Known) (d : Deed) (o : Op) (l m : Option (List ℕ)) (t : Outcome) → t ≡ told.Busy → Cause a d o l t → Cause a d o m t
+busy_cause a d o l m t e c = subst (λ (x : Outcome). Cause a d o m x) (sym e) (subst (λ (x : Outcome). Cause a d o l x) e c)
 
-pub origin_grows : (ops more : List Op) (now name moment : ℕ) → Grows ops more now → Origin ops name moment → Origin more name moment
-origin_grows ops more now name moment grows h =
-    let g = grows h.0 h.1 h.2 in
-    let s = g.4 h.4 in
-    (h.0, g.0, g.1, g.3 ∙ h.3, s.1, h.5, s.0 ∙ h.6, h.7)
+pub past_replaced : (n : ℕ) (ds : List Deed) (opening : List Opening) (ops : List Op) (running after : Option ℕ) (settled more : List ℕ) (journal grown : List Entry) (now : ℕ) (place : ℕ) (op new : Op)
+    → Replaces ds ops place op new now → Settles opening ops (slice_set ops place new) now → Holds settled more → Holds journal grown
+    → IsRight opening (slice_set ops place new) (now + 1) new
+    → ((d : Deed) (l : Option (List ℕ)) → IsOf d op → Cause (record { opening = opening; ops = ops; settled = settled; journal = journal }) d op l op.outcome → Cause (record { opening = opening; ops = slice_set ops place new; settled = more; journal = grown }) d new l new.outcome)
+    → ((j p : ℕ) (b : Op) → slice_get ops j ≡ Some b → new.point ≡ Some p → b.point ≡ Some p → (changes new.word ≡ true) ⊎ (changes b.word ≡ true) → j ≡ place)
+    → running ≡ Some place → (is_running new.outcome ≡ true → after ≡ Some place)
+    → IsLogged (slice_set ops place new) more grown (now + 1)
+    → IsPast n ds opening ops running settled journal now → IsPast n ds opening (slice_set ops place new) after more grown (now + 1)
+past_replaced n ds opening ops running after settled more journal grown now place op new r settles s j right cause points under runs logged h =
+    let goes : Goes (record { opening = opening; ops = ops; settled = settled; journal = journal }) (record { opening = opening; ops = slice_set ops place new; settled = more; journal = grown }) now =
+    record { opening = refl; begins = begins_replaced ops place op new now r.there r.begin r.end; settled = s; journal = j } in
+    record {
+      lines = h.lines;
+      few = subst (λ (m : ℕ). m < n) (sym (length_replaced ops place new)) h.few;
+      count = h.count ∙ sym (length_replaced ops place new);
+      of = λ k d o at there. elim (of_replaced ops place new k o there) [
+        | inl is ↦ subst (λ (x : Op). IsOf d x) (sym is.1) (of_new d (h.of place d op (subst (λ (m : ℕ). slice_get ds m ≡ Some d) is.0 at) r.there))
+        | inr was ↦ h.of k d o at was
+      ];
+      rights = λ k o at. elim (of_replaced ops place new k o at) [
+        | inl is ↦ subst (λ (x : Op). IsRight opening (slice_set ops place new) (now + 1) x) (sym is.1) right
+        | inr was ↦ right_later opening ops (slice_set ops place new) now (now + 1) o settles (omega arith) (h.rights k o was)
+      ];
+      causes = λ k d o at there. elim (of_replaced ops place new k o there) [
+        | inl is ↦ cause_new k d o is.0 is.1 (subst (λ (m : ℕ). slice_get ds m ≡ Some d) is.0 at)
+        | inr was ↦ cause_else k d o at was (lt_or_le place k) goes
+      ];
+      apart = λ i k p a b at other c pa pb. elim (of_replaced ops place new i a at) [
+        | inl is ↦ elim (of_replaced ops place new k b other) [
+          | inl same ↦ is.0 ∙ sym same.0
+          | inr was ↦ is.0 ∙ sym (points k p b was (ap (λ (x : Op). x.point) (sym is.1) ∙ pa) pb (inl (ap (λ (x : Op). changes x.word) (sym is.1) ∙ c)))
+        ]
+        | inr was ↦ elim (of_replaced ops place new k b other) [
+          | inl is ↦ points i p a was (ap (λ (x : Op). x.point) (sym is.1) ∙ pb) pa (inr c) ∙ sym is.0
+          | inr too ↦ h.apart i k p a b was too c pa pb
+        ]
+      ];
+      only = λ k o at e. elim (of_replaced ops place new k o at) [
+        | inl is ↦ runs (ap (λ (x : Op). is_running x.outcome) (sym is.1) ∙ e) ∙ ap (λ (m : ℕ). Some m) (sym is.0)
+        | inr was ↦ only_else k o was e at (h.only k o was e)
+      ];
+      logged = logged;
+    }
+  where
+    of_new : (d : Deed) → IsOf d op → IsOf d new
+    of_new d i = record { client = r.client ∙ i.client; word = r.word ∙ i.word; file = r.file ∙ i.file }
 
-pub origin_later : (ops : List Op) (name moment then : ℕ) → moment ≤ then → Origin ops name moment → Origin ops name then
-origin_later ops name moment then le h = (h.0, h.1, h.2, h.3, h.4, h.5, h.6, omega (arith, le, h.7))
+    lt_or_le : (a b : ℕ) → (a < b) ⊎ (b ≤ a)
+    lt_or_le zero zero = inr (omega arith)
+    lt_or_le zero (suc b) = inl (omega arith)
+    lt_or_le (suc a) zero = inr (omega arith)
+    lt_or_le (suc a) (suc b) = elim (lt_or_le a b) [ inl lt ↦ inl (omega (arith, lt)) | inr le ↦ inr (omega (arith, le)) ]
 
-pub cause_grows : (opening : List Opening) (ops more : List Op) (now : ℕ) (o : Op) (t : Outcome) → Grows ops more now → o.begin ≤ now → Cause opening ops o t → Cause opening more o t
-cause_grows opening ops more now o (told.Opened len sha1) grows by_now c = c
-cause_grows opening ops more now o (told.Refused status) grows by_now c = c
-cause_grows opening ops more now o told.Running grows by_now c = tt
-cause_grows opening ops more now o told.Busy grows by_now c = beside_grows ops more now o grows by_now c
-cause_grows opening ops more now o told.AlreadyOpen grows by_now c = origin_grows ops more now o.file o.begin grows c
-cause_grows opening ops more now o told.NoLink grows by_now c = tt
-cause_grows opening ops more now o t grows by_now c = absurd c
+    some_place : (a b : ℕ) → Some a ≡ Some b → a ≡ b
+    some_place a b e = cc
 
--- ---- the commands
+    -- no other operation is under way
+    only_else : (k : ℕ) (o : Op) → slice_get ops k ≡ Some o → is_running o.outcome ≡ true → slice_get (slice_set ops place new) k ≡ Some o → running ≡ Some k → after ≡ Some k
+    only_else k o was e at is =
+        let same : k ≡ place = some_place k place (sym is ∙ under) in
+        let it : o ≡ new = some_is o new (sym (subst (λ (m : ℕ). slice_get (slice_set ops place new) m ≡ Some o) same at) ∙ at_replaced ops place new op r.there) in
+        runs (ap (λ (x : Op). is_running x.outcome) (sym it) ∙ e) ∙ ap (λ (m : ℕ). Some m) (sym same)
 
-pub matches_appended : (ds : List Deed) (os : List Op) (d : Deed) (o : Op) → Matches ds os → IsOf d o → Matches (ds ++ d ∷ []) (os ++ o ∷ [])
-matches_appended [] [] d o m is = (is, tt)
-matches_appended (e ∷ ds) (p ∷ os) d o m is = (m.0, matches_appended ds os d o m.1 is)
-matches_appended [] (p ∷ os) d o m is = absurd m
-matches_appended (e ∷ ds) [] d o m is = absurd m
+    cause_new : (k : ℕ) (d : Deed) (o : Op) → k ≡ place → o ≡ new → slice_get ds place ≡ Some d → Cause (record { opening = opening; ops = slice_set ops place new; settled = more; journal = grown }) d o (local_before ds (slice_set ops place new) k (file_of d.command)) o.outcome
+    cause_new k d o at is deed =
+        subst (λ (x : Op). Cause (record { opening = opening; ops = slice_set ops place new; settled = more; journal = grown }) d x (local_before ds (slice_set ops place new) k (file_of d.command)) x.outcome) (sym is)
+        (subst (λ (m : ℕ). Cause (record { opening = opening; ops = slice_set ops place new; settled = more; journal = grown }) d new (local_before ds (slice_set ops place new) m (file_of d.command)) new.outcome) (sym at)
+        (subst (λ (l : Option (List ℕ)). Cause (record { opening = opening; ops = slice_set ops place new; settled = more; journal = grown }) d new l new.outcome) (sym (before_replaced ds ops place place (file_of d.command) new (omega arith)))
+        (cause d (local_before ds ops place (file_of d.command)) (h.of place d op deed r.there) (h.causes place d op deed r.there))))
 
-pub matches_replaced : (ds : List Deed) (os : List Op) (place : ℕ) (op new : Op) → Matches ds os → slice_get os place ≡ Some op → ((d : Deed) → IsOf d op → IsOf d new) → Matches ds (slice_set os place new)
-matches_replaced [] [] place op new m there is = nothing_there op there
-matches_replaced (d ∷ ds) (o ∷ os) zero op new m there is = (is d (subst (λ (x : Op). IsOf d x) (some_is o op there) m.0), m.1)
-matches_replaced (d ∷ ds) (o ∷ os) (suc place) op new m there is = (m.0, matches_replaced ds os place op new m.1 there is)
-matches_replaced [] (o ∷ os) place op new m there is = absurd m
-matches_replaced (d ∷ ds) [] place op new m there is = absurd m
+    cause_else : (k : ℕ) (d : Deed) (o : Op) → slice_get ds k ≡ Some d → slice_get ops k ≡ Some o → (place < k) ⊎ (k ≤ place) → Goes (record { opening = opening; ops = ops; settled = settled; journal = journal }) (record { opening = opening; ops = slice_set ops place new; settled = more; journal = grown }) now
+        → Cause (record { opening = opening; ops = slice_set ops place new; settled = more; journal = grown }) d o (local_before ds (slice_set ops place new) k (file_of d.command)) o.outcome
+    cause_else k d o at was (inl behind) goes = busy_cause _ d o (local_before ds ops k (file_of d.command)) _ o.outcome (r.behind k o was behind) (cause_later _ _ now d o _ o.outcome goes (h.rights k o was).begun (h.causes k d o at was))
+    cause_else k d o at was (inr before) goes =
+        subst (λ (l : Option (List ℕ)). Cause (record { opening = opening; ops = slice_set ops place new; settled = more; journal = grown }) d o l o.outcome) (sym (before_replaced ds ops place k (file_of d.command) new before))
+        (cause_later _ _ now d o _ o.outcome goes (h.rights k o was).begun (h.causes k d o at was))

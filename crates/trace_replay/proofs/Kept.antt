@@ -4,7 +4,9 @@ use Rattle.std.specs.Prelude.{slice_get, find, ◌==◌, not, is_some, IsSome, R
 use Rattle.sha1.specs.Sha1.{sha1}
 use Rattle.rpc_record.specs.Records.{nothing_read}
 use Rattle.xdr_codec.specs.Handle.{handle_bytes}
+use Rattle.xdr_codec.specs.declared.answer.Answer.TheVariants.{Done, Failed}
 use Rattle.xdr_codec.specs.declared.status.Status.{Status}
+use Rattle.xdr_codec.specs.declared.status.Status.TheVariants as status
 use Rattle.hash_calls.specs.declared.call.HashRange.{HashRange}
 use Rattle.hash_calls.specs.declared.call.Pair.{Pair}
 use Rattle.hash_calls.specs.declared.message.Lb.TheVariants as lb
@@ -17,27 +19,40 @@ use Rattle.wire.specs.declared.message.Message.TheVariants as message
 use Rattle.server_core.specs.Answers.{Node, root, file as as_file, file_node, hash_answer, read_answer}
 use Rattle.server_core.specs.Step.{stands}
 use Rattle.server_core.specs.State as server
+use Rattle.server_core.specs.Temps.{Temp, key_of}
 use Rattle.server_core.specs.declared.file.File.{File}
+use Rattle.server_core.specs.declared.journal.Entry.{Entry}
 use Rattle.open_close.specs.State as client
+use Rattle.open_close.specs.Closing.{make_call, cond_call, tmp_call, commit_call}
 use Rattle.open_close.specs.Step.{hash_call, read_call}
+use Rattle.open_close.specs.declared.task.Chunk.{Chunk}
 use Rattle.open_close.specs.declared.task.Fetch.{Fetch}
 use Rattle.open_close.specs.declared.task.Local.{Local}
 use Rattle.open_close.specs.declared.task.Stage.{Stage as Phase}
 use Rattle.open_close.specs.declared.task.Stage.TheVariants as phase
+use Rattle.open_close.specs.declared.task.Store.{Store}
 use Rattle.open_close.specs.declared.task.Task.{Task}
-use Rattle.register_model.specs.Register.{Value, is_opened, is_stale}
+use Rattle.open_close.specs.declared.task.Under.{Under}
+use Rattle.open_close.specs.declared.task.Way.{Way}
+use Rattle.open_close.specs.declared.task.Way.TheVariants as way
+use Rattle.register_model.specs.Register.{Value, changes, is_opened, is_closed, is_stale, is_untold}
 use Rattle.register_model.specs.declared.op.Op.{Op}
 use Rattle.register_model.specs.declared.op.Opening.{Opening}
 use Rattle.register_model.specs.declared.op.Outcome.{Outcome}
 use Rattle.register_model.specs.declared.op.Outcome.TheVariants as told
 use Rattle.register_model.specs.declared.op.Word.TheVariants as word
+use Rattle.trace_text.specs.declared.line.Command.{Command}
+use Rattle.trace_text.specs.declared.line.Command.TheVariants as command
 use Rattle.trace_replay.specs.declared.link.Stage.{Stage}
 use Rattle.trace_replay.specs.declared.link.Stage.TheVariants as stage
 use Rattle.trace_replay.specs.declared.link.Taken.{Taken}
 use Rattle.trace_replay.specs.World.{World, Link, bytes_of}
-use Rattle.trace_replay.specs.Faithful.{Deed, is_running}
+use Rattle.trace_replay.specs.Commands.{word_of, file_of}
+use Rattle.trace_replay.specs.Faithful.{Deed, is_running, is_open, asks_server, local_from, local_before, IsDoneOf, IsPieceOf, IsTooBig, HasTraffic, no_traffic, close_traffic}
+use Rattle.trace_replay.proofs.Values.{value_in}
+use Rattle.trace_replay.proofs.ServerFiles.{IsRising, AreShort}
 
--- ---- the opening tree
+-- ---- the tree
 
 -- what is in the opening tree under an id
 abbrev pub in_tree : List Opening → ℕ → Option Opening
@@ -46,13 +61,6 @@ in_tree opening file = find (λ o. o.file == file) opening
 -- what a file was at first
 abbrev pub at_first : List Opening → ℕ → Value
 at_first opening file = option_map (λ o. o.content) (in_tree opening file)
-
-abbrev pub file_as : Opening → File
-file_as o = record { id = o.file; version = 1; content = o.content }
-
--- the server has the files of the opening tree, and no others
-abbrev pub HoldsTree : server.State → List Opening → Type 0
-HoldsTree s opening = (file : ℕ) → server.file_at s.files file ≡ option_map file_as (in_tree opening file)
 
 -- a file of the opening tree is no longer than the least chunk, and its id is a number of 64 bits
 abbrev pub SmallFile : Opening → Type 0
@@ -67,72 +75,130 @@ abbrev pub Numbered : ℕ → List Opening → Type 0
 Numbered n [] = Unit {0}
 Numbered n (o ∷ os) = (o.file ≡ n) × Numbered (n + 1) os
 
--- ---- operations
+-- a file of the server: its id, its version and its size are within bounds
+pub record IsOurs (changes file : ℕ) (f : File) : Type 0 where
+  pub id : f.id ≡ file
+  pub small : file < 2 ^ 64
+  pub version : f.version ≤ changes
+  pub short : length f.content ≤ 2048
 
-abbrev pub is_unlinked : Outcome → Bool
-is_unlinked told.NoLink = true
-is_unlinked _ = false
+-- each file of the server is within bounds
+abbrev pub AreOurs : ℕ → List (ℕ × File) → Type 0
+AreOurs changes files = (id : ℕ) (f : File) → server.file_at files id ≡ Some f → IsOurs changes id f
 
--- what is true of an open by itself
-pub record IsRight (opening : List Opening) (o : Op) : Type 0 where
+-- ---- what is known of an operation by itself and the values of files
+
+-- what is true of an operation of these
+pub record IsRight (opening : List Opening) (ops : List Op) (now : ℕ) (o : Op) : Type 0 where
   pub client : o.client ≡ 1
-  pub word : o.word ≡ word.Open
-  pub within : (p : ℕ) → o.point ≡ Some p → (o.begin ≤ p) × ((e : ℕ) → o.end ≡ Some e → p ≤ e)
-  pub opens : IsTrue (is_opened o.outcome) → (p : ℕ) × (o.point ≡ Some p) × (at_first opening o.file ≡ Some o.value)
-  pub gone : IsTrue (is_stale o.outcome) → (p : ℕ) × (o.point ≡ Some p) × (at_first opening o.file ≡ None)
+  pub begun : o.begin ≤ now
+  pub within : (p : ℕ) → o.point ≡ Some p → (o.begin ≤ p) × (p ≤ now) × ((e : ℕ) → o.end ≡ Some e → p ≤ e)
+  pub opens : IsTrue (is_opened o.outcome) → (p : ℕ) × (o.point ≡ Some p) × (value_in opening ops o.file p ≡ Some o.value)
+  pub gone : IsTrue (is_stale o.outcome) → (p : ℕ) × (o.point ≡ Some p) × (value_in opening ops o.file p ≡ None)
+  pub change : changes o.word ≡ true → (p : ℕ) → o.point ≡ Some p → IsSome (value_in opening ops o.file p)
+  pub closed : IsTrue (is_closed o.outcome) → IsSome o.point
+  -- only opens and closes have points, and of closes only those that were done or of which nobody was told
+  pub only : o.word ≡ word.Open ⊎ (o.word ≡ word.Close ⊎ (changes o.word ≡ false) × (o.point ≡ None))
+  pub unmade : o.word ≡ word.Close → is_closed o.outcome ≡ false → is_untold o.outcome ≡ false → o.point ≡ None
   pub end : is_some o.end ≡ not (is_running o.outcome)
+  pub traffic : HasTraffic o o.outcome
+
+-- an operation is that of a command
+pub record IsOf (d : Deed) (o : Op) : Type 0 where
+  pub client : o.client ≡ d.client
+  pub word : o.word ≡ word_of d.command
+  pub file : o.file ≡ file_of d.command
+
+-- ---- causes
 
 -- one of these operations was under way when this one began
 abbrev pub Beside : List Op → Op → Type 0
 Beside ops o = (k : ℕ) × (q : Op) × (slice_get ops k ≡ Some q) × (q.begin < o.begin) × ((e : ℕ) → q.end ≡ Some e → o.begin < e)
 
--- one of these operations had opened the file before a moment
-abbrev pub Origin : List Op → ℕ → ℕ → Type 0
-Origin ops file moment = (k : ℕ) × (q : Op) × (slice_get ops k ≡ Some q) × (q.file ≡ file) × IsTrue (is_opened q.outcome) × (e : ℕ) × (q.end ≡ Some e) × (e < moment)
+-- the journal has this change, made at the point
+abbrev pub Entered : List ℕ → List Entry → Option ℕ → (file version len : ℕ) → (digest : List ℕ) → Type 0
+Entered settled journal point file version len digest = (i : ℕ) × (p : ℕ) × (e : Entry) × (point ≡ Some p) × (slice_get settled i ≡ Some p) × (slice_get journal i ≡ Some e) × (e.file ≡ file) × (e.version ≡ version) × (e.len ≡ len) × (e.sha1 ≡ digest)
+
+-- what the causes of outcomes speak of
+pub record Known : Type 0 where
+  pub opening : List Opening
+  pub ops : List Op
+  pub settled : List ℕ
+  pub journal : List Entry
+
+abbrev pub known : World → Known
+known w = record { opening = w.opening; ops = w.ops; settled = w.settled; journal = w.server.journal }
+
+abbrev pub OpenedBy : List Opening → Command → Op → (len : ℕ) → (digest : List ℕ) → Type 0
+OpenedBy opening (command.Open f) o len digest = IsSome (at_first opening f) × (len ≡ length o.value) × (digest ≡ sha1 o.value)
+OpenedBy opening k o len digest = ⊥
+
+abbrev pub ClosedBy : Known → Command → Op → (version len : ℕ) → (digest : List ℕ) → Option (List ℕ) → Type 0
+ClosedBy kn (command.Close f) o version len digest l = (l ≡ Some o.value) × (len ≡ length o.value) × (digest ≡ sha1 o.value) × Entered kn.settled kn.journal o.point f version len digest
+ClosedBy kn k o version len digest l = ⊥
+
+abbrev pub RefusedBy : List Opening → Command → (status : ℕ) → Type 0
+RefusedBy opening (command.Open f) status = ((status ≡ 21) × (f ≡ 1)) ⊎ ((status ≡ 70) × (at_first opening f ≡ None))
+RefusedBy opening k status = ⊥
+
+-- one under way opens or closes; a close with the local content
+abbrev pub RunningOf : Command → Op → Option (List ℕ) → Type 0
+RunningOf (command.Open f) o l = Unit {0}
+RunningOf (command.Close f) o l = l ≡ Some o.value
+RunningOf k o l = ⊥
 
 -- an outcome of an operation among these has its cause, as far as it is known by now
-abbrev pub Cause : List Opening → List Op → Op → Outcome → Type 0
-Cause opening ops o (told.Opened len digest) = IsSome (at_first opening o.file) × (len ≡ length o.value) × (digest ≡ sha1 o.value)
-Cause opening ops o (told.Refused status) = ((status ≡ 21) × (o.file ≡ 1)) ⊎ ((status ≡ 70) × (at_first opening o.file ≡ None))
-Cause opening ops o told.Running = Unit {0}
-Cause opening ops o told.Busy = Beside ops o
-Cause opening ops o told.AlreadyOpen = Origin ops o.file o.begin
-Cause opening ops o told.NoLink = Unit {0}
-Cause opening ops o _ = ⊥
+abbrev pub Cause : Known → Deed → Op → Option (List ℕ) → Outcome → Type 0
+Cause kn d o l (told.Opened len digest) = OpenedBy kn.opening d.command o len digest
+Cause kn d o l (told.Piece len digest) = IsPieceOf d.command len digest l
+Cause kn d o l (told.Closed version len digest) = ClosedBy kn d.command o version len digest l
+Cause kn d o l told.Done = IsDoneOf d.command l
+Cause kn d o l (told.Refused status) = RefusedBy kn.opening d.command status
+Cause kn d o l told.Running = RunningOf d.command o l
+Cause kn d o l told.Busy = Beside kn.ops o
+Cause kn d o l told.NotOpen = (is_open d.command ≡ false) × (l ≡ None)
+Cause kn d o l told.AlreadyOpen = (is_open d.command ≡ true) × IsSome l
+Cause kn d o l (told.TooBig size) = IsTooBig d.command size l
+Cause kn d o l told.NoLink = (asks_server d.command ≡ true) × (d.linked ≡ false)
+Cause kn d o l _ = ⊥
 
--- an operation is that of a command, which ended for want of a connection only where its client had not joined
-pub record IsOf (d : Deed) (o : Op) : Type 0 where
-  pub client : o.client ≡ d.client
-  pub word : o.word ≡ d.word
-  pub file : o.file ≡ d.file
-  pub unlinked : is_unlinked o.outcome ≡ true → d.linked ≡ false
+-- ---- the journal
 
-abbrev pub Matches : List Deed → List Op → Type 0
-Matches [] [] = Unit {0}
-Matches (d ∷ ds) (o ∷ os) = IsOf d o × Matches ds os
-Matches ds os = ⊥
+-- the changes of the journal are those of the operations, one for one and in order
+pub record IsLogged (ops : List Op) (settled : List ℕ) (journal : List Entry) (now : ℕ) : Type 0 where
+  pub count : length settled ≡ length journal
+  pub by_now : (i p : ℕ) → slice_get settled i ≡ Some p → p ≤ now
+  pub rising : (i j p q : ℕ) → i < j → slice_get settled i ≡ Some p → slice_get settled j ≡ Some q → p < q
+  pub made : (i p : ℕ) (e : Entry) → slice_get settled i ≡ Some p → slice_get journal i ≡ Some e
+      → (k : ℕ) × (o : Op) × (slice_get ops k ≡ Some o) × (changes o.word ≡ true) × (o.point ≡ Some p) × (o.file ≡ e.file) × (length o.value ≡ e.len) × (sha1 o.value ≡ e.sha1)
+  pub only : (k p : ℕ) (o : Op) → slice_get ops k ≡ Some o → changes o.word ≡ true → o.point ≡ Some p → (i : ℕ) × (slice_get settled i ≡ Some p)
 
--- ---- the call of the operation under way, and its answer
+-- ---- calls of the operation under way, and their answers
 
 abbrev pub whole_range : ℕ → HashRange
 whole_range file = record { handle = handle_bytes file; offset = 0; count = 4294967295 }
 
-abbrev pub node_at : List Opening → ℕ → Result Node Status
-node_at opening file = elim (file == 1) [ true ↦ Ok root | false ↦ file_node (option_map file_as (in_tree opening file)) ]
+-- what the server finds under an id
+abbrev pub node_at : List (ℕ × File) → ℕ → Result Node Status
+node_at files file = elim (file == 1) [ true ↦ Ok root | false ↦ file_node (server.file_at files file) ]
 
 -- what is answered to the GETHASH of a file
-abbrev pub hashes_told : List Opening → ℕ → Body
-hashes_told opening file = body.Lb (lb.GetHashAnswer (hash_answer (node_at opening file) (whole_range file)))
+abbrev pub hashes_told : List (ℕ × File) → ℕ → Body
+hashes_told files file = body.Lb (lb.GetHashAnswer (hash_answer (node_at files file) (whole_range file)))
 
 abbrev pub piece_range : ℕ → ℕ → Range
 piece_range file size = record { handle = handle_bytes file; offset = 0; count = size }
 
 -- what is answered to the READ of its one chunk
-abbrev pub piece_told : List Opening → ℕ → ℕ → Body
-piece_told opening file size = body.Nfs (nfs.ReadAnswer (read_answer (node_at opening file) (piece_range file size)))
+abbrev pub piece_told : List (ℕ × File) → ℕ → ℕ → Body
+piece_told files file size = body.Nfs (nfs.ReadAnswer (read_answer (node_at files file) (piece_range file size)))
 
 abbrev pub pair_of : List ℕ → Pair
 pair_of x = record { digest = sha1 x; size = length x }
+
+-- the one chunk of a content that is not empty
+abbrev pub chunk_of : List ℕ → Chunk
+chunk_of x = record { offset = 0; size = length x; digest = sha1 x }
 
 -- the link has this message on its way up, or that one on its way down
 abbrev pub Up : Link → Message → Type 0
@@ -141,70 +207,186 @@ Up l m = (l.up ≡ bytes_of (m ∷ [])) × (l.down ≡ [])
 abbrev pub Down : Link → Message → Type 0
 Down l m = (l.up ≡ []) × (l.down ≡ bytes_of (m ∷ []))
 
--- the GETHASH was taken at a step between these
-abbrev pub Taking : List Taken → ℕ → ℕ → ℕ → Type 0
-Taking taken xid begin now = (p : ℕ) × (ts : List Taken) × (taken ≡ record { xid = xid; step = p } ∷ ts) × (begin ≤ p) × (p ≤ now)
+-- nothing is on its way
+abbrev pub Still : Link → Type 0
+Still l = (l.up ≡ []) × (l.down ≡ [])
+
+-- each change was made before this moment
+abbrev pub Earlier : List Op → (moment : ℕ) → Type 0
+Earlier ops moment = (i : ℕ) (o : Op) (q : ℕ) → slice_get ops i ≡ Some o → changes o.word ≡ true → o.point ≡ Some q → q < moment
+
+-- the GETHASH was taken at a step between these, when all changes were made, and the file was what it is now
+abbrev pub Taking : List Opening → List Op → List (ℕ × File) → (file : ℕ) → List Taken → (xid begin now : ℕ) → Type 0
+Taking opening ops files file taken xid begin now =
+    (p : ℕ) × (ts : List Taken) × (taken ≡ record { xid = xid; step = p } ∷ ts) × (begin ≤ p) × (p ≤ now) × (value_in opening ops file p ≡ option_map (λ f. f.content) (server.file_at files file)) × Earlier ops p
+
+-- the temporary file of a close, with these pieces
+abbrev pub temp_with : (fd file : ℕ) → List (ℕ × List ℕ) → List (ℕ × Temp)
+temp_with fd file pieces = (key_of 1 fd, record { session = 1; fd = fd; target = file; pieces = pieces }) ∷ []
+
+-- the pieces that a content is stored as
+abbrev pub pieces_of : List ℕ → List (ℕ × List ℕ)
+pieces_of [] = []
+pieces_of (b ∷ bs) = (0, b ∷ bs) ∷ []
+
+-- ---- phases of an open
+
+-- no close is under way at the server
+abbrev pub Quiet : server.State → Type 0
+Quiet s = (s.temps ≡ []) × (s.waits ≡ [])
 
 -- the GETHASH is under way
-pub record Asking (opening : List Opening) (l : Link) (file xid next begin now : ℕ) : Type 0 where
+pub record Asking (w : World) (o : Op) (file xid : ℕ) : Type 0 where
+  pub word : o.word ≡ word.Open
+  pub quiet : Quiet w.server
+  pub traffic : o.traffic ≡ no_traffic
   pub small : xid < 4293967297
-  pub raised : next ≡ xid + 1
-  pub way : (Up l (hash_call xid file) × (l.taken ≡ [])) ⊎ (Down l (message.Answer xid (hashes_told opening file)) × Taking l.taken xid begin now)
+  pub raised : w.client.next ≡ xid + 1
+  pub way : (Up w.link (hash_call xid file) × (w.link.taken ≡ [])) ⊎ (Down w.link (message.Answer xid (hashes_told w.server.files file)) × Taking w.opening w.ops w.server.files file w.link.taken xid o.begin w.steps)
 
 -- the READ of the one chunk is under way
-pub record Fetching (opening : List Opening) (l : Link) (name : ℕ) (f : Fetch) (begin now : ℕ) : Type 0 where
-  pub opened : Opening
-  pub there : at_first opening name ≡ Some opened.content
-  pub node : node_at opening name ≡ Ok (as_file (file_as opened))
-  pub short : SmallFile opened
-  pub some : 0 < length opened.content
-  pub left : f.left ≡ pair_of opened.content ∷ []
+pub record Fetching (w : World) (o : Op) (name : ℕ) (f : Fetch) : Type 0 where
+  pub word : o.word ≡ word.Open
+  pub quiet : Quiet w.server
+  pub traffic : o.traffic ≡ record no_traffic { read = 1 }
+  pub found : File
+  pub there : server.file_at w.server.files name ≡ Some found
+  pub node : node_at w.server.files name ≡ Ok (as_file found)
+  pub some : 0 < length found.content
+  pub left : f.left ≡ pair_of found.content ∷ []
   pub bytes : f.bytes ≡ []
   pub small : f.xid < 4293967298
-  pub taking : Taking l.taken f.asked begin now
-  pub way : Up l (read_call f.xid name 0 (length opened.content)) ⊎ Down l (message.Answer f.xid (piece_told opening name (length opened.content)))
+  pub taking : Taking w.opening w.ops w.server.files name w.link.taken f.asked o.begin w.steps
+  pub way : Up w.link (read_call f.xid name 0 (length found.content)) ⊎ Down w.link (message.Answer f.xid (piece_told w.server.files name (length found.content)))
 
-abbrev pub InPhase : List Opening → Link → ℕ → Phase → (next begin now : ℕ) → Type 0
-InPhase opening l file (phase.Hashing xid) next begin now = Asking opening l file xid next begin now
-InPhase opening l file (phase.Reading f) next begin now = Fetching opening l file f begin now
+-- ---- phases of a close
+
+-- what each phase of a close knows: the value, which the client has as its local content; the file is there; and the link knows of whose close it is
+pub record Closing (w : World) (o : Op) (place name : ℕ) : Type 0 where
+  pub word : o.word ≡ word.Close
+  pub short : length o.value ≤ 2048
+  pub local : client.local_bytes w.client.opened name ≡ o.value
+  pub known : w.link.closing ≡ Some place
+  pub found : File
+  pub there : server.file_at w.server.files name ≡ Some found
+  pub node : node_at w.server.files name ≡ Ok (as_file found)
+
+-- the MKTMPFILE is under way
+pub record Making (w : World) (o : Op) (place name xid fd : ℕ) : Type 0 where
+  pub closing : Closing w o place name
+  pub small : (xid < 4293967297) × (fd < 2 ^ 32)
+  pub raised : w.client.next ≡ xid + 1
+  pub traffic : o.traffic ≡ no_traffic
+  pub unmade : o.point ≡ None
+  pub room : w.server.changes ≤ length w.ops
+  pub way : (Up w.link (make_call xid fd name) × Quiet w.server) ⊎ (Down w.link (message.Answer xid (body.Lb (lb.MkTmpFileAnswer (Done tt)))) × (w.server.temps ≡ temp_with fd name []) × (w.server.waits ≡ []))
+
+-- the one chunk is named by a CONDWRITE that is under way
+pub record Naming (w : World) (o : Op) (place name xid fd : ℕ) : Type 0 where
+  pub closing : Closing w o place name
+  pub some : 0 < length o.value
+  pub small : (xid < 4293967298) × (fd < 2 ^ 32)
+  pub raised : w.client.next ≡ xid + 1
+  pub traffic : o.traffic ≡ record no_traffic { cond = 1 }
+  pub unmade : o.point ≡ None
+  pub room : w.server.changes ≤ length w.ops
+  pub temps : (w.server.temps ≡ temp_with fd name []) × (w.server.waits ≡ [])
+  pub way : Up w.link (cond_call xid fd (chunk_of o.value)) ⊎ Down w.link (message.Answer xid (body.Lb (lb.CondWriteAnswer (Failed status.HashNotFound tt))))
+
+-- its bytes are sent by a TMPWRITE that is under way
+pub record Sending (w : World) (o : Op) (place name xid fd : ℕ) : Type 0 where
+  pub closing : Closing w o place name
+  pub some : 0 < length o.value
+  pub small : (xid < 4293967299) × (fd < 2 ^ 32)
+  pub raised : w.client.next ≡ xid + 1
+  pub traffic : o.traffic ≡ record no_traffic { cond = 1; tmp = 1; «data» = length o.value }
+  pub unmade : o.point ≡ None
+  pub room : w.server.changes ≤ length w.ops
+  pub way : (Up w.link (tmp_call xid fd o.value (chunk_of o.value)) × (w.server.temps ≡ temp_with fd name []) × (w.server.waits ≡ []))
+      ⊎ (Down w.link (message.Answer xid (body.Lb (lb.TmpWriteAnswer (Done tt)))) × (w.server.temps ≡ temp_with fd name (pieces_of o.value)) × (w.server.waits ≡ []))
+
+abbrev pub waiting_change : (xid name : ℕ) → List ℕ → server.Change
+waiting_change xid name x = record { session = 1; xid = xid; file = name; content = x }
+
+-- The COMMITTMP is on its way up, it waits at the server, or its answer is on its way down.
+pub data Going (w : World) (o : Op) (name xid : ℕ) : Type 0 where
+  asked : (fd : ℕ) → fd < 2 ^ 32 → Up w.link (commit_call xid fd name (length o.value)) → w.server.temps ≡ temp_with fd name (pieces_of o.value) → w.server.waits ≡ [] → o.point ≡ None → w.server.changes ≤ length w.ops → Going w o name xid
+  waits : Still w.link → w.server.temps ≡ [] → w.server.waits ≡ waiting_change xid name o.value ∷ [] → o.point ≡ None → Going w o name xid
+  made : (version : ℕ) → Down w.link (message.Answer xid (body.Lb (lb.CommitTmpAnswer (Done (record { version = version; term = 0 }))))) → version < 2 ^ 64 → Quiet w.server
+      → Entered w.settled w.server.journal o.point name version (length o.value) (sha1 o.value) → Going w o name xid
+
+pub record Committing (w : World) (o : Op) (place name xid : ℕ) : Type 0 where
+  pub closing : Closing w o place name
+  pub small : xid < 4293967300
+  -- all of it was sent before the COMMITTMP went out
+  pub traffic : o.traffic ≡ close_traffic o.value
+  pub way : Going w o name xid
 
 -- ---- the operation under way
 
+abbrev pub storing : (xid fd : ℕ) → Under → Store
+storing xid fd u = record { fd = fd; conds = []; owed = []; under = u ∷ [] }
+
+abbrev pub named_chunk : (xid : ℕ) → List ℕ → Under
+named_chunk xid x = record { xid = xid; chunk = chunk_of x; way = way.Named }
+
+abbrev pub whole_chunk : (xid : ℕ) → List ℕ → Under
+whole_chunk xid x = record { xid = xid; chunk = chunk_of x; way = way.Whole }
+
+-- the chunks of a close are stored: the one chunk is named, or sent whole
+pub data Storing (w : World) (o : Op) (place name : ℕ) (st : Store) : Type 0 where
+  naming : (xid fd : ℕ) → st ≡ storing xid fd (named_chunk xid o.value) → Naming w o place name xid fd → Storing w o place name st
+  sending : (xid fd : ℕ) → st ≡ storing xid fd (whole_chunk xid o.value) → Sending w o place name xid fd → Storing w o place name st
+
+abbrev pub InPhase : World → Op → (place file : ℕ) → Phase → Type 0
+InPhase w o place file (phase.Hashing xid) = Asking w o file xid
+InPhase w o place file (phase.Reading f) = Fetching w o file f
+InPhase w o place file (phase.Making xid fd) = Making w o place file xid fd
+InPhase w o place file (phase.Storing st) = Storing w o place file st
+InPhase w o place file (phase.Committing xid) = Committing w o place file xid
+
 -- the operation under way is that of the client's task
-pub record IsUnder (ops : List Op) (running : Option ℕ) (t : Task) (begin now : ℕ) : Type 0 where
+pub record Busy (w : World) (t : Task) : Type 0 where
   pub place : ℕ
   pub op : Op
-  pub there : slice_get ops place ≡ Some op
-  pub is_running : running ≡ Some place
+  pub there : slice_get w.ops place ≡ Some op
+  pub is_running : w.running ≡ Some place
   pub file : op.file ≡ t.file
-  pub begun : op.begin ≡ begin
-  pub by_now : begin ≤ now
-  pub no_point : op.point ≡ None
   pub no_end : op.end ≡ None
   pub not_ended : op.outcome ≡ told.Running
-  pub word : op.word ≡ word.Open
-
-pub record Busy (w : World) (t : Task) : Type 0 where
-  pub begin : ℕ
-  pub under : IsUnder w.ops w.running t begin w.steps
+  -- an open has no point before its end
+  pub no_point : op.word ≡ word.Open → op.point ≡ None
+  -- commands since then were refused, since the client was busy
+  pub behind : (k : ℕ) (o : Op) → slice_get w.ops k ≡ Some o → place < k → o.outcome ≡ told.Busy
   pub small : t.file < 2 ^ 64
   pub stands : stands w.server 1 ≡ true
-  pub closed : client.local_at w.client.opened t.file ≡ None
-  pub phase : InPhase w.opening w.link t.file t.stage w.client.next begin w.steps
+  pub phase : InPhase w op place t.file t.stage
 
 pub record Idle (w : World) : Type 0 where
   pub none : w.running ≡ None
-  pub up : w.link.up ≡ []
-  pub down : w.link.down ≡ []
+  pub still : Still w.link
+  pub quiet : Quiet w.server
 
-abbrev pub Way : World → Option Task → Type 0
-Way w None = Idle w
-Way w (Some t) = Busy w t
+abbrev pub Under_way : World → Option Task → Type 0
+Under_way w None = Idle w
+Under_way w (Some t) = Busy w t
+
+-- a chunk that is named may be sent whole, and then the file is committed
+abbrev pub spare_way : Way → ℕ
+spare_way way.Named = 2
+spare_way way.Whole = 1
+
+abbrev pub spare_under : List Under → ℕ
+spare_under [] = 1
+spare_under (u ∷ us) = spare_way u.way
 
 -- the xids that the operation under way may still use
 abbrev pub spare_in : Phase → ℕ
 spare_in (phase.Hashing xid) = 1
 spare_in (phase.Reading f) = 0
+spare_in (phase.Making xid fd) = 3
+spare_in (phase.Storing st) = spare_under st.under
+spare_in (phase.Committing xid) = 0
 
 abbrev pub spare : Option Task → ℕ
 spare None = 0
@@ -225,25 +407,52 @@ is_early stage.Events = false
 is_early _ = true
 
 abbrev pub IsUntouched : World → Type 0
-IsUntouched w = (w.client ≡ client.start) × (w.ops ≡ [])
+IsUntouched w = (w.client ≡ client.start) × (w.ops ≡ []) × (w.server.waits ≡ [])
+
+-- what is kept of the server's tree, by what it opened with, by the operations, and by the step
+pub record IsTree (n : ℕ) (opening : List Opening) (ops : List Op) (s : server.State) (now : ℕ) : Type 0 where
+  pub small : Small opening
+  pub numbered : Numbered 2 opening
+  pub few : length opening < n
+  pub ours : AreOurs s.changes s.files
+  -- the files are those of the opening tree, and each is what its last change left
+  pub held : (file : ℕ) → option_map (λ f. f.content) (server.file_at s.files file) ≡ value_in opening ops file (now + 1)
+  pub same : (file : ℕ) → is_some (server.file_at s.files file) ≡ is_some (at_first opening file)
+  pub count : length s.files ≡ length opening
+  pub rising : IsRising s.files
+  pub shorts : AreShort s.files
+  pub changes : s.changes + length s.waits ≤ 1 + length ops
+
+-- what is kept of the operations, whose commands these are, and of the journal
+pub record IsPast (n : ℕ) (ds : List Deed) (opening : List Opening) (ops : List Op) (running : Option ℕ) (settled : List ℕ) (journal : List Entry) (now : ℕ) : Type 0 where
+  -- no trace has more than 65,536 lines
+  pub lines : n ≤ 65537
+  pub few : length ops < n
+  pub count : length ds ≡ length ops
+  pub of : (k : ℕ) (d : Deed) (o : Op) → slice_get ds k ≡ Some d → slice_get ops k ≡ Some o → IsOf d o
+  pub rights : (k : ℕ) (o : Op) → slice_get ops k ≡ Some o → IsRight opening ops now o
+  pub causes : (k : ℕ) (d : Deed) (o : Op) → slice_get ds k ≡ Some d → slice_get ops k ≡ Some o
+      → Cause (record { opening = opening; ops = ops; settled = settled; journal = journal }) d o (local_before ds ops k (file_of d.command)) o.outcome
+  pub apart : (i j p : ℕ) (a b : Op) → slice_get ops i ≡ Some a → slice_get ops j ≡ Some b → changes a.word ≡ true → a.point ≡ Some p → b.point ≡ Some p → i ≡ j
+  pub only : (k : ℕ) (o : Op) → slice_get ops k ≡ Some o → is_running o.outcome ≡ true → running ≡ Some k
+  pub logged : IsLogged ops settled journal now
+
+-- what is kept of the client
+pub record IsClient (ds : List Deed) (j : Bool) (opening : List Opening) (ops : List Op) (c : client.State) : Type 0 where
+  pub locals : (file : ℕ) → option_map (λ l. l.bytes) (client.local_at c.opened file) ≡ local_from file None ds ops
+  -- only files that are there are open, and none is longer than a local content may be
+  pub there : (file : ℕ) (l : Local) → client.local_at c.opened file ≡ Some l → IsSome (at_first opening file) × (length l.bytes ≤ 2048)
+  pub xids : c.next + spare c.task ≤ 4 * length ops + 1
+  pub fds : c.fds ≤ c.next
+  pub linked : c.linked ≡ j
 
 -- what is kept by the lines before the one of this number, whose commands these are, where the client joined by now or not
 pub record IsKept (n : ℕ) (ds : List Deed) (j : Bool) (w : World) : Type 0 where
-  pub files : HoldsTree w.server w.opening
-  pub small : Small w.opening
-  pub numbered : Numbered 2 w.opening
-  pub few_files : length w.opening < n
-  pub few_ops : length w.ops < n
+  pub tree : IsTree n w.opening w.ops w.server w.steps
+  pub past : IsPast n ds w.opening w.ops w.running w.settled w.server.journal w.steps
+  pub client : IsClient ds j w.opening w.ops w.client
+  pub joined : IsApart w ⊎ IsJoined w
   pub server_end : w.link.server_end ≡ nothing_read
   pub client_end : w.link.client_end ≡ nothing_read
-  pub rights : (k : ℕ) (o : Op) → slice_get w.ops k ≡ Some o → IsRight w.opening o
-  pub begun : (k : ℕ) (o : Op) → slice_get w.ops k ≡ Some o → o.begin ≤ w.steps
-  pub causes : (k : ℕ) (o : Op) → slice_get w.ops k ≡ Some o → Cause w.opening w.ops o o.outcome
-  pub only : (k : ℕ) (o : Op) → slice_get w.ops k ≡ Some o → is_running o.outcome ≡ true → w.running ≡ Some k
-  pub locals : (file : ℕ) (l : Local) → client.local_at w.client.opened file ≡ Some l → Origin w.ops file (w.steps + 1)
-  pub deeds : Matches ds w.ops
-  pub xids : w.client.next + spare w.client.task ≤ 2 * length w.ops + 1
-  pub linked : w.client.linked ≡ j
-  pub joined : IsApart w ⊎ IsJoined w
-  pub way : Way w w.client.task
+  pub way : Under_way w w.client.task
   pub fresh : is_early w.stage ≡ true → IsUntouched w

@@ -1,41 +1,37 @@
--- What each line of a trace keeps.
-use Rattle.std.proofs.Common.{◌≡◌, ℕ, zero, suc, ◌+◌, ◌*◌, ◌<◌, ◌≤◌, ◌^◌, List, [], ◌∷◌, ◌++◌, ◌⊎◌, inl, inr, Option, Some, None, Bool, true, false, length, refl, sym, ap, ◌∙◌, arith, subst, append-nil}
-use Rattle.std.specs.Prelude.{slice_get, ◌==◌, is_some, cond, option_map}
+-- What lines keep that begin no operation: another stage, a file of the opening tree, a client that joins, and deliveries.
+use Rattle.std.proofs.Common.{◌≡◌, ℕ, zero, suc, ◌+◌, ◌*◌, ◌<◌, ◌≤◌, ◌^◌, List, [], ◌∷◌, ◌++◌, ◌⊎◌, inl, inr, Option, Some, None, Bool, true, false, cond, length, max, refl, sym, ap, ◌∙◌, arith, subst}
+use Rattle.std.specs.Prelude.{slice_get, ◌==◌, is_some, option_map}
 use Rattle.std.proofs.lemmas.Bool.{eqb-true}
 use Rattle.std.proofs.lemmas.Bool.Decides.{nat_tests}
-use Rattle.trace_text.specs.Content.{content_bytes}
-use Rattle.trace_text.proofs.Contents.{content_size}
-use Rattle.trace_text.specs.declared.line.Command.TheVariants as command
 use Rattle.server_core.specs.State as server
 use Rattle.server_core.specs.Step.{connect, has_room, stands}
+use Rattle.server_core.specs.declared.file.File.{File}
 use Rattle.server_core.proofs.Files.{file_at_itself, file_at_another}
 use Rattle.open_close.specs.State as client
-use Rattle.open_close.specs.Step.{hash_call, sends, ends, opens, opens_if, asks_hashes, is_open, may_ask, has_xids}
-use Rattle.open_close.specs.declared.acts.Acts.{Acts}
-use Rattle.open_close.specs.declared.acts.Outcome.TheVariants as outcome
-use Rattle.open_close.specs.declared.acts.Outcome.{Outcome as Ending}
 use Rattle.open_close.specs.declared.task.Local.{Local}
-use Rattle.open_close.specs.declared.task.Task.{Task}
 use Rattle.open_close.specs.declared.task.Stage.{Stage as Phase}
 use Rattle.open_close.specs.declared.task.Stage.TheVariants as phase
+use Rattle.open_close.specs.declared.task.Store.{Store}
+use Rattle.open_close.specs.declared.task.Task.{Task}
+use Rattle.register_model.specs.Register.{Value}
 use Rattle.register_model.specs.declared.op.Op.{Op}
 use Rattle.register_model.specs.declared.op.Opening.{Opening}
-use Rattle.register_model.specs.declared.op.Word.TheVariants as word
+use Rattle.register_model.specs.declared.op.Outcome.TheVariants as told
 use Rattle.trace_replay.specs.declared.link.Stage.{Stage}
 use Rattle.trace_replay.specs.declared.link.Stage.TheVariants as stage
 use Rattle.trace_replay.specs.declared.link.Taken.{Taken}
-use Rattle.trace_replay.specs.declared.turn.Turn.{Turn}
-use Rattle.trace_replay.specs.declared.turn.Turn.TheVariants as turn
-use Rattle.trace_replay.specs.Faithful.{Deed, is_running}
-use Rattle.trace_replay.specs.World.{World, Link, op_after, running_with, taken_on, told_of}
+use Rattle.trace_replay.specs.Faithful.{Deed}
+use Rattle.trace_replay.specs.World.{World}
 use Rattle.trace_replay.specs.Delivery.{is_still, passes, round, up_all}
-use Rattle.trace_replay.specs.Run.{with_file, joins, begun, commanded, does, turned}
-use Rattle.trace_replay.proofs.Lists.{nothing_there, of_appended, at_end, kept_appended, length_appended}
-use Rattle.trace_replay.proofs.Opening.{free_id, numbered_more, in_tree_more}
-use Rattle.trace_replay.proofs.Asked.{Allows, deeds_by, linked_then}
-use Rattle.trace_replay.proofs.Growth.{Grows, no_truth, grows_appended, cause_grows, origin_grows, origin_later, matches_appended}
-use Rattle.trace_replay.proofs.Kept.{IsKept, IsRight, Cause, Beside, Way, Busy, Idle, InPhase, IsUntouched, IsApart, IsJoined, is_early, is_unlinked, spare, HoldsTree, Small, SmallFile, file_as, in_tree, Taking}
-use Rattle.trace_replay.proofs.Up.{kept_up, none_before}
+use Rattle.trace_replay.specs.Run.{with_file, joins}
+use Rattle.trace_replay.proofs.Lists.{nothing_there, length_appended}
+use Rattle.trace_replay.proofs.Values.{value_in}
+use Rattle.trace_replay.proofs.ServerFiles.{count_added, rising_put, short_put}
+use Rattle.trace_replay.proofs.ServerRows.{ours_put}
+use Rattle.trace_replay.proofs.Kept.{IsKept, IsTree, IsPast, IsUntouched, IsApart, IsJoined, Under_way, Busy, Idle, InPhase, Earlier, Taking, Closing, Storing, naming, sending, Going, asked, waits, made, Small, SmallFile, Numbered, in_tree, at_first, is_early, spare}
+use Rattle.trace_replay.proofs.Growth.{past_later}
+use Rattle.trace_replay.proofs.Trees.{points_of, tree_goes}
+use Rattle.trace_replay.proofs.Up.{kept_up}
 use Rattle.trace_replay.proofs.Down.{kept_down}
 
 -- ---- deliveries
@@ -48,59 +44,169 @@ pub kept_passes : (n : ℕ) (ds : List Deed) (j : Bool) (m : ℕ) (w : World) �
 kept_passes n ds j zero w k = k
 kept_passes n ds j (suc m) w k = kept_either n ds j (is_still w) w (passes m (round w)) k (kept_passes n ds j m (round w) (kept_down n ds j (up_all w) (kept_up n ds j w k)))
 
+-- ---- the operation under way, in a world of another stage, with later steps and more operations
+
+-- the values of files are as they were, and no further change was made
+pub record Lifts (opening : List Opening) (ops more : List Op) (now then : ℕ) : Type 0 where
+  pub later : now ≤ then
+  pub more_ops : length ops ≤ length more
+  pub values : (file p : ℕ) → value_in opening more file p ≡ value_in opening ops file p
+  pub earlier : (moment : ℕ) → Earlier ops moment → Earlier more moment
+
+abbrev pub lifted : World → Stage → List Op → ℕ → World
+lifted w s more then = record w { stage = s; ops = more; steps = then }
+
+lift_taking : (opening : List Opening) (ops more : List Op) (files : List (ℕ × File)) (file : ℕ) (taken : List Taken) (xid begin now then : ℕ) → Lifts opening ops more now then
+    → Taking opening ops files file taken xid begin now → Taking opening more files file taken xid begin then
+lift_taking opening ops more files file taken xid begin now then l h = (h.0, h.1, h.2, h.3, omega (arith, h.4, l.later), l.values file h.0 ∙ h.5, l.earlier h.0 h.6)
+
+lift_closing : (w : World) (s : Stage) (more : List Op) (then : ℕ) (o : Op) (place name : ℕ) → Closing w o place name → Closing (lifted w s more then) o place name
+lift_closing w s more then o place name c = record { word = c.word; short = c.short; local = c.local; known = c.known; found = c.found; there = c.there; node = c.node }
+
+lift_storing : (w : World) (s : Stage) (more : List Op) (then : ℕ) (o : Op) (place name : ℕ) (st : Store) → Lifts w.opening w.ops more w.steps then → Storing w o place name st → Storing (lifted w s more then) o place name st
+lift_storing w s more then o place name st l (naming xid fd is a) = naming xid fd is (record {
+  closing = lift_closing w s more then o place name a.closing;
+  some = a.some;
+  small = a.small;
+  raised = a.raised;
+  traffic = a.traffic;
+  unmade = a.unmade;
+  room = omega (arith, a.room, l.more_ops);
+  temps = a.temps;
+  way = a.way;
+})
+lift_storing w s more then o place name st l (sending xid fd is a) = sending xid fd is (record {
+  closing = lift_closing w s more then o place name a.closing;
+  some = a.some;
+  small = a.small;
+  raised = a.raised;
+  traffic = a.traffic;
+  unmade = a.unmade;
+  room = omega (arith, a.room, l.more_ops);
+  way = a.way;
+})
+
+lift_going : (w : World) (s : Stage) (more : List Op) (then : ℕ) (o : Op) (name xid : ℕ) → Lifts w.opening w.ops more w.steps then → Going w o name xid → Going (lifted w s more then) o name xid
+lift_going w s more then o name xid l (asked fd small up temps none unmade room) = asked fd small up temps none unmade (omega (arith, room, l.more_ops))
+lift_going w s more then o name xid l (waits still temps one unmade) = waits still temps one unmade
+lift_going w s more then o name xid l (made version down fits quiet entered) = made version down fits quiet entered
+
+lift_phase : (w : World) (s : Stage) (more : List Op) (then : ℕ) (o : Op) (place name : ℕ) (p : Phase) → Lifts w.opening w.ops more w.steps then → InPhase w o place name p → InPhase (lifted w s more then) o place name p
+lift_phase w s more then o place name (phase.Hashing xid) l a = record {
+  word = a.word;
+  quiet = a.quiet;
+  traffic = a.traffic;
+  small = a.small;
+  raised = a.raised;
+  way = elim a.way [ inl up ↦ inl up | inr down ↦ inr (down.0, lift_taking w.opening w.ops more w.server.files name w.link.taken xid o.begin w.steps then l down.1) ];
+}
+lift_phase w s more then o place name (phase.Reading f) l a = record {
+  word = a.word;
+  quiet = a.quiet;
+  traffic = a.traffic;
+  found = a.found;
+  there = a.there;
+  node = a.node;
+  some = a.some;
+  left = a.left;
+  bytes = a.bytes;
+  small = a.small;
+  taking = lift_taking w.opening w.ops more w.server.files name w.link.taken f.asked o.begin w.steps then l a.taking;
+  way = a.way;
+}
+lift_phase w s more then o place name (phase.Making xid fd) l a = record {
+  closing = lift_closing w s more then o place name a.closing;
+  small = a.small;
+  raised = a.raised;
+  traffic = a.traffic;
+  unmade = a.unmade;
+  room = omega (arith, a.room, l.more_ops);
+  way = a.way;
+}
+lift_phase w s more then o place name (phase.Storing st) l a = lift_storing w s more then o place name st l a
+lift_phase w s more then o place name (phase.Committing xid) l a = record {
+  closing = lift_closing w s more then o place name a.closing;
+  small = a.small;
+  traffic = a.traffic;
+  way = lift_going w s more then o name xid l a.way;
+}
+
+-- the operation under way stays where it is, and those behind it met it
+pub lift_busy : (w : World) (s : Stage) (more : List Op) (then : ℕ) (t : Task) → Lifts w.opening w.ops more w.steps then → (b : Busy w t) → slice_get more b.place ≡ Some b.op → ((k : ℕ) (o : Op) → slice_get more k ≡ Some o → b.place < k → o.outcome ≡ told.Busy)
+    → Busy (lifted w s more then) t
+lift_busy w s more then t l b there behind = record {
+  place = b.place;
+  op = b.op;
+  there = there;
+  is_running = b.is_running;
+  file = b.file;
+  no_end = b.no_end;
+  not_ended = b.not_ended;
+  no_point = b.no_point;
+  behind = behind;
+  small = b.small;
+  stands = b.stands;
+  phase = lift_phase w s more then b.op b.place t.file t.stage l b.phase;
+}
+
 -- ---- lines that change no file and no operation
 
-pub way_staged : (w : World) (o : Option Task) (s : Stage) → Way w o → Way (record w { stage = s }) o
-way_staged w None s idle = record { none = idle.none; up = idle.up; down = idle.down }
-way_staged w (Some t) s busy = record { begin = busy.begin; under = busy.under; small = busy.small; stands = busy.stands; closed = busy.closed; phase = busy.phase }
+lifts_same : (opening : List Opening) (ops : List Op) (now : ℕ) → Lifts opening ops ops now now
+lifts_same opening ops now = record { later = omega arith; more_ops = omega arith; values = λ file p. refl; earlier = λ moment h. h }
+
+way_staged : (w : World) (s : Stage) (o : Option Task) → Under_way w o → Under_way (record w { stage = s }) o
+way_staged w s None idle = record { none = idle.none; still = idle.still; quiet = idle.quiet }
+way_staged w s (Some t) busy = lift_busy w s w.ops w.steps t (lifts_same w.opening w.ops w.steps) busy busy.there busy.behind
 
 pub staged : (n : ℕ) (ds : List Deed) (j : Bool) (w : World) (s : Stage) → (is_early s ≡ true → IsUntouched w) → IsKept n ds j w → IsKept n ds j (record w { stage = s })
 staged n ds j w s fresh k = record {
-  files = k.files;
-  small = k.small;
-  numbered = k.numbered;
-  few_files = k.few_files;
-  few_ops = k.few_ops;
+  tree = k.tree;
+  past = k.past;
+  client = k.client;
+  joined = k.joined;
   server_end = k.server_end;
   client_end = k.client_end;
-  rights = k.rights;
-  begun = k.begun;
-  causes = k.causes;
-  only = k.only;
-  locals = k.locals;
-  deeds = k.deeds;
-  xids = k.xids;
-  linked = k.linked;
-  joined = k.joined;
-  way = way_staged w w.client.task s k.way;
+  way = way_staged w s w.client.task k.way;
   fresh = fresh;
 }
 
-at_events : (n : ℕ) (ds : List Deed) (j : Bool) (w : World) → IsKept n ds j w → IsKept n ds j (record w { stage = stage.Events })
-at_events n ds j w k = staged n ds j w stage.Events (λ e. absurd_early e) k
+-- the first event, or a further one
+pub at_events : (n : ℕ) (ds : List Deed) (j : Bool) (w : World) → IsKept n ds j w → IsKept n ds j (record w { stage = stage.Events })
+at_events n ds j w k = staged n ds j w stage.Events (λ e. never e) k
   where
-    absurd_early : {A : Type 0} → false ≡ true → A
-    absurd_early e = absurd cc
+    never : {A : Type 0} → false ≡ true → A
+    never e = absurd cc
 
 -- one line more
-pub kept_next : (n : ℕ) (ds : List Deed) (j : Bool) (w : World) → IsKept n ds j w → IsKept (n + 1) ds j w
-kept_next n ds j w k = record {
-  files = k.files;
-  small = k.small;
-  numbered = k.numbered;
-  few_files = omega (arith, k.few_files);
-  few_ops = omega (arith, k.few_ops);
+pub kept_next : (n : ℕ) (ds : List Deed) (j : Bool) (w : World) → n ≤ 65536 → IsKept n ds j w → IsKept (n + 1) ds j w
+kept_next n ds j w line k = record {
+  tree = record {
+    small = k.tree.small;
+    numbered = k.tree.numbered;
+    few = omega (arith, k.tree.few);
+    ours = k.tree.ours;
+    held = k.tree.held;
+    same = k.tree.same;
+    count = k.tree.count;
+    rising = k.tree.rising;
+    shorts = k.tree.shorts;
+    changes = k.tree.changes;
+  };
+  past = record {
+    lines = omega (arith, line);
+    few = omega (arith, k.past.few);
+    count = k.past.count;
+    of = k.past.of;
+    rights = k.past.rights;
+    causes = k.past.causes;
+    apart = k.past.apart;
+    only = k.past.only;
+    logged = k.past.logged;
+  };
+  client = k.client;
+  joined = k.joined;
   server_end = k.server_end;
   client_end = k.client_end;
-  rights = k.rights;
-  begun = k.begun;
-  causes = k.causes;
-  only = k.only;
-  locals = k.locals;
-  deeds = k.deeds;
-  xids = k.xids;
-  linked = k.linked;
-  joined = k.joined;
   way = k.way;
   fresh = k.fresh;
 }
@@ -110,6 +216,32 @@ kept_next n ds j w k = record {
 small_more : (os : List Opening) (o : Opening) → Small os → SmallFile o → Small (os ++ o ∷ [])
 small_more [] o small short = (short, tt)
 small_more (p ∷ os) o small short = (small.0, small_more os o small.1 short)
+
+-- an id that is not among these
+not_in : (os : List Opening) (n m : ℕ) → Numbered n os → (m < n) ⊎ (n + length os ≤ m) → in_tree os m ≡ None
+not_in [] n m numbered out = refl
+not_in (o ∷ os) n m numbered out = by o (o.file == m) (in_tree os m) (other out) (not_in os (n + 1) m numbered.1 (elim out [ inl lt ↦ inl (omega (arith, lt)) | inr le ↦ inr (omega (arith, le)) ]))
+  where
+    other : (m < n) ⊎ (n + length (o ∷ os) ≤ m) → (o.file == m) ≡ false
+    other (inl lt) = let is : o.file ≡ n = numbered.0 in grind (arith, nat_tests, is, lt)
+    other (inr le) = let is : o.file ≡ n = numbered.0 in grind (arith, nat_tests, is, le)
+
+    by : (o : Opening) (b : Bool) (found : Option Opening) → b ≡ false → found ≡ None → cond b (Some o) found ≡ None
+    by o true found e later = absurd cc
+    by o false found e later = later
+
+-- the root's id is none of a file's
+pub no_root : (os : List Opening) → Numbered 2 os → at_first os 1 ≡ None
+no_root os numbered = ap (λ (o : Option Opening). option_map (λ o. o.content) o) (not_in os 2 1 numbered (inl (omega arith)))
+
+numbered_more : (os : List Opening) (n : ℕ) (o : Opening) → Numbered n os → o.file ≡ n + length os → Numbered n (os ++ o ∷ [])
+numbered_more [] n o numbered is = (omega (arith, is), tt)
+numbered_more (p ∷ os) n o numbered is = (numbered.0, numbered_more os (n + 1) o numbered.1 (omega (arith, is)))
+
+-- what is found under another id is what was found before
+in_tree_more : (os : List Opening) (o : Opening) (name : ℕ) → (o.file == name) ≡ false → in_tree (os ++ o ∷ []) name ≡ in_tree os name
+in_tree_more [] o name other = ap (λ (b : Bool). cond b (Some o) None) other
+in_tree_more (p ∷ os) o name other = ap (λ (found : Option Opening). cond (p.file == name) (Some p) found) (in_tree_more os o name other)
 
 found_appended : (os : List Opening) (o : Opening) → in_tree os o.file ≡ None → in_tree (os ++ o ∷ []) o.file ≡ Some o
 found_appended [] o none = ap (λ (b : Bool). cond b (Some o) None) (same o.file)
@@ -122,68 +254,113 @@ found_appended (p ∷ os) o none = by p o (p.file == o.file) (in_tree os o.file)
     by p o true found later e go = nothing_there p (sym e)
     by p o false found later e go = go e
 
-holds_more : (s : server.State) (os : List Opening) (o : Opening) → HoldsTree s os → in_tree os o.file ≡ None → HoldsTree (record s { files = server.with_file s.files (file_as o) }) (os ++ o ∷ [])
-holds_more s os o holds none = λ name. by name (o.file == name) refl
+-- the server's file of one of the opening tree
+abbrev pub file_as : Opening → File
+file_as o = record { id = o.file; version = 1; content = o.content }
+
+abbrev content_at : List (ℕ × File) → ℕ → Value
+content_at files file = option_map (λ f. f.content) (server.file_at files file)
+
+-- where files hold what they were at first they do so with one more
+holds_more : (files : List (ℕ × File)) (os : List Opening) (o : Opening) → ((file : ℕ) → content_at files file ≡ at_first os file) → in_tree os o.file ≡ None → (file : ℕ) → content_at (server.with_file files (file_as o)) file ≡ at_first (os ++ o ∷ []) file
+holds_more files os o holds none file = by (o.file == file) refl
   where
-    other : (b : Bool) (m : ℕ) → (o.file == m) ≡ b → b ≡ false → m ≡ o.file → ⊥
-    other b m e f same = grind (arith, nat_tests, e, f, same)
+    other : (m : ℕ) → (o.file == m) ≡ false → m ≡ o.file → ⊥
+    other m e same = grind (arith, nat_tests, e, same)
 
-    by : (name : ℕ) (b : Bool) → (o.file == name) ≡ b → server.file_at (server.with_file s.files (file_as o)) name ≡ option_map file_as (in_tree (os ++ o ∷ []) name)
-    by name true e =
-        let same : o.file ≡ name = eqb-true o.file name e in
-        subst (λ (m : ℕ). server.file_at (server.with_file s.files (file_as o)) m ≡ option_map file_as (in_tree (os ++ o ∷ []) m)) same
-        (file_at_itself s.files (file_as o) ∙ ap (option_map file_as) (sym (found_appended os o none)))
-    by name false e = file_at_another s.files (file_as o) name (other false name e refl) ∙ holds name ∙ ap (option_map file_as) (sym (in_tree_more os o name e))
+    by : (b : Bool) → (o.file == file) ≡ b → content_at (server.with_file files (file_as o)) file ≡ at_first (os ++ o ∷ []) file
+    by true e =
+        let same : o.file ≡ file = eqb-true o.file file e in
+        subst (λ (m : ℕ). content_at (server.with_file files (file_as o)) m ≡ at_first (os ++ o ∷ []) m) same
+        (ap (λ (f : Option File). option_map (λ f. f.content) f) (file_at_itself files (file_as o)) ∙ ap (λ (p : Option Opening). option_map (λ o. o.content) p) (sym (found_appended os o none)))
+    by false e =
+        ap (λ (f : Option File). option_map (λ f. f.content) f) (file_at_another files (file_as o) file (other file e))
+        ∙ holds file
+        ∙ ap (λ (p : Option Opening). option_map (λ o. o.content) p) (sym (in_tree_more os o file e))
 
-no_op : {A : Type 0} (ops : List Op) (k : ℕ) (o : Op) → ops ≡ [] → slice_get ops k ≡ Some o → A
-no_op ops k o e at = nothing_there o (ap (λ (x : List Op). slice_get x k) (sym e) ∙ at)
+-- it is there where its content is
+some_content : (f : Option File) → is_some (option_map (λ f. f.content) f) ≡ is_some f
+some_content None = refl
+some_content (Some f) = refl
 
-idle_at : (w : World) → w.client.task ≡ None → Way w w.client.task → Idle w
-idle_at w e way = subst (λ (o : Option Task). Way w o) e way
+not_there : (files : List (ℕ × File)) (os : List Opening) (file : ℕ) → is_some (server.file_at files file) ≡ is_some (at_first os file) → in_tree os file ≡ None → server.file_at files file ≡ None
+not_there files os file same none = by (server.file_at files file) (same ∙ ap (λ (o : Option Opening). is_some (option_map (λ o. o.content) o)) none)
+  where
+    by : (f : Option File) → is_some f ≡ false → f ≡ None
+    by None e = refl
+    by (Some f) e = absurd cc
 
-way_of : (w : World) → w.client.task ≡ None → Idle w → Way w w.client.task
-way_of w e idle = subst (λ (o : Option Task). Way w o) (sym e) idle
+tree_more : (n : ℕ) (opening : List Opening) (s : server.State) (now : ℕ) (o : Opening) → n ≤ 65536 → o.file ≡ length opening + 2 → length o.content ≤ 2048 → s.waits ≡ []
+    → IsTree n opening [] s now → IsTree (n + 1) (opening ++ o ∷ []) [] (record s { files = server.with_file s.files (file_as o); changes = max s.changes 1 }) now
+tree_more n opening s now o line id short none h =
+    let free = not_in opening 2 o.file h.numbered (inr (omega (arith, id))) in
+    let holds = holds_more s.files opening o h.held free in
+    let absent = not_there s.files opening o.file (h.same o.file) free in
+    let no_waits : length s.waits ≡ 0 = ap (λ (cs : List server.Change). length cs) none in
+    let many = length_appended opening o in
+    let small : o.file < 2 ^ 64 = omega (arith, id, h.few, line) in
+    record {
+      small = small_more opening o h.small (short, small);
+      numbered = numbered_more opening 2 o h.numbered (omega (arith, id));
+      few = omega (arith, many, h.few);
+      ours = ours_put s.changes (max s.changes 1) s.files (file_as o) h.ours (omega arith) (record { id = refl; small = small; version = omega arith; short = short });
+      held = holds;
+      same = λ file. sym (some_content (server.file_at (server.with_file s.files (file_as o)) file)) ∙ ap (λ (v : Value). is_some v) (holds file);
+      count = count_added s.files (file_as o) h.rising absent ∙ ap (λ (m : ℕ). m + 1) h.count ∙ sym many;
+      rising = rising_put s.files (file_as o) h.rising;
+      shorts = short_put s.files (file_as o) h.shorts short;
+      changes = omega (arith, h.changes, no_waits);
+    }
+
+-- with no operation so far nothing speaks of the opening tree
+past_opened : (n : ℕ) (ds : List Deed) (opening more : List Opening) (running : Option ℕ) (s : World) → n ≤ 65536 → IsPast n ds opening [] running s.settled s.server.journal s.steps → IsPast (n + 1) ds more [] running s.settled s.server.journal s.steps
+past_opened n ds opening more running s line h = record {
+  lines = omega (arith, line);
+  few = omega (arith, h.few);
+  count = h.count;
+  of = λ k d o at_d at. nothing_there o at;
+  rights = λ k o at. nothing_there o at;
+  causes = λ k d o at_d at. nothing_there o at;
+  apart = λ i k p a b at_a at_b. nothing_there a at_a;
+  only = h.only;
+  logged = h.logged;
+}
+
+-- where no operation is under way
+pub idle_at : (w : World) → w.client.task ≡ None → Under_way w w.client.task → Idle w
+idle_at w e way = subst (λ (o : Option Task). Under_way w o) e way
+
+way_of : (w : World) → w.client.task ≡ None → Idle w → Under_way w w.client.task
+way_of w e idle = subst (λ (o : Option Task). Under_way w o) (sym e) idle
+
+-- no file is open at a client that did nothing
+none_open : {A : Type 0} (c : client.State) (file : ℕ) (l : Local) → c ≡ client.start → client.local_at c.opened file ≡ Some l → A
+none_open c file l e at = nothing_there l (ap (λ (x : client.State). client.local_at x.opened file) (sym e) ∙ at)
 
 pub kept_file : (n : ℕ) (ds : List Deed) (j : Bool) (w : World) (name content : List ℕ) → length content ≤ 2048 → n ≤ 65536 → IsUntouched w → IsKept n ds j w → IsKept (n + 1) ds j (with_file w name content)
-kept_file n ds j w name content short few u k =
+kept_file n ds j w name content short line u k =
     let none : w.client.task ≡ None = ap (λ (c : client.State). c.task) u.0 in
     let idle = idle_at w none k.way in
     let o : Opening = record { file = length w.opening + 2; content = content } in
+    let s : server.State = record w.server { files = server.with_file w.server.files (file_as o); changes = max w.server.changes 1 } in
     record {
-      files = holds_more w.server w.opening o k.files (free_id w.opening 2 o.file k.numbered (omega arith));
-      small = small_more w.opening o k.small (short, omega (arith, k.few_files, few));
-      numbered = numbered_more w.opening 2 o k.numbered (omega arith);
-      few_files = subst (λ (m : ℕ). m < n + 1) (sym (length_appended w.opening o)) (omega (arith, k.few_files));
-      few_ops = omega (arith, k.few_ops);
+      tree = subst (λ (ops : List Op). IsTree (n + 1) (w.opening ++ o ∷ []) ops s w.steps) (sym u.1) (tree_more n w.opening w.server w.steps o line refl short u.2 (subst (λ (ops : List Op). IsTree n w.opening ops w.server w.steps) u.1 k.tree));
+      past = subst (λ (ops : List Op). IsPast (n + 1) ds (w.opening ++ o ∷ []) ops w.running w.settled w.server.journal w.steps) (sym u.1) (past_opened n ds w.opening (w.opening ++ o ∷ []) w.running w line (subst (λ (ops : List Op). IsPast n ds w.opening ops w.running w.settled w.server.journal w.steps) u.1 k.past));
+      client = record {
+        locals = k.client.locals;
+        there = λ file l at. none_open w.client file l u.0 at;
+        xids = k.client.xids;
+        fds = k.client.fds;
+        linked = k.client.linked;
+      };
+      joined = k.joined;
       server_end = k.server_end;
       client_end = k.client_end;
-      rights = λ i p at. no_op w.ops i p u.1 at;
-      begun = k.begun;
-      causes = λ i p at. no_op w.ops i p u.1 at;
-      only = k.only;
-      locals = k.locals;
-      deeds = k.deeds;
-      xids = k.xids;
-      linked = k.linked;
-      joined = k.joined;
-      way = way_of (with_file w name content) none (record { none = idle.none; up = idle.up; down = idle.down });
+      way = way_of (with_file w name content) none (record { none = idle.none; still = idle.still; quiet = idle.quiet });
       fresh = λ e. u;
     }
 
 -- ---- the client joins
-
-abbrev with_sessions : server.State → List ℕ → ℕ → server.State
-with_sessions s ss made = record s { sessions = ss; made = made }
-
-abbrev Stood : server.State → Type 0
-Stood s = stands (connect s (has_room s)).0 1 ≡ true
-
-stood_by : (s : server.State) (ss : List ℕ) (made : ℕ) → ss ≡ [] → made ≡ 0 → Stood (with_sessions s ss made)
-stood_by s ss made e f = subst (λ (x : List ℕ). Stood (with_sessions s x made)) (sym e) (subst (λ (i : ℕ). Stood (with_sessions s [] i)) (sym f) refl)
-
-connected_files : (s : server.State) (b : Bool) (os : List Opening) → HoldsTree s os → HoldsTree (connect s b).0 os
-connected_files s true os h = h
-connected_files s false os h = h
 
 -- a client that has not joined has no session
 not_joined : (w : World) → w.client.linked ≡ false → IsApart w ⊎ IsJoined w → IsApart w
@@ -193,299 +370,55 @@ not_joined w e (inr h) = by w.client.linked e h.0
     by : {A : Type 0} (b : Bool) → b ≡ false → b ≡ true → A
     by b e f = absurd cc
 
+abbrev with_sessions : server.State → List ℕ → ℕ → server.State
+with_sessions s ss m = record s { sessions = ss; made = m }
+
+abbrev Stood : server.State → Type 0
+Stood s = stands (connect s (has_room s)).0 1 ≡ true
+
+stood_by : (s : server.State) (ss : List ℕ) (m : ℕ) → ss ≡ [] → m ≡ 0 → Stood (with_sessions s ss m)
+stood_by s ss m e f = subst (λ (x : List ℕ). Stood (with_sessions s x m)) (sym e) (subst (λ (i : ℕ). Stood (with_sessions s [] i)) (sym f) refl)
+
+-- a session more, or none, changes nothing else of the server
+abbrev connected : World → Bool → World
+connected w b = record (joins w) { server = (connect w.server b).0 }
+
+tree_connected : (n : ℕ) (ds : List Deed) (j : Bool) (w : World) (b : Bool) → IsKept n ds j w → IsTree n w.opening w.ops (connect w.server b).0 (w.steps + 2)
+tree_connected n ds j w true k =
+    tree_goes n n w.opening w.ops w.ops w.server w.server.temps w.server.waits (w.server.sessions ++ (w.server.made + 1) ∷ []) (w.server.made + 1) w.server.last w.steps (w.steps + 2) (omega arith) (points_of n ds w.opening w.ops w.running w.settled w.server.journal w.steps k.past) (λ file p. refl) k.tree.changes (omega arith) k.tree
+tree_connected n ds j w false k =
+    tree_goes n n w.opening w.ops w.ops w.server w.server.temps w.server.waits w.server.sessions w.server.made w.server.last w.steps (w.steps + 2) (omega arith) (points_of n ds w.opening w.ops w.running w.settled w.server.journal w.steps k.past) (λ file p. refl) k.tree.changes (omega arith) k.tree
+
+past_connected : (n : ℕ) (ds : List Deed) (j : Bool) (w : World) (b : Bool) → IsKept n ds j w → IsPast n ds w.opening w.ops w.running w.settled (connect w.server b).0.journal (w.steps + 2)
+past_connected n ds j w true k = past_later n ds w.opening w.ops w.running w.settled w.server.journal w.steps (w.steps + 2) (omega arith) k.past
+past_connected n ds j w false k = past_later n ds w.opening w.ops w.running w.settled w.server.journal w.steps (w.steps + 2) (omega arith) k.past
+
+idle_connected : (w : World) (b : Bool) → Idle w → Idle (connected w b)
+idle_connected w true idle = record { none = idle.none; still = (refl, refl); quiet = idle.quiet }
+idle_connected w false idle = record { none = idle.none; still = (refl, refl); quiet = idle.quiet }
+
 pub kept_join : (n : ℕ) (ds : List Deed) (j : Bool) (w : World) → is_early w.stage ≡ false → w.client.linked ≡ false → IsKept n ds j w → IsKept n ds true (joins w)
 kept_join n ds j w events unlinked k =
     let h = not_joined w unlinked k.joined in
-    let idle = idle_at w h.1 k.way in
     record {
-      files = connected_files w.server (has_room w.server) w.opening k.files;
-      small = k.small;
-      numbered = k.numbered;
-      few_files = k.few_files;
-      few_ops = k.few_ops;
+      tree = tree_connected n ds j w (has_room w.server) k;
+      past = past_connected n ds j w (has_room w.server) k;
+      client = record {
+        locals = k.client.locals;
+        there = k.client.there;
+        xids = xids_again (spare w.client.task) (length w.ops) (ap spare h.1);
+        fds = omega arith;
+        linked = refl;
+      };
+      joined = inr (refl, stood_by w.server w.server.sessions w.server.made h.3 h.4);
       server_end = refl;
       client_end = refl;
-      rights = k.rights;
-      begun = λ i o at. omega (arith, k.begun i o at);
-      causes = k.causes;
-      only = k.only;
-      locals = λ f l at. origin_later w.ops f (w.steps + 1) (w.steps + 2 + 1) (omega arith) (k.locals f l at);
-      deeds = k.deeds;
-      xids = xids_again (spare w.client.task) (length w.ops) (ap spare h.1);
-      linked = refl;
-      joined = inr (refl, stood_by w.server w.server.sessions w.server.made h.3 h.4);
-      way = way_of (joins w) h.1 (record { none = idle.none; up = refl; down = refl });
+      way = way_of (joins w) h.1 (idle_connected w (has_room w.server) (idle_at w h.1 k.way));
       fresh = λ e. not_early w.stage events e;
     }
   where
-    xids_again : (s ops : ℕ) → s ≡ 0 → 1 + s ≤ 2 * ops + 1
+    xids_again : (s ops : ℕ) → s ≡ 0 → 1 + s ≤ 4 * ops + 1
     xids_again s ops e = omega (arith, e)
 
     not_early : {A : Type 0} (s : Stage) → is_early s ≡ false → is_early s ≡ true → A
     not_early s e f = absurd cc
-
--- ---- the client's command
-
--- the operation that a command begins, where its client ends it so at once
-abbrev pub told_op : World → ℕ → Ending → Op
-told_op w file o = op_after (begun file (w.steps + 1)) w.client [] (w.steps + 1) (ends o 0 0)
-
--- it is told so by its client alone
-abbrev pub ByClient : Ending → Type 0
-ByClient outcome.Busy = Unit {0}
-ByClient outcome.AlreadyOpen = Unit {0}
-ByClient outcome.NoLink = Unit {0}
-ByClient _ = ⊥
-
-abbrev pub after_told : World → ℕ → Ending → World
-after_told w file o = record w { steps = w.steps + 1; link = record w.link { up = w.link.up ++ []; taken = taken_on w.running w.link.taken }; ops = w.ops ++ told_op w file o ∷ []; running = running_with w.running (length w.ops) (Some (record { outcome = o; rests_on = 0 })) }
-
-told_right : (w : World) (file : ℕ) (o : Ending) → ByClient o → IsRight w.opening (told_op w file o)
-told_right w file outcome.Busy h = record { client = refl; word = refl; within = λ p e. nothing_there p e; opens = λ e. no_truth e; gone = λ e. no_truth e; end = refl }
-told_right w file outcome.AlreadyOpen h = record { client = refl; word = refl; within = λ p e. nothing_there p e; opens = λ e. no_truth e; gone = λ e. no_truth e; end = refl }
-told_right w file outcome.NoLink h = record { client = refl; word = refl; within = λ p e. nothing_there p e; opens = λ e. no_truth e; gone = λ e. no_truth e; end = refl }
-told_right w file o h = absurd h
-
-told_ended : (o : Ending) → ByClient o → is_running (told_of o) ≡ false
-told_ended outcome.Busy h = refl
-told_ended outcome.AlreadyOpen h = refl
-told_ended outcome.NoLink h = refl
-told_ended o h = absurd h
-
--- what is on its way later
-later_taking : (taken : List Taken) (xid begin now : ℕ) → Taking taken xid begin now → Taking taken xid begin (now + 1)
-later_taking taken xid begin now h = (h.0, h.1, h.2, h.3, omega (arith, h.4))
-
-later_phase : (opening : List Opening) (l : Link) (file : ℕ) (p : Phase) (next begin now : ℕ) → InPhase opening l file p next begin now → InPhase opening l file p next begin (now + 1)
-later_phase opening l file (phase.Hashing xid) next begin now h = record { small = h.small; raised = h.raised; way = elim h.way [ inl up ↦ inl up | inr down ↦ inr (down.0, later_taking l.taken xid begin now down.1) ] }
-later_phase opening l file (phase.Reading f) next begin now h = record { opened = h.opened; there = h.there; node = h.node; short = h.short; some = h.some; left = h.left; bytes = h.bytes; small = h.small; taking = later_taking l.taken f.asked begin now h.taking; way = h.way }
-
--- the link of a client that is busy is as it was
-same_link : (l : Link) (running : Option ℕ) (place : ℕ) → running ≡ Some place → record l { up = l.up ++ []; taken = taken_on running l.taken } ≡ l
-same_link l running place e = ap (λ (r : Option ℕ). record l { up = l.up ++ []; taken = taken_on r l.taken }) e ∙ ap (λ (u : List ℕ). record l { up = u }) (append-nil l.up)
-
-way_told : (w : World) (file : ℕ) (o : Ending) (t : Option Task) → Way w t → Way (after_told w file o) t
-way_told w file o None idle = record {
-  none = ap (λ (r : Option ℕ). running_with r (length w.ops) (Some (record { outcome = o; rests_on = 0 }))) idle.none;
-  up = none_before w.link.up [] idle.up;
-  down = idle.down;
-}
-way_told w file o (Some t) busy =
-    let u = busy.under in
-    record {
-      begin = busy.begin;
-      under = record {
-        place = u.place;
-        op = u.op;
-        there = kept_appended w.ops (told_op w file o) u.place u.op u.there;
-        is_running = ap (λ (r : Option ℕ). running_with r (length w.ops) (Some (record { outcome = o; rests_on = 0 }))) u.is_running;
-        file = u.file;
-        begun = u.begun;
-        by_now = omega (arith, u.by_now);
-        no_point = u.no_point;
-        no_end = u.no_end;
-        not_ended = u.not_ended;
-        word = u.word;
-      };
-      small = busy.small;
-      stands = busy.stands;
-      closed = busy.closed;
-      phase = subst (λ (l : Link). InPhase w.opening l t.file t.stage w.client.next busy.begin (w.steps + 1)) (sym (same_link w.link w.running u.place u.is_running)) (later_phase w.opening w.link t.file t.stage w.client.next busy.begin w.steps busy.phase);
-    }
-
-running_told : (running : Option ℕ) (place i : ℕ) (o : Ending) → running ≡ Some i → running_with running place (Some (record { outcome = o; rests_on = 0 })) ≡ Some i
-running_told running place i o e = ap (λ (r : Option ℕ). running_with r place (Some (record { outcome = o; rests_on = 0 }))) e
-
-pub kept_told : (n : ℕ) (ds : List Deed) (j : Bool) (w : World) (file : ℕ) (o : Ending) → ByClient o → is_early w.stage ≡ false → (is_unlinked (told_of o) ≡ true → j ≡ false) → Cause w.opening w.ops (told_op w file o) (told_of o)
-    → IsKept n ds j w → IsKept (n + 1) (ds ++ deeds_by j (turn.Do (command.Open file))) j (after_told w file o)
-kept_told n ds j w file o by_client events tied cause k =
-    let new = told_op w file o in
-    let v = after_told w file o in
-    let grows : Grows w.ops v.ops w.steps = grows_appended w.ops new w.steps in
-    record {
-      files = k.files;
-      small = k.small;
-      numbered = k.numbered;
-      few_files = omega (arith, k.few_files);
-      few_ops = subst (λ (m : ℕ). m < n + 1) (sym (length_appended w.ops new)) (omega (arith, k.few_ops));
-      server_end = k.server_end;
-      client_end = k.client_end;
-      rights = λ i p at. elim (of_appended w.ops new i p at) [
-        | inl h ↦ subst (λ (x : Op). IsRight w.opening x) (sym h.1) (told_right w file o by_client)
-        | inr h ↦ k.rights i p h
-      ];
-      begun = λ i p at. elim (of_appended w.ops new i p at) [
-        | inl h ↦ begun_now p new (w.steps + 1) h.1 refl
-        | inr h ↦ omega (arith, k.begun i p h)
-      ];
-      causes = λ i p at. elim (of_appended w.ops new i p at) [
-        | inl h ↦ subst (λ (x : Op). Cause w.opening v.ops x x.outcome) (sym h.1) (cause_grows w.opening w.ops v.ops (w.steps + 1) new (told_of o) (grows_appended w.ops new (w.steps + 1)) (omega arith) cause)
-        | inr h ↦ cause_grows w.opening w.ops v.ops w.steps p p.outcome grows (k.begun i p h) (k.causes i p h)
-      ];
-      only = λ i p at runs. elim (of_appended w.ops new i p at) [
-        | inl h ↦ not_runs p new h.1 (told_ended o by_client) runs
-        | inr h ↦ running_told w.running (length w.ops) i o (k.only i p h runs)
-      ];
-      locals = λ f l at. origin_later v.ops f (w.steps + 1) (w.steps + 1 + 1) (omega arith) (origin_grows w.ops v.ops w.steps f (w.steps + 1) grows (k.locals f l at));
-      deeds = matches_appended ds w.ops (record { client = 1; word = word.Open; file = file; linked = j }) new k.deeds (record { client = refl; word = refl; file = refl; unlinked = tied });
-      xids = subst (λ (m : ℕ). w.client.next + spare w.client.task ≤ 2 * m + 1) (sym (length_appended w.ops new)) (omega (arith, k.xids));
-      linked = k.linked;
-      joined = k.joined;
-      way = way_told w file o w.client.task k.way;
-      fresh = λ e. not_early w.stage events e;
-    }
-  where
-    begun_now : (p new : Op) (now : ℕ) → p ≡ new → new.begin ≡ now → p.begin ≤ now
-    begun_now p new now is e = let b : p.begin ≡ now = ap (λ (x : Op). x.begin) is ∙ e in omega (arith, b)
-
-    not_runs : {A : Type 0} (p new : Op) → p ≡ new → is_running new.outcome ≡ false → is_running p.outcome ≡ true → A
-    not_runs p new is ended runs = let f : is_running p.outcome ≡ false = ap (λ (x : Op). is_running x.outcome) is ∙ ended in absurd cc
-
-    not_early : {A : Type 0} (s : Stage) → is_early s ≡ false → is_early s ≡ true → A
-    not_early s e f = absurd cc
-
--- ---- the client asks
-
-abbrev pub asking_client : World → ℕ → client.State
-asking_client w file = record w.client { next = w.client.next + 1; task = Some (record { file = file; stage = phase.Hashing w.client.next }) }
-
-abbrev pub asking_op : World → ℕ → Op
-asking_op w file = op_after (begun file (w.steps + 1)) (asking_client w file) [] (w.steps + 1) (sends (hash_call w.client.next file) 0 0)
-
-abbrev pub after_asked : World → ℕ → World
-after_asked w file = commanded w file (asking_client w file) (sends (hash_call w.client.next file) 0 0)
-
-pub kept_asked : (n : ℕ) (ds : List Deed) (j : Bool) (w : World) (file : ℕ) → n ≤ 65536 → file < 2 ^ 64 → is_early w.stage ≡ false → w.client.task ≡ None → w.client.linked ≡ true → client.local_at w.client.opened file ≡ None
-    → IsKept n ds j w → IsKept (n + 1) (ds ++ deeds_by j (turn.Do (command.Open file))) j (after_asked w file)
-kept_asked n ds j w file few small events none linked closed k =
-    let idle = idle_at w none k.way in
-    let new = asking_op w file in
-    let v = after_asked w file in
-    let grows : Grows w.ops v.ops w.steps = grows_appended w.ops new w.steps in
-    let stood = stood_joined w linked k.joined in
-    let right : IsRight w.opening new = record { client = refl; word = refl; within = λ p e. nothing_there p e; opens = λ e. no_truth e; gone = λ e. no_truth e; end = refl } in
-    record {
-      files = k.files;
-      small = k.small;
-      numbered = k.numbered;
-      few_files = omega (arith, k.few_files);
-      few_ops = subst (λ (m : ℕ). m < n + 1) (sym (length_appended w.ops new)) (omega (arith, k.few_ops));
-      server_end = k.server_end;
-      client_end = k.client_end;
-      rights = λ i p at. elim (of_appended w.ops new i p at) [
-        | inl h ↦ subst (λ (x : Op). IsRight w.opening x) (sym h.1) right
-        | inr h ↦ k.rights i p h
-      ];
-      begun = λ i p at. elim (of_appended w.ops new i p at) [
-        | inl h ↦ begun_now p new (w.steps + 1) h.1 refl
-        | inr h ↦ omega (arith, k.begun i p h)
-      ];
-      causes = λ i p at. elim (of_appended w.ops new i p at) [
-        | inl h ↦ subst (λ (x : Op). Cause w.opening v.ops x x.outcome) (sym h.1) tt
-        | inr h ↦ cause_grows w.opening w.ops v.ops w.steps p p.outcome grows (k.begun i p h) (k.causes i p h)
-      ];
-      only = λ i p at runs. elim (of_appended w.ops new i p at) [
-        | inl h ↦ run_here w.running (length w.ops) i idle.none h.0
-        | inr h ↦ nothing_there i (sym idle.none ∙ k.only i p h runs)
-      ];
-      locals = λ f l at. origin_later v.ops f (w.steps + 1) (w.steps + 1 + 1) (omega arith) (origin_grows w.ops v.ops w.steps f (w.steps + 1) grows (k.locals f l at));
-      deeds = matches_appended ds w.ops (record { client = 1; word = word.Open; file = file; linked = j }) new k.deeds (record { client = refl; word = refl; file = refl; unlinked = λ e. not_so e });
-      xids = xids_more w.client.next (spare w.client.task) (length w.ops) (length v.ops) (length_appended w.ops new) k.xids;
-      linked = k.linked;
-      joined = inr (linked, stood);
-      way = record {
-        begin = w.steps + 1;
-        under = record { place = length w.ops; op = new; there = at_end w.ops new; is_running = run_here w.running (length w.ops) (length w.ops) idle.none refl; file = refl; begun = refl; by_now = omega arith; no_point = refl; no_end = refl; not_ended = refl; word = refl };
-        small = small;
-        stands = stood;
-        closed = closed;
-        phase = record { small = few_xids n w.client.next (spare w.client.task) (length w.ops) few k.few_ops k.xids; raised = refl; way = inl ((none_before w.link.up _ idle.up, idle.down), ap (λ (r : Option ℕ). taken_on r w.link.taken) idle.none) };
-      };
-      fresh = λ e. not_early w.stage events e;
-    }
-  where
-    begun_now : (p new : Op) (now : ℕ) → p ≡ new → new.begin ≡ now → p.begin ≤ now
-    begun_now p new now is e = let b : p.begin ≡ now = ap (λ (x : Op). x.begin) is ∙ e in omega (arith, b)
-
-    not_both : {A : Type 0} (b : Bool) → b ≡ false → b ≡ true → A
-    not_both b e f = absurd cc
-
-    stood_joined : (w : World) → w.client.linked ≡ true → IsApart w ⊎ IsJoined w → stands w.server 1 ≡ true
-    stood_joined w e (inl h) = not_both w.client.linked h.0 e
-    stood_joined w e (inr h) = h.1
-
-    not_so : {A : Type 0} → false ≡ true → A
-    not_so e = absurd cc
-
-    run_here : (running : Option ℕ) (place i : ℕ) → running ≡ None → i ≡ place → running_with running place None ≡ Some i
-    run_here running place i e same = ap (λ (r : Option ℕ). running_with r place None) e ∙ ap (λ (m : ℕ). Some m) (sym same)
-
-    xids_more : (next s ops more : ℕ) → more ≡ ops + 1 → next + s ≤ 2 * ops + 1 → next + 1 + 1 ≤ 2 * more + 1
-    xids_more next s ops more e le = omega (arith, e, le)
-
-    few_xids : (n next s ops : ℕ) → n ≤ 65536 → ops < n → next + s ≤ 2 * ops + 1 → next < 4293967297
-    few_xids n next s ops few less le = omega (arith, few, less, le)
-
-    not_early : {A : Type 0} (s : Stage) → is_early s ≡ false → is_early s ≡ true → A
-    not_early s e f = absurd cc
-
--- ---- any command
-
-abbrev done_by : World → ℕ → client.State × Acts → World
-done_by w file r = commanded w file r.0 r.1
-
-abbrev After : ℕ → List Deed → Bool → ℕ → World → Type 0
-After n ds j file v = IsKept (n + 1) (ds ++ deeds_by j (turn.Do (command.Open file))) j v
-
--- the client is busy
-busy_cause : (w : World) (t : Task) (file : ℕ) → Busy w t → Beside w.ops (told_op w file outcome.Busy)
-busy_cause w t file busy = let u = busy.under in (u.place, u.op, u.there, omega (arith, u.begun, u.by_now), λ e at. nothing_there e (sym u.no_end ∙ at))
-
-some_xids : (n next s ops : ℕ) → n ≤ 65536 → ops < n → next + s ≤ 2 * ops + 1 → has_xids next ≡ true
-some_xids n next s ops few less le = let small : next < 4293967297 = omega (arith, few, less, le) in grind (arith, nat_tests, small)
-
-command_linked : (n : ℕ) (ds : List Deed) (j : Bool) (w : World) (file : ℕ) (b : Bool) → n ≤ 65536 → file < 2 ^ 64 → is_early w.stage ≡ false → w.client.task ≡ None → client.local_at w.client.opened file ≡ None → w.client.linked ≡ b → IsKept n ds j w
-    → After n ds j file (done_by w file (asks_hashes w.client file (may_ask w.client)))
-command_linked n ds j w file true few small events none closed e k =
-    let able : may_ask w.client ≡ true = ap (λ (b : Bool). elim b [ true ↦ has_xids w.client.next | false ↦ false ]) e ∙ some_xids n w.client.next (spare w.client.task) (length w.ops) few k.few_ops k.xids in
-    subst (After n ds j file) (sym (ap (λ (b : Bool). done_by w file (asks_hashes w.client file b)) able)) (kept_asked n ds j w file few small events none e closed k)
-command_linked n ds j w file false few small events none closed e k =
-    let unable : may_ask w.client ≡ false = ap (λ (b : Bool). elim b [ true ↦ has_xids w.client.next | false ↦ false ]) e in
-    subst (After n ds j file) (sym (ap (λ (b : Bool). done_by w file (asks_hashes w.client file b)) unable)) (kept_told n ds j w file outcome.NoLink tt events (λ so. sym k.linked ∙ e) tt k)
-
-command_open : (n : ℕ) (ds : List Deed) (j : Bool) (w : World) (file : ℕ) (o : Option Local) → n ≤ 65536 → file < 2 ^ 64 → is_early w.stage ≡ false → w.client.task ≡ None → client.local_at w.client.opened file ≡ o → IsKept n ds j w
-    → After n ds j file (done_by w file (opens_if w.client file (is_open w.client.opened file)))
-command_open n ds j w file None few small events none e k =
-    subst (After n ds j file) (sym (ap (λ (l : Option Local). done_by w file (opens_if w.client file (is_some l))) e)) (command_linked n ds j w file w.client.linked few small events none e refl k)
-command_open n ds j w file (Some l) few small events none e k =
-    subst (After n ds j file) (sym (ap (λ (l : Option Local). done_by w file (opens_if w.client file (is_some l))) e)) (kept_told n ds j w file outcome.AlreadyOpen tt events (λ so. not_so so) (k.locals file l e) k)
-  where
-    not_so : {A : Type 0} → false ≡ true → A
-    not_so e = absurd cc
-
-command_task : (n : ℕ) (ds : List Deed) (j : Bool) (w : World) (file : ℕ) (o : Option Task) → n ≤ 65536 → file < 2 ^ 64 → is_early w.stage ≡ false → w.client.task ≡ o → Way w o → IsKept n ds j w
-    → After n ds j file (done_by w file (opens w.client file w.client.task))
-command_task n ds j w file None few small events e idle k =
-    subst (After n ds j file) (sym (ap (λ (o : Option Task). done_by w file (opens w.client file o)) e)) (command_open n ds j w file (client.local_at w.client.opened file) few small events e refl k)
-command_task n ds j w file (Some t) few small events e busy k =
-    subst (After n ds j file) (sym (ap (λ (o : Option Task). done_by w file (opens w.client file o)) e)) (kept_told n ds j w file outcome.Busy tt events (λ so. not_so so) (busy_cause w t file busy) k)
-  where
-    not_so : {A : Type 0} → false ≡ true → A
-    not_so e = absurd cc
-
-pub kept_command : (n : ℕ) (ds : List Deed) (j : Bool) (w : World) (file : ℕ) → n ≤ 65536 → file < 2 ^ 64 → is_early w.stage ≡ false → IsKept n ds j w → After n ds j file (does w (command.Open file))
-kept_command n ds j w file few small events k = command_task n ds j w file w.client.task few small events refl k.way k
-
--- ---- any turn
-
-none_more : (n : ℕ) (ds : List Deed) (j : Bool) (w : World) → IsKept n ds j w → IsKept n (ds ++ []) j w
-none_more n ds j w k = subst (λ (es : List Deed). IsKept n es j w) (sym (append-nil ds)) k
-
-pub kept_turn : (n : ℕ) (ds : List Deed) (j : Bool) (w : World) (t : Turn) → n ≤ 65536 → Allows w t → IsKept n ds j w → IsKept (n + 1) (ds ++ deeds_by j t) (linked_then j t) (turned w t)
-kept_turn n ds j w turn.Skip few allowed k = none_more (n + 1) ds j w (kept_next n ds j w k)
-kept_turn n ds j w (turn.At s) few allowed k = none_more (n + 1) ds j _ (kept_next n ds j _ (staged n ds j w s (λ e. k.fresh allowed) k))
-kept_turn n ds j w (turn.File name content) few allowed k =
-    none_more (n + 1) ds j _ (kept_file n ds j w name (content_bytes content) (subst (λ (m : ℕ). m ≤ 2048) (sym (content_size content)) allowed.1) few (k.fresh (ap is_early allowed.0)) k)
-kept_turn n ds j w turn.Join few allowed k = none_more (n + 1) ds true _ (kept_next n ds true _ (kept_join n ds j (record w { stage = stage.Events }) refl allowed (at_events n ds j w k)))
-kept_turn n ds j w (turn.Do (command.Open file)) few allowed k = kept_command n ds j (record w { stage = stage.Events }) file few allowed refl (at_events n ds j w k)
-kept_turn n ds j w (turn.Pass m) few allowed k = none_more (n + 1) ds j _ (kept_next n ds j _ (kept_passes n ds j m (record w { stage = stage.Events }) (at_events n ds j w k)))

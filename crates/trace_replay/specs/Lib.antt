@@ -1,5 +1,6 @@
 pub mod Names
 pub mod World
+pub mod Commands
 pub mod Delivery
 pub mod Run
 pub mod Hashed

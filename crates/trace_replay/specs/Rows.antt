@@ -6,7 +6,7 @@ use Rattle.sha1.specs.Sha1.{sha1, digest_bytes, hash_after, compress, rounds, sc
 use Rattle.xdr_codec.specs.Answers.{outcome_form}
 use Rattle.xdr_codec.specs.Attr.{time_form, kind_form, attr_form}
 use Rattle.xdr_codec.specs.Xdr.{u32_form, u64_form, bool_form, bytes_form, fixed_form, count_form, opaque_spell, opaque_read}
-use Rattle.hash_calls.specs.Calls.{hashes_form, pair_form}
+use Rattle.hash_calls.specs.Calls.{hashes_form, pair_form, new_temp_form, temp_piece_form, cond_piece_form, commit_form, committed_form}
 use Rattle.hash_calls.specs.Calls.{range_form as hash_range_form}
 use Rattle.nfs3_calls.specs.Calls.{piece_form}
 use Rattle.nfs3_calls.specs.Calls.{range_form}
@@ -77,12 +77,78 @@ pub two_files : text_of (run (codes "\n# a trace\n" ++ header ++ codes "file a -
 unfolding record_of digits encode_with decode_pairs sha1 digest_bytes hash_after compress rounds schedule first_words outcome_form time_form kind_form attr_form u32_form u64_form bool_form bytes_form fixed_form count_form opaque_spell opaque_read hashes_form pair_form hash_range_form piece_form range_form direction_form front_form auth_form call_form versions_form accept_form denial_form reply_form
 two_files = refl
 
+-- an empty file, opened and closed: its new content is empty too, and has a version of its own
+pub empty_closed : text_of (run (header ++ codes "file e -\njoin 1 0 0\ndo 1 0 open #2\npass 1 2 0 0\ndo 1 0 close #2\npass 1 3 0 0\nsettle 0\npass 1 1 0 0\n"))
+    ≡ codes "lbfs-history 1\nop 1 client 1 open file 2 begin 3 end 5 point 4 Opened 0 da39a3ee5e6b4b0d3255bfef95601890afd80709 cond 0 tmp 0 read 0 data 0\nop 2 client 1 close file 2 begin 6 end 11 point 10 Closed 2 0 da39a3ee5e6b4b0d3255bfef95601890afd80709 cond 0 tmp 0 read 0 data 0\nend ops 2 steps 11\n"
+unfolding record_of digits encode_with sha1 digest_bytes hash_after compress rounds schedule first_words outcome_form time_form kind_form attr_form u32_form u64_form bool_form bytes_form fixed_form count_form opaque_spell opaque_read hashes_form pair_form hash_range_form piece_form range_form new_temp_form temp_piece_form cond_piece_form commit_form committed_form direction_form front_form auth_form call_form versions_form accept_form denial_form reply_form
+empty_closed = refl
+
+-- a local content is written past its end, cut, filled, and read past its end
+pub local_changes : text_of (run (header ++ codes "file a t:abc\njoin 1 0 0\ndo 1 0 open #2\npass 1 4 0 0\ndo 1 0 write #2 5 t:xy\ndo 1 0 read #2 0 9\ndo 1 0 trunc #2 4\ndo 1 0 trunc #2 6\ndo 1 0 read #2 2 100\n"))
+    ≡ codes "lbfs-history 1\nop 1 client 1 open file 2 begin 3 end 7 point 4 Opened 3 a9993e364706816aba3e25717850c26c9cd0d89d cond 0 tmp 0 read 1 data 3\nop 2 client 1 write file 2 begin 8 end 8 point - Done cond 0 tmp 0 read 0 data 0\nop 3 client 1 read file 2 begin 9 end 9 point - Piece 7 7b66c0a0c321b03c3e4f79dd040a70c67f37f431 cond 0 tmp 0 read 0 data 0\nop 4 client 1 trunc file 2 begin 10 end 10 point - Done cond 0 tmp 0 read 0 data 0\nop 5 client 1 trunc file 2 begin 11 end 11 point - Done cond 0 tmp 0 read 0 data 0\nop 6 client 1 read file 2 begin 12 end 12 point - Piece 4 3aa850148c2ee2335f0993b5d13a6686b0128496 cond 0 tmp 0 read 0 data 0\nend ops 6 steps 12\n"
+unfolding record_of digits encode_with sha1 digest_bytes hash_after compress rounds schedule first_words outcome_form time_form kind_form attr_form u32_form u64_form bool_form bytes_form fixed_form count_form opaque_spell opaque_read hashes_form pair_form hash_range_form piece_form range_form new_temp_form temp_piece_form cond_piece_form commit_form committed_form direction_form front_form auth_form call_form versions_form accept_form denial_form reply_form
+local_changes = refl
+
+-- a file that was changed is closed, and opened again with its new content
+pub closed_and_reopened : text_of (run (header ++ codes "file a t:abc\njoin 1 0 0\ndo 1 0 open #2\npass 1 4 0 0\ndo 1 0 write #2 5 t:xy\ndo 1 0 close #2\npass 1 9 0 0\nsettle 0\npass 1 1 0 0\ndo 1 0 open #2\npass 1 9 0 0\n"))
+    ≡ codes "lbfs-history 1\nop 1 client 1 open file 2 begin 3 end 7 point 4 Opened 3 a9993e364706816aba3e25717850c26c9cd0d89d cond 0 tmp 0 read 1 data 3\nop 2 client 1 write file 2 begin 8 end 8 point - Done cond 0 tmp 0 read 0 data 0\nop 3 client 1 close file 2 begin 9 end 18 point 17 Closed 2 7 7b66c0a0c321b03c3e4f79dd040a70c67f37f431 cond 1 tmp 1 read 0 data 7\nop 4 client 1 open file 2 begin 19 end 23 point 20 Opened 7 7b66c0a0c321b03c3e4f79dd040a70c67f37f431 cond 0 tmp 0 read 1 data 7\nend ops 4 steps 23\n"
+unfolding record_of digits encode_with sha1 digest_bytes hash_after compress rounds schedule first_words outcome_form time_form kind_form attr_form u32_form u64_form bool_form bytes_form fixed_form count_form opaque_spell opaque_read hashes_form pair_form hash_range_form piece_form range_form new_temp_form temp_piece_form cond_piece_form commit_form committed_form direction_form front_form auth_form call_form versions_form accept_form denial_form reply_form
+closed_and_reopened = refl
+
+-- a write of no bytes is done at any place, and changes nothing
+pub nothing_written : text_of (run (header ++ codes "file a t:abc\njoin 1 0 0\ndo 1 0 open #2\npass 1 4 0 0\ndo 1 0 write #2 18446744073709551615 -\ndo 1 0 read #2 0 18446744073709551615\ndo 1 0 read #2 3 1\n"))
+    ≡ codes "lbfs-history 1\nop 1 client 1 open file 2 begin 3 end 7 point 4 Opened 3 a9993e364706816aba3e25717850c26c9cd0d89d cond 0 tmp 0 read 1 data 3\nop 2 client 1 write file 2 begin 8 end 8 point - Done cond 0 tmp 0 read 0 data 0\nop 3 client 1 read file 2 begin 9 end 9 point - Piece 3 a9993e364706816aba3e25717850c26c9cd0d89d cond 0 tmp 0 read 0 data 0\nop 4 client 1 read file 2 begin 10 end 10 point - Piece 0 da39a3ee5e6b4b0d3255bfef95601890afd80709 cond 0 tmp 0 read 0 data 0\nend ops 4 steps 10\n"
+unfolding record_of digits encode_with sha1 digest_bytes hash_after compress rounds schedule first_words outcome_form time_form kind_form attr_form u32_form u64_form bool_form bytes_form fixed_form count_form opaque_spell opaque_read hashes_form pair_form hash_range_form piece_form range_form new_temp_form temp_piece_form cond_piece_form commit_form committed_form direction_form front_form auth_form call_form versions_form accept_form denial_form reply_form
+nothing_written = refl
+
+-- a local content stays within 2048 bytes
+pub too_big : text_of (run (header ++ codes "file e -\njoin 1 0 0\ndo 1 0 open #2\npass 1 2 0 0\ndo 1 0 trunc #2 2049\ndo 1 0 write #2 2048 t:a\ndo 1 0 write #2 18446744073709551615 t:a\ndo 1 0 trunc #2 18446744073709551615\ndo 1 0 read #2 0 1\n"))
+    ≡ codes "lbfs-history 1\nop 1 client 1 open file 2 begin 3 end 5 point 4 Opened 0 da39a3ee5e6b4b0d3255bfef95601890afd80709 cond 0 tmp 0 read 0 data 0\nop 2 client 1 trunc file 2 begin 6 end 6 point - TooBig 2049 cond 0 tmp 0 read 0 data 0\nop 3 client 1 write file 2 begin 7 end 7 point - TooBig 2049 cond 0 tmp 0 read 0 data 0\nop 4 client 1 write file 2 begin 8 end 8 point - TooBig 18446744073709551616 cond 0 tmp 0 read 0 data 0\nop 5 client 1 trunc file 2 begin 9 end 9 point - TooBig 18446744073709551615 cond 0 tmp 0 read 0 data 0\nop 6 client 1 read file 2 begin 10 end 10 point - Piece 0 da39a3ee5e6b4b0d3255bfef95601890afd80709 cond 0 tmp 0 read 0 data 0\nend ops 6 steps 10\n"
+unfolding record_of digits encode_with sha1 digest_bytes hash_after compress rounds schedule first_words outcome_form time_form kind_form attr_form u32_form u64_form bool_form bytes_form fixed_form count_form opaque_spell opaque_read hashes_form pair_form hash_range_form piece_form range_form new_temp_form temp_piece_form cond_piece_form commit_form committed_form direction_form front_form auth_form call_form versions_form accept_form denial_form reply_form
+too_big = refl
+
+-- a local content of 2048 bytes
+pub at_its_edge : text_of (run (header ++ codes "file e -\njoin 1 0 0\ndo 1 0 open #2\npass 1 2 0 0\ndo 1 0 write #2 2047 t:a\ndo 1 0 read #2 2046 9\n"))
+    ≡ codes "lbfs-history 1\nop 1 client 1 open file 2 begin 3 end 5 point 4 Opened 0 da39a3ee5e6b4b0d3255bfef95601890afd80709 cond 0 tmp 0 read 0 data 0\nop 2 client 1 write file 2 begin 6 end 6 point - Done cond 0 tmp 0 read 0 data 0\nop 3 client 1 read file 2 begin 7 end 7 point - Piece 2 3106600e0327ca77371f2526df794ed84322585c cond 0 tmp 0 read 0 data 0\nend ops 3 steps 7\n"
+unfolding record_of digits encode_with sha1 digest_bytes hash_after compress rounds schedule first_words outcome_form time_form kind_form attr_form u32_form u64_form bool_form bytes_form fixed_form count_form opaque_spell opaque_read hashes_form pair_form hash_range_form piece_form range_form new_temp_form temp_piece_form cond_piece_form commit_form committed_form direction_form front_form auth_form call_form versions_form accept_form denial_form reply_form
+at_its_edge = refl
+
+-- a command on a file that is not open, which is found out before a session is missed
+pub not_open : text_of (run (header ++ codes "file a t:abc\ndo 1 0 write #2 0 t:a\ndo 1 0 trunc #2 0\ndo 1 0 read #2 0 1\ndo 1 0 close #2\ndo 1 0 abandon #2\n"))
+    ≡ codes "lbfs-history 1\nop 1 client 1 write file 2 begin 1 end 1 point - NotOpen cond 0 tmp 0 read 0 data 0\nop 2 client 1 trunc file 2 begin 2 end 2 point - NotOpen cond 0 tmp 0 read 0 data 0\nop 3 client 1 read file 2 begin 3 end 3 point - NotOpen cond 0 tmp 0 read 0 data 0\nop 4 client 1 close file 2 begin 4 end 4 point - NotOpen cond 0 tmp 0 read 0 data 0\nop 5 client 1 abandon file 2 begin 5 end 5 point - NotOpen cond 0 tmp 0 read 0 data 0\nend ops 5 steps 5\n"
+unfolding digits
+not_open = refl
+
+-- a file that is abandoned is as it was, and can be opened again
+pub abandoned : text_of (run (header ++ codes "file e -\njoin 1 0 0\ndo 1 0 open #2\npass 1 2 0 0\ndo 1 0 write #2 0 t:xy\ndo 1 0 abandon #2\ndo 1 0 abandon #2\ndo 1 0 open #2\npass 1 2 0 0\n"))
+    ≡ codes "lbfs-history 1\nop 1 client 1 open file 2 begin 3 end 5 point 4 Opened 0 da39a3ee5e6b4b0d3255bfef95601890afd80709 cond 0 tmp 0 read 0 data 0\nop 2 client 1 write file 2 begin 6 end 6 point - Done cond 0 tmp 0 read 0 data 0\nop 3 client 1 abandon file 2 begin 7 end 7 point - Done cond 0 tmp 0 read 0 data 0\nop 4 client 1 abandon file 2 begin 8 end 8 point - NotOpen cond 0 tmp 0 read 0 data 0\nop 5 client 1 open file 2 begin 9 end 11 point 10 Opened 0 da39a3ee5e6b4b0d3255bfef95601890afd80709 cond 0 tmp 0 read 0 data 0\nend ops 5 steps 11\n"
+unfolding record_of digits encode_with sha1 digest_bytes hash_after compress rounds schedule first_words outcome_form time_form kind_form attr_form u32_form u64_form bool_form bytes_form fixed_form count_form opaque_spell opaque_read hashes_form pair_form hash_range_form piece_form range_form new_temp_form temp_piece_form cond_piece_form commit_form committed_form direction_form front_form auth_form call_form versions_form accept_form denial_form reply_form
+abandoned = refl
+
+-- a close whose change is never made, and a command meanwhile
+pub change_waits : text_of (run (header ++ codes "file e -\njoin 1 0 0\ndo 1 0 open #2\npass 1 2 0 0\ndo 1 0 close #2\npass 1 9 0 0\ndo 1 0 read #2 0 1\n"))
+    ≡ codes "lbfs-history 1\nop 1 client 1 open file 2 begin 3 end 5 point 4 Opened 0 da39a3ee5e6b4b0d3255bfef95601890afd80709 cond 0 tmp 0 read 0 data 0\nop 2 client 1 close file 2 begin 6 end - point - Running cond 0 tmp 0 read 0 data 0\nop 3 client 1 read file 2 begin 10 end 10 point - Busy cond 0 tmp 0 read 0 data 0\nend ops 3 steps 10\n"
+unfolding record_of digits encode_with sha1 digest_bytes hash_after compress rounds schedule first_words outcome_form time_form kind_form attr_form u32_form u64_form bool_form bytes_form fixed_form count_form opaque_spell opaque_read hashes_form pair_form hash_range_form piece_form range_form new_temp_form temp_piece_form cond_piece_form commit_form committed_form direction_form front_form auth_form call_form versions_form accept_form denial_form reply_form
+change_waits = refl
+
+-- a close whose change was made, and whose answer is not delivered
+pub untold_change : text_of (run (header ++ codes "file e -\njoin 1 0 0\ndo 1 0 open #2\npass 1 2 0 0\ndo 1 0 close #2\npass 1 9 0 0\nsettle 0\n"))
+    ≡ codes "lbfs-history 1\nop 1 client 1 open file 2 begin 3 end 5 point 4 Opened 0 da39a3ee5e6b4b0d3255bfef95601890afd80709 cond 0 tmp 0 read 0 data 0\nop 2 client 1 close file 2 begin 6 end - point 10 Running cond 0 tmp 0 read 0 data 0\nend ops 2 steps 10\n"
+unfolding record_of digits encode_with sha1 digest_bytes hash_after compress rounds schedule first_words outcome_form time_form kind_form attr_form u32_form u64_form bool_form bytes_form fixed_form count_form opaque_spell opaque_read hashes_form pair_form hash_range_form piece_form range_form new_temp_form temp_piece_form cond_piece_form commit_form committed_form direction_form front_form auth_form call_form versions_form accept_form denial_form reply_form
+untold_change = refl
+
+-- where no change waits, a settle is a step and no more
+pub nothing_settles : text_of (run (header ++ codes "file e -\nsettle 0\njoin 1 0 0\nsettle 0\ndo 1 0 open #2\npass 1 2 0 0\nsettle 0\n"))
+    ≡ codes "lbfs-history 1\nop 1 client 1 open file 2 begin 5 end 7 point 6 Opened 0 da39a3ee5e6b4b0d3255bfef95601890afd80709 cond 0 tmp 0 read 0 data 0\nend ops 1 steps 8\n"
+unfolding record_of digits encode_with sha1 digest_bytes hash_after compress rounds schedule first_words outcome_form time_form kind_form attr_form u32_form u64_form bool_form bytes_form fixed_form count_form opaque_spell opaque_read hashes_form pair_form hash_range_form piece_form range_form new_temp_form temp_piece_form cond_piece_form commit_form committed_form direction_form front_form auth_form call_form versions_form accept_form denial_form reply_form
+nothing_settles = refl
+
 -- the first line that is refused: lines that are skipped count
 abbrev refused_by : List ℕ → List ℕ
 refused_by lines = text_of (run (header ++ lines))
 
-pub refusals : map refused_by (codes "\n#\nfile a -\nfile a -\n" ∷ codes "file a z:2049\n" ∷ codes "file a z:2048\nfile a z:2049" ∷ codes "file a z:18446744073709551615+z:18446744073709551615\n" ∷ codes "join 1 0 0\njoin 1 0 0\n" ∷ codes "do 1 0 open #1\nfile a -\n" ∷ codes "pass 1 1 0 0\n" ∷ codes "join 1 0 0\npass 2 1 0 0\n" ∷ codes "do 2 0 open #1\n" ∷ codes "join 1 1 0\n" ∷ [])
-    ≡ (codes "refused line 8 grammar\n" ∷ codes "refused line 5 limit file\n" ∷ codes "refused line 6 grammar\n" ∷ codes "refused line 5 limit file\n" ∷ codes "refused line 6 grammar\n" ∷ codes "refused line 6 grammar\n" ∷ codes "refused line 5 grammar\n" ∷ codes "refused line 6 grammar\n" ∷ codes "refused line 5 grammar\n" ∷ codes "refused line 5 grammar\n" ∷ [])
+pub refusals : map refused_by (codes "\n#\nfile a -\nfile a -\n" ∷ codes "file a z:2049\n" ∷ codes "file a z:2048\nfile a z:2049" ∷ codes "file a z:18446744073709551615+z:18446744073709551615\n" ∷ codes "join 1 0 0\njoin 1 0 0\n" ∷ codes "do 1 0 open #1\nfile a -\n" ∷ codes "pass 1 1 0 0\n" ∷ codes "join 1 0 0\npass 2 1 0 0\n" ∷ codes "do 2 0 open #1\n" ∷ codes "join 1 1 0\n" ∷ codes "settle 1\n" ∷ codes "join 1 0 0\nup 1 all 0\n" ∷ codes "join 1 0 0\ndown 1 all 0\n" ∷ codes "join 1 0 0\ncut 1 0\n" ∷ codes "join 1 0 0\nhang 1 0\n" ∷ codes "settle 0\nfile a -\n" ∷ [])
+    ≡ (codes "refused line 8 grammar\n" ∷ codes "refused line 5 limit file\n" ∷ codes "refused line 6 grammar\n" ∷ codes "refused line 5 limit file\n" ∷ codes "refused line 6 grammar\n" ∷ codes "refused line 6 grammar\n" ∷ codes "refused line 5 grammar\n" ∷ codes "refused line 6 grammar\n" ∷ codes "refused line 5 grammar\n" ∷ codes "refused line 5 grammar\n" ∷ codes "refused line 5 grammar\n" ∷ codes "refused line 6 grammar\n" ∷ codes "refused line 6 grammar\n" ∷ codes "refused line 6 grammar\n" ∷ codes "refused line 6 grammar\n" ∷ codes "refused line 6 grammar\n" ∷ [])
 unfolding record_of digits
 refusals = refl
 

@@ -1,33 +1,34 @@
 -- A trace run line by line.
-use Rattle.std.specs.Prelude.{ℕ, ◌+◌, List, [], ◌∷◌, ◌++◌, length, Option, Some, None, Result, Ok, Err, Bool, true, false, not, ◌&&◌, ◌==◌, nat_lt, nat_le}
+use Rattle.std.specs.Prelude.{ℕ, ◌+◌, List, [], ◌∷◌, ◌++◌, length, Option, Some, None, Result, Ok, Err, Bool, true, false, not, ◌&&◌, ◌==◌, nat_lt, nat_le, slice_get, slice_set}
 use Rattle.trace_text.specs.Parts.{lines_of}
 use Rattle.trace_text.specs.Grammar.{line_of}
 use Rattle.trace_text.specs.Content.{content_length, content_bytes}
 use Rattle.trace_text.specs.declared.content.Part.{Part}
 use Rattle.trace_text.specs.declared.line.Command.{Command}
-use Rattle.trace_text.specs.declared.line.Command.TheVariants as command
 use Rattle.trace_text.specs.declared.line.Line.{Line}
 use Rattle.trace_text.specs.declared.line.Line.TheVariants as line
 use Rattle.trace_text.specs.declared.refusal.Limit.TheVariants as limit
 use Rattle.trace_text.specs.declared.refusal.LineFault.{LineFault}
 use Rattle.trace_text.specs.declared.refusal.LineFault.TheVariants.{Grammar, Limit}
 use Rattle.server_core.specs.State as server
-use Rattle.server_core.specs.Step.{server_step}
+use Rattle.server_core.specs.Step.{server_step, opens_with}
 use Rattle.server_core.specs.declared.event.Event.TheVariants as event
+use Rattle.server_core.specs.declared.event.Outs.{Outs}
 use Rattle.open_close.specs.State as client
 use Rattle.open_close.specs.Step.{command_step, joined}
 use Rattle.open_close.specs.declared.acts.Acts.{Acts}
 use Rattle.register_model.specs.Register.{History}
 use Rattle.register_model.specs.declared.op.Op.{Op}
 use Rattle.register_model.specs.declared.op.Outcome.TheVariants as told
-use Rattle.register_model.specs.declared.op.Word.TheVariants as word
+use Rattle.register_model.specs.declared.op.Word.{Word}
 use Rattle.trace_replay.specs.declared.fault.Refused.{Refused}
 use Rattle.trace_replay.specs.declared.link.Stage.{Stage}
 use Rattle.trace_replay.specs.declared.link.Stage.TheVariants as stage
 use Rattle.trace_replay.specs.declared.turn.Turn.{Turn}
 use Rattle.trace_replay.specs.declared.turn.Turn.TheVariants as turn
 use Rattle.trace_replay.specs.Names.{has_name, with_name}
-use Rattle.trace_replay.specs.World.{World, start, new_link, bytes_of, op_after, running_with, taken_on}
+use Rattle.trace_replay.specs.Commands.{word_of, file_of, value_at_begin}
+use Rattle.trace_replay.specs.World.{World, start, new_link, bytes_of, messages_of, op_after, running_with, taken_on, closing_with}
 use Rattle.trace_replay.specs.Delivery.{passes}
 
 -- ---- limits
@@ -53,7 +54,7 @@ with_file w name content =
       names = with_name w.names name;
       opening = w.opening ++ record { file = id; content = content } ∷ [];
       size = w.size + length content;
-      server = record w.server { files = server.with_file w.server.files (record { id = id; version = 1; content = content }) };
+      server = opens_with w.server (record { id = id; version = 1; content = content });
     }
 
 -- ---- events
@@ -63,22 +64,45 @@ abbrev pub joins : World → World
 joins w = record w { server = (server_step w.server event.Connect).0; client = joined w.client; sessions = w.sessions + 1; link = new_link; steps = w.steps + 2 }
 
 -- an operation that begins
-abbrev pub begun : ℕ → ℕ → Op
-begun file step = record { client = 1; word = word.Open; file = file; begin = step; end = None; point = None; outcome = told.Running; value = []; traffic = record { cond = 0; tmp = 0; read = 0; «data» = 0 } }
+abbrev pub begun : Word → (file : ℕ) → (value : List ℕ) → (step : ℕ) → Op
+begun what file value step = record { client = 1; word = what; file = file; begin = step; end = None; point = None; outcome = told.Running; value = value; traffic = record { cond = 0; tmp = 0; read = 0; «data» = 0 } }
 
 -- the client does what it is told to, in a step
-abbrev pub commanded : World → ℕ → client.State → Acts → World
-commanded w file c acts =
+abbrev pub commanded : World → Word → (file : ℕ) → (value : List ℕ) → client.State → Acts → World
+commanded w what file value c acts =
     record w {
       steps = w.steps + 1;
       client = c;
-      link = record w.link { up = w.link.up ++ bytes_of acts.send; taken = taken_on w.running w.link.taken };
-      ops = w.ops ++ op_after (begun file (w.steps + 1)) c [] (w.steps + 1) acts ∷ [];
+      link = record w.link { up = w.link.up ++ bytes_of acts.send; taken = taken_on w.running w.link.taken; closing = closing_with w.link.closing (length w.ops) what acts.ended };
+      ops = w.ops ++ op_after (begun what file value (w.steps + 1)) c [] (w.steps + 1) acts ∷ [];
       running = running_with w.running (length w.ops) acts.ended;
     }
 
 abbrev pub does : World → Command → World
-does w (command.Open file) = let r = command_step w.client (command.Open file) in commanded w file r.0 r.1
+does w k = let r = command_step w.client k in commanded w (word_of k) (file_of k) (value_at_begin w.client k) r.0 r.1
+
+-- ---- a change that waits is made
+
+-- the close has its point where its change was made
+abbrev pub pointed : List Op → (place : ℕ) → (step : ℕ) → Option Op → List Op
+pointed ops place step None = ops
+pointed ops place step (Some o) = slice_set ops place (record o { point = Some step })
+
+abbrev pub pointed_at : List Op → Option ℕ → (step : ℕ) → List Op
+pointed_at ops None step = ops
+pointed_at ops (Some place) step = pointed ops place step (slice_get ops place)
+
+-- whether the journal has a further change
+abbrev pub has_changed : (before after : server.State) → Bool
+has_changed before after = nat_lt (length before.journal) (length after.journal)
+
+-- the server did this in a step, and a change was made or not
+abbrev pub settled_as : World → server.State → Outs → (made : Bool) → World
+settled_as w s o true = record w { steps = w.steps + 1; server = s; link = record w.link { down = w.link.down ++ bytes_of (messages_of o.send) }; ops = pointed_at w.ops w.link.closing (w.steps + 1); settled = w.settled ++ (w.steps + 1) ∷ [] }
+settled_as w s o false = record w { steps = w.steps + 1; server = s; link = record w.link { down = w.link.down ++ bytes_of (messages_of o.send) } }
+
+abbrev pub settles : World → World
+settles w = let r = server_step w.server (event.Settle 0) in settled_as w r.0 r.1 (has_changed w.server r.0)
 
 -- ---- what a line asks for
 
@@ -107,6 +131,7 @@ joins_if true true = Ok turn.Join
 abbrev pub event_asks : (linked : Bool) (sessions : ℕ) → Line → Result Turn LineFault
 event_asks linked sessions (line.Join c r s) = joins_if ((c == 1) && (r == 0) && (s == 0) && not linked) (sessions == 0)
 event_asks linked sessions (line.Do c r k) = asks_if ((c == 1) && (r == 0)) (turn.Do k)
+event_asks linked sessions (line.Settle s) = asks_if (s == 0) turn.Settle
 event_asks linked sessions (line.Pass n k s r) = asks_if (nat_lt 0 n && nat_le n sessions && (s == 0) && (r == 0)) (turn.Pass k)
 event_asks linked sessions _ = Err Grammar
 
@@ -144,6 +169,7 @@ turned w (turn.At s) = record w { stage = s }
 turned w (turn.File name content) = with_file w name (content_bytes content)
 turned w turn.Join = joins (record w { stage = stage.Events })
 turned w (turn.Do k) = does (record w { stage = stage.Events }) k
+turned w turn.Settle = settles (record w { stage = stage.Events })
 turned w (turn.Pass k) = passes k (record w { stage = stage.Events })
 
 -- ---- lines

@@ -1,9 +1,12 @@
 -- What a line that is applied makes of the world, or why it is refused.
-use Rattle.std.specs.Prelude.{◌≡◌, ℕ, ◌≤◌, Ok, Err}
+use Rattle.std.specs.Prelude.{◌≡◌, ℕ, ◌≤◌, List, [], Ok, Err}
 use Rattle.trace_text.specs.Content.{content_length}
 use Rattle.trace_text.specs.declared.line.Line.{Line}
 use Rattle.trace_replay.specs.declared.fault.TraceErr.{TraceErr}
 use Rattle.trace_replay.specs.declared.fault.TraceErr.TheVariants as errors
+use Rattle.server_core.specs.State.{Change}
+use Rattle.trace_replay.specs.declared.link.Stage.{Stage}
+use Rattle.trace_replay.specs.declared.link.Stage.TheVariants as stage
 use Rattle.trace_replay.specs.declared.turn.Turn.{Turn}
 use Rattle.trace_replay.specs.declared.turn.Turn.TheVariants as turn
 use Rattle.trace_replay.specs.World.{World}
@@ -13,6 +16,20 @@ use Rattle.trace_replay.specs.Run.{file_most, asked, turned}
 abbrev pub IsTurnBounded : Turn → Type 0
 IsTurnBounded (turn.File name content) = content_length content ≤ file_most
 IsTurnBounded t = Unit {0}
+
+-- before the events no change waits
+abbrev pub IsQuietAt : Stage → List Change → Type 0
+IsQuietAt stage.Events waits = Unit {0}
+IsQuietAt s waits = waits ≡ []
+
+abbrev pub IsQuiet : World → Type 0
+IsQuiet w = IsQuietAt w.stage w.server.waits
+
+-- what comes before the events is taken while no change waits
+abbrev pub IsTurnQuiet : World → Turn → Type 0
+IsTurnQuiet w (turn.At s) = w.server.waits ≡ []
+IsTurnQuiet w (turn.File name content) = w.server.waits ≡ []
+IsTurnQuiet w t = Unit {0}
 
 -- a line in place was applied
 abbrev pub IsApplied : World → ℕ → Line → World → Type 0

@@ -4,7 +4,7 @@ use Rattle.trace_replay.specs.declared.link.Link.{Link as Fields}
 use Rattle.trace_replay.specs.World.{World, Link}
 
 abbrev pub link_of : Fields → Link
-link_of l = record { up = l.up.items; down = l.down.items; server_end = l.server_end; client_end = l.client_end; taken = l.taken.items }
+link_of l = record { up = l.up.items; down = l.down.items; server_end = l.server_end; client_end = l.client_end; taken = l.taken.items; closing = l.closing }
 
 abbrev pub world_of : Inner → World
-world_of w = record { stage = w.stage; names = w.names; opening = w.opening.items; size = w.size; server = w.server; client = w.client; sessions = w.sessions; link = link_of w.link; steps = w.steps; ops = w.ops.items; running = w.running }
+world_of w = record { stage = w.stage; names = w.names; opening = w.opening.items; size = w.size; server = w.server; client = w.client; sessions = w.sessions; link = link_of w.link; steps = w.steps; ops = w.ops.items; running = w.running; settled = w.settled.items }

@@ -21,21 +21,24 @@ use Rattle.register_model.specs.declared.op.Opening.{Opening}
 use Rattle.register_model.specs.declared.op.Outcome.{Outcome as Told}
 use Rattle.register_model.specs.declared.op.Outcome.TheVariants as told
 use Rattle.register_model.specs.declared.op.Traffic.{Traffic}
+use Rattle.register_model.specs.declared.op.Word.{Word}
+use Rattle.register_model.specs.declared.op.Word.TheVariants as word
 use Rattle.trace_replay.specs.declared.link.Stage.{Stage}
 use Rattle.trace_replay.specs.declared.link.Stage.TheVariants as stage
 use Rattle.trace_replay.specs.declared.link.Taken.{Taken}
 
--- a session: the bytes on their way up and down, what each end has of a record that is not whole, and the
--- calls of the operation under way that the server took
+-- a session: the bytes on their way up and down, what each end has of a record that is not whole, the
+-- calls of the operation under way that the server took, and the place of the last close that sent calls on it
 pub record Link : Type 0 where
   pub up : List ℕ
   pub down : List ℕ
   pub server_end : Unread
   pub client_end : Unread
   pub taken : List Taken
+  pub closing : Option ℕ
 
 abbrev pub new_link : Link
-new_link = record { up = []; down = []; server_end = nothing_read; client_end = nothing_read; taken = [] }
+new_link = record { up = []; down = []; server_end = nothing_read; client_end = nothing_read; taken = []; closing = None }
 
 -- ---- the world
 
@@ -57,6 +60,8 @@ pub record World : Type 0 where
   -- the operations so far, and the place of the one under way
   pub ops : List Op
   pub running : Option ℕ
+  -- the step of each change in the server's journal
+  pub settled : List ℕ
 
 abbrev pub start : World
 start = record {
@@ -64,13 +69,14 @@ start = record {
   names = [];
   opening = [];
   size = 0;
-  server = record { files = []; sessions = []; made = 0; last = 0 };
+  server = server.empty;
   client = client.start;
   sessions = 0;
   link = new_link;
   steps = 0;
   ops = [];
   running = None;
+  settled = [];
 }
 
 -- the bytes of messages, each a record of one fragment
@@ -94,8 +100,13 @@ fault_number (bad.Shape got wanted) = 5
 -- an outcome as the history tells it
 abbrev pub told_of : Outcome → Told
 told_of (outcome.Opened file len sha1) = told.Opened len sha1
+told_of (outcome.Piece len sha1) = told.Piece len sha1
+told_of (outcome.Closed file version len sha1) = told.Closed version len sha1
+told_of outcome.Done = told.Done
 told_of outcome.Busy = told.Busy
+told_of outcome.NotOpen = told.NotOpen
 told_of outcome.AlreadyOpen = told.AlreadyOpen
+told_of (outcome.TooBig size) = told.TooBig size
 told_of outcome.NoLink = told.NoLink
 told_of (outcome.Refused status) = told.Refused (status_number status)
 told_of outcome.PeerMemory = told.PeerMemory
@@ -103,33 +114,30 @@ told_of (outcome.BadPeer fault) = told.BadPeer (fault_number fault)
 told_of outcome.Memory = told.Memory
 
 -- whether an open that ended so read or missed its file at one moment
-abbrev pub has_point : Outcome → Bool
-has_point (outcome.Opened file len sha1) = true
-has_point (outcome.Refused status.Stale) = true
-has_point _ = false
+abbrev pub has_point : Word → Outcome → Bool
+has_point word.Open (outcome.Opened file len sha1) = true
+has_point word.Open (outcome.Refused status.Stale) = true
+has_point w o = false
 
 -- the step at which the call was taken that an outcome rests on
 abbrev pub taken_at : List Taken → ℕ → Option ℕ
 taken_at taken xid = option_map (λ t. t.step) (find (λ t. t.xid == xid) taken)
 
-abbrev pub point_if : Bool → List Taken → ℕ → Option ℕ
-point_if true taken xid = taken_at taken xid
-point_if false taken xid = None
+-- the point that an open has by its end; that of a close is the step at which its change was made
+abbrev pub point_if : Bool → List Taken → (xid : ℕ) → Option ℕ → Option ℕ
+point_if true taken xid point = taken_at taken xid
+point_if false taken xid point = point
 
--- the local content of an open file
-abbrev pub local_of : client.State → ℕ → List ℕ
-local_of c file = elim (client.local_at c.opened file) [ None ↦ [] | Some l ↦ l.bytes ]
-
--- the content that an open got
-abbrev pub value_of : client.State → Outcome → List ℕ
-value_of c (outcome.Opened file len sha1) = local_of c file
-value_of c _ = []
+-- the content that an open got; a close has its value from its begin
+abbrev pub value_of : List ℕ → client.State → Outcome → List ℕ
+value_of value c (outcome.Opened file len sha1) = client.local_bytes c.opened file
+value_of value c o = value
 
 abbrev pub counted : Traffic → Counts → Traffic
-counted t n = record t { read = t.read + n.read; «data» = t.«data» + n.bytes }
+counted t n = record { cond = t.cond + n.cond; tmp = t.tmp + n.tmp; read = t.read + n.read; «data» = t.«data» + n.bytes }
 
 abbrev pub ended_op : Op → client.State → List Taken → ℕ → Ended → Op
-ended_op o c taken step e = record o { end = Some step; point = point_if (has_point e.outcome) taken e.rests_on; outcome = told_of e.outcome; value = value_of c e.outcome }
+ended_op o c taken step e = record o { end = Some step; point = point_if (has_point o.word e.outcome) taken e.rests_on o.point; outcome = told_of e.outcome; value = value_of o.value c e.outcome }
 
 abbrev pub op_ended : Op → client.State → List Taken → ℕ → Option Ended → Op
 op_ended o c taken step None = o
@@ -152,3 +160,8 @@ running_with (Some p) place ended = Some p
 abbrev pub taken_on : Option ℕ → List Taken → List Taken
 taken_on None taken = []
 taken_on (Some p) taken = taken
+
+-- the last close that sent calls, after a command whose own operation is at this place
+abbrev pub closing_with : Option ℕ → ℕ → Word → Option Ended → Option ℕ
+closing_with closing place word.Close None = Some place
+closing_with closing place w ended = closing

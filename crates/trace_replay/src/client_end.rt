@@ -22,7 +22,7 @@ fn takes(alloc: Global, world: &mut Inner, bytes: &[u8]) -> Result<(), AllocErro
         return Err(AllocError);
     }
     let step = count_on(world.steps, 1)?;
-    put_all(alloc, &mut world.link.up, acts.send.as_slice())?;
+    put_all(alloc, &mut world.link.up, &acts.send)?;
     world.steps = step;
     match world.running {
         None => Ok(()),

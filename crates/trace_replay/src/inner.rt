@@ -1,22 +1,24 @@
 //! The world's fields, and what the lines of a trace do to them.
 
-ghost use Rattle.std.specs.Prelude.{◌≡◌, OnOk, IfOk, length, ◌+◌, ◌≤◌, ◌&&◌};
+ghost use Rattle.std.specs.Prelude.{◌≡◌, OnOk, IfOk, length, [], false, ◌+◌, ◌≤◌, ◌&&◌};
 ghost use Rattle.trace_text.specs.Content.{content_length, content_bytes};
 ghost use Rattle.trace_replay.specs.World.{World};
 ghost use Rattle.trace_replay.specs.Delivery.{is_none, is_still, round, passes};
-ghost use Rattle.trace_replay.specs.Run.{file_most, with_file, joins, begun, does, turned};
-ghost use Rattle.trace_replay.specs.Turns.{IsTurnBounded};
+ghost use Rattle.trace_replay.specs.Run.{file_most, with_file, joins, commanded, does, turned};
+ghost use Rattle.trace_replay.specs.Turns.{IsTurnBounded, IsQuiet, IsTurnQuiet};
 ghost use Rattle.trace_replay.specs.View.{world_of};
-ghost use Rattle.trace_text.specs.declared.line.Command.TheVariants as command;
 
+use crate::commands::{file_of, value_at_begin, word_of};
 use crate::link::{Link, Stage};
 use crate::names::Names;
 use crate::outbox::put_all;
+use crate::settling::settles;
 use crate::turn::Turn;
 use crate::{client_end, ops, server_end};
 use lb_base::items::Bytes;
+use open_close::acts::Acts;
 use open_close::client::Client;
-use register_model::op::{Op, Opening};
+use register_model::op::{Op, Opening, Word};
 use server_core::event::Event;
 use server_core::file::File;
 use server_core::server::Server;
@@ -44,6 +46,8 @@ pub struct Inner {
     pub ops: Vec<Op>,
     /// The place of the operation under way.
     pub running: Option<usize>,
+    /// The step of each change in the server's journal.
+    pub settled: Vec<u64>,
 }
 
 /// The count with so many steps more. No run comes to 2^64 steps, so there it is want of memory.
@@ -93,7 +97,8 @@ impl Inner {
 
     /// A file of the root gets the next id, from 2, and version 1.
     fn with_file(&mut self, alloc: Global, name: &Bytes, content: Bytes) -> Result<(), AllocError>
-        requires { length content ≤ file_most }
+        requires size { length content ≤ file_most }
+        requires quiet { self.old.server.waits ≡ [] }
         ensures { OnOk result (world_of self.new ≡ with_file (world_of self.old) name.now content) }
     {
         let size = count_on(self.size, content.len() as u64)?;
@@ -127,47 +132,88 @@ impl Inner {
         Ok(())
     }
 
-    /// The client opens a file: an operation begins, and perhaps ends, in one step.
-    fn opens(&mut self, alloc: Global, file: u64) -> Result<(), AllocError>
-        ensures { OnOk result (world_of self.new ≡ does (world_of self.old) (command.Open file)) }
+    /// An operation begins, and perhaps ends, in a step in which the client did this, unless memory
+    /// ran out there.
+    fn commanded(
+        &mut self,
+        alloc: Global,
+        word: Word,
+        file: u64,
+        value: Bytes,
+        acts: &Acts,
+    ) -> Result<(), AllocError>
+        ensures whole { OnOk result (acts.now.missed ≡ false) }
+        ensures done { OnOk result (world_of self.new ≡ commanded (world_of self.old) word file value self.old.client acts.now) }
     {
-        let step = count_on(self.steps, 1)?;
-        let acts = self.client.command(alloc, Command::Open(file));
         if acts.missed {
             return Err(AllocError);
         }
-        let mut op = ops::begun(alloc, file, step);
-        ops::note(alloc, &mut op, &self.client, &Vec::new(alloc), step, &acts)?;
-        let running = ops::running_with(self.running, self.ops.len(), &acts.ended);
+        let step = count_on(self.steps, 1)?;
+        let place = self.ops.len();
+        let mut op = ops::begun(word, file, value, step);
+        ops::note(alloc, &mut op, &self.client, &Vec::new(alloc), step, acts)?;
+        let running = ops::running_with(self.running, place, &acts.ended);
+        let closing = ops::closing_with(self.link.closing, place, word, &acts.ended);
         self.ops.push(op)?;
-        put_all(alloc, &mut self.link.up, acts.send.as_slice())?;
+        put_all(alloc, &mut self.link.up, &acts.send)?;
         ops::taken_on(self.running, &mut self.link.taken);
+        self.link.closing = closing;
         self.running = running;
         self.steps = step;
         Ok(())
     }
 
     /// The client does what it is told to.
+    #[tactic(auto, using(crate::proofs::Doing::does_is))]
     fn does(&mut self, alloc: Global, command: Command) -> Result<(), AllocError>
         ensures { OnOk result (world_of self.new ≡ does (world_of self.old) command) }
     {
-        match command {
-            Command::Open(file) => self.opens(alloc, file),
-        }
+        let word = word_of(&command);
+        let file = file_of(&command);
+        let value = match value_at_begin(alloc, &self.client, &command) {
+            Ok(value) => value,
+            Err(error) => {
+                drop(command);
+                return Err(error);
+            }
+        };
+        let acts = self.client.command(alloc, command);
+        self.commanded(alloc, word, file, value, &acts)
     }
 
     /// A file of this name and content, which is within the limit of a file.
     fn builds(&mut self, alloc: Global, name: &Bytes, content: &Content) -> Result<(), AllocError>
-        requires { content_length content.now ≤ file_most }
+        requires size { content_length content.now ≤ file_most }
+        requires quiet { self.old.server.waits ≡ [] }
         ensures { OnOk result (world_of self.new ≡ with_file (world_of self.old) name.now (content_bytes content.now)) }
     {
         let bytes = build(alloc, content)?;
         self.with_file(alloc, name, bytes)
     }
 
+    /// What a line in place asks for. Before the events no change waits then, and where memory ran
+    /// out the events have come.
+    #[tactic(auto, using(crate::proofs::Quiet::turned_quiet))]
+    pub fn take(&mut self, alloc: Global, turn: Turn) -> Result<(), AllocError>
+        requires bounded { IsTurnBounded turn }
+        requires before { IsQuiet (world_of self.old) }
+        requires quiet { IsTurnQuiet (world_of self.old) turn }
+        ensures taken { OnOk result (world_of self.new ≡ turned (world_of self.old) turn) }
+        ensures quiet { IsQuiet (world_of self.new) }
+    {
+        match self.turn(alloc, turn) {
+            Ok(()) => Ok(()),
+            Err(error) => {
+                self.stage = Stage::Events;
+                Err(error)
+            }
+        }
+    }
+
     /// What a line in place asks for.
-    pub fn turn(&mut self, alloc: Global, turn: Turn) -> Result<(), AllocError>
-        requires { IsTurnBounded turn }
+    fn turn(&mut self, alloc: Global, turn: Turn) -> Result<(), AllocError>
+        requires bounded { IsTurnBounded turn }
+        requires quiet { IsTurnQuiet (world_of self.old) turn }
         ensures { OnOk result (world_of self.new ≡ turned (world_of self.old) turn) }
     {
         match turn {
@@ -184,6 +230,10 @@ impl Inner {
             Turn::Do(command) => {
                 self.stage = Stage::Events;
                 self.does(alloc, command)
+            }
+            Turn::Settle => {
+                self.stage = Stage::Events;
+                settles(alloc, self)
             }
             Turn::Pass(rounds) => {
                 self.stage = Stage::Events;

@@ -7,7 +7,9 @@ ghost use Rattle.trace_replay.specs.Traces.{IsKeptPromise};
 
 /// Of every accepted trace: each of its commands has its one operation in the history, each outcome
 /// has its cause, and the history is legal wherever no two different byte lists that were hashed in
-/// the run share a digest. It does nothing: a caller learns this by calling it.
+/// the run share a digest. Each change that waits at the server has the value of the close that
+/// asked for it, which is still running, and of each file the server's tree has what the history
+/// says. It does nothing: a caller learns this by calling it.
 pub fn promise_is_kept()
     ensures { (input : List ℕ) (w : World) → run input ≡ Ok w → IsKeptPromise input w }
 {}

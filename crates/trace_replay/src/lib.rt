@@ -5,15 +5,17 @@
 #![tactic(auto)]
 
 mod client_end;
+mod commands;
 pub mod fault;
 mod inner;
 pub mod law;
 pub mod link;
-pub mod names;
+mod names;
 mod ops;
 mod outbox;
 mod reading;
 pub mod run;
 mod server_end;
+mod settling;
 mod turn;
 pub mod world;

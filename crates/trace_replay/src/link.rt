@@ -44,6 +44,8 @@ pub struct Link {
     pub client_end: Records,
     /// The calls of the operation under way that the server took.
     pub taken: Vec<Taken>,
+    /// The place of the last close that sent calls.
+    pub closing: Option<usize>,
 }
 
 impl Link {
@@ -57,6 +59,7 @@ impl Link {
             server_end: Records::new(alloc),
             client_end: Records::new(alloc),
             taken: Vec::new(alloc),
+            closing: None,
         }
     }
 }

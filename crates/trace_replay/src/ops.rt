@@ -2,12 +2,13 @@
 
 ghost use Rattle.std.specs.Prelude.{◌≡◌, ◌==◌, find, slice_get, IfOk, OnOk};
 ghost use Rattle.std.specs.Option.{option_copied};
-ghost use Rattle.trace_replay.specs.World.{fault_number, told_of, has_point, taken_at, point_if, local_of, value_of, counted, ended_op, op_after, running_after, running_with, taken_on};
+ghost use Rattle.trace_replay.specs.World.{fault_number, told_of, has_point, taken_at, point_if, value_of, counted, ended_op, op_after, running_after, running_with, taken_on, closing_with};
 ghost use Rattle.trace_replay.specs.Delivery.{ops_after};
 ghost use Rattle.trace_replay.specs.Run.{begun};
 
+use crate::commands::local_bytes;
 use crate::link::Taken;
-use lb_base::items::{Bytes, Items};
+use lb_base::items::Bytes;
 use open_close::acts;
 use open_close::acts::{Acts, BadPeer, Counts, Ended};
 use open_close::client::Client;
@@ -41,8 +42,25 @@ fn told_of(alloc: Global, outcome: &acts::Outcome) -> Result<Outcome, AllocError
             len: *len,
             sha1: Bytes::copy_of(alloc, sha1)?,
         },
+        acts::Outcome::Piece { len, sha1 } => Outcome::Piece {
+            len: *len,
+            sha1: Bytes::copy_of(alloc, sha1)?,
+        },
+        acts::Outcome::Closed {
+            version,
+            len,
+            sha1,
+            ..
+        } => Outcome::Closed {
+            version: *version,
+            len: *len,
+            sha1: Bytes::copy_of(alloc, sha1)?,
+        },
+        acts::Outcome::Done => Outcome::Done,
         acts::Outcome::Busy => Outcome::Busy,
+        acts::Outcome::NotOpen => Outcome::NotOpen,
         acts::Outcome::AlreadyOpen => Outcome::AlreadyOpen,
+        acts::Outcome::TooBig(size) => Outcome::TooBig(*size),
         acts::Outcome::NoLink => Outcome::NoLink,
         acts::Outcome::Refused(status) => Outcome::Refused(status::number(*status)),
         acts::Outcome::PeerMemory => Outcome::PeerMemory,
@@ -52,13 +70,16 @@ fn told_of(alloc: Global, outcome: &acts::Outcome) -> Result<Outcome, AllocError
 }
 
 /// Whether an open that ended so read or missed its file at one moment.
-fn has_point(outcome: &acts::Outcome) -> bool
-    ensures { result ≡ has_point outcome.now }
+fn has_point(word: Word, outcome: &acts::Outcome) -> bool
+    ensures { result ≡ has_point word outcome.now }
 {
-    matches!(
-        outcome,
-        acts::Outcome::Opened { .. } | acts::Outcome::Refused(Status::Stale)
-    )
+    match word {
+        Word::Open => matches!(
+            outcome,
+            acts::Outcome::Opened { .. } | acts::Outcome::Refused(Status::Stale)
+        ),
+        _ => false,
+    }
 }
 
 /// The call with this xid.
@@ -75,34 +96,33 @@ fn taken_at(taken: &Vec<Taken>, xid: u32) -> Option<u64>
     find_taken(taken, xid).map(|t| t.step)
 }
 
-/// The step at which an operation read its file or missed it, if its end says so.
-fn point_of(ended: &Ended, taken: &Vec<Taken>) -> Option<u64>
-    ensures { result ≡ point_if (has_point ended.now.outcome) taken.now.items ended.now.rests_on }
+/// The point that an operation has by its end; that of a close is the step at which its change was
+/// made.
+fn point_of(word: Word, point: Option<u64>, ended: &Ended, taken: &Vec<Taken>) -> Option<u64>
+    ensures { result ≡ point_if (has_point word ended.now.outcome) taken.now.items ended.now.rests_on point }
 {
-    if has_point(&ended.outcome) {
+    if has_point(word, &ended.outcome) {
         taken_at(taken, ended.rests_on)
     } else {
-        None
+        point
     }
 }
 
-/// The local content of an open file.
-fn local_of(alloc: Global, client: &Client, file: u64) -> Result<Bytes, AllocError>
-    ensures { IfOk result (λ bytes. bytes ≡ local_of client.now file) }
-{
-    match client.local(file) {
-        Some(bytes) => Items::copy_of(alloc, bytes),
-        None => Ok(Items::new(alloc)),
-    }
-}
-
-/// The content that an open got.
-fn value_of(alloc: Global, client: &Client, outcome: &acts::Outcome) -> Result<Bytes, AllocError>
-    ensures { IfOk result (λ bytes. bytes ≡ value_of client.now outcome.now) }
+/// Puts the content that an open got in its place. A close has its value from its begin.
+fn put_value(
+    alloc: Global,
+    value: &mut Bytes,
+    client: &Client,
+    outcome: &acts::Outcome,
+) -> Result<(), AllocError>
+    ensures { OnOk result (value.new ≡ value_of value.old client.now outcome.now) }
 {
     match outcome {
-        acts::Outcome::Opened { file, .. } => local_of(alloc, client, *file),
-        _ => Ok(Items::new(alloc)),
+        acts::Outcome::Opened { file, .. } => {
+            *value = local_bytes(alloc, client, *file)?;
+            Ok(())
+        }
+        _ => Ok(()),
     }
 }
 
@@ -111,29 +131,31 @@ fn value_of(alloc: Global, client: &Client, outcome: &acts::Outcome) -> Result<B
 fn counted(traffic: Traffic, counts: Counts) -> Result<Traffic, AllocError>
     ensures { IfOk result (λ t. t ≡ counted traffic counts) }
 {
+    let cond = traffic.cond.checked_add(counts.cond).ok_or(AllocError)?;
+    let tmp = traffic.tmp.checked_add(counts.tmp).ok_or(AllocError)?;
     let read = traffic.read.checked_add(counts.read).ok_or(AllocError)?;
     let data = traffic.data.checked_add(counts.bytes).ok_or(AllocError)?;
     Ok(Traffic {
-        cond: traffic.cond,
-        tmp: traffic.tmp,
+        cond,
+        tmp,
         read,
         data,
     })
 }
 
-/// An operation that begins: an open.
-pub fn begun(alloc: Global, file: u64, step: u64) -> Op
-    ensures { result ≡ begun file step }
+/// An operation that begins.
+pub fn begun(word: Word, file: u64, value: Bytes, step: u64) -> Op
+    ensures { result ≡ begun word file value step }
 {
     Op {
         client: CLIENT,
-        word: Word::Open,
+        word,
         file,
         begin: step,
         end: None,
         point: None,
         outcome: Outcome::Running,
-        value: Items::new(alloc),
+        value,
         traffic: Traffic {
             cond: 0,
             tmp: 0,
@@ -154,12 +176,10 @@ fn end(
 ) -> Result<(), AllocError>
     ensures { OnOk result (op.new ≡ ended_op op.old client.now taken.now.items step ended.now) }
 {
-    let value = value_of(alloc, client, &ended.outcome)?;
-    let outcome = told_of(alloc, &ended.outcome)?;
+    op.outcome = told_of(alloc, &ended.outcome)?;
+    put_value(alloc, &mut op.value, client, &ended.outcome)?;
     op.end = Some(step);
-    op.point = point_of(ended, taken);
-    op.outcome = outcome;
-    op.value = value;
+    op.point = point_of(op.word, op.point, ended, taken);
     Ok(())
 }
 
@@ -226,5 +246,24 @@ pub fn taken_on(running: Option<usize>, taken: &mut Vec<Taken>)
 {
     if running.is_none() {
         taken.clear();
+    }
+}
+
+/// The place of the last close that sent calls, after a command whose own operation is at this
+/// place.
+pub fn closing_with(
+    closing: Option<usize>,
+    place: usize,
+    word: Word,
+    ended: &Option<Ended>,
+) -> Option<usize>
+    ensures { result ≡ closing_with closing place word ended.now }
+{
+    match word {
+        Word::Close => match ended {
+            None => Some(place),
+            Some(_) => closing,
+        },
+        _ => closing,
     }
 }

@@ -6,6 +6,7 @@ ghost use Rattle.wire.specs.Message.{message_spell};
 ghost use Rattle.trace_replay.specs.World.{bytes_of, messages_of};
 
 use lb_base::items::Bytes;
+use open_close::sends::Sends;
 use rpc_record::MOST_BYTES;
 use rpc_record::marking::mark;
 use server_core::event::Sent;
@@ -37,13 +38,24 @@ fn put(alloc: Global, bytes: &mut Vec<u8>, message: &Message) -> Result<(), Allo
 }
 
 /// Puts messages behind the bytes, in order.
-pub fn put_all(alloc: Global, bytes: &mut Vec<u8>, messages: &[Message]) -> Result<(), AllocError>
+fn put_each(alloc: Global, bytes: &mut Vec<u8>, messages: &[Message]) -> Result<(), AllocError>
     ensures { OnOk result (bytes.new.items ≡ bytes.old.items ++ bytes_of messages.now) }
 {
     for message in messages {
         put(alloc, bytes, message)?;
     }
     Ok(())
+}
+
+/// Puts what a client sends behind the bytes, in order.
+pub fn put_all(alloc: Global, bytes: &mut Vec<u8>, sends: &Sends) -> Result<(), AllocError>
+    ensures { OnOk result (bytes.new.items ≡ bytes.old.items ++ bytes_of sends.now) }
+{
+    let (first, rest) = sends.as_pair();
+    if let Some(message) = first {
+        put(alloc, bytes, message)?;
+    }
+    put_each(alloc, bytes, rest)
 }
 
 /// Puts what a server sends behind the bytes, in order.

@@ -38,6 +38,8 @@ pub enum Turn {
     Join,
     /// The client's command.
     Do(Command),
+    /// A change that waits may be made.
+    Settle,
     /// So many rounds.
     Pass(u64),
 }
@@ -129,6 +131,7 @@ fn event_asks(is_linked: bool, sessions: u64, line: Line) -> Result<Turn, LineFa
             at,
             command,
         } => asks_if(client == 1 && at == 0, Turn::Do(command)),
+        Line::Settle { server } => asks_if(server == 0, Turn::Settle),
         Line::Pass {
             session,
             rounds,

@@ -30,8 +30,11 @@ impl Model for World {
     ghost Value = { worlds.World };
 
     ghost use Rattle.trace_replay.specs.View.{world_of};
+    ghost use Rattle.trace_replay.specs.Turns.{IsQuiet};
 
     ghost view = { λ w. world_of w.inner };
+
+    ghost invariant = { λ w. IsQuiet (world_of w.inner) };
 }
 
 impl World {
@@ -52,13 +55,15 @@ impl World {
                 steps: 0,
                 ops: Vec::new(alloc),
                 running: None,
+                settled: Vec::new(alloc),
             },
         }
     }
 
     /// Does what the line of this number says. `Refused` with that number: the line is outside the
     /// grammar or stands out of place, or breaks a limit, and the world stays as it was. `Memory`:
-    /// the world may be left half-way, and is of no further use.
+    /// the world may be left half-way, and is of no further use: it is behind its files then.
+    #[tactic(auto, using(crate::proofs::Quiet::asked_quiet))]
     pub fn apply(&mut self, alloc: Global, number: u64, line: Line) -> Result<(), TraceErr>
         ensures ok { OnOk result (IsApplied self.old number line self.new) }
         ensures err { IfErr result (λ e. IsRefused e self.old number line self.new) }
@@ -72,7 +77,7 @@ impl World {
                 }));
             }
         };
-        self.inner.turn(alloc, turn)?;
+        self.inner.take(alloc, turn)?;
         Ok(())
     }
 

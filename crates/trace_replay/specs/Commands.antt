@@ -1,0 +1,28 @@
+-- Commands as operations: what each is called, and on which file.
+use Rattle.std.specs.Prelude.{ℕ, List, []}
+use Rattle.trace_text.specs.declared.line.Command.{Command}
+use Rattle.trace_text.specs.declared.line.Command.TheVariants as command
+use Rattle.open_close.specs.State as client
+use Rattle.register_model.specs.declared.op.Word.{Word}
+use Rattle.register_model.specs.declared.op.Word.TheVariants as word
+
+abbrev pub word_of : Command → Word
+word_of (command.Open file) = word.Open
+word_of (command.Write file offset content) = word.Write
+word_of (command.Trunc file size) = word.Trunc
+word_of (command.Read file offset count) = word.Read
+word_of (command.Close file) = word.Close
+word_of (command.Abandon file) = word.Abandon
+
+abbrev pub file_of : Command → ℕ
+file_of (command.Open file) = file
+file_of (command.Write file offset content) = file
+file_of (command.Trunc file size) = file
+file_of (command.Read file offset count) = file
+file_of (command.Close file) = file
+file_of (command.Abandon file) = file
+
+-- the content that a close is to store, as the client has it when the close begins
+abbrev pub value_at_begin : client.State → Command → List ℕ
+value_at_begin c (command.Close file) = client.local_bytes c.opened file
+value_at_begin c k = []

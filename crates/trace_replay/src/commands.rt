@@ -1,0 +1,61 @@
+//! Commands as operations: what each is called, on which file, and what it is to store.
+
+ghost use Rattle.std.specs.Prelude.{◌≡◌, IfOk};
+ghost use Rattle.open_close.specs.State.{local_bytes};
+ghost use Rattle.trace_replay.specs.Commands.{word_of, file_of, value_at_begin};
+
+use lb_base::items::{Bytes, Items};
+use open_close::client::Client;
+use register_model::op::Word;
+use std::alloc::{AllocError, Global};
+use trace_text::line::Command;
+
+/// What a command is called.
+pub fn word_of(command: &Command) -> Word
+    ensures { result ≡ word_of command.now }
+{
+    match command {
+        Command::Open(_) => Word::Open,
+        Command::Write { .. } => Word::Write,
+        Command::Trunc { .. } => Word::Trunc,
+        Command::Read { .. } => Word::Read,
+        Command::Close(_) => Word::Close,
+        Command::Abandon(_) => Word::Abandon,
+    }
+}
+
+/// The id of the file that it is on.
+pub fn file_of(command: &Command) -> u64
+    ensures { result ≡ file_of command.now }
+{
+    match command {
+        Command::Open(file) | Command::Close(file) | Command::Abandon(file) => *file,
+        Command::Write { file, .. } => *file,
+        Command::Trunc { file, .. } => *file,
+        Command::Read { file, .. } => *file,
+    }
+}
+
+/// The local content of a file; none where it isn't open.
+pub fn local_bytes(alloc: Global, client: &Client, file: u64) -> Result<Bytes, AllocError>
+    ensures { IfOk result (λ bytes. bytes ≡ local_bytes client.now.opened file) }
+{
+    match client.local(file) {
+        Some(bytes) => Items::copy_of(alloc, bytes),
+        None => Ok(Items::new(alloc)),
+    }
+}
+
+/// The content that a close is to store, as the client has it when the close begins.
+pub fn value_at_begin(
+    alloc: Global,
+    client: &Client,
+    command: &Command,
+) -> Result<Bytes, AllocError>
+    ensures { IfOk result (λ bytes. bytes ≡ value_at_begin client.now command.now) }
+{
+    match command {
+        Command::Close(file) => local_bytes(alloc, client, *file),
+        _ => Ok(Items::new(alloc)),
+    }
+}
