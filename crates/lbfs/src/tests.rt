@@ -28,6 +28,20 @@ const WHOLE_SESSION: &str =
 const SESSION_HISTORY: &str =
     "lbfs-history 1\nop 1 client 1 open file 2 begin 1 end 1 point - NoLink cond 0 tmp 0 read 0 data 0\nop 2 client 1 open file 9 begin 4 end 6 point 5 Refused 70 cond 0 tmp 0 read 0 data 0\nop 3 client 1 open file 2 begin 7 end - point - Running cond 0 tmp 0 read 0 data 0\nop 4 client 1 open file 2 begin 8 end 8 point - Busy cond 0 tmp 0 read 0 data 0\nend ops 4 steps 8\n";
 
+/// An empty file that is opened, closed and settled.
+const EMPTY_CLOSE: &str =
+    "file e -\njoin 1 0 0\ndo 1 0 open #2\npass 1 2 0 0\ndo 1 0 close #2\npass 1 3 0 0\nsettle 0\npass 1 1 0 0\n";
+
+const EMPTY_HISTORY: &str =
+    "lbfs-history 1\nop 1 client 1 open file 2 begin 3 end 5 point 4 Opened 0 da39a3ee5e6b4b0d3255bfef95601890afd80709 cond 0 tmp 0 read 0 data 0\nop 2 client 1 close file 2 begin 6 end 11 point 10 Closed 2 0 da39a3ee5e6b4b0d3255bfef95601890afd80709 cond 0 tmp 0 read 0 data 0\nend ops 2 steps 11\n";
+
+/// A byte is written, and the change that its close asks for waits.
+const WAITING_CLOSE: &str =
+    "file a t:a\njoin 1 0 0\ndo 1 0 open #2\npass 1 9 0 0\ndo 1 0 write #2 0 t:b\ndo 1 0 close #2\npass 1 9 0 0\n";
+
+const WAITING_HISTORY: &str =
+    "lbfs-history 1\nop 1 client 1 open file 2 begin 3 end 7 point 4 Opened 1 86f7e437faa5a7fce15d1ddcb9eaeaea377667b8 cond 0 tmp 0 read 1 data 1\nop 2 client 1 write file 2 begin 8 end 8 point - Done cond 0 tmp 0 read 0 data 0\nop 3 client 1 close file 2 begin 9 end - point - Running cond 1 tmp 1 read 0 data 1\nend ops 3 steps 16\n";
+
 fn words(alloc: Global, words: &[&str]) -> Result<Vec<String>, AllocError> {
     let mut list = Vec::new(alloc);
     for word in words {
@@ -84,6 +98,8 @@ fn traces_give_histories(rt: HostRuntime) -> Result<(), Fail> {
         ),
         ("file a t:abc\njoin 1 0 0\ndo 1 0 open #9\n", running),
         (WHOLE_SESSION, SESSION_HISTORY),
+        (EMPTY_CLOSE, EMPTY_HISTORY),
+        (WAITING_CLOSE, WAITING_HISTORY),
     ] {
         let input = joined(alloc, &[HEADER.as_bytes(), trace.as_bytes()])?;
         expect(&rt, alloc, &["replay"], input, 0, history.as_bytes())?;
@@ -135,6 +151,25 @@ fn lines_outside_the_grammar_are_refused(rt: HostRuntime) -> Result<(), Fail> {
         (b"file a t:abc\njoin 1 0 0\njoin 1 0 0\n", 7),
         (b"# \xE9\nfile a t:abc\n\nfile a -\n", 8),
         (b"join 1 0 0\nfile a -\n", 6),
+    ];
+    for (text, line) in lines {
+        let input = joined(rt.alloc(), &[HEADER.as_bytes(), text])?;
+        expect_refused(&rt, rt.alloc(), input, line)?;
+    }
+    Ok(())
+}
+
+// Each of these stands behind the header: commands that lack a word, a reading that no clock has
+// yet, and a delivery of a kind that comes later.
+#[test]
+fn lines_of_closes_outside_the_grammar_are_refused(rt: HostRuntime) -> Result<(), Fail> {
+    let lines: [(&[u8], u64); 6] = [
+        (b"file a -\njoin 1 0 0\ndo 1 0 write #2 0\n", 7),
+        (b"file a -\njoin 1 0 0\ndo 1 0 trunc #2\n", 7),
+        (b"file a -\njoin 1 0 0\ndo 1 0 close 2\n", 7),
+        (b"settle 0\nsettle 1\n", 6),
+        (b"settle\n", 5),
+        (b"join 1 0 0\nup 1 all 0\n", 6),
     ];
     for (text, line) in lines {
         let input = joined(rt.alloc(), &[HEADER.as_bytes(), text])?;
