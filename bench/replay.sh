@@ -14,6 +14,7 @@ trap 'rm -rf "$work"' EXIT
 # A trace of so many lines: make KIND LINES
 #   files    as many files as lines allow, each of which is opened over the wire
 #   opens    one file, opened again and again
+#   closes   one file, opened, written to, closed and settled again and again
 #   skipped  lines that are skipped
 make() {
     awk -v kind="$1" -v lines="$2" 'BEGIN {
@@ -31,6 +32,14 @@ make() {
             left -= 4
             while (left-- > 0) print "do 1 0 open #2"
         }
+        if (kind == "closes") {
+            print "file f t:abc\njoin 1 0 0"
+            left -= 2
+            for (; left >= 7; left -= 7) {
+                print "do 1 0 open #2\npass 1 9 0 0\ndo 1 0 write #2 0 r:" left ":2048"
+                print "do 1 0 close #2\npass 1 9 0 0\nsettle 0\npass 1 9 0 0"
+            }
+        }
         while (left-- > 0) print "# a line that is skipped"
     }'
 }
@@ -44,7 +53,7 @@ spent() {
     echo $(((to - from) / 1000))
 }
 
-for kind in files opens skipped; do
+for kind in files opens closes skipped; do
     make "$kind" 16384 >"$work/short"
     make "$kind" 65536 >"$work/long"
     short='' long=''
