@@ -1,0 +1,4 @@
+pub mod Clocks
+pub mod Keeping
+pub mod Rows
+pub mod Windows
