@@ -14,25 +14,35 @@ use xdr_codec::reader::Reader;
 /// What became of a call that was accepted (accept_stat).
 #[derive(Clone, Copy, Debug, PartialEq, Eq, Drop)]
 pub enum AcceptStat {
+    /// It was done, and its results follow.
     Success,
+    /// The program isn't served there.
     ProgUnavail,
+    /// The program is served, but not this version.
     ProgMismatch,
+    /// The program has no such procedure.
     ProcUnavail,
+    /// Its arguments weren't understood.
     GarbageArgs,
+    /// The server could not do it, for want of memory perhaps.
     SystemErr,
 }
 
 /// Why a call was denied (reject_stat).
 #[derive(Clone, Copy, Debug, PartialEq, Eq, Drop)]
 pub enum RejectStat {
+    /// It is of another version of RPC.
     RpcMismatch,
+    /// Its credentials weren't taken.
     AuthError,
 }
 
-/// Whether a call was accepted, with the verifier, and what became of it.
+/// Whether a call was accepted, and what became of it (reply_stat).
 #[derive(Drop, Debug)]
 pub enum Stat {
+    /// It was, with this verifier.
     Accepted(Auth, AcceptStat),
+    /// It was not.
     Denied(RejectStat),
 }
 
