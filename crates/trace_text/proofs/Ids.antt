@@ -1,10 +1,12 @@
--- What the grammar keeps of the numbers in a command.
-use Rattle.std.proofs.Common.{◌≡◌, ℕ, ◌<◌, ◌^◌, List, [], ◌∷◌, Option, Some, None, Bool, true, false, take, drop, refl, arith, subst}
-use Rattle.std.specs.Prelude.{cond, codes, bytes_eq, nat_lt}
+-- What the grammar keeps of the numbers in a line.
+use Rattle.std.proofs.Common.{◌≡◌, ℕ, ◌<◌, ◌-◌, ◌^◌, List, [], ◌∷◌, Option, Some, None, Bool, true, false, take, drop, refl, arith, subst}
+use Rattle.std.specs.Prelude.{cond, Result, Ok, Err, IfOk, ◌&&◌, codes, bytes_eq, nat_lt, nat_le}
 use Rattle.std.proofs.lemmas.Bool.Decides.{nat_tests}
 use Rattle.trace_text.specs.Fields.{◌>>=◌, value_from, value_of, is_decimal, number_of, number_within, reading_of, amount_of, name_of, content_of, id_of}
 use Rattle.trace_text.specs.Grammar.{version_of, term_of, drift_of, clients_of, file_of, join_of, open_of, write_of, trunc_of, read_of, close_of, abandon_of, command_of, do_of, up_of, down_of, pass_of, settle_of, cut_of, hang_of, event_from, line_from, said_by, is_skipped, line_of}
 use Rattle.trace_text.specs.Parts.{words_of}
+use Rattle.trace_text.specs.Reading.{Gives, IsTimely}
+use Rattle.trace_text.specs.declared.line.LineErr.{LineErr}
 use Rattle.trace_text.specs.declared.line.Command.{Command}
 use Rattle.trace_text.specs.declared.line.Command.TheVariants.{Open, Write, Trunc, Read, Close, Abandon}
 use Rattle.trace_text.specs.declared.line.Line.{Line}
@@ -19,10 +21,10 @@ IsSmall (Read id offset count) = (id < 2 ^ 64) × (offset < 2 ^ 64) × (count < 
 IsSmall (Close id) = id < 2 ^ 64
 IsSmall (Abandon id) = id < 2 ^ 64
 
--- the numbers in the command of a line, if it has one, have at most 64 bits
+-- the numbers in the command of a line, if it has one, have at most 64 bits, and the server's reading that it brings to a step 63
 abbrev pub IsFit : Line → Type 0
 IsFit (Do client at command) = IsSmall command
-IsFit line = Unit {0}
+IsFit line = IsTimely line
 
 -- ---- a fact of what is there, if anything is
 
@@ -59,6 +61,14 @@ of_number word = of_either (λ n. n < 2 ^ 64) (is_decimal word) (value_of word) 
 
 of_id : (word : List ℕ) → Of (λ n. n < 2 ^ 64) (id_of word)
 of_id word = of_either (λ n. n < 2 ^ 64) (bytes_eq (take 1 word) (codes "#")) (number_of (drop 1 word)) None (of_number (drop 1 word)) tt
+
+of_reading : (word : List ℕ) → Of (λ n. n < 2 ^ 63) (reading_of word)
+of_reading word = of_then (λ a. Unit {0}) (λ n. n < 2 ^ 63) (number_of word) _ (of_any (number_of word)) (λ n h. by n (nat_le 0 n) (nat_le n (2 ^ 63 - 1)) refl)
+  where
+    by : (n : ℕ) (a b : Bool) → nat_le n (2 ^ 63 - 1) ≡ b → Of (λ m. m < 2 ^ 63) (cond (a && b) (Some n) None)
+    by n true true e = grind (arith, nat_tests, e)
+    by n true false e = tt
+    by n false b e = tt
 
 pub number_fits : (word : List ℕ) (n : ℕ) → number_of word ≡ Some n → n < 2 ^ 64
 number_fits word n e = of_it (λ n. n < 2 ^ 64) (number_of word) n (of_number word) e
@@ -151,7 +161,7 @@ of_up : (ws : List (List ℕ)) → Of IsFit (up_of ws)
 of_up [] = tt
 of_up (v ∷ []) = tt
 of_up (v ∷ w ∷ []) = tt
-of_up (v ∷ w ∷ x ∷ []) = of_then (λ a. Unit {0}) IsFit (number_of v) _ (of_any (number_of v)) (λ n h. of_then (λ a. Unit {0}) IsFit (amount_of w) _ (of_any (amount_of w)) (λ m i. of_then (λ a. Unit {0}) IsFit (reading_of x) (λ s. Some (Up n m s)) (of_any (reading_of x)) (λ s j. tt)))
+of_up (v ∷ w ∷ x ∷ []) = of_then (λ a. Unit {0}) IsFit (number_of v) _ (of_any (number_of v)) (λ n h. of_then (λ a. Unit {0}) IsFit (amount_of w) _ (of_any (amount_of w)) (λ m i. of_then (λ s. s < 2 ^ 63) IsFit (reading_of x) (λ s. Some (Up n m s)) (of_reading x) (λ s j. j)))
 of_up (v ∷ w ∷ x ∷ y ∷ ws) = tt
 
 of_down : (ws : List (List ℕ)) → Of IsFit (down_of ws)
@@ -166,12 +176,12 @@ of_pass [] = tt
 of_pass (v ∷ []) = tt
 of_pass (v ∷ w ∷ []) = tt
 of_pass (v ∷ w ∷ x ∷ []) = tt
-of_pass (v ∷ w ∷ x ∷ y ∷ []) = of_then (λ a. Unit {0}) IsFit (number_of v) _ (of_any (number_of v)) (λ n h. of_then (λ a. Unit {0}) IsFit (number_of w) _ (of_any (number_of w)) (λ k i. of_then (λ a. Unit {0}) IsFit (reading_of x) _ (of_any (reading_of x)) (λ s j. of_then (λ a. Unit {0}) IsFit (reading_of y) (λ a. Some (Pass n k s a)) (of_any (reading_of y)) (λ a l. tt))))
+of_pass (v ∷ w ∷ x ∷ y ∷ []) = of_then (λ a. Unit {0}) IsFit (number_of v) _ (of_any (number_of v)) (λ n h. of_then (λ a. Unit {0}) IsFit (number_of w) _ (of_any (number_of w)) (λ k i. of_then (λ s. s < 2 ^ 63) IsFit (reading_of x) _ (of_reading x) (λ s j. of_then (λ a. Unit {0}) IsFit (reading_of y) (λ a. Some (Pass n k s a)) (of_any (reading_of y)) (λ a l. j))))
 of_pass (v ∷ w ∷ x ∷ y ∷ z ∷ ws) = tt
 
 of_settle : (ws : List (List ℕ)) → Of IsFit (settle_of ws)
 of_settle [] = tt
-of_settle (v ∷ []) = of_then (λ a. Unit {0}) IsFit (reading_of v) (λ s. Some (Settle s)) (of_any (reading_of v)) (λ s h. tt)
+of_settle (v ∷ []) = of_then (λ s. s < 2 ^ 63) IsFit (reading_of v) (λ s. Some (Settle s)) (of_reading v) (λ s h. h)
 of_settle (v ∷ w ∷ ws) = tt
 
 of_cut : (ws : List (List ℕ)) → Of IsFit (cut_of ws)
@@ -207,3 +217,15 @@ of_line line = of_either IsFit (is_skipped line) (Some Skipped) (said_by (words_
 -- the numbers in the command of a line that was read have at most 64 bits
 pub fit_line : (line : List ℕ) (said : Line) → line_of line ≡ Some said → IsFit said
 fit_line line said e = of_it IsFit (line_of line) said (of_line line) e
+
+-- a line that fits is timely
+timely : (said : Line) → IsFit said → IsTimely said
+timely (Do client at command) h = tt
+timely said h = h
+
+pub timely_line : (line : List ℕ) (said : Line) → line_of line ≡ Some said → IsTimely said
+timely_line line said e = timely said (fit_line line said e)
+
+pub gives_timely : (line : List ℕ) (r : Result Line LineErr) → Gives r (line_of line) → IfOk r IsTimely
+gives_timely line (Ok said) g = timely_line line said g
+gives_timely line (Err e) g = tt

@@ -2,6 +2,7 @@
 use Rattle.std.specs.Prelude.{◌≡◌, ℕ, List, [], ◌∷◌, ◌++◌, Option, Some, None, refl, codes, replicate, map}
 use Rattle.std.specs.Fmt.{digits}
 use Rattle.hex.specs.Hex.{decode_pairs}
+use Rattle.clock_rule.specs.declared.rule.ClockFault.TheVariants as clock
 use Rattle.trace_text.specs.declared.content.Part.TheVariants.{Bytes, Zeros, Marks, Random}
 use Rattle.trace_text.specs.declared.line.Amount.TheVariants as amount
 use Rattle.trace_text.specs.declared.line.Command.TheVariants.{Open, Write, Trunc, Read, Close, Abandon}
@@ -9,7 +10,7 @@ use Rattle.trace_text.specs.declared.line.Line.{Line}
 use Rattle.trace_text.specs.declared.line.Line.TheVariants.{Version, Term, Drift, Clients, File, Join, Do, Up, Down, Pass, Settle, Cut, Hang, Skipped}
 use Rattle.trace_text.specs.declared.refusal.Limit.TheVariants.{Lines, Tree, Sessions}
 use Rattle.trace_text.specs.declared.refusal.Limit.TheVariants.{File as OfFile}
-use Rattle.trace_text.specs.declared.refusal.LineFault.TheVariants.{Grammar, Limit}
+use Rattle.trace_text.specs.declared.refusal.LineFault.TheVariants.{Grammar, Limit, Clock}
 use Rattle.trace_text.specs.declared.refusal.Refusal.TheVariants.{Words, LimitBytes}
 use Rattle.trace_text.specs.declared.refusal.Refusal.TheVariants.{Line as LineRefused}
 use Rattle.trace_text.specs.Content.{mark, random_bytes, content_bytes, content_length}
@@ -179,6 +180,6 @@ lengths : map content_length ([] ∷ (Bytes (codes "abc") ∷ Zeros 3 ∷ Bytes 
 lengths = refl
 
 -- the texts of refusals
-refusals : map refusal_of (Words ∷ LimitBytes ∷ LineRefused 12 Grammar ∷ LineRefused 65537 (Limit Lines) ∷ LineRefused 5 (Limit OfFile) ∷ LineRefused 6 (Limit Tree) ∷ LineRefused 7 (Limit Sessions) ∷ []) ≡ (codes "refused words\n" ∷ codes "refused limit bytes\n" ∷ codes "refused line 12 grammar\n" ∷ codes "refused line 65537 limit lines\n" ∷ codes "refused line 5 limit file\n" ∷ codes "refused line 6 limit tree\n" ∷ codes "refused line 7 limit sessions\n" ∷ [])
+refusals : map refusal_of (Words ∷ LimitBytes ∷ LineRefused 12 Grammar ∷ LineRefused 65537 (Limit Lines) ∷ LineRefused 5 (Limit OfFile) ∷ LineRefused 6 (Limit Tree) ∷ LineRefused 7 (Limit Sessions) ∷ LineRefused 8 (Clock (clock.Server 500 499)) ∷ LineRefused 8 (Clock (clock.Client 1 7 6)) ∷ LineRefused 8 (Clock (clock.Drift 1 0 0 300 500)) ∷ []) ≡ (codes "refused words\n" ∷ codes "refused limit bytes\n" ∷ codes "refused line 12 grammar\n" ∷ codes "refused line 65537 limit lines\n" ∷ codes "refused line 5 limit file\n" ∷ codes "refused line 6 limit tree\n" ∷ codes "refused line 7 limit sessions\n" ∷ codes "refused line 8 clock server from 500 to 499\n" ∷ codes "refused line 8 clock client 1 from 7 to 6\n" ∷ codes "refused line 8 clock client 1 from 0 0 to 300 500\n" ∷ [])
 unfolding digits
 refusals = refl

@@ -1,8 +1,8 @@
 //! What a line of a trace says.
 
-ghost use Rattle.std.specs.Prelude.{◌≡◌};
+ghost use Rattle.std.specs.Prelude.{◌≡◌, IfOk};
 ghost use Rattle.trace_text.specs.Grammar.{is_skipped, line_of};
-ghost use Rattle.trace_text.specs.Reading.{Gives};
+ghost use Rattle.trace_text.specs.Reading.{Gives, IsTimely};
 ghost use Rattle.trace_text.specs.declared.line.LineErr.TheVariants as errors;
 
 use crate::content::Content;
@@ -150,17 +150,26 @@ impl<T: Drop> From<AllocFailed<T>> for LineErr {
     }
 }
 
+/// What a line says, where it is in the grammar.
+fn said_by(alloc: Global, line: &[u8]) -> Result<Line, LineErr>
+    ensures { Gives result (line_of line.now) }
+{
+    if is_skipped(line) {
+        return Ok(Line::Skipped);
+    }
+    let mut words = Words::new(line);
+    let kind = words.next().ok_or(LineErr::BadLine)?;
+    read_kind(alloc, kind, &mut words)
+}
+
 impl Line {
-    /// Reads a line, which stands here without its line feed, in time linear in its length. The
-    /// error is `BadLine` where the line is not in the grammar, or `Memory`.
+    /// Reads a line, which stands here without its line feed, in time linear in its length. Every
+    /// reading of a clock in it has at most 63 bits. The error is `BadLine` where the line is not
+    /// in the grammar, or `Memory`.
     pub fn read(alloc: Global, line: &[u8]) -> Result<Line, LineErr>
-        ensures { Gives result (line_of line.now) }
+        ensures read { Gives result (line_of line.now) }
+        ensures timely { IfOk result IsTimely }
     {
-        if is_skipped(line) {
-            return Ok(Line::Skipped);
-        }
-        let mut words = Words::new(line);
-        let kind = words.next().ok_or(LineErr::BadLine)?;
-        read_kind(alloc, kind, &mut words)
+        said_by(alloc, line)
     }
 }

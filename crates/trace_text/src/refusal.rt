@@ -1,9 +1,12 @@
 //! Why a run was refused, and what is written then.
 
-ghost use Rattle.std.specs.Prelude.{◌≡◌, IfOk, string_bytes};
-ghost use Rattle.trace_text.specs.Refusals.{fault_of, refusal_of};
+ghost use Rattle.std.specs.Prelude.{◌≡◌, ◌++◌, IfOk, OnOk, string_bytes};
+ghost use Rattle.trace_text.specs.Refusals.{limit_of, clock_of, fault_of, refusal_of};
+ghost use Rattle.clock_rule.specs.declared.rule.ClockFault.TheVariants as clock;
 
+use clock_rule::rule::ClockFault;
 use std::alloc::{AllocError, Global};
+use std::fmt::Write;
 
 /// A limit of traces. Which line goes beyond it is the business of the world that runs them.
 #[derive(Clone, Copy, Debug, PartialEq, Eq)]
@@ -18,28 +21,29 @@ pub enum Limit {
     Sessions,
 }
 
-/// What is wrong with a line.
+impl Limit {
+    /// The word that names it.
+    fn word(self) -> &'static str
+        ensures { result.now ≡ limit_of self }
+    {
+        match self {
+            Limit::Lines => "lines",
+            Limit::File => "file",
+            Limit::Tree => "tree",
+            Limit::Sessions => "sessions",
+        }
+    }
+}
+
+/// What is wrong with a line. Where several things are, the first of these counts.
 #[derive(Clone, Copy, Debug, PartialEq, Eq)]
 pub enum LineFault {
     /// It is not in the grammar.
     Grammar,
     /// It goes beyond this limit.
     Limit(Limit),
-}
-
-impl LineFault {
-    /// The words that say so.
-    fn words(self) -> &'static str
-        ensures { result.now ≡ fault_of self }
-    {
-        match self {
-            LineFault::Grammar => "grammar",
-            LineFault::Limit(Limit::Lines) => "limit lines",
-            LineFault::Limit(Limit::File) => "limit file",
-            LineFault::Limit(Limit::Tree) => "limit tree",
-            LineFault::Limit(Limit::Sessions) => "limit sessions",
-        }
-    }
+    /// Its readings break the clock rule.
+    Clock(ClockFault),
 }
 
 /// Why a run was refused.
@@ -66,12 +70,67 @@ impl Refusal {
     }
 }
 
+/// A client's reading that fell.
+fn put_client(text: &mut String, client: u64, from: u64, to: u64) -> Result<(), AllocError>
+    ensures { OnOk result (string_bytes text.new ≡ string_bytes text.old ++ clock_of (clock.Client client from to)) }
+{
+    write!(text, "clock client {client} from {from} to {to}")
+}
+
+/// A client's reading and the server's, which the server went on too far from.
+fn put_drift(
+    text: &mut String,
+    client: u64,
+    from: (u64, u64),
+    to: (u64, u64),
+) -> Result<(), AllocError>
+    ensures { OnOk result (string_bytes text.new ≡ string_bytes text.old ++ clock_of (clock.Drift client from.0 from.1 to.0 to.1)) }
+{
+    let (from, server_from) = from;
+    let (to, server_to) = to;
+    write!(
+        text,
+        "clock client {client} from {from} {server_from} to {to} {server_to}"
+    )
+}
+
+/// How readings break the clock rule.
+fn put_clock(text: &mut String, fault: ClockFault) -> Result<(), AllocError>
+    ensures { OnOk result (string_bytes text.new ≡ string_bytes text.old ++ clock_of fault) }
+{
+    match fault {
+        ClockFault::Server { from, to } => write!(text, "clock server from {from} to {to}"),
+        ClockFault::Client { client, from, to } => put_client(text, client, from, to),
+        ClockFault::Drift {
+            client,
+            from,
+            server_from,
+            to,
+            server_to,
+        } => put_drift(text, client, (from, server_from), (to, server_to)),
+    }
+}
+
+/// What is wrong with a line.
+fn put_fault(text: &mut String, fault: LineFault) -> Result<(), AllocError>
+    ensures { OnOk result (string_bytes text.new ≡ string_bytes text.old ++ fault_of fault) }
+{
+    match fault {
+        LineFault::Grammar => text.push_str("grammar"),
+        LineFault::Limit(limit) => {
+            text.push_str("limit ")?;
+            text.push_str(limit.word())
+        }
+        LineFault::Clock(fault) => put_clock(text, fault),
+    }
+}
+
 /// What is written for a line at fault.
 fn line_text(alloc: Global, number: u64, fault: LineFault) -> Result<String, AllocError>
     ensures { IfOk result (λ v. string_bytes v ≡ refusal_of (Refusal.Line number fault)) }
 {
     let mut text = format!(in alloc; "refused line {number} ")?;
-    text.push_str(fault.words())?;
+    put_fault(&mut text, fault)?;
     text.push_str("\n")?;
     Ok(text)
 }

@@ -8,6 +8,7 @@ use crate::content::{Content, build, length, length_within};
 use crate::line::{Command, Line, LineErr};
 use crate::parts::first_line;
 use crate::refusal::{Limit, LineFault, Refusal};
+use clock_rule::rule::ClockFault;
 use lb_base::items::Bytes;
 use std::alloc::Global;
 use std::test::Fail;
@@ -329,6 +330,38 @@ fn refusals_are_lines(rt: HostRuntime) -> Result<(), Fail> {
         (
             line_refused(LineFault::Limit(Limit::Sessions)),
             "refused line 12 limit sessions\n",
+        ),
+    ];
+    for (refusal, want) in cases {
+        assert_eq!(rt; refusal.text(rt.alloc())?.as_str(), want);
+    }
+    Ok(())
+}
+
+#[test]
+fn refusals_by_the_clock_are_lines(rt: HostRuntime) -> Result<(), Fail> {
+    let cases = [
+        (
+            line_refused(LineFault::Clock(ClockFault::Server { from: 500, to: 499 })),
+            "refused line 12 clock server from 500 to 499\n",
+        ),
+        (
+            line_refused(LineFault::Clock(ClockFault::Client {
+                client: 1,
+                from: 7,
+                to: 6,
+            })),
+            "refused line 12 clock client 1 from 7 to 6\n",
+        ),
+        (
+            line_refused(LineFault::Clock(ClockFault::Drift {
+                client: 1,
+                from: 0,
+                server_from: 20,
+                to: 300,
+                server_to: 500,
+            })),
+            "refused line 12 clock client 1 from 0 20 to 300 500\n",
         ),
     ];
     for (refusal, want) in cases {
