@@ -1,5 +1,5 @@
 -- One event of the server.
-use Rattle.std.specs.Prelude.{◌≡◌, ℕ, ◌+◌, ◌<◌, ◌≤◌, ◌^◌, [], ◌∷◌, ◌++◌, length, max, Bool, true, false, ◌&&◌, ◌==◌, nat_lt}
+use Rattle.std.specs.Prelude.{◌≡◌, ℕ, ◌+◌, ◌<◌, ◌≤◌, ◌^◌, List, [], ◌∷◌, ◌++◌, length, max, Bool, true, false, ◌&&◌, ◌==◌, nat_lt, filter, not}
 use Rattle.std.specs.List.{list_any}
 use Rattle.hash_calls.specs.declared.message.Lb.TheVariants as lb
 use Rattle.nfs3_calls.specs.declared.message.Nfs.TheVariants as nfs
@@ -60,6 +60,16 @@ abbrev pub connect : State → Bool → State × Outs
 connect s true = (record s { sessions = s.sessions ++ (s.made + 1) ∷ []; made = s.made + 1 }, record { send = []; told = told.Session (s.made + 1); missed = false })
 connect s false = (s, record { send = []; told = told.Full; missed = false })
 
+-- ---- a connection is lost
+
+-- the session's temporary files go, and its change that waits
+abbrev pub hangs : State → (session : ℕ) → State
+hangs s session = record s { sessions = filter (λ k. not (k == session)) s.sessions; temps = filter (λ e. not (e.1.session == session)) s.temps; waits = filter (λ c. not (c.session == session)) s.waits }
+
+abbrev pub hangs_if : State → Bool → (session : ℕ) → State × Outs
+hangs_if s true session = (hangs s session, outs [])
+hangs_if s false session = (s, outs [])
+
 -- ---- any event
 
 -- an event of a session that does not stand changes nothing
@@ -67,6 +77,7 @@ abbrev pub server_step : State → Event → State × Outs
 server_step s event.Connect = connect s (has_room s)
 server_step s (event.Got session m now) = got_if s (stands s session) session m now
 server_step s (event.Settle now) = settles s now s.waits
+server_step s (event.Hang session) = hangs_if s (stands s session) session
 
 -- a file that a tree opens with: as many changes were made as its version tells, or more
 abbrev pub opens_with : State → File → State
@@ -79,16 +90,19 @@ abbrev pub IsTimed : Event → Type 0
 IsTimed event.Connect = Unit {0}
 IsTimed (event.Got session m now) = now < 2 ^ 63
 IsTimed (event.Settle now) = now < 2 ^ 63
+IsTimed (event.Hang session) = Unit {0}
 
 -- what a step leaves that met want of memory: all as it was, but for the moment of its reading
 abbrev pub missed_at : State → Event → State
 missed_at s event.Connect = s
 missed_at s (event.Got session m now) = at s now
 missed_at s (event.Settle now) = s
+missed_at s (event.Hang session) = s
 
--- only where a change is made is no memory wanted: what it takes was taken when it came
+-- where a change is made no memory is wanted, since what it takes was taken when it came; nor is any where a connection is lost
 abbrev pub MayMiss : Event → Type 0
 MayMiss (event.Settle now) = ⊥
+MayMiss (event.Hang session) = ⊥
 MayMiss e = Unit {0}
 
 -- a file within its limits

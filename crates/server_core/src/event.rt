@@ -18,6 +18,10 @@ pub enum Event {
     Settle {
         now: u64,
     },
+    /// A session's connection is lost.
+    Hang {
+        session: u32,
+    },
 }
 
 /// A message to a session.

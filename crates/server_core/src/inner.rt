@@ -50,7 +50,7 @@ pub struct Inner {
 }
 
 /// Whether the session stands.
-fn stands(sessions: &Vec<u32>, session: u32) -> bool
+pub fn stands(sessions: &Vec<u32>, session: u32) -> bool
     ensures { result ≡ list_any (λ k. k == session) sessions.now.items }
 {
     sessions.iter().any(|k| *k == session)
@@ -78,7 +78,7 @@ impl Inner {
     }
 
     /// One event. An `Err` leaves all as it was, but for the moment of its reading; it never comes
-    /// where a change may be made.
+    /// where a change may be made, or a connection is lost.
     pub fn step(&mut self, alloc: Global, event: Event) -> Result<Outs, AllocError>
         requires bounded { IsBounded self.old }
         requires timed { IsTimed event }
@@ -104,6 +104,7 @@ impl Inner {
                 Ok(outs)
             }
             Event::Settle { now } => Ok(self.settle(alloc, now)),
+            Event::Hang { session } => Ok(self.hang(alloc, session)),
         }
     }
 

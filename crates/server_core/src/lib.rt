@@ -9,6 +9,7 @@ mod change;
 mod closing;
 pub mod event;
 pub mod file;
+mod hanging;
 mod inner;
 pub mod journal;
 mod outs;

@@ -72,8 +72,8 @@ impl Server {
     }
 
     /// One event, whose reading of the clock is below 2^63. Where memory runs out nothing is sent
-    /// or told, and all stays as it was, but for the moment of the reading; making a change never
-    /// meets that.
+    /// or told, and all stays as it was, but for the moment of the reading; making a change, or
+    /// losing a connection, never meets that.
     pub fn step(&mut self, alloc: Global, event: Event) -> Outs
         requires { IsTimed event }
         ensures exact { result.missed ≡ false → server_step self.old event ≡ (self.new, result) }

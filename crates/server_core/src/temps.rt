@@ -1,6 +1,6 @@
 //! The temporary files of all sessions, by their keys.
 
-ghost use Rattle.std.specs.Prelude.{◌≡◌, ◌==◌, [], Some, length, filter, OnOk, OnErr, IsSome};
+ghost use Rattle.std.specs.Prelude.{◌≡◌, ◌==◌, [], Some, length, filter, not, OnOk, OnErr, IsSome};
 ghost use Rattle.std.specs.List.{All};
 ghost use Rattle.std.specs.Map.{values_of};
 ghost use Rattle.std.specs.Option.{option_copied};
@@ -113,4 +113,13 @@ pub fn end(temps: &mut Temps, session: u32, fd: u32)
     ensures keyed { All IsTempKeyed temps.new.entries }
 {
     temps.remove(&key_of(session, fd));
+}
+
+/// Ends all temporary files of a session. It takes no memory.
+pub fn end_all(temps: &mut Temps, session: u32)
+    requires { All IsTempKeyed temps.old.entries }
+    ensures ended { temps.new.entries ≡ filter (λ e. not (e.1.session == session)) temps.old.entries }
+    ensures keyed { All IsTempKeyed temps.new.entries }
+{
+    temps.retain(|_, temp| temp.session() != session);
 }

@@ -57,6 +57,8 @@ enum Ask {
     /// A COMMITTMP: the number, the file, and its size.
     Commit(u32, u64, u64),
     Settle,
+    /// The connection of this session is lost.
+    Hang(u32),
 }
 
 /// How that ended: what was sent to session 1 under xid 7, or told.
@@ -121,7 +123,7 @@ fn call(alloc: Global, ask: Ask) -> Result<Body, AllocError> {
             size,
         }),
         Ask::Null => Lb::Null,
-        Ask::Other | Ask::Connect | Ask::Settle => Lb::NullAnswer,
+        Ask::Other | Ask::Connect | Ask::Settle | Ask::Hang(_) => Lb::NullAnswer,
     }))
 }
 
@@ -131,6 +133,7 @@ fn event(alloc: Global, ask: Ask) -> Result<Event, AllocError>
     match ask {
         Ask::Connect => Ok(Event::Connect),
         Ask::Settle => Ok(Event::Settle { now: 0 }),
+        Ask::Hang(session) => Ok(Event::Hang { session }),
         _ => {
             let body = call(alloc, ask)?;
             Ok(Event::Got {
@@ -412,5 +415,31 @@ fn makes_a_change(rt: HostRuntime) -> Result<(), Fail> {
     };
     assert_eq!(rt; server.journal().len(), 1);
     assert_eq!(rt; server.journal().first().copied(), Some(noted));
+    Ok(())
+}
+
+#[test]
+fn loses_a_session(rt: HostRuntime) -> Result<(), Fail> {
+    let alloc = rt.alloc();
+    let mut server = served(alloc)?;
+    let rows = [
+        (Ask::Make(1, 2), End::Done),
+        (Ask::Write(1, 0, b"ab"), End::Done),
+        (Ask::Commit(1, 2, 2), SILENT),
+        (Ask::Make(2, 2), End::Done),
+        // Another session takes nothing of it along.
+        (Ask::Connect, End::Quiet(Told::Session(2))),
+        (Ask::Hang(2), SILENT),
+        (Ask::Make(2, 2), End::Failed(Status::FdInUse)),
+        (Ask::Hang(3), SILENT),
+        (Ask::Hang(1), SILENT),
+        // Its change is gone, and it is answered no more.
+        (Ask::Settle, NOT_READY),
+        (Ask::Null, SILENT),
+        (Ask::Hang(1), SILENT),
+        (Ask::Connect, End::Quiet(Told::Session(3))),
+    ];
+    assert_eq!(rt; other(alloc, &mut server, &rows)?, None);
+    assert!(rt; server.journal().is_empty());
     Ok(())
 }
