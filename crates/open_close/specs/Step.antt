@@ -302,6 +302,14 @@ got_step s (Err e) = got_fault s s.task e
 abbrev pub joined : State → State
 joined s = record s { linked = true; next = 1; fds = 1 }
 
+abbrev pub ended_by : Option Task → Ended → Acts
+ended_by None e = nothing_done
+ended_by (Some t) e = record nothing_done { ended = Some e }
+
+-- The connection is lost: the operation under way ends by that, and what is open stays so.
+abbrev pub cut : State → State × Acts
+cut s = (record s { linked = false; task = None }, ended_by s.task (record { outcome = outcome.Lost; rests_on = 0 }))
+
 -- ---- want of memory
 
 -- what is done where memory ran out, and what ends by it

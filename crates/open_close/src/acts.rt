@@ -50,6 +50,8 @@ pub enum Outcome {
     AlreadyOpen,
     /// The file would have had so many bytes, above the limit of a file.
     TooBig(u128),
+    /// The connection was lost meanwhile.
+    Lost,
     /// No connection is joined, or it has fewer than 1,000,000 xids left.
     NoLink,
     /// The server answered this status.

@@ -3,7 +3,7 @@
 ghost use Rattle.std.specs.Prelude.{◌≡◌, ◌==◌, false, true, option_map, Some};
 ghost use Rattle.std.specs.Option.{option_copied};
 ghost use Rattle.open_close.specs.State.{start, waiting_of, local_at};
-ghost use Rattle.open_close.specs.Step.{command_step, got_step, idle, joined, misses, by_memory, lost, lost_if, IsTold, IsCommitting};
+ghost use Rattle.open_close.specs.Step.{command_step, got_step, idle, cut, joined, misses, by_memory, lost, lost_if, IsTold, IsCommitting};
 
 use crate::acts::{Acts, Ended, Outcome};
 use crate::inner::Inner;
@@ -126,6 +126,15 @@ impl Client {
         self.inner.linked = true;
         self.inner.next = 1;
         self.inner.fds = 1;
+    }
+
+    /// The connection is lost. The operation under way ends by that, if there is one, and open files
+    /// stay open. It takes no memory.
+    pub fn cut(&mut self, alloc: Global) -> Acts
+        ensures exact { cut self.old ≡ (self.new, result) }
+        ensures done { result.missed ≡ false }
+    {
+        self.inner.cut(alloc)
     }
 
     /// Whether a connection is joined.

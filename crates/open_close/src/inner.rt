@@ -2,7 +2,7 @@
 
 ghost use Rattle.std.specs.Prelude.{◌≡◌, ◌+◌, ◌<◌, ◌≤◌, ◌==◌, ◌^◌, length, true, None, Some, slice_get, IfOk, OnOk, OnErr, false};
 ghost use Rattle.open_close.specs.State.{State, without_local};
-ghost use Rattle.open_close.specs.Step.{command_step, bad_peer, refused, denied, took, took_if, waits_for, denied_if, cut_off, got_message, got_fault, got_step, idle, may_ask, has_xids, InCommit, IsCommitting};
+ghost use Rattle.open_close.specs.Step.{command_step, bad_peer, refused, denied, took, took_if, waits_for, denied_if, cut, cut_off, got_message, got_fault, got_step, idle, may_ask, has_xids, InCommit, IsCommitting};
 ghost use Rattle.open_close.specs.View.{state_of, IsSound, HasXids, IsWithin};
 ghost use Rattle.open_close.specs.declared.acts.BadPeer.TheVariants as bad;
 ghost use Rattle.wire.specs.declared.message.Message.TheVariants as message;
@@ -224,6 +224,21 @@ impl Inner {
             self.denied(alloc, refusal)
         } else {
             self.unawaited(alloc, xid)
+        }
+    }
+
+    /// The connection is lost: the operation under way ends by that, if there is one. It takes no
+    /// memory.
+    pub fn cut(&mut self, alloc: Global) -> Acts
+        requires { IsSound self.old }
+        ensures ok { cut (state_of self.old) ≡ (state_of self.new, result) }
+        ensures done { result.missed ≡ false }
+        ensures sound { IsSound self.new }
+    {
+        self.linked = false;
+        match self.stop(alloc) {
+            None => parts::nothing_done(alloc),
+            Some(_) => parts::ends(alloc, Outcome::Lost, 0, 0),
         }
     }
 

@@ -2,6 +2,7 @@
 
 mod closing;
 mod commands;
+mod losing;
 mod opening;
 
 use crate::acts::{Acts, BadPeer, Counts, Outcome};
@@ -50,6 +51,7 @@ enum End {
     NotOpen,
     AlreadyOpen,
     TooBig(u128),
+    Lost,
     NoLink,
     Refused(Status),
     WrongDigest(Digest),
@@ -94,6 +96,7 @@ fn end_of(acts: &Acts) -> End {
         Outcome::NotOpen => End::NotOpen,
         Outcome::AlreadyOpen => End::AlreadyOpen,
         Outcome::TooBig(size) => End::TooBig(*size),
+        Outcome::Lost => End::Lost,
         Outcome::NoLink => End::NoLink,
         Outcome::Refused(status) => End::Refused(*status),
         Outcome::BadPeer(BadPeer::Digest { wanted, .. }) => End::WrongDigest(*wanted),
