@@ -11,7 +11,7 @@ use Rattle.trace_text.specs.declared.line.Command.TheVariants as command
 use Rattle.trace_text.specs.declared.line.Line.{Line}
 use Rattle.trace_text.specs.declared.line.Line.TheVariants as line
 use Rattle.trace_text.specs.declared.refusal.LineFault.{LineFault}
-use Rattle.trace_text.specs.declared.refusal.LineFault.TheVariants.{Grammar, Limit}
+use Rattle.trace_text.specs.declared.refusal.LineFault.TheVariants.{Grammar, Limit, Clock}
 use Rattle.trace_replay.specs.Names.{has_name}
 use Rattle.trace_replay.specs.Commands.{file_of}
 use Rattle.trace_replay.specs.declared.link.Stage.{Stage}
@@ -30,6 +30,7 @@ deeds_by linked t = []
 
 abbrev pub linked_then : Bool → Turn → Bool
 linked_then linked turn.Join = true
+linked_then linked turn.Cut = false
 linked_then linked t = linked
 
 -- the id in a command has at most 64 bits
@@ -46,10 +47,14 @@ abbrev pub Allows : World → Turn → Type 0
 Allows w turn.Skip = Unit {0}
 Allows w (turn.At s) = is_early w.stage ≡ true
 Allows w (turn.File name content) = (w.stage ≡ stage.Files) × (content_length content ≤ file_most)
-Allows w turn.Join = w.client.linked ≡ false
+Allows w turn.Join = (w.client.linked ≡ false) × (w.sessions ≡ 0)
 Allows w (turn.Do k) = IsSmall k
-Allows w turn.Settle = Unit {0}
-Allows w (turn.Pass k) = Unit {0}
+Allows w (turn.Up n now) = Unit {0}
+Allows w (turn.Down n) = Unit {0}
+Allows w (turn.Settle now) = Unit {0}
+Allows w turn.Cut = Unit {0}
+Allows w turn.Hang = 0 < w.sessions
+Allows w (turn.Pass k now) = Unit {0}
 
 -- a line in place: what its turn may rely on, and which commands it has
 pub record IsInPlace (w : World) (l : Line) (t : Turn) : Type 0 where
@@ -105,26 +110,31 @@ not_true : (b : Bool) → not b ≡ true → b ≡ false
 not_true true e = absurd cc
 not_true false e = refl
 
-free : (a b c : Bool) (linked : Bool) → (a && b && c && not linked) ≡ true → linked ≡ false
-free true true true linked e = not_true linked e
-free true true false linked e = absurd cc
-free true false c linked e = absurd cc
-free false b c linked e = absurd cc
+-- a session of this number is there
+some_session : (n sessions : ℕ) → (nat_lt 0 n && nat_le n sessions) ≡ true → 0 < sessions
+some_session n sessions e =
+    let least : nat_lt 0 n ≡ true = first_true (nat_lt 0 n) (nat_le n sessions) e in
+    let most : nat_le n sessions ≡ true = then_true (nat_lt 0 n) (nat_le n sessions) e in
+    grind (arith, nat_tests, least, most)
 
-join_place : (w : World) (c r s : ℕ) (is_free is_first : Bool) (t : Turn) → (is_free ≡ true → w.client.linked ≡ false) → joins_if is_free is_first ≡ asking t → IsInPlace w (line.Join c r s) t
-join_place w c r s false is_first t h is = refused_line Grammar t is
-join_place w c r s true false t h is = refused_line _ t is
-join_place w c r s true true t h is = place w (line.Join c r s) turn.Join t is (record { allows = h refl; deeds = λ b. refl; linked = λ b. refl })
+join_place : (w : World) (c r s : ℕ) (is_free is_first : Bool) (t : Turn) → (is_free ≡ true → w.client.linked ≡ false) → (is_first ≡ true → w.sessions ≡ 0) → joins_if is_free is_first ≡ asking t → IsInPlace w (line.Join c r s) t
+join_place w c r s false is_first t h first is = refused_line Grammar t is
+join_place w c r s true false t h first is = refused_line _ t is
+join_place w c r s true true t h first is = place w (line.Join c r s) turn.Join t is (record { allows = (h refl, first refl); deeds = λ b. refl; linked = λ b. refl })
 
 event_place : (w : World) (l : Line) (t : Turn) → IsFit l → event_asks w.client.linked w.sessions l ≡ asking t → IsInPlace w l t
-event_place w (line.Join c r s) t fit is = join_place w c r s _ _ t (λ e. free (c == 1) (r == 0) (s == 0) w.client.linked e) is
+event_place w (line.Join c r s) t fit is = join_place w c r s _ _ t (λ e. not_true w.client.linked (then_true (c == 1) (not w.client.linked) e)) (λ e. eqb-true w.sessions 0 e) is
 event_place w (line.Do c r k) t fit is = when _ w (line.Do c r k) (turn.Do k) t is (λ e. record {
   allows = fit;
-  deeds = λ b. ap (λ (n : ℕ). record { client = n; command = k; linked = b } ∷ []) (eqb-true c 1 (first_true (c == 1) (r == 0) e));
+  deeds = λ b. ap (λ (n : ℕ). record { client = n; command = k; linked = b } ∷ []) (eqb-true c 1 e);
   linked = λ b. refl;
 })
-event_place w (line.Settle s) t fit is = when _ w (line.Settle s) turn.Settle t is (λ e. record { allows = tt; deeds = λ b. refl; linked = λ b. refl })
-event_place w (line.Pass n k s r) t fit is = when _ w (line.Pass n k s r) (turn.Pass k) t is (λ e. record { allows = tt; deeds = λ b. refl; linked = λ b. refl })
+event_place w (line.Up n a s) t fit is = when _ w (line.Up n a s) (turn.Up a s) t is (λ e. record { allows = tt; deeds = λ b. refl; linked = λ b. refl })
+event_place w (line.Down n a r) t fit is = when _ w (line.Down n a r) (turn.Down a) t is (λ e. record { allows = tt; deeds = λ b. refl; linked = λ b. refl })
+event_place w (line.Settle s) t fit is = place w (line.Settle s) (turn.Settle s) t is (record { allows = tt; deeds = λ b. refl; linked = λ b. refl })
+event_place w (line.Cut c r) t fit is = when _ w (line.Cut c r) turn.Cut t is (λ e. record { allows = tt; deeds = λ b. refl; linked = λ b. refl })
+event_place w (line.Hang n s) t fit is = when _ w (line.Hang n s) turn.Hang t is (λ e. record { allows = some_session n w.sessions e; deeds = λ b. refl; linked = λ b. refl })
+event_place w (line.Pass n k s r) t fit is = when _ w (line.Pass n k s r) (turn.Pass k s) t is (λ e. record { allows = tt; deeds = λ b. refl; linked = λ b. refl })
 event_place w l t fit is = refused_line Grammar t is
 
 -- ---- any line
@@ -147,6 +157,7 @@ within : (b : Bool) (r : Result Turn LineFault) (t : Turn) → asks_within b r �
 within true r t is = (is, refl)
 within false (Err Grammar) t is = refused_line Grammar t is
 within false (Err (Limit w)) t is = refused_line _ t is
+within false (Err (Clock f)) t is = refused_line _ t is
 within false (Ok s) t is = refused_line _ t is
 
 pub in_place : (w : World) (n : ℕ) (l : Line) (t : Turn) → IsFit l → asked w n l ≡ Ok t → IsInPlace w l t × (n ≤ 65536)

@@ -1,5 +1,5 @@
 -- What a command of the client keeps: one operation more, which ends at once or begins.
-use Rattle.std.proofs.Common.{◌≡◌, ℕ, zero, suc, ◌+◌, ◌<◌, ◌≤◌, ◌^◌, List, [], ◌∷◌, ◌++◌, ◌⊎◌, inl, inr, Option, Some, None, Bool, true, false, cond, length, refl, sym, ap, ◌∙◌, arith, subst, append-nil}
+use Rattle.std.proofs.Common.{◌≡◌, ℕ, zero, suc, ◌+◌, ◌<◌, ◌≤◌, ◌^◌, List, [], ◌∷◌, ◌++◌, ◌⊎◌, inl, inr, Option, Some, None, Bool, true, false, cond, length, refl, sym, ap, ◌∙◌, arith, subst}
 use Rattle.std.specs.Prelude.{slice_get, ◌==◌, not, is_some, IsSome, option_map, unwrap_or, Result, Ok}
 use Rattle.std.proofs.lemmas.Bool.{eqb-true}
 use Rattle.std.proofs.lemmas.Bool.Decides.{nat_tests}
@@ -35,18 +35,20 @@ use Rattle.register_model.specs.declared.op.Outcome.TheVariants as told
 use Rattle.register_model.specs.declared.op.Word.{Word}
 use Rattle.register_model.specs.declared.op.Word.TheVariants as word
 use Rattle.trace_replay.specs.Commands.{word_of, file_of, value_at_begin}
-use Rattle.trace_replay.specs.Faithful.{Deed, is_running, leaves, after_one, IsDoneOf, IsTooBig, HasTraffic, no_traffic}
-use Rattle.trace_replay.specs.World.{World, Link, bytes_of, op_after, told_of, point_if, has_point, running_with, taken_on, closing_with}
+use Rattle.trace_replay.specs.Faithful.{Deed, is_running, leaves, after_one, IsDoneOf, IsTooBig, HasTraffic, HasSent, no_traffic}
+use Rattle.trace_replay.specs.World.{World, Link, bytes_of, up_with, op_after, told_of, point_if, has_point, running_with, taken_on, closing_with}
 use Rattle.trace_replay.specs.Run.{begun, commanded, does}
 use Rattle.trace_replay.proofs.Lists.{nothing_there, some_is, of_appended, at_end, kept_appended, length_appended}
 use Rattle.trace_replay.proofs.Values.{value_appended}
 use Rattle.trace_replay.proofs.Contents.{local_appended, before_end, after_calm_as, is_calm}
 use Rattle.trace_replay.proofs.ClientRows.{task_of}
 use Rattle.trace_replay.proofs.ClientCommands.{was_busy, Did, did, Gives, IsEdit, edit_leaves, edit_done, may_asked, may_ask_now, asks_file, makes_file}
-use Rattle.trace_replay.proofs.Kept.{IsKept, IsRight, IsOf, IsApart, IsJoined, Known, Cause, Under_way, InPhase, Closing, Busy, Idle, Numbered, at_first, is_early, node_at, spare}
-use Rattle.trace_replay.proofs.Growth.{past_appended}
-use Rattle.trace_replay.proofs.Trees.{points_of, tree_goes, none_before}
-use Rattle.trace_replay.proofs.Lines.{Lifts, lift_busy, idle_at, no_root}
+use Rattle.trace_replay.proofs.Kept.{IsKept, IsRight, IsOf, IsJoined, Joined, apart, joined, is_cut, Known, Cause, Under_way, InPhase, Closing, Busy, Idle, Up, Still, Quiet, Way3, goes_up, is_stuck, Numbered, at_first, is_early, node_at, spare}
+use Rattle.trace_replay.proofs.Growth.{holds_appended, past_appended}
+use Rattle.trace_replay.proofs.Trees.{points_of, tree_goes}
+use Rattle.trace_replay.proofs.Moves.{cut_or_not}
+use Rattle.trace_replay.proofs.Steps.{hung_or, sent_up, lost_up}
+use Rattle.trace_replay.proofs.Lines.{Lifts, lift_busy, lift_adrift, none_running, idle_at, no_root}
 
 -- ---- one operation more
 
@@ -67,7 +69,7 @@ abbrev pub grown : World → client.State → Link → Op → Option ℕ → Wor
 grown w c l new r = record w { steps = w.steps + 1; client = c; link = l; ops = w.ops ++ new ∷ []; running = r }
 
 abbrev known_with : World → Op → Known
-known_with w new = record { opening = w.opening; ops = w.ops ++ new ∷ []; settled = w.settled; journal = w.server.journal }
+known_with w new = record { opening = w.opening; ops = w.ops ++ new ∷ []; settled = w.settled; journal = w.server.journal; cuts = w.cuts }
 
 -- what an operation is that a command adds, and what it leaves
 pub record Adds (j : Bool) (w : World) (k : Command) (c : client.State) (l : Link) (new : Op) (r : Option ℕ) : Type 0 where
@@ -82,9 +84,7 @@ pub record Adds (j : Bool) (w : World) (k : Command) (c : client.State) (l : Lin
   pub xids : c.next + spare c.task ≤ w.client.next + spare w.client.task + 4
   pub fds : c.fds ≤ c.next
   pub linked : c.linked ≡ w.client.linked
-  pub joined : IsApart (grown w c l new r) ⊎ IsJoined (grown w c l new r)
-  pub server_end : l.server_end ≡ w.link.server_end
-  pub client_end : l.client_end ≡ w.link.client_end
+  pub joined : Joined (grown w c l new r)
   pub way : Under_way (grown w c l new r) c.task
 
 -- what is kept then
@@ -101,8 +101,8 @@ grown_kept n ds j w k c l new r line events kept h =
     let before = before_end ds w.ops d new (file_of k) kept.past.count ∙ sym (kept.client.locals (file_of k)) in
     record {
       tree = tree_goes n (n + 1) w.opening w.ops (w.ops ++ new ∷ []) w.server w.server.temps w.server.waits w.server.sessions w.server.made w.server.last w.steps (w.steps + 1) (omega arith)
-          (points_of n ds w.opening w.ops w.running w.settled w.server.journal w.steps kept.past) (λ file p. value_appended w.opening w.ops new file p (inr h.none)) (omega (arith, kept.tree.changes, many)) (omega arith) kept.tree;
-      past = past_appended n ds w.opening w.ops w.running r w.settled w.server.journal w.steps d new line h.none h.of h.right
+          (points_of n ds w.opening w.ops w.running w.settled w.server.journal w.cuts w.steps kept.past) (λ file p. value_appended w.opening w.ops new file p (inr h.none)) (omega (arith, kept.tree.changes, many)) (omega arith) kept.tree;
+      past = past_appended n ds w.opening w.ops w.running r w.settled w.server.journal w.cuts w.steps d new line h.none h.of h.right
           (subst (λ (x : Option (List ℕ)). Cause (known_with w new) d new x new.outcome) (sym before) h.cause) h.still h.runs kept.past;
       client = record {
         locals = λ file. h.locals file ∙ ap (after_one file d new) (kept.client.locals file) ∙ sym (local_appended file None ds w.ops d new kept.past.count);
@@ -112,8 +112,6 @@ grown_kept n ds j w k c l new r line events kept h =
         linked = h.linked ∙ kept.client.linked;
       };
       joined = h.joined;
-      server_end = h.server_end ∙ kept.server_end;
-      client_end = h.client_end ∙ kept.client_end;
       way = h.way;
       fresh = λ e. not_so (is_early w.stage) events e;
     }
@@ -182,6 +180,7 @@ told_right w k opened o p = record {
   only = only_of k (point_if (has_point (word_of k) o) [] 0 None) none;
   unmade = λ e f g. none;
   end = sym (ap not p.over);
+  order = λ e at. let same : w.steps + 1 ≡ e = some_is (w.steps + 1) e at in omega (arith, same);
   traffic = p.bare (told_op w k opened o) refl;
 }
   where
@@ -193,19 +192,43 @@ closing_told : (closing : Option ℕ) (place : ℕ) (what : Word) (e : Ended) �
 closing_told closing place word.Close e = refl
 closing_told closing place what e = refl
 
+-- the link after a command that its client ends
+abbrev told_link : Link → Option ℕ → ℕ → Word → Ended → Link
+told_link l running place what e = record l { up = up_with l (bytes_of []); taken = taken_on running l.taken; closing = closing_with l.closing place what (Some e) }
+
+-- only the calls that were taken may be forgotten
+told_link_is : (l : Link) (running : Option ℕ) (place : ℕ) (what : Word) (e : Ended) → told_link l running place what e ≡ record l { taken = taken_on running l.taken }
+told_link_is l running place what e =
+    ap (λ (c : Option ℕ). record l { up = up_with l (bytes_of []); taken = taken_on running l.taken; closing = c }) (closing_told l.closing place what e)
+    ∙ ap (λ (u : List ℕ). record l { up = u; taken = taken_on running l.taken }) (cut_or_not l.hung l.up)
+
 -- the link of a client that is busy is as it was
-same_link : (l : Link) (running : Option ℕ) (place under : ℕ) (what : Word) (e : Ended) → running ≡ Some under → record l { up = l.up ++ []; taken = taken_on running l.taken; closing = closing_with l.closing place what (Some e) } ≡ l
+same_link : (l : Link) (running : Option ℕ) (place under : ℕ) (what : Word) (e : Ended) → running ≡ Some under → told_link l running place what e ≡ l
 same_link l running place under what e is =
-    ap (λ (c : Option ℕ). record l { up = l.up ++ []; taken = taken_on running l.taken; closing = c }) (closing_told l.closing place what e)
-    ∙ ap (λ (r : Option ℕ). record l { up = l.up ++ []; taken = taken_on r l.taken }) is
-    ∙ ap (λ (u : List ℕ). record l { up = u }) (append-nil l.up)
+    told_link_is l running place what e ∙ ap (λ (r : Option ℕ). record l { taken = taken_on r l.taken }) is
 
 -- what a command came to
 abbrev done_by : World → Command → client.State × Acts → World
 done_by w k r = commanded w (word_of k) (file_of k) (value_at_begin w.client k) r.0 r.1
 
-way_of : (w v : World) → w.client.task ≡ None → Idle v → Under_way v w.client.task
-way_of w v e idle = subst (λ (o : Option Task). Under_way v o) (sym e) idle
+-- the calls that were taken are forgotten where no operation is under way
+abbrev rests_link : Link → Link
+rests_link l = record l { taken = [] }
+
+-- none is then, as before
+rests_way : (w : World) (c : client.State) (new : Op) → Under_way w None → Under_way (grown w c (rests_link w.link) new w.running) None
+rests_way w c new (inl idle) = inl (record { none = idle.none; still = idle.still; quiet = idle.quiet; joined = idle.joined })
+rests_way w c new (inr a) = inr (lift_adrift w w.stage c [] (w.ops ++ new ∷ []) (w.steps + 1) (let many = length_appended w.ops new in omega (arith, many)) (holds_appended w.ops new) a)
+
+-- and the session is what it was
+rests_joined : (w : World) (c : client.State) (l : Link) (new : Op) (r : Option ℕ) → c.linked ≡ w.client.linked → c.task ≡ w.client.task → l.cut ≡ w.link.cut → l.hung ≡ w.link.hung → Joined w → Joined (grown w c l new r)
+rests_joined w c l new r linked task cut hung (apart h) = apart (linked ∙ h.0, task ∙ h.1, h.2, h.3, h.4, cut ∙ h.5, hung ∙ h.6)
+rests_joined w c l new r linked task cut hung (joined h) = joined (linked ∙ h.0, h.1, cut ∙ h.2, λ there. h.3 (sym hung ∙ there))
+rests_joined w c l new r linked task cut hung (is_cut h) = is_cut (linked ∙ h.0, task ∙ h.1, h.2, cut ∙ h.3)
+
+-- where the client has no task
+no_task_way : (w : World) → w.client.task ≡ None → Under_way w w.client.task → Under_way w None
+no_task_way w e way = subst (λ (o : Option Task). Under_way w o) e way
 
 -- where no operation was under way, and the files that are open then are these
 told_kept : (n : ℕ) (ds : List Deed) (j : Bool) (w : World) (k : Command) (opened : List (ℕ × Local)) (o : Ending) → n ≤ 65536 → is_early w.stage ≡ false → w.client.task ≡ None → IsKept n ds j w → ByClient o
@@ -214,31 +237,31 @@ told_kept : (n : ℕ) (ds : List Deed) (j : Bool) (w : World) (k : Command) (ope
     → ((file : ℕ) (l : Local) → client.local_at opened file ≡ Some l → IsOpenable w.opening file l)
     → After n ds j k (done_by w k (with_open w.client opened, ends o 0 0))
 told_kept n ds j w k opened o line events no_task kept by cause locals there =
-    let idle = idle_at w no_task kept.way in
+    let way = no_task_way w no_task kept.way in
+    let none = none_running w way in
     let p = plain o by in
     let c = with_open w.client opened in
     let new = told_op w k opened o in
     let e : Ended = record { outcome = o; rests_on = 0 } in
-    let l : Link = record w.link { up = w.link.up ++ bytes_of []; taken = taken_on w.running w.link.taken; closing = closing_with w.link.closing (length w.ops) (word_of k) (Some e) } in
-    let r = running_with w.running (length w.ops) (Some e) in
-    let none_runs : r ≡ None = ap (λ (x : Option ℕ). running_with x (length w.ops) (Some e)) idle.none in
-    grown_kept n ds j w k c l new r line events kept (record {
+    let same : done_by w k (c, ends o 0 0) ≡ grown w c (rests_link w.link) new w.running =
+    ap (λ (l : Link). grown w c l new (running_with w.running (length w.ops) (Some e))) (told_link_is w.link w.running (length w.ops) (word_of k) e)
+    ∙ ap (λ (r : Option ℕ). grown w c (record w.link { taken = taken_on r w.link.taken }) new (running_with r (length w.ops) (Some e))) none
+    ∙ ap (λ (r : Option ℕ). grown w c (rests_link w.link) new r) (sym none) in
+    subst (After n ds j k) (sym same) (grown_kept n ds j w k c (rests_link w.link) new w.running line events kept (record {
       none = no_point (has_point (word_of k) o);
       of = record { client = refl; word = refl; file = refl };
       right = told_right w k opened o p;
       cause = cause;
-      still = λ q is. nothing_there q (sym idle.none ∙ is);
+      still = λ q is. is;
       runs = λ runs. not_so (is_running (told_of o)) p.over runs;
       locals = locals;
       there = there;
       xids = omega arith;
       fds = kept.client.fds;
       linked = refl;
-      joined = kept.joined;
-      server_end = refl;
-      client_end = refl;
-      way = way_of w (grown w c l new r) no_task (record { none = none_runs; still = (none_before w.link.up [] idle.still.0, idle.still.1); quiet = idle.quiet });
-    })
+      joined = rests_joined w c (rests_link w.link) new w.running refl refl refl refl kept.joined;
+      way = subst (λ (x : Option Task). Under_way (grown w c (rests_link w.link) new w.running) x) (sym no_task) (rests_way w c new way);
+    }))
 
 -- where it leaves each content, as told of it
 calm_kept : (n : ℕ) (ds : List Deed) (j : Bool) (w : World) (k : Command) (o : Ending) → n ≤ 65536 → is_early w.stage ≡ false → w.client.task ≡ None → IsKept n ds j w → ByClient o → is_calm (told_of o) ≡ true
@@ -283,9 +306,7 @@ busy_kept n ds j w k t line events is kept busy =
       xids = omega arith;
       fds = kept.client.fds;
       linked = refl;
-      joined = kept.joined;
-      server_end = refl;
-      client_end = refl;
+      joined = rests_joined w w.client w.link new w.running refl refl refl refl kept.joined;
       way = subst (λ (x : Option Task). Under_way (grown w w.client w.link new w.running) x) (sym is)
           (lift_busy w w.stage (w.ops ++ new ∷ []) (w.steps + 1) t (lifts_appended w.opening w.ops new w.steps none) busy (kept_appended w.ops new busy.place busy.op busy.there)
           (λ i o at lt. elim (of_appended w.ops new i o at) [ inl h ↦ ap (λ (x : Op). x.outcome) h.1 | inr was ↦ busy.behind i o was lt ]));
@@ -391,7 +412,13 @@ fresh_op w k = begun (word_of k) (file_of k) (value_at_begin w.client k) (w.step
 
 -- the client and the link then
 abbrev asked_link : World → Word → Message → Link
-asked_link w what m = record w.link { up = w.link.up ++ bytes_of (m ∷ []); taken = taken_on w.running w.link.taken; closing = closing_with w.link.closing (length w.ops) what None }
+asked_link w what m = record w.link { up = up_with w.link (bytes_of (m ∷ [])); taken = taken_on w.running w.link.taken; closing = closing_with w.link.closing (length w.ops) what None }
+
+-- nothing was sent that is counted
+none_sent : (wd : Word) (o : Op) → o.traffic ≡ no_traffic → o.point ≡ None → HasSent wd o
+none_sent word.Open o e none = inl e
+none_sent word.Close o e none = inl (none, inl e)
+none_sent wd o e none = e
 
 fresh_right : (w : World) (k : Command) → IsRight w.opening (w.ops ++ fresh_op w k ∷ []) (w.steps + 1) (fresh_op w k)
 fresh_right w k = record {
@@ -405,13 +432,15 @@ fresh_right w k = record {
   only = only_of k None refl;
   unmade = λ e f g. refl;
   end = refl;
-  traffic = λ c some. not_so false refl some;
+  order = λ e at. nothing_there e at;
+  traffic = none_sent (word_of k) (fresh_op w k) refl refl;
 }
 
 -- a client that may ask has joined
-now_joined : (w : World) → w.client.linked ≡ true → IsApart w ⊎ IsJoined w → stands w.server 1 ≡ true
-now_joined w linked (inl h) = not_so w.client.linked h.0 linked
-now_joined w linked (inr h) = h.1
+now_joined : (w : World) → w.client.linked ≡ true → Joined w → IsJoined w
+now_joined w linked (apart h) = not_so w.client.linked h.0 linked
+now_joined w linked (joined h) = h
+now_joined w linked (is_cut h) = not_so w.client.linked h.0 linked
 
 -- what a command is known to begin from
 record Ready (n : ℕ) (ds : List Deed) (j : Bool) (w : World) : Type 0 where
@@ -420,6 +449,10 @@ record Ready (n : ℕ) (ds : List Deed) (j : Bool) (w : World) : Type 0 where
   pub no_task : w.client.task ≡ None
   pub kept : IsKept n ds j w
 
+-- and no operation is under way
+idle_now : (n : ℕ) (ds : List Deed) (j : Bool) (w : World) → Ready n ds j w → may_ask w.client ≡ true → Idle w
+idle_now n ds j w ready may = idle_at w ready.no_task (now_joined w (may_asked w.client may).0 ready.kept.joined).2 ready.kept.way
+
 begins_kept : (n : ℕ) (ds : List Deed) (j : Bool) (w : World) (k : Command) (t : Task) (next fds : ℕ) (m : Message) → Ready n ds j w → may_ask w.client ≡ true
     → next + spare (Some t) ≤ w.client.next + 4 → fds ≤ next
     → Cause (known_with w (fresh_op w k)) (deed k j) (fresh_op w k) (bytes_at w.client.opened (file_of k)) told.Running
@@ -427,7 +460,7 @@ begins_kept : (n : ℕ) (ds : List Deed) (j : Bool) (w : World) (k : Command) (t
     → After n ds j k (grown w (record w.client { next = next; fds = fds; task = Some t }) (asked_link w (word_of k) m) (fresh_op w k) (running_with w.running (length w.ops) None))
 begins_kept n ds j w k t next fds m ready may xids few cause busy =
     let kept = ready.kept in
-    let idle = idle_at w ready.no_task kept.way in
+    let idle = idle_now n ds j w ready may in
     let c : client.State = record w.client { next = next; fds = fds; task = Some t } in
     let new = fresh_op w k in
     let r = running_with w.running (length w.ops) None in
@@ -445,9 +478,7 @@ begins_kept n ds j w k t next fds m ready may xids few cause busy =
       xids = omega (arith, xids);
       fds = few;
       linked = refl;
-      joined = inr (linked, now_joined w linked kept.joined);
-      server_end = refl;
-      client_end = refl;
+      joined = joined (now_joined w linked kept.joined);
       way = busy runs;
     })
 
@@ -459,9 +490,9 @@ none_behind ops new k o at lt = elim (of_appended ops new k o at) [
 ]
 
 -- the operation that begins is the one under way
-fresh_busy : (w : World) (k : Command) (t : Task) (c : client.State) (l : Link) (r : Option ℕ) → r ≡ Some (length w.ops) → file_of k ≡ t.file → t.file < 2 ^ 64 → stands w.server 1 ≡ true
+fresh_busy : (w : World) (k : Command) (t : Task) (c : client.State) (l : Link) (r : Option ℕ) → r ≡ Some (length w.ops) → file_of k ≡ t.file → t.file < 2 ^ 64 → l.cut ≡ false → (l.hung ≡ false → stands w.server 1 ≡ true)
     → InPhase (grown w c l (fresh_op w k) r) (fresh_op w k) (length w.ops) t.file t.stage → Busy (grown w c l (fresh_op w k) r) t
-fresh_busy w k t c l r runs file small there phase = record {
+fresh_busy w k t c l r runs file small uncut there phase = record {
   place = length w.ops;
   op = fresh_op w k;
   there = at_end w.ops (fresh_op w k);
@@ -472,12 +503,28 @@ fresh_busy w k t c l r runs file small there phase = record {
   no_point = λ e. refl;
   behind = λ i o at lt. none_behind w.ops (fresh_op w k) i o at lt;
   small = small;
+  joined = uncut;
   stands = there;
   phase = phase;
 }
 
-stands_by : (n : ℕ) (ds : List Deed) (j : Bool) (w : World) → IsKept n ds j w → may_ask w.client ≡ true → stands w.server 1 ≡ true
-stands_by n ds j w kept may = now_joined w (may_asked w.client may).0 kept.joined
+stands_by : (n : ℕ) (ds : List Deed) (j : Bool) (w : World) → IsKept n ds j w → may_ask w.client ≡ true → w.link.hung ≡ false → stands w.server 1 ≡ true
+stands_by n ds j w kept may = (now_joined w (may_asked w.client may).0 kept.joined).3
+
+-- A call goes up, or vanishes where the server saw the connection lost.
+abbrev Sends : World → Link → Message → Type 0
+Sends w l m = (Up l m × (w.link.hung ≡ false)) ⊎ ((w.link.hung ≡ true) × Still l × Quiet w.server)
+
+sends_up : (w : World) (what : Word) (m : Message) → Idle w → Sends w (asked_link w what m) m
+sends_up w what m idle = elim (hung_or w.link.hung) [
+  | inl there ↦ inl ((sent_up w.link.hung w.link.server_end w.link.up m there idle.still.0, idle.still.1), there)
+  | inr lost ↦ inr (lost, (lost_up w.link.hung w.link.server_end w.link.up (bytes_of (m ∷ [])) lost idle.still.0, idle.still.1), idle.quiet)
+]
+
+-- the way of an operation that begins with this call
+way_sent : {up down stuck : Type 0} (w : World) (l : Link) (m : Message) → Sends w l m → (Up l m → w.link.hung ≡ false → up) → ((w.link.hung ≡ true) × Still l × Quiet w.server → stuck) → Way3 up down stuck
+way_sent w l m (inl h) go fell = goes_up (go h.0 h.1)
+way_sent w l m (inr h) go fell = is_stuck (fell h)
 
 open_kept : (n : ℕ) (ds : List Deed) (j : Bool) (w : World) (f : ℕ) → Ready n ds j w → f < 2 ^ 64 → may_ask w.client ≡ true
     → After n ds j (command.Open f) (done_by w (command.Open f) (asks_file w.client f, sends (hash_call w.client.next f) 0 0))
@@ -486,16 +533,16 @@ open_kept n ds j w f ready small may =
     let m = hash_call s.next f in
     let k = command.Open f in
     let t : Task = task_of f (phase.Hashing s.next) in
-    let idle = idle_at w ready.no_task ready.kept.way in
+    let idle = idle_now n ds j w ready may in
     let r = running_with w.running (length w.ops) None in
     begins_kept n ds j w k t (s.next + 1) s.fds m ready may (omega arith) (let few = ready.kept.client.fds in omega (arith, few)) tt
-    (λ runs. fresh_busy w k t (asks_file s f) (asked_link w word.Open m) r runs refl small (stands_by n ds j w ready.kept may) (record {
+    (λ runs. fresh_busy w k t (asks_file s f) (asked_link w word.Open m) r runs refl small idle.joined (stands_by n ds j w ready.kept may) (record {
       word = refl;
       quiet = idle.quiet;
       traffic = refl;
       small = (may_asked s may).1;
       raised = refl;
-      way = inl ((none_before w.link.up (bytes_of (m ∷ [])) idle.still.0, idle.still.1), ap (λ (x : Option ℕ). taken_on x w.link.taken) idle.none);
+      way = way_sent w (asked_link w word.Open m) m (sends_up w word.Open m idle) (λ up there. (up, ap (λ (x : Option ℕ). taken_on x w.link.taken) idle.none, there)) (λ h. h);
     }))
 
 -- ---- a close begins
@@ -524,7 +571,7 @@ close_kept n ds j w f l ready small at may =
     let k = command.Close f in
     let kept = ready.kept in
     let t : Task = task_of f (phase.Making s.next s.fds) in
-    let idle = idle_at w ready.no_task kept.way in
+    let idle = idle_now n ds j w ready may in
     let r = running_with w.running (length w.ops) None in
     let v : World = grown w (makes_file s f) (asked_link w word.Close m) (fresh_op w k) r in
     let here = some_bytes s.opened f l at in
@@ -545,14 +592,14 @@ close_kept n ds j w f l ready small at may =
       node = file_found w.opening w.server.files f file.0 kept.tree.numbered may_be.0 file.1;
     } in
     begins_kept n ds j w k t (s.next + 1) (s.fds + 1) m ready may (omega arith) (omega (arith, fds)) (here ∙ ap (λ (x : List ℕ). Some x) (sym value))
-    (λ runs. fresh_busy w k t (makes_file s f) (asked_link w word.Close m) r runs refl small (stands_by n ds j w kept may) (record {
+    (λ runs. fresh_busy w k t (makes_file s f) (asked_link w word.Close m) r runs refl small idle.joined (stands_by n ds j w kept may) (record {
       closing = c;
       small = (next, omega (arith, fds, next));
       raised = refl;
       traffic = refl;
       unmade = refl;
       room = omega (arith, changes, many);
-      way = inl ((none_before w.link.up (bytes_of (m ∷ [])) idle.still.0, idle.still.1), idle.quiet);
+      way = way_sent w (asked_link w word.Close m) m (sends_up w word.Close m idle) (λ up there. (up, there, idle.quiet)) (λ h. h);
     }))
 
 -- ---- any command
@@ -601,7 +648,7 @@ kept_did n ds j w k ready small (Did.left f l is at gives) =
     by_name n ds j w k (command.Abandon f) _ is gives (left_kept n ds j w f l ready.line ready.events ready.no_task ready.kept at)
 
 kept_task : (n : ℕ) (ds : List Deed) (j : Bool) (w : World) (k : Command) (o : Option Task) → n ≤ 65536 → is_early w.stage ≡ false → file_of k < 2 ^ 64 → w.client.task ≡ o → Under_way w o → IsKept n ds j w → After n ds j k (does w k)
-kept_task n ds j w k None line events small e idle kept = kept_did n ds j w k (record { line = line; events = events; no_task = e; kept = kept }) small (did w.client k e)
+kept_task n ds j w k None line events small e way kept = kept_did n ds j w k (record { line = line; events = events; no_task = e; kept = kept }) small (did w.client k e)
 kept_task n ds j w k (Some t) line events small e busy kept = by_step n ds j w k _ (was_busy w.client t k e) (busy_kept n ds j w k t line events e kept busy)
 
 pub kept_do : (n : ℕ) (ds : List Deed) (j : Bool) (w : World) (k : Command) → n ≤ 65536 → is_early w.stage ≡ false → file_of k < 2 ^ 64 → IsKept n ds j w

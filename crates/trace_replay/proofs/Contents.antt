@@ -124,3 +124,17 @@ local_same file l (d ∷ ds) (p ∷ os) zero old new at t v =
     let is : p ≡ old = some_is p old at in
     ap (λ x. local_from file x ds os) (after_same file d p new l (t ∙ ap (λ (x : Op). x.outcome) (sym is)) (v ∙ ap (λ (x : Op). x.value) (sym is)))
 local_same file l (d ∷ ds) (p ∷ os) (suc k) old new at t v = local_same file (after_one file d p l) ds os k old new at t v
+
+-- an operation with the same outcome and value leaves the same, whatever stands behind it
+same_from : (file : ℕ) (l : Option (List ℕ)) (ds : List Deed) (ops : List Op) (k j : ℕ) (old new : Op) → slice_get ops k ≡ Some old → new.outcome ≡ old.outcome → new.value ≡ old.value → local_from file l (take j ds) (take j (slice_set ops k new)) ≡ local_from file l (take j ds) (take j ops)
+same_from file l ds [] k j old new at t v = nothing_there old at
+same_from file l ds (p ∷ os) k zero old new at t v = refl
+same_from file l [] (p ∷ os) k (suc j) old new at t v = refl
+same_from file l (d ∷ ds) (p ∷ os) zero (suc j) old new at t v =
+    let is : p ≡ old = some_is p old at in
+    ap (λ x. local_from file x (take j ds) (take j os)) (after_same file d p new l (t ∙ ap (λ (x : Op). x.outcome) (sym is)) (v ∙ ap (λ (x : Op). x.value) (sym is)))
+same_from file l (d ∷ ds) (p ∷ os) (suc k) (suc j) old new at t v = same_from file (after_one file d p l) ds os k j old new at t v
+
+-- and so before each command
+pub before_same : (ds : List Deed) (ops : List Op) (k j file : ℕ) (old new : Op) → slice_get ops k ≡ Some old → new.outcome ≡ old.outcome → new.value ≡ old.value → local_before ds (slice_set ops k new) j file ≡ local_before ds ops j file
+before_same ds ops k j file old new at t v = same_from file None ds ops k j old new at t v

@@ -1,8 +1,8 @@
 -- What each line of a trace keeps of the world.
-use Rattle.std.proofs.Common.{◌≡◌, ℕ, ◌+◌, ◌*◌, ◌<◌, ◌≤◌, ◌^◌, List, [], ◌∷◌, ◌⊎◌, Option, Some, None, Bool, true, false, length, IsTrue}
+use Rattle.std.proofs.Common.{◌≡◌, ℕ, ◌+◌, ◌*◌, ◌<◌, ◌≤◌, ◌^◌, List, [], ◌∷◌, ◌++◌, ◌⊎◌, Option, Some, None, Bool, true, false, length, IsTrue}
 use Rattle.std.specs.Prelude.{slice_get, find, ◌==◌, not, is_some, IsSome, Result, Ok, option_map}
 use Rattle.sha1.specs.Sha1.{sha1}
-use Rattle.rpc_record.specs.Records.{nothing_read}
+use Rattle.rpc_record.specs.Records.{Unread, nothing_read}
 use Rattle.xdr_codec.specs.Handle.{handle_bytes}
 use Rattle.xdr_codec.specs.declared.answer.Answer.TheVariants.{Done, Failed}
 use Rattle.xdr_codec.specs.declared.status.Status.{Status}
@@ -35,7 +35,7 @@ use Rattle.open_close.specs.declared.task.Task.{Task}
 use Rattle.open_close.specs.declared.task.Under.{Under}
 use Rattle.open_close.specs.declared.task.Way.{Way}
 use Rattle.open_close.specs.declared.task.Way.TheVariants as way
-use Rattle.register_model.specs.Register.{Value, changes, is_opened, is_closed, is_stale, is_untold}
+use Rattle.register_model.specs.Register.{Value, changes, is_opened, is_closed, is_stale, is_lost, is_untold}
 use Rattle.register_model.specs.declared.op.Op.{Op}
 use Rattle.register_model.specs.declared.op.Opening.{Opening}
 use Rattle.register_model.specs.declared.op.Outcome.{Outcome}
@@ -92,7 +92,7 @@ AreOurs changes files = (id : ℕ) (f : File) → server.file_at files id ≡ So
 pub record IsRight (opening : List Opening) (ops : List Op) (now : ℕ) (o : Op) : Type 0 where
   pub client : o.client ≡ 1
   pub begun : o.begin ≤ now
-  pub within : (p : ℕ) → o.point ≡ Some p → (o.begin ≤ p) × (p ≤ now) × ((e : ℕ) → o.end ≡ Some e → p ≤ e)
+  pub within : (p : ℕ) → o.point ≡ Some p → (o.begin ≤ p) × (p ≤ now) × (is_lost o.outcome ≡ false → (e : ℕ) → o.end ≡ Some e → p ≤ e)
   pub opens : IsTrue (is_opened o.outcome) → (p : ℕ) × (o.point ≡ Some p) × (value_in opening ops o.file p ≡ Some o.value)
   pub gone : IsTrue (is_stale o.outcome) → (p : ℕ) × (o.point ≡ Some p) × (value_in opening ops o.file p ≡ None)
   pub change : changes o.word ≡ true → (p : ℕ) → o.point ≡ Some p → IsSome (value_in opening ops o.file p)
@@ -101,6 +101,7 @@ pub record IsRight (opening : List Opening) (ops : List Op) (now : ℕ) (o : Op)
   pub only : o.word ≡ word.Open ⊎ (o.word ≡ word.Close ⊎ (changes o.word ≡ false) × (o.point ≡ None))
   pub unmade : o.word ≡ word.Close → is_closed o.outcome ≡ false → is_untold o.outcome ≡ false → o.point ≡ None
   pub end : is_some o.end ≡ not (is_running o.outcome)
+  pub order : (e : ℕ) → o.end ≡ Some e → o.begin ≤ e
   pub traffic : HasTraffic o o.outcome
 
 -- an operation is that of a command
@@ -125,9 +126,10 @@ pub record Known : Type 0 where
   pub ops : List Op
   pub settled : List ℕ
   pub journal : List Entry
+  pub cuts : List ℕ
 
 abbrev pub known : World → Known
-known w = record { opening = w.opening; ops = w.ops; settled = w.settled; journal = w.server.journal }
+known w = record { opening = w.opening; ops = w.ops; settled = w.settled; journal = w.server.journal; cuts = w.cuts }
 
 abbrev pub OpenedBy : List Opening → Command → Op → (len : ℕ) → (digest : List ℕ) → Type 0
 OpenedBy opening (command.Open f) o len digest = IsSome (at_first opening f) × (len ≡ length o.value) × (digest ≡ sha1 o.value)
@@ -147,6 +149,12 @@ RunningOf (command.Open f) o l = Unit {0}
 RunningOf (command.Close f) o l = l ≡ Some o.value
 RunningOf k o l = ⊥
 
+-- one that was lost ended when the client saw its connection lost; a close was begun with the local content
+abbrev pub LostBy : List ℕ → Command → Op → Option (List ℕ) → Type 0
+LostBy cuts (command.Open f) o l = (e : ℕ) × (i : ℕ) × (o.end ≡ Some e) × (slice_get cuts i ≡ Some e)
+LostBy cuts (command.Close f) o l = (l ≡ Some o.value) × (e : ℕ) × (i : ℕ) × (o.end ≡ Some e) × (slice_get cuts i ≡ Some e)
+LostBy cuts k o l = ⊥
+
 -- an outcome of an operation among these has its cause, as far as it is known by now
 abbrev pub Cause : Known → Deed → Op → Option (List ℕ) → Outcome → Type 0
 Cause kn d o l (told.Opened len digest) = OpenedBy kn.opening d.command o len digest
@@ -155,6 +163,7 @@ Cause kn d o l (told.Closed version len digest) = ClosedBy kn d.command o versio
 Cause kn d o l told.Done = IsDoneOf d.command l
 Cause kn d o l (told.Refused status) = RefusedBy kn.opening d.command status
 Cause kn d o l told.Running = RunningOf d.command o l
+Cause kn d o l told.Lost = LostBy kn.cuts d.command o l
 Cause kn d o l told.Busy = Beside kn.ops o
 Cause kn d o l told.NotOpen = (is_open d.command ≡ false) × (l ≡ None)
 Cause kn d o l told.AlreadyOpen = (is_open d.command ≡ true) × IsSome l
@@ -200,16 +209,24 @@ pair_of x = record { digest = sha1 x; size = length x }
 abbrev pub chunk_of : List ℕ → Chunk
 chunk_of x = record { offset = 0; size = length x; digest = sha1 x }
 
+-- What an end has of a record, and the bytes on their way to it, are these bytes, and some of them are still on their way.
+abbrev pub OnWay : (end : Unread) (queue bytes : List ℕ) → Type 0
+OnWay end queue bytes = (end.spoilt ≡ None) × (end.rest ++ queue ≡ bytes) × (0 < length queue)
+
+-- an end has nothing of a record, and nothing is on its way to it
+abbrev pub Empty : (end : Unread) (queue : List ℕ) → Type 0
+Empty end queue = (end ≡ nothing_read) × (queue ≡ [])
+
 -- the link has this message on its way up, or that one on its way down
 abbrev pub Up : Link → Message → Type 0
-Up l m = (l.up ≡ bytes_of (m ∷ [])) × (l.down ≡ [])
+Up l m = OnWay l.server_end l.up (bytes_of (m ∷ [])) × Empty l.client_end l.down
 
 abbrev pub Down : Link → Message → Type 0
-Down l m = (l.up ≡ []) × (l.down ≡ bytes_of (m ∷ []))
+Down l m = Empty l.server_end l.up × OnWay l.client_end l.down (bytes_of (m ∷ []))
 
 -- nothing is on its way
 abbrev pub Still : Link → Type 0
-Still l = (l.up ≡ []) × (l.down ≡ [])
+Still l = Empty l.server_end l.up × Empty l.client_end l.down
 
 -- each change was made before this moment
 abbrev pub Earlier : List Op → (moment : ℕ) → Type 0
@@ -235,6 +252,20 @@ pieces_of (b ∷ bs) = (0, b ∷ bs) ∷ []
 abbrev pub Quiet : server.State → Type 0
 Quiet s = (s.temps ≡ []) × (s.waits ≡ [])
 
+-- the server has these temporary files and changes that wait, unless it saw the connection lost: then it has none
+abbrev pub Serves : World → List (ℕ × Temp) → List server.Change → Type 0
+Serves w temps queue = ((w.link.hung ≡ false) × (w.server.temps ≡ temps) × (w.server.waits ≡ queue)) ⊎ ((w.link.hung ≡ true) × Quiet w.server)
+
+-- the server saw the connection lost before the call reached it, so nothing will come
+abbrev pub Stuck : World → Type 0
+Stuck w = (w.link.hung ≡ true) × Still w.link × Quiet w.server
+
+-- a call is on its way up, or its answer on its way down, or neither will be
+pub data Way3 (up down stuck : Type 0) : Type 0 where
+  goes_up : up → Way3 up down stuck
+  goes_down : down → Way3 up down stuck
+  is_stuck : stuck → Way3 up down stuck
+
 -- the GETHASH is under way
 pub record Asking (w : World) (o : Op) (file xid : ℕ) : Type 0 where
   pub word : o.word ≡ word.Open
@@ -242,7 +273,8 @@ pub record Asking (w : World) (o : Op) (file xid : ℕ) : Type 0 where
   pub traffic : o.traffic ≡ no_traffic
   pub small : xid < 4293967297
   pub raised : w.client.next ≡ xid + 1
-  pub way : (Up w.link (hash_call xid file) × (w.link.taken ≡ [])) ⊎ (Down w.link (message.Answer xid (hashes_told w.server.files file)) × Taking w.opening w.ops w.server.files file w.link.taken xid o.begin w.steps)
+  pub way : Way3 (Up w.link (hash_call xid file) × (w.link.taken ≡ []) × (w.link.hung ≡ false))
+      (Down w.link (message.Answer xid (hashes_told w.server.files file)) × Taking w.opening w.ops w.server.files file w.link.taken xid o.begin w.steps) (Stuck w)
 
 -- the READ of the one chunk is under way
 pub record Fetching (w : World) (o : Op) (name : ℕ) (f : Fetch) : Type 0 where
@@ -257,7 +289,7 @@ pub record Fetching (w : World) (o : Op) (name : ℕ) (f : Fetch) : Type 0 where
   pub bytes : f.bytes ≡ []
   pub small : f.xid < 4293967298
   pub taking : Taking w.opening w.ops w.server.files name w.link.taken f.asked o.begin w.steps
-  pub way : Up w.link (read_call f.xid name 0 (length found.content)) ⊎ Down w.link (message.Answer f.xid (piece_told w.server.files name (length found.content)))
+  pub way : Way3 (Up w.link (read_call f.xid name 0 (length found.content)) × (w.link.hung ≡ false)) (Down w.link (message.Answer f.xid (piece_told w.server.files name (length found.content)))) (Stuck w)
 
 -- ---- phases of a close
 
@@ -279,7 +311,7 @@ pub record Making (w : World) (o : Op) (place name xid fd : ℕ) : Type 0 where
   pub traffic : o.traffic ≡ no_traffic
   pub unmade : o.point ≡ None
   pub room : w.server.changes ≤ length w.ops
-  pub way : (Up w.link (make_call xid fd name) × Quiet w.server) ⊎ (Down w.link (message.Answer xid (body.Lb (lb.MkTmpFileAnswer (Done tt)))) × (w.server.temps ≡ temp_with fd name []) × (w.server.waits ≡ []))
+  pub way : Way3 (Up w.link (make_call xid fd name) × (w.link.hung ≡ false) × Quiet w.server) (Down w.link (message.Answer xid (body.Lb (lb.MkTmpFileAnswer (Done tt)))) × Serves w (temp_with fd name []) []) (Stuck w)
 
 -- the one chunk is named by a CONDWRITE that is under way
 pub record Naming (w : World) (o : Op) (place name xid fd : ℕ) : Type 0 where
@@ -290,8 +322,8 @@ pub record Naming (w : World) (o : Op) (place name xid fd : ℕ) : Type 0 where
   pub traffic : o.traffic ≡ record no_traffic { cond = 1 }
   pub unmade : o.point ≡ None
   pub room : w.server.changes ≤ length w.ops
-  pub temps : (w.server.temps ≡ temp_with fd name []) × (w.server.waits ≡ [])
-  pub way : Up w.link (cond_call xid fd (chunk_of o.value)) ⊎ Down w.link (message.Answer xid (body.Lb (lb.CondWriteAnswer (Failed status.HashNotFound tt))))
+  pub way : Way3 (Up w.link (cond_call xid fd (chunk_of o.value)) × (w.link.hung ≡ false) × (w.server.temps ≡ temp_with fd name []) × (w.server.waits ≡ []))
+      (Down w.link (message.Answer xid (body.Lb (lb.CondWriteAnswer (Failed status.HashNotFound tt)))) × Serves w (temp_with fd name []) []) (Stuck w)
 
 -- its bytes are sent by a TMPWRITE that is under way
 pub record Sending (w : World) (o : Op) (place name xid fd : ℕ) : Type 0 where
@@ -302,18 +334,19 @@ pub record Sending (w : World) (o : Op) (place name xid fd : ℕ) : Type 0 where
   pub traffic : o.traffic ≡ record no_traffic { cond = 1; tmp = 1; «data» = length o.value }
   pub unmade : o.point ≡ None
   pub room : w.server.changes ≤ length w.ops
-  pub way : (Up w.link (tmp_call xid fd o.value (chunk_of o.value)) × (w.server.temps ≡ temp_with fd name []) × (w.server.waits ≡ []))
-      ⊎ (Down w.link (message.Answer xid (body.Lb (lb.TmpWriteAnswer (Done tt)))) × (w.server.temps ≡ temp_with fd name (pieces_of o.value)) × (w.server.waits ≡ []))
+  pub way : Way3 (Up w.link (tmp_call xid fd o.value (chunk_of o.value)) × (w.link.hung ≡ false) × (w.server.temps ≡ temp_with fd name []) × (w.server.waits ≡ []))
+      (Down w.link (message.Answer xid (body.Lb (lb.TmpWriteAnswer (Done tt)))) × Serves w (temp_with fd name (pieces_of o.value)) []) (Stuck w)
 
 abbrev pub waiting_change : (xid name : ℕ) → List ℕ → server.Change
 waiting_change xid name x = record { session = 1; xid = xid; file = name; content = x }
 
--- The COMMITTMP is on its way up, it waits at the server, or its answer is on its way down.
+-- The COMMITTMP is on its way up, it waits at the server, or its answer is on its way down; or none of these will be.
 pub data Going (w : World) (o : Op) (name xid : ℕ) : Type 0 where
-  asked : (fd : ℕ) → fd < 2 ^ 32 → Up w.link (commit_call xid fd name (length o.value)) → w.server.temps ≡ temp_with fd name (pieces_of o.value) → w.server.waits ≡ [] → o.point ≡ None → w.server.changes ≤ length w.ops → Going w o name xid
-  waits : Still w.link → w.server.temps ≡ [] → w.server.waits ≡ waiting_change xid name o.value ∷ [] → o.point ≡ None → Going w o name xid
+  asked : (fd : ℕ) → fd < 2 ^ 32 → Up w.link (commit_call xid fd name (length o.value)) → w.link.hung ≡ false → w.server.temps ≡ temp_with fd name (pieces_of o.value) → w.server.waits ≡ [] → o.point ≡ None → w.server.changes ≤ length w.ops → Going w o name xid
+  waits : Still w.link → w.link.hung ≡ false → w.server.temps ≡ [] → w.server.waits ≡ waiting_change xid name o.value ∷ [] → o.point ≡ None → Going w o name xid
   made : (version : ℕ) → Down w.link (message.Answer xid (body.Lb (lb.CommitTmpAnswer (Done (record { version = version; term = 0 }))))) → version < 2 ^ 64 → Quiet w.server
       → Entered w.settled w.server.journal o.point name version (length o.value) (sha1 o.value) → Going w o name xid
+  stuck : Stuck w → o.point ≡ None → Going w o name xid
 
 pub record Committing (w : World) (o : Op) (place name xid : ℕ) : Type 0 where
   pub closing : Closing w o place name
@@ -359,16 +392,52 @@ pub record Busy (w : World) (t : Task) : Type 0 where
   -- commands since then were refused, since the client was busy
   pub behind : (k : ℕ) (o : Op) → slice_get w.ops k ≡ Some o → place < k → o.outcome ≡ told.Busy
   pub small : t.file < 2 ^ 64
-  pub stands : stands w.server 1 ≡ true
+  pub joined : w.link.cut ≡ false
+  pub stands : w.link.hung ≡ false → stands w.server 1 ≡ true
   pub phase : InPhase w op place t.file t.stage
 
 pub record Idle (w : World) : Type 0 where
   pub none : w.running ≡ None
   pub still : Still w.link
   pub quiet : Quiet w.server
+  pub joined : w.link.cut ≡ false
+
+-- ---- after the client saw its connection lost
+
+-- what is known of a close that was lost, whose change may still be made
+pub record Drifting (w : World) (o : Op) (place name : ℕ) : Type 0 where
+  pub word : o.word ≡ word.Close
+  pub short : length o.value ≤ 2048
+  pub known : w.link.closing ≡ Some place
+  pub found : File
+  pub there : server.file_at w.server.files name ≡ Some found
+  pub node : node_at w.server.files name ≡ Ok (as_file found)
+  pub unmade : o.point ≡ None
+  pub room : w.server.changes ≤ length w.ops
+
+-- the last call of an operation that was lost is on its way up, or its change waits
+pub data Floating (w : World) (o : Op) (place name : ℕ) : Type 0 where
+  hashing : (xid : ℕ) → xid < 2 ^ 32 → OnWay w.link.server_end w.link.up (bytes_of (hash_call xid name ∷ [])) → w.server.waits ≡ [] → Floating w o place name
+  reading : (xid size : ℕ) → xid < 2 ^ 32 → size ≤ 2048 → OnWay w.link.server_end w.link.up (bytes_of (read_call xid name 0 size ∷ [])) → w.server.waits ≡ [] → Floating w o place name
+  makes : (xid fd : ℕ) → xid < 2 ^ 32 → fd < 2 ^ 32 → Drifting w o place name → OnWay w.link.server_end w.link.up (bytes_of (make_call xid fd name ∷ [])) → Quiet w.server → Floating w o place name
+  names : (xid fd : ℕ) → xid < 2 ^ 32 → fd < 2 ^ 32 → 0 < length o.value → Drifting w o place name → OnWay w.link.server_end w.link.up (bytes_of (cond_call xid fd (chunk_of o.value) ∷ [])) → w.server.temps ≡ temp_with fd name [] → w.server.waits ≡ [] → Floating w o place name
+  sends : (xid fd : ℕ) → xid < 2 ^ 32 → fd < 2 ^ 32 → 0 < length o.value → Drifting w o place name → OnWay w.link.server_end w.link.up (bytes_of (tmp_call xid fd o.value (chunk_of o.value) ∷ [])) → w.server.temps ≡ temp_with fd name [] → w.server.waits ≡ [] → Floating w o place name
+  commits : (xid fd : ℕ) → xid < 2 ^ 32 → fd < 2 ^ 32 → Drifting w o place name → o.traffic ≡ close_traffic o.value → OnWay w.link.server_end w.link.up (bytes_of (commit_call xid fd name (length o.value) ∷ [])) → w.server.temps ≡ temp_with fd name (pieces_of o.value) → w.server.waits ≡ [] → Floating w o place name
+  stays : (xid : ℕ) → Drifting w o place name → o.traffic ≡ close_traffic o.value → Empty w.link.server_end w.link.up → w.server.temps ≡ [] → w.server.waits ≡ waiting_change xid name o.value ∷ [] → Floating w o place name
+
+-- what is left of the operation that was lost, if there was one
+pub data Floats (w : World) : Type 0 where
+  gone : Empty w.link.server_end w.link.up → w.server.waits ≡ [] → Floats w
+  floats : (place : ℕ) (o : Op) (name : ℕ) → slice_get w.ops place ≡ Some o → o.outcome ≡ told.Lost → o.file ≡ name → name < 2 ^ 64 → w.link.hung ≡ false → stands w.server 1 ≡ true → Floating w o place name → Floats w
+
+pub record Adrift (w : World) : Type 0 where
+  pub none : w.running ≡ None
+  pub cut : w.link.cut ≡ true
+  pub down : Empty w.link.client_end w.link.down
+  pub floats : Floats w
 
 abbrev pub Under_way : World → Option Task → Type 0
-Under_way w None = Idle w
+Under_way w None = Idle w ⊎ Adrift w
 Under_way w (Some t) = Busy w t
 
 -- a chunk that is named may be sent whole, and then the file is committed
@@ -394,12 +463,21 @@ spare (Some t) = spare_in t.stage
 
 -- ---- all of it
 
--- no session was made, or one was, and stands
+-- no session was made; or one was, which stands unless the server saw it lost; or one was, which the client saw lost
 abbrev pub IsApart : World → Type 0
-IsApart w = (w.client.linked ≡ false) × (w.client.task ≡ None) × (w.sessions ≡ 0) × (w.server.sessions ≡ []) × (w.server.made ≡ 0)
+IsApart w = (w.client.linked ≡ false) × (w.client.task ≡ None) × (w.sessions ≡ 0) × (w.server.sessions ≡ []) × (w.server.made ≡ 0) × (w.link.cut ≡ false) × (w.link.hung ≡ false)
 
 abbrev pub IsJoined : World → Type 0
-IsJoined w = (w.client.linked ≡ true) × (stands w.server 1 ≡ true)
+IsJoined w = (w.client.linked ≡ true) × (w.sessions ≡ 1) × (w.link.cut ≡ false) × (w.link.hung ≡ false → stands w.server 1 ≡ true)
+
+abbrev pub IsCut : World → Type 0
+IsCut w = (w.client.linked ≡ false) × (w.client.task ≡ None) × (w.sessions ≡ 1) × (w.link.cut ≡ true)
+
+-- which of these it is
+pub data Joined (w : World) : Type 0 where
+  apart : IsApart w → Joined w
+  joined : IsJoined w → Joined w
+  is_cut : IsCut w → Joined w
 
 -- before the first event there was no command
 abbrev pub is_early : Stage → Bool
@@ -407,7 +485,7 @@ is_early stage.Events = false
 is_early _ = true
 
 abbrev pub IsUntouched : World → Type 0
-IsUntouched w = (w.client ≡ client.start) × (w.ops ≡ []) × (w.server.waits ≡ [])
+IsUntouched w = (w.client ≡ client.start) × (w.ops ≡ []) × (w.server.waits ≡ []) × (w.link.cut ≡ false)
 
 -- what is kept of the server's tree, by what it opened with, by the operations, and by the step
 pub record IsTree (n : ℕ) (opening : List Opening) (ops : List Op) (s : server.State) (now : ℕ) : Type 0 where
@@ -424,7 +502,7 @@ pub record IsTree (n : ℕ) (opening : List Opening) (ops : List Op) (s : server
   pub changes : s.changes + length s.waits ≤ 1 + length ops
 
 -- what is kept of the operations, whose commands these are, and of the journal
-pub record IsPast (n : ℕ) (ds : List Deed) (opening : List Opening) (ops : List Op) (running : Option ℕ) (settled : List ℕ) (journal : List Entry) (now : ℕ) : Type 0 where
+pub record IsPast (n : ℕ) (ds : List Deed) (opening : List Opening) (ops : List Op) (running : Option ℕ) (settled : List ℕ) (journal : List Entry) (cuts : List ℕ) (now : ℕ) : Type 0 where
   -- no trace has more than 65,536 lines
   pub lines : n ≤ 65537
   pub few : length ops < n
@@ -432,7 +510,7 @@ pub record IsPast (n : ℕ) (ds : List Deed) (opening : List Opening) (ops : Lis
   pub of : (k : ℕ) (d : Deed) (o : Op) → slice_get ds k ≡ Some d → slice_get ops k ≡ Some o → IsOf d o
   pub rights : (k : ℕ) (o : Op) → slice_get ops k ≡ Some o → IsRight opening ops now o
   pub causes : (k : ℕ) (d : Deed) (o : Op) → slice_get ds k ≡ Some d → slice_get ops k ≡ Some o
-      → Cause (record { opening = opening; ops = ops; settled = settled; journal = journal }) d o (local_before ds ops k (file_of d.command)) o.outcome
+      → Cause (record { opening = opening; ops = ops; settled = settled; journal = journal; cuts = cuts }) d o (local_before ds ops k (file_of d.command)) o.outcome
   pub apart : (i j p : ℕ) (a b : Op) → slice_get ops i ≡ Some a → slice_get ops j ≡ Some b → changes a.word ≡ true → a.point ≡ Some p → b.point ≡ Some p → i ≡ j
   pub only : (k : ℕ) (o : Op) → slice_get ops k ≡ Some o → is_running o.outcome ≡ true → running ≡ Some k
   pub logged : IsLogged ops settled journal now
@@ -449,10 +527,8 @@ pub record IsClient (ds : List Deed) (j : Bool) (opening : List Opening) (ops : 
 -- what is kept by the lines before the one of this number, whose commands these are, where the client joined by now or not
 pub record IsKept (n : ℕ) (ds : List Deed) (j : Bool) (w : World) : Type 0 where
   pub tree : IsTree n w.opening w.ops w.server w.steps
-  pub past : IsPast n ds w.opening w.ops w.running w.settled w.server.journal w.steps
+  pub past : IsPast n ds w.opening w.ops w.running w.settled w.server.journal w.cuts w.steps
   pub client : IsClient ds j w.opening w.ops w.client
-  pub joined : IsApart w ⊎ IsJoined w
-  pub server_end : w.link.server_end ≡ nothing_read
-  pub client_end : w.link.client_end ≡ nothing_read
+  pub joined : Joined w
   pub way : Under_way w w.client.task
   pub fresh : is_early w.stage ≡ true → IsUntouched w

@@ -1,4 +1,4 @@
--- What lines keep that begin no operation: another stage, a file of the opening tree, a client that joins, and deliveries.
+-- What lines keep that begin no operation: another stage, a file of the opening tree, a client that joins, and rounds of deliveries.
 use Rattle.std.proofs.Common.{◌≡◌, ℕ, zero, suc, ◌+◌, ◌*◌, ◌<◌, ◌≤◌, ◌^◌, List, [], ◌∷◌, ◌++◌, ◌⊎◌, inl, inr, Option, Some, None, Bool, true, false, cond, length, max, refl, sym, ap, ◌∙◌, arith, subst}
 use Rattle.std.specs.Prelude.{slice_get, ◌==◌, is_some, option_map}
 use Rattle.std.proofs.lemmas.Bool.{eqb-true}
@@ -22,14 +22,14 @@ use Rattle.trace_replay.specs.declared.link.Stage.TheVariants as stage
 use Rattle.trace_replay.specs.declared.link.Taken.{Taken}
 use Rattle.trace_replay.specs.Faithful.{Deed}
 use Rattle.trace_replay.specs.World.{World}
-use Rattle.trace_replay.specs.Delivery.{is_still, passes, round, up_all}
+use Rattle.trace_replay.specs.Delivery.{is_still, passes, round, up_some}
 use Rattle.trace_replay.specs.Run.{with_file, joins}
 use Rattle.trace_replay.proofs.Lists.{nothing_there, length_appended}
 use Rattle.trace_replay.proofs.Values.{value_in}
 use Rattle.trace_replay.proofs.ServerFiles.{count_added, rising_put, short_put}
 use Rattle.trace_replay.proofs.ServerRows.{ours_put}
-use Rattle.trace_replay.proofs.Kept.{IsKept, IsTree, IsPast, IsUntouched, IsApart, IsJoined, Under_way, Busy, Idle, InPhase, Earlier, Taking, Closing, Storing, naming, sending, Going, asked, waits, made, Small, SmallFile, Numbered, in_tree, at_first, is_early, spare}
-use Rattle.trace_replay.proofs.Growth.{past_later}
+use Rattle.trace_replay.proofs.Kept.{IsKept, IsTree, IsPast, IsUntouched, IsApart, Joined, apart, joined, is_cut, Under_way, Busy, Idle, Adrift, Floats, gone, floats, Floating, hashing, reading, makes, names, sends, commits, stays, Drifting, InPhase, Earlier, Taking, Closing, Storing, naming, sending, Going, asked, waits, made, stuck, goes_up, goes_down, is_stuck, Small, SmallFile, Numbered, in_tree, at_first, is_early, spare}
+use Rattle.trace_replay.proofs.Growth.{Holds, holds_same, past_later}
 use Rattle.trace_replay.proofs.Trees.{points_of, tree_goes}
 use Rattle.trace_replay.proofs.Up.{kept_up}
 use Rattle.trace_replay.proofs.Down.{kept_down}
@@ -40,9 +40,13 @@ kept_either : (n : ℕ) (ds : List Deed) (j : Bool) (b : Bool) (w v : World) →
 kept_either n ds j true w v k h = k
 kept_either n ds j false w v k h = h
 
-pub kept_passes : (n : ℕ) (ds : List Deed) (j : Bool) (m : ℕ) (w : World) → IsKept n ds j w → IsKept n ds j (passes m w)
-kept_passes n ds j zero w k = k
-kept_passes n ds j (suc m) w k = kept_either n ds j (is_still w) w (passes m (round w)) k (kept_passes n ds j m (round w) (kept_down n ds j (up_all w) (kept_up n ds j w k)))
+-- a round: all bytes on their way up, and then all on their way down
+kept_round : (n : ℕ) (ds : List Deed) (j : Bool) (w : World) (now : ℕ) → IsKept n ds j w → IsKept n ds j (round w now)
+kept_round n ds j w now k = let v : World = up_some w (length w.link.up) now in kept_down n ds j v (length v.link.down) (kept_up n ds j w (length w.link.up) now k)
+
+pub kept_passes : (n : ℕ) (ds : List Deed) (j : Bool) (m : ℕ) (w : World) (now : ℕ) → IsKept n ds j w → IsKept n ds j (passes m w now)
+kept_passes n ds j zero w now k = k
+kept_passes n ds j (suc m) w now k = kept_either n ds j (is_still w) w (passes m (round w now) now) k (kept_passes n ds j m (round w now) now (kept_round n ds j w now k))
 
 -- ---- the operation under way, in a world of another stage, with later steps and more operations
 
@@ -72,7 +76,6 @@ lift_storing w s more then o place name st l (naming xid fd is a) = naming xid f
   traffic = a.traffic;
   unmade = a.unmade;
   room = omega (arith, a.room, l.more_ops);
-  temps = a.temps;
   way = a.way;
 })
 lift_storing w s more then o place name st l (sending xid fd is a) = sending xid fd is (record {
@@ -87,9 +90,10 @@ lift_storing w s more then o place name st l (sending xid fd is a) = sending xid
 })
 
 lift_going : (w : World) (s : Stage) (more : List Op) (then : ℕ) (o : Op) (name xid : ℕ) → Lifts w.opening w.ops more w.steps then → Going w o name xid → Going (lifted w s more then) o name xid
-lift_going w s more then o name xid l (asked fd small up temps none unmade room) = asked fd small up temps none unmade (omega (arith, room, l.more_ops))
-lift_going w s more then o name xid l (waits still temps one unmade) = waits still temps one unmade
+lift_going w s more then o name xid l (asked fd small up there temps none unmade room) = asked fd small up there temps none unmade (omega (arith, room, l.more_ops))
+lift_going w s more then o name xid l (waits still there temps one unmade) = waits still there temps one unmade
 lift_going w s more then o name xid l (made version down fits quiet entered) = made version down fits quiet entered
+lift_going w s more then o name xid l (stuck h unmade) = stuck h unmade
 
 lift_phase : (w : World) (s : Stage) (more : List Op) (then : ℕ) (o : Op) (place name : ℕ) (p : Phase) → Lifts w.opening w.ops more w.steps then → InPhase w o place name p → InPhase (lifted w s more then) o place name p
 lift_phase w s more then o place name (phase.Hashing xid) l a = record {
@@ -98,7 +102,7 @@ lift_phase w s more then o place name (phase.Hashing xid) l a = record {
   traffic = a.traffic;
   small = a.small;
   raised = a.raised;
-  way = elim a.way [ inl up ↦ inl up | inr down ↦ inr (down.0, lift_taking w.opening w.ops more w.server.files name w.link.taken xid o.begin w.steps then l down.1) ];
+  way = elim a.way [ goes_up up ↦ goes_up up | goes_down down ↦ goes_down (down.0, lift_taking w.opening w.ops more w.server.files name w.link.taken xid o.begin w.steps then l down.1) | is_stuck h ↦ is_stuck h ];
 }
 lift_phase w s more then o place name (phase.Reading f) l a = record {
   word = a.word;
@@ -145,9 +149,36 @@ lift_busy w s more then t l b there behind = record {
   no_point = b.no_point;
   behind = behind;
   small = b.small;
+  joined = b.joined;
   stands = b.stands;
   phase = lift_phase w s more then b.op b.place t.file t.stage l b.phase;
 }
+
+-- ---- what is left of an operation that was lost
+
+-- it needs neither the client nor the calls that were taken
+abbrev pub drifted : World → Stage → client.State → List Taken → List Op → ℕ → World
+drifted w s c taken more then = record w { stage = s; client = c; link = record w.link { taken = taken }; ops = more; steps = then }
+
+lift_drifting : (w : World) (s : Stage) (c : client.State) (taken : List Taken) (more : List Op) (then : ℕ) (o : Op) (place name : ℕ) → length w.ops ≤ length more → Drifting w o place name → Drifting (drifted w s c taken more then) o place name
+lift_drifting w s c taken more then o place name le d = record { word = d.word; short = d.short; known = d.known; found = d.found; there = d.there; node = d.node; unmade = d.unmade; room = omega (arith, d.room, le) }
+
+lift_floating : (w : World) (s : Stage) (c : client.State) (taken : List Taken) (more : List Op) (then : ℕ) (o : Op) (place name : ℕ) → length w.ops ≤ length more → Floating w o place name → Floating (drifted w s c taken more then) o place name
+lift_floating w s c taken more then o place name le (hashing xid x way none) = hashing xid x way none
+lift_floating w s c taken more then o place name le (reading xid size x short way none) = reading xid size x short way none
+lift_floating w s c taken more then o place name le (makes xid fd x f d way quiet) = makes xid fd x f (lift_drifting w s c taken more then o place name le d) way quiet
+lift_floating w s c taken more then o place name le (names xid fd x f some d way temps none) = names xid fd x f some (lift_drifting w s c taken more then o place name le d) way temps none
+lift_floating w s c taken more then o place name le (sends xid fd x f some d way temps none) = sends xid fd x f some (lift_drifting w s c taken more then o place name le d) way temps none
+lift_floating w s c taken more then o place name le (commits xid fd x f d spent way temps none) = commits xid fd x f (lift_drifting w s c taken more then o place name le d) spent way temps none
+lift_floating w s c taken more then o place name le (stays xid d spent none temps one) = stays xid (lift_drifting w s c taken more then o place name le d) spent none temps one
+
+lift_floats : (w : World) (s : Stage) (c : client.State) (taken : List Taken) (more : List Op) (then : ℕ) → length w.ops ≤ length more → Holds w.ops more → Floats w → Floats (drifted w s c taken more then)
+lift_floats w s c taken more then le holds (gone none empty) = gone none empty
+lift_floats w s c taken more then le holds (floats place o name there lost file small hung stood f) = floats place o name (holds place o there) lost file small hung stood (lift_floating w s c taken more then o place name le f)
+
+-- each operation is still there
+pub lift_adrift : (w : World) (s : Stage) (c : client.State) (taken : List Taken) (more : List Op) (then : ℕ) → length w.ops ≤ length more → Holds w.ops more → Adrift w → Adrift (drifted w s c taken more then)
+lift_adrift w s c taken more then le holds a = record { none = a.none; cut = a.cut; down = a.down; floats = lift_floats w s c taken more then le holds a.floats }
 
 -- ---- lines that change no file and no operation
 
@@ -155,17 +186,21 @@ lifts_same : (opening : List Opening) (ops : List Op) (now : ℕ) → Lifts open
 lifts_same opening ops now = record { later = omega arith; more_ops = omega arith; values = λ file p. refl; earlier = λ moment h. h }
 
 way_staged : (w : World) (s : Stage) (o : Option Task) → Under_way w o → Under_way (record w { stage = s }) o
-way_staged w s None idle = record { none = idle.none; still = idle.still; quiet = idle.quiet }
+way_staged w s None (inl idle) = inl (record { none = idle.none; still = idle.still; quiet = idle.quiet; joined = idle.joined })
+way_staged w s None (inr a) = inr (lift_adrift w s w.client w.link.taken w.ops w.steps (omega arith) (holds_same w.ops) a)
 way_staged w s (Some t) busy = lift_busy w s w.ops w.steps t (lifts_same w.opening w.ops w.steps) busy busy.there busy.behind
+
+joined_staged : (w : World) (s : Stage) → Joined w → Joined (record w { stage = s })
+joined_staged w s (apart h) = apart h
+joined_staged w s (joined h) = joined h
+joined_staged w s (is_cut h) = is_cut h
 
 pub staged : (n : ℕ) (ds : List Deed) (j : Bool) (w : World) (s : Stage) → (is_early s ≡ true → IsUntouched w) → IsKept n ds j w → IsKept n ds j (record w { stage = s })
 staged n ds j w s fresh k = record {
   tree = k.tree;
   past = k.past;
   client = k.client;
-  joined = k.joined;
-  server_end = k.server_end;
-  client_end = k.client_end;
+  joined = joined_staged w s k.joined;
   way = way_staged w s w.client.task k.way;
   fresh = fresh;
 }
@@ -205,8 +240,6 @@ kept_next n ds j w line k = record {
   };
   client = k.client;
   joined = k.joined;
-  server_end = k.server_end;
-  client_end = k.client_end;
   way = k.way;
   fresh = k.fresh;
 }
@@ -313,7 +346,7 @@ tree_more n opening s now o line id short none h =
     }
 
 -- with no operation so far nothing speaks of the opening tree
-past_opened : (n : ℕ) (ds : List Deed) (opening more : List Opening) (running : Option ℕ) (s : World) → n ≤ 65536 → IsPast n ds opening [] running s.settled s.server.journal s.steps → IsPast (n + 1) ds more [] running s.settled s.server.journal s.steps
+past_opened : (n : ℕ) (ds : List Deed) (opening more : List Opening) (running : Option ℕ) (s : World) → n ≤ 65536 → IsPast n ds opening [] running s.settled s.server.journal s.cuts s.steps → IsPast (n + 1) ds more [] running s.settled s.server.journal s.cuts s.steps
 past_opened n ds opening more running s line h = record {
   lines = omega (arith, line);
   few = omega (arith, h.few);
@@ -326,26 +359,43 @@ past_opened n ds opening more running s line h = record {
   logged = h.logged;
 }
 
--- where no operation is under way
-pub idle_at : (w : World) → w.client.task ≡ None → Under_way w w.client.task → Idle w
-idle_at w e way = subst (λ (o : Option Task). Under_way w o) e way
+-- where the client has no task
+pub none_running : (w : World) → Under_way w None → w.running ≡ None
+none_running w (inl idle) = idle.none
+none_running w (inr a) = a.none
+
+-- where no operation is under way, and the client did not see its connection lost
+pub idle_at : (w : World) → w.client.task ≡ None → w.link.cut ≡ false → Under_way w w.client.task → Idle w
+idle_at w e uncut way = by (subst (λ (o : Option Task). Under_way w o) e way)
+  where
+    never : (b : Bool) → b ≡ true → b ≡ false → ⊥
+    never b e f = absurd cc
+
+    by : Idle w ⊎ Adrift w → Idle w
+    by (inl idle) = idle
+    by (inr a) = absurd (never w.link.cut a.cut uncut)
 
 way_of : (w : World) → w.client.task ≡ None → Idle w → Under_way w w.client.task
-way_of w e idle = subst (λ (o : Option Task). Under_way w o) (sym e) idle
+way_of w e idle = subst (λ (o : Option Task). Under_way w o) (sym e) (inl idle)
 
 -- no file is open at a client that did nothing
 none_open : {A : Type 0} (c : client.State) (file : ℕ) (l : Local) → c ≡ client.start → client.local_at c.opened file ≡ Some l → A
 none_open c file l e at = nothing_there l (ap (λ (x : client.State). client.local_at x.opened file) (sym e) ∙ at)
 
+joined_filed : (w : World) (name content : List ℕ) → Joined w → Joined (with_file w name content)
+joined_filed w name content (apart h) = apart h
+joined_filed w name content (joined h) = joined h
+joined_filed w name content (is_cut h) = is_cut h
+
 pub kept_file : (n : ℕ) (ds : List Deed) (j : Bool) (w : World) (name content : List ℕ) → length content ≤ 2048 → n ≤ 65536 → IsUntouched w → IsKept n ds j w → IsKept (n + 1) ds j (with_file w name content)
 kept_file n ds j w name content short line u k =
     let none : w.client.task ≡ None = ap (λ (c : client.State). c.task) u.0 in
-    let idle = idle_at w none k.way in
+    let idle = idle_at w none u.3 k.way in
     let o : Opening = record { file = length w.opening + 2; content = content } in
     let s : server.State = record w.server { files = server.with_file w.server.files (file_as o); changes = max w.server.changes 1 } in
     record {
       tree = subst (λ (ops : List Op). IsTree (n + 1) (w.opening ++ o ∷ []) ops s w.steps) (sym u.1) (tree_more n w.opening w.server w.steps o line refl short u.2 (subst (λ (ops : List Op). IsTree n w.opening ops w.server w.steps) u.1 k.tree));
-      past = subst (λ (ops : List Op). IsPast (n + 1) ds (w.opening ++ o ∷ []) ops w.running w.settled w.server.journal w.steps) (sym u.1) (past_opened n ds w.opening (w.opening ++ o ∷ []) w.running w line (subst (λ (ops : List Op). IsPast n ds w.opening ops w.running w.settled w.server.journal w.steps) u.1 k.past));
+      past = subst (λ (ops : List Op). IsPast (n + 1) ds (w.opening ++ o ∷ []) ops w.running w.settled w.server.journal w.cuts w.steps) (sym u.1) (past_opened n ds w.opening (w.opening ++ o ∷ []) w.running w line (subst (λ (ops : List Op). IsPast n ds w.opening ops w.running w.settled w.server.journal w.cuts w.steps) u.1 k.past));
       client = record {
         locals = k.client.locals;
         there = λ file l at. none_open w.client file l u.0 at;
@@ -353,22 +403,21 @@ kept_file n ds j w name content short line u k =
         fds = k.client.fds;
         linked = k.client.linked;
       };
-      joined = k.joined;
-      server_end = k.server_end;
-      client_end = k.client_end;
-      way = way_of (with_file w name content) none (record { none = idle.none; still = idle.still; quiet = idle.quiet });
+      joined = joined_filed w name content k.joined;
+      way = way_of (with_file w name content) none (record { none = idle.none; still = idle.still; quiet = idle.quiet; joined = idle.joined });
       fresh = λ e. u;
     }
 
 -- ---- the client joins
 
--- a client that has not joined has no session
-not_joined : (w : World) → w.client.linked ≡ false → IsApart w ⊎ IsJoined w → IsApart w
-not_joined w e (inl h) = h
-not_joined w e (inr h) = by w.client.linked e h.0
-  where
-    by : {A : Type 0} (b : Bool) → b ≡ false → b ≡ true → A
-    by b e f = absurd cc
+one_not_none : (m : ℕ) → m ≡ 0 → m ≡ 1 → ⊥
+one_not_none m e f = omega (arith, e, f)
+
+-- where no session was made
+pub not_joined : (w : World) → w.sessions ≡ 0 → Joined w → IsApart w
+not_joined w e (apart h) = h
+not_joined w e (joined h) = absurd (one_not_none w.sessions e h.1)
+not_joined w e (is_cut h) = absurd (one_not_none w.sessions e h.2)
 
 abbrev with_sessions : server.State → List ℕ → ℕ → server.State
 with_sessions s ss m = record s { sessions = ss; made = m }
@@ -385,21 +434,21 @@ connected w b = record (joins w) { server = (connect w.server b).0 }
 
 tree_connected : (n : ℕ) (ds : List Deed) (j : Bool) (w : World) (b : Bool) → IsKept n ds j w → IsTree n w.opening w.ops (connect w.server b).0 (w.steps + 2)
 tree_connected n ds j w true k =
-    tree_goes n n w.opening w.ops w.ops w.server w.server.temps w.server.waits (w.server.sessions ++ (w.server.made + 1) ∷ []) (w.server.made + 1) w.server.last w.steps (w.steps + 2) (omega arith) (points_of n ds w.opening w.ops w.running w.settled w.server.journal w.steps k.past) (λ file p. refl) k.tree.changes (omega arith) k.tree
+    tree_goes n n w.opening w.ops w.ops w.server w.server.temps w.server.waits (w.server.sessions ++ (w.server.made + 1) ∷ []) (w.server.made + 1) w.server.last w.steps (w.steps + 2) (omega arith) (points_of n ds w.opening w.ops w.running w.settled w.server.journal w.cuts w.steps k.past) (λ file p. refl) k.tree.changes (omega arith) k.tree
 tree_connected n ds j w false k =
-    tree_goes n n w.opening w.ops w.ops w.server w.server.temps w.server.waits w.server.sessions w.server.made w.server.last w.steps (w.steps + 2) (omega arith) (points_of n ds w.opening w.ops w.running w.settled w.server.journal w.steps k.past) (λ file p. refl) k.tree.changes (omega arith) k.tree
+    tree_goes n n w.opening w.ops w.ops w.server w.server.temps w.server.waits w.server.sessions w.server.made w.server.last w.steps (w.steps + 2) (omega arith) (points_of n ds w.opening w.ops w.running w.settled w.server.journal w.cuts w.steps k.past) (λ file p. refl) k.tree.changes (omega arith) k.tree
 
-past_connected : (n : ℕ) (ds : List Deed) (j : Bool) (w : World) (b : Bool) → IsKept n ds j w → IsPast n ds w.opening w.ops w.running w.settled (connect w.server b).0.journal (w.steps + 2)
-past_connected n ds j w true k = past_later n ds w.opening w.ops w.running w.settled w.server.journal w.steps (w.steps + 2) (omega arith) k.past
-past_connected n ds j w false k = past_later n ds w.opening w.ops w.running w.settled w.server.journal w.steps (w.steps + 2) (omega arith) k.past
+past_connected : (n : ℕ) (ds : List Deed) (j : Bool) (w : World) (b : Bool) → IsKept n ds j w → IsPast n ds w.opening w.ops w.running w.settled (connect w.server b).0.journal w.cuts (w.steps + 2)
+past_connected n ds j w true k = past_later n ds w.opening w.ops w.running w.settled w.server.journal w.cuts w.cuts w.steps (w.steps + 2) (omega arith) (holds_same w.cuts) k.past
+past_connected n ds j w false k = past_later n ds w.opening w.ops w.running w.settled w.server.journal w.cuts w.cuts w.steps (w.steps + 2) (omega arith) (holds_same w.cuts) k.past
 
 idle_connected : (w : World) (b : Bool) → Idle w → Idle (connected w b)
-idle_connected w true idle = record { none = idle.none; still = (refl, refl); quiet = idle.quiet }
-idle_connected w false idle = record { none = idle.none; still = (refl, refl); quiet = idle.quiet }
+idle_connected w true idle = record { none = idle.none; still = ((refl, refl), (refl, refl)); quiet = idle.quiet; joined = refl }
+idle_connected w false idle = record { none = idle.none; still = ((refl, refl), (refl, refl)); quiet = idle.quiet; joined = refl }
 
-pub kept_join : (n : ℕ) (ds : List Deed) (j : Bool) (w : World) → is_early w.stage ≡ false → w.client.linked ≡ false → IsKept n ds j w → IsKept n ds true (joins w)
-kept_join n ds j w events unlinked k =
-    let h = not_joined w unlinked k.joined in
+pub kept_join : (n : ℕ) (ds : List Deed) (j : Bool) (w : World) → is_early w.stage ≡ false → w.sessions ≡ 0 → IsKept n ds j w → IsKept n ds true (joins w)
+kept_join n ds j w events first k =
+    let h = not_joined w first k.joined in
     record {
       tree = tree_connected n ds j w (has_room w.server) k;
       past = past_connected n ds j w (has_room w.server) k;
@@ -410,10 +459,8 @@ kept_join n ds j w events unlinked k =
         fds = omega arith;
         linked = refl;
       };
-      joined = inr (refl, stood_by w.server w.server.sessions w.server.made h.3 h.4);
-      server_end = refl;
-      client_end = refl;
-      way = way_of (joins w) h.1 (idle_connected w (has_room w.server) (idle_at w h.1 k.way));
+      joined = joined (refl, ap (λ (m : ℕ). m + 1) first, refl, λ there. stood_by w.server w.server.sessions w.server.made h.3 h.4);
+      way = way_of (joins w) h.1 (idle_connected w (has_room w.server) (idle_at w h.1 h.5 k.way));
       fresh = λ e. not_early w.stage events e;
     }
   where

@@ -1,16 +1,10 @@
 -- Before the events no change waits.
-use Rattle.std.proofs.Common.{◌≡◌, ℕ, zero, suc, List, [], ◌∷◌, Bool, true, false, refl, ◌∙◌, sym, subst}
-use Rattle.std.specs.Prelude.{nat_le, Option, Some, None, Result, Ok, Err}
-use Rattle.rpc_record.specs.Records.{fed}
-use Rattle.wire.specs.Parse.{parse_of}
-use Rattle.wire.specs.declared.message.Message.{Message}
-use Rattle.wire.specs.declared.message.WireErr.{WireErr}
-use Rattle.open_close.specs.State as client
-use Rattle.open_close.specs.declared.acts.Acts.{Acts}
+use Rattle.std.proofs.Common.{◌≡◌, ℕ, List, [], Bool, true, false, refl, sym, subst}
+use Rattle.std.specs.Prelude.{nat_le, Result, Ok, Err}
 use Rattle.trace_text.specs.declared.line.Line.{Line}
 use Rattle.trace_text.specs.declared.line.Line.TheVariants as line
 use Rattle.trace_text.specs.declared.refusal.LineFault.{LineFault}
-use Rattle.trace_text.specs.declared.refusal.LineFault.TheVariants.{Grammar, Limit}
+use Rattle.trace_text.specs.declared.refusal.LineFault.TheVariants.{Grammar, Limit, Clock}
 use Rattle.server_core.specs.State as server
 use Rattle.server_core.specs.State.{Change}
 use Rattle.server_core.specs.Step.{server_step}
@@ -21,9 +15,9 @@ use Rattle.trace_replay.specs.declared.link.Stage.TheVariants as stage
 use Rattle.trace_replay.specs.declared.turn.Turn.{Turn}
 use Rattle.trace_replay.specs.declared.turn.Turn.TheVariants as turn
 use Rattle.trace_replay.specs.World.{World}
-use Rattle.trace_replay.specs.Delivery.{server_waiting, server_takes_if, server_takes, server_takes_all, up_all, acted, client_takes, client_takes_all, is_still, round, passes}
-use Rattle.trace_replay.specs.Run.{line_most, asks_if, joins_if, event_asks, asks_at, asks, asks_within, asked, settled_as, has_changed, turned}
+use Rattle.trace_replay.specs.Run.{line_most, asks_if, joins_if, event_asks, asks_at, asks, asks_within, asked, settled_as, has_changed, count_of, turned}
 use Rattle.trace_replay.specs.Turns.{IsQuietAt, IsQuiet, IsTurnQuiet}
+use Rattle.trace_replay.proofs.Stages.{some_up, some_down, passes_stage, cut_stage, hung_stage}
 
 abbrev asking : Turn → Result Turn LineFault
 asking t = Ok t
@@ -56,8 +50,12 @@ joining w true true t e = taken w turn.Join t tt e
 event : (w : World) (l : Line) (t : Turn) → event_asks w.client.linked w.sessions l ≡ asking t → IsTurnQuiet w t
 event w (line.Join c r s) t e = joining w _ _ t e
 event w (line.Do c r k) t e = when w _ (turn.Do k) t tt e
-event w (line.Settle s) t e = when w _ turn.Settle t tt e
-event w (line.Pass n k s r) t e = when w _ (turn.Pass k) t tt e
+event w (line.Up n a s) t e = when w _ (turn.Up a s) t tt e
+event w (line.Down n a r) t e = when w _ (turn.Down a) t tt e
+event w (line.Settle s) t e = taken w (turn.Settle s) t tt e
+event w (line.Cut c r) t e = when w _ turn.Cut t tt e
+event w (line.Hang n s) t e = when w _ turn.Hang t tt e
+event w (line.Pass n k s r) t e = when w _ (turn.Pass k s) t tt e
 event w l t e = refused_line Grammar t e
 
 at_stage : (w : World) (s : Stage) (l : Line) (t : Turn) → IsQuietAt s w.server.waits → asks_at w s l ≡ asking t → IsTurnQuiet w t
@@ -76,39 +74,11 @@ within : (b : Bool) (r : Result Turn LineFault) (t : Turn) → asks_within b r �
 within true r t e = e
 within false (Err Grammar) t e = refused_line Grammar t e
 within false (Err (Limit w)) t e = refused_line _ t e
+within false (Err (Clock f)) t e = refused_line _ t e
 within false (Ok s) t e = refused_line _ t e
 
 pub asked_quiet : (w : World) (n : ℕ) (l : Line) (t : Turn) → IsQuiet w → asked w n l ≡ Ok t → IsTurnQuiet w t
 asked_quiet w n l t h e = any_line w l t h (within (nat_le n line_most) (asks w l) t e)
-
--- ---- the stage while bytes are delivered
-
-got_stage : (w : World) (r : Result Message WireErr) → (server_takes_if w r).stage ≡ w.stage
-got_stage w (Ok m) = refl
-got_stage w (Err e) = refl
-
-up_stage : (w : World) (rs : List (List ℕ)) → (server_takes_all w rs).stage ≡ w.stage
-up_stage w [] = refl
-up_stage w (r ∷ rs) = up_stage (server_takes w r) rs ∙ got_stage w (parse_of server_waiting r)
-
-acted_stage : (w : World) (c : client.State) (acts : Acts) (place : Option ℕ) → (acted w c acts place).stage ≡ w.stage
-acted_stage w c acts None = refl
-acted_stage w c acts (Some p) = refl
-
-down_stage : (w : World) (rs : List (List ℕ)) → (client_takes_all w rs).stage ≡ w.stage
-down_stage w [] = refl
-down_stage w (r ∷ rs) = down_stage (client_takes w r) rs ∙ acted_stage w _ _ w.running
-
-round_stage : (w : World) → (round w).stage ≡ w.stage
-round_stage w = down_stage _ (fed (up_all w).link.client_end (up_all w).link.down).1.records ∙ up_stage _ (fed w.link.server_end w.link.up).1.records
-
-passes_if : (b : Bool) (k : ℕ) (w : World) → (passes k (round w)).stage ≡ (round w).stage → (elim b as (λ (x : Bool). World) [ true ↦ w | false ↦ passes k (round w) ]).stage ≡ w.stage
-passes_if true k w e = refl
-passes_if false k w e = e ∙ round_stage w
-
-passes_stage : (k : ℕ) (w : World) → (passes k w).stage ≡ w.stage
-passes_stage zero w = refl
-passes_stage (suc k) w = passes_if (is_still w) k w (passes_stage k (round w))
 
 -- ---- a turn
 
@@ -133,5 +103,9 @@ turned_quiet w (turn.At s) h e = quiet_at s w.server.waits e
 turned_quiet w (turn.File name content) h e = quiet_at w.stage w.server.waits e
 turned_quiet w turn.Join h e = tt
 turned_quiet w (turn.Do k) h e = tt
-turned_quiet w turn.Settle h e = let r : server.State × Outs = server_step w.server (events.Settle 0) in quiet_settled (record w { stage = stage.Events }) r.0 r.1 (has_changed w.server r.0) refl
-turned_quiet w (turn.Pass k) h e = in_events _ _ (passes_stage k (record w { stage = stage.Events }))
+turned_quiet w (turn.Up n now) h e = in_events _ _ (some_up (record w { stage = stage.Events }) (count_of n w.link.up) now)
+turned_quiet w (turn.Down n) h e = in_events _ _ (some_down (record w { stage = stage.Events }) (count_of n w.link.down))
+turned_quiet w (turn.Settle now) h e = let r : server.State × Outs = server_step w.server (events.Settle now) in quiet_settled (record w { stage = stage.Events }) r.0 r.1 (has_changed w.server r.0) refl
+turned_quiet w turn.Cut h e = in_events _ _ (cut_stage (record w { stage = stage.Events }) w.client.linked)
+turned_quiet w turn.Hang h e = in_events _ _ (hung_stage (record w { stage = stage.Events }) w.link.hung)
+turned_quiet w (turn.Pass k now) h e = in_events _ _ (passes_stage k (record w { stage = stage.Events }) now)

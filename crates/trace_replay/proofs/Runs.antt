@@ -3,17 +3,9 @@ use Rattle.std.proofs.Common.{◌≡◌, ℕ, zero, suc, ◌+◌, ◌<◌, ◌�
 use Rattle.std.specs.Prelude.{slice_get, ◌||◌, ◌&&◌, Contains, IsSome, Result, Ok, Err}
 use Rattle.std.proofs.lemmas.List.Elements.{Contains-append_right}
 use Rattle.std.proofs.lemmas.Option.{slice_get-get_or}
-use Rattle.xdr_codec.specs.declared.answer.Answer.TheVariants.{Done, Failed}
-use Rattle.xdr_codec.specs.declared.status.Status.TheVariants as status
-use Rattle.hash_calls.specs.declared.message.Lb.TheVariants as lb
-use Rattle.wire.specs.declared.message.Body.TheVariants as body
-use Rattle.wire.specs.declared.message.Message.{Message}
-use Rattle.wire.specs.declared.message.Message.TheVariants as message
 use Rattle.server_core.specs.State as server
 use Rattle.server_core.specs.State.{Change}
 use Rattle.open_close.specs.State as client
-use Rattle.open_close.specs.Closing.{make_call, cond_call, tmp_call, commit_call}
-use Rattle.open_close.specs.Step.{hash_call, read_call}
 use Rattle.open_close.specs.declared.task.Store.{Store}
 use Rattle.open_close.specs.declared.task.Task.{Task}
 use Rattle.open_close.specs.declared.task.Stage.{Stage as Phase}
@@ -35,18 +27,20 @@ use Rattle.trace_text.specs.declared.refusal.LineFault.TheVariants.{Grammar}
 use Rattle.trace_text.proofs.Ids.{fit_line}
 use Rattle.trace_replay.specs.World.{World, start}
 use Rattle.trace_replay.specs.Commands.{word_of, file_of}
-use Rattle.trace_replay.specs.Delivery.{is_still, is_none}
+use Rattle.trace_replay.specs.Delivery.{is_still}
 use Rattle.trace_replay.specs.Run.{ended, in_header, refused, asked_by, turned, run_from, run, history_of}
 use Rattle.trace_replay.specs.declared.fault.Refused.{Refused}
 use Rattle.trace_replay.specs.declared.turn.Turn.{Turn}
-use Rattle.trace_replay.specs.Faithful.{Deed, deed_in, linked_by, deeds_from, deeds_of, is_running, local_before, HasCause, HasJournal, IsDone, IsOpenedBy, IsClosedBy, IsRefusedBy, IsRunning, WasBusy, close_traffic}
+use Rattle.trace_replay.specs.Faithful.{Deed, deed_in, linked_by, deeds_from, deeds_of, is_running, local_before, HasCause, HasJournal, IsDone, IsOpenedBy, IsClosedBy, IsRefusedBy, IsHeld, IsRunning, IsLostBy, WasBusy, close_traffic}
 use Rattle.trace_replay.specs.Traces.{HoldsValues, HoldsFiles}
 use Rattle.trace_replay.proofs.ServerFiles.{rising_none, short_none}
 use Rattle.trace_replay.proofs.Lists.{nothing_there, some_is, all_by_place}
-use Rattle.trace_replay.proofs.Bytes.{some_bytes}
+use Rattle.trace_replay.proofs.Bytes.{still_some}
 use Rattle.trace_replay.proofs.Values.{value_in}
+use Rattle.trace_replay.proofs.Lines.{none_running}
+use Rattle.trace_replay.proofs.SettleLines.{served_none}
 use Rattle.trace_replay.proofs.Asked.{Allows, deeds_by, linked_then, asking, refused_line, in_place}
-use Rattle.trace_replay.proofs.Kept.{IsKept, IsTree, IsPast, IsClient, IsRight, IsOf, known, Cause, Beside, OpenedBy, ClosedBy, RefusedBy, RunningOf, Up, Down, Going, Storing, InPhase, Under_way, hashes_told, piece_told, chunk_of, waiting_change}
+use Rattle.trace_replay.proofs.Kept.{IsKept, IsTree, IsPast, IsClient, IsRight, IsOf, known, Cause, Beside, OpenedBy, ClosedBy, RefusedBy, RunningOf, LostBy, OnWay, Stuck, goes_up, goes_down, is_stuck, Going, Storing, Floating, Floats, Joined, InPhase, Under_way, temp_with, pieces_of, waiting_change}
 
 -- ---- legality
 
@@ -100,7 +94,7 @@ changes_nothing w o r = elim (kind_of w o r) [
 pub legal_kept : (n : ℕ) (ds : List Deed) (j : Bool) (w : World) → IsKept n ds j w → IsLegal (history_of w)
 legal_kept n ds j w k = record {
   apart = λ i m d less within. apart_by_place n ds j w k i m _ _ less (slice_get-get_or w.ops i d (omega (arith, less, within))) (slice_get-get_or w.ops m d within);
-  within = all_by_place IsWithin w.ops (λ i o at. λ p e. let h = (k.past.rights i o at).within p e in (h.0, λ lost. h.2));
+  within = all_by_place IsWithin w.ops (λ i o at. λ p e. let h = (k.past.rights i o at).within p e in (h.0, h.2));
   opens = all_by_place (OpensWhole (history_of w)) w.ops (λ i o at. λ is_open. (k.past.rights i o at).opens);
   absences = all_by_place (FindsGone (history_of w)) w.ops (λ i o at. λ is_open. (k.past.rights i o at).gone);
   successes = all_by_place (ChangesOnce (history_of w)) w.ops (λ i o at. changes_once w o (k.past.rights i o at));
@@ -116,57 +110,63 @@ none_and : (a b : Bool) → b ≡ false → (a && b) ≡ false
 none_and true b e = e
 none_and false b e = refl
 
-going_up : (w : World) (m : Message) → Up w.link m → is_still w ≡ false
-going_up w m h = and_none _ _ (ap is_none h.0 ∙ some_bytes m)
+going_up : (w : World) (bytes : List ℕ) → OnWay w.link.server_end w.link.up bytes → is_still w ≡ false
+going_up w bytes h = and_none _ _ (still_some w.link.server_end w.link.up bytes h)
 
-going_down : (w : World) (m : Message) → Down w.link m → is_still w ≡ false
-going_down w m h = none_and _ _ (ap is_none h.1 ∙ some_bytes m)
+going_down : (w : World) (bytes : List ℕ) → OnWay w.link.client_end w.link.down bytes → is_still w ≡ false
+going_down w bytes h = none_and _ _ (still_some w.link.client_end w.link.down bytes h)
 
 -- a close waits at the server with its value, and had sent all of its traffic
 abbrev IsWaiting : World → Op → ℕ → Type 0
 IsWaiting w o file = (o.word ≡ word.Close) × (o.point ≡ None) × (xid : ℕ) × (w.server.waits ≡ waiting_change xid file o.value ∷ []) × (o.traffic ≡ close_traffic o.value)
 
--- bytes are on their way and nothing waits, or a close waits
+-- bytes are on their way, or will never be, and nothing waits; or a close waits
 abbrev IsMoving : World → Op → ℕ → Type 0
-IsMoving w o file = ((is_still w ≡ false) × (w.server.waits ≡ [])) ⊎ IsWaiting w o file
+IsMoving w o file = (((is_still w ≡ false) ⊎ (w.link.hung ≡ true)) × (w.server.waits ≡ [])) ⊎ IsWaiting w o file
+
+stuck_moves : (w : World) (o : Op) (file : ℕ) → Stuck w → IsMoving w o file
+stuck_moves w o file h = inl (inr h.0, h.2.1)
 
 storing_moves : (w : World) (o : Op) (place file : ℕ) (st : Store) → Storing w o place file st → IsMoving w o file
-storing_moves w o place file st (Storing.naming xid fd is h) = inl (
-  elim h.way [
-    | inl up ↦ going_up w (cond_call xid fd (chunk_of o.value)) up
-    | inr down ↦ going_down w (message.Answer xid (body.Lb (lb.CondWriteAnswer (Failed status.HashNotFound tt)))) down
-  ],
-  h.temps.1,
-)
+storing_moves w o place file st (Storing.naming xid fd is h) = elim h.way [
+  | goes_up up ↦ inl (inl (going_up w _ up.0.0), up.3)
+  | goes_down down ↦ inl (inl (going_down w _ down.0.1), served_none w (temp_with fd file []) down.1)
+  | is_stuck s ↦ stuck_moves w o file s
+]
 storing_moves w o place file st (Storing.sending xid fd is h) = elim h.way [
-  | inl up ↦ inl (going_up w (tmp_call xid fd o.value (chunk_of o.value)) up.0, up.2)
-  | inr down ↦ inl (going_down w (message.Answer xid (body.Lb (lb.TmpWriteAnswer (Done tt)))) down.0, down.2)
+  | goes_up up ↦ inl (inl (going_up w _ up.0.0), up.3)
+  | goes_down down ↦ inl (inl (going_down w _ down.0.1), served_none w (temp_with fd file (pieces_of o.value)) down.1)
+  | is_stuck s ↦ stuck_moves w o file s
 ]
 
 going_moves : (w : World) (o : Op) (file xid : ℕ) → o.word ≡ word.Close → o.traffic ≡ close_traffic o.value → Going w o file xid → IsMoving w o file
-going_moves w o file xid closes spent (Going.asked fd small up temps waits unmade room) = inl (going_up w (commit_call xid fd file (length o.value)) up, waits)
-going_moves w o file xid closes spent (Going.waits still temps waits unmade) = inr (closes, unmade, xid, waits, spent)
-going_moves w o file xid closes spent (Going.made version down small quiet entered) = inl (going_down w (message.Answer xid (body.Lb (lb.CommitTmpAnswer (Done (record { version = version; term = 0 }))))) down, quiet.1)
+going_moves w o file xid closes spent (Going.asked fd small up there temps waits unmade room) = inl (inl (going_up w _ up.0), waits)
+going_moves w o file xid closes spent (Going.waits still there temps one unmade) = inr (closes, unmade, xid, one, spent)
+going_moves w o file xid closes spent (Going.made version down small quiet entered) = inl (inl (going_down w _ down.1), quiet.1)
+going_moves w o file xid closes spent (Going.stuck h unmade) = stuck_moves w o file h
 
 phase_moves : (w : World) (o : Op) (place file : ℕ) (p : Phase) → InPhase w o place file p → IsMoving w o file
 phase_moves w o place file (phase.Hashing xid) h = elim h.way [
-  | inl up ↦ inl (going_up w (hash_call xid file) up.0, h.quiet.1)
-  | inr down ↦ inl (going_down w (message.Answer xid (hashes_told w.server.files file)) down.0, h.quiet.1)
+  | goes_up up ↦ inl (inl (going_up w _ up.0.0), h.quiet.1)
+  | goes_down down ↦ inl (inl (going_down w _ down.0.1), h.quiet.1)
+  | is_stuck s ↦ stuck_moves w o file s
 ]
 phase_moves w o place file (phase.Reading f) h = elim h.way [
-  | inl up ↦ inl (going_up w (read_call f.xid file 0 (length h.found.content)) up, h.quiet.1)
-  | inr down ↦ inl (going_down w (message.Answer f.xid (piece_told w.server.files file (length h.found.content))) down, h.quiet.1)
+  | goes_up up ↦ inl (inl (going_up w _ up.0.0), h.quiet.1)
+  | goes_down down ↦ inl (inl (going_down w _ down.1), h.quiet.1)
+  | is_stuck s ↦ stuck_moves w o file s
 ]
 phase_moves w o place file (phase.Making xid fd) h = elim h.way [
-  | inl up ↦ inl (going_up w (make_call xid fd file) up.0, up.1.1)
-  | inr down ↦ inl (going_down w (message.Answer xid (body.Lb (lb.MkTmpFileAnswer (Done tt)))) down.0, down.2)
+  | goes_up up ↦ inl (inl (going_up w _ up.0.0), up.2.1)
+  | goes_down down ↦ inl (inl (going_down w _ down.0.1), served_none w (temp_with fd file []) down.1)
+  | is_stuck s ↦ stuck_moves w o file s
 ]
 phase_moves w o place file (phase.Storing st) h = storing_moves w o place file st h
 phase_moves w o place file (phase.Committing xid) h = going_moves w o file xid h.closing.word h.traffic h.way
 
 -- the operation at this place is the one under way, and its phase tells what moves
 moves_at : (w : World) (t : Option Task) (k : ℕ) (o : Op) → Under_way w t → slice_get w.ops k ≡ Some o → w.running ≡ Some k → (file : ℕ) × IsMoving w o file
-moves_at w None k o idle at runs = nothing_there k (sym idle.none ∙ runs)
+moves_at w None k o way at runs = nothing_there k (sym (none_running w way) ∙ runs)
 moves_at w (Some t) k o busy at runs =
     let same : busy.place ≡ k = some_is busy.place k (sym busy.is_running ∙ runs) in
     let is : busy.op ≡ o = some_is busy.op o (sym busy.there ∙ ap (λ (i : ℕ). slice_get w.ops i) same ∙ at) in
@@ -174,10 +174,10 @@ moves_at w (Some t) k o busy at runs =
 
 -- ---- causes
 
-contained : (ops : List Op) (k : ℕ) (o : Op) → slice_get ops k ≡ Some o → Contains ops o
-contained [] k o at = nothing_there o at
-contained (q ∷ ops) zero o at = subst (λ (x : Op). Contains (q ∷ ops) x) (some_is q o at) (0, omega arith, refl)
-contained (q ∷ ops) (suc k) o at = Contains-append_right (q ∷ []) ops o (contained ops k o at)
+contained : {A : Type 0} (xs : List A) (k : ℕ) (x : A) → slice_get xs k ≡ Some x → Contains xs x
+contained [] k x at = nothing_there x at
+contained {A = A} (y ∷ xs) zero x at = subst (λ (z : A). Contains (y ∷ xs) z) (some_is y x at) (0, omega arith, refl)
+contained (y ∷ xs) (suc k) x at = Contains-append_right (y ∷ []) xs x (contained xs k x at)
 
 busy_caused : (n : ℕ) (ds : List Deed) (j : Bool) (w : World) (o : Op) → IsKept n ds j w → o.client ≡ 1 → Beside w.ops o → WasBusy w.ops o
 busy_caused n ds j w o k one h = (h.1, contained w.ops h.0 h.1 h.2, (k.past.rights h.0 h.1 h.2).client ∙ sym one, h.3, h.4)
@@ -200,10 +200,20 @@ one_waits xs x e = let same : length xs ≡ 1 = ap (λ (ys : List Change). lengt
 no_close : {A : Type 0} → word.Open ≡ word.Close → A
 no_close e = absurd cc
 
+-- it is held
+held_by : (w : World) → ((is_still w ≡ false) ⊎ (w.link.hung ≡ true)) → IsHeld w
+held_by w (inl moves) = inl moves
+held_by w (inr lost) = inr (inr lost)
+
 running_by : (w : World) (c : Command) (o : Op) (l : Option (List ℕ)) (file : ℕ) → o.word ≡ word_of c → IsMoving w o file → RunningOf c o l → IsRunning w c o l
-running_by w (command.Open f) o l file is moves h = elim moves [ inl goes ↦ goes.0 | inr waits ↦ no_close (sym is ∙ waits.0) ]
-running_by w (command.Close f) o l file is moves h = (h, elim moves [ inl goes ↦ inl goes.0 | inr waits ↦ inr (one_waits w.server.waits (waiting_change waits.2 file o.value) waits.3) ])
+running_by w (command.Open f) o l file is moves h = elim moves [ inl goes ↦ held_by w goes.0 | inr waits ↦ no_close (sym is ∙ waits.0) ]
+running_by w (command.Close f) o l file is moves h = (h, elim moves [ inl goes ↦ held_by w goes.0 | inr waits ↦ inr (inl (one_waits w.server.waits (waiting_change waits.2 file o.value) waits.3)) ])
 running_by w c o l file is moves h = absurd h
+
+lost_by : (w : World) (c : Command) (o : Op) (l : Option (List ℕ)) → LostBy w.cuts c o l → IsLostBy w c o l
+lost_by w (command.Open f) o l h = (h.0, h.2, contained w.cuts h.1 h.0 h.3)
+lost_by w (command.Close f) o l h = (h.0, h.1, h.3, contained w.cuts h.2 h.1 h.4)
+lost_by w c o l h = absurd h
 
 caused : (n : ℕ) (ds : List Deed) (j : Bool) (w : World) (d : Deed) (o : Op) (l : Option (List ℕ)) (t : Outcome) → IsKept n ds j w → o.client ≡ 1 → o.word ≡ word_of d.command → Cause (known w) d o l t
     → (is_running t ≡ true → (file : ℕ) × IsMoving w o file) → HasCause w d o l t
@@ -213,6 +223,7 @@ caused n ds j w d o l (told.Closed version len digest) k one is c runs = closed_
 caused n ds j w d o l told.Done k one is c runs = c
 caused n ds j w d o l (told.Refused status) k one is c runs = refused_by w d.command status c
 caused n ds j w d o l told.Running k one is c runs = let moves = runs refl in running_by w d.command o l moves.0 is moves.1 c
+caused n ds j w d o l told.Lost k one is c runs = lost_by w d.command o l c
 caused n ds j w d o l told.Busy k one is c runs = busy_caused n ds j w o k one c
 caused n ds j w d o l told.NotOpen k one is c runs = c
 caused n ds j w d o l told.AlreadyOpen k one is c runs = c
@@ -239,6 +250,7 @@ done_kept n ds j w kept k d o at_d at_o =
       cause = caused n ds j w d o (local_before ds w.ops k (file_of d.command)) o.outcome kept right.client of.word (kept.past.causes k d o at_d at_o) (λ runs. moves_at w w.client.task k o kept.way at_o (kept.past.only k o at_o runs));
       traffic = right.traffic;
       end = right.end;
+      order = right.order;
     }
 
 pub faithful_kept : (n : ℕ) (ds : List Deed) (j : Bool) (w : World) → IsKept n ds j w → FaithfulTo ds w
@@ -267,11 +279,26 @@ closes_with w i c o file is at (inr (closes, unmade, xid, waits, spent)) =
     let same : waiting_change xid file o.value ≡ c = the_change i c (waiting_change xid file o.value) (sym (ap (λ (ys : List Change). slice_get ys i) waits) ∙ at) in
     (closes, is ∙ ap (λ (x : Change). x.file) same, unmade, ap (λ (x : Change). x.content) same, spent)
 
+-- the change of a close that was lost may wait
+floating_for : (w : World) (place : ℕ) (o : Op) (name : ℕ) → slice_get w.ops place ≡ Some o → o.outcome ≡ told.Lost → o.file ≡ name → Floating w o place name → HoldsValues w
+floating_for w place o name there lost file (Floating.hashing xid x way none) = λ i c at. no_change w.server.waits i c none at
+floating_for w place o name there lost file (Floating.reading xid size x short way none) = λ i c at. no_change w.server.waits i c none at
+floating_for w place o name there lost file (Floating.makes xid fd x f d way quiet) = λ i c at. no_change w.server.waits i c quiet.1 at
+floating_for w place o name there lost file (Floating.names xid fd x f some d way temps none) = λ i c at. no_change w.server.waits i c none at
+floating_for w place o name there lost file (Floating.sends xid fd x f some d way temps none) = λ i c at. no_change w.server.waits i c none at
+floating_for w place o name there lost file (Floating.commits xid fd x f d spent way temps none) = λ i c at. no_change w.server.waits i c none at
+floating_for w place o name there lost file (Floating.stays xid d spent none temps one) = λ i c at. let h = closes_with w i c o name file at (inr (d.word, d.unmade, xid, one, spent)) in (place, o, there, h.0, h.1, inr lost, h.2, h.3, h.4)
+
+floats_for : (w : World) → Floats w → HoldsValues w
+floats_for w (Floats.gone none empty) = λ i c at. no_change w.server.waits i c empty at
+floats_for w (Floats.floats place o name there lost file small hung stood f) = floating_for w place o name there lost file f
+
 waits_for : (w : World) (t : Option Task) → Under_way w t → HoldsValues w
-waits_for w None idle = λ i c at. no_change w.server.waits i c idle.quiet.1 at
+waits_for w None (inl idle) = λ i c at. no_change w.server.waits i c idle.quiet.1 at
+waits_for w None (inr a) = floats_for w a.floats
 waits_for w (Some t) busy = λ i c at.
     let h = closes_with w i c busy.op t.file busy.file at (phase_moves w busy.op busy.place t.file t.stage busy.phase) in
-    (busy.place, busy.op, busy.there, h.0, h.1, busy.not_ended, h.2, h.3, h.4)
+    (busy.place, busy.op, busy.there, h.0, h.1, inl busy.not_ended, h.2, h.3, h.4)
 
 pub waiting_kept : (n : ℕ) (ds : List Deed) (j : Bool) (w : World) → IsKept n ds j w → HoldsValues w
 waiting_kept n ds j w k = waits_for w w.client.task k.way
@@ -295,7 +322,7 @@ start_tree = record {
   changes = omega arith;
 }
 
-start_past : IsPast 1 [] [] [] None [] [] 0
+start_past : IsPast 1 [] [] [] None [] [] [] 0
 start_past = record {
   lines = omega arith;
   few = omega arith;
@@ -328,11 +355,9 @@ start_kept = record {
   tree = start_tree;
   past = start_past;
   client = start_client;
-  joined = inl (refl, refl, refl, refl, refl);
-  server_end = refl;
-  client_end = refl;
-  way = record { none = refl; still = (refl, refl); quiet = (refl, refl) };
-  fresh = λ e. (refl, refl, refl);
+  joined = Joined.apart (refl, refl, refl, refl, refl, refl, refl);
+  way = inl (record { none = refl; still = ((refl, refl), (refl, refl)); quiet = (refl, refl); joined = refl });
+  fresh = λ e. (refl, refl, refl, refl);
 }
 
 -- what each turn keeps

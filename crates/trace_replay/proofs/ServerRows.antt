@@ -229,14 +229,14 @@ called_commit s xid fd name x f temps none short small node id few fits =
 
 -- ---- a change is made
 
-pub settled_made : (s : State) (xid name : ℕ) (x : List ℕ) (f : File) → s.waits ≡ waiting_change xid name x ∷ [] → file_at s.files name ≡ Some f
-    → server_step s (event.Settle 0) ≡ makes_change (at (record s { waits = [] }) 0) (waiting_change xid name x) (Some f)
-settled_made s xid name x f waits there =
-    ap (settles s 0) waits
-    ∙ ap (makes_change (at (record s { waits = [] }) 0) (waiting_change xid name x)) there
+pub settled_made : (s : State) (now xid name : ℕ) (x : List ℕ) (f : File) → s.waits ≡ waiting_change xid name x ∷ [] → file_at s.files name ≡ Some f
+    → server_step s (event.Settle now) ≡ makes_change (at (record s { waits = [] }) now) (waiting_change xid name x) (Some f)
+settled_made s now xid name x f waits there =
+    ap (settles s now) waits
+    ∙ ap (makes_change (at (record s { waits = [] }) now) (waiting_change xid name x)) there
 
-pub settled_none : (s : State) → s.waits ≡ [] → server_step s (event.Settle 0) ≡ (s, record { send = []; told = told.NotReady; missed = false })
-settled_none s none = ap (settles s 0) none
+pub settled_none : (s : State) (now : ℕ) → s.waits ≡ [] → server_step s (event.Settle now) ≡ (s, record { send = []; told = told.NotReady; missed = false })
+settled_none s now none = ap (settles s now) none
 
 pub two_apart : (a b : ℕ) → (a == b) ≡ false → a ≡ b → ⊥
 two_apart a b e same = grind (arith, nat_tests, same, e)

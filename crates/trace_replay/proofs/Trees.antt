@@ -1,5 +1,5 @@
 -- What the server's tree keeps while operations go on.
-use Rattle.std.proofs.Common.{◌≡◌, ℕ, ◌+◌, ◌≤◌, List, [], ◌++◌, Option, Some, true, length, sym, ap, ◌∙◌, arith}
+use Rattle.std.proofs.Common.{◌≡◌, ℕ, ◌+◌, ◌≤◌, List, Option, Some, true, length, sym, ap, ◌∙◌, arith}
 use Rattle.std.specs.Prelude.{slice_get}
 use Rattle.register_model.specs.declared.op.Op.{Op}
 use Rattle.register_model.specs.declared.op.Opening.{Opening}
@@ -19,8 +19,8 @@ use Rattle.trace_replay.proofs.Kept.{IsTree, IsPast, IsUntouched, is_early}
 abbrev pub Points : List Op → ℕ → Type 0
 Points ops now = (i : ℕ) (o : Op) (q : ℕ) → slice_get ops i ≡ Some o → o.point ≡ Some q → q ≤ now
 
-pub points_of : (n : ℕ) (ds : List Deed) (opening : List Opening) (ops : List Op) (running : Option ℕ) (settled : List ℕ) (journal : List Entry) (now : ℕ) → IsPast n ds opening ops running settled journal now → Points ops now
-points_of n ds opening ops running settled journal now h i o q at point = ((h.rights i o at).within q point).1
+pub points_of : (n : ℕ) (ds : List Deed) (opening : List Opening) (ops : List Op) (running : Option ℕ) (settled : List ℕ) (journal : List Entry) (cuts : List ℕ) (now : ℕ) → IsPast n ds opening ops running settled journal cuts now → Points ops now
+points_of n ds opening ops running settled journal cuts now h i o q at point = ((h.rights i o at).within q point).1
 
 -- the server with other temporary files, changes that wait, sessions and moment
 abbrev pub served_by : server.State → (temps : List (ℕ × Temp)) → (waits : List server.Change) → (sessions : List ℕ) → (made last : ℕ) → server.State
@@ -46,7 +46,3 @@ tree_goes n m opening ops more s temps waits sessions made last now then le poin
 -- where an operation is under way, there was an event
 pub fresh_busy : (w v : World) (t : Task) (s : Stage) → w.client.task ≡ Some t → (is_early s ≡ true → IsUntouched w) → is_early s ≡ true → IsUntouched v
 fresh_busy w v t s e fresh early = nothing_there t (ap (λ (c : client.State). c.task) (sym (fresh early).0) ∙ e)
-
--- what is appended to nothing
-pub none_before : (l r : List ℕ) → l ≡ [] → l ++ r ≡ r
-none_before l r e = ap (λ (x : List ℕ). x ++ r) e

@@ -16,6 +16,8 @@ use Rattle.register_model.specs.declared.op.Op.{Op}
 use Rattle.register_model.specs.declared.op.Outcome.{Outcome}
 use Rattle.register_model.specs.declared.op.Outcome.TheVariants as told
 use Rattle.register_model.specs.declared.op.Traffic.{Traffic}
+use Rattle.register_model.specs.declared.op.Word.{Word}
+use Rattle.register_model.specs.declared.op.Word.TheVariants as word
 use Rattle.trace_replay.specs.World.{World}
 use Rattle.trace_replay.specs.Commands.{word_of, file_of}
 use Rattle.trace_replay.specs.Delivery.{is_still}
@@ -23,7 +25,7 @@ use Rattle.trace_replay.specs.Run.{history_of}
 
 -- ---- the commands of a trace
 
--- which client was told what, and whether it had joined
+-- which client was told what, and whether it was joined
 pub record Deed : Type 0 where
   pub client : ℕ
   pub command : Command
@@ -35,9 +37,10 @@ deed_in linked _ = []
 
 abbrev pub linked_by : Bool → Option Line → Bool
 linked_by linked (Some (line.Join c r s)) = true
+linked_by linked (Some (line.Cut c r)) = false
 linked_by linked _ = linked
 
--- the commands of lines, in order, where the client had joined before them or not
+-- the commands of lines, in order, where the client was joined before them or not
 abbrev pub deeds_from : Bool → List (List ℕ) → List Deed
 deeds_from linked [] = []
 deeds_from linked (l ∷ ls) = deed_in linked (line_of l) ++ deeds_from (linked_by linked (line_of l)) ls
@@ -121,11 +124,21 @@ abbrev pub IsClosedBy : World → Command → Op → (version len : ℕ) → (di
 IsClosedBy w (command.Close f) o version len digest l = (l ≡ Some o.value) × (len ≡ length o.value) × (digest ≡ sha1 o.value) × IsEntered w o.point f version len digest
 IsClosedBy w k o version len digest l = ⊥
 
--- one that has not ended: bytes were not delivered, or a change waits; a close was begun with the local content
+-- bytes were not delivered, a change waits, or the server saw the connection lost
+abbrev pub IsHeld : World → Type 0
+IsHeld w = (is_still w ≡ false) ⊎ ((0 < length w.server.waits) ⊎ (w.link.hung ≡ true))
+
+-- one that has not ended is held; a close was begun with the local content
 abbrev pub IsRunning : World → Command → Op → Option (List ℕ) → Type 0
-IsRunning w (command.Open f) o l = is_still w ≡ false
-IsRunning w (command.Close f) o l = (l ≡ Some o.value) × ((is_still w ≡ false) ⊎ (0 < length w.server.waits))
+IsRunning w (command.Open f) o l = IsHeld w
+IsRunning w (command.Close f) o l = (l ≡ Some o.value) × IsHeld w
 IsRunning w k o l = ⊥
+
+-- the client saw its connection lost when the operation ended; a close was begun with the local content
+abbrev pub IsLostBy : World → Command → Op → Option (List ℕ) → Type 0
+IsLostBy w (command.Open f) o l = (e : ℕ) × (o.end ≡ Some e) × Contains w.cuts e
+IsLostBy w (command.Close f) o l = (l ≡ Some o.value) × (e : ℕ) × (o.end ≡ Some e) × Contains w.cuts e
+IsLostBy w k o l = ⊥
 
 -- An open was refused by the server: of the root, which is a directory, by 21 (NFS3ERR_ISDIR of RFC 1813), and of a file that is not in
 -- the tree by 70 (NFS3ERR_STALE). No close is refused.
@@ -141,6 +154,7 @@ HasCause w d o l (told.Closed version len digest) = IsClosedBy w d.command o ver
 HasCause w d o l told.Done = IsDoneOf d.command l
 HasCause w d o l (told.Refused status) = IsRefusedBy w d.command status
 HasCause w d o l told.Running = IsRunning w d.command o l
+HasCause w d o l told.Lost = IsLostBy w d.command o l
 HasCause w d o l told.Busy = WasBusy w.ops o
 HasCause w d o l told.NotOpen = (is_open d.command ≡ false) × (l ≡ None)
 HasCause w d o l told.AlreadyOpen = (is_open d.command ≡ true) × IsSome l
@@ -157,11 +171,24 @@ no_traffic = record { cond = 0; tmp = 0; read = 0; «data» = 0 }
 abbrev pub close_traffic : (value : List ℕ) → Traffic
 close_traffic value = record no_traffic { cond = length (chunks_of value); tmp = length (chunks_of value); «data» = length value }
 
--- An open asked for each chunk by a READ. A close whose change was made had sent all of its traffic, also where its end was not told yet.
+-- it named each chunk, and sent none yet
+abbrev pub named_traffic : (value : List ℕ) → Traffic
+named_traffic value = record no_traffic { cond = length (chunks_of value) }
+
+-- What had been sent by an operation that has not ended, or was lost. A content has at most one chunk: so an open had sent its READ, or
+-- nothing that is counted; and a close had sent nothing yet, or named its chunk, or sent all of its traffic: all of it where its change
+-- was made.
+abbrev pub HasSent : Word → Op → Type 0
+HasSent word.Open o = (o.traffic ≡ no_traffic) ⊎ (o.traffic ≡ record no_traffic { read = 1 })
+HasSent word.Close o = ((o.point ≡ None) × ((o.traffic ≡ no_traffic) ⊎ (o.traffic ≡ named_traffic o.value))) ⊎ (o.traffic ≡ close_traffic o.value)
+HasSent wd o = o.traffic ≡ no_traffic
+
+-- An open asked for each chunk by a READ, and a close sent all of its traffic.
 abbrev pub HasTraffic : Op → Outcome → Type 0
 HasTraffic o (told.Opened len digest) = o.traffic ≡ record no_traffic { read = length (chunks_of o.value); «data» = length o.value }
 HasTraffic o (told.Closed version len digest) = o.traffic ≡ close_traffic o.value
-HasTraffic o told.Running = changes o.word ≡ true → IsSome o.point → o.traffic ≡ close_traffic o.value
+HasTraffic o told.Running = HasSent o.word o
+HasTraffic o told.Lost = HasSent o.word o
 HasTraffic o _ = o.traffic ≡ no_traffic
 
 -- ---- an operation
@@ -177,8 +204,9 @@ pub record IsDone (w : World) (d : Deed) (o : Op) (l : Option (List ℕ)) : Type
   pub file : o.file ≡ file_of d.command
   pub cause : HasCause w d o l o.outcome
   pub traffic : HasTraffic o o.outcome
-  -- it has an end exactly where it is not running
+  -- it has an end exactly where it is not running, and not before its begin
   pub end : is_some o.end ≡ not (is_running o.outcome)
+  pub order : (e : ℕ) → o.end ≡ Some e → o.begin ≤ e
 
 -- ---- changes
 

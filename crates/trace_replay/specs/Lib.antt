@@ -2,10 +2,14 @@ pub mod Names
 pub mod World
 pub mod Commands
 pub mod Delivery
+pub mod Whole
 pub mod Run
 pub mod Hashed
 pub mod Faithful
+pub mod Complete
 pub mod Traces
 pub mod Rows
+pub mod Timed
+pub mod Readings
 pub mod Turns
 pub mod View

@@ -23,7 +23,8 @@ use Rattle.trace_text.specs.declared.content.Part.TheVariants.{Zeros}
 use Rattle.trace_text.specs.declared.line.Line.TheVariants as line
 use Rattle.trace_text.specs.declared.refusal.Limit.TheVariants as limit
 use Rattle.trace_text.specs.declared.refusal.LineFault.TheVariants.{Limit}
-use Rattle.trace_replay.specs.Run.{asked, run, history_of}
+use Rattle.trace_replay.specs.Run.{asked, history_of}
+use Rattle.trace_replay.specs.Timed.{accepted}
 
 -- what is written for a run
 abbrev pub text_of : Result World Refused → List ℕ
@@ -33,126 +34,182 @@ text_of (Err r) = refusal_of (refusal.Line r.line r.fault)
 abbrev pub header : List ℕ
 header = codes "lbfs-trace 1\nterm 60000\ndrift 100\nclients 1\n"
 
-pub empty_trace : text_of (run []) ≡ codes "refused line 1 grammar\n"
+pub empty_trace : text_of (accepted []) ≡ codes "refused line 1 grammar\n"
 unfolding digits
 empty_trace = refl
 
-pub header_alone : text_of (run header) ≡ (codes "lbfs-history 1\nend ops 0 steps 0\n")
+pub header_alone : text_of (accepted header) ≡ (codes "lbfs-history 1\nend ops 0 steps 0\n")
 unfolding record_of digits
 header_alone = refl
 
 -- one file, one open, all passed
-pub one_open : text_of (run (header ++ codes "file a t:abc\njoin 1 0 0\ndo 1 0 open #2\npass 1 4 0 0\n"))
+pub one_open : text_of (accepted (header ++ codes "file a t:abc\njoin 1 0 0\ndo 1 0 open #2\npass 1 4 0 0\n"))
     ≡ (codes "lbfs-history 1\nop 1 client 1 open file 2 begin 3 end 7 point 4 Opened 3 a9993e364706816aba3e25717850c26c9cd0d89d cond 0 tmp 0 read 1 data 3\nend ops 1 steps 7\n")
 unfolding record_of digits encode_with sha1 digest_bytes hash_after compress rounds schedule first_words outcome_form time_form kind_form attr_form u32_form u64_form bool_form bytes_form fixed_form count_form opaque_spell opaque_read hashes_form pair_form hash_range_form piece_form range_form direction_form front_form auth_form call_form versions_form accept_form denial_form reply_form
 one_open = refl
 
 -- an open of a file that is not there
-pub no_file : text_of (run (header ++ codes "file a t:abc\njoin 1 0 0\ndo 1 0 open #9\npass 1 2 0 0\n"))
+pub no_file : text_of (accepted (header ++ codes "file a t:abc\njoin 1 0 0\ndo 1 0 open #9\npass 1 2 0 0\n"))
     ≡ (codes "lbfs-history 1\nop 1 client 1 open file 9 begin 3 end 5 point 4 Refused 70 cond 0 tmp 0 read 0 data 0\nend ops 1 steps 5\n")
 unfolding record_of digits encode_with outcome_form time_form kind_form attr_form u32_form u64_form bool_form bytes_form fixed_form count_form opaque_spell opaque_read hashes_form pair_form hash_range_form piece_form range_form direction_form front_form auth_form call_form versions_form accept_form denial_form reply_form
 no_file = refl
 
 -- nothing was passed
-pub not_passed : text_of (run (header ++ codes "file a t:abc\njoin 1 0 0\ndo 1 0 open #9\n"))
+pub not_passed : text_of (accepted (header ++ codes "file a t:abc\njoin 1 0 0\ndo 1 0 open #9\n"))
     ≡ (codes "lbfs-history 1\nop 1 client 1 open file 9 begin 3 end - point - Running cond 0 tmp 0 read 0 data 0\nend ops 1 steps 3\n")
 unfolding record_of digits opaque_spell opaque_read u32_form u64_form count_form bytes_form hash_range_form front_form direction_form auth_form call_form
 not_passed = refl
 
 -- the root is a directory
-pub root : text_of (run (header ++ codes "join 1 0 0\ndo 1 0 open #1\npass 1 2 0 0"))
+pub root : text_of (accepted (header ++ codes "join 1 0 0\ndo 1 0 open #1\npass 1 2 0 0"))
     ≡ (codes "lbfs-history 1\nop 1 client 1 open file 1 begin 3 end 5 point - Refused 21 cond 0 tmp 0 read 0 data 0\nend ops 1 steps 5\n")
 unfolding record_of digits encode_with outcome_form time_form kind_form attr_form u32_form u64_form bool_form bytes_form fixed_form count_form opaque_spell opaque_read hashes_form pair_form hash_range_form piece_form range_form direction_form front_form auth_form call_form versions_form accept_form denial_form reply_form
 root = refl
 
 -- each ending of an open that its own client tells, and one that goes on
-pub own_endings : text_of (run (header ++ codes "file a t:abc\ndo 1 0 open #2\njoin 1 0 0\ndo 1 0 open #9\npass 1 2 0 0\ndo 1 0 open #2\ndo 1 0 open #2\n"))
+pub own_endings : text_of (accepted (header ++ codes "file a t:abc\ndo 1 0 open #2\njoin 1 0 0\ndo 1 0 open #9\npass 1 2 0 0\ndo 1 0 open #2\ndo 1 0 open #2\n"))
     ≡ codes "lbfs-history 1\nop 1 client 1 open file 2 begin 1 end 1 point - NoLink cond 0 tmp 0 read 0 data 0\nop 2 client 1 open file 9 begin 4 end 6 point 5 Refused 70 cond 0 tmp 0 read 0 data 0\nop 3 client 1 open file 2 begin 7 end - point - Running cond 0 tmp 0 read 0 data 0\nop 4 client 1 open file 2 begin 8 end 8 point - Busy cond 0 tmp 0 read 0 data 0\nend ops 4 steps 8\n"
 unfolding record_of digits encode_with outcome_form time_form kind_form attr_form u32_form u64_form bool_form bytes_form fixed_form count_form opaque_spell opaque_read hashes_form pair_form hash_range_form piece_form range_form direction_form front_form auth_form call_form versions_form accept_form denial_form reply_form
 own_endings = refl
 
 -- two files of which one is empty, skipped lines, and an open of a file that is open
-pub two_files : text_of (run (codes "\n# a trace\n" ++ header ++ codes "file a -\n\nfile b x:6162+z:1\njoin 1 0 0\ndo 1 0 open #3\npass 1 3 0 0\ndo 1 0 open #3\n#\ndo 1 0 open #2\npass 1 9 0 0\npass 1 9 0 0"))
+pub two_files : text_of (accepted (codes "\n# a trace\n" ++ header ++ codes "file a -\n\nfile b x:6162+z:1\njoin 1 0 0\ndo 1 0 open #3\npass 1 3 0 0\ndo 1 0 open #3\n#\ndo 1 0 open #2\npass 1 9 0 0\npass 1 9 0 0"))
     ≡ codes "lbfs-history 1\nop 1 client 1 open file 3 begin 3 end 7 point 4 Opened 3 97d6f5d51e5815cdf64cc9935b8d73c50bd906a2 cond 0 tmp 0 read 1 data 3\nop 2 client 1 open file 3 begin 8 end 8 point - AlreadyOpen cond 0 tmp 0 read 0 data 0\nop 3 client 1 open file 2 begin 9 end 11 point 10 Opened 0 da39a3ee5e6b4b0d3255bfef95601890afd80709 cond 0 tmp 0 read 0 data 0\nend ops 3 steps 11\n"
 unfolding record_of digits encode_with decode_pairs sha1 digest_bytes hash_after compress rounds schedule first_words outcome_form time_form kind_form attr_form u32_form u64_form bool_form bytes_form fixed_form count_form opaque_spell opaque_read hashes_form pair_form hash_range_form piece_form range_form direction_form front_form auth_form call_form versions_form accept_form denial_form reply_form
 two_files = refl
 
 -- an empty file, opened and closed: its new content is empty too, and has a version of its own
-pub empty_closed : text_of (run (header ++ codes "file e -\njoin 1 0 0\ndo 1 0 open #2\npass 1 2 0 0\ndo 1 0 close #2\npass 1 3 0 0\nsettle 0\npass 1 1 0 0\n"))
+pub empty_closed : text_of (accepted (header ++ codes "file e -\njoin 1 0 0\ndo 1 0 open #2\npass 1 2 0 0\ndo 1 0 close #2\npass 1 3 0 0\nsettle 0\npass 1 1 0 0\n"))
     ≡ codes "lbfs-history 1\nop 1 client 1 open file 2 begin 3 end 5 point 4 Opened 0 da39a3ee5e6b4b0d3255bfef95601890afd80709 cond 0 tmp 0 read 0 data 0\nop 2 client 1 close file 2 begin 6 end 11 point 10 Closed 2 0 da39a3ee5e6b4b0d3255bfef95601890afd80709 cond 0 tmp 0 read 0 data 0\nend ops 2 steps 11\n"
 unfolding record_of digits encode_with sha1 digest_bytes hash_after compress rounds schedule first_words outcome_form time_form kind_form attr_form u32_form u64_form bool_form bytes_form fixed_form count_form opaque_spell opaque_read hashes_form pair_form hash_range_form piece_form range_form new_temp_form temp_piece_form cond_piece_form commit_form committed_form direction_form front_form auth_form call_form versions_form accept_form denial_form reply_form
 empty_closed = refl
 
 -- a local content is written past its end, cut, filled, and read past its end
-pub local_changes : text_of (run (header ++ codes "file a t:abc\njoin 1 0 0\ndo 1 0 open #2\npass 1 4 0 0\ndo 1 0 write #2 5 t:xy\ndo 1 0 read #2 0 9\ndo 1 0 trunc #2 4\ndo 1 0 trunc #2 6\ndo 1 0 read #2 2 100\n"))
+pub local_changes : text_of (accepted (header ++ codes "file a t:abc\njoin 1 0 0\ndo 1 0 open #2\npass 1 4 0 0\ndo 1 0 write #2 5 t:xy\ndo 1 0 read #2 0 9\ndo 1 0 trunc #2 4\ndo 1 0 trunc #2 6\ndo 1 0 read #2 2 100\n"))
     ≡ codes "lbfs-history 1\nop 1 client 1 open file 2 begin 3 end 7 point 4 Opened 3 a9993e364706816aba3e25717850c26c9cd0d89d cond 0 tmp 0 read 1 data 3\nop 2 client 1 write file 2 begin 8 end 8 point - Done cond 0 tmp 0 read 0 data 0\nop 3 client 1 read file 2 begin 9 end 9 point - Piece 7 7b66c0a0c321b03c3e4f79dd040a70c67f37f431 cond 0 tmp 0 read 0 data 0\nop 4 client 1 trunc file 2 begin 10 end 10 point - Done cond 0 tmp 0 read 0 data 0\nop 5 client 1 trunc file 2 begin 11 end 11 point - Done cond 0 tmp 0 read 0 data 0\nop 6 client 1 read file 2 begin 12 end 12 point - Piece 4 3aa850148c2ee2335f0993b5d13a6686b0128496 cond 0 tmp 0 read 0 data 0\nend ops 6 steps 12\n"
 unfolding record_of digits encode_with sha1 digest_bytes hash_after compress rounds schedule first_words outcome_form time_form kind_form attr_form u32_form u64_form bool_form bytes_form fixed_form count_form opaque_spell opaque_read hashes_form pair_form hash_range_form piece_form range_form new_temp_form temp_piece_form cond_piece_form commit_form committed_form direction_form front_form auth_form call_form versions_form accept_form denial_form reply_form
 local_changes = refl
 
 -- a file that was changed is closed, and opened again with its new content
-pub closed_and_reopened : text_of (run (header ++ codes "file a t:abc\njoin 1 0 0\ndo 1 0 open #2\npass 1 4 0 0\ndo 1 0 write #2 5 t:xy\ndo 1 0 close #2\npass 1 9 0 0\nsettle 0\npass 1 1 0 0\ndo 1 0 open #2\npass 1 9 0 0\n"))
+pub closed_and_reopened : text_of (accepted (header ++ codes "file a t:abc\njoin 1 0 0\ndo 1 0 open #2\npass 1 4 0 0\ndo 1 0 write #2 5 t:xy\ndo 1 0 close #2\npass 1 9 0 0\nsettle 0\npass 1 1 0 0\ndo 1 0 open #2\npass 1 9 0 0\n"))
     ≡ codes "lbfs-history 1\nop 1 client 1 open file 2 begin 3 end 7 point 4 Opened 3 a9993e364706816aba3e25717850c26c9cd0d89d cond 0 tmp 0 read 1 data 3\nop 2 client 1 write file 2 begin 8 end 8 point - Done cond 0 tmp 0 read 0 data 0\nop 3 client 1 close file 2 begin 9 end 18 point 17 Closed 2 7 7b66c0a0c321b03c3e4f79dd040a70c67f37f431 cond 1 tmp 1 read 0 data 7\nop 4 client 1 open file 2 begin 19 end 23 point 20 Opened 7 7b66c0a0c321b03c3e4f79dd040a70c67f37f431 cond 0 tmp 0 read 1 data 7\nend ops 4 steps 23\n"
 unfolding record_of digits encode_with sha1 digest_bytes hash_after compress rounds schedule first_words outcome_form time_form kind_form attr_form u32_form u64_form bool_form bytes_form fixed_form count_form opaque_spell opaque_read hashes_form pair_form hash_range_form piece_form range_form new_temp_form temp_piece_form cond_piece_form commit_form committed_form direction_form front_form auth_form call_form versions_form accept_form denial_form reply_form
 closed_and_reopened = refl
 
 -- a write of no bytes is done at any place, and changes nothing
-pub nothing_written : text_of (run (header ++ codes "file a t:abc\njoin 1 0 0\ndo 1 0 open #2\npass 1 4 0 0\ndo 1 0 write #2 18446744073709551615 -\ndo 1 0 read #2 0 18446744073709551615\ndo 1 0 read #2 3 1\n"))
+pub nothing_written : text_of (accepted (header ++ codes "file a t:abc\njoin 1 0 0\ndo 1 0 open #2\npass 1 4 0 0\ndo 1 0 write #2 18446744073709551615 -\ndo 1 0 read #2 0 18446744073709551615\ndo 1 0 read #2 3 1\n"))
     ≡ codes "lbfs-history 1\nop 1 client 1 open file 2 begin 3 end 7 point 4 Opened 3 a9993e364706816aba3e25717850c26c9cd0d89d cond 0 tmp 0 read 1 data 3\nop 2 client 1 write file 2 begin 8 end 8 point - Done cond 0 tmp 0 read 0 data 0\nop 3 client 1 read file 2 begin 9 end 9 point - Piece 3 a9993e364706816aba3e25717850c26c9cd0d89d cond 0 tmp 0 read 0 data 0\nop 4 client 1 read file 2 begin 10 end 10 point - Piece 0 da39a3ee5e6b4b0d3255bfef95601890afd80709 cond 0 tmp 0 read 0 data 0\nend ops 4 steps 10\n"
 unfolding record_of digits encode_with sha1 digest_bytes hash_after compress rounds schedule first_words outcome_form time_form kind_form attr_form u32_form u64_form bool_form bytes_form fixed_form count_form opaque_spell opaque_read hashes_form pair_form hash_range_form piece_form range_form new_temp_form temp_piece_form cond_piece_form commit_form committed_form direction_form front_form auth_form call_form versions_form accept_form denial_form reply_form
 nothing_written = refl
 
 -- a local content stays within 2048 bytes
-pub too_big : text_of (run (header ++ codes "file e -\njoin 1 0 0\ndo 1 0 open #2\npass 1 2 0 0\ndo 1 0 trunc #2 2049\ndo 1 0 write #2 2048 t:a\ndo 1 0 write #2 18446744073709551615 t:a\ndo 1 0 trunc #2 18446744073709551615\ndo 1 0 read #2 0 1\n"))
+pub too_big : text_of (accepted (header ++ codes "file e -\njoin 1 0 0\ndo 1 0 open #2\npass 1 2 0 0\ndo 1 0 trunc #2 2049\ndo 1 0 write #2 2048 t:a\ndo 1 0 write #2 18446744073709551615 t:a\ndo 1 0 trunc #2 18446744073709551615\ndo 1 0 read #2 0 1\n"))
     ≡ codes "lbfs-history 1\nop 1 client 1 open file 2 begin 3 end 5 point 4 Opened 0 da39a3ee5e6b4b0d3255bfef95601890afd80709 cond 0 tmp 0 read 0 data 0\nop 2 client 1 trunc file 2 begin 6 end 6 point - TooBig 2049 cond 0 tmp 0 read 0 data 0\nop 3 client 1 write file 2 begin 7 end 7 point - TooBig 2049 cond 0 tmp 0 read 0 data 0\nop 4 client 1 write file 2 begin 8 end 8 point - TooBig 18446744073709551616 cond 0 tmp 0 read 0 data 0\nop 5 client 1 trunc file 2 begin 9 end 9 point - TooBig 18446744073709551615 cond 0 tmp 0 read 0 data 0\nop 6 client 1 read file 2 begin 10 end 10 point - Piece 0 da39a3ee5e6b4b0d3255bfef95601890afd80709 cond 0 tmp 0 read 0 data 0\nend ops 6 steps 10\n"
 unfolding record_of digits encode_with sha1 digest_bytes hash_after compress rounds schedule first_words outcome_form time_form kind_form attr_form u32_form u64_form bool_form bytes_form fixed_form count_form opaque_spell opaque_read hashes_form pair_form hash_range_form piece_form range_form new_temp_form temp_piece_form cond_piece_form commit_form committed_form direction_form front_form auth_form call_form versions_form accept_form denial_form reply_form
 too_big = refl
 
 -- a local content of 2048 bytes
-pub at_its_edge : text_of (run (header ++ codes "file e -\njoin 1 0 0\ndo 1 0 open #2\npass 1 2 0 0\ndo 1 0 write #2 2047 t:a\ndo 1 0 read #2 2046 9\n"))
+pub at_its_edge : text_of (accepted (header ++ codes "file e -\njoin 1 0 0\ndo 1 0 open #2\npass 1 2 0 0\ndo 1 0 write #2 2047 t:a\ndo 1 0 read #2 2046 9\n"))
     ≡ codes "lbfs-history 1\nop 1 client 1 open file 2 begin 3 end 5 point 4 Opened 0 da39a3ee5e6b4b0d3255bfef95601890afd80709 cond 0 tmp 0 read 0 data 0\nop 2 client 1 write file 2 begin 6 end 6 point - Done cond 0 tmp 0 read 0 data 0\nop 3 client 1 read file 2 begin 7 end 7 point - Piece 2 3106600e0327ca77371f2526df794ed84322585c cond 0 tmp 0 read 0 data 0\nend ops 3 steps 7\n"
 unfolding record_of digits encode_with sha1 digest_bytes hash_after compress rounds schedule first_words outcome_form time_form kind_form attr_form u32_form u64_form bool_form bytes_form fixed_form count_form opaque_spell opaque_read hashes_form pair_form hash_range_form piece_form range_form new_temp_form temp_piece_form cond_piece_form commit_form committed_form direction_form front_form auth_form call_form versions_form accept_form denial_form reply_form
 at_its_edge = refl
 
 -- a command on a file that is not open, which is found out before a session is missed
-pub not_open : text_of (run (header ++ codes "file a t:abc\ndo 1 0 write #2 0 t:a\ndo 1 0 trunc #2 0\ndo 1 0 read #2 0 1\ndo 1 0 close #2\ndo 1 0 abandon #2\n"))
+pub not_open : text_of (accepted (header ++ codes "file a t:abc\ndo 1 0 write #2 0 t:a\ndo 1 0 trunc #2 0\ndo 1 0 read #2 0 1\ndo 1 0 close #2\ndo 1 0 abandon #2\n"))
     ≡ codes "lbfs-history 1\nop 1 client 1 write file 2 begin 1 end 1 point - NotOpen cond 0 tmp 0 read 0 data 0\nop 2 client 1 trunc file 2 begin 2 end 2 point - NotOpen cond 0 tmp 0 read 0 data 0\nop 3 client 1 read file 2 begin 3 end 3 point - NotOpen cond 0 tmp 0 read 0 data 0\nop 4 client 1 close file 2 begin 4 end 4 point - NotOpen cond 0 tmp 0 read 0 data 0\nop 5 client 1 abandon file 2 begin 5 end 5 point - NotOpen cond 0 tmp 0 read 0 data 0\nend ops 5 steps 5\n"
 unfolding digits
 not_open = refl
 
 -- a file that is abandoned is as it was, and can be opened again
-pub abandoned : text_of (run (header ++ codes "file e -\njoin 1 0 0\ndo 1 0 open #2\npass 1 2 0 0\ndo 1 0 write #2 0 t:xy\ndo 1 0 abandon #2\ndo 1 0 abandon #2\ndo 1 0 open #2\npass 1 2 0 0\n"))
+pub abandoned : text_of (accepted (header ++ codes "file e -\njoin 1 0 0\ndo 1 0 open #2\npass 1 2 0 0\ndo 1 0 write #2 0 t:xy\ndo 1 0 abandon #2\ndo 1 0 abandon #2\ndo 1 0 open #2\npass 1 2 0 0\n"))
     ≡ codes "lbfs-history 1\nop 1 client 1 open file 2 begin 3 end 5 point 4 Opened 0 da39a3ee5e6b4b0d3255bfef95601890afd80709 cond 0 tmp 0 read 0 data 0\nop 2 client 1 write file 2 begin 6 end 6 point - Done cond 0 tmp 0 read 0 data 0\nop 3 client 1 abandon file 2 begin 7 end 7 point - Done cond 0 tmp 0 read 0 data 0\nop 4 client 1 abandon file 2 begin 8 end 8 point - NotOpen cond 0 tmp 0 read 0 data 0\nop 5 client 1 open file 2 begin 9 end 11 point 10 Opened 0 da39a3ee5e6b4b0d3255bfef95601890afd80709 cond 0 tmp 0 read 0 data 0\nend ops 5 steps 11\n"
 unfolding record_of digits encode_with sha1 digest_bytes hash_after compress rounds schedule first_words outcome_form time_form kind_form attr_form u32_form u64_form bool_form bytes_form fixed_form count_form opaque_spell opaque_read hashes_form pair_form hash_range_form piece_form range_form new_temp_form temp_piece_form cond_piece_form commit_form committed_form direction_form front_form auth_form call_form versions_form accept_form denial_form reply_form
 abandoned = refl
 
 -- a close whose change is never made, and a command meanwhile
-pub change_waits : text_of (run (header ++ codes "file e -\njoin 1 0 0\ndo 1 0 open #2\npass 1 2 0 0\ndo 1 0 close #2\npass 1 9 0 0\ndo 1 0 read #2 0 1\n"))
+pub change_waits : text_of (accepted (header ++ codes "file e -\njoin 1 0 0\ndo 1 0 open #2\npass 1 2 0 0\ndo 1 0 close #2\npass 1 9 0 0\ndo 1 0 read #2 0 1\n"))
     ≡ codes "lbfs-history 1\nop 1 client 1 open file 2 begin 3 end 5 point 4 Opened 0 da39a3ee5e6b4b0d3255bfef95601890afd80709 cond 0 tmp 0 read 0 data 0\nop 2 client 1 close file 2 begin 6 end - point - Running cond 0 tmp 0 read 0 data 0\nop 3 client 1 read file 2 begin 10 end 10 point - Busy cond 0 tmp 0 read 0 data 0\nend ops 3 steps 10\n"
 unfolding record_of digits encode_with sha1 digest_bytes hash_after compress rounds schedule first_words outcome_form time_form kind_form attr_form u32_form u64_form bool_form bytes_form fixed_form count_form opaque_spell opaque_read hashes_form pair_form hash_range_form piece_form range_form new_temp_form temp_piece_form cond_piece_form commit_form committed_form direction_form front_form auth_form call_form versions_form accept_form denial_form reply_form
 change_waits = refl
 
 -- a close whose change was made, and whose answer is not delivered
-pub untold_change : text_of (run (header ++ codes "file e -\njoin 1 0 0\ndo 1 0 open #2\npass 1 2 0 0\ndo 1 0 close #2\npass 1 9 0 0\nsettle 0\n"))
+pub untold_change : text_of (accepted (header ++ codes "file e -\njoin 1 0 0\ndo 1 0 open #2\npass 1 2 0 0\ndo 1 0 close #2\npass 1 9 0 0\nsettle 0\n"))
     ≡ codes "lbfs-history 1\nop 1 client 1 open file 2 begin 3 end 5 point 4 Opened 0 da39a3ee5e6b4b0d3255bfef95601890afd80709 cond 0 tmp 0 read 0 data 0\nop 2 client 1 close file 2 begin 6 end - point 10 Running cond 0 tmp 0 read 0 data 0\nend ops 2 steps 10\n"
 unfolding record_of digits encode_with sha1 digest_bytes hash_after compress rounds schedule first_words outcome_form time_form kind_form attr_form u32_form u64_form bool_form bytes_form fixed_form count_form opaque_spell opaque_read hashes_form pair_form hash_range_form piece_form range_form new_temp_form temp_piece_form cond_piece_form commit_form committed_form direction_form front_form auth_form call_form versions_form accept_form denial_form reply_form
 untold_change = refl
 
 -- where no change waits, a settle is a step and no more
-pub nothing_settles : text_of (run (header ++ codes "file e -\nsettle 0\njoin 1 0 0\nsettle 0\ndo 1 0 open #2\npass 1 2 0 0\nsettle 0\n"))
+pub nothing_settles : text_of (accepted (header ++ codes "file e -\nsettle 0\njoin 1 0 0\nsettle 0\ndo 1 0 open #2\npass 1 2 0 0\nsettle 0\n"))
     ≡ codes "lbfs-history 1\nop 1 client 1 open file 2 begin 5 end 7 point 6 Opened 0 da39a3ee5e6b4b0d3255bfef95601890afd80709 cond 0 tmp 0 read 0 data 0\nend ops 1 steps 8\n"
 unfolding record_of digits encode_with sha1 digest_bytes hash_after compress rounds schedule first_words outcome_form time_form kind_form attr_form u32_form u64_form bool_form bytes_form fixed_form count_form opaque_spell opaque_read hashes_form pair_form hash_range_form piece_form range_form new_temp_form temp_piece_form cond_piece_form commit_form committed_form direction_form front_form auth_form call_form versions_form accept_form denial_form reply_form
 nothing_settles = refl
 
+-- a close whose client's connection is lost while its change waits, which is made later
+pub lost_close : text_of (accepted (header ++ codes "file a t:a\njoin 1 0 0\ndo 1 0 open #2\npass 1 3 0 0\ndo 1 0 write #2 0 t:b\ndo 1 0 close #2\npass 1 9 0 0\ncut 1 0\nsettle 0\n"))
+    ≡ codes "lbfs-history 1\nop 1 client 1 open file 2 begin 3 end 7 point 4 Opened 1 86f7e437faa5a7fce15d1ddcb9eaeaea377667b8 cond 0 tmp 0 read 1 data 1\nop 2 client 1 write file 2 begin 8 end 8 point - Done cond 0 tmp 0 read 0 data 0\nop 3 client 1 close file 2 begin 9 end 17 point 18 Lost cond 1 tmp 1 read 0 data 1\nend ops 3 steps 18\n"
+unfolding record_of digits encode_with sha1 digest_bytes hash_after compress rounds schedule first_words outcome_form time_form kind_form attr_form u32_form u64_form bool_form bytes_form fixed_form count_form opaque_spell opaque_read hashes_form pair_form hash_range_form piece_form range_form new_temp_form temp_piece_form cond_piece_form commit_form committed_form direction_form front_form auth_form call_form versions_form accept_form denial_form reply_form
+lost_close = refl
+
+-- a close that is lost with its COMMITTMP on its way, which comes later
+pub lost_on_its_way : text_of (accepted (header ++ codes "file a t:a\njoin 1 0 0\ndo 1 0 open #2\npass 1 3 0 0\ndo 1 0 write #2 0 t:b\ndo 1 0 close #2\npass 1 3 0 0\nup 1 5 0\ncut 1 0\nup 1 all 0\nsettle 0\n"))
+    ≡ codes "lbfs-history 1\nop 1 client 1 open file 2 begin 3 end 7 point 4 Opened 1 86f7e437faa5a7fce15d1ddcb9eaeaea377667b8 cond 0 tmp 0 read 1 data 1\nop 2 client 1 write file 2 begin 8 end 8 point - Done cond 0 tmp 0 read 0 data 0\nop 3 client 1 close file 2 begin 9 end 16 point 18 Lost cond 1 tmp 1 read 0 data 1\nend ops 3 steps 18\n"
+unfolding record_of digits encode_with sha1 digest_bytes hash_after compress rounds schedule first_words outcome_form time_form kind_form attr_form u32_form u64_form bool_form bytes_form fixed_form count_form opaque_spell opaque_read hashes_form pair_form hash_range_form piece_form range_form new_temp_form temp_piece_form cond_piece_form commit_form committed_form direction_form front_form auth_form call_form versions_form accept_form denial_form reply_form
+lost_on_its_way = refl
+
+-- a close whose change was made, and whose answer is dropped with the connection
+pub lost_answer : text_of (accepted (header ++ codes "file a t:a\njoin 1 0 0\ndo 1 0 open #2\npass 1 3 0 0\ndo 1 0 write #2 0 t:b\ndo 1 0 close #2\npass 1 9 0 0\nsettle 0\ncut 1 0\ndown 1 all 0\n"))
+    ≡ codes "lbfs-history 1\nop 1 client 1 open file 2 begin 3 end 7 point 4 Opened 1 86f7e437faa5a7fce15d1ddcb9eaeaea377667b8 cond 0 tmp 0 read 1 data 1\nop 2 client 1 write file 2 begin 8 end 8 point - Done cond 0 tmp 0 read 0 data 0\nop 3 client 1 close file 2 begin 9 end 18 point 17 Lost cond 1 tmp 1 read 0 data 1\nend ops 3 steps 18\n"
+unfolding record_of digits encode_with sha1 digest_bytes hash_after compress rounds schedule first_words outcome_form time_form kind_form attr_form u32_form u64_form bool_form bytes_form fixed_form count_form opaque_spell opaque_read hashes_form pair_form hash_range_form piece_form range_form new_temp_form temp_piece_form cond_piece_form commit_form committed_form direction_form front_form auth_form call_form versions_form accept_form denial_form reply_form
+lost_answer = refl
+
+-- the server sees the connection lost, and the change that waits is gone
+pub hung_close : text_of (accepted (header ++ codes "file a t:a\njoin 1 0 0\ndo 1 0 open #2\npass 1 3 0 0\ndo 1 0 write #2 0 t:b\ndo 1 0 close #2\npass 1 9 0 0\nhang 1 0\nhang 1 0\nsettle 0\n"))
+    ≡ codes "lbfs-history 1\nop 1 client 1 open file 2 begin 3 end 7 point 4 Opened 1 86f7e437faa5a7fce15d1ddcb9eaeaea377667b8 cond 0 tmp 0 read 1 data 1\nop 2 client 1 write file 2 begin 8 end 8 point - Done cond 0 tmp 0 read 0 data 0\nop 3 client 1 close file 2 begin 9 end - point - Running cond 1 tmp 1 read 0 data 1\nend ops 3 steps 18\n"
+unfolding record_of digits encode_with sha1 digest_bytes hash_after compress rounds schedule first_words outcome_form time_form kind_form attr_form u32_form u64_form bool_form bytes_form fixed_form count_form opaque_spell opaque_read hashes_form pair_form hash_range_form piece_form range_form new_temp_form temp_piece_form cond_piece_form commit_form committed_form direction_form front_form auth_form call_form versions_form accept_form denial_form reply_form
+hung_close = refl
+
+-- what is on its way down when the server sees the connection lost still comes
+pub hung_answer : text_of (accepted (header ++ codes "file a t:a\njoin 1 0 0\ndo 1 0 open #2\npass 1 3 0 0\ndo 1 0 write #2 0 t:b\ndo 1 0 close #2\npass 1 9 0 0\nsettle 0\nhang 1 0\ndown 1 all 0\n"))
+    ≡ codes "lbfs-history 1\nop 1 client 1 open file 2 begin 3 end 7 point 4 Opened 1 86f7e437faa5a7fce15d1ddcb9eaeaea377667b8 cond 0 tmp 0 read 1 data 1\nop 2 client 1 write file 2 begin 8 end 8 point - Done cond 0 tmp 0 read 0 data 0\nop 3 client 1 close file 2 begin 9 end 19 point 17 Closed 2 1 e9d71f5ee7c92d6dc9e92ffdad17b8bd49418f98 cond 1 tmp 1 read 0 data 1\nend ops 3 steps 19\n"
+unfolding record_of digits encode_with sha1 digest_bytes hash_after compress rounds schedule first_words outcome_form time_form kind_form attr_form u32_form u64_form bool_form bytes_form fixed_form count_form opaque_spell opaque_read hashes_form pair_form hash_range_form piece_form range_form new_temp_form temp_piece_form cond_piece_form commit_form committed_form direction_form front_form auth_form call_form versions_form accept_form denial_form reply_form
+hung_answer = refl
+
+-- an open whose messages come in pieces
+pub pieces : text_of (accepted (header ++ codes "file a t:a\njoin 1 0 0\ndo 1 0 open #2\nup 1 1 0\nup 1 3 0\nup 1 0 0\nup 1 all 0\ndown 1 30 0\ndown 1 30 0\ndown 1 300 0\nup 1 75 0\nup 1 1 0\ndown 1 2 0\ndown 1 all 0\n"))
+    ≡ codes "lbfs-history 1\nop 1 client 1 open file 2 begin 3 end 7 point 4 Opened 1 86f7e437faa5a7fce15d1ddcb9eaeaea377667b8 cond 0 tmp 0 read 1 data 1\nend ops 1 steps 7\n"
+unfolding record_of digits encode_with sha1 digest_bytes hash_after compress rounds schedule first_words outcome_form time_form kind_form attr_form u32_form u64_form bool_form bytes_form fixed_form count_form opaque_spell opaque_read hashes_form pair_form hash_range_form piece_form range_form new_temp_form temp_piece_form cond_piece_form commit_form committed_form direction_form front_form auth_form call_form versions_form accept_form denial_form reply_form
+pieces = refl
+
+-- a client that is not joined sees no connection lost, in a step
+pub cut_before : text_of (accepted (header ++ codes "file a t:a\ncut 1 0\njoin 1 0 0\ndo 1 0 open #2\npass 1 3 0 0\ncut 1 0\ndo 1 0 close #2\n"))
+    ≡ codes "lbfs-history 1\nop 1 client 1 open file 2 begin 4 end 8 point 5 Opened 1 86f7e437faa5a7fce15d1ddcb9eaeaea377667b8 cond 0 tmp 0 read 1 data 1\nop 2 client 1 close file 2 begin 10 end 10 point - NoLink cond 0 tmp 0 read 0 data 0\nend ops 2 steps 10\n"
+unfolding record_of digits encode_with sha1 digest_bytes hash_after compress rounds schedule first_words outcome_form time_form kind_form attr_form u32_form u64_form bool_form bytes_form fixed_form count_form opaque_spell opaque_read hashes_form pair_form hash_range_form piece_form range_form new_temp_form temp_piece_form cond_piece_form commit_form committed_form direction_form front_form auth_form call_form versions_form accept_form denial_form reply_form
+cut_before = refl
+
 -- the first line that is refused: lines that are skipped count
 abbrev refused_by : List ℕ → List ℕ
-refused_by lines = text_of (run (header ++ lines))
+refused_by lines = text_of (accepted (header ++ lines))
 
-pub refusals : map refused_by (codes "\n#\nfile a -\nfile a -\n" ∷ codes "file a z:2049\n" ∷ codes "file a z:2048\nfile a z:2049" ∷ codes "file a z:18446744073709551615+z:18446744073709551615\n" ∷ codes "join 1 0 0\njoin 1 0 0\n" ∷ codes "do 1 0 open #1\nfile a -\n" ∷ codes "pass 1 1 0 0\n" ∷ codes "join 1 0 0\npass 2 1 0 0\n" ∷ codes "do 2 0 open #1\n" ∷ codes "join 1 1 0\n" ∷ codes "settle 1\n" ∷ codes "join 1 0 0\nup 1 all 0\n" ∷ codes "join 1 0 0\ndown 1 all 0\n" ∷ codes "join 1 0 0\ncut 1 0\n" ∷ codes "join 1 0 0\nhang 1 0\n" ∷ codes "settle 0\nfile a -\n" ∷ [])
-    ≡ (codes "refused line 8 grammar\n" ∷ codes "refused line 5 limit file\n" ∷ codes "refused line 6 grammar\n" ∷ codes "refused line 5 limit file\n" ∷ codes "refused line 6 grammar\n" ∷ codes "refused line 6 grammar\n" ∷ codes "refused line 5 grammar\n" ∷ codes "refused line 6 grammar\n" ∷ codes "refused line 5 grammar\n" ∷ codes "refused line 5 grammar\n" ∷ codes "refused line 5 grammar\n" ∷ codes "refused line 6 grammar\n" ∷ codes "refused line 6 grammar\n" ∷ codes "refused line 6 grammar\n" ∷ codes "refused line 6 grammar\n" ∷ codes "refused line 6 grammar\n" ∷ [])
+pub refusals : map refused_by (codes "\n#\nfile a -\nfile a -\n" ∷ codes "file a z:2049\n" ∷ codes "file a z:2048\nfile a z:2049" ∷ codes "file a z:18446744073709551615+z:18446744073709551615\n" ∷ codes "join 1 0 0\njoin 1 0 0\n" ∷ codes "do 1 0 open #1\nfile a -\n" ∷ codes "pass 1 1 0 0\n" ∷ codes "join 1 0 0\npass 2 1 0 0\n" ∷ codes "do 2 0 open #1\n" ∷ codes "settle 0\nfile a -\n" ∷ codes "up 1 all 0\n" ∷ codes "down 1 all 0\n" ∷ codes "cut 2 0\n" ∷ codes "hang 1 0\n" ∷ codes "join 1 0 0\ncut 1 0\njoin 1 0 0\n" ∷ [])
+    ≡ (codes "refused line 8 grammar\n" ∷ codes "refused line 5 limit file\n" ∷ codes "refused line 6 grammar\n" ∷ codes "refused line 5 limit file\n" ∷ codes "refused line 6 grammar\n" ∷ codes "refused line 6 grammar\n" ∷ codes "refused line 5 grammar\n" ∷ codes "refused line 6 grammar\n" ∷ codes "refused line 5 grammar\n" ∷ codes "refused line 6 grammar\n" ∷ codes "refused line 5 grammar\n" ∷ codes "refused line 5 grammar\n" ∷ codes "refused line 5 grammar\n" ∷ codes "refused line 5 grammar\n" ∷ codes "refused line 7 limit sessions\n" ∷ [])
 unfolding record_of digits
 refusals = refl
 
--- limits that no trace comes to yet: the bytes of all files together, at their edge and past it, and a second session
+-- the first rule of clocks that is broken, where the term is 1000 and the drift 100
+abbrev clocked : List ℕ → List ℕ
+clocked lines = text_of (accepted (codes "lbfs-trace 1\nterm 1000\ndrift 100\nclients 1\n" ++ lines))
+
+pub clocks : map clocked (codes "file a t:a\njoin 1 0 0\nsettle 500\ndo 1 300 open #2" ∷ codes "settle 5\nsettle 4\n" ∷ codes "cut 1 7\ndo 1 6 open #2\n" ∷ codes "join 1 0 0\npass 1 0 401 300\n" ∷ codes "join 1 7 5\npass 1 1 4 6\n" ∷ codes "join 1 0 0\ncut 1 0\ndown 1 all 9\ndo 1 8 open #2\n" ∷ codes "join 1 7 5\ncut 1 7\njoin 1 6 4\n" ∷ [])
+    ≡ (codes "refused line 8 clock client 1 from 0 0 to 300 500\n" ∷ codes "refused line 6 clock server from 5 to 4\n" ∷ codes "refused line 6 clock client 1 from 7 to 6\n" ∷ codes "refused line 6 clock client 1 from 0 0 to 300 401\n" ∷ codes "refused line 6 clock server from 5 to 4\n" ∷ codes "refused line 8 clock client 1 from 9 to 8\n" ∷ codes "refused line 7 limit sessions\n" ∷ [])
+unfolding record_of digits
+clocks = refl
+
+pub clocks_at_their_edge : map clocked (codes "join 1 0 0\npass 1 1 400 300\n" ∷ codes "join 1 0 0\npass 1 1 1100 1000\n" ∷ codes "join 1 0 0\npass 1 1 9999 1001\n" ∷ codes "settle 9999\ncut 1 5\n" ∷ [])
+    ≡ (codes "lbfs-history 1\nend ops 0 steps 2\n" ∷ codes "lbfs-history 1\nend ops 0 steps 2\n" ∷ codes "lbfs-history 1\nend ops 0 steps 2\n" ∷ codes "lbfs-history 1\nend ops 0 steps 2\n" ∷ [])
+unfolding record_of digits
+clocks_at_their_edge = refl
+
+-- limits that no trace comes to yet: the bytes of all files together, at their edge and past it
 abbrev full : World
 full = record start { stage = stage.Files; size = 1073741823 }
 
@@ -161,6 +218,3 @@ tree_edge = refl
 
 pub tree_limit : asked full 9 (line.File (codes "a") (Zeros 2 ∷ [])) ≡ Err (Limit limit.Tree)
 tree_limit = refl
-
-pub session_limit : asked (record start { stage = stage.Events; sessions = 1 }) 9 (line.Join 1 0 0) ≡ Err (Limit limit.Sessions)
-session_limit = refl

@@ -5,17 +5,20 @@ use Rattle.trace_text.specs.Grammar.{line_of}
 use Rattle.trace_text.specs.Content.{content_length, content_bytes}
 use Rattle.trace_text.specs.declared.content.Part.{Part}
 use Rattle.trace_text.specs.declared.line.Command.{Command}
+use Rattle.trace_text.specs.declared.line.Amount.{Amount}
+use Rattle.trace_text.specs.declared.line.Amount.TheVariants as amount
 use Rattle.trace_text.specs.declared.line.Line.{Line}
 use Rattle.trace_text.specs.declared.line.Line.TheVariants as line
 use Rattle.trace_text.specs.declared.refusal.Limit.TheVariants as limit
 use Rattle.trace_text.specs.declared.refusal.LineFault.{LineFault}
 use Rattle.trace_text.specs.declared.refusal.LineFault.TheVariants.{Grammar, Limit}
+use Rattle.rpc_record.specs.Records.{nothing_read}
 use Rattle.server_core.specs.State as server
 use Rattle.server_core.specs.Step.{server_step, opens_with}
 use Rattle.server_core.specs.declared.event.Event.TheVariants as event
 use Rattle.server_core.specs.declared.event.Outs.{Outs}
 use Rattle.open_close.specs.State as client
-use Rattle.open_close.specs.Step.{command_step, joined}
+use Rattle.open_close.specs.Step.{command_step, joined, cut}
 use Rattle.open_close.specs.declared.acts.Acts.{Acts}
 use Rattle.register_model.specs.Register.{History}
 use Rattle.register_model.specs.declared.op.Op.{Op}
@@ -28,8 +31,8 @@ use Rattle.trace_replay.specs.declared.turn.Turn.{Turn}
 use Rattle.trace_replay.specs.declared.turn.Turn.TheVariants as turn
 use Rattle.trace_replay.specs.Names.{has_name, with_name}
 use Rattle.trace_replay.specs.Commands.{word_of, file_of, value_at_begin}
-use Rattle.trace_replay.specs.World.{World, start, new_link, bytes_of, messages_of, op_after, running_with, taken_on, closing_with}
-use Rattle.trace_replay.specs.Delivery.{passes}
+use Rattle.trace_replay.specs.World.{World, start, new_link, bytes_of, messages_of, up_with, down_with, op_after, running_with, taken_on, closing_with}
+use Rattle.trace_replay.specs.Delivery.{acted, up_some, down_some, passes}
 
 -- ---- limits
 
@@ -73,7 +76,7 @@ commanded w what file value c acts =
     record w {
       steps = w.steps + 1;
       client = c;
-      link = record w.link { up = w.link.up ++ bytes_of acts.send; taken = taken_on w.running w.link.taken; closing = closing_with w.link.closing (length w.ops) what acts.ended };
+      link = record w.link { up = up_with w.link (bytes_of acts.send); taken = taken_on w.running w.link.taken; closing = closing_with w.link.closing (length w.ops) what acts.ended };
       ops = w.ops ++ op_after (begun what file value (w.steps + 1)) c [] (w.steps + 1) acts ∷ [];
       running = running_with w.running (length w.ops) acts.ended;
     }
@@ -98,11 +101,33 @@ has_changed before after = nat_lt (length before.journal) (length after.journal)
 
 -- the server did this in a step, and a change was made or not
 abbrev pub settled_as : World → server.State → Outs → (made : Bool) → World
-settled_as w s o true = record w { steps = w.steps + 1; server = s; link = record w.link { down = w.link.down ++ bytes_of (messages_of o.send) }; ops = pointed_at w.ops w.link.closing (w.steps + 1); settled = w.settled ++ (w.steps + 1) ∷ [] }
-settled_as w s o false = record w { steps = w.steps + 1; server = s; link = record w.link { down = w.link.down ++ bytes_of (messages_of o.send) } }
+settled_as w s o true = record w { steps = w.steps + 1; server = s; link = record w.link { down = down_with w.link (bytes_of (messages_of o.send)) }; ops = pointed_at w.ops w.link.closing (w.steps + 1); settled = w.settled ++ (w.steps + 1) ∷ [] }
+settled_as w s o false = record w { steps = w.steps + 1; server = s; link = record w.link { down = down_with w.link (bytes_of (messages_of o.send)) } }
 
-abbrev pub settles : World → World
-settles w = let r = server_step w.server (event.Settle 0) in settled_as w r.0 r.1 (has_changed w.server r.0)
+abbrev pub settles : World → (now : ℕ) → World
+settles w now = let r = server_step w.server (event.Settle now) in settled_as w r.0 r.1 (has_changed w.server r.0)
+
+-- ---- a connection is lost
+
+-- The client sees it: what is on its way down is dropped, and what is on its way up stays. Where the client
+-- isn't joined it is a step, and no more.
+abbrev pub cuts_if : World → (linked : Bool) → World
+cuts_if w true =
+    let r = cut w.client in
+    let v : World = acted w r.0 r.1 w.running in
+    record v { link = record v.link { down = []; client_end = nothing_read; cut = true }; cuts = w.cuts ++ (w.steps + 1) ∷ [] }
+cuts_if w false = record w { steps = w.steps + 1 }
+
+abbrev pub cuts_off : World → World
+cuts_off w = cuts_if w w.client.linked
+
+-- The server sees it: what is on its way up is dropped, and what is on its way down stays. It sees that once.
+abbrev pub hangs_if : World → (hung : Bool) → World
+hangs_if w true = w
+hangs_if w false = record w { steps = w.steps + 1; server = (server_step w.server (event.Hang 1)).0; link = record w.link { up = []; server_end = nothing_read; hung = true } }
+
+abbrev pub hangs : World → World
+hangs w = hangs_if w w.link.hung
 
 -- ---- what a line asks for
 
@@ -127,12 +152,16 @@ joins_if false is_first = Err Grammar
 joins_if true false = Err (Limit limit.Sessions)
 joins_if true true = Ok turn.Join
 
--- An event names a client and a session that are there, and the readings 0. A client that joined does not join again.
+-- An event names a client and a session that are there. A client that joined does not join again.
 abbrev pub event_asks : (linked : Bool) (sessions : ℕ) → Line → Result Turn LineFault
-event_asks linked sessions (line.Join c r s) = joins_if ((c == 1) && (r == 0) && (s == 0) && not linked) (sessions == 0)
-event_asks linked sessions (line.Do c r k) = asks_if ((c == 1) && (r == 0)) (turn.Do k)
-event_asks linked sessions (line.Settle s) = asks_if (s == 0) turn.Settle
-event_asks linked sessions (line.Pass n k s r) = asks_if (nat_lt 0 n && nat_le n sessions && (s == 0) && (r == 0)) (turn.Pass k)
+event_asks linked sessions (line.Join c r s) = joins_if ((c == 1) && not linked) (sessions == 0)
+event_asks linked sessions (line.Do c r k) = asks_if (c == 1) (turn.Do k)
+event_asks linked sessions (line.Up n a s) = asks_if (nat_lt 0 n && nat_le n sessions) (turn.Up a s)
+event_asks linked sessions (line.Down n a r) = asks_if (nat_lt 0 n && nat_le n sessions) (turn.Down a)
+event_asks linked sessions (line.Settle s) = Ok (turn.Settle s)
+event_asks linked sessions (line.Cut c r) = asks_if (c == 1) turn.Cut
+event_asks linked sessions (line.Hang n s) = asks_if (nat_lt 0 n && nat_le n sessions) turn.Hang
+event_asks linked sessions (line.Pass n k s r) = asks_if (nat_lt 0 n && nat_le n sessions) (turn.Pass k s)
 event_asks linked sessions _ = Err Grammar
 
 -- First comes the header, then the files, and then the events.
@@ -163,14 +192,23 @@ asked w n l = asks_within (nat_le n line_most) (asks w l)
 
 -- ---- what it does
 
+-- all bytes of a queue, or so many
+abbrev pub count_of : Amount → List ℕ → ℕ
+count_of amount.All queue = length queue
+count_of (amount.Bytes n) queue = n
+
 abbrev pub turned : World → Turn → World
 turned w turn.Skip = w
 turned w (turn.At s) = record w { stage = s }
 turned w (turn.File name content) = with_file w name (content_bytes content)
 turned w turn.Join = joins (record w { stage = stage.Events })
 turned w (turn.Do k) = does (record w { stage = stage.Events }) k
-turned w turn.Settle = settles (record w { stage = stage.Events })
-turned w (turn.Pass k) = passes k (record w { stage = stage.Events })
+turned w (turn.Up n now) = up_some (record w { stage = stage.Events }) (count_of n w.link.up) now
+turned w (turn.Down n) = down_some (record w { stage = stage.Events }) (count_of n w.link.down)
+turned w (turn.Settle now) = settles (record w { stage = stage.Events }) now
+turned w turn.Cut = cuts_off (record w { stage = stage.Events })
+turned w turn.Hang = hangs (record w { stage = stage.Events })
+turned w (turn.Pass k now) = passes k (record w { stage = stage.Events }) now
 
 -- ---- lines
 

@@ -1,5 +1,5 @@
 -- What a line that is applied makes of the world, or why it is refused.
-use Rattle.std.specs.Prelude.{◌≡◌, ℕ, ◌≤◌, List, [], Ok, Err}
+use Rattle.std.specs.Prelude.{◌≡◌, ℕ, ◌<◌, ◌≤◌, ◌^◌, List, [], Ok, Err}
 use Rattle.trace_text.specs.Content.{content_length}
 use Rattle.trace_text.specs.declared.line.Line.{Line}
 use Rattle.trace_replay.specs.declared.fault.TraceErr.{TraceErr}
@@ -10,11 +10,15 @@ use Rattle.trace_replay.specs.declared.link.Stage.TheVariants as stage
 use Rattle.trace_replay.specs.declared.turn.Turn.{Turn}
 use Rattle.trace_replay.specs.declared.turn.Turn.TheVariants as turn
 use Rattle.trace_replay.specs.World.{World}
-use Rattle.trace_replay.specs.Run.{file_most, asked, turned}
+use Rattle.trace_replay.specs.Run.{file_most}
+use Rattle.trace_replay.specs.Timed.{Timed, Times, timed_asked, timed_turn}
 
--- a content within the limit of a file
+-- a content within the limit of a file, and a reading of the server's clock that has at most 63 bits
 abbrev pub IsTurnBounded : Turn → Type 0
 IsTurnBounded (turn.File name content) = content_length content ≤ file_most
+IsTurnBounded (turn.Up amount now) = now < 2 ^ 63
+IsTurnBounded (turn.Settle now) = now < 2 ^ 63
+IsTurnBounded (turn.Pass rounds now) = now < 2 ^ 63
 IsTurnBounded t = Unit {0}
 
 -- before the events no change waits
@@ -31,11 +35,18 @@ IsTurnQuiet w (turn.At s) = w.server.waits ≡ []
 IsTurnQuiet w (turn.File name content) = w.server.waits ≡ []
 IsTurnQuiet w t = Unit {0}
 
+-- which lines may come after a turn: once an event came, events alone
+abbrev pub stage_after : Stage → Turn → Stage
+stage_after s turn.Skip = s
+stage_after s (turn.At next) = next
+stage_after s (turn.File name content) = s
+stage_after s _ = stage.Events
+
 -- a line in place was applied
-abbrev pub IsApplied : World → ℕ → Line → World → Type 0
-IsApplied old n l new = (t : Turn) × (asked old n l ≡ Ok t) × (new ≡ turned old t)
+abbrev pub IsApplied : Timed → ℕ → Line → Timed → Type 0
+IsApplied old n l new = (t : Turn × Times) × (timed_asked old n l ≡ Ok t) × (new ≡ timed_turn old t)
 
 -- a line that is refused changed nothing; where memory ran out, nothing is said
-abbrev pub IsRefused : TraceErr → World → ℕ → Line → World → Type 0
+abbrev pub IsRefused : TraceErr → Timed → ℕ → Line → Timed → Type 0
 IsRefused errors.Memory old n l new = Unit {0}
-IsRefused (errors.Refused r) old n l new = (r.line ≡ n) × (asked old n l ≡ Err r.fault) × (new ≡ old)
+IsRefused (errors.Refused r) old n l new = (r.line ≡ n) × (timed_asked old n l ≡ Err r.fault) × (new ≡ old)

@@ -1,5 +1,5 @@
 -- The world that a trace runs in: a server, a client, and the bytes between them.
-use Rattle.std.specs.Prelude.{ℕ, ◌+◌, List, [], find, map, Option, Some, None, Bool, true, false, ◌==◌}
+use Rattle.std.specs.Prelude.{ℕ, ◌+◌, List, [], find, map, ◌++◌, Option, Some, None, Bool, true, false, ◌==◌}
 use Rattle.std.specs.Option.{option_map}
 use Rattle.rpc_record.specs.Records.{Unread, nothing_read, stream}
 use Rattle.wire.specs.Message.{message_spell}
@@ -28,7 +28,8 @@ use Rattle.trace_replay.specs.declared.link.Stage.TheVariants as stage
 use Rattle.trace_replay.specs.declared.link.Taken.{Taken}
 
 -- a session: the bytes on their way up and down, what each end has of a record that is not whole, the
--- calls of the operation under way that the server took, and the place of the last close that sent calls on it
+-- calls of the operation under way that the server took, the place of the last close that sent calls on it, and whether an end
+-- saw the connection lost
 pub record Link : Type 0 where
   pub up : List ℕ
   pub down : List ℕ
@@ -36,9 +37,23 @@ pub record Link : Type 0 where
   pub client_end : Unread
   pub taken : List Taken
   pub closing : Option ℕ
+  pub cut : Bool
+  pub hung : Bool
 
 abbrev pub new_link : Link
-new_link = record { up = []; down = []; server_end = nothing_read; client_end = nothing_read; taken = []; closing = None }
+new_link = record { up = []; down = []; server_end = nothing_read; client_end = nothing_read; taken = []; closing = None; cut = false; hung = false }
+
+-- Bytes for an end that saw the connection lost vanish.
+abbrev pub unless : (is_lost : Bool) → (queue bytes : List ℕ) → List ℕ
+unless true queue bytes = queue
+unless false queue bytes = queue ++ bytes
+
+-- the bytes on their way to the server, with more that the client sends, and those on their way to the client, with more that the server sends
+abbrev pub up_with : Link → List ℕ → List ℕ
+up_with l bytes = unless l.hung l.up bytes
+
+abbrev pub down_with : Link → List ℕ → List ℕ
+down_with l bytes = unless l.cut l.down bytes
 
 -- ---- the world
 
@@ -62,6 +77,8 @@ pub record World : Type 0 where
   pub running : Option ℕ
   -- the step of each change in the server's journal
   pub settled : List ℕ
+  -- the steps at which the client saw its connection lost
+  pub cuts : List ℕ
 
 abbrev pub start : World
 start = record {
@@ -77,6 +94,7 @@ start = record {
   ops = [];
   running = None;
   settled = [];
+  cuts = [];
 }
 
 -- the bytes of messages, each a record of one fragment
@@ -107,6 +125,7 @@ told_of outcome.Busy = told.Busy
 told_of outcome.NotOpen = told.NotOpen
 told_of outcome.AlreadyOpen = told.AlreadyOpen
 told_of (outcome.TooBig size) = told.TooBig size
+told_of outcome.Lost = told.Lost
 told_of outcome.NoLink = told.NoLink
 told_of (outcome.Refused status) = told.Refused (status_number status)
 told_of outcome.PeerMemory = told.PeerMemory

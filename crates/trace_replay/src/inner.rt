@@ -1,6 +1,6 @@
 //! The world's fields, and what the lines of a trace do to them.
 
-ghost use Rattle.std.specs.Prelude.{◌≡◌, OnOk, IfOk, length, [], false, ◌+◌, ◌≤◌, ◌&&◌};
+ghost use Rattle.std.specs.Prelude.{◌≡◌, OnOk, IfOk, length, [], false, ◌+◌, ◌<◌, ◌≤◌, ◌^◌, ◌&&◌};
 ghost use Rattle.trace_text.specs.Content.{content_length, content_bytes};
 ghost use Rattle.trace_replay.specs.World.{World};
 ghost use Rattle.trace_replay.specs.Delivery.{is_none, is_still, round, passes};
@@ -13,8 +13,8 @@ use crate::link::{Link, Stage};
 use crate::names::Names;
 use crate::outbox::put_all;
 use crate::settling::settles;
-use crate::turn::Turn;
-use crate::{client_end, ops, server_end};
+use crate::turn::{Turn, stage_after};
+use crate::{client_end, losing, ops, server_end};
 use lb_base::items::Bytes;
 use open_close::acts::Acts;
 use open_close::client::Client;
@@ -24,7 +24,7 @@ use server_core::file::File;
 use server_core::server::Server;
 use std::alloc::{AllocError, Global};
 use trace_text::content::{Content, build};
-use trace_text::line::Command;
+use trace_text::line::{Amount, Command};
 
 /// A world's fields.
 #[derive(Drop)]
@@ -48,6 +48,8 @@ pub struct Inner {
     pub running: Option<usize>,
     /// The step of each change in the server's journal.
     pub settled: Vec<u64>,
+    /// The steps at which the client saw its connection lost.
+    pub cuts: Vec<u64>,
 }
 
 /// The count with so many steps more. No run comes to 2^64 steps, so there it is want of memory.
@@ -72,24 +74,27 @@ impl Inner {
         is_none(&self.link.up) && is_none(&self.link.down)
     }
 
-    /// All bytes on their way up reach the server, and then all bytes on their way down the client.
-    fn round(&mut self, alloc: Global) -> Result<(), AllocError>
-        ensures { OnOk result (world_of self.new ≡ round (world_of self.old)) }
+    /// All bytes on their way up reach the server, at this reading of its clock, and then all bytes
+    /// on their way down the client.
+    fn round(&mut self, alloc: Global, now: u64) -> Result<(), AllocError>
+        requires { now < 2 ^ 63 }
+        ensures { OnOk result (world_of self.new ≡ round (world_of self.old) now) }
     {
-        server_end::up_all(alloc, self)?;
-        client_end::down_all(alloc, self)
+        server_end::up_some(alloc, self, Amount::All, now)?;
+        client_end::down_some(alloc, self, Amount::All)
     }
 
     /// So many rounds, or as many as anything is on its way before.
-    fn passes(&mut self, alloc: Global, count: u64) -> Result<(), AllocError>
-        ensures { OnOk result (world_of self.new ≡ passes count (world_of self.old)) }
+    fn passes(&mut self, alloc: Global, count: u64, now: u64) -> Result<(), AllocError>
+        requires { now < 2 ^ 63 }
+        ensures { OnOk result (world_of self.new ≡ passes count (world_of self.old) now) }
     {
         let mut left = count;
         'rounds: while left > 0 {
             if self.is_still() {
                 return Ok(());
             }
-            self.round(alloc)?;
+            self.round(alloc, now)?;
             left -= 1;
         }
         Ok(())
@@ -155,7 +160,8 @@ impl Inner {
         let running = ops::running_with(self.running, place, &acts.ended);
         let closing = ops::closing_with(self.link.closing, place, word, &acts.ended);
         self.ops.push(op)?;
-        put_all(alloc, &mut self.link.up, &acts.send)?;
+        let is_hung = self.link.hung;
+        put_all(alloc, is_hung, &mut self.link.up, &acts.send)?;
         ops::taken_on(self.running, &mut self.link.taken);
         self.link.closing = closing;
         self.running = running;
@@ -216,29 +222,18 @@ impl Inner {
         requires quiet { IsTurnQuiet (world_of self.old) turn }
         ensures { OnOk result (world_of self.new ≡ turned (world_of self.old) turn) }
     {
+        self.stage = stage_after(self.stage, &turn);
         match turn {
-            Turn::Skip => Ok(()),
-            Turn::At(stage) => {
-                self.stage = stage;
-                Ok(())
-            }
+            Turn::Skip | Turn::At(_) => Ok(()),
             Turn::File { name, content } => self.builds(alloc, &name, &content),
-            Turn::Join => {
-                self.stage = Stage::Events;
-                self.joins(alloc)
-            }
-            Turn::Do(command) => {
-                self.stage = Stage::Events;
-                self.does(alloc, command)
-            }
-            Turn::Settle => {
-                self.stage = Stage::Events;
-                settles(alloc, self)
-            }
-            Turn::Pass(rounds) => {
-                self.stage = Stage::Events;
-                self.passes(alloc, rounds)
-            }
+            Turn::Join => self.joins(alloc),
+            Turn::Do(command) => self.does(alloc, command),
+            Turn::Up(amount, now) => server_end::up_some(alloc, self, amount, now),
+            Turn::Down(amount) => client_end::down_some(alloc, self, amount),
+            Turn::Settle(now) => settles(alloc, self, now),
+            Turn::Cut => losing::cuts_off(alloc, self),
+            Turn::Hang => losing::hangs(alloc, self),
+            Turn::Pass(rounds, now) => self.passes(alloc, rounds, now),
         }
     }
 }

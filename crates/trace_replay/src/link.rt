@@ -46,6 +46,10 @@ pub struct Link {
     pub taken: Vec<Taken>,
     /// The place of the last close that sent calls.
     pub closing: Option<usize>,
+    /// Whether the client saw the connection lost.
+    pub cut: bool,
+    /// Whether the server saw the connection lost.
+    pub hung: bool,
 }
 
 impl Link {
@@ -60,6 +64,8 @@ impl Link {
             client_end: Records::new(alloc),
             taken: Vec::new(alloc),
             closing: None,
+            cut: false,
+            hung: false,
         }
     }
 }

@@ -61,6 +61,7 @@ fn told_of(alloc: Global, outcome: &acts::Outcome) -> Result<Outcome, AllocError
         acts::Outcome::NotOpen => Outcome::NotOpen,
         acts::Outcome::AlreadyOpen => Outcome::AlreadyOpen,
         acts::Outcome::TooBig(size) => Outcome::TooBig(*size),
+        acts::Outcome::Lost => Outcome::Lost,
         acts::Outcome::NoLink => Outcome::NoLink,
         acts::Outcome::Refused(status) => Outcome::Refused(status::number(*status)),
         acts::Outcome::PeerMemory => Outcome::PeerMemory,

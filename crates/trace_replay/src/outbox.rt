@@ -3,7 +3,7 @@
 ghost use Rattle.std.specs.Prelude.{◌≡◌, ◌++◌, IfOk, OnOk};
 ghost use Rattle.rpc_record.specs.Records.{marked};
 ghost use Rattle.wire.specs.Message.{message_spell};
-ghost use Rattle.trace_replay.specs.World.{bytes_of, messages_of};
+ghost use Rattle.trace_replay.specs.World.{unless, bytes_of, messages_of};
 
 use lb_base::items::Bytes;
 use open_close::sends::Sends;
@@ -48,7 +48,7 @@ fn put_each(alloc: Global, bytes: &mut Vec<u8>, messages: &[Message]) -> Result<
 }
 
 /// Puts what a client sends behind the bytes, in order.
-pub fn put_all(alloc: Global, bytes: &mut Vec<u8>, sends: &Sends) -> Result<(), AllocError>
+fn put_sends(alloc: Global, bytes: &mut Vec<u8>, sends: &Sends) -> Result<(), AllocError>
     ensures { OnOk result (bytes.new.items ≡ bytes.old.items ++ bytes_of sends.now) }
 {
     let (first, rest) = sends.as_pair();
@@ -59,11 +59,41 @@ pub fn put_all(alloc: Global, bytes: &mut Vec<u8>, sends: &Sends) -> Result<(), 
 }
 
 /// Puts what a server sends behind the bytes, in order.
-pub fn put_sent(alloc: Global, bytes: &mut Vec<u8>, sent: &[Sent]) -> Result<(), AllocError>
+fn put_answers(alloc: Global, bytes: &mut Vec<u8>, sent: &[Sent]) -> Result<(), AllocError>
     ensures { OnOk result (bytes.new.items ≡ bytes.old.items ++ bytes_of (messages_of sent.now)) }
 {
     for one in sent {
         put(alloc, bytes, &one.message)?;
     }
     Ok(())
+}
+
+/// Puts what a client sends on its way, unless the server saw the connection lost.
+pub fn put_all(
+    alloc: Global,
+    is_lost: bool,
+    bytes: &mut Vec<u8>,
+    sends: &Sends,
+) -> Result<(), AllocError>
+    ensures { OnOk result (bytes.new.items ≡ unless is_lost bytes.old.items (bytes_of sends.now)) }
+{
+    if is_lost {
+        return Ok(());
+    }
+    put_sends(alloc, bytes, sends)
+}
+
+/// Puts what a server sends on its way, unless the client saw the connection lost.
+pub fn put_sent(
+    alloc: Global,
+    is_lost: bool,
+    bytes: &mut Vec<u8>,
+    sent: &[Sent],
+) -> Result<(), AllocError>
+    ensures { OnOk result (bytes.new.items ≡ unless is_lost bytes.old.items (bytes_of (messages_of sent.now))) }
+{
+    if is_lost {
+        return Ok(());
+    }
+    put_answers(alloc, bytes, sent)
 }

@@ -2,7 +2,8 @@
 
 ghost use Rattle.std.specs.Prelude.{◌≡◌};
 ghost use Rattle.trace_text.specs.declared.refusal.LineFault.TheVariants.{Grammar};
-ghost use Rattle.trace_replay.specs.Run.{run, refused};
+ghost use Rattle.trace_replay.specs.Run.{refused};
+ghost use Rattle.trace_replay.specs.Timed.{accepted};
 ghost use Rattle.trace_replay.specs.Traces.{Gives};
 ghost use Rattle.trace_replay.specs.declared.fault.TraceErr.TheVariants as errors;
 
@@ -25,9 +26,10 @@ fn bad_line(line: u64) -> TraceErr
 }
 
 /// The history that a trace comes to. `Refused`: the first line that is outside the grammar, out
-/// of place or past a limit, or the one behind the last where the header is not whole.
+/// of place, past a limit, or against the clock rule, or the one behind the last where the header is
+/// not whole.
 pub fn replay(alloc: Global, input: &[u8]) -> Result<History, TraceErr>
-    ensures { Gives result (run input.now) }
+    ensures { Gives result (accepted input.now) }
 {
     let mut world = World::new(alloc);
     let mut number: u64 = 1;

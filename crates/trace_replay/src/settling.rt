@@ -1,6 +1,6 @@
 //! A change that waits at the server is made.
 
-ghost use Rattle.std.specs.Prelude.{◌≡◌, OnOk, slice_get};
+ghost use Rattle.std.specs.Prelude.{◌≡◌, ◌<◌, ◌^◌, OnOk, slice_get};
 ghost use Rattle.trace_replay.specs.Run.{pointed, pointed_at, settles};
 ghost use Rattle.trace_replay.specs.View.{world_of};
 
@@ -30,14 +30,15 @@ fn point_at(ops: &mut Vec<Op>, closing: Option<usize>, step: u64)
     }
 }
 
-/// The server makes the first change that waits, if there is one, in a step. Its answer is then on
-/// its way down.
-pub fn settles(alloc: Global, world: &mut Inner) -> Result<(), AllocError>
-    ensures { OnOk result (world_of world.new ≡ settles (world_of world.old)) }
+/// The server makes the first change that waits, if there is one, in a step at this reading of its
+/// clock. Its answer is then on its way down.
+pub fn settles(alloc: Global, world: &mut Inner, now: u64) -> Result<(), AllocError>
+    requires { now < 2 ^ 63 }
+    ensures { OnOk result (world_of world.new ≡ settles (world_of world.old) now) }
 {
     let step = count_on(world.steps, 1)?;
     let before = world.server.journal().len();
-    let outs = world.server.step(alloc, Event::Settle { now: 0 });
+    let outs = world.server.step(alloc, Event::Settle { now });
     if outs.missed {
         return Err(AllocError);
     }
@@ -45,7 +46,8 @@ pub fn settles(alloc: Global, world: &mut Inner) -> Result<(), AllocError>
         point_at(&mut world.ops, world.link.closing, step);
         world.settled.push(step)?;
     }
-    put_sent(alloc, &mut world.link.down, outs.send.as_slice())?;
+    let is_cut = world.link.cut;
+    put_sent(alloc, is_cut, &mut world.link.down, outs.send.as_slice())?;
     world.steps = step;
     Ok(())
 }

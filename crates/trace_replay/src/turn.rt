@@ -1,10 +1,11 @@
 //! What a line of a trace asks for, and which lines are refused.
 
-ghost use Rattle.std.specs.Prelude.{◌≡◌, true, false, IfOk};
+ghost use Rattle.std.specs.Prelude.{◌≡◌, true, false, ◌&&◌, nat_lt, nat_le, IfOk};
+ghost use Rattle.trace_text.specs.Reading.{IsTimely};
 ghost use Rattle.trace_replay.specs.Names.{has_name};
 ghost use Rattle.trace_replay.specs.World.{World};
 ghost use Rattle.trace_replay.specs.Run.{asks_if, named, joins_if, event_asks, asks_at, asks, asks_within, asked, in_header};
-ghost use Rattle.trace_replay.specs.Turns.{IsTurnBounded};
+ghost use Rattle.trace_replay.specs.Turns.{IsTurnBounded, stage_after};
 ghost use Rattle.trace_replay.specs.View.{world_of};
 ghost use Rattle.trace_replay.specs.declared.link.Stage.TheVariants as stage;
 
@@ -13,7 +14,7 @@ use crate::link::Stage;
 use crate::names::Names;
 use lb_base::items::Bytes;
 use trace_text::content::{Content, length_within};
-use trace_text::line::{Command, Line};
+use trace_text::line::{Amount, Command, Line};
 use trace_text::refusal::{Limit, LineFault};
 
 /// The most lines of a trace.
@@ -38,10 +39,29 @@ pub enum Turn {
     Join,
     /// The client's command.
     Do(Command),
-    /// A change that waits may be made.
-    Settle,
-    /// So many rounds.
-    Pass(u64),
+    /// Bytes on their way up reach the server, at this reading of its clock.
+    Up(Amount, u64),
+    /// Bytes on their way down reach the client.
+    Down(Amount),
+    /// A change that waits may be made, at this reading of the server's clock.
+    Settle(u64),
+    /// The client sees its connection lost.
+    Cut,
+    /// The server sees the session's connection lost.
+    Hang,
+    /// So many rounds, at this reading of the server's clock.
+    Pass(u64, u64),
+}
+
+/// Which lines may come after a turn.
+pub fn stage_after(stage: Stage, turn: &Turn) -> Stage
+    ensures { result ≡ stage_after stage turn.now }
+{
+    match turn {
+        Turn::Skip | Turn::File { .. } => stage,
+        Turn::At(next) => *next,
+        _ => Stage::Events,
+    }
 }
 
 /// A turn that is taken where something holds.
@@ -117,30 +137,43 @@ fn joins_if(is_free: bool, is_first: bool) -> Result<Turn, LineFault>
     Ok(Turn::Join)
 }
 
+/// Whether so many sessions were made.
+fn is_session(session: u64, sessions: u64) -> bool
+    ensures { result ≡ (nat_lt 0 session && nat_le session sessions) }
+{
+    0 < session && session <= sessions
+}
+
 /// What an event asks for, where a client has joined or not, and so many sessions were made.
 fn event_asks(is_linked: bool, sessions: u64, line: Line) -> Result<Turn, LineFault>
     ensures { result ≡ event_asks is_linked sessions line }
 {
     match line {
-        Line::Join { client, at, server } => joins_if(
-            client == 1 && at == 0 && server == 0 && !is_linked,
-            sessions == 0,
-        ),
+        Line::Join { client, .. } => joins_if(client == 1 && !is_linked, sessions == 0),
         Line::Do {
             client,
-            at,
             command,
-        } => asks_if(client == 1 && at == 0, Turn::Do(command)),
-        Line::Settle { server } => asks_if(server == 0, Turn::Settle),
+            ..
+        } => asks_if(client == 1, Turn::Do(command)),
+        Line::Up {
+            session,
+            amount,
+            server,
+        } => asks_if(is_session(session, sessions), Turn::Up(amount, server)),
+        Line::Down {
+            session,
+            amount,
+            ..
+        } => asks_if(is_session(session, sessions), Turn::Down(amount)),
+        Line::Settle { server } => Ok(Turn::Settle(server)),
+        Line::Cut { client, .. } => asks_if(client == 1, Turn::Cut),
+        Line::Hang { session, .. } => asks_if(is_session(session, sessions), Turn::Hang),
         Line::Pass {
             session,
             rounds,
             server,
-            at,
-        } => asks_if(
-            0 < session && session <= sessions && server == 0 && at == 0,
-            Turn::Pass(rounds),
-        ),
+            ..
+        } => asks_if(is_session(session, sessions), Turn::Pass(rounds, server)),
         _ => Err(LineFault::Grammar),
     }
 }
@@ -191,6 +224,7 @@ fn asks_within(is_within: bool, asked: Result<Turn, LineFault>) -> Result<Turn, 
 
 /// What the line of this number asks for, or why it is refused.
 pub fn asked(world: &Inner, number: u64, line: Line) -> Result<Turn, LineFault>
+    requires { IsTimely line }
     ensures asked { result ≡ asked (world_of world.now) number line }
     ensures bounded { IfOk result IsTurnBounded }
 {

@@ -1,15 +1,19 @@
 //! The world that a trace runs in.
 
 ghost use Rattle.std.specs.Prelude.{◌≡◌, IfOk, IfErr, OnOk};
-ghost use Rattle.trace_replay.specs.World.{start};
+ghost use Rattle.trace_text.specs.Reading.{IsTimely};
+ghost use Rattle.trace_replay.specs.Timed.{timed_start, timed_asked};
 ghost use Rattle.trace_replay.specs.Run.{in_header, history_of};
 ghost use Rattle.trace_replay.specs.Turns.{IsApplied, IsRefused};
+ghost use Rattle.trace_replay.specs.declared.fault.TraceErr.TheVariants as errors;
 
 use crate::fault::{Refused, TraceErr};
 use crate::inner::Inner;
 use crate::link::{Link, Stage};
 use crate::names::Names;
+use crate::timing::{Times, timing_of};
 use crate::turn::asked;
+use clock_rule::rule::NoteErr;
 use lb_base::items::Items;
 use open_close::client::Client;
 use register_model::history::History;
@@ -17,30 +21,39 @@ use server_core::server::Server;
 use std::alloc::{AllocError, Global};
 use std::marker::Model;
 use trace_text::line::Line;
+use trace_text::refusal::LineFault;
 
-/// The two ends of a trace, and what is on its way between them.
+/// The two ends of a trace, what is on its way between them, and their clocks.
 #[derive(Drop)]
 pub struct World {
     inner: Inner,
+    times: Times,
 }
 
 impl Model for World {
-    ghost use Rattle.trace_replay.specs.World as worlds;
+    ghost use Rattle.trace_replay.specs.Timed.{Timed};
 
-    ghost Value = { worlds.World };
+    ghost Value = { Timed };
 
-    ghost use Rattle.trace_replay.specs.View.{world_of};
+    ghost use Rattle.trace_replay.specs.View.{world_of, timed_of};
     ghost use Rattle.trace_replay.specs.Turns.{IsQuiet};
 
-    ghost view = { λ w. world_of w.inner };
+    ghost view = { λ w. timed_of w.inner w.times };
 
     ghost invariant = { λ w. IsQuiet (world_of w.inner) };
+}
+
+/// A line that is refused.
+fn refused(line: u64, fault: LineFault) -> TraceErr
+    ensures { result ≡ errors.Refused (record { line = line; fault = fault }) }
+{
+    TraceErr::Refused(Refused { line, fault })
 }
 
 impl World {
     /// The world before the first line. It takes no memory.
     pub fn new(alloc: Global) -> World
-        ensures { result ≡ start }
+        ensures { result ≡ timed_start }
     {
         World {
             inner: Inner {
@@ -56,34 +69,46 @@ impl World {
                 ops: Vec::new(alloc),
                 running: None,
                 settled: Vec::new(alloc),
+                cuts: Vec::new(alloc),
             },
+            times: Times::new(alloc),
         }
     }
 
-    /// Does what the line of this number says. `Refused` with that number: the line is outside the
-    /// grammar or stands out of place, or breaks a limit, and the world stays as it was. `Memory`:
-    /// the world may be left half-way, and is of no further use: it is behind its files then.
+    /// Does what the line of this number says, whose readings have at most 63 bits, as those of
+    /// every line that was read. `Refused` with that number: the line is outside the
+    /// grammar or stands out of place, or breaks a limit, or else its readings break the clock rule,
+    /// and the world stays as it was. `Memory`: the world may be left half-way, and is of no further
+    /// use: it is behind its files then.
     #[tactic(auto, using(crate::proofs::Quiet::asked_quiet))]
     pub fn apply(&mut self, alloc: Global, number: u64, line: Line) -> Result<(), TraceErr>
+        requires { IsTimely line }
         ensures ok { OnOk result (IsApplied self.old number line self.new) }
         ensures err { IfErr result (λ e. IsRefused e self.old number line self.new) }
     {
+        let timing = timing_of(&line);
         let turn = match asked(&self.inner, number, line) {
             Ok(turn) => turn,
-            Err(fault) => {
-                return Err(TraceErr::Refused(Refused {
-                    line: number,
-                    fault,
-                }));
-            }
+            Err(fault) => return Err(refused(number, fault)),
         };
+        match self.times.take(alloc, timing) {
+            Ok(()) => {}
+            Err(NoteErr::Fault(fault)) => {
+                drop(turn);
+                return Err(refused(number, LineFault::Clock(fault)));
+            }
+            Err(NoteErr::Memory) => {
+                drop(turn);
+                return Err(TraceErr::Memory);
+            }
+        }
         self.inner.take(alloc, turn)?;
         Ok(())
     }
 
     /// Whether lines of the header are still wanted.
     pub fn in_header(&self) -> bool
-        ensures { result ≡ in_header self.now.stage }
+        ensures { result ≡ in_header self.now.world.stage }
     {
         matches!(
             self.inner.stage,
@@ -93,9 +118,9 @@ impl World {
 
     /// The history that the world has come to. The one error is want of memory.
     pub fn history(self, alloc: Global) -> Result<History, AllocError>
-        ensures { IfOk result (λ h. h ≡ history_of self) }
+        ensures { IfOk result (λ h. h ≡ history_of self.world) }
     {
-        let World { inner } = self;
+        let World { inner, .. } = self;
         let Inner {
             opening,
             ops,

@@ -4,7 +4,7 @@ use Rattle.trace_replay.specs.View.{world_of}
 use Rattle.trace_replay.proofs.inner.Inner.passes.Given as goal
 
 abbrev pub invariant-rounds : goal.invariant-rounds
-invariant-rounds l = passes l.left (world_of l.self) ≡ passes l.fn.count (world_of l.fn.self)
+invariant-rounds l = passes l.left (world_of l.self) l.now ≡ passes l.fn.count (world_of l.fn.self) l.now
 
 abbrev pub decreases-rounds : goal.decreases-rounds
 decreases-rounds l = l.left

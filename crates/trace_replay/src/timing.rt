@@ -1,0 +1,100 @@
+//! The clocks of a trace.
+
+ghost use Rattle.std.specs.Prelude.{◌≡◌};
+ghost use Rattle.trace_replay.specs.Timed.{no_times, timing_of, times_with, IsTaken};
+ghost use Rattle.trace_replay.specs.View.{times_of};
+ghost use Rattle.trace_replay.specs.declared.timing.Timing.TheVariants as timing;
+ghost use Rattle.clock_rule.specs.declared.rule.Reading.TheVariants as reads;
+
+use clock_rule::clocks::Clocks;
+use clock_rule::rule::{NoteErr, Reading};
+use std::alloc::Global;
+use trace_text::line::Line;
+
+/// The client of each session, which is the only one.
+const CLIENT: u64 = 1;
+
+/// What a line says of the clocks.
+#[derive(Clone, Copy, Debug, PartialEq, Eq)]
+pub enum Timing {
+    /// Nothing.
+    Nothing,
+    /// The term, in milliseconds.
+    Term(u64),
+    /// The drift, in milliseconds.
+    Drift(u64),
+    /// What they read.
+    Reads(Reading),
+}
+
+/// The clocks of a trace: the term that its header told, and the readings by that term and the
+/// header's drift.
+#[derive(Drop)]
+pub struct Times {
+    pub term: u64,
+    pub clocks: Clocks,
+}
+
+/// What a line says of the clocks.
+pub fn timing_of(line: &Line) -> Timing
+    ensures { result ≡ timing_of line.now }
+{
+    match line {
+        Line::Term(term) => Timing::Term(*term),
+        Line::Drift(drift) => Timing::Drift(*drift),
+        Line::Join { client, at, server } => both(*server, *client, *at),
+        Line::Do { client, at, .. } => of_client(*client, *at),
+        Line::Up { server, .. } => Timing::Reads(Reading::Server(*server)),
+        Line::Down { at, .. } => of_client(CLIENT, *at),
+        Line::Pass { server, at, .. } => both(*server, CLIENT, *at),
+        Line::Settle { server } => Timing::Reads(Reading::Server(*server)),
+        Line::Cut { client, at } => of_client(*client, *at),
+        Line::Hang { server, .. } => Timing::Reads(Reading::Server(*server)),
+        Line::Skipped | Line::Version | Line::Clients(_) | Line::File { .. } => Timing::Nothing,
+    }
+}
+
+/// An event of a client.
+fn of_client(client: u64, at: u64) -> Timing
+    ensures { result ≡ timing.Reads (reads.Client client at) }
+{
+    Timing::Reads(Reading::Client { client, at })
+}
+
+/// An event of a client, at which the server's clock is read first.
+fn both(server: u64, client: u64, at: u64) -> Timing
+    ensures { result ≡ timing.Reads (reads.Both server client at) }
+{
+    Timing::Reads(Reading::Both { server, client, at })
+}
+
+impl Times {
+    /// The clocks before the first line. It takes no memory.
+    pub fn new(alloc: Global) -> Times
+        ensures { times_of result ≡ no_times }
+    {
+        Times {
+            term: 0,
+            clocks: Clocks::new(alloc, 0, 0),
+        }
+    }
+
+    /// What a line says of the clocks is taken. The errors are the first fault by the clock rule, and
+    /// want of memory, and after either all is as before.
+    pub fn take(&mut self, alloc: Global, timing: Timing) -> Result<(), NoteErr>
+        ensures { IsTaken result (times_with (times_of self.old) timing) (times_of self.old) (times_of self.new) }
+    {
+        match timing {
+            Timing::Nothing => Ok(()),
+            Timing::Term(term) => {
+                self.term = term;
+                Ok(())
+            }
+            Timing::Drift(drift) => {
+                self.clocks = Clocks::new(alloc, self.term, drift);
+                Ok(())
+            }
+            Timing::Reads(reading) => self.clocks.read(alloc, reading),
+        }
+    }
+}
