@@ -3,18 +3,18 @@ use Rattle.std.proofs.Common.{◌≡◌, ℕ, List, [], ◌∷◌, Bool, true, f
 use Rattle.std.specs.Io.KnownBytes.{Appends}
 use Rattle.trace_replay.specs.declared.fault.Refused.{Refused}
 use Rattle.trace_replay.specs.World.{World}
-use Rattle.trace_replay.specs.Run.{run}
+use Rattle.trace_replay.specs.Timed.{accepted}
 use Rattle.trace_replay.specs.Traces.{IsKeptPromise}
 use Rattle.lbfs.specs.Output.{code_of, told, output_of, replay_output, unless_long, most_bytes}
 use Rattle.lbfs.specs.Ends.{IsAnswered, IsReplayed}
 
 abbrev pub KeepsPromises : Type 0
-KeepsPromises = (input : List ℕ) (w : World) → run input ≡ Ok w → IsKeptPromise input w
+KeepsPromises = (input : List ℕ) (w : World) → accepted input ≡ Ok w → IsKeptPromise input w
 
 no_success : {A : Type 0} → ◌≡◌ {A = ℕ} 0 5 → A
 no_success e = absurd (omega (arith, e))
 
-told_whole : (input : List ℕ) (held held' : Option (List ℕ)) (ran : Result World Refused) → KeepsPromises → run input ≡ ran
+told_whole : (input : List ℕ) (held held' : Option (List ℕ)) (ran : Result World Refused) → KeepsPromises → accepted input ≡ ran
     → 0 ≡ code_of (told ran).0 → Appends held held' (told ran).1 → IsReplayed held held' input
 told_whole input held held' (Ok w) kept e zero given = (w, e, given, kept input w e)
 told_whole input held held' (Err n) kept e zero given = no_success zero
@@ -22,7 +22,7 @@ told_whole input held held' (Err n) kept e zero given = no_success zero
 within : (input : List ℕ) (held held' : Option (List ℕ)) (long : Bool) → KeepsPromises → 0 ≡ code_of (unless_long long (replay_output input)).0
     → Appends held held' (unless_long long (replay_output input)).1 → IsReplayed held held' input
 within input held held' true kept zero given = no_success zero
-within input held held' false kept zero given = told_whole input held held' (run input) kept refl zero given
+within input held held' false kept zero given = told_whole input held held' (accepted input) kept refl zero given
 
 -- what is answered for one input
 abbrev Answered : List (List ℕ) → Option (List ℕ) → Option (List ℕ) → ℕ → List ℕ → Type 0

@@ -4,7 +4,8 @@ use Rattle.std.specs.Io.KnownBytes.{Appends, Consumes, IsAtEnd}
 use Rattle.lb_base.specs.Known.{AppendsPart, AppendsPrefix}
 use Rattle.register_model.specs.Text.{history_text}
 use Rattle.trace_replay.specs.World.{World}
-use Rattle.trace_replay.specs.Run.{run, history_of}
+use Rattle.trace_replay.specs.Run.{history_of}
+use Rattle.trace_replay.specs.Timed.{accepted}
 use Rattle.trace_replay.specs.Traces.{IsKeptPromise}
 use Rattle.lbfs.specs.Output.{output_of, code_of}
 
@@ -30,4 +31,4 @@ IsBroken words left held held' = (input : List ℕ) → left ≡ Some input → 
 -- The input is an accepted trace, what was written is the history of its run and nothing else, and that history
 -- keeps its promise.
 abbrev pub IsReplayed : Option (List ℕ) → Option (List ℕ) → List ℕ → Type 0
-IsReplayed held held' input = (w : World) × (run input ≡ Ok w) × Appends held held' (history_text (history_of w)) × IsKeptPromise input w
+IsReplayed held held' input = (w : World) × (accepted input ≡ Ok w) × Appends held held' (history_text (history_of w)) × IsKeptPromise input w

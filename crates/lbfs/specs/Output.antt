@@ -9,7 +9,8 @@ use Rattle.trace_text.specs.Refusals.{refusal_of}
 use Rattle.trace_text.specs.declared.refusal.Refusal.TheVariants as refusal
 use Rattle.trace_replay.specs.declared.fault.Refused.{Refused}
 use Rattle.trace_replay.specs.World.{World}
-use Rattle.trace_replay.specs.Run.{run, history_of}
+use Rattle.trace_replay.specs.Run.{history_of}
+use Rattle.trace_replay.specs.Timed.{accepted}
 use Rattle.lbfs.specs.Words.{command_of}
 use Rattle.lbfs.specs.declared.words.Command.{Command}
 use Rattle.lbfs.specs.declared.words.Command.TheVariants as command
@@ -43,7 +44,7 @@ told (Ok w) = (status.Done, history_text (history_of w))
 told (Err r) = (status.Refused, refusal_of (refusal.Line r.line r.fault))
 
 abbrev pub replay_output : List ℕ → Status × List ℕ
-replay_output input = told (run input)
+replay_output input = told (accepted input)
 
 abbrev pub command_output : Command → List ℕ → Status × List ℕ
 command_output command.Replay input = replay_output input

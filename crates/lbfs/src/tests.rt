@@ -11,6 +11,7 @@ use std::alloc::{AllocError, Global};
 use std::process::Abort;
 use std::test::Fail;
 
+mod losing;
 mod show;
 
 const HEADER: &str = "lbfs-trace 1\nterm 60000\ndrift 100\nclients 1\n";
@@ -159,17 +160,23 @@ fn lines_outside_the_grammar_are_refused(rt: HostRuntime) -> Result<(), Fail> {
     Ok(())
 }
 
-// Each of these stands behind the header: commands that lack a word, a reading that no clock has
-// yet, and a delivery of a kind that comes later.
+// Each of these stands behind the header: lines that lack a word, and those of a client or a session
+// that isn't there.
 #[test]
 fn lines_of_closes_outside_the_grammar_are_refused(rt: HostRuntime) -> Result<(), Fail> {
-    let lines: [(&[u8], u64); 6] = [
+    let lines: [(&[u8], u64); 12] = [
         (b"file a -\njoin 1 0 0\ndo 1 0 write #2 0\n", 7),
         (b"file a -\njoin 1 0 0\ndo 1 0 trunc #2\n", 7),
         (b"file a -\njoin 1 0 0\ndo 1 0 close 2\n", 7),
-        (b"settle 0\nsettle 1\n", 6),
+        (b"settle 0\nsettle 9223372036854775808\n", 6),
         (b"settle\n", 5),
-        (b"join 1 0 0\nup 1 all 0\n", 6),
+        (b"up 1 all 0\n", 5),
+        (b"join 1 0 0\nup 2 all 0\n", 6),
+        (b"join 1 0 0\nup 1 some 0\n", 6),
+        (b"join 1 0 0\ndown 0 all 0\n", 6),
+        (b"hang 1 0\n", 5),
+        (b"join 1 0 0\nhang 2 0\n", 6),
+        (b"cut 2 0\n", 5),
     ];
     for (text, line) in lines {
         let input = joined(rt.alloc(), &[HEADER.as_bytes(), text])?;
