@@ -1,5 +1,6 @@
 -- The arguments and the answer of each call.
 use Rattle.std.specs.Prelude.{refl}
+use Rattle.limits.specs.declared.TheConstants.{PAIRS_MOST, PIECE_MOST}
 use Rattle.xdr_codec.specs.Format.{Format}
 use Rattle.xdr_codec.specs.Compose.{◌⋆◌, mapped}
 use Rattle.xdr_codec.specs.Xdr.{u32_form, u64_form, bool_form, opaque_form}
@@ -32,7 +33,7 @@ pair_form = mapped (λ (d, s). record { digest = d; size = s }) (λ p. (p.digest
 
 unfoldable pub hashes_form : Format Hashes
 hashes_form = mapped (λ (v, (t, (s, (ps, e)))). record { version = v; term = t; size = s; pairs = ps; eof = e }) (λ h. (h.version, (h.term, (h.size, (h.pairs, h.eof))))) (λ _. refl) (λ _. refl)
-    (u64_form ⋆ u32_form ⋆ u64_form ⋆ counted 1024 pair_form ⋆ bool_form)
+    (u64_form ⋆ u32_form ⋆ u64_form ⋆ counted PAIRS_MOST pair_form ⋆ bool_form)
 
 -- MKTMPFILE: what it asks for
 unfoldable pub new_temp_form : Format NewTemp
@@ -41,7 +42,7 @@ new_temp_form = mapped (λ (f, h). record { fd = f; handle = h }) (λ n. (n.fd, 
 -- TMPWRITE: what it asks for
 unfoldable pub temp_piece_form : Format TempPiece
 temp_piece_form = mapped (λ (f, (o, b)). record { fd = f; offset = o; bytes = b }) (λ p. (p.fd, (p.offset, p.bytes))) (λ _. refl) (λ _. refl)
-    (u32_form ⋆ u64_form ⋆ opaque_form 65536)
+    (u32_form ⋆ u64_form ⋆ opaque_form PIECE_MOST)
 
 -- CONDWRITE: what it asks for
 unfoldable pub cond_piece_form : Format CondPiece

@@ -1,6 +1,7 @@
 -- Any call of LBFS and any answer.
 use Rattle.std.specs.Prelude.{◌≡◌, Bool, true, false, ℕ, ◌≤◌, List, [], ◌∷◌, length, Option, refl}
 use Rattle.std.proofs.Common.{subst}
+use Rattle.limits.specs.declared.TheConstants.{PAIRS_MOST, PIECE_MOST}
 use Rattle.xdr_codec.specs.Format.{Format}
 use Rattle.xdr_codec.specs.Compose.{embedded, nothing}
 use Rattle.xdr_codec.specs.Answers.{answer_form, short_answer}
@@ -144,10 +145,10 @@ IsShort NullAnswer = Unit {0}
 IsShort (GetLease h) = Unit {0}
 IsShort (GetLeaseAnswer a) = AnswerHasNone a
 IsShort (GetHash r) = Unit {0}
-IsShort (GetHashAnswer a) = short_answer (λ h. length h.pairs ≤ 1024) (λ _. Unit {0}) a
+IsShort (GetHashAnswer a) = short_answer (λ h. length h.pairs ≤ PAIRS_MOST) (λ _. Unit {0}) a
 IsShort (MkTmpFile n) = Unit {0}
 IsShort (MkTmpFileAnswer a) = AnswerHasNone a
-IsShort (TmpWrite p) = length p.bytes ≤ 65536
+IsShort (TmpWrite p) = length p.bytes ≤ PIECE_MOST
 IsShort (TmpWriteAnswer a) = AnswerHasNone a
 IsShort (CondWrite p) = Unit {0}
 IsShort (CondWriteAnswer a) = AnswerHasNone a

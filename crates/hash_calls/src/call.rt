@@ -3,6 +3,7 @@
 ghost use Rattle.std.specs.Prelude.{◌≡◌, ◌++◌, OnOk};
 
 use lb_base::items::{Bytes, Items};
+use limits::{PAIRS_MOST, PIECE_MOST};
 use std::alloc::{AllocError, Global};
 use xdr_codec::attr::Attr;
 use xdr_codec::digest::Digest;
@@ -11,12 +12,6 @@ use xdr_codec::handle::Handle;
 use xdr_codec::item::{Item, read_counted, write_counted};
 use xdr_codec::reader::Reader;
 use xdr_codec::writer::Writer;
-
-/// The most chunks that one GETHASH gives.
-pub const MOST_PAIRS: u32 = 1024;
-
-/// The most bytes that one TMPWRITE carries.
-pub const MOST_WRITTEN: u32 = 65_536;
 
 /// What a GETLEASE gave.
 #[derive(Drop)]
@@ -58,7 +53,7 @@ pub struct Hashes {
     pub term: u32,
     /// How many bytes the file has.
     pub size: u64,
-    /// The chunks in their order, at most `MOST_PAIRS`.
+    /// The chunks in their order, at most `PAIRS_MOST`.
     pub pairs: Items<Pair>,
     /// Whether the file's last chunk is among them, or the range began at or past the file's end.
     pub eof: bool,
@@ -80,7 +75,7 @@ pub struct TempPiece {
     pub fd: u32,
     /// The place of the first byte in the temporary file.
     pub offset: u64,
-    /// At most `MOST_WRITTEN` bytes.
+    /// At most `PIECE_MOST` bytes.
     pub bytes: Bytes,
 }
 
@@ -193,17 +188,18 @@ impl Item for Pair {
 #[tactic(auto, unfolding(crate::specs::Calls::hashes_form))]
 impl Item for Hashes {
     ghost use Rattle.std.specs.Prelude.{length, ◌≤◌};
+    ghost use Rattle.limits.specs.declared.TheConstants.{PAIRS_MOST};
     ghost use Rattle.hash_calls.specs.Calls.{hashes_form};
 
     ghost form = { hashes_form };
 
-    ghost short = { λ h. length h.pairs ≤ 1024 };
+    ghost short = { λ h. length h.pairs ≤ PAIRS_MOST };
 
     fn read(alloc: Global, reader: &mut Reader) -> Result<Hashes, ReadError> {
         let version = reader.u64()?;
         let term = reader.u32()?;
         let size = reader.u64()?;
-        let pairs = read_counted(alloc, MOST_PAIRS, reader)?;
+        let pairs = read_counted(alloc, PAIRS_MOST, reader)?;
         let eof = reader.bool()?;
         Ok(Hashes {
             version,
@@ -246,16 +242,17 @@ impl Item for NewTemp {
 #[tactic(auto, unfolding(crate::specs::Calls::temp_piece_form))]
 impl Item for TempPiece {
     ghost use Rattle.std.specs.Prelude.{length, ◌≤◌};
+    ghost use Rattle.limits.specs.declared.TheConstants.{PIECE_MOST};
     ghost use Rattle.hash_calls.specs.Calls.{temp_piece_form};
 
     ghost form = { temp_piece_form };
 
-    ghost short = { λ p. length p.bytes ≤ 65536 };
+    ghost short = { λ p. length p.bytes ≤ PIECE_MOST };
 
     fn read(alloc: Global, reader: &mut Reader) -> Result<TempPiece, ReadError> {
         let fd = reader.u32()?;
         let offset = reader.u64()?;
-        let bytes = reader.opaque(alloc, MOST_WRITTEN)?;
+        let bytes = reader.opaque(alloc, PIECE_MOST)?;
         Ok(TempPiece { fd, offset, bytes })
     }
 

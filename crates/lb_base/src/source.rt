@@ -56,13 +56,13 @@ impl From<AllocError> for ReadError {
 }
 
 /// How many bytes `read_all` asks for at once.
-const PIECE: usize = 65536;
+const AT_ONCE: usize = 65536;
 
 /// Room for one piece, on the heap.
 fn piece_room(alloc: Global) -> Result<Vec<u8>, AllocError>
-    ensures { IfOk result (λ room. length room.items ≡ PIECE) }
+    ensures { IfOk result (λ room. length room.items ≡ AT_ONCE) }
 {
-    vec![in alloc; 0u8; PIECE]
+    vec![in alloc; 0u8; AT_ONCE]
 }
 
 /// Reads the whole input, where it has at most `limit` bytes.

@@ -1,5 +1,6 @@
 -- The arguments and the answer of each call.
 use Rattle.std.specs.Prelude.{ℕ, List, refl}
+use Rattle.xdr_codec.specs.declared.reader.TheConstants.{NO_MAXIMUM}
 use Rattle.xdr_codec.specs.Format.{Format}
 use Rattle.xdr_codec.specs.Compose.{◌⋆◌, mapped}
 use Rattle.xdr_codec.specs.Xdr.{u32_form, u64_form, bool_form, opaque_form}
@@ -29,7 +30,7 @@ use Rattle.nfs3_calls.specs.Choices.{set_attr_form, how_made_form}
 
 -- filename3 (RFC 1813, section 2.5): a record's length alone bounds it
 abbrev pub name_form : Format (List ℕ)
-name_form = opaque_form 4294967295
+name_form = opaque_form NO_MAXIMUM
 
 -- diropargs3 (RFC 1813, section 2.6)
 unfoldable pub place_form : Format Place
@@ -69,7 +70,7 @@ range_form = mapped (λ (h, (o, c)). record { handle = h; offset = o; count = c 
 -- READ3resok (RFC 1813, section 3.3.6)
 unfoldable pub piece_form : Format Piece
 piece_form = mapped (λ (a, (c, (e, b))). record { attr = a; count = c; eof = e; bytes = b }) (λ p. (p.attr, (p.count, (p.eof, p.bytes)))) (λ _. refl) (λ _. refl)
-    (optional attr_form ⋆ u32_form ⋆ bool_form ⋆ opaque_form 4294967295)
+    (optional attr_form ⋆ u32_form ⋆ bool_form ⋆ opaque_form NO_MAXIMUM)
 
 -- CREATE3args (RFC 1813, section 3.3.8)
 unfoldable pub new_file_form : Format NewFile

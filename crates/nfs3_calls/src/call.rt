@@ -8,7 +8,7 @@ use xdr_codec::attr::Attr;
 use xdr_codec::fault::ReadError;
 use xdr_codec::handle::Handle;
 use xdr_codec::item::Item;
-use xdr_codec::reader::Reader;
+use xdr_codec::reader::{NO_MAXIMUM, Reader};
 use xdr_codec::writer::Writer;
 
 /// What an ACCESS asks for (RFC 1813, section 3.3.4: ACCESS3args).
@@ -132,7 +132,7 @@ impl Item for Piece {
         let attr = Option::read(alloc, reader)?;
         let count = reader.u32()?;
         let eof = reader.bool()?;
-        let bytes = reader.opaque(alloc, u32::MAX)?;
+        let bytes = reader.opaque(alloc, NO_MAXIMUM)?;
         Ok(Piece {
             attr,
             count,

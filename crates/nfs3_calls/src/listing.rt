@@ -8,7 +8,7 @@ use xdr_codec::attr::Attr;
 use xdr_codec::fault::ReadError;
 use xdr_codec::handle::Handle;
 use xdr_codec::item::{Item, read_chain, write_chain};
-use xdr_codec::reader::Reader;
+use xdr_codec::reader::{NO_MAXIMUM, Reader};
 use xdr_codec::writer::Writer;
 
 /// What a READDIR asks for (RFC 1813, section 3.3.16: READDIR3args).
@@ -90,7 +90,7 @@ impl Item for Entry {
 
     fn read(alloc: Global, reader: &mut Reader) -> Result<Entry, ReadError> {
         let fileid = reader.u64()?;
-        let name = reader.opaque(alloc, u32::MAX)?;
+        let name = reader.opaque(alloc, NO_MAXIMUM)?;
         let cookie = reader.u64()?;
         Ok(Entry {
             fileid,

@@ -8,7 +8,7 @@ use xdr_codec::attr::Attr;
 use xdr_codec::fault::ReadError;
 use xdr_codec::handle::Handle;
 use xdr_codec::item::Item;
-use xdr_codec::reader::Reader;
+use xdr_codec::reader::{NO_MAXIMUM, Reader};
 use xdr_codec::writer::Writer;
 
 /// A name in a directory (RFC 1813, section 2.6: diropargs3).
@@ -52,7 +52,7 @@ impl Item for Place {
 
     fn read(alloc: Global, reader: &mut Reader) -> Result<Place, ReadError> {
         let dir = Handle::read(alloc, reader)?;
-        let name = reader.opaque(alloc, u32::MAX)?;
+        let name = reader.opaque(alloc, NO_MAXIMUM)?;
         Ok(Place { dir, name })
     }
 

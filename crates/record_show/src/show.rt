@@ -12,7 +12,7 @@ use std::alloc::{AllocError, Global};
 use std::fmt::Write;
 
 /// How many bytes are taken at once, so that few records are held at a time.
-const PIECE: usize = 65_536;
+const AT_ONCE: usize = 65_536;
 
 /// The lines of records.
 fn put_records(alloc: Global, out: &mut String, records: &[Bytes]) -> Result<(), AllocError>
@@ -47,7 +47,7 @@ pub fn shown(alloc: Global, input: &[u8]) -> Result<Bytes, AllocError>
     let mut out = String::new(alloc);
     let mut records = Records::new(alloc);
     let mut spoilt = None;
-    for piece in input.chunks(PIECE) {
+    for piece in input.chunks(AT_ONCE) {
         let fed = records.feed(alloc, piece)?;
         put_records(alloc, &mut out, fed.records.as_slice())?;
         spoilt = fed.spoilt;

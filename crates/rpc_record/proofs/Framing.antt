@@ -6,9 +6,10 @@ use Rattle.std.specs.List.{flat_map, concat}
 use Rattle.std.proofs.lemmas.Bool.{lt-leb}
 use Rattle.std.proofs.lemmas.List.{take_at, drop_at, length-append}
 use Rattle.std.proofs.lemmas.Nat.{from_be_bytes-to_be_bytes_4}
+use Rattle.limits.specs.declared.TheConstants.{RECORD_MOST, FRAGMENTS_MOST}
 use Rattle.rpc_record.specs.declared.fragments.Header.{Header}
 use Rattle.rpc_record.specs.declared.refusal.Refusal.{Refusal}
-use Rattle.rpc_record.specs.Records.{header_word, header_of, Whole, Begun, front, record_of, HasRecord, most_bytes, Parts, split, Unread, fed}
+use Rattle.rpc_record.specs.Records.{header_word, header_of, Whole, Begun, front, record_of, HasRecord, Parts, split, Unread, fed}
 use Rattle.rpc_record.specs.Framed.{fragment_spell, Cutting, cutting_contents, cutting_spell, CuttingFits, Framed}
 use Rattle.rpc_record.proofs.Fronts.{front_last, front_more, append_none}
 use Rattle.rpc_record.proofs.Splitting.{with_records, split_whole, split_begun, split_rest_begun, prepended, only_rest}
@@ -25,18 +26,18 @@ word_other n lt =
     rw (zero_is, top, low) refl
 
 -- the header of a fragment that is not the last
-pub other_fragment : (body bytes : List ℕ) → length body ≤ most_bytes → header_of (to_be_bytes w32 (0 + length body) ++ bytes) ≡ Some (other_header (length body))
+pub other_fragment : (body bytes : List ℕ) → length body ≤ RECORD_MOST → header_of (to_be_bytes w32 (0 + length body) ++ bytes) ≡ Some (other_header (length body))
 other_fragment body bytes le =
     let is : from_be_bytes w32 (to_be_bytes w32 (0 + length body)) ≡ 0 + length body = from_be_bytes-to_be_bytes_4 (0 + length body) (omega (arith, le)) in
     header_at (to_be_bytes w32 (0 + length body)) bytes refl ∙ ap (λ (n : ℕ). Some (header_word n)) is ∙ ap (λ (h : Header). Some h) (word_other (length body) (omega (arith, le)))
 
-pub last_fragment : (body bytes : List ℕ) → length body ≤ most_bytes → header_of (to_be_bytes w32 (2 ^ 31 + length body) ++ bytes) ≡ Some (last_header (length body))
+pub last_fragment : (body bytes : List ℕ) → length body ≤ RECORD_MOST → header_of (to_be_bytes w32 (2 ^ 31 + length body) ++ bytes) ≡ Some (last_header (length body))
 last_fragment body bytes le =
     let is : from_be_bytes w32 (to_be_bytes w32 (2 ^ 31 + length body)) ≡ 2 ^ 31 + length body = from_be_bytes-to_be_bytes_4 (2 ^ 31 + length body) (omega (arith, le)) in
     header_at (to_be_bytes w32 (2 ^ 31 + length body)) bytes refl ∙ ap (λ (n : ℕ). Some (header_word n)) is ∙ ap (λ (h : Header). Some h) (word_header (length body) (omega (arith, le)))
 
 -- a last fragment ends the record
-pub final_reads : (n : ℕ) (contents final tail : List ℕ) → length contents + length final ≤ most_bytes → front (suc n) contents (fragment_spell true final ++ tail) ≡ Whole (contents ++ final) tail
+pub final_reads : (n : ℕ) (contents final tail : List ℕ) → length contents + length final ≤ RECORD_MOST → front (suc n) contents (fragment_spell true final ++ tail) ≡ Whole (contents ++ final) tail
 final_reads n contents final tail le =
     let mark : List ℕ = to_be_bytes w32 (2 ^ 31 + length final) in
     let four : length mark ≡ 4 = refl in
@@ -48,7 +49,7 @@ final_reads n contents final tail le =
     ∙ ap (λ (z : List ℕ). Whole (contents ++ final) z) (append_none (drop (length final) (final ++ tail)) ∙ drop_at final tail (length final) refl)
 
 -- another adds its bytes
-pub other_reads : (n : ℕ) (contents body tail : List ℕ) → length contents + length body ≤ most_bytes → front (suc n) contents (fragment_spell false body ++ tail) ≡ front n (contents ++ body) tail
+pub other_reads : (n : ℕ) (contents body tail : List ℕ) → length contents + length body ≤ RECORD_MOST → front (suc n) contents (fragment_spell false body ++ tail) ≡ front n (contents ++ body) tail
 other_reads n contents body tail le =
     let mark : List ℕ = to_be_bytes w32 (0 + length body) in
     let four : length mark ≡ 4 = refl in
@@ -59,7 +60,7 @@ other_reads n contents body tail le =
     ∙ ap (λ (z : List ℕ). front n (contents ++ z) (drop (length body) (body ++ tail) ++ [])) (take_at body tail (length body) refl)
     ∙ ap (λ (z : List ℕ). front n (contents ++ body) z) (append_none (drop (length body) (body ++ tail)) ∙ drop_at body tail (length body) refl)
 
-pub cutting_reads : (n : ℕ) (contents : List ℕ) (earlier : List (List ℕ)) (final tail : List ℕ) → length earlier < n → length contents + length (concat earlier ++ final) ≤ most_bytes
+pub cutting_reads : (n : ℕ) (contents : List ℕ) (earlier : List (List ℕ)) (final tail : List ℕ) → length earlier < n → length contents + length (concat earlier ++ final) ≤ RECORD_MOST
     → front n contents ((flat_map (fragment_spell false) earlier ++ fragment_spell true final) ++ tail) ≡ Whole (contents ++ (concat earlier ++ final)) tail
 cutting_reads zero contents earlier final tail few le = absurd (omega (arith, few))
 cutting_reads (suc n) contents [] final tail few le = final_reads n contents final tail le
@@ -76,7 +77,7 @@ cutting_reads (suc n) contents (body ∷ earlier) final tail few le =
 
 pub cutting_is_read : (c : Cutting) (tail : List ℕ) → CuttingFits c → record_of (cutting_spell c ++ tail) ≡ Whole (cutting_contents c) tail
 unfolding record_of
-cutting_is_read c tail fits = cutting_reads 1024 [] c.earlier c.final tail fits.0 (omega (arith, fits.1))
+cutting_is_read c tail fits = cutting_reads FRAGMENTS_MOST [] c.earlier c.final tail fits.0 (omega (arith, fits.1))
 
 -- the records that were framed are split off
 pub framed_split : (cuttings : List Cutting) (rest : List ℕ) → All CuttingFits cuttings → split (flat_map cutting_spell cuttings ++ rest) ≡ with_records (map cutting_contents cuttings) (split rest)

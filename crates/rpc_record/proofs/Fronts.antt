@@ -4,10 +4,11 @@ use Rattle.std.specs.Prelude.{nat_lt}
 use Rattle.std.specs.Int.{w32, from_be_bytes}
 use Rattle.std.proofs.lemmas.Bool.{ltb-false, le-ltb, lt-ltb, cases_lt}
 use Rattle.std.proofs.lemmas.List.{take-append-le, drop-append-le, length-drop}
+use Rattle.limits.specs.declared.TheConstants.{RECORD_MOST}
 use Rattle.rpc_record.specs.declared.fragments.Header.{Header}
 use Rattle.rpc_record.specs.declared.refusal.Refusal.{Refusal}
 use Rattle.rpc_record.specs.declared.refusal.Refusal.TheVariants.{TooBig, TooManyFragments}
-use Rattle.rpc_record.specs.Records.{header_word, header_of, Front, Whole, Begun, Bad, fragment, none_more, front, most_bytes}
+use Rattle.rpc_record.specs.Records.{header_word, header_of, Front, Whole, Begun, Bad, fragment, none_more, front}
 
 -- a header has four bytes
 pub header_long : (bytes : List ℕ) (h : Header) → header_of bytes ≡ Some h → 4 ≤ length bytes
@@ -28,24 +29,24 @@ header_more bytes behind h e =
 
 -- ---- each case of a fragment
 
-pub fragment_big : (h : Header) (contents behind : List ℕ) (later : Front) → most_bytes < length contents + h.len → fragment h contents behind later ≡ Bad (TooBig (length contents + h.len))
-fragment_big h contents behind later lt = let t : nat_lt most_bytes (length contents + h.len) ≡ true = lt-ltb _ _ lt in rw t refl
+pub fragment_big : (h : Header) (contents behind : List ℕ) (later : Front) → RECORD_MOST < length contents + h.len → fragment h contents behind later ≡ Bad (TooBig (length contents + h.len))
+fragment_big h contents behind later lt = let t : nat_lt RECORD_MOST (length contents + h.len) ≡ true = lt-ltb _ _ lt in rw t refl
 
-pub fragment_short : (h : Header) (contents behind : List ℕ) (later : Front) → length contents + h.len ≤ most_bytes → length behind < h.len → fragment h contents behind later ≡ Begun
+pub fragment_short : (h : Header) (contents behind : List ℕ) (later : Front) → length contents + h.len ≤ RECORD_MOST → length behind < h.len → fragment h contents behind later ≡ Begun
 fragment_short h contents behind later le lt =
-    let t : nat_lt most_bytes (length contents + h.len) ≡ false = le-ltb _ _ le in
+    let t : nat_lt RECORD_MOST (length contents + h.len) ≡ false = le-ltb _ _ le in
     let u : nat_lt (length behind) h.len ≡ true = lt-ltb _ _ lt in
     rw (t, u) refl
 
-pub fragment_last : (h : Header) (contents behind : List ℕ) (later : Front) → length contents + h.len ≤ most_bytes → h.len ≤ length behind → h.last ≡ true → fragment h contents behind later ≡ Whole (contents ++ take h.len behind) (drop h.len behind)
+pub fragment_last : (h : Header) (contents behind : List ℕ) (later : Front) → length contents + h.len ≤ RECORD_MOST → h.len ≤ length behind → h.last ≡ true → fragment h contents behind later ≡ Whole (contents ++ take h.len behind) (drop h.len behind)
 fragment_last h contents behind later le long last =
-    let t : nat_lt most_bytes (length contents + h.len) ≡ false = le-ltb _ _ le in
+    let t : nat_lt RECORD_MOST (length contents + h.len) ≡ false = le-ltb _ _ le in
     let u : nat_lt (length behind) h.len ≡ false = le-ltb _ _ long in
     rw (t, u, last) refl
 
-pub fragment_more : (h : Header) (contents behind : List ℕ) (later : Front) → length contents + h.len ≤ most_bytes → h.len ≤ length behind → h.last ≡ false → fragment h contents behind later ≡ later
+pub fragment_more : (h : Header) (contents behind : List ℕ) (later : Front) → length contents + h.len ≤ RECORD_MOST → h.len ≤ length behind → h.last ≡ false → fragment h contents behind later ≡ later
 fragment_more h contents behind later le long last =
-    let t : nat_lt most_bytes (length contents + h.len) ≡ false = le-ltb _ _ le in
+    let t : nat_lt RECORD_MOST (length contents + h.len) ≡ false = le-ltb _ _ le in
     let u : nat_lt (length behind) h.len ≡ false = le-ltb _ _ long in
     rw (t, u, last) refl
 
@@ -59,11 +60,11 @@ front_none (suc more) contents bytes e = rw (e, front) refl
 pub front_out : (contents bytes : List ℕ) (h : Header) → header_of bytes ≡ Some h → front zero contents bytes ≡ Bad (none_more h contents)
 front_out contents bytes h e = rw (e, front) refl
 
-pub out_big : (h : Header) (contents : List ℕ) → most_bytes < length contents + h.len → none_more h contents ≡ TooBig (length contents + h.len)
-out_big h contents lt = let t : nat_lt most_bytes (length contents + h.len) ≡ true = lt-ltb _ _ lt in rw t refl
+pub out_big : (h : Header) (contents : List ℕ) → RECORD_MOST < length contents + h.len → none_more h contents ≡ TooBig (length contents + h.len)
+out_big h contents lt = let t : nat_lt RECORD_MOST (length contents + h.len) ≡ true = lt-ltb _ _ lt in rw t refl
 
-pub out_many : (h : Header) (contents : List ℕ) → length contents + h.len ≤ most_bytes → none_more h contents ≡ TooManyFragments
-out_many h contents le = let t : nat_lt most_bytes (length contents + h.len) ≡ false = le-ltb _ _ le in rw t refl
+pub out_many : (h : Header) (contents : List ℕ) → length contents + h.len ≤ RECORD_MOST → none_more h contents ≡ TooManyFragments
+out_many h contents le = let t : nat_lt RECORD_MOST (length contents + h.len) ≡ false = le-ltb _ _ le in rw t refl
 
 abbrev pub front_later : ℕ → List ℕ → List ℕ → Header → Front
 front_later more contents bytes h = front more (contents ++ take h.len (drop 4 bytes)) (drop h.len (drop 4 bytes))
@@ -80,13 +81,13 @@ pub take_parts : (n : ℕ) (bytes behind : List ℕ) → 4 + n ≤ length bytes 
 take_parts n bytes behind le = rw (drop-append-le 4 bytes behind (omega (arith, le))) (take-append-le n (drop 4 bytes) behind (omega (arith, le, length-drop 4 bytes)))
 
 -- a header that promises too much, however many fragments may come
-pub front_big : (more : ℕ) (contents bytes behind : List ℕ) (h : Header) → header_of bytes ≡ Some h → most_bytes < length contents + h.len → front more contents (bytes ++ behind) ≡ Bad (TooBig (length contents + h.len))
+pub front_big : (more : ℕ) (contents bytes behind : List ℕ) (h : Header) → header_of bytes ≡ Some h → RECORD_MOST < length contents + h.len → front more contents (bytes ++ behind) ≡ Bad (TooBig (length contents + h.len))
 front_big zero contents bytes behind h e lt = front_out contents (bytes ++ behind) h (header_more bytes behind h e) ∙ ap (λ (why : Refusal). Bad why) (out_big h contents lt)
 front_big (suc more) contents bytes behind h e lt =
     front_some more contents (bytes ++ behind) h (header_more bytes behind h e) ∙ fragment_big h contents (drop 4 (bytes ++ behind)) (front_later more contents (bytes ++ behind) h) lt
 
 -- a last fragment, which is whole
-pub front_last : (more : ℕ) (contents bytes behind : List ℕ) (h : Header) → header_of bytes ≡ Some h → length contents + h.len ≤ most_bytes → 4 + h.len ≤ length bytes → h.last ≡ true
+pub front_last : (more : ℕ) (contents bytes behind : List ℕ) (h : Header) → header_of bytes ≡ Some h → length contents + h.len ≤ RECORD_MOST → 4 + h.len ≤ length bytes → h.last ≡ true
     → front (suc more) contents (bytes ++ behind) ≡ Whole (contents ++ take h.len (drop 4 bytes)) (drop h.len (drop 4 bytes) ++ behind)
 front_last more contents bytes behind h e le long last =
     front_some more contents (bytes ++ behind) h (header_more bytes behind h e)
@@ -94,7 +95,7 @@ front_last more contents bytes behind h e le long last =
     ∙ rw (take_parts h.len bytes behind long, drop_parts h.len bytes behind long) refl
 
 -- a whole fragment which is not the last
-pub front_more : (more : ℕ) (contents bytes behind : List ℕ) (h : Header) → header_of bytes ≡ Some h → length contents + h.len ≤ most_bytes → 4 + h.len ≤ length bytes → h.last ≡ false
+pub front_more : (more : ℕ) (contents bytes behind : List ℕ) (h : Header) → header_of bytes ≡ Some h → length contents + h.len ≤ RECORD_MOST → 4 + h.len ≤ length bytes → h.last ≡ false
     → front (suc more) contents (bytes ++ behind) ≡ front more (contents ++ take h.len (drop 4 bytes)) (drop h.len (drop 4 bytes) ++ behind)
 front_more more contents bytes behind h e le long last =
     front_some more contents (bytes ++ behind) h (header_more bytes behind h e)
@@ -102,25 +103,25 @@ front_more more contents bytes behind h e le long last =
     ∙ rw (take_parts h.len bytes behind long, drop_parts h.len bytes behind long) refl
 
 -- a fragment that is not whole
-pub front_short : (more : ℕ) (contents bytes : List ℕ) (h : Header) → header_of bytes ≡ Some h → length contents + h.len ≤ most_bytes → length bytes < 4 + h.len → front (suc more) contents bytes ≡ Begun
+pub front_short : (more : ℕ) (contents bytes : List ℕ) (h : Header) → header_of bytes ≡ Some h → length contents + h.len ≤ RECORD_MOST → length bytes < 4 + h.len → front (suc more) contents bytes ≡ Begun
 front_short more contents bytes h e le lt =
     front_some more contents bytes h e ∙ fragment_short h contents (drop 4 bytes) (front_later more contents bytes h) le (omega (arith, lt, length-drop 4 bytes, header_long bytes h e))
 
 -- ---- what more bytes make of a front
 
 pub data Shape (h : Header) (contents bytes : List ℕ) : Type 0 where
-  big : most_bytes < length contents + h.len → Shape h contents bytes
-  short : length contents + h.len ≤ most_bytes → length bytes < 4 + h.len → Shape h contents bytes
-  last : length contents + h.len ≤ most_bytes → 4 + h.len ≤ length bytes → h.last ≡ true → Shape h contents bytes
-  more : length contents + h.len ≤ most_bytes → 4 + h.len ≤ length bytes → h.last ≡ false → Shape h contents bytes
+  big : RECORD_MOST < length contents + h.len → Shape h contents bytes
+  short : length contents + h.len ≤ RECORD_MOST → length bytes < 4 + h.len → Shape h contents bytes
+  last : length contents + h.len ≤ RECORD_MOST → 4 + h.len ≤ length bytes → h.last ≡ true → Shape h contents bytes
+  more : length contents + h.len ≤ RECORD_MOST → 4 + h.len ≤ length bytes → h.last ≡ false → Shape h contents bytes
 
 pub shape : (h : Header) (contents bytes : List ℕ) → Shape h contents bytes
-shape h contents bytes = elim (cases_lt most_bytes (length contents + h.len)) [
+shape h contents bytes = elim (cases_lt RECORD_MOST (length contents + h.len)) [
   | inl lt ↦ big lt
   | inr le ↦ elim (cases_lt (length bytes) (4 + h.len)) [ inl lt ↦ short le lt | inr long ↦ by_last h.last refl le long ]
 ]
   where
-    by_last : (t : Bool) → h.last ≡ t → length contents + h.len ≤ most_bytes → 4 + h.len ≤ length bytes → Shape h contents bytes
+    by_last : (t : Bool) → h.last ≡ t → length contents + h.len ≤ RECORD_MOST → 4 + h.len ≤ length bytes → Shape h contents bytes
     by_last true e le long = last le long e
     by_last false e le long = more le long e
 

@@ -1,6 +1,7 @@
 -- The header of a reply.
 use Rattle.std.proofs.Common.{◌≡◌, ◌≤◌, length, Result, Ok, Err, refl, sym, subst, lit<}
 use Rattle.std.specs.Prelude.{OnOk}
+use Rattle.limits.specs.declared.TheConstants.{AUTH_MOST}
 use Rattle.xdr_codec.specs.Xdr.{u32_form}
 use Rattle.rpc_record.specs.declared.header.Auth.{Auth}
 use Rattle.rpc_record.specs.declared.header.Accept.{Accept}
@@ -8,7 +9,7 @@ use Rattle.rpc_record.specs.declared.header.ReplyHead.{ReplyHead}
 use Rattle.rpc_record.specs.declared.header.ReplyHead.TheVariants.{Accepted}
 use Rattle.rpc_record.specs.Header.{auth_form, accept_form, reply_form, short_reply}
 
-pub accepted_fits : (r : ReplyHead) (v : Auth) (a : Accept) → r ≡ Accepted v a → (length v.body ≤ 400 → auth_form.Fits v × accept_form.Fits a) → short_reply r → reply_form.Fits r
+pub accepted_fits : (r : ReplyHead) (v : Auth) (a : Accept) → r ≡ Accepted v a → (length v.body ≤ AUTH_MOST → auth_form.Fits v × accept_form.Fits a) → short_reply r → reply_form.Fits r
 unfolding reply_form u32_form
 accepted_fits r v a e fits short = subst (λ (x : ReplyHead). reply_form.Fits x) (sym e) ((lit< tt, refl), ((v, a), refl, fits (subst short_reply e short)))
 

@@ -1,6 +1,7 @@
 -- One fragment after the other makes the record.
 use Rattle.std.proofs.Common.{◌≡◌, ℕ, zero, suc, ◌+◌, ◌≤◌, min, List, [], ◌++◌, length, take, drop, Bool, true, false, Some, None, sym, ap, ◌∙◌, subst, arith}
 use Rattle.std.proofs.lemmas.List.{length-drop}
+use Rattle.limits.specs.declared.TheConstants.{FRAGMENTS_MOST}
 use Rattle.rpc_record.specs.declared.fragments.Header.{Header}
 use Rattle.rpc_record.specs.Records.{header_of, Whole, Begun, front, record_of, HasRecord}
 use Rattle.rpc_record.specs.Progress.{Joins}
@@ -45,7 +46,7 @@ joins_fragment h bytes contents left w j e = joins_by j.more h bytes contents le
 
 pub joins_start : (bytes contents : List ℕ) → contents ≡ [] → Joins bytes contents bytes
 unfolding record_of
-joins_start bytes contents e = record { more = 1024; is = ap (λ (z : List ℕ). front 1024 z bytes) e }
+joins_start bytes contents e = record { more = FRAGMENTS_MOST; is = ap (λ (z : List ℕ). front FRAGMENTS_MOST z bytes) e }
 
 -- a header stands before the end of a record
 pub joins_none : {A : Type 0} (bytes contents left : List ℕ) → (whole : List ℕ) × HasRecord bytes whole → Joins bytes contents left → header_of left ≡ None → A

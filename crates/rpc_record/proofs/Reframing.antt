@@ -7,11 +7,12 @@ use Rattle.std.proofs.lemmas.Bool.{le-ltb, leb-true, leb-false}
 use Rattle.std.proofs.lemmas.List.{length-drop, length-take, take-append-drop, drop_at}
 use Rattle.std.proofs.lemmas.List.Elements.{All-nil, All-cons}
 use Rattle.std.proofs.lemmas.Nat.{be_bytes_4}
+use Rattle.limits.specs.declared.TheConstants.{RECORD_MOST, FRAGMENTS_MOST}
 use Rattle.xdr_codec.specs.Format.{IsBytes}
 use Rattle.xdr_codec.specs.Laws.{IsBytes-take, IsBytes-drop}
 use Rattle.xdr_codec.specs.Xdr.{wide32}
 use Rattle.rpc_record.specs.declared.fragments.Header.{Header}
-use Rattle.rpc_record.specs.Records.{header_word, header_of, Front, Whole, Begun, Bad, front, record_of, most_bytes, split_in, split}
+use Rattle.rpc_record.specs.Records.{header_word, header_of, Front, Whole, Begun, Bad, front, record_of, split_in, split}
 use Rattle.rpc_record.specs.Framed.{fragment_spell, Cutting, cutting_contents, cutting_spell, CuttingFits, Framed, IsFramed}
 use Rattle.rpc_record.proofs.Fronts.{header_long, front_none, front_out, front_big, front_short, front_last, front_more, big, short, last, more, shape, append_none}
 use Rattle.rpc_record.proofs.Splitting.{in_whole, in_begun, in_bad, whole_shorter, nothing_begun}
@@ -57,14 +58,14 @@ pub record Back (n : ℕ) (contents bytes whole after : List ℕ) : Type 0 where
   pub final : List ℕ
   pub few : length earlier < n
   pub joined : whole ≡ contents ++ (concat earlier ++ final)
-  pub small : length whole ≤ most_bytes
+  pub small : length whole ≤ RECORD_MOST
   pub parts : bytes ≡ (flat_map (fragment_spell false) earlier ++ fragment_spell true final) ++ after
 
 pub whole_are : (a b c d : List ℕ) → Whole a b ≡ Whole c d → (a ≡ c) × (b ≡ d)
 whole_are a b c d e = (cc, cc)
 
 pub back_last : (n : ℕ) (contents bytes whole after : List ℕ) (h : Header) → IsBytes bytes → front (suc n) contents bytes ≡ Whole whole after → header_of bytes ≡ Some h
-    → length contents + h.len ≤ most_bytes → 4 + h.len ≤ length bytes → h.last ≡ true → Back (suc n) contents bytes whole after
+    → length contents + h.len ≤ RECORD_MOST → 4 + h.len ≤ length bytes → h.last ≡ true → Back (suc n) contents bytes whole after
 back_last n contents bytes whole after h fits e head le long is =
     let body : List ℕ = take h.len (drop 4 bytes) in
     let rest : List ℕ = drop h.len (drop 4 bytes) in
@@ -121,16 +122,16 @@ read_back (suc n) contents bytes whole after fits e = by_header (header_of bytes
               back_more n contents bytes whole after h fits head long is (later (contents ++ take h.len (drop 4 bytes)) rest (IsBytes-drop h.len (drop 4 bytes) (IsBytes-drop 4 bytes fits)) on)
         ]
 
-pub record_back : (bytes whole after : List ℕ) → IsBytes bytes → record_of bytes ≡ Whole whole after → Back 1024 [] bytes whole after
+pub record_back : (bytes whole after : List ℕ) → IsBytes bytes → record_of bytes ≡ Whole whole after → Back FRAGMENTS_MOST [] bytes whole after
 unfolding record_of
-record_back bytes whole after fits e = read_back 1024 [] bytes whole after fits e
+record_back bytes whole after fits e = read_back FRAGMENTS_MOST [] bytes whole after fits e
 
 -- ---- all records
 
 pub framed_none : (bytes : List ℕ) → Framed [] bytes bytes
 framed_none bytes = record { cuttings = []; contents = refl; fit = All-nil CuttingFits; spelled = refl }
 
-pub framed_more : (bytes whole after rest : List ℕ) (records : List (List ℕ)) → Back 1024 [] bytes whole after → Framed records after rest → Framed (whole ∷ records) bytes rest
+pub framed_more : (bytes whole after rest : List ℕ) (records : List (List ℕ)) → Back FRAGMENTS_MOST [] bytes whole after → Framed records after rest → Framed (whole ∷ records) bytes rest
 framed_more bytes whole after rest records k f =
     let c : Cutting = record { earlier = k.earlier; final = k.final } in
     record {
@@ -140,7 +141,7 @@ framed_more bytes whole after rest records k f =
       spelled = k.parts ∙ ap (λ (z : List ℕ). cutting_spell c ++ z) f.spelled ∙ sym (append_assoc (cutting_spell c) (flat_map cutting_spell f.cuttings) rest);
     }
 
-pub bytes_after : (bytes whole after : List ℕ) → IsBytes bytes → Back 1024 [] bytes whole after → IsBytes after
+pub bytes_after : (bytes whole after : List ℕ) → IsBytes bytes → Back FRAGMENTS_MOST [] bytes whole after → IsBytes after
 bytes_after bytes whole after fits k =
     let front_of : List ℕ = flat_map (fragment_spell false) k.earlier ++ fragment_spell true k.final in
     let same : drop (length front_of) bytes ≡ after = ap (drop (length front_of)) k.parts ∙ drop_at front_of after (length front_of) refl in
@@ -153,7 +154,7 @@ split_back (suc fuel) bytes le fits = by_front (record_of bytes) refl (λ after 
   where
     by_front : (x : Front) → record_of bytes ≡ x → ((after : List ℕ) → length after < length bytes → IsBytes after → IsFramed after (split_in fuel after)) → IsFramed bytes (split_in (suc fuel) bytes)
     by_front (Whole whole after) e later =
-        let k : Back 1024 [] bytes whole after = record_back bytes whole after fits e in
+        let k : Back FRAGMENTS_MOST [] bytes whole after = record_back bytes whole after fits e in
         let l : IsFramed after (split_in fuel after) = later after (whole_shorter bytes whole after e) (bytes_after bytes whole after fits k) in
         subst (IsFramed bytes) (sym (in_whole fuel bytes whole after e)) (l.0, framed_more bytes whole after l.0 (split_in fuel after).records k l.1, l.2)
     by_front Begun e later = subst (IsFramed bytes) (sym (in_begun (suc fuel) bytes e)) (bytes, framed_none bytes, (e, refl))

@@ -2,6 +2,7 @@
 use Rattle.std.proofs.Common.{◌≡◌, ℕ, zero, suc, ◌+◌, ◌<◌, ◌≤◌, List, [], ◌∷◌, ◌++◌, length, take, drop, Option, Some, None, refl, sym, ap, ◌∙◌, subst, arith, length-append, append_assoc}
 use Rattle.std.specs.List.{concat}
 use Rattle.std.proofs.lemmas.List.{length-drop}
+use Rattle.limits.specs.declared.TheConstants.{FRAGMENTS_MOST}
 use Rattle.rpc_record.specs.declared.fragments.Header.{Header}
 use Rattle.rpc_record.specs.declared.refusal.Refusal.{Refusal}
 use Rattle.rpc_record.specs.declared.refusal.Refusal.TheVariants.{TooBig}
@@ -49,7 +50,7 @@ front_shorter (suc n) contents bytes = by_header (header_of bytes) refl (λ c b.
 
 pub whole_shorter : (bytes contents after : List ℕ) → record_of bytes ≡ Whole contents after → length after < length bytes
 unfolding record_of
-whole_shorter bytes contents after e = subst (λ (z : Front). Shorter bytes z) e (front_shorter 1024 [] bytes)
+whole_shorter bytes contents after e = subst (λ (z : Front). Shorter bytes z) e (front_shorter FRAGMENTS_MOST [] bytes)
 
 -- ---- one record at the front, and the others
 
@@ -125,11 +126,11 @@ split_bad bytes why e = split_more bytes ∙ in_bad (length bytes) bytes why e
 
 pub whole_grows : (bytes behind contents after : List ℕ) → record_of bytes ≡ Whole contents after → record_of (bytes ++ behind) ≡ Whole contents (after ++ behind)
 unfolding record_of
-whole_grows bytes behind contents after e = subst (λ (z : Front). Grown behind z (record_of (bytes ++ behind))) e (front_grows 1024 [] bytes behind)
+whole_grows bytes behind contents after e = subst (λ (z : Front). Grown behind z (record_of (bytes ++ behind))) e (front_grows FRAGMENTS_MOST [] bytes behind)
 
 pub bad_grows : (bytes behind : List ℕ) (why : Refusal) → record_of bytes ≡ Bad why → record_of (bytes ++ behind) ≡ Bad why
 unfolding record_of
-bad_grows bytes behind why e = subst (λ (z : Front). Grown behind z (record_of (bytes ++ behind))) e (front_grows 1024 [] bytes behind)
+bad_grows bytes behind why e = subst (λ (z : Front). Grown behind z (record_of (bytes ++ behind))) e (front_grows FRAGMENTS_MOST [] bytes behind)
 
 pub continued_one : (contents : List ℕ) (records : List (List ℕ)) (rest : List ℕ) (spoilt : Option Refusal) (behind : List ℕ)
     → prepended contents (continued (record { records = records; rest = rest; spoilt = spoilt }) behind) ≡ continued (record { records = contents ∷ records; rest = rest; spoilt = spoilt }) behind

@@ -6,12 +6,13 @@ use Rattle.std.specs.List.{flat_map, concat}
 use Rattle.std.proofs.lemmas.Bool.{le-ltb, cases_lt}
 use Rattle.std.proofs.lemmas.List.{length-take, length-drop, take-append-drop, drop_at, append-nil}
 use Rattle.std.proofs.lemmas.Nat.{from_be_bytes-to_be_bytes_4}
+use Rattle.limits.specs.declared.TheConstants.{RECORD_MOST, FRAGMENTS_MOST}
 use Rattle.xdr_codec.specs.Format.{IsBytes}
 use Rattle.xdr_codec.specs.Laws.{IsBytes-drop}
 use Rattle.rpc_record.specs.declared.fragments.Header.{Header}
 use Rattle.rpc_record.specs.declared.refusal.Refusal.{Refusal}
 use Rattle.rpc_record.specs.declared.refusal.Refusal.TheVariants.{TooBig, TooManyFragments}
-use Rattle.rpc_record.specs.Records.{header_word, header_of, Whole, Begun, Bad, none_more, front, record_of, most_bytes, Parts, split, all_fed, nothing_read}
+use Rattle.rpc_record.specs.Records.{header_word, header_of, Whole, Begun, Bad, none_more, front, record_of, Parts, split, all_fed, nothing_read}
 use Rattle.rpc_record.specs.Framed.{header_spell, fragment_spell, Framed, cutting_spell, IsFramed, Ends}
 use Rattle.rpc_record.specs.Spoilt.{Start, start_spell, StartFits, Breaks, SpoiltBehind, Spoils}
 use Rattle.rpc_record.proofs.Fronts.{header_long, fragment_big, front_none, front_out, out_big, out_many, front_some, front_later, front_big, front_short, front_last, front_more, big, short, last, more, shape, append_none}
@@ -33,8 +34,8 @@ spelled_header false len bytes lt =
 
 -- which limit is broken, where so many more fragments may come, and so many bytes were promised before
 abbrev pub BreaksFrom : ℕ → ℕ → List (List ℕ) → ℕ → Refusal → Type 0
-BreaksFrom n before earlier len (TooBig sum) = (length earlier ≤ n) × ((before + length (concat earlier)) + len ≡ sum) × (most_bytes < sum)
-BreaksFrom n before earlier len TooManyFragments = (length earlier ≡ n) × ((before + length (concat earlier)) + len ≤ most_bytes)
+BreaksFrom n before earlier len (TooBig sum) = (length earlier ≤ n) × ((before + length (concat earlier)) + len ≡ sum) × (RECORD_MOST < sum)
+BreaksFrom n before earlier len TooManyFragments = (length earlier ≡ n) × ((before + length (concat earlier)) + len ≤ RECORD_MOST)
 
 breaks_on : (n before : ℕ) (body : List ℕ) (earlier : List (List ℕ)) (len : ℕ) (why : Refusal) → BreaksFrom (suc n) before (body ∷ earlier) len why → BreaksFrom n (before + length body) earlier len why
 breaks_on n before body earlier len (TooBig sum) h = (omega (arith, h.0), omega (arith, h.1, length-append body (concat earlier)), h.2)
@@ -51,7 +52,7 @@ out_as h contents (TooBig sum) b =
     out_big h contents (omega (arith, b.2, same)) ∙ ap (λ (k : ℕ). TooBig k) same
 out_as h contents TooManyFragments b = out_many h contents (omega (arith, b.1))
 
-pub start_reads : (n : ℕ) (contents : List ℕ) (earlier : List (List ℕ)) (top : Bool) (len : ℕ) (tail : List ℕ) (why : Refusal) → len < 2 ^ 31 → length contents + length (concat earlier) ≤ most_bytes → BreaksFrom n (length contents) earlier len why
+pub start_reads : (n : ℕ) (contents : List ℕ) (earlier : List (List ℕ)) (top : Bool) (len : ℕ) (tail : List ℕ) (why : Refusal) → len < 2 ^ 31 → length contents + length (concat earlier) ≤ RECORD_MOST → BreaksFrom n (length contents) earlier len why
     → front n contents ((flat_map (fragment_spell false) earlier ++ header_spell top len) ++ tail) ≡ Bad why
 start_reads zero contents [] top len tail why lt le h =
     let header : Header = record { last = top; len = len } in
@@ -77,13 +78,13 @@ start_reads (suc n) contents (body ∷ earlier) top len tail why lt le h =
     ∙ other_reads n contents body ((others ++ head) ++ tail) (omega (arith, le, sum))
     ∙ start_reads n (contents ++ body) earlier top len tail why lt (omega (arith, le, sum, joined)) later
 
-breaks_from : (s : Start) (why : Refusal) → Breaks s why → BreaksFrom 1024 0 s.earlier s.len why
+breaks_from : (s : Start) (why : Refusal) → Breaks s why → BreaksFrom FRAGMENTS_MOST 0 s.earlier s.len why
 breaks_from s (TooBig sum) h = (omega (arith, h.0), omega (arith, h.1), h.2)
 breaks_from s TooManyFragments h = (omega (arith, h.0), omega (arith, h.1))
 
 pub start_is_bad : (s : Start) (tail : List ℕ) (why : Refusal) → StartFits s → Breaks s why → record_of (start_spell s ++ tail) ≡ Bad why
 unfolding record_of
-start_is_bad s tail why fits h = start_reads 1024 [] s.earlier s.last s.len tail why fits.0 (omega (arith, fits.1)) (breaks_from s why h)
+start_is_bad s tail why fits h = start_reads FRAGMENTS_MOST [] s.earlier s.last s.len tail why fits.0 (omega (arith, fits.1)) (breaks_from s why h)
 
 pub spoilt_split : (records : List (List ℕ)) (bytes : List ℕ) (why : Refusal) → SpoiltBehind records bytes why → split bytes ≡ record { records = records; rest = []; spoilt = Some why }
 spoilt_split records bytes why s =
@@ -111,14 +112,14 @@ pub record BadBack (n : ℕ) (contents bytes : List ℕ) (why : Refusal) : Type 
   pub len : ℕ
   pub tail : List ℕ
   pub small : len < 2 ^ 31
-  pub fits : length contents + length (concat earlier) ≤ most_bytes
+  pub fits : length contents + length (concat earlier) ≤ RECORD_MOST
   pub breaks : BreaksFrom n (length contents) earlier len why
   pub parts : bytes ≡ (flat_map (fragment_spell false) earlier ++ header_spell top len) ++ tail
 
 bad_is : (why why' : Refusal) → Bad why ≡ Bad why' → why ≡ why'
 bad_is why why' e = cc
 
-back_one : (n : ℕ) (contents bytes : List ℕ) (why : Refusal) (h : Header) → IsBytes bytes → header_of bytes ≡ Some h → length contents ≤ most_bytes → BreaksFrom n (length contents) [] h.len why → BadBack n contents bytes why
+back_one : (n : ℕ) (contents bytes : List ℕ) (why : Refusal) (h : Header) → IsBytes bytes → header_of bytes ≡ Some h → length contents ≤ RECORD_MOST → BreaksFrom n (length contents) [] h.len why → BadBack n contents bytes why
 back_one n contents bytes why h fits e le breaks =
     record { earlier = []; top = h.last; len = h.len; tail = drop 4 bytes; small = header_small bytes h e; fits = omega (arith, le); breaks = breaks; parts = header_parts bytes h fits e }
 
@@ -144,12 +145,12 @@ back_on n contents bytes why h fits e long is k =
 
 breaks_out : (h : Header) (contents : List ℕ) → BreaksFrom zero (length contents) [] h.len (none_more h contents)
 breaks_out h contents =
-    elim (cases_lt most_bytes (length contents + h.len)) [
+    elim (cases_lt RECORD_MOST (length contents + h.len)) [
       | inl lt ↦ subst (BreaksFrom zero (length contents) [] h.len) (sym (out_big h contents lt)) (omega arith, omega arith, lt)
       | inr le ↦ subst (BreaksFrom zero (length contents) [] h.len) (sym (out_many h contents le)) (refl, omega (arith, le))
     ]
 
-pub bad_back : (n : ℕ) (contents bytes : List ℕ) (why : Refusal) → IsBytes bytes → length contents ≤ most_bytes → front n contents bytes ≡ Bad why → BadBack n contents bytes why
+pub bad_back : (n : ℕ) (contents bytes : List ℕ) (why : Refusal) → IsBytes bytes → length contents ≤ RECORD_MOST → front n contents bytes ≡ Bad why → BadBack n contents bytes why
 bad_back zero contents bytes why fits le e = by_header (header_of bytes) refl
   where
     by_header : (o : Option Header) → header_of bytes ≡ o → BadBack zero contents bytes why
@@ -162,7 +163,7 @@ bad_back (suc n) contents bytes why fits le e = by_header (header_of bytes) refl
     plain : front (suc n) contents (bytes ++ []) ≡ front (suc n) contents bytes
     plain = ap (front (suc n) contents) (append_none bytes)
 
-    by_header : (o : Option Header) → header_of bytes ≡ o → ((c b : List ℕ) → IsBytes b → length c ≤ most_bytes → front n c b ≡ Bad why → BadBack n c b why) → BadBack (suc n) contents bytes why
+    by_header : (o : Option Header) → header_of bytes ≡ o → ((c b : List ℕ) → IsBytes b → length c ≤ RECORD_MOST → front n c b ≡ Bad why → BadBack n c b why) → BadBack (suc n) contents bytes why
     by_header None head later = let no : Bad why ≡ Begun = sym e ∙ front_none (suc n) contents bytes head in absurd cc
     by_header (Some h) head later =
         let body : List ℕ = take h.len (drop 4 bytes) in
@@ -179,13 +180,13 @@ bad_back (suc n) contents bytes why fits le e = by_header (header_of bytes) refl
               back_on n contents bytes why h fits head long is (later (contents ++ body) rest (IsBytes-drop h.len (drop 4 bytes) (IsBytes-drop 4 bytes fits)) (omega (arith, small, len, length-append contents body)) on)
         ]
 
-breaks_as : (earlier : List (List ℕ)) (top : Bool) (len : ℕ) (why : Refusal) → BreaksFrom 1024 0 earlier len why → Breaks (record { earlier = earlier; last = top; len = len }) why
+breaks_as : (earlier : List (List ℕ)) (top : Bool) (len : ℕ) (why : Refusal) → BreaksFrom FRAGMENTS_MOST 0 earlier len why → Breaks (record { earlier = earlier; last = top; len = len }) why
 breaks_as earlier top len (TooBig sum) h = (omega (arith, h.0), omega (arith, h.1), h.2)
 breaks_as earlier top len TooManyFragments h = (omega (arith, h.0), omega (arith, h.1))
 
-pub record_bad_back : (bytes : List ℕ) (why : Refusal) → IsBytes bytes → record_of bytes ≡ Bad why → BadBack 1024 [] bytes why
+pub record_bad_back : (bytes : List ℕ) (why : Refusal) → IsBytes bytes → record_of bytes ≡ Bad why → BadBack FRAGMENTS_MOST [] bytes why
 unfolding record_of
-record_bad_back bytes why fits e = bad_back 1024 [] bytes why fits (omega arith) e
+record_bad_back bytes why fits e = bad_back FRAGMENTS_MOST [] bytes why fits (omega arith) e
 
 pub bytes_behind : (records : List (List ℕ)) (bytes rest : List ℕ) → IsBytes bytes → Framed records bytes rest → IsBytes rest
 bytes_behind records bytes rest fits f =
@@ -199,7 +200,7 @@ ends_bad parts rest why e ends = rw e at ends
 pub split_spoilt : (bytes : List ℕ) (why : Refusal) → IsBytes bytes → (split bytes).spoilt ≡ Some why → SpoiltBehind (split bytes).records bytes why
 split_spoilt bytes why fits e =
     let f : IsFramed bytes (split bytes) = split_is_framed bytes fits in
-    let k : BadBack 1024 [] f.0 why = record_bad_back f.0 why (bytes_behind (split bytes).records bytes f.0 fits f.1) (ends_bad (split bytes) f.0 why e f.2) in
+    let k : BadBack FRAGMENTS_MOST [] f.0 why = record_bad_back f.0 why (bytes_behind (split bytes).records bytes f.0 fits f.1) (ends_bad (split bytes) f.0 why e f.2) in
     record {
       rest = f.0;
       framed = f.1;

@@ -5,8 +5,9 @@ use Rattle.std.specs.Int.{w32, from_be_bytes, to_be_bytes}
 use Rattle.std.proofs.lemmas.Bool.{lt-ltb, le-ltb, le-leb, cases_lt}
 use Rattle.std.proofs.lemmas.List.{take_at, drop_at, take-append-le}
 use Rattle.std.proofs.lemmas.Nat.{from_be_bytes-to_be_bytes_4}
+use Rattle.limits.specs.declared.TheConstants.{RECORD_MOST, FRAGMENTS_MOST}
 use Rattle.rpc_record.specs.declared.fragments.Header.{Header}
-use Rattle.rpc_record.specs.Records.{header_word, header_of, Whole, Begun, front, record_of, most_bytes, Parts, split, marked, stream, CanSend, Came}
+use Rattle.rpc_record.specs.Records.{header_word, header_of, Whole, Begun, front, record_of, Parts, split, marked, stream, CanSend, Came}
 use Rattle.rpc_record.proofs.Fronts.{front_none, front_short, front_last, append_none}
 use Rattle.rpc_record.proofs.Splitting.{split_whole, split_begun, nothing_begun}
 
@@ -31,28 +32,28 @@ abbrev pub mark_of : List ℕ → List ℕ
 mark_of contents = to_be_bytes w32 (word_of contents)
 
 -- the header of a record that was marked
-pub marked_header : (contents bytes : List ℕ) → length contents ≤ most_bytes → header_of (mark_of contents ++ bytes) ≡ Some (last_header (length contents))
+pub marked_header : (contents bytes : List ℕ) → length contents ≤ RECORD_MOST → header_of (mark_of contents ++ bytes) ≡ Some (last_header (length contents))
 marked_header contents bytes le =
     let is : from_be_bytes w32 (mark_of contents) ≡ word_of contents = from_be_bytes-to_be_bytes_4 (word_of contents) (omega (arith, le)) in
     header_at (mark_of contents) bytes refl ∙ ap (λ (n : ℕ). Some (header_word n)) is ∙ ap (λ (h : Header). Some h) (word_header (length contents) (omega (arith, le)))
 
 -- a record that was marked is read again, whatever follows it
-pub marked_whole : (contents tail : List ℕ) → length contents ≤ most_bytes → record_of (marked contents ++ tail) ≡ Whole contents tail
+pub marked_whole : (contents tail : List ℕ) → length contents ≤ RECORD_MOST → record_of (marked contents ++ tail) ≡ Whole contents tail
 unfolding record_of
 marked_whole contents tail le =
     let n : ℕ = length contents in
     let bytes : List ℕ = mark_of contents ++ (contents ++ tail) in
     let four : length (mark_of contents) ≡ 4 = refl in
-    let is : front 1024 [] (bytes ++ []) ≡ Whole ([] ++ take n (drop 4 bytes)) (drop n (drop 4 bytes) ++ []) =
+    let is : front FRAGMENTS_MOST [] (bytes ++ []) ≡ Whole ([] ++ take n (drop 4 bytes)) (drop n (drop 4 bytes) ++ []) =
     front_last 1023 [] bytes [] (last_header n) (marked_header contents (contents ++ tail) le) (omega (arith, le)) (omega (arith, four, length-append (mark_of contents) (contents ++ tail), length-append contents tail)) refl in
-    ap (front 1024 []) (append_assoc (mark_of contents) contents tail ∙ sym (append_none bytes)) ∙ is ∙ ap (λ (z : List ℕ). Whole z (drop n (contents ++ tail) ++ [])) (take_at contents tail n refl) ∙ ap (λ (z : List ℕ). Whole contents z) (append_none (drop n (contents ++ tail)) ∙ drop_at contents tail n refl)
+    ap (front FRAGMENTS_MOST []) (append_assoc (mark_of contents) contents tail ∙ sym (append_none bytes)) ∙ is ∙ ap (λ (z : List ℕ). Whole z (drop n (contents ++ tail) ++ [])) (take_at contents tail n refl) ∙ ap (λ (z : List ℕ). Whole contents z) (append_none (drop n (contents ++ tail)) ∙ drop_at contents tail n refl)
 
 -- less than it is not yet a record
-pub marked_begun : (contents bytes behind others : List ℕ) → length contents ≤ most_bytes → bytes ++ behind ≡ marked contents ++ others → length bytes < length (marked contents) → record_of bytes ≡ Begun
+pub marked_begun : (contents bytes behind others : List ℕ) → length contents ≤ RECORD_MOST → bytes ++ behind ≡ marked contents ++ others → length bytes < length (marked contents) → record_of bytes ≡ Begun
 unfolding record_of
 marked_begun contents bytes behind others le e short =
     elim (cases_lt (length bytes) 4) [
-      | inl lt ↦ front_none 1024 [] bytes (let t : nat_lt (length bytes) 4 ≡ true = lt-ltb _ _ lt in rw t refl)
+      | inl lt ↦ front_none FRAGMENTS_MOST [] bytes (let t : nat_lt (length bytes) 4 ≡ true = lt-ltb _ _ lt in rw t refl)
       | inr long ↦ front_short 1023 [] bytes (last_header (length contents)) (same_header long) (omega (arith, le)) (omega (arith, short, length-append (mark_of contents) contents, four))
     ]
   where
@@ -99,7 +100,7 @@ came_none bytes behind e =
     let is : record_of bytes ≡ Begun = ap record_of none ∙ nothing_begun in
     subst (λ (z : Parts). Came [] behind z) (sym (split_begun bytes is)) (record { left = []; records = refl; bytes = e; partial = is; sound = refl; all = λ _. refl })
 
-pub came_begun : (contents : List ℕ) (records : List (List ℕ)) (bytes behind : List ℕ) → length contents ≤ most_bytes → bytes ++ behind ≡ marked contents ++ stream records → length bytes < length (marked contents) → Came (contents ∷ records) behind (split bytes)
+pub came_begun : (contents : List ℕ) (records : List (List ℕ)) (bytes behind : List ℕ) → length contents ≤ RECORD_MOST → bytes ++ behind ≡ marked contents ++ stream records → length bytes < length (marked contents) → Came (contents ∷ records) behind (split bytes)
 came_begun contents records bytes behind le e short =
     let is : record_of bytes ≡ Begun = marked_begun contents bytes behind (stream records) le e short in
     subst (λ (z : Parts). Came (contents ∷ records) behind z) (sym (split_begun bytes is))
@@ -112,7 +113,7 @@ came_begun contents records bytes behind le e short =
       all = λ none. absurd (omega (arith, short, ap length e, length-append bytes behind, ap length none, length-append (marked contents) (stream records)));
     })
 
-pub came_whole : (contents : List ℕ) (records : List (List ℕ)) (bytes tail behind : List ℕ) → length contents ≤ most_bytes → bytes ≡ marked contents ++ tail → Came records behind (split tail) → Came (contents ∷ records) behind (split bytes)
+pub came_whole : (contents : List ℕ) (records : List (List ℕ)) (bytes tail behind : List ℕ) → length contents ≤ RECORD_MOST → bytes ≡ marked contents ++ tail → Came records behind (split tail) → Came (contents ∷ records) behind (split bytes)
 came_whole contents records bytes tail behind le e c =
     let is : record_of bytes ≡ Whole contents tail = ap record_of e ∙ marked_whole contents tail le in
     subst (λ (z : Parts). Came (contents ∷ records) behind z) (sym (split_whole bytes contents tail is))
@@ -127,11 +128,11 @@ stream_comes (contents ∷ records) bytes behind can e =
       | inr long ↦ by_tail (longer_front (marked contents) bytes behind (stream records) e long) (λ tail f. stream_comes records tail behind others f)
     ]
   where
-    le : length contents ≤ most_bytes
-    le = All-head (λ (c : List ℕ). length c ≤ most_bytes) contents records can
+    le : length contents ≤ RECORD_MOST
+    le = All-head (λ (c : List ℕ). length c ≤ RECORD_MOST) contents records can
 
     others : CanSend records
-    others = All-tail (λ (c : List ℕ). length c ≤ most_bytes) contents records can
+    others = All-tail (λ (c : List ℕ). length c ≤ RECORD_MOST) contents records can
 
     by_tail : (tail : List ℕ) × (bytes ≡ marked contents ++ tail) × (tail ++ behind ≡ stream records) → ((tail : List ℕ) → tail ++ behind ≡ stream records → Came records behind (split tail)) → Came (contents ∷ records) behind (split bytes)
     by_tail t later = came_whole contents records bytes t.0 behind le t.1 (later t.0 t.2)

@@ -2,7 +2,8 @@
 use Rattle.std.specs.Prelude.{◌≡◌, ℕ, ◌+◌, ◌^◌, ◌<◌, ◌≤◌, List, ◌++◌, length, map, Bool, true, false, if◌then◌else◌, All, Some, None}
 use Rattle.std.specs.Int.{w32, to_be_bytes}
 use Rattle.std.specs.List.{flat_map, concat}
-use Rattle.rpc_record.specs.Records.{most_bytes, most_fragments, Begun, Bad, Parts, record_of}
+use Rattle.limits.specs.declared.TheConstants.{RECORD_MOST, FRAGMENTS_MOST}
+use Rattle.rpc_record.specs.Records.{Begun, Bad, Parts, record_of}
 
 -- a fragment's header: the top bit says that it is the last of its record, and the others how many bytes follow
 abbrev pub header_spell : Bool → ℕ → List ℕ
@@ -25,7 +26,7 @@ cutting_spell c = flat_map (fragment_spell false) c.earlier ++ fragment_spell tr
 
 -- within the limits of a record
 abbrev pub CuttingFits : Cutting → Type 0
-CuttingFits c = (length c.earlier < most_fragments) × (length (cutting_contents c) ≤ most_bytes)
+CuttingFits c = (length c.earlier < FRAGMENTS_MOST) × (length (cutting_contents c) ≤ RECORD_MOST)
 
 -- the bytes are these records, each in some fragments, and then the rest
 pub record Framed (records : List (List ℕ)) (bytes rest : List ℕ) : Type 0 where

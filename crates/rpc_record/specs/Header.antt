@@ -1,6 +1,7 @@
 -- The headers of RPC messages (RFC 5531, sections 8 and 9).
 use Rattle.std.specs.Prelude.{◌≡◌, ℕ, zero, suc, List, [], ◌++◌, Option, Some, None, Bool, true, false, refl, length, ◌≤◌}
 use Rattle.std.proofs.Common.{ap, sym}
+use Rattle.limits.specs.declared.TheConstants.{AUTH_MOST}
 use Rattle.xdr_codec.specs.declared.fault.Fault.TheVariants.{BadValue}
 use Rattle.xdr_codec.specs.Format.{Format}
 use Rattle.xdr_codec.specs.Compose.{◌⋆◌, mapped, refined, tagged, embedded, nothing}
@@ -50,7 +51,7 @@ front_form = mapped (λ (x, d). record { xid = x; direction = d }) (λ f. (f.xid
 -- ---- a call (opaque_auth, call_body behind rpcvers)
 
 unfoldable pub auth_form : Format Auth
-auth_form = mapped (λ (f, b). record { flavor = f; body = b }) (λ a. (a.flavor, a.body)) (λ _. refl) (λ _. refl) (u32_form ⋆ opaque_form 400)
+auth_form = mapped (λ (f, b). record { flavor = f; body = b }) (λ a. (a.flavor, a.body)) (λ _. refl) (λ _. refl) (u32_form ⋆ opaque_form AUTH_MOST)
 
 unfoldable pub call_form : Format CallHead
 call_form = mapped (λ (g, (v, (p, (c, f)))). record { program = g; version = v; procedure = p; cred = c; verf = f }) (λ h. (h.program, (h.version, (h.procedure, (h.cred, h.verf))))) (λ _. refl) (λ _. refl)
@@ -153,5 +154,5 @@ reply_form = tagged reply_number (known_form is_choice) reply_forms reply_one
 
 -- the verifier is no longer than its maximum
 abbrev pub short_reply : ReplyHead → Type 0
-short_reply (Accepted v a) = length v.body ≤ 400
+short_reply (Accepted v a) = length v.body ≤ AUTH_MOST
 short_reply (Denied d) = Unit {0}

@@ -1,20 +1,21 @@
 -- How far the record at the front of some bytes is known.
 use Rattle.std.specs.Prelude.{◌≡◌, ℕ, ◌<◌, ◌≤◌, List, ◌++◌, length, drop}
+use Rattle.limits.specs.declared.TheConstants.{RECORD_MOST, FRAGMENTS_MOST}
 use Rattle.rpc_record.specs.declared.fragments.Progress.{Progress}
 use Rattle.rpc_record.specs.declared.fragments.Found.{Found}
 use Rattle.rpc_record.specs.declared.fragments.Found.TheVariants as found
 use Rattle.rpc_record.specs.declared.fragments.Step.{Step}
 use Rattle.rpc_record.specs.declared.fragments.Step.TheVariants.{On, Done}
 use Rattle.rpc_record.specs.declared.records.Cut.{Cut}
-use Rattle.rpc_record.specs.Records.{Whole, Begun, Bad, front, record_of, most_bytes, most_fragments, split}
+use Rattle.rpc_record.specs.Records.{Whole, Begun, Bad, front, record_of, split}
 
 -- so many bytes are whole fragments of one record, none of them its last; more bytes do not change that
 pub record Reaches (bytes : List ℕ) (p : Progress) : Type 0 where
   pub contents : List ℕ
   pub promised : length contents ≡ p.promised
   pub within : p.at ≤ length bytes
-  pub fits : p.promised ≤ most_bytes
-  pub few : p.more ≤ most_fragments
+  pub fits : p.promised ≤ RECORD_MOST
+  pub few : p.more ≤ FRAGMENTS_MOST
   pub stands : (behind : List ℕ) → record_of (bytes ++ behind) ≡ front p.more contents (drop p.at bytes ++ behind)
 
 -- a whole record stands at the front, and takes so many bytes

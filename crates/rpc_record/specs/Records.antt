@@ -2,6 +2,7 @@
 use Rattle.std.specs.Prelude.{◌≡◌, ℕ, zero, suc, ◌+◌, ◌%◌, ◌^◌, ◌≤◌, List, [], ◌∷◌, ◌++◌, length, take, drop, nat_le, nat_lt, if◌then◌else◌, Option, Some, None, All}
 use Rattle.std.specs.Int.{w32, from_be_bytes, to_be_bytes}
 use Rattle.std.specs.List.{flat_map}
+use Rattle.limits.specs.declared.TheConstants.{RECORD_MOST, FRAGMENTS_MOST}
 use Rattle.rpc_record.specs.declared.refusal.Refusal.{Refusal}
 use Rattle.rpc_record.specs.declared.refusal.Refusal.TheVariants.{TooBig, TooManyFragments}
 use Rattle.rpc_record.specs.declared.records.Fed.{Fed}
@@ -18,13 +19,6 @@ header_of bytes = if nat_lt (length bytes) 4 then None else Some (header_word (f
 
 -- ---- the record at the front
 
--- most bytes, and most fragments, of one record
-abbrev pub most_bytes : ℕ
-most_bytes = 131072
-
-abbrev pub most_fragments : ℕ
-most_fragments = 1024
-
 -- what stands at the front of some bytes
 pub data Front : Type 0 where
   -- a record of these contents, and the bytes after it
@@ -38,7 +32,7 @@ pub data Front : Type 0 where
 -- the fragments after it make
 abbrev pub fragment : Header → List ℕ → List ℕ → Front → Front
 fragment h contents behind later =
-    if nat_lt most_bytes (length contents + h.len) then Bad (TooBig (length contents + h.len))
+    if nat_lt RECORD_MOST (length contents + h.len) then Bad (TooBig (length contents + h.len))
     else if nat_lt (length behind) h.len then Begun
     else if h.last then Whole (contents ++ take h.len behind) (drop h.len behind)
     else later
@@ -46,7 +40,7 @@ fragment h contents behind later =
 -- why a record of which these contents were read, and which may have no more fragments, has none of this header:
 -- where it also promises too much, that is the reason
 abbrev pub none_more : Header → List ℕ → Refusal
-none_more h contents = if nat_lt most_bytes (length contents + h.len) then TooBig (length contents + h.len) else TooManyFragments
+none_more h contents = if nat_lt RECORD_MOST (length contents + h.len) then TooBig (length contents + h.len) else TooManyFragments
 
 -- the rest of a record, of which these contents were read, and which may have so many more fragments
 abbrev pub front : ℕ → List ℕ → List ℕ → Front
@@ -61,7 +55,7 @@ front (suc more) contents bytes =
     ]
 
 unfoldable pub record_of : List ℕ → Front
-record_of bytes = front most_fragments [] bytes
+record_of bytes = front FRAGMENTS_MOST [] bytes
 
 -- a whole record stands at the front, of these contents
 abbrev pub HasRecord : List ℕ → List ℕ → Type 0
@@ -141,7 +135,7 @@ all_fed unread (piece ∷ pieces) =
 
 -- these can be sent as one fragment each
 abbrev pub CanSend : List (List ℕ) → Type 0
-CanSend records = All (λ contents. length contents ≤ most_bytes) records
+CanSend records = All (λ contents. length contents ≤ RECORD_MOST) records
 
 -- of what was sent these parts have come, and the rest of it is still behind them
 pub record Came (sent : List (List ℕ)) (behind : List ℕ) (parts : Parts) : Type 0 where

@@ -1,9 +1,10 @@
 -- Streams that are spoilt: no record may begin as theirs does (RFC 5531, section 11, and this project's limits of a record).
 use Rattle.std.specs.Prelude.{◌≡◌, ℕ, ◌+◌, ◌^◌, ◌<◌, ◌≤◌, List, ◌++◌, length, Bool, false}
 use Rattle.std.specs.List.{flat_map, concat}
+use Rattle.limits.specs.declared.TheConstants.{RECORD_MOST, FRAGMENTS_MOST}
 use Rattle.rpc_record.specs.declared.refusal.Refusal.{Refusal}
 use Rattle.rpc_record.specs.declared.refusal.Refusal.TheVariants.{TooBig, TooManyFragments}
-use Rattle.rpc_record.specs.Records.{most_bytes, most_fragments}
+use Rattle.rpc_record.specs.Records.{}
 use Rattle.rpc_record.specs.Framed.{header_spell, fragment_spell, Framed}
 
 -- a start of a record: whole fragments, none of them its last, and the header of one more
@@ -24,13 +25,13 @@ promised s = length (concat s.earlier) + s.len
 
 -- its last header has a length of 31 bits, and those before it promise no more than a record may have
 abbrev pub StartFits : Start → Type 0
-StartFits s = (s.len < 2 ^ 31) × (length (concat s.earlier) ≤ most_bytes)
+StartFits s = (s.len < 2 ^ 31) × (length (concat s.earlier) ≤ RECORD_MOST)
 
 -- why no record may begin so: its headers promise more than the most bytes, or no more than these, but it has one header more
 -- than the most fragments
 abbrev pub Breaks : Start → Refusal → Type 0
-Breaks s (TooBig len) = (header_count s ≤ most_fragments + 1) × (promised s ≡ len) × (most_bytes < len)
-Breaks s TooManyFragments = (header_count s ≡ most_fragments + 1) × (promised s ≤ most_bytes)
+Breaks s (TooBig len) = (header_count s ≤ FRAGMENTS_MOST + 1) × (promised s ≡ len) × (RECORD_MOST < len)
+Breaks s TooManyFragments = (header_count s ≡ FRAGMENTS_MOST + 1) × (promised s ≤ RECORD_MOST)
 
 -- behind these records stands such a start, whatever follows it
 pub record SpoiltBehind (records : List (List ℕ)) (bytes : List ℕ) (why : Refusal) : Type 0 where

@@ -7,14 +7,8 @@ ghost use Rattle.rpc_record.specs.Progress.{Reaches, IsStep, IsFound};
 
 use crate::refusal::Refusal;
 use lb_base::items::{Bytes, Items};
+use limits::{FRAGMENTS_MOST, RECORD_MOST};
 use std::alloc::{AllocError, Global};
-
-/// The most bytes of one record, over all its fragments and without their headers: a limit of this
-/// project, as the next one.
-pub const MOST_BYTES: usize = 131_072;
-
-/// The most fragments of one record, empty ones too.
-pub const MOST_FRAGMENTS: u32 = 1024;
 
 /// The top bit of a header: its fragment is the last of the record.
 pub const LAST: u32 = 0x8000_0000;
@@ -75,7 +69,7 @@ pub fn header_of(bytes: &[u8]) -> Option<Header>
 /// Nothing is known of the record at the front.
 pub const START: Progress = Progress {
     at: 0,
-    more: MOST_FRAGMENTS,
+    more: FRAGMENTS_MOST,
     promised: 0,
 };
 
@@ -89,7 +83,7 @@ fn look(bytes: &[u8], known: Progress) -> Step
         return Step::Done(Found::Begun(known));
     };
     let promised = known.promised + header.len;
-    if MOST_BYTES < promised {
+    if RECORD_MOST < promised {
         return Step::Done(Found::Bad(Refusal::TooBig { len: promised }));
     }
     if known.more == 0 {

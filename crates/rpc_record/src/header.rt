@@ -2,9 +2,11 @@
 //! bytes, the highest first.
 
 ghost use Rattle.std.specs.Prelude.{◌≡◌, ◌++◌, ◌≤◌, length, OnOk};
+ghost use Rattle.limits.specs.declared.TheConstants.{AUTH_MOST};
 ghost use Rattle.rpc_record.specs.Header.{auth_form, accept_form};
 
 use lb_base::items::Bytes;
+use limits::AUTH_MOST;
 use std::alloc::{AllocError, Global};
 use xdr_codec::fault::{Fault, ReadError};
 use xdr_codec::item::Item;
@@ -30,13 +32,13 @@ pub struct Front {
     pub direction: Direction,
 }
 
-/// Who is asking, or proof of it (RFC 5531, section 8.2: opaque_auth). More than 400 bytes are
+/// Who is asking, or proof of it (RFC 5531, section 8.2: opaque_auth). More than `AUTH_MOST` bytes are
 /// refused as `TooLong`.
 #[derive(Drop, Debug)]
 pub struct Auth {
     /// Which form the body has (auth_flavor); any number is read.
     pub flavor: u32,
-    /// At most 400 bytes, whose form the flavor says. They aren't looked at.
+    /// At most `AUTH_MOST` bytes, whose form the flavor says. They aren't looked at.
     pub body: Bytes,
 }
 
@@ -150,15 +152,16 @@ impl Item for Front {
 #[tactic(auto, unfolding(crate::specs::Header::auth_form))]
 impl Item for Auth {
     ghost use Rattle.std.specs.Prelude.{length, ◌≤◌};
+    ghost use Rattle.limits.specs.declared.TheConstants.{AUTH_MOST};
     ghost use Rattle.rpc_record.specs.Header.{auth_form};
 
     ghost form = { auth_form };
 
-    ghost short = { λ a. length a.body ≤ 400 };
+    ghost short = { λ a. length a.body ≤ AUTH_MOST };
 
     fn read(alloc: Global, reader: &mut Reader) -> Result<Auth, ReadError> {
         let flavor = reader.u32()?;
-        let body = reader.opaque(alloc, 400)?;
+        let body = reader.opaque(alloc, AUTH_MOST)?;
         Ok(Auth { flavor, body })
     }
 
@@ -171,11 +174,12 @@ impl Item for Auth {
 #[tactic(auto, unfolding(crate::specs::Header::call_form))]
 impl Item for CallHead {
     ghost use Rattle.std.specs.Prelude.{length, ◌≤◌};
+    ghost use Rattle.limits.specs.declared.TheConstants.{AUTH_MOST};
     ghost use Rattle.rpc_record.specs.Header.{call_form};
 
     ghost form = { call_form };
 
-    ghost short = { λ h. (length h.cred.body ≤ 400) × (length h.verf.body ≤ 400) };
+    ghost short = { λ h. (length h.cred.body ≤ AUTH_MOST) × (length h.verf.body ≤ AUTH_MOST) };
 
     fn read(alloc: Global, reader: &mut Reader) -> Result<CallHead, ReadError> {
         let program = reader.u32()?;
@@ -291,7 +295,7 @@ impl Item for Denial {
 /// The verifier of a call that was accepted, and what became of it.
 fn write_accepted(writer: &mut Writer, verf: &Auth, accept: &Accept) -> Result<(), AllocError>
     ensures spelled { OnOk result (writer.new ≡ writer.old ++ (auth_form.spell verf.now ++ accept_form.spell accept.now)) }
-    ensures fits { OnOk result (length verf.now.body ≤ 400 → auth_form.Fits verf.now × accept_form.Fits accept.now) }
+    ensures fits { OnOk result (length verf.now.body ≤ AUTH_MOST → auth_form.Fits verf.now × accept_form.Fits accept.now) }
 {
     verf.write(writer)?;
     accept.write(writer)

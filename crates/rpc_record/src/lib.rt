@@ -9,8 +9,5 @@ pub mod marking;
 pub mod messages;
 pub mod records;
 pub mod refusal;
-
-pub use fragments::{MOST_BYTES, MOST_FRAGMENTS};
-
 #[cfg(test)]
 mod tests;

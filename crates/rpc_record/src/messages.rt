@@ -4,6 +4,7 @@
 //! is where it was. A writer holds the header behind what it held, or only what it held.
 
 ghost use Rattle.std.specs.Prelude.{◌≡◌, ◌++◌, ◌≤◌, length, OnOk, OnErr};
+ghost use Rattle.limits.specs.declared.TheConstants.{AUTH_MOST};
 ghost use Rattle.rpc_record.specs.Header.{short_reply};
 ghost use Rattle.rpc_record.specs.Messages.{HeaderGives, call_read, call_spell, CallFits, reply_read, reply_spell, ReplyFits};
 
@@ -79,7 +80,7 @@ fn read_reply(alloc: Global, reader: &mut Reader) -> Result<Reply, HeaderError>
 /// The header of a call; want of memory leaves a part of it.
 fn write_call(call: &Call, writer: &mut Writer) -> Result<(), AllocError>
     ensures spelled { OnOk result (writer.new ≡ writer.old ++ call_spell call.now) }
-    ensures fits { OnOk result (length call.now.head.cred.body ≤ 400 → length call.now.head.verf.body ≤ 400 → CallFits call.now) }
+    ensures fits { OnOk result (length call.now.head.cred.body ≤ AUTH_MOST → length call.now.head.verf.body ≤ AUTH_MOST → CallFits call.now) }
 {
     writer.u32(call.xid)?;
     writer.u32(CALL)?;
@@ -115,10 +116,10 @@ impl Call {
     }
 
     /// Writes the header; only memory can be wanting, and then the writer holds what it held. The
-    /// bodies of both authentication items are to have at most 400 bytes, else no end reads it.
+    /// bodies of both authentication items are to have at most `AUTH_MOST` bytes, else no end reads it.
     pub fn write(&self, writer: &mut Writer) -> Result<(), AllocError>
         ensures spelled { OnOk result (writer.new ≡ writer.old ++ call_spell self.now) }
-        ensures fits { OnOk result (length self.now.head.cred.body ≤ 400 → length self.now.head.verf.body ≤ 400 → CallFits self.now) }
+        ensures fits { OnOk result (length self.now.head.cred.body ≤ AUTH_MOST → length self.now.head.verf.body ≤ AUTH_MOST → CallFits self.now) }
         ensures stays { OnErr result (writer.new ≡ writer.old) }
     {
         let mut header = writer.part();
@@ -145,7 +146,7 @@ impl Reply {
     }
 
     /// Writes the header; only memory can be wanting, and then the writer holds what it held. The
-    /// body of a verifier is to have at most 400 bytes, else no end reads it.
+    /// body of a verifier is to have at most `AUTH_MOST` bytes, else no end reads it.
     pub fn write(&self, writer: &mut Writer) -> Result<(), AllocError>
         ensures spelled { OnOk result (writer.new ≡ writer.old ++ reply_spell self.now) }
         ensures fits { OnOk result (short_reply self.now.head → ReplyFits self.now) }

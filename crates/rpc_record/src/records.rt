@@ -81,7 +81,7 @@ fn forget(bytes: &mut Vec<u8>, used: usize)
     bytes.truncate(left);
 }
 
-/// One end of a stream of records. A record has at most 131,072 bytes, in at most 1,024 fragments;
+/// One end of a stream of records. A record has at most `RECORD_MOST` bytes, in at most `FRAGMENTS_MOST` fragments;
 /// fragments of no bytes are taken, and count.
 #[derive(Drop)]
 pub struct Records {

@@ -10,7 +10,7 @@ use xdr_codec::fault::{Fault, ReadError};
 /// Why a stream is spoilt: a header that no record may have.
 #[derive(Clone, Copy, Debug, PartialEq, Eq)]
 pub enum Refusal {
-    /// The headers of a record promise so many bytes, which are more than 131,072.
+    /// The headers of a record promise so many bytes, which are more than `RECORD_MOST`.
     TooBig {
         /// How many the headers promise, with the one that passes the limit.
         len: usize,
@@ -22,7 +22,7 @@ pub enum Refusal {
 /// Why a record was not marked.
 #[derive(Debug, Drop, PartialEq, Eq)]
 pub enum MarkError {
-    /// It has so many bytes, which are more than 131,072.
+    /// It has so many bytes, which are more than `RECORD_MOST`.
     TooBig {
         /// How many it has.
         len: usize,

@@ -6,8 +6,8 @@ ghost use Rattle.wire.specs.Message.{message_spell};
 ghost use Rattle.trace_replay.specs.World.{unless, bytes_of, messages_of};
 
 use lb_base::items::Bytes;
+use limits::RECORD_MOST;
 use open_close::sends::Sends;
-use rpc_record::MOST_BYTES;
 use rpc_record::marking::mark;
 use server_core::event::Sent;
 use std::alloc::{AllocError, Global};
@@ -19,7 +19,7 @@ use wire::spell::spell;
 fn record_of(alloc: Global, contents: &[u8]) -> Result<Bytes, AllocError>
     ensures { IfOk result (λ bytes. bytes ≡ marked contents.now) }
 {
-    if MOST_BYTES < contents.len() {
+    if RECORD_MOST < contents.len() {
         return Err(AllocError);
     }
     match mark(alloc, contents) {

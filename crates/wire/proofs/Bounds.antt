@@ -1,9 +1,10 @@
 -- How long spellings are at most.
-use Rattle.std.proofs.Common.{◌≡◌, ℕ, ◌+◌, ◌*◌, ◌-◌, ◌≤◌, true, false, List, [], ◌∷◌, ◌++◌, length, Some, None, refl, arith, length-append, ap, subst}
+use Rattle.std.proofs.Common.{◌≡◌, ℕ, ◌+◌, ◌*◌, ◌≤◌, true, false, List, [], ◌∷◌, ◌++◌, length, Some, None, refl, arith, length-append, ap, subst}
 use Rattle.std.specs.Prelude.{All, replicate}
 use Rattle.std.specs.List.{flat_map}
 use Rattle.std.specs.Int.{w32, to_be_bytes}
 use Rattle.std.proofs.lemmas.List.{length-replicate}
+use Rattle.limits.specs.declared.TheConstants.{HANDLE_MOST}
 use Rattle.xdr_codec.specs.Format.{Format}
 use Rattle.xdr_codec.specs.Laws.{All-head, All-tail}
 use Rattle.xdr_codec.specs.Compose.{◌⋆◌, nothing, tagged, embedded}
@@ -54,7 +55,7 @@ most_opaque max bytes le =
     omega (arith, le, fill_below (length bytes), wide32.len (length bytes), length-append (to_be_bytes w32 (length bytes)) (bytes ++ zeros), length-append bytes zeros, length-replicate {A = ℕ} (fill_len (length bytes)) 0)
 
 pub most_handle : AtMost handle_form 71
-most_handle h fits = most_opaque 64 h fits.1
+most_handle h fits = most_opaque HANDLE_MOST h fits.1
 
 pub most_time : AtMost time_form 8
 unfolding time_form u32_form

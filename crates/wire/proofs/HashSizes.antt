@@ -1,7 +1,8 @@
 -- How long the arguments and answers of LBFS and of the callback program are at most.
-use Rattle.std.proofs.Common.{ℕ, ◌+◌, ◌≤◌, List, ◌++◌, length, arith, length-append}
+use Rattle.std.proofs.Common.{ℕ, ◌+◌, ◌≤◌, length, arith, length-append}
 use Rattle.std.specs.List.{flat_map}
 use Rattle.std.specs.Int.{w32, to_be_bytes}
+use Rattle.limits.specs.declared.TheConstants.{PAIRS_MOST, PIECE_MOST}
 use Rattle.xdr_codec.specs.Format.{Format}
 use Rattle.xdr_codec.specs.Compose.{◌⋆◌, nothing}
 use Rattle.xdr_codec.specs.Xdr.{u32_form, u64_form, bool_form, count_form, opaque_form, wide32}
@@ -10,11 +11,9 @@ use Rattle.xdr_codec.specs.Handle.{handle_form}
 use Rattle.xdr_codec.specs.Attr.{attr_form}
 use Rattle.xdr_codec.specs.Digest.{digest_form}
 use Rattle.xdr_codec.specs.Answers.{answer_form}
-use Rattle.xdr_codec.specs.declared.answer.Answer.{Answer}
 use Rattle.hash_calls.specs.Calls.{leased_form, range_form, pair_form, hashes_form, new_temp_form, temp_piece_form, cond_piece_form, commit_form, committed_form}
 use Rattle.hash_calls.specs.Lb.{lb_spell, LbFits}
 use Rattle.hash_calls.specs.Back.{back_spell, BackFits}
-use Rattle.hash_calls.specs.declared.call.Pair.{Pair}
 use Rattle.hash_calls.specs.declared.message.Lb.{Lb}
 use Rattle.hash_calls.specs.declared.message.Lb.TheVariants as lb
 use Rattle.hash_calls.specs.declared.message.Back.{Back}
@@ -37,7 +36,7 @@ pair_most : AtMost pair_form 27
 unfolding pair_form
 pair_most p fits = most_then digest_form u32_form 23 4 (most_fixed 20) most_u32 (p.digest, p.size) fits
 
-pairs_most : AtMost (counted 1024 pair_form) 27652
+pairs_most : AtMost (counted PAIRS_MOST pair_form) 27652
 unfolding count_form
 pairs_most ps fits =
     omega (arith, fits.0.1, flat_most pair_form 27 pair_most ps fits.1.1, wide32.len (length ps), length-append (to_be_bytes w32 (length ps)) (flat_map pair_form.spell ps))
@@ -45,10 +44,10 @@ pairs_most ps fits =
 hashes_most : AtMost hashes_form 27676
 unfolding hashes_form
 hashes_most h fits =
-    let pairs = most_then (counted 1024 pair_form) bool_form 27652 4 pairs_most most_bool in
-    let size = most_then u64_form (counted 1024 pair_form ⋆ bool_form) 8 27656 most_u64 pairs in
-    let term = most_then u32_form (u64_form ⋆ counted 1024 pair_form ⋆ bool_form) 4 27664 most_u32 size in
-    most_then u64_form (u32_form ⋆ u64_form ⋆ counted 1024 pair_form ⋆ bool_form) 8 27668 most_u64 term (h.version, (h.term, (h.size, (h.pairs, h.eof)))) fits
+    let pairs = most_then (counted PAIRS_MOST pair_form) bool_form 27652 4 pairs_most most_bool in
+    let size = most_then u64_form (counted PAIRS_MOST pair_form ⋆ bool_form) 8 27656 most_u64 pairs in
+    let term = most_then u32_form (u64_form ⋆ counted PAIRS_MOST pair_form ⋆ bool_form) 4 27664 most_u32 size in
+    most_then u64_form (u32_form ⋆ u64_form ⋆ counted PAIRS_MOST pair_form ⋆ bool_form) 8 27668 most_u64 term (h.version, (h.term, (h.size, (h.pairs, h.eof)))) fits
 
 new_temp_most : AtMost new_temp_form 75
 unfolding new_temp_form
@@ -57,8 +56,8 @@ new_temp_most n fits = most_then u32_form handle_form 4 71 most_u32 most_handle 
 temp_piece_most : AtMost temp_piece_form 65555
 unfolding temp_piece_form
 temp_piece_most p fits =
-    let bytes : AtMost (opaque_form 65536) 65543 = λ b fits. most_opaque 65536 b fits.1 in
-    most_then u32_form (u64_form ⋆ opaque_form 65536) 4 65551 most_u32 (most_then u64_form (opaque_form 65536) 8 65543 most_u64 bytes) (p.fd, (p.offset, p.bytes)) fits
+    let bytes : AtMost (opaque_form PIECE_MOST) 65543 = λ b fits. most_opaque PIECE_MOST b fits.1 in
+    most_then u32_form (u64_form ⋆ opaque_form PIECE_MOST) 4 65551 most_u32 (most_then u64_form (opaque_form PIECE_MOST) 8 65543 most_u64 bytes) (p.fd, (p.offset, p.bytes)) fits
 
 cond_piece_most : AtMost cond_piece_form 39
 unfolding cond_piece_form

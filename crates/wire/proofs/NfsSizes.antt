@@ -1,5 +1,6 @@
 -- How long the arguments and answers of NFS are at most.
 use Rattle.std.proofs.Common.{ℕ, zero, suc, ◌+◌, ◌≤◌, List, ◌++◌, length, refl, arith, length-append}
+use Rattle.limits.specs.declared.TheConstants.{PIECE_MOST, LISTING_MOST}
 use Rattle.xdr_codec.specs.Compose.{◌⋆◌, nothing}
 use Rattle.xdr_codec.specs.Xdr.{u32_form, u64_form, bool_form, opaque_spell}
 use Rattle.xdr_codec.specs.Choice.{optional, known_form}
@@ -7,19 +8,18 @@ use Rattle.xdr_codec.specs.Handle.{handle_form}
 use Rattle.xdr_codec.specs.Attr.{attr_form, time_form}
 use Rattle.xdr_codec.specs.declared.answer.Answer.TheVariants.{Done, Failed}
 use Rattle.nfs3_calls.specs.Choices.{is_below_three, time_how, set_time_spell, set_time_forms, set_time_one, set_time_form, set_attr_form, create_mode, how_made_spell, how_made_forms, how_made_one, how_made_form}
-use Rattle.nfs3_calls.specs.Calls.{name_form, place_form, before_form, wcc_form, found_form, access_form, granted_form, range_form, piece_form, new_file_form, new_dir_form, made_form, rename_form, moved_form, list_range_form, listing_form, sizes_form, fs_info_form}
+use Rattle.nfs3_calls.specs.Calls.{place_form, before_form, wcc_form, found_form, access_form, granted_form, range_form, piece_form, new_file_form, new_dir_form, made_form, rename_form, moved_form, list_range_form, listing_form, sizes_form, fs_info_form}
 use Rattle.nfs3_calls.specs.Nfs.{nfs_spell, NfsFits}
 use Rattle.nfs3_calls.specs.declared.call.Piece.{Piece}
 use Rattle.nfs3_calls.specs.declared.place.Place.{Place}
 use Rattle.nfs3_calls.specs.declared.place.Rename.{Rename}
-use Rattle.nfs3_calls.specs.declared.making.SetTime.{SetTime}
 use Rattle.nfs3_calls.specs.declared.making.SetTime.TheVariants.{Keep, Server, Client}
 use Rattle.nfs3_calls.specs.declared.making.HowMade.TheVariants.{Unchecked, Guarded, Exclusive}
 use Rattle.nfs3_calls.specs.declared.making.NewFile.{NewFile}
 use Rattle.nfs3_calls.specs.declared.making.NewDir.{NewDir}
 use Rattle.nfs3_calls.specs.declared.message.Nfs.{Nfs}
 use Rattle.nfs3_calls.specs.declared.message.Nfs.TheVariants as nfs
-use Rattle.wire.specs.Size.{IsSmallNfs}
+use Rattle.wire.specs.Size.{IsSmallNfs, small_names}
 use Rattle.wire.proofs.Bounds.{AtMost, most_within, most_nothing, most_u32, most_u64, most_bool, most_then, most_opaque, most_handle, most_time, most_attr, most_tagged, most_embedded, most_optional, most_done, most_failed, most_answer}
 
 -- ---- parts
@@ -82,15 +82,15 @@ range_most : AtMost range_form 83
 unfolding range_form
 range_most r fits = most_then handle_form (u64_form ⋆ u32_form) 71 12 most_handle (most_then u64_form u32_form 8 4 most_u64 most_u32) (r.handle, (r.offset, r.count)) fits
 
-new_file_most : (f : NewFile) → new_file_form.Fits f → length f.place.name ≤ 65536 → length (new_file_form.spell f) ≤ 65678
+new_file_most : (f : NewFile) → new_file_form.Fits f → length f.place.name ≤ small_names → length (new_file_form.spell f) ≤ 65678
 unfolding new_file_form
 new_file_most f fits small = omega (arith, place_most f.place fits.0, how_made_most f.how fits.1, length-append (place_form.spell f.place) (how_made_form.spell f.how))
 
-new_dir_most : (d : NewDir) → new_dir_form.Fits d → length d.place.name ≤ 65536 → length (new_dir_form.spell d) ≤ 65674
+new_dir_most : (d : NewDir) → new_dir_form.Fits d → length d.place.name ≤ small_names → length (new_dir_form.spell d) ≤ 65674
 unfolding new_dir_form
 new_dir_most d fits small = omega (arith, place_most d.place fits.0, set_attr_most d.attr fits.1, length-append (place_form.spell d.place) (set_attr_form.spell d.attr))
 
-rename_most : (r : Rename) → rename_form.Fits r → length r.from.name + length r.to.name ≤ 65536 → length (rename_form.spell r) ≤ 65692
+rename_most : (r : Rename) → rename_form.Fits r → length r.from.name + length r.to.name ≤ small_names → length (rename_form.spell r) ≤ 65692
 unfolding rename_form
 rename_most r fits small = omega (arith, place_most r.from fits.0, place_most r.to fits.1, length-append (place_form.spell r.from) (place_form.spell r.to))
 
@@ -110,13 +110,13 @@ granted_most : AtMost granted_form 92
 unfolding granted_form
 granted_most g fits = most_then (optional attr_form) u32_form 88 4 post_op_most most_u32 (g.attr, g.bits) fits
 
-piece_most : (p : Piece) → piece_form.Fits p → length p.bytes ≤ 65536 → length (piece_form.spell p) ≤ 65639
+piece_most : (p : Piece) → piece_form.Fits p → length p.bytes ≤ PIECE_MOST → length (piece_form.spell p) ≤ 65639
 unfolding piece_form
 piece_most p fits small =
     let tail : List ℕ = opaque_spell p.bytes in
     let eof : List ℕ = bool_form.spell p.eof ++ tail in
     let count : List ℕ = u32_form.spell p.count ++ eof in
-    omega (arith, most_opaque 65536 p.bytes small, post_op_most p.attr fits.0, most_u32 p.count fits.1.0, most_bool p.eof fits.1.1.0, length-append (bool_form.spell p.eof) tail, length-append (u32_form.spell p.count) eof, length-append ((optional attr_form).spell p.attr) count)
+    omega (arith, most_opaque PIECE_MOST p.bytes small, post_op_most p.attr fits.0, most_u32 p.count fits.1.0, most_bool p.eof fits.1.1.0, length-append (bool_form.spell p.eof) tail, length-append (u32_form.spell p.count) eof, length-append ((optional attr_form).spell p.attr) count)
 
 made_most : AtMost made_form 279
 unfolding made_form
@@ -166,7 +166,7 @@ nfs_most (nfs.RmDirAnswer a) fits small = omega (arith, most_answer wcc_form wcc
 nfs_most (nfs.Rename r) fits small = omega (arith, rename_most r fits small)
 nfs_most (nfs.RenameAnswer a) fits small = omega (arith, most_answer moved_form moved_form 232 moved_most moved_most a fits)
 nfs_most (nfs.ReadDir r) fits small = omega (arith, list_range_most r fits)
-nfs_most (nfs.ReadDirAnswer (Done l)) fits small = omega (arith, most_done listing_form (optional attr_form) 65536 l small)
+nfs_most (nfs.ReadDirAnswer (Done l)) fits small = omega (arith, most_done listing_form (optional attr_form) LISTING_MOST l small)
 nfs_most (nfs.ReadDirAnswer (Failed s a)) fits small = omega (arith, most_failed listing_form (optional attr_form) 88 s a (post_op_most a fits))
 nfs_most (nfs.FsInfo h) fits small = omega (arith, most_handle h fits)
 nfs_most (nfs.FsInfoAnswer a) fits small = omega (arith, most_answer fs_info_form (optional attr_form) 136 fs_info_most (most_within (optional attr_form) 88 136 post_op_most (omega arith)) a fits)

@@ -1,12 +1,12 @@
 -- What is read as a message says it, and may come.
-use Rattle.std.proofs.Common.{◌≡◌, ℕ, ◌+◌, ◌<◌, ◌^◌, Bool, true, false, cond, List, [], ◌++◌, length, Option, Some, None, Result, Ok, Err, refl, sym, ap, subst, ◌∙◌}
+use Rattle.std.proofs.Common.{◌≡◌, ℕ, ◌<◌, ◌^◌, Bool, true, false, cond, List, [], ◌++◌, length, Option, Some, None, Result, Ok, Err, refl, sym, ap, subst, ◌∙◌}
 use Rattle.std.specs.Prelude.{IsSome, ◌&&◌, ◌==◌}
 use Rattle.std.proofs.lemmas.Bool.{eqb-true}
 use Rattle.std.proofs.lemmas.List.{append-nil, nil_from_length}
 use Rattle.xdr_codec.specs.declared.fault.Fault.{Fault}
 use Rattle.xdr_codec.specs.declared.fault.Fault.TheVariants.{Trailing}
-use Rattle.xdr_codec.specs.Format.{Input, IsBytes, behind, whole_at, ended}
-use Rattle.xdr_codec.specs.Tables.{named, named_there}
+use Rattle.xdr_codec.specs.Format.{Input, IsBytes, whole_at, ended}
+use Rattle.xdr_codec.specs.Tables.{named_there}
 use Rattle.xdr_codec.specs.Xdr.{u32_form}
 use Rattle.xdr_codec.specs.Whole.{whole_found, ended_ok}
 use Rattle.nfs3_calls.specs.Nfs as nfs

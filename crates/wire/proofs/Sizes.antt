@@ -1,8 +1,9 @@
 -- Messages are short enough for a record.
 use Rattle.std.proofs.Common.{◌≡◌, ℕ, ◌≤◌, List, ◌++◌, length, refl, arith, length-append}
+use Rattle.limits.specs.declared.TheConstants.{RECORD_MOST}
 use Rattle.xdr_codec.specs.Xdr.{u32_form, opaque_spell}
 use Rattle.rpc_record.specs.Header.{direction_form, front_form, auth_form, call_form, versions_form, accept_form, denial_form, reply_form}
-use Rattle.wire.specs.Message.{program_of, body_spell, BodyFits, IsSpelled, MessageFits, call_head, refusal_head, message_spell, no_auth, most_bytes}
+use Rattle.wire.specs.Message.{program_of, body_spell, BodyFits, IsSpelled, MessageFits, call_head, refusal_head, message_spell, no_auth}
 use Rattle.wire.specs.Size.{IsSmallBody, IsSmall}
 use Rattle.rpc_record.specs.declared.header.Direction.{Direction}
 use Rattle.rpc_record.specs.declared.header.Direction.TheVariants as direction
@@ -49,7 +50,7 @@ refusal_most refusal.SystemErr = omega arith
 refusal_most (refusal.RpcMismatch low high) = omega arith
 refusal_most (refusal.AuthError why) = omega arith
 
-small_most : (m : Message) → IsSpelled m → IsSmall m → length (message_spell m) ≤ most_bytes
+small_most : (m : Message) → IsSpelled m → IsSmall m → length (message_spell m) ≤ RECORD_MOST
 small_most (Call xid b) spelled small =
     let front : List ℕ = front_form.spell (record { xid = xid; direction = direction.Call }) in
     let head : List ℕ = call_form.spell (call_head no_auth no_auth (program_of b)) in

@@ -1,5 +1,6 @@
 -- What a record says (RFC 5531, section 9), and which messages have a record.
 use Rattle.std.specs.Prelude.{◌≡◌, Bool, true, false, ℕ, ◌<◌, ◌≤◌, ◌^◌, List, [], ◌++◌, length}
+use Rattle.limits.specs.declared.TheConstants.{RECORD_MOST}
 use Rattle.xdr_codec.specs.Format.{Format}
 use Rattle.xdr_codec.specs.Compose.{embedded}
 use Rattle.xdr_codec.specs.Xdr.{u32_form}
@@ -163,13 +164,9 @@ message_spell (Answer xid b) = answer_spell xid no_auth b
 message_spell (Refuse xid why) = refuse_spell xid no_auth why
 message_spell (Unfit xid why) = []
 
--- the most bytes of one record
-abbrev pub most_bytes : ℕ
-most_bytes = 131072
-
 -- it can be sent: it has a spelling, and that is a record
 abbrev pub MessageFits : Message → Type 0
-MessageFits m = IsSpelled m × (length (message_spell m) ≤ most_bytes)
+MessageFits m = IsSpelled m × (length (message_spell m) ≤ RECORD_MOST)
 
 -- the same where numbers are known to be those of their types
 abbrev pub IsShort : Message → Type 0

@@ -19,7 +19,7 @@ pub fn said_is_read()
     ensures { (w : Waiting) (m : Message) (bytes : List ℕ) → IsExpected w m → Says m bytes → parse_of w bytes ≡ Ok m }
 {}
 
-/// A message has a record of at most 131,072 bytes, where a READ gives at most 65,536: so record
+/// A message has a record of at most `RECORD_MOST` bytes, where a READ gives at most `PIECE_MOST`: so record
 /// marking never finds it too big.
 pub fn small_fits()
     ensures { (m : Message) → IsSpelled m → IsSmall m → MessageFits m }

@@ -122,8 +122,8 @@ pub struct Waiting {
 #[derive(Clone, Copy, Debug, PartialEq, Eq, Drop)]
 pub enum WireErr {
     /// No RPC message: too short for an xid and a direction, another direction than 0 and 1, or a
-    /// call whose header ends early or has an authentication item outside its grammar (above 400
-    /// bytes, or with fill that isn't zero). The item that failed begins `at` bytes behind the
+    /// call whose header ends early or has an authentication item outside its grammar (above
+    /// `AUTH_MOST` bytes, or with fill that isn't zero). The item that failed begins `at` bytes behind the
     /// record's first; for an opaque that is its length.
     NotRpc { at: usize },
     /// An answer to a call that doesn't wait, whatever else is wrong with it.

@@ -17,7 +17,7 @@ use xdr_codec::writer::Writer;
 ///
 /// A call that can't be taken has none, and gives no bytes: what is sent in answer to `Unfit` is its
 /// refusal as `Refuse`. Lists and byte strings of the message must be within their maxima for the
-/// other end to read it. Record marking takes at most 131,072 bytes.
+/// other end to read it. Record marking takes at most `RECORD_MOST` bytes.
 pub fn spell(alloc: Global, message: &Message) -> Result<Bytes, AllocError>
     ensures spelled { IfOk result (λ bytes. bytes ≡ message_spell message.now) }
     ensures fits { OnOk result (IsShort message.now → IsSpelled message.now) }

@@ -3,11 +3,12 @@ use Rattle.std.proofs.Common.{ℕ, List, [], ◌∷◌, ◌++◌, length, drop, 
 use Rattle.std.specs.Prelude.{eqb, ◌==◌, ◌&&◌, if◌then◌else◌}
 use Rattle.std.specs.Int.{w64, to_be_bytes, from_be_bytes}
 use Rattle.std.specs.List.{starts_with}
+use Rattle.limits.specs.declared.TheConstants.{HANDLE_MOST}
 use Rattle.xdr_codec.specs.Format.{Format}
 use Rattle.xdr_codec.specs.Xdr.{opaque_form}
 
 abbrev pub handle_form : Format (List ℕ)
-handle_form = opaque_form 64
+handle_form = opaque_form HANDLE_MOST
 
 -- "LB01", and four zeros
 abbrev pub handle_mark : List ℕ

@@ -2,16 +2,18 @@
 
 ghost use Rattle.std.specs.Prelude.{◌≡◌, ◌++◌, ◌≤◌, ◌<◌, ◌^◌, ℕ, length, OnOk, IfOk, IfSome, IfNone};
 ghost use Rattle.xdr_codec.specs.Handle.{handle_bytes, handle_mark, file_of};
+ghost use Rattle.limits.specs.declared.TheConstants.{HANDLE_MOST};
 
 use crate::fault::ReadError;
 use crate::item::Item;
 use crate::reader::Reader;
 use crate::writer::Writer;
 use lb_base::items::Bytes;
+use limits::HANDLE_MOST;
 use std::alloc::{AllocError, Global};
 use std::marker::Model;
 
-/// What names a file or a directory: at most 64 bytes, which contracts see as a list.
+/// What names a file or a directory: at most `HANDLE_MOST` bytes, which contracts see as a list.
 #[derive(Drop, Debug)]
 pub struct Handle {
     bytes: Bytes,
@@ -19,24 +21,25 @@ pub struct Handle {
 
 impl Model for Handle {
     ghost use Rattle.std.specs.Prelude.{List, ℕ, length, ◌≤◌};
+    ghost use Rattle.limits.specs.declared.TheConstants.{HANDLE_MOST};
 
     ghost Value = { List ℕ };
 
     ghost view = { λ h. h.bytes };
 
-    ghost invariant = { λ h. length h.bytes ≤ 64 };
+    ghost invariant = { λ h. length h.bytes ≤ HANDLE_MOST };
 }
 
 /// How the handles of this file system begin: "LB01", and four zeros.
 const MARK: [u8; 8] = [0x4c, 0x42, 0x30, 0x31, 0, 0, 0, 0];
 
 impl Handle {
-    /// A handle of any bytes; none where there are more than 64. Takes no memory.
+    /// A handle of any bytes; none where there are more than `HANDLE_MOST`. Takes no memory.
     pub fn new(bytes: Bytes) -> Option<Handle>
         ensures some { IfSome result (λ h. h ≡ bytes) }
-        ensures none { IfNone result (64 < length bytes) }
+        ensures none { IfNone result (HANDLE_MOST < length bytes) }
     {
-        if bytes.len() > 64 {
+        if bytes.len() > HANDLE_MOST as usize {
             return None;
         }
         Some(Handle { bytes })
@@ -57,7 +60,7 @@ impl Handle {
     /// Its bytes.
     pub fn as_slice(&self) -> &[u8]
         ensures value { result.now ≡ self.now }
-        ensures short { length result.now ≤ 64 }
+        ensures short { length result.now ≤ HANDLE_MOST }
     {
         self.bytes.as_slice()
     }
@@ -93,7 +96,7 @@ impl Item for Handle {
     ghost short = { λ _. Unit {0} };
 
     fn read(alloc: Global, reader: &mut Reader) -> Result<Handle, ReadError> {
-        let bytes = reader.opaque(alloc, 64)?;
+        let bytes = reader.opaque(alloc, HANDLE_MOST)?;
         Ok(Handle { bytes })
     }
 

@@ -15,6 +15,10 @@ use lb_base::items::Bytes;
 use std::alloc::Global;
 use std::marker::Model;
 
+/// The maximum of byte strings and lists that are declared without one (RFC 4506, sections 4.10 and
+/// 4.13), in bytes or in items.
+pub const NO_MAXIMUM: u32 = 4_294_967_295;
+
 /// What is left of a record, and its place counted from the record's first byte.
 #[derive(Drop)]
 pub struct Reader<'a> {
