@@ -9,7 +9,7 @@ use Rattle.wire.specs.declared.message.Body.{Body}
 use Rattle.wire.specs.declared.message.Body.TheVariants as body
 use Rattle.wire.specs.declared.message.Message.{Message}
 use Rattle.wire.specs.declared.message.Message.TheVariants as message
-use Rattle.wire.specs.declared.message.WireErr.{WireErr}
+use Rattle.wire.specs.declared.fault.WireFault.{WireFault}
 use Rattle.open_close.specs.declared.task.Stage.{Stage}
 use Rattle.open_close.specs.declared.task.Stage.TheVariants as stage
 use Rattle.open_close.specs.declared.task.Task.{Task}
@@ -52,6 +52,6 @@ task_named s None ms = []
 task_named s (Some t) ms = named (local_bytes s.opened t.file) ms
 
 -- what came was compared, and what goes out is named
-abbrev pub client_hashed : State → Result Message WireErr → List (List ℕ)
+abbrev pub client_hashed : State → Result Message WireFault → List (List ℕ)
 client_hashed s (Ok m) = message_compared s.task m ++ task_named s s.task (got_step s (Ok m)).1.send
 client_hashed s (Err e) = []

@@ -17,8 +17,8 @@ use Rattle.wire.specs.declared.message.Message.{Message}
 use Rattle.wire.specs.declared.message.Message.TheVariants as message
 use Rattle.wire.specs.declared.message.RpcRefusal.{RpcRefusal}
 use Rattle.wire.specs.declared.message.RpcRefusal.TheVariants as refusal
-use Rattle.wire.specs.declared.message.WireErr.{WireErr}
-use Rattle.wire.specs.declared.message.WireErr.TheVariants as wire
+use Rattle.wire.specs.declared.fault.WireFault.{WireFault}
+use Rattle.wire.specs.declared.fault.WireFault.TheVariants as wire
 use Rattle.trace_text.specs.Content.{content_length, content_bytes}
 use Rattle.trace_text.specs.declared.content.Part.{Part}
 use Rattle.trace_text.specs.declared.line.Command.{Command}
@@ -282,18 +282,17 @@ got_message s None (message.Refuse xid r) = cut_off s
 got_message s task (message.Unfit xid r) = (s, sends (message.Refuse xid r) 0 0)
 got_message s task (message.Call xid b) = (s, nothing_done)
 
-abbrev pub fault_of : WireErr → BadPeer
+abbrev pub fault_of : WireFault → BadPeer
 fault_of (wire.NotRpc at) = bad.Garbage at
 fault_of (wire.UnknownXid xid) = bad.UnknownXid xid
 fault_of (wire.Garbage at) = bad.Garbage at
-fault_of wire.Memory = bad.Garbage 0
 
-abbrev pub got_fault : State → Option Task → WireErr → State × Acts
+abbrev pub got_fault : State → Option Task → WireFault → State × Acts
 got_fault s (Some t) e = bad_peer s (fault_of e) 0
 got_fault s None e = cut_off s
 
 -- what comes from the other end: a message, or why a record is none
-abbrev pub got_step : State → Result Message WireErr → State × Acts
+abbrev pub got_step : State → Result Message WireFault → State × Acts
 got_step s (Ok m) = got_message s s.task m
 got_step s (Err e) = got_fault s s.task e
 
@@ -337,9 +336,3 @@ InCommit p = ⊥
 abbrev pub IsCommitting : Option Task → Type 0
 IsCommitting None = ⊥
 IsCommitting (Some t) = InCommit t.stage
-
--- want of memory is this end's own, and nothing that came
-abbrev pub IsTold : Result Message WireErr → Type 0
-IsTold (Ok m) = Unit {0}
-IsTold (Err wire.Memory) = ⊥
-IsTold (Err e) = Unit {0}

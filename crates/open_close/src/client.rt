@@ -3,7 +3,7 @@
 ghost use Rattle.std.specs.Prelude.{◌≡◌, ◌==◌, false, true, option_map, Some};
 ghost use Rattle.std.specs.Option.{option_copied};
 ghost use Rattle.open_close.specs.State.{start, waiting_of, local_at};
-ghost use Rattle.open_close.specs.Step.{command_step, got_step, idle, cut, joined, misses, by_memory, lost, lost_if, IsTold, IsCommitting};
+ghost use Rattle.open_close.specs.Step.{command_step, got_step, idle, cut, joined, misses, by_memory, lost, lost_if, IsCommitting};
 
 use crate::acts::{Acts, Ended, Outcome};
 use crate::inner::Inner;
@@ -14,7 +14,8 @@ use std::alloc::Global;
 use std::collections::BTreeMap;
 use std::marker::Model;
 use trace_text::line::Command;
-use wire::message::{Message, Side, Waiting, WireErr};
+use wire::fault::WireFault;
+use wire::message::{Message, Side, Waiting};
 
 /// A client of one connection, with its open files and at most one operation under way.
 #[derive(Drop)]
@@ -95,8 +96,7 @@ impl Client {
     /// What comes from the other end: a message, or why a record is none. Where memory runs out
     /// nothing else is done than that the operation under way ends by that, if there is one. Once
     /// COMMITTMP was sent it takes no memory.
-    pub fn got(&mut self, alloc: Global, message: Result<Message, WireErr>) -> Acts
-        requires { IsTold message }
+    pub fn got(&mut self, alloc: Global, message: Result<Message, WireFault>) -> Acts
         ensures exact { result.missed ≡ false → got_step self.old message ≡ (self.new, result) }
         ensures missed { result.missed ≡ true → self.new ≡ idle self.old }
         ensures silent { result.missed ≡ true → result ≡ misses (lost self.old.task) }

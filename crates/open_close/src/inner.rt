@@ -14,7 +14,8 @@ use lb_base::items::Items;
 use std::alloc::{AllocError, Global};
 use std::collections::BTreeMap;
 use trace_text::line::Command;
-use wire::message::{Body, Message, RpcRefusal, Waiting, WireErr};
+use wire::fault::WireFault;
+use wire::message::{Body, Message, RpcRefusal, Waiting};
 use xdr_codec::status::Status;
 
 /// An operation begins only below this xid: 1,000,000 are left then.
@@ -254,7 +255,7 @@ impl Inner {
     }
 
     /// A record that is no message.
-    fn got_fault(&mut self, alloc: Global, fault: WireErr) -> Acts
+    fn got_fault(&mut self, alloc: Global, fault: WireFault) -> Acts
         requires { IsSound self.old }
         ensures ok { got_fault (state_of self.old) self.old.task fault ≡ (state_of self.new, result) }
         ensures done { result.missed ≡ false }
@@ -295,7 +296,7 @@ impl Inner {
     pub fn got(
         &mut self,
         alloc: Global,
-        message: Result<Message, WireErr>,
+        message: Result<Message, WireFault>,
     ) -> Result<Acts, AllocError>
         requires { IsSound self.old }
         ensures ok { IfOk result (λ a. got_step (state_of self.old) message ≡ (state_of self.new, a)) }

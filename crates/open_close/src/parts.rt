@@ -23,7 +23,8 @@ use nfs3_calls::message::{Nfs, NfsProc};
 use sha1::Sha1;
 use std::alloc::{AllocError, Global};
 use std::collections::BTreeMap;
-use wire::message::{Body, Message, Pending, Program, RpcRefusal, WireErr};
+use wire::fault::WireFault;
+use wire::message::{Body, Message, Pending, Program, RpcRefusal};
 use xdr_codec::handle::Handle;
 
 /// Nothing is counted.
@@ -305,12 +306,13 @@ pub fn refusal_code(refusal: RpcRefusal) -> u32
 }
 
 /// What is wrong with a record that is no message.
-pub fn fault_of(fault: WireErr) -> BadPeer
+pub fn fault_of(fault: WireFault) -> BadPeer
     ensures { result ≡ fault_of fault }
 {
     match fault {
-        WireErr::NotRpc { at } | WireErr::Garbage { at } => BadPeer::Garbage { at: at as u64 },
-        WireErr::UnknownXid { xid } => BadPeer::UnknownXid { xid },
-        WireErr::Memory => BadPeer::Garbage { at: 0 },
+        WireFault::NotRpc { at } | WireFault::Garbage { at } => {
+            BadPeer::Garbage { at: at as u64 }
+        }
+        WireFault::UnknownXid { xid } => BadPeer::UnknownXid { xid },
     }
 }

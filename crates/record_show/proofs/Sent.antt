@@ -23,8 +23,8 @@ use Rattle.wire.specs.declared.message.Program.TheVariants as program
 use Rattle.wire.specs.declared.message.RpcRefusal.{RpcRefusal}
 use Rattle.wire.specs.declared.message.RpcRefusal.TheVariants as refusal
 use Rattle.wire.specs.declared.message.Side.TheVariants.{Either}
-use Rattle.wire.specs.declared.message.WireErr.{WireErr}
-use Rattle.wire.specs.declared.message.WireErr.TheVariants.{NotRpc, UnknownXid}
+use Rattle.wire.specs.declared.fault.WireFault.{WireFault}
+use Rattle.wire.specs.declared.fault.WireFault.TheVariants.{NotRpc, UnknownXid}
 use Rattle.wire.proofs.Again.{front_fits, no_auth_fits, spell_again}
 use Rattle.record_show.specs.Line.{any_call, answer_line, read_line, line_of}
 use Rattle.record_show.specs.Show.{record_text, end_text, parts_text, shown}
@@ -94,7 +94,7 @@ answered xid s tail lt fits =
     let own = stat_form.spell s in
     let read : answer_form.read (start (front ++ (own ++ tail))) ≡ Ok ((answers xid, s), behind 0 (front ++ own) tail) =
     ap (λ (bytes : List ℕ). answer_form.read (start bytes)) (sym (append_assoc front own tail)) ∙ answer_form.again (answers xid, s) 0 tail (front_fits xid direction.Reply lt, fits) in
-    ap (λ (r : Result Message WireErr). read_line r (answer_line (answer_form.read (start (front ++ (own ++ tail)))))) (unknown xid (own ++ tail) lt) ∙ ap answer_line read
+    ap (λ (r : Result Message WireFault). read_line r (answer_line (answer_form.read (start (front ++ (own ++ tail)))))) (unknown xid (own ++ tail) lt) ∙ ap answer_line read
 
 -- what follows what a refusal says of its call
 abbrev numbers_spell : RpcRefusal → List ℕ
@@ -153,7 +153,7 @@ refusal_fits (refusal.AuthError why) = denied_fits reject.AuthError
 
 pub sent_shown : (m : Message) → IsSpelled m → line_of (message_spell m) ≡ sent_line m
 sent_shown (message.Call xid b) spelled =
-    ap (λ (r : Result Message WireErr). read_line r (answer_line (answer_form.read (start (message_spell (message.Call xid b)))))) (spell_again any_call (message.Call xid b) spelled (any_served (program_of b)))
+    ap (λ (r : Result Message WireFault). read_line r (answer_line (answer_form.read (start (message_spell (message.Call xid b)))))) (spell_again any_call (message.Call xid b) spelled (any_served (program_of b)))
 sent_shown (message.Answer xid b) spelled =
     ap (λ (head : List ℕ). line_of (front_form.spell (answers xid) ++ (head ++ body_spell b))) (success_then no_auth)
     ∙ answered xid (Accepted no_auth accept.Success) (body_spell b) spelled.0 (accepted_fits no_auth accept.Success no_auth_fits)

@@ -9,8 +9,8 @@ use Rattle.wire.specs.declared.message.Side.TheVariants.{Either}
 use Rattle.wire.specs.declared.message.Waiting.{Waiting}
 use Rattle.wire.specs.declared.message.Message.{Message}
 use Rattle.wire.specs.declared.message.Message.TheVariants as message
-use Rattle.wire.specs.declared.message.WireErr.{WireErr}
-use Rattle.wire.specs.declared.message.WireErr.TheVariants.{NotRpc}
+use Rattle.wire.specs.declared.fault.WireFault.{WireFault}
+use Rattle.wire.specs.declared.fault.WireFault.TheVariants.{NotRpc}
 use Rattle.record_show.specs.Names.{program_name, procedure_name, refusal_name, stat_name}
 use Rattle.record_show.specs.Stat.{answer_form}
 use Rattle.record_show.specs.declared.line.Line.{Line}
@@ -29,7 +29,7 @@ answer_line (Ok a) = Answer a.0.0.xid a.0.1 (length a.1.rest)
 answer_line (Err fault) = Bad (fault_at fault)
 
 -- a call by what is read, and what is neither a call nor no message as an answer, whatever waits for it
-abbrev pub read_line : Result Message WireErr → Line → Line
+abbrev pub read_line : Result Message WireFault → Line → Line
 read_line (Ok (message.Call xid b)) answer = Call xid (program_of b) (length (body_spell b))
 read_line (Ok (message.Unfit xid why)) answer = Unfit xid why
 read_line (Err (NotRpc at)) answer = Bad at

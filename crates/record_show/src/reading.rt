@@ -14,8 +14,9 @@ use crate::stat::read_answer;
 use lb_base::items::Items;
 use rpc_record::messages::Call;
 use std::alloc::{AllocError, Global};
-use wire::message::{Message, Program, RpcRefusal, Side, Waiting, WireErr};
-use wire::parse::{parse, place};
+use wire::fault::{WireErr, WireFault, place};
+use wire::message::{Message, Program, RpcRefusal, Side, Waiting};
+use wire::parse::parse;
 use xdr_codec::fault::ReadError;
 use xdr_codec::reader::Reader;
 
@@ -74,10 +75,12 @@ fn said_by(read: &Result<Message, WireErr>) -> Said
             xid: *xid,
             refusal: *refusal,
         },
-        Err(WireErr::NotRpc { at }) => Said::NoMessage { at: *at },
+        Err(WireErr::Fault(WireFault::NotRpc { at })) => Said::NoMessage { at: *at },
         Err(WireErr::Memory) => Said::Unknown,
         Ok(Message::Answer(_, _) | Message::Refuse(_, _))
-        | Err(WireErr::UnknownXid { .. } | WireErr::Garbage { .. }) => Said::NoCall,
+        | Err(WireErr::Fault(WireFault::UnknownXid { .. } | WireFault::Garbage { .. })) => {
+            Said::NoCall
+        }
     }
 }
 

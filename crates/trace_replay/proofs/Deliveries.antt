@@ -7,7 +7,7 @@ use Rattle.rpc_record.specs.Records.{Unread, Parts, split, continued, fed}
 use Rattle.rpc_record.proofs.Splitting.{split_cut}
 use Rattle.wire.specs.Parse.{parse_of}
 use Rattle.wire.specs.declared.message.Message.{Message}
-use Rattle.wire.specs.declared.message.WireErr.{WireErr}
+use Rattle.wire.specs.declared.fault.WireFault.{WireFault}
 use Rattle.open_close.specs.State as client
 use Rattle.open_close.specs.State.{waiting_of}
 use Rattle.open_close.specs.Step.{got_step}
@@ -62,7 +62,7 @@ abbrev with_up : World → (up : List ℕ) → Unread → World
 with_up w up end = record w { link = record w.link { up = up; server_end = end } }
 
 -- what the server takes touches neither
-server_keeps : (w : World) (now : ℕ) (up : List ℕ) (end : Unread) (r : Result Message WireErr) → server_takes_if (with_up w up end) now r ≡ with_up (server_takes_if w now r) up end
+server_keeps : (w : World) (now : ℕ) (up : List ℕ) (end : Unread) (r : Result Message WireFault) → server_takes_if (with_up w up end) now r ≡ with_up (server_takes_if w now r) up end
 server_keeps w now up end (Ok m) = refl
 server_keeps w now up end (Err e) = refl
 

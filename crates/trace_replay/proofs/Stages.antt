@@ -4,7 +4,7 @@ use Rattle.std.specs.Prelude.{length, take, Option, Some, None, Result, Ok, Err}
 use Rattle.rpc_record.specs.Records.{fed}
 use Rattle.wire.specs.Parse.{parse_of}
 use Rattle.wire.specs.declared.message.Message.{Message}
-use Rattle.wire.specs.declared.message.WireErr.{WireErr}
+use Rattle.wire.specs.declared.fault.WireFault.{WireFault}
 use Rattle.server_core.specs.State as server
 use Rattle.server_core.specs.Step.{server_step}
 use Rattle.server_core.specs.declared.event.Event.TheVariants as event
@@ -22,7 +22,7 @@ use Rattle.trace_replay.specs.Turns.{stage_after}
 
 -- ---- while bytes are delivered
 
-got_stage : (w : World) (now : ℕ) (r : Result Message WireErr) → (server_takes_if w now r).stage ≡ w.stage
+got_stage : (w : World) (now : ℕ) (r : Result Message WireFault) → (server_takes_if w now r).stage ≡ w.stage
 got_stage w now (Ok m) = refl
 got_stage w now (Err e) = refl
 

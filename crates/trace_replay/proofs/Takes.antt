@@ -7,7 +7,7 @@ use Rattle.rpc_record.specs.declared.records.Fed.{Fed}
 use Rattle.wire.specs.Message.{message_spell, MessageFits}
 use Rattle.wire.specs.Parse.{IsExpected}
 use Rattle.wire.specs.declared.message.Message.{Message}
-use Rattle.wire.specs.declared.message.WireErr.{WireErr}
+use Rattle.wire.specs.declared.fault.WireFault.{WireFault}
 use Rattle.open_close.specs.State.{waiting_of}
 use Rattle.open_close.specs.Step.{got_step}
 use Rattle.trace_replay.specs.World.{World, bytes_of}
@@ -93,7 +93,7 @@ pub down_whole : (w : World) (count : ℕ) (m : Message) → MessageFits m → O
 down_whole w count m fits way le expected =
     ap (after_down w (drop count w.link.down)) (read_whole w.link.client_end w.link.down count m fits way le)
     ∙ ap (λ (down : List ℕ). after_down w down (gives (message_spell m ∷ []))) (drop_all count w.link.down le)
-    ∙ ap (λ (p : Result Message WireErr). let r = got_step w.client p in acted (down_read w) r.0 r.1 w.running) (parsed (waiting_of w.client) m fits expected)
+    ∙ ap (λ (p : Result Message WireFault). let r = got_step w.client p in acted (down_read w) r.0 r.1 w.running) (parsed (waiting_of w.client) m fits expected)
 
 -- ---- both
 

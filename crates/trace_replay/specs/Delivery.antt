@@ -4,7 +4,7 @@ use Rattle.rpc_record.specs.Records.{fed}
 use Rattle.wire.specs.Parse.{parse_of}
 use Rattle.wire.specs.declared.message.Message.{Message}
 use Rattle.wire.specs.declared.message.Message.TheVariants as message
-use Rattle.wire.specs.declared.message.WireErr.{WireErr}
+use Rattle.wire.specs.declared.fault.WireFault.{WireFault}
 use Rattle.wire.specs.declared.message.Side.TheVariants as side
 use Rattle.wire.specs.declared.message.Waiting.{Waiting}
 use Rattle.server_core.specs.Step.{server_step}
@@ -39,7 +39,7 @@ server_got w now m =
     }
 
 -- bytes that are no message change nothing at the server
-abbrev pub server_takes_if : World → (now : ℕ) → Result Message WireErr → World
+abbrev pub server_takes_if : World → (now : ℕ) → Result Message WireFault → World
 server_takes_if w now (Ok m) = server_got w now m
 server_takes_if w now (Err e) = record w { steps = w.steps + 1 }
 

@@ -3,7 +3,7 @@ use Rattle.std.specs.Prelude.{ℕ, zero, suc, ◌+◌, List, [], ◌∷◌, ◌+
 use Rattle.rpc_record.specs.Records.{fed}
 use Rattle.wire.specs.Parse.{parse_of}
 use Rattle.wire.specs.declared.message.Message.{Message}
-use Rattle.wire.specs.declared.message.WireErr.{WireErr}
+use Rattle.wire.specs.declared.fault.WireFault.{WireFault}
 use Rattle.server_core.specs.Hashed.{server_hashed}
 use Rattle.open_close.specs.Hashed.{client_hashed}
 use Rattle.open_close.specs.State.{waiting_of}
@@ -16,7 +16,7 @@ use Rattle.trace_replay.specs.World.{World, start}
 use Rattle.trace_replay.specs.Delivery.{server_waiting, server_takes, client_takes, up_some, round, is_still}
 use Rattle.trace_replay.specs.Run.{asked_by, turned, count_of}
 
-abbrev pub server_share : World → Result Message WireErr → List (List ℕ)
+abbrev pub server_share : World → Result Message WireFault → List (List ℕ)
 server_share w (Ok m) = server_hashed w.server.files m
 server_share w (Err e) = []
 

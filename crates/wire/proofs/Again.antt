@@ -36,7 +36,7 @@ use Rattle.wire.specs.declared.message.RpcRefusal.TheVariants as refusal
 use Rattle.wire.specs.declared.message.Waiting.{Waiting}
 use Rattle.wire.specs.declared.message.Message.{Message}
 use Rattle.wire.specs.declared.message.Message.TheVariants.{Call, Answer, Refuse, Unfit}
-use Rattle.wire.specs.declared.message.WireErr.TheVariants.{NotRpc, Garbage}
+use Rattle.wire.specs.declared.fault.WireFault.TheVariants.{NotRpc, Garbage}
 
 -- ---- bodies
 

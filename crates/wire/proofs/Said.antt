@@ -37,24 +37,24 @@ use Rattle.wire.specs.declared.message.RpcRefusal.TheVariants as refusal
 use Rattle.wire.specs.declared.message.Waiting.{Waiting}
 use Rattle.wire.specs.declared.message.Message.{Message}
 use Rattle.wire.specs.declared.message.Message.TheVariants.{Call, Answer, Refuse, Unfit}
-use Rattle.wire.specs.declared.message.WireErr.{WireErr}
-use Rattle.wire.specs.declared.message.WireErr.TheVariants.{NotRpc, Garbage}
+use Rattle.wire.specs.declared.fault.WireFault.{WireFault}
+use Rattle.wire.specs.declared.fault.WireFault.TheVariants.{NotRpc, Garbage}
 
 -- ---- steps that gave a message
 
 -- what was read, where a step behind it gave a message
-read_or_ok : {A : Type 0} (wrong : ℕ → WireErr) (r : Result A Fault) (go : A → Result Message WireErr) (m : Message) → read_or wrong r go ≡ Ok m → (a : A) × (r ≡ Ok a) × (go a ≡ Ok m)
+read_or_ok : {A : Type 0} (wrong : ℕ → WireFault) (r : Result A Fault) (go : A → Result Message WireFault) (m : Message) → read_or wrong r go ≡ Ok m → (a : A) × (r ≡ Ok a) × (go a ≡ Ok m)
 read_or_ok wrong (Ok a) go m e = (a, refl, e)
 read_or_ok wrong (Err fault) go m e = absurd cc
 
-abbrev parsed : Message → Result Message WireErr
+abbrev parsed : Message → Result Message WireFault
 parsed m = Ok m
 
 message_is : (a b : Message) → parsed a ≡ parsed b → a ≡ b
 message_is a b e = cc
 
 -- a test before a call's header: else the message is unfit
-if_fit : (test : Bool) (found : Result Message WireErr) (xid : ℕ) (why : RpcRefusal) (m : Message) → is_unfit m ≡ false → cond test found (Ok (Unfit xid why)) ≡ Ok m → (test ≡ true) × (found ≡ Ok m)
+if_fit : (test : Bool) (found : Result Message WireFault) (xid : ℕ) (why : RpcRefusal) (m : Message) → is_unfit m ≡ false → cond test found (Ok (Unfit xid why)) ≡ Ok m → (test ≡ true) × (found ≡ Ok m)
 if_fit true found xid why m fit e = (refl, e)
 if_fit false found xid why m fit e = let is : true ≡ is_unfit m = ap is_unfit (message_is (Unfit xid why) m e) in absurd (no_unfit m is fit)
   where

@@ -29,8 +29,10 @@ use Rattle.wire.specs.declared.message.RpcRefusal.{RpcRefusal}
 use Rattle.wire.specs.declared.message.RpcRefusal.TheVariants as refusal
 use Rattle.wire.specs.declared.message.Message.{Message}
 use Rattle.wire.specs.declared.message.Message.TheVariants.{Call, Answer, Refuse, Unfit}
-use Rattle.wire.specs.declared.message.WireErr.{WireErr}
-use Rattle.wire.specs.declared.message.WireErr.TheVariants.{NotRpc, UnknownXid, Garbage, Memory}
+use Rattle.wire.specs.declared.fault.WireFault.{WireFault}
+use Rattle.wire.specs.declared.fault.WireFault.TheVariants.{NotRpc, UnknownXid, Garbage}
+use Rattle.wire.specs.declared.fault.WireErr.{WireErr}
+use Rattle.wire.specs.declared.fault.WireErr.TheVariants as wire_errors
 
 -- ---- what is expected
 
@@ -78,15 +80,15 @@ fault_at (BadValue at value) = at
 
 -- what a reader's refusal is called in a header, and in an answer
 abbrev pub not_rpc : ReadError → WireErr
-not_rpc errors.Memory = Memory
-not_rpc (errors.Fault fault) = NotRpc (fault_at fault)
+not_rpc errors.Memory = wire_errors.Memory
+not_rpc (errors.Fault fault) = wire_errors.Fault (NotRpc (fault_at fault))
 
 abbrev pub garbage : ReadError → WireErr
-garbage errors.Memory = Memory
-garbage (errors.Fault fault) = Garbage (fault_at fault)
+garbage errors.Memory = wire_errors.Memory
+garbage (errors.Fault fault) = wire_errors.Fault (Garbage (fault_at fault))
 
 -- what is read, and then; or why not
-abbrev pub read_or : {A B : Type 0} → (ℕ → WireErr) → Result A Fault → (A → Result B WireErr) → Result B WireErr
+abbrev pub read_or : {A B : Type 0} → (ℕ → WireFault) → Result A Fault → (A → Result B WireFault) → Result B WireFault
 read_or wrong (Ok a) go = go a
 read_or wrong (Err fault) go = Err (wrong (fault_at fault))
 
@@ -115,11 +117,11 @@ taken xid (Ok p) i = with_args xid (whole_at i.at (args_of p) i.rest)
 taken xid (Err why) i = Unfit xid why
 
 -- a call behind the version of RPC
-abbrev pub parse_call_body : Side → ℕ → Input → Result Message WireErr
+abbrev pub parse_call_body : Side → ℕ → Input → Result Message WireFault
 parse_call_body side xid i = read_or NotRpc (call_form.read i) (λ head. Ok (taken xid (called side head.0) head.1))
 
 -- a call, from the version of RPC on
-abbrev pub parse_call : Side → ℕ → Input → Result Message WireErr
+abbrev pub parse_call : Side → ℕ → Input → Result Message WireFault
 parse_call side xid i =
     read_or NotRpc (u32_form.read i) (λ version.
     if version.0 == 2 then parse_call_body side xid version.1
@@ -136,27 +138,25 @@ refusal_of (Denied (denial.RpcMismatch v)) = Some (refusal.RpcMismatch v.low v.h
 refusal_of (Denied (denial.AuthError why)) = Some (refusal.AuthError why)
 
 -- the result fills the rest of the record, and nothing follows a refusal
-abbrev pub replied : ℕ → Program → Option RpcRefusal → Input → Result Message WireErr
+abbrev pub replied : ℕ → Program → Option RpcRefusal → Input → Result Message WireFault
 replied xid p None i = read_or Garbage (whole_at i.at (result_of p) i.rest) (λ b. Ok (Answer xid b))
 replied xid p (Some why) i = read_or Garbage (ended i) (λ _. Ok (Refuse xid why))
 
 -- an answer to what waits under its xid
-abbrev pub parse_reply : ℕ → Option Program → Input → Result Message WireErr
+abbrev pub parse_reply : ℕ → Option Program → Input → Result Message WireFault
 parse_reply xid (Some p) i = read_or Garbage (reply_form.read i) (λ head. replied xid p (refusal_of head.0) head.1)
 parse_reply xid None i = Err (UnknownXid xid)
 
-abbrev pub parse_by : Waiting → ℕ → Direction → Input → Result Message WireErr
+abbrev pub parse_by : Waiting → ℕ → Direction → Input → Result Message WireFault
 parse_by w xid direction.Call i = parse_call w.side xid i
 parse_by w xid direction.Reply i = parse_reply xid (waiting xid w.calls) i
 
--- the message that a record is where these are expected, or why it is none; never for want of memory
-abbrev pub parse_of : Waiting → List ℕ → Result Message WireErr
+-- the message that a record is where these are expected, or what is wrong with it
+abbrev pub parse_of : Waiting → List ℕ → Result Message WireFault
 parse_of w bytes = read_or NotRpc (front_form.read (record { at = 0; rest = bytes })) (λ front. parse_by w front.0.xid front.0.direction front.1)
 
--- what a function returned is the message that the record is, or why it is none, unless memory ran out
-abbrev pub IsParsed : Result Message WireErr → Result Message WireErr → Type 0
+-- what a function returned is the message that the record is, or what is wrong with it, unless memory ran out
+abbrev pub IsParsed : Result Message WireErr → Result Message WireFault → Type 0
 IsParsed (Ok m) parsed = parsed ≡ Ok m
-IsParsed (Err Memory) parsed = Unit {0}
-IsParsed (Err (NotRpc at)) parsed = parsed ≡ Err (NotRpc at)
-IsParsed (Err (UnknownXid xid)) parsed = parsed ≡ Err (UnknownXid xid)
-IsParsed (Err (Garbage at)) parsed = parsed ≡ Err (Garbage at)
+IsParsed (Err wire_errors.Memory) parsed = Unit {0}
+IsParsed (Err (wire_errors.Fault fault)) parsed = parsed ≡ Err fault

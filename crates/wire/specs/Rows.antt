@@ -26,7 +26,7 @@ use Rattle.wire.specs.declared.message.Program.{Program}
 use Rattle.wire.specs.declared.message.Waiting.{Waiting}
 use Rattle.wire.specs.declared.message.RpcRefusal.TheVariants as refusal
 use Rattle.wire.specs.declared.message.Message.TheVariants.{Call, Answer, Refuse, Unfit}
-use Rattle.wire.specs.declared.message.WireErr.TheVariants.{NotRpc, UnknownXid, Garbage}
+use Rattle.wire.specs.declared.fault.WireFault.TheVariants.{NotRpc, UnknownXid, Garbage}
 
 abbrev words : List ℕ → List ℕ
 words ws = flat_map (to_be_bytes w32) ws

@@ -118,23 +118,6 @@ pub struct Waiting {
     pub calls: Items<Pending>,
 }
 
-/// Why a record is no message.
-#[derive(Clone, Copy, Debug, PartialEq, Eq, Drop)]
-pub enum WireErr {
-    /// No RPC message: too short for an xid and a direction, another direction than 0 and 1, or a
-    /// call whose header ends early or has an authentication item outside its grammar (above
-    /// `AUTH_MOST` bytes, or with fill that isn't zero). The item that failed begins `at` bytes behind the
-    /// record's first; for an opaque that is its length.
-    NotRpc { at: usize },
-    /// An answer to a call that doesn't wait, whatever else is wrong with it.
-    UnknownXid { xid: u32 },
-    /// An answer to a call that waits, whose header or result is outside its grammar or doesn't
-    /// fill the record. The item that failed begins `at` bytes behind the record's first.
-    Garbage { at: usize },
-    /// Memory ran out; the record may be a message.
-    Memory,
-}
-
 impl Body {
     /// The program and the procedure that is called or answered.
     pub fn program(&self) -> Program

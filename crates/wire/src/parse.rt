@@ -5,13 +5,14 @@ ghost use Rattle.nfs3_calls.specs.Nfs.{proc_of as nfs_proc_of};
 ghost use Rattle.hash_calls.specs.Lb.{proc_of as lb_proc_of};
 ghost use Rattle.hash_calls.specs.Back.{proc_of as back_proc_of};
 ghost use Rattle.wire.specs.declared.message.Program.TheVariants as programs;
-ghost use Rattle.wire.specs.Parse.{IsParsed, parse_of, parse_call, parse_call_body, parse_reply, replied, with_args, called, versioned, procedure_of, refusal_of, fault_at, waiting, garbage, not_rpc};
+ghost use Rattle.wire.specs.Parse.{IsParsed, parse_of, parse_call, parse_call_body, parse_reply, replied, with_args, called, versioned, procedure_of, refusal_of, waiting};
 ghost use Rattle.wire.specs.Message.{args_of, result_of};
 ghost use Rattle.xdr_codec.specs.Format.{GivesAll, whole_at};
 
+use crate::fault::{WireErr, WireFault, garbage, not_rpc};
 use crate::message::{
     BACK_PROGRAM, BACK_VERSION, Body, LBFS_PROGRAM, LBFS_VERSION, Message, NFS_PROGRAM,
-    NFS_VERSION, Pending, Program, RPC_VERSION, RpcRefusal, Side, Waiting, WireErr,
+    NFS_VERSION, Pending, Program, RPC_VERSION, RpcRefusal, Side, Waiting,
 };
 use hash_calls::message::{BackProc, LbProc};
 use hash_calls::{back, lb};
@@ -19,7 +20,7 @@ use nfs3_calls::message::NfsProc;
 use nfs3_calls::nfs;
 use rpc_record::header::{Accept, CallHead, Denial, Direction, Front, ReplyHead};
 use std::alloc::Global;
-use xdr_codec::fault::{Fault, ReadError};
+use xdr_codec::fault::ReadError;
 use xdr_codec::item::Item;
 use xdr_codec::reader::Reader;
 
@@ -43,38 +44,6 @@ pub fn parse(alloc: Global, bytes: &[u8], expected: &Waiting) -> Result<Message,
                 reply(alloc, front.xid, program, &mut reader)
             }
         },
-    }
-}
-
-/// Where the item begins that could not be read, counted from the record's first byte.
-pub fn place(fault: Fault) -> usize
-    ensures { result ≡ fault_at fault }
-{
-    match fault {
-        Fault::Short { at }
-        | Fault::BadBool { at, .. }
-        | Fault::BadFill { at }
-        | Fault::TooLong { at, .. }
-        | Fault::Trailing { at }
-        | Fault::BadValue { at, .. } => at,
-    }
-}
-
-fn not_rpc(error: ReadError) -> WireErr
-    ensures { result ≡ not_rpc error }
-{
-    match error {
-        ReadError::Memory => WireErr::Memory,
-        ReadError::Fault(fault) => WireErr::NotRpc { at: place(fault) },
-    }
-}
-
-fn garbage(error: ReadError) -> WireErr
-    ensures { result ≡ garbage error }
-{
-    match error {
-        ReadError::Memory => WireErr::Memory,
-        ReadError::Fault(fault) => WireErr::Garbage { at: place(fault) },
     }
 }
 
@@ -231,7 +200,7 @@ fn reply(
     ensures { IsParsed result (parse_reply xid program reader.old) }
 {
     let Some(program) = program else {
-        return Err(WireErr::UnknownXid { xid });
+        return Err(WireErr::Fault(WireFault::UnknownXid { xid }));
     };
     match ReplyHead::read(alloc, reader) {
         Err(error) => Err(garbage(error)),

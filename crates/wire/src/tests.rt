@@ -1,6 +1,7 @@
 //! Records of RFC 5531, in words of four bytes, and what they are on each side.
 
-use crate::message::{Body, Message, Pending, Program, RpcRefusal, Side, Waiting, WireErr};
+use crate::fault::{WireErr, WireFault};
+use crate::message::{Body, Message, Pending, Program, RpcRefusal, Side, Waiting};
 use crate::parse::parse;
 use crate::spell::spell;
 use hash_calls::message::{Back, BackProc, Lb, LbProc};
@@ -57,7 +58,8 @@ enum Seen {
     Answer(u32, Program),
     Refuse(u32, RpcRefusal),
     Unfit(u32, RpcRefusal),
-    Nothing(WireErr),
+    Nothing(WireFault),
+    NoMemory,
 }
 
 fn bytes(alloc: Global, words: &[u32]) -> Result<Bytes, AllocError> {
@@ -75,7 +77,8 @@ fn seen_of(read: &Result<Message, WireErr>) -> Seen {
         Ok(Message::Answer(xid, body)) => Seen::Answer(*xid, body.program()),
         Ok(Message::Refuse(xid, why)) => Seen::Refuse(*xid, *why),
         Ok(Message::Unfit(xid, why)) => Seen::Unfit(*xid, *why),
-        Err(error) => Seen::Nothing(*error),
+        Err(WireErr::Fault(fault)) => Seen::Nothing(*fault),
+        Err(WireErr::Memory) => Seen::NoMemory,
     }
 }
 
@@ -337,25 +340,25 @@ fn other_records_are_no_messages(rt: HostRuntime) -> Result<(), Fail> {
     let alloc = rt.alloc();
     let waits = awaits(alloc, Side::Client, 8, Program::Back(BackProc::Recall))?;
     for (words, error) in [
-        ([].as_slice(), WireErr::NotRpc { at: 0 }),
-        (&[7], WireErr::NotRpc { at: 4 }),
-        (&[7, 0], WireErr::NotRpc { at: 8 }),
-        (&[7, 2, 0, 0, 0, 0, 0, 0], WireErr::NotRpc { at: 4 }),
-        (&[7, 0, 2, NFS, 3, 0], WireErr::NotRpc { at: 24 }),
-        (&[7, 0, 2, NFS, 3, 0, 0, 401], WireErr::NotRpc { at: 28 }),
+        ([].as_slice(), WireFault::NotRpc { at: 0 }),
+        (&[7], WireFault::NotRpc { at: 4 }),
+        (&[7, 0], WireFault::NotRpc { at: 8 }),
+        (&[7, 2, 0, 0, 0, 0, 0, 0], WireFault::NotRpc { at: 4 }),
+        (&[7, 0, 2, NFS, 3, 0], WireFault::NotRpc { at: 24 }),
+        (&[7, 0, 2, NFS, 3, 0, 0, 401], WireFault::NotRpc { at: 28 }),
         (
             &[7, 0, 2, 5, 9, 99, 0, 0, 0, 401],
-            WireErr::NotRpc { at: 36 },
+            WireFault::NotRpc { at: 36 },
         ),
         (
             &[7, 0, 2, NFS, 3, 0, 1, 1, 0x6100_0001, 0, 0],
-            WireErr::NotRpc { at: 28 },
+            WireFault::NotRpc { at: 28 },
         ),
-        (&[7, 1, 0, 0, 0, 0, 0, 0], WireErr::UnknownXid { xid: 7 }),
-        (&[7, 1], WireErr::UnknownXid { xid: 7 }),
-        (&[8, 1], WireErr::Garbage { at: 8 }),
-        (&[8, 1, 0, 0, 0, 0, 0, 0], WireErr::Garbage { at: 24 }),
-        (&[8, 1, 0, 0, 0, 6], WireErr::Garbage { at: 20 }),
+        (&[7, 1, 0, 0, 0, 0, 0, 0], WireFault::UnknownXid { xid: 7 }),
+        (&[7, 1], WireFault::UnknownXid { xid: 7 }),
+        (&[8, 1], WireFault::Garbage { at: 8 }),
+        (&[8, 1, 0, 0, 0, 0, 0, 0], WireFault::Garbage { at: 24 }),
+        (&[8, 1, 0, 0, 0, 6], WireFault::Garbage { at: 20 }),
     ] {
         assert!(rt; look(alloc, words, &waits)? == Seen::Nothing(error));
     }
@@ -451,7 +454,7 @@ fn credentials_have_at_most_400_bytes(rt: HostRuntime) -> Result<(), Fail> {
     let taken = Seen::Call(7, Program::Lb(LbProc::Null));
     assert!(rt; look_at(alloc, most.as_slice(), &server) == taken);
     let above = with_credentials(alloc, 101)?;
-    let refused = Seen::Nothing(WireErr::NotRpc { at: 28 });
+    let refused = Seen::Nothing(WireFault::NotRpc { at: 28 });
     assert!(rt; look_at(alloc, above.as_slice(), &server) == refused);
     Ok(())
 }

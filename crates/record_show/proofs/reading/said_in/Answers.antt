@@ -1,4 +1,4 @@
-use Rattle.std.proofs.Common.{◌≡◌, List, sym, subst}
+use Rattle.std.proofs.Common.{List, sym, subst}
 use Rattle.wire.specs.Parse.{IsParsed, parse_of}
 use Rattle.wire.specs.declared.message.Pending.{Pending}
 use Rattle.wire.specs.declared.message.Side.TheVariants.{Either}
