@@ -1,8 +1,6 @@
 //! Calls and answers in bytes, as another program packs them, and the edges of their grammars.
 
-use crate::back;
 use crate::call::{Commit, Committed, CondPiece, Hashes, Leased, Pair, TempPiece};
-use crate::lb::{read_answer, read_args, write};
 use crate::message::{Back, BackProc, Lb, LbProc};
 use crate::vectors::{
     COMMIT, COMMITTED, COND_PIECE, DONE, FILE, HASHES, LEASED, NEW_TEMP, NO_BYTES, NO_HASHES,
@@ -15,6 +13,7 @@ use xdr_codec::answer::Answer;
 use xdr_codec::digest::Digest;
 use xdr_codec::fault::{Fault, ReadError};
 use xdr_codec::item::Item;
+use xdr_codec::program::{read_args, read_results, write};
 use xdr_codec::reader::Reader;
 
 /// The SHA-1 digest of "abc" (FIPS 180-4).
@@ -56,7 +55,7 @@ fn args(alloc: Global, procedure: LbProc, bytes: &Bytes) -> Result<Lb, ReadError
 }
 
 fn answer(alloc: Global, procedure: LbProc, bytes: &Bytes) -> Result<Lb, ReadError> {
-    read_answer(alloc, procedure, &mut Reader::new(bytes.as_slice()))
+    read_results(alloc, procedure, &mut Reader::new(bytes.as_slice()))
 }
 
 fn fault<T: Drop>(read: Result<T, ReadError>) -> Option<Fault> {
@@ -328,15 +327,15 @@ fn procedures_have_their_numbers(rt: HostRuntime) -> Result<(), Fail> {
 fn a_recall_names_its_file(rt: HostRuntime) -> Result<(), Fail> {
     let alloc = rt.alloc();
     let text = bytes(alloc, FILE, 0)?;
-    let call = back::read_args(alloc, BackProc::Recall, &mut Reader::new(text.as_slice()))?;
+    let call: Back = read_args(alloc, BackProc::Recall, &mut Reader::new(text.as_slice()))?;
     assert!(rt; matches!(&call, Back::Recall(handle) if handle.file_of() == Some(2)));
     assert!(rt; call.procedure() == BackProc::Recall);
-    assert!(rt; back::write(alloc, &call)? == text);
-    let behind = back::read_args(alloc, BackProc::Null, &mut Reader::new(text.as_slice()));
+    assert!(rt; write(alloc, &call)? == text);
+    let behind = read_args::<Back>(alloc, BackProc::Null, &mut Reader::new(text.as_slice()));
     assert_eq!(rt; fault(behind), Some(Fault::Trailing { at: 0 }));
     let long = bytes(alloc, &[65], 68)?;
     let (at, len, max) = (0, 65, 64);
-    let longer = back::read_args(alloc, BackProc::Recall, &mut Reader::new(long.as_slice()));
+    let longer = read_args::<Back>(alloc, BackProc::Recall, &mut Reader::new(long.as_slice()));
     assert_eq!(rt; fault(longer), Some(Fault::TooLong { at, len, max }));
     Ok(())
 }
@@ -344,10 +343,10 @@ fn a_recall_names_its_file(rt: HostRuntime) -> Result<(), Fail> {
 #[test]
 fn answers_of_the_callback_program_are_empty(rt: HostRuntime) -> Result<(), Fail> {
     for procedure in [BackProc::Null, BackProc::Recall] {
-        let gave = back::read_answer(procedure, &mut Reader::new(&[]))?;
+        let gave: Back = read_results(rt.alloc(), procedure, &mut Reader::new(&[]))?;
         assert!(rt; gave.procedure() == procedure);
-        assert!(rt; back::write(rt.alloc(), &gave)?.is_empty());
-        let status = back::read_answer(procedure, &mut Reader::new(&[0, 0, 0, 0]));
+        assert!(rt; write(rt.alloc(), &gave)?.is_empty());
+        let status = read_results::<Back>(rt.alloc(), procedure, &mut Reader::new(&[0, 0, 0, 0]));
         assert_eq!(rt; fault(status), Some(Fault::Trailing { at: 0 }));
     }
     Ok(())

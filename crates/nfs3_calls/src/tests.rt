@@ -7,7 +7,6 @@ use crate::fs_info::{FsInfo, Sizes};
 use crate::listing::{Entry, ListRange, Listing};
 use crate::making::{HowMade, Made, NewDir, NewFile, SetAttr, SetTime};
 use crate::message::{Nfs, NfsProc};
-use crate::nfs::{read_answer, read_args, write};
 use crate::place::{Found, Place, Rename};
 use crate::vectors::*;
 use lb_base::items::{Bytes, Items};
@@ -17,6 +16,7 @@ use xdr_codec::answer::Answer;
 use xdr_codec::attr::{Attr, Kind, Time};
 use xdr_codec::fault::{Fault, ReadError};
 use xdr_codec::handle::Handle;
+use xdr_codec::program::{read_args, read_results, write};
 use xdr_codec::reader::Reader;
 use xdr_codec::status::Status;
 
@@ -128,7 +128,7 @@ fn is_answer(alloc: Global, message: Nfs, words: &[u32]) -> Result<bool, Fail> {
     let bytes = changed(alloc, words, words.len(), 0)?;
     let again = spelled(
         alloc,
-        read_answer(alloc, procedure, &mut Reader::new(&bytes))?,
+        read_results(alloc, procedure, &mut Reader::new(&bytes))?,
     )?;
     Ok(written.as_slice() == bytes.as_slice() && again.as_slice() == bytes.as_slice())
 }
@@ -432,7 +432,7 @@ fn answer_fault(
 ) -> Result<Option<Fault>, Fail> {
     let bytes = changed(alloc, words, place, value)?;
     let mut rest = Reader::behind(24, &bytes);
-    Ok(fault(read_answer(alloc, procedure, &mut rest)))
+    Ok(fault(read_results(alloc, procedure, &mut rest)))
 }
 
 #[test]

@@ -14,7 +14,7 @@ use Rattle.hash_calls.specs.Lb as lb
 use Rattle.hash_calls.specs.Back as back
 use Rattle.rpc_record.specs.Header.{front_form, auth_form, call_form, versions_form, accept_form, denial_form, reply_form}
 use Rattle.wire.specs.Message.{nfs_number, lbfs_number, back_number, program_of, body_spell, args_of, result_of, is_call, BodyFits, RefusalFits, Says, call_head, refusal_head, no_auth, answer_spell, refuse_spell, is_unfit}
-use Rattle.wire.specs.Parse.{serves_files, serves_callbacks, serves, waiting, IsExpected, read_or, versioned, procedure_of, called, with_args, taken, parse_call_body, parse_call, refusal_of, replied, parse_reply, parse_by, parse_of}
+use Rattle.wire.specs.Parse.{serves_files, serves_callbacks, serves, waiting, IsExpected, read_or, versioned, procedure_of, found_or, called, with_args, taken, parse_call_body, parse_call, refusal_of, replied, parse_reply, parse_by, parse_of}
 use Rattle.wire.proofs.Again.{no_auth_fits}
 use Rattle.rpc_record.specs.declared.header.Direction.{Direction}
 use Rattle.rpc_record.specs.declared.header.Direction.TheVariants as direction
@@ -70,7 +70,7 @@ both_true false y e = absurd cc
 head_is : (h : CallHead) (p : Program) → h.program ≡ (call_head h.cred h.verf p).program → h.version ≡ (call_head h.cred h.verf p).version → h.procedure ≡ (call_head h.cred h.verf p).procedure → h ≡ call_head h.cred h.verf p
 head_is h p e f g = rw (← e, ← f, ← g) refl
 
-procedure_found : {P : Type 0} (name : P → Program) (o : Option P) (p : Program) → procedure_of name o ≡ Ok p → (q : P) × (o ≡ Some q) × (name q ≡ p)
+procedure_found : {P : Type 0} (name : P → Program) (o : Option P) (p : Program) → found_or (procedure_of name o) ≡ Ok p → (q : P) × (o ≡ Some q) × (name q ≡ p)
 procedure_found name (Some q) p e = (q, refl, cc)
 procedure_found name None p e = absurd cc
 
@@ -83,19 +83,19 @@ IsNamed side h p = (serves side p ≡ true) × (h ≡ call_head h.cred h.verf p)
 
 named_nfs : (side : Side) (h : CallHead) (p : Program) → serves_files side ≡ true → h.program ≡ nfs_number → versioned 3 h.version (procedure_of program.Nfs (nfs.proc_of h.procedure)) ≡ Ok p → IsNamed side h p
 named_nfs side h p served is e =
-    let v = version_found 3 (h.version == 3) (procedure_of program.Nfs (nfs.proc_of h.procedure)) p e in
+    let v = version_found 3 (h.version == 3) (found_or (procedure_of program.Nfs (nfs.proc_of h.procedure))) p e in
     let q = procedure_found program.Nfs (nfs.proc_of h.procedure) p v.1 in
     subst (IsNamed side h) q.2 (served, head_is h (program.Nfs q.0) is (eqb-true h.version 3 v.0) (sym (named_there nfs.proc_number h.procedure nfs.procs q.0 q.1)))
 
 named_lb : (side : Side) (h : CallHead) (p : Program) → serves_files side ≡ true → h.program ≡ lbfs_number → versioned 1 h.version (procedure_of program.Lb (lb.proc_of h.procedure)) ≡ Ok p → IsNamed side h p
 named_lb side h p served is e =
-    let v = version_found 1 (h.version == 1) (procedure_of program.Lb (lb.proc_of h.procedure)) p e in
+    let v = version_found 1 (h.version == 1) (found_or (procedure_of program.Lb (lb.proc_of h.procedure))) p e in
     let q = procedure_found program.Lb (lb.proc_of h.procedure) p v.1 in
     subst (IsNamed side h) q.2 (served, head_is h (program.Lb q.0) is (eqb-true h.version 1 v.0) (sym (named_there lb.proc_number h.procedure lb.procs q.0 q.1)))
 
 named_back : (side : Side) (h : CallHead) (p : Program) → serves_callbacks side ≡ true → h.program ≡ back_number → versioned 1 h.version (procedure_of program.Back (back.proc_of h.procedure)) ≡ Ok p → IsNamed side h p
 named_back side h p served is e =
-    let v = version_found 1 (h.version == 1) (procedure_of program.Back (back.proc_of h.procedure)) p e in
+    let v = version_found 1 (h.version == 1) (found_or (procedure_of program.Back (back.proc_of h.procedure))) p e in
     let q = procedure_found program.Back (back.proc_of h.procedure) p v.1 in
     subst (IsNamed side h) q.2 (served, head_is h (program.Back q.0) is (eqb-true h.version 1 v.0) (sym (named_there back.proc_number h.procedure back.procs q.0 q.1)))
 

@@ -92,12 +92,19 @@ abbrev pub read_or : {A B : Type 0} → (ℕ → WireFault) → Result A Fault �
 read_or wrong (Ok a) go = go a
 read_or wrong (Err fault) go = Err (wrong (fault_at fault))
 
-abbrev pub procedure_of : {P : Type 0} → (P → Program) → Option P → Result Program RpcRefusal
-procedure_of name (Some p) = Ok (name p)
-procedure_of name None = Err refusal.ProcUnavail
+-- the procedure of a program that has its number
+abbrev pub procedure_of : {P : Type 0} → (P → Program) → Option P → Option Program
+procedure_of name (Some p) = Some (name p)
+procedure_of name None = None
 
-abbrev pub versioned : (own version : ℕ) → Result Program RpcRefusal → Result Program RpcRefusal
-versioned own version found = if version == own then found else Err (refusal.ProgMismatch own own)
+-- the procedure, if it was found
+abbrev pub found_or : Option Program → Result Program RpcRefusal
+found_or (Some p) = Ok p
+found_or None = Err refusal.ProcUnavail
+
+-- the program's version, then the procedure
+abbrev pub versioned : (own version : ℕ) → Option Program → Result Program RpcRefusal
+versioned own version found = if version == own then found_or found else Err (refusal.ProgMismatch own own)
 
 -- the program, then its version, then the procedure
 abbrev pub called : Side → CallHead → Result Program RpcRefusal

@@ -1,11 +1,7 @@
 //! Which message a record is.
 
 ghost use Rattle.std.specs.Prelude.{◌≡◌, Ok, None};
-ghost use Rattle.nfs3_calls.specs.Nfs.{proc_of as nfs_proc_of};
-ghost use Rattle.hash_calls.specs.Lb.{proc_of as lb_proc_of};
-ghost use Rattle.hash_calls.specs.Back.{proc_of as back_proc_of};
-ghost use Rattle.wire.specs.declared.message.Program.TheVariants as programs;
-ghost use Rattle.wire.specs.Parse.{IsParsed, parse_of, parse_call, parse_call_body, parse_reply, replied, with_args, called, versioned, procedure_of, refusal_of, waiting};
+ghost use Rattle.wire.specs.Parse.{IsParsed, parse_of, parse_call, parse_call_body, parse_reply, replied, with_args, called, versioned, refusal_of, waiting};
 ghost use Rattle.wire.specs.Message.{args_of, result_of};
 ghost use Rattle.xdr_codec.specs.Format.{GivesAll, whole_at};
 
@@ -15,13 +11,12 @@ use crate::message::{
     NFS_VERSION, Pending, Program, RPC_VERSION, RpcRefusal, Side, Waiting,
 };
 use hash_calls::message::{BackProc, LbProc};
-use hash_calls::{back, lb};
 use nfs3_calls::message::NfsProc;
-use nfs3_calls::nfs;
 use rpc_record::header::{Accept, CallHead, Denial, Direction, Front, ReplyHead};
 use std::alloc::Global;
 use xdr_codec::fault::ReadError;
 use xdr_codec::item::Item;
+use xdr_codec::program::{read_args, read_results};
 use xdr_codec::reader::Reader;
 
 /// The message that a record is, where these calls may come and these answers are waited for.
@@ -59,65 +54,39 @@ fn awaited(xid: u32, calls: &[Pending]) -> Option<Program>
     None
 }
 
+/// The procedure that was found, where the version is the program's own.
+fn versioned(own: u32, version: u32, found: Option<Program>) -> Result<Program, RpcRefusal>
+    ensures { result ≡ versioned own version found }
+{
+    if version != own {
+        return Err(RpcRefusal::ProgMismatch {
+            low: own,
+            high: own,
+        });
+    }
+    match found {
+        Some(program) => Ok(program),
+        None => Err(RpcRefusal::ProcUnavail),
+    }
+}
+
 /// The program and procedure that a header names, where they are served.
 fn called(side: Side, head: &CallHead) -> Result<Program, RpcRefusal>
     ensures { result ≡ called side head.now }
 {
     if side.serves_files() && head.program == NFS_PROGRAM {
-        return nfs_called(head.version, head.procedure);
+        let found = NfsProc::of_number(head.procedure).map(|found| Program::Nfs(found));
+        return versioned(NFS_VERSION, head.version, found);
     }
     if side.serves_files() && head.program == LBFS_PROGRAM {
-        return lb_called(head.version, head.procedure);
+        let found = LbProc::of_number(head.procedure).map(|found| Program::Lb(found));
+        return versioned(LBFS_VERSION, head.version, found);
     }
     if side.serves_callbacks() && head.program == BACK_PROGRAM {
-        return back_called(head.version, head.procedure);
+        let found = BackProc::of_number(head.procedure).map(|found| Program::Back(found));
+        return versioned(BACK_VERSION, head.version, found);
     }
     Err(RpcRefusal::ProgUnavail)
-}
-
-fn nfs_called(version: u32, procedure: u32) -> Result<Program, RpcRefusal>
-    ensures { result ≡ versioned 3 version (procedure_of programs.Nfs (nfs_proc_of procedure)) }
-{
-    if version != NFS_VERSION {
-        return Err(RpcRefusal::ProgMismatch {
-            low: NFS_VERSION,
-            high: NFS_VERSION,
-        });
-    }
-    match NfsProc::of_number(procedure) {
-        Some(procedure) => Ok(Program::Nfs(procedure)),
-        None => Err(RpcRefusal::ProcUnavail),
-    }
-}
-
-fn lb_called(version: u32, procedure: u32) -> Result<Program, RpcRefusal>
-    ensures { result ≡ versioned 1 version (procedure_of programs.Lb (lb_proc_of procedure)) }
-{
-    if version != LBFS_VERSION {
-        return Err(RpcRefusal::ProgMismatch {
-            low: LBFS_VERSION,
-            high: LBFS_VERSION,
-        });
-    }
-    match LbProc::of_number(procedure) {
-        Some(procedure) => Ok(Program::Lb(procedure)),
-        None => Err(RpcRefusal::ProcUnavail),
-    }
-}
-
-fn back_called(version: u32, procedure: u32) -> Result<Program, RpcRefusal>
-    ensures { result ≡ versioned 1 version (procedure_of programs.Back (back_proc_of procedure)) }
-{
-    if version != BACK_VERSION {
-        return Err(RpcRefusal::ProgMismatch {
-            low: BACK_VERSION,
-            high: BACK_VERSION,
-        });
-    }
-    match BackProc::of_number(procedure) {
-        Some(procedure) => Ok(Program::Back(procedure)),
-        None => Err(RpcRefusal::ProcUnavail),
-    }
 }
 
 /// A call, from the version of RPC on.
@@ -163,20 +132,20 @@ fn arguments(
 ) -> Result<Message, WireErr>
     ensures { IsParsed result (Ok (with_args xid (whole_at reader.old.at (args_of program) reader.old.rest))) }
 {
-    match read_args(alloc, program, reader) {
+    match read_call(alloc, program, reader) {
         Ok(body) => Ok(Message::Call(xid, body)),
         Err(ReadError::Memory) => Err(WireErr::Memory),
         Err(ReadError::Fault(_)) => Ok(Message::Unfit(xid, RpcRefusal::GarbageArgs)),
     }
 }
 
-fn read_args(alloc: Global, program: Program, reader: &mut Reader) -> Result<Body, ReadError>
+fn read_call(alloc: Global, program: Program, reader: &mut Reader) -> Result<Body, ReadError>
     ensures { GivesAll result (whole_at reader.old.at (args_of program) reader.old.rest) }
 {
     match program {
-        Program::Nfs(procedure) => Ok(Body::Nfs(nfs::read_args(alloc, procedure, reader)?)),
-        Program::Lb(procedure) => Ok(Body::Lb(lb::read_args(alloc, procedure, reader)?)),
-        Program::Back(procedure) => Ok(Body::Back(back::read_args(alloc, procedure, reader)?)),
+        Program::Nfs(procedure) => Ok(Body::Nfs(read_args(alloc, procedure, reader)?)),
+        Program::Lb(procedure) => Ok(Body::Lb(read_args(alloc, procedure, reader)?)),
+        Program::Back(procedure) => Ok(Body::Back(read_args(alloc, procedure, reader)?)),
     }
 }
 
@@ -184,9 +153,9 @@ fn read_result(alloc: Global, program: Program, reader: &mut Reader) -> Result<B
     ensures { GivesAll result (whole_at reader.old.at (result_of program) reader.old.rest) }
 {
     match program {
-        Program::Nfs(procedure) => Ok(Body::Nfs(nfs::read_answer(alloc, procedure, reader)?)),
-        Program::Lb(procedure) => Ok(Body::Lb(lb::read_answer(alloc, procedure, reader)?)),
-        Program::Back(procedure) => Ok(Body::Back(back::read_answer(procedure, reader)?)),
+        Program::Nfs(procedure) => Ok(Body::Nfs(read_results(alloc, procedure, reader)?)),
+        Program::Lb(procedure) => Ok(Body::Lb(read_results(alloc, procedure, reader)?)),
+        Program::Back(procedure) => Ok(Body::Back(read_results(alloc, procedure, reader)?)),
     }
 }
 

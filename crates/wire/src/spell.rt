@@ -5,12 +5,11 @@ ghost use Rattle.wire.specs.Message.{message_spell, body_spell, refusal_head, ca
 ghost use Rattle.rpc_record.specs.Header.{front_form, call_form};
 
 use crate::message::{Body, Message, Program, RPC_VERSION, RpcRefusal};
-use hash_calls::{back, lb};
 use lb_base::items::Bytes;
-use nfs3_calls::nfs;
 use rpc_record::header::{Accept, Auth, CallHead, Denial, Direction, Front, ReplyHead, Versions};
 use std::alloc::{AllocError, Global};
 use xdr_codec::item::Item;
+use xdr_codec::program::ProgramBody;
 use xdr_codec::writer::Writer;
 
 /// The record of a message, with no authentication (flavor 0 and no body).
@@ -70,9 +69,9 @@ fn put_body(writer: &mut Writer, body: &Body) -> Result<(), AllocError>
     ensures fits { OnOk result (IsShortBody body.now → BodyFits body.now) }
 {
     match body {
-        Body::Nfs(message) => nfs::put(writer, message),
-        Body::Lb(message) => lb::put(writer, message),
-        Body::Back(message) => back::put(writer, message),
+        Body::Nfs(message) => message.write_in(writer),
+        Body::Lb(message) => message.write_in(writer),
+        Body::Back(message) => message.write_in(writer),
     }
 }
 

@@ -9,6 +9,7 @@ pub mod fault;
 pub mod handle;
 pub mod item;
 pub mod laws;
+pub mod program;
 pub mod reader;
 pub mod status;
 #[cfg(test)]

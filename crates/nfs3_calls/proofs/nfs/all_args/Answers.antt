@@ -1,4 +1,0 @@
-use Rattle.nfs3_calls.proofs.nfs.all_args.Goals as goal
-
-pub returns-clause-exact : goal.returns-clause-exact
-returns-clause-exact c = rw c.in_ok-message.ensures c.at_end.ensures.gives
