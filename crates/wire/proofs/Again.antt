@@ -40,7 +40,7 @@ use Rattle.wire.specs.declared.fault.WireFault.TheVariants.{NotRpc, Garbage}
 
 -- ---- bodies
 
-args_again : (at : ℕ) (b : Body) → is_call b ≡ true → BodyFits b → whole_at at (args_of (program_of b)) (body_spell b) ≡ Ok b
+pub args_again : (at : ℕ) (b : Body) → is_call b ≡ true → BodyFits b → whole_at at (args_of (program_of b)) (body_spell b) ≡ Ok b
 args_again at (body.Nfs n) is fits = whole_again at (args_of (program.Nfs (nfs.nfs_proc n))) (body.Nfs n) (n, refl, nfs.fits_args (nfs.nfs_proc n) n (is, (refl, fits)))
 args_again at (body.Lb l) is fits = whole_again at (args_of (program.Lb (lb.lb_proc l))) (body.Lb l) (l, refl, lb.fits_args (lb.lb_proc l) l (is, (refl, fits)))
 args_again at (body.Back b) is fits = whole_again at (args_of (program.Back (back.back_proc b))) (body.Back b) (b, refl, back.fits_args (back.back_proc b) b (is, (refl, fits)))
@@ -54,19 +54,19 @@ result_again at (body.Back b) is fits = whole_again at (result_of (program.Back 
 
 -- each has a number of its own, below 2 ^ 32
 
-nfs_home : (p : NfsProc) → nfs.proc_of (nfs.proc_number p) ≡ Some p
+pub nfs_home : (p : NfsProc) → nfs.proc_of (nfs.proc_number p) ≡ Some p
 nfs_home p = elim p as (λ p. nfs.proc_of (nfs.proc_number p) ≡ Some p) [ nfs_proc.Null ↦ refl | nfs_proc.GetAttr ↦ refl | nfs_proc.Lookup ↦ refl | nfs_proc.Access ↦ refl | nfs_proc.Read ↦ refl | nfs_proc.Create ↦ refl | nfs_proc.MkDir ↦ refl | nfs_proc.Remove ↦ refl | nfs_proc.RmDir ↦ refl | nfs_proc.Rename ↦ refl | nfs_proc.ReadDir ↦ refl | nfs_proc.FsInfo ↦ refl ]
 
 nfs_small : (p : NfsProc) → nfs.proc_number p < 2 ^ 32
 nfs_small p = elim p as (λ p. nfs.proc_number p < 2 ^ 32) [ nfs_proc.Null ↦ lit< tt | nfs_proc.GetAttr ↦ lit< tt | nfs_proc.Lookup ↦ lit< tt | nfs_proc.Access ↦ lit< tt | nfs_proc.Read ↦ lit< tt | nfs_proc.Create ↦ lit< tt | nfs_proc.MkDir ↦ lit< tt | nfs_proc.Remove ↦ lit< tt | nfs_proc.RmDir ↦ lit< tt | nfs_proc.Rename ↦ lit< tt | nfs_proc.ReadDir ↦ lit< tt | nfs_proc.FsInfo ↦ lit< tt ]
 
-lb_home : (p : LbProc) → lb.proc_of (lb.proc_number p) ≡ Some p
+pub lb_home : (p : LbProc) → lb.proc_of (lb.proc_number p) ≡ Some p
 lb_home p = elim p as (λ p. lb.proc_of (lb.proc_number p) ≡ Some p) [ lb_proc.Null ↦ refl | lb_proc.GetLease ↦ refl | lb_proc.GetHash ↦ refl | lb_proc.MkTmpFile ↦ refl | lb_proc.TmpWrite ↦ refl | lb_proc.CondWrite ↦ refl | lb_proc.CommitTmp ↦ refl ]
 
 lb_small : (p : LbProc) → lb.proc_number p < 2 ^ 32
 lb_small p = elim p as (λ p. lb.proc_number p < 2 ^ 32) [ lb_proc.Null ↦ lit< tt | lb_proc.GetLease ↦ lit< tt | lb_proc.GetHash ↦ lit< tt | lb_proc.MkTmpFile ↦ lit< tt | lb_proc.TmpWrite ↦ lit< tt | lb_proc.CondWrite ↦ lit< tt | lb_proc.CommitTmp ↦ lit< tt ]
 
-back_home : (p : BackProc) → back.proc_of (back.proc_number p) ≡ Some p
+pub back_home : (p : BackProc) → back.proc_of (back.proc_number p) ≡ Some p
 back_home p = elim p as (λ p. back.proc_of (back.proc_number p) ≡ Some p) [ back_proc.Null ↦ refl | back_proc.Recall ↦ refl ]
 
 back_small : (p : BackProc) → back.proc_number p < 2 ^ 32
@@ -79,7 +79,7 @@ unfolding front_form direction_form u32_form
 front_fits xid direction.Call lt = (lt, lit< tt)
 front_fits xid direction.Reply lt = (lt, lit< tt)
 
-two_fits : u32_form.Fits 2
+pub two_fits : u32_form.Fits 2
 unfolding u32_form
 two_fits = lit< tt
 
@@ -125,7 +125,7 @@ called_again side cred verf (program.Back p) e = back_called side cred verf p e
 
 -- ---- messages
 
-begins : (w : Waiting) (xid : ℕ) (d : Direction) (rest : List ℕ) → xid < 2 ^ 32 → (at : ℕ) × (parse_of w (front_form.spell (record { xid = xid; direction = d }) ++ rest) ≡ parse_by w xid d (record { at = at; rest = rest }))
+pub begins : (w : Waiting) (xid : ℕ) (d : Direction) (rest : List ℕ) → xid < 2 ^ 32 → (at : ℕ) × (parse_of w (front_form.spell (record { xid = xid; direction = d }) ++ rest) ≡ parse_by w xid d (record { at = at; rest = rest }))
 begins w xid d rest lt =
     let front : Front = record { xid = xid; direction = d } in
     (0 + length (front_form.spell front), ap (λ r. read_or NotRpc r (λ f. parse_by w f.0.xid f.0.direction f.1)) (front_form.again front 0 rest (front_fits xid d lt)))

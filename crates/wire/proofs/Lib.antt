@@ -1,6 +1,9 @@
 pub mod Again
 pub mod Said
+pub mod Named
+pub mod Refusals
 pub mod Bounds
 pub mod NfsSizes
 pub mod HashSizes
 pub mod Sizes
+pub mod Sent

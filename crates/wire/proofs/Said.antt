@@ -43,14 +43,14 @@ use Rattle.wire.specs.declared.fault.WireFault.TheVariants.{NotRpc, Garbage}
 -- ---- steps that gave a message
 
 -- what was read, where a step behind it gave a message
-read_or_ok : {A : Type 0} (wrong : ℕ → WireFault) (r : Result A Fault) (go : A → Result Message WireFault) (m : Message) → read_or wrong r go ≡ Ok m → (a : A) × (r ≡ Ok a) × (go a ≡ Ok m)
+pub read_or_ok : {A : Type 0} (wrong : ℕ → WireFault) (r : Result A Fault) (go : A → Result Message WireFault) (m : Message) → read_or wrong r go ≡ Ok m → (a : A) × (r ≡ Ok a) × (go a ≡ Ok m)
 read_or_ok wrong (Ok a) go m e = (a, refl, e)
 read_or_ok wrong (Err fault) go m e = absurd cc
 
-abbrev parsed : Message → Result Message WireFault
+abbrev pub parsed : Message → Result Message WireFault
 parsed m = Ok m
 
-message_is : (a b : Message) → parsed a ≡ parsed b → a ≡ b
+pub message_is : (a b : Message) → parsed a ≡ parsed b → a ≡ b
 message_is a b e = cc
 
 -- a test before a call's header: else the message is unfit
@@ -67,7 +67,7 @@ both_true : (x y : Bool) → (x && y) ≡ true → (x ≡ true) × (y ≡ true)
 both_true true y e = (refl, e)
 both_true false y e = absurd cc
 
-head_is : (h : CallHead) (p : Program) → h.program ≡ (call_head h.cred h.verf p).program → h.version ≡ (call_head h.cred h.verf p).version → h.procedure ≡ (call_head h.cred h.verf p).procedure → h ≡ call_head h.cred h.verf p
+pub head_is : (h : CallHead) (p : Program) → h.program ≡ (call_head h.cred h.verf p).program → h.version ≡ (call_head h.cred h.verf p).version → h.procedure ≡ (call_head h.cred h.verf p).procedure → h ≡ call_head h.cred h.verf p
 head_is h p e f g = rw (← e, ← f, ← g) refl
 
 procedure_found : {P : Type 0} (name : P → Program) (o : Option P) (p : Program) → found_or (procedure_of name o) ≡ Ok p → (q : P) × (o ≡ Some q) × (name q ≡ p)
@@ -116,13 +116,13 @@ called_named side h p e =
 
 -- ---- bodies
 
-abbrev HasArgs : Program → Body → Type 0
+abbrev pub HasArgs : Program → Body → Type 0
 HasArgs p b = (is_call b ≡ true) × (BodyFits b × (program_of b ≡ p))
 
 abbrev HasResult : Program → Body → Type 0
 HasResult p b = (is_call b ≡ false) × (BodyFits b × (program_of b ≡ p))
 
-args_found : (p : Program) (at : ℕ) (rest : List ℕ) (b : Body) → IsBytes rest → whole_at at (args_of p) rest ≡ Ok b → HasArgs p b × (rest ≡ body_spell b)
+pub args_found : (p : Program) (at : ℕ) (rest : List ℕ) (b : Body) → IsBytes rest → whole_at at (args_of p) rest ≡ Ok b → HasArgs p b × (rest ≡ body_spell b)
 args_found (program.Nfs q) at rest b fits e =
     let w = whole_found at (args_of (program.Nfs q)) rest b fits e in
     let h = nfs.args_fit q w.0.0 w.0.2 in
@@ -271,7 +271,7 @@ reply_said w xid (Some p) i m bytes lt all fits waits e =
 
 -- ---- records
 
-xid_fits : (f : Front) → front_form.Fits f → f.xid < 2 ^ 32
+pub xid_fits : (f : Front) → front_form.Fits f → f.xid < 2 ^ 32
 unfolding front_form u32_form
 xid_fits f fits = fits.0
 
