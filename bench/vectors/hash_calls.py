@@ -1,16 +1,17 @@
 #!/usr/bin/env python3
 """Calls and answers of LBFS and of its callback program, packed by Python's xdrlib.
 
-    python3.11 bench/vectors/hash_calls.py > crates/hash_calls/src/vectors.rt
+    python3.11 bench/vectors/hash_calls.py
 
-The bytes that the tests of hash_calls compare with, in words of four bytes; `rt fmt` in that crate
-then breaks the lines. Nothing here was taken from the crate. xdrlib is in Python up to 3.12.
+Writes rows of crates/rows/data/lbfs, in words of four bytes in hexadecimal, and behind ` =>` what is to
+be printed of them (crates/rows/stdout): what was packed, in order. Nothing here was taken from the
+crate. xdrlib is in Python up to 3.12.
 """
 import hashlib
 import warnings
 
 warnings.simplefilter("ignore", DeprecationWarning)
-import xdrlib  # noqa: E402
+from nfs3_calls import Told, words  # noqa: E402
 
 # the handle of file 2
 FILE = b"LB01" + bytes(4) + (2).to_bytes(8, "big")
@@ -24,7 +25,7 @@ def sha1(text):
     return hashlib.sha1(text).digest()
 
 
-class Packer(xdrlib.Packer):
+class Packer(Told):
     """A packer whose calls can be chained."""
 
     def u32(self, *values):
@@ -60,57 +61,37 @@ class Packer(xdrlib.Packer):
 
 
 def packed():
-    """What the words are, their name, and the packer that holds them."""
+    """The rows: what they are, and the packer that holds their bytes."""
     xdr = Packer
 
-    yield "the file of a GETLEASE or a RECALL: file 2", "FILE", xdr().opaque(FILE)
-
-    words = xdr().u32(0).fattr3().u64(7).u32(60000)
-    yield "GETLEASE gave attributes, version 7 and a term of a minute", "LEASED", words
-
-    words = xdr().opaque(FILE).u64(4096).u32(4294967295)
-    yield "GETHASH of file 2, of 4294967295 bytes from 4096 on", "RANGE", words
-
+    yield "args lbfs 0", xdr()
+    yield "results lbfs 0", xdr()
+    yield "args lbfs 1", xdr().opaque(FILE)
+    yield "results lbfs 1", xdr().u32(0).fattr3().u64(7).u32(60000)
+    yield "args lbfs 2", xdr().opaque(FILE).u64(4096).u32(4294967295)
     pairs = [(sha1(b"abc"), 2048), (sha1(b""), 2050)]
-    words = xdr().u32(0).u64(7).u32(0).u64(4098).pairs(pairs).flag(True)
-    yield "GETHASH gave version 7, no lease, 4098 bytes and its two chunks", "HASHES", words
-
-    words = xdr().u32(0).u64(1).u32(60000).u64(0).pairs([]).flag(True)
-    yield "GETHASH gave version 1, a term of a minute and an empty file", "NO_HASHES", words
-
-    words = xdr().u32(3).opaque(FILE)
-    yield "MKTMPFILE of number 3, for file 2", "NEW_TEMP", words
-
-    words = xdr().u32(3).u64(2**32 + 5).opaque(b"hello")
-    yield 'TMPWRITE of "hello" into number 3, from 2 ^ 32 + 5 on', "TEMP_PIECE", words
-
-    words = xdr().u32(3).u64(0).opaque(b"")
-    yield "TMPWRITE of no bytes into number 3", "NO_BYTES", words
-
-    words = xdr().u32(3).u64(2048).u32(2050).digest(sha1(b"abc"))
-    yield 'CONDWRITE into number 3 of 2050 bytes from 2048 on, by the digest of "abc"', "COND_PIECE", words
-
-    words = xdr().u32(3).opaque(FILE).u64(4098)
-    yield "COMMITTMP of number 3 to file 2, of 4098 bytes", "COMMIT", words
-
-    words = xdr().u32(0).u64(8).u32(59900)
-    yield "COMMITTMP gave version 8 and a term of 59900 milliseconds", "COMMITTED", words
-
-    yield "the answer of a call that was done, where it holds no more", "DONE", xdr().u32(0)
-    yield "every status but OK, by its number", "STATUSES", xdr().u32(*STATUSES)
+    yield "results lbfs 2", xdr().u32(0).u64(7).u32(0).u64(4098).pairs(pairs).flag(True)
+    yield "results lbfs 2", xdr().u32(0).u64(1).u32(60000).u64(0).pairs([]).flag(True)
+    yield "args lbfs 3", xdr().u32(3).opaque(FILE)
+    yield "results lbfs 3", xdr().u32(0)
+    yield "args lbfs 4", xdr().u32(3).u64(2**32 + 5).opaque(b"hello")
+    yield "args lbfs 4", xdr().u32(3).u64(0).opaque(b"")
+    yield "results lbfs 4", xdr().u32(0)
+    yield "args lbfs 5", xdr().u32(3).u64(2048).u32(2050).digest(sha1(b"abc"))
+    yield "results lbfs 5", xdr().u32(0)
+    yield "args lbfs 6", xdr().u32(3).opaque(FILE).u64(4098)
+    yield "results lbfs 6", xdr().u32(0).u64(8).u32(59900)
+    yield "args back 1", xdr().opaque(FILE)
+    for procedure in range(1, 7):
+        for status in STATUSES:
+            yield f"results lbfs {procedure}", xdr().u32(status)
 
 
 def main():
-    print("//! Calls and answers in words of four bytes, as Python's xdrlib packs them.")
-    print("//!")
-    print("//! Written by bench/vectors/hash_calls.py, and not by hand.")
-    for what, name, packer in packed():
+    for what, packer in packed():
+        told = "".join(" " + part for part in packer.told)
         text = packer.get_buffer()
-        numbers = [int.from_bytes(text[i : i + 4], "big") for i in range(0, len(text), 4)]
-        words = [str(n) if n < 65536 else f"0x{n:08x}" for n in numbers]
-        print()
-        print(f"/// {what[0].upper() + what[1:]}.")
-        print(f"pub const {name}: &[u32] = &[{', '.join(words)}];")
+        print(f"0 {what} : {words(text)}".rstrip() + f" =>{told}; same")
 
 
 main()

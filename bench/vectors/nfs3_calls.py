@@ -1,12 +1,12 @@
 #!/usr/bin/env python3
 """Calls and answers of NFS version 3, packed by Python's xdrlib by the structs of RFC 1813.
 
-    python3.11 bench/vectors/nfs3_calls.py words > crates/nfs3_calls/src/vectors.rt
+    python3.11 bench/vectors/nfs3_calls.py rows
     python3.11 bench/vectors/nfs3_calls.py pcap FILE && tshark -V -r FILE
     python3.11 bench/vectors/nfs3_calls.py hex | bench/vectors/nfs3_again
 
-The first writes the bytes that the tests of nfs3_calls compare with, in words of four bytes. The
-second writes the same messages behind RPC headers as packets of a connection to port 2049, so that
+The first writes rows of crates/rows/data/nfs, in words of four bytes in hexadecimal, and behind ` =>`
+what is to be printed of them (crates/rows/stdout): what was packed, in order. The second writes the same messages behind RPC headers as packets of a connection to port 2049, so that
 tshark's NFS dissector can say what it reads in them. The third writes them in hexadecimal, for the
 code that rpcgen makes of RFC 1813's XDR (`README.md` says how to build it). Nothing here was taken
 from the crate: each function packs one struct of RFC 1813, named in its first line, in the order of
@@ -273,40 +273,75 @@ def packed(message):
     return p.get_buffer()
 
 
-# ---- the words of the tests
+# ---- the rows of crates/rows/data/nfs, each with what is to be printed
 
 
-def write_words():
-    print("//! Calls and answers in words of four bytes, as Python's xdrlib packs the structs of RFC 1813.")
-    print("//!")
-    print("//! Written by bench/vectors/nfs3_calls.py, and not by hand.")
-    for _, _, calls, answers in MESSAGES:
-        for message in calls + answers:
-            text = packed(message)
-            words = struct.unpack(">%dI" % (len(text) // 4), text)
-            print()
-            show("pub const %s: &[u32] = &[" % message[0], list(map(literal, words)))
+class Told(xdrlib.Packer):
+    """A packer that also tells what it packs, in order."""
+
+    def __init__(self):
+        super().__init__()
+        self.told = []
+
+    def pack_uint(self, x):
+        self.told.append(str(int(x)))
+        super().pack_uint(x)
+
+    pack_enum = pack_uint
+
+    def pack_uhyper(self, x):
+        self.told.append(str(int(x)))
+        for half in divmod(x, 2**32):
+            xdrlib.Packer.pack_uint(self, half)
+
+    def pack_bool(self, x):
+        self.told.append("true" if x else "false")
+        xdrlib.Packer.pack_uint(self, 1 if x else 0)
+
+    def pack_fopaque(self, n, text):
+        """Eight bytes are a verifier, which is printed as a number."""
+        self.told.append(str(int.from_bytes(text, "big")) if n == 8 else told_bytes(text))
+        super().pack_fopaque(n, text)
+
+    def pack_opaque(self, text):
+        self.told.append(told_bytes(text))
+        xdrlib.Packer.pack_uint(self, len(text))
+        xdrlib.Packer.pack_fopaque(self, len(text), text)
+
+    pack_string = pack_opaque
 
 
-def literal(word):
-    return "0x%08x" % word if word > 0xFFFF else str(word)
+def told_bytes(text):
+    """in hexadecimal; a handle of this file system by its number; eight and more equal bytes as a run"""
+    if len(text) == 16 and text[:8] == b"LB01" + bytes(4):
+        return "#%d" % int.from_bytes(text[8:], "big")
+    told, at = "x", 0
+    while at < len(text):
+        end = at
+        while end < len(text) and text[end] == text[at]:
+            end += 1
+        told += "[%d*%02x]" % (end - at, text[at]) if end - at >= 8 else text[at:end].hex()
+        at = end
+    return told
 
 
-def show(start, words):
-    """in the layout of rt fmt"""
-    one = start + ", ".join(words) + "];"
-    if len(one) <= 100 and len(", ".join(words)) <= 60:
-        print(one)
-        return
-    print(start)
-    line = "   "
-    for word in words:
-        if len(line) + len(word) + 2 > 99:
-            print(line)
-            line = "   "
-        line += " " + word + ","
-    print(line)
-    print("];")
+def words(text):
+    return " ".join(text[k:k + 4].hex() for k in range(0, len(text), 4))
+
+
+def row(kind, procedure, message):
+    p = Told()
+    message[1](p, *message[2:])
+    told = "".join(" " + part for part in p.told)
+    return "0 %s nfs %d : %s =>%s; same" % (kind, procedure, words(p.get_buffer()), told)
+
+
+def write_rows():
+    for _, procedure, calls, answers in MESSAGES:
+        for message in calls:
+            print(row("args", procedure, message))
+        for message in answers:
+            print(row("results", procedure, message))
 
 
 # ---- the same in hexadecimal, behind the name of their type
@@ -352,11 +387,16 @@ def write_pcap(path):
             f.write(struct.pack("<IIII", n, 0, len(p), len(p)) + p)
 
 
-if sys.argv[1:] == ["words"]:
-    write_words()
-elif sys.argv[1:] == ["hex"]:
-    write_hex()
-elif len(sys.argv) == 3 and sys.argv[1] == "pcap":
-    write_pcap(sys.argv[2])
-else:
-    sys.exit(__doc__)
+def main():
+    if sys.argv[1:] == ["rows"]:
+        write_rows()
+    elif sys.argv[1:] == ["hex"]:
+        write_hex()
+    elif len(sys.argv) == 3 and sys.argv[1] == "pcap":
+        write_pcap(sys.argv[2])
+    else:
+        sys.exit(__doc__)
+
+
+if __name__ == "__main__":
+    main()

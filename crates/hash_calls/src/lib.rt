@@ -7,7 +7,3 @@ pub mod back;
 pub mod call;
 pub mod lb;
 pub mod message;
-#[cfg(test)]
-mod tests;
-#[cfg(test)]
-mod vectors;

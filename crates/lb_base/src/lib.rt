@@ -10,5 +10,3 @@ pub mod mem_source;
 pub mod sink;
 pub mod source;
 pub mod streams;
-#[cfg(test)]
-mod tests;

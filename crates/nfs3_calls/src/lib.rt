@@ -10,7 +10,3 @@ pub mod making;
 pub mod message;
 pub mod nfs;
 pub mod place;
-#[cfg(test)]
-mod tests;
-#[cfg(test)]
-mod vectors;

@@ -7,5 +7,3 @@ mod names;
 mod reading;
 pub mod show;
 mod stat;
-#[cfg(test)]
-mod tests;

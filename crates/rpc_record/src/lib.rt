@@ -9,5 +9,3 @@ pub mod marking;
 pub mod messages;
 pub mod records;
 pub mod refusal;
-#[cfg(test)]
-mod tests;

@@ -6,5 +6,3 @@ pub mod laws;
 pub mod message;
 pub mod parse;
 pub mod spell;
-#[cfg(test)]
-mod tests;

@@ -12,7 +12,5 @@ pub mod laws;
 pub mod program;
 pub mod reader;
 pub mod status;
-#[cfg(test)]
-mod tests;
 pub mod whole;
 pub mod writer;

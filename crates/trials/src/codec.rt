@@ -1,13 +1,14 @@
-//! Happy paths and edges of each public call.
+//! Lists, and sources and sinks that fail at a call of their own, answer want of memory, or are
+//! interrupted: what neither a definition nor a line of data can show of `lb_base`.
 
 ghost use Rattle.std.specs.Prelude.{◌≡◌, IfOk};
 
-use crate::items::{Bytes, Items};
-use crate::mem_sink::{MemSink, SureSink};
-use crate::mem_source::{MemSource, SureSource};
-use crate::sink::{GiveErr, Sink, give_all};
-use crate::source::{Failed, ReadError, Source, read_all};
-use crate::streams::{StreamSink, StreamSource};
+use lb_base::items::{Bytes, Items};
+use lb_base::mem_sink::{MemSink, SureSink};
+use lb_base::mem_source::{MemSource, SureSource};
+use lb_base::sink::{GiveErr, Sink, give_all};
+use lb_base::source::{Failed, ReadError, Source, read_all};
+use lb_base::streams::{StreamSink, StreamSource};
 use std::alloc::{AllocError, Global};
 use std::io;
 use std::io::{ErrorKind, Read, Write};

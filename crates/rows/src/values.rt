@@ -1,0 +1,145 @@
+//! Values as they are printed: their numbers, truth values and bytes in the order of their spelling.
+
+use crate::text::put_bytes;
+use lb_base::items::Items;
+use std::alloc::AllocError;
+use std::fmt::Write;
+use xdr_codec::answer::Answer;
+use xdr_codec::attr::{Attr, Kind, Time};
+use xdr_codec::fault::ReadError;
+use xdr_codec::handle::Handle;
+use xdr_codec::status;
+
+/// What is printed.
+pub trait Put {
+    /// Prints it, each part behind a blank.
+    fn put(&self, out: &mut String) -> Result<(), AllocError>;
+}
+
+/// Why nothing was read.
+pub fn put_error(out: &mut String, error: &ReadError) -> Result<(), AllocError> {
+    match error {
+        ReadError::Memory => Err(AllocError),
+        ReadError::Fault(fault) => write!(out, " {fault:?}"),
+    }
+}
+
+/// Numbers.
+pub fn put_numbers(out: &mut String, numbers: &[u64]) -> Result<(), AllocError> {
+    for number in numbers {
+        write!(out, " {number}")?;
+    }
+    Ok(())
+}
+
+impl Put for () {
+    fn put(&self, _out: &mut String) -> Result<(), AllocError> {
+        Ok(())
+    }
+}
+
+impl Put for u32 {
+    fn put(&self, out: &mut String) -> Result<(), AllocError> {
+        write!(out, " {self}")
+    }
+}
+
+impl Put for u64 {
+    fn put(&self, out: &mut String) -> Result<(), AllocError> {
+        write!(out, " {self}")
+    }
+}
+
+impl Put for bool {
+    fn put(&self, out: &mut String) -> Result<(), AllocError> {
+        write!(out, " {self}")
+    }
+}
+
+impl Put for Items<u8> {
+    fn put(&self, out: &mut String) -> Result<(), AllocError> {
+        put_bytes(out, self.as_slice())
+    }
+}
+
+impl Put for [u8; 20] {
+    fn put(&self, out: &mut String) -> Result<(), AllocError> {
+        put_bytes(out, self.as_slice())
+    }
+}
+
+/// A handle of this file system by its file's number, `#2`.
+impl Put for Handle {
+    fn put(&self, out: &mut String) -> Result<(), AllocError> {
+        match self.file_of() {
+            Some(file) => write!(out, " #{file}"),
+            None => put_bytes(out, self.as_slice()),
+        }
+    }
+}
+
+impl<T: Put> Put for Option<T> {
+    fn put(&self, out: &mut String) -> Result<(), AllocError> {
+        match self {
+            None => out.push_str(" false"),
+            Some(item) => {
+                out.push_str(" true")?;
+                item.put(out)
+            }
+        }
+    }
+}
+
+impl<T: Put, F: Put> Put for Answer<T, F> {
+    fn put(&self, out: &mut String) -> Result<(), AllocError> {
+        match self {
+            Answer::Done(body) => {
+                out.push_str(" 0")?;
+                body.put(out)
+            }
+            Answer::Failed(status, body) => {
+                status::number(*status).put(out)?;
+                body.put(out)
+            }
+        }
+    }
+}
+
+impl Put for Kind {
+    fn put(&self, out: &mut String) -> Result<(), AllocError> {
+        out.push_str(match self {
+            Kind::File => " 1",
+            Kind::Directory => " 2",
+        })
+    }
+}
+
+impl Put for Time {
+    fn put(&self, out: &mut String) -> Result<(), AllocError> {
+        put_numbers(out, &[u64::from(self.seconds), u64::from(self.nanoseconds)])
+    }
+}
+
+impl Put for Attr {
+    fn put(&self, out: &mut String) -> Result<(), AllocError> {
+        self.kind.put(out)?;
+        put_numbers(
+            out,
+            &[
+                u64::from(self.mode),
+                u64::from(self.nlink),
+                u64::from(self.uid),
+                u64::from(self.gid),
+                self.size,
+                self.used,
+                u64::from(self.rdev_major),
+                u64::from(self.rdev_minor),
+                self.fsid,
+                self.fileid,
+            ],
+        )?;
+        self.atime.put(out)?;
+        self.mtime.put(out)?;
+        self.ctime.put(out)
+    }
+}
