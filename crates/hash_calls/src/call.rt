@@ -1,4 +1,4 @@
-//! The arguments and the answer of each call.
+//! The arguments and the answer of each call. `specs/Calls.antt` states their forms.
 
 ghost use Rattle.std.specs.Prelude.{◌≡◌, ◌++◌, OnOk};
 

@@ -1,4 +1,5 @@
-//! Any call and any answer.
+//! Any call and any answer. `specs/Lb.antt` and `specs/Back.antt` state the numbers of the
+//! procedures.
 
 ghost use Rattle.std.specs.Prelude.{◌≡◌};
 ghost use Rattle.hash_calls.specs.Lb.{proc_number, proc_of, lb_proc};

@@ -1,4 +1,5 @@
-//! The count of faults that an object of the outside keeps.
+//! The count of faults that an object of the outside keeps. When such a count has risen states
+//! `specs/Causes.antt`.
 
 ghost use Rattle.std.specs.Prelude.{◌≡◌, ◌+◌, ◌-◌, ◌^◌, min};
 

@@ -119,15 +119,6 @@ impl<T: Copy> Items<T> {
     }
 }
 
-impl Items<u8> {
-    /// Whether two lists of bytes are the same.
-    pub fn equals(&self, other: &Items<u8>) -> bool
-        ensures { IsTrue result ↔ (self.now ≡ other.now) }
-    {
-        self == other
-    }
-}
-
 impl<T: PartialEq> PartialEq for Items<T> {
     ghost use Rattle.std.specs.Cmp.Lexicographic.{pointwise, lists_per};
 

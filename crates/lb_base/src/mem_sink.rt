@@ -1,5 +1,5 @@
-//! Sinks in memory, which tell what they were given: one that fails when told to, and its twin
-//! that never fails.
+//! Sinks in memory, which tell what they were given: one that fails when told to, and its twin that
+//! never fails. Their states stand in `specs/Memory.antt`.
 
 ghost use Rattle.std.specs.Prelude.{◌≡◌, ℕ, ◌+◌, ◌-◌, ◌^◌, ◌≤◌, ◌<◌, ◌↔◌, List, [], length, min, Contains, Option, Some, IfOk, OnOk, OnErr, IsErrOf, IsErr};
 ghost use Rattle.std.specs.Io.KnownBytes.{WriteAppends};

@@ -1,5 +1,5 @@
-//! Sources in memory, which tell what is left: one that fails when told to, and its twin that
-//! never fails.
+//! Sources in memory, which tell what is left: one that fails when told to, and its twin that never
+//! fails. Their states stand in `specs/Memory.antt`.
 
 ghost use Rattle.std.specs.Prelude.{◌≡◌, ℕ, ◌+◌, ◌-◌, ◌^◌, ◌≤◌, ◌<◌, ◌↔◌, if◌then◌else◌, List, [], ◌++◌, length, take, min, Contains, Option, Some, Ok, IfOk, OnErr, IsErr, is_err};
 ghost use Rattle.std.specs.Io.KnownBytes.{ReadConsumes};

@@ -1,4 +1,5 @@
-//! Bytes that go out.
+//! Bytes that go out. When a fault may be answered states `specs/Causes.antt`, and what is known of
+//! bytes that were given over several calls `specs/Known.antt`.
 
 ghost use Rattle.std.specs.Prelude.{◌≡◌, ℕ, ◌≤◌, ◌<◌, List, length, Option, IfOk, OnOk, OnErr, IsErrOf};
 ghost use Rattle.std.specs.Io.KnownBytes.{WriteAppends, Appends};
@@ -52,7 +53,9 @@ pub trait Sink {
         ensures cause { IsErrOf result errors.Failed → Rose (faults self.old) (faults self.new) };
 }
 
-/// Gives all of the bytes. After an `Err` a front of them was given, and not all.
+/// Gives the bytes in as many calls as it takes. Of a sink that tells what it was given, `Ok` says
+/// that all of them were, in order, and `Err` that a front of them was, and not all. `Failed` comes
+/// only where the sink's count rose.
 pub fn give_all<K: Sink>(sink: &mut K, bytes: &[u8]) -> Result<(), GiveErr>
     ensures ok { OnOk result (Appends (K.held sink.old) (K.held sink.new) bytes.now) }
     ensures err { OnErr result (AppendsPart (K.held sink.old) (K.held sink.new) bytes.now) }

@@ -1,4 +1,4 @@
-//! Bytes that come in.
+//! Bytes that come in. When a fault may be answered states `specs/Causes.antt`.
 
 ghost use Rattle.std.specs.Prelude.{◌≡◌, ℕ, ◌≤◌, ◌<◌, List, length, Option, Some, IfOk, OnErr, IsErrOf};
 ghost use Rattle.std.specs.Io.KnownBytes.{ReadConsumes, Consumes, IsAtEnd};
@@ -65,10 +65,11 @@ fn piece_room(alloc: Global) -> Result<Vec<u8>, AllocError>
     vec![in alloc; 0u8; AT_ONCE]
 }
 
-/// Reads the whole input, where it has at most `limit` bytes.
+/// Reads the input to its end, where it has at most `limit` bytes.
 ///
-/// `Fault` comes only where the source's count rose, `TooLong` only where more than `limit` bytes
-/// came. The bytes that came before an error are gone.
+/// Of a source that tells what is left, `Ok` has the whole input, and `TooLong` comes only where that
+/// has more than `limit` bytes. `Fault` comes only where the source's count rose. The bytes that came
+/// before an error are gone.
 pub fn read_all<S: Source>(
     alloc: Global,
     limit: usize,

@@ -1,4 +1,4 @@
-//! The calls on one file: ACCESS and READ.
+//! The calls on one file: ACCESS and READ. `specs/Calls.antt` states their forms.
 
 ghost use Rattle.std.specs.Prelude.{◌≡◌, ◌++◌, OnOk};
 

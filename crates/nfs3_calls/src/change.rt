@@ -1,4 +1,5 @@
 //! What a directory's state was before and after a change: the answers of REMOVE, RMDIR and RENAME.
+//! `specs/Calls.antt` states its form.
 
 ghost use Rattle.std.specs.Prelude.{◌≡◌, ◌++◌, OnOk};
 

@@ -1,4 +1,4 @@
-//! What a file system can do: what FSINFO gives.
+//! What a file system can do: what FSINFO gives. `specs/Calls.antt` states its form.
 
 ghost use Rattle.std.specs.Prelude.{◌≡◌, ◌++◌, OnOk};
 

@@ -1,4 +1,5 @@
-//! The entries of a directory: what READDIR asks for and gives.
+//! The entries of a directory: what READDIR asks for and gives. `specs/Calls.antt` states the
+//! forms.
 
 ghost use Rattle.std.specs.Prelude.{◌≡◌, ◌++◌, OnOk};
 

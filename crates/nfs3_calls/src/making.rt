@@ -1,4 +1,5 @@
-//! What CREATE and MKDIR ask for, and what they made.
+//! What CREATE and MKDIR ask for, and what they made. `specs/Calls.antt` states the forms, and
+//! `specs/Choices.antt` what a number in them chooses.
 
 ghost use Rattle.std.specs.Prelude.{◌≡◌, ◌++◌, OnOk};
 

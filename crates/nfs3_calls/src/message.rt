@@ -1,4 +1,4 @@
-//! Any call and any answer.
+//! Any call and any answer. `specs/Nfs.antt` states the numbers of the procedures.
 
 ghost use Rattle.std.specs.Prelude.{◌≡◌};
 ghost use Rattle.nfs3_calls.specs.Nfs.{proc_number, proc_of, nfs_proc};

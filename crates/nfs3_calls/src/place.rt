@@ -1,4 +1,5 @@
 //! Names in directories: what LOOKUP, REMOVE, RMDIR and RENAME ask for, and what LOOKUP found.
+//! `specs/Calls.antt` states their forms.
 
 ghost use Rattle.std.specs.Prelude.{◌≡◌, ◌++◌, OnOk};
 

@@ -1,4 +1,4 @@
-//! What holds of every stream and every message.
+//! What holds of every stream and every message. `specs/Show.antt` and `specs/Sent.antt` state it.
 
 ghost use Rattle.std.specs.Prelude.{◌≡◌, ◌++◌, ℕ, List, flat_map};
 ghost use Rattle.rpc_record.specs.Framed.{Framed};

@@ -1,4 +1,4 @@
-//! What is shown of a record, and its line.
+//! What is shown of a record, and its line. `specs/Line.antt` states both.
 
 ghost use Rattle.std.specs.Prelude.{◌≡◌, ◌++◌, OnOk, string_bytes};
 ghost use Rattle.record_show.specs.Line.{line_text};

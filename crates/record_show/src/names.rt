@@ -1,4 +1,4 @@
-//! The names of programs, procedures, refusals and answers.
+//! The names of programs, procedures, refusals and answers. `specs/Names.antt` states them.
 
 ghost use Rattle.std.specs.Prelude.{◌≡◌};
 ghost use Rattle.record_show.specs.Names.{program_name, nfs_name, lb_name, back_name, procedure_name, refusal_name, accept_name, reject_name, stat_name};

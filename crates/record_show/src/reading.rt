@@ -1,4 +1,4 @@
-//! What a record is, as far as it is shown.
+//! What a record is, as far as it is shown. `specs/Said.antt` and `specs/Line.antt` state it.
 
 ghost use Rattle.std.specs.Prelude.{◌≡◌, ℕ, Ok, IfOk, length};
 ghost use Rattle.wire.specs.Message.{body_spell};

@@ -1,4 +1,4 @@
-//! A whole stream.
+//! A whole stream. `specs/Show.antt` states its text.
 
 ghost use Rattle.std.specs.Prelude.{◌≡◌, ◌++◌, IfOk, OnOk, string_bytes, flat_map};
 ghost use Rattle.record_show.specs.Show.{record_text, end_text, shown};

@@ -1,5 +1,5 @@
 //! An answer as far as it says what became of its call (RFC 5531, section 9: reply_body). What
-//! follows accept_stat or reject_stat is left in the reader.
+//! follows accept_stat or reject_stat is left in the reader. `specs/Stat.antt` states its form.
 
 ghost use Rattle.std.specs.Prelude.{◌≡◌};
 ghost use Rattle.xdr_codec.specs.Format.{Gives};

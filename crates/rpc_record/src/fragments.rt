@@ -1,5 +1,5 @@
 //! Fragments of records (RFC 5531, section 11): what their headers say, and how far a record is
-//! known.
+//! known. `specs/Records.antt` states the first, `specs/Progress.antt` the second.
 
 ghost use Rattle.std.specs.Prelude.{◌≡◌, ℕ, List, IfOk};
 ghost use Rattle.rpc_record.specs.Records.{header_of, HasRecord};

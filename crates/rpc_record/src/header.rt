@@ -1,5 +1,5 @@
 //! The headers of RPC messages (RFC 5531, sections 8 and 9), part by part. Each number has four
-//! bytes, the highest first.
+//! bytes, the highest first. `specs/Header.antt` states their forms.
 
 ghost use Rattle.std.specs.Prelude.{◌≡◌, ◌++◌, ◌≤◌, length, OnOk};
 ghost use Rattle.limits.specs.declared.TheConstants.{AUTH_MOST};

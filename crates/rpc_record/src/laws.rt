@@ -1,5 +1,5 @@
-//! What holds of records, whatever the pieces in which their bytes come, and of the headers of calls
-//! and replies.
+//! What holds of records, whatever the pieces in which their bytes come, and of the headers of
+//! calls and replies. `specs/Framed.antt`, `specs/Spoilt.antt` and `specs/Refused.antt` state it.
 
 ghost use Rattle.std.specs.Prelude.{◌≡◌, ◌↔◌, ℕ, List, [], ◌∷◌, ◌++◌, Some, None};
 ghost use Rattle.std.specs.List.{concat};

@@ -1,4 +1,5 @@
-//! Records into a stream of bytes (RFC 5531, section 11).
+//! Records into a stream of bytes (RFC 5531, section 11). `specs/Records.antt` states how they are
+//! marked.
 
 ghost use Rattle.std.specs.Prelude.{◌≡◌, ◌<◌, ◌≤◌, length, MatchResult};
 ghost use Rattle.limits.specs.declared.TheConstants.{RECORD_MOST};

@@ -2,6 +2,7 @@
 //!
 //! A reader is left behind the header, where the arguments or the result begin; after a refusal it
 //! is where it was. A writer holds the header behind what it held, or only what it held.
+//! `specs/Messages.antt` states their spellings.
 
 ghost use Rattle.std.specs.Prelude.{◌≡◌, ◌++◌, ◌≤◌, length, OnOk, OnErr};
 ghost use Rattle.limits.specs.declared.TheConstants.{AUTH_MOST};

@@ -1,4 +1,5 @@
 //! Records out of a stream of bytes that comes in pieces (RFC 5531, section 11).
+//! `specs/Records.antt` states which they are.
 
 ghost use Rattle.std.specs.Prelude.{◌≡◌, ◌≤◌, IfOk, OnErr, drop, length};
 ghost use Rattle.rpc_record.specs.Records.{nothing_read, fed};

@@ -1,4 +1,5 @@
-//! Why bytes are no record, and why a record is not sent.
+//! Why bytes are no record, and why a record is not sent. `specs/Spoilt.antt` states when a stream
+//! is spoilt, `specs/Refused.antt` why a header is refused.
 
 ghost use Rattle.std.specs.Prelude.{◌≡◌};
 ghost use Rattle.rpc_record.specs.declared.refusal.MarkError.TheVariants.{Memory};

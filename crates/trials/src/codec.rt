@@ -26,12 +26,11 @@ fn lists_grow_and_compare(rt: HostRuntime) -> Result<(), Fail> {
     list.extend_from_slice(b"de")?;
     assert_eq!(rt; list.as_slice(), b"abcde".as_slice());
     let copy = list.try_clone(rt.alloc())?;
-    assert!(rt; copy.equals(&list));
     assert_eq!(rt; copy, list);
     if list.len() > 1 {
         assert_eq!(rt; list.remove(1), b'b');
     }
-    assert!(rt; !copy.equals(&list));
+    assert!(rt; copy != list);
     assert_eq!(rt; list.into_vec().as_slice(), b"acde".as_slice());
     let none: Items<u64> = Items::new(rt.alloc());
     assert!(rt; none.is_empty());

@@ -1,4 +1,5 @@
-//! Messages, and what is known of those that are awaited.
+//! Messages, and what is known of those that are awaited. `specs/Message.antt` states what each
+//! says, and `specs/Parse.antt` which may come.
 
 ghost use Rattle.std.specs.Prelude.{◌≡◌};
 ghost use Rattle.wire.specs.Message.{program_of, program_number, program_version, procedure_number};

@@ -1,4 +1,5 @@
-//! Which message a record is.
+//! Which message a record is. `specs/Parse.antt` states it as it is tested, and
+//! `specs/Refused.antt` by what stands in the record.
 
 ghost use Rattle.std.specs.Prelude.{◌≡◌, Ok, None};
 ghost use Rattle.wire.specs.Parse.{IsParsed, parse_of, parse_call, parse_call_body, parse_reply, replied, with_args, called, versioned, refusal_of, waiting};

@@ -1,4 +1,4 @@
-//! The record of a message.
+//! The record of a message. `specs/Message.antt` states it.
 
 ghost use Rattle.std.specs.Prelude.{◌≡◌, ◌++◌, ◌<◌, ◌^◌, IfOk, OnOk};
 ghost use Rattle.wire.specs.Message.{message_spell, body_spell, refusal_head, call_head, no_auth, IsShort, IsSpelled, IsShortBody, BodyFits, RefusalFits};

@@ -1,4 +1,5 @@
 //! Answers behind their status (RFC 1813, section 3: a union on nfsstat3; RFC 4506, section 4.15).
+//! `specs/Answers.antt` states both forms.
 
 ghost use Rattle.std.specs.Prelude.{◌≡◌, ◌++◌, OnOk};
 ghost use Rattle.xdr_codec.specs.Format.{Gives};

@@ -1,4 +1,5 @@
-//! Times and attributes (RFC 1813, section 2.6: nfstime3 and fattr3).
+//! Times and attributes (RFC 1813, section 2.6: nfstime3 and fattr3). `specs/Attr.antt` states
+//! their forms.
 
 ghost use Rattle.std.specs.Prelude.{◌≡◌, ◌++◌, OnOk};
 

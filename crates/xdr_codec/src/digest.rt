@@ -1,4 +1,5 @@
 //! Digests of SHA-1 (FIPS 180-4): twenty bytes with no length before them (RFC 4506, section 4.9).
+//! `specs/Digest.antt` states their form.
 
 ghost use Rattle.std.specs.Prelude.{◌≡◌, ◌++◌, OnOk};
 

@@ -1,5 +1,6 @@
-//! Why a record could not be read. A place is a number of bytes from the record's first byte to where
-//! the item begins that failed.
+//! Why a record could not be read. A place is a number of bytes from the record's first byte to
+//! where the item begins that failed. Which fault it is states the item's form: `specs/Xdr.antt`,
+//! and for what is made of items `specs/Format.antt`.
 
 ghost use Rattle.std.specs.Prelude.{◌≡◌};
 ghost use Rattle.xdr_codec.specs.declared.fault.ReadError.TheVariants.{Memory};

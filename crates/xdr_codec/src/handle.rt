@@ -1,4 +1,5 @@
-//! Handles (RFC 1813, section 2.6: nfs_fh3).
+//! Handles (RFC 1813, section 2.6: nfs_fh3). `specs/Handle.antt` states their form, and which
+//! handles this file system gives.
 
 ghost use Rattle.std.specs.Prelude.{◌≡◌, ◌++◌, ◌≤◌, ◌<◌, ◌^◌, ℕ, length, OnOk, IfOk, IfSome, IfNone};
 ghost use Rattle.xdr_codec.specs.Handle.{handle_bytes, handle_mark, file_of};

@@ -1,4 +1,5 @@
-//! Items of any type.
+//! Items of any type. What a form is states `specs/Format.antt`; of items that may be there, are
+//! counted or chained `specs/Choice.antt`, `specs/Repeat.antt` and `specs/Chain.antt`.
 
 ghost use Rattle.std.specs.Prelude.{◌≡◌, ℕ, OnOk, OnErr, ◌++◌, All, length, ◌<◌, ◌≤◌, ◌^◌, IfSome};
 ghost use Rattle.std.specs.List.{flat_map};

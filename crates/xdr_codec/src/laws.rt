@@ -1,4 +1,4 @@
-//! What holds of every format.
+//! What holds of every format. `specs/Exact.antt` states it.
 
 ghost use Rattle.xdr_codec.specs.Exact.{IsExact};
 

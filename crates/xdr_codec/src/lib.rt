@@ -12,5 +12,4 @@ pub mod laws;
 pub mod program;
 pub mod reader;
 pub mod status;
-pub mod whole;
 pub mod writer;

@@ -189,18 +189,6 @@ pub fn read_results<M: ProgramBody>(
     kept_results(alloc, procedure, rest)
 }
 
-/// Writes the one spelling behind what is written. After an `Err`, which says that memory ran out,
-/// the writer holds what it held.
-pub fn put<M: ProgramBody>(writer: &mut Writer, body: &M) -> Result<(), AllocError>
-    ensures spelled { OnOk result (writer.new ≡ writer.old ++ M.spell body.now) }
-    ensures fits { OnOk result (M.IsShort body.now → M.Fits body.now) }
-    ensures stays { OnErr result (writer.new ≡ writer.old) }
-{
-    let mut part = writer.part();
-    body.write_in(&mut part)?;
-    writer.append(part)
-}
-
 /// The one spelling. The one error is want of memory; then nothing is left of what was written.
 pub fn write<M: ProgramBody>(alloc: Global, body: &M) -> Result<Bytes, AllocError>
     ensures spelled { IfOk result (λ bytes. bytes ≡ M.spell body.now) }

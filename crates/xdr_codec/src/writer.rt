@@ -1,7 +1,8 @@
 //! Writing items to the end of a record (RFC 4506).
 //!
-//! Each call writes its item's spelling, which is a multiple of four bytes, or answers `AllocError`,
-//! the one error that there is; then nothing was written.
+//! Each call writes its item's spelling, which is a multiple of four bytes, or answers
+//! `AllocError`, the one error that there is; then nothing was written. `specs/Xdr.antt` states
+//! each spelling.
 
 ghost use Rattle.std.specs.Prelude.{◌≡◌, ℕ, ◌++◌, [], ◌<◌, ◌≤◌, ◌^◌, length, OnOk, OnErr, replicate};
 ghost use Rattle.xdr_codec.specs.Xdr.{u32_form, u64_form, bool_form, fixed_form, opaque_form, padded, opaque_spell, fill_len};
