@@ -129,7 +129,13 @@ pub fn send_all(alloc: Global, content: &[u8], store: Store, next: u32) -> Resul
         counts: parts::no_counts(),
     };
     for _i in 0..room {
-        send_next(alloc, content, &mut going)?;
+        match send_next(alloc, content, &mut going) {
+            Ok(()) => {}
+            Err(error) => {
+                drop(going);
+                return Err(error);
+            }
+        }
     }
     Ok(going)
 }

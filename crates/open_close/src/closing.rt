@@ -56,9 +56,16 @@ impl Inner {
         let xid = self.next;
         let fd = self.fds;
         let call = parts::make_call(alloc, xid, fd, file)?;
-        self.wait(alloc, file, Stage::Making(xid, fd), xid + 1)?;
-        self.fds = fd + 1;
-        Ok(parts::sends(alloc, call, 0, 0))
+        match self.wait(alloc, file, Stage::Making(xid, fd), xid + 1) {
+            Ok(()) => {
+                self.fds = fd + 1;
+                Ok(parts::sends(alloc, call, 0, 0))
+            }
+            Err(error) => {
+                drop(call);
+                Err(error)
+            }
+        }
     }
 
     /// Messages go out, and the operation under way has come this far. An `Err` changes nothing.

@@ -54,8 +54,13 @@ impl Inner {
     {
         let xid = self.next;
         let call = parts::hash_call(alloc, xid, file)?;
-        self.wait(alloc, file, Stage::Hashing(xid), xid + 1)?;
-        Ok(parts::sends(alloc, call, 0, 0))
+        match self.wait(alloc, file, Stage::Hashing(xid), xid + 1) {
+            Ok(()) => Ok(parts::sends(alloc, call, 0, 0)),
+            Err(error) => {
+                drop(call);
+                Err(error)
+            }
+        }
     }
 
     /// The file is whole and open. An `Err` changes nothing but the operation under way.
@@ -110,8 +115,13 @@ impl Inner {
         let xid = self.next;
         let call = parts::read_call(alloc, xid, file, fetch.bytes.len() as u64, size)?;
         fetch.xid = xid;
-        self.wait(alloc, file, Stage::Reading(fetch), xid + 1)?;
-        Ok(parts::sends(alloc, call, 1, bytes))
+        match self.wait(alloc, file, Stage::Reading(fetch), xid + 1) {
+            Ok(()) => Ok(parts::sends(alloc, call, 1, bytes)),
+            Err(error) => {
+                drop(call);
+                Err(error)
+            }
+        }
     }
 
     /// The next chunk is asked for, or there is none left and the file is whole. An `Err` changes

@@ -54,11 +54,17 @@ impl Sends {
         ensures err { OnErr result (self.new ≡ self.old) }
     {
         if self.first.is_none() && self.rest.is_empty() {
-            self.first = Some(message);
+            let old = self.first.replace(message);
+            drop(old);
             return Ok(());
         }
-        self.rest.push(message)?;
-        Ok(())
+        match self.rest.push(message) {
+            Ok(()) => Ok(()),
+            Err(failed) => {
+                drop(failed);
+                Err(AllocError)
+            }
+        }
     }
 
     /// The first message, if there is one, and those behind it.

@@ -10,7 +10,7 @@ loop-i-preserved c =
     let content = c.args.content.now in
     let room = c.saturating_sub-room.result in
     let i = c.loop-i._i in
-    let e : c.send_next.new.going ≡ sends_next content g g.store.owed g.store.conds = c.in_ok-send_next.ensures in
+    let e : c.send_next.new.going ≡ sends_next content g g.store.owed g.store.conds = c.in-Ok.ensures in
     record {
       same = ap (λ (x : Going). sends_on (room - (i + 1)) content x) e ∙ (sends_step content g room i c.loop-i-test.true ∙ c.loop-i.invariant.same);
       counted = subst (λ (x : Going). IsCounted (i + 1) x.counts) (sym e) (next_counted content g i c.requires.small c.loop-i.invariant.counted);
