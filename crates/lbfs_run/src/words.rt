@@ -1,7 +1,7 @@
-//! The words that the program takes.
+//! The words that the program takes: `command_of` of `specs/Words.antt`.
 
 ghost use Rattle.std.specs.Prelude.{◌≡◌, map, string_bytes};
-ghost use Rattle.lbfs.specs.Words.{command_named, command_of};
+ghost use Rattle.lbfs_run.specs.Words.{command_named, command_of};
 
 /// What the program may be asked for.
 #[derive(Clone, Copy, Debug, PartialEq, Eq)]

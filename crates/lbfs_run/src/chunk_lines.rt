@@ -1,7 +1,7 @@
-//! The text that lists the chunks of a content.
+//! The text that lists the chunks of a content: `cut_text` of `specs/Output.antt`.
 
 ghost use Rattle.std.specs.Prelude.{◌≡◌, ◌++◌, List, length, OnOk, IfOk, string_bytes, flat_map};
-ghost use Rattle.lbfs.specs.Output.{chunk_line, cut_text};
+ghost use Rattle.lbfs_run.specs.Output.{chunk_line, cut_text};
 
 use chunk_cut::chunk::Chunk;
 use chunk_cut::cut;

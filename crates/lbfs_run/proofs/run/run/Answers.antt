@@ -1,6 +1,6 @@
 use Rattle.std.proofs.Common.{inl}
-use Rattle.lbfs.proofs.Headline.{replayed}
-use Rattle.lbfs.proofs.run.run.Goals as goal
+use Rattle.lbfs_run.proofs.Headline.{replayed}
+use Rattle.lbfs_run.proofs.run.run.Goals as goal
 
 pub returns-clause-headline : goal.returns-clause-headline
 returns-clause-headline g c = λ words zero input told.

@@ -1,12 +1,13 @@
-//! A run of the program over any source and any sink.
+//! A run of the program over any source and any sink. What it comes to is `output_of` of
+//! `specs/Output.antt`; what each status says is in `specs/Ends.antt`.
 
 ghost use Rattle.std.specs.Prelude.{◌≡◌, ℕ, ◌<◌, ◌≤◌, ◌⊎◌, List, [], ◌∷◌, length, IfOk, OnOk, OnErr, IsErrOf, Some, None, map, string_bytes, codes};
 ghost use Rattle.std.specs.Io.KnownBytes.{Consumes, IsAtEnd};
 ghost use Rattle.lb_base.specs.Causes.{Rose};
-ghost use Rattle.lbfs.specs.Words.{command_of};
-ghost use Rattle.lbfs.specs.Output.{output_of, output_for, code_of, most_bytes, IsWhole};
-ghost use Rattle.lbfs.specs.Ends.{IsAnswered, IsAnsweredFrom, IsBegun, IsBroken, IsReplayed};
-ghost use Rattle.lbfs.specs.declared.run.Unread.TheVariants as unread;
+ghost use Rattle.lbfs_run.specs.Words.{command_of};
+ghost use Rattle.lbfs_run.specs.Output.{output_of, output_for, code_of, most_bytes, IsWhole};
+ghost use Rattle.lbfs_run.specs.Ends.{IsAnswered, IsAnsweredFrom, IsBegun, IsBegunFrom, IsBroken, IsBrokenFrom, IsReplayed};
+ghost use Rattle.lbfs_run.specs.declared.run.Unread.TheVariants as unread;
 
 use crate::output::{Output, Status, command_output, refused};
 use crate::words::{Command, command_of};
@@ -80,7 +81,7 @@ fn output_of<S: Source>(alloc: Global, words: &[String], source: &mut S) -> Resu
     }
 }
 
-/// Reads, runs and writes, and answers the status.
+/// Reads, runs and writes, and answers the status, as `run` says.
 fn run_on<S: Source, K: Sink>(alloc: Global, words: &[String], source: &mut S, sink: &mut K) -> u8
     ensures answered { (result ≡ 0) ⊎ (result ≡ 2) ⊎ (result ≡ 5) → IsAnswered (map (λ w. string_bytes w) words.now) (S.left source.old) (K.held sink.old) (K.held sink.new) result }
     ensures taken { (result ≡ 0) ⊎ (result ≡ 2) ⊎ (result ≡ 5) → IsAnsweredFrom (map (λ w. string_bytes w) words.now) (S.left source.old) (S.left source.new) (K.held sink.old) (K.held sink.new) result }
@@ -91,7 +92,9 @@ fn run_on<S: Source, K: Sink>(alloc: Global, words: &[String], source: &mut S, s
     ensures nothing { result ≡ 3 → sink.new ≡ sink.old }
     ensures write_fault { result ≡ 4 → Rose (K.faults sink.old) (K.faults sink.new) }
     ensures broken { result ≡ 4 → IsBroken (map (λ w. string_bytes w) words.now) (S.left source.old) (K.held sink.old) (K.held sink.new) }
+    ensures broken_off { result ≡ 4 → IsBrokenFrom (map (λ w. string_bytes w) words.now) (S.left source.old) (S.left source.new) (K.held sink.old) (K.held sink.new) }
     ensures starved { result ≡ 6 → IsBegun (map (λ w. string_bytes w) words.now) (S.left source.old) (K.held sink.old) (K.held sink.new) }
+    ensures starved_off { result ≡ 6 → (sink.new ≡ sink.old) ⊎ IsBegunFrom (map (λ w. string_bytes w) words.now) (S.left source.old) (S.left source.new) (K.held sink.old) (K.held sink.new) }
     ensures known { (result ≡ 0) ⊎ (result ≡ 2) ⊎ (result ≡ 3) ⊎ (result ≡ 4) ⊎ (result ≡ 5) ⊎ (result ≡ 6) }
 {
     let output = match output_of(alloc, words, source) {
@@ -106,7 +109,15 @@ fn run_on<S: Source, K: Sink>(alloc: Global, words: &[String], source: &mut S, s
     }
 }
 
-/// Runs the words, which are those behind the program's name.
+/// Runs the words, which are those behind the program's name, and answers the status.
+///
+/// With 0, 2 and 5 all of the output for the words and the input was written (`answered`, where the
+/// source tells what is left in it; `taken`, whatever it tells, for bytes that were taken from it), and
+/// with 0 the source stands at its end. With 3 the source failed, its faults rose, and nothing was
+/// written. With 4 the sink failed, its faults rose, and a front of the output was written, but not all
+/// (`broken`, `broken_off`). With 6 memory ran out, which no clause gives a cause; nothing was written,
+/// or a front of the output (`starved`, `starved_off`). Which bytes a source gave and a sink took is
+/// known only where they tell, as those in memory do; streams of the system don't.
 pub fn run<S: Source, K: Sink>(
     alloc: Global,
     words: &[String],
@@ -122,7 +133,9 @@ pub fn run<S: Source, K: Sink>(
     ensures nothing { result.0 ≡ 3 → result.1.sink ≡ out.sink }
     ensures write_fault { result.0 ≡ 4 → Rose (K.faults out.sink) (K.faults result.1.sink) }
     ensures broken { result.0 ≡ 4 → IsBroken (map (λ w. string_bytes w) words.now) (S.left out.source) (K.held out.sink) (K.held result.1.sink) }
+    ensures broken_off { result.0 ≡ 4 → IsBrokenFrom (map (λ w. string_bytes w) words.now) (S.left out.source) (S.left result.1.source) (K.held out.sink) (K.held result.1.sink) }
     ensures starved { result.0 ≡ 6 → IsBegun (map (λ w. string_bytes w) words.now) (S.left out.source) (K.held out.sink) (K.held result.1.sink) }
+    ensures starved_off { result.0 ≡ 6 → (result.1.sink ≡ out.sink) ⊎ IsBegunFrom (map (λ w. string_bytes w) words.now) (S.left out.source) (S.left result.1.source) (K.held out.sink) (K.held result.1.sink) }
     ensures known { (result.0 ≡ 0) ⊎ (result.0 ≡ 2) ⊎ (result.0 ≡ 3) ⊎ (result.0 ≡ 4) ⊎ (result.0 ≡ 5) ⊎ (result.0 ≡ 6) }
 {
     promise_is_kept();

@@ -11,11 +11,11 @@ use Rattle.trace_replay.specs.declared.fault.Refused.{Refused}
 use Rattle.trace_replay.specs.World.{World}
 use Rattle.trace_replay.specs.Run.{history_of}
 use Rattle.trace_replay.specs.Timed.{accepted}
-use Rattle.lbfs.specs.Words.{command_of}
-use Rattle.lbfs.specs.declared.words.Command.{Command}
-use Rattle.lbfs.specs.declared.words.Command.TheVariants as command
-use Rattle.lbfs.specs.declared.output.Status.{Status}
-use Rattle.lbfs.specs.declared.output.Status.TheVariants as status
+use Rattle.lbfs_run.specs.Words.{command_of}
+use Rattle.lbfs_run.specs.declared.words.Command.{Command}
+use Rattle.lbfs_run.specs.declared.words.Command.TheVariants as command
+use Rattle.lbfs_run.specs.declared.output.Status.{Status}
+use Rattle.lbfs_run.specs.declared.output.Status.TheVariants as status
 
 -- the number that the program ends with
 abbrev pub code_of : Status → ℕ

@@ -5,8 +5,8 @@ use Rattle.trace_replay.specs.declared.fault.Refused.{Refused}
 use Rattle.trace_replay.specs.World.{World}
 use Rattle.trace_replay.specs.Timed.{accepted}
 use Rattle.trace_replay.specs.Traces.{IsKeptPromise}
-use Rattle.lbfs.specs.Output.{code_of, told, output_of, replay_output, unless_long, most_bytes}
-use Rattle.lbfs.specs.Ends.{IsAnswered, IsReplayed}
+use Rattle.lbfs_run.specs.Output.{code_of, told, output_of, replay_output, unless_long, most_bytes}
+use Rattle.lbfs_run.specs.Ends.{IsAnswered, IsReplayed}
 
 abbrev pub KeepsPromises : Type 0
 KeepsPromises = (input : List ℕ) (w : World) → accepted input ≡ Ok w → IsKeptPromise input w

@@ -1,9 +1,9 @@
-//! What is written for an input, and how the run then ends.
+//! What is written for an input, and how the run then ends: `command_output` of `specs/Output.antt`.
 
 ghost use Rattle.std.specs.Prelude.{◌≡◌, ℕ, ◌≤◌, ◌<◌, List, length, IfOk, map, string_bytes, Some, None};
 ghost use Rattle.trace_text.specs.Refusals.{refusal_of};
-ghost use Rattle.lbfs.specs.Output.{replay_output, command_output, code_of, IsWhole};
-ghost use Rattle.lbfs.specs.declared.output.Status.TheVariants as status;
+ghost use Rattle.lbfs_run.specs.Output.{replay_output, command_output, code_of, IsWhole};
+ghost use Rattle.lbfs_run.specs.declared.output.Status.TheVariants as status;
 
 use crate::chunk_lines::cut_text;
 use crate::words::Command;
