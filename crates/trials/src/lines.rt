@@ -6,12 +6,7 @@ use trace_text::content::build;
 use trace_text::line::{Line, LineErr};
 
 /// A line of so many bytes that begins with these, and goes on with this letter.
-fn long_line(
-    alloc: Global,
-    begin: &[u8],
-    letter: u8,
-    count: usize,
-) -> Result<Vec<u8>, AllocError> {
+fn long_line(alloc: Global, begin: &[u8], letter: u8, count: usize) -> Result<Vec<u8>, AllocError> {
     let mut line = Vec::from_slice(alloc, begin)?;
     line.resize(count, letter)?;
     Ok(line)
