@@ -4,15 +4,16 @@
 # finds and judges nothing, but for the status of each run. Single times move with the machine's load:
 # only the ratios of one run say something, and about 4 is what linear time gives.
 #
-# Build the program first (`rt run </dev/null` in crates/lbfs): it is run by itself, since the script
-# bin/lbfs around it takes longer than all of the events.
+# It runs the program that release/program names by itself, since the script bin/lbfs around it takes
+# longer than all of the events.
 #
 #   bench/clocks.sh [ROUNDS]     5 rounds, where not said otherwise
 set -euo pipefail
 cd "$(dirname "$0")/.."
 
 rounds=${1:-5}
-program=crates/lbfs/out/lbfs
+program=$(release/program)
+[[ -n $program ]] || { echo "no program is built for the sources as they are: run 'rt ci'" >&2; exit 1; }
 work=$(mktemp -d)
 trap 'rm -rf "$work"' EXIT
 

@@ -3,9 +3,7 @@
 # and how its time grows with the input. It reports what it finds and judges nothing. Single times
 # move with the machine's load: only the ratios of one run say something.
 #
-# Build the program first (`rt run </dev/null` in crates/lbfs): else bin/lbfs runs the sources
-# unproved and slow. Our times hold what the shell script bin/lbfs takes before it begins, which
-# shows with small inputs.
+# It runs the program that release/program names by itself, without the script bin/lbfs around it.
 #
 #   bench/cut.sh [MIB [ROUNDS]]     of 64 MiB and 5 rounds, where not said otherwise; MIB is at
 #                                   most 64, since `cut` takes no more
@@ -14,6 +12,8 @@ cd "$(dirname "$0")/.."
 
 mib=${1:-64}
 rounds=${2:-5}
+program=$(release/program)
+[[ -n $program ]] || { echo "no program is built for the sources as they are: run 'rt ci'" >&2; exit 1; }
 work=$(mktemp -d)
 trap 'rm -rf "$work"' EXIT
 
@@ -33,7 +33,7 @@ measure() {
     local file=$1 time
     ours='' theirs=''
     for _ in $(seq "$rounds"); do
-        time=$(spent "$file" bin/lbfs cut)
+        time=$(spent "$file" "$program" cut)
         [[ -n $ours && $ours -le $time ]] || ours=$time
         time=$(spent "$file" "$work/baseline")
         [[ -n $theirs && $theirs -le $time ]] || theirs=$time
@@ -45,7 +45,7 @@ ratio() {
 }
 
 "$work/baseline" make $((mib * 1048576)) >"$work/whole"
-bin/lbfs cut <"$work/whole" >"$work/ours"
+"$program" cut <"$work/whole" >"$work/ours"
 "$work/baseline" <"$work/whole" >"$work/theirs"
 if ! cmp -s "$work/ours" "$work/theirs"; then
     echo "the two programs cut differently" >&2

@@ -1,13 +1,16 @@
 #!/usr/bin/env bash
 # Measures how the time of `replay` grows with its trace: 65,536 lines against 16,384 of the same
 # kind, turn about in one run. It reports what it finds and judges nothing. Single times move with
-# the machine's load: only the ratios of one run say something.
+# the machine's load: only the ratios of one run say something. It runs the program that release/program
+# names by itself.
 #
 #   bench/replay.sh [ROUNDS]     5 rounds, where not said otherwise
 set -euo pipefail
 cd "$(dirname "$0")/.."
 
 rounds=${1:-5}
+program=$(release/program)
+[[ -n $program ]] || { echo "no program is built for the sources as they are: run 'rt ci'" >&2; exit 1; }
 work=$(mktemp -d)
 trap 'rm -rf "$work"' EXIT
 
@@ -48,7 +51,7 @@ make() {
 spent() {
     local from to
     from=$(date +%s%N)
-    bin/lbfs replay <"$1" >"$work/out"
+    "$program" replay <"$1" >"$work/out"
     to=$(date +%s%N)
     echo $(((to - from) / 1000))
 }
@@ -69,5 +72,5 @@ for kind in files opens closes skipped; do
 done
 if command -v /usr/bin/time >/dev/null; then
     make files 65536 >"$work/long"
-    /usr/bin/time -f 'files, 65536 lines: at most %M KiB held' bin/lbfs replay <"$work/long" >/dev/null
+    /usr/bin/time -f 'files, 65536 lines: at most %M KiB held' "$program" replay <"$work/long" >/dev/null
 fi

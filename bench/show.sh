@@ -4,15 +4,14 @@
 # what it finds and judges nothing. The times are those of the processor, the least of all rounds;
 # they too move with the machine's load, so only the ratios of one run say something.
 #
-# Build the program first (`rt run </dev/null` in crates/lbfs): else bin/lbfs runs the sources
-# unproved and slow, and gives up where more than 1 MiB is written.
-#
-#   bench/show.sh [ROUNDS [PROGRAM]]     5 rounds and bin/lbfs, where not said otherwise
+#   bench/show.sh [ROUNDS [PROGRAM]]     5 rounds and the program that release/program names, where not
+#                                        said otherwise
 set -euo pipefail
 cd "$(dirname "$0")/.."
 
 rounds=${1:-5}
-program=${2:-bin/lbfs}
+program=${2:-$(release/program)}
+[[ -n $program ]] || { echo "no program is built for the sources as they are: run 'rt ci'" >&2; exit 1; }
 work=$(mktemp -d)
 trap 'rm -rf "$work"' EXIT
 

@@ -1,4 +1,4 @@
-//! Chunks.
+//! Chunks, as `specs/Chunks.antt` lists them.
 
 ghost use Rattle.std.specs.Prelude.{◌≡◌, ◌++◌, OnOk, OnErr};
 ghost use Rattle.chunk_cut.specs.Chunks.{listed};

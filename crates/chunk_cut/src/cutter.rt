@@ -1,4 +1,5 @@
-//! Contents that come in pieces.
+//! Contents that come in pieces: `IsFed` of `specs/Cutting.antt`, and `complete` and `rest` of
+//! `specs/Chunks.antt`.
 
 ghost use Rattle.std.specs.Prelude.{◌≡◌, ℕ, ◌+◌, ◌^◌, ◌<◌, ◌≤◌, List, [], ◌++◌, length, take, OnOk, OnErr, IfOk};
 ghost use Rattle.sha1.specs.Sha1.{Holds, sha1};

@@ -1,4 +1,5 @@
 //! Cuts contents into chunks at places that their bytes decide, and names each chunk by its digest.
+//! Where a chunk may end stands in `specs/Ends.antt`, what the chunks are in `specs/Chunks.antt`.
 #![tactic(auto)]
 
 ghost use Rattle.std.specs.Prelude.{◌≡◌, ℕ, List, IfOk};
@@ -14,8 +15,6 @@ use std::alloc::{AllocError, Global};
 pub mod chunk;
 pub mod cutter;
 mod scan;
-#[cfg(test)]
-mod tests;
 
 use chunk::Chunk;
 use cutter::Cutter;

@@ -1,4 +1,4 @@
-//! The search for the end of the chunk under way.
+//! The search for the end of the chunk under way: `MayEnd` of `specs/Ends.antt`.
 
 ghost use Rattle.std.specs.Prelude.{◌≡◌, ℕ, ◌+◌, ◌%◌, ◌^◌, ◌<◌, ◌≤◌, ◌⊎◌, List, ◌++◌, length, take, IsTrue, ◌↔◌, IfSome, MatchOption};
 ghost use Rattle.chunk_cut.specs.Cutting.{IsUnderWay};

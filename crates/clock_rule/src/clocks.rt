@@ -1,4 +1,5 @@
-//! The readings of a trace so far, and whether the next one keeps the clock rule.
+//! The readings of a trace so far, and whether the next one keeps the clock rule: `read_at` of
+//! `specs/Clocks.antt`.
 
 ghost use Rattle.std.specs.Prelude.{◌≡◌, ◌<◌, ◌≤◌, [], ◌∷◌, ◌++◌, OnOk, OnErr, IfErr};
 ghost use Rattle.clock_rule.specs.declared.rule.ClockFault.TheVariants.{Server};

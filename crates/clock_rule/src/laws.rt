@@ -1,4 +1,4 @@
-//! What the clock rule says of any two events of a trace.
+//! What the clock rule says of any two events of a trace: `KeepsRule` of `specs/Keeping.antt`.
 
 ghost use Rattle.std.specs.Prelude.{◌≡◌, ◌↔◌, ℕ, List, Ok, IsOk};
 ghost use Rattle.clock_rule.specs.declared.rule.Reading.{Reading};

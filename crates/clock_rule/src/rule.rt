@@ -1,4 +1,5 @@
-//! The rule on two events, and what is answered where it is broken.
+//! The rule on two events, and what is answered where it is broken: `breaks` and `first_broken` of
+//! `specs/Clocks.antt`.
 
 ghost use Rattle.std.specs.Prelude.{◌≡◌};
 ghost use Rattle.clock_rule.specs.declared.rule.NoteErr.TheVariants as errors;

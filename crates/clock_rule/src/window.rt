@@ -1,7 +1,7 @@
 //! A window over a client's notes, by which a later event is judged without a look at all of them. It
 //! has those whose server reading is less ahead of the client's than that of every later note. In
 //! their order the server is ever further ahead, so of those within the term the first breaks the
-//! rule if any does.
+//! rule if any does. What holds of a window is `specs/Windows.antt`.
 
 ghost use Rattle.std.specs.Prelude.{◌≡◌, ℕ, ◌+◌, ◌-◌, ◌<◌, ◌≤◌, List, [], ◌∷◌, ◌++◌, length, take, true, false, All, vec_len, slice_index, slice_get, slice_index_or, Some, None, IfSome, IfNone, IfOk, IfErr, IsTrue, ◌↔◌, OnOk, OnErr, AllPairs};
 ghost use Rattle.std.specs.List.{AllWithin};

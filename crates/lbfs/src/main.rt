@@ -1,16 +1,11 @@
-//! The program `lbfs`: what its words ask for, from the bytes that it reads to those that it writes.
+//! The program `lbfs`: a run over the standard streams. What it reads, writes and ends with is
+//! promised by `run` of the crate `lbfs_run`; that the words, the streams and the status are handed on
+//! no contract says, and the examples test it.
 #![tactic(auto)]
 
-mod chunk_lines;
-mod output;
-mod run;
-#[cfg(test)]
-mod tests;
-mod words;
-
 use lb_base::streams::{StreamSink, StreamSource};
-use output::Status;
-use run::Outside;
+use lbfs_run::output::Status;
+use lbfs_run::run::{Outside, run};
 use std::io::ErrorKind;
 use std::process::ExitCode;
 use std::{env, io};
@@ -34,6 +29,6 @@ fn main(rt: HostRuntime) -> ExitCode {
         source: StreamSource::new(rt.stdin()),
         sink: StreamSink::new(rt.stdout()),
     };
-    let (status, _outside) = run::run(rt.alloc(), &words, outside);
+    let (status, _outside) = run(rt.alloc(), &words, outside);
     ExitCode::from(status)
 }

@@ -1,5 +1,5 @@
 //! Rabin's fingerprint of bytes, and of the last 48 bytes of a stream as they come: what the LBFS
-//! paper (SOSP 2001, section 3.1) finds the ends of chunks by.
+//! paper (SOSP 2001, section 3.1) finds the ends of chunks by. It is `fp` of `specs/Fingerprint.antt`.
 #![tactic(auto)]
 
 ghost use Rattle.std.specs.Prelude.{◌≡◌, ⊤, ℕ, ◌+◌, ◌*◌, ◌^◌, ◌<◌, List, [], ◌∷◌, ◌++◌, length, drop, take, replicate};
@@ -9,8 +9,6 @@ use std::alloc::AllocError;
 use std::marker::Model;
 
 mod tables;
-#[cfg(test)]
-mod tests;
 
 use tables::{HIGH, OLDEST};
 

@@ -1,4 +1,5 @@
-//! What single bytes add to a fingerprint. The entries are proved to be what the comments say.
+//! What single bytes add to a fingerprint: `oldest_part` and `high_part` of `specs/Fingerprint.antt`.
+//! Each entry is proved to be its remainder.
 
 /// By a byte: the fingerprint of it and 47 zeros, which is what the oldest byte of a window adds.
 pub const OLDEST: [u64; 256] = [

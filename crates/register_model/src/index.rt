@@ -1,5 +1,5 @@
 //! The changes of a history in two orders, so that those at a moment and the last before it are
-//! found by halving.
+//! found by halving: `specs/Index.antt`.
 
 ghost use Rattle.std.specs.Prelude.{true, false, ◌≡◌, ◌+◌, ◌<◌, ◌≤◌, ◌++◌, List, length, not, IfOk, OnOk, IfSome, nat_lt, Bool, All};
 ghost use Rattle.std.specs.List.{list_any, AllWithin};

@@ -1,4 +1,5 @@
-//! Whether a history is legal, by its index of changes.
+//! Whether a history is legal (`IsLegal` of `specs/Register.antt`), by its index of changes. The test
+//! goes by `specs/Test.antt`, an operation at a time.
 
 ghost use Rattle.std.specs.Prelude.{◌≡◌, ◌↔◌, IsTrue, true, false, ◌&&◌};
 ghost use Rattle.std.specs.Option.{option_copied};
@@ -7,8 +8,8 @@ ghost use Rattle.register_model.specs.Register.{value_at, value_at_first, value_
 ghost use Rattle.register_model.specs.Index.{is_alone, all_alone, marks_from};
 ghost use Rattle.register_model.specs.Test.{is_right_untouched, is_within, is_right_read, is_right_change, is_right, are_points_apart, are_all_right};
 
-use crate::history::History;
 use crate::index::{Mark, is_alone_at, last_below};
+use crate::indexed::IndexedHistory;
 use crate::op::{Op, Word};
 use crate::openings::{content_in_order, content_of};
 
@@ -24,7 +25,7 @@ fn left_by(op: &Op) -> Option<&[u8]>
 }
 
 /// What the file was before any change.
-fn value_at_first(history: &History, file: u64) -> Option<&[u8]>
+fn value_at_first(history: &IndexedHistory, file: u64) -> Option<&[u8]>
     ensures { option_copied result ≡ value_at_first history.now file }
 {
     if history.is_by_file() {
@@ -35,7 +36,7 @@ fn value_at_first(history: &History, file: u64) -> Option<&[u8]>
 }
 
 /// What the file is at a moment: its content, or nothing where it is absent.
-fn value_at(history: &History, file: u64, moment: u64) -> Option<&[u8]>
+fn value_at(history: &IndexedHistory, file: u64, moment: u64) -> Option<&[u8]>
     requires { are_points_apart history.now.ops ≡ true }
     ensures { option_copied result ≡ value_at history.now file moment }
 {
@@ -93,7 +94,7 @@ fn is_right_change(op: &Op, before: Option<&[u8]>) -> bool
 }
 
 /// An operation is right at its point, or without one.
-fn is_right(history: &History, op: &Op) -> bool
+fn is_right(history: &IndexedHistory, op: &Op) -> bool
     requires { are_points_apart history.now.ops ≡ true }
     ensures { result ≡ is_right (value_at history.now op.now.file) op.now op.now.point }
 {
@@ -131,14 +132,14 @@ fn are_all_alone(by_point: &[Mark], ops: &[Op]) -> bool
 }
 
 /// No operation has a point in common with a change.
-fn are_points_apart(history: &History) -> bool
+fn are_points_apart(history: &IndexedHistory) -> bool
     ensures { result ≡ are_points_apart history.now.ops }
 {
     are_all_alone(history.index().by_point.as_slice(), history.ops())
 }
 
 /// Each operation is right at its point, or without one.
-fn are_all_right(history: &History) -> bool
+fn are_all_right(history: &IndexedHistory) -> bool
     requires { are_points_apart history.now.ops ≡ true }
     ensures { result ≡ are_all_right history.now }
 {
@@ -146,15 +147,16 @@ fn are_all_right(history: &History) -> bool
 }
 
 /// The test of a legal history.
-fn passes(history: &History) -> bool
+fn passes(history: &IndexedHistory) -> bool
     ensures { result ≡ (are_points_apart history.now.ops && are_all_right history.now) }
 {
     are_points_apart(history) && are_all_right(history)
 }
 
 /// Whether each open got the whole content of its file at one moment within it, each change that
-/// succeeded was made at one, and none that failed: the six facts of a legal history.
-pub fn is_legal(history: &History) -> bool
+/// succeeded was made at one, and none that failed: the six facts of a legal history. It takes no
+/// memory, and looks each value up by halving.
+pub fn is_legal(history: &IndexedHistory) -> bool
     ensures { IsTrue result ↔ IsLegal history.now }
 {
     passes(history)

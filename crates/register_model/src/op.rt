@@ -1,4 +1,5 @@
-//! The operations of a history, and how they ended.
+//! The operations of a history, and how they ended. What is said of them (`changes`, `succeeded` and
+//! the others) stands in `specs/Register.antt`.
 
 ghost use Rattle.std.specs.Prelude.{◌≡◌};
 ghost use Rattle.register_model.specs.Register.{changes, is_opened, is_closed, is_done, is_stale, is_lost, is_untold, succeeded};

@@ -1,4 +1,4 @@
-//! The files that were there at first.
+//! The files that were there at first: `content_of` of `specs/Register.antt`.
 
 ghost use Rattle.std.specs.Prelude.{true, false, ◌≡◌, ◌≤◌, ◌↔◌, IsTrue, length, nat_lt};
 ghost use Rattle.std.specs.List.{AllWithin};

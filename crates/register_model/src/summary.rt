@@ -1,4 +1,4 @@
-//! The counts of a history.
+//! The counts of a history: `counts_of` of `specs/Summary.antt`.
 
 ghost use Rattle.std.specs.Prelude.{◌≡◌, ◌+◌, ◌*◌, ◌<◌, ◌^◌, length, sum_by, count_by};
 ghost use Rattle.register_model.specs.Register.{is_opened, is_closed};

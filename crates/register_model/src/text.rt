@@ -1,4 +1,5 @@
-//! The text of a history, and that of its counts.
+//! The text of a history, and that of its counts: `history_text` and `summary_text` of
+//! `specs/Text.antt`.
 
 ghost use Rattle.std.specs.Prelude.{◌≡◌, ℕ, ◌+◌, ◌<◌, ◌^◌, List, ◌++◌, length, OnOk, IfOk, string_bytes};
 ghost use Rattle.register_model.specs.declared.op.Outcome.TheVariants as outcome;

@@ -47,6 +47,5 @@ pub fn replay(alloc: Global, input: &[u8]) -> Result<History, TraceErr>
     if world.in_header() {
         return Err(bad_line(number));
     }
-    let history = world.history(alloc)?;
-    Ok(history)
+    Ok(world.history())
 }

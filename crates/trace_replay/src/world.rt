@@ -1,6 +1,6 @@
 //! The world that a trace runs in.
 
-ghost use Rattle.std.specs.Prelude.{◌≡◌, IfOk, IfErr, OnOk};
+ghost use Rattle.std.specs.Prelude.{◌≡◌, IfErr, OnOk};
 ghost use Rattle.trace_text.specs.Reading.{IsTimely};
 ghost use Rattle.trace_replay.specs.Timed.{timed_start, timed_asked};
 ghost use Rattle.trace_replay.specs.Run.{in_header, history_of};
@@ -18,7 +18,7 @@ use lb_base::items::Items;
 use open_close::client::Client;
 use register_model::history::History;
 use server_core::server::Server;
-use std::alloc::{AllocError, Global};
+use std::alloc::Global;
 use std::marker::Model;
 use trace_text::line::Line;
 use trace_text::refusal::LineFault;
@@ -116,9 +116,9 @@ impl World {
         )
     }
 
-    /// The history that the world has come to. The one error is want of memory.
-    pub fn history(self, alloc: Global) -> Result<History, AllocError>
-        ensures { IfOk result (λ h. h ≡ history_of self.world) }
+    /// The history that the world has come to.
+    pub fn history(self) -> History
+        ensures { result ≡ history_of self.world }
     {
         let World { inner, .. } = self;
         let Inner {
@@ -127,6 +127,6 @@ impl World {
             steps,
             ..
         } = inner;
-        History::new(alloc, Items::from_vec(opening), Items::from_vec(ops), steps)
+        History::new(Items::from_vec(opening), Items::from_vec(ops), steps)
     }
 }

@@ -1,4 +1,4 @@
-//! Each command of a client, from the words behind its first.
+//! Each command of a client, from the words behind its first: `command_of` of `specs/Grammar.antt`.
 
 ghost use Rattle.std.specs.Prelude.{◌≡◌, false, None, bytes_eq, codes, MatchOption};
 ghost use Rattle.trace_text.specs.Fields.{content_of};

@@ -1,5 +1,5 @@
 //! The content of a file as a trace tells it: in parts, of which a few words may stand for more
-//! bytes than any memory has.
+//! bytes than any memory has: `specs/Content.antt`.
 
 ghost use Rattle.std.specs.Prelude.{◌≡◌, ◌+◌, ◌^◌, ◌≤◌, ◌++◌, IfOk, OnOk, Some, None, MatchOption, nat_le, replicate, if◌then◌else◌};
 ghost use Rattle.trace_text.specs.Content.{mark, marks, next_state, random_bytes, part_bytes, part_length, content_bytes, content_length};

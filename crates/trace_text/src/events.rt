@@ -1,4 +1,4 @@
-//! Each event, from the words behind its first.
+//! Each event, from the words behind its first: `event_from` of `specs/Grammar.antt`.
 
 ghost use Rattle.std.specs.Prelude.{◌≡◌, false, None, bytes_eq, codes, MatchOption};
 ghost use Rattle.trace_text.specs.Grammar.{join_of, command_of, do_with, do_of, up_of, down_of, pass_of, settle_of, cut_of, hang_of, event_from};

@@ -1,4 +1,4 @@
-//! What the words of a line stand for.
+//! What the words of a line stand for: `specs/Fields.antt`.
 
 ghost use Rattle.std.specs.Prelude.{◌≡◌, ℕ, ◌+◌, ◌-◌, ◌*◌, ◌<◌, ◌≤◌, ◌^◌, ◌==◌, true, List, [], ◌∷◌, length, MatchOption};
 ghost use Rattle.std.specs.List.{list_all};

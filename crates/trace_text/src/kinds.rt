@@ -1,4 +1,5 @@
 //! Each kind of line, from the words behind its first: the lines that say what there is at first.
+//! The rule is `line_from` of `specs/Grammar.antt`.
 
 ghost use Rattle.std.specs.Prelude.{◌≡◌, false, true, [], ◌∷◌, None, bytes_eq, codes, MatchOption};
 ghost use Rattle.trace_text.specs.Fields.{is_name};

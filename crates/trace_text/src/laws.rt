@@ -1,4 +1,5 @@
-//! What holds of the grammar, whatever the text is.
+//! What holds of the grammar, whatever the text is: laws of `specs/Parts.antt`, `Fields.antt` and
+//! `Content.antt`.
 
 ghost use Rattle.std.specs.Prelude.{◌≡◌, ℕ, ◌<◌, ◌^◌, ◌==◌, false, List, [], ◌∷◌, ◌++◌, Some, decimal, flat_map, length};
 ghost use Rattle.std.specs.List.{list_any, AllByRecursion};

@@ -1,5 +1,7 @@
 //! The grammar of traces: the lines of a text, what each line says, the contents that lines tell in
-//! parts, and the texts of refusals. What the lines do is the business of the world that runs them.
+//! parts, and the texts of refusals. What the lines do is the business of the world that runs them. The
+//! rules stand in `specs/Grammar.antt` (lines), `Fields.antt` (words), `Parts.antt` (lines and words of a
+//! text), `Content.antt` (the bytes of a content) and `Refusals.antt`.
 #![tactic(auto)]
 
 mod commands;
@@ -12,5 +14,3 @@ pub mod line;
 pub mod parts;
 mod pieces;
 pub mod refusal;
-#[cfg(test)]
-mod tests;

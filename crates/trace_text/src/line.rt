@@ -1,4 +1,4 @@
-//! What a line of a trace says.
+//! What a line of a trace says: `line_of` of `specs/Grammar.antt`.
 
 ghost use Rattle.std.specs.Prelude.{◌≡◌, IfOk};
 ghost use Rattle.trace_text.specs.Grammar.{is_skipped, line_of};

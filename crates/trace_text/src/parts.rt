@@ -1,4 +1,4 @@
-//! The lines of a text, and the words of a line.
+//! The lines of a text, and the words of a line: `lines_of` and `words_of` of `specs/Parts.antt`.
 
 ghost use Rattle.std.specs.Prelude.{◌≡◌, ℕ, ◌<◌, ◌≤◌, ◌==◌, List, [], ◌∷◌, length, MatchOption, IfSome, position};
 ghost use Rattle.std.specs.List.{position_or_len, before_first, after_first};

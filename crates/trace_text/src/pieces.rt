@@ -1,4 +1,4 @@
-//! The content of a file, read part by part.
+//! The content of a file, read part by part: `content_of` of `specs/Fields.antt`.
 
 ghost use Rattle.std.specs.Prelude.{◌≡◌, false, take, bytes_eq, codes};
 ghost use Rattle.std.specs.List.{list_all};

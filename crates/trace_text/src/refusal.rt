@@ -1,4 +1,4 @@
-//! Why a run was refused, and what is written then.
+//! Why a run was refused, and what is written then: `refusal_of` of `specs/Refusals.antt`.
 
 ghost use Rattle.std.specs.Prelude.{◌≡◌, ◌++◌, IfOk, OnOk, string_bytes};
 ghost use Rattle.trace_text.specs.Refusals.{limit_of, clock_of, fault_of, refusal_of};
