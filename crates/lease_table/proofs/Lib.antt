@@ -1,0 +1,9 @@
+pub mod Ordered
+pub mod Places
+pub mod Lists
+pub mod Keeping
+pub mod Marking
+pub mod Spots
+pub mod Named
+pub mod Doing
+pub mod OnFile
