@@ -1,13 +1,11 @@
-// A library with one function.
+//! The changes that wait at a server: each waits until no lease blocks it, and until it is the first
+//! of its file. They are made in the order of their arrival, as soon as each may be. The leases that
+//! they wait for stand beside them (`lease_table`). `specs/Waits.antt` says which change waits for
+//! what, and which is next.
 #![tactic(auto)]
 
-ghost use Rattle.std.specs.Prelude.{◌≡◌};
-ghost use Rattle.callback_core.specs.Echo.{echo_of};
-
-// The `ensures` clause is the contract: what `echo` returns is `echo_of` of its argument, a definition
-// in `specs/Echo.antt`, which a caller's clause can cite too.
-pub fn echo(x: usize) -> usize
-    ensures { result ≡ echo_of x }
-{
-    x
-}
+mod asking;
+pub mod change;
+mod ready;
+mod sizes;
+pub mod waits;

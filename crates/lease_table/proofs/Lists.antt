@@ -5,8 +5,8 @@ use Rattle.std.specs.List.{list_any, AllByRecursion}
 use Rattle.std.proofs.lemmas.List.Elements.{All-append, All-cons, All-head, All-tail, All-filter}
 use Rattle.std.proofs.lemmas.List.Folds.{list_any-append}
 use Rattle.std.proofs.lemmas.List.Kept.{AllPairs-cons, AllPairs-filter}
-use Rattle.clock_rule.proofs.Keeping.{pairs_head, pairs_tail}
-use Rattle.clock_rule.proofs.Lists.{some_is}
+pub use Rattle.clock_rule.proofs.Keeping.{pairs_head, pairs_tail}
+pub use Rattle.clock_rule.proofs.Lists.{some_is}
 
 -- the first, or the second where there is none
 abbrev pub or_else : {X : Type 0} → Option X → Option X → Option X
