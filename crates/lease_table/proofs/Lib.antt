@@ -7,3 +7,7 @@ pub mod Spots
 pub mod Named
 pub mod Doing
 pub mod OnFile
+pub mod Held
+pub mod Messages
+pub mod Claiming
+pub mod Running

@@ -1,2 +1,4 @@
 pub mod Leases
 pub mod Order
+pub mod Machine
+pub mod Claims

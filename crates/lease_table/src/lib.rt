@@ -6,6 +6,7 @@
 
 mod blocking;
 mod changes;
+pub mod laws;
 pub mod lease;
 mod order;
 mod recalls;
