@@ -1,6 +1,6 @@
 -- What is found at a place of those that wait.
-use Rattle.std.proofs.Common.{◌≡◌, ℕ, zero, suc, ◌<◌, List, [], ◌∷◌, ◌++◌, Option, Some, None, Bool, true, false, length, take, drop, refl, sym, ap, subst, ◌∙◌, arith, eq-eqb}
-use Rattle.std.specs.Prelude.{find, cond, slice_get, slice_index_or, ◌==◌}
+use Rattle.std.proofs.Common.{◌≡◌, ℕ, zero, suc, ◌<◌, List, [], ◌∷◌, ◌++◌, Some, true, false, length, take, drop, sym, ap, ◌∙◌, arith, eq-eqb}
+use Rattle.std.specs.Prelude.{find, cond, slice_get, slice_index_or}
 use Rattle.lease_table.specs.declared.lease.Lease.{Lease}
 use Rattle.callback_core.specs.declared.change.Change.{Change}
 use Rattle.callback_core.specs.Waits.{is_free, heads_after, ready, change_of}

@@ -1,11 +1,11 @@
 -- One change more that waits, and one less.
-use Rattle.std.proofs.Common.{◌≡◌, ℕ, zero, suc, ◌+◌, ◌<◌, ◌≤◌, ◌^◌, List, [], ◌∷◌, ◌++◌, Option, Some, None, Bool, true, false, true≢false, length, take, drop, refl, sym, ap, subst, ◌∙◌, arith, eq-eqb}
-use Rattle.std.specs.Prelude.{find, cond, filter, not, remove, slice_get, slice_index_or, sum_by, AllPairs, All, IfSome, ◌==◌, ◌||◌}
-use Rattle.std.specs.List.{list_any, AllByRecursion}
+use Rattle.std.proofs.Common.{◌≡◌, ℕ, zero, suc, ◌+◌, ◌<◌, ◌≤◌, ◌^◌, List, [], ◌∷◌, ◌++◌, Option, Some, None, Bool, true, false, true≢false, length, refl, sym, ap, subst, ◌∙◌, arith, eq-eqb}
+use Rattle.std.specs.Prelude.{cond, filter, not, remove, slice_get, slice_index_or, sum_by, AllPairs, All, IfSome, ◌==◌, ◌||◌}
+use Rattle.std.specs.List.{AllByRecursion}
 use Rattle.std.proofs.lemmas.Bool.Decides.{nat_tests}
 use Rattle.std.proofs.lemmas.List.{length_push}
 use Rattle.std.proofs.lemmas.List.Edits.{length-remove}
-use Rattle.std.proofs.lemmas.List.Elements.{All-head, All-tail, recursion_from_All}
+use Rattle.std.proofs.lemmas.List.Elements.{All-head, All-tail}
 use Rattle.std.proofs.lemmas.List.Quantifiers.{all_pairs_push, all_pairs_remove}
 use Rattle.std.proofs.lemmas.List.Sums.{sum_by-append, sum_by-remove}
 use Rattle.lease_table.proofs.Lists.{filter_all, pairs_head, pairs_tail, some_is}

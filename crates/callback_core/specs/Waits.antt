@@ -1,7 +1,7 @@
 -- Changes that wait, one queue a file in the order of arrival, and which of them may be made. What a
 -- change of the file asks for, its COMMITTMP, REMOVE or RENAME, waits until nobody else's lease says
 -- that the file stays as it is (Gray and Cheriton, SOSP 1989).
-use Rattle.std.specs.Prelude.{◌≡◌, ℕ, ◌+◌, List, [], ◌∷◌, ◌++◌, Option, Some, None, Result, Ok, Err, Bool, true, false, not, ◌==◌, cond, find, filter, map, sum_by, AllPairs, length, ◌≤◌, ◌<◌, ◌^◌}
+use Rattle.std.specs.Prelude.{◌≡◌, ℕ, List, [], ◌∷◌, ◌++◌, Option, Some, None, Result, Ok, Err, Bool, true, false, not, ◌==◌, cond, find, filter, map, sum_by, AllPairs, length, ◌≤◌, ◌<◌, ◌^◌}
 use Rattle.std.specs.List.{list_any}
 use Rattle.lease_table.specs.declared.lease.Lease.{Lease}
 use Rattle.lease_table.specs.Leases.{is_blocked, others}

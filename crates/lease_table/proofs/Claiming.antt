@@ -1,18 +1,16 @@
 -- Each event keeps what holds of the machine of one lease.
 use Rattle.std.proofs.Common.{◌≡◌, ℕ, ◌+◌, ◌-◌, ◌<◌, ◌≤◌, List, [], ◌∷◌, ◌++◌, Option, Some, None, Bool, true, false, true≢false, ◌⊎◌, inl, inr, refl, sym, ap, subst, ◌∙◌, arith}
-use Rattle.std.specs.Prelude.{not, cond, ◌&&◌, ◌||◌, ◌==◌, nat_lt, All, Contains}
+use Rattle.std.specs.Prelude.{not, cond, ◌&&◌, ◌||◌, ◌==◌, nat_lt}
 use Rattle.std.proofs.lemmas.Bool.Decides.{nat_tests}
-use Rattle.std.proofs.lemmas.List.Elements.{All-contains, Contains-append_left, Contains-push}
-use Rattle.clock_rule.specs.declared.rule.Note.{Note as Noted}
+use Rattle.std.proofs.lemmas.List.Elements.{All-contains}
 use Rattle.clock_rule.specs.Clocks.{Clocked}
 use Rattle.clock_rule.specs.Keeping.{KeepRule}
 use Rattle.lease_table.specs.declared.lease.Lease.{Lease}
-use Rattle.lease_table.specs.Leases.{lease_at, lease_of, grant, marked, without_recalled, remembers, is_recall, is_blocked, blocks, is_wanted_back, is_on}
+use Rattle.lease_table.specs.Leases.{lease_at, grant, marked, without_recalled, remembers, is_blocked, blocks, is_wanted_back}
 use Rattle.lease_table.specs.Order.{AreOrdered}
-use Rattle.lease_table.specs.Machine.{Machine, Note, Up, Up.Ask, Up.Commit, Up.Reply, Down, Down.Answered, Down.Recall, Event, Event.Open, Event.Store, Event.Read, Event.Take, Event.Arrive, Event.Change, Event.Settle, Event.Drop, Event.Cut, Event.Hang, Event.Restart, client, event_at, fresh, is_free, is_none, asks_if, opens_by, stores_if, note_if, note_of, reads_one, unless, sends, answers, takes_one, is_wanted, recalls_if, changes, settles_if, happens, timed, start}
-use Rattle.lease_table.specs.Claims.{recalls_of, replies_of, Among, AllBelow, AreApart, calls, commits, answers_in, one_if, AllAnswers, AllRight, IsUnread, IsGuarded, IsSafe, IsKnown, IsClaim, IsNote, IsPromise, AreNumbered, IsAlone, AreSingle, IsKept, IsNoted, IsTimed, IsLater}
+use Rattle.lease_table.specs.Machine.{Machine, Note, Up, Up.Ask, Up.Commit, Up.Reply, Down, Down.Answered, Down.Recall, Event, Event.Open, Event.Store, Event.Read, Event.Take, Event.Arrive, Event.Change, Event.Settle, Event.Drop, Event.Cut, Event.Hang, Event.Restart, client, event_at, fresh, is_free, is_none, asks_if, opens_by, stores_if, note_if, note_of, reads_one, unless, answers, takes_one, is_wanted, recalls_if, changes, settles_if, happens, start}
+use Rattle.lease_table.specs.Claims.{recalls_of, replies_of, Among, AllBelow, AreApart, calls, commits, answers_in, one_if, IsUnread, IsGuarded, IsSafe, IsKnown, IsClaim, IsNote, IsPromise, IsAlone, IsKept, IsNoted, IsTimed, IsLater}
 use Rattle.lease_table.proofs.Lists.{if_passes, some_is}
-use Rattle.lease_table.proofs.Marking.{found_on}
 use Rattle.lease_table.proofs.Held.{grant_ordered, marked_ordered, recalled_ordered, at_grant, at_mark, at_recalled, not_blocking, first, second}
 use Rattle.lease_table.proofs.Messages.{recalls-append, recalls_answered, replies-append, replies_ask, replies_commit, calls-append, commits-append, commits_are_calls, answers-append, all_answers, answers_recalled, none_answered, only_answer, apart_answers, not_below, below_more, below_last, among_last, among_either, apart_last}
 

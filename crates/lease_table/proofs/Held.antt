@@ -1,11 +1,10 @@
 -- The lease that guards a claim, as leases are granted, recalled and given up.
-use Rattle.std.proofs.Common.{◌≡◌, ℕ, ◌<◌, ◌≤◌, List, [], ◌∷◌, Option, Some, None, Bool, true, false, true≢false, refl, sym, ap, subst, ◌∙◌, arith}
-use Rattle.std.specs.Prelude.{not, cond, filter, ◌||◌, ◌&&◌, ◌==◌, nat_lt}
-use Rattle.std.specs.List.{list_any}
+use Rattle.std.proofs.Common.{◌≡◌, ℕ, ◌≤◌, List, [], ◌∷◌, Option, Some, None, Bool, true, false, true≢false, refl, ap, subst, ◌∙◌, arith}
+use Rattle.std.specs.Prelude.{not, cond, ◌||◌, ◌==◌}
 use Rattle.std.proofs.lemmas.Bool.Decides.{nat_tests}
 use Rattle.std.proofs.lemmas.List.Kept.{AllPairs-filter}
 use Rattle.lease_table.specs.declared.lease.Lease.{Lease}
-use Rattle.lease_table.specs.Leases.{is_on, is_recall, remembers, blocks, is_blocked, lease_at, lease_of, grant, mark, marked, without_recalled, with_lease}
+use Rattle.lease_table.specs.Leases.{is_on, remembers, blocks, is_blocked, lease_at, lease_of, grant, mark, marked, without_recalled}
 use Rattle.lease_table.specs.Order.{ComesBefore, AreOrdered}
 use Rattle.lease_table.proofs.Lists.{if_passes, find_filtered, some_is}
 use Rattle.lease_table.proofs.Keeping.{with_ordered, at_granted, one_at}

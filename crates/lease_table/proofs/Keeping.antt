@@ -1,18 +1,16 @@
 -- What is listed of recalls goes with the leases, whatever is done to them.
-use Rattle.std.proofs.Common.{◌≡◌, ℕ, zero, suc, ◌+◌, ◌<◌, ◌≤◌, List, [], ◌∷◌, ◌++◌, length, Option, Some, None, Bool, true, false, true≢false, refl, sym, ap, subst, ◌∙◌, arith}
-use Rattle.std.specs.Prelude.{not, cond, filter, find, All, AllPairs, ◌||◌, ◌&&◌, ◌==◌, nat_lt, is_some}
-use Rattle.std.specs.List.{list_any, AllByRecursion}
+use Rattle.std.proofs.Common.{◌≡◌, ℕ, List, [], ◌∷◌, ◌++◌, Option, Some, None, Bool, true, false, refl, sym, ap, ◌∙◌, arith}
+use Rattle.std.specs.Prelude.{not, cond, filter, All, ◌&&◌, ◌==◌}
+use Rattle.std.specs.List.{AllByRecursion}
 use Rattle.std.proofs.lemmas.Bool.Decides.{nat_tests}
-use Rattle.std.proofs.lemmas.List.Elements.{All-head, All-tail, recursion_from_All}
-use Rattle.std.proofs.lemmas.List.Filters.{length-filter_both}
+use Rattle.std.proofs.lemmas.List.Elements.{All-head, All-tail}
 use Rattle.std.proofs.lemmas.List.Kept.{AllPairs-filter}
-use Rattle.std.proofs.lemmas.Map.Views.{any-filter_same}
 use Rattle.clock_rule.proofs.Keeping.{pairs_head, pairs_tail}
 use Rattle.lease_table.specs.declared.lease.Lease.{Lease}
 use Rattle.lease_table.specs.declared.recalls.Recalled.{Recalled}
-use Rattle.lease_table.specs.Leases.{is_on, is_before, is_behind, is_recall, remembers, lease_at, with_lease, without_lease, mark, marked, without_recalled, without_ended}
-use Rattle.lease_table.specs.Order.{ComesBefore, AreOrdered, recall_of, is_this, precedes, follows, Precedes, AreListed, is_listed, AreKept, unlisted, listed_with, listed_if, still_listed}
-use Rattle.lease_table.proofs.Lists.{find_kept, find_none_kept, any_kept, any_none_kept, filter_all, filter_kept_all, unique, put_ordered, find_put_new, find_put_other, any_put_new, any_put_other, if_passes, find_filtered, length_filtered_twice}
+use Rattle.lease_table.specs.Leases.{is_on, is_before, is_behind, is_recall, lease_at, with_lease, without_lease}
+use Rattle.lease_table.specs.Order.{ComesBefore, AreOrdered, recall_of, is_this, precedes, follows, Precedes, AreListed, is_listed, AreKept, unlisted, listed_with}
+use Rattle.lease_table.proofs.Lists.{find_kept, find_none_kept, any_kept, any_none_kept, unique, put_ordered, find_put_new, find_put_other, any_put_new, any_put_other}
 use Rattle.lease_table.proofs.Ordered.{split}
 use Rattle.lease_table.proofs.Places.{lease_probe, recall_probe}
 

@@ -1,5 +1,5 @@
 -- Messages on their way, as one is sent behind them.
-use Rattle.std.proofs.Common.{◌≡◌, ℕ, ◌+◌, ◌<◌, ◌≤◌, List, [], ◌∷◌, ◌++◌, ◌⊎◌, inl, inr, refl, sym, ap, subst, ◌∙◌, arith}
+use Rattle.std.proofs.Common.{◌≡◌, ℕ, ◌+◌, ◌<◌, ◌≤◌, List, [], ◌∷◌, ◌++◌, ◌⊎◌, inl, inr, refl, ap, arith}
 use Rattle.lease_table.specs.Machine.{Up, Up.Ask, Up.Commit, Up.Reply, Down, Down.Answered, Down.Recall}
 use Rattle.lease_table.specs.Claims.{recalls_of, replies_of, Among, AllBelow, AreApart, calls, commits, answers_in, AllAnswers}
 

@@ -1,12 +1,11 @@
 -- A RECALL is found by its session and its xid.
-use Rattle.std.proofs.Common.{◌≡◌, ℕ, zero, suc, ◌+◌, ◌<◌, ◌≤◌, List, [], ◌∷◌, ◌++◌, length, take, drop, Option, Some, None, Bool, true, false, true≢false, refl, sym, ap, subst, ◌∙◌, arith}
-use Rattle.std.specs.Prelude.{not, cond, filter, All, AllPairs, ◌||◌, ◌&&◌, ◌==◌, nat_lt, slice_get}
+use Rattle.std.proofs.Common.{◌≡◌, ℕ, zero, suc, List, [], ◌∷◌, drop, Bool, true, false, refl, sym, ap, ◌∙◌, arith}
+use Rattle.std.specs.Prelude.{not, cond, filter, All, AllPairs, slice_get}
 use Rattle.std.specs.List.{list_any, AllByRecursion}
 use Rattle.std.proofs.lemmas.Bool.Decides.{nat_tests}
 use Rattle.std.proofs.lemmas.List.Elements.{All-head, All-tail}
 use Rattle.std.proofs.lemmas.List.Kept.{AllPairs-filter}
-use Rattle.clock_rule.proofs.Keeping.{pairs_head, pairs_tail}
-use Rattle.clock_rule.proofs.Lists.{some_is}
+use Rattle.clock_rule.proofs.Keeping.{pairs_head}
 use Rattle.lease_table.specs.declared.recalls.Recalled.{Recalled}
 use Rattle.lease_table.specs.Order.{is_this, precedes, Precedes, AreListed, is_listed, is_named, names}
 use Rattle.lease_table.proofs.Lists.{any_kept}

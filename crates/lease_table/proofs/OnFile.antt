@@ -1,8 +1,6 @@
 -- What holds up a change of a file stands among the leases on it.
-use Rattle.std.proofs.Common.{◌≡◌, ℕ, List, Bool, true, false, Result, Ok, Err, refl, ap, subst, ◌∙◌, arith}
+use Rattle.std.proofs.Common.{◌≡◌, ℕ, List, Bool, true, false, Result, Ok, Err, refl, ap, ◌∙◌}
 use Rattle.std.specs.Prelude.{filter, map, ◌==◌, ◌&&◌, IfOk}
-use Rattle.std.specs.List.{list_any}
-use Rattle.std.proofs.lemmas.Bool.Decides.{nat_tests}
 use Rattle.lease_table.specs.declared.lease.Lease.{Lease}
 use Rattle.lease_table.specs.Leases.{blocks, is_wanted_back, is_blocked, others}
 use Rattle.lease_table.proofs.Lists.{any_kept, filter_kept}

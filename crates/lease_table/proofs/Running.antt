@@ -1,15 +1,15 @@
 -- A run whose readings keep the clock rule keeps what holds of the machine of one lease.
-use Rattle.std.proofs.Common.{◌≡◌, ℕ, zero, ◌+◌, ◌≤◌, List, [], ◌∷◌, ◌++◌, Option, Some, None, Bool, true, false, refl, sym, ap, subst, ◌∙◌, arith}
-use Rattle.std.specs.Prelude.{All, AllPairs, Contains, nat_lt, ◌&&◌, ◌||◌, not}
-use Rattle.std.proofs.lemmas.List.Elements.{All-cons, All-head, All-tail, All-append, All-contains, Contains-append_left, Contains-append_right, Contains-push}
+use Rattle.std.proofs.Common.{◌≡◌, ℕ, ◌+◌, ◌≤◌, List, [], ◌∷◌, ◌++◌, Option, Some, None, Bool, true, false, refl, sym, subst, arith}
+use Rattle.std.specs.Prelude.{All, AllPairs}
+use Rattle.std.proofs.lemmas.List.Elements.{All-cons, All-head, All-append, All-contains, Contains-append_left, Contains-append_right, Contains-push}
 use Rattle.std.proofs.lemmas.List.Kept.{AllPairs-cons}
 use Rattle.std.proofs.lemmas.List.{append_assoc}
 use Rattle.clock_rule.specs.declared.rule.Note.{Note as Noted}
 use Rattle.clock_rule.specs.declared.rule.Reading.{Reading}
 use Rattle.clock_rule.specs.declared.rule.Reading.TheVariants as reads
 use Rattle.clock_rule.specs.Clocks.{Clocked, event_of}
-use Rattle.clock_rule.specs.Keeping.{KeepRule, KeepsRule, NeverFall, and_reading, at_first, servers, events}
-use Rattle.lease_table.specs.Machine.{Machine, Note, Up, Up.Ask, Up.Commit, Up.Reply, Down, Down.Answered, Down.Recall, Event, Event.Open, Event.Store, Event.Read, Event.Take, Event.Arrive, Event.Change, Event.Settle, Event.Drop, Event.Cut, Event.Hang, Event.Restart, client, event_at, fresh, is_free, asks_if, opens_by, stores_if, reads_one, unless, answers, takes_one, recalls_if, changes, settles_if, happens, reading_of, after_reading, timed, step, run, start}
+use Rattle.clock_rule.specs.Keeping.{KeepRule, KeepsRule, NeverFall, and_reading, servers, events}
+use Rattle.lease_table.specs.Machine.{Machine, Up, Up.Ask, Up.Commit, Up.Reply, Down, Down.Answered, Down.Recall, Event, Event.Open, Event.Store, Event.Read, Event.Take, Event.Arrive, Event.Change, Event.Settle, Event.Drop, Event.Cut, Event.Hang, Event.Restart, client, event_at, fresh, is_free, asks_if, opens_by, stores_if, reads_one, unless, answers, takes_one, recalls_if, changes, settles_if, happens, reading_of, after_reading, timed, step, run, start}
 use Rattle.lease_table.specs.Claims.{readings_of, with_reading, KeepsClocks, IsNoted, IsTimed, IsLater, IsKept, AllRight}
 use Rattle.lease_table.proofs.Lists.{pairs_head, pairs_tail}
 use Rattle.lease_table.proofs.Claiming.{kept_later, kept_happens, kept_start}

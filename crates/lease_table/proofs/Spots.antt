@@ -1,7 +1,7 @@
 -- Where something stands in a list in order, and what is made of the list there.
-use Rattle.std.proofs.Common.{◌≡◌, ℕ, zero, suc, ◌+◌, ◌-◌, ◌<◌, ◌≤◌, List, [], ◌∷◌, ◌++◌, length, take, drop, Option, Some, None, Bool, true, false, true≢false, refl, sym, ap, subst, ◌∙◌, arith, length-drop}
-use Rattle.std.specs.Prelude.{not, cond, filter, find, All, AllPairs, ◌||◌, ◌&&◌, ◌==◌, nat_lt, nat_le, is_some, insert, remove, slice_set, slice_get, slice_index_or}
-use Rattle.std.specs.List.{list_any, AllByRecursion, AllWithin}
+use Rattle.std.proofs.Common.{◌≡◌, ℕ, zero, suc, ◌-◌, ◌<◌, ◌≤◌, List, [], ◌∷◌, ◌++◌, length, take, drop, Option, Some, None, Bool, true, false, true≢false, refl, sym, ap, subst, ◌∙◌, arith, length-drop}
+use Rattle.std.specs.Prelude.{not, cond, filter, find, AllPairs, ◌||◌, ◌&&◌, ◌==◌, nat_lt, nat_le, is_some, insert, remove, slice_set, slice_get, slice_index_or}
+use Rattle.std.specs.List.{list_any}
 use Rattle.std.specs.List.Sorted.{IsPartitionPoint, IsPartitionedBy}
 use Rattle.std.specs.Option.{option_to_list}
 use Rattle.std.proofs.lemmas.Bool.Decides.{nat_tests}
@@ -13,7 +13,7 @@ use Rattle.lease_table.specs.Leases.{is_on, is_before, is_behind}
 use Rattle.lease_table.specs.Order.{ComesBefore, Precedes, IsSpot, is_lease, is_recalled, is_this, precedes, follows}
 use Rattle.lease_table.proofs.Lists.{put}
 use Rattle.lease_table.proofs.Places.{lease_probe, recall_probe}
-use Rattle.lease_table.proofs.Ordered.{IsProbe, front_and_rest, parted, split, is_it, at_head}
+use Rattle.lease_table.proofs.Ordered.{IsProbe, front_and_rest, split, is_it, at_head}
 
 module _ {X : Type 0} where
   -- a bisection answers how many pass the test, where none passes it after one that fails

@@ -2,3 +2,5 @@ pub mod Leases
 pub mod Order
 pub mod Machine
 pub mod Claims
+pub mod Rows
+pub mod Runs

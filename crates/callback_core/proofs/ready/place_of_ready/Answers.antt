@@ -1,4 +1,4 @@
-use Rattle.std.proofs.Common.{arith, ◌∙◌, sym, ap, List}
+use Rattle.std.proofs.Common.{arith, ◌∙◌, sym, ap}
 use Rattle.std.specs.Prelude.{take}
 use Rattle.callback_core.specs.Places.{waits_behind}
 use Rattle.callback_core.proofs.Reached.{found_ready}

@@ -1,5 +1,4 @@
-use Rattle.std.proofs.Common.{◌∙◌, ap}
-use Rattle.lease_table.specs.Leases.{is_blocked}
+use Rattle.std.proofs.Common.{◌∙◌}
 use Rattle.lease_table.proofs.OnFile.{blocked_on_file}
 use Rattle.lease_table.proofs.blocking.blocked.Goals as goal
 

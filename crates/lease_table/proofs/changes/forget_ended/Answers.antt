@@ -1,7 +1,3 @@
-use Rattle.std.proofs.Common.{sym, subst, List}
-use Rattle.lease_table.specs.declared.lease.Lease.{Lease}
-use Rattle.lease_table.specs.Leases.{without_ended}
-use Rattle.lease_table.specs.Order.{AreOrdered}
 use Rattle.lease_table.proofs.Doing.{kept_ended_as, ordered_as}
 use Rattle.lease_table.proofs.changes.forget_ended.Goals as goal
 

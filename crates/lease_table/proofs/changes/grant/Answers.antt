@@ -1,4 +1,3 @@
-use Rattle.std.proofs.Common.{◌∙◌}
 use Rattle.lease_table.proofs.Doing.{set_granted, kept_set, kept_put}
 use Rattle.lease_table.proofs.changes.grant.Goals as goal
 

@@ -1,4 +1,4 @@
-use Rattle.std.proofs.Common.{◌∙◌, ◌≡◌, ◌<◌, List, length, sym, subst, ap, arith, false}
+use Rattle.std.proofs.Common.{◌≡◌, ◌<◌, List, length, sym, subst, arith, false}
 use Rattle.lease_table.specs.declared.recalls.Recalled.{Recalled}
 use Rattle.lease_table.specs.Order.{AreListed, is_listed}
 use Rattle.lease_table.proofs.Doing.{set_marked, kept_set_marked, listed_still, has_place, not_listed}

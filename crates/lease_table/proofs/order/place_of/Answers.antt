@@ -1,4 +1,4 @@
-use Rattle.std.proofs.Common.{◌∙◌, ap}
+use Rattle.std.proofs.Common.{◌∙◌}
 use Rattle.lease_table.specs.Order.{ComesBefore}
 use Rattle.lease_table.proofs.Places.{lease_probe}
 use Rattle.lease_table.proofs.Spots.{spot_is, lease_is_it}

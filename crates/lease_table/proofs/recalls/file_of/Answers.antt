@@ -1,6 +1,5 @@
-use Rattle.std.proofs.Common.{◌≡◌, ℕ, Option, Some, None, Bool, false}
+use Rattle.std.proofs.Common.{Option, Some, None}
 use Rattle.std.specs.Prelude.{IfNone}
-use Rattle.lease_table.specs.Order.{is_listed, names}
 use Rattle.lease_table.proofs.Named.{none_named}
 use Rattle.lease_table.proofs.recalls.file_of.Goals as goal
 

@@ -1,4 +1,4 @@
-use Rattle.std.proofs.Common.{◌∙◌, sym, ap, false}
+use Rattle.std.proofs.Common.{◌∙◌, sym}
 use Rattle.lease_table.specs.Order.{Precedes, is_this}
 use Rattle.lease_table.proofs.Places.{recall_probe}
 use Rattle.lease_table.proofs.Spots.{spot_put, any_is_found}

@@ -1,4 +1,4 @@
-use Rattle.std.proofs.Common.{◌≡◌, ◌∙◌, sym, ap, Some}
+use Rattle.std.proofs.Common.{◌∙◌, sym, ap}
 use Rattle.lease_table.specs.Order.{Precedes, unlisted}
 use Rattle.lease_table.proofs.Places.{recall_probe}
 use Rattle.lease_table.proofs.Spots.{spot_removed, spot_none}

@@ -1,4 +1,4 @@
-use Rattle.std.proofs.Common.{◌≡◌, ◌∙◌, sym, subst, ap, List}
+use Rattle.std.proofs.Common.{◌∙◌, sym, subst, ap, List}
 use Rattle.callback_core.specs.declared.change.Change.{Change}
 use Rattle.callback_core.specs.Waits.{AreBounded, without_made}
 use Rattle.callback_core.proofs.Taken.{bounded_taken, made_taken}
