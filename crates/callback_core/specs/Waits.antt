@@ -1,0 +1,112 @@
+-- Changes that wait, one queue a file in the order of arrival, and which of them may be made. What a
+-- change of the file asks for, its COMMITTMP, REMOVE or RENAME, waits until nobody else's lease says
+-- that the file stays as it is (Gray and Cheriton, SOSP 1989).
+use Rattle.std.specs.Prelude.{◌≡◌, ℕ, List, [], ◌∷◌, ◌++◌, Option, Some, None, Result, Ok, Err, Bool, true, false, not, ◌==◌, cond, find, filter, map, sum_by, AllPairs, length, ◌≤◌, ◌<◌, ◌^◌}
+use Rattle.std.specs.List.{list_any}
+use Rattle.lease_table.specs.declared.lease.Lease.{Lease}
+use Rattle.lease_table.specs.Leases.{is_blocked, others}
+use Rattle.callback_core.specs.declared.change.Kind.{Kind}
+use Rattle.callback_core.specs.declared.change.Kind.TheVariants.{Commit, Remove, Rename}
+use Rattle.callback_core.specs.declared.change.Change.{Change}
+use Rattle.callback_core.specs.declared.change.Recall.{Recall}
+use Rattle.callback_core.specs.declared.change.AskErr.{AskErr}
+use Rattle.callback_core.specs.declared.change.AskErr.TheVariants.{Jukebox, Memory}
+
+-- A COMMITTMP isn't held up by its own session's lease; a REMOVE or RENAME is. Session 0 is nobody.
+abbrev pub asker_of : Kind → (session : ℕ) → ℕ
+asker_of Commit session = session
+asker_of Remove session = 0
+asker_of Rename session = 0
+
+-- the session is asked for its lease on the file
+abbrev pub recall_of : (file session : ℕ) → Recall
+recall_of file session = record { session = session; file = file }
+
+module _ {P : Type 0} where
+  -- ---- one change
+
+  abbrev pub asker : Change P → ℕ
+  asker c = asker_of c.kind c.session
+
+  -- the file is one that it changes
+  abbrev pub is_about : Change P → (file : ℕ) → Bool
+  is_about c file = c.file == file
+
+  -- both change one file
+  abbrev pub meets : Change P → Change P → Bool
+  meets c d = is_about c d.file
+
+  -- no lease blocks it
+  abbrev pub is_free : List Lease → (now : ℕ) → Change P → Bool
+  is_free leases now c = not (is_blocked leases (asker c) c.file now)
+
+  -- the recalls that it asks for when it comes
+  abbrev pub recalls_due : List Lease → (now : ℕ) → Change P → List Recall
+  recalls_due leases now c = map (recall_of c.file) (others leases (asker c) c.file now)
+
+  -- ---- those that wait, the one that came first before the others
+
+  -- the changes that none which came earlier meets; those of the first list came before all of the second
+  abbrev pub heads_after : List (Change P) → List (Change P) → List (Change P)
+  heads_after earlier [] = []
+  heads_after earlier (c ∷ cs) =
+      let later : List (Change P) = heads_after (earlier ++ c ∷ []) cs in
+      cond (list_any (λ e. meets e c) earlier) later (c ∷ later)
+
+  -- the first of each queue
+  abbrev pub heads : List (Change P) → List (Change P)
+  heads waits = heads_after [] waits
+
+  -- the change that is made next: of the heads that no lease blocks, the one that came first
+  abbrev pub ready : List Lease → (now : ℕ) → List (Change P) → Option (Change P)
+  ready leases now waits = find (is_free leases now) (heads waits)
+
+  -- the session's change
+  abbrev pub change_of : List (Change P) → (session : ℕ) → Option (Change P)
+  change_of waits session = find (λ c. c.session == session) waits
+
+  abbrev pub has_wait : List (Change P) → (session : ℕ) → Bool
+  has_wait waits session = list_any (λ c. c.session == session) waits
+
+  abbrev pub waits_on : List (Change P) → (file : ℕ) → Bool
+  waits_on waits file = list_any (λ c. is_about c file) waits
+
+  abbrev pub without : List (Change P) → (session : ℕ) → List (Change P)
+  without waits session = filter (λ c. not (c.session == session)) waits
+
+  -- those that wait on after the change is made
+  abbrev pub without_made : List (Change P) → Option (Change P) → List (Change P)
+  without_made waits None = waits
+  without_made waits (Some c) = without waits c.session
+
+  -- how many entries of the journal, and bytes of the tree, they will make
+  abbrev pub entries_of : List (Change P) → ℕ
+  entries_of waits = sum_by (λ c. c.entries) waits
+
+  abbrev pub bytes_of : List (Change P) → ℕ
+  bytes_of waits = sum_by (λ c. c.bytes) waits
+
+-- what a server holds of leases and of changes that wait
+pub record Waiting (P : Type 0) : Type 0 where
+  pub leases : List Lease
+  -- how many leases more may be granted for certain, beside the one that each change has its place for
+  pub spare : ℕ
+  -- in the order of arrival
+  pub waits : List (Change P)
+
+module _ {P : Type 0} where
+  abbrev pub AreOthers : Change P → Change P → Type 0
+  AreOthers c d = c.session ≡ d.session → ⊥
+
+  -- no session has two changes that wait, each has a place for its lease, and their sizes are numbers of 64 bits
+  pub record AreBounded (waits : List (Change P)) (room : ℕ) : Type 0 where
+    pub apart : AllPairs AreOthers waits
+    pub places : length waits ≤ room
+    pub entries : entries_of waits < 2 ^ 64
+    pub bytes : bytes_of waits < 2 ^ 64
+
+-- A change may not wait exactly where its session has one that waits; want of memory comes after that.
+abbrev pub IsAnswered : {T : Type 0} → Result T AskErr → (has : Bool) → Type 0
+IsAnswered (Ok _) has = has ≡ false
+IsAnswered (Err Jukebox) has = has ≡ true
+IsAnswered (Err Memory) has = has ≡ false

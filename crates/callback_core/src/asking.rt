@@ -1,0 +1,121 @@
+//! How a change comes to wait, and how it leaves.
+
+ghost use Rattle.std.specs.Prelude.{◌≡◌, ◌+◌, ◌<◌, ◌≤◌, ◌^◌, ◌∷◌, ◌++◌, [], OnOk, OnErr, IfOk, IfSome, OnSome, map, length, false, IsOk};
+ghost use Rattle.lease_table.specs.Leases.{grant};
+ghost use Rattle.callback_core.specs.Waits.{recall_of, recalls_due, has_wait, without_made, entries_of, bytes_of, IsAnswered, AreBounded};
+ghost use Rattle.callback_core.specs.Places.{place_in, without_place};
+
+use crate::change::{AskErr, Change, Recall};
+use crate::ready::has;
+use lb_base::items::Items;
+use lease_table::table::Leases;
+use std::alloc::{AllocError, Global};
+
+/// The recalls of a file to these sessions.
+fn recalls_to(alloc: Global, sessions: &[u32], file: u64) -> Result<Items<Recall>, AllocError>
+    ensures { IfOk result (λ recalls. recalls ≡ map (recall_of file) sessions.now) }
+{
+    let mut recalls = Vec::new(alloc);
+    for session in sessions {
+        recalls.push(Recall {
+            session: *session,
+            file,
+        })?;
+    }
+    Ok(Items::from_vec(recalls))
+}
+
+/// The recalls that a change asks for when it comes.
+fn recalls_due<P>(
+    alloc: Global,
+    leases: &Leases,
+    change: &Change<P>,
+    now: u64,
+) -> Result<Items<Recall>, AllocError>
+    ensures { IfOk result (λ recalls. recalls ≡ recalls_due leases.now.leases now change.now) }
+{
+    let sessions = leases.others(alloc, change.file, change.asker(), now)?;
+    recalls_to(alloc, sessions.as_slice(), change.file)
+}
+
+/// A change comes and waits, and its lease has a place. The one error is want of memory.
+fn add<P: Drop>(
+    leases: &mut Leases,
+    waits: &mut Vec<Change<P>>,
+    change: Change<P>,
+) -> Result<(), AllocError>
+    requires bounded { AreBounded waits.old.items leases.old.room }
+    requires new { has_wait waits.old.items change.session ≡ false }
+    requires entries { entries_of waits.old.items + change.entries < 2 ^ 64 }
+    requires bytes { bytes_of waits.old.items + change.bytes < 2 ^ 64 }
+    ensures ok { OnOk result (waits.new.items ≡ waits.old.items ++ change ∷ []) }
+    ensures err { OnErr result (waits.new.items ≡ waits.old.items) }
+    ensures leases { leases.new.leases ≡ leases.old.leases }
+    ensures room { leases.old.room ≤ leases.new.room }
+    ensures bounded { AreBounded waits.new.items leases.new.room }
+{
+    leases.reserve(waits.len() + 1)?;
+    waits.push(change)?;
+    Ok(())
+}
+
+/// A change comes and waits.
+pub fn ask<P: Drop>(
+    alloc: Global,
+    leases: &mut Leases,
+    waits: &mut Vec<Change<P>>,
+    change: Change<P>,
+    now: u64,
+) -> Result<Items<Recall>, AskErr>
+    requires bounded { AreBounded waits.old.items leases.old.room }
+    requires entries { entries_of waits.old.items + change.entries < 2 ^ 64 }
+    requires bytes { bytes_of waits.old.items + change.bytes < 2 ^ 64 }
+    ensures answered { IsAnswered result (has_wait waits.old.items change.session) }
+    ensures recalls { IfOk result (λ recalls. recalls ≡ recalls_due leases.old.leases now change) }
+    ensures ok { OnOk result (waits.new.items ≡ waits.old.items ++ change ∷ []) }
+    ensures err { OnErr result (waits.new.items ≡ waits.old.items) }
+    ensures leases { leases.new.leases ≡ leases.old.leases }
+    ensures room { leases.old.room ≤ leases.new.room }
+    ensures bounded { AreBounded waits.new.items leases.new.room }
+{
+    if has(waits, change.session) {
+        return Err(AskErr::Jukebox);
+    }
+    let recalls = recalls_due(alloc, leases, &change, now)?;
+    add(leases, waits, change)?;
+    Ok(recalls)
+}
+
+/// Grants a lease beside those that the changes have their places for. The one error is want of
+/// memory.
+pub fn grant<P>(
+    leases: &mut Leases,
+    waits: &Vec<Change<P>>,
+    session: u32,
+    file: u64,
+    now: u64,
+    term: u32,
+) -> Result<(), AllocError>
+    requires ends { now + term < 2 ^ 64 }
+    requires bounded { AreBounded waits.now.items leases.old.room }
+    ensures ok { OnOk result (leases.new.leases ≡ grant leases.old.leases session file (now + term)) }
+    ensures err { OnErr result (leases.new.leases ≡ leases.old.leases) }
+    ensures sure { length waits.now.items < leases.old.room → IsOk result }
+    ensures room { leases.old.room ≤ leases.new.room + 1 }
+    ensures bounded { AreBounded waits.now.items leases.new.room }
+{
+    leases.reserve(waits.len() + 1)?;
+    leases.grant(session, file, now, term)
+}
+
+/// Takes out the change at a place, if there is one.
+pub fn take_out<P>(waits: &mut Vec<Change<P>>, at: Option<usize>) -> Option<Change<P>>
+    requires { IfSome at (λ i. i < length waits.old.items) }
+    ensures change { result ≡ place_in waits.old.items at }
+    ensures rest { waits.new.items ≡ without_place waits.old.items at }
+{
+    match at {
+        Some(at) => Some(waits.remove(at)),
+        None => None,
+    }
+}

@@ -1,0 +1,99 @@
+//! A change that waits, and what its arrival asks for.
+
+ghost use Rattle.std.specs.Prelude.{◌≡◌};
+ghost use Rattle.callback_core.specs.Waits.{asker_of, asker, is_about, meets};
+ghost use Rattle.callback_core.specs.declared.change.AskErr.TheVariants as errors;
+
+use std::alloc::AllocError;
+
+/// What a change does to its file.
+#[derive(Clone, Copy, Debug, PartialEq, Eq)]
+pub enum Kind {
+    /// COMMITTMP gives it a new content.
+    Commit,
+    /// REMOVE takes it out of its directory.
+    Remove,
+    /// RENAME puts something else in its place.
+    Rename,
+}
+
+impl Kind {
+    /// Whose leases don't hold up a change that this session asks for: its own under a COMMITTMP,
+    /// and otherwise nobody's, which is session 0's.
+    fn asker(self, session: u32) -> u32
+        ensures { result ≡ asker_of self session }
+    {
+        match self {
+            Kind::Commit => session,
+            Kind::Remove | Kind::Rename => 0,
+        }
+    }
+}
+
+/// A change of a file that waits to be made.
+#[derive(Drop)]
+pub struct Change<P> {
+    /// The session that asked for it.
+    pub session: u32,
+    /// The xid of its call.
+    pub xid: u32,
+    /// The id of the file.
+    pub file: u64,
+    /// What is done to it.
+    pub kind: Kind,
+    /// How many entries of the journal it will make.
+    pub entries: u64,
+    /// How many bytes it will add to the tree.
+    pub bytes: u64,
+    /// What else it takes to make it.
+    pub what: P,
+}
+
+impl<P> Change<P> {
+    /// The session whose leases don't hold it up; 0 where all do.
+    pub fn asker(&self) -> u32
+        ensures { result ≡ asker self.now }
+    {
+        self.kind.asker(self.session)
+    }
+
+    /// Whether the file is one that it changes.
+    pub fn is_about(&self, file: u64) -> bool
+        ensures { result ≡ is_about self.now file }
+    {
+        self.file == file
+    }
+
+    /// Whether both change the same file.
+    pub fn meets(&self, other: &Change<P>) -> bool
+        ensures { result ≡ meets self.now other.now }
+    {
+        self.is_about(other.file)
+    }
+}
+
+/// That a session is to be asked for its lease on a file. The server draws the xid.
+#[derive(Clone, Copy, Debug, PartialEq, Eq)]
+pub struct Recall {
+    /// The session.
+    pub session: u32,
+    /// The id of the file.
+    pub file: u64,
+}
+
+/// Why a change may not wait.
+#[derive(Clone, Copy, Debug, PartialEq, Eq)]
+pub enum AskErr {
+    /// A change of the session waits already.
+    Jukebox,
+    /// Memory ran out.
+    Memory,
+}
+
+impl From<AllocError> for AskErr {
+    ghost from_gives = { λ _ e. e ≡ errors.Memory };
+
+    fn from(_e: AllocError) -> AskErr {
+        AskErr::Memory
+    }
+}

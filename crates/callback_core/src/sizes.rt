@@ -1,0 +1,30 @@
+//! How much the changes that wait will make.
+
+ghost use Rattle.std.specs.Prelude.{◌≡◌, ◌<◌, ◌^◌};
+ghost use Rattle.callback_core.specs.Waits.{entries_of, bytes_of};
+
+use crate::change::Change;
+
+/// The entries of the journal that they will make.
+pub fn entries_of<P>(waits: &Vec<Change<P>>) -> u64
+    requires { entries_of waits.now.items < 2 ^ 64 }
+    ensures { result ≡ entries_of waits.now.items }
+{
+    let mut entries = 0;
+    for change in waits {
+        entries += change.entries;
+    }
+    entries
+}
+
+/// The bytes that they will add to the tree.
+pub fn bytes_of<P>(waits: &Vec<Change<P>>) -> u64
+    requires { bytes_of waits.now.items < 2 ^ 64 }
+    ensures { result ≡ bytes_of waits.now.items }
+{
+    let mut bytes = 0;
+    for change in waits {
+        bytes += change.bytes;
+    }
+    bytes
+}

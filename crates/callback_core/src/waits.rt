@@ -1,0 +1,186 @@
+//! The changes that wait, and the leases that they wait for.
+
+ghost use Rattle.std.specs.Prelude.{◌≡◌, ◌+◌, ◌<◌, ◌≤◌, ◌^◌, ◌∷◌, ◌++◌, [], OnOk, OnErr, IfOk, IsOk, OnSome, option_copied};
+ghost use Rattle.lease_table.specs.Leases.{grant, without_lease, marked, without_recalled, without_ended, is_blocked};
+ghost use Rattle.callback_core.specs.Waits.{recalls_due, ready, change_of, has_wait, waits_on, without, without_made, entries_of, bytes_of, IsAnswered};
+
+use crate::change::{AskErr, Change, Recall};
+use crate::{asking, ready, sizes};
+use lb_base::items::Items;
+use lease_table::table::Leases;
+use std::alloc::{AllocError, Global};
+use std::marker::Model;
+
+/// The changes that wait, in the order of their arrival, and the leases. Contracts see both as
+/// lists, and how many leases more may be granted for certain, beside the one that each change has
+/// its place for.
+#[derive(Drop)]
+pub struct Waits<P: Drop> {
+    leases: Leases,
+    /// At most one of a session.
+    waits: Vec<Change<P>>,
+}
+
+impl<P: Drop> Model for Waits<P> {
+    ghost use Rattle.std.specs.Prelude.{◌-◌, ◌<◌, ◌≤◌, ◌^◌, length, AllPairs};
+    ghost use Rattle.callback_core.specs.Waits.{Waiting, AreBounded};
+
+    ghost Value = { Waiting P };
+
+    ghost view = { λ w. record { leases = w.leases.leases; spare = w.leases.room - length w.waits.items; waits = w.waits.items } };
+
+    ghost invariant = { λ w. AreBounded w.waits.items w.leases.room };
+}
+
+impl<P: Drop> Waits<P> {
+    /// No change that waits, and no lease. It takes no memory.
+    pub fn new(alloc: Global) -> Waits<P>
+        ensures waits { result.waits ≡ [] }
+        ensures leases { result.leases ≡ [] }
+    {
+        Waits {
+            leases: Leases::new(alloc),
+            waits: Vec::new(alloc),
+        }
+    }
+
+    /// A change comes, at this reading of the server's clock in milliseconds, and waits. The answer
+    /// has the recalls that are due: of all leases that block it and that no RECALL asked for. It
+    /// may not wait where its session has a change that waits; else the one error is want of memory.
+    /// An `Err` changes nothing.
+    pub fn ask(
+        &mut self,
+        alloc: Global,
+        change: Change<P>,
+        now: u64,
+    ) -> Result<Items<Recall>, AskErr>
+        requires entries { entries_of self.old.waits + change.entries < 2 ^ 64 }
+        requires bytes { bytes_of self.old.waits + change.bytes < 2 ^ 64 }
+        ensures answered { IsAnswered result (has_wait self.old.waits change.session) }
+        ensures recalls { IfOk result (λ recalls. recalls ≡ recalls_due self.old.leases now change) }
+        ensures ok { OnOk result (self.new.waits ≡ self.old.waits ++ change ∷ []) }
+        ensures err { OnErr result (self.new.waits ≡ self.old.waits) }
+        ensures spare { OnErr result (self.old.spare ≤ self.new.spare) }
+        ensures leases { self.new.leases ≡ self.old.leases }
+    {
+        asking::ask(alloc, &mut self.leases, &mut self.waits, change, now)
+    }
+
+    /// The change that is made next at this reading of the server's clock: of the first of each
+    /// file, the one that came first of those that no lease blocks. It takes no memory.
+    pub fn ready(&self, now: u64) -> Option<&Change<P>>
+        ensures { option_copied result ≡ ready self.now.leases now self.now.waits }
+    {
+        let at = ready::place_of_ready(&self.waits, &self.leases, now)?;
+        self.waits.get(at)
+    }
+
+    /// Takes out the change that is made next at this reading of the server's clock, if there is
+    /// one. A lease has its place then. It takes no memory.
+    pub fn settle(&mut self, now: u64) -> Option<Change<P>>
+        ensures ready { result ≡ ready self.old.leases now self.old.waits }
+        ensures waits { self.new.waits ≡ without_made self.old.waits result }
+        ensures leases { self.new.leases ≡ self.old.leases }
+        ensures spare { self.old.spare ≤ self.new.spare }
+        ensures room { OnSome result (0 < self.new.spare) }
+    {
+        let at = ready::place_of_ready(&self.waits, &self.leases, now);
+        asking::take_out(&mut self.waits, at)
+    }
+
+    /// Takes out the change of a session whose connection is lost, if it has one. Its leases stay.
+    /// It takes no memory.
+    pub fn hang(&mut self, session: u32) -> Option<Change<P>>
+        ensures change { result ≡ change_of self.old.waits session }
+        ensures waits { self.new.waits ≡ without self.old.waits session }
+        ensures leases { self.new.leases ≡ self.old.leases }
+        ensures spare { self.old.spare ≤ self.new.spare }
+    {
+        let at = ready::place_of(&self.waits, session);
+        asking::take_out(&mut self.waits, at)
+    }
+
+    /// Whether a change of the session waits. It takes no memory.
+    pub fn has(&self, session: u32) -> bool
+        ensures { result ≡ has_wait self.now.waits session }
+    {
+        ready::has(&self.waits, session)
+    }
+
+    /// Whether a change of the file waits. It takes no memory.
+    pub fn waits_on(&self, file: u64) -> bool
+        ensures { result ≡ waits_on self.now.waits file }
+    {
+        ready::waits_on(&self.waits, file)
+    }
+
+    /// How many entries of the journal, and how many bytes of the tree, the changes that wait will
+    /// make. It takes no memory.
+    pub fn sizes(&self) -> (u64, u64)
+        ensures { result ≡ (entries_of self.now.waits, bytes_of self.now.waits) }
+    {
+        (sizes::entries_of(&self.waits), sizes::bytes_of(&self.waits))
+    }
+
+    /// Grants a lease on a file to a session, in place of the one that it has on it, from this
+    /// reading of the server's clock on, and for this term, both in milliseconds. The one error is
+    /// want of memory, which never comes once a change was taken out and no lease granted since; all
+    /// then stays as it was.
+    pub fn grant(&mut self, session: u32, file: u64, now: u64, term: u32) -> Result<(), AllocError>
+        requires { now + term < 2 ^ 64 }
+        ensures ok { OnOk result (self.new.leases ≡ grant self.old.leases session file (now + term)) }
+        ensures err { OnErr result (self.new.leases ≡ self.old.leases) }
+        ensures sure { 0 < self.old.spare → IsOk result }
+        ensures spare { self.old.spare ≤ self.new.spare + 1 }
+        ensures waits { self.new.waits ≡ self.old.waits }
+    {
+        asking::grant(&mut self.leases, &self.waits, session, file, now, term)
+    }
+
+    /// The session has no lease on the file any more. It takes no memory.
+    pub fn drop_one(&mut self, session: u32, file: u64)
+        ensures leases { self.new.leases ≡ without_lease self.old.leases session file }
+        ensures spare { self.old.spare ≤ self.new.spare }
+        ensures waits { self.new.waits ≡ self.old.waits }
+    {
+        self.leases.drop_one(session, file);
+    }
+
+    /// The session's lease on the file remembers the xid of the RECALL that asks for it, if it is
+    /// there. It takes no memory.
+    pub fn mark_recalled(&mut self, session: u32, file: u64, xid: u32)
+        ensures leases { self.new.leases ≡ marked self.old.leases session file xid }
+        ensures spare { self.old.spare ≤ self.new.spare }
+        ensures waits { self.new.waits ≡ self.old.waits }
+    {
+        self.leases.mark_recalled(session, file, xid);
+    }
+
+    /// The session answered the RECALL with this xid: the lease that remembers it is no more, and
+    /// no other. It takes no memory.
+    pub fn answered(&mut self, session: u32, xid: u32)
+        ensures leases { self.new.leases ≡ without_recalled self.old.leases session xid }
+        ensures spare { self.old.spare ≤ self.new.spare }
+        ensures waits { self.new.waits ≡ self.old.waits }
+    {
+        self.leases.answered(session, xid);
+    }
+
+    /// Forgets the leases that have ended at this reading of the server's clock. It takes no
+    /// memory. All leases are looked at, so it is for the time when there are many.
+    pub fn forget_ended(&mut self, now: u64)
+        ensures leases { self.new.leases ≡ without_ended self.old.leases now }
+        ensures spare { self.old.spare ≤ self.new.spare }
+        ensures waits { self.new.waits ≡ self.old.waits }
+    {
+        self.leases.forget_ended(now);
+    }
+
+    /// Whether a lease of another session than this one on the file has not ended at this reading
+    /// of the server's clock, recalled or not. Session 0 is nobody. It takes no memory.
+    pub fn blocked(&self, file: u64, session: u32, now: u64) -> bool
+        ensures { result ≡ is_blocked self.now.leases session file now }
+    {
+        self.leases.blocked(file, session, now)
+    }
+}

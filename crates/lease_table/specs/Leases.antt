@@ -1,0 +1,92 @@
+-- Leases (Gray and Cheriton, SOSP 1989). Who has a lease on a file is asked before the file is
+-- changed, until the lease ends. A session has one lease on a file at most.
+use Rattle.std.specs.Prelude.{ℕ, List, ◌∷◌, ◌++◌, Option, Some, None, Bool, true, false, not, ◌&&◌, ◌||◌, ◌==◌, nat_lt, find, filter, map}
+use Rattle.std.specs.List.{list_any}
+use Rattle.lease_table.specs.declared.lease.Lease.{Lease}
+
+-- the leases by file, and by session within a file; and how many more have their place already
+pub record Table : Type 0 where
+  pub leases : List Lease
+  pub room : ℕ
+
+-- ---- one lease
+
+-- whose it is, and on which file
+abbrev pub is_on : Lease → (session file : ℕ) → Bool
+is_on l session file = l.file == file && l.session == session
+
+-- it stands before that of the session on the file
+abbrev pub is_before : Lease → (session file : ℕ) → Bool
+is_before l session file = nat_lt l.file file || (l.file == file && nat_lt l.session session)
+
+-- it stands behind it
+abbrev pub is_behind : Lease → (session file : ℕ) → Bool
+is_behind l session file = nat_lt file l.file || (l.file == file && nat_lt session l.session)
+
+-- another's than the session's; session 0 is nobody's, and so every lease is another's than its
+abbrev pub is_others : Lease → (session : ℕ) → Bool
+is_others l session = session == 0 || not (l.session == session)
+
+-- a change of the file that this session asked for can't be made before it is given up
+abbrev pub blocks : Lease → (session file now : ℕ) → Bool
+blocks l session file now = l.file == file && (is_others l session && nat_lt now l.ends)
+
+abbrev pub is_none : Option ℕ → Bool
+is_none None = true
+is_none (Some x) = false
+
+-- it is to be asked for back
+abbrev pub is_wanted_back : Lease → (session file now : ℕ) → Bool
+is_wanted_back l session file now = blocks l session file now && is_none l.recall
+
+abbrev pub is_recall : Option ℕ → (xid : ℕ) → Bool
+is_recall None x = false
+is_recall (Some y) x = y == x
+
+-- the session was asked for it by the RECALL with this xid
+abbrev pub remembers : Lease → (session xid : ℕ) → Bool
+remembers l session xid = l.session == session && is_recall l.recall xid
+
+-- ---- all of them
+
+-- the lease of the session on the file
+abbrev pub lease_at : List Lease → (session file : ℕ) → Option Lease
+lease_at leases session file = find (λ l. is_on l session file) leases
+
+-- a lease among the others, in place of the one that its session has on its file
+abbrev pub with_lease : List Lease → Lease → List Lease
+with_lease leases new =
+    filter (λ l. is_before l new.session new.file) leases ++ new ∷ filter (λ l. is_behind l new.session new.file) leases
+
+-- a new lease, which nobody has asked for
+abbrev pub lease_of : (session file ends : ℕ) → Lease
+lease_of session file ends = record { session = session; file = file; ends = ends; recall = None }
+
+abbrev pub grant : List Lease → (session file ends : ℕ) → List Lease
+grant leases session file ends = with_lease leases (lease_of session file ends)
+
+abbrev pub without_lease : List Lease → (session file : ℕ) → List Lease
+without_lease leases session file = filter (λ l. not (is_on l session file)) leases
+
+-- the lease remembers the xid of the RECALL that asks for it, if it is there
+abbrev pub mark : List Lease → (xid : ℕ) → Option Lease → List Lease
+mark leases xid None = leases
+mark leases xid (Some l) = with_lease leases (record l { recall = Some xid })
+
+abbrev pub marked : List Lease → (session file xid : ℕ) → List Lease
+marked leases session file xid = mark leases xid (lease_at leases session file)
+
+-- a lease is given up by the answer to the RECALL that it remembers, and by no other
+abbrev pub without_recalled : List Lease → (session xid : ℕ) → List Lease
+without_recalled leases session xid = filter (λ l. not (remembers l session xid)) leases
+
+abbrev pub without_ended : List Lease → (now : ℕ) → List Lease
+without_ended leases now = filter (λ l. nat_lt now l.ends) leases
+
+-- a lease blocks a change of the file that the session asked for
+abbrev pub is_blocked : List Lease → (session file now : ℕ) → Bool
+is_blocked leases session file now = list_any (λ l. blocks l session file now) leases
+
+-- the sessions whose leases are to be asked for back, where the session asks for a change of the file
+abbrev pub others : List Lease → (session file now : ℕ) → List ℕ
+others leases session file now = map (λ l. l.session) (filter (λ l. is_wanted_back l session file now) leases)

@@ -1,0 +1,6 @@
+pub mod Leases
+pub mod Order
+pub mod Machine
+pub mod Claims
+pub mod Rows
+pub mod Runs

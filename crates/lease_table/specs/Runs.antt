@@ -1,0 +1,143 @@
+-- Runs of the machine of one lease, and of machines that differ from it in one thing. Each run's
+-- readings keep the clock rule, so what becomes wrong is wrong by that one thing alone.
+use Rattle.std.specs.Prelude.{◌≡◌, ℕ, List, [], ◌∷◌, Some, None, Bool, true, false, is_ok, refl}
+use Rattle.clock_rule.specs.Keeping.{at_first, all_read}
+use Rattle.lease_table.specs.Leases.{without_lease}
+use Rattle.lease_table.specs.Machine.{Machine, Up, Up.Reply, Down, Down.Answered, Event, Event.Open, Event.Store, Event.Read, Event.Take, Event.Arrive, Event.Change, Event.Settle, Event.Hang, Event.Restart, unless, takes_one, reads_one, note_of, is_free, stores_if, happens, timed, start}
+use Rattle.lease_table.specs.Claims.{readings_of}
+
+-- the term is 1000 and the drift 100
+abbrev keeps : List Event → Bool
+keeps es = is_ok (all_read (at_first 1000 100) (readings_of es))
+
+abbrev run_by : (Machine → Event → Machine) → Machine → List Event → Machine
+run_by event m [] = m
+run_by event m (e ∷ es) = run_by event (event (timed m e) e) es
+
+-- what was opened by the note, the last first: the version, and the one that the file had
+abbrev opens : (Machine → Event → Machine) → List Event → List (ℕ × ℕ)
+opens event es = (run_by event (start 1 2 1000 100) es).opens
+
+-- ---- an open by the note
+
+-- The call goes out at 0 of the client's clock, so the lease ends at 1000 of the server's or later, and
+-- the note at 900. The server's clock runs ahead, by 90 in 899. Another's change waits at 989, and is
+-- made at 1000. At 899 the client opens by its note, and at 900 it asks.
+abbrev by_the_note : List Event
+by_the_note = Open 0 ∷ Take 0 true ∷ Read 3 ∷ Change 9 989 ∷ Open 899 ∷ Open 900 ∷ Change 9 1000 ∷ []
+
+by_the_note_keeps : keeps by_the_note ≡ true
+by_the_note_keeps = refl
+
+opened_by_the_note : opens happens by_the_note ≡ (1, 1) ∷ []
+opened_by_the_note = refl
+
+changed_after : (run_by happens (start 1 2 1000 100) by_the_note).version ≡ 2
+changed_after = refl
+
+-- ---- an answer to a RECALL that comes late
+
+-- The RECALL is on its way down when the lease ends and a change is made. The client asks again, and has
+-- a new lease, before it reads the RECALL; its answer comes then.
+abbrev late_answer : List Event
+late_answer = Open 0 ∷ Take 0 true ∷ Read 0 ∷ Arrive 9 0 ∷ Change 9 1000 ∷ Open 1000 ∷ Take 1000 true ∷ Read 1000 ∷ Read 1000 ∷ Take 1000 true ∷ Change 9 1000 ∷ Open 1000 ∷ []
+
+late_answer_keeps : keeps late_answer ≡ true
+late_answer_keeps = refl
+
+late_answer_is_right : opens happens late_answer ≡ (2, 2) ∷ []
+late_answer_is_right = refl
+
+-- any answer to a RECALL takes the session's lease on the file
+abbrev gives_up : Bool → Machine → List Up → Machine
+gives_up grants m (Reply x ∷ us) = record m { ups = us; leases = without_lease m.leases m.session m.file }
+gives_up grants m us = takes_one grants m us
+
+abbrev any_answer : Machine → Event → Machine
+any_answer m (Take at grants) = unless m.hung m (gives_up grants m m.ups)
+any_answer m e = happens m e
+
+-- so the file is changed under the new lease, and the open gives version 2 of a file that has version 3
+any_answer_is_wrong : opens any_answer late_answer ≡ (2, 3) ∷ []
+any_answer_is_wrong = refl
+
+-- ---- an answer to a call that comes late
+
+abbrev slow_answer : List Event
+slow_answer = Open 0 ∷ Take 0 true ∷ Change 9 400 ∷ Read 500 ∷ Change 9 1000 ∷ Open 1300 ∷ []
+
+slow_answer_keeps : keeps slow_answer ≡ true
+slow_answer_keeps = refl
+
+slow_answer_is_right : opens happens slow_answer ≡ []
+slow_answer_is_right = refl
+
+-- the note is counted from the reading at which the answer is read
+abbrev counts_from : (seen : ℕ) → Machine → List Down → Machine
+counts_from seen m (Answered version term ∷ ds) = record m { downs = ds; sent = None; note = note_of m.clocks.drift (Some seen) version term m.note }
+counts_from seen m ds = reads_one m ds
+
+abbrev from_arrival : Machine → Event → Machine
+from_arrival m (Read seen) = unless m.cut m (counts_from seen m m.downs)
+from_arrival m e = happens m e
+
+from_arrival_is_wrong : opens from_arrival slow_answer ≡ (1, 2) ∷ []
+from_arrival_is_wrong = refl
+
+-- ---- a session that is hung
+
+abbrev lost_connection : List Event
+lost_connection = Open 0 ∷ Take 0 true ∷ Read 0 ∷ Hang 10 ∷ Change 9 10 ∷ Open 10 ∷ []
+
+lost_connection_keeps : keeps lost_connection ≡ true
+lost_connection_keeps = refl
+
+lost_connection_is_right : opens happens lost_connection ≡ (1, 1) ∷ []
+lost_connection_is_right = refl
+
+-- its leases go at once
+abbrev hang_drops : Machine → Event → Machine
+hang_drops m (Hang at) = record m { hung = true; ups = []; waits = false; leases = without_lease m.leases m.session m.file }
+hang_drops m e = happens m e
+
+hang_drops_is_wrong : opens hang_drops lost_connection ≡ (1, 2) ∷ []
+hang_drops_is_wrong = refl
+
+-- ---- one's own COMMITTMP
+
+abbrev own_change : List Event
+own_change = Open 0 ∷ Take 0 true ∷ Read 0 ∷ Store 0 ∷ Take 0 true ∷ Settle 0 true ∷ Open 0 ∷ Read 0 ∷ Open 0 ∷ []
+
+own_change_keeps : keeps own_change ≡ true
+own_change_keeps = refl
+
+-- its answer tells the new version, which is noted
+own_change_is_right : opens happens own_change ≡ (2, 2) ∷ []
+own_change_is_right = refl
+
+-- the note stays when it is sent
+abbrev keeps_note : Machine → Event → Machine
+keeps_note m (Store seen) = record (stores_if (is_free m) m seen) { note = m.note }
+keeps_note m e = happens m e
+
+keeps_note_is_wrong : opens keeps_note own_change ≡ (2, 2) ∷ (1, 2) ∷ []
+keeps_note_is_wrong = refl
+
+-- ---- a server that begins again
+
+abbrev begins_again : List Event
+begins_again = Open 0 ∷ Take 0 true ∷ Read 0 ∷ Restart 10 0 ∷ Change 9 10 ∷ Open 10 ∷ []
+
+begins_again_keeps : keeps begins_again ≡ true
+begins_again_keeps = refl
+
+begins_again_is_right : opens happens begins_again ≡ (1, 1) ∷ []
+begins_again_is_right = refl
+
+-- it makes changes at once
+abbrev no_grace : Machine → Event → Machine
+no_grace m (Restart at grace) = record (happens m (Restart at grace)) { quiet = m.quiet }
+no_grace m e = happens m e
+
+no_grace_is_wrong : opens no_grace begins_again ≡ (1, 2) ∷ []
+no_grace_is_wrong = refl

@@ -1,0 +1,24 @@
+//! Why who opens a file under a lease has the version that the file has at that moment. It is a law
+//! of the machine of one lease (`specs/Machine.antt`), whose events may come in any order. The
+//! functions do nothing: a caller learns a law by calling its function.
+
+ghost use Rattle.std.specs.Prelude.{◌≡◌, ℕ, ◌<◌, List, Some};
+ghost use Rattle.clock_rule.specs.Clocks.{Clocked};
+ghost use Rattle.lease_table.specs.Machine.{Machine, Note, Event, happens, run, start};
+ghost use Rattle.lease_table.specs.Claims.{IsKept, IsLater, IsTimed, IsNoted, KeepsClocks, AllRight};
+
+/// For every list of events whose readings keep the clock rule, each open by a note gave the version
+/// that the file had at that moment.
+pub fn opens_are_right()
+    ensures { (session file term drift : ℕ) (es : List Event) → KeepsClocks term drift es → AllRight (run (start session file term drift) es).opens }
+{}
+
+/// How it comes, in parts, for worlds that have more than one session and one file. `IsKept` holds at
+/// the start, and stays as time passes and with each event; and where it holds, what is noted and not
+/// over at a reading of the client that keeps the rule is the file's version.
+pub fn leases_are_safe()
+    ensures start { (session file term drift : ℕ) → IsKept (start session file term drift) }
+    ensures time { (m : Machine) (new : Clocked) → IsLater m.clocks new → IsKept m → IsKept (record m { clocks = new }) }
+    ensures event { (m : Machine) (e : Event) → IsTimed m e → IsKept m → IsKept (happens m e) }
+    ensures open { (m : Machine) (seen : ℕ) (n : Note) → IsKept m → IsNoted m seen → m.note ≡ Some n → seen < n.until → n.version ≡ m.version }
+{}

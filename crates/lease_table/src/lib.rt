@@ -1,0 +1,13 @@
+//! The leases that a server has granted (Gray and Cheriton, SOSP 1989): a session is told of each
+//! change of a file before it is made, until its lease ends. `specs/Leases.antt` says what each call
+//! does to the list of them, and `laws` why who opens a file under a lease has its present version,
+//! though clocks drift (`specs/Machine.antt`).
+#![tactic(auto)]
+
+mod blocking;
+mod changes;
+pub mod laws;
+pub mod lease;
+mod order;
+mod recalls;
+pub mod table;

@@ -1,0 +1,130 @@
+//! The table of leases.
+
+ghost use Rattle.std.specs.Prelude.{◌≡◌, ◌+◌, ◌<◌, ◌≤◌, ◌^◌, [], OnOk, OnErr, IfOk, IsOk, IsSome, ◌⊎◌, length, vec_len, vec_capacity};
+ghost use Rattle.lease_table.specs.Leases.{grant, without_lease, marked, without_recalled, without_ended, is_blocked, others, lease_at};
+
+use crate::lease::Lease;
+use crate::recalls::Recalled;
+use crate::{blocking, changes};
+use lb_base::items::Items;
+use std::alloc::{AllocError, Global};
+use std::marker::Model;
+
+/// The leases that a server has granted, by file, and by session within a file. Contracts see the
+/// list of them, and how many more have their place already.
+#[derive(Drop)]
+pub struct Leases {
+    leases: Vec<Lease>,
+    /// The recalls that they remember.
+    recalls: Vec<Recalled>,
+}
+
+impl Model for Leases {
+    ghost use Rattle.std.specs.Prelude.{◌-◌, ◌≤◌, min, vec_len, vec_capacity};
+    ghost use Rattle.lease_table.specs.Leases.{Table};
+    ghost use Rattle.lease_table.specs.Order.{AreKept};
+
+    ghost Value = { Table };
+
+    ghost view = { λ t. record { leases = t.leases.items; room = min (vec_capacity t.leases) (vec_capacity t.recalls) - vec_len t.leases } };
+
+    ghost invariant = { λ t. AreKept t.leases.items t.recalls.items × (vec_len t.leases ≤ vec_capacity t.recalls) };
+}
+
+impl Leases {
+    /// No lease. It takes no memory.
+    pub fn new(alloc: Global) -> Leases
+        ensures { result.leases ≡ [] }
+    {
+        Leases {
+            leases: Vec::new(alloc),
+            recalls: Vec::new(alloc),
+        }
+    }
+
+    /// Makes room for so many further leases. The one error is want of memory; no lease changes.
+    pub fn reserve(&mut self, count: usize) -> Result<(), AllocError>
+        ensures ok { OnOk result (count ≤ self.new.room) }
+        ensures leases { self.new.leases ≡ self.old.leases }
+        ensures room { self.old.room ≤ self.new.room }
+        ensures sure { count ≤ self.old.room → IsOk result }
+    {
+        changes::reserve(&mut self.leases, &mut self.recalls, count)
+    }
+
+    /// Grants a lease on a file to a session, in place of the one that it has on it, from this
+    /// reading of the server's clock on, and for this term, both in milliseconds. The one error is
+    /// want of memory, which never comes where there is room or the session has a lease on the file;
+    /// all then stays as it was.
+    pub fn grant(&mut self, session: u32, file: u64, now: u64, term: u32) -> Result<(), AllocError>
+        requires { now + term < 2 ^ 64 }
+        ensures ok { OnOk result (self.new.leases ≡ grant self.old.leases session file (now + term)) }
+        ensures err { OnErr result (self.new.leases ≡ self.old.leases) }
+        ensures room { self.old.room ≤ self.new.room + 1 }
+        ensures err_room { OnErr result (self.old.room ≤ self.new.room) }
+        ensures sure { IsSome (lease_at self.old.leases session file) ⊎ (0 < self.old.room) → IsOk result }
+    {
+        let ends = now + u64::from(term);
+        changes::grant_if(&mut self.leases, &mut self.recalls, session, file, ends)
+    }
+
+    /// The session has no lease on the file any more. It takes no memory.
+    pub fn drop_one(&mut self, session: u32, file: u64)
+        ensures leases { self.new.leases ≡ without_lease self.old.leases session file }
+        ensures room { self.old.room ≤ self.new.room }
+    {
+        changes::drop_one(&mut self.leases, &mut self.recalls, session, file);
+    }
+
+    /// The session's lease on the file remembers the xid of the RECALL that asks for it, if it is
+    /// there. It takes no memory.
+    pub fn mark_recalled(&mut self, session: u32, file: u64, xid: u32)
+        ensures leases { self.new.leases ≡ marked self.old.leases session file xid }
+        ensures room { self.old.room ≤ self.new.room }
+    {
+        changes::mark(&mut self.leases, &mut self.recalls, session, file, xid);
+    }
+
+    /// The session answered the RECALL with this xid: the lease that remembers it is no more, and
+    /// no other. It takes no memory.
+    pub fn answered(&mut self, session: u32, xid: u32)
+        ensures leases { self.new.leases ≡ without_recalled self.old.leases session xid }
+        ensures room { self.old.room ≤ self.new.room }
+    {
+        changes::give_up(&mut self.leases, &mut self.recalls, session, xid);
+    }
+
+    /// The sessions, in their order, whose leases on the file are to be asked for back where this
+    /// session asks for a change of it: those of others that have not ended at this reading of the
+    /// server's clock, and that no RECALL asked for. Session 0 is nobody, so it leaves none out. The
+    /// one error is want of memory.
+    pub fn others(
+        &self,
+        alloc: Global,
+        file: u64,
+        session: u32,
+        now: u64,
+    ) -> Result<Items<u32>, AllocError>
+        ensures { IfOk result (λ sessions. sessions ≡ others self.now.leases session file now) }
+    {
+        blocking::others(alloc, &self.leases, file, session, now)
+    }
+
+    /// Whether a lease of another session than this one on the file has not ended at this reading
+    /// of the server's clock, recalled or not. Session 0 is nobody, so it leaves none out. It takes
+    /// no memory.
+    pub fn blocked(&self, file: u64, session: u32, now: u64) -> bool
+        ensures { result ≡ is_blocked self.now.leases session file now }
+    {
+        blocking::blocked(&self.leases, file, session, now)
+    }
+
+    /// Forgets the leases that have ended at this reading of the server's clock. It takes no
+    /// memory. All leases are looked at, so it is for the time when there are many.
+    pub fn forget_ended(&mut self, now: u64)
+        ensures leases { self.new.leases ≡ without_ended self.old.leases now }
+        ensures room { self.old.room ≤ self.new.room }
+    {
+        changes::forget_ended(&mut self.leases, &mut self.recalls, now);
+    }
+}
