@@ -1,5 +1,5 @@
 -- A session's temporary files are those whose keys lie between its first and its last.
-use Rattle.std.proofs.Common.{◌≡◌, refl, sym, ap, ◌∙◌, ◌⊎◌, inl, inr, ℕ, suc, ◌+◌, ◌*◌, ◌<◌, ◌≤◌, List, [], ◌∷◌, length, Bool, true, false, arith}
+use Rattle.std.proofs.Common.{◌≡◌, refl, sym, ap, ◌∙◌, ◌⊎◌, inl, inr, ℕ, suc, ◌<◌, List, [], ◌∷◌, length, Bool, true, false, arith}
 use Rattle.std.specs.Prelude.{◌==◌, ◌&&◌, not, filter, cond, nat_le}
 use Rattle.std.specs.BTreeMap.Range.{range_contains, entries_between}
 use Rattle.std.specs.declared.ops.Bound.TheVariants.{Included}

@@ -1,9 +1,8 @@
 -- Temporary files at worked calls.
-use Rattle.std.specs.Prelude.{◌≡◌, ℕ, List, [], ◌∷◌, Option, Some, None, refl}
-use Rattle.xdr_codec.specs.declared.status.Status.{Status}
+use Rattle.std.specs.Prelude.{◌≡◌, ℕ, List, [], ◌∷◌, Some, None, refl}
 use Rattle.xdr_codec.specs.declared.status.Status.TheVariants as status
 use Rattle.temp_files.specs.Pieces.{Piece, range_fault, joined}
-use Rattle.temp_files.specs.Temps.{Temps, Temp, temp_at, with_temp, without_temp, without_session, temps_of, empty_temp, room_fault, piece_fault, with_more, size_fault, whole_of}
+use Rattle.temp_files.specs.Temps.{Temps, temp_at, with_temp, without_temp, without_session, empty_temp, room_fault, piece_fault, with_more, size_fault, whole_of}
 
 -- ---- a session makes one, for file 2, and puts "ab" at 0 and "d" at 3
 
