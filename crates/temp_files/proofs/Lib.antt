@@ -1,0 +1,6 @@
+pub mod Entries
+pub mod Apart
+pub mod Joins
+pub mod Covering
+pub mod Counts
+pub mod TempLemmas

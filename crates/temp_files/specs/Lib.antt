@@ -1,0 +1,4 @@
+pub mod Pieces
+pub mod Temps
+pub mod Covered
+pub mod Rows

@@ -1,0 +1,211 @@
+//! The temporary files of all sessions. `specs/Temps.antt` says what each call makes of them, and why
+//! it is refused.
+
+ghost use Rattle.std.specs.Prelude.{◌≡◌, ◌≤◌, [], IfOk, OnOk, OnErr, IsErrOf, is_some, length, None};
+ghost use Rattle.std.specs.BTreeMap.Range.{entries_between};
+ghost use Rattle.std.specs.declared.ops.Bound.TheVariants.{Included};
+ghost use Rattle.std.specs.List.{All};
+ghost use Rattle.std.specs.Ordering.{nat_cmp};
+ghost use Rattle.std.specs.Option.{option_copied};
+ghost use Rattle.temp_files.specs.declared.fault.TempErr.TheVariants as refusal;
+ghost use Rattle.temp_files.specs.Covered.{ComesTo};
+ghost use Rattle.temp_files.specs.Temps.{key_of, temp_at, with_temp, without_temp, without_session, temps_of, temps_most, empty_temp, room_fault, piece_fault, with_more, size_fault, whole_of, pieces_of, IsTempKeyed, Tells};
+
+use crate::fault::TempErr;
+use crate::temp::{SIZE_MOST, Temp};
+use lb_base::items::Bytes;
+use std::alloc::{AllocError, Global};
+use std::collections::BTreeMap;
+use std::marker::Model;
+
+/// The most temporary files of a session.
+const TEMPS_MOST: usize = 16;
+
+/// Temporary files by their keys.
+type Keyed = BTreeMap<u64, Temp>;
+
+/// A temporary file's key: its session, and its number behind it.
+fn key_of(session: u32, fd: u32) -> u64
+    ensures { result ≡ key_of session fd }
+{
+    u64::from(session) * 4_294_967_296 + u64::from(fd)
+}
+
+/// The temporary file that a session has under a number.
+fn find(temps: &Keyed, session: u32, fd: u32) -> Option<&Temp>
+    ensures { option_copied result ≡ temp_at temps.now.entries session fd }
+{
+    temps.get(&key_of(session, fd))
+}
+
+/// How many temporary files have keys from the first up to the last.
+fn count_between(temps: &Keyed, first: u64, last: u64) -> usize
+    requires { first ≤ last }
+    ensures { result ≡ length (entries_between nat_cmp (Included first) (Included last) temps.now.entries) }
+{
+    temps.range(first..=last).count()
+}
+
+/// How many temporary files a session has: their keys stand one behind the other.
+#[tactic(auto, using(crate::proofs::Counts::counted))]
+fn count_of(temps: &Keyed, session: u32) -> usize
+    requires { All IsTempKeyed temps.now.entries }
+    ensures { result ≡ temps_of temps.now.entries session }
+{
+    count_between(temps, key_of(session, 0), key_of(session, u32::MAX))
+}
+
+/// Why the session can't have a further temporary file under this number. It takes no memory.
+fn room_fault(temps: &Keyed, session: u32, fd: u32) -> Result<(), TempErr>
+    requires { All IsTempKeyed temps.now.entries }
+    ensures { Tells result (room_fault temps.now.entries session fd) }
+{
+    if temps.contains_key(&key_of(session, fd)) {
+        return Err(TempErr::FdInUse);
+    }
+    if count_of(temps, session) >= TEMPS_MOST {
+        return Err(TempErr::TooManyTemps);
+    }
+    Ok(())
+}
+
+/// Why a piece of so many bytes can't be put at this place of a temporary file. It takes no memory.
+fn piece_fault(temps: &Keyed, session: u32, fd: u32, offset: u64, count: u64) -> Result<(), TempErr>
+    ensures told { Tells result (piece_fault (temp_at temps.now.entries session fd) offset count) }
+    ensures sure { ¬ IsErrOf result refusal.Memory }
+{
+    match find(temps, session, fd) {
+        Some(temp) => temp.check(offset, count),
+        None => Err(TempErr::BadFd),
+    }
+}
+
+/// Puts a piece into a temporary file where it may be. The one error is want of memory, and all then
+/// stays as it was.
+fn put(
+    temps: &mut Keyed,
+    session: u32,
+    fd: u32,
+    offset: u64,
+    bytes: Bytes,
+) -> Result<(), AllocError>
+    requires fits { piece_fault (temp_at temps.old.entries session fd) offset (length bytes) ≡ None }
+    requires keyed { All IsTempKeyed temps.old.entries }
+    ensures ok { OnOk result (temps.new.entries ≡ with_more temps.old.entries (temp_at temps.old.entries session fd) offset bytes) }
+    ensures err { OnErr result (temps.new.entries ≡ temps.old.entries) }
+    ensures keyed { All IsTempKeyed temps.new.entries }
+{
+    match temps.get_mut(&key_of(session, fd)) {
+        Some(temp) => temp.put(offset, bytes),
+        None => Ok(()),
+    }
+}
+
+/// The temporary files of all sessions. A session's own are told apart by numbers that its client
+/// picks; it has at most sixteen, each of at most 67,108,864 bytes.
+///
+/// Contracts see them in a list by rising keys, each a session and a number behind it.
+#[derive(Drop)]
+pub struct Temps {
+    alloc: Global,
+    files: Keyed,
+}
+
+impl Model for Temps {
+    ghost use Rattle.std.specs.Prelude.{ℕ, List};
+    ghost use Rattle.std.specs.List.{All};
+    ghost use Rattle.temp_files.specs.Temps.{Temp as Known, IsTempKeyed};
+
+    ghost Value = { List (ℕ × Known) };
+
+    ghost view = { λ t. t.files.entries };
+
+    ghost invariant = { λ t. All IsTempKeyed t.files.entries };
+}
+
+impl Temps {
+    /// No temporary files. It takes no memory.
+    pub fn new(alloc: Global) -> Temps
+        ensures { result ≡ [] }
+    {
+        Temps {
+            alloc,
+            files: BTreeMap::new(alloc),
+        }
+    }
+
+    /// Whether a session has a temporary file under a number. It takes no memory.
+    pub fn has(&self, session: u32, fd: u32) -> bool
+        ensures { result ≡ is_some (temp_at self.now session fd) }
+    {
+        find(&self.files, session, fd).is_some()
+    }
+
+    /// Makes a temporary file with nothing in it, for the file with the id `target`: `FdInUse` where
+    /// the session has one under the number, `TooManyTemps` where it has sixteen. All stays as it was
+    /// where the call is refused.
+    pub fn make(&mut self, session: u32, fd: u32, target: u64) -> Result<(), TempErr>
+        ensures told { Tells result (room_fault self.old session fd) }
+        ensures ok { OnOk result (self.new ≡ with_temp self.old (empty_temp session fd target)) }
+        ensures err { OnErr result (self.new ≡ self.old) }
+    {
+        room_fault(&self.files, session, fd)?;
+        let temp = Temp::new(self.alloc, session, fd, target);
+        self.files.insert(key_of(session, fd), temp)?;
+        Ok(())
+    }
+
+    /// The refusal that putting so many bytes at a place would meet, want of memory left aside. It
+    /// takes no memory.
+    pub fn check(&self, session: u32, fd: u32, offset: u64, count: u64) -> Result<(), TempErr>
+        ensures told { Tells result (piece_fault (temp_at self.now session fd) offset count) }
+        ensures sure { ¬ IsErrOf result refusal.Memory }
+    {
+        piece_fault(&self.files, session, fd, offset, count)
+    }
+
+    /// Puts a piece at a place of a temporary file: `BadFd` where there is no such file, `Inval`
+    /// where the piece is empty or ends beyond 2 ^ 64 - 1, `FBig` where it ends beyond 67,108,864
+    /// bytes, `Inval` where it meets another piece. All stays as it was where the call is refused.
+    pub fn put(&mut self, session: u32, fd: u32, offset: u64, bytes: Bytes) -> Result<(), TempErr>
+        ensures told { Tells result (piece_fault (temp_at self.old session fd) offset (length bytes)) }
+        ensures ok { OnOk result (self.new ≡ with_more self.old (temp_at self.old session fd) offset bytes) }
+        ensures err { OnErr result (self.new ≡ self.old) }
+    {
+        piece_fault(&self.files, session, fd, offset, bytes.len() as u64)?;
+        put(&mut self.files, session, fd, offset, bytes)?;
+        Ok(())
+    }
+
+    /// The whole content of a temporary file, where its pieces cover 0 to the size once each and
+    /// nothing beyond, and else none: `BadFd` where there is no such file, `FBig` where the size is
+    /// beyond 67,108,864 bytes.
+    pub fn whole(&self, session: u32, fd: u32, size: u64) -> Result<Option<Bytes>, TempErr>
+        ensures told { Tells result (size_fault (temp_at self.now session fd) size) }
+        ensures exact { IfOk result (λ whole. whole ≡ whole_of (temp_at self.now session fd) size) }
+        ensures covered { IfOk result (ComesTo (pieces_of (temp_at self.now session fd)) size) }
+    {
+        let Some(temp) = find(&self.files, session, fd) else {
+            return Err(TempErr::BadFd);
+        };
+        if size > SIZE_MOST {
+            return Err(TempErr::FBig);
+        }
+        let whole = temp.assembled(self.alloc, size)?;
+        Ok(whole)
+    }
+
+    /// Ends a temporary file, if there is one under the number. It takes no memory.
+    pub fn end(&mut self, session: u32, fd: u32)
+        ensures { self.new ≡ without_temp self.old session fd }
+    {
+        self.files.remove(&key_of(session, fd));
+    }
+
+    /// Ends all temporary files of a session. It takes no memory.
+    pub fn drop_session(&mut self, session: u32)
+        ensures { self.new ≡ without_session self.old session }
+    {
+        self.files.retain(|_, temp| temp.session() != session);
+    }
+}
