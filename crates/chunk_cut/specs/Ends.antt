@@ -3,11 +3,12 @@
 -- content, such that the 48 bytes before e are marked or e is s + 65536. Where there is none, the
 -- end is that of the content. A content of no bytes has no chunk.
 use Rattle.std.specs.Prelude.{◌≡◌, ℕ, ◌+◌, ◌-◌, ◌%◌, ◌^◌, ◌<◌, ◌≤◌, ◌⊎◌, List, [], ◌∷◌, length, take, drop}
+use Rattle.limits.specs.declared.TheConstants.{CHUNK_LEAST, CHUNK_MOST, WINDOW}
 use Rattle.rabin_window.specs.Fingerprint.{fp}
 
 -- the window of 48 bytes that ends before e
 abbrev pub window_before : List ℕ → ℕ → List ℕ
-window_before content e = take 48 (drop (e - 48) content)
+window_before content e = take WINDOW (drop (e - WINDOW) content)
 
 -- the low 13 bits of its fingerprint are 0x78
 abbrev pub IsMarked : List ℕ → Type 0
@@ -15,10 +16,10 @@ IsMarked window = fp window % 2 ^ 13 ≡ 0x78
 
 -- a chunk that begins at s may end at e
 pub record MayEnd (content : List ℕ) (s e : ℕ) : Type 0 where
-  pub least : s + 2048 ≤ e
-  pub most : e ≤ s + 65536
+  pub least : s + CHUNK_LEAST ≤ e
+  pub most : e ≤ s + CHUNK_MOST
   pub within : e ≤ length content
-  pub mark : IsMarked (window_before content e) ⊎ (e ≡ s + 65536)
+  pub mark : IsMarked (window_before content e) ⊎ (e ≡ s + CHUNK_MOST)
 
 -- a chunk that begins at s may end nowhere in the content
 abbrev pub IsOpen : List ℕ → ℕ → Type 0

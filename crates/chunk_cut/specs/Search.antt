@@ -1,6 +1,7 @@
 -- The ends of chunks, found by a search that takes the least each time. `ends` is the one list that
 -- `AreEnds` of `Ends` holds of: the law of the crate says so.
 use Rattle.std.specs.Prelude.{ℕ, zero, suc, ◌+◌, ◌-◌, ◌%◌, ◌^◌, List, [], ◌∷◌, ◌++◌, length, Option, Some, None, Bool, true, false, nat_eq, nat_le, nat_lt, ◌&&◌, ◌||◌}
+use Rattle.limits.specs.declared.TheConstants.{CHUNK_LEAST, CHUNK_MOST}
 use Rattle.rabin_window.specs.Fingerprint.{fp}
 use Rattle.chunk_cut.specs.Ends.{window_before}
 
@@ -11,11 +12,11 @@ least test (suc n) e = elim (test e) [ true ↦ Some e | false ↦ least test n 
 
 -- a chunk that begins at s, and has the least size, may end at e
 abbrev pub may_end : List ℕ → ℕ → ℕ → Bool
-may_end content s e = nat_le e (s + 65536) && (nat_eq (fp (window_before content e) % 2 ^ 13) 0x78 || nat_eq e (s + 65536))
+may_end content s e = nat_le e (s + CHUNK_MOST) && (nat_eq (fp (window_before content e) % 2 ^ 13) 0x78 || nat_eq e (s + CHUNK_MOST))
 
 -- the least place in the content where a chunk that begins at s may end
 unfoldable pub next_end : List ℕ → ℕ → Option ℕ
-next_end content s = least (may_end content s) (length content + 1 - (s + 2048)) (s + 2048)
+next_end content s = least (may_end content s) (length content + 1 - (s + CHUNK_LEAST)) (s + CHUNK_LEAST)
 
 -- the ends of the next chunks from the cut at s on that end whatever follows, so many at most
 abbrev pub closed_from : ℕ → List ℕ → ℕ → List ℕ

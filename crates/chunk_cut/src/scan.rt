@@ -7,10 +7,10 @@ ghost use Rattle.chunk_cut.specs.Ends.{IsLeastEnd};
 use rabin_window::{WINDOW_LEN, Window};
 
 /// The least number of bytes of a chunk that is not the last.
-pub const LEAST: u64 = 2_048;
+pub const LEAST: u64 = limits::CHUNK_LEAST as u64;
 
 /// The most bytes of a chunk.
-pub const MOST: u64 = 65_536;
+pub const MOST: u64 = limits::CHUNK_MOST as u64;
 
 // A window is marked by these low bits of its fingerprint.
 const MARK_BITS: u64 = 0x1FFF;

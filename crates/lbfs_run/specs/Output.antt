@@ -1,5 +1,6 @@
 -- What is written for an input, and the status that the run then ends with.
 use Rattle.std.specs.Prelude.{◌≡◌, ◌⊎◌, ℕ, List, [], ◌∷◌, ◌++◌, length, Option, Some, None, Result, Ok, Err, Bool, true, false, nat_lt, codes, decimal, flat_map}
+use Rattle.limits.specs.declared.TheConstants.{INPUT_MOST}
 use Rattle.hex.specs.Hex.{encode_lower}
 use Rattle.chunk_cut.specs.Chunks.{chunks_of}
 use Rattle.chunk_cut.specs.declared.chunk.Chunk.{Chunk}
@@ -53,7 +54,7 @@ command_output command.Show input = (status.Done, shown input)
 
 -- the most bytes that an input may have
 abbrev pub most_bytes : ℕ
-most_bytes = 67108864
+most_bytes = INPUT_MOST
 
 -- an input that is too long is refused
 abbrev pub unless_long : Bool → Status × List ℕ → Status × List ℕ

@@ -18,7 +18,7 @@ use trace_replay::law::promise_is_kept;
 use trace_text::refusal::Refusal;
 
 /// The most bytes that an input may have.
-const MOST_BYTES: usize = 67_108_864;
+const MOST_BYTES: usize = limits::INPUT_MOST;
 
 /// What the program reads and writes.
 #[derive(Drop)]

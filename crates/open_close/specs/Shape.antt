@@ -1,22 +1,23 @@
 -- Whether a GETHASH answer can be one of a whole file: the first number in it that breaks a bound, with the bound.
 use Rattle.std.specs.Prelude.{ℕ, ◌+◌, List, [], ◌∷◌, length, Option, Some, None, Bool, true, false, ◌==◌, nat_lt, if◌then◌else◌}
+use Rattle.limits.specs.declared.TheConstants.{FILE_MOST, CHUNK_MOST, CHUNK_LEAST, PAIRS_MOST}
 use Rattle.hash_calls.specs.declared.call.Hashes.{Hashes}
 use Rattle.hash_calls.specs.declared.call.Pair.{Pair}
 
 -- no file is longer, in bytes
 abbrev pub file_limit : ℕ
-file_limit = 67108864
+file_limit = FILE_MOST
 
 -- no chunk is longer, and only the last of a file is shorter than the least (the LBFS paper, section 3.1)
 abbrev pub chunk_most : ℕ
-chunk_most = 65536
+chunk_most = CHUNK_MOST
 
 abbrev pub chunk_least : ℕ
-chunk_least = 2048
+chunk_least = CHUNK_LEAST
 
 -- no GETHASH answer has more chunks
 abbrev pub pairs_most : ℕ
-pairs_most = 1024
+pairs_most = PAIRS_MOST
 
 -- the number that came, and the bound that it broke
 abbrev pub Broken : Type 0

@@ -6,16 +6,16 @@ ghost use Rattle.open_close.specs.Shape.{broken_pair, broken_pairs, broken_whole
 use hash_calls::call::{Hashes, Pair};
 
 /// No file is longer, in bytes.
-const FILE_LIMIT: u64 = 0x0400_0000;
+const FILE_LIMIT: u64 = limits::FILE_MOST;
 
 /// No GETHASH answer has more chunks.
-const PAIRS_MOST: u64 = 1024;
+const PAIRS_MOST: u64 = limits::PAIRS_MOST as u64;
 
 /// No chunk is longer, in bytes.
-const CHUNK_MOST: u32 = 65536;
+const CHUNK_MOST: u32 = limits::CHUNK_MOST;
 
 /// Only the last chunk of a file is shorter, in bytes.
-const CHUNK_LEAST: u32 = 2048;
+const CHUNK_LEAST: u32 = limits::CHUNK_LEAST;
 
 /// What is wrong with a chunk, which is the last or not.
 fn broken_pair(is_last: bool, pair: &Pair) -> Option<(u64, u64)>

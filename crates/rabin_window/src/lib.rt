@@ -13,7 +13,7 @@ mod tables;
 use tables::{HIGH, OLDEST};
 
 /// How many bytes a window has.
-pub const WINDOW_LEN: usize = 48;
+pub const WINDOW_LEN: usize = limits::WINDOW;
 
 // The low 45 bits: what of a fingerprint stays below the modulus when it moves up by a byte.
 const LOW: u64 = 0x1FFF_FFFF_FFFF;

@@ -1,5 +1,6 @@
 -- What the server answers to each call. It changes nothing.
 use Rattle.std.specs.Prelude.{ℕ, ◌+◌, ◌/◌, ◌%◌, List, [], ◌∷◌, length, take, drop, min, Option, Some, None, Result, Ok, Err, Bool, true, false, ◌&&◌, ◌||◌, ◌==◌, nat_lt, nat_le}
+use Rattle.limits.specs.declared.TheConstants.{PIECE_MOST}
 use Rattle.sha1.specs.Sha1.{sha1}
 use Rattle.xdr_codec.specs.Handle.{file_of}
 use Rattle.xdr_codec.specs.declared.status.Status.{Status}
@@ -87,7 +88,7 @@ hash_answer (Ok (file f)) r = Done (hashes_of f r)
 
 -- the bytes from the offset on, at most as many as are asked for, and at most 65,536
 abbrev pub piece_bytes : List ℕ → Range → List ℕ
-piece_bytes content r = take (min r.count 65536) (drop r.offset content)
+piece_bytes content r = take (min r.count PIECE_MOST) (drop r.offset content)
 
 abbrev pub piece_of : File → Range → Piece
 piece_of f r = record {

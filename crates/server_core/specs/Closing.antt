@@ -1,5 +1,6 @@
 -- What the server does for the calls of a close: MKTMPFILE, TMPWRITE, CONDWRITE and COMMITTMP, and how a change is made.
 use Rattle.std.specs.Prelude.{ℕ, ◌+◌, List, [], ◌∷◌, ◌++◌, length, Option, Some, None, Result, Ok, Err, Bool, false, ◌||◌, ◌==◌, is_some, unwrap_or, max, nat_lt, nat_le, if◌then◌else◌}
+use Rattle.limits.specs.declared.TheConstants.{TEMPS_MOST, PIECE_MOST, TREE_MOST, CHANGES_MOST}
 use Rattle.std.specs.List.{list_any}
 use Rattle.sha1.specs.Sha1.{sha1}
 use Rattle.xdr_codec.specs.declared.status.Status.{Status}
@@ -29,19 +30,19 @@ use Rattle.server_core.specs.Temps.{Temp, temp_at, with_temp, without_temp, temp
 
 -- the most temporary files of a session
 abbrev pub temps_most : ℕ
-temps_most = 16
+temps_most = TEMPS_MOST
 
 -- the most bytes that one CONDWRITE names
 abbrev pub cond_most : ℕ
-cond_most = 65536
+cond_most = PIECE_MOST
 
 -- the most bytes of the tree, with those of the changes that wait
 abbrev pub tree_most : ℕ
-tree_most = 1073741824
+tree_most = TREE_MOST
 
 -- the most changes that are ever made
 abbrev pub changes_most : ℕ
-changes_most = 4294967295
+changes_most = CHANGES_MOST
 
 -- ---- what is said
 

@@ -1,5 +1,6 @@
 -- One event of the server.
 use Rattle.std.specs.Prelude.{◌≡◌, ℕ, ◌+◌, ◌<◌, ◌≤◌, ◌^◌, List, [], ◌∷◌, ◌++◌, length, max, Bool, true, false, ◌&&◌, ◌==◌, nat_lt, filter, not}
+use Rattle.limits.specs.declared.TheConstants.{SESSIONS_MOST, SESSIONS_EVER_MOST, FILE_MOST}
 use Rattle.std.specs.List.{list_any}
 use Rattle.hash_calls.specs.declared.message.Lb.TheVariants as lb
 use Rattle.nfs3_calls.specs.declared.message.Nfs.TheVariants as nfs
@@ -54,7 +55,7 @@ got_if s false session m now = (s, outs [])
 
 -- at most 64 sessions stand at once, and at most 4,294,967,295 are ever made
 abbrev pub has_room : State → Bool
-has_room s = nat_lt (length s.sessions) 64 && nat_lt s.made 4294967295
+has_room s = nat_lt (length s.sessions) SESSIONS_MOST && nat_lt s.made SESSIONS_EVER_MOST
 
 abbrev pub connect : State → Bool → State × Outs
 connect s true = (record s { sessions = s.sessions ++ (s.made + 1) ∷ []; made = s.made + 1 }, record { send = []; told = told.Session (s.made + 1); missed = false })
@@ -109,4 +110,4 @@ MayMiss e = Unit {0}
 pub record IsFileBounded (f : File) : Type 0 where
   pub id : f.id < 2 ^ 64
   pub version : f.version < 2 ^ 32
-  pub size : length f.content ≤ 67108864
+  pub size : length f.content ≤ FILE_MOST

@@ -1,5 +1,6 @@
 -- Temporary files.
 use Rattle.std.specs.Prelude.{◌≡◌, ℕ, ◌+◌, ◌*◌, List, [], ◌∷◌, ◌++◌, length, filter, Option, Some, None, Bool, ◌&&◌, ◌==◌, nat_lt, if◌then◌else◌}
+use Rattle.limits.specs.declared.TheConstants.{FILE_MOST}
 use Rattle.std.specs.BTreeMap.{insert_entry, is_at}
 use Rattle.std.specs.List.{list_any}
 use Rattle.std.specs.Map.{lookup, remove_entry, values_of}
@@ -42,7 +43,7 @@ temps_of temps session = length (filter (λ t. t.session == session) (values_of 
 
 -- no temporary file reaches further, in bytes
 abbrev pub size_most : ℕ
-size_most = 67108864
+size_most = FILE_MOST
 
 -- a piece meets the range from start up to end
 abbrev pub overlaps : (start end : ℕ) → (ℕ × List ℕ) → Bool

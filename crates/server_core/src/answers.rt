@@ -25,7 +25,7 @@ use xdr_codec::status::Status;
 const ROOT: u64 = 1;
 
 /// The most bytes that one READ gives.
-const READ_MOST: u32 = 65536;
+const READ_MOST: u32 = limits::PIECE_MOST;
 
 /// The file with the id.
 fn find_file(files: &BTreeMap<u64, File>, id: u64) -> Option<&File>

@@ -32,13 +32,13 @@ use xdr_codec::answer::Answer;
 use xdr_codec::status::Status;
 
 /// The most bytes that one CONDWRITE names.
-const COND_MOST: u32 = 65_536;
+const COND_MOST: u32 = limits::PIECE_MOST;
 
 /// The most bytes of the tree, with those of the changes that wait.
-const TREE_MOST: u64 = 1_073_741_824;
+const TREE_MOST: u64 = limits::TREE_MOST;
 
 /// The most changes that are ever made.
-const CHANGES_MOST: u64 = 4_294_967_295;
+const CHANGES_MOST: u64 = limits::CHANGES_MOST;
 
 /// Why a CONDWRITE can't be done. This server knows no bytes by their digest.
 fn cond_fault(temps: &Temps, session: u32, piece: &CondPiece) -> Status

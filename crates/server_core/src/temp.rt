@@ -11,7 +11,7 @@ use std::marker::Model;
 use xdr_codec::status::Status;
 
 /// No temporary file reaches further, in bytes.
-pub const SIZE_MOST: u64 = 67_108_864;
+pub const SIZE_MOST: u64 = limits::FILE_MOST;
 
 /// A temporary file: pieces under a number that the client picked, within its session.
 #[derive(Drop)]

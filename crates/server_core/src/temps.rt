@@ -17,7 +17,7 @@ use xdr_codec::status::Status;
 pub type Temps = BTreeMap<u64, Temp>;
 
 /// The most temporary files of a session.
-const TEMPS_MOST: usize = 16;
+const TEMPS_MOST: usize = limits::TEMPS_MOST;
 
 /// A temporary file's key: its session, and its number behind it.
 fn key_of(session: u32, fd: u32) -> u64

@@ -1,5 +1,6 @@
 -- The pieces of one temporary file: which may be put among them, and what they come to.
 use Rattle.std.specs.Prelude.{ℕ, ◌+◌, ◌<◌, ◌≤◌, List, [], ◌∷◌, ◌++◌, length, Option, Some, None, Bool, ◌&&◌, ◌==◌, nat_lt, if◌then◌else◌}
+use Rattle.limits.specs.declared.TheConstants.{FILE_MOST}
 use Rattle.std.specs.BTreeMap.{insert_entry}
 use Rattle.std.specs.List.{list_any}
 use Rattle.std.specs.Option.{option_map}
@@ -13,7 +14,7 @@ Piece = ℕ × List ℕ
 
 -- no temporary file reaches further, in bytes
 abbrev pub size_most : ℕ
-size_most = 67108864
+size_most = FILE_MOST
 
 -- ---- which may be put
 

@@ -1,5 +1,6 @@
 -- Temporary files: what MKTMPFILE, TMPWRITE and COMMITTMP make of them, and why each is refused, in this order.
 use Rattle.std.specs.Prelude.{◌≡◌, ℕ, ◌+◌, ◌*◌, ◌<◌, List, [], length, filter, not, Option, Some, None, Result, Ok, Err, ◌==◌, is_some, nat_lt, nat_le, if◌then◌else◌}
+use Rattle.limits.specs.declared.TheConstants.{TEMPS_MOST}
 use Rattle.std.specs.BTreeMap.{insert_entry, is_at}
 use Rattle.std.specs.Map.{lookup, remove_entry, values_of}
 use Rattle.std.specs.Ordering.{nat_cmp}
@@ -20,7 +21,7 @@ pub record Temp : Type 0 where
 
 -- the most temporary files of a session
 abbrev pub temps_most : ℕ
-temps_most = 16
+temps_most = TEMPS_MOST
 
 -- a temporary file's key: its session, and its number of 32 bits behind it
 abbrev pub key_of : (session fd : ℕ) → ℕ

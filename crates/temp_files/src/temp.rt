@@ -15,7 +15,7 @@ use std::collections::BTreeMap;
 use std::marker::Model;
 
 /// No temporary file reaches further, in bytes.
-pub const SIZE_MOST: u64 = 67_108_864;
+pub const SIZE_MOST: u64 = limits::FILE_MOST;
 
 /// The pieces of a temporary file, by the places of their first bytes.
 type Pieces = BTreeMap<u64, Bytes>;

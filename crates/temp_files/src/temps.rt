@@ -19,7 +19,7 @@ use std::collections::BTreeMap;
 use std::marker::Model;
 
 /// The most temporary files of a session.
-const TEMPS_MOST: usize = 16;
+const TEMPS_MOST: usize = limits::TEMPS_MOST;
 
 /// Temporary files by their keys.
 type Keyed = BTreeMap<u64, Temp>;

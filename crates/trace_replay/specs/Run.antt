@@ -1,5 +1,6 @@
 -- A trace run line by line.
 use Rattle.std.specs.Prelude.{ℕ, ◌+◌, List, [], ◌∷◌, ◌++◌, length, Option, Some, None, Result, Ok, Err, Bool, true, false, not, ◌&&◌, ◌==◌, nat_lt, nat_le, slice_get, slice_set}
+use Rattle.limits.specs.declared.TheConstants.{LINES_MOST, TREE_MOST}
 use Rattle.trace_text.specs.Parts.{lines_of}
 use Rattle.trace_text.specs.Grammar.{line_of}
 use Rattle.trace_text.specs.Content.{content_length, content_bytes}
@@ -37,7 +38,7 @@ use Rattle.trace_replay.specs.Delivery.{acted, up_some, down_some, passes}
 -- ---- limits
 
 abbrev pub line_most : ℕ
-line_most = 65536
+line_most = LINES_MOST
 
 -- the most bytes of a file of a trace
 abbrev pub file_most : ℕ
@@ -45,7 +46,7 @@ file_most = 2048
 
 -- the most bytes of all files of a trace together
 abbrev pub tree_most : ℕ
-tree_most = 1073741824
+tree_most = TREE_MOST
 
 -- ---- the opening tree
 

@@ -18,13 +18,13 @@ use trace_text::line::{Amount, Command, Line};
 use trace_text::refusal::{Limit, LineFault};
 
 /// The most lines of a trace.
-pub const LINE_MOST: u64 = 65_536;
+pub const LINE_MOST: u64 = limits::LINES_MOST;
 
 /// The most bytes of a file of a trace.
 pub const FILE_MOST: u64 = 2_048;
 
 /// The most bytes of all files of a trace together.
-pub const TREE_MOST: u64 = 1_073_741_824;
+pub const TREE_MOST: u64 = limits::TREE_MOST;
 
 /// What a line in place asks of the world.
 #[derive(Drop)]

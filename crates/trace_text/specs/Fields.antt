@@ -1,5 +1,6 @@
 -- What the words of a line stand for.
 use Rattle.std.specs.Prelude.{ℕ, ◌+◌, ◌-◌, ◌*◌, ◌^◌, List, [], ◌∷◌, Bool, not, ◌&&◌, ◌||◌, ◌==◌, nat_le, nat_lt, slice_index, length, take, drop, Option, Some, None, codes, bytes_eq, if◌then◌else◌}
+use Rattle.limits.specs.declared.TheConstants.{NAME_MOST}
 use Rattle.std.specs.Result.{result_ok}
 use Rattle.std.specs.List.{list_all, before_first, after_first}
 use Rattle.std.specs.Char.{is_ascii_digit, is_ascii_alphanumeric}
@@ -56,9 +57,9 @@ is_letter b = is_ascii_alphanumeric b || b == 46 || b == 95 || b == 45
 abbrev pub is_text : List ℕ → Bool
 is_text text = not (length text == 0) && list_all is_letter text
 
--- at most 255 letters, other than . and ..
+-- so many letters at most, other than . and ..
 abbrev pub is_name : List ℕ → Bool
-is_name word = is_text word && nat_le (length word) 255 && not (bytes_eq word (codes ".")) && not (bytes_eq word (codes ".."))
+is_name word = is_text word && nat_le (length word) NAME_MOST && not (bytes_eq word (codes ".")) && not (bytes_eq word (codes ".."))
 
 abbrev pub name_of : List ℕ → Option (List ℕ)
 name_of word = if is_name word then Some word else None

@@ -1,5 +1,6 @@
 -- What a line of a trace says.
 use Rattle.std.specs.Prelude.{ℕ, List, [], ◌∷◌, Bool, ◌||◌, ◌==◌, length, take, Option, Some, None, codes, bytes_eq, if◌then◌else◌}
+use Rattle.limits.specs.declared.TheConstants.{TERM_MOST, DRIFT_MOST, CLIENTS_MOST}
 use Rattle.trace_text.specs.declared.content.Part.{Part}
 use Rattle.trace_text.specs.declared.line.Command.{Command}
 use Rattle.trace_text.specs.declared.line.Command.TheVariants.{Open, Write, Trunc, Read, Close, Abandon}
@@ -15,17 +16,17 @@ version_of words = None
 
 -- term T
 abbrev pub term_of : List (List ℕ) → Option Line
-term_of (term ∷ []) = number_within 1 3600000 term >>= λ n. Some (Term n)
+term_of (term ∷ []) = number_within 1 TERM_MOST term >>= λ n. Some (Term n)
 term_of words = None
 
 -- drift E
 abbrev pub drift_of : List (List ℕ) → Option Line
-drift_of (drift ∷ []) = number_within 0 3600000 drift >>= λ n. Some (Drift n)
+drift_of (drift ∷ []) = number_within 0 DRIFT_MOST drift >>= λ n. Some (Drift n)
 drift_of words = None
 
 -- clients N
 abbrev pub clients_of : List (List ℕ) → Option Line
-clients_of (count ∷ []) = number_within 1 16 count >>= λ n. Some (Clients n)
+clients_of (count ∷ []) = number_within 1 CLIENTS_MOST count >>= λ n. Some (Clients n)
 clients_of words = None
 
 -- file NAME CONTENT

@@ -8,10 +8,10 @@ ghost use Rattle.trace_text.specs.Fields.{has_leading_zero, is_decimal, value_fr
 use crate::line::Amount;
 
 /// The longest name, in bytes.
-const LONGEST_NAME: usize = 255;
+const LONGEST_NAME: usize = limits::NAME_MOST;
 
 /// The last reading of a clock, in milliseconds.
-const LAST_READING: u64 = i64::MAX as u64;
+const LAST_READING: u64 = limits::READING_MOST;
 
 /// Whether these are digits alone.
 fn are_digits(word: &[u8]) -> bool

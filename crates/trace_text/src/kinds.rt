@@ -11,13 +11,8 @@ use crate::line::{Line, LineErr};
 use crate::parts::Words;
 use crate::{fields, pieces};
 use lb_base::items::Name;
+use limits::{CLIENTS_MOST, DRIFT_MOST, TERM_MOST};
 use std::alloc::Global;
-
-/// The longest term and the largest drift, in milliseconds.
-const AN_HOUR: u64 = 3_600_000;
-
-/// The most clients.
-const MOST_CLIENTS: u64 = 16;
 
 /// `lbfs-trace 1`.
 fn version(words: &mut Words) -> Option<Line>
@@ -38,7 +33,7 @@ fn term(words: &mut Words) -> Option<Line>
 {
     let term = words.next()?;
     words.end()?;
-    Some(Line::Term(fields::number_within(1, AN_HOUR, term)?))
+    Some(Line::Term(fields::number_within(1, TERM_MOST, term)?))
 }
 
 /// `drift E`.
@@ -47,7 +42,7 @@ fn drift(words: &mut Words) -> Option<Line>
 {
     let drift = words.next()?;
     words.end()?;
-    Some(Line::Drift(fields::number_within(0, AN_HOUR, drift)?))
+    Some(Line::Drift(fields::number_within(0, DRIFT_MOST, drift)?))
 }
 
 /// `clients N`.
@@ -56,7 +51,7 @@ fn clients(words: &mut Words) -> Option<Line>
 {
     let count = words.next()?;
     words.end()?;
-    Some(Line::Clients(fields::number_within(1, MOST_CLIENTS, count)?))
+    Some(Line::Clients(fields::number_within(1, CLIENTS_MOST, count)?))
 }
 
 /// The words of a file's name and content.
