@@ -18,15 +18,18 @@ how=${3:-run}
 work=$(mktemp -d)
 trap 'rm -rf "$work"' EXIT
 
-for crate in lb_base xdr_codec rpc_record; do
+for crate in limits lb_base xdr_codec rpc_record; do
     mkdir -p "$work/crates/$crate"
-    cp -r "crates/$crate/src" "crates/$crate/specs" "crates/$crate/proofs" "$work/crates/$crate"
+    for part in src specs proofs; do
+        if [ -d "crates/$crate/$part" ]; then cp -r "crates/$crate/$part" "$work/crates/$crate"; fi
+    done
 done
 cat >"$work/crates.txt" <<'EOF'
+limits:
 lb_base:
-xdr_codec: lb_base
-rpc_record: xdr_codec lb_base
-feed_bench: rpc_record lb_base
+xdr_codec: lb_base limits
+rpc_record: xdr_codec lb_base limits
+feed_bench: rpc_record lb_base limits
 EOF
 mkdir -p "$work/crates/feed_bench/src"
 cat >"$work/crates/feed_bench/src/main.rt" <<'EOF'
