@@ -1,0 +1,2 @@
+pub mod There
+mod Entries
