@@ -1,5 +1,5 @@
 -- An index at worked calls.
-use Rattle.std.specs.Prelude.{◌≡◌, ℕ, List, [], ◌∷◌, Option, Some, None, refl}
+use Rattle.std.specs.Prelude.{◌≡◌, ℕ, [], ◌∷◌, Some, None, refl}
 use Rattle.chunk_index.specs.declared.place.Place.{Place}
 use Rattle.chunk_index.specs.Index.{Indexed, Pairs, key_of, place_of, put, found, cleared}
 

@@ -1,13 +1,12 @@
 -- The entries of a cache, in the words of its definitions and in those of `lru`.
-use Rattle.std.proofs.Common.{◌≡◌, refl, sym, ap, ◌∙◌, ℕ, ◌+◌, ◌-◌, ◌<◌, ◌≤◌, List, [], ◌∷◌, length, take, Option, Some, None, Result, Ok, Err, OnOk, OnErr, subst, Bool, true, false, true≢false, nat_eq, arith}
-use Rattle.std.specs.Prelude.{is_some, unwrap_or, IsSome}
-use Rattle.std.specs.Map.{lookup, remove_entry, set_value}
+use Rattle.std.proofs.Common.{◌≡◌, refl, sym, ap, ◌∙◌, ℕ, ◌≤◌, List, ◌∷◌, length, take, Option, Some, None, Result, Ok, Err, OnOk, OnErr, subst, true, false, true≢false, nat_eq, arith}
+use Rattle.std.specs.Prelude.{is_some, unwrap_or}
+use Rattle.std.specs.Map.{remove_entry, set_value}
 use Rattle.lru.specs.LruCache.{LruCache, lru_cache, promoted, put_entries}
-use Rattle.chunk_index.proofs.Recent.{put_is, put_leaves, promoted_is, set_len, set_promoted, front_fits, within, front_if}
-use Rattle.client_cache.specs.declared.kept.Content.{Content}
+use Rattle.chunk_index.proofs.Recent.{put_leaves, promoted_is, set_len, set_promoted, front_fits, within, front_if}
 use Rattle.client_cache.specs.declared.kept.Note.{Note}
 use Rattle.client_cache.specs.declared.kept.Kept.{Kept}
-use Rattle.client_cache.specs.Cache.{Entries, files_most, kept_of, nothing, fronted, reserved, keeps, notes, evicts, with_content, without_content}
+use Rattle.client_cache.specs.Cache.{Entries, files_most, kept_of, nothing, fronted, reserved, keeps, notes, evicts, with_content}
 
 -- ---- an entry is given
 

@@ -1,5 +1,5 @@
 -- A client's cache: what is kept of at most 256 files, the most recent first.
-use Rattle.std.specs.Prelude.{ℕ, ◌+◌, List, [], ◌∷◌, length, take, drop, Option, Some, None, Bool, ◌&&◌, ◌==◌, nat_lt, nat_le, if◌then◌else◌, nat_eq, unwrap_or}
+use Rattle.std.specs.Prelude.{ℕ, ◌+◌, List, ◌∷◌, length, take, drop, Option, Some, None, Bool, ◌&&◌, ◌==◌, nat_lt, nat_le, if◌then◌else◌, nat_eq, unwrap_or}
 use Rattle.std.specs.Borrow.{Bor}
 use Rattle.std.specs.Map.{lookup, remove_entry, set_value}
 use Rattle.chunk_index.specs.declared.place.Place.{Place}

@@ -1,8 +1,7 @@
 -- A cache at worked calls.
-use Rattle.std.specs.Prelude.{◌≡◌, ℕ, zero, suc, ◌+◌, List, [], ◌∷◌, length, Option, Some, None, is_some, Bool, true, false, refl}
+use Rattle.std.specs.Prelude.{◌≡◌, ℕ, zero, suc, [], ◌∷◌, length, Some, None, is_some, true, false, refl}
 use Rattle.chunk_index.specs.declared.place.Place.{Place}
 use Rattle.client_cache.specs.declared.kept.Content.{Content}
-use Rattle.client_cache.specs.declared.kept.Kept.{Kept}
 use Rattle.client_cache.specs.Cache.{Entries, kept_of, content_of, fresh_of, bytes_at, reserved, with_content, with_note, without_note, without_content, nothing, fronted}
 
 abbrev abc : Content
