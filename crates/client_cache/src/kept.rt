@@ -1,0 +1,30 @@
+//! What is kept of a file.
+
+use lb_base::items::Bytes;
+
+/// A content, as a file had it in a version.
+#[derive(Drop, Debug)]
+pub struct Content {
+    /// The version.
+    pub version: u64,
+    /// The bytes.
+    pub bytes: Bytes,
+}
+
+/// The note of a lease.
+#[derive(Clone, Copy, Debug, PartialEq, Eq)]
+pub struct Note {
+    /// The version that the file had when the lease was granted.
+    pub version: u64,
+    /// The reading of the client's clock at which the lease is taken to have ended, in milliseconds.
+    pub until: u64,
+}
+
+/// What is kept of a file: a content or none, and a note or none.
+#[derive(Drop, Debug)]
+pub struct Kept {
+    /// The content.
+    pub content: Option<Content>,
+    /// The note.
+    pub note: Option<Note>,
+}
