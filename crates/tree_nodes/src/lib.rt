@@ -5,3 +5,5 @@
 
 pub mod content;
 pub mod node;
+pub mod slot;
+pub mod table;
