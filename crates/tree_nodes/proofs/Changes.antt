@@ -15,7 +15,7 @@ use Rattle.tree_nodes.proofs.Lists.{with_at, in_order_with, with_id_with, with_i
 
 -- ---- a slot set
 
-get_same : (xs : List Slot) (k : ℕ) (x y : Slot) → slice_get xs k ≡ Some x → slice_get (set xs k y) k ≡ Some y
+pub get_same : (xs : List Slot) (k : ℕ) (x y : Slot) → slice_get xs k ≡ Some x → slice_get (set xs k y) k ≡ Some y
 get_same [] k x y at = absurd cc
 get_same (z ∷ zs) zero x y at = refl
 get_same (z ∷ zs) (suc k) x y at = get_same zs k x y at
@@ -66,7 +66,7 @@ taken_set (z ∷ zs) (suc k) id x y rising at same = there_if (slot_id z == id) 
 
 -- ---- a place more, at the end, whose node is gone
 
-get_end : (xs : List Slot) (y : Slot) → slice_get (xs ++ y ∷ []) (length xs) ≡ Some y
+pub get_end : (xs : List Slot) (y : Slot) → slice_get (xs ++ y ∷ []) (length xs) ≡ Some y
 get_end [] y = refl
 get_end (x ∷ xs) y = get_end xs y
 

@@ -1,6 +1,6 @@
 -- What is found in a table.
-use Rattle.std.proofs.Common.{◌≡◌, ℕ, zero, suc, ◌+◌, ◌-◌, ◌<◌, ◌≤◌, List, [], ◌∷◌, ◌++◌, length, map, Option, Some, None, Bool, true, false, ◌&&◌, ◌==◌, refl, sym, ap, ◌∙◌, subst, arith, nat_lt, if◌then◌else◌}
-use mathlib.Core.Bool.{true≢false}
+use Rattle.std.proofs.Common.{◌≡◌, ℕ, zero, suc, ◌+◌, ◌-◌, ◌<◌, ◌≤◌, List, [], ◌∷◌, ◌++◌, length, map, Option, Some, None, IsSome, Bool, true, false, ◌&&◌, ◌==◌, refl, sym, ap, ◌∙◌, subst, arith, nat_lt, if◌then◌else◌}
+use mathlib.Core.Bool.{true≢false, false≢true}
 use Rattle.std.specs.List.{slice_get, find, AllByRecursion}
 use Rattle.std.specs.Str.{bytes_eq}
 use Rattle.std.proofs.lemmas.Bool.Decides.{nat_tests}
@@ -61,3 +61,28 @@ length_shown slots (k ∷ ks) = omega (arith, length_shown slots ks)
 
 pub order_end : (slots : List Slot) (order : List ℕ) (dir : ℕ) (name : List ℕ) → place_for (shown slots order) dir name ≤ length order
 order_end slots order dir name = omega (arith, front_le (λ n. before n dir name) (shown slots order), length_shown slots order)
+
+-- a name that is there
+
+some_of : (o : Option Node) → IsSome o → (n : Node) × (o ≡ Some n)
+some_of None is = absurd (false≢true is)
+some_of (Some n) is = (n, refl)
+
+kept_is : (q : Node → Bool) (o : Option Node) (n : Node) → kept_by q o ≡ Some n → o ≡ Some n
+kept_is q None n e = absurd cc
+kept_is q (Some m) n e = is_if (q m) e
+  where
+    is_if : (b : Bool) → (if b then Some m else None) ≡ Some n → Some m ≡ Some n
+    is_if true same = same
+    is_if false same = absurd cc
+
+shown_within : (slots : List Slot) (order : List ℕ) (i : ℕ) (n : Node) → slice_get (shown slots order) i ≡ Some n → i < length order
+shown_within slots [] i n at = absurd cc
+shown_within slots (k ∷ ks) zero n at = omega arith
+shown_within slots (k ∷ ks) (suc i) n at = omega (arith, shown_within slots ks i n at)
+
+pub named_there : (slots : List Slot) (order : List ℕ) (dir : ℕ) (name : List ℕ) (place : ℕ) → AreInOrder (shown slots order) → IsSome (named (shown slots order) dir name) → place ≡ place_for (shown slots order) dir name → (named (shown slots order) dir name ≡ slice_get (shown slots order) place) × (place < length order)
+named_there slots order dir name place sorted there is =
+    let found = some_of (named (shown slots order) dir name) there in
+    let at : slice_get (shown slots order) place ≡ Some found.0 = ap (λ i. slice_get (shown slots order) i) is ∙ kept_is (is_named dir name) (slice_get (shown slots order) (place_for (shown slots order) dir name)) found.0 (name_found slots order dir name sorted ∙ found.1) in
+    (found.1 ∙ sym at, shown_within slots order place found.0 at)

@@ -1,6 +1,9 @@
+pub mod Adding
 pub mod Changes
 pub mod Finds
 pub mod Fronts
 pub mod Lists
 pub mod Order
+pub mod Removing
+pub mod Renewing
 pub mod Slots

@@ -58,7 +58,7 @@ after_by Greater m n e fails other = ap is_lt (key_total.antisymm (n.parent, n.n
 pub comes_after : (m n : Node) → before m n.parent n.name ≡ false → is_named n.parent n.name m ≡ false → before n m.parent m.name ≡ true
 comes_after m n fails other = after_by (place_cmp m.parent m.name n.parent n.name) m n refl fails other
 
-find_first : {X : Type 0} (q : X → Bool) (x : X) (xs : List X) → find q (x ∷ xs) ≡ None → (q x ≡ false) × (find q xs ≡ None)
+pub find_first : {X : Type 0} (q : X → Bool) (x : X) (xs : List X) → find q (x ∷ xs) ≡ None → (q x ≡ false) × (find q xs ≡ None)
 find_first q x xs e = first_if (q x) refl e
   where
     first_if : (b : Bool) → q x ≡ b → (if b then Some x else find q xs) ≡ None → (q x ≡ false) × (find q xs ≡ None)

@@ -1,5 +1,5 @@
 -- How nodes are kept: each in a place of its own, by rising ids; and the places in the nodes' order.
-use Rattle.std.specs.Prelude.{◌≡◌, ℕ, suc, ◌+◌, ◌<◌, List, [], ◌∷◌, length, map, Option, Some, None, Bool, true, false, ◌==◌, if◌then◌else◌, nat_lt}
+use Rattle.std.specs.Prelude.{◌≡◌, ℕ, suc, ◌+◌, ◌<◌, List, [], ◌∷◌, length, map, Option, Some, None, Bool, true, false, ◌==◌, if◌then◌else◌, nat_lt, min, ◌-◌}
 use Rattle.std.specs.List.{find, filter, slice_get, AllByRecursion}
 use Rattle.std.specs.declared.cmp.Ordering.{Ordering}
 use Rattle.tree_nodes.specs.declared.node.Node.{Node}
@@ -72,6 +72,10 @@ before_at slots (Some place) dir name = before (node_at slots place) dir name
 abbrev pub IsTaken : List Slot → ℕ → Type 0
 IsTaken slots place = (n : Node) × (slice_get slots place ≡ Some (Taken n))
 
+-- the place has the node with the id
+abbrev pub IsNodeAt : List Slot → ℕ → ℕ → Type 0
+IsNodeAt slots place id = (n : Node) × (slice_get slots place ≡ Some (Taken n)) × (n.id ≡ id)
+
 pub record IsTable (slots : List Slot) (order : List ℕ) (next : ℕ) : Type 0 where
   -- ids that were never given are from next on
   pub below : AllByRecursion (λ s. slot_id s < next) slots
@@ -80,3 +84,7 @@ pub record IsTable (slots : List Slot) (order : List ℕ) (next : ℕ) : Type 0 
   pub sorted : AreInOrder (shown slots order)
   -- what is found by an id is the same in both
   pub agree : (id : ℕ) → with_id (shown slots order) id ≡ taken_at slots id
+
+-- for how many nodes more there is room: each takes a place, of which there may be fewer than 2^32, and one in the order
+abbrev pub room_left : ℕ → ℕ → ℕ → ℕ → ℕ
+room_left slot_room slots order_room order = min (min slot_room 4294967295 - slots) (order_room - order)

@@ -5,5 +5,6 @@
 
 pub mod content;
 pub mod node;
+pub mod nodes;
 pub mod slot;
 pub mod table;
