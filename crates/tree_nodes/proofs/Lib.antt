@@ -4,6 +4,7 @@ pub mod Finds
 pub mod Fronts
 pub mod Lists
 pub mod Order
+pub mod Ranges
 pub mod Removing
 pub mod Renewing
 pub mod Slots

@@ -75,6 +75,17 @@ impl Nodes {
         table::node_at(&self.table.slots, &self.table.order, place)
     }
 
+    /// From which place on, and up to which one, the nodes of a directory stand. It takes no memory.
+    pub fn places(&self, dir: u64) -> (usize, usize)
+        requires { dir < 2 ^ 64 - 1 }
+        ensures names { names self.now.nodes dir ≡ take (result.1 - result.0) (drop result.0 self.now.nodes) }
+        ensures rises { result.0 ≤ result.1 }
+        ensures within { result.1 ≤ length self.now.nodes }
+        ensures count { length (names self.now.nodes dir) ≡ result.1 - result.0 }
+    {
+        table::places(&self.table.slots, &self.table.order, dir)
+    }
+
     /// Makes room for so many nodes more. The one error is want of memory.
     pub fn reserve(&mut self, count: u32) -> Result<(), AllocError>
         ensures room { OnOk result (count ≤ self.new.room) }

@@ -8,7 +8,7 @@ ghost use Rattle.tree_nodes.specs.declared.slot.Slot.TheVariants.{Gone, Taken};
 ghost use Rattle.std.specs.Str.{bytes_eq};
 ghost use Rattle.tree_nodes.specs.declared.node.Node.{Node};
 ghost use Rattle.tree_nodes.specs.declared.node.Body.TheVariants.{File};
-ghost use Rattle.tree_nodes.specs.Nodes.{named, with_node, without, with_id, versioned, changed, AreInOrder};
+ghost use Rattle.tree_nodes.specs.Nodes.{named, names, with_node, without, with_id, versioned, changed, AreInOrder};
 ghost use Rattle.tree_nodes.specs.Table.{shown, place_for, IsTable, IsNodeAt, before_at, IsTaken, AreRising, taken_at, kept_by};
 
 use crate::content::Content;
@@ -46,6 +46,21 @@ pub fn place_named(slots: &Vec<Slot>, order: &Vec<u32>, dir: u64, name: &[u8]) -
     ensures within { result < length order.now.items }
 {
     place_for(slots, order, dir, name)
+}
+
+/// From which place on, and up to which one, the nodes of a directory stand in the order.
+#[tactic(auto, using(crate::proofs::Ranges::names_between, crate::proofs::Ranges::count_between, crate::proofs::Ranges::places_rise, crate::proofs::Ranges::places_end))]
+pub fn places(slots: &Vec<Slot>, order: &Vec<u32>, dir: u64) -> (usize, usize)
+    requires sorted { AreInOrder (shown slots.now.items order.now.items) }
+    requires dir { dir < 2 ^ 64 - 1 }
+    ensures names { names (shown slots.now.items order.now.items) dir ≡ take (result.1 - result.0) (drop result.0 (shown slots.now.items order.now.items)) }
+    ensures rises { result.0 ≤ result.1 }
+    ensures within { result.1 ≤ length (shown slots.now.items order.now.items) }
+    ensures count { length (names (shown slots.now.items order.now.items) dir) ≡ result.1 - result.0 }
+{
+    let start = place_for(slots, order, dir, &[]);
+    let end = place_for(slots, order, dir + 1, &[]);
+    (start, end)
 }
 
 // Whether the node at a place in the order comes before a name; none does past the last.
