@@ -4,3 +4,4 @@ pub mod Reading
 pub mod Rows
 pub mod Step
 pub mod Tree
+pub mod View

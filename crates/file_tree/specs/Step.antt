@@ -35,12 +35,12 @@ abbrev pub tree_most : ℕ
 tree_most = 1073741824
 
 -- whether so many changes more may be made
-abbrev pub spared : Tree → Held → ℕ → Result Unit Status
-spared t held n = if nat_lt changes_most (t.changes + held.entries + n) then Err status.NoSpc else Ok tt
+abbrev pub spared : ℕ → Held → ℕ → Result Unit Status
+spared changes held n = if nat_lt changes_most (changes + held.entries + n) then Err status.NoSpc else Ok tt
 
 -- and whether a content of so many bytes has room as well
-abbrev pub spared_bytes : Tree → Held → ℕ → Result Unit Status
-spared_bytes t held len = if nat_lt tree_most (contents_size t.nodes + held.bytes + len) then Err status.NoSpc else Ok tt
+abbrev pub spared_bytes : ℕ → Held → ℕ → Result Unit Status
+spared_bytes bytes held len = if nat_lt tree_most (bytes + held.bytes + len) then Err status.NoSpc else Ok tt
 
 -- ---- entries
 
@@ -67,7 +67,7 @@ last_version n (File c) = n.version + 1
 
 -- where it's there and may be, the file; or none, and it's to be made
 abbrev pub create_found : Tree → Held → CreateMode → Option Node → Result (Option Node) Status
-create_found t held m None = spared t held 1 >>= λ _. Ok None
+create_found t held m None = spared t.changes held 1 >>= λ _. Ok None
 create_found t held m (Some n) = elim m [ mode.Unchecked ↦ file_or status.Exist n >>= λ f. Ok (Some f) | mode.Guarded ↦ Err status.Exist | mode.Exclusive ↦ Err status.NotSupp ]
 
 abbrev pub create_mode : Tree → Held → ℕ → List ℕ → CreateMode → Result (Option Node) Status
@@ -81,12 +81,12 @@ may_create t held dir name m =
 
 abbrev pub may_mkdir : Tree → Held → ℕ → List ℕ → Result Unit Status
 may_mkdir t held dir name =
-    directory_of t.nodes dir >>= λ _. spelt name >>= λ _. undotted status.Exist status.Exist name >>= λ _. or_taken (named t.nodes dir name) >>= λ _. spared t held 1
+    directory_of t.nodes dir >>= λ _. spelt name >>= λ _. undotted status.Exist status.Exist name >>= λ _. or_taken (named t.nodes dir name) >>= λ _. spared t.changes held 1
 
 -- the file that goes
 abbrev pub may_remove : Tree → Held → ℕ → List ℕ → Result Node Status
 may_remove t held dir name =
-    directory_of t.nodes dir >>= λ _. spelt name >>= λ _. undotted status.Inval status.Inval name >>= λ _. or_no_entry (named t.nodes dir name) >>= file_or status.IsDir >>= λ n. spared t held 1 >>= λ _. Ok n
+    directory_of t.nodes dir >>= λ _. spelt name >>= λ _. undotted status.Inval status.Inval name >>= λ _. or_no_entry (named t.nodes dir name) >>= file_or status.IsDir >>= λ n. spared t.changes held 1 >>= λ _. Ok n
 
 abbrev pub or_not_empty : List Node → Node → Result Unit Status
 or_not_empty nodes n = if length (names nodes n.id) == 0 then Ok tt else Err status.NotEmpty
@@ -94,12 +94,12 @@ or_not_empty nodes n = if length (names nodes n.id) == 0 then Ok tt else Err sta
 -- the directory that goes
 abbrev pub may_rmdir : Tree → Held → ℕ → List ℕ → Result Node Status
 may_rmdir t held dir name =
-    directory_of t.nodes dir >>= λ _. spelt name >>= λ _. undotted status.Inval status.Exist name >>= λ _. or_no_entry (named t.nodes dir name) >>= directory_or status.NotDir >>= λ n. or_not_empty t.nodes n >>= λ _. spared t held 1 >>= λ _. Ok n
+    directory_of t.nodes dir >>= λ _. spelt name >>= λ _. undotted status.Inval status.Exist name >>= λ _. or_no_entry (named t.nodes dir name) >>= directory_or status.NotDir >>= λ n. or_not_empty t.nodes n >>= λ _. spared t.changes held 1 >>= λ _. Ok n
 
--- a node that moves, and what goes for it
-pub record Move : Type 0 where
-  pub node : Node
-  pub over : Option Node
+-- what a new name stands for: the node itself, or what goes for it, if anything
+pub data Target : Type 0 where
+  itself : Target
+  over : Option Node → Target
 
 -- a directory doesn't go into itself, nor below
 abbrev pub or_within : List Node → Node → ℕ → Result Unit Status
@@ -107,30 +107,30 @@ or_within nodes n to = if is_directory n.body && is_within nodes n.id to then Er
 
 -- what may go for a node: a file for a file, and a directory without entries for a directory
 abbrev pub may_replace : List Node → Node → Node → Result Unit Status
-may_replace nodes n over =
+may_replace nodes n m =
     elim (is_directory n.body) [
-      | true ↦ if is_directory over.body && (length (names nodes over.id) == 0) then Ok tt else Err status.Exist
-      | false ↦ if is_directory over.body then Err status.Exist else Ok tt
+      | true ↦ if is_directory m.body && (length (names nodes m.id) == 0) then Ok tt else Err status.Exist
+      | false ↦ if is_directory m.body then Err status.Exist else Ok tt
     ]
 
-abbrev pub rename_over : Tree → Held → Node → Option Node → Result (Option Move) Status
-rename_over t held n None = spared t held 1 >>= λ _. Ok (Some (record { node = n; over = None }))
-rename_over t held n (Some over) = may_replace t.nodes n over >>= λ _. spared t held 2 >>= λ _. Ok (Some (record { node = n; over = Some over }))
+abbrev pub rename_over : Tree → Held → Node → Option Node → Result Target Status
+rename_over t held n None = spared t.changes held 1 >>= λ _. Ok (over None)
+rename_over t held n (Some m) = may_replace t.nodes n m >>= λ _. spared t.changes held 2 >>= λ _. Ok (over (Some m))
 
 abbrev pub is_same : Node → Option Node → Bool
 is_same n None = false
 is_same n (Some m) = m.id == n.id
 
 -- where one node has both names, nothing is to be done
-abbrev pub rename_found : Tree → Held → Node → ℕ → Option Node → Result (Option Move) Status
+abbrev pub rename_found : Tree → Held → Node → ℕ → Option Node → Result Target Status
 rename_found t held n to found =
-    if is_same n found then Ok None else (or_within t.nodes n to >>= λ _. rename_over t held n found)
+    if is_same n found then Ok itself else (or_within t.nodes n to >>= λ _. rename_over t held n found)
 
-abbrev pub may_rename : Tree → Held → ℕ → List ℕ → ℕ → List ℕ → Result (Option Move × Node) Status
+abbrev pub may_rename : Tree → Held → ℕ → List ℕ → ℕ → List ℕ → Result (Node × Target) Status
 may_rename t held dir name to to_name =
     node_of t.nodes dir >>= λ d. node_of t.nodes to >>= λ e. directory_or status.NotDir d >>= λ _. directory_or status.NotDir e >>= λ _.
     spelt name >>= λ _. undotted status.Inval status.Inval name >>= λ _. spelt to_name >>= λ _. undotted status.Inval status.Inval to_name >>= λ _.
-    or_no_entry (named t.nodes dir name) >>= λ n. rename_found t held n to (named t.nodes to to_name) >>= λ move. Ok (move, n)
+    or_no_entry (named t.nodes dir name) >>= λ n. rename_found t held n to (named t.nodes to to_name) >>= λ target. Ok (n, target)
 
 abbrev pub within_file : ℕ → Result Unit Status
 within_file len = if nat_lt file_most len then Err status.FBig else Ok tt
@@ -138,7 +138,7 @@ within_file len = if nat_lt file_most len then Err status.FBig else Ok tt
 -- the file whose content is replaced
 abbrev pub may_replace_content : Tree → Held → ℕ → ℕ → Result Node Status
 may_replace_content t held id len =
-    node_of t.nodes id >>= file_or status.IsDir >>= λ n. within_file len >>= λ _. spared t held 1 >>= λ _. spared_bytes t held len >>= λ _. Ok n
+    node_of t.nodes id >>= file_or status.IsDir >>= λ n. within_file len >>= λ _. spared t.changes held 1 >>= λ _. spared_bytes (contents_size t.nodes) held len >>= λ _. Ok n
 
 -- ---- what each call makes of the tree
 
@@ -159,23 +159,24 @@ new_file t dir name = record { id = t.next; parent = dir; name = name; version =
 abbrev pub new_directory : Tree → ℕ → List ℕ → Node
 new_directory t dir name = record { id = t.next; parent = dir; name = name; version = t.changes + 1; body = Directory }
 
-abbrev pub removed : Tree → Node → Tree
-removed t n = record { nodes = versioned (without t.nodes n.id) n.parent (t.changes + 1); next = t.next; changes = t.changes + 1 }
+abbrev pub removed : Tree → ℕ → Node → Tree
+removed t dir n = record { nodes = versioned (without t.nodes n.id) dir (t.changes + 1); next = t.next; changes = t.changes + 1 }
 
 -- the node under another name
 abbrev pub placed : List Node → Node → ℕ → List ℕ → List Node
 placed nodes n to to_name = with_node (without nodes n.id) (record n { parent = to; name = to_name })
 
 -- both directories' names have changed
-abbrev pub moved_at : Tree → Node → List Node → ℕ → List ℕ → ℕ → Tree
-moved_at t n nodes to to_name changes = record { nodes = versioned (versioned (placed nodes n to to_name) n.parent changes) to changes; next = t.next; changes = changes }
+abbrev pub moved_at : Tree → ℕ → Node → List Node → ℕ → List ℕ → ℕ → Tree
+moved_at t dir n nodes to to_name changes = record { nodes = versioned (versioned (placed nodes n to to_name) dir changes) to changes; next = t.next; changes = changes }
 
-abbrev pub moved : Tree → Move → ℕ → List ℕ → Tree × Changed
-moved t move to to_name = moved_over move.over
-  where
-    moved_over : Option Node → Tree × Changed
-    moved_over None = (moved_at t move.node t.nodes to to_name (t.changes + 1), one move.node.id move.node.version (name_entry move.node.id))
-    moved_over (Some over) = (moved_at t move.node (without t.nodes over.id) to to_name (t.changes + 2), record { id = move.node.id; version = move.node.version; first = Some (gone_entry over over.body); second = Some (name_entry move.node.id) })
+abbrev pub moved : Tree → ℕ → Node → Option Node → ℕ → List ℕ → Tree
+moved t dir n None to to_name = moved_at t dir n t.nodes to to_name (t.changes + 1)
+moved t dir n (Some m) to to_name = moved_at t dir n (without t.nodes m.id) to to_name (t.changes + 2)
+
+abbrev pub move_done : Node → Option Node → Changed
+move_done n None = one n.id n.version (name_entry n.id)
+move_done n (Some m) = record { id = n.id; version = n.version; first = Some (gone_entry m m.body); second = Some (name_entry n.id) }
 
 abbrev pub replaced : Tree → Node → List ℕ → Tree
 replaced t n content = record { nodes = changed t.nodes n.id (λ m. record m { version = n.version + 1; body = File content }); next = t.next; changes = t.changes + 1 }
@@ -197,23 +198,26 @@ mkdir_if t dir name (Ok u) = (made t (new_directory t dir name), Ok (one t.next 
 abbrev pub mkdir : Tree → Held → ℕ → List ℕ → Tree × Result Changed Status
 mkdir t held dir name = mkdir_if t dir name (may_mkdir t held dir name)
 
-abbrev pub remove_if : Tree → Result Node Status → Tree × Result Changed Status
-remove_if t (Err s) = (t, Err s)
-remove_if t (Ok n) = (removed t n, Ok (one n.id (last_version n n.body) (gone_entry n n.body)))
+abbrev pub remove_done : Node → Changed
+remove_done n = one n.id (last_version n n.body) (gone_entry n n.body)
+
+abbrev pub remove_if : Tree → ℕ → Result Node Status → Tree × Result Changed Status
+remove_if t dir (Err s) = (t, Err s)
+remove_if t dir (Ok n) = (removed t dir n, Ok (remove_done n))
 
 abbrev pub remove : Tree → Held → ℕ → List ℕ → Tree × Result Changed Status
-remove t held dir name = remove_if t (may_remove t held dir name)
+remove t held dir name = remove_if t dir (may_remove t held dir name)
 
 abbrev pub rmdir : Tree → Held → ℕ → List ℕ → Tree × Result Changed Status
-rmdir t held dir name = remove_if t (may_rmdir t held dir name)
+rmdir t held dir name = remove_if t dir (may_rmdir t held dir name)
 
-abbrev pub rename_if : Tree → ℕ → List ℕ → Result (Option Move × Node) Status → Tree × Result Changed Status
-rename_if t to to_name (Err s) = (t, Err s)
-rename_if t to to_name (Ok (None, n)) = (t, Ok (nothing n))
-rename_if t to to_name (Ok (Some move, n)) = let m : Tree × Changed = moved t move to to_name in (m.0, Ok m.1)
+abbrev pub rename_if : Tree → ℕ → ℕ → List ℕ → Result (Node × Target) Status → Tree × Result Changed Status
+rename_if t dir to to_name (Err s) = (t, Err s)
+rename_if t dir to to_name (Ok (n, itself)) = (t, Ok (nothing n))
+rename_if t dir to to_name (Ok (n, over o)) = (moved t dir n o to to_name, Ok (move_done n o))
 
 abbrev pub rename : Tree → Held → ℕ → List ℕ → ℕ → List ℕ → Tree × Result Changed Status
-rename t held dir name to to_name = rename_if t to to_name (may_rename t held dir name to to_name)
+rename t held dir name to to_name = rename_if t dir to to_name (may_rename t held dir name to to_name)
 
 abbrev pub replace_if : Tree → List ℕ → Result Node Status → Tree × Result Changed Status
 replace_if t content (Err s) = (t, Err s)

@@ -14,11 +14,10 @@ pub enum CreateMode {
     Exclusive,
 }
 
-/// The entries and the bytes of the changes that wait, but for the change that is made. Both, with
-/// what the tree has and one change more, are to stay below 2^64.
+/// How many entries and bytes the changes that wait will need, but for the change that is made.
 #[derive(Clone, Copy, Debug, PartialEq, Eq, Drop)]
 pub struct Held {
-    pub entries: u32,
+    pub entries: u64,
     pub bytes: u64,
 }
 

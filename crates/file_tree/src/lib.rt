@@ -5,4 +5,6 @@
 #![tactic(auto)]
 
 pub mod call;
+pub mod checks;
 pub mod entry;
+pub mod names;

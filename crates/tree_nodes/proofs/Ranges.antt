@@ -119,3 +119,7 @@ places_end ns dir b to = rw to (front_le (λ n. before n (dir + 1) []) ns)
 pub count_between : (ns : List Node) (dir a b : ℕ) → AreInOrder ns → a ≡ place_for ns dir [] → b ≡ place_for ns (dir + 1) [] → length (names ns dir) ≡ b - a
 count_between ns dir a b sorted from to =
     ap length (names_between ns dir a b sorted from to) ∙ length-take-le (b - a) (drop a ns) (rw (length-drop a ns) (omega (arith, places_rise ns dir a b from to, places_end ns dir b to)))
+
+pub length_shown : (slots : List Slot) (order : List ℕ) → length (shown slots order) ≡ length order
+length_shown slots [] = refl
+length_shown slots (k ∷ ks) = ap (λ n. suc n) (length_shown slots ks)

@@ -1,6 +1,6 @@
 //! The nodes of a tree: their one public face.
 
-ghost use Rattle.std.specs.Prelude.{◌≡◌, ℕ, ◌+◌, ◌-◌, ◌<◌, ◌^◌, ◌≤◌, [], ◌∷◌, Option, Some, None, IfOk, OnOk, OnErr, IsSome, length, take, drop};
+ghost use Rattle.std.specs.Prelude.{◌≡◌, ℕ, ◌+◌, ◌-◌, ◌<◌, ◌^◌, ◌≤◌, [], ◌∷◌, ◌==◌, Option, Some, None, IfOk, OnOk, OnErr, IsSome, length, take, drop};
 ghost use Rattle.std.specs.List.{slice_get};
 ghost use Rattle.std.specs.Option.{option_copied};
 ghost use Rattle.tree_nodes.specs.declared.node.Node.{Node};
@@ -52,6 +52,20 @@ impl Nodes {
         ensures { result ≡ self.now.next }
     {
         self.table.next
+    }
+
+    /// How many nodes there are.
+    pub fn len(&self) -> usize
+        ensures { result ≡ length self.now.nodes }
+    {
+        table::len(&self.table.slots, &self.table.order)
+    }
+
+    /// Whether there are none.
+    pub fn is_empty(&self) -> bool
+        ensures { result ≡ (length self.now.nodes == 0) }
+    {
+        self.len() == 0
     }
 
     /// The node with the id. It takes no memory.

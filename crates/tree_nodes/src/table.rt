@@ -73,6 +73,15 @@ fn comes_before(slots: &Vec<Slot>, order: &Vec<u32>, place: usize, dir: u64, nam
     }
 }
 
+/// How many nodes there are.
+#[tactic(auto, using(crate::proofs::Ranges::length_shown))]
+pub fn len(slots: &Vec<Slot>, order: &Vec<u32>) -> usize
+    ensures { result ≡ length (shown slots.now.items order.now.items) }
+{
+    let _places = slots;
+    order.len()
+}
+
 /// The node at a place in the order.
 pub fn node_at<'a>(slots: &'a Vec<Slot>, order: &Vec<u32>, place: usize) -> Option<&'a Node>
     requires { AllByRecursion (IsTaken slots.now.items) order.now.items }
