@@ -1,6 +1,7 @@
 -- What the calls that change a tree are refused for, and what they make of it.
 use Rattle.std.specs.Prelude.{ℕ, ◌+◌, List, [], ◌∷◌, length, Option, Some, None, Result, Ok, Err, Bool, true, false, ◌&&◌, ◌||◌, ◌==◌, not, if◌then◌else◌, nat_lt}
 use Rattle.file_tree.specs.Chain.{◌>>=◌, refused}
+use Rattle.std.specs.Option.{option_map}
 use Rattle.sha1.specs.Sha1.{sha1}
 use Rattle.xdr_codec.specs.declared.status.Status.{Status}
 use Rattle.xdr_codec.specs.declared.status.Status.TheVariants as status
@@ -50,8 +51,8 @@ made_entry id = record { file = id; version = 1; kind = kind.Make; len = 0; sha1
 abbrev pub name_entry : ℕ → Entry
 name_entry id = record { file = id; version = 0; kind = kind.Name; len = 0; sha1 = sha1 [] }
 
-abbrev pub commit_entry : Node → List ℕ → Entry
-commit_entry n content = record { file = n.id; version = n.version + 1; kind = kind.Commit; len = length content; sha1 = sha1 content }
+abbrev pub commit_entry : ℕ → ℕ → List ℕ → Entry
+commit_entry id version content = record { file = id; version = version; kind = kind.Commit; len = length content; sha1 = sha1 content }
 
 -- of a node that goes
 abbrev pub gone_entry : Node → Body → Entry
@@ -66,14 +67,14 @@ last_version n (File c) = n.version + 1
 -- ---- what each call is refused for, up to want of space
 
 -- where it's there and may be, the file; or none, and it's to be made
-abbrev pub create_found : Tree → Held → CreateMode → Option Node → Result (Option Node) Status
-create_found t held m None = spared t.changes held 1 >>= λ _. Ok None
-create_found t held m (Some n) = elim m [ mode.Unchecked ↦ file_or status.Exist n >>= λ f. Ok (Some f) | mode.Guarded ↦ Err status.Exist | mode.Exclusive ↦ Err status.NotSupp ]
+abbrev pub create_found : ℕ → Held → CreateMode → Option Node → Result (Option Node) Status
+create_found changes held m None = spared changes held 1 >>= λ _. Ok None
+create_found changes held m (Some n) = elim m [ mode.Unchecked ↦ file_or status.Exist n >>= λ f. Ok (Some f) | mode.Guarded ↦ Err status.Exist | mode.Exclusive ↦ Err status.NotSupp ]
 
 abbrev pub create_mode : Tree → Held → ℕ → List ℕ → CreateMode → Result (Option Node) Status
 create_mode t held dir name mode.Exclusive = Err status.NotSupp
-create_mode t held dir name mode.Guarded = create_found t held mode.Guarded (named t.nodes dir name)
-create_mode t held dir name mode.Unchecked = create_found t held mode.Unchecked (named t.nodes dir name)
+create_mode t held dir name mode.Guarded = create_found t.changes held mode.Guarded (named t.nodes dir name)
+create_mode t held dir name mode.Unchecked = create_found t.changes held mode.Unchecked (named t.nodes dir name)
 
 abbrev pub may_create : Tree → Held → ℕ → List ℕ → CreateMode → Result (Option Node) Status
 may_create t held dir name m =
@@ -159,8 +160,8 @@ new_file t dir name = record { id = t.next; parent = dir; name = name; version =
 abbrev pub new_directory : Tree → ℕ → List ℕ → Node
 new_directory t dir name = record { id = t.next; parent = dir; name = name; version = t.changes + 1; body = Directory }
 
-abbrev pub removed : Tree → ℕ → Node → Tree
-removed t dir n = record { nodes = versioned (without t.nodes n.id) dir (t.changes + 1); next = t.next; changes = t.changes + 1 }
+abbrev pub removed : Tree → ℕ → ℕ → Tree
+removed t dir id = record { nodes = versioned (without t.nodes id) dir (t.changes + 1); next = t.next; changes = t.changes + 1 }
 
 -- the node under another name
 abbrev pub placed : List Node → Node → ℕ → List ℕ → List Node
@@ -178,18 +179,22 @@ abbrev pub move_done : Node → Option Node → Changed
 move_done n None = one n.id n.version (name_entry n.id)
 move_done n (Some m) = record { id = n.id; version = n.version; first = Some (gone_entry m m.body); second = Some (name_entry n.id) }
 
-abbrev pub replaced : Tree → Node → List ℕ → Tree
-replaced t n content = record { nodes = changed t.nodes n.id (λ m. record m { version = n.version + 1; body = File content }); next = t.next; changes = t.changes + 1 }
+abbrev pub replaced : Tree → ℕ → ℕ → List ℕ → Tree
+replaced t id version content = record { nodes = changed t.nodes id (λ m. record m { version = version; body = File content }); next = t.next; changes = t.changes + 1 }
 
 -- ---- the calls
 
-abbrev pub created : Tree → ℕ → List ℕ → Result (Option Node) Status → Tree × Result Changed Status
+-- what is answered where nothing is to be made
+abbrev pub create_plan : Tree → Held → ℕ → List ℕ → CreateMode → Result (Option Changed) Status
+create_plan t held dir name m = may_create t held dir name m >>= λ found. Ok (option_map nothing found)
+
+abbrev pub created : Tree → ℕ → List ℕ → Result (Option Changed) Status → Tree × Result Changed Status
 created t dir name (Err s) = (t, Err s)
-created t dir name (Ok (Some n)) = (t, Ok (nothing n))
+created t dir name (Ok (Some done)) = (t, Ok done)
 created t dir name (Ok None) = (made t (new_file t dir name), Ok (one t.next 1 (made_entry t.next)))
 
 abbrev pub create : Tree → Held → ℕ → List ℕ → CreateMode → Tree × Result Changed Status
-create t held dir name m = created t dir name (may_create t held dir name m)
+create t held dir name m = created t dir name (create_plan t held dir name m)
 
 abbrev pub mkdir_if : Tree → ℕ → List ℕ → Result Unit Status → Tree × Result Changed Status
 mkdir_if t dir name (Err s) = (t, Err s)
@@ -201,15 +206,21 @@ mkdir t held dir name = mkdir_if t dir name (may_mkdir t held dir name)
 abbrev pub remove_done : Node → Changed
 remove_done n = one n.id (last_version n n.body) (gone_entry n n.body)
 
-abbrev pub remove_if : Tree → ℕ → Result Node Status → Tree × Result Changed Status
+abbrev pub remove_if : Tree → ℕ → Result Changed Status → Tree × Result Changed Status
 remove_if t dir (Err s) = (t, Err s)
-remove_if t dir (Ok n) = (removed t dir n, Ok (remove_done n))
+remove_if t dir (Ok done) = (removed t dir done.id, Ok done)
+
+abbrev pub remove_plan : Tree → Held → ℕ → List ℕ → Result Changed Status
+remove_plan t held dir name = may_remove t held dir name >>= λ n. Ok (remove_done n)
+
+abbrev pub rmdir_plan : Tree → Held → ℕ → List ℕ → Result Changed Status
+rmdir_plan t held dir name = may_rmdir t held dir name >>= λ n. Ok (remove_done n)
 
 abbrev pub remove : Tree → Held → ℕ → List ℕ → Tree × Result Changed Status
-remove t held dir name = remove_if t dir (may_remove t held dir name)
+remove t held dir name = remove_if t dir (remove_plan t held dir name)
 
 abbrev pub rmdir : Tree → Held → ℕ → List ℕ → Tree × Result Changed Status
-rmdir t held dir name = remove_if t dir (may_rmdir t held dir name)
+rmdir t held dir name = remove_if t dir (rmdir_plan t held dir name)
 
 abbrev pub rename_if : Tree → ℕ → ℕ → List ℕ → Result (Node × Target) Status → Tree × Result Changed Status
 rename_if t dir to to_name (Err s) = (t, Err s)
@@ -219,12 +230,16 @@ rename_if t dir to to_name (Ok (n, over o)) = (moved t dir n o to to_name, Ok (m
 abbrev pub rename : Tree → Held → ℕ → List ℕ → ℕ → List ℕ → Tree × Result Changed Status
 rename t held dir name to to_name = rename_if t dir to to_name (may_rename t held dir name to to_name)
 
-abbrev pub replace_if : Tree → List ℕ → Result Node Status → Tree × Result Changed Status
-replace_if t content (Err s) = (t, Err s)
-replace_if t content (Ok n) = (replaced t n content, Ok (one n.id (n.version + 1) (commit_entry n content)))
+-- the version that the file has since then
+abbrev pub replace_plan : Tree → Held → ℕ → ℕ → Result ℕ Status
+replace_plan t held id len = may_replace_content t held id len >>= λ n. Ok (n.version + 1)
+
+abbrev pub replace_if : Tree → ℕ → List ℕ → Result ℕ Status → Tree × Result Changed Status
+replace_if t id content (Err s) = (t, Err s)
+replace_if t id content (Ok version) = (replaced t id version content, Ok (one id version (commit_entry id version content)))
 
 abbrev pub replace : Tree → Held → ℕ → List ℕ → Tree × Result Changed Status
-replace t held id content = replace_if t content (may_replace_content t held id (length content))
+replace t held id content = replace_if t id content (replace_plan t held id (length content))
 
 -- why a call is refused, where it is
 abbrev pub may : Tree → Held → Call → Result Unit Status

@@ -1,10 +1,26 @@
 -- What contracts see of a tree.
-use Rattle.std.specs.Prelude.{ℕ, List, Option, Some, None, Result, Ok, Err}
+use Rattle.std.specs.Prelude.{ℕ, List, Option, Some, None, Result, Ok, Err, ◌<◌, ◌≤◌, length}
 use Rattle.std.specs.Borrow.{Bor}
 use Rattle.xdr_codec.specs.declared.status.Status.{Status}
+use Rattle.std.specs.Option.{option_copied}
 use Rattle.tree_nodes.specs.declared.node.Node.{Node}
+use Rattle.tree_nodes.specs.View.{NodesState}
+use Rattle.file_tree.specs.Tree.{Tree, content_of}
+use Rattle.file_tree.specs.Step.{file_most}
 
 -- a node that is lent, as the node that it is
 abbrev pub lent : Result (Bor Node) Status → Result Node Status
 lent (Ok n) = Ok n.now
 lent (Err s) = Err s
+
+abbrev pub lent_option : Result (Option (Bor Node)) Status → Result (Option Node) Status
+lent_option (Ok o) = Ok (option_copied o)
+lent_option (Err s) = Err s
+
+-- a tree of these nodes
+abbrev pub tree_of : NodesState → ℕ → Tree
+tree_of nodes changes = record { nodes = nodes.nodes; next = nodes.next; changes = changes }
+
+-- what holds of each node: its id was given, its version was counted, and its content is no longer than one may be
+abbrev pub IsNodeBounded : ℕ → ℕ → Node → Type 0
+IsNodeBounded next changes n = (n.id < next) × (n.version ≤ changes) × (length (content_of n.body) ≤ file_most)

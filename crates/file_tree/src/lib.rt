@@ -4,7 +4,9 @@
 //! `specs/Kept.antt`.
 #![tactic(auto)]
 
+pub mod answers;
 pub mod call;
 pub mod checks;
 pub mod entry;
 pub mod names;
+pub mod plans;
