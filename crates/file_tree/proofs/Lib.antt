@@ -1,1 +1,1 @@
-pub mod Climbs
+pub mod Found

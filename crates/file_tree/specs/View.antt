@@ -1,5 +1,6 @@
 -- What contracts see of a tree.
-use Rattle.std.specs.Prelude.{ℕ, List, Option, Some, None, Result, Ok, Err, ◌<◌, ◌≤◌, length}
+use Rattle.std.specs.Prelude.{ℕ, List, Option, Some, None, Result, Ok, Err, ◌<◌, ◌≤◌, ◌^◌, length}
+use Rattle.std.specs.List.{AllByRecursion}
 use Rattle.std.specs.Borrow.{Bor}
 use Rattle.xdr_codec.specs.declared.status.Status.{Status}
 use Rattle.std.specs.Option.{option_copied}
@@ -22,5 +23,12 @@ abbrev pub tree_of : NodesState → ℕ → Tree
 tree_of nodes changes = record { nodes = nodes.nodes; next = nodes.next; changes = changes }
 
 -- what holds of each node: its id was given, its version was counted, and its content is no longer than one may be
-abbrev pub IsNodeBounded : ℕ → ℕ → Node → Type 0
-IsNodeBounded next changes n = (n.id < next) × (n.version ≤ changes) × (length (content_of n.body) ≤ file_most)
+pub record IsNodeBounded (next changes : ℕ) (n : Node) : Type 0 where
+  pub id : n.id < next
+  pub version : n.version ≤ changes
+  pub content : length (content_of n.body) ≤ file_most
+
+pub record AreBounded (nodes : NodesState) (changes : ℕ) : Type 0 where
+  pub next : nodes.next < 2 ^ 64
+  pub changes_most : changes < 2 ^ 32
+  pub each : AllByRecursion (IsNodeBounded nodes.next changes) nodes.nodes

@@ -1,8 +1,8 @@
 //! Why a call that changes a tree is refused (`specs/Step.antt`). None of this takes memory.
 
-ghost use Rattle.std.specs.Prelude.{◌≡◌, ◌-◌, ◌<◌, ◌^◌, ◌==◌, length};
+ghost use Rattle.std.specs.Prelude.{◌≡◌, ◌-◌, ◌<◌, ◌^◌, ◌==◌, length, Some, IfOk};
 ghost use Rattle.std.specs.Option.{option_copied};
-ghost use Rattle.tree_nodes.specs.Nodes.{names};
+ghost use Rattle.tree_nodes.specs.Nodes.{names, named, with_id};
 ghost use Rattle.file_tree.specs.Tree.{node_of, directory_or, file_or, directory_of, or_no_entry, or_taken, is_directory, content_of, is_within, climbs};
 ghost use Rattle.file_tree.specs.Step.{spared, spared_bytes, within_file, or_not_empty, or_within, may_replace};
 ghost use Rattle.file_tree.specs.View.{lent};
@@ -63,7 +63,8 @@ pub fn is_directory(node: &Node) -> bool
 
 /// The node with the id.
 pub fn node_of(nodes: &Nodes, id: u64) -> Result<&Node, Status>
-    ensures { lent result ≡ node_of nodes.now.nodes id }
+    ensures exact { lent result ≡ node_of nodes.now.nodes id }
+    ensures there { IfOk result (λ n. with_id nodes.now.nodes id ≡ Some n.now) }
 {
     match nodes.with_id(id) {
         Some(node) => Ok(node),
@@ -73,7 +74,8 @@ pub fn node_of(nodes: &Nodes, id: u64) -> Result<&Node, Status>
 
 /// The node, if it is a directory.
 pub fn directory_or(node: &Node, otherwise: Status) -> Result<&Node, Status>
-    ensures { lent result ≡ directory_or otherwise node.now }
+    ensures exact { lent result ≡ directory_or otherwise node.now }
+    ensures same { IfOk result (λ n. n.now ≡ node.now) }
 {
     if is_directory(node) {
         Ok(node)
@@ -84,7 +86,8 @@ pub fn directory_or(node: &Node, otherwise: Status) -> Result<&Node, Status>
 
 /// The node, if it is a file.
 pub fn file_or(node: &Node, otherwise: Status) -> Result<&Node, Status>
-    ensures { lent result ≡ file_or otherwise node.now }
+    ensures exact { lent result ≡ file_or otherwise node.now }
+    ensures same { IfOk result (λ n. n.now ≡ node.now) }
 {
     if is_directory(node) {
         Err(otherwise)
@@ -101,14 +104,23 @@ pub fn directory_of(nodes: &Nodes, id: u64) -> Result<&Node, Status>
     directory_or(node, Status::NotDir)
 }
 
-/// The node of a name, if there is one.
-pub fn or_no_entry(node: Option<&Node>) -> Result<&Node, Status>
-    ensures { lent result ≡ or_no_entry (option_copied node.entry) }
+// The node, or no entry.
+fn or_no_entry(node: Option<&Node>) -> Result<&Node, Status>
+    ensures exact { lent result ≡ or_no_entry (option_copied node.entry) }
+    ensures same { IfOk result (λ n. option_copied node.entry ≡ Some n.now) }
 {
     match node {
         Some(node) => Ok(node),
         None => Err(Status::NoEnt),
     }
+}
+
+/// The node of a name.
+pub fn found<'a>(nodes: &'a Nodes, dir: u64, name: &[u8]) -> Result<&'a Node, Status>
+    ensures exact { lent result ≡ or_no_entry (named nodes.now.nodes dir name.now) }
+    ensures there { IfOk result (λ n. named nodes.now.nodes dir name.now ≡ Some n.now) }
+{
+    or_no_entry(nodes.named(dir, name))
 }
 
 /// Refuses a name that is taken.

@@ -1,13 +1,13 @@
 //! What the calls that change a tree will come to, or why they are refused (`specs/Step.antt`). None
 //! of this changes anything or takes memory.
 
-ghost use Rattle.std.specs.Prelude.{◌≡◌, ◌+◌, ◌-◌, ◌<◌, ◌≤◌, ◌^◌, ◌==◌, length};
+ghost use Rattle.std.specs.Prelude.{◌≡◌, ◌+◌, ◌-◌, ◌<◌, ◌≤◌, ◌^◌, ◌==◌, length, IfOk};
 ghost use Rattle.std.specs.Option.{option_copied};
 ghost use Rattle.std.specs.List.{AllByRecursion};
-ghost use Rattle.tree_nodes.specs.Nodes.{names};
-ghost use Rattle.file_tree.specs.Tree.{contents_size};
+ghost use Rattle.tree_nodes.specs.Nodes.{names, named};
+ghost use Rattle.file_tree.specs.Tree.{contents_size, or_no_entry, node_of};
 ghost use Rattle.file_tree.specs.Step.{create_found, may_create, may_mkdir, may_remove, may_rmdir, may_rename, may_replace_content, create_plan, remove_plan, rmdir_plan, replace_plan};
-ghost use Rattle.file_tree.specs.View.{lent, lent_option, tree_of, IsNodeBounded};
+ghost use Rattle.file_tree.specs.View.{lent, lent_option, tree_of, AreBounded, IsNodeBounded};
 
 use crate::answers;
 use crate::call::{Changed, CreateMode, Held};
@@ -81,6 +81,31 @@ pub fn may_mkdir(
     checks::spared(changes, held, 1)
 }
 
+/// The node of a name, which is within the bounds of a tree.
+fn found<'a>(
+    nodes: &'a Nodes,
+    changes: u64,
+    dir: u64,
+    name: &[u8],
+) -> Result<&'a Node, Status>
+    requires { AreBounded nodes.now changes }
+    ensures exact { lent result ≡ or_no_entry (named nodes.now.nodes dir name.now) }
+    ensures bounded { IfOk result (λ n. IsNodeBounded nodes.now.next changes n.now) }
+{
+    let _changes = changes;
+    checks::found(nodes, dir, name)
+}
+
+/// The node of an id, which is within the bounds of a tree.
+fn known(nodes: &Nodes, changes: u64, id: u64) -> Result<&Node, Status>
+    requires { AreBounded nodes.now changes }
+    ensures exact { lent result ≡ node_of nodes.now.nodes id }
+    ensures bounded { IfOk result (λ n. IsNodeBounded nodes.now.next changes n.now) }
+{
+    let _changes = changes;
+    checks::node_of(nodes, id)
+}
+
 /// The file that REMOVE removes.
 pub fn may_remove<'a>(
     nodes: &'a Nodes,
@@ -89,13 +114,61 @@ pub fn may_remove<'a>(
     dir: u64,
     name: &[u8],
 ) -> Result<&'a Node, Status>
-    ensures { lent result ≡ may_remove (tree_of nodes.now changes) held dir name.now }
+    requires { AreBounded nodes.now changes }
+    ensures exact { lent result ≡ may_remove (tree_of nodes.now changes) held dir name.now }
+    ensures bounded { IfOk result (λ n. IsNodeBounded nodes.now.next changes n.now) }
 {
     let _dir = checks::directory_of(nodes, dir)?;
     spelt(name)?;
     undotted(name, Status::Inval, Status::Inval)?;
-    let node = checks::or_no_entry(nodes.named(dir, name))?;
+    let node = found(nodes, changes, dir, name)?;
     let file = checks::file_or(node, Status::IsDir)?;
     checks::spared(changes, held, 1)?;
+    Ok(file)
+}
+
+/// The directory that RMDIR removes.
+#[tactic(auto, using(crate::proofs::Found::id_fits))]
+pub fn may_rmdir<'a>(
+    nodes: &'a Nodes,
+    changes: u64,
+    held: Held,
+    dir: u64,
+    name: &[u8],
+) -> Result<&'a Node, Status>
+    requires { AreBounded nodes.now changes }
+    ensures exact { lent result ≡ may_rmdir (tree_of nodes.now changes) held dir name.now }
+    ensures bounded { IfOk result (λ n. IsNodeBounded nodes.now.next changes n.now) }
+{
+    let _dir = checks::directory_of(nodes, dir)?;
+    spelt(name)?;
+    undotted(name, Status::Inval, Status::Exist)?;
+    let node = found(nodes, changes, dir, name)?;
+    let gone = checks::directory_or(node, Status::NotDir)?;
+    checks::or_not_empty(nodes, gone)?;
+    checks::spared(changes, held, 1)?;
+    Ok(gone)
+}
+
+/// The file whose content is replaced by one of so many bytes, in a tree whose contents have that
+/// many.
+pub fn may_replace_content<'a>(
+    nodes: &'a Nodes,
+    changes: u64,
+    bytes: u64,
+    held: Held,
+    id: u64,
+    len: u64,
+) -> Result<&'a Node, Status>
+    requires bounded { AreBounded nodes.now changes }
+    requires bytes { bytes ≡ contents_size nodes.now.nodes }
+    ensures exact { lent result ≡ may_replace_content (tree_of nodes.now changes) held id len }
+    ensures bounded { IfOk result (λ n. IsNodeBounded nodes.now.next changes n.now) }
+{
+    let node = known(nodes, changes, id)?;
+    let file = checks::file_or(node, Status::IsDir)?;
+    checks::within_file(len)?;
+    checks::spared(changes, held, 1)?;
+    checks::spared_bytes(bytes, held, len)?;
     Ok(file)
 }
