@@ -1,13 +1,13 @@
 -- What contracts see of a tree.
-use Rattle.std.specs.Prelude.{ℕ, List, Option, Some, None, Result, Ok, Err, ◌<◌, ◌≤◌, ◌^◌, length}
+use Rattle.std.specs.Prelude.{ℕ, List, Option, Some, None, Result, Ok, Err, ◌<◌, ◌≤◌, ◌^◌, ◌+◌, ◌==◌, ◌≡◌, [], ◌∷◌, false, length}
 use Rattle.std.specs.List.{AllByRecursion}
 use Rattle.std.specs.Borrow.{Bor}
 use Rattle.xdr_codec.specs.declared.status.Status.{Status}
 use Rattle.std.specs.Option.{option_copied}
 use Rattle.tree_nodes.specs.declared.node.Node.{Node}
 use Rattle.tree_nodes.specs.View.{NodesState}
-use Rattle.file_tree.specs.Tree.{Tree, content_of}
-use Rattle.file_tree.specs.Step.{file_most}
+use Rattle.file_tree.specs.Tree.{Tree, content_of, contents_size}
+use Rattle.file_tree.specs.Step.{file_most, tree_most, changes_most}
 
 -- a node that is lent, as the node that it is
 abbrev pub lent : Result (Bor Node) Status → Result Node Status
@@ -32,3 +32,16 @@ pub record AreBounded (nodes : NodesState) (changes : ℕ) : Type 0 where
   pub next : nodes.next < 2 ^ 64
   pub changes_most : changes < 2 ^ 32
   pub each : AllByRecursion (IsNodeBounded nodes.next changes) nodes.nodes
+
+-- the ids of all nodes differ
+abbrev pub AreIdsApart : List Node → Type 0
+AreIdsApart [] = Unit {0}
+AreIdsApart (n ∷ ns) = AllByRecursion (λ m. (n.id == m.id) ≡ false) ns × AreIdsApart ns
+
+-- what holds of a tree: its limits, and that no id stands twice
+pub record IsWithinLimits (nodes : NodesState) (changes : ℕ) : Type 0 where
+  pub count : changes ≤ changes_most
+  pub next : nodes.next ≤ 2 ^ 63 + changes
+  pub each : AllByRecursion (IsNodeBounded nodes.next changes) nodes.nodes
+  pub apart : AreIdsApart nodes.nodes
+  pub size : contents_size nodes.nodes ≤ tree_most
