@@ -11,6 +11,7 @@ use Rattle.tree_nodes.specs.View.{NodesState}
 use Rattle.file_tree.specs.Tree.{content_of, contents_size}
 use Rattle.file_tree.specs.Step.{changes_most, file_most, tree_most}
 use Rattle.file_tree.specs.View.{IsNodeBounded, AreBounded, AreIdsApart, IsWithinLimits}
+use Rattle.file_tree.proofs.Found.{found_all}
 
 -- ---- each node
 
@@ -77,7 +78,7 @@ apart_changed f same (m ∷ ms) id apart = (others ms apart.0, apart_changed f s
 
 -- ---- sizes
 
-size_with : (ms : List Node) (n : Node) → contents_size (with_node ms n) ≡ contents_size ms + length (content_of n.body)
+pub size_with : (ms : List Node) (n : Node) → contents_size (with_node ms n) ≡ contents_size ms + length (content_of n.body)
 size_with [] n = omega arith
 size_with (m ∷ ms) n = size_if (before m n.parent n.name) (size_with ms n)
   where
@@ -85,7 +86,7 @@ size_with (m ∷ ms) n = size_if (before m n.parent n.name) (size_with ms n)
     size_if true later = omega (arith, later)
     size_if false later = omega arith
 
-size_same : (f : Node → Node) → ((m : Node) → (f m).body ≡ m.body) → (ms : List Node) (id : ℕ) → contents_size (changed ms id f) ≡ contents_size ms
+pub size_same : (f : Node → Node) → ((m : Node) → (f m).body ≡ m.body) → (ms : List Node) (id : ℕ) → contents_size (changed ms id f) ≡ contents_size ms
 size_same f same [] id = refl
 size_same f same (m ∷ ms) id =
     let first : length (content_of (if m.id == id then f m else m).body) ≡ length (content_of m.body) = body_if (m.id == id) in
@@ -115,7 +116,7 @@ some_is d a b e = ap (λ o. or_else o) e
 only_one : (m : Node) (ms : List Node) (id : ℕ) → AllByRecursion (λ k. (m.id == k.id) ≡ false) ms → (m.id == id) ≡ true → AllByRecursion (λ k. (k.id == id) ≡ false) ms
 only_one m ms id apart is = all_map (λ k. (m.id == k.id) ≡ false) (λ k. (k.id == id) ≡ false) (λ k other. grind (arith, nat_tests, other, is)) ms apart
 
-size_without : (ms : List Node) (id : ℕ) (n : Node) → AreIdsApart ms → with_id ms id ≡ Some n → contents_size (without ms id) + length (content_of n.body) ≡ contents_size ms
+pub size_without : (ms : List Node) (id : ℕ) (n : Node) → AreIdsApart ms → with_id ms id ≡ Some n → contents_size (without ms id) + length (content_of n.body) ≡ contents_size ms
 size_without [] id n apart at = absurd cc
 size_without (m ∷ ms) id n apart at = without_if (m.id == id) refl at (size_without ms id n apart.1)
   where
@@ -126,7 +127,7 @@ size_without (m ∷ ms) id n apart at = without_if (m.id == id) refl at (size_wi
         omega (arith, rest, which)
     without_if false is same later = omega (arith, later same)
 
-size_changed : (f : Node → Node) (ms : List Node) (id : ℕ) (n : Node) → AreIdsApart ms → with_id ms id ≡ Some n → contents_size (changed ms id f) + length (content_of n.body) ≡ contents_size ms + length (content_of (f n).body)
+pub size_changed : (f : Node → Node) (ms : List Node) (id : ℕ) (n : Node) → AreIdsApart ms → with_id ms id ≡ Some n → contents_size (changed ms id f) + length (content_of n.body) ≡ contents_size ms + length (content_of (f n).body)
 size_changed f [] id n apart at = absurd cc
 size_changed f (m ∷ ms) id n apart at = changed_if (m.id == id) refl at (size_changed f ms id n apart.1)
   where
@@ -137,3 +138,88 @@ size_changed f (m ∷ ms) id n apart at = changed_if (m.id == id) refl at (size_
         let after_it : length (content_of (f n).body) ≡ length (content_of (f m).body) = ap (λ (k : Node). length (content_of (f k).body)) (sym (some_is m m n same)) in
         omega (arith, rest, before_it, after_it)
     changed_if false is same later = omega (arith, later same)
+
+-- ---- the limits of a tree, change by change
+
+abbrev with_nodes : NodesState → List Node → ℕ → NodesState
+with_nodes s ns room = record { nodes = ns; next = s.next; room = room }
+
+-- a count more
+pub counted : (s : NodesState) (changes changes' : ℕ) → IsWithinLimits s changes → changes ≤ changes' → changes' ≤ changes_most → IsWithinLimits s changes'
+counted s changes changes' l more most = record {
+  count = most;
+  next = omega (arith, l.next, more);
+  each = all_map (IsNodeBounded s.next changes) (IsNodeBounded s.next changes') (λ n b. record { id = b.id; version = omega (arith, b.version, more); content = b.content }) s.nodes l.each;
+  apart = l.apart;
+  size = l.size;
+}
+
+-- a node more, with a new id and no content
+pub limits_with : (s : NodesState) (changes : ℕ) (n : Node) (room : ℕ) → IsWithinLimits s changes → n.id ≡ s.next → s.next + 1 ≤ 2 ^ 63 + changes → n.version ≤ changes → length (content_of n.body) ≡ 0 → IsWithinLimits (record { nodes = with_node s.nodes n; next = s.next + 1; room = room }) changes
+limits_with s changes n room l new next counted_version none = record {
+  count = l.count;
+  next = next;
+  each = all_with (IsNodeBounded (s.next + 1) changes) s.nodes n (all_map (IsNodeBounded s.next changes) (IsNodeBounded (s.next + 1) changes) (λ m b. record { id = omega (arith, b.id); version = b.version; content = b.content }) s.nodes l.each) (record { id = omega (arith, new); version = counted_version; content = omega (arith, none) });
+  apart = apart_with s.nodes n l.apart (all_map (IsNodeBounded s.next changes) (λ m. (m.id == n.id) ≡ false) (λ m b. other m.id n.id (omega (arith, b.id, new))) s.nodes l.each);
+  size = omega (arith, size_with s.nodes n, none, l.size);
+}
+  where
+    other : (a b : ℕ) → a < b → (a == b) ≡ false
+    other a b less = grind (arith, nat_tests, less)
+
+less_size : (ms : List Node) (id : ℕ) → contents_size (without ms id) ≤ contents_size ms
+less_size [] id = omega arith
+less_size (m ∷ ms) id = less_if (not (m.id == id)) (less_size ms id)
+  where
+    less_if : (b : Bool) → contents_size (without ms id) ≤ contents_size ms → contents_size (cond b (m ∷ without ms id) (without ms id)) ≤ length (content_of m.body) + contents_size ms
+    less_if true le = omega (arith, le)
+    less_if false le = omega (arith, le)
+
+pub limits_without : (s : NodesState) (changes id room : ℕ) → IsWithinLimits s changes → IsWithinLimits (with_nodes s (without s.nodes id) room) changes
+limits_without s changes id room l = record {
+  count = l.count;
+  next = l.next;
+  each = all_filter (IsNodeBounded s.next changes) (λ m. not (m.id == id)) s.nodes l.each;
+  apart = apart_without s.nodes id l.apart;
+  size = omega (arith, less_size s.nodes id, l.size);
+}
+
+pub limits_versioned : (s : NodesState) (changes id version room : ℕ) → IsWithinLimits s changes → version ≤ changes → IsWithinLimits (with_nodes s (versioned s.nodes id version) room) changes
+limits_versioned s changes id version room l counted_version = record {
+  count = l.count;
+  next = l.next;
+  each = all_changed (IsNodeBounded s.next changes) (λ n. record n { version = version }) (λ m b. record { id = b.id; version = counted_version; content = b.content }) s.nodes id l.each;
+  apart = apart_changed (λ n. record n { version = version }) (λ m. refl) s.nodes id l.apart;
+  size = rw (size_same (λ n. record n { version = version }) (λ m. refl) s.nodes id) l.size;
+}
+
+-- a node that is there under another name
+pub limits_moved : (s : NodesState) (changes : ℕ) (n : Node) (to : ℕ) (name : List ℕ) (room : ℕ) → IsWithinLimits s changes → with_id s.nodes n.id ≡ Some n → IsWithinLimits (with_nodes s (with_node (without s.nodes n.id) (record n { parent = to; name = name })) room) changes
+limits_moved s changes n to name room l at = record {
+  count = l.count;
+  next = l.next;
+  each = all_with (IsNodeBounded s.next changes) (without s.nodes n.id) (record n { parent = to; name = name }) (all_filter (IsNodeBounded s.next changes) (λ m. not (m.id == n.id)) s.nodes l.each) (let b = found_bounded s.nodes l.each at in record { id = b.id; version = b.version; content = b.content });
+  apart = apart_with (without s.nodes n.id) (record n { parent = to; name = name }) (apart_without s.nodes n.id l.apart) (gone s.nodes);
+  size = omega (arith, size_with (without s.nodes n.id) (record n { parent = to; name = name }), size_without s.nodes n.id n l.apart at, l.size);
+}
+  where
+    found_bounded : (ms : List Node) → AllByRecursion (IsNodeBounded s.next changes) ms → with_id ms n.id ≡ Some n → IsNodeBounded s.next changes n
+    found_bounded ms each is = found_all (IsNodeBounded s.next changes) (λ m. m.id == n.id) ms n each is
+
+    gone_if : (m : Node) (ms : List Node) (b : Bool) → (m.id == n.id) ≡ b → AllByRecursion (λ k. (k.id == n.id) ≡ false) (without ms n.id) → AllByRecursion (λ k. (k.id == n.id) ≡ false) (cond (not b) (m ∷ without ms n.id) (without ms n.id))
+    gone_if m ms true e later = later
+    gone_if m ms false e later = (e, later)
+
+    gone : (ms : List Node) → AllByRecursion (λ k. (k.id == n.id) ≡ false) (without ms n.id)
+    gone [] = tt
+    gone (m ∷ ms) = gone_if m ms (m.id == n.id) refl (gone ms)
+
+-- another content for a file
+pub limits_refilled : (s : NodesState) (changes : ℕ) (n : Node) (version : ℕ) (content : List ℕ) (room : ℕ) → IsWithinLimits s changes → with_id s.nodes n.id ≡ Some n → version ≤ changes → length content ≤ file_most → contents_size s.nodes + length content ≤ tree_most → IsWithinLimits (with_nodes s (changed s.nodes n.id (λ m. record m { version = version; body = File content })) room) changes
+limits_refilled s changes n version content room l at counted_version short small = record {
+  count = l.count;
+  next = l.next;
+  each = all_changed (IsNodeBounded s.next changes) (λ m. record m { version = version; body = File content }) (λ m b. record { id = b.id; version = counted_version; content = short }) s.nodes n.id l.each;
+  apart = apart_changed (λ m. record m { version = version; body = File content }) (λ m. refl) s.nodes n.id l.apart;
+  size = omega (arith, size_changed (λ m. record m { version = version; body = File content }) s.nodes n.id n l.apart at, small);
+}
