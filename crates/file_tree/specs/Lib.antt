@@ -2,6 +2,7 @@ pub mod Chain
 pub mod Names
 pub mod Reading
 pub mod Rows
+pub mod State
 pub mod Step
 pub mod Tree
 pub mod View

@@ -10,3 +10,4 @@ pub mod checks;
 pub mod entry;
 pub mod names;
 pub mod plans;
+pub mod state;

@@ -177,7 +177,7 @@ there [] P i k all at = absurd cc
 there (x ∷ xs) P zero k all at = subst P (some_is x k at) all.0
 there (x ∷ xs) P (suc i) k all at = there xs P i k all.1 at
 
-self_test : (a : ℕ) → (a == a) ≡ true
+pub self_test : (a : ℕ) → (a == a) ≡ true
 self_test a = grind (arith, nat_tests)
 
 removed_other : (ks : List ℕ) (i k : ℕ) → AreApart ks → slice_get ks i ≡ Some k → AreOther k (remove ks i)

@@ -1,14 +1,14 @@
 -- A node taken out of a table, and put in again under another name.
-use Rattle.std.proofs.Common.{◌≡◌, ℕ, ◌+◌, ◌<◌, List, [], ◌∷◌, zero, suc, length, set, Some, None, Bool, true, false, not, cond, ◌==◌, refl, sym, ap, ◌∙◌, subst, arith}
-use Rattle.std.specs.List.{slice_get, insert, remove}
+use Rattle.std.proofs.Common.{◌≡◌, ℕ, ◌+◌, ◌<◌, List, [], ◌∷◌, zero, suc, length, set, Some, None, Bool, true, false, not, cond, if◌then◌else◌, ◌==◌, refl, sym, ap, ◌∙◌, subst, arith}
+use Rattle.std.specs.List.{slice_get, insert, remove, AllByRecursion}
 use Rattle.tree_nodes.specs.declared.node.Node.{Node}
 use Rattle.tree_nodes.specs.declared.slot.Slot.{Slot}
 use Rattle.tree_nodes.specs.declared.slot.Slot.TheVariants.{Gone, Taken}
 use Rattle.tree_nodes.specs.Nodes.{named, with_node, without, AreInOrder}
 use Rattle.tree_nodes.specs.Table.{shown, node_at, node_in, or_blank, place_for, IsTable}
-use Rattle.tree_nodes.proofs.Changes.{shown_less, table_less, shown_put, table_put, get_same}
+use Rattle.tree_nodes.proofs.Changes.{shown_less, table_less, shown_put, table_put, get_same, self_test}
 use Rattle.tree_nodes.proofs.Fronts.{some_is}
-use Rattle.tree_nodes.proofs.Order.{is_named}
+use Rattle.tree_nodes.proofs.Order.{is_named, found, named_not_before}
 use Rattle.tree_nodes.proofs.Lists.{find_first}
 
 pub less : (slots slots' : List Slot) (order order' : List ℕ) (next i k : ℕ) (n : Node) → IsTable slots order next → slice_get order i ≡ Some k → slice_get slots k ≡ Some (Taken n) → slots' ≡ set slots k (Gone n.id) → order' ≡ remove order i → shown slots' order' ≡ without (shown slots order) n.id
@@ -55,3 +55,25 @@ get_within (z ∷ zs) (suc k) x at = omega (arith, get_within zs k x at)
 
 pub still_within : (slots slots' : List Slot) (k : ℕ) (n : Node) → slice_get slots k ≡ Some (Taken n) → slots' ≡ set slots k (Gone n.id) → k < length slots'
 still_within slots slots' k n is slots_are = get_within slots' k (Gone n.id) (get_gone slots slots' k n is slots_are)
+
+-- ---- a name stands once
+
+named_none : (ns : List Node) (dir : ℕ) (name : List ℕ) → AllByRecursion (λ m. is_named dir name m ≡ false) ns → named ns dir name ≡ None
+named_none [] dir name all = refl
+named_none (m ∷ ms) dir name all = rw all.0 (named_none ms dir name all.1)
+
+once_if : (k m : Node) (ks : List Node) (dir : ℕ) (name : List ℕ) (b : Bool) → is_named dir name k ≡ b → AreInOrder (k ∷ ks) → (if b then Some k else named ks dir name) ≡ Some m → (named ks dir name ≡ Some m → named (without ks m.id) dir name ≡ None) → named (cond (not (k.id == m.id)) (k ∷ without ks m.id) (without ks m.id)) dir name ≡ None
+once_if k m ks dir name true is sorted same later =
+    let parts = found dir name (k ∷ ks) sorted in
+    let rest : named (without ks m.id) dir name ≡ None = named_without ks m.id dir name (named_none ks dir name (parts.1 (named_not_before k dir name is))) in
+    let mine : (k.id == m.id) ≡ true = subst (λ (j : Node). (k.id == j.id) ≡ true) (some_is k m same) (self_test k.id) in
+    rw mine rest
+once_if k m ks dir name false is sorted same later = other_if (k.id == m.id) (later same)
+  where
+    other_if : (b : Bool) → named (without ks m.id) dir name ≡ None → named (cond (not b) (k ∷ without ks m.id) (without ks m.id)) dir name ≡ None
+    other_if true none = none
+    other_if false none = rw is none
+
+pub named_once : (ns : List Node) (dir : ℕ) (name : List ℕ) (m : Node) → AreInOrder ns → named ns dir name ≡ Some m → named (without ns m.id) dir name ≡ None
+named_once [] dir name m sorted at = refl
+named_once (k ∷ ks) dir name m sorted at = once_if k m ks dir name (is_named dir name k) refl sorted at (named_once ks dir name m sorted.1)

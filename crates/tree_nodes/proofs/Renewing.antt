@@ -1,12 +1,13 @@
 -- A node changed in its place.
-use Rattle.std.proofs.Common.{◌≡◌, ℕ, zero, suc, ◌+◌, ◌<◌, List, [], ◌∷◌, length, set, Some, None, Option, IsSome, Bool, true, false, ◌==◌, if◌then◌else◌, refl, sym, ap, ◌∙◌, subst, arith}
+use Rattle.std.proofs.Common.{◌≡◌, ℕ, zero, suc, ◌+◌, ◌<◌, List, [], ◌∷◌, length, set, Some, None, Option, IsSome, is_some, Bool, true, false, ◌==◌, if◌then◌else◌, refl, sym, ap, ◌∙◌, subst, arith}
 use mathlib.Core.Bool.{true≢false, false≢true}
 use Rattle.std.specs.List.{slice_get, find}
 use Rattle.std.proofs.lemmas.Bool.Decides.{nat_tests}
 use Rattle.tree_nodes.specs.declared.node.Node.{Node}
 use Rattle.tree_nodes.specs.declared.slot.Slot.{Slot}
 use Rattle.tree_nodes.specs.declared.slot.Slot.TheVariants.{Gone, Taken}
-use Rattle.tree_nodes.specs.Nodes.{with_id, changed}
+use Rattle.tree_nodes.specs.Nodes.{with_id, changed, versioned}
+use Rattle.tree_nodes.proofs.Lists.{find_first}
 use Rattle.tree_nodes.specs.Table.{shown, slot_id, node_in, kept_by, taken_at, first_from, AreRising, IsTable, IsNodeAt}
 use Rattle.tree_nodes.proofs.Finds.{id_found}
 use Rattle.tree_nodes.proofs.Changes.{shown_changed, table_changed}
@@ -63,3 +64,17 @@ has_id slots place id n there is = ap id_in (sym is ∙ there.1) ∙ there.2
     id_in : Option Slot → ℕ
     id_in None = 0
     id_in (Some s) = slot_id s
+
+-- where there is none, nothing changes
+changed_same : (f : Node → Node) (ns : List Node) (id : ℕ) → with_id ns id ≡ None → changed ns id f ≡ ns
+changed_same f [] id none = refl
+changed_same f (m ∷ ms) id none =
+    let parts = find_first (λ k. k.id == id) m ms none in
+    rw parts.0 (ap (λ z. m ∷ z) (changed_same f ms id parts.1))
+
+none_by : (o : Option Node) → is_some o ≡ false → o ≡ None
+none_by None e = refl
+none_by (Some n) e = absurd (true≢false e)
+
+pub changed_none : (slots : List Slot) (order : List ℕ) (next id version : ℕ) → IsTable slots order next → is_some (taken_at slots id) ≡ false → shown slots order ≡ versioned (shown slots order) id version
+changed_none slots order next id version t none = sym (changed_same (λ n. record n { version = version }) (shown slots order) id (t.agree id ∙ none_by (taken_at slots id) none))

@@ -125,6 +125,7 @@ impl Nodes {
         requires there { IsSome (named self.old.nodes dir name.now) }
         ensures node { named self.old.nodes dir name.now ≡ Some result }
         ensures done { self.new ≡ record self.old { nodes = without self.old.nodes result.id; room = self.new.room } }
+        ensures gone { named self.new.nodes dir name.now ≡ None }
         ensures room { self.old.room ≤ self.new.room }
     {
         let place = table::place_named(&self.table.slots, &self.table.order, dir, name);
@@ -143,9 +144,8 @@ impl Nodes {
         self.table.rename(place, to, to_name)
     }
 
-    /// Gives the node of an id another version. It takes no memory.
+    /// Gives the node of an id another version, if there is one. It takes no memory.
     pub fn set_version(&mut self, id: u64, version: u64)
-        requires there { IsSome (with_id self.old.nodes id) }
         ensures done { self.new ≡ record self.old { nodes = versioned self.old.nodes id version; room = self.new.room } }
         ensures room { self.old.room ≤ self.new.room }
     {

@@ -1,6 +1,6 @@
 //! Nodes by their ids and by their names.
 
-ghost use Rattle.std.specs.Prelude.{◌≡◌, ℕ, ◌+◌, ◌-◌, ◌<◌, ◌^◌, ◌≤◌, Option, Some, None, IfSome, IfOk, OnOk, OnErr, IsSome, length, map, take, drop, min, IsTrue, false, ◌==◌, ◌&&◌};
+ghost use Rattle.std.specs.Prelude.{◌≡◌, ℕ, ◌+◌, ◌-◌, ◌<◌, ◌^◌, ◌≤◌, Option, Some, None, IfSome, IfOk, OnOk, OnErr, IsSome, is_some, length, map, take, drop, min, IsTrue, false, ◌==◌, ◌&&◌};
 ghost use Rattle.std.specs.List.{slice_get, slice_set, insert, remove, AllByRecursion};
 ghost use Rattle.std.specs.Option.{option_copied};
 ghost use Rattle.std.specs.Vec.{vec_capacity};
@@ -100,6 +100,17 @@ pub fn with_id(slots: &Vec<Slot>, id: u64) -> Option<&Node>
 {
     let place = slot::first_from(slots, id);
     if_id(slot::node_in(slots, place), id)
+}
+
+// Whether there is a node with the id.
+fn has_id(slots: &Vec<Slot>, id: u64) -> bool
+    requires { AreRising slots.now.items }
+    ensures { result ≡ is_some (taken_at slots.now.items id) }
+{
+    match with_id(slots, id) {
+        Some(_) => true,
+        None => false,
+    }
 }
 
 // The node, if it has the id.
@@ -225,10 +236,23 @@ impl Table {
         put_in(&mut self.slots, &mut self.order, slot, node);
     }
 
-    /// Gives the node of an id another version. It takes no memory.
+    /// Gives the node of an id another version, if there is one. It takes no memory.
+    #[tactic(auto, using(crate::proofs::Renewing::changed_none))]
     pub fn set_version(&mut self, id: u64, version: u64)
         requires sound { IsSound self.old }
-        requires there { IsSome (with_id (nodes_of self.old) id) }
+        ensures nodes { nodes_of self.new ≡ versioned (nodes_of self.old) id version }
+        ensures sound { IsSound self.new }
+        ensures next { self.new.next ≡ self.old.next }
+        ensures room { room_of self.old ≤ room_of self.new }
+    {
+        if has_id(&self.slots, id) {
+            self.renew(id, version);
+        }
+    }
+
+    fn renew(&mut self, id: u64, version: u64)
+        requires sound { IsSound self.old }
+        requires there { IsSome (taken_at self.old.slots.items id) }
         ensures nodes { nodes_of self.new ≡ versioned (nodes_of self.old) id version }
         ensures sound { IsSound self.new }
         ensures next { self.new.next ≡ self.old.next }

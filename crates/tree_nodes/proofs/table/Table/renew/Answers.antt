@@ -2,7 +2,7 @@ use Rattle.std.proofs.Common.{◌≡◌, refl, ap, ◌∙◌, set}
 use Rattle.tree_nodes.specs.declared.node.Node.{Node}
 use Rattle.tree_nodes.specs.declared.slot.Slot.TheVariants.{Taken}
 use Rattle.tree_nodes.proofs.Renewing.{renewed, renewed_sound, has_id}
-use Rattle.tree_nodes.proofs.table.Table.set_version.Goals as goal
+use Rattle.tree_nodes.proofs.table.Table.renew.Goals as goal
 
 pub returns-clause-nodes : goal.returns-clause-nodes
 returns-clause-nodes c =
