@@ -1,2 +1,3 @@
 pub mod Found
 pub mod Limits
+pub mod States

@@ -223,3 +223,12 @@ limits_refilled s changes n version content room l at counted_version short smal
   apart = apart_changed (λ m. record m { version = version; body = File content }) (λ m. refl) s.nodes n.id l.apart;
   size = omega (arith, size_changed (λ m. record m { version = version; body = File content }) s.nodes n.id n l.apart at, small);
 }
+
+-- what a node contains is a part of all
+pub size_part : (ms : List Node) (id : ℕ) (n : Node) → with_id ms id ≡ Some n → length (content_of n.body) ≤ contents_size ms
+size_part [] id n at = absurd cc
+size_part (m ∷ ms) id n at = part_if (m.id == id) at (size_part ms id n)
+  where
+    part_if : (b : Bool) → (if b then Some m else with_id ms id) ≡ Some n → (with_id ms id ≡ Some n → length (content_of n.body) ≤ contents_size ms) → length (content_of n.body) ≤ length (content_of m.body) + contents_size ms
+    part_if true same later = let which : length (content_of n.body) ≡ length (content_of m.body) = ap (λ (k : Node). length (content_of k.body)) (sym (some_is m m n same)) in omega (arith, which)
+    part_if false same later = omega (arith, later same)
