@@ -1,3 +1,4 @@
+pub mod Admitted
 pub mod Found
 pub mod Limits
 pub mod States

@@ -11,3 +11,4 @@ pub mod entry;
 pub mod names;
 pub mod plans;
 pub mod state;
+pub mod steps;

@@ -172,3 +172,67 @@ pub fn may_replace_content<'a>(
     checks::spared_bytes(bytes, held, len)?;
     Ok(file)
 }
+
+/// What CREATE is answered, where nothing is to be made.
+pub fn create(
+    nodes: &Nodes,
+    changes: u64,
+    held: Held,
+    dir: u64,
+    name: &[u8],
+    mode: CreateMode,
+) -> Result<Option<Changed>, Status>
+    ensures { result ≡ create_plan (tree_of nodes.now changes) held dir name.now mode }
+{
+    match may_create(nodes, changes, held, dir, name, mode)? {
+        Some(node) => Ok(Some(answers::nothing(node))),
+        None => Ok(None),
+    }
+}
+
+/// What REMOVE is answered.
+pub fn remove(
+    nodes: &Nodes,
+    changes: u64,
+    held: Held,
+    dir: u64,
+    name: &[u8],
+) -> Result<Changed, Status>
+    requires { AreBounded nodes.now changes }
+    ensures { result ≡ remove_plan (tree_of nodes.now changes) held dir name.now }
+{
+    let node = may_remove(nodes, changes, held, dir, name)?;
+    Ok(answers::remove_done(node))
+}
+
+/// What RMDIR is answered.
+pub fn rmdir(
+    nodes: &Nodes,
+    changes: u64,
+    held: Held,
+    dir: u64,
+    name: &[u8],
+) -> Result<Changed, Status>
+    requires { AreBounded nodes.now changes }
+    ensures { result ≡ rmdir_plan (tree_of nodes.now changes) held dir name.now }
+{
+    let node = may_rmdir(nodes, changes, held, dir, name)?;
+    Ok(answers::remove_done(node))
+}
+
+/// The version that a file gets with a content of so many bytes.
+pub fn replace(
+    nodes: &Nodes,
+    changes: u64,
+    bytes: u64,
+    held: Held,
+    id: u64,
+    len: u64,
+) -> Result<u64, Status>
+    requires bounded { AreBounded nodes.now changes }
+    requires bytes { bytes ≡ contents_size nodes.now.nodes }
+    ensures { result ≡ replace_plan (tree_of nodes.now changes) held id len }
+{
+    let node = may_replace_content(nodes, changes, bytes, held, id, len)?;
+    Ok(node.version + 1)
+}

@@ -1,0 +1,83 @@
+//! The calls that change a tree (`specs/Step.antt`).
+
+ghost use Rattle.std.specs.Prelude.{◌≡◌, ◌+◌, ◌<◌, ◌≤◌, []};
+ghost use Rattle.file_tree.specs.Step.{create, mkdir, remove, rmdir, replace};
+ghost use Rattle.file_tree.specs.State.{state_of, IsState};
+ghost use Rattle.tree_nodes.specs.declared.node.Body.TheVariants.{File, Directory};
+
+use crate::answers;
+use crate::call::{Changed, CreateMode, Held};
+use crate::plans;
+use crate::state::TreeState;
+use lb_base::items::Name;
+use tree_nodes::content::Content;
+use tree_nodes::node::{Body, Node};
+use xdr_codec::status::Status;
+
+/// CREATE. It needs the place of one node, and takes no memory.
+#[tactic(auto, using(crate::proofs::Admitted::create_free))]
+pub fn create(
+    tree: &mut TreeState,
+    held: Held,
+    dir: u64,
+    name: Name,
+    mode: CreateMode,
+) -> Result<Changed, Status>
+    requires state { IsState tree.old }
+    requires room { 0 < tree.old.nodes.room }
+    ensures done { create (state_of tree.old) held dir name mode ≡ (state_of tree.new, result) }
+    ensures state { IsState tree.new }
+    ensures room { tree.old.nodes.room ≤ tree.new.nodes.room + 1 }
+{
+    let plan = plans::create(&tree.nodes, tree.changes, held, dir, name.as_slice(), mode)?;
+    if let Some(done) = plan {
+        return Ok(done);
+    }
+    let id = tree.nodes.next();
+    let node = new_file(tree, id, dir, name);
+    tree.make(node);
+    Ok(answers::one(id, 1, answers::made_entry(id)))
+}
+
+// A file with no content.
+fn new_file(tree: &TreeState, id: u64, dir: u64, name: Name) -> Node
+    ensures { result ≡ record { id = id; parent = dir; name = name; version = 1; body = File [] } }
+{
+    Node {
+        id,
+        parent: dir,
+        name,
+        version: 1,
+        body: Body::File(Content::empty(tree.alloc)),
+    }
+}
+
+/// MKDIR. It needs the place of one node, and takes no memory.
+#[tactic(auto, using(crate::proofs::Admitted::mkdir_free))]
+pub fn mkdir(tree: &mut TreeState, held: Held, dir: u64, name: Name) -> Result<Changed, Status>
+    requires state { IsState tree.old }
+    requires room { 0 < tree.old.nodes.room }
+    ensures done { mkdir (state_of tree.old) held dir name ≡ (state_of tree.new, result) }
+    ensures state { IsState tree.new }
+    ensures room { tree.old.nodes.room ≤ tree.new.nodes.room + 1 }
+{
+    plans::may_mkdir(&tree.nodes, tree.changes, held, dir, name.as_slice())?;
+    let id = tree.nodes.next();
+    let version = tree.changes + 1;
+    let node = new_directory(id, dir, name, version);
+    tree.make(node);
+    Ok(answers::one(id, version, answers::name_entry(id)))
+}
+
+// A directory without entries.
+fn new_directory(id: u64, dir: u64, name: Name, version: u64) -> Node
+    ensures { result ≡ record { id = id; parent = dir; name = name; version = version; body = Directory } }
+{
+    Node {
+        id,
+        parent: dir,
+        name,
+        version,
+        body: Body::Directory,
+    }
+}
