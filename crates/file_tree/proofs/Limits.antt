@@ -232,3 +232,11 @@ size_part (m ∷ ms) id n at = part_if (m.id == id) at (size_part ms id n)
     part_if : (b : Bool) → (if b then Some m else with_id ms id) ≡ Some n → (with_id ms id ≡ Some n → length (content_of n.body) ≤ contents_size ms) → length (content_of n.body) ≤ length (content_of m.body) + contents_size ms
     part_if true same later = let which : length (content_of n.body) ≡ length (content_of m.body) = ap (λ (k : Node). length (content_of k.body)) (sym (some_is m m n same)) in omega (arith, which)
     part_if false same later = omega (arith, later same)
+
+-- what the checks ask for follows
+pub bounds : (s : NodesState) (changes : ℕ) → IsWithinLimits s changes → AreBounded s changes
+bounds s changes l = record {
+  next = omega (arith, l.next, l.count);
+  changes_most = omega (arith, l.count);
+  each = l.each;
+}

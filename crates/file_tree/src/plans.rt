@@ -231,7 +231,8 @@ pub fn replace(
 ) -> Result<u64, Status>
     requires bounded { AreBounded nodes.now changes }
     requires bytes { bytes ≡ contents_size nodes.now.nodes }
-    ensures { result ≡ replace_plan (tree_of nodes.now changes) held id len }
+    ensures exact { result ≡ replace_plan (tree_of nodes.now changes) held id len }
+    ensures version { IfOk result (λ v. v ≤ changes + 1) }
 {
     let node = may_replace_content(nodes, changes, bytes, held, id, len)?;
     Ok(node.version + 1)

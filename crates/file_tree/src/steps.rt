@@ -81,3 +81,49 @@ fn new_directory(id: u64, dir: u64, name: Name, version: u64) -> Node
         body: Body::Directory,
     }
 }
+
+/// REMOVE, once nothing blocks it. It takes no memory.
+#[tactic(auto, using(crate::proofs::Limits::bounds, crate::proofs::Admitted::remove_there))]
+pub fn remove(tree: &mut TreeState, held: Held, dir: u64, name: &[u8]) -> Result<Changed, Status>
+    requires { IsState tree.old }
+    ensures done { remove (state_of tree.old) held dir name.now ≡ (state_of tree.new, result) }
+    ensures state { IsState tree.new }
+    ensures room { tree.old.nodes.room ≤ tree.new.nodes.room }
+{
+    let done = plans::remove(&tree.nodes, tree.changes, held, dir, name)?;
+    tree.take_away(dir, name);
+    Ok(done)
+}
+
+/// RMDIR. It takes no memory.
+#[tactic(auto, using(crate::proofs::Limits::bounds, crate::proofs::Admitted::rmdir_there))]
+pub fn rmdir(tree: &mut TreeState, held: Held, dir: u64, name: &[u8]) -> Result<Changed, Status>
+    requires { IsState tree.old }
+    ensures done { rmdir (state_of tree.old) held dir name.now ≡ (state_of tree.new, result) }
+    ensures state { IsState tree.new }
+    ensures room { tree.old.nodes.room ≤ tree.new.nodes.room }
+{
+    let done = plans::rmdir(&tree.nodes, tree.changes, held, dir, name)?;
+    tree.take_away(dir, name);
+    Ok(done)
+}
+
+/// COMMITTMP, once its content is whole and nothing blocks it. It takes no memory.
+#[tactic(auto, using(crate::proofs::Limits::bounds, crate::proofs::Admitted::replace_there))]
+pub fn replace(
+    tree: &mut TreeState,
+    held: Held,
+    id: u64,
+    content: Content,
+) -> Result<Changed, Status>
+    requires { IsState tree.old }
+    ensures done { replace (state_of tree.old) held id content ≡ (state_of tree.new, result) }
+    ensures state { IsState tree.new }
+    ensures room { tree.old.nodes.room ≤ tree.new.nodes.room }
+{
+    let len = content.len() as u64;
+    let version = plans::replace(&tree.nodes, tree.changes, tree.bytes, held, id, len)?;
+    let entry = answers::commit_entry(id, version, &content);
+    tree.refill(id, version, content);
+    Ok(answers::one(id, version, entry))
+}
