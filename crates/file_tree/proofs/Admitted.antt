@@ -11,10 +11,12 @@ use Rattle.file_tree.specs.declared.call.CreateMode.{CreateMode}
 use Rattle.file_tree.specs.declared.call.CreateMode.TheVariants as mode
 use Rattle.file_tree.specs.declared.call.Held.{Held}
 use Rattle.file_tree.specs.declared.call.Changed.{Changed}
+use Rattle.file_tree.specs.declared.call.Planned.{Planned}
+use Rattle.file_tree.specs.declared.call.Planned.TheVariants.{Nothing, Free, Over}
 use Rattle.file_tree.specs.Chain.{◌>>=◌}
 use Rattle.file_tree.specs.Names.{spelt, undotted}
 use Rattle.file_tree.specs.Tree.{Tree, is_directory, contents_size, node_of, or_stale, directory_or, file_or, directory_of, or_no_entry, or_taken}
-use Rattle.file_tree.specs.Step.{changes_most, file_most, tree_most, spared, spared_bytes, within_file, create_found, create_mode, may_create, create_plan, nothing, may_mkdir, may_remove, remove_plan, remove_done, or_not_empty, may_rmdir, rmdir_plan, Target, itself, over, or_within, may_replace, rename_over, rename_found, is_same, may_rename, move_done, may_replace_content, replace_plan}
+use Rattle.file_tree.specs.Step.{changes_most, file_most, tree_most, spared, spared_bytes, within_file, create_found, create_mode, may_create, create_plan, nothing, may_mkdir, may_remove, remove_plan, remove_done, or_not_empty, may_rmdir, rmdir_plan, Target, itself, over, or_within, may_replace, rename_over, rename_found, is_same, planned_found, rename_plan, planned, move_done, may_replace_content, replace_plan, IsPlannedMove}
 
 bind_ok : {A B : Type 0} (r : Result A Status) (f : A → Result B Status) (y : B) → (r >>= f) ≡ Ok y → (x : A) × (r ≡ Ok x) × (f x ≡ Ok y)
 bind_ok (Ok x) f y e = (x, refl, e)
@@ -172,3 +174,57 @@ replace_there t held id len version e =
       count = spared_ok t.changes held 1 k.0 k.1;
       small = bytes_ok (contents_size t.nodes) held len l.0 l.1;
     }
+
+-- ---- RENAME
+
+there_is : (o : Option Node) (n : Node) → o ≡ Some n → IsSome o
+there_is o n e = subst IsSome (sym e) refl
+
+some_is : (d a b : Node) → Some a ≡ Some b → a ≡ b
+some_is d a b e = ap (λ o. or_else o) e
+  where
+    or_else : Option Node → Node
+    or_else None = d
+    or_else (Some z) = z
+
+-- what is planned where the new name stands for this
+move_by : (t : Tree) (held : Held) (dir : ℕ) (name : List ℕ) (to : ℕ) (to_name : List ℕ) (n : Node) (o : Option Node) (p : Planned) → named t.nodes dir name ≡ Some n → named t.nodes to to_name ≡ o → is_same n o ≡ false → rename_over t held n o >>= (λ target. Ok (planned n target)) ≡ Ok p → IsPlannedMove t dir name to to_name p
+move_by t held dir name to to_name n None p at free other e =
+    let a = bind_ok (rename_over t held n None) (λ target. Ok (planned n target)) p e in
+    let b = bind_ok (spared t.changes held 1) (λ _. Ok (over None)) a.0 a.1 in
+    subst (IsPlannedMove t dir name to to_name) (ap (planned n) (ok_is (over None) a.0 b.2) ∙ ok_is (planned n a.0) p a.2) (there_is (named t.nodes dir name) n at, free, spared_ok t.changes held 1 b.0 b.1)
+move_by t held dir name to to_name n (Some m) p at there other e =
+    let a = bind_ok (rename_over t held n (Some m)) (λ target. Ok (planned n target)) p e in
+    let b = bind_ok (may_replace t.nodes n m) (λ _. spared t.changes held 2 >>= λ _. Ok (over (Some m))) a.0 a.1 in
+    let d = bind_ok (spared t.changes held 2) (λ _. Ok (over (Some m))) a.0 b.2 in
+    subst (IsPlannedMove t dir name to to_name) (ap (planned n) (ok_is (over (Some m)) a.0 d.2) ∙ ok_is (planned n a.0) p a.2) (there_is (named t.nodes dir name) n at, there_is (named t.nodes to to_name) m there, λ k l is_k is_l. differ k l (some_is n n k (sym at ∙ is_k)) (some_is m m l (sym there ∙ is_l)), spared_ok t.changes held 2 d.0 d.1)
+  where
+    turned : (a b : ℕ) → (b == a) ≡ false → (a == b) ≡ false
+    turned a b is = grind (arith, nat_tests, is)
+
+    differ : (k l : Node) → n ≡ k → m ≡ l → (k.id == l.id) ≡ false
+    differ k l same_k same_l = subst (λ (x : Node). (x.id == l.id) ≡ false) same_k (subst (λ (y : Node). (n.id == y.id) ≡ false) same_l (turned n.id m.id other))
+
+found_move : (t : Tree) (held : Held) (dir : ℕ) (name : List ℕ) (to : ℕ) (to_name : List ℕ) (n : Node) (p : Planned) → named t.nodes dir name ≡ Some n → planned_found t held n to (named t.nodes to to_name) ≡ Ok p → IsPlannedMove t dir name to to_name p
+found_move t held dir name to to_name n p at e = found_if (is_same n (named t.nodes to to_name)) refl e
+  where
+    found_if : (b : Bool) → is_same n (named t.nodes to to_name) ≡ b → (if b then Ok itself else (or_within t.nodes n to >>= λ _. rename_over t held n (named t.nodes to to_name))) >>= (λ target. Ok (planned n target)) ≡ Ok p → IsPlannedMove t dir name to to_name p
+    found_if true is same = subst (IsPlannedMove t dir name to to_name) (ok_is (planned n itself) p same) tt
+    found_if false is same =
+        let a = bind_ok (or_within t.nodes n to >>= λ _. rename_over t held n (named t.nodes to to_name)) (λ target. Ok (planned n target)) p same in
+        let b = bind_ok (or_within t.nodes n to) (λ _. rename_over t held n (named t.nodes to to_name)) a.0 a.1 in
+        move_by t held dir name to to_name n (named t.nodes to to_name) p at refl is (ap (λ (r : Result Target Status). r >>= λ target. Ok (planned n target)) b.2 ∙ a.2)
+
+pub rename_there : (t : Tree) (held : Held) (dir : ℕ) (name : List ℕ) (to : ℕ) (to_name : List ℕ) (p : Planned) → rename_plan t held dir name to to_name ≡ Ok p → IsPlannedMove t dir name to to_name p
+rename_there t held dir name to to_name p e =
+    let rest = λ (n : Node). planned_found t held n to (named t.nodes to to_name) in
+    let a = bind_ok (node_of t.nodes dir) (λ d. node_of t.nodes to >>= λ e. directory_or status.NotDir d >>= λ _. directory_or status.NotDir e >>= λ _. spelt name >>= λ _. undotted status.Inval status.Inval name >>= λ _. spelt to_name >>= λ _. undotted status.Inval status.Inval to_name >>= λ _. or_no_entry (named t.nodes dir name) >>= rest) p e in
+    let b = bind_ok (node_of t.nodes to) (λ e. directory_or status.NotDir a.0 >>= λ _. directory_or status.NotDir e >>= λ _. spelt name >>= λ _. undotted status.Inval status.Inval name >>= λ _. spelt to_name >>= λ _. undotted status.Inval status.Inval to_name >>= λ _. or_no_entry (named t.nodes dir name) >>= rest) p a.2 in
+    let c = bind_ok (directory_or status.NotDir a.0) (λ _. directory_or status.NotDir b.0 >>= λ _. spelt name >>= λ _. undotted status.Inval status.Inval name >>= λ _. spelt to_name >>= λ _. undotted status.Inval status.Inval to_name >>= λ _. or_no_entry (named t.nodes dir name) >>= rest) p b.2 in
+    let d = bind_ok (directory_or status.NotDir b.0) (λ _. spelt name >>= λ _. undotted status.Inval status.Inval name >>= λ _. spelt to_name >>= λ _. undotted status.Inval status.Inval to_name >>= λ _. or_no_entry (named t.nodes dir name) >>= rest) p c.2 in
+    let f = bind_ok (spelt name) (λ _. undotted status.Inval status.Inval name >>= λ _. spelt to_name >>= λ _. undotted status.Inval status.Inval to_name >>= λ _. or_no_entry (named t.nodes dir name) >>= rest) p d.2 in
+    let g = bind_ok (undotted status.Inval status.Inval name) (λ _. spelt to_name >>= λ _. undotted status.Inval status.Inval to_name >>= λ _. or_no_entry (named t.nodes dir name) >>= rest) p f.2 in
+    let h = bind_ok (spelt to_name) (λ _. undotted status.Inval status.Inval to_name >>= λ _. or_no_entry (named t.nodes dir name) >>= rest) p g.2 in
+    let k = bind_ok (undotted status.Inval status.Inval to_name) (λ _. or_no_entry (named t.nodes dir name) >>= rest) p h.2 in
+    let l = bind_ok (or_no_entry (named t.nodes dir name)) rest p k.2 in
+    found_move t held dir name to to_name l.0 p (entry_ok (named t.nodes dir name) l.0 l.1) l.2

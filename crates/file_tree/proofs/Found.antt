@@ -1,6 +1,7 @@
 -- What is found is among the nodes.
-use Rattle.std.proofs.Common.{◌≡◌, ℕ, List, [], ◌∷◌, Option, Some, None, Bool, true, false, ◌==◌, ◌&&◌, refl, sym, ap, ◌∙◌, subst, if◌then◌else◌, Result, Ok, Err, IfOk, ◌<◌, ◌-◌, ◌^◌, arith}
+use Rattle.std.proofs.Common.{◌≡◌, ℕ, List, [], ◌∷◌, Option, Some, None, Bool, true, false, ◌==◌, ◌&&◌, refl, sym, ap, ◌∙◌, subst, if◌then◌else◌, Result, Ok, Err, IfOk, IfSome, ◌<◌, ◌-◌, ◌^◌, arith}
 use Rattle.std.specs.Borrow.{Bor}
+use Rattle.std.specs.Option.{option_copied}
 use Rattle.xdr_codec.specs.declared.status.Status.{Status}
 use Rattle.std.specs.List.{find, AllByRecursion}
 use Rattle.std.specs.Str.{bytes_eq}
@@ -9,7 +10,7 @@ use Rattle.tree_nodes.specs.Nodes.{named, with_id}
 use Rattle.tree_nodes.specs.View.{NodesState}
 use Rattle.file_tree.specs.View.{AreBounded, IsNodeBounded}
 
-some_is : (d a b : Node) → Some a ≡ Some b → a ≡ b
+pub some_is : (d a b : Node) → Some a ≡ Some b → a ≡ b
 some_is d a b e = ap (λ o. or_else o) e
   where
     or_else : Option Node → Node
@@ -42,3 +43,10 @@ id_ok nodes changes id (Err s) bounded e = tt
 -- a number that is below the next id has a next one of 64 bits
 pub id_fits : (nodes : NodesState) (changes : ℕ) (n : Node) → AreBounded nodes changes → IsNodeBounded nodes.next changes n → n.id < 2 ^ 64 - 1
 id_fits nodes changes n bounded is = omega (arith, bounded.next, is.id)
+
+pub named_some : (nodes : NodesState) (changes dir : ℕ) (name : List ℕ) (o : Option (Bor Node)) → AreBounded nodes changes → option_copied o ≡ named nodes.nodes dir name → IfSome o (λ n. IsNodeBounded nodes.next changes n.now)
+named_some nodes changes dir name (Some n) bounded e = named_bounded nodes changes dir name n.now bounded (sym e)
+named_some nodes changes dir name None bounded e = tt
+
+pub version_fits : (nodes : NodesState) (changes : ℕ) (n : Node) → AreBounded nodes changes → IsNodeBounded nodes.next changes n → n.version < 2 ^ 32
+version_fits nodes changes n bounded is = omega (arith, bounded.changes_most, is.version)

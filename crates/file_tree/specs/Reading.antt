@@ -1,5 +1,5 @@
 -- What is read of a tree.
-use Rattle.std.specs.Prelude.{ℕ, ◌+◌, ◌-◌, ◌*◌, ◌/◌, ◌%◌, List, [], ◌∷◌, length, take, drop, min, Option, Some, None, Result, Ok, Err, Bool, true, false, ◌&&◌, ◌||◌, ◌==◌, not, if◌then◌else◌, nat_lt, nat_le}
+use Rattle.std.specs.Prelude.{◌≡◌, ℕ, ◌+◌, ◌-◌, ◌*◌, ◌/◌, ◌%◌, List, [], ◌∷◌, length, take, drop, min, Option, Some, None, Result, Ok, Err, Bool, true, false, ◌&&◌, ◌||◌, ◌==◌, not, if◌then◌else◌, nat_lt, nat_le}
 use Rattle.file_tree.specs.Chain.{◌>>=◌}
 use Rattle.xdr_codec.specs.declared.status.Status.{Status}
 use Rattle.xdr_codec.specs.declared.status.Status.TheVariants as status
@@ -13,6 +13,9 @@ use Rattle.tree_nodes.specs.declared.node.Node.{Node}
 use Rattle.tree_nodes.specs.declared.node.Body.{Body}
 use Rattle.tree_nodes.specs.declared.node.Body.TheVariants.{Directory, File}
 use Rattle.tree_nodes.specs.Nodes.{with_id, named, names}
+use Rattle.file_tree.specs.declared.error.TreeErr.{TreeErr}
+use Rattle.file_tree.specs.declared.error.TreeErr.TheVariants as tree_err
+use Rattle.file_tree.specs.declared.reading.Looked.{Looked}
 use Rattle.file_tree.specs.Names.{is_dot, is_dot_dot, spelt}
 use Rattle.file_tree.specs.Tree.{node_of, directory_of, file_or, or_no_entry, content_of}
 
@@ -22,12 +25,20 @@ use Rattle.file_tree.specs.Tree.{node_of, directory_of, file_or, or_no_entry, co
 abbrev pub time_of : ℕ → Time
 time_of version = record { seconds = version / 1000000000; nanoseconds = version % 1000000000 }
 
+-- those of a file of so many bytes
+abbrev pub file_attr : ℕ → ℕ → ℕ → Attr
+file_attr id version size = record { kind = kind.File; mode = 420; nlink = 1; uid = 0; gid = 0; size = size; used = size; rdev_major = 0; rdev_minor = 0; fsid = 0x4C424653; fileid = id; atime = time_of version; mtime = time_of version; ctime = time_of version }
+
+-- those of a directory of so many entries
+abbrev pub directory_attr : ℕ → ℕ → ℕ → Attr
+directory_attr id version entries = record { kind = kind.Directory; mode = 493; nlink = 2; uid = 0; gid = 0; size = entries; used = entries; rdev_major = 0; rdev_minor = 0; fsid = 0x4C424653; fileid = id; atime = time_of version; mtime = time_of version; ctime = time_of version }
+
+abbrev pub attr_body : List Node → Node → Body → Attr
+attr_body nodes n Directory = directory_attr n.id n.version (length (names nodes n.id))
+attr_body nodes n (File c) = file_attr n.id n.version (length c)
+
 abbrev pub attr_of : List Node → Node → Attr
-attr_of nodes n = attr_body n.body
-  where
-    attr_body : Body → Attr
-    attr_body Directory = record { kind = kind.Directory; mode = 493; nlink = 2; uid = 0; gid = 0; size = length (names nodes n.id); used = length (names nodes n.id); rdev_major = 0; rdev_minor = 0; fsid = 0x4C424653; fileid = n.id; atime = time_of n.version; mtime = time_of n.version; ctime = time_of n.version }
-    attr_body (File c) = record { kind = kind.File; mode = 420; nlink = 1; uid = 0; gid = 0; size = length c; used = length c; rdev_major = 0; rdev_minor = 0; fsid = 0x4C424653; fileid = n.id; atime = time_of n.version; mtime = time_of n.version; ctime = time_of n.version }
+attr_of nodes n = attr_body nodes n n.body
 
 abbrev pub attr : List Node → ℕ → Result Attr Status
 attr nodes id = node_of nodes id >>= λ n. Ok (attr_of nodes n)
@@ -43,9 +54,12 @@ abbrev pub looked : List Node → Node → List ℕ → Result Node Status
 looked nodes d name =
     if is_dot name then Ok d else (if is_dot_dot name then Ok (above d (with_id nodes d.parent)) else or_no_entry (named nodes d.id name))
 
-abbrev pub lookup : List Node → ℕ → List ℕ → Result (ℕ × Attr × Attr) Status
+abbrev pub found_of : List Node → Node → Node → Looked
+found_of nodes d n = record { id = n.id; attr = attr_of nodes n; dir = attr_of nodes d }
+
+abbrev pub lookup : List Node → ℕ → List ℕ → Result Looked Status
 lookup nodes dir name =
-    directory_of nodes dir >>= λ d. spelt name >>= λ _. looked nodes d name >>= λ n. Ok (n.id, attr_of nodes n, attr_of nodes d)
+    directory_of nodes dir >>= λ d. spelt name >>= λ _. looked nodes d name >>= λ n. Ok (found_of nodes d n)
 
 -- ---- READ (RFC 1813, section 3.3.6)
 
@@ -105,3 +119,10 @@ is_bad_cookie nodes d cookie verifier = (not (cookie == 0) && not (verifier == d
 abbrev pub list : List Node → ℕ → ℕ → ℕ → ℕ → Result Listing Status
 list nodes dir cookie verifier count =
     directory_of nodes dir >>= λ d. if is_bad_cookie nodes d cookie verifier then Err status.BadCookie else listed nodes d cookie (min count 65536)
+
+-- ---- what is answered, where memory may run out
+
+abbrev pub Answers : {A : Type 0} → Result A Status → Result A TreeErr → Type 0
+Answers {A} r (Ok x) = ◌≡◌ {A = Result A Status} r (Ok x)
+Answers {A} r (Err (tree_err.Refused s)) = ◌≡◌ {A = Result A Status} r (Err s)
+Answers r (Err tree_err.Memory) = Unit {0}

@@ -175,7 +175,7 @@ row_replaced = refl
 -- ---- what is read
 
 abbrev found_id : Spot → Result ℕ Status
-found_id s = lookup tree.nodes s.dir s.name >>= λ found. Ok found.0
+found_id s = lookup tree.nodes s.dir s.name >>= λ found. Ok found.id
 
 row_lookup : map found_id (at 9 long ∷ at 2 long ∷ at 3 long ∷ at 3 [] ∷ at 3 slashed ∷ at 3 zeroed ∷ at 3 longest ∷ at 3 dot ∷ at 3 dot_dot ∷ at 1 dot_dot ∷ at 5 dot_dot ∷ at 3 (codes "x") ∷ []) ≡ Err Stale ∷ Err NotDir ∷ Err NameTooLong ∷ Err Acces ∷ Err Acces ∷ Err Acces ∷ Err NoEnt ∷ Ok 3 ∷ Ok 1 ∷ Ok 1 ∷ Ok 3 ∷ Ok 4 ∷ []
 row_lookup = refl

@@ -1,5 +1,5 @@
 -- What the calls that change a tree are refused for, and what they make of it.
-use Rattle.std.specs.Prelude.{ℕ, ◌+◌, List, [], ◌∷◌, length, Option, Some, None, Result, Ok, Err, Bool, true, false, ◌&&◌, ◌||◌, ◌==◌, not, if◌then◌else◌, nat_lt}
+use Rattle.std.specs.Prelude.{◌≡◌, ◌≤◌, IsSome, ℕ, ◌+◌, List, [], ◌∷◌, length, Option, Some, None, Result, Ok, Err, Bool, true, false, ◌&&◌, ◌||◌, ◌==◌, not, if◌then◌else◌, nat_lt}
 use Rattle.file_tree.specs.Chain.{◌>>=◌, refused}
 use Rattle.std.specs.Option.{option_map}
 use Rattle.sha1.specs.Sha1.{sha1}
@@ -18,6 +18,8 @@ use Rattle.file_tree.specs.declared.call.Spot.{Spot}
 use Rattle.file_tree.specs.declared.call.Call.{Call}
 use Rattle.file_tree.specs.declared.call.Call.TheVariants as call
 use Rattle.file_tree.specs.declared.call.Changed.{Changed}
+use Rattle.file_tree.specs.declared.call.Planned.{Planned}
+use Rattle.file_tree.specs.declared.call.Planned.TheVariants.{Nothing, Free, Over}
 use Rattle.file_tree.specs.Names.{spelt, undotted}
 use Rattle.file_tree.specs.Tree.{Tree, is_directory, content_of, contents_size, node_of, directory_or, file_or, directory_of, or_no_entry, or_taken, is_within}
 
@@ -63,6 +65,17 @@ gone_entry n (File c) = record { file = n.id; version = n.version + 1; kind = ki
 abbrev pub last_version : Node → Body → ℕ
 last_version n Directory = n.version
 last_version n (File c) = n.version + 1
+
+-- what was done to a node
+abbrev pub one : ℕ → ℕ → Entry → Changed
+one id version entry = record { id = id; version = version; first = Some entry; second = None }
+
+abbrev pub nothing : Node → Changed
+nothing n = record { id = n.id; version = n.version; first = None; second = None }
+
+abbrev pub move_done : Node → Option Node → Changed
+move_done n None = one n.id n.version (name_entry n.id)
+move_done n (Some m) = record { id = n.id; version = n.version; first = Some (gone_entry m m.body); second = Some (name_entry n.id) }
 
 -- ---- what each call is refused for, up to want of space
 
@@ -127,11 +140,23 @@ abbrev pub rename_found : Tree → Held → Node → ℕ → Option Node → Res
 rename_found t held n to found =
     if is_same n found then Ok itself else (or_within t.nodes n to >>= λ _. rename_over t held n found)
 
-abbrev pub may_rename : Tree → Held → ℕ → List ℕ → ℕ → List ℕ → Result (Node × Target) Status
-may_rename t held dir name to to_name =
+-- what it comes to: nothing, a move to a free name, or one over the node of a name
+abbrev pub planned : Node → Target → Planned
+planned n itself = Nothing (nothing n)
+planned n (over None) = Free (move_done n None)
+planned n (over (Some m)) = Over (move_done n (Some m))
+
+abbrev pub planned_over : Tree → Held → Node → Option Node → Result Planned Status
+planned_over t held n found = rename_over t held n found >>= λ target. Ok (planned n target)
+
+abbrev pub planned_found : Tree → Held → Node → ℕ → Option Node → Result Planned Status
+planned_found t held n to found = rename_found t held n to found >>= λ target. Ok (planned n target)
+
+abbrev pub rename_plan : Tree → Held → ℕ → List ℕ → ℕ → List ℕ → Result Planned Status
+rename_plan t held dir name to to_name =
     node_of t.nodes dir >>= λ d. node_of t.nodes to >>= λ e. directory_or status.NotDir d >>= λ _. directory_or status.NotDir e >>= λ _.
     spelt name >>= λ _. undotted status.Inval status.Inval name >>= λ _. spelt to_name >>= λ _. undotted status.Inval status.Inval to_name >>= λ _.
-    or_no_entry (named t.nodes dir name) >>= λ n. rename_found t held n to (named t.nodes to to_name) >>= λ target. Ok (n, target)
+    or_no_entry (named t.nodes dir name) >>= λ n. planned_found t held n to (named t.nodes to to_name)
 
 abbrev pub within_file : ℕ → Result Unit Status
 within_file len = if nat_lt file_most len then Err status.FBig else Ok tt
@@ -142,13 +167,6 @@ may_replace_content t held id len =
     node_of t.nodes id >>= file_or status.IsDir >>= λ n. within_file len >>= λ _. spared t.changes held 1 >>= λ _. spared_bytes (contents_size t.nodes) held len >>= λ _. Ok n
 
 -- ---- what each call makes of the tree
-
--- what was done to a node
-abbrev pub one : ℕ → ℕ → Entry → Changed
-one id version entry = record { id = id; version = version; first = Some entry; second = None }
-
-abbrev pub nothing : Node → Changed
-nothing n = record { id = n.id; version = n.version; first = None; second = None }
 
 -- a directory's version is the count of changes once its names have changed
 abbrev pub made : Tree → Node → Tree
@@ -174,10 +192,6 @@ moved_at t dir n nodes to to_name changes = record { nodes = versioned (versione
 abbrev pub moved : Tree → ℕ → Node → Option Node → ℕ → List ℕ → Tree
 moved t dir n None to to_name = moved_at t dir n t.nodes to to_name (t.changes + 1)
 moved t dir n (Some m) to to_name = moved_at t dir n (without t.nodes m.id) to to_name (t.changes + 2)
-
-abbrev pub move_done : Node → Option Node → Changed
-move_done n None = one n.id n.version (name_entry n.id)
-move_done n (Some m) = record { id = n.id; version = n.version; first = Some (gone_entry m m.body); second = Some (name_entry n.id) }
 
 abbrev pub replaced : Tree → ℕ → ℕ → List ℕ → Tree
 replaced t id version content = record { nodes = changed t.nodes id (λ m. record m { version = version; body = File content }); next = t.next; changes = t.changes + 1 }
@@ -222,13 +236,19 @@ remove t held dir name = remove_if t dir (remove_plan t held dir name)
 abbrev pub rmdir : Tree → Held → ℕ → List ℕ → Tree × Result Changed Status
 rmdir t held dir name = remove_if t dir (rmdir_plan t held dir name)
 
-abbrev pub rename_if : Tree → ℕ → ℕ → List ℕ → Result (Node × Target) Status → Tree × Result Changed Status
-rename_if t dir to to_name (Err s) = (t, Err s)
-rename_if t dir to to_name (Ok (n, itself)) = (t, Ok (nothing n))
-rename_if t dir to to_name (Ok (n, over o)) = (moved t dir n o to to_name, Ok (move_done n o))
+-- the node of the one name goes under the other
+abbrev pub shifted : Tree → ℕ → Option Node → Option Node → ℕ → List ℕ → Tree
+shifted t dir None o to to_name = t
+shifted t dir (Some n) o to to_name = moved t dir n o to to_name
+
+abbrev pub rename_if : Tree → ℕ → List ℕ → ℕ → List ℕ → Result Planned Status → Tree × Result Changed Status
+rename_if t dir name to to_name (Err s) = (t, Err s)
+rename_if t dir name to to_name (Ok (Nothing done)) = (t, Ok done)
+rename_if t dir name to to_name (Ok (Free done)) = (shifted t dir (named t.nodes dir name) None to to_name, Ok done)
+rename_if t dir name to to_name (Ok (Over done)) = (shifted t dir (named t.nodes dir name) (named t.nodes to to_name) to to_name, Ok done)
 
 abbrev pub rename : Tree → Held → ℕ → List ℕ → ℕ → List ℕ → Tree × Result Changed Status
-rename t held dir name to to_name = rename_if t dir to to_name (may_rename t held dir name to to_name)
+rename t held dir name to to_name = rename_if t dir name to to_name (rename_plan t held dir name to to_name)
 
 -- the version that the file has since then
 abbrev pub replace_plan : Tree → Held → ℕ → ℕ → Result ℕ Status
@@ -247,5 +267,12 @@ may t held (call.Create s m) = refused (may_create t held s.dir s.name m)
 may t held (call.MkDir s) = may_mkdir t held s.dir s.name
 may t held (call.Remove s) = refused (may_remove t held s.dir s.name)
 may t held (call.RmDir s) = refused (may_rmdir t held s.dir s.name)
-may t held (call.Rename s to) = refused (may_rename t held s.dir s.name to.dir to.name)
+may t held (call.Rename s to) = refused (rename_plan t held s.dir s.name to.dir to.name)
 may t held (call.Replace id len) = refused (may_replace_content t held id len)
+
+-- ---- what is known of a RENAME that is planned
+
+abbrev pub IsPlannedMove : Tree → ℕ → List ℕ → ℕ → List ℕ → Planned → Type 0
+IsPlannedMove t dir name to to_name (Nothing done) = Unit {0}
+IsPlannedMove t dir name to to_name (Free done) = IsSome (named t.nodes dir name) × (named t.nodes to to_name ≡ None) × (t.changes + 1 ≤ changes_most)
+IsPlannedMove t dir name to to_name (Over done) = IsSome (named t.nodes dir name) × IsSome (named t.nodes to to_name) × ((n m : Node) → named t.nodes dir name ≡ Some n → named t.nodes to to_name ≡ Some m → (n.id == m.id) ≡ false) × (t.changes + 2 ≤ changes_most)

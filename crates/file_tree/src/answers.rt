@@ -1,6 +1,6 @@
 //! What a change came to, and the entries that it makes (`specs/Step.antt`).
 
-ghost use Rattle.std.specs.Prelude.{◌≡◌, ◌+◌, ◌<◌, ◌^◌};
+ghost use Rattle.std.specs.Prelude.{◌≡◌, ◌+◌, ◌<◌, ◌^◌, Some, None};
 ghost use Rattle.file_tree.specs.Step.{made_entry, name_entry, commit_entry, gone_entry, last_version, one, nothing, remove_done, move_done};
 ghost use Rattle.std.specs.Option.{option_copied};
 
@@ -106,4 +106,24 @@ pub fn remove_done(node: &Node) -> Changed
     ensures { result ≡ remove_done node.now }
 {
     one(node.id, last_version(node), gone_entry(node))
+}
+
+/// This node moved to a free name.
+pub fn move_free_done(node: &Node) -> Changed
+    ensures { result ≡ move_done node.now None }
+{
+    one(node.id, node.version, name_entry(node.id))
+}
+
+/// This node moved to the name of another, which went.
+pub fn move_over_done(node: &Node, gone: &Node) -> Changed
+    requires { gone.now.version < 2 ^ 32 }
+    ensures { result ≡ move_done node.now (Some gone.now) }
+{
+    Changed {
+        id: node.id,
+        version: node.version,
+        first: Some(gone_entry(gone)),
+        second: Some(name_entry(node.id)),
+    }
 }

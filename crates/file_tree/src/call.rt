@@ -52,3 +52,14 @@ pub struct Changed {
     pub first: Option<Entry>,
     pub second: Option<Entry>,
 }
+
+/// What a RENAME comes to.
+#[derive(Clone, Copy, Debug, PartialEq, Eq, Drop)]
+pub enum Planned {
+    /// One node has both names: nothing is to be done.
+    Nothing(Changed),
+    /// The new name is free.
+    Free(Changed),
+    /// The node of the new name goes.
+    Over(Changed),
+}

@@ -1,16 +1,17 @@
 //! What the calls that change a tree will come to, or why they are refused (`specs/Step.antt`). None
 //! of this changes anything or takes memory.
 
-ghost use Rattle.std.specs.Prelude.{◌≡◌, ◌+◌, ◌-◌, ◌<◌, ◌≤◌, ◌^◌, ◌==◌, length, IfOk};
+ghost use Rattle.std.specs.Prelude.{◌≡◌, ◌+◌, ◌-◌, ◌<◌, ◌≤◌, ◌^◌, ◌==◌, length, IfOk, IfSome};
 ghost use Rattle.std.specs.Option.{option_copied};
 ghost use Rattle.std.specs.List.{AllByRecursion};
 ghost use Rattle.tree_nodes.specs.Nodes.{names, named};
 ghost use Rattle.file_tree.specs.Tree.{contents_size, or_no_entry, node_of};
-ghost use Rattle.file_tree.specs.Step.{create_found, may_create, may_mkdir, may_remove, may_rmdir, may_rename, may_replace_content, create_plan, remove_plan, rmdir_plan, replace_plan};
+ghost use Rattle.file_tree.specs.Step.{create_found, may_create, may_mkdir, may_remove, may_rmdir, planned_over, planned_found, rename_plan, may_replace_content, create_plan, remove_plan, rmdir_plan, replace_plan};
+ghost use Rattle.file_tree.specs.Step.{is_same};
 ghost use Rattle.file_tree.specs.View.{lent, lent_option, tree_of, AreBounded, IsNodeBounded};
 
 use crate::answers;
-use crate::call::{Changed, CreateMode, Held};
+use crate::call::{Changed, CreateMode, Held, Planned};
 use crate::checks;
 use crate::names::{spelt, undotted};
 use tree_nodes::node::Node;
@@ -236,4 +237,111 @@ pub fn replace(
 {
     let node = may_replace_content(nodes, changes, bytes, held, id, len)?;
     Ok(node.version + 1)
+}
+
+// What RENAME comes to where the names stand for different nodes.
+#[tactic(auto, using(crate::proofs::Found::id_fits))]
+fn rename_over(
+    nodes: &Nodes,
+    changes: u64,
+    held: Held,
+    node: &Node,
+    found: Option<&Node>,
+) -> Result<Planned, Status>
+    requires bounded { AreBounded nodes.now changes }
+    requires node { node.now.version < 2 ^ 32 }
+    requires found { IfSome found (λ m. IsNodeBounded nodes.now.next changes m.now) }
+    ensures { result ≡ planned_over (tree_of nodes.now changes) held node.now (option_copied found.entry) }
+{
+    match found {
+        None => {
+            checks::spared(changes, held, 1)?;
+            Ok(Planned::Free(answers::move_free_done(node)))
+        }
+        Some(gone) => {
+            checks::may_replace(nodes, node, gone)?;
+            checks::spared(changes, held, 2)?;
+            Ok(Planned::Over(answers::move_over_done(node, gone)))
+        }
+    }
+}
+
+// Whether a name stands for this node.
+fn is_same(node: &Node, found: Option<&Node>) -> bool
+    ensures { result ≡ is_same node.now (option_copied found.entry) }
+{
+    match found {
+        Some(found) => found.id == node.id,
+        None => false,
+    }
+}
+
+// What RENAME comes to where the new name stands for a node, or for none.
+fn rename_found(
+    nodes: &Nodes,
+    changes: u64,
+    held: Held,
+    node: &Node,
+    to: u64,
+    found: Option<&Node>,
+) -> Result<Planned, Status>
+    requires bounded { AreBounded nodes.now changes }
+    requires node { node.now.version < 2 ^ 32 }
+    requires found { IfSome found (λ m. IsNodeBounded nodes.now.next changes m.now) }
+    ensures { result ≡ planned_found (tree_of nodes.now changes) held node.now to (option_copied found.entry) }
+{
+    if is_same(node, found) {
+        return Ok(Planned::Nothing(answers::nothing(node)));
+    }
+    checks::or_within(nodes, node, to)?;
+    rename_over(nodes, changes, held, node, found)
+}
+
+// The node of a name, if there is one, which is within the bounds of a tree.
+fn at_name<'a>(nodes: &'a Nodes, changes: u64, dir: u64, name: &[u8]) -> Option<&'a Node>
+    requires { AreBounded nodes.now changes }
+    ensures exact { option_copied result ≡ named nodes.now.nodes dir name.now }
+    ensures bounded { IfSome result (λ m. IsNodeBounded nodes.now.next changes m.now) }
+{
+    let _changes = changes;
+    nodes.named(dir, name)
+}
+
+/// What RENAME comes to.
+pub fn rename(
+    nodes: &Nodes,
+    changes: u64,
+    held: Held,
+    dir: u64,
+    name: &[u8],
+    to: u64,
+    to_name: &[u8],
+) -> Result<Planned, Status>
+    requires { AreBounded nodes.now changes }
+    ensures { result ≡ rename_plan (tree_of nodes.now changes) held dir name.now to to_name.now }
+{
+    let from = checks::node_of(nodes, dir)?;
+    let into = checks::node_of(nodes, to)?;
+    let _from = checks::directory_or(from, Status::NotDir)?;
+    let _into = checks::directory_or(into, Status::NotDir)?;
+    spelt(name)?;
+    undotted(name, Status::Inval, Status::Inval)?;
+    spelt(to_name)?;
+    undotted(to_name, Status::Inval, Status::Inval)?;
+    let node = counted(nodes, changes, dir, name)?;
+    rename_found(nodes, changes, held, node, to, at_name(nodes, changes, to, to_name))
+}
+
+// The node of a name, whose version is one that a tree may have.
+fn counted<'a>(
+    nodes: &'a Nodes,
+    changes: u64,
+    dir: u64,
+    name: &[u8],
+) -> Result<&'a Node, Status>
+    requires { AreBounded nodes.now changes }
+    ensures exact { lent result ≡ or_no_entry (named nodes.now.nodes dir name.now) }
+    ensures counted { IfOk result (λ n. n.now.version < 2 ^ 32) }
+{
+    found(nodes, changes, dir, name)
 }

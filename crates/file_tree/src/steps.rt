@@ -1,12 +1,12 @@
 //! The calls that change a tree (`specs/Step.antt`).
 
-ghost use Rattle.std.specs.Prelude.{◌≡◌, ◌+◌, ◌<◌, ◌≤◌, []};
-ghost use Rattle.file_tree.specs.Step.{create, mkdir, remove, rmdir, replace};
+ghost use Rattle.std.specs.Prelude.{◌≡◌, ◌+◌, ◌<◌, ◌≤◌, [], IfOk};
+ghost use Rattle.file_tree.specs.Step.{create, mkdir, remove, rmdir, rename, replace, rename_plan, IsPlannedMove};
 ghost use Rattle.file_tree.specs.State.{state_of, IsState};
 ghost use Rattle.tree_nodes.specs.declared.node.Body.TheVariants.{File, Directory};
 
 use crate::answers;
-use crate::call::{Changed, CreateMode, Held};
+use crate::call::{Changed, CreateMode, Held, Planned};
 use crate::plans;
 use crate::state::TreeState;
 use lb_base::items::Name;
@@ -126,4 +126,48 @@ pub fn replace(
     let entry = answers::commit_entry(id, version, &content);
     tree.refill(id, version, content);
     Ok(answers::one(id, version, entry))
+}
+
+/// RENAME, once nothing blocks it. It takes no memory.
+pub fn rename(
+    tree: &mut TreeState,
+    held: Held,
+    dir: u64,
+    name: &[u8],
+    to: u64,
+    to_name: Name,
+) -> Result<Changed, Status>
+    requires { IsState tree.old }
+    ensures done { rename (state_of tree.old) held dir name.now to to_name ≡ (state_of tree.new, result) }
+    ensures state { IsState tree.new }
+    ensures room { tree.old.nodes.room ≤ tree.new.nodes.room }
+{
+    let plan = plan_rename(tree, held, dir, name, to, to_name.as_slice())?;
+    match plan {
+        Planned::Nothing(done) => Ok(done),
+        Planned::Free(done) => {
+            tree.move_free(dir, name, to, to_name);
+            Ok(done)
+        }
+        Planned::Over(done) => {
+            tree.move_over(dir, name, to, to_name);
+            Ok(done)
+        }
+    }
+}
+
+// What RENAME comes to in a tree.
+fn plan_rename(
+    tree: &TreeState,
+    held: Held,
+    dir: u64,
+    name: &[u8],
+    to: u64,
+    to_name: &[u8],
+) -> Result<Planned, Status>
+    requires { IsState tree.now }
+    ensures exact { result ≡ rename_plan (state_of tree.now) held dir name.now to to_name.now }
+    ensures there { IfOk result (IsPlannedMove (state_of tree.now) dir name.now to to_name.now) }
+{
+    plans::rename(&tree.nodes, tree.changes, held, dir, name, to, to_name)
 }
