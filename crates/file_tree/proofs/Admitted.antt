@@ -188,7 +188,7 @@ some_is d a b e = ap (λ o. or_else o) e
     or_else (Some z) = z
 
 -- what is planned where the new name stands for this
-move_by : (t : Tree) (held : Held) (dir : ℕ) (name : List ℕ) (to : ℕ) (to_name : List ℕ) (n : Node) (o : Option Node) (p : Planned) → named t.nodes dir name ≡ Some n → named t.nodes to to_name ≡ o → is_same n o ≡ false → rename_over t held n o >>= (λ target. Ok (planned n target)) ≡ Ok p → IsPlannedMove t dir name to to_name p
+move_by : (t : Tree) (held : Held) (dir : ℕ) (name : List ℕ) (to : ℕ) (to_name : List ℕ) (n : Node) (o : Option Node) (p : Planned) → named t.nodes dir name ≡ Some n → named t.nodes to to_name ≡ o → is_same n o ≡ false → (rename_over t held n o >>= (λ target. Ok (planned n target))) ≡ Ok p → IsPlannedMove t dir name to to_name p
 move_by t held dir name to to_name n None p at free other e =
     let a = bind_ok (rename_over t held n None) (λ target. Ok (planned n target)) p e in
     let b = bind_ok (spared t.changes held 1) (λ _. Ok (over None)) a.0 a.1 in
@@ -208,7 +208,7 @@ move_by t held dir name to to_name n (Some m) p at there other e =
 found_move : (t : Tree) (held : Held) (dir : ℕ) (name : List ℕ) (to : ℕ) (to_name : List ℕ) (n : Node) (p : Planned) → named t.nodes dir name ≡ Some n → planned_found t held n to (named t.nodes to to_name) ≡ Ok p → IsPlannedMove t dir name to to_name p
 found_move t held dir name to to_name n p at e = found_if (is_same n (named t.nodes to to_name)) refl e
   where
-    found_if : (b : Bool) → is_same n (named t.nodes to to_name) ≡ b → (if b then Ok itself else (or_within t.nodes n to >>= λ _. rename_over t held n (named t.nodes to to_name))) >>= (λ target. Ok (planned n target)) ≡ Ok p → IsPlannedMove t dir name to to_name p
+    found_if : (b : Bool) → is_same n (named t.nodes to to_name) ≡ b → ((if b then Ok itself else (or_within t.nodes n to >>= λ _. rename_over t held n (named t.nodes to to_name))) >>= (λ target. Ok (planned n target))) ≡ Ok p → IsPlannedMove t dir name to to_name p
     found_if true is same = subst (IsPlannedMove t dir name to to_name) (ok_is (planned n itself) p same) tt
     found_if false is same =
         let a = bind_ok (or_within t.nodes n to >>= λ _. rename_over t held n (named t.nodes to to_name)) (λ target. Ok (planned n target)) p same in

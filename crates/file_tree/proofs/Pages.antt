@@ -1,6 +1,9 @@
 -- Pages of a directory.
-use Rattle.std.proofs.Common.{◌≡◌, ℕ, zero, suc, ◌+◌, ◌-◌, ◌<◌, ◌≤◌, List, [], ◌∷◌, length, take, drop, Some, None, refl, sym, ap, ◌∙◌, arith}
+use Rattle.std.proofs.Common.{◌≡◌, ℕ, zero, suc, ◌+◌, ◌-◌, ◌<◌, ◌≤◌, List, [], ◌∷◌, ◌++◌, nat_le, Bool, true, false, subst, length, take, drop, Some, None, refl, sym, ap, ◌∙◌, arith}
 use Rattle.std.specs.List.{slice_get}
+use Rattle.std.proofs.lemmas.Bool.Decides.{nat_tests}
+use Rattle.nfs3_calls.specs.declared.listing.Entry.{Entry}
+use Rattle.file_tree.specs.Reading.{entry_size, page}
 use Rattle.tree_nodes.specs.declared.node.Node.{Node}
 use Rattle.file_tree.proofs.Found.{some_is}
 
@@ -33,3 +36,33 @@ no_node ns at end past = ap (λ k. take k (drop at ns)) (none at end past)
     none : (at end : ℕ) → end ≤ at → end - at ≡ 0
     none at end le = omega (arith, le)
 
+
+-- ---- a page, entry by entry
+
+append_nil : (es : List Entry) → es ++ [] ≡ es
+append_nil [] = refl
+append_nil (e ∷ es) = ap (λ z. e ∷ z) (append_nil es)
+
+append_one : (es : List Entry) (e : Entry) (rest : List Entry) → (es ++ e ∷ []) ++ rest ≡ es ++ e ∷ rest
+append_one [] e rest = refl
+append_one (x ∷ es) e rest = ap (λ z. x ∷ z) (append_one es e rest)
+
+fits_not : (size room : ℕ) → room < size → nat_le size room ≡ false
+fits_not size room less = grind (arith, nat_tests, less)
+
+fits : (size room : ℕ) → size ≤ room → nat_le size room ≡ true
+fits size room le = grind (arith, nat_tests, le)
+
+-- the page ends at an entry that doesn't fit
+pub page_stop : (ns : List Node) (at end left cookie size : ℕ) (n : Node) (es all : List Entry) → at < end → slice_get ns at ≡ Some n → size ≡ entry_size n.name → left < size → es ++ page left cookie (take (end - at) (drop at ns)) ≡ all → es ≡ all
+page_stop ns at end left cookie size n es all less is size_is over so_far =
+    let none : page left cookie (take (end - at) (drop at ns)) ≡ [] = ap (page left cookie) (next_node ns at end n less is) ∙ rw (fits_not (entry_size n.name) left (subst (λ k. left < k) size_is over)) refl in
+    sym (append_nil es) ∙ ap (λ z. es ++ z) (sym none) ∙ so_far
+
+-- and goes on with one that does
+pub page_more : (ns : List Node) (at end left cookie size : ℕ) (n : Node) (es es' all : List Entry) → at < end → slice_get ns at ≡ Some n → size ≡ entry_size n.name → size ≤ left → es' ≡ es ++ record { fileid = n.id; name = n.name; cookie = cookie + 1 } ∷ [] → es ++ page left cookie (take (end - at) (drop at ns)) ≡ all → es' ++ page (left - size) (cookie + 1) (take (end - (at + 1)) (drop (at + 1) ns)) ≡ all
+page_more ns at end left cookie size n es es' all less is size_is within es_is so_far =
+    let e : Entry = record { fileid = n.id; name = n.name; cookie = cookie + 1 } in
+    let rest = take (end - (at + 1)) (drop (at + 1) ns) in
+    let first : page left cookie (take (end - at) (drop at ns)) ≡ e ∷ page (left - entry_size n.name) (cookie + 1) rest = ap (page left cookie) (next_node ns at end n less is) ∙ rw (fits (entry_size n.name) left (subst (λ k. k ≤ left) size_is within)) refl in
+    ap (λ z. z ++ page (left - size) (cookie + 1) rest) es_is ∙ append_one es e (page (left - size) (cookie + 1) rest) ∙ ap (λ k. es ++ e ∷ page (left - k) (cookie + 1) rest) size_is ∙ ap (λ z. es ++ z) (sym first) ∙ so_far

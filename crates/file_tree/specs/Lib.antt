@@ -1,4 +1,6 @@
 pub mod Chain
+pub mod Kept
+pub mod Load
 pub mod Names
 pub mod Reading
 pub mod Rows

@@ -11,3 +11,8 @@ pub record IsState (s : TreeState) : Type 0 where
   pub limits : IsWithinLimits s.nodes s.changes
   -- the bytes are counted, and not added up
   pub counted : s.bytes ≡ contents_size s.nodes.nodes
+
+-- a tree, and for how many nodes more there is room
+pub record TreeView : Type 0 where
+  pub tree : Tree
+  pub room : ℕ

@@ -15,3 +15,4 @@ pub mod plans;
 pub mod reading;
 pub mod state;
 pub mod steps;
+pub mod tree;

@@ -30,7 +30,7 @@ fn entry_size(name: &[u8]) -> usize
 }
 
 // The entries of nodes in a row, from a cookie on, as many as fit.
-#[tactic(auto, using(crate::proofs::Pages::next_node, crate::proofs::Pages::no_node))]
+#[tactic(auto, using(crate::proofs::Pages::no_node))]
 fn page(
     alloc: Global,
     nodes: &Nodes,

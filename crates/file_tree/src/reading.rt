@@ -226,7 +226,7 @@ fn above<'a>(nodes: &'a Nodes, dir: &'a Node) -> &'a Node
 }
 
 // What a name stands for in a directory.
-fn looked<'a>(nodes: &'a Nodes, dir: &'a Node, name: &[u8]) -> Result<&'a Node, Status>
+fn stands_for<'a>(nodes: &'a Nodes, dir: &'a Node, name: &[u8]) -> Result<&'a Node, Status>
     ensures { lent result ≡ looked nodes.now.nodes dir.now name.now }
 {
     if is_dot(name) {

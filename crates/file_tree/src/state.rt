@@ -1,15 +1,16 @@
 //! A tree, and what its changes make of it.
 
-ghost use Rattle.std.specs.Prelude.{◌≡◌, ◌==◌, false, ◌+◌, ◌-◌, ◌<◌, ◌^◌, ◌≤◌, Some, None, IsSome, length};
+ghost use Rattle.std.specs.Prelude.{◌≡◌, ◌==◌, false, ◌+◌, ◌-◌, ◌<◌, ◌^◌, ◌≤◌, Some, None, IsSome, IfOk, length};
 ghost use Rattle.tree_nodes.specs.Nodes.{named, with_id, with_node, without, versioned, changed};
 ghost use Rattle.tree_nodes.specs.declared.node.Node.{Node};
 ghost use Rattle.tree_nodes.specs.declared.node.Body.TheVariants.{File};
-ghost use Rattle.file_tree.specs.Tree.{content_of, contents_size};
+ghost use Rattle.file_tree.specs.Tree.{empty, content_of, contents_size};
 ghost use Rattle.file_tree.specs.Step.{changes_most, file_most, tree_most, made, removed, moved, moved_at, replaced};
+ghost use Rattle.file_tree.specs.State.{state_of, IsState};
 ghost use Rattle.file_tree.specs.View.{IsWithinLimits};
 
 use lb_base::items::Name;
-use std::alloc::Global;
+use std::alloc::{AllocError, Global};
 use tree_nodes::content::Content;
 use tree_nodes::node::{Body, Node};
 use tree_nodes::nodes::Nodes;
@@ -34,8 +35,6 @@ fn size_of(node: &Node) -> u64
 }
 
 impl TreeState {
-    ghost use Rattle.file_tree.specs.State.{state_of, IsState};
-
     /// Adds a new node with no content.
     pub fn make(&mut self, node: Node)
         requires state { IsState self.old }
@@ -172,4 +171,26 @@ fn let_go(node: Node) -> u64
     ensures { result ≡ length (content_of node.body) }
 {
     size_of(&node)
+}
+
+/// The root alone. The one error is want of memory.
+pub fn root_alone(alloc: Global) -> Result<TreeState, AllocError>
+    ensures tree { IfOk result (λ s. state_of s ≡ empty) }
+    ensures state { IfOk result IsState }
+{
+    let mut nodes = Nodes::new(alloc, 1);
+    nodes.reserve(1)?;
+    nodes.insert(Node {
+        id: 1,
+        parent: 0,
+        name: Name::new(alloc),
+        version: 0,
+        body: Body::Directory,
+    });
+    Ok(TreeState {
+        nodes,
+        changes: 0,
+        bytes: 0,
+        alloc,
+    })
 }

@@ -1,12 +1,13 @@
 //! The calls that change a tree (`specs/Step.antt`).
 
 ghost use Rattle.std.specs.Prelude.{◌≡◌, ◌+◌, ◌<◌, ◌≤◌, [], IfOk};
-ghost use Rattle.file_tree.specs.Step.{create, mkdir, remove, rmdir, rename, replace, rename_plan, IsPlannedMove};
+ghost use Rattle.file_tree.specs.Step.{create, mkdir, remove, rmdir, rename, replace, rename_plan, IsPlannedMove, may, may_create, may_remove, may_rmdir, may_replace_content};
+ghost use Rattle.file_tree.specs.Chain.{refused};
 ghost use Rattle.file_tree.specs.State.{state_of, IsState};
 ghost use Rattle.tree_nodes.specs.declared.node.Body.TheVariants.{File, Directory};
 
 use crate::answers;
-use crate::call::{Changed, CreateMode, Held, Planned};
+use crate::call::{Call, Changed, CreateMode, Held, Planned, Spot};
 use crate::plans;
 use crate::state::TreeState;
 use lb_base::items::Name;
@@ -170,4 +171,73 @@ fn plan_rename(
     ensures there { IfOk result (IsPlannedMove (state_of tree.now) dir name.now to to_name.now) }
 {
     plans::rename(&tree.nodes, tree.changes, held, dir, name, to, to_name)
+}
+
+/// Why such a call would be refused, up to want of space.
+#[tactic(auto, using(crate::proofs::Limits::bounds))]
+pub fn may(tree: &TreeState, call: &Call, held: Held) -> Result<(), Status>
+    requires { IsState tree.now }
+    ensures { result ≡ may (state_of tree.now) held call.now }
+{
+    match call {
+        Call::Create(spot, mode) => may_create(tree, spot, *mode, held),
+        Call::MkDir(spot) => {
+            plans::may_mkdir(&tree.nodes, tree.changes, held, spot.dir, spot.name.as_slice())
+        }
+        Call::Remove(spot) => may_remove(tree, spot, held),
+        Call::RmDir(spot) => may_rmdir(tree, spot, held),
+        Call::Rename(spot, to) => may_rename(tree, spot, to, held),
+        Call::Replace(id, len) => may_replace(tree, *id, *len, held),
+    }
+}
+
+fn may_create(tree: &TreeState, spot: &Spot, mode: CreateMode, held: Held) -> Result<(), Status>
+    ensures { result ≡ refused (may_create (state_of tree.now) held spot.now.dir spot.now.name mode) }
+{
+    let _found =
+        plans::may_create(&tree.nodes, tree.changes, held, spot.dir, spot.name.as_slice(), mode)?;
+    Ok(())
+}
+
+#[tactic(auto, using(crate::proofs::Limits::bounds))]
+fn may_remove(tree: &TreeState, spot: &Spot, held: Held) -> Result<(), Status>
+    requires { IsState tree.now }
+    ensures { result ≡ refused (may_remove (state_of tree.now) held spot.now.dir spot.now.name) }
+{
+    let _file = plans::may_remove(&tree.nodes, tree.changes, held, spot.dir, spot.name.as_slice())?;
+    Ok(())
+}
+
+#[tactic(auto, using(crate::proofs::Limits::bounds))]
+fn may_rmdir(tree: &TreeState, spot: &Spot, held: Held) -> Result<(), Status>
+    requires { IsState tree.now }
+    ensures { result ≡ refused (may_rmdir (state_of tree.now) held spot.now.dir spot.now.name) }
+{
+    let _gone = plans::may_rmdir(&tree.nodes, tree.changes, held, spot.dir, spot.name.as_slice())?;
+    Ok(())
+}
+
+fn may_rename(tree: &TreeState, spot: &Spot, to: &Spot, held: Held) -> Result<(), Status>
+    requires { IsState tree.now }
+    ensures { result ≡ refused (rename_plan (state_of tree.now) held spot.now.dir spot.now.name to.now.dir to.now.name) }
+{
+    let _plan = plan_rename(
+        tree,
+        held,
+        spot.dir,
+        spot.name.as_slice(),
+        to.dir,
+        to.name.as_slice(),
+    )?;
+    Ok(())
+}
+
+#[tactic(auto, using(crate::proofs::Limits::bounds))]
+fn may_replace(tree: &TreeState, id: u64, len: u64, held: Held) -> Result<(), Status>
+    requires { IsState tree.now }
+    ensures { result ≡ refused (may_replace_content (state_of tree.now) held id len) }
+{
+    let _file =
+        plans::may_replace_content(&tree.nodes, tree.changes, tree.bytes, held, id, len)?;
+    Ok(())
 }
