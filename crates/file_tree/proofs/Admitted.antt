@@ -1,6 +1,5 @@
 -- What is known where a call isn't refused.
-use Rattle.std.proofs.Common.{◌≡◌, ℕ, ◌+◌, ◌≤◌, List, length, Option, Some, None, IsSome, Result, Ok, Err, Bool, true, false, ◌==◌, ◌&&◌, refl, sym, ap, ◌∙◌, subst, arith, nat_lt, if◌then◌else◌}
-use mathlib.Core.Bool.{true≢false}
+use Rattle.std.proofs.Common.{◌≡◌, ℕ, ◌+◌, ◌≤◌, List, Option, Some, None, IsSome, Result, Ok, Err, Bool, true, false, ◌==◌, refl, sym, ap, ◌∙◌, subst, arith, nat_lt, if◌then◌else◌}
 use Rattle.std.specs.Option.{option_map}
 use Rattle.std.proofs.lemmas.Bool.Decides.{nat_tests}
 use Rattle.xdr_codec.specs.declared.status.Status.{Status}
@@ -12,11 +11,10 @@ use Rattle.file_tree.specs.declared.call.CreateMode.TheVariants as mode
 use Rattle.file_tree.specs.declared.call.Held.{Held}
 use Rattle.file_tree.specs.declared.call.Changed.{Changed}
 use Rattle.file_tree.specs.declared.call.Planned.{Planned}
-use Rattle.file_tree.specs.declared.call.Planned.TheVariants.{Nothing, Free, Over}
 use Rattle.file_tree.specs.Chain.{◌>>=◌}
 use Rattle.file_tree.specs.Names.{spelt, undotted}
 use Rattle.file_tree.specs.Tree.{Tree, is_directory, contents_size, node_of, or_stale, directory_or, file_or, directory_of, or_no_entry, or_taken}
-use Rattle.file_tree.specs.Step.{changes_most, file_most, tree_most, spared, spared_bytes, within_file, create_found, create_mode, may_create, create_plan, nothing, may_mkdir, may_remove, remove_plan, remove_done, or_not_empty, may_rmdir, rmdir_plan, Target, itself, over, or_within, may_replace, rename_over, rename_found, is_same, planned_found, rename_plan, planned, move_done, may_replace_content, replace_plan, IsPlannedMove}
+use Rattle.file_tree.specs.Step.{changes_most, file_most, tree_most, spared, spared_bytes, within_file, create_found, create_mode, may_create, create_plan, nothing, may_mkdir, may_remove, remove_plan, remove_done, or_not_empty, may_rmdir, rmdir_plan, Target, itself, over, or_within, may_replace, rename_over, is_same, planned_found, rename_plan, planned, may_replace_content, replace_plan, IsPlannedMove}
 
 bind_ok : {A B : Type 0} (r : Result A Status) (f : A → Result B Status) (y : B) → (r >>= f) ≡ Ok y → (x : A) × (r ≡ Ok x) × (f x ≡ Ok y)
 bind_ok (Ok x) f y e = (x, refl, e)

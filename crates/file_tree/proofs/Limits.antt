@@ -1,11 +1,10 @@
 -- What changes leave of a tree's limits.
-use Rattle.std.proofs.Common.{◌≡◌, ℕ, ◌+◌, ◌-◌, ◌^◌, ◌<◌, ◌≤◌, List, [], ◌∷◌, length, map, Option, Some, None, Bool, true, false, not, ◌==◌, ◌&&◌, refl, sym, ap, ◌∙◌, subst, arith, if◌then◌else◌, cond}
-use mathlib.Core.Bool.{true≢false}
-use Rattle.std.specs.List.{find, filter, AllByRecursion}
+use Rattle.std.proofs.Common.{◌≡◌, ℕ, ◌+◌, ◌^◌, ◌<◌, ◌≤◌, List, [], ◌∷◌, length, Option, Some, None, Bool, true, false, not, ◌==◌, refl, sym, ap, arith, if◌then◌else◌, cond}
+use Rattle.std.specs.List.{filter, AllByRecursion}
 use Rattle.std.proofs.lemmas.Bool.Decides.{nat_tests}
 use Rattle.tree_nodes.specs.declared.node.Node.{Node}
 use Rattle.tree_nodes.specs.declared.node.Body.{Body}
-use Rattle.tree_nodes.specs.declared.node.Body.TheVariants.{File, Directory}
+use Rattle.tree_nodes.specs.declared.node.Body.TheVariants.{File}
 use Rattle.tree_nodes.specs.Nodes.{before, with_id, with_node, without, changed, versioned}
 use Rattle.tree_nodes.specs.View.{NodesState}
 use Rattle.file_tree.specs.Tree.{content_of, contents_size}

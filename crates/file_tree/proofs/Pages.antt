@@ -1,10 +1,11 @@
 -- Pages of a directory.
-use Rattle.std.proofs.Common.{◌≡◌, ℕ, zero, suc, ◌+◌, ◌-◌, ◌<◌, ◌≤◌, List, [], ◌∷◌, ◌++◌, nat_le, Bool, true, false, subst, length, take, drop, Some, None, refl, sym, ap, ◌∙◌, arith}
+use Rattle.std.proofs.Common.{◌≡◌, ℕ, zero, suc, ◌+◌, ◌-◌, ◌<◌, ◌≤◌, List, [], ◌∷◌, ◌++◌, nat_le, true, false, subst, length, length-drop, take, drop, Some, refl, sym, ap, ◌∙◌, arith}
 use Rattle.std.specs.List.{slice_get}
 use Rattle.std.proofs.lemmas.Bool.Decides.{nat_tests}
 use Rattle.nfs3_calls.specs.declared.listing.Entry.{Entry}
 use Rattle.file_tree.specs.Reading.{entry_size, page}
 use Rattle.tree_nodes.specs.declared.node.Node.{Node}
+use Rattle.std.proofs.lemmas.List.{drop-drop}
 use Rattle.file_tree.proofs.Found.{some_is}
 
 -- of nodes in a row, the first and those behind it
@@ -36,7 +37,6 @@ no_node ns at end past = ap (λ k. take k (drop at ns)) (none at end past)
     none : (at end : ℕ) → end ≤ at → end - at ≡ 0
     none at end le = omega (arith, le)
 
-
 -- ---- a page, entry by entry
 
 append_nil : (es : List Entry) → es ++ [] ≡ es
@@ -66,3 +66,34 @@ page_more ns at end left cookie size n es es' all less is size_is within es_is s
     let rest = take (end - (at + 1)) (drop (at + 1) ns) in
     let first : page left cookie (take (end - at) (drop at ns)) ≡ e ∷ page (left - entry_size n.name) (cookie + 1) rest = ap (page left cookie) (next_node ns at end n less is) ∙ rw (fits (entry_size n.name) left (subst (λ k. k ≤ left) size_is within)) refl in
     ap (λ z. z ++ page (left - size) (cookie + 1) rest) es_is ∙ append_one es e (page (left - size) (cookie + 1) rest) ∙ ap (λ k. es ++ e ∷ page (left - k) (cookie + 1) rest) size_is ∙ ap (λ z. es ++ z) (sym first) ∙ so_far
+
+-- ---- the names behind a cookie
+
+drop_take : (c k : ℕ) (ns : List Node) → drop c (take k ns) ≡ take (k - c) (drop c ns)
+drop_take zero k ns = ap (λ j. take j ns) (same k)
+  where
+    same : (k : ℕ) → k ≡ k - 0
+    same k = omega arith
+drop_take (suc c) zero ns = ap (λ j. take j (drop (suc c) ns)) (none c)
+  where
+    none : (c : ℕ) → 0 ≡ 0 - suc c
+    none c = omega arith
+drop_take (suc c) (suc k) [] = take_nil (suc k - suc c)
+  where
+    take_nil : (j : ℕ) → ◌≡◌ {A = List Node} [] (take j [])
+    take_nil zero = refl
+    take_nil (suc j) = refl
+drop_take (suc c) (suc k) (n ∷ ns) = drop_take c k ns ∙ ap (λ j. take j (drop c ns)) (less c k)
+  where
+    less : (c k : ℕ) → k - c ≡ suc k - suc c
+    less c k = omega arith
+
+pub behind : (ns named : List Node) (start end cookie : ℕ) → named ≡ take (end - start) (drop start ns) → drop cookie named ≡ take (end - (start + cookie)) (drop (start + cookie) ns)
+behind ns named start end cookie is =
+    ap (drop cookie) is ∙ drop_take cookie (end - start) (drop start ns) ∙ ap (λ z. take (end - start - cookie) z) (drop-drop cookie start ns) ∙ ap (λ k. take k (drop (start + cookie) ns)) (minus start end cookie)
+  where
+    minus : (start end cookie : ℕ) → end - start - cookie ≡ end - (start + cookie)
+    minus start end cookie = omega arith
+
+pub count_behind : (named : List Node) (start end cookie : ℕ) → length named ≡ end - start → end - start - cookie ≡ length (drop cookie named)
+count_behind named start end cookie is = ap (λ k. k - cookie) (sym is) ∙ sym (length-drop cookie named)

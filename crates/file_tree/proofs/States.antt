@@ -1,5 +1,5 @@
 -- What changes leave of a tree's state.
-use Rattle.std.proofs.Common.{◌≡◌, ℕ, ◌+◌, ◌-◌, ◌^◌, ◌<◌, ◌≤◌, List, [], ◌∷◌, length, Option, Some, None, IsSome, Bool, true, false, ◌==◌, ◌&&◌, not, refl, sym, ap, ◌∙◌, subst, arith, if◌then◌else◌, cond}
+use Rattle.std.proofs.Common.{◌≡◌, ℕ, ◌+◌, ◌-◌, ◌≤◌, List, [], ◌∷◌, length, Option, Some, None, IsSome, Bool, true, false, ◌==◌, ◌&&◌, not, refl, sym, ap, ◌∙◌, subst, arith, if◌then◌else◌, cond}
 use mathlib.Core.Bool.{true≢false}
 use Rattle.std.specs.List.{find, AllByRecursion}
 use Rattle.std.specs.Str.{bytes_eq}
@@ -47,7 +47,6 @@ pub named_id : (ns : List Node) (dir : ℕ) (name : List ℕ) (n : Node) → Are
 named_id ns dir name n apart e = found_id (λ m. (m.parent == dir) && bytes_eq m.name name) ns n apart e
 
 -- ---- the limits and the size, after each change
-
 
 pub made_limits : (old more new : NodesState) (changes : ℕ) (n : Node) → IsWithinLimits old changes → n.id ≡ old.next → changes + 1 ≤ changes_most → n.version ≤ changes + 1 → length (content_of n.body) ≡ 0 → more ≡ record { nodes = with_node old.nodes n; next = n.id + 1; room = more.room } → new ≡ record { nodes = versioned more.nodes n.parent (changes + 1); next = more.next; room = new.room } → IsWithinLimits new (changes + 1)
 made_limits old more new changes n l id most version none more_is new_is =

@@ -1,5 +1,5 @@
 -- Which records keep a tree.
-use Rattle.std.specs.Prelude.{◌≡◌, ℕ, List, [], ◌∷◌, ◌⊎◌, Option, Some, None, Bool, true, false, ◌==◌, if◌then◌else◌}
+use Rattle.std.specs.Prelude.{◌≡◌, ℕ, List, [], ◌∷◌, ◌⊎◌, Option, Some, None, ◌==◌, if◌then◌else◌}
 use Rattle.std.specs.List.{filter}
 use Rattle.store.specs.declared.record.Kept.{Kept}
 use Rattle.store.specs.declared.record.Kept.TheVariants as kept

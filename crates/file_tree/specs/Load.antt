@@ -1,5 +1,5 @@
 -- Which lists of records a tree may be loaded from; else which record is the first that breaks a rule.
-use Rattle.std.specs.Prelude.{◌≡◌, ℕ, zero, suc, ◌+◌, ◌^◌, List, [], ◌∷◌, length, Option, Some, None, Result, Ok, Err, Bool, true, false, not, ◌&&◌, ◌||◌, ◌==◌, if◌then◌else◌, nat_lt, nat_le}
+use Rattle.std.specs.Prelude.{ℕ, zero, suc, ◌+◌, ◌^◌, List, [], ◌∷◌, length, Option, Some, None, Result, Ok, Err, Bool, true, false, not, ◌&&◌, ◌||◌, ◌==◌, if◌then◌else◌, nat_lt, nat_le}
 use Rattle.std.specs.Str.{bytes_eq}
 use Rattle.store.specs.declared.record.Head.{Head}
 use Rattle.store.specs.declared.record.Kept.{Kept}
@@ -9,7 +9,6 @@ use Rattle.store.specs.declared.record.ContentRecord.{ContentRecord}
 use Rattle.store.specs.declared.record.NodeKind.{NodeKind}
 use Rattle.store.specs.declared.record.NodeKind.TheVariants as node_kind
 use Rattle.tree_nodes.specs.declared.node.Node.{Node}
-use Rattle.tree_nodes.specs.declared.node.Body.{Body}
 use Rattle.tree_nodes.specs.declared.node.Body.TheVariants.{Directory, File}
 use Rattle.tree_nodes.specs.Nodes.{with_node}
 use Rattle.file_tree.specs.Names.{is_dot, is_dot_dot, is_misspelt}

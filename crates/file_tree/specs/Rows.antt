@@ -1,21 +1,17 @@
 -- Worked rows: each status of each call in its order, names of every length and spelling, entries, versions, and what a change makes of a tree.
-use Rattle.std.specs.Prelude.{◌≡◌, ℕ, List, [], ◌∷◌, length, map, Some, None, Option, Result, Ok, Err, replicate, codes, refl, Bool, true, false}
+use Rattle.std.specs.Prelude.{◌≡◌, ℕ, List, [], ◌∷◌, map, Some, None, Option, Result, Ok, Err, replicate, codes, refl, Bool, true, false}
 use Rattle.sha1.specs.Sha1.{sha1}
 use Rattle.xdr_codec.specs.declared.status.Status.{Status}
 use Rattle.xdr_codec.specs.declared.status.Status.TheVariants.{NoEnt, Acces, Exist, NotDir, IsDir, Inval, FBig, NoSpc, NameTooLong, NotEmpty, Stale, BadCookie, NotSupp, TooSmall}
 use Rattle.nfs3_calls.specs.declared.listing.Entry.{Entry}
 use Rattle.tree_nodes.specs.declared.node.Node.{Node}
 use Rattle.tree_nodes.specs.declared.node.Body.TheVariants.{Directory, File}
-use Rattle.tree_nodes.specs.Nodes.{names, named}
-use Rattle.file_tree.specs.declared.call.CreateMode.{CreateMode}
 use Rattle.file_tree.specs.declared.call.CreateMode.TheVariants.{Unchecked, Guarded, Exclusive}
 use Rattle.file_tree.specs.declared.call.Held.{Held}
 use Rattle.file_tree.specs.declared.call.Spot.{Spot}
 use Rattle.file_tree.specs.declared.call.Call.{Call}
 use Rattle.file_tree.specs.declared.call.Call.TheVariants.{Create, MkDir, Remove, RmDir, Rename, Replace}
-use Rattle.file_tree.specs.declared.call.Changed.{Changed}
 use Rattle.file_tree.specs.declared.entry.EntryKind.TheVariants as entry_kind
-use Rattle.xdr_codec.specs.declared.attr.Attr.{Attr}
 use Rattle.xdr_codec.specs.declared.attr.Kind.TheVariants as attr_kind
 use Rattle.file_tree.specs.Chain.{◌>>=◌}
 use Rattle.file_tree.specs.Tree.{Tree, root, empty}
@@ -24,7 +20,7 @@ use Rattle.file_tree.specs.Load.{load}
 use Rattle.store.specs.declared.record.Kept.{Kept}
 use Rattle.store.specs.declared.record.Kept.TheVariants as kept
 use Rattle.store.specs.declared.record.NodeKind.TheVariants as node_kind
-use Rattle.file_tree.specs.Reading.{attr, lookup, read, content, version, list}
+use Rattle.file_tree.specs.Reading.{attr, lookup, read, version, list}
 
 -- ---- a tree: a file "a", a directory "d" that has a directory "s" and a file "x", and an empty directory "e"
 
@@ -135,7 +131,6 @@ row_replace_bytes = (refl, refl)
 
 -- ---- what changes make
 
-
 -- a first file: the root's version is the count of changes
 row_make : create empty none 1 (codes "a") Guarded ≡ (record { nodes = root 1 ∷ file 2 1 (codes "a") 1 [] ∷ []; next = 3; changes = 1 }, Ok (record { id = 2; version = 1; first = Some (record { file = 2; version = 1; kind = entry_kind.Make; len = 0; sha1 = sha1 [] }); second = None }))
 row_make = refl
@@ -146,7 +141,7 @@ row_make_again = refl
 
 -- the id of a file that went is not given again, and its entry has the raised version
 row_new_id : (remove (create empty none 1 (codes "a") Guarded).0 none 1 (codes "a") ≡ (record { nodes = root 2 ∷ []; next = 3; changes = 2 }, Ok (record { id = 2; version = 2; first = Some (record { file = 2; version = 2; kind = entry_kind.Remove; len = 0; sha1 = sha1 [] }); second = None })))
-  × (create (remove (create empty none 1 (codes "a") Guarded).0 none 1 (codes "a")).0 none 1 (codes "a") Guarded ≡ (record { nodes = root 3 ∷ file 3 1 (codes "a") 1 [] ∷ []; next = 4; changes = 3 }, Ok (record { id = 3; version = 1; first = Some (record { file = 3; version = 1; kind = entry_kind.Make; len = 0; sha1 = sha1 [] }); second = None })))
+    × (create (remove (create empty none 1 (codes "a") Guarded).0 none 1 (codes "a")).0 none 1 (codes "a") Guarded ≡ (record { nodes = root 3 ∷ file 3 1 (codes "a") 1 [] ∷ []; next = 4; changes = 3 }, Ok (record { id = 3; version = 1; first = Some (record { file = 3; version = 1; kind = entry_kind.Make; len = 0; sha1 = sha1 [] }); second = None })))
 row_new_id = (refl, refl)
 
 -- a directory that is made has the count of changes as its version, and so has the one that it stands in

@@ -1,5 +1,5 @@
 -- What the calls that change a tree are refused for, and what they make of it.
-use Rattle.std.specs.Prelude.{◌≡◌, ◌≤◌, IsSome, ℕ, ◌+◌, List, [], ◌∷◌, length, Option, Some, None, Result, Ok, Err, Bool, true, false, ◌&&◌, ◌||◌, ◌==◌, not, if◌then◌else◌, nat_lt}
+use Rattle.std.specs.Prelude.{◌≡◌, ◌≤◌, IsSome, ℕ, ◌+◌, List, [], length, Option, Some, None, Result, Ok, Err, Bool, true, false, ◌&&◌, ◌==◌, if◌then◌else◌, nat_lt}
 use Rattle.file_tree.specs.Chain.{◌>>=◌, refused}
 use Rattle.std.specs.Option.{option_map}
 use Rattle.sha1.specs.Sha1.{sha1}
@@ -8,20 +8,19 @@ use Rattle.xdr_codec.specs.declared.status.Status.TheVariants as status
 use Rattle.tree_nodes.specs.declared.node.Node.{Node}
 use Rattle.tree_nodes.specs.declared.node.Body.{Body}
 use Rattle.tree_nodes.specs.declared.node.Body.TheVariants.{Directory, File}
-use Rattle.tree_nodes.specs.Nodes.{with_id, named, names, with_node, without, changed, versioned}
+use Rattle.tree_nodes.specs.Nodes.{named, names, with_node, without, changed, versioned}
 use Rattle.file_tree.specs.declared.entry.Entry.{Entry}
 use Rattle.file_tree.specs.declared.entry.EntryKind.TheVariants as kind
 use Rattle.file_tree.specs.declared.call.CreateMode.{CreateMode}
 use Rattle.file_tree.specs.declared.call.CreateMode.TheVariants as mode
 use Rattle.file_tree.specs.declared.call.Held.{Held}
-use Rattle.file_tree.specs.declared.call.Spot.{Spot}
 use Rattle.file_tree.specs.declared.call.Call.{Call}
 use Rattle.file_tree.specs.declared.call.Call.TheVariants as call
 use Rattle.file_tree.specs.declared.call.Changed.{Changed}
 use Rattle.file_tree.specs.declared.call.Planned.{Planned}
 use Rattle.file_tree.specs.declared.call.Planned.TheVariants.{Nothing, Free, Over}
 use Rattle.file_tree.specs.Names.{spelt, undotted}
-use Rattle.file_tree.specs.Tree.{Tree, is_directory, content_of, contents_size, node_of, directory_or, file_or, directory_of, or_no_entry, or_taken, is_within}
+use Rattle.file_tree.specs.Tree.{Tree, is_directory, contents_size, node_of, directory_or, file_or, directory_of, or_no_entry, or_taken, is_within}
 
 -- ---- limits
 

@@ -6,7 +6,7 @@ use Rattle.xdr_codec.specs.declared.status.Status.TheVariants as status
 use Rattle.tree_nodes.specs.declared.node.Node.{Node}
 use Rattle.tree_nodes.specs.declared.node.Body.{Body}
 use Rattle.tree_nodes.specs.declared.node.Body.TheVariants.{Directory, File}
-use Rattle.tree_nodes.specs.Nodes.{with_id, named}
+use Rattle.tree_nodes.specs.Nodes.{with_id}
 
 pub record Tree : Type 0 where
   -- the nodes, in the order of their directories' ids and of their names

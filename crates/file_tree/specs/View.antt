@@ -1,5 +1,5 @@
 -- What contracts see of a tree.
-use Rattle.std.specs.Prelude.{ℕ, List, Option, Some, None, Result, Ok, Err, ◌<◌, ◌≤◌, ◌^◌, ◌+◌, ◌==◌, ◌≡◌, [], ◌∷◌, false, length}
+use Rattle.std.specs.Prelude.{ℕ, List, Option, Result, Ok, Err, ◌<◌, ◌≤◌, ◌^◌, ◌+◌, ◌==◌, ◌≡◌, [], ◌∷◌, false, length}
 use Rattle.std.specs.List.{AllByRecursion}
 use Rattle.std.specs.Borrow.{Bor}
 use Rattle.xdr_codec.specs.declared.status.Status.{Status}

@@ -9,6 +9,7 @@ pub mod call;
 pub mod checks;
 pub mod entry;
 pub mod error;
+pub mod laws;
 pub mod listing;
 pub mod names;
 pub mod plans;

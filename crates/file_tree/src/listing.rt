@@ -1,12 +1,11 @@
 //! READDIR (`specs/Reading.antt`). A page begins at its cookie, with no walk from the start.
 
-ghost use Rattle.std.specs.Prelude.{◌≡◌, ◌+◌, ◌-◌, ◌*◌, ◌/◌, ◌<◌, ◌≤◌, ◌^◌, length, take, drop, Ok, IfOk};
+ghost use Rattle.std.specs.Prelude.{◌≡◌, ◌+◌, ◌-◌, ◌*◌, ◌/◌, ◌<◌, ◌≤◌, ◌^◌, List, length, take, drop, Ok, IfOk};
 ghost use Rattle.tree_nodes.specs.Nodes.{names};
-ghost use Rattle.file_tree.specs.Tree.{directory_of};
-ghost use Rattle.file_tree.specs.View.{lent, AreBounded, IsNodeBounded};
+ghost use Rattle.tree_nodes.specs.declared.node.Node.{Node};
+ghost use Rattle.file_tree.specs.View.{AreBounded};
 ghost use Rattle.file_tree.specs.Reading.{entry_size, page, is_too_small, listing_of, listed, is_bad_cookie, list, Answers};
 
-use crate::checks;
 use crate::error::TreeErr;
 use crate::reading;
 use lb_base::items::Items;
@@ -69,12 +68,105 @@ fn page(
     Ok(Items::from_vec(entries))
 }
 
-// The directory of an id, which is within the bounds of a tree.
-fn directory_within(nodes: &Nodes, changes: u64, id: u64) -> Result<&Node, Status>
-    requires { AreBounded nodes.now changes }
-    ensures exact { lent result ≡ directory_of nodes.now.nodes id }
-    ensures bounded { IfOk result (λ n. IsNodeBounded nodes.now.next changes n.now) }
+// Whether a cookie was not given by this directory, or before its names changed.
+fn is_bad_cookie(nodes: &Nodes, dir: &Node, cookie: u64, verifier: u64) -> bool
+    requires { dir.now.id < 2 ^ 64 - 1 }
+    ensures { result ≡ is_bad_cookie nodes.now.nodes dir.now cookie verifier }
 {
-    let node = reading::known(nodes, changes, id)?;
-    checks::directory_or(node, Status::NotDir)
+    let (start, end) = nodes.places(dir.id);
+    (cookie != 0 && verifier != dir.version) || ((end - start) as u64) < cookie
+}
+
+// How many names a directory has behind a cookie.
+#[tactic(auto, using(crate::proofs::Pages::count_behind))]
+fn count_behind(nodes: &Nodes, dir: &Node, cookie: u64) -> usize
+    requires id { dir.now.id < 2 ^ 64 - 1 }
+    requires cookie { cookie ≤ length (names nodes.now.nodes dir.now.id) }
+    ensures { result ≡ length (drop cookie (names nodes.now.nodes dir.now.id)) }
+{
+    let (start, end) = nodes.places(dir.id);
+    end - start - cookie as usize
+}
+
+// The entries of a directory behind a cookie, as many as fit.
+#[tactic(auto, using(crate::proofs::Pages::behind))]
+fn page_behind(
+    alloc: Global,
+    nodes: &Nodes,
+    dir: &Node,
+    cookie: u64,
+    room: usize,
+) -> Result<Items<Entry>, AllocError>
+    requires id { dir.now.id < 2 ^ 64 - 1 }
+    requires cookie { cookie ≤ length (names nodes.now.nodes dir.now.id) }
+    ensures { IfOk result (λ es. es ≡ page room cookie (drop cookie (names nodes.now.nodes dir.now.id))) }
+{
+    let (start, end) = nodes.places(dir.id);
+    page(alloc, nodes, start + cookie as usize, end, cookie, room)
+}
+
+// What is answered with these entries, where so many names are left.
+fn listing_of(
+    nodes: &Nodes,
+    dir: &Node,
+    left: usize,
+    entries: Items<Entry>,
+) -> Result<Listing, Status>
+    requires id { dir.now.id < 2 ^ 64 - 1 }
+    requires version { dir.now.version < 2 ^ 32 }
+    ensures { (ns : List Node) → left ≡ length ns → result ≡ listing_of nodes.now.nodes dir.now ns entries }
+{
+    if left != 0 && entries.len() == 0 {
+        return Err(Status::TooSmall);
+    }
+    let eof = entries.len() == left;
+    Ok(Listing {
+        attr: Some(reading::attr_of(nodes, dir)),
+        verifier: dir.version,
+        entries,
+        eof,
+    })
+}
+
+// A page of a directory in an answer of at most so many bytes.
+fn listed(
+    alloc: Global,
+    nodes: &Nodes,
+    dir: &Node,
+    cookie: u64,
+    room: u32,
+) -> Result<Listing, TreeErr>
+    requires id { dir.now.id < 2 ^ 64 - 1 }
+    requires version { dir.now.version < 2 ^ 32 }
+    requires cookie { cookie ≤ length (names nodes.now.nodes dir.now.id) }
+    ensures { Answers (listed nodes.now.nodes dir.now cookie room) result }
+{
+    if room < LIST_LEAST {
+        return Err(TreeErr::Refused(Status::TooSmall));
+    }
+    let left = count_behind(nodes, dir, cookie);
+    let entries = page_behind(alloc, nodes, dir, cookie, (room - LIST_LEAST) as usize)?;
+    let listing = listing_of(nodes, dir, left, entries)?;
+    Ok(listing)
+}
+
+/// READDIR: the names behind a cookie, in an answer of at most so many bytes.
+#[tactic(auto, using(crate::proofs::Found::id_fits, crate::proofs::Found::version_fits))]
+pub fn list(
+    alloc: Global,
+    nodes: &Nodes,
+    changes: u64,
+    dir: u64,
+    cookie: u64,
+    verifier: u64,
+    count: u32,
+) -> Result<Listing, TreeErr>
+    requires { AreBounded nodes.now changes }
+    ensures { Answers (list nodes.now.nodes dir cookie verifier count) result }
+{
+    let dir = reading::directory_within(nodes, changes, dir)?;
+    if is_bad_cookie(nodes, dir, cookie, verifier) {
+        return Err(TreeErr::Refused(Status::BadCookie));
+    }
+    listed(alloc, nodes, dir, cookie, count.min(LIST_MOST))
 }

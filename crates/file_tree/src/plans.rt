@@ -10,10 +10,9 @@ ghost use Rattle.file_tree.specs.Step.{create_found, may_create, may_mkdir, may_
 ghost use Rattle.file_tree.specs.Step.{is_same};
 ghost use Rattle.file_tree.specs.View.{lent, lent_option, tree_of, AreBounded, IsNodeBounded};
 
-use crate::answers;
 use crate::call::{Changed, CreateMode, Held, Planned};
-use crate::checks;
 use crate::names::{spelt, undotted};
+use crate::{answers, checks};
 use tree_nodes::node::Node;
 use tree_nodes::nodes::Nodes;
 use xdr_codec::status::Status;
@@ -83,12 +82,7 @@ pub fn may_mkdir(
 }
 
 /// The node of a name, which is within the bounds of a tree.
-fn found<'a>(
-    nodes: &'a Nodes,
-    changes: u64,
-    dir: u64,
-    name: &[u8],
-) -> Result<&'a Node, Status>
+fn found<'a>(nodes: &'a Nodes, changes: u64, dir: u64, name: &[u8]) -> Result<&'a Node, Status>
     requires { AreBounded nodes.now changes }
     ensures exact { lent result ≡ or_no_entry (named nodes.now.nodes dir name.now) }
     ensures bounded { IfOk result (λ n. IsNodeBounded nodes.now.next changes n.now) }
@@ -329,16 +323,18 @@ pub fn rename(
     spelt(to_name)?;
     undotted(to_name, Status::Inval, Status::Inval)?;
     let node = counted(nodes, changes, dir, name)?;
-    rename_found(nodes, changes, held, node, to, at_name(nodes, changes, to, to_name))
+    rename_found(
+        nodes,
+        changes,
+        held,
+        node,
+        to,
+        at_name(nodes, changes, to, to_name),
+    )
 }
 
 // The node of a name, whose version is one that a tree may have.
-fn counted<'a>(
-    nodes: &'a Nodes,
-    changes: u64,
-    dir: u64,
-    name: &[u8],
-) -> Result<&'a Node, Status>
+fn counted<'a>(nodes: &'a Nodes, changes: u64, dir: u64, name: &[u8]) -> Result<&'a Node, Status>
     requires { AreBounded nodes.now changes }
     ensures exact { lent result ≡ or_no_entry (named nodes.now.nodes dir name.now) }
     ensures counted { IfOk result (λ n. n.now.version < 2 ^ 32) }

@@ -3,7 +3,7 @@
 ghost use Rattle.std.specs.Prelude.{◌≡◌, ◌+◌, ◌-◌, ◌<◌, ◌≤◌, ◌^◌, length, take, drop, min, Ok, IfOk};
 ghost use Rattle.std.specs.Option.{option_copied};
 ghost use Rattle.tree_nodes.specs.Nodes.{names, with_id};
-ghost use Rattle.file_tree.specs.Tree.{content_of, node_of};
+ghost use Rattle.file_tree.specs.Tree.{content_of, node_of, directory_of};
 ghost use Rattle.file_tree.specs.View.{lent, AreBounded, IsNodeBounded};
 ghost use Rattle.file_tree.specs.Reading.{time_of, file_attr, directory_attr, attr_body, attr_of, attr, above, looked, found_of, lookup, piece_bytes, piece_of, read, content, version, Answers};
 
@@ -236,4 +236,45 @@ fn stands_for<'a>(nodes: &'a Nodes, dir: &'a Node, name: &[u8]) -> Result<&'a No
         return Ok(above(nodes, dir));
     }
     checks::found(nodes, dir.id, name)
+}
+
+// The same in a tree.
+fn stands_within<'a>(
+    nodes: &'a Nodes,
+    changes: u64,
+    dir: &'a Node,
+    name: &[u8],
+) -> Result<&'a Node, Status>
+    requires bounded { AreBounded nodes.now changes }
+    requires dir { IsNodeBounded nodes.now.next changes dir.now }
+    ensures exact { lent result ≡ looked nodes.now.nodes dir.now name.now }
+    ensures bounded { IfOk result (λ n. IsNodeBounded nodes.now.next changes n.now) }
+{
+    let _changes = changes;
+    stands_for(nodes, dir, name)
+}
+
+/// The directory of an id, which is within the bounds of a tree.
+pub fn directory_within(nodes: &Nodes, changes: u64, id: u64) -> Result<&Node, Status>
+    requires { AreBounded nodes.now changes }
+    ensures exact { lent result ≡ directory_of nodes.now.nodes id }
+    ensures bounded { IfOk result (λ n. IsNodeBounded nodes.now.next changes n.now) }
+{
+    let node = known(nodes, changes, id)?;
+    checks::directory_or(node, Status::NotDir)
+}
+
+/// LOOKUP. It takes no memory.
+pub fn lookup(nodes: &Nodes, changes: u64, dir: u64, name: &[u8]) -> Result<Looked, Status>
+    requires { AreBounded nodes.now changes }
+    ensures { result ≡ lookup nodes.now.nodes dir name.now }
+{
+    let dir = directory_within(nodes, changes, dir)?;
+    spelt(name)?;
+    let node = stands_within(nodes, changes, dir, name)?;
+    Ok(Looked {
+        id: node.id,
+        attr: attr_within(nodes, changes, node),
+        dir: attr_within(nodes, changes, dir),
+    })
 }

@@ -3,16 +3,21 @@
 ghost use Rattle.std.specs.Prelude.{◌≡◌, ◌+◌, ◌<◌, ◌≤◌, [], IfOk};
 ghost use Rattle.file_tree.specs.Step.{create, mkdir, remove, rmdir, rename, replace, rename_plan, IsPlannedMove, may, may_create, may_remove, may_rmdir, may_replace_content};
 ghost use Rattle.file_tree.specs.Chain.{refused};
+ghost use Rattle.file_tree.specs.Reading.{lookup, attr, read, list, Answers};
 ghost use Rattle.file_tree.specs.State.{state_of, IsState};
 ghost use Rattle.tree_nodes.specs.declared.node.Body.TheVariants.{File, Directory};
 
-use crate::answers;
 use crate::call::{Call, Changed, CreateMode, Held, Planned, Spot};
-use crate::plans;
+use crate::error::TreeErr;
+use crate::reading::{self, Looked};
 use crate::state::TreeState;
+use crate::{answers, listing, plans};
 use lb_base::items::Name;
+use nfs3_calls::call::Piece;
+use nfs3_calls::listing::Listing;
 use tree_nodes::content::Content;
 use tree_nodes::node::{Body, Node};
+use xdr_codec::attr::Attr;
 use xdr_codec::status::Status;
 
 /// CREATE. It needs the place of one node, and takes no memory.
@@ -182,7 +187,13 @@ pub fn may(tree: &TreeState, call: &Call, held: Held) -> Result<(), Status>
     match call {
         Call::Create(spot, mode) => may_create(tree, spot, *mode, held),
         Call::MkDir(spot) => {
-            plans::may_mkdir(&tree.nodes, tree.changes, held, spot.dir, spot.name.as_slice())
+            plans::may_mkdir(
+                &tree.nodes,
+                tree.changes,
+                held,
+                spot.dir,
+                spot.name.as_slice(),
+            )
         }
         Call::Remove(spot) => may_remove(tree, spot, held),
         Call::RmDir(spot) => may_rmdir(tree, spot, held),
@@ -194,8 +205,14 @@ pub fn may(tree: &TreeState, call: &Call, held: Held) -> Result<(), Status>
 fn may_create(tree: &TreeState, spot: &Spot, mode: CreateMode, held: Held) -> Result<(), Status>
     ensures { result ≡ refused (may_create (state_of tree.now) held spot.now.dir spot.now.name mode) }
 {
-    let _found =
-        plans::may_create(&tree.nodes, tree.changes, held, spot.dir, spot.name.as_slice(), mode)?;
+    let _found = plans::may_create(
+        &tree.nodes,
+        tree.changes,
+        held,
+        spot.dir,
+        spot.name.as_slice(),
+        mode,
+    )?;
     Ok(())
 }
 
@@ -204,7 +221,13 @@ fn may_remove(tree: &TreeState, spot: &Spot, held: Held) -> Result<(), Status>
     requires { IsState tree.now }
     ensures { result ≡ refused (may_remove (state_of tree.now) held spot.now.dir spot.now.name) }
 {
-    let _file = plans::may_remove(&tree.nodes, tree.changes, held, spot.dir, spot.name.as_slice())?;
+    let _file = plans::may_remove(
+        &tree.nodes,
+        tree.changes,
+        held,
+        spot.dir,
+        spot.name.as_slice(),
+    )?;
     Ok(())
 }
 
@@ -213,7 +236,13 @@ fn may_rmdir(tree: &TreeState, spot: &Spot, held: Held) -> Result<(), Status>
     requires { IsState tree.now }
     ensures { result ≡ refused (may_rmdir (state_of tree.now) held spot.now.dir spot.now.name) }
 {
-    let _gone = plans::may_rmdir(&tree.nodes, tree.changes, held, spot.dir, spot.name.as_slice())?;
+    let _gone = plans::may_rmdir(
+        &tree.nodes,
+        tree.changes,
+        held,
+        spot.dir,
+        spot.name.as_slice(),
+    )?;
     Ok(())
 }
 
@@ -237,7 +266,56 @@ fn may_replace(tree: &TreeState, id: u64, len: u64, held: Held) -> Result<(), St
     requires { IsState tree.now }
     ensures { result ≡ refused (may_replace_content (state_of tree.now) held id len) }
 {
-    let _file =
-        plans::may_replace_content(&tree.nodes, tree.changes, tree.bytes, held, id, len)?;
+    let _file = plans::may_replace_content(&tree.nodes, tree.changes, tree.bytes, held, id, len)?;
     Ok(())
+}
+
+/// LOOKUP in a tree.
+#[tactic(auto, using(crate::proofs::Limits::bounds))]
+pub fn lookup(tree: &TreeState, dir: u64, name: &[u8]) -> Result<Looked, Status>
+    requires { IsState tree.now }
+    ensures { result ≡ lookup tree.now.nodes.nodes dir name.now }
+{
+    reading::lookup(&tree.nodes, tree.changes, dir, name)
+}
+
+/// The attributes of a node of a tree.
+#[tactic(auto, using(crate::proofs::Limits::bounds))]
+pub fn attr(tree: &TreeState, id: u64) -> Result<Attr, Status>
+    requires { IsState tree.now }
+    ensures { result ≡ attr tree.now.nodes.nodes id }
+{
+    reading::attr(&tree.nodes, tree.changes, id)
+}
+
+/// READ in a tree.
+#[tactic(auto, using(crate::proofs::Limits::bounds))]
+pub fn read(tree: &TreeState, id: u64, offset: u64, count: u32) -> Result<Piece, TreeErr>
+    requires { IsState tree.now }
+    ensures { Answers (read tree.now.nodes.nodes id offset count) result }
+{
+    reading::read(tree.alloc, &tree.nodes, tree.changes, id, offset, count)
+}
+
+/// READDIR in a tree.
+#[tactic(auto, using(crate::proofs::Limits::bounds))]
+pub fn list(
+    tree: &TreeState,
+    dir: u64,
+    cookie: u64,
+    verifier: u64,
+    count: u32,
+) -> Result<Listing, TreeErr>
+    requires { IsState tree.now }
+    ensures { Answers (list tree.now.nodes.nodes dir cookie verifier count) result }
+{
+    listing::list(
+        tree.alloc,
+        &tree.nodes,
+        tree.changes,
+        dir,
+        cookie,
+        verifier,
+        count,
+    )
 }

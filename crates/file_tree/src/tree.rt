@@ -2,16 +2,22 @@
 
 ghost use Rattle.std.specs.Prelude.{◌≡◌, ◌+◌, ◌<◌, ◌≤◌, IfOk, OnOk};
 ghost use Rattle.file_tree.specs.Tree.{empty, contents_size};
+ghost use Rattle.file_tree.specs.Reading.{lookup, attr, version, content, read, list, Answers};
 ghost use Rattle.file_tree.specs.Step.{create, mkdir, remove, rmdir, rename, replace, may};
 
 use crate::call::{Call, Changed, CreateMode, Held};
+use crate::error::TreeErr;
+use crate::reading::{self, Looked};
 use crate::state::{self, TreeState};
 use crate::steps;
-use lb_base::items::Name;
+use lb_base::items::{Bytes, Name};
+use nfs3_calls::call::Piece;
+use nfs3_calls::listing::Listing;
 use std::alloc::{AllocError, Global};
 use std::marker::Model;
 use store::record::Head;
 use tree_nodes::content::Content;
+use xdr_codec::attr::Attr;
 use xdr_codec::status::Status;
 
 /// A tree of files and directories, and the places that are reserved for nodes more.
@@ -134,5 +140,48 @@ impl Tree {
         ensures { result ≡ may self.now.tree held call.now }
     {
         steps::may(&self.state, call, held)
+    }
+
+    /// LOOKUP: the id of what a name stands for, its attributes and the directory's. It takes no
+    /// memory.
+    pub fn lookup(&self, dir: u64, name: &[u8]) -> Result<Looked, Status>
+        ensures { result ≡ lookup self.now.tree.nodes dir name.now }
+    {
+        steps::lookup(&self.state, dir, name)
+    }
+
+    /// The attributes of a file or directory. It takes no memory.
+    pub fn attr(&self, id: u64) -> Result<Attr, Status>
+        ensures { result ≡ attr self.now.tree.nodes id }
+    {
+        steps::attr(&self.state, id)
+    }
+
+    /// The version of a file or directory. It takes no memory.
+    pub fn version(&self, id: u64) -> Result<u64, Status>
+        ensures { result ≡ version self.now.tree.nodes id }
+    {
+        reading::version(&self.state.nodes, id)
+    }
+
+    /// A copy of a file's content.
+    pub fn content(&self, id: u64) -> Result<Bytes, TreeErr>
+        ensures { Answers (content self.now.tree.nodes id) result }
+    {
+        reading::content(self.state.alloc, &self.state.nodes, id)
+    }
+
+    /// READ: a copy of the bytes of a file from an offset on, at most `count` and at most 65,536.
+    pub fn read(&self, id: u64, offset: u64, count: u32) -> Result<Piece, TreeErr>
+        ensures { Answers (read self.now.tree.nodes id offset count) result }
+    {
+        steps::read(&self.state, id, offset, count)
+    }
+
+    /// READDIR: copies of the entries behind a cookie, in an answer of at most `count` bytes.
+    pub fn list(&self, dir: u64, cookie: u64, verifier: u64, count: u32) -> Result<Listing, TreeErr>
+        ensures { Answers (list self.now.tree.nodes dir cookie verifier count) result }
+    {
+        steps::list(&self.state, dir, cookie, verifier, count)
     }
 }

@@ -1,6 +1,6 @@
 -- A node added to a table.
-use Rattle.std.proofs.Common.{◌≡◌, ℕ, ◌+◌, ◌≤◌, List, [], ◌∷◌, ◌++◌, length, set, Some, None, refl, sym, ap, ◌∙◌, subst}
-use Rattle.std.specs.List.{slice_get, insert}
+use Rattle.std.proofs.Common.{◌≡◌, ℕ, ◌+◌, ◌≤◌, List, [], ◌∷◌, ◌++◌, length, set, None, sym, ap, ◌∙◌, subst}
+use Rattle.std.specs.List.{insert}
 use Rattle.tree_nodes.specs.declared.node.Node.{Node}
 use Rattle.tree_nodes.specs.declared.slot.Slot.{Slot}
 use Rattle.tree_nodes.specs.declared.slot.Slot.TheVariants.{Gone, Taken}

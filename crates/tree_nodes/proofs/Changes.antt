@@ -1,13 +1,13 @@
 -- Tables with a place more, and with a node put in, taken out or changed.
-use Rattle.std.proofs.Common.{◌≡◌, ℕ, zero, suc, ◌+◌, ◌-◌, ◌<◌, ◌≤◌, List, [], ◌∷◌, ◌++◌, length, take, drop, set, map, Option, Some, None, Bool, true, false, not, ◌&&◌, ◌==◌, ◌⊎◌, inl, inr, refl, sym, ap, ◌∙◌, subst, arith, nat_lt, if◌then◌else◌, cond}
+use Rattle.std.proofs.Common.{◌≡◌, ℕ, zero, suc, ◌+◌, ◌<◌, ◌≤◌, List, [], ◌∷◌, ◌++◌, length, set, Some, None, Bool, true, false, not, ◌==◌, ◌⊎◌, inl, inr, refl, sym, ap, ◌∙◌, subst, arith, if◌then◌else◌, cond}
 use mathlib.Core.Bool.{true≢false}
-use Rattle.std.specs.List.{slice_get, find, filter, insert, remove, AllByRecursion}
+use Rattle.std.specs.List.{slice_get, find, insert, remove, AllByRecursion}
 use Rattle.std.specs.Option.{option_map}
 use Rattle.std.proofs.lemmas.Bool.Decides.{nat_tests}
 use Rattle.tree_nodes.specs.declared.node.Node.{Node}
 use Rattle.tree_nodes.specs.declared.slot.Slot.{Slot}
 use Rattle.tree_nodes.specs.declared.slot.Slot.TheVariants.{Gone, Taken}
-use Rattle.tree_nodes.specs.Nodes.{place_cmp, before, named, with_id, with_node, without, changed, AreInOrder}
+use Rattle.tree_nodes.specs.Nodes.{before, named, with_id, with_node, without, changed, AreInOrder}
 use Rattle.tree_nodes.specs.Table.{slot_id, node_in, or_blank, node_at, AreRising, shown, taken_at, place_for, IsTaken, IsTable}
 use Rattle.tree_nodes.proofs.Fronts.{all_map, all_at, some_is}
 use Rattle.tree_nodes.proofs.Order.{before_itself}

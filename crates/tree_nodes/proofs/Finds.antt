@@ -1,15 +1,14 @@
 -- What is found in a table.
-use Rattle.std.proofs.Common.{◌≡◌, ℕ, zero, suc, ◌+◌, ◌-◌, ◌<◌, ◌≤◌, List, [], ◌∷◌, ◌++◌, length, map, Option, Some, None, IsSome, Bool, true, false, ◌&&◌, ◌==◌, refl, sym, ap, ◌∙◌, subst, arith, nat_lt, if◌then◌else◌}
-use mathlib.Core.Bool.{true≢false, false≢true}
-use Rattle.std.specs.List.{slice_get, find, AllByRecursion}
-use Rattle.std.specs.Str.{bytes_eq}
+use Rattle.std.proofs.Common.{◌≡◌, ℕ, zero, suc, ◌<◌, ◌≤◌, List, [], ◌∷◌, length, Option, Some, None, IsSome, Bool, true, false, ◌==◌, refl, sym, ap, ◌∙◌, arith, nat_lt, if◌then◌else◌}
+use mathlib.Core.Bool.{false≢true}
+use Rattle.std.specs.List.{slice_get}
 use Rattle.std.proofs.lemmas.Bool.Decides.{nat_tests}
 use Rattle.tree_nodes.specs.declared.node.Node.{Node}
 use Rattle.tree_nodes.specs.declared.slot.Slot.{Slot}
 use Rattle.tree_nodes.specs.declared.slot.Slot.TheVariants.{Gone, Taken}
-use Rattle.tree_nodes.specs.Nodes.{place_cmp, before, named, AreInOrder}
-use Rattle.tree_nodes.specs.Table.{front, kept_by, slot_id, node_in, node_at, before_at, shown, place_for, first_from, taken_at, AreRising}
-use Rattle.tree_nodes.proofs.Fronts.{IsFoundAt, found_at, front_le, front_not, front_yes, all_map, some_is}
+use Rattle.tree_nodes.specs.Nodes.{before, named, AreInOrder}
+use Rattle.tree_nodes.specs.Table.{kept_by, slot_id, node_in, node_at, before_at, shown, place_for, first_from, taken_at, AreRising}
+use Rattle.tree_nodes.proofs.Fronts.{IsFoundAt, found_at, front_le, front_not, front_yes, all_map}
 use Rattle.tree_nodes.proofs.Order.{is_named, found, parted}
 
 -- ---- by id

@@ -1,7 +1,7 @@
 -- How many of a list's first elements pass a test.
-use Rattle.std.proofs.Common.{◌≡◌, ℕ, zero, suc, ◌+◌, ◌-◌, ◌<◌, ◌≤◌, List, [], ◌∷◌, ◌++◌, length, take, drop, Option, Some, None, Bool, true, false, refl, sym, ap, ◌∙◌, subst, arith, if◌then◌else◌}
+use Rattle.std.proofs.Common.{◌≡◌, ℕ, zero, suc, ◌<◌, ◌≤◌, List, [], ◌∷◌, length, Option, Some, None, Bool, true, false, refl, sym, ap, ◌∙◌, subst, arith, if◌then◌else◌}
 use mathlib.Core.Bool.{true≢false}
-use Rattle.std.specs.List.{slice_get, insert, remove, find, filter, AllByRecursion}
+use Rattle.std.specs.List.{slice_get, find, AllByRecursion}
 use Rattle.tree_nodes.specs.Table.{front, kept_by}
 
 abbrev or_else : {X : Type 0} → X → Option X → X

@@ -1,22 +1,21 @@
 -- Nodes with one more, one less, or one changed.
-use Rattle.std.proofs.Common.{◌≡◌, ℕ, zero, suc, ◌+◌, ◌-◌, ◌<◌, ◌≤◌, List, [], ◌∷◌, ◌++◌, length, take, drop, map, Option, Some, None, Bool, true, false, not, ◌&&◌, ◌==◌, refl, sym, ap, ◌∙◌, subst, arith, nat_lt, if◌then◌else◌, cond}
+use Rattle.std.proofs.Common.{◌≡◌, ℕ, suc, List, [], ◌∷◌, Option, Some, None, Bool, true, false, not, ◌==◌, refl, sym, ap, ◌∙◌, arith, if◌then◌else◌, cond}
 use mathlib.Core.Bool.{true≢false}
-use Rattle.std.specs.List.{slice_get, find, filter, insert, remove, AllByRecursion}
+use Rattle.std.specs.List.{find, filter, insert, AllByRecursion}
 use Rattle.std.specs.Option.{option_map}
 use Rattle.std.specs.Str.{bytes_eq}
 use Rattle.std.specs.Ordering.{nat_cmp, is_lt, ordering_then, ordering_reverse}
 use Rattle.std.specs.declared.cmp.Ordering.{Ordering}
 use Rattle.std.specs.declared.cmp.Ordering.TheVariants.{Less, Equal, Greater}
-use Rattle.std.specs.Cmp.{IsTotalOrder}
 use Rattle.std.specs.Cmp.Lexicographic.{slice_cmp}
 use Rattle.std.specs.FinMap.{nat_cmp-IsAntisymmetric, slice_cmp-IsAntisymmetric}
 use Rattle.std.proofs.lemmas.Slice.Eq.{bytes_eq-Decides}
 use Rattle.std.proofs.lemmas.Bool.Decides.{nat_tests}
 use Rattle.tree_nodes.specs.declared.node.Node.{Node}
 use Rattle.tree_nodes.specs.Nodes.{place_cmp, before, named, with_id, with_node, without, changed, AreInOrder}
-use Rattle.tree_nodes.specs.Table.{front, place_for}
+use Rattle.tree_nodes.specs.Table.{place_for}
 use Rattle.tree_nodes.proofs.Fronts.{all_map}
-use Rattle.tree_nodes.proofs.Order.{is_named, key_total, before_trans, not_true, less_is}
+use Rattle.tree_nodes.proofs.Order.{is_named, key_total, before_trans}
 
 -- ---- one more
 

@@ -1,15 +1,15 @@
 -- The nodes of a directory stand together.
-use Rattle.std.proofs.Common.{◌≡◌, ℕ, zero, suc, ◌+◌, ◌-◌, ◌<◌, ◌≤◌, List, [], ◌∷◌, length, take, drop, Bool, true, false, ◌==◌, refl, sym, ap, ◌∙◌, subst, arith, length-take-le, length-drop, nat_lt, if◌then◌else◌, cond}
+use Rattle.std.proofs.Common.{◌≡◌, ℕ, suc, ◌+◌, ◌-◌, ◌<◌, ◌≤◌, List, [], ◌∷◌, length, take, drop, Bool, true, false, ◌==◌, refl, sym, ap, ◌∙◌, subst, arith, length-take-le, length-drop, nat_lt, if◌then◌else◌, cond}
 use mathlib.Core.Bool.{true≢false}
-use Rattle.std.specs.List.{filter, AllByRecursion}
+use Rattle.std.specs.List.{AllByRecursion}
 use Rattle.std.specs.Ordering.{nat_cmp, is_lt, ordering_then}
 use Rattle.std.specs.declared.cmp.Ordering.{Ordering}
 use Rattle.std.specs.declared.cmp.Ordering.TheVariants.{Less, Equal, Greater}
 use Rattle.std.specs.Cmp.Lexicographic.{slice_cmp}
 use Rattle.std.proofs.lemmas.Bool.Decides.{nat_tests}
 use Rattle.tree_nodes.specs.declared.node.Node.{Node}
-use Rattle.tree_nodes.specs.Nodes.{place_cmp, before, names, AreInOrder}
-use Rattle.tree_nodes.specs.Table.{front, place_for, shown}
+use Rattle.tree_nodes.specs.Nodes.{before, names, AreInOrder}
+use Rattle.tree_nodes.specs.Table.{place_for, shown}
 use Rattle.tree_nodes.specs.declared.slot.Slot.{Slot}
 use Rattle.tree_nodes.proofs.Fronts.{all_map, front_le}
 

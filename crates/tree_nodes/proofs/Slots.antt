@@ -1,9 +1,9 @@
 -- Places by rising ids.
-use Rattle.std.proofs.Common.{◌≡◌, ℕ, zero, suc, ◌+◌, ◌-◌, ◌<◌, ◌≤◌, List, [], ◌∷◌, ◌++◌, length, Option, Some, None, Bool, true, false, refl, sym, ap, ◌∙◌, subst, arith, nat_lt, if◌then◌else◌}
+use Rattle.std.proofs.Common.{◌≡◌, ℕ, zero, suc, ◌<◌, ◌≤◌, List, [], ◌∷◌, length, Some, true, false, refl, subst, arith, nat_lt}
 use Rattle.std.specs.List.{slice_get, AllByRecursion}
 use Rattle.std.proofs.lemmas.Bool.Decides.{nat_tests}
 use Rattle.tree_nodes.specs.declared.slot.Slot.{Slot}
-use Rattle.tree_nodes.specs.Table.{front, slot_id, id_or, AreRising, first_from}
+use Rattle.tree_nodes.specs.Table.{slot_id, id_or, AreRising, first_from}
 use Rattle.tree_nodes.proofs.Fronts.{IsParted, front_le, front_not, front_yes, all_map}
 
 parted_if : (id : ℕ) (s : Slot) (ss : List Slot) → AllByRecursion (λ t. slot_id s < slot_id t) ss → nat_lt (slot_id s) id ≡ false → AllByRecursion (λ t. nat_lt (slot_id t) id ≡ false) ss

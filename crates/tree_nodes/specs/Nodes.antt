@@ -1,5 +1,5 @@
 -- The nodes of a tree: a list in the order of their directories' ids, and in a directory of their names' bytes.
-use Rattle.std.specs.Prelude.{◌≡◌, ℕ, ◌+◌, List, [], ◌∷◌, length, map, Option, Bool, true, false, not, ◌==◌, ◌&&◌, if◌then◌else◌, nat_lt}
+use Rattle.std.specs.Prelude.{◌≡◌, ℕ, List, [], ◌∷◌, map, Option, Bool, true, not, ◌==◌, ◌&&◌, if◌then◌else◌}
 use Rattle.std.specs.List.{find, filter, AllByRecursion}
 use Rattle.std.specs.Str.{bytes_eq}
 use Rattle.std.specs.Ordering.{nat_cmp, is_lt, ordering_then}

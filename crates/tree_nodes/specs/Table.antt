@@ -1,6 +1,6 @@
 -- How nodes are kept: each in a place of its own, by rising ids; and the places in the nodes' order.
-use Rattle.std.specs.Prelude.{◌≡◌, ℕ, suc, ◌+◌, ◌<◌, List, [], ◌∷◌, length, map, Option, Some, None, Bool, true, false, ◌==◌, if◌then◌else◌, nat_lt, min, ◌-◌}
-use Rattle.std.specs.List.{find, filter, slice_get, AllByRecursion}
+use Rattle.std.specs.Prelude.{◌≡◌, ℕ, suc, ◌<◌, List, [], ◌∷◌, map, Option, Some, None, Bool, false, ◌==◌, if◌then◌else◌, nat_lt, min, ◌-◌}
+use Rattle.std.specs.List.{find, slice_get, AllByRecursion}
 use Rattle.std.specs.declared.cmp.Ordering.{Ordering}
 use Rattle.tree_nodes.specs.declared.node.Node.{Node}
 use Rattle.tree_nodes.specs.declared.node.Body.TheVariants.{Directory}

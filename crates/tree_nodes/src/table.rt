@@ -13,8 +13,8 @@ ghost use Rattle.tree_nodes.specs.Table.{shown, place_for, IsTable, IsNodeAt, be
 
 use crate::content::Content;
 use crate::node::{Body, Node};
-use lb_base::items::Name;
 use crate::slot::{self, Slot};
+use lb_base::items::Name;
 use std::alloc::AllocError;
 use std::cmp::Ordering;
 

@@ -1,5 +1,4 @@
-use Rattle.std.proofs.Common.{rules, ◌≡◌, ◌∙◌, ◌≤◌, ◌<◌, ◌+◌, ◌-◌, ◌^◌, arith, Some}
-use Rattle.std.specs.List.{slice_get}
+use Rattle.std.proofs.Common.{rules, ◌∙◌}
 use Rattle.file_tree.proofs.Pages.{page_stop, page_more}
 use Rattle.file_tree.proofs.listing.page.Goals as goal
 

@@ -1,4 +1,3 @@
-use Rattle.std.proofs.Common.{◌≡◌}
 use Rattle.tree_nodes.proofs.Finds.{named_there}
 use Rattle.tree_nodes.proofs.table.place_named.Goals as goal
 

@@ -1,4 +1,4 @@
-use Rattle.std.proofs.Common.{◌≡◌, sym, ◌∙◌, arith, ◌+◌}
+use Rattle.std.proofs.Common.{sym, ◌∙◌, arith, ◌+◌}
 use Rattle.file_tree.proofs.States.{count_limits, count_size}
 use Rattle.file_tree.proofs.state.TreeState.count.Goals as goal
 

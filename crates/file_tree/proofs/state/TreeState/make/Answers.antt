@@ -1,4 +1,4 @@
-use Rattle.std.proofs.Common.{◌≡◌, sym, ◌∙◌}
+use Rattle.std.proofs.Common.{sym, ◌∙◌}
 use Rattle.file_tree.proofs.States.{made_limits, made_size}
 use Rattle.file_tree.proofs.state.TreeState.make.Goals as goal
 

@@ -1,4 +1,4 @@
-use Rattle.std.proofs.Common.{◌≡◌, ℕ, ◌+◌, ◌-◌, ◌≤◌, sym, ◌∙◌, arith, Some, length}
+use Rattle.std.proofs.Common.{◌≡◌, ℕ, ◌≤◌, arith, length}
 use Rattle.tree_nodes.specs.Nodes.{with_id}
 use Rattle.file_tree.specs.Tree.{content_of, contents_size}
 use Rattle.file_tree.proofs.States.{some_node, refilled_limits, refilled_size, refilled_bytes}

@@ -1,6 +1,4 @@
-use Rattle.std.proofs.Common.{rules, ◌≡◌, refl, sym, ap, ◌∙◌}
-use Rattle.sha1.specs.Sha1.{sha1}
-use Rattle.chunk_cut.specs.Chunks.{chunks_of}
+use Rattle.std.proofs.Common.{refl}
 use Rattle.chunk_cut.specs.Search.{closed_ends}
 use Rattle.tree_nodes.proofs.content.Content.empty.Goals as goal
 

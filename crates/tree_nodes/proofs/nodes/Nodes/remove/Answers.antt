@@ -1,4 +1,4 @@
-use Rattle.std.proofs.Common.{◌≡◌, ap, ◌∙◌}
+use Rattle.std.proofs.Common.{ap, ◌∙◌}
 use Rattle.tree_nodes.specs.Nodes.{named}
 use Rattle.tree_nodes.specs.View.{nodes_of}
 use Rattle.tree_nodes.proofs.Removing.{named_once}

@@ -1,8 +1,3 @@
-use Rattle.std.proofs.Common.{◌≡◌, sym, subst, set}
-use Rattle.std.specs.List.{remove}
-use Rattle.tree_nodes.specs.declared.slot.Slot.TheVariants.{Gone}
-use Rattle.tree_nodes.specs.Nodes.{without}
-use Rattle.tree_nodes.specs.Table.{shown, IsTable}
 use Rattle.tree_nodes.proofs.Removing.{less, less_sound}
 use Rattle.tree_nodes.proofs.table.Table.remove.Goals as goal
 

@@ -1,4 +1,4 @@
-use Rattle.std.proofs.Common.{◌≡◌, refl, ap, ◌∙◌, set}
+use Rattle.std.proofs.Common.{refl, ap, ◌∙◌, set}
 use Rattle.tree_nodes.specs.declared.node.Node.{Node}
 use Rattle.tree_nodes.specs.declared.slot.Slot.TheVariants.{Taken}
 use Rattle.tree_nodes.proofs.Renewing.{renewed, renewed_sound, has_id}
