@@ -1,0 +1,6 @@
+pub mod Admitted
+pub mod Found
+pub mod Ids
+pub mod Limits
+pub mod Pages
+pub mod States

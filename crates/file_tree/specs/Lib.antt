@@ -1,0 +1,10 @@
+pub mod Chain
+pub mod Kept
+pub mod Load
+pub mod Names
+pub mod Reading
+pub mod Rows
+pub mod State
+pub mod Step
+pub mod Tree
+pub mod View

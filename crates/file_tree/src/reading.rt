@@ -1,0 +1,280 @@
+//! What is read of a tree (`specs/Reading.antt`).
+
+ghost use Rattle.std.specs.Prelude.{◌≡◌, ◌+◌, ◌-◌, ◌<◌, ◌≤◌, ◌^◌, length, take, drop, min, Ok, IfOk};
+ghost use Rattle.std.specs.Option.{option_copied};
+ghost use Rattle.tree_nodes.specs.Nodes.{names, with_id};
+ghost use Rattle.file_tree.specs.Tree.{content_of, node_of, directory_of};
+ghost use Rattle.file_tree.specs.View.{lent, AreBounded, IsNodeBounded};
+ghost use Rattle.file_tree.specs.Reading.{time_of, file_attr, directory_attr, attr_body, attr_of, attr, above, looked, found_of, lookup, piece_bytes, piece_of, read, content, version, Answers};
+
+use crate::checks;
+use crate::error::TreeErr;
+use crate::names::{is_dot, is_dot_dot, spelt};
+use lb_base::items::Bytes;
+use nfs3_calls::call::Piece;
+use std::alloc::Global;
+use tree_nodes::node::{Body, Node};
+use tree_nodes::nodes::Nodes;
+use xdr_codec::attr::{Attr, Kind, Time};
+use xdr_codec::status::Status;
+
+/// The most bytes that one READ gives.
+const READ_MOST: u32 = 65536;
+
+/// What LOOKUP found.
+#[derive(Clone, Copy, Debug, PartialEq, Eq, Drop)]
+pub struct Looked {
+    /// The id of what the name stands for.
+    pub id: u64,
+    /// Its attributes.
+    pub attr: Attr,
+    /// The directory's attributes.
+    pub dir: Attr,
+}
+
+// The time that shows a version.
+fn time_of(version: u64) -> Time
+    requires { version < 2 ^ 32 }
+    ensures { result ≡ time_of version }
+{
+    Time {
+        seconds: (version / 1_000_000_000) as u32,
+        nanoseconds: (version % 1_000_000_000) as u32,
+    }
+}
+
+fn file_attr(id: u64, version: u64, size: u64) -> Attr
+    requires { version < 2 ^ 32 }
+    ensures { result ≡ file_attr id version size }
+{
+    let time = time_of(version);
+    Attr {
+        kind: Kind::File,
+        mode: 0o644,
+        nlink: 1,
+        uid: 0,
+        gid: 0,
+        size,
+        used: size,
+        rdev_major: 0,
+        rdev_minor: 0,
+        fsid: 0x4C42_4653,
+        fileid: id,
+        atime: time,
+        mtime: time,
+        ctime: time,
+    }
+}
+
+fn directory_attr(id: u64, version: u64, entries: u64) -> Attr
+    requires { version < 2 ^ 32 }
+    ensures { result ≡ directory_attr id version entries }
+{
+    let time = time_of(version);
+    Attr {
+        kind: Kind::Directory,
+        mode: 0o755,
+        nlink: 2,
+        uid: 0,
+        gid: 0,
+        size: entries,
+        used: entries,
+        rdev_major: 0,
+        rdev_minor: 0,
+        fsid: 0x4C42_4653,
+        fileid: id,
+        atime: time,
+        mtime: time,
+        ctime: time,
+    }
+}
+
+/// A node's attributes.
+pub fn attr_of(nodes: &Nodes, node: &Node) -> Attr
+    requires id { node.now.id < 2 ^ 64 - 1 }
+    requires version { node.now.version < 2 ^ 32 }
+    ensures { result ≡ attr_of nodes.now.nodes node.now }
+{
+    match &node.body {
+        Body::Directory => {
+            let (start, end) = nodes.places(node.id);
+            directory_attr(node.id, node.version, (end - start) as u64)
+        }
+        Body::File(content) => file_attr(node.id, node.version, content.len() as u64),
+    }
+}
+
+// The attributes of a node of a tree.
+#[tactic(auto, using(crate::proofs::Found::id_fits, crate::proofs::Found::version_fits))]
+fn attr_within(nodes: &Nodes, changes: u64, node: &Node) -> Attr
+    requires bounded { AreBounded nodes.now changes }
+    requires node { IsNodeBounded nodes.now.next changes node.now }
+    ensures { result ≡ attr_of nodes.now.nodes node.now }
+{
+    let _changes = changes;
+    attr_of(nodes, node)
+}
+
+/// The node of an id, which is within the bounds of a tree.
+pub fn known(nodes: &Nodes, changes: u64, id: u64) -> Result<&Node, Status>
+    requires { AreBounded nodes.now changes }
+    ensures exact { lent result ≡ node_of nodes.now.nodes id }
+    ensures bounded { IfOk result (λ n. IsNodeBounded nodes.now.next changes n.now) }
+{
+    let _changes = changes;
+    checks::node_of(nodes, id)
+}
+
+/// The attributes of an id's node. It takes no memory.
+pub fn attr(nodes: &Nodes, changes: u64, id: u64) -> Result<Attr, Status>
+    requires { AreBounded nodes.now changes }
+    ensures { result ≡ attr nodes.now.nodes id }
+{
+    let node = known(nodes, changes, id)?;
+    Ok(attr_within(nodes, changes, node))
+}
+
+/// The version of an id's node. It takes no memory.
+pub fn version(nodes: &Nodes, id: u64) -> Result<u64, Status>
+    ensures { result ≡ version nodes.now.nodes id }
+{
+    let node = checks::node_of(nodes, id)?;
+    Ok(node.version)
+}
+
+// The part of a content that a READ gives.
+fn piece_bytes(content: &[u8], offset: u64, count: u32) -> &[u8]
+    ensures { result.now ≡ piece_bytes content.now offset count }
+{
+    let start = offset.min(content.len() as u64) as usize;
+    let rest = &content[start..];
+    let count = rest.len().min(count.min(READ_MOST) as usize);
+    &rest[..count]
+}
+
+// The bytes of a node; none of a directory.
+fn bytes_of(node: &Node) -> &[u8]
+    ensures { result.now ≡ content_of node.now.body }
+{
+    match &node.body {
+        Body::Directory => &[],
+        Body::File(content) => content.as_slice(),
+    }
+}
+
+// What a READ gives of a file.
+fn piece_of(
+    alloc: Global,
+    nodes: &Nodes,
+    changes: u64,
+    node: &Node,
+    offset: u64,
+    count: u32,
+) -> Result<Piece, TreeErr>
+    requires bounded { AreBounded nodes.now changes }
+    requires node { IsNodeBounded nodes.now.next changes node.now }
+    ensures { Answers (Ok (piece_of nodes.now.nodes node.now offset count)) result }
+{
+    let content = bytes_of(node);
+    let bytes = piece_bytes(content, offset, count);
+    let rest = (content.len() as u64).saturating_sub(offset);
+    let attr = attr_within(nodes, changes, node);
+    let copy = Bytes::copy_of(alloc, bytes)?;
+    Ok(Piece {
+        attr: Some(attr),
+        count: bytes.len() as u32,
+        eof: rest <= bytes.len() as u64,
+        bytes: copy,
+    })
+}
+
+/// READ: a copy of the bytes from an offset on.
+pub fn read(
+    alloc: Global,
+    nodes: &Nodes,
+    changes: u64,
+    id: u64,
+    offset: u64,
+    count: u32,
+) -> Result<Piece, TreeErr>
+    requires { AreBounded nodes.now changes }
+    ensures { Answers (read nodes.now.nodes id offset count) result }
+{
+    let node = known(nodes, changes, id)?;
+    let file = checks::file_or(node, Status::Inval)?;
+    piece_of(alloc, nodes, changes, file, offset, count)
+}
+
+/// A copy of a file's content.
+pub fn content(alloc: Global, nodes: &Nodes, id: u64) -> Result<Bytes, TreeErr>
+    ensures { Answers (content nodes.now.nodes id) result }
+{
+    let node = checks::node_of(nodes, id)?;
+    let file = checks::file_or(node, Status::IsDir)?;
+    let bytes = Bytes::copy_of(alloc, bytes_of(file))?;
+    Ok(bytes)
+}
+
+// The directory above one: the root's is the root.
+fn above<'a>(nodes: &'a Nodes, dir: &'a Node) -> &'a Node
+    ensures { result.now ≡ above dir.now (with_id nodes.now.nodes dir.now.parent) }
+{
+    match nodes.with_id(dir.parent) {
+        Some(node) => node,
+        None => dir,
+    }
+}
+
+// What a name stands for in a directory.
+fn stands_for<'a>(nodes: &'a Nodes, dir: &'a Node, name: &[u8]) -> Result<&'a Node, Status>
+    ensures { lent result ≡ looked nodes.now.nodes dir.now name.now }
+{
+    if is_dot(name) {
+        return Ok(dir);
+    }
+    if is_dot_dot(name) {
+        return Ok(above(nodes, dir));
+    }
+    checks::found(nodes, dir.id, name)
+}
+
+// The same in a tree.
+fn stands_within<'a>(
+    nodes: &'a Nodes,
+    changes: u64,
+    dir: &'a Node,
+    name: &[u8],
+) -> Result<&'a Node, Status>
+    requires bounded { AreBounded nodes.now changes }
+    requires dir { IsNodeBounded nodes.now.next changes dir.now }
+    ensures exact { lent result ≡ looked nodes.now.nodes dir.now name.now }
+    ensures bounded { IfOk result (λ n. IsNodeBounded nodes.now.next changes n.now) }
+{
+    let _changes = changes;
+    stands_for(nodes, dir, name)
+}
+
+/// The directory of an id, which is within the bounds of a tree.
+pub fn directory_within(nodes: &Nodes, changes: u64, id: u64) -> Result<&Node, Status>
+    requires { AreBounded nodes.now changes }
+    ensures exact { lent result ≡ directory_of nodes.now.nodes id }
+    ensures bounded { IfOk result (λ n. IsNodeBounded nodes.now.next changes n.now) }
+{
+    let node = known(nodes, changes, id)?;
+    checks::directory_or(node, Status::NotDir)
+}
+
+/// LOOKUP. It takes no memory.
+pub fn lookup(nodes: &Nodes, changes: u64, dir: u64, name: &[u8]) -> Result<Looked, Status>
+    requires { AreBounded nodes.now changes }
+    ensures { result ≡ lookup nodes.now.nodes dir name.now }
+{
+    let dir = directory_within(nodes, changes, dir)?;
+    spelt(name)?;
+    let node = stands_within(nodes, changes, dir, name)?;
+    Ok(Looked {
+        id: node.id,
+        attr: attr_within(nodes, changes, node),
+        dir: attr_within(nodes, changes, dir),
+    })
+}

@@ -1,0 +1,187 @@
+//! The tree: its one public face.
+
+ghost use Rattle.std.specs.Prelude.{◌≡◌, ◌+◌, ◌<◌, ◌≤◌, IfOk, OnOk};
+ghost use Rattle.file_tree.specs.Tree.{empty, contents_size};
+ghost use Rattle.file_tree.specs.Reading.{lookup, attr, version, content, read, list, Answers};
+ghost use Rattle.file_tree.specs.Step.{create, mkdir, remove, rmdir, rename, replace, may};
+
+use crate::call::{Call, Changed, CreateMode, Held};
+use crate::error::TreeErr;
+use crate::reading::{self, Looked};
+use crate::state::{self, TreeState};
+use crate::steps;
+use lb_base::items::{Bytes, Name};
+use nfs3_calls::call::Piece;
+use nfs3_calls::listing::Listing;
+use std::alloc::{AllocError, Global};
+use std::marker::Model;
+use store::record::Head;
+use tree_nodes::content::Content;
+use xdr_codec::attr::Attr;
+use xdr_codec::status::Status;
+
+/// A tree of files and directories, and the places that are reserved for nodes more.
+#[derive(Drop, Debug)]
+pub struct Tree {
+    state: TreeState,
+}
+
+impl Model for Tree {
+    ghost use Rattle.file_tree.specs.State.{TreeView, state_of, IsState};
+
+    ghost Value = { TreeView };
+
+    ghost view = { λ t. record { tree = state_of t.state; room = t.state.nodes.room } };
+
+    ghost invariant = { λ t. IsState t.state };
+}
+
+impl Tree {
+    /// The root alone, whose id is 1. The one error is want of memory.
+    pub fn new(alloc: Global) -> Result<Tree, AllocError>
+        ensures { IfOk result (λ t. t.tree ≡ empty) }
+    {
+        let state = state::root_alone(alloc)?;
+        Ok(Tree { state })
+    }
+
+    /// Makes room for so many nodes more. The one error is want of memory; the tree stays as it was.
+    pub fn reserve(&mut self, count: u32) -> Result<(), AllocError>
+        ensures room { OnOk result (count ≤ self.new.room) }
+        ensures more { self.old.room ≤ self.new.room }
+        ensures tree { self.new.tree ≡ self.old.tree }
+    {
+        self.state.nodes.reserve(count)
+    }
+
+    /// What a store's head says of the tree. It takes no memory.
+    pub fn head(&self) -> Head
+        ensures { result ≡ record { next = self.now.tree.next; changes = self.now.tree.changes } }
+    {
+        Head {
+            next: self.state.nodes.next(),
+            changes: self.state.changes,
+        }
+    }
+
+    /// How many bytes all contents have. It takes no memory.
+    pub fn bytes(&self) -> u64
+        ensures { result ≡ contents_size self.now.tree.nodes }
+    {
+        self.state.bytes
+    }
+
+    /// CREATE. It needs the place of one node, and takes no memory.
+    pub fn create(
+        &mut self,
+        dir: u64,
+        name: Name,
+        mode: CreateMode,
+        held: Held,
+    ) -> Result<Changed, Status>
+        requires { 0 < self.old.room }
+        ensures done { create self.old.tree held dir name mode ≡ (self.new.tree, result) }
+        ensures room { self.old.room ≤ self.new.room + 1 }
+    {
+        steps::create(&mut self.state, held, dir, name, mode)
+    }
+
+    /// MKDIR. It needs the place of one node, and takes no memory.
+    pub fn mkdir(&mut self, dir: u64, name: Name, held: Held) -> Result<Changed, Status>
+        requires { 0 < self.old.room }
+        ensures done { mkdir self.old.tree held dir name ≡ (self.new.tree, result) }
+        ensures room { self.old.room ≤ self.new.room + 1 }
+    {
+        steps::mkdir(&mut self.state, held, dir, name)
+    }
+
+    /// REMOVE, once nothing blocks it. It takes no memory.
+    pub fn remove(&mut self, dir: u64, name: &[u8], held: Held) -> Result<Changed, Status>
+        ensures done { remove self.old.tree held dir name.now ≡ (self.new.tree, result) }
+        ensures room { self.old.room ≤ self.new.room }
+    {
+        steps::remove(&mut self.state, held, dir, name)
+    }
+
+    /// RMDIR. It takes no memory.
+    pub fn rmdir(&mut self, dir: u64, name: &[u8], held: Held) -> Result<Changed, Status>
+        ensures done { rmdir self.old.tree held dir name.now ≡ (self.new.tree, result) }
+        ensures room { self.old.room ≤ self.new.room }
+    {
+        steps::rmdir(&mut self.state, held, dir, name)
+    }
+
+    /// RENAME, once nothing blocks it. It takes no memory.
+    pub fn rename(
+        &mut self,
+        dir: u64,
+        name: &[u8],
+        to: u64,
+        to_name: Name,
+        held: Held,
+    ) -> Result<Changed, Status>
+        ensures done { rename self.old.tree held dir name.now to to_name ≡ (self.new.tree, result) }
+        ensures room { self.old.room ≤ self.new.room }
+    {
+        steps::rename(&mut self.state, held, dir, name, to, to_name)
+    }
+
+    /// COMMITTMP, once its content is whole and nothing blocks it. It takes no memory.
+    pub fn replace(&mut self, id: u64, content: Content, held: Held) -> Result<Changed, Status>
+        ensures done { replace self.old.tree held id content ≡ (self.new.tree, result) }
+        ensures room { self.old.room ≤ self.new.room }
+    {
+        steps::replace(&mut self.state, held, id, content)
+    }
+
+    /// Why such a call would be refused, up to want of space. It changes nothing and takes no
+    /// memory.
+    pub fn check(&self, call: &Call, held: Held) -> Result<(), Status>
+        ensures { result ≡ may self.now.tree held call.now }
+    {
+        steps::may(&self.state, call, held)
+    }
+
+    /// LOOKUP: the id of what a name stands for, its attributes and the directory's. It takes no
+    /// memory.
+    pub fn lookup(&self, dir: u64, name: &[u8]) -> Result<Looked, Status>
+        ensures { result ≡ lookup self.now.tree.nodes dir name.now }
+    {
+        steps::lookup(&self.state, dir, name)
+    }
+
+    /// The attributes of a file or directory. It takes no memory.
+    pub fn attr(&self, id: u64) -> Result<Attr, Status>
+        ensures { result ≡ attr self.now.tree.nodes id }
+    {
+        steps::attr(&self.state, id)
+    }
+
+    /// The version of a file or directory. It takes no memory.
+    pub fn version(&self, id: u64) -> Result<u64, Status>
+        ensures { result ≡ version self.now.tree.nodes id }
+    {
+        reading::version(&self.state.nodes, id)
+    }
+
+    /// A copy of a file's content.
+    pub fn content(&self, id: u64) -> Result<Bytes, TreeErr>
+        ensures { Answers (content self.now.tree.nodes id) result }
+    {
+        reading::content(self.state.alloc, &self.state.nodes, id)
+    }
+
+    /// READ: a copy of the bytes of a file from an offset on, at most `count` and at most 65,536.
+    pub fn read(&self, id: u64, offset: u64, count: u32) -> Result<Piece, TreeErr>
+        ensures { Answers (read self.now.tree.nodes id offset count) result }
+    {
+        steps::read(&self.state, id, offset, count)
+    }
+
+    /// READDIR: copies of the entries behind a cookie, in an answer of at most `count` bytes.
+    pub fn list(&self, dir: u64, cookie: u64, verifier: u64, count: u32) -> Result<Listing, TreeErr>
+        ensures { Answers (list self.now.tree.nodes dir cookie verifier count) result }
+    {
+        steps::list(&self.state, dir, cookie, verifier, count)
+    }
+}

@@ -1,0 +1,10 @@
+pub mod Adding
+pub mod Changes
+pub mod Finds
+pub mod Fronts
+pub mod Lists
+pub mod Order
+pub mod Ranges
+pub mod Removing
+pub mod Renewing
+pub mod Slots

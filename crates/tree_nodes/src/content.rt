@@ -1,0 +1,91 @@
+//! The content of a file, with its chunks.
+
+ghost use Rattle.std.specs.Prelude.{◌≡◌, ◌↔◌, [], length, IsTrue, IfOk};
+ghost use Rattle.sha1.specs.Sha1.{sha1};
+ghost use Rattle.chunk_cut.specs.Chunks.{chunks_of};
+
+use chunk_cut::chunk::Chunk;
+use lb_base::items::{Bytes, Items};
+use std::alloc::{AllocError, Global};
+use std::marker::Model;
+
+/// The bytes of a file, cut into chunks and hashed once, when they came. Contracts see the bytes.
+#[derive(Drop, Debug)]
+pub struct Content {
+    bytes: Bytes,
+    chunks: Items<Chunk>,
+    digest: [u8; 20],
+}
+
+impl Model for Content {
+    ghost use Rattle.std.specs.Prelude.{List, ℕ, ◌≡◌};
+    ghost use Rattle.sha1.specs.Sha1.{sha1};
+    ghost use Rattle.chunk_cut.specs.Chunks.{chunks_of};
+
+    ghost Value = { List ℕ };
+
+    ghost view = { λ c. c.bytes };
+
+    ghost invariant = { λ c. (c.chunks ≡ chunks_of c.bytes) × (c.digest ≡ sha1 c.bytes) };
+}
+
+impl Content {
+    /// The content of no bytes. It takes no memory.
+    pub fn empty(alloc: Global) -> Content
+        ensures { result ≡ [] }
+    {
+        Content {
+            bytes: Items::new(alloc),
+            chunks: Items::new(alloc),
+            digest: chunk_cut::digest(&[]),
+        }
+    }
+
+    /// A content of these bytes. The one error is want of memory.
+    pub fn new(alloc: Global, bytes: Bytes) -> Result<Content, AllocError>
+        ensures { IfOk result (λ c. c ≡ bytes) }
+    {
+        let chunks = chunk_cut::cut(alloc, bytes.as_slice())?;
+        let digest = chunk_cut::digest(bytes.as_slice());
+        Ok(Content {
+            bytes,
+            chunks,
+            digest,
+        })
+    }
+
+    /// The bytes.
+    pub fn as_slice(&self) -> &[u8]
+        ensures { result.now ≡ self.now }
+    {
+        self.bytes.as_slice()
+    }
+
+    /// The number of bytes.
+    pub fn len(&self) -> usize
+        ensures { result ≡ length self.now }
+    {
+        self.bytes.len()
+    }
+
+    /// Whether there is no byte.
+    pub fn is_empty(&self) -> bool
+        ensures { IsTrue result ↔ (self.now ≡ []) }
+    {
+        self.bytes.is_empty()
+    }
+
+    /// The chunks, in order, each with its start.
+    pub fn chunks(&self) -> &[Chunk]
+        ensures { result.now ≡ chunks_of self.now }
+    {
+        self.chunks.as_slice()
+    }
+
+    /// The SHA-1 digest of all bytes.
+    pub fn digest(&self) -> [u8; 20]
+        ensures { result ≡ sha1 self.now }
+    {
+        self.digest
+    }
+}
