@@ -1,7 +1,7 @@
-//! How a change comes to wait, and how it leaves.
+//! How a change comes to wait, and how it leaves (`specs/Waits.antt`).
 
-ghost use Rattle.std.specs.Prelude.{◌≡◌, ◌+◌, ◌<◌, ◌≤◌, ◌^◌, ◌∷◌, ◌++◌, [], OnOk, OnErr, IfOk, IfSome, OnSome, map, length, false, IsOk};
-ghost use Rattle.lease_table.specs.Leases.{grant};
+ghost use Rattle.std.specs.Prelude.{◌≡◌, ◌+◌, ◌<◌, ◌≤◌, ◌^◌, ◌∷◌, ◌++◌, [], OnOk, OnErr, IfOk, IfSome, OnSome, IsSome, ◌⊎◌, map, length, false, IsOk};
+ghost use Rattle.lease_table.specs.Leases.{grant, lease_at};
 ghost use Rattle.callback_core.specs.Waits.{recall_of, recalls_due, has_wait, without_made, entries_of, bytes_of, IsAnswered, AreBounded};
 ghost use Rattle.callback_core.specs.Places.{place_in, without_place};
 
@@ -86,6 +86,23 @@ pub fn ask<P: Drop>(
     Ok(recalls)
 }
 
+/// Makes room for so many leases beside those that the changes have their places for. The one error
+/// is want of memory, as which a count past the type's end counts too.
+pub fn reserve<P>(
+    leases: &mut Leases,
+    waits: &Vec<Change<P>>,
+    count: usize,
+) -> Result<(), AllocError>
+    requires bounded { AreBounded waits.now.items leases.old.room }
+    ensures ok { OnOk result (length waits.now.items + count ≤ leases.new.room) }
+    ensures leases { leases.new.leases ≡ leases.old.leases }
+    ensures room { leases.old.room ≤ leases.new.room }
+    ensures bounded { AreBounded waits.now.items leases.new.room }
+{
+    let wanted = waits.len().checked_add(count).ok_or(AllocError)?;
+    leases.reserve(wanted)
+}
+
 /// Grants a lease beside those that the changes have their places for. The one error is want of
 /// memory.
 pub fn grant<P>(
@@ -100,11 +117,14 @@ pub fn grant<P>(
     requires bounded { AreBounded waits.now.items leases.old.room }
     ensures ok { OnOk result (leases.new.leases ≡ grant leases.old.leases session file (now + term)) }
     ensures err { OnErr result (leases.new.leases ≡ leases.old.leases) }
-    ensures sure { length waits.now.items < leases.old.room → IsOk result }
+    ensures sure { IsSome (lease_at leases.old.leases session file) ⊎ (length waits.now.items < leases.old.room) → IsOk result }
+    ensures same_room { IsSome (lease_at leases.old.leases session file) → leases.old.room ≤ leases.new.room }
     ensures room { leases.old.room ≤ leases.new.room + 1 }
     ensures bounded { AreBounded waits.now.items leases.new.room }
 {
-    leases.reserve(waits.len() + 1)?;
+    if !leases.has(session, file) {
+        leases.reserve(waits.len() + 1)?;
+    }
     leases.grant(session, file, now, term)
 }
 

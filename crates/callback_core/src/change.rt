@@ -1,4 +1,4 @@
-//! A change that waits, and what its arrival asks for.
+//! A change that waits, and what its arrival asks for (`recalls_due` in `specs/Waits.antt`).
 
 ghost use Rattle.std.specs.Prelude.{◌≡◌};
 ghost use Rattle.callback_core.specs.Waits.{asker_of, asker, is_about, meets};

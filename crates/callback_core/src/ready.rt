@@ -1,4 +1,4 @@
-//! Which change may be made next.
+//! Which change may be made next (`ready` in `specs/Waits.antt`).
 
 ghost use Rattle.std.specs.Prelude.{◌≡◌, ◌<◌, None, Some, not, take, length, slice_get, slice_index_or, IfSome, Option};
 ghost use Rattle.std.specs.List.{list_any};

@@ -1,4 +1,4 @@
-//! How much the changes that wait will make.
+//! How much the changes that wait will make (`entries_of` and `bytes_of` in `specs/Waits.antt`).
 
 ghost use Rattle.std.specs.Prelude.{◌≡◌, ◌<◌, ◌^◌};
 ghost use Rattle.callback_core.specs.Waits.{entries_of, bytes_of};

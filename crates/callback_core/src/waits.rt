@@ -1,7 +1,8 @@
-//! The changes that wait, and the leases that they wait for.
+//! The changes that wait, and the leases that they wait for. `specs/Waits.antt` has the words of the
+//! contracts.
 
-ghost use Rattle.std.specs.Prelude.{◌≡◌, ◌+◌, ◌<◌, ◌≤◌, ◌^◌, ◌∷◌, ◌++◌, [], OnOk, OnErr, IfOk, IsOk, OnSome, option_copied};
-ghost use Rattle.lease_table.specs.Leases.{grant, without_lease, marked, without_recalled, without_ended, is_blocked};
+ghost use Rattle.std.specs.Prelude.{◌≡◌, ◌+◌, ◌<◌, ◌≤◌, ◌^◌, ◌∷◌, ◌++◌, [], OnOk, OnErr, IfOk, IsOk, IsSome, is_some, ◌⊎◌, OnSome, option_copied};
+ghost use Rattle.lease_table.specs.Leases.{grant, without_lease, marked, without_recalled, without_ended, is_blocked, others, lease_at};
 ghost use Rattle.callback_core.specs.Waits.{recalls_due, ready, change_of, has_wait, waits_on, without, without_made, entries_of, bytes_of, IsAnswered};
 
 use crate::change::{AskErr, Change, Recall};
@@ -60,7 +61,8 @@ impl<P: Drop> Waits<P> {
         ensures recalls { IfOk result (λ recalls. recalls ≡ recalls_due self.old.leases now change) }
         ensures ok { OnOk result (self.new.waits ≡ self.old.waits ++ change ∷ []) }
         ensures err { OnErr result (self.new.waits ≡ self.old.waits) }
-        ensures spare { OnErr result (self.old.spare ≤ self.new.spare) }
+        ensures spare { self.old.spare ≤ self.new.spare + 1 }
+        ensures err_spare { OnErr result (self.old.spare ≤ self.new.spare) }
         ensures leases { self.new.leases ≡ self.old.leases }
     {
         asking::ask(alloc, &mut self.leases, &mut self.waits, change, now)
@@ -122,15 +124,27 @@ impl<P: Drop> Waits<P> {
         (sizes::entries_of(&self.waits), sizes::bytes_of(&self.waits))
     }
 
+    /// Makes room for so many leases, beside the one that each change has its place for. The one
+    /// error is want of memory; no lease changes.
+    pub fn reserve(&mut self, count: usize) -> Result<(), AllocError>
+        ensures ok { OnOk result (count ≤ self.new.spare) }
+        ensures leases { self.new.leases ≡ self.old.leases }
+        ensures spare { self.old.spare ≤ self.new.spare }
+        ensures waits { self.new.waits ≡ self.old.waits }
+    {
+        asking::reserve(&mut self.leases, &self.waits, count)
+    }
+
     /// Grants a lease on a file to a session, in place of the one that it has on it, from this
     /// reading of the server's clock on, and for this term, both in milliseconds. The one error is
-    /// want of memory, which never comes once a change was taken out and no lease granted since; all
-    /// then stays as it was.
+    /// want of memory, which never comes where the session has a lease on the file, or right after a
+    /// change was taken out; all then stays as it was.
     pub fn grant(&mut self, session: u32, file: u64, now: u64, term: u32) -> Result<(), AllocError>
         requires { now + term < 2 ^ 64 }
         ensures ok { OnOk result (self.new.leases ≡ grant self.old.leases session file (now + term)) }
         ensures err { OnErr result (self.new.leases ≡ self.old.leases) }
-        ensures sure { 0 < self.old.spare → IsOk result }
+        ensures sure { IsSome (lease_at self.old.leases session file) ⊎ (0 < self.old.spare) → IsOk result }
+        ensures same_spare { IsSome (lease_at self.old.leases session file) → self.old.spare ≤ self.new.spare }
         ensures spare { self.old.spare ≤ self.new.spare + 1 }
         ensures waits { self.new.waits ≡ self.old.waits }
     {
@@ -174,6 +188,30 @@ impl<P: Drop> Waits<P> {
         ensures waits { self.new.waits ≡ self.old.waits }
     {
         self.leases.forget_ended(now);
+    }
+
+    /// The sessions, in their order, whose leases on the file are to be asked for back where this
+    /// session asks for a change of it: those of others that have not ended at this reading of the
+    /// server's clock, and that no RECALL asked for. Session 0 is nobody. The one error is want of
+    /// memory.
+    pub fn others(
+        &self,
+        alloc: Global,
+        file: u64,
+        session: u32,
+        now: u64,
+    ) -> Result<Items<u32>, AllocError>
+        ensures { IfOk result (λ sessions. sessions ≡ others self.now.leases session file now) }
+    {
+        self.leases.others(alloc, file, session, now)
+    }
+
+    /// Whether the session has a lease on the file, recalled or not, and ended or not. It takes no
+    /// memory.
+    pub fn has_lease(&self, session: u32, file: u64) -> bool
+        ensures { result ≡ is_some (lease_at self.now.leases session file) }
+    {
+        self.leases.has(session, file)
     }
 
     /// Whether a lease of another session than this one on the file has not ended at this reading

@@ -16,14 +16,14 @@ use Rattle.lease_table.proofs.Messages.{recalls-append, recalls_answered, replie
 
 -- ---- from claim to claim
 
-abbrev Claims : Machine → Machine → (behind behind' : List ℕ) → Type 0
+abbrev pub Claims : Machine → Machine → (behind behind' : List ℕ) → Type 0
 Claims m n b c = (v s : ℕ) → IsClaim m v s b → IsClaim n v s c
 
-note_map : (m n : Machine) (o : Option Note) (b c : List ℕ) → n.clocks.term ≡ m.clocks.term → n.clocks.drift ≡ m.clocks.drift → Claims m n b c → IsNote m o b → IsNote n o c
+pub note_map : (m n : Machine) (o : Option Note) (b c : List ℕ) → n.clocks.term ≡ m.clocks.term → n.clocks.drift ≡ m.clocks.drift → Claims m n b c → IsNote m o b → IsNote n o c
 note_map m n None b c t d f h = tt
 note_map m n (Some q) b c t d f h = (h.0, omega (arith, t, d, h.1), omega (arith, t, d, h.2), f q.version h.0 h.3)
 
-promise_map : (m n : Machine) (v t : ℕ) (b c : List ℕ) → n.clocks.term ≡ m.clocks.term → n.clocks.drift ≡ m.clocks.drift → n.sent ≡ m.sent → Claims m n b c → IsPromise m v t b → IsPromise n v t c
+pub promise_map : (m n : Machine) (v t : ℕ) (b c : List ℕ) → n.clocks.term ≡ m.clocks.term → n.clocks.drift ≡ m.clocks.drift → n.sent ≡ m.sent → Claims m n b c → IsPromise m v t b → IsPromise n v t c
 promise_map m n v t b c e d s f h = λ sent is some. let k = h sent (sym s ∙ is) (omega (arith, d, some)) in (k.0 ∙ sym e, f v sent k.1)
 
 -- ---- time passes

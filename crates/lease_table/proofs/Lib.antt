@@ -10,4 +10,5 @@ pub mod OnFile
 pub mod Held
 pub mod Messages
 pub mod Claiming
+pub mod Beside
 pub mod Running

@@ -1,5 +1,6 @@
 -- Runs of the machine of one lease, and of machines that differ from it in one thing. Each run's
--- readings keep the clock rule, so what becomes wrong is wrong by that one thing alone.
+-- readings keep the clock rule (all are taken, which is the rule by `laws::readings_keep_the_rule` of
+-- `clock_rule`), so what becomes wrong is wrong by that one thing alone.
 use Rattle.std.specs.Prelude.{◌≡◌, ℕ, List, [], ◌∷◌, Some, None, Bool, true, false, is_ok, refl}
 use Rattle.clock_rule.specs.Keeping.{at_first, all_read}
 use Rattle.lease_table.specs.Leases.{without_lease}
@@ -83,6 +84,30 @@ from_arrival m e = happens m e
 
 from_arrival_is_wrong : opens from_arrival slow_answer ≡ (1, 2) ∷ []
 from_arrival_is_wrong = refl
+
+-- ---- clocks that drift
+
+-- the server's clock runs ahead, by 50 in 950
+abbrev ahead : List Event
+ahead = Open 0 ∷ Take 0 true ∷ Read 3 ∷ Change 9 1000 ∷ Open 950 ∷ []
+
+ahead_keeps : keeps ahead ≡ true
+ahead_keeps = refl
+
+ahead_is_right : opens happens ahead ≡ []
+ahead_is_right = refl
+
+-- the note lasts for the whole term
+abbrev forgets_drift : Machine → List Down → Machine
+forgets_drift m (Answered version term ∷ ds) = record m { downs = ds; sent = None; note = note_of 0 m.sent version term m.note }
+forgets_drift m ds = reads_one m ds
+
+abbrev no_drift : Machine → Event → Machine
+no_drift m (Read seen) = unless m.cut m (forgets_drift m m.downs)
+no_drift m e = happens m e
+
+no_drift_is_wrong : opens no_drift ahead ≡ (1, 2) ∷ []
+no_drift_is_wrong = refl
 
 -- ---- a session that is hung
 

@@ -1,4 +1,5 @@
-//! Which leases hold up a change of a file. Only the leases on the file are looked at.
+//! Which leases hold up a change of a file (`is_blocked` and `others` in `specs/Leases.antt`). Only
+//! the leases on the file are looked at.
 
 ghost use Rattle.std.specs.Prelude.{◌≡◌, ◌==◌, IfOk, filter, map};
 ghost use Rattle.lease_table.specs.Leases.{is_blocked, others, blocks, is_wanted_back};

@@ -1,4 +1,5 @@
-//! What is done to the leases, and to the recalls that they remember.
+//! What is done to the leases (`specs/Leases.antt`), and to the recalls that they remember
+//! (`specs/Order.antt`).
 
 ghost use Rattle.std.specs.Prelude.{◌≡◌, ◌+◌, ◌<◌, ◌≤◌, vec_len, vec_capacity, filter, nat_lt, is_some, IsSome, ◌⊎◌, true, false, if◌then◌else◌, OnOk, OnErr, IsOk};
 ghost use Rattle.lease_table.specs.Leases.{lease_at, with_lease, lease_of, without_lease, marked, without_recalled, without_ended};
@@ -27,6 +28,14 @@ pub fn reserve(
     leases.reserve(count)?;
     let wanted = leases.len() + count - recalls.len();
     recalls.reserve(wanted)
+}
+
+/// Whether a session has a lease on a file.
+pub fn has(leases: &Vec<Lease>, session: u32, file: u64) -> bool
+    requires { AreOrdered leases.now.items }
+    ensures { result ≡ is_some (lease_at leases.now.items session file) }
+{
+    place_of(leases, session, file).stands
 }
 
 /// Grants a lease, which takes the place of the one that the session has on the file, or a new one.
@@ -78,6 +87,7 @@ pub fn grant_if(
     ensures len { vec_len leases.new ≤ vec_len leases.old + 1 }
     ensures capacity { vec_capacity leases.old ≤ vec_capacity leases.new }
     ensures recalls_capacity { vec_capacity recalls.old ≤ vec_capacity recalls.new }
+    ensures same_len { IsSome (lease_at leases.old.items session file) → vec_len leases.new ≡ vec_len leases.old }
     ensures sure_there { IsSome (lease_at leases.old.items session file) → IsOk result }
     ensures sure { vec_len leases.old < vec_capacity leases.old → vec_len leases.old < vec_capacity recalls.old → IsOk result }
 {

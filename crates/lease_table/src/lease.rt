@@ -1,4 +1,4 @@
-//! A lease.
+//! A lease. `specs/Leases.antt` says when it holds a change up.
 
 /// A session's lease on a file: until it ends, no change of the file is made before the session
 /// gave it up.

@@ -1,4 +1,5 @@
-//! The leases in their order, by file and by session within a file. Each is found by bisection.
+//! The leases in their order, by file and by session within a file (`specs/Order.antt`). Each is
+//! found by bisection.
 
 ghost use Rattle.std.specs.Prelude.{◌≡◌, ◌+◌, ◌<◌, ◌≤◌, ◌∷◌, ◌++◌, ◌==◌, nat_lt, nat_le, not, filter, take, drop, length, slice_get, slice_set, insert, vec_len, vec_capacity};
 ghost use Rattle.lease_table.specs.Leases.{is_before, is_on, lease_at};

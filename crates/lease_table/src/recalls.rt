@@ -1,4 +1,5 @@
-//! The recalls that leases remember, by session, by xid and by file. Each is found by bisection.
+//! The recalls that leases remember, by session, by xid and by file (`specs/Order.antt`). Each is
+//! found by bisection.
 
 ghost use Rattle.std.specs.Prelude.{◌≡◌, ℕ, ◌≤◌, ◌<◌, ◌+◌, not, filter, take, drop, length, slice_get, Option, Some, None, IfSome, IfNone, true, false, vec_len, vec_capacity};
 ghost use Rattle.lease_table.specs.Order.{AreListed, IsRecallPlace, precedes, is_recalled, is_listed, names, unlisted, listed_with};

@@ -1,6 +1,6 @@
-//! The table of leases.
+//! The table of leases. `specs/Leases.antt` has the words of its contracts.
 
-ghost use Rattle.std.specs.Prelude.{◌≡◌, ◌+◌, ◌<◌, ◌≤◌, ◌^◌, [], OnOk, OnErr, IfOk, IsOk, IsSome, ◌⊎◌, length, vec_len, vec_capacity};
+ghost use Rattle.std.specs.Prelude.{◌≡◌, ◌+◌, ◌<◌, ◌≤◌, ◌^◌, [], OnOk, OnErr, IfOk, IsOk, IsSome, is_some, ◌⊎◌, length, vec_len, vec_capacity};
 ghost use Rattle.lease_table.specs.Leases.{grant, without_lease, marked, without_recalled, without_ended, is_blocked, others, lease_at};
 
 use crate::lease::Lease;
@@ -61,11 +61,20 @@ impl Leases {
         ensures ok { OnOk result (self.new.leases ≡ grant self.old.leases session file (now + term)) }
         ensures err { OnErr result (self.new.leases ≡ self.old.leases) }
         ensures room { self.old.room ≤ self.new.room + 1 }
+        ensures same_room { IsSome (lease_at self.old.leases session file) → self.old.room ≤ self.new.room }
         ensures err_room { OnErr result (self.old.room ≤ self.new.room) }
         ensures sure { IsSome (lease_at self.old.leases session file) ⊎ (0 < self.old.room) → IsOk result }
     {
         let ends = now + u64::from(term);
         changes::grant_if(&mut self.leases, &mut self.recalls, session, file, ends)
+    }
+
+    /// Whether the session has a lease on the file, recalled or not, and ended or not. It takes no
+    /// memory.
+    pub fn has(&self, session: u32, file: u64) -> bool
+        ensures { result ≡ is_some (lease_at self.now.leases session file) }
+    {
+        changes::has(&self.leases, session, file)
     }
 
     /// The session has no lease on the file any more. It takes no memory.
