@@ -1,6 +1,6 @@
 #!/usr/bin/env bash
 # Measures `chunk_index` beside the kit's `lru` alone: 65,536 places are put under the keys of as many
-# digests, and each is found again, in turns. The program that does it is made in a copy outside the
+# digests, and each is found again, twice a round, each once before the other. The program that does it is made in a copy outside the
 # repository, of which it is no part. The script reports the medians and their ratios and judges
 # nothing. Single times move with the machine's load: only the ratios of one run say something.
 #
@@ -176,6 +176,9 @@ fn main(rt: HostRuntime) -> io::Result<()> {
     for _ in 0..rounds {
         let (put, found) = through(&rt, alloc, most, &digests)?;
         let (put_alone, found_alone) = alone(&rt, alloc, most, &digests)?;
+        println!(rt; "{put} {put_alone} {found} {found_alone}")?;
+        let (put_alone, found_alone) = alone(&rt, alloc, most, &digests)?;
+        let (put, found) = through(&rt, alloc, most, &digests)?;
         println!(rt; "{put} {put_alone} {found} {found_alone}")?;
     }
     Ok(())
