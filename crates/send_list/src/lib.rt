@@ -1,0 +1,77 @@
+//! The messages of a step: a list whose first stands in place, so that a step that sends one takes
+//! no memory for it. Both ends tell by it what they send.
+//!
+//! `specs/Sent.antt` says which list it is.
+#![tactic(auto)]
+
+ghost use Rattle.std.specs.Prelude.{◌≡◌, [], ◌∷◌, ◌++◌, OnOk, OnErr};
+ghost use Rattle.std.specs.Option.{option_copied};
+ghost use Rattle.send_list.specs.Sent.{sent_list};
+
+use lb_base::items::Items;
+use std::alloc::{AllocError, Global};
+use std::marker::Model;
+
+/// Messages that are sent, in order. Contracts see their list.
+#[derive(Drop)]
+pub struct SendList<T> {
+    first: Option<T>,
+    rest: Items<T>,
+}
+
+impl<T> Model for SendList<T> {
+    ghost use Rattle.std.specs.Prelude.{List};
+    ghost use Rattle.send_list.specs.Sent.{sent_list};
+
+    ghost Value = { List T };
+
+    ghost view = { λ s. sent_list s.first s.rest };
+}
+
+impl<T: Drop> SendList<T> {
+    /// No message. It takes no memory.
+    pub fn none(alloc: Global) -> SendList<T>
+        ensures { result ≡ [] }
+    {
+        SendList {
+            first: None,
+            rest: Items::new(alloc),
+        }
+    }
+
+    /// One message. It takes no memory.
+    pub fn one(alloc: Global, message: T) -> SendList<T>
+        ensures { result ≡ message ∷ [] }
+    {
+        SendList {
+            first: Some(message),
+            rest: Items::new(alloc),
+        }
+    }
+
+    /// One more message, behind the others. The one error is want of memory, and changes nothing.
+    pub fn push(&mut self, message: T) -> Result<(), AllocError>
+        ensures ok { OnOk result (self.new ≡ self.old ++ message ∷ []) }
+        ensures err { OnErr result (self.new ≡ self.old) }
+    {
+        if self.first.is_none() && self.rest.is_empty() {
+            let old = self.first.replace(message);
+            drop(old);
+            return Ok(());
+        }
+        match self.rest.push(message) {
+            Ok(()) => Ok(()),
+            Err(failed) => {
+                drop(failed);
+                Err(AllocError)
+            }
+        }
+    }
+
+    /// The first message, if there is one, and those behind it.
+    pub fn as_pair(&self) -> (Option<&T>, &[T])
+        ensures { sent_list (option_copied result.0) result.1.now ≡ self.now }
+    {
+        (self.first.as_ref(), self.rest.as_slice())
+    }
+}
