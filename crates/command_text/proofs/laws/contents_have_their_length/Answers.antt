@@ -1,0 +1,5 @@
+use Rattle.command_text.proofs.Contents.{content_size}
+use Rattle.command_text.proofs.laws.contents_have_their_length.Goals as goal
+
+pub returns : goal.returns
+returns c = content_size

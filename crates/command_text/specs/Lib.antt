@@ -1,0 +1,6 @@
+pub mod Parts
+pub mod Content
+pub mod Fields
+pub mod Commands
+pub mod Reading
+pub mod Rows

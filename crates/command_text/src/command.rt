@@ -1,0 +1,154 @@
+//! A command of a client, and how it is read from words: `command_of` of `specs/Commands.antt`.
+
+ghost use Rattle.std.specs.Prelude.{◌≡◌, false, None, bytes_eq, codes, MatchOption};
+ghost use Rattle.command_text.specs.Commands.{open_of, write_with, write_of, trunc_of, read_of, close_of, abandon_of, command_of};
+ghost use Rattle.command_text.specs.Fields.{content_of};
+ghost use Rattle.command_text.specs.Reading.{Gives};
+
+use crate::content::Content;
+use crate::line_err::LineErr;
+use crate::parts::Words;
+use crate::{fields, pieces};
+use std::alloc::Global;
+
+/// A command of a client. Offsets, sizes and counts are in bytes; they and the ids are any numbers
+/// of 64 bits. Whether the file is open and what then comes of it is the client's business.
+#[derive(Debug, Drop)]
+pub enum Command {
+    /// `open #ID`: opens the file with this id.
+    Open(u64),
+    /// `write #ID OFFSET CONTENT`: puts the content into the open file, from the offset on. The
+    /// content may be of any length, also none, and its bytes are not built yet.
+    Write {
+        file: u64,
+        offset: u64,
+        content: Content,
+    },
+    /// `trunc #ID SIZE`: gives the open file this size.
+    Trunc {
+        file: u64,
+        size: u64,
+    },
+    /// `read #ID OFFSET COUNT`: gives at most so many bytes of the open file, from the offset on.
+    Read {
+        file: u64,
+        offset: u64,
+        count: u64,
+    },
+    /// `close #ID`: commits the content of the open file, and closes it.
+    Close(u64),
+    /// `abandon #ID`: closes the open file, and forgets what was written.
+    Abandon(u64),
+}
+
+/// `open #ID`.
+fn open(words: &mut Words) -> Option<Command>
+    ensures { result ≡ open_of words.old }
+{
+    let place = words.next()?;
+    words.end()?;
+    Some(Command::Open(fields::id(place)?))
+}
+
+/// The file and the offset of a write, and the word of its content.
+fn write_words<'a>(words: &mut Words<'a>) -> Option<(u64, u64, &'a [u8])>
+    ensures { MatchOption result (write_of words.old ≡ None) (λ p. write_of words.old ≡ write_with p.0 p.1 (content_of p.2.now)) }
+{
+    let place = words.next()?;
+    let offset = words.next()?;
+    let content = words.next()?;
+    words.end()?;
+    Some((fields::id(place)?, fields::number(offset)?, content))
+}
+
+/// `write #ID OFFSET CONTENT`.
+fn write(alloc: Global, words: &mut Words) -> Result<Command, LineErr>
+    ensures { Gives result (write_of words.old) }
+{
+    let (file, offset, content) = write_words(words).ok_or(LineErr::BadLine)?;
+    Ok(Command::Write {
+        file,
+        offset,
+        content: pieces::content(alloc, content)?,
+    })
+}
+
+/// `trunc #ID SIZE`.
+fn trunc(words: &mut Words) -> Option<Command>
+    ensures { result ≡ trunc_of words.old }
+{
+    let place = words.next()?;
+    let size = words.next()?;
+    words.end()?;
+    Some(Command::Trunc {
+        file: fields::id(place)?,
+        size: fields::number(size)?,
+    })
+}
+
+/// `read #ID OFFSET COUNT`.
+fn read(words: &mut Words) -> Option<Command>
+    ensures { result ≡ read_of words.old }
+{
+    let place = words.next()?;
+    let offset = words.next()?;
+    let count = words.next()?;
+    words.end()?;
+    Some(Command::Read {
+        file: fields::id(place)?,
+        offset: fields::number(offset)?,
+        count: fields::number(count)?,
+    })
+}
+
+/// `close #ID`.
+fn close(words: &mut Words) -> Option<Command>
+    ensures { result ≡ close_of words.old }
+{
+    let place = words.next()?;
+    words.end()?;
+    Some(Command::Close(fields::id(place)?))
+}
+
+/// `abandon #ID`.
+fn abandon(words: &mut Words) -> Option<Command>
+    ensures { result ≡ abandon_of words.old }
+{
+    let place = words.next()?;
+    words.end()?;
+    Some(Command::Abandon(fields::id(place)?))
+}
+
+/// A command other than a write that begins with this word.
+fn small_command(word: &[u8], words: &mut Words) -> Option<Command>
+    requires { bytes_eq word.now (codes "write") ≡ false }
+    ensures { result ≡ command_of word.now words.old }
+{
+    if word == b"open".as_slice() {
+        open(words)
+    } else if word == b"trunc".as_slice() {
+        trunc(words)
+    } else if word == b"read".as_slice() {
+        read(words)
+    } else if word == b"close".as_slice() {
+        close(words)
+    } else if word == b"abandon".as_slice() {
+        abandon(words)
+    } else {
+        None
+    }
+}
+
+impl Command {
+    /// Reads a command that begins with this word, in time linear in the length of its words. The
+    /// error is `BadLine` where it is not in the grammar, or `Memory`.
+    pub fn read(alloc: Global, word: &[u8], words: &mut Words) -> Result<Command, LineErr>
+        ensures { Gives result (command_of word.now words.old) }
+    {
+        if word == b"write".as_slice() {
+            write(alloc, words)
+        } else {
+            small_command(word, words).ok_or(LineErr::BadLine)
+        }
+    }
+}
