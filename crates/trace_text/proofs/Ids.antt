@@ -2,13 +2,16 @@
 use Rattle.std.proofs.Common.{◌≡◌, ℕ, ◌<◌, ◌-◌, ◌^◌, List, [], ◌∷◌, Option, Some, None, Bool, true, false, take, drop, refl, arith, subst}
 use Rattle.std.specs.Prelude.{cond, Result, Ok, Err, IfOk, ◌&&◌, codes, bytes_eq, nat_lt, nat_le}
 use Rattle.std.proofs.lemmas.Bool.Decides.{nat_tests}
-use Rattle.trace_text.specs.Fields.{◌>>=◌, value_from, value_of, is_decimal, number_of, number_within, reading_of, amount_of, name_of, content_of, id_of}
-use Rattle.trace_text.specs.Grammar.{version_of, term_of, drift_of, clients_of, file_of, join_of, open_of, write_of, trunc_of, read_of, close_of, abandon_of, command_of, do_of, up_of, down_of, pass_of, settle_of, cut_of, hang_of, event_from, line_from, said_by, is_skipped, line_of}
-use Rattle.trace_text.specs.Parts.{words_of}
-use Rattle.trace_text.specs.Reading.{Gives, IsTimely}
-use Rattle.trace_text.specs.declared.line.LineErr.{LineErr}
-use Rattle.trace_text.specs.declared.line.Command.{Command}
-use Rattle.trace_text.specs.declared.line.Command.TheVariants.{Open, Write, Trunc, Read, Close, Abandon}
+use Rattle.command_text.specs.Commands.{open_of, write_of, trunc_of, read_of, close_of, abandon_of, command_of}
+use Rattle.command_text.specs.Fields.{◌>>=◌, value_from, value_of, is_decimal, number_of, number_within, name_of, content_of, id_of}
+use Rattle.command_text.specs.Reading.{Gives}
+use Rattle.trace_text.specs.Fields.{reading_of, amount_of}
+use Rattle.trace_text.specs.Grammar.{version_of, term_of, drift_of, clients_of, file_of, join_of, do_of, up_of, down_of, pass_of, settle_of, cut_of, hang_of, event_from, line_from, said_by, is_skipped, line_of}
+use Rattle.command_text.specs.Parts.{words_of}
+use Rattle.trace_text.specs.Reading.{IsTimely}
+use Rattle.command_text.specs.declared.line_err.LineErr.{LineErr}
+use Rattle.command_text.specs.declared.command.Command.{Command}
+use Rattle.command_text.specs.declared.command.Command.TheVariants.{Open, Write, Trunc, Read, Close, Abandon}
 use Rattle.trace_text.specs.declared.line.Line.{Line}
 use Rattle.trace_text.specs.declared.line.Line.TheVariants.{Version, Term, Drift, Clients, File, Join, Do, Up, Down, Pass, Settle, Cut, Hang, Skipped}
 

@@ -1,7 +1,1 @@
-pub mod Again
-pub mod Contents
-pub mod Cuts
-pub mod Decimals
 pub mod Ids
-pub mod Joined
-pub mod Numbers

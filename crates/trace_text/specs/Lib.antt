@@ -1,5 +1,3 @@
-pub mod Parts
-pub mod Content
 pub mod Fields
 pub mod Grammar
 pub mod Reading

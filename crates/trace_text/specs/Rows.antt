@@ -1,11 +1,10 @@
 -- Worked lines.
 use Rattle.std.specs.Prelude.{◌≡◌, ℕ, List, [], ◌∷◌, ◌++◌, Option, Some, None, refl, codes, replicate, map}
 use Rattle.std.specs.Fmt.{digits}
-use Rattle.hex.specs.Hex.{decode_pairs}
 use Rattle.clock_rule.specs.declared.rule.ClockFault.TheVariants as clock
-use Rattle.trace_text.specs.declared.content.Part.TheVariants.{Bytes, Zeros, Marks, Random}
+use Rattle.command_text.specs.declared.content.Part.TheVariants.{Bytes, Zeros}
 use Rattle.trace_text.specs.declared.line.Amount.TheVariants as amount
-use Rattle.trace_text.specs.declared.line.Command.TheVariants.{Open, Write, Trunc, Read, Close, Abandon}
+use Rattle.command_text.specs.declared.command.Command.TheVariants.{Open, Write, Trunc, Read, Close, Abandon}
 use Rattle.trace_text.specs.declared.line.Line.{Line}
 use Rattle.trace_text.specs.declared.line.Line.TheVariants.{Version, Term, Drift, Clients, File, Join, Do, Up, Down, Pass, Settle, Cut, Hang, Skipped}
 use Rattle.trace_text.specs.declared.refusal.Limit.TheVariants.{Lines, Tree, Sessions}
@@ -13,10 +12,8 @@ use Rattle.trace_text.specs.declared.refusal.Limit.TheVariants.{File as OfFile}
 use Rattle.trace_text.specs.declared.refusal.LineFault.TheVariants.{Grammar, Limit, Clock}
 use Rattle.trace_text.specs.declared.refusal.Refusal.TheVariants.{Words, LimitBytes}
 use Rattle.trace_text.specs.declared.refusal.Refusal.TheVariants.{Line as LineRefused}
-use Rattle.trace_text.specs.Content.{mark, random_bytes, content_bytes, content_length}
-use Rattle.trace_text.specs.Fields.{content_of, name_of}
 use Rattle.trace_text.specs.Grammar.{line_of}
-use Rattle.trace_text.specs.Parts.{lines_of, words_of}
+use Rattle.command_text.specs.Parts.{lines_of}
 use Rattle.trace_text.specs.Refusals.{refusal_of}
 
 abbrev said : List (List ℕ) → List (Option Line)
@@ -25,32 +22,6 @@ said lines = map line_of lines
 -- a whole trace
 trace : said (lines_of (codes "lbfs-trace 1\nterm 60000\ndrift 100\nclients 1\nfile a t:abc\njoin 1 0 0\ndo 1 0 open #2\npass 1 4 0 0\n")) ≡ (Some Version ∷ Some (Term 60000) ∷ Some (Drift 100) ∷ Some (Clients 1) ∷ Some (File (codes "a") (Bytes (codes "abc") ∷ [])) ∷ Some (Join 1 0 0) ∷ Some (Do 1 0 (Open 2)) ∷ Some (Pass 1 4 0 0) ∷ [])
 trace = refl
-
--- each line feed ends a line, and the last line may lack it
-no_line : lines_of [] ≡ []
-no_line = refl
-
-unended : lines_of (codes "a") ≡ (codes "a" ∷ [])
-unended = refl
-
-ended : lines_of (codes "a\n") ≡ (codes "a" ∷ [])
-ended = refl
-
-empty_line : lines_of (codes "\n") ≡ ([] ∷ [])
-empty_line = refl
-
-empty_last : lines_of (codes "a\n\n") ≡ (codes "a" ∷ [] ∷ [])
-empty_last = refl
-
-empty_between : lines_of (codes "a\n\nb") ≡ (codes "a" ∷ [] ∷ codes "b" ∷ [])
-empty_between = refl
-
--- each space parts two words
-no_word : words_of [] ≡ ([] ∷ [])
-no_word = refl
-
-two_spaces : words_of (codes "a  b ") ≡ (codes "a" ∷ [] ∷ codes "b" ∷ [] ∷ [])
-two_spaces = refl
 
 -- lines at the edges of the grammar
 taken : said (codes "term 1" ∷ codes "term 3600000" ∷ codes "drift 0" ∷ codes "drift 3600000" ∷ codes "clients 16" ∷ codes "file ... -" ∷ codes "file a-Z_0.9 t:." ∷ codes "join 18446744073709551615 9223372036854775807 0" ∷ codes "do 0 0 open #0" ∷ codes "pass 0 18446744073709551615 0 9223372036854775807" ∷ []) ≡ (Some (Term 1) ∷ Some (Term 3600000) ∷ Some (Drift 0) ∷ Some (Drift 3600000) ∷ Some (Clients 16) ∷ Some (File (codes "...") []) ∷ Some (File (codes "a-Z_0.9") (Bytes (codes ".") ∷ [])) ∷ Some (Join 18446744073709551615 9223372036854775807 0) ∷ Some (Do 0 0 (Open 0)) ∷ Some (Pass 0 18446744073709551615 0 9223372036854775807) ∷ [])
@@ -117,67 +88,12 @@ refused_hang = refl
 above : line_of (codes "file " ++ (195 ∷ 169 ∷ codes " -")) ≡ None
 above = refl
 
--- the longest name
-longest_name : name_of (replicate 255 97) ≡ Some (replicate 255 97)
-longest_name = refl
-
-longer_name : name_of (replicate 256 97) ≡ None
-longer_name = refl
-
 -- empty lines and remarks, whatever bytes they hold
 skipped : said (codes "" ∷ codes "#" ∷ codes "# term 1" ∷ codes "#2" ∷ (35 ∷ 0 ∷ 255 ∷ 13 ∷ []) ∷ []) ≡ replicate 5 (Some Skipped)
 skipped = refl
 
 not_skipped : said (codes " " ∷ codes " # a" ∷ codes "\r" ∷ codes "\t#" ∷ []) ≡ replicate 4 None
 not_skipped = refl
-
--- a content of each kind of part
-contents : map content_of (codes "-" ∷ codes "t:a.Z_0-" ∷ codes "x:00ff" ∷ codes "z:3" ∷ codes "m:2" ∷ codes "r:0:5" ∷ []) ≡ (Some [] ∷ Some (Bytes (codes "a.Z_0-") ∷ []) ∷ Some (Bytes (0 ∷ 255 ∷ []) ∷ []) ∷ Some (Zeros 3 ∷ []) ∷ Some (Marks 2 ∷ []) ∷ Some (Random 0 5 ∷ []) ∷ [])
-unfolding decode_pairs
-contents = refl
-
-joined : content_of (codes "t:abc+z:3+x:0a+m:1+r:7:5") ≡ Some (Bytes (codes "abc") ∷ Zeros 3 ∷ Bytes (10 ∷ []) ∷ Marks 1 ∷ Random 7 5 ∷ [])
-unfolding decode_pairs
-joined = refl
-
--- the largest numbers, and a text of 2,049 letters
-large : map content_of (codes "z:18446744073709551615" ∷ codes "m:18446744073709551615" ∷ codes "r:18446744073709551615:18446744073709551615" ∷ []) ≡ (Some (Zeros 18446744073709551615 ∷ []) ∷ Some (Marks 18446744073709551615 ∷ []) ∷ Some (Random 18446744073709551615 18446744073709551615 ∷ []) ∷ [])
-large = refl
-
-long_text : content_of (codes "t:" ++ replicate 2049 97) ≡ Some (Bytes (replicate 2049 97) ∷ [])
-long_text = refl
-
--- no part
-refused_text : map content_of (codes "t:" ∷ codes "t:a~" ∷ codes "t:a:b" ∷ codes "t" ∷ codes "abc" ∷ codes "T:a" ∷ codes "" ∷ []) ≡ replicate 7 None
-refused_text = refl
-
-refused_hex : map content_of (codes "x:" ∷ codes "x:0" ∷ codes "x:00f" ∷ codes "x:FF" ∷ codes "x:0A" ∷ codes "x:0g" ∷ codes "x:0x00" ∷ []) ≡ replicate 7 None
-unfolding decode_pairs
-refused_hex = refl
-
-refused_count : map content_of (codes "z:" ∷ codes "z:0" ∷ codes "z:01" ∷ codes "z:+1" ∷ codes "z:18446744073709551616" ∷ codes "m:" ∷ codes "m:0" ∷ codes "m:18446744073709551616" ∷ []) ≡ replicate 8 None
-refused_count = refl
-
-refused_random : map content_of (codes "r:" ∷ codes "r:1" ∷ codes "r:1:" ∷ codes "r::1" ∷ codes "r:1:0" ∷ codes "r:01:1" ∷ codes "r:1:01" ∷ codes "r:1:1:1" ∷ codes "r:18446744073709551616:1" ∷ codes "r:1:18446744073709551616" ∷ []) ≡ replicate 10 None
-refused_random = refl
-
-refused_join : map content_of (codes "+" ∷ codes "+t:a" ∷ codes "t:a+" ∷ codes "t:a++t:b" ∷ codes "-+t:a" ∷ codes "t:a+-" ∷ codes "--" ∷ codes "y:1" ∷ codes "t:a+y:1" ∷ codes "t:a b" ∷ codes "t:a+z:0" ∷ []) ≡ replicate 11 None
-refused_join = refl
-
--- the generator's bytes, as another program gives them
-random : random_bytes 1 40 ≡ (108 ∷ 130 ∷ 165 ∷ 98 ∷ 203 ∷ 128 ∷ 141 ∷ 16 ∷ 214 ∷ 50 ∷ 190 ∷ 137 ∷ 200 ∷ 81 ∷ 62 ∷ 191 ∷ 108 ∷ 146 ∷ 159 ∷ 52 ∷ 221 ∷ 250 ∷ 140 ∷ 159 ∷ 99 ∷ 201 ∷ 150 ∷ 14 ∷ 246 ∷ 227 ∷ 72 ∷ 163 ∷ 82 ∷ 140 ∷ 138 ∷ 63 ∷ 204 ∷ 47 ∷ 4 ∷ 78 ∷ [])
-random = refl
-
-random_of_largest : random_bytes 18446744073709551615 3 ≡ (187 ∷ 177 ∷ 143 ∷ [])
-random_of_largest = refl
-
--- a content's bytes are those of its parts, in their order
-bytes : content_bytes (Bytes (codes "abc") ∷ Zeros 3 ∷ Bytes (10 ∷ []) ∷ Marks 1 ∷ Random 7 5 ∷ []) ≡ codes "abc" ++ (0 ∷ 0 ∷ 0 ∷ 10 ∷ []) ++ replicate 2047 0 ++ (120 ∷ 126 ∷ 244 ∷ 232 ∷ 69 ∷ 68 ∷ [])
-unfolding mark
-bytes = refl
-
-lengths : map content_length ([] ∷ (Bytes (codes "abc") ∷ Zeros 3 ∷ Bytes (10 ∷ []) ∷ Marks 1 ∷ Random 7 5 ∷ []) ∷ (Zeros 18446744073709551615 ∷ Zeros 1 ∷ []) ∷ (Marks 18446744073709551615 ∷ []) ∷ []) ≡ (0 ∷ 2060 ∷ 18446744073709551616 ∷ 37778931862957161707520 ∷ [])
-lengths = refl
 
 -- the texts of refusals
 refusals : map refusal_of (Words ∷ LimitBytes ∷ LineRefused 12 Grammar ∷ LineRefused 65537 (Limit Lines) ∷ LineRefused 5 (Limit OfFile) ∷ LineRefused 6 (Limit Tree) ∷ LineRefused 7 (Limit Sessions) ∷ LineRefused 8 (Clock (clock.Server 500 499)) ∷ LineRefused 8 (Clock (clock.Client 1 7 6)) ∷ LineRefused 8 (Clock (clock.Drift 1 0 0 300 500)) ∷ []) ≡ (codes "refused words\n" ∷ codes "refused limit bytes\n" ∷ codes "refused line 12 grammar\n" ∷ codes "refused line 65537 limit lines\n" ∷ codes "refused line 5 limit file\n" ∷ codes "refused line 6 limit tree\n" ∷ codes "refused line 7 limit sessions\n" ∷ codes "refused line 8 clock server from 500 to 499\n" ∷ codes "refused line 8 clock client 1 from 7 to 6\n" ∷ codes "refused line 8 clock client 1 from 0 0 to 300 500\n" ∷ [])

@@ -1,13 +1,16 @@
 //! Each event, from the words behind its first: `event_from` of `specs/Grammar.antt`.
 
 ghost use Rattle.std.specs.Prelude.{◌≡◌, false, None, bytes_eq, codes, MatchOption};
-ghost use Rattle.trace_text.specs.Grammar.{join_of, command_of, do_with, do_of, up_of, down_of, pass_of, settle_of, cut_of, hang_of, event_from};
-ghost use Rattle.trace_text.specs.Reading.{Gives};
+ghost use Rattle.command_text.specs.Commands.{command_of};
+ghost use Rattle.command_text.specs.Reading.{Gives};
+ghost use Rattle.trace_text.specs.Grammar.{join_of, do_with, do_of, up_of, down_of, pass_of, settle_of, cut_of, hang_of, event_from};
 
-use crate::commands::command;
 use crate::fields;
-use crate::line::{Line, LineErr};
-use crate::parts::Words;
+use crate::line::Line;
+use command_text::command::Command;
+use command_text::fields::number;
+use command_text::line_err::LineErr;
+use command_text::parts::Words;
 use std::alloc::Global;
 
 /// `join C c s`.
@@ -19,7 +22,7 @@ fn join(words: &mut Words) -> Option<Line>
     let server = words.next()?;
     words.end()?;
     Some(Line::Join {
-        client: fields::number(client)?,
+        client: number(client)?,
         at: fields::reading(at)?,
         server: fields::reading(server)?,
     })
@@ -32,7 +35,7 @@ fn command_words<'a>(words: &mut Words<'a>) -> Option<(u64, u64, &'a [u8])>
     let client = words.next()?;
     let at = words.next()?;
     let word = words.next()?;
-    Some((fields::number(client)?, fields::reading(at)?, word))
+    Some((number(client)?, fields::reading(at)?, word))
 }
 
 /// `do C c COMMAND`.
@@ -43,7 +46,7 @@ pub(crate) fn command_line(alloc: Global, words: &mut Words) -> Result<Line, Lin
     Ok(Line::Do {
         client,
         at,
-        command: command(alloc, word, words)?,
+        command: Command::read(alloc, word, words)?,
     })
 }
 
@@ -56,7 +59,7 @@ fn up(words: &mut Words) -> Option<Line>
     let server = words.next()?;
     words.end()?;
     Some(Line::Up {
-        session: fields::number(session)?,
+        session: number(session)?,
         amount: fields::amount(amount)?,
         server: fields::reading(server)?,
     })
@@ -71,7 +74,7 @@ fn down(words: &mut Words) -> Option<Line>
     let at = words.next()?;
     words.end()?;
     Some(Line::Down {
-        session: fields::number(session)?,
+        session: number(session)?,
         amount: fields::amount(amount)?,
         at: fields::reading(at)?,
     })
@@ -87,8 +90,8 @@ fn pass(words: &mut Words) -> Option<Line>
     let at = words.next()?;
     words.end()?;
     Some(Line::Pass {
-        session: fields::number(session)?,
-        rounds: fields::number(rounds)?,
+        session: number(session)?,
+        rounds: number(rounds)?,
         server: fields::reading(server)?,
         at: fields::reading(at)?,
     })
@@ -113,7 +116,7 @@ fn cut(words: &mut Words) -> Option<Line>
     let at = words.next()?;
     words.end()?;
     Some(Line::Cut {
-        client: fields::number(client)?,
+        client: number(client)?,
         at: fields::reading(at)?,
     })
 }
@@ -126,7 +129,7 @@ fn hang(words: &mut Words) -> Option<Line>
     let server = words.next()?;
     words.end()?;
     Some(Line::Hang {
-        session: fields::number(session)?,
+        session: number(session)?,
         server: fields::reading(server)?,
     })
 }

@@ -2,14 +2,15 @@
 //! The rule is `line_from` of `specs/Grammar.antt`.
 
 ghost use Rattle.std.specs.Prelude.{◌≡◌, false, true, [], ◌∷◌, None, bytes_eq, codes, MatchOption};
-ghost use Rattle.trace_text.specs.Fields.{is_name};
+ghost use Rattle.command_text.specs.Fields.{is_name};
+ghost use Rattle.command_text.specs.Reading.{Gives};
 ghost use Rattle.trace_text.specs.Grammar.{version_of, term_of, drift_of, clients_of, file_of, line_from};
-ghost use Rattle.trace_text.specs.Reading.{Gives};
 
 use crate::events::{command_line, event};
-use crate::line::{Line, LineErr};
-use crate::parts::Words;
-use crate::{fields, pieces};
+use crate::line::Line;
+use command_text::line_err::LineErr;
+use command_text::parts::Words;
+use command_text::{fields, pieces};
 use lb_base::items::Name;
 use limits::{CLIENTS_MOST, DRIFT_MOST, TERM_MOST};
 use std::alloc::Global;

@@ -2,44 +2,16 @@
 
 ghost use Rattle.std.specs.Prelude.{◌≡◌, IfOk};
 ghost use Rattle.trace_text.specs.Grammar.{is_skipped, line_of};
-ghost use Rattle.trace_text.specs.Reading.{Gives, IsTimely};
-ghost use Rattle.trace_text.specs.declared.line.LineErr.TheVariants as errors;
+ghost use Rattle.command_text.specs.Reading.{Gives};
+ghost use Rattle.trace_text.specs.Reading.{IsTimely};
 
-use crate::content::Content;
 use crate::kinds::read_kind;
-use crate::parts::Words;
+use command_text::command::Command;
+use command_text::content::Content;
+use command_text::line_err::LineErr;
+use command_text::parts::Words;
 use lb_base::items::Name;
-use std::alloc::{AllocError, AllocFailed, Global};
-
-/// A command of a client. Offsets, sizes and counts are in bytes; they and the ids are any numbers
-/// of 64 bits. Whether the file is open and what then comes of it is the client's business.
-#[derive(Debug, Drop)]
-pub enum Command {
-    /// `open #ID`: opens the file with this id.
-    Open(u64),
-    /// `write #ID OFFSET CONTENT`: puts the content into the open file, from the offset on. The
-    /// content may be of any length, also none, and its bytes are not built yet.
-    Write {
-        file: u64,
-        offset: u64,
-        content: Content,
-    },
-    /// `trunc #ID SIZE`: gives the open file this size.
-    Trunc {
-        file: u64,
-        size: u64,
-    },
-    /// `read #ID OFFSET COUNT`: gives at most so many bytes of the open file, from the offset on.
-    Read {
-        file: u64,
-        offset: u64,
-        count: u64,
-    },
-    /// `close #ID`: commits the content of the open file, and closes it.
-    Close(u64),
-    /// `abandon #ID`: closes the open file, and forgets what was written.
-    Abandon(u64),
-}
+use std::alloc::Global;
 
 /// How many bytes of a queue are delivered.
 #[derive(Clone, Copy, Debug, PartialEq, Eq)]
@@ -118,36 +90,11 @@ pub enum Line {
     Skipped,
 }
 
-/// Why a line was not read.
-#[derive(Clone, Copy, Debug, PartialEq, Eq)]
-pub enum LineErr {
-    /// It is not in the grammar.
-    BadLine,
-    /// Memory ran out.
-    Memory,
-}
-
-impl From<AllocError> for LineErr {
-    ghost from_gives = { λ _ e. e ≡ errors.Memory };
-
-    fn from(_e: AllocError) -> LineErr {
-        LineErr::Memory
-    }
-}
-
 /// Whether a line is empty or begins with `#`.
 fn is_skipped(line: &[u8]) -> bool
     ensures { result ≡ is_skipped line.now }
 {
     line.is_empty() || line.starts_with(b"#")
-}
-
-impl<T: Drop> From<AllocFailed<T>> for LineErr {
-    ghost from_gives = { λ _ e. e ≡ errors.Memory };
-
-    fn from(_e: AllocFailed<T>) -> LineErr {
-        LineErr::Memory
-    }
 }
 
 /// What a line says, where it is in the grammar.

@@ -1,6 +1,0 @@
-use Rattle.std.proofs.Common.{◌≡◌, ◌+◌, drop}
-use Rattle.trace_text.specs.Content.{content_length}
-use Rattle.trace_text.proofs.content.length.Given as goal
-
-abbrev pub invariant-loop-part : goal.invariant-loop-part
-invariant-loop-part l = l.length + content_length (drop l.part-index l.part-items) ≡ content_length l.part-items

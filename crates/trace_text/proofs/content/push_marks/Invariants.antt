@@ -1,6 +1,0 @@
-use Rattle.std.proofs.Common.{◌≡◌, ◌-◌, ◌++◌}
-use Rattle.trace_text.specs.Content.{marks}
-use Rattle.trace_text.proofs.content.push_marks.Given as goal
-
-abbrev pub invariant-loop : goal.invariant-loop
-invariant-loop l = l.bytes.items ++ marks (l.count - l.counter) ≡ l.initial.bytes.items ++ marks l.count

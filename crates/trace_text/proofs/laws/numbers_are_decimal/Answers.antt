@@ -1,8 +1,0 @@
-use Rattle.trace_text.proofs.Decimals.{number_again, number_only}
-use Rattle.trace_text.proofs.laws.numbers_are_decimal.Goals as goal
-
-pub returns-clause-read : goal.returns-clause-read
-returns-clause-read c = number_again
-
-pub returns-clause-only : goal.returns-clause-only
-returns-clause-only c = number_only

@@ -1,5 +1,0 @@
-use Rattle.trace_text.proofs.Cuts.{some_word}
-use Rattle.trace_text.proofs.parts.Words.end.Goals as goal
-
-pub returns-in-Some : goal.returns-in-Some
-returns-in-Some c = rw (← c.self.view_is, c.in-Some.is) (some_word c.in-Some.field-0.now)
