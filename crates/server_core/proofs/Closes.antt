@@ -1,22 +1,24 @@
 -- The steps of a close: a file that a handle names, what is asked for it, and what becomes of that.
 use Rattle.std.proofs.Common.{◌≡◌, refl, sym, ap, ◌∙◌, ℕ, ◌+◌, List, [], ◌∷◌, ◌++◌, length, Option, Some, None, ◌≤◌, Bool, true, false, true≢false, arith}
-use Rattle.std.specs.Prelude.{Result, Ok, Err, is_ok, nat_lt, if◌then◌else◌}
+use Rattle.std.specs.Prelude.{Result, Ok, Err, is_ok, is_some, nat_lt, if◌then◌else◌}
 use Rattle.xdr_codec.specs.declared.status.Status.{Status}
 use Rattle.xdr_codec.specs.declared.status.Status.TheVariants as status
 use Rattle.xdr_codec.specs.declared.answer.Answer.TheVariants.{Failed}
 use Rattle.hash_calls.specs.declared.call.Commit.{Commit}
 use Rattle.hash_calls.specs.declared.message.Lb.TheVariants as lb
-use Rattle.server_core.specs.declared.event.Outs.{Outs}
+use Rattle.wire.specs.declared.message.Body.TheVariants as body
+use Rattle.wire.specs.declared.message.Message.TheVariants as message
+use Rattle.server_core.specs.declared.event.ServerStep.{ServerStep}
 use Rattle.server_core.specs.Answers.{Node, root, file, node_of}
-use Rattle.server_core.specs.Asking.{target_in, whole_for, asked_of, queues}
-use Rattle.server_core.specs.Closing.{answers, outs, room_fault, makes, makes_unless, has_wait, is_full, commits_whole, commits_to, commits}
-use Rattle.server_core.specs.State.{State, Change, waits_size}
+use Rattle.server_core.specs.Asking.{target_in, commit_target}
+use Rattle.server_core.specs.Closing.{answers, sends, to, room_fault, makes, makes_unless, has_waiting, is_full, commits_whole, commits_to, commits}
+use Rattle.server_core.specs.State.{State, Change, waiting_size}
 use Rattle.server_core.specs.Temps.{Temp, temp_at, without_temp, assembled, size_most}
 use Rattle.server_core.proofs.Joins.{joined_size}
 
 -- ---- MKTMPFILE, by the file that the handle names
 
-abbrev pub makes_for : State → (session xid fd : ℕ) → Result ℕ Status → State × Outs
+abbrev pub makes_for : State → (session xid fd : ℕ) → Result ℕ Status → State × ServerStep
 makes_for s session xid fd (Err e) = answers s session xid (lb.MkTmpFileAnswer (Failed e tt))
 makes_for s session xid fd (Ok id) = makes_unless s session xid fd id (room_fault s.temps session fd)
 
@@ -27,70 +29,93 @@ makes_as s session xid fd (Ok (file f)) = refl
 
 -- ---- COMMITTMP
 
-pub commits_as : (s : State) (session xid size : ℕ) (t : Temp) (n : Result Node Status) → commits_to s session xid size t n ≡ queues s session xid (asked_of (target_in n) size t)
-commits_as s session xid size t (Err e) = refl
-commits_as s session xid size t (Ok root) = refl
-commits_as s session xid size t (Ok (file f)) = by (nat_lt size_most size) (assembled t size)
+-- what becomes of one whose temporary file has ended
+abbrev ends_by : State → (session xid : ℕ) → Result ℕ Status → Option (List ℕ) → State × ServerStep
+ends_by s session xid (Err e) o = answers s session xid (lb.CommitTmpAnswer (Failed e tt))
+ends_by s session xid (Ok id) None = answers s session xid (lb.CommitTmpAnswer (Failed status.Inval tt))
+ends_by s session xid (Ok id) (Some content) = (record s { waiting = s.waiting ++ record { session = session; xid = xid; file = id; content = content } ∷ [] }, sends [])
+
+-- a content that is whole for a size has that size
+pub whole_size : (t : Temp) (size : ℕ) (content : List ℕ) → Some content ≡ assembled t size → length content ≡ size
+whole_size t size content is = omega (arith, joined_size 0 size t.pieces content (sym is))
+
+-- whether it can be done doesn't rest on the temporary files
+commits_as : (s : State) (left : List (ℕ × Temp)) (session xid size : ℕ) (t : Temp) (n : Result Node Status)
+    → commits_to (record s { temps = left }) session xid size t n ≡ ends_by (record s { temps = left }) session xid (commit_target s session size t (target_in n)) (assembled t size)
+commits_as s left session xid size t (Err e) = refl
+commits_as s left session xid size t (Ok root) = refl
+commits_as s left session xid size t (Ok (file f)) = by (nat_lt size_most size) (assembled t size) refl
   where
-    by : (b : Bool) (o : Option (List ℕ)) → (if b then answers s session xid (lb.CommitTmpAnswer (Failed status.FBig tt)) else commits_whole s session xid f.id o)
-        ≡ queues s session xid (if b then Err status.FBig else whole_for f.id o)
-    by true o = refl
-    by false None = refl
-    by false (Some content) = refl
+    ended : State
+    ended = record s { temps = left }
 
--- what becomes of it doesn't rest on the temporary files
-pub queues_beside : (s : State) (temps : List (ℕ × Temp)) (session xid : ℕ) (r : Result (ℕ × List ℕ) Status)
-    → queues (record s { temps = temps }) session xid r ≡ (record (queues s session xid r).0 { temps = temps }, (queues s session xid r).1)
-queues_beside s temps session xid (Err e) = refl
-queues_beside s temps session xid (Ok p) = by (has_wait s.waits session) (is_full s (length p.1))
-  where
-    waiting : State → State
-    waiting w = record w { waits = s.waits ++ record { session = session; xid = xid; file = p.0; content = p.1 } ∷ [] }
+    target : (big some wait full : Bool) → Result ℕ Status
+    target big some wait full = if big then Err status.FBig else if some then (if wait then Err status.Jukebox else if full then Err status.NoSpc else Ok f.id) else Err status.Inval
 
-    to_say : (b c : Bool) → State → State × Outs
-    to_say b c w =
-        if b then answers w session xid (lb.CommitTmpAnswer (Failed status.Jukebox tt))
-        else if c then answers w session xid (lb.CommitTmpAnswer (Failed status.NoSpc tt))
-        else (waiting w, outs [])
+    fits : (content : List ℕ) (w u : Bool)
+        → (if w then answers ended session xid (lb.CommitTmpAnswer (Failed status.Jukebox tt))
+        else if u then answers ended session xid (lb.CommitTmpAnswer (Failed status.NoSpc tt))
+        else (record ended { waiting = s.waiting ++ record { session = session; xid = xid; file = f.id; content = content } ∷ [] }, sends []))
+        ≡ ends_by ended session xid (target false true w u) (Some content)
+    fits content true u = refl
+    fits content false true = refl
+    fits content false false = refl
 
-    by : (b c : Bool) → to_say b c (record s { temps = temps }) ≡ (record (to_say b c s).0 { temps = temps }, (to_say b c s).1)
-    by true c = refl
-    by false true = refl
-    by false false = refl
+    by : (b : Bool) (o : Option (List ℕ)) → assembled t size ≡ o
+        → (if b then answers ended session xid (lb.CommitTmpAnswer (Failed status.FBig tt)) else commits_whole ended session xid f.id o)
+        ≡ ends_by ended session xid (target b (is_some o) (has_waiting s.waiting session) (is_full s size)) o
+    by true o is = refl
+    by false None is = refl
+    by false (Some content) is =
+        fits content (has_waiting s.waiting session) (is_full s (length content))
+        ∙ ap (λ n. ends_by ended session xid (target false true (has_waiting s.waiting session) (is_full s n)) (Some content)) (whole_size t size content (sym is))
 
-abbrev content_of : Result (ℕ × List ℕ) Status → List ℕ → List ℕ
-content_of (Err e) content = content
-content_of (Ok p) content = p.1
-
--- what is asked for is within the limit of a file
-pub asked_size : (r : Result ℕ Status) (size : ℕ) (t : Temp) (p : ℕ × List ℕ) → asked_of r size t ≡ Ok p → length p.1 ≤ size_most
-asked_size (Err e) size t p h = absurd (true≢false (sym (ap is_ok h)))
-asked_size (Ok id) size t p h = by (nat_lt size_most size) (assembled t size) refl refl h
-  where
-    by : (b : Bool) (o : Option (List ℕ)) → nat_lt size_most size ≡ b → assembled t size ≡ o → (if b then Err status.FBig else whole_for id o) ≡ Ok p → length p.1 ≤ size_most
-    by true o below is g = absurd (true≢false (sym (ap is_ok g)))
-    by false None below is g = absurd (true≢false (sym (ap is_ok g)))
-    by false (Some content) below is g =
-        let same : content ≡ p.1 = ap (λ q. content_of q content) g in
-        let most : size ≤ size_most = grind (arith, below) in
-        omega (arith, most, joined_size 0 size t.pieces content is, ap length same)
-
--- a COMMITTMP of a temporary file that is there, step by step
-pub commit_made : (s n : State) (session xid : ℕ) (a : Commit) (t : Temp) (o : Outs) (r : Result (ℕ × List ℕ) Status) (temps : List (ℕ × Temp))
-    → temp_at s.temps session a.fd ≡ Some t → r ≡ asked_of (target_in (node_of s.files a.handle)) a.size t
-    → queues s session xid r ≡ (n, o) → temps ≡ without_temp s.temps session a.fd
-    → commits s session xid a (temp_at s.temps session a.fd) ≡ (record n { temps = temps }, o)
-commit_made s n session xid a t o r temps at asked queued ended =
+-- one that is refused
+pub commit_refused : (s : State) (session xid : ℕ) (a : Commit) (t : Temp) (e : Status) (temps : List (ℕ × Temp)) (o : ServerStep)
+    → temp_at s.temps session a.fd ≡ Some t → commit_target s session a.size t (target_in (node_of s.files a.handle)) ≡ Err e
+    → temps ≡ without_temp s.temps session a.fd → o ≡ to session (message.Answer xid (body.Lb (lb.CommitTmpAnswer (Failed e tt))))
+    → commits s session xid a (temp_at s.temps session a.fd) ≡ (record s { temps = temps }, o)
+commit_refused s session xid a t e temps o at target ended said =
     let left : List (ℕ × Temp) = without_temp s.temps session a.fd in
     ap (λ (x : Option Temp). commits s session xid a x) at
-    ∙ commits_as (record s { temps = left }) session xid a.size t (node_of s.files a.handle)
-    ∙ ap (λ (x : Result (ℕ × List ℕ) Status). queues (record s { temps = left }) session xid x) (sym asked)
-    ∙ queues_beside s left session xid r
-    ∙ ap (λ (x : State × Outs). (record x.0 { temps = left }, x.1)) queued
-    ∙ ap (λ (l : List (ℕ × Temp)). (record n { temps = l }, o)) (sym ended)
+    ∙ commits_as s left session xid a.size t (node_of s.files a.handle)
+    ∙ ap (λ (x : Result ℕ Status). ends_by (record s { temps = left }) session xid x (assembled t a.size)) target
+    ∙ ap (λ (l : List (ℕ × Temp)). (record s { temps = l }, to session (message.Answer xid (body.Lb (lb.CommitTmpAnswer (Failed e tt)))))) (sym ended)
+    ∙ ap (λ (x : ServerStep). (record s { temps = temps }, x)) (sym said)
+
+-- one whose change waits from now on
+pub commit_taken : (s n : State) (session xid id : ℕ) (a : Commit) (t : Temp) (content : List ℕ) (temps : List (ℕ × Temp)) (o : ServerStep)
+    → temp_at s.temps session a.fd ≡ Some t → commit_target s session a.size t (target_in (node_of s.files a.handle)) ≡ Ok id
+    → Some content ≡ assembled t a.size → n ≡ record s { waiting = s.waiting ++ record { session = session; xid = xid; file = id; content = content } ∷ [] }
+    → temps ≡ without_temp n.temps session a.fd → o ≡ sends []
+    → commits s session xid a (temp_at s.temps session a.fd) ≡ (record n { temps = temps }, o)
+commit_taken s n session xid id a t content temps o at target whole waits ended said =
+    let left : List (ℕ × Temp) = without_temp s.temps session a.fd in
+    ap (λ (x : Option Temp). commits s session xid a x) at
+    ∙ commits_as s left session xid a.size t (node_of s.files a.handle)
+    ∙ ap (λ (x : Result ℕ Status). ends_by (record s { temps = left }) session xid x (assembled t a.size)) target
+    ∙ ap (λ (x : Option (List ℕ)). ends_by (record s { temps = left }) session xid (Ok id) x) (sym whole)
+    ∙ ap (λ (m : State). (record m { temps = without_temp m.temps session a.fd }, sends [])) (sym waits)
+    ∙ ap (λ (l : List (ℕ × Temp)). (record n { temps = l }, sends [])) (sym ended)
+    ∙ ap (λ (x : ServerStep). (record n { temps = temps }, x)) (sym said)
+
+-- what can be done is whole, within the limit of a file, and has its place
+pub target_fits : (s : State) (session size : ℕ) (t : Temp) (r : Result ℕ Status) (id : ℕ) → commit_target s session size t r ≡ Ok id
+    → (size ≤ size_most) × (is_some (assembled t size) ≡ true) × (is_full s size ≡ false)
+target_fits s session size t (Err e) id h = absurd (true≢false (sym (ap is_ok h)))
+target_fits s session size t (Ok n) id h = by (nat_lt size_most size) (is_some (assembled t size)) (has_waiting s.waiting session) (is_full s size) refl refl refl h
+  where
+    by : (big some wait full : Bool) → nat_lt size_most size ≡ big → is_some (assembled t size) ≡ some → is_full s size ≡ full
+        → (if big then Err status.FBig else if some then (if wait then Err status.Jukebox else if full then Err status.NoSpc else Ok n) else Err status.Inval) ≡ Ok id
+        → (size ≤ size_most) × (is_some (assembled t size) ≡ true) × (is_full s size ≡ false)
+    by true some wait full p q r g = absurd (true≢false (sym (ap is_ok g)))
+    by false false wait full p q r g = absurd (true≢false (sym (ap is_ok g)))
+    by false true true full p q r g = absurd (true≢false (sym (ap is_ok g)))
+    by false true false true p q r g = absurd (true≢false (sym (ap is_ok g)))
+    by false true false false p q r g = (grind (arith, p), q, r)
 
 -- ---- the bytes that wait
 
-pub waits_size_more : (ws : List Change) (c : Change) → waits_size (ws ++ c ∷ []) ≡ waits_size ws + length c.content
-waits_size_more [] c = search arith
-waits_size_more (w ∷ ws) c = omega (arith, waits_size_more ws c)
+pub waiting_size_more : (ws : List Change) (c : Change) → waiting_size (ws ++ c ∷ []) ≡ waiting_size ws + length c.content
+waiting_size_more [] c = search arith
+waiting_size_more (w ∷ ws) c = omega (arith, waiting_size_more ws c)

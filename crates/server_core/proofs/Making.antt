@@ -5,7 +5,7 @@ use Rattle.std.specs.List.{All}
 use Rattle.std.specs.Map.{values_of}
 use Rattle.std.proofs.lemmas.List.Elements.{All-weaker}
 use Rattle.server_core.specs.Closing.{is_full, changes_most, tree_most, changed}
-use Rattle.server_core.specs.State.{State, with_file, held}
+use Rattle.server_core.specs.State.{State, with_file, bytes_held}
 use Rattle.server_core.specs.View.{IsVersioned}
 use Rattle.server_core.specs.declared.file.File.{File}
 use Rattle.server_core.proofs.Files.{All-with_file}
@@ -18,10 +18,10 @@ not_below : (a b : ℕ) → nat_lt a b ≡ false → b ≤ a
 not_below a b h = grind (arith, h)
 
 -- a change that has its place
-pub not_full : (s : State) (size : ℕ) → is_full s size ≡ false → (s.changes + length s.waits + 1 ≤ changes_most) × (held s + size ≤ tree_most)
+pub not_full : (s : State) (size : ℕ) → is_full s size ≡ false → (s.changes + length s.waiting + 1 ≤ changes_most) × (bytes_held s + size ≤ tree_most)
 not_full s size h =
-    let parts = or_false (nat_lt changes_most (s.changes + length s.waits + 1)) (nat_lt tree_most (held s + size)) h in
-    (not_below changes_most (s.changes + length s.waits + 1) parts.0, not_below tree_most (held s + size) parts.1)
+    let parts = or_false (nat_lt changes_most (s.changes + length s.waiting + 1)) (nat_lt tree_most (bytes_held s + size)) h in
+    (not_below changes_most (s.changes + length s.waiting + 1) parts.0, not_below tree_most (bytes_held s + size) parts.1)
 
 -- no version is above the number of changes, after a change is made
 pub versions_more : (n : ℕ) (files : List (ℕ × File)) (f : File) (content : List ℕ) → All (IsVersioned n) (values_of files) → f.version ≤ n

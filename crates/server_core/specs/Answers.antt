@@ -1,7 +1,9 @@
 -- What the server answers to each call. It changes nothing.
-use Rattle.std.specs.Prelude.{ℕ, ◌+◌, ◌/◌, ◌%◌, List, [], ◌∷◌, length, take, drop, min, Option, Some, None, Result, Ok, Err, Bool, true, false, ◌&&◌, ◌||◌, ◌==◌, nat_lt, nat_le}
-use Rattle.limits.specs.declared.TheConstants.{PIECE_MOST}
-use Rattle.sha1.specs.Sha1.{sha1}
+use Rattle.std.specs.Prelude.{ℕ, ◌+◌, ◌/◌, ◌%◌, List, length, map, filter, take, drop, min, Option, Some, None, Result, Ok, Err, Bool, true, false, ◌&&◌, ◌||◌, ◌==◌, nat_lt, nat_le}
+use Rattle.limits.specs.declared.TheConstants.{PAIRS_MOST, PIECE_MOST}
+use Rattle.chunk_cut.specs.Chunks.{chunks_of}
+use Rattle.chunk_cut.specs.Places.{end_of}
+use Rattle.chunk_cut.specs.declared.chunk.Chunk.{Chunk}
 use Rattle.xdr_codec.specs.Handle.{file_of}
 use Rattle.xdr_codec.specs.declared.status.Status.{Status}
 use Rattle.xdr_codec.specs.declared.status.Status.TheVariants as status
@@ -61,22 +63,32 @@ attr_of f = record {
 
 -- ---- GETHASH
 
--- whether the one chunk of a content meets the range
-abbrev pub meets : List ℕ → ℕ → ℕ → Bool
-meets content offset count = nat_lt offset (length content) && nat_lt 0 count
+-- no answer tells more chunks
+abbrev pub chunks_most : ℕ
+chunks_most = PAIRS_MOST
 
--- the chunks that meet the range, by digest and size: a file is one chunk, or none where it is empty
-abbrev pub pairs_if : Bool → List ℕ → List Pair
-pairs_if true content = record { digest = sha1 content; size = length content } ∷ []
-pairs_if false content = []
+-- a chunk meets the range
+abbrev pub meets : (offset count : ℕ) → Chunk → Bool
+meets offset count c = nat_lt 0 count && nat_lt c.start (offset + count) && nat_lt offset (c.start + c.len)
+
+-- the chunks of a content that are told: the first of those that meet the range
+abbrev pub told_chunks : List ℕ → HashRange → List Chunk
+told_chunks content r = take chunks_most (filter (meets r.offset r.count) (chunks_of content))
+
+abbrev pub pair_of : Chunk → Pair
+pair_of c = record { digest = c.digest; size = c.len }
+
+-- the last chunk of a content of this size is among them, or the range begins at its end or past it
+abbrev pub is_end : (size offset : ℕ) → List Chunk → Bool
+is_end size offset told = nat_le size offset || end_of told == size
 
 abbrev pub hashes_of : File → HashRange → Hashes
 hashes_of f r = record {
   version = f.version;
   term = 0;
   size = length f.content;
-  pairs = pairs_if (meets f.content r.offset r.count) f.content;
-  eof = meets f.content r.offset r.count || nat_le (length f.content) r.offset;
+  pairs = map pair_of (told_chunks f.content r);
+  eof = is_end (length f.content) r.offset (told_chunks f.content r);
 }
 
 abbrev pub hash_answer : Result Node Status → HashRange → Answer Hashes Unit

@@ -1,12 +1,10 @@
--- What a COMMITTMP asks for, apart from what becomes of it: the steps in which the server goes through a close.
-use Rattle.std.specs.Prelude.{ℕ, List, Option, Some, None, Result, Ok, Err, nat_lt, if◌then◌else◌}
+-- When the change of a COMMITTMP may wait, apart from what becomes of it: this is found before any of its content is joined.
+use Rattle.std.specs.Prelude.{◌≡◌, ℕ, Option, Some, None, Result, Ok, Err, true, is_ok, is_some, nat_lt, if◌then◌else◌}
 use Rattle.xdr_codec.specs.declared.status.Status.{Status}
 use Rattle.xdr_codec.specs.declared.status.Status.TheVariants as status
-use Rattle.xdr_codec.specs.declared.answer.Answer.TheVariants.{Failed}
-use Rattle.hash_calls.specs.declared.message.Lb.TheVariants as lb
-use Rattle.server_core.specs.declared.event.Outs.{Outs}
-use Rattle.server_core.specs.Answers.{Node, root, file}
-use Rattle.server_core.specs.Closing.{answers, commits_whole}
+use Rattle.hash_calls.specs.declared.call.Commit.{Commit}
+use Rattle.server_core.specs.Answers.{Node, root, file, node_of}
+use Rattle.server_core.specs.Closing.{has_waiting, is_full}
 use Rattle.server_core.specs.State.{State}
 use Rattle.server_core.specs.Temps.{Temp, assembled, size_most}
 
@@ -16,16 +14,15 @@ target_in (Err e) = Err e
 target_in (Ok root) = Err status.IsDir
 target_in (Ok (file f)) = Ok f.id
 
-abbrev pub whole_for : ℕ → Option (List ℕ) → Result (ℕ × List ℕ) Status
-whole_for id None = Err status.Inval
-whole_for id (Some content) = Ok (id, content)
+-- the file that is to get what a temporary file comes to, or why it can't get it
+abbrev pub commit_target : State → (session size : ℕ) → Temp → Result ℕ Status → Result ℕ Status
+commit_target s session size t (Err e) = Err e
+commit_target s session size t (Ok id) =
+    if nat_lt size_most size then Err status.FBig
+    else if is_some (assembled t size) then (if has_waiting s.waiting session then Err status.Jukebox else if is_full s size then Err status.NoSpc else Ok id)
+    else Err status.Inval
 
--- the file and the content that it is to get, of a temporary file that was found
-abbrev pub asked_of : Result ℕ Status → (size : ℕ) → Temp → Result (ℕ × List ℕ) Status
-asked_of (Err e) size t = Err e
-asked_of (Ok id) size t = if nat_lt size_most size then Err status.FBig else whole_for id (assembled t size)
-
--- what becomes of it
-abbrev pub queues : State → (session xid : ℕ) → Result (ℕ × List ℕ) Status → State × Outs
-queues s session xid (Err e) = answers s session xid (lb.CommitTmpAnswer (Failed e tt))
-queues s session xid (Ok p) = commits_whole s session xid p.0 (Some p.1)
+-- the change of this COMMITTMP may wait
+abbrev pub CanWait : State → (session : ℕ) → Commit → Option Temp → Type 0
+CanWait s session a None = ⊥
+CanWait s session a (Some t) = is_ok (commit_target s session a.size t (target_in (node_of s.files a.handle))) ≡ true

@@ -17,13 +17,13 @@ use Rattle.wire.specs.declared.message.Body.TheVariants as body
 use Rattle.wire.specs.declared.message.Message.{Message}
 use Rattle.wire.specs.declared.message.Message.TheVariants as message
 use Rattle.server_core.specs.declared.event.Sent.{Sent}
-use Rattle.server_core.specs.declared.event.Outs.{Outs}
+use Rattle.server_core.specs.declared.event.ServerStep.{ServerStep}
 use Rattle.server_core.specs.declared.event.Told.TheVariants as told
 use Rattle.server_core.specs.declared.file.File.{File}
 use Rattle.server_core.specs.declared.journal.Entry.{Entry}
 use Rattle.server_core.specs.declared.journal.EntryKind.TheVariants as entry
 use Rattle.server_core.specs.Answers.{Node, root, file, node_of}
-use Rattle.server_core.specs.State.{State, Change, file_at, with_file, held}
+use Rattle.server_core.specs.State.{State, Change, file_at, with_file, bytes_held}
 use Rattle.server_core.specs.Temps.{Temp, temp_at, with_temp, without_temp, temps_of, piece_fault, with_piece, assembled, size_most}
 
 -- ---- limits
@@ -46,13 +46,14 @@ changes_most = CHANGES_MOST
 
 -- ---- what is said
 
-abbrev pub outs : List Sent → Outs
-outs send = record { send = send; told = told.Nothing; missed = false }
+-- these messages are sent, and nothing else is told
+abbrev pub sends : List Sent → ServerStep
+sends send = record { send = send; told = told.Nothing; entries = 0; missed = false }
 
-abbrev pub to : ℕ → Message → Outs
-to session m = outs (record { session = session; message = m } ∷ [])
+abbrev pub to : ℕ → Message → ServerStep
+to session m = sends (record { session = session; message = m } ∷ [])
 
-abbrev pub answers : State → (session xid : ℕ) → Lb → State × Outs
+abbrev pub answers : State → (session xid : ℕ) → Lb → State × ServerStep
 answers s session xid b = (s, to session (message.Answer xid (body.Lb b)))
 
 -- the answer of a call that has nothing else to tell than whether it was done
@@ -63,30 +64,30 @@ done_unless (Some e) = Failed e tt
 -- ---- MKTMPFILE
 
 -- why the session can't have a further temporary file under this number
-abbrev pub room_fault : List (ℕ × Temp) → (session fd : ℕ) → Option Status
-room_fault temps session fd =
-    if is_some (temp_at temps session fd) then Some status.FdInUse
+abbrev pub room_fault : List (ℕ × Temp) → (session number : ℕ) → Option Status
+room_fault temps session number =
+    if is_some (temp_at temps session number) then Some status.FdInUse
     else if nat_le temps_most (temps_of temps session) then Some status.TooManyTemps
     else None
 
-abbrev pub makes_unless : State → (session xid fd target : ℕ) → Option Status → State × Outs
-makes_unless s session xid fd target (Some e) = answers s session xid (lb.MkTmpFileAnswer (Failed e tt))
-makes_unless s session xid fd target None = answers (record s { temps = with_temp s.temps (record { session = session; fd = fd; target = target; pieces = [] }) }) session xid (lb.MkTmpFileAnswer (Done tt))
+abbrev pub makes_unless : State → (session xid number target : ℕ) → Option Status → State × ServerStep
+makes_unless s session xid number target (Some e) = answers s session xid (lb.MkTmpFileAnswer (Failed e tt))
+makes_unless s session xid number target None = answers (record s { temps = with_temp s.temps (record { session = session; number = number; target = target; pieces = [] }) }) session xid (lb.MkTmpFileAnswer (Done tt))
 
 -- a temporary file with nothing in it, for a file that is there
-abbrev pub makes : State → (session xid fd : ℕ) → Result Node Status → State × Outs
-makes s session xid fd (Err e) = answers s session xid (lb.MkTmpFileAnswer (Failed e tt))
-makes s session xid fd (Ok root) = answers s session xid (lb.MkTmpFileAnswer (Failed status.IsDir tt))
-makes s session xid fd (Ok (file f)) = makes_unless s session xid fd f.id (room_fault s.temps session fd)
+abbrev pub makes : State → (session xid number : ℕ) → Result Node Status → State × ServerStep
+makes s session xid number (Err e) = answers s session xid (lb.MkTmpFileAnswer (Failed e tt))
+makes s session xid number (Ok root) = answers s session xid (lb.MkTmpFileAnswer (Failed status.IsDir tt))
+makes s session xid number (Ok (file f)) = makes_unless s session xid number f.id (room_fault s.temps session number)
 
 -- ---- TMPWRITE
 
-abbrev pub writes_unless : State → (session xid : ℕ) → TempPiece → Option Temp → Option Status → State × Outs
+abbrev pub writes_unless : State → (session xid : ℕ) → TempPiece → Option Temp → Option Status → State × ServerStep
 writes_unless s session xid a (Some t) None = answers (record s { temps = with_temp s.temps (with_piece t a.offset a.bytes) }) session xid (lb.TmpWriteAnswer (Done tt))
 writes_unless s session xid a t fault = answers s session xid (lb.TmpWriteAnswer (done_unless fault))
 
 -- a piece is put into a temporary file
-abbrev pub writes : State → (session xid : ℕ) → TempPiece → Option Temp → State × Outs
+abbrev pub writes : State → (session xid : ℕ) → TempPiece → Option Temp → State × ServerStep
 writes s session xid a t = writes_unless s session xid a t (piece_fault t a.offset (length a.bytes))
 
 -- ---- CONDWRITE
@@ -97,34 +98,34 @@ cond_fault a t =
     if a.count == 0 || nat_lt cond_most a.count then status.Inval
     else unwrap_or (piece_fault t a.offset a.count) status.HashNotFound
 
-abbrev pub conds : State → (session xid : ℕ) → CondPiece → Option Temp → State × Outs
-conds s session xid a t = answers s session xid (lb.CondWriteAnswer (Failed (cond_fault a t) tt))
+abbrev pub names : State → (session xid : ℕ) → CondPiece → Option Temp → State × ServerStep
+names s session xid a t = answers s session xid (lb.CondWriteAnswer (Failed (cond_fault a t) tt))
 
 -- ---- COMMITTMP
 
 -- a session has at most one change that waits
-abbrev pub has_wait : List Change → (session : ℕ) → Bool
-has_wait waits session = list_any (λ c. c.session == session) waits
+abbrev pub has_waiting : List Change → (session : ℕ) → Bool
+has_waiting waiting session = list_any (λ c. c.session == session) waiting
 
 -- whether a change with so many bytes has no place: by the changes ever made, or by the bytes of the tree
 abbrev pub is_full : State → (size : ℕ) → Bool
-is_full s size = nat_lt changes_most (s.changes + length s.waits + 1) || nat_lt tree_most (held s + size)
+is_full s size = nat_lt changes_most (s.changes + length s.waiting + 1) || nat_lt tree_most (bytes_held s + size)
 
-abbrev pub commits_whole : State → (session xid id : ℕ) → Option (List ℕ) → State × Outs
+abbrev pub commits_whole : State → (session xid id : ℕ) → Option (List ℕ) → State × ServerStep
 commits_whole s session xid id None = answers s session xid (lb.CommitTmpAnswer (Failed status.Inval tt))
 commits_whole s session xid id (Some content) =
-    if has_wait s.waits session then answers s session xid (lb.CommitTmpAnswer (Failed status.Jukebox tt))
+    if has_waiting s.waiting session then answers s session xid (lb.CommitTmpAnswer (Failed status.Jukebox tt))
     else if is_full s (length content) then answers s session xid (lb.CommitTmpAnswer (Failed status.NoSpc tt))
-    else (record s { waits = s.waits ++ record { session = session; xid = xid; file = id; content = content } ∷ [] }, outs [])
+    else (record s { waiting = s.waiting ++ record { session = session; xid = xid; file = id; content = content } ∷ [] }, sends [])
 
 -- the file that the handle names is to get the content of a temporary file, which has ended
-abbrev pub commits_to : State → (session xid size : ℕ) → Temp → Result Node Status → State × Outs
+abbrev pub commits_to : State → (session xid size : ℕ) → Temp → Result Node Status → State × ServerStep
 commits_to s session xid size t (Err e) = answers s session xid (lb.CommitTmpAnswer (Failed e tt))
 commits_to s session xid size t (Ok root) = answers s session xid (lb.CommitTmpAnswer (Failed status.IsDir tt))
 commits_to s session xid size t (Ok (file f)) = if nat_lt size_most size then answers s session xid (lb.CommitTmpAnswer (Failed status.FBig tt)) else commits_whole s session xid f.id (assembled t size)
 
 -- Whatever is answered, the temporary file ends, if there was one.
-abbrev pub commits : State → (session xid : ℕ) → Commit → Option Temp → State × Outs
+abbrev pub commits : State → (session xid : ℕ) → Commit → Option Temp → State × ServerStep
 commits s session xid a None = answers s session xid (lb.CommitTmpAnswer (Failed status.BadFd tt))
 commits s session xid a (Some t) = commits_to (record s { temps = without_temp s.temps session a.fd }) session xid a.size t (node_of s.files a.handle)
 
@@ -132,11 +133,11 @@ commits s session xid a (Some t) = commits_to (record s { temps = without_temp s
 
 -- the server's moment is the greater of the reading and the last moment used
 abbrev pub at : State → ℕ → State
-at s now = record s { last = max s.last now }
+at s now = record s { moment = max s.moment now }
 
 -- what is told of a change that has left the queue
-abbrev pub told_change : Change → Answer Committed Unit → Outs
-told_change c a = record { send = record { session = c.session; message = message.Answer c.xid (body.Lb (lb.CommitTmpAnswer a)) } ∷ []; told = told.Settled c.session; missed = false }
+abbrev pub told_change : Change → (entries : ℕ) → Answer Committed Unit → ServerStep
+told_change c entries a = record { send = record { session = c.session; message = message.Answer c.xid (body.Lb (lb.CommitTmpAnswer a)) } ∷ []; told = told.Settled c.session c.xid; entries = entries; missed = false }
 
 abbrev pub changed : File → List ℕ → File
 changed f content = record f { version = f.version + 1; content = content }
@@ -145,11 +146,11 @@ abbrev pub entry_of : Change → File → Entry
 entry_of c f = record { file = f.id; version = f.version + 1; kind = entry.Commit; len = length c.content; sha1 = sha1 c.content; session = c.session }
 
 -- a change of a file, which may be gone
-abbrev pub makes_change : State → Change → Option File → State × Outs
-makes_change s c None = (s, told_change c (Failed status.Stale tt))
-makes_change s c (Some f) = (record s { files = with_file s.files (changed f c.content); changes = s.changes + 1; journal = s.journal ++ entry_of c f ∷ [] }, told_change c (Done (record { version = f.version + 1; term = 0 })))
+abbrev pub makes_change : State → Change → Option File → State × ServerStep
+makes_change s c None = (s, told_change c 0 (Failed status.Stale tt))
+makes_change s c (Some f) = (record s { files = with_file s.files (changed f c.content); changes = s.changes + 1; journal = s.journal ++ entry_of c f ∷ [] }, told_change c 1 (Done (record { version = f.version + 1; term = 0 })))
 
 -- The change that came first is made: no lease stands, so nothing blocks it. Where none waits nothing changes.
-abbrev pub settles : State → ℕ → List Change → State × Outs
-settles s now [] = (s, record { send = []; told = told.NotReady; missed = false })
-settles s now (c ∷ cs) = makes_change (at (record s { waits = cs }) now) c (file_at s.files c.file)
+abbrev pub settles : State → ℕ → List Change → State × ServerStep
+settles s now [] = (s, record { send = []; told = told.NotReady; entries = 0; missed = false })
+settles s now (c ∷ cs) = makes_change (at (record s { waiting = cs }) now) c (file_at s.files c.file)

@@ -1,8 +1,11 @@
 pub mod State
 pub mod Temps
+pub mod Pieces
+pub mod Chunks
 pub mod Answers
 pub mod Closing
 pub mod Asking
 pub mod Step
 pub mod View
+pub mod Rows
 pub mod Hashed

@@ -3,16 +3,10 @@ use Rattle.std.specs.Prelude.{ℕ, ◌+◌, List, [], ◌∷◌, length, Option}
 use Rattle.std.specs.BTreeMap.{insert_entry, is_at}
 use Rattle.std.specs.Map.{lookup}
 use Rattle.std.specs.Ordering.{nat_cmp}
+pub use Rattle.server_core.specs.declared.change.Change.{Change}
 use Rattle.server_core.specs.declared.file.File.{File}
 use Rattle.server_core.specs.declared.journal.Entry.{Entry}
 use Rattle.server_core.specs.Temps.{Temp}
-
--- a change that waits to be made: a COMMITTMP of a session, under this xid, that gives the file this content
-pub record Change : Type 0 where
-  pub session : ℕ
-  pub xid : ℕ
-  pub file : ℕ
-  pub content : List ℕ
 
 pub record State : Type 0 where
   -- the files of the root, each with its id, by rising id
@@ -24,17 +18,17 @@ pub record State : Type 0 where
   -- the temporary files, each with its key, by rising key
   pub temps : List (ℕ × Temp)
   -- the changes that wait, the one that came first before the others
-  pub waits : List Change
+  pub waiting : List Change
   -- the sessions that stand
   pub sessions : List ℕ
   -- how many sessions were ever made
-  pub made : ℕ
+  pub sessions_made : ℕ
   -- the last moment used, in milliseconds of the server's clock
-  pub last : ℕ
+  pub moment : ℕ
 
 -- a server with no file and no session
 abbrev pub empty : State
-empty = record { files = []; changes = 0; journal = []; temps = []; waits = []; sessions = []; made = 0; last = 0 }
+empty = record { files = []; changes = 0; journal = []; temps = []; waiting = []; sessions = []; sessions_made = 0; moment = 0 }
 
 -- the file with the id
 abbrev pub file_at : List (ℕ × File) → ℕ → Option File
@@ -51,10 +45,10 @@ abbrev pub files_size : List (ℕ × File) → ℕ
 files_size [] = 0
 files_size (e ∷ es) = length e.1.content + files_size es
 
-abbrev pub waits_size : List Change → ℕ
-waits_size [] = 0
-waits_size (c ∷ cs) = length c.content + waits_size cs
+abbrev pub waiting_size : List Change → ℕ
+waiting_size [] = 0
+waiting_size (c ∷ cs) = length c.content + waiting_size cs
 
 -- the bytes of the tree: its contents, and those of the changes that wait
-abbrev pub held : State → ℕ
-held s = files_size s.files + waits_size s.waits
+abbrev pub bytes_held : State → ℕ
+bytes_held s = files_size s.files + waiting_size s.waiting

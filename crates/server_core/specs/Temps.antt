@@ -1,5 +1,5 @@
 -- Temporary files.
-use Rattle.std.specs.Prelude.{◌≡◌, ℕ, ◌+◌, ◌*◌, List, [], ◌∷◌, ◌++◌, length, filter, Option, Some, None, Bool, ◌&&◌, ◌==◌, nat_lt, if◌then◌else◌}
+use Rattle.std.specs.Prelude.{◌≡◌, ℕ, ◌+◌, ◌*◌, ◌<◌, List, [], ◌∷◌, ◌++◌, length, filter, Option, Some, None, Bool, ◌&&◌, ◌==◌, nat_lt, if◌then◌else◌}
 use Rattle.limits.specs.declared.TheConstants.{FILE_MOST}
 use Rattle.std.specs.BTreeMap.{insert_entry, is_at}
 use Rattle.std.specs.List.{list_any}
@@ -12,28 +12,28 @@ use Rattle.xdr_codec.specs.declared.status.Status.TheVariants as status
 -- a temporary file: pieces under a number that the client picked, within its session
 pub record Temp : Type 0 where
   pub session : ℕ
-  pub fd : ℕ
+  pub number : ℕ
   -- the file that it was made for
   pub target : ℕ
   -- the bytes of each piece, by the place of its first, rising
   pub pieces : List (ℕ × List ℕ)
 
 -- a temporary file's key: its session, and its number of 32 bits behind it
-abbrev pub key_of : (session fd : ℕ) → ℕ
-key_of session fd = session * 4294967296 + fd
+abbrev pub key_of : (session number : ℕ) → ℕ
+key_of session number = session * 4294967296 + number
 
-abbrev pub temp_at : List (ℕ × Temp) → (session fd : ℕ) → Option Temp
-temp_at temps session fd = lookup (is_at (nat_cmp (key_of session fd))) temps
+abbrev pub temp_at : List (ℕ × Temp) → (session number : ℕ) → Option Temp
+temp_at temps session number = lookup (is_at (nat_cmp (key_of session number))) temps
 
 abbrev pub with_temp : List (ℕ × Temp) → Temp → List (ℕ × Temp)
-with_temp temps t = insert_entry nat_cmp temps (key_of t.session t.fd) t
+with_temp temps t = insert_entry nat_cmp temps (key_of t.session t.number) t
 
-abbrev pub without_temp : List (ℕ × Temp) → (session fd : ℕ) → List (ℕ × Temp)
-without_temp temps session fd = remove_entry (is_at (nat_cmp (key_of session fd))) temps
+abbrev pub without_temp : List (ℕ × Temp) → (session number : ℕ) → List (ℕ × Temp)
+without_temp temps session number = remove_entry (is_at (nat_cmp (key_of session number))) temps
 
--- a temporary file stands under its own key
+-- a temporary file stands under its own key, and its number has 32 bits
 abbrev pub IsTempKeyed : ℕ × Temp → Type 0
-IsTempKeyed e = key_of e.1.session e.1.fd ≡ e.0
+IsTempKeyed e = (key_of e.1.session e.1.number ≡ e.0) × (e.1.number < 4294967296)
 
 -- how many temporary files a session has
 abbrev pub temps_of : List (ℕ × Temp) → (session : ℕ) → ℕ

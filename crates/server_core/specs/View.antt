@@ -3,18 +3,18 @@ use Rattle.std.specs.Prelude.{◌≡◌, ℕ, ◌+◌, ◌≤◌, length, vec_ca
 use Rattle.std.specs.List.{All}
 use Rattle.std.specs.Map.{values_of}
 use Rattle.server_core.specs.declared.file.File.{File}
-use Rattle.server_core.specs.declared.inner.Inner.{Inner}
+use Rattle.server_core.specs.declared.state.ServerState.{ServerState}
 use Rattle.server_core.specs.Closing.{changes_most}
-use Rattle.server_core.specs.State.{State, Change, held}
+use Rattle.server_core.specs.State.{State, Change, bytes_held}
 use Rattle.server_core.specs.Step.{IsFileBounded}
 use Rattle.server_core.specs.Temps.{size_most, IsTempKeyed}
 
-abbrev pub state_of : Inner → State
-state_of s = record { files = s.files.entries; changes = s.changes; journal = s.journal.items; temps = s.temps.entries; waits = s.waits.items; sessions = s.sessions.items; made = s.made; last = s.last }
+abbrev pub state_of : ServerState → State
+state_of s = record { files = s.files.entries; changes = s.changes; journal = s.journal.items; temps = s.temps.entries; waiting = s.waiting.items; sessions = s.sessions.items; sessions_made = s.sessions_made; moment = s.moment }
 
 -- a content that waits is within the limit of a file
-abbrev pub IsWaitBounded : Change → Type 0
-IsWaitBounded c = length c.content ≤ size_most
+abbrev pub IsChangeBounded : Change → Type 0
+IsChangeBounded c = length c.content ≤ size_most
 
 -- no file has a version above the number of changes
 abbrev pub IsVersioned : ℕ → File → Type 0
@@ -24,28 +24,28 @@ IsVersioned changes f = f.version ≤ changes
 abbrev pub IsFileKeyed : ℕ × File → Type 0
 IsFileKeyed e = e.1.id ≡ e.0
 
-pub record IsBounded (s : Inner) : Type 0 where
+pub record IsBounded (s : ServerState) : Type 0 where
   -- each file is within its limits
   pub files : All IsFileBounded (values_of s.files.entries)
   pub versions : All (IsVersioned s.changes) (values_of s.files.entries)
   pub file_keys : All IsFileKeyed s.files.entries
   pub temp_keys : All IsTempKeyed s.temps.entries
   -- each change that waits has its place among those that may ever be made
-  pub changes : s.changes + length s.waits.items ≤ changes_most
-  pub waits : All IsWaitBounded s.waits.items
+  pub changes : s.changes + length s.waiting.items ≤ changes_most
+  pub waiting : All IsChangeBounded s.waiting.items
   -- the bytes of the tree are counted
-  pub held : s.held ≡ held (state_of s)
+  pub bytes_held : s.bytes_held ≡ bytes_held (state_of s)
   -- the journal has room for the entry of each change that waits
-  pub room : length s.journal.items + length s.waits.items ≤ vec_capacity s.journal
+  pub room : length s.journal.items + length s.waiting.items ≤ vec_capacity s.journal
 
 -- the same while a change has left the queue and isn't made yet: its bytes are counted, and it has its place
-pub record IsSettling (s : Inner) (c : Change) : Type 0 where
+pub record IsSettling (s : ServerState) (c : Change) : Type 0 where
   pub files : All IsFileBounded (values_of s.files.entries)
   pub versions : All (IsVersioned s.changes) (values_of s.files.entries)
   pub file_keys : All IsFileKeyed s.files.entries
   pub temp_keys : All IsTempKeyed s.temps.entries
-  pub changes : s.changes + length s.waits.items + 1 ≤ changes_most
-  pub waits : All IsWaitBounded s.waits.items
-  pub size : IsWaitBounded c
-  pub held : s.held ≡ held (state_of s) + length c.content
-  pub room : length s.journal.items + length s.waits.items + 1 ≤ vec_capacity s.journal
+  pub changes : s.changes + length s.waiting.items + 1 ≤ changes_most
+  pub waiting : All IsChangeBounded s.waiting.items
+  pub size : IsChangeBounded c
+  pub bytes_held : s.bytes_held ≡ bytes_held (state_of s) + length c.content
+  pub room : length s.journal.items + length s.waiting.items + 1 ≤ vec_capacity s.journal

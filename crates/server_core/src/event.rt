@@ -1,6 +1,6 @@
-//! What happens to a server, and what it does then.
+//! What happens to a server, and what it does then. `specs/Step.antt` says what it does.
 
-use lb_base::items::Items;
+use send_list::SendList;
 use wire::message::Message;
 
 /// What happens to a server.
@@ -40,18 +40,24 @@ pub enum Told {
     Session(u32),
     /// No further session can stand.
     Full,
-    /// The session whose change left the queue: it was made, or its file is gone.
-    Settled(u32),
+    /// There was no memory for a further session.
+    Memory,
+    /// A change left the queue: the session that asked for it, under this xid. It was made, or its
+    /// file is gone.
+    Settled { session: u32, xid: u32 },
     /// No change waits that can be made.
     NotReady,
 }
 
 /// What a server does in one step.
 #[derive(Drop)]
-pub struct Outs {
+pub struct ServerStep {
     /// The messages that it sends, in order.
-    pub send: Items<Sent>,
+    pub send: SendList<Sent>,
     pub told: Told,
-    /// Whether memory ran out: then nothing else was done.
+    /// How many entries it adds to the journal.
+    pub entries: u32,
+    /// Whether memory ran out. A call is then answered SYSTEM_ERR, a connection is told so, and
+    /// nothing else is done.
     pub missed: bool,
 }

@@ -1,15 +1,14 @@
-//! What goes with a session whose connection is lost.
+//! What goes with a session whose connection is lost. `hangs` in `specs/Step.antt` says it.
 
 ghost use Rattle.std.specs.Prelude.{◌≡◌, ◌+◌, ◌<◌, ◌^◌, ◌==◌, filter, not, false};
-ghost use Rattle.server_core.specs.State.{waits_size};
+ghost use Rattle.server_core.specs.State.{waiting_size};
 ghost use Rattle.server_core.specs.Step.{stands, hangs, hangs_if};
 ghost use Rattle.server_core.specs.View.{state_of, IsBounded};
 
 use crate::change::Change;
-use crate::event::Outs;
-use crate::inner::{Inner, stands};
-use crate::outs::many;
-use crate::temps;
+use crate::event::ServerStep;
+use crate::state::{ServerState, stands};
+use crate::{steps, temps};
 use std::alloc::Global;
 
 /// The session no longer stands.
@@ -20,29 +19,29 @@ fn leave(sessions: &mut Vec<u32>, session: u32)
 }
 
 /// The bytes of the session's changes that wait.
-fn bytes_of(waits: &Vec<Change>, session: u32) -> u64
-    requires { waits_size waits.now.items < 2 ^ 64 }
-    ensures { waits_size (filter (λ c. not (c.session == session)) waits.now.items) + result ≡ waits_size waits.now.items }
+fn bytes_of(waiting: &Vec<Change>, session: u32) -> u64
+    requires { waiting_size waiting.now.items < 2 ^ 64 }
+    ensures { waiting_size (filter (λ c. not (c.session == session)) waiting.now.items) + result ≡ waiting_size waiting.now.items }
 {
     let mut bytes = 0;
-    for change in waits {
-        if change.session() == session {
-            bytes += change.content().len() as u64;
+    for change in waiting {
+        if change.session == session {
+            bytes += change.content.len() as u64;
         }
     }
     bytes
 }
 
 /// The session's changes wait no longer.
-fn withdraw(waits: &mut Vec<Change>, session: u32)
-    ensures { waits.new.items ≡ filter (λ c. not (c.session == session)) waits.old.items }
+fn withdraw(waiting: &mut Vec<Change>, session: u32)
+    ensures { waiting.new.items ≡ filter (λ c. not (c.session == session)) waiting.old.items }
 {
-    waits.retain(|change| change.session() != session);
+    waiting.retain(|change| change.session != session);
 }
 
-impl Inner {
+impl ServerState {
     /// A session's connection is lost. It takes no memory.
-    pub fn hang(&mut self, alloc: Global, session: u32) -> Outs
+    pub fn hang(&mut self, alloc: Global, session: u32) -> ServerStep
         requires { IsBounded self.old }
         ensures exact { hangs_if (state_of self.old) (stands (state_of self.old) session) session ≡ (state_of self.new, result) }
         ensures done { result.missed ≡ false }
@@ -51,7 +50,7 @@ impl Inner {
         if stands(&self.sessions, session) {
             self.let_go(session);
         }
-        many(Vec::new(alloc))
+        steps::nothing(alloc)
     }
 
     /// A session goes, and with it its temporary files, and its change that waits.
@@ -61,10 +60,10 @@ impl Inner {
         ensures bounded { IsBounded self.new }
     {
         // read first, since what waits is bounded by it
-        let held = self.held;
-        let gone = bytes_of(&self.waits, session);
-        self.held = held - gone;
-        withdraw(&mut self.waits, session);
+        let bytes_held = self.bytes_held;
+        let gone = bytes_of(&self.waiting, session);
+        self.bytes_held = bytes_held - gone;
+        withdraw(&mut self.waiting, session);
         temps::end_all(&mut self.temps, session);
         leave(&mut self.sessions, session);
     }

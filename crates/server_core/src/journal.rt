@@ -1,4 +1,5 @@
-//! The journal: the changes that were made, in order.
+//! The journal: the changes that were made, in order. `entry_of` in `specs/Closing.antt` says what an
+//! entry tells.
 
 use xdr_codec::digest::Digest;
 

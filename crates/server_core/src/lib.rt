@@ -6,17 +6,17 @@
 
 mod answers;
 mod change;
+pub mod chunked;
 mod closing;
 pub mod event;
 pub mod file;
 mod hanging;
-mod inner;
+mod hashes;
 pub mod journal;
-mod outs;
 pub mod server;
 mod settling;
+mod state;
+mod steps;
 mod temp;
 mod temps;
-#[cfg(test)]
-mod tests;
 mod tree;

@@ -1,15 +1,15 @@
-//! The server.
+//! The server. `specs/State.antt` says what it is, and `specs/Step.antt` what it does.
 
-ghost use Rattle.std.specs.Prelude.{◌≡◌, ◌<◌, ◌^◌, [], false, true, OnOk, OnErr};
+ghost use Rattle.std.specs.Prelude.{◌≡◌, ◌<◌, ◌^◌, [], length, false, true, OnOk, OnErr};
+ghost use Rattle.server_core.specs.Closing.{has_waiting};
 ghost use Rattle.server_core.specs.State.{empty};
-ghost use Rattle.server_core.specs.Step.{server_step, opens_with, IsFileBounded, IsTimed, missed_at, MayMiss};
-ghost use Rattle.server_core.specs.declared.event.Told.TheVariants as told;
+ghost use Rattle.server_core.specs.Step.{server_step, opens_with, IsFileBounded, IsTimed, missed_at, missed_step, MayMiss};
 
-use crate::event::{Event, Outs, Told};
+use crate::closing::has_waiting;
+use crate::event::{Event, ServerStep};
 use crate::file::File;
-use crate::inner::Inner;
 use crate::journal::Entry;
-use lb_base::items::Items;
+use crate::state::ServerState;
 use std::alloc::{AllocError, Global};
 use std::collections::BTreeMap;
 use std::marker::Model;
@@ -17,7 +17,7 @@ use std::marker::Model;
 /// A server of a tree of files.
 #[derive(Drop)]
 pub struct Server {
-    inner: Inner,
+    state: ServerState,
 }
 
 impl Model for Server {
@@ -27,9 +27,9 @@ impl Model for Server {
 
     ghost use Rattle.server_core.specs.View.{state_of, IsBounded};
 
-    ghost view = { λ s. state_of s.inner };
+    ghost view = { λ s. state_of s.state };
 
-    ghost invariant = { λ s. IsBounded s.inner };
+    ghost invariant = { λ s. IsBounded s.state };
 }
 
 impl Server {
@@ -38,16 +38,16 @@ impl Server {
         ensures { result ≡ empty }
     {
         Server {
-            inner: Inner {
+            state: ServerState {
                 files: BTreeMap::new(alloc),
                 changes: 0,
                 journal: Vec::new(alloc),
                 temps: BTreeMap::new(alloc),
-                waits: Vec::new(alloc),
-                held: 0,
+                waiting: Vec::new(alloc),
+                bytes_held: 0,
                 sessions: Vec::new(alloc),
-                made: 0,
-                last: 0,
+                sessions_made: 0,
+                moment: 0,
             },
         }
     }
@@ -57,37 +57,52 @@ impl Server {
     /// counts too, and the server then stays as it was.
     pub fn add_file(&mut self, file: File) -> Result<(), AllocError>
         requires file { IsFileBounded file }
-        requires quiet { self.old.waits ≡ [] }
+        requires quiet { self.old.waiting ≡ [] }
         ensures ok { OnOk result (self.new ≡ opens_with self.old file) }
         ensures err { OnErr result (self.new ≡ self.old) }
     {
-        self.inner.add_file(file)
+        self.state.add_file(file)
     }
 
     /// The changes that were made, the oldest first.
     pub fn journal(&self) -> &[Entry]
         ensures { result.now ≡ self.now.journal }
     {
-        self.inner.journal.as_slice()
+        self.state.journal.as_slice()
     }
 
-    /// One event, whose reading of the clock is below 2^63. Where memory runs out nothing is sent
-    /// or told, and all stays as it was, but for the moment of the reading; making a change, or
-    /// losing a connection, never meets that.
-    pub fn step(&mut self, alloc: Global, event: Event) -> Outs
+    /// How many changes were ever made, those that an opening tree tells of included.
+    pub fn changes(&self) -> u64
+        ensures { result ≡ self.now.changes }
+    {
+        self.state.changes
+    }
+
+    /// Whether a change of the session waits.
+    pub fn has_waiting(&self, session: u32) -> bool
+        ensures { result ≡ has_waiting self.now.waiting session }
+    {
+        has_waiting(&self.state.waiting, session)
+    }
+
+    /// How many sessions stand.
+    pub fn standing(&self) -> usize
+        ensures { result ≡ length self.now.sessions }
+    {
+        self.state.sessions.len()
+    }
+
+    /// One event, whose reading of the clock is below 2^63. Where memory is wanting the step says
+    /// so: a call is answered SYSTEM_ERR and a connection told so, and all stays as it was, but for
+    /// the moment of the reading. Making a change, or losing a connection, never meets that.
+    pub fn step(&mut self, alloc: Global, event: Event) -> ServerStep
         requires { IsTimed event }
         ensures exact { result.missed ≡ false → server_step self.old event ≡ (self.new, result) }
         ensures missed { result.missed ≡ true → self.new ≡ missed_at self.old event }
-        ensures sure { result.missed ≡ true → MayMiss event }
-        ensures silent { result.missed ≡ true → result ≡ record { send = []; told = told.Nothing; missed = true } }
+        ensures said { result.missed ≡ true → result ≡ missed_step event }
+        ensures sure { result.missed ≡ true → MayMiss self.old event }
     {
-        match self.inner.step(alloc, event) {
-            Ok(outs) => outs,
-            Err(_) => Outs {
-                send: Items::new(alloc),
-                told: Told::Nothing,
-                missed: true,
-            },
-        }
+        let step = self.state.step(alloc, event);
+        step
     }
 }

@@ -1,4 +1,4 @@
-//! The files of the tree by their ids.
+//! The files of the tree by their ids. `specs/State.antt` says what one more makes of them.
 
 ghost use Rattle.std.specs.Prelude.{◌≡◌, ◌+◌, length, IfOk, OnOk, OnErr, IsSome};
 ghost use Rattle.std.specs.List.{All};

@@ -1,0 +1,13 @@
+use Rattle.std.proofs.Common.{List, sym, subst}
+use Rattle.std.specs.List.{All}
+use Rattle.chunk_cut.specs.declared.chunk.Chunk.{Chunk}
+use Rattle.server_core.specs.Chunks.{IsWithin}
+use Rattle.server_core.specs.Temps.{size_most}
+use Rattle.server_core.proofs.ChunkRows.{told_within}
+use Rattle.server_core.proofs.hashes.hashes_of.Goals as goal
+
+pub pairs_of-requires : goal.pairs_of-requires
+pairs_of-requires c = subst (λ (l : List Chunk). All (IsWithin size_most) l) (sym c.told_chunks-told.ensures) (told_within c.args.file.now.content c.args.range.now size_most c.requires.size)
+
+pub end_of-requires : goal.end_of-requires
+end_of-requires c = subst (λ (l : List Chunk). All (IsWithin size_most) l) (sym c.told_chunks-told.ensures) (told_within c.args.file.now.content c.args.range.now size_most c.requires.size)
