@@ -1,14 +1,18 @@
--- The bound on what is open, after a file is opened or closed.
-use Rattle.std.proofs.Common.{ℕ, ◌≤◌, List, length}
+-- Bounds on what is open, and on chunks.
+use Rattle.std.proofs.Common.{◌≡◌, ℕ, ◌≤◌, ◌<◌, List, length, subst, arith}
+use Rattle.std.specs.Prelude.{slice_get, Some}
 use Rattle.std.specs.BTreeMap.{is_at}
 use Rattle.std.specs.List.{All}
 use Rattle.std.specs.Map.{values_of, remove_entry}
 use Rattle.std.specs.Ordering.{nat_cmp}
+use Rattle.std.proofs.lemmas.List.Elements.{All-get_or}
 use Rattle.std.proofs.lemmas.Map.Views.{All-values-insert_entry, All-map-remove_entry}
+use Rattle.std.proofs.lemmas.Option.{slice_get_within, get_or_from_slice_get}
+use Rattle.chunk_cut.specs.declared.chunk.Chunk.{Chunk}
 use Rattle.open_close.specs.declared.task.Local.{Local}
 use Rattle.open_close.specs.Shape.{file_limit}
 use Rattle.open_close.specs.State.{with_local}
-use Rattle.open_close.specs.View.{IsLocalBounded}
+use Rattle.open_close.specs.View.{IsChunkBounded, IsLocalBounded}
 
 -- one more is open
 pub locals_with : (es : List (ℕ × Local)) (k : ℕ) (v : Local) → All IsLocalBounded (values_of es) → length v.bytes ≤ file_limit → All IsLocalBounded (values_of (with_local es k v))
@@ -17,3 +21,9 @@ locals_with es k v a b = All-values-insert_entry nat_cmp k v IsLocalBounded es a
 -- one less is open
 pub locals_without : (es : List (ℕ × Local)) (k : ℕ) → All IsLocalBounded (values_of es) → All IsLocalBounded (values_of (remove_entry (is_at (nat_cmp k)) es))
 locals_without es k a = All-map-remove_entry (is_at (nat_cmp k)) (λ e. e.1) IsLocalBounded es a
+
+-- the length of a chunk of the list has 32 bits
+pub chunk_bounded : (cs : List Chunk) (i : ℕ) (c : Chunk) → All IsChunkBounded cs → slice_get cs i ≡ Some c → c.len < 4294967296
+chunk_bounded cs i c a e =
+    let h : IsChunkBounded c = subst IsChunkBounded (get_or_from_slice_get cs i c c e) (All-get_or IsChunkBounded cs i c (slice_get_within cs i c e) a) in
+    omega (arith, h)

@@ -1,6 +1,10 @@
-pub mod Locals
 pub mod Bounds
-pub mod Calls
-pub mod Goes
-pub mod Taken
+pub mod Cuts
 pub mod Edits
+pub mod Ends
+mod Going
+pub mod Locals
+pub mod Pending
+pub mod Pieces
+pub mod Sending
+pub mod Slots

@@ -1,40 +1,45 @@
 -- The byte lists whose digests the client compares with a chunk's name, or sends as one.
-use Rattle.std.specs.Prelude.{ℕ, List, [], ◌∷◌, ◌++◌, length, take, drop, Option, Some, None, Result, Ok, Err, Bool, true, false, ◌==◌}
+use Rattle.std.specs.Prelude.{ℕ, List, [], ◌∷◌, ◌++◌, length, take, drop, slice_get, Option, Some, None, Result, Ok, Err, Bool, true, false, ◌==◌}
+use Rattle.chunk_cut.specs.declared.chunk.Chunk.{Chunk}
 use Rattle.xdr_codec.specs.declared.answer.Answer.TheVariants.{Done}
-use Rattle.hash_calls.specs.declared.call.Pair.{Pair}
 use Rattle.hash_calls.specs.declared.message.Lb.TheVariants as lb
-use Rattle.nfs3_calls.specs.declared.call.Piece.{Piece}
 use Rattle.nfs3_calls.specs.declared.message.Nfs.TheVariants as nfs
 use Rattle.wire.specs.declared.message.Body.{Body}
 use Rattle.wire.specs.declared.message.Body.TheVariants as body
 use Rattle.wire.specs.declared.message.Message.{Message}
 use Rattle.wire.specs.declared.message.Message.TheVariants as message
 use Rattle.wire.specs.declared.fault.WireFault.{WireFault}
+use Rattle.open_close.specs.declared.task.ReadCall.{ReadCall}
 use Rattle.open_close.specs.declared.task.Stage.{Stage}
 use Rattle.open_close.specs.declared.task.Stage.TheVariants as stage
 use Rattle.open_close.specs.declared.task.Task.{Task}
-use Rattle.open_close.specs.State.{State, local_bytes}
-use Rattle.open_close.specs.Step.{waits_for, got_step}
+use Rattle.open_close.specs.Opening.{read_at}
+use Rattle.open_close.specs.State.{State, local_bytes, pending, has_call}
+use Rattle.open_close.specs.Step.{got_step}
 
 abbrev pub compared_if : Bool → List ℕ → List (List ℕ)
 compared_if true bytes = bytes ∷ []
 compared_if false bytes = []
 
--- the bytes of a READ whose length is the wanted chunk's
-abbrev pub compared : List Pair → Piece → List (List ℕ)
-compared [] piece = []
-compared (p ∷ ps) piece = compared_if (length piece.bytes == p.size) piece.bytes
+-- the bytes of a READ whose length is that of the chunk that it asked for
+abbrev pub compared : Option Chunk → List ℕ → List (List ℕ)
+compared None bytes = []
+compared (Some c) bytes = compared_if (length bytes == c.len) bytes
 
-abbrev pub took_compared : Stage → Body → List (List ℕ)
-took_compared (stage.Reading f) (body.Nfs (nfs.ReadAnswer (Done piece))) = compared f.left piece
-took_compared _ b = []
+abbrev pub compared_at : List Chunk → Option ReadCall → List ℕ → List (List ℕ)
+compared_at chunks None bytes = []
+compared_at chunks (Some c) bytes = compared (slice_get chunks c.index) bytes
 
-abbrev pub answer_compared : Task → Body → Bool → List (List ℕ)
-answer_compared t b true = took_compared t.stage b
-answer_compared t b false = []
+abbrev pub took_compared : Stage → (xid : ℕ) → Body → List (List ℕ)
+took_compared (stage.Reading f) xid (body.Nfs (nfs.ReadAnswer (Done piece))) = compared_at f.chunks (read_at f.under xid) piece.bytes
+took_compared _ xid b = []
+
+abbrev pub answer_compared : Task → (xid : ℕ) → Body → (is_own : Bool) → List (List ℕ)
+answer_compared t xid b true = took_compared t.stage xid b
+answer_compared t xid b false = []
 
 abbrev pub message_compared : Option Task → Message → List (List ℕ)
-message_compared (Some t) (message.Answer xid b) = answer_compared t b (waits_for t.stage xid)
+message_compared (Some t) (message.Answer xid b) = answer_compared t xid b (has_call (pending (Some t)) xid)
 message_compared _ m = []
 
 -- the part of the file under way that a CONDWRITE names
@@ -52,6 +57,6 @@ task_named s None ms = []
 task_named s (Some t) ms = named (local_bytes s.opened t.file) ms
 
 -- what came was compared, and what goes out is named
-abbrev pub client_hashed : State → Result Message WireFault → List (List ℕ)
-client_hashed s (Ok m) = message_compared s.task m ++ task_named s s.task (got_step s (Ok m)).1.send
-client_hashed s (Err e) = []
+abbrev pub client_hashed : State → Result Message WireFault → (now : ℕ) → List (List ℕ)
+client_hashed s (Ok m) now = message_compared s.task m ++ task_named s s.task (got_step s (Ok m) now).1.send
+client_hashed s (Err e) now = []

@@ -1,8 +1,10 @@
-pub mod Sends
 pub mod State
 pub mod Shape
 pub mod Local
+pub mod Counting
+pub mod Opening
 pub mod Closing
 pub mod Step
-pub mod View
 pub mod Hashed
+pub mod View
+pub mod Rows

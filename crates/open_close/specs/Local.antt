@@ -1,9 +1,10 @@
 -- What write, trunc and read make of an open file's local content.
 use Rattle.std.specs.Prelude.{ℕ, ◌+◌, ◌-◌, List, [], ◌∷◌, ◌++◌, length, take, drop, replicate, max}
+use Rattle.limits.specs.declared.TheConstants.{FILE_MOST}
 
 -- no local content is longer, in bytes
 abbrev pub local_most : ℕ
-local_most = 2048
+local_most = FILE_MOST
 
 -- how long a content is after a write of so many bytes, which are some
 abbrev pub written_size : (size offset count : ℕ) → ℕ

@@ -1,8 +1,9 @@
 -- What a client is.
-use Rattle.std.specs.Prelude.{ℕ, List, [], ◌∷◌, map, filter, not, Option, Some, None, Bool, false, option_map, unwrap_or}
+use Rattle.std.specs.Prelude.{ℕ, List, [], ◌∷◌, ◌++◌, map, filter, not, Option, Some, None, Bool, false, ◌==◌, option_map, unwrap_or}
 use Rattle.std.specs.BTreeMap.{insert_entry, is_at}
-use Rattle.std.specs.Map.{lookup, keys_of}
+use Rattle.std.specs.List.{list_any}
 use Rattle.std.specs.List.Sorted.{IsStrictlySortedBy}
+use Rattle.std.specs.Map.{lookup, keys_of}
 use Rattle.std.specs.Ordering.{nat_cmp}
 use Rattle.hash_calls.specs.declared.message.LbProc.{LbProc}
 use Rattle.hash_calls.specs.declared.message.LbProc.TheVariants as lb_proc
@@ -13,7 +14,8 @@ use Rattle.wire.specs.declared.message.Waiting.{Waiting}
 use Rattle.wire.specs.declared.message.Side.TheVariants as side
 use Rattle.open_close.specs.declared.task.Local.{Local}
 use Rattle.open_close.specs.declared.task.Task.{Task}
-use Rattle.open_close.specs.declared.task.Under.{Under}
+use Rattle.open_close.specs.declared.task.ReadCall.{ReadCall}
+use Rattle.open_close.specs.declared.task.StoreCall.{StoreCall}
 use Rattle.open_close.specs.declared.task.Way.{Way}
 use Rattle.open_close.specs.declared.task.Way.TheVariants as way
 use Rattle.open_close.specs.declared.task.Stage.{Stage}
@@ -25,14 +27,16 @@ pub record State : Type 0 where
   -- the xid of the next call on it
   pub next : ℕ
   -- the number of the next temporary file on it
-  pub fds : ℕ
+  pub next_temp : ℕ
   -- the open files, each with its id, by rising id
   pub opened : List (ℕ × Local)
   -- the operation under way
   pub task : Option Task
+  -- the calls of ended operations and attempts on this connection that have no answer yet
+  pub forgotten : List Pending
 
 abbrev pub start : State
-start = record { linked = false; next = 1; fds = 1; opened = []; task = None }
+start = record { linked = false; next = 1; next_temp = 1; opened = []; task = None; forgotten = [] }
 
 -- ---- open files
 
@@ -58,23 +62,42 @@ local_bytes opened file = unwrap_or (option_map (λ l. l.bytes) (local_at opened
 
 -- ---- calls that wait for their answers
 
+abbrev pub read_pending : ReadCall → Pending
+read_pending c = record { xid = c.xid; program = program.Nfs nfs_proc.Read }
+
 abbrev pub way_proc : Way → LbProc
 way_proc way.Named = lb_proc.CondWrite
 way_proc way.Whole = lb_proc.TmpWrite
 
-abbrev pub pending_of : Under → Pending
-pending_of u = record { xid = u.xid; program = program.Lb (way_proc u.way) }
+abbrev pub store_pending : StoreCall → Pending
+store_pending c = record { xid = c.xid; program = program.Lb (way_proc c.way) }
+
+abbrev pub lb_pending : LbProc → (xid : ℕ) → List Pending
+lb_pending p xid = record { xid = xid; program = program.Lb p } ∷ []
 
 abbrev pub pending_in : Stage → List Pending
-pending_in (stage.Hashing xid) = record { xid = xid; program = program.Lb lb_proc.GetHash } ∷ []
-pending_in (stage.Reading f) = record { xid = f.xid; program = program.Nfs nfs_proc.Read } ∷ []
-pending_in (stage.Making xid fd) = record { xid = xid; program = program.Lb lb_proc.MkTmpFile } ∷ []
-pending_in (stage.Storing st) = map pending_of st.under
-pending_in (stage.Committing xid) = record { xid = xid; program = program.Lb lb_proc.CommitTmp } ∷ []
+pending_in (stage.Hashing tries xid) = lb_pending lb_proc.GetHash xid
+pending_in (stage.Listing xid f) = lb_pending lb_proc.GetHash xid
+pending_in (stage.Reading f) = map read_pending f.under
+pending_in (stage.Making xid temp) = lb_pending lb_proc.MkTmpFile xid
+pending_in (stage.Storing st) = map store_pending st.under
+pending_in (stage.Committing xid) = lb_pending lb_proc.CommitTmp xid
 
+-- those of the operation under way
 abbrev pub pending : Option Task → List Pending
 pending None = []
 pending (Some t) = pending_in t.stage
 
+-- all, with those of ended operations and attempts
+abbrev pub calls_of : State → List Pending
+calls_of s = pending s.task ++ s.forgotten
+
 abbrev pub waiting_of : State → Waiting
-waiting_of s = record { side = side.Client; calls = pending s.task }
+waiting_of s = record { side = side.Client; calls = calls_of s }
+
+-- whether one of these has this xid, and those that have not
+abbrev pub has_call : List Pending → (xid : ℕ) → Bool
+has_call calls xid = list_any (λ c. c.xid == xid) calls
+
+abbrev pub without_call : List Pending → (xid : ℕ) → List Pending
+without_call calls xid = filter (λ c. not (c.xid == xid)) calls

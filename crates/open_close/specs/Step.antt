@@ -1,13 +1,17 @@
 -- One command, or one message, of the client.
-use Rattle.std.specs.Prelude.{ℕ, ◌+◌, List, [], ◌∷◌, ◌++◌, length, Option, Some, None, Result, Ok, Err, Bool, true, false, ◌==◌, nat_lt, bytes_eq, slice_get, remove, is_some, option_map, if◌then◌else◌}
-use Rattle.std.specs.List.{list_any}
+use Rattle.std.specs.Prelude.{◌≡◌, ℕ, ◌+◌, List, [], ◌∷◌, ◌++◌, length, Option, Some, None, Result, Ok, Err, Bool, true, false, ◌==◌, nat_lt, slice_get, is_some, if◌then◌else◌}
 use Rattle.sha1.specs.Sha1.{sha1}
-use Rattle.xdr_codec.specs.Handle.{handle_bytes}
+use Rattle.chunk_cut.specs.Places.{chunk_bytes, end_of}
+use Rattle.chunk_cut.specs.declared.chunk.Chunk.{Chunk}
+use Rattle.command_text.specs.Content.{content_length, content_bytes}
+use Rattle.command_text.specs.declared.command.Command.{Command}
+use Rattle.command_text.specs.declared.command.Command.TheVariants as command
+use Rattle.command_text.specs.declared.content.Part.{Part}
+use Rattle.xdr_codec.specs.declared.answer.Answer.{Answer}
 use Rattle.xdr_codec.specs.declared.answer.Answer.TheVariants.{Done, Failed}
 use Rattle.xdr_codec.specs.declared.status.Status.{Status}
 use Rattle.xdr_codec.specs.declared.status.Status.TheVariants as status
 use Rattle.hash_calls.specs.declared.call.Hashes.{Hashes}
-use Rattle.hash_calls.specs.declared.call.Pair.{Pair}
 use Rattle.hash_calls.specs.declared.message.Lb.TheVariants as lb
 use Rattle.nfs3_calls.specs.declared.call.Piece.{Piece}
 use Rattle.nfs3_calls.specs.declared.message.Nfs.TheVariants as nfs
@@ -15,62 +19,32 @@ use Rattle.wire.specs.declared.message.Body.{Body}
 use Rattle.wire.specs.declared.message.Body.TheVariants as body
 use Rattle.wire.specs.declared.message.Message.{Message}
 use Rattle.wire.specs.declared.message.Message.TheVariants as message
+use Rattle.wire.specs.declared.message.Pending.{Pending}
 use Rattle.wire.specs.declared.message.RpcRefusal.{RpcRefusal}
 use Rattle.wire.specs.declared.message.RpcRefusal.TheVariants as refusal
 use Rattle.wire.specs.declared.fault.WireFault.{WireFault}
 use Rattle.wire.specs.declared.fault.WireFault.TheVariants as wire
-use Rattle.trace_text.specs.Content.{content_length, content_bytes}
-use Rattle.trace_text.specs.declared.content.Part.{Part}
-use Rattle.trace_text.specs.declared.line.Command.{Command}
-use Rattle.trace_text.specs.declared.line.Command.TheVariants as command
-use Rattle.open_close.specs.declared.acts.Acts.{Acts}
-use Rattle.open_close.specs.declared.acts.BadPeer.{BadPeer}
-use Rattle.open_close.specs.declared.acts.BadPeer.TheVariants as bad
-use Rattle.open_close.specs.declared.acts.Counts.{Counts}
-use Rattle.open_close.specs.declared.acts.Ended.{Ended}
-use Rattle.open_close.specs.declared.acts.Outcome.{Outcome}
-use Rattle.open_close.specs.declared.acts.Outcome.TheVariants as outcome
+use Rattle.open_close.specs.declared.step.BadPeer.{BadPeer}
+use Rattle.open_close.specs.declared.step.BadPeer.TheVariants as bad
+use Rattle.open_close.specs.declared.step.ClientStep.{ClientStep}
+use Rattle.open_close.specs.declared.step.Ended.{Ended}
+use Rattle.open_close.specs.declared.step.Outcome.TheVariants as outcome
 use Rattle.open_close.specs.declared.task.Fetch.{Fetch}
 use Rattle.open_close.specs.declared.task.Local.{Local}
+use Rattle.open_close.specs.declared.task.ReadCall.{ReadCall}
 use Rattle.open_close.specs.declared.task.Stage.{Stage}
 use Rattle.open_close.specs.declared.task.Stage.TheVariants as stage
-use Rattle.open_close.specs.declared.task.Task.{Task}
 use Rattle.open_close.specs.declared.task.Store.{Store}
-use Rattle.open_close.specs.declared.task.Under.{Under}
+use Rattle.open_close.specs.declared.task.StoreCall.{StoreCall}
+use Rattle.open_close.specs.declared.task.Task.{Task}
 use Rattle.open_close.specs.declared.task.Way.{Way}
 use Rattle.open_close.specs.declared.task.Way.TheVariants as way
-use Rattle.open_close.specs.Shape.{Broken, broken_of}
+use Rattle.open_close.specs.Closing.{make_call, temp_call, commit_call, Names, store_of, names_all, is_stored, store_at, answered, with_whole}
+use Rattle.open_close.specs.Counting.{no_counts, sends, nothing_done, sends_one, sends_reads, ends}
 use Rattle.open_close.specs.Local.{local_most, written_size, written, truncated, part_of}
-use Rattle.open_close.specs.Closing.{no_counts, chunks_of, make_call, commit_call, Going, sends_all, is_stored, under_at, without_under, with_owed}
-use Rattle.open_close.specs.State.{State, local_at, with_local, without_local, local_bytes, pending_in}
-
--- ---- what is done
-
-abbrev pub acts : List Message → Counts → Acts
-acts send counts = record { send = send; ended = None; counts = counts; missed = false }
-
-abbrev pub nothing_done : Acts
-nothing_done = acts [] no_counts
-
--- so many READ calls sent, and so many bytes received
-abbrev pub reads_counted : ℕ → ℕ → Counts
-reads_counted reads more = record no_counts { read = reads; bytes = more }
-
--- a message is sent, and a READ is counted
-abbrev pub sends : Message → ℕ → ℕ → Acts
-sends m reads more = acts (m ∷ []) (reads_counted reads more)
-
--- the operation ends so, resting on the call with this xid
-abbrev pub ends : Outcome → ℕ → ℕ → Acts
-ends o xid more = record { send = []; ended = Some (record { outcome = o; rests_on = xid }); counts = reads_counted 0 more; missed = false }
-
--- ---- the calls
-
-abbrev pub hash_call : ℕ → ℕ → Message
-hash_call xid file = message.Call xid (body.Lb (lb.GetHash (record { handle = handle_bytes file; offset = 0; count = 4294967295 })))
-
-abbrev pub read_call : ℕ → ℕ → ℕ → ℕ → Message
-read_call xid file offset count = message.Call xid (body.Nfs (nfs.Read (record { handle = handle_bytes file; offset = offset; count = count })))
+use Rattle.open_close.specs.Opening.{tries_most, hash_call, fetch_of, with_hashes, listed, Reads, reads_all, is_here, slots_bytes, read_at, fault_in, other_version, with_bytes}
+use Rattle.open_close.specs.Shape.{Broken, broken_of}
+use Rattle.open_close.specs.State.{State, local_at, with_local, without_local, local_bytes, pending, calls_of, has_call, without_call}
 
 -- ---- a command
 
@@ -84,149 +58,200 @@ has_xids next = nat_lt next 4293967297
 abbrev pub may_ask : State → Bool
 may_ask s = elim s.linked [ true ↦ has_xids s.next | false ↦ false ]
 
-abbrev pub asks_hashes : State → ℕ → Bool → State × Acts
-asks_hashes s file true = (record s { next = s.next + 1; task = Some (record { file = file; stage = stage.Hashing s.next }) }, sends (hash_call s.next file) 0 0)
+-- an attempt begins: its first GETHASH goes out, after so many bytes of a READ came
+abbrev pub tries_anew : State → (file tries bytes : ℕ) → State × ClientStep
+tries_anew s file tries bytes = (record s { next = s.next + 1; task = Some (record { file = file; stage = stage.Hashing tries s.next }) }, sends_one (hash_call s.next file 0) bytes)
+
+abbrev pub asks_hashes : State → ℕ → Bool → State × ClientStep
+asks_hashes s file true = tries_anew s file 1 0
 asks_hashes s file false = (s, ends outcome.NoLink 0 0)
 
-abbrev pub opens_if : State → ℕ → Bool → State × Acts
+abbrev pub opens_if : State → ℕ → Bool → State × ClientStep
 opens_if s file true = (s, ends outcome.AlreadyOpen 0 0)
 opens_if s file false = asks_hashes s file (may_ask s)
 
-abbrev pub opens : State → ℕ → Option Task → State × Acts
+abbrev pub opens : State → ℕ → Option Task → State × ClientStep
 opens s file (Some t) = (s, ends outcome.Busy 0 0)
 opens s file None = opens_if s file (is_open s.opened file)
 
 -- ---- commands on an open file
 
 -- an operation under way comes before all else, and then that the file isn't open
-abbrev pub on_local : State → Option Task → Option Local → (Local → State × Acts) → State × Acts
+abbrev pub on_local : State → Option Task → Option Local → (Local → State × ClientStep) → State × ClientStep
 on_local s (Some t) l does = (s, ends outcome.Busy 0 0)
 on_local s None None does = (s, ends outcome.NotOpen 0 0)
 on_local s None (Some l) does = does l
 
-abbrev pub done_with : State → ℕ → Local → List ℕ → State × Acts
+abbrev pub done_with : State → ℕ → Local → List ℕ → State × ClientStep
 done_with s file l content = (record s { opened = with_local s.opened file (record l { bytes = content }) }, ends outcome.Done 0 0)
 
-abbrev pub too_big : State → ℕ → State × Acts
+abbrev pub too_big : State → ℕ → State × ClientStep
 too_big s size = (s, ends (outcome.TooBig size) 0 0)
 
 -- a content of this size takes the place of the local one, unless it is above the limit
-abbrev pub edits : State → ℕ → Local → (size : ℕ) → List ℕ → State × Acts
+abbrev pub edits : State → ℕ → Local → (size : ℕ) → List ℕ → State × ClientStep
 edits s file l size content = if nat_lt local_most size then too_big s size else done_with s file l content
 
 -- a write of no bytes is done at any place
-abbrev pub writes : State → (file offset : ℕ) → List Part → Local → State × Acts
+abbrev pub writes : State → (file offset : ℕ) → List Part → Local → State × ClientStep
 writes s file offset content l = if content_length content == 0 then (s, ends outcome.Done 0 0) else edits s file l (written_size (length l.bytes) offset (content_length content)) (written l.bytes offset (content_bytes content))
 
-abbrev pub truncates : State → (file size : ℕ) → Local → State × Acts
+abbrev pub truncates : State → (file size : ℕ) → Local → State × ClientStep
 truncates s file size l = edits s file l size (truncated l.bytes size)
 
-abbrev pub reads : State → (offset count : ℕ) → Local → State × Acts
+abbrev pub reads : State → (offset count : ℕ) → Local → State × ClientStep
 reads s offset count l = let piece : List ℕ = part_of l.bytes offset count in (s, ends (outcome.Piece (length piece) (sha1 piece)) 0 0)
 
-abbrev pub abandons : State → (file : ℕ) → Local → State × Acts
+abbrev pub abandons : State → (file : ℕ) → Local → State × ClientStep
 abandons s file l = (record s { opened = without_local s.opened file }, ends outcome.Done 0 0)
 
 -- a close begins with a temporary file of the next number
-abbrev pub asks_temp : State → (file : ℕ) → (may_ask : Bool) → State × Acts
-asks_temp s file true = (record s { next = s.next + 1; fds = s.fds + 1; task = Some (record { file = file; stage = stage.Making s.next s.fds }) }, acts (make_call s.next s.fds file ∷ []) no_counts)
+abbrev pub asks_temp : State → (file : ℕ) → (may_ask : Bool) → State × ClientStep
+asks_temp s file true = (record s { next = s.next + 1; next_temp = s.next_temp + 1; task = Some (record { file = file; stage = stage.Making s.next s.next_temp }) }, sends_one (make_call s.next s.next_temp file) 0)
 asks_temp s file false = (s, ends outcome.NoLink 0 0)
 
-abbrev pub closes : State → (file : ℕ) → Local → State × Acts
+abbrev pub closes : State → (file : ℕ) → Local → State × ClientStep
 closes s file l = asks_temp s file (may_ask s)
 
-abbrev pub command_step : State → Command → State × Acts
-command_step s (command.Open file) = opens s file s.task
-command_step s (command.Write file offset content) = on_local s s.task (local_at s.opened file) (writes s file offset content)
-command_step s (command.Trunc file size) = on_local s s.task (local_at s.opened file) (truncates s file size)
-command_step s (command.Read file offset count) = on_local s s.task (local_at s.opened file) (reads s offset count)
-command_step s (command.Close file) = on_local s s.task (local_at s.opened file) (closes s file)
-command_step s (command.Abandon file) = on_local s s.task (local_at s.opened file) (abandons s file)
+-- a command, at a reading of the client's clock
+abbrev pub command_step : State → Command → (now : ℕ) → State × ClientStep
+command_step s (command.Open file) now = opens s file s.task
+command_step s (command.Write file offset content) now = on_local s s.task (local_at s.opened file) (writes s file offset content)
+command_step s (command.Trunc file size) now = on_local s s.task (local_at s.opened file) (truncates s file size)
+command_step s (command.Read file offset count) now = on_local s s.task (local_at s.opened file) (reads s offset count)
+command_step s (command.Close file) now = on_local s s.task (local_at s.opened file) (closes s file)
+command_step s (command.Abandon file) now = on_local s s.task (local_at s.opened file) (abandons s file)
 
 -- ---- an operation ends
 
 abbrev pub idle : State → State
 idle s = record s { task = None }
 
+-- The operation under way ends, or its attempt, by the answer with this xid: the other calls that wait are forgotten.
+abbrev pub forgets : State → (calls : List Pending) → (xid : ℕ) → State
+forgets s calls xid = record s { task = None; forgotten = without_call calls xid }
+
 -- after a peer's fault the connection counts as cut
-abbrev pub bad_peer : State → BadPeer → ℕ → State × Acts
-bad_peer s f more = (record s { task = None; linked = false }, ends (outcome.BadPeer f) 0 more)
+abbrev pub bad_peer : State → BadPeer → ℕ → State × ClientStep
+bad_peer s f bytes = (record s { linked = false; task = None; forgotten = [] }, ends (outcome.BadPeer f) 0 bytes)
 
-abbrev pub refused : State → Status → ℕ → State × Acts
-refused s status xid = (idle s, ends (outcome.Refused status) xid 0)
+abbrev pub unknown : State → (xid : ℕ) → State × ClientStep
+unknown s xid = bad_peer s (bad.UnknownXid xid) 0
 
-abbrev pub opened_with : State → ℕ → ℕ → List ℕ → ℕ → ℕ → State × Acts
-opened_with s file version bytes asked more = (record s { task = None; opened = with_local s.opened file (record { version = version; bytes = bytes }) }, ends (outcome.Opened file (length bytes) (sha1 bytes)) asked more)
+abbrev pub refused : State → (calls : List Pending) → (xid : ℕ) → Status → State × ClientStep
+refused s calls xid status = (forgets s calls xid, ends (outcome.Refused status) xid 0)
+
+abbrev pub opened_with : State → (calls : List Pending) → (file xid : ℕ) → Fetch → (bytes : ℕ) → State × ClientStep
+opened_with s calls file xid f bytes =
+    let content : List ℕ = slots_bytes f.slots in
+    (record (forgets s calls xid) { opened = with_local s.opened file (record { version = f.version; bytes = content }) }, ends (outcome.Opened file (length content) (sha1 content)) f.first bytes)
+
+-- an attempt ends by another version than its own, and the next begins, or there is none
+abbrev pub retries : State → (calls : List Pending) → (file xid : ℕ) → (may_try : Bool) → Fetch → (version bytes : ℕ) → State × ClientStep
+retries s calls file xid true f version bytes = tries_anew (forgets s calls xid) file (f.tries + 1) bytes
+retries s calls file xid false f version bytes = (forgets s calls xid, ends (outcome.Changed f.version version) 0 bytes)
+
+abbrev pub changes : State → (calls : List Pending) → (file xid : ℕ) → Fetch → (version bytes : ℕ) → State × ClientStep
+changes s calls file xid f version bytes = retries s calls file xid (nat_lt f.tries tries_most) f version bytes
 
 -- ---- the chunks of a file
 
--- the first chunk that is left, of this size, is asked for, or there is none and the file is whole
-abbrev pub reads_first : State → ℕ → ℕ → ℕ → List ℕ → List Pair → ℕ → Option ℕ → State × Acts
-reads_first s file asked version bytes left more None = opened_with s file version bytes asked more
-reads_first s file asked version bytes left more (Some size) =
-    (record s { next = s.next + 1; task = Some (record { file = file; stage = stage.Reading (record { asked = asked; xid = s.next; version = version; left = left; bytes = bytes }) }) }, sends (read_call s.next file (length bytes) size) 1 more)
+-- the READs go out, or all chunks are here
+abbrev pub reads_if : State → (calls : List Pending) → (file xid : ℕ) → Reads → (bytes : ℕ) → (is_here : Bool) → State × ClientStep
+reads_if s calls file xid r bytes true = opened_with s calls file xid r.fetch bytes
+reads_if s calls file xid r bytes false = (record s { next = r.next; task = Some (record { file = file; stage = stage.Reading r.fetch }) }, sends_reads r.send bytes)
 
-abbrev pub first_size : List Pair → Option ℕ
-first_size left = option_map (λ p. p.size) (slice_get left 0)
+abbrev pub reads_on : State → (calls : List Pending) → (file xid : ℕ) → Fetch → (bytes : ℕ) → State × ClientStep
+reads_on s calls file xid f bytes =
+    let r : Reads = reads_all file f s.next in
+    reads_if s calls file xid r bytes (is_here r.fetch)
 
-abbrev pub reads_on : State → ℕ → ℕ → ℕ → List ℕ → List Pair → ℕ → State × Acts
-reads_on s file asked version bytes left more = reads_first s file asked version bytes left more (first_size left)
+-- the further chunks are asked for, from the end of the last one on, or all are told
+abbrev pub lists_on : State → (calls : List Pending) → (file xid : ℕ) → Fetch → (eof : Bool) → State × ClientStep
+lists_on s calls file xid f true = reads_on s calls file xid (listed f) 0
+lists_on s calls file xid f false = (record s { next = s.next + 1; task = Some (record { file = file; stage = stage.Listing s.next f }) }, sends_one (hash_call s.next file (end_of f.chunks)) 0)
 
-abbrev pub told_shape : State → ℕ → ℕ → Hashes → Broken → State × Acts
-told_shape s file xid h None = reads_on s file xid h.version [] h.pairs 0
-told_shape s file xid h (Some b) = bad_peer s (bad.Shape b.0 b.1) 0
+abbrev pub told_shape : State → (calls : List Pending) → (file xid : ℕ) → Fetch → Hashes → Broken → State × ClientStep
+told_shape s calls file xid f h None = lists_on s calls file xid (with_hashes f h) h.eof
+told_shape s calls file xid f h (Some b) = bad_peer s (bad.Shape b.0 b.1) 0
 
--- what is wrong with the bytes of a chunk: their length, or their digest
-abbrev pub fault_in_digest : Pair → List ℕ → Bool → Option BadPeer
-fault_in_digest p bytes true = None
-fault_in_digest p bytes false = Some (bad.Digest (sha1 bytes) p.digest)
+-- all pieces are of one version; what else is wrong with one is looked at behind that
+abbrev pub told_version : State → (calls : List Pending) → (file xid : ℕ) → Fetch → Hashes → (is_same : Bool) → State × ClientStep
+told_version s calls file xid f h true = told_shape s calls file xid f h (broken_of f h)
+told_version s calls file xid f h false = changes s calls file xid f h.version 0
 
-abbrev pub fault_in : Pair → List ℕ → Bool → Option BadPeer
-fault_in p bytes true = fault_in_digest p bytes (bytes_eq (sha1 bytes) p.digest)
-fault_in p bytes false = Some (bad.Shape (length bytes) p.size)
+abbrev pub told_hashes : State → (calls : List Pending) → (file xid : ℕ) → Fetch → Answer Hashes Unit → State × ClientStep
+told_hashes s calls file xid f (Failed status u) = refused s calls xid status
+told_hashes s calls file xid f (Done h) = told_version s calls file xid f h (h.version == f.version)
 
-abbrev pub told_bytes : State → ℕ → Fetch → List ℕ → Option BadPeer → State × Acts
-told_bytes s file f bytes None = reads_on s file f.asked f.version (f.bytes ++ bytes) (remove f.left 0) (length bytes)
-told_bytes s file f bytes (Some b) = bad_peer s b (length bytes)
+abbrev pub told_first : State → (calls : List Pending) → (file xid tries : ℕ) → Answer Hashes Unit → State × ClientStep
+told_first s calls file xid tries (Failed status u) = refused s calls xid status
+told_first s calls file xid tries (Done h) = told_hashes s calls file xid (fetch_of tries xid h) (Done h)
 
-abbrev pub told_piece : State → ℕ → Fetch → Piece → Option Pair → State × Acts
-told_piece s file f piece None = bad_peer s (bad.UnknownXid f.xid) 0
-told_piece s file f piece (Some p) = told_bytes s file f piece.bytes (fault_in p piece.bytes (length piece.bytes == p.size))
+-- ---- their bytes
+
+-- bytes that don't fit end the attempt where another version shows; else they are the peer's fault
+abbrev pub misfits : State → (calls : List Pending) → (file xid : ℕ) → Fetch → BadPeer → (bytes : ℕ) → (shown : Option ℕ) → State × ClientStep
+misfits s calls file xid f b bytes (Some version) = changes s calls file xid f version bytes
+misfits s calls file xid f b bytes None = bad_peer s b bytes
+
+-- bytes that fit are taken, whatever version they are of
+abbrev pub told_bytes : State → (calls : List Pending) → (file xid : ℕ) → Fetch → ReadCall → Piece → Option BadPeer → State × ClientStep
+told_bytes s calls file xid f c piece None = reads_on s calls file xid (with_bytes f c piece.bytes) (length piece.bytes)
+told_bytes s calls file xid f c piece (Some b) = misfits s calls file xid f b (length piece.bytes) (other_version f.version piece.attr)
+
+abbrev pub told_chunk : State → (calls : List Pending) → (file xid : ℕ) → Fetch → ReadCall → Piece → Option Chunk → State × ClientStep
+told_chunk s calls file xid f c piece None = unknown s xid
+told_chunk s calls file xid f c piece (Some k) = told_bytes s calls file xid f c piece (fault_in k piece.bytes (length piece.bytes == k.len))
+
+abbrev pub told_piece : State → (calls : List Pending) → (file xid : ℕ) → Fetch → Piece → Option ReadCall → State × ClientStep
+told_piece s calls file xid f piece None = unknown s xid
+told_piece s calls file xid f piece (Some c) = told_chunk s calls file xid f c piece (slice_get f.chunks c.index)
 
 -- ---- the chunks of a close
 
--- where all chunks are stored the file is committed
-abbrev pub goes_if : State → (file : ℕ) → (content : List ℕ) → Going → (is_stored : Bool) → State × Acts
-goes_if s file content g true = (record s { next = g.next + 1; task = Some (record { file = file; stage = stage.Committing g.next }) }, acts (g.send ++ commit_call g.next g.store.fd file (length content) ∷ []) g.counts)
-goes_if s file content g false = (record s { next = g.next; task = Some (record { file = file; stage = stage.Storing g.store }) }, acts g.send g.counts)
+-- CONDWRITEs go out, or COMMITTMP where all chunks are stored
+abbrev pub goes_if : State → (file : ℕ) → (content : List ℕ) → Names → (is_stored : Bool) → State × ClientStep
+goes_if s file content n true = (record s { next = n.next + 1; task = Some (record { file = file; stage = stage.Committing n.next }) }, sends (n.send ++ commit_call n.next n.store.temp file (length content) ∷ []) (record no_counts { cond_writes = length n.send }))
+goes_if s file content n false = (record s { next = n.next; task = Some (record { file = file; stage = stage.Storing n.store }) }, sends n.send (record no_counts { cond_writes = length n.send }))
 
--- the calls that may be under way go out
-abbrev pub goes_on : State → (file : ℕ) → (content : List ℕ) → Store → State × Acts
-goes_on s file content st = let g : Going = sends_all content st s.next in goes_if s file content g (is_stored g.store)
+abbrev pub goes_on : State → (file : ℕ) → (content : List ℕ) → Store → State × ClientStep
+goes_on s file content st =
+    let n : Names = names_all st s.next in
+    goes_if s file content n (is_stored n.store)
 
--- the temporary file is there, and no chunk of the content in it
-abbrev pub begins_store : (fd : ℕ) → List ℕ → Store
-begins_store fd content = record { fd = fd; conds = chunks_of content; owed = []; under = [] }
+abbrev pub told_temp : State → (calls : List Pending) → (file xid temp : ℕ) → (content : List ℕ) → Answer Unit Unit → State × ClientStep
+told_temp s calls file xid temp content (Failed status u) = refused s calls xid status
+told_temp s calls file xid temp content (Done u) = goes_on s file content (store_of temp content)
 
-abbrev pub stores : State → (file fd : ℕ) → (content : List ℕ) → State × Acts
-stores s file fd content = goes_on s file content (begins_store fd content)
+-- the bytes of a chunk that the server doesn't know go out in the place of its name
+abbrev pub sends_whole : State → (file xid : ℕ) → (content : List ℕ) → Store → StoreCall → Option Chunk → State × ClientStep
+sends_whole s file xid content st c None = unknown s xid
+sends_whole s file xid content st c (Some k) = (record s { next = s.next + 1; task = Some (record { file = file; stage = stage.Storing (with_whole st c s.next) }) }, sends (temp_call s.next st.temp content k ∷ []) (record no_counts { temp_writes = 1; bytes = length (chunk_bytes content k) }))
 
--- the answer to a call for a chunk: the bytes of a chunk that the server doesn't know are owed
-abbrev pub stored : State → (file : ℕ) → (content : List ℕ) → Store → Under → Way → Body → State × Acts
-stored s file content st u way.Named (body.Lb (lb.CondWriteAnswer (Done d))) = goes_on s file content st
-stored s file content st u way.Named (body.Lb (lb.CondWriteAnswer (Failed status.HashNotFound d))) = goes_on s file content (record st { owed = with_owed u.chunk st.owed })
-stored s file content st u way.Named (body.Lb (lb.CondWriteAnswer (Failed e d))) = refused s e u.xid
-stored s file content st u way.Whole (body.Lb (lb.TmpWriteAnswer (Done d))) = goes_on s file content st
-stored s file content st u way.Whole (body.Lb (lb.TmpWriteAnswer (Failed e d))) = refused s e u.xid
-stored s file content st u w b = bad_peer s (bad.UnknownXid u.xid) 0
+-- the answer to a CONDWRITE, which is no longer under way
+abbrev pub told_named : State → (calls : List Pending) → (file xid : ℕ) → (content : List ℕ) → Store → StoreCall → Answer Unit Unit → State × ClientStep
+told_named s calls file xid content st c (Done u) = goes_on s file content st
+told_named s calls file xid content st c (Failed status.HashNotFound u) = sends_whole s file xid content st c (slice_get st.chunks c.index)
+told_named s calls file xid content st c (Failed status u) = refused s calls xid status
 
-abbrev pub stored_at : State → (file : ℕ) → (content : List ℕ) → Store → (xid : ℕ) → Body → Option Under → State × Acts
-stored_at s file content st xid b None = bad_peer s (bad.UnknownXid xid) 0
-stored_at s file content st xid b (Some u) = stored s file content (record st { under = without_under st.under xid }) u u.way b
+-- the answer to a TMPWRITE
+abbrev pub told_whole : State → (calls : List Pending) → (file xid : ℕ) → (content : List ℕ) → Store → Answer Unit Unit → State × ClientStep
+told_whole s calls file xid content st (Done u) = goes_on s file content st
+told_whole s calls file xid content st (Failed status u) = refused s calls xid status
+
+abbrev pub told_way : State → (calls : List Pending) → (file xid : ℕ) → (content : List ℕ) → Store → StoreCall → Way → Body → State × ClientStep
+told_way s calls file xid content st c way.Named (body.Lb (lb.CondWriteAnswer a)) = told_named s calls file xid content st c a
+told_way s calls file xid content st c way.Whole (body.Lb (lb.TmpWriteAnswer a)) = told_whole s calls file xid content st a
+told_way s calls file xid content st c w b = unknown s xid
+
+abbrev pub told_stored : State → (calls : List Pending) → (file xid : ℕ) → (content : List ℕ) → Store → Body → Option StoreCall → State × ClientStep
+told_stored s calls file xid content st b None = unknown s xid
+told_stored s calls file xid content st b (Some c) = told_way s calls file xid content (answered st xid) c c.way b
 
 -- the file has its new content, and is no longer open
-abbrev pub closed : State → (file version : ℕ) → (content : List ℕ) → (xid : ℕ) → State × Acts
-closed s file version content xid = (record s { task = None; opened = without_local s.opened file }, ends (outcome.Closed file version (length content) (sha1 content)) xid 0)
+abbrev pub closed : State → (calls : List Pending) → (file xid version : ℕ) → (content : List ℕ) → State × ClientStep
+closed s calls file xid version content = (record (forgets s calls xid) { opened = without_local s.opened file }, ends (outcome.Closed file version (length content) (sha1 content)) xid 0)
 
 -- ---- a message
 
@@ -240,46 +265,50 @@ refusal_code refusal.SystemErr = 5
 refusal_code (refusal.RpcMismatch low high) = 10
 refusal_code (refusal.AuthError why) = 11
 
-abbrev pub denied : State → RpcRefusal → State × Acts
-denied s refusal.SystemErr = (idle s, ends outcome.PeerMemory 0 0)
-denied s r = bad_peer s (bad.Denied (refusal_code r)) 0
+-- a call of the operation under way was refused
+abbrev pub denied : State → (calls : List Pending) → (xid : ℕ) → RpcRefusal → State × ClientStep
+denied s calls xid refusal.SystemErr = (forgets s calls xid, ends outcome.PeerMemory 0 0)
+denied s calls xid r = bad_peer s (bad.Denied (refusal_code r)) 0
 
--- an answer to a call that waits
-abbrev pub took : State → ℕ → Stage → (xid : ℕ) → Body → State × Acts
-took s file (stage.Hashing asked) xid (body.Lb (lb.GetHashAnswer (Failed status u))) = refused s status xid
-took s file (stage.Hashing asked) xid (body.Lb (lb.GetHashAnswer (Done h))) = told_shape s file xid h (broken_of h)
-took s file (stage.Reading f) xid (body.Nfs (nfs.ReadAnswer (Failed status a))) = refused s status xid
-took s file (stage.Reading f) xid (body.Nfs (nfs.ReadAnswer (Done piece))) = told_piece s file f piece (slice_get f.left 0)
-took s file (stage.Making asked fd) xid (body.Lb (lb.MkTmpFileAnswer (Failed status u))) = refused s status xid
-took s file (stage.Making asked fd) xid (body.Lb (lb.MkTmpFileAnswer (Done u))) = stores s file fd (local_bytes s.opened file)
-took s file (stage.Storing st) xid b = stored_at s file (local_bytes s.opened file) st xid b (under_at st.under xid)
-took s file (stage.Committing asked) xid (body.Lb (lb.CommitTmpAnswer (Failed status u))) = refused s status xid
-took s file (stage.Committing asked) xid (body.Lb (lb.CommitTmpAnswer (Done c))) = closed s file c.version (local_bytes s.opened file) xid
-took s file p xid b = bad_peer s (bad.UnknownXid xid) 0
+-- an answer to a call of the operation under way
+abbrev pub took : State → (calls : List Pending) → (file : ℕ) → Stage → (xid : ℕ) → Body → State × ClientStep
+took s calls file (stage.Hashing tries asked) xid (body.Lb (lb.GetHashAnswer a)) = told_first s calls file xid tries a
+took s calls file (stage.Listing asked f) xid (body.Lb (lb.GetHashAnswer a)) = told_hashes s calls file xid f a
+took s calls file (stage.Reading f) xid (body.Nfs (nfs.ReadAnswer (Failed status a))) = refused s calls xid status
+took s calls file (stage.Reading f) xid (body.Nfs (nfs.ReadAnswer (Done piece))) = told_piece s calls file xid f piece (read_at f.under xid)
+took s calls file (stage.Making asked temp) xid (body.Lb (lb.MkTmpFileAnswer a)) = told_temp s calls file xid temp (local_bytes s.opened file) a
+took s calls file (stage.Storing st) xid b = told_stored s calls file xid (local_bytes s.opened file) st b (store_at st.under xid)
+took s calls file (stage.Committing asked) xid (body.Lb (lb.CommitTmpAnswer (Failed status u))) = refused s calls xid status
+took s calls file (stage.Committing asked) xid (body.Lb (lb.CommitTmpAnswer (Done c))) = closed s calls file xid c.version (local_bytes s.opened file)
+took s calls file p xid b = unknown s xid
 
--- whether a call with this xid waits
-abbrev pub waits_for : Stage → (xid : ℕ) → Bool
-waits_for p xid = list_any (λ c. c.xid == xid) (pending_in p)
+-- with no operation under way a fault has no outcome
+abbrev pub cut_off : State → State × ClientStep
+cut_off s = (record s { linked = false; forgotten = [] }, nothing_done)
 
-abbrev pub took_if : State → Task → ℕ → Body → Bool → State × Acts
-took_if s t xid b true = took s t.file t.stage xid b
-took_if s t xid b false = bad_peer s (bad.UnknownXid xid) 0
+-- a call that waits for nothing has this answer
+abbrev pub unawaited : State → Option Task → (xid : ℕ) → State × ClientStep
+unawaited s (Some t) xid = unknown s xid
+unawaited s None xid = cut_off s
 
-abbrev pub denied_if : State → ℕ → RpcRefusal → Bool → State × Acts
-denied_if s xid r true = denied s r
-denied_if s xid r false = bad_peer s (bad.UnknownXid xid) 0
+-- the answer to a call of an ended operation or attempt is dropped
+abbrev pub drops : State → Option Task → (xid : ℕ) → (is_forgotten : Bool) → State × ClientStep
+drops s task xid true = (record s { forgotten = without_call s.forgotten xid }, nothing_done)
+drops s task xid false = unawaited s task xid
 
--- with no operation under way nothing waits, and a fault has no outcome
-abbrev pub cut_off : State → State × Acts
-cut_off s = (record s { linked = false }, nothing_done)
+abbrev pub took_if : State → Option Task → (xid : ℕ) → Body → (is_own : Bool) → State × ClientStep
+took_if s (Some t) xid b true = took (idle s) (calls_of s) t.file t.stage xid b
+took_if s task xid b is_own = drops s task xid (has_call s.forgotten xid)
+
+abbrev pub denied_if : State → Option Task → (xid : ℕ) → RpcRefusal → (is_own : Bool) → State × ClientStep
+denied_if s (Some t) xid r true = denied (idle s) (calls_of s) xid r
+denied_if s task xid r is_own = drops s task xid (has_call s.forgotten xid)
 
 -- an answer takes the operation under way, and its step says what is under way then
-abbrev pub got_message : State → Option Task → Message → State × Acts
-got_message s (Some t) (message.Answer xid b) = took_if (idle s) t xid b (waits_for t.stage xid)
-got_message s (Some t) (message.Refuse xid r) = denied_if (idle s) xid r (waits_for t.stage xid)
-got_message s None (message.Answer xid b) = cut_off s
-got_message s None (message.Refuse xid r) = cut_off s
-got_message s task (message.Unfit xid r) = (s, sends (message.Refuse xid r) 0 0)
+abbrev pub got_message : State → Option Task → Message → State × ClientStep
+got_message s task (message.Answer xid b) = took_if s task xid b (has_call (pending task) xid)
+got_message s task (message.Refuse xid r) = denied_if s task xid r (has_call (pending task) xid)
+got_message s task (message.Unfit xid r) = (s, sends_one (message.Refuse xid r) 0)
 got_message s task (message.Call xid b) = (s, nothing_done)
 
 abbrev pub fault_of : WireFault → BadPeer
@@ -287,46 +316,34 @@ fault_of (wire.NotRpc at) = bad.Garbage at
 fault_of (wire.UnknownXid xid) = bad.UnknownXid xid
 fault_of (wire.Garbage at) = bad.Garbage at
 
-abbrev pub got_fault : State → Option Task → WireFault → State × Acts
+abbrev pub got_fault : State → Option Task → WireFault → State × ClientStep
 got_fault s (Some t) e = bad_peer s (fault_of e) 0
 got_fault s None e = cut_off s
 
--- what comes from the other end: a message, or why a record is none
-abbrev pub got_step : State → Result Message WireFault → State × Acts
-got_step s (Ok m) = got_message s s.task m
-got_step s (Err e) = got_fault s s.task e
+-- what comes from the other end, at a reading of the client's clock: a message, or why a record is none
+abbrev pub got_step : State → Result Message WireFault → (now : ℕ) → State × ClientStep
+got_step s (Ok m) now = got_message s s.task m
+got_step s (Err e) now = got_fault s s.task e
 
 -- ---- the connection
 
 abbrev pub joined : State → State
-joined s = record s { linked = true; next = 1; fds = 1 }
+joined s = record s { linked = true; next = 1; next_temp = 1; forgotten = [] }
 
-abbrev pub ended_by : Option Task → Ended → Acts
+abbrev pub ended_by : Option Task → Ended → ClientStep
 ended_by None e = nothing_done
 ended_by (Some t) e = record nothing_done { ended = Some e }
 
 -- The connection is lost: the operation under way ends by that, and what is open stays so.
-abbrev pub cut : State → State × Acts
-cut s = (record s { linked = false; task = None }, ended_by s.task (record { outcome = outcome.Lost; rests_on = 0 }))
+abbrev pub cut : State → State × ClientStep
+cut s = (record s { linked = false; task = None; forgotten = [] }, ended_by s.task (record { outcome = outcome.Lost; rests_on = 0 }))
 
 -- ---- want of memory
 
--- what is done where memory ran out, and what ends by it
-abbrev pub misses : Option Ended → Acts
-misses ended = record { send = []; ended = ended; counts = no_counts; missed = true }
-
-abbrev pub by_memory : Ended
-by_memory = record { outcome = outcome.Memory; rests_on = 0 }
-
-abbrev pub lost_if : Bool → Option Ended
-lost_if true = Some by_memory
-lost_if false = None
-
--- the operation under way ends, if there is one
-abbrev pub lost : Option Task → Option Ended
-lost task = lost_if (is_some task)
-
--- ---- what may come
+-- what is left where memory ran out at what came: the operation under way has ended by it
+abbrev pub missed_at : State → Result Message WireFault → State
+missed_at s (Ok (message.Answer xid b)) = forgets s (calls_of s) xid
+missed_at s m = s
 
 abbrev pub InCommit : Stage → Type 0
 InCommit (stage.Committing xid) = Unit {0}
@@ -336,3 +353,8 @@ InCommit p = ⊥
 abbrev pub IsCommitting : Option Task → Type 0
 IsCommitting None = ⊥
 IsCommitting (Some t) = InCommit t.stage
+
+-- only an answer to a call of the operation under way may meet want of memory
+abbrev pub MayMiss : State → Result Message WireFault → Type 0
+MayMiss s (Ok (message.Answer xid b)) = (has_call (pending s.task) xid ≡ true) × (IsCommitting s.task → ⊥)
+MayMiss s m = ⊥

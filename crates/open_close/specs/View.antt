@@ -1,71 +1,157 @@
--- The client's fields as a state.
-use Rattle.std.specs.Prelude.{◌≡◌, ℕ, ◌+◌, ◌*◌, ◌<◌, ◌≤◌, ◌^◌, List, [], ◌∷◌, length, Option, Some, None}
+-- The client's fields as a state, and what always holds of them.
+use Rattle.std.specs.Prelude.{◌≡◌, ℕ, ◌+◌, ◌-◌, ◌*◌, ◌<◌, ◌≤◌, ◌^◌, List, [], ◌∷◌, ◌++◌, length, drop, Option, Some, None}
 use Rattle.std.specs.List.{All}
 use Rattle.std.specs.Map.{values_of}
+use Rattle.chunk_cut.specs.Places.{end_of}
+use Rattle.chunk_cut.specs.declared.chunk.Chunk.{Chunk}
+use Rattle.wire.specs.declared.message.Pending.{Pending}
 use Rattle.wire.specs.declared.message.Side.TheVariants as side
-use Rattle.open_close.specs.declared.inner.Inner.{Inner}
+use Rattle.open_close.specs.declared.calls.Names.{Names}
+use Rattle.open_close.specs.declared.calls.Reads.{Reads}
+use Rattle.open_close.specs.declared.state.ClientState.{ClientState}
+use Rattle.open_close.specs.declared.task.Fetch.{Fetch}
 use Rattle.open_close.specs.declared.task.Local.{Local}
-use Rattle.open_close.specs.declared.task.Store.{Store}
-use Rattle.open_close.specs.declared.task.Under.{Under}
-use Rattle.open_close.specs.declared.task.Way.{Way}
-use Rattle.open_close.specs.declared.task.Way.TheVariants as way
-use Rattle.open_close.specs.declared.acts.Counts.{Counts}
 use Rattle.open_close.specs.declared.task.Stage.{Stage}
 use Rattle.open_close.specs.declared.task.Stage.TheVariants as stage
+use Rattle.open_close.specs.declared.task.Store.{Store}
+use Rattle.open_close.specs.declared.task.StoreCall.{StoreCall}
 use Rattle.open_close.specs.declared.task.Task.{Task}
-use Rattle.open_close.specs.Shape.{file_limit, size_sum}
+use Rattle.open_close.specs.declared.task.Way.{Way}
+use Rattle.open_close.specs.declared.task.Way.TheVariants as way
+use Rattle.open_close.specs.Opening.{tries_most}
+use Rattle.open_close.specs.Shape.{file_limit, chunk_least, chunk_most}
 use Rattle.open_close.specs.State.{State, IsRising, pending}
 
-abbrev pub state_of : Inner → State
-state_of s = record { linked = s.linked; next = s.next; fds = s.fds; opened = s.opened.entries; task = s.task }
+abbrev pub state_of : ClientState → State
+state_of s = record { linked = s.linked; next = s.next; next_temp = s.next_temp; opened = s.opened.entries; task = s.task; forgotten = drop s.own s.waiting.calls }
 
--- the calls that the answer to one under way may bring about: the bytes of a chunk that was named
-abbrev pub calls_after : Way → ℕ
-calls_after way.Named = 1
-calls_after way.Whole = 0
+-- the state, and all calls that wait
+abbrev pub whole_of : ClientState → State × List Pending
+whole_of s = (state_of s, s.waiting.calls)
 
-abbrev pub calls_after_all : List Under → ℕ
-calls_after_all [] = 0
-calls_after_all (u ∷ us) = calls_after u.way + calls_after_all us
+-- ---- sizes
 
--- the most calls that a close may still send, with COMMITTMP
-abbrev pub calls_left : Store → ℕ
-calls_left st = 2 * length st.conds + length st.owed + calls_after_all st.under + 1
+abbrev pub length_sum : List Chunk → ℕ
+length_sum [] = 0
+length_sum (c ∷ cs) = c.len + length_sum cs
 
--- each call that an operation may still send has an xid
-abbrev pub HasXids : ℕ → Stage → Type 0
-HasXids next (stage.Hashing xid) = next + 1024 < 2 ^ 32
-HasXids next (stage.Reading f) = next + length f.left ≤ 2 ^ 32
-HasXids next (stage.Making xid fd) = next + 3 < 2 ^ 32
-HasXids next (stage.Storing st) = next + calls_left st < 2 ^ 32
-HasXids next (stage.Committing xid) = Unit {0}
-
-abbrev pub TaskHasXids : ℕ → Option Task → Type 0
-TaskHasXids next None = Unit {0}
-TaskHasXids next (Some t) = HasXids next t.stage
+abbrev pub IsChunkBounded : Chunk → Type 0
+IsChunkBounded c = c.len ≤ chunk_most
 
 -- what is fetched stays within the limit of a file
+pub record IsFetch (f : Fetch) : Type 0 where
+  pub sum : length_sum f.chunks ≡ end_of f.chunks
+  pub size : end_of f.chunks ≤ f.size
+  pub limit : end_of f.chunks ≤ file_limit
+  -- all chunks but the file's last have the least length
+  pub few : chunk_least * length f.chunks ≤ end_of f.chunks + chunk_least
+  pub lens : All IsChunkBounded f.chunks
+  pub tries : f.tries ≤ tries_most
+
+-- each slot is a chunk's, and the bytes in it have the chunk's length
+abbrev pub FitsIn : List (Option (List ℕ)) → List Chunk → Type 0
+FitsIn [] [] = Unit {0}
+FitsIn (None ∷ slots) (c ∷ cs) = FitsIn slots cs
+FitsIn (Some bytes ∷ slots) (c ∷ cs) = (length bytes ≡ c.len) × FitsIn slots cs
+FitsIn slots cs = ⊥
+
+-- no chunk is asked for before all are told
+abbrev pub IsListing : Fetch → Type 0
+IsListing f = IsFetch f × (chunk_least * length f.chunks ≤ end_of f.chunks) × (f.asked ≡ 0)
+
+abbrev pub IsReading : Fetch → Type 0
+IsReading f = IsFetch f × FitsIn f.slots f.chunks × (f.asked ≤ length f.chunks)
+
+pub record IsStore (st : Store) : Type 0 where
+  pub few : chunk_least * length st.chunks ≤ file_limit + chunk_least
+  pub lens : All IsChunkBounded st.chunks
+  pub named : st.named ≤ length st.chunks
+
 abbrev pub IsWithin : Stage → Type 0
-IsWithin (stage.Reading f) = length f.bytes + size_sum f.left ≤ file_limit
+IsWithin (stage.Hashing tries xid) = tries ≤ tries_most
+IsWithin (stage.Listing xid f) = IsListing f
+IsWithin (stage.Reading f) = IsReading f
+IsWithin (stage.Storing st) = IsStore st
 IsWithin p = Unit {0}
 
 abbrev pub TaskIsWithin : Option Task → Type 0
 TaskIsWithin None = Unit {0}
 TaskIsWithin (Some t) = IsWithin t.stage
 
--- at most so many calls of each kind were counted, and the bytes of as many files
-abbrev pub IsCounted : ℕ → Counts → Type 0
-IsCounted k counts = (counts.cond ≤ k) × (counts.tmp ≤ k) × (counts.bytes ≤ file_limit * k)
+-- ---- xids
+
+-- an attempt, or a close, takes no more: a GETHASH and a READ, or a CONDWRITE and a TMPWRITE, for each of at most 32,769 chunks
+abbrev pub attempt_most : ℕ
+attempt_most = 65540
+
+-- the calls that the attempts behind this one may take
+abbrev pub later_left : (tries : ℕ) → ℕ
+later_left tries = (tries_most - tries) * attempt_most
+
+-- the calls that the answer to one under way may bring about: the bytes of a chunk that was named
+abbrev pub calls_after : Way → ℕ
+calls_after way.Named = 1
+calls_after way.Whole = 0
+
+abbrev pub calls_after_all : List StoreCall → ℕ
+calls_after_all [] = 0
+calls_after_all (c ∷ cs) = calls_after c.way + calls_after_all cs
+
+-- the most calls that a close may still send, with COMMITTMP
+abbrev pub store_left : Store → ℕ
+store_left st = 2 * (length st.chunks - st.named) + calls_after_all st.under + 1
+
+abbrev pub calls_left : Stage → ℕ
+calls_left (stage.Hashing tries xid) = attempt_most + later_left tries
+calls_left (stage.Listing xid f) = attempt_most - length f.chunks + later_left f.tries
+calls_left (stage.Reading f) = length f.chunks - f.asked + 1 + later_left f.tries
+calls_left (stage.Making xid temp) = attempt_most
+calls_left (stage.Storing st) = store_left st
+calls_left (stage.Committing xid) = 0
+
+-- each call that an operation may still send has an xid
+abbrev pub HasXids : ℕ → Stage → Type 0
+HasXids next p = next + calls_left p < 2 ^ 32
+
+abbrev pub TaskHasXids : ℕ → Option Task → Type 0
+TaskHasXids next None = Unit {0}
+TaskHasXids next (Some t) = HasXids next t.stage
+
+-- what holds while READs, or CONDWRITEs, go out: so many chunks were asked for, and this was the next xid, before
+pub record IsSendingReads (asked next : ℕ) (r : Reads) : Type 0 where
+  pub within : IsReading r.fetch
+  pub xids : HasXids r.next (stage.Reading r.fetch)
+  pub rises : next ≤ r.next
+  pub counted : r.fetch.asked ≡ asked + length r.send
+
+pub record IsSendingNames (named next : ℕ) (n : Names) : Type 0 where
+  pub within : IsStore n.store
+  pub xids : HasXids n.next (stage.Storing n.store)
+  pub rises : next ≤ n.next
+  pub counted : n.store.named ≡ named + length n.send
+
+-- ---- the whole
 
 abbrev pub IsLocalBounded : Local → Type 0
 IsLocalBounded l = length l.bytes ≤ file_limit
 
-pub record IsSound (s : Inner) : Type 0 where
-  pub waiting : s.waiting ≡ record { side = side.Client; calls = pending s.task }
+pub record IsBase (s : ClientState) : Type 0 where
+  pub side : s.waiting.side ≡ side.Client
+  pub own : s.own ≤ length s.waiting.calls
   pub next : 0 < s.next
   -- each close takes an xid for its temporary file's number
-  pub fds : (0 < s.fds) × (s.fds ≤ s.next)
-  pub xids : TaskHasXids s.next s.task
-  pub fetched : TaskIsWithin s.task
+  pub temps : (0 < s.next_temp) × (s.next_temp ≤ s.next)
   pub ids : IsRising s.opened.entries
   pub locals : All IsLocalBounded (values_of s.opened.entries)
+
+-- while an answer is looked at the operation under way is taken out, and its calls stand as they stood
+pub record IsHeld (s : ClientState) : Type 0 where
+  pub base : IsBase s
+  pub task : s.task ≡ None
+
+pub record IsSound (s : ClientState) : Type 0 where
+  pub base : IsBase s
+  pub calls : s.waiting.calls ≡ pending s.task ++ drop s.own s.waiting.calls
+  pub own : s.own ≡ length (pending s.task)
+  pub xids : TaskHasXids s.next s.task
+  pub within : TaskIsWithin s.task

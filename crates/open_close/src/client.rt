@@ -1,26 +1,27 @@
-//! The client.
+//! The client. `specs/State.antt` says what it is, and `specs/Step.antt` what it does.
 
-ghost use Rattle.std.specs.Prelude.{◌≡◌, ◌==◌, false, true, option_map, Some};
+ghost use Rattle.std.specs.Prelude.{◌≡◌, false, true, option_map, Some};
 ghost use Rattle.std.specs.Option.{option_copied};
 ghost use Rattle.open_close.specs.State.{start, waiting_of, local_at};
-ghost use Rattle.open_close.specs.Step.{command_step, got_step, idle, cut, joined, misses, by_memory, lost, lost_if, IsCommitting};
+ghost use Rattle.open_close.specs.Counting.{misses, by_memory};
+ghost use Rattle.open_close.specs.Step.{command_step, got_step, cut, joined, missed_at, MayMiss};
 
-use crate::acts::{Acts, Ended, Outcome};
-use crate::inner::Inner;
 use crate::parts;
-use crate::sends::Sends;
+use crate::state::ClientState;
+use crate::step::{ClientStep, Ended, Outcome};
+use command_text::command::Command;
 use lb_base::items::Items;
+use send_list::SendList;
 use std::alloc::Global;
 use std::collections::BTreeMap;
 use std::marker::Model;
-use trace_text::line::Command;
 use wire::fault::WireFault;
 use wire::message::{Message, Side, Waiting};
 
 /// A client of one connection, with its open files and at most one operation under way.
 #[derive(Drop)]
 pub struct Client {
-    inner: Inner,
+    state: ClientState,
 }
 
 impl Model for Client {
@@ -30,34 +31,23 @@ impl Model for Client {
 
     ghost use Rattle.open_close.specs.View.{state_of, IsSound};
 
-    ghost view = { λ c. state_of c.inner };
+    ghost view = { λ c. state_of c.state };
 
-    ghost invariant = { λ c. IsSound c.inner };
+    ghost invariant = { λ c. IsSound c.state };
 }
 
-/// Memory ran out, and this ends by it.
-fn misses(alloc: Global, ended: Option<Ended>) -> Acts
-    ensures { result ≡ misses ended }
+/// Memory ran out, and the operation or the command ends by that.
+fn missed(alloc: Global) -> ClientStep
+    ensures { result ≡ misses (Some by_memory) }
 {
-    Acts {
-        send: Sends::none(alloc),
-        ended,
-        counts: parts::no_counts(),
-        missed: true,
-    }
-}
-
-/// The end of an operation for which memory ran out, if one is under way.
-fn lost(is_busy: bool) -> Option<Ended>
-    ensures { result ≡ lost_if is_busy }
-{
-    if is_busy {
-        Some(Ended {
+    ClientStep {
+        send: SendList::none(alloc),
+        ended: Some(Ended {
             outcome: Outcome::Memory,
             rests_on: 0,
-        })
-    } else {
-        None
+        }),
+        counts: parts::no_counts(),
+        missed: true,
     }
 }
 
@@ -67,87 +57,90 @@ impl Client {
         ensures { result ≡ start }
     {
         Client {
-            inner: Inner {
+            state: ClientState {
                 linked: false,
                 next: 1,
-                fds: 1,
+                next_temp: 1,
                 opened: BTreeMap::new(alloc),
                 task: None,
                 waiting: Waiting {
                     side: Side::Client,
                     calls: Items::new(alloc),
                 },
+                own: 0,
             },
         }
     }
 
-    /// A command. Where memory runs out it ends by that, and all else is as before.
-    pub fn command(&mut self, alloc: Global, command: Command) -> Acts
-        ensures exact { result.missed ≡ false → command_step self.old command ≡ (self.new, result) }
+    /// A command, at a reading of the client's clock in milliseconds. Where memory runs out it ends by
+    /// that, and all else is as before.
+    pub fn command(&mut self, alloc: Global, command: Command, now: u64) -> ClientStep
+        ensures exact { result.missed ≡ false → command_step self.old command now ≡ (self.new, result) }
         ensures missed { result.missed ≡ true → self.new ≡ self.old }
         ensures silent { result.missed ≡ true → result ≡ misses (Some by_memory) }
     {
-        match self.inner.command(alloc, command) {
-            Ok(acts) => acts,
-            Err(_) => misses(alloc, lost(true)),
+        match self.state.command(alloc, command, now) {
+            Ok(step) => step,
+            Err(_) => missed(alloc),
         }
     }
 
-    /// What comes from the other end: a message, or why a record is none. Where memory runs out
-    /// nothing else is done than that the operation under way ends by that, if there is one. Once
-    /// COMMITTMP was sent it takes no memory.
-    pub fn got(&mut self, alloc: Global, message: Result<Message, WireFault>) -> Acts
-        ensures exact { result.missed ≡ false → got_step self.old message ≡ (self.new, result) }
-        ensures missed { result.missed ≡ true → self.new ≡ idle self.old }
-        ensures silent { result.missed ≡ true → result ≡ misses (lost self.old.task) }
-        ensures calm { IsCommitting self.old.task → result.missed ≡ false }
+    /// What comes from the other end, at a reading of the client's clock in milliseconds: a message, or
+    /// why a record is none. Only an answer to a call of the operation under way may run out of memory,
+    /// and none once COMMITTMP was sent: the operation then ends by that, its other calls are forgotten,
+    /// and all else is as before.
+    pub fn got(
+        &mut self,
+        alloc: Global,
+        message: Result<Message, WireFault>,
+        now: u64,
+    ) -> ClientStep
+        ensures exact { result.missed ≡ false → got_step self.old message now ≡ (self.new, result) }
+        ensures missed { result.missed ≡ true → self.new ≡ missed_at self.old message }
+        ensures silent { result.missed ≡ true → result ≡ misses (Some by_memory) }
+        ensures sure { result.missed ≡ true → MayMiss self.old message }
     {
-        let is_busy = self.inner.task.is_some();
-        match self.inner.got(alloc, message) {
-            Ok(acts) => acts,
-            Err(_) => {
-                self.inner.stop(alloc);
-                misses(alloc, lost(is_busy))
-            }
+        match self.state.got(alloc, message, now) {
+            Ok(step) => step,
+            Err(_) => missed(alloc),
         }
     }
 
-    /// What may come: answers to the calls that wait.
+    /// What may come: answers to the calls that wait, those of ended operations and attempts too.
     pub fn waiting(&self) -> &Waiting
         ensures { result.now ≡ waiting_of self.now }
     {
-        &self.inner.waiting
+        &self.state.waiting
     }
 
     /// A connection is joined, and its first xid is 1, as is the number of its first temporary file.
-    pub fn joined(&mut self)
+    /// It takes no memory.
+    pub fn joined(&mut self, alloc: Global)
         ensures { self.new ≡ joined self.old }
     {
-        self.inner.linked = true;
-        self.inner.next = 1;
-        self.inner.fds = 1;
+        self.state.join(alloc);
     }
 
     /// The connection is lost. The operation under way ends by that, if there is one, and open files
     /// stay open. It takes no memory.
-    pub fn cut(&mut self, alloc: Global) -> Acts
+    pub fn cut(&mut self, alloc: Global) -> ClientStep
         ensures exact { cut self.old ≡ (self.new, result) }
         ensures done { result.missed ≡ false }
     {
-        self.inner.cut(alloc)
+        self.state.cut(alloc)
     }
 
     /// Whether a connection is joined.
     pub fn linked(&self) -> bool
         ensures { result ≡ self.now.linked }
     {
-        self.inner.linked
+        self.state.linked
     }
 
     /// The local content of an open file; none where it isn't open. It takes no memory.
     pub fn local(&self, file: u64) -> Option<&[u8]>
         ensures { option_copied result ≡ option_map (λ l. l.bytes) (local_at self.now.opened file) }
     {
-        parts::find_local(&self.inner.opened, file).map(|l| l.bytes.as_slice())
+        parts::find_local(&self.state.opened, file).map(|l| l.bytes.as_slice())
     }
 }

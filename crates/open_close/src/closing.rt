@@ -1,31 +1,30 @@
 //! The command that closes a file: its content is stored in a temporary file chunk by chunk, which
-//! is then committed.
+//! is then committed. `specs/Closing.antt` and `specs/Step.antt` say how.
 
-ghost use Rattle.std.specs.Prelude.{◌≡◌, ◌+◌, ◌<◌, ◌≤◌, ◌^◌, length, None, Some, IfOk, OnErr, false, true};
-ghost use Rattle.open_close.specs.State.{State, local_at, local_bytes, without_local};
-ghost use Rattle.open_close.specs.Step.{on_local, closes, asks_temp, goes_if, goes_on, stores, stored, stored_at, closed, took, idle};
-ghost use Rattle.open_close.specs.View.{state_of, IsSound, HasXids, IsWithin, calls_left, calls_after};
+ghost use Rattle.std.specs.Prelude.{◌≡◌, ◌+◌, ◌<◌, ◌≤◌, length, None, Some, slice_get, IfOk, OnOk, OnErr, false, true};
+ghost use Rattle.open_close.specs.Closing.{store_of, answered, is_stored, store_at};
+ghost use Rattle.open_close.specs.State.{local_at, local_bytes};
+ghost use Rattle.open_close.specs.Step.{on_local, closes, asks_temp, goes_if, goes_on, told_temp, sends_whole, told_named, told_whole, told_way, told_stored, closed, took};
+ghost use Rattle.open_close.specs.View.{state_of, whole_of, calls_after, store_left, IsStore, IsHeld, IsSound, IsSendingNames, HasXids, IsWithin};
 ghost use Rattle.open_close.specs.declared.task.Stage.TheVariants as stage;
-ghost use Rattle.open_close.specs.declared.task.Way.TheVariants as way;
-ghost use Rattle.wire.specs.declared.message.Body.TheVariants as body;
-ghost use Rattle.hash_calls.specs.declared.message.Lb.TheVariants as lb;
 
-use crate::acts::{Acts, Outcome};
-use crate::chunks::{self, Going};
-use crate::inner::Inner;
-use crate::parts;
-use crate::task::{Stage, Store, Under, Way};
+use crate::calls::{self, Names};
+use crate::state::ClientState;
+use crate::step::{ClientStep, Counts, Outcome};
+use crate::task::{Stage, Store, StoreCall, Way};
+use crate::{messages, parts, stores};
+use chunk_cut::chunk::Chunk;
 use hash_calls::message::Lb;
-use lb_base::items::Items;
+use send_list::SendList;
 use sha1::Sha1;
 use std::alloc::{AllocError, Global};
 use wire::message::Body;
 use xdr_codec::answer::Answer;
 use xdr_codec::status::Status;
 
-impl Inner {
+impl ClientState {
     /// A command to close a file. An `Err` changes nothing.
-    pub fn close(&mut self, alloc: Global, file: u64) -> Result<Acts, AllocError>
+    pub fn close(&mut self, alloc: Global, file: u64) -> Result<ClientStep, AllocError>
         requires { IsSound self.old }
         ensures ok { IfOk result (λ a. on_local (state_of self.old) self.old.task (local_at self.old.opened.entries file) (closes (state_of self.old) file) ≡ (state_of self.new, a)) }
         ensures done { IfOk result (λ a. a.missed ≡ false) }
@@ -45,8 +44,10 @@ impl Inner {
     }
 
     /// A temporary file of the next number is asked for. An `Err` changes nothing.
-    fn ask_temp(&mut self, alloc: Global, file: u64) -> Result<Acts, AllocError>
+    #[tactic(auto, using(crate::proofs::Pending::held_of))]
+    fn ask_temp(&mut self, alloc: Global, file: u64) -> Result<ClientStep, AllocError>
         requires sound { IsSound self.old }
+        requires idle { self.old.task ≡ None }
         requires xids { self.old.next < 4293967297 }
         ensures ok { IfOk result (λ a. asks_temp (state_of self.old) file true ≡ (state_of self.new, a)) }
         ensures done { IfOk result (λ a. a.missed ≡ false) }
@@ -54,12 +55,12 @@ impl Inner {
         ensures sound { IsSound self.new }
     {
         let xid = self.next;
-        let fd = self.fds;
-        let call = parts::make_call(alloc, xid, fd, file)?;
-        match self.wait(alloc, file, Stage::Making(xid, fd), xid + 1) {
+        let temp = self.next_temp;
+        let call = messages::make_call(alloc, xid, temp, file)?;
+        match self.wait(alloc, file, Stage::Making { xid, temp }, xid + 1) {
             Ok(()) => {
-                self.fds = fd + 1;
-                Ok(parts::sends(alloc, call, 0, 0))
+                self.next_temp = temp + 1;
+                Ok(parts::sends_one(alloc, call, 0))
             }
             Err(error) => {
                 drop(call);
@@ -75,49 +76,57 @@ impl Inner {
         file: u64,
         stage: Stage,
         next: u32,
-        acts: Acts,
-    ) -> Result<Acts, AllocError>
-        requires sound { IsSound self.old }
+        step: ClientStep,
+    ) -> Result<ClientStep, AllocError>
+        requires held { IsHeld self.old }
         requires rises { self.old.next ≤ next }
         requires xids { HasXids next stage }
-        requires fits { IsWithin stage }
-        ensures ok { IfOk result (λ a. (a ≡ acts) × (state_of self.new ≡ record (state_of self.old) { next = next; task = Some (record { file = file; stage = stage }) })) }
-        ensures err { OnErr result (state_of self.new ≡ state_of self.old) }
-        ensures sound { IsSound self.new }
+        requires within { IsWithin stage }
+        ensures ok { IfOk result (λ a. (a ≡ step) × (state_of self.new ≡ record (state_of self.old) { next = next; task = Some (record { file = file; stage = stage }) })) }
+        ensures err { OnErr result (whole_of self.new ≡ whole_of self.old) }
+        ensures sound { OnOk result (IsSound self.new) }
+        ensures held { OnErr result (IsHeld self.new) }
     {
         match self.wait(alloc, file, stage, next) {
-            Ok(()) => Ok(acts),
+            Ok(()) => Ok(step),
             Err(error) => {
-                drop(acts);
+                drop(step);
                 Err(error)
             }
         }
     }
 
-    /// All chunks are stored: COMMITTMP goes out behind what goes out already. An `Err` changes
-    /// nothing.
-    fn commit(&mut self, alloc: Global, file: u64, going: Going) -> Result<Acts, AllocError>
-        requires sound { IsSound self.old }
-        requires xid { going.next + 1 < 2 ^ 32 }
-        requires rises { self.old.next ≤ going.next }
-        ensures ok { IfOk result (λ a. goes_if (state_of self.old) file (local_bytes self.old.opened.entries file) going true ≡ (state_of self.new, a)) }
+    /// All chunks are stored: COMMITTMP goes out behind what goes out already, which are so many
+    /// CONDWRITEs. An `Err` changes nothing.
+    fn commit(
+        &mut self,
+        alloc: Global,
+        file: u64,
+        names: Names,
+        count: u64,
+    ) -> Result<ClientStep, AllocError>
+        requires held { IsHeld self.old }
+        requires rises { self.old.next ≤ names.next }
+        requires xid { names.next + 1 < 4294967296 }
+        requires count { count ≡ length names.send }
+        ensures ok { IfOk result (λ a. goes_if (state_of self.old) file (local_bytes self.old.opened.entries file) names true ≡ (state_of self.new, a)) }
         ensures done { IfOk result (λ a. a.missed ≡ false) }
-        ensures err { OnErr result (state_of self.new ≡ state_of self.old) }
-        ensures sound { IsSound self.new }
+        ensures err { OnErr result (whole_of self.new ≡ whole_of self.old) }
+        ensures sound { OnOk result (IsSound self.new) }
+        ensures held { OnErr result (IsHeld self.new) }
     {
-        let Going {
+        let Names {
             store,
             next,
             mut send,
-            counts,
-        } = going;
-        let fd = store.fd;
+        } = names;
+        let temp = store.temp;
         drop(store);
         let size = parts::local_bytes(&self.opened, file).len() as u64;
-        match chunks::send_commit(alloc, next, fd, file, size, &mut send) {
+        match calls::send_commit(alloc, next, temp, file, size, &mut send) {
             Ok(()) => {
-                let acts = parts::acts(send, counts);
-                self.send_and_wait(alloc, file, Stage::Committing(next), next + 1, acts)
+                let step = parts::sends(send, stores::names_counted(count));
+                self.send_and_wait(alloc, file, Stage::Committing(next), next + 1, step)
             }
             Err(error) => {
                 drop(send);
@@ -126,183 +135,251 @@ impl Inner {
         }
     }
 
-    /// What goes out for the chunks goes out, and their answers are waited for. An `Err` changes
-    /// nothing.
-    fn wait_for(&mut self, alloc: Global, file: u64, going: Going) -> Result<Acts, AllocError>
-        requires sound { IsSound self.old }
-        requires xids { going.next + calls_left going.store < 2 ^ 32 }
-        requires rises { self.old.next ≤ going.next }
-        ensures ok { IfOk result (λ a. goes_if (state_of self.old) file (local_bytes self.old.opened.entries file) going false ≡ (state_of self.new, a)) }
+    /// CONDWRITEs go out, so many, and their answers are waited for. An `Err` changes nothing.
+    fn wait_names(
+        &mut self,
+        alloc: Global,
+        file: u64,
+        names: Names,
+        count: u64,
+    ) -> Result<ClientStep, AllocError>
+        requires held { IsHeld self.old }
+        requires rises { self.old.next ≤ names.next }
+        requires within { IsStore names.store }
+        requires xids { HasXids names.next (stage.Storing names.store) }
+        requires count { count ≡ length names.send }
+        ensures ok { IfOk result (λ a. goes_if (state_of self.old) file (local_bytes self.old.opened.entries file) names false ≡ (state_of self.new, a)) }
         ensures done { IfOk result (λ a. a.missed ≡ false) }
-        ensures err { OnErr result (state_of self.new ≡ state_of self.old) }
-        ensures sound { IsSound self.new }
+        ensures err { OnErr result (whole_of self.new ≡ whole_of self.old) }
+        ensures sound { OnOk result (IsSound self.new) }
+        ensures held { OnErr result (IsHeld self.new) }
     {
-        let Going {
-            store,
-            next,
-            send,
-            counts,
-        } = going;
-        let acts = parts::acts(send, counts);
-        self.send_and_wait(alloc, file, Stage::Storing(store), next, acts)
+        let Names { store, next, send } = names;
+        let step = parts::sends(send, stores::names_counted(count));
+        self.send_and_wait(alloc, file, Stage::Storing(store), next, step)
     }
 
-    /// The calls that may be under way go out, or COMMITTMP where all chunks are stored. An `Err`
+    /// All CONDWRITEs that may be under way go out, or COMMITTMP where all chunks are stored. An `Err`
     /// changes nothing.
-    fn go_on(&mut self, alloc: Global, file: u64, store: Store) -> Result<Acts, AllocError>
-        requires sound { IsSound self.old }
-        requires xids { self.old.next + calls_left store < 2 ^ 32 }
+    fn go_on(&mut self, alloc: Global, file: u64, store: Store) -> Result<ClientStep, AllocError>
+        requires held { IsHeld self.old }
+        requires within { IsStore store }
+        requires xids { HasXids self.old.next (stage.Storing store) }
         ensures ok { IfOk result (λ a. goes_on (state_of self.old) file (local_bytes self.old.opened.entries file) store ≡ (state_of self.new, a)) }
         ensures done { IfOk result (λ a. a.missed ≡ false) }
-        ensures err { OnErr result (state_of self.new ≡ state_of self.old) }
-        ensures sound { IsSound self.new }
+        ensures err { OnErr result (whole_of self.new ≡ whole_of self.old) }
+        ensures sound { OnOk result (IsSound self.new) }
+        ensures held { OnErr result (IsHeld self.new) }
     {
-        let content = parts::local_bytes(&self.opened, file);
-        let going = chunks::send_all(alloc, content, store, self.next)?;
-        if chunks::is_stored(&going.store) {
-            self.commit(alloc, file, going)
+        let named = store.named;
+        let names = calls::name_all(alloc, store, self.next)?;
+        let count = (names.store.named - named) as u64;
+        if calls::is_stored(&names.store) {
+            self.commit(alloc, file, names, count)
         } else {
-            self.wait_for(alloc, file, going)
+            self.wait_names(alloc, file, names, count)
         }
     }
 
     /// The temporary file is there: the chunks of the content go into it. An `Err` changes nothing.
-    fn store(&mut self, alloc: Global, file: u64, fd: u32) -> Result<Acts, AllocError>
-        requires sound { IsSound self.old }
-        requires xids { self.old.next + 3 < 2 ^ 32 }
-        ensures ok { IfOk result (λ a. stores (state_of self.old) file fd (local_bytes self.old.opened.entries file) ≡ (state_of self.new, a)) }
+    fn store(&mut self, alloc: Global, file: u64, temp: u32) -> Result<ClientStep, AllocError>
+        requires held { IsHeld self.old }
+        requires xids { HasXids self.old.next (stage.Making 0 temp) }
+        ensures ok { IfOk result (λ a. goes_on (state_of self.old) file (local_bytes self.old.opened.entries file) (store_of temp (local_bytes self.old.opened.entries file)) ≡ (state_of self.new, a)) }
         ensures done { IfOk result (λ a. a.missed ≡ false) }
-        ensures err { OnErr result (state_of self.new ≡ state_of self.old) }
-        ensures sound { IsSound self.new }
+        ensures err { OnErr result (whole_of self.new ≡ whole_of self.old) }
+        ensures sound { OnOk result (IsSound self.new) }
+        ensures held { OnErr result (IsHeld self.new) }
     {
         let content = parts::local_bytes(&self.opened, file);
-        let store = Store {
-            fd,
-            conds: chunks::chunks_of(alloc, content)?,
-            owed: Items::new(alloc),
-            under: Items::new(alloc),
-        };
+        let store = stores::store_of(alloc, temp, content)?;
         self.go_on(alloc, file, store)
     }
 
-    /// An answer while a temporary file is asked for. An `Err` changes nothing but the operation
-    /// under way.
+    /// An answer while a temporary file is asked for. An `Err` changes nothing.
     pub fn took_temp(
         &mut self,
         alloc: Global,
         file: u64,
-        asked: u32,
-        fd: u32,
+        temp: u32,
         xid: u32,
         body: Body,
-    ) -> Result<Acts, AllocError>
-        requires sound { IsSound self.old }
-        requires xids { self.old.next + 3 < 2 ^ 32 }
-        ensures ok { IfOk result (λ a. took (state_of self.old) file (stage.Making asked fd) xid body ≡ (state_of self.new, a)) }
+    ) -> Result<ClientStep, AllocError>
+        requires held { IsHeld self.old }
+        requires xids { HasXids self.old.next (stage.Making 0 temp) }
+        ensures ok { IfOk result (λ a. took (state_of self.old) self.old.waiting.calls file (stage.Making 0 temp) xid body ≡ (state_of self.new, a)) }
         ensures done { IfOk result (λ a. a.missed ≡ false) }
-        ensures err { OnErr result (idle (state_of self.new) ≡ idle (state_of self.old)) }
-        ensures sound { IsSound self.new }
+        ensures err { OnErr result (whole_of self.new ≡ whole_of self.old) }
+        ensures sound { OnOk result (IsSound self.new) }
+        ensures held { OnErr result (IsHeld self.new) }
     {
         match body {
             Body::Lb(Lb::MkTmpFileAnswer(answer)) => match answer {
-                Answer::Failed(status, _) => Ok(self.refused(alloc, status, xid)),
-                Answer::Done(_) => self.store(alloc, file, fd),
+                Answer::Failed(status, _) => Ok(self.refused(alloc, xid, status)),
+                Answer::Done(_) => self.store(alloc, file, temp),
             },
             other => {
                 drop(other);
-                Ok(self.unawaited(alloc, xid))
+                Ok(self.unknown(alloc, xid))
             }
         }
     }
 
-    /// The answer to a CONDWRITE: where the server doesn't know the chunk, its bytes are owed. An
-    /// `Err` changes nothing but the operation under way.
+    /// The bytes of a chunk go out in the place of its name. An `Err` changes nothing.
+    #[tactic(auto, using(crate::proofs::Sending::whole_xids, crate::proofs::Sending::whole_within))]
+    fn send_whole(
+        &mut self,
+        alloc: Global,
+        file: u64,
+        store: Store,
+        call: StoreCall,
+        chunk: &Chunk,
+    ) -> Result<ClientStep, AllocError>
+        requires held { IsHeld self.old }
+        requires within { IsStore store }
+        requires xids { self.old.next + store_left store + 1 < 4294967296 }
+        ensures ok { IfOk result (λ a. sends_whole (state_of self.old) file 0 (local_bytes self.old.opened.entries file) store call (Some chunk.now) ≡ (state_of self.new, a)) }
+        ensures done { IfOk result (λ a. a.missed ≡ false) }
+        ensures err { OnErr result (whole_of self.new ≡ whole_of self.old) }
+        ensures sound { OnOk result (IsSound self.new) }
+        ensures held { OnErr result (IsHeld self.new) }
+    {
+        let xid = self.next;
+        let temp = store.temp;
+        let content = parts::local_bytes(&self.opened, file);
+        let bytes = stores::bytes_count(content, chunk);
+        let store = stores::with_whole(store, call, xid)?;
+        let whole = messages::temp_call(alloc, xid, temp, content, chunk)?;
+        match self.wait(alloc, file, Stage::Storing(store), xid + 1) {
+            Ok(()) => Ok(parts::sends(SendList::one(alloc, whole), stores::whole_counted(bytes))),
+            Err(error) => {
+                drop(whole);
+                Err(error)
+            }
+        }
+    }
+
+    /// The server doesn't know a chunk that was named. An `Err` changes nothing.
+    fn told_missing(
+        &mut self,
+        alloc: Global,
+        file: u64,
+        store: Store,
+        call: StoreCall,
+        xid: u32,
+    ) -> Result<ClientStep, AllocError>
+        requires held { IsHeld self.old }
+        requires within { IsStore store }
+        requires xids { self.old.next + store_left store + 1 < 4294967296 }
+        ensures ok { IfOk result (λ a. sends_whole (state_of self.old) file xid (local_bytes self.old.opened.entries file) store call (slice_get store.chunks call.index) ≡ (state_of self.new, a)) }
+        ensures done { IfOk result (λ a. a.missed ≡ false) }
+        ensures err { OnErr result (whole_of self.new ≡ whole_of self.old) }
+        ensures sound { OnOk result (IsSound self.new) }
+        ensures held { OnErr result (IsHeld self.new) }
+    {
+        match calls::chunk_at(store.chunks.as_slice(), call.index) {
+            Some(chunk) => self.send_whole(alloc, file, store, call, &chunk),
+            None => Ok(self.unknown(alloc, xid)),
+        }
+    }
+
+    /// The answer to a CONDWRITE, which is no longer under way. An `Err` changes nothing.
     fn told_named(
         &mut self,
         alloc: Global,
         file: u64,
-        mut store: Store,
-        under: Under,
+        store: Store,
+        call: StoreCall,
+        xid: u32,
         answer: Answer<(), ()>,
-    ) -> Result<Acts, AllocError>
-        requires sound { IsSound self.old }
-        requires xids { self.old.next + calls_left store + 1 < 2 ^ 32 }
-        ensures ok { IfOk result (λ a. stored (state_of self.old) file (local_bytes self.old.opened.entries file) store under way.Named (body.Lb (lb.CondWriteAnswer answer)) ≡ (state_of self.new, a)) }
+    ) -> Result<ClientStep, AllocError>
+        requires held { IsHeld self.old }
+        requires within { IsStore store }
+        requires xids { self.old.next + store_left store + 1 < 4294967296 }
+        ensures ok { IfOk result (λ a. told_named (state_of self.old) self.old.waiting.calls file xid (local_bytes self.old.opened.entries file) store call answer ≡ (state_of self.new, a)) }
         ensures done { IfOk result (λ a. a.missed ≡ false) }
-        ensures err { OnErr result (idle (state_of self.new) ≡ idle (state_of self.old)) }
-        ensures sound { IsSound self.new }
+        ensures err { OnErr result (whole_of self.new ≡ whole_of self.old) }
+        ensures sound { OnOk result (IsSound self.new) }
+        ensures held { OnErr result (IsHeld self.new) }
     {
         match answer {
             Answer::Done(()) => self.go_on(alloc, file, store),
             Answer::Failed(Status::HashNotFound, _) => {
-                store.owed = chunks::with_owed(under.chunk, store.owed)?;
-                self.go_on(alloc, file, store)
+                self.told_missing(alloc, file, store, call, xid)
             }
-            Answer::Failed(status, _) => Ok(self.refused(alloc, status, under.xid)),
+            Answer::Failed(status, _) => Ok(self.refused(alloc, xid, status)),
         }
     }
 
-    /// The answer to a call for a chunk, which is no longer under way. An `Err` changes nothing but
-    /// the operation under way.
+    /// The answer to a call for a chunk, which is no longer under way. An `Err` changes nothing.
     fn told_chunk(
         &mut self,
         alloc: Global,
         file: u64,
         store: Store,
-        under: Under,
+        call: StoreCall,
+        xid: u32,
         body: Body,
-    ) -> Result<Acts, AllocError>
-        requires sound { IsSound self.old }
-        requires xids { self.old.next + calls_left store + calls_after under.way < 2 ^ 32 }
-        ensures ok { IfOk result (λ a. stored (state_of self.old) file (local_bytes self.old.opened.entries file) store under under.way body ≡ (state_of self.new, a)) }
+    ) -> Result<ClientStep, AllocError>
+        requires held { IsHeld self.old }
+        requires within { IsStore store }
+        requires xids { self.old.next + store_left store + calls_after call.way < 4294967296 }
+        ensures ok { IfOk result (λ a. told_way (state_of self.old) self.old.waiting.calls file xid (local_bytes self.old.opened.entries file) store call call.way body ≡ (state_of self.new, a)) }
         ensures done { IfOk result (λ a. a.missed ≡ false) }
-        ensures err { OnErr result (idle (state_of self.new) ≡ idle (state_of self.old)) }
-        ensures sound { IsSound self.new }
+        ensures err { OnErr result (whole_of self.new ≡ whole_of self.old) }
+        ensures sound { OnOk result (IsSound self.new) }
+        ensures held { OnErr result (IsHeld self.new) }
     {
-        match (under.way, body) {
+        match (call.way, body) {
             (Way::Named, Body::Lb(Lb::CondWriteAnswer(answer))) => {
-                self.told_named(alloc, file, store, under, answer)
+                self.told_named(alloc, file, store, call, xid, answer)
             }
             (Way::Whole, Body::Lb(Lb::TmpWriteAnswer(answer))) => match answer {
                 Answer::Done(_) => self.go_on(alloc, file, store),
-                Answer::Failed(status, _) => Ok(self.refused(alloc, status, under.xid)),
+                Answer::Failed(status, _) => Ok(self.refused(alloc, xid, status)),
             },
             (_, other) => {
                 drop(other);
-                Ok(self.unawaited(alloc, under.xid))
+                Ok(self.unknown(alloc, xid))
             }
         }
     }
 
-    /// An answer while chunks are stored. An `Err` changes nothing but the operation under way.
-    #[tactic(auto, using(crate::proofs::Calls::calls_after_answer))]
+    /// An answer while chunks are stored. An `Err` changes nothing.
+    #[tactic(auto, using(crate::proofs::Sending::calls_after_answer))]
     pub fn took_stored(
         &mut self,
         alloc: Global,
         file: u64,
-        mut store: Store,
+        store: Store,
         xid: u32,
         body: Body,
-    ) -> Result<Acts, AllocError>
-        requires sound { IsSound self.old }
-        requires xids { self.old.next + calls_left store < 2 ^ 32 }
-        ensures ok { IfOk result (λ a. took (state_of self.old) file (stage.Storing store) xid body ≡ (state_of self.new, a)) }
+    ) -> Result<ClientStep, AllocError>
+        requires held { IsHeld self.old }
+        requires within { IsStore store }
+        requires xids { HasXids self.old.next (stage.Storing store) }
+        ensures ok { IfOk result (λ a. took (state_of self.old) self.old.waiting.calls file (stage.Storing store) xid body ≡ (state_of self.new, a)) }
         ensures done { IfOk result (λ a. a.missed ≡ false) }
-        ensures err { OnErr result (idle (state_of self.new) ≡ idle (state_of self.old)) }
-        ensures sound { IsSound self.new }
+        ensures err { OnErr result (whole_of self.new ≡ whole_of self.old) }
+        ensures sound { OnOk result (IsSound self.new) }
+        ensures held { OnErr result (IsHeld self.new) }
     {
-        let Some(under) = chunks::under_at(store.under.as_slice(), xid) else {
-            drop(body);
-            return Ok(self.unawaited(alloc, xid));
-        };
-        store.under = chunks::without_under(store.under, xid);
-        self.told_chunk(alloc, file, store, under, body)
+        match calls::store_at(store.under.as_slice(), xid) {
+            Some(call) => {
+                let store = stores::answered(store, xid);
+                self.told_chunk(alloc, file, store, call, xid, body)
+            }
+            None => {
+                drop(body);
+                Ok(self.unknown(alloc, xid))
+            }
+        }
     }
 
     /// The file has its new content, and is no longer open. It takes no memory.
-    fn closed(&mut self, alloc: Global, file: u64, version: u64, xid: u32) -> Acts
-        requires { IsSound self.old }
-        ensures ok { closed (state_of self.old) file version (local_bytes self.old.opened.entries file) xid ≡ (state_of self.new, result) }
+    fn closed(&mut self, alloc: Global, file: u64, xid: u32, version: u64) -> ClientStep
+        requires { IsHeld self.old }
+        ensures ok { closed (state_of self.old) self.old.waiting.calls file xid version (local_bytes self.old.opened.entries file) ≡ (state_of self.new, result) }
         ensures done { result.missed ≡ false }
         ensures sound { IsSound self.new }
     {
@@ -313,33 +390,26 @@ impl Inner {
             len: content.len() as u64,
             sha1: Sha1::digest(content),
         };
-        self.forget(file);
-        self.stop(alloc);
+        self.shut(file);
+        self.forget(alloc, xid);
         parts::ends(alloc, outcome, xid, 0)
     }
 
     /// An answer while COMMITTMP is under way. It takes no memory.
-    pub fn took_commit(
-        &mut self,
-        alloc: Global,
-        file: u64,
-        asked: u32,
-        xid: u32,
-        body: Body,
-    ) -> Acts
-        requires { IsSound self.old }
-        ensures ok { took (state_of self.old) file (stage.Committing asked) xid body ≡ (state_of self.new, result) }
+    pub fn took_commit(&mut self, alloc: Global, file: u64, xid: u32, body: Body) -> ClientStep
+        requires { IsHeld self.old }
+        ensures ok { took (state_of self.old) self.old.waiting.calls file (stage.Committing 0) xid body ≡ (state_of self.new, result) }
         ensures done { result.missed ≡ false }
         ensures sound { IsSound self.new }
     {
         match body {
             Body::Lb(Lb::CommitTmpAnswer(answer)) => match answer {
-                Answer::Failed(status, _) => self.refused(alloc, status, xid),
-                Answer::Done(committed) => self.closed(alloc, file, committed.version, xid),
+                Answer::Failed(status, _) => self.refused(alloc, xid, status),
+                Answer::Done(committed) => self.closed(alloc, file, xid, committed.version),
             },
             other => {
                 drop(other);
-                self.unawaited(alloc, xid)
+                self.unknown(alloc, xid)
             }
         }
     }

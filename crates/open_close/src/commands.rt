@@ -1,52 +1,70 @@
-//! The commands on an open file that need no message.
+//! The commands on an open file that need no message. `specs/Step.antt` says what each is told.
 
-ghost use Rattle.std.specs.Prelude.{◌≡◌, ◌≤◌, length, None, Some, IfOk, OnErr, false};
+ghost use Rattle.std.specs.Prelude.{◌≡◌, ◌≤◌, length, None, Some, IfOk, OnOk, OnErr, false};
 ghost use Rattle.std.specs.List.{All};
 ghost use Rattle.std.specs.Map.{values_of};
-ghost use Rattle.open_close.specs.State.{State, local_at};
+ghost use Rattle.limits.specs.declared.TheConstants.{FILE_MOST};
+ghost use Rattle.open_close.specs.State.{State, local_at, with_local};
 ghost use Rattle.open_close.specs.Step.{on_local, writes, truncates, reads, abandons, done_with};
-ghost use Rattle.open_close.specs.View.{state_of, IsSound, IsLocalBounded};
+ghost use Rattle.open_close.specs.View.{state_of, whole_of, IsBase, IsSound, IsLocalBounded};
 
-use crate::acts::{Acts, Outcome};
-use crate::inner::Inner;
 use crate::local::{self, LOCAL_MOST};
 use crate::parts;
+use crate::state::ClientState;
+use crate::step::{ClientStep, Outcome};
 use crate::task::Local;
+use command_text::content::{self, Content};
 use lb_base::items::Bytes;
 use sha1::Sha1;
 use std::alloc::{AllocError, Global};
-use trace_text::content::{self, Content};
 
-impl Inner {
+impl ClientState {
     /// The file is open with this content, whatever it was before. An `Err` changes nothing.
     #[tactic(auto, using(crate::proofs::Bounds::locals_with))]
-    fn put(
+    pub fn put(&mut self, file: u64, version: u64, bytes: Bytes) -> Result<(), AllocError>
+        requires base { IsBase self.old }
+        requires small { length bytes ≤ FILE_MOST }
+        ensures ok { OnOk result (state_of self.new ≡ record (state_of self.old) { opened = with_local self.old.opened.entries file (record { version = version; bytes = bytes }) }) }
+        ensures err { OnErr result (state_of self.new ≡ state_of self.old) }
+        ensures task { self.new.task ≡ self.old.task }
+        ensures waits { self.new.waiting ≡ self.old.waiting }
+        ensures own { self.new.own ≡ self.old.own }
+        ensures next { self.new.next ≡ self.old.next }
+        ensures base { IsBase self.new }
+    {
+        let old = self.opened.insert(file, Local { version, bytes })?;
+        drop(old);
+        Ok(())
+    }
+
+    /// The file is open with this content, and the command is done. An `Err` changes nothing.
+    fn done_with(
         &mut self,
         alloc: Global,
         file: u64,
         version: u64,
         bytes: Bytes,
-    ) -> Result<Acts, AllocError>
+    ) -> Result<ClientStep, AllocError>
         requires sound { IsSound self.old }
-        requires small { length bytes ≤ 67108864 }
+        requires small { length bytes ≤ FILE_MOST }
         ensures ok { IfOk result (λ a. done_with (state_of self.old) file (record { version = version; bytes = bytes }) bytes ≡ (state_of self.new, a)) }
         ensures done { IfOk result (λ a. a.missed ≡ false) }
         ensures err { OnErr result (state_of self.new ≡ state_of self.old) }
         ensures sound { IsSound self.new }
     {
-        self.opened.insert(file, Local { version, bytes })?;
+        self.put(file, version, bytes)?;
         Ok(parts::ends(alloc, Outcome::Done, 0, 0))
     }
 
     /// A command to write a content into an open file. An `Err` changes nothing.
-    #[tactic(auto, using(trace_text::proofs::Contents::content_size))]
+    #[tactic(auto, using(command_text::proofs::Contents::content_size))]
     pub fn write(
         &mut self,
         alloc: Global,
         file: u64,
         offset: u64,
         content: Content,
-    ) -> Result<Acts, AllocError>
+    ) -> Result<ClientStep, AllocError>
         requires { IsSound self.old }
         ensures ok { IfOk result (λ a. on_local (state_of self.old) self.old.task (local_at self.old.opened.entries file) (writes (state_of self.old) file offset content) ≡ (state_of self.new, a)) }
         ensures done { IfOk result (λ a. a.missed ≡ false) }
@@ -71,11 +89,11 @@ impl Inner {
         let more = content::build(alloc, &content)?;
         let bytes = local::written(alloc, old, offset, more.as_slice())?;
         let version = local.version;
-        self.put(alloc, file, version, bytes)
+        self.done_with(alloc, file, version, bytes)
     }
 
     /// A command to give an open file a size. An `Err` changes nothing.
-    pub fn trunc(&mut self, alloc: Global, file: u64, size: u64) -> Result<Acts, AllocError>
+    pub fn trunc(&mut self, alloc: Global, file: u64, size: u64) -> Result<ClientStep, AllocError>
         requires { IsSound self.old }
         ensures ok { IfOk result (λ a. on_local (state_of self.old) self.old.task (local_at self.old.opened.entries file) (truncates (state_of self.old) file size) ≡ (state_of self.new, a)) }
         ensures done { IfOk result (λ a. a.missed ≡ false) }
@@ -93,11 +111,11 @@ impl Inner {
         }
         let bytes = local::truncated(alloc, local.bytes.as_slice(), size)?;
         let version = local.version;
-        self.put(alloc, file, version, bytes)
+        self.done_with(alloc, file, version, bytes)
     }
 
     /// A command to read a part of an open file. It takes no memory.
-    pub fn read_part(&mut self, alloc: Global, file: u64, offset: u64, count: u64) -> Acts
+    pub fn read_part(&mut self, alloc: Global, file: u64, offset: u64, count: u64) -> ClientStep
         requires { IsSound self.old }
         ensures ok { on_local (state_of self.old) self.old.task (local_at self.old.opened.entries file) (reads (state_of self.old) offset count) ≡ (state_of self.new, result) }
         ensures done { result.missed ≡ false }
@@ -118,7 +136,7 @@ impl Inner {
     }
 
     /// A command to forget what was written to an open file, and close it. It takes no memory.
-    pub fn abandon(&mut self, alloc: Global, file: u64) -> Acts
+    pub fn abandon(&mut self, alloc: Global, file: u64) -> ClientStep
         requires { IsSound self.old }
         ensures ok { on_local (state_of self.old) self.old.task (local_at self.old.opened.entries file) (abandons (state_of self.old) file) ≡ (state_of self.new, result) }
         ensures done { result.missed ≡ false }
@@ -130,7 +148,7 @@ impl Inner {
         if !parts::is_open(&self.opened, file) {
             return parts::ends(alloc, Outcome::NotOpen, 0, 0);
         }
-        self.forget(file);
+        self.shut(file);
         parts::ends(alloc, Outcome::Done, 0, 0)
     }
 }

@@ -2,20 +2,23 @@
 //! outcome.
 //!
 //! It stands on `wire`'s messages and knows no bytes of the wire. It keeps the open files' whole
-//! contents.
+//! contents. `specs/Step.antt` says what a command, or a message, does; `specs/Opening.antt` how a
+//! file is fetched, and `specs/Closing.antt` how it is stored.
 #![tactic(auto)]
 
-pub mod acts;
-mod chunks;
+mod calls;
 pub mod client;
 mod closing;
 mod commands;
-mod inner;
+mod fetch;
 mod local;
+mod messages;
 mod opening;
 mod parts;
-pub mod sends;
 mod shape;
+mod state;
+pub mod step;
+mod stores;
+mod taking;
 pub mod task;
-#[cfg(test)]
-mod tests;
+mod waits;

@@ -1,13 +1,14 @@
-//! What write, trunc and read make of an open file's bytes.
+//! What write, trunc and read make of an open file's bytes: `specs/Local.antt`.
 
 ghost use Rattle.std.specs.Prelude.{◌≡◌, [], ◌+◌, ◌-◌, ◌++◌, ◌<◌, ◌≤◌, length, take, drop, replicate, IfOk, OnOk};
 ghost use Rattle.open_close.specs.Local.{written_size, written, truncated, part_of};
 
 use lb_base::items::{Bytes, Items};
+use limits::FILE_MOST;
 use std::alloc::{AllocError, Global};
 
 /// No local content is longer, in bytes.
-pub const LOCAL_MOST: u128 = 2048;
+pub const LOCAL_MOST: u128 = FILE_MOST as u128;
 
 /// The first so many bytes, or as many as there are.
 #[tactic(auto, using(std::proofs::lemmas::List::take_all))]

@@ -1,16 +1,19 @@
-//! The commands that open a file: its chunks are asked for, and then their bytes.
+//! The commands that open a file: its chunks are asked for, piece by piece, and then their bytes.
+//! `specs/Opening.antt` and `specs/Step.antt` say how.
 
-ghost use Rattle.std.specs.Prelude.{◌≡◌, ◌+◌, ◌<◌, ◌≤◌, ◌^◌, length, remove, None, Some, slice_get, IfOk, OnErr, false, true};
-ghost use Rattle.open_close.specs.State.{State};
-ghost use Rattle.open_close.specs.Step.{asks_hashes, opens_if, opens, opened_with, reads_first, reads_on, told_shape, told_bytes, told_piece, took, idle, has_xids, may_ask, is_open};
-ghost use Rattle.open_close.specs.View.{state_of, IsSound, HasXids, IsWithin};
-ghost use Rattle.open_close.specs.Shape.{broken_of, size_sum};
+ghost use Rattle.std.specs.Prelude.{◌≡◌, ◌+◌, ◌<◌, ◌≤◌, ◌==◌, length, None, Some, slice_get, nat_lt, IfOk, OnOk, OnErr, false, true};
+ghost use Rattle.open_close.specs.Opening.{is_here, read_at, fault_in, with_bytes, other_version, fetch_of, with_hashes, listed, tries_most};
+ghost use Rattle.open_close.specs.Shape.{broken_of};
+ghost use Rattle.open_close.specs.Step.{opens, forgets, tries_anew, opened_with, retries, changes, reads_if, reads_on, lists_on, told_shape, told_version, told_hashes, told_first, misfits, told_bytes, told_chunk, told_piece, took};
+ghost use Rattle.open_close.specs.View.{state_of, whole_of, later_left, IsListing, IsReading, IsFetch, IsHeld, IsSound, IsSendingReads, HasXids, IsWithin};
 ghost use Rattle.open_close.specs.declared.task.Stage.TheVariants as stage;
 
-use crate::acts::{Acts, BadPeer, Outcome};
-use crate::inner::{Inner, XID_END};
-use crate::task::{Fetch, Local, Stage};
-use crate::{parts, shape};
+use crate::calls::{self, Reads};
+use crate::state::ClientState;
+use crate::step::{BadPeer, ClientStep, Outcome};
+use crate::task::{Fetch, Local, ReadCall, Stage};
+use crate::{fetch, messages, parts, shape};
+use chunk_cut::chunk::Chunk;
 use hash_calls::call::Hashes;
 use hash_calls::message::Lb;
 use lb_base::items::Bytes;
@@ -21,9 +24,13 @@ use std::alloc::{AllocError, Global};
 use wire::message::Body;
 use xdr_codec::answer::Answer;
 
-impl Inner {
+/// The most attempts of an open.
+const TRIES_MOST: u32 = limits::ATTEMPTS_MOST;
+
+impl ClientState {
     /// A command to open a file. An `Err` changes nothing.
-    pub fn open(&mut self, alloc: Global, file: u64) -> Result<Acts, AllocError>
+    #[tactic(auto, using(crate::proofs::Pending::held_of))]
+    pub fn open(&mut self, alloc: Global, file: u64) -> Result<ClientStep, AllocError>
         requires { IsSound self.old }
         ensures ok { IfOk result (λ a. opens (state_of self.old) file self.old.task ≡ (state_of self.new, a)) }
         ensures done { IfOk result (λ a. a.missed ≡ false) }
@@ -39,23 +46,23 @@ impl Inner {
         if !self.may_ask() {
             return Ok(parts::ends(alloc, Outcome::NoLink, 0, 0));
         }
-        let acts = self.ask_hashes(alloc, file)?;
-        Ok(acts)
+        self.ask_hashes(alloc, file)
     }
 
-    /// The file's chunks are asked for. An `Err` changes nothing.
-    fn ask_hashes(&mut self, alloc: Global, file: u64) -> Result<Acts, AllocError>
+    /// The first attempt begins. An `Err` changes nothing.
+    fn ask_hashes(&mut self, alloc: Global, file: u64) -> Result<ClientStep, AllocError>
         requires sound { IsSound self.old }
+        requires idle { self.old.task ≡ None }
         requires xids { self.old.next < 4293967297 }
-        ensures ok { IfOk result (λ a. asks_hashes (state_of self.old) file true ≡ (state_of self.new, a)) }
+        ensures ok { IfOk result (λ a. tries_anew (state_of self.old) file 1 0 ≡ (state_of self.new, a)) }
         ensures done { IfOk result (λ a. a.missed ≡ false) }
         ensures err { OnErr result (state_of self.new ≡ state_of self.old) }
         ensures sound { IsSound self.new }
     {
         let xid = self.next;
-        let call = parts::hash_call(alloc, xid, file)?;
-        match self.wait(alloc, file, Stage::Hashing(xid), xid + 1) {
-            Ok(()) => Ok(parts::sends(alloc, call, 0, 0)),
+        let call = messages::hash_call(alloc, xid, file, 0)?;
+        match self.wait(alloc, file, Stage::Hashing { tries: 1, xid }, xid + 1) {
+            Ok(()) => Ok(parts::sends_one(alloc, call, 0)),
             Err(error) => {
                 drop(call);
                 Err(error)
@@ -63,60 +70,57 @@ impl Inner {
         }
     }
 
-    /// The file is whole and open. An `Err` changes nothing but the operation under way.
-    #[tactic(auto, using(crate::proofs::Bounds::locals_with))]
+    /// The file is whole and open. An `Err` changes nothing.
+    #[tactic(auto, using(crate::proofs::Bounds::locals_with, crate::proofs::Slots::slots_small))]
     fn opened_with(
         &mut self,
         alloc: Global,
         file: u64,
         fetch: Fetch,
+        xid: u32,
         bytes: u64,
-    ) -> Result<Acts, AllocError>
-        requires sound { IsSound self.old }
-        requires fits { length fetch.bytes ≤ 67108864 }
-        ensures ok { IfOk result (λ a. opened_with (state_of self.old) file fetch.version fetch.bytes fetch.asked bytes ≡ (state_of self.new, a)) }
+    ) -> Result<ClientStep, AllocError>
+        requires held { IsHeld self.old }
+        requires within { IsReading fetch }
+        ensures ok { IfOk result (λ a. opened_with (state_of self.old) self.old.waiting.calls file xid fetch bytes ≡ (state_of self.new, a)) }
         ensures done { IfOk result (λ a. a.missed ≡ false) }
-        ensures err { OnErr result (idle (state_of self.new) ≡ idle (state_of self.old)) }
-        ensures sound { IsSound self.new }
+        ensures err { OnErr result (whole_of self.new ≡ whole_of self.old) }
+        ensures sound { OnOk result (IsSound self.new) }
+        ensures held { OnErr result (IsHeld self.new) }
     {
+        let content = fetch::slots_bytes(alloc, fetch.slots.as_slice(), fetch.size)?;
         let outcome = Outcome::Opened {
             file,
-            len: fetch.bytes.len() as u64,
-            sha1: Sha1::digest(fetch.bytes.as_slice()),
+            len: content.len() as u64,
+            sha1: Sha1::digest(content.as_slice()),
         };
-        let asked = fetch.asked;
-        let local = Local {
-            version: fetch.version,
-            bytes: fetch.bytes,
-        };
-        self.opened.insert(file, local)?;
-        self.stop(alloc);
-        Ok(parts::ends(alloc, outcome, asked, bytes))
+        let version = fetch.version;
+        self.put(file, version, content)?;
+        self.forget(alloc, xid);
+        Ok(parts::ends(alloc, outcome, fetch.first, bytes))
     }
 
-    /// The first chunk that is left is asked for, of this size. An `Err` changes nothing.
-    fn read(
+    /// The next attempt begins. An `Err` changes nothing.
+    fn retry(
         &mut self,
         alloc: Global,
         file: u64,
-        mut fetch: Fetch,
-        size: u32,
+        tries: u32,
+        xid: u32,
         bytes: u64,
-    ) -> Result<Acts, AllocError>
-        requires sound { IsSound self.old }
-        requires some { 0 < length fetch.left }
-        requires xids { self.old.next + length fetch.left < 2 ^ 32 }
-        requires fits { length fetch.bytes + size_sum fetch.left ≤ 67108864 }
-        ensures ok { IfOk result (λ a. reads_first (state_of self.old) file fetch.asked fetch.version fetch.bytes fetch.left bytes (Some size) ≡ (state_of self.new, a)) }
+    ) -> Result<ClientStep, AllocError>
+        requires held { IsHeld self.old }
+        requires tries { tries < tries_most }
+        requires xids { self.old.next + 1 + later_left tries < 4294967296 }
+        ensures ok { IfOk result (λ a. tries_anew (forgets (state_of self.old) self.old.waiting.calls xid) file (tries + 1) bytes ≡ (state_of self.new, a)) }
         ensures done { IfOk result (λ a. a.missed ≡ false) }
-        ensures err { OnErr result (state_of self.new ≡ state_of self.old) }
-        ensures sound { IsSound self.new }
+        ensures err { OnErr result (whole_of self.new ≡ whole_of self.old) }
+        ensures sound { OnOk result (IsSound self.new) }
+        ensures held { OnErr result (IsHeld self.new) }
     {
-        let xid = self.next;
-        let call = parts::read_call(alloc, xid, file, fetch.bytes.len() as u64, size)?;
-        fetch.xid = xid;
-        match self.wait(alloc, file, Stage::Reading(fetch), xid + 1) {
-            Ok(()) => Ok(parts::sends(alloc, call, 1, bytes)),
+        let call = messages::hash_call(alloc, self.next, file, 0)?;
+        match self.wait_anew(alloc, file, tries + 1, xid) {
+            Ok(()) => Ok(parts::sends_one(alloc, call, bytes)),
             Err(error) => {
                 drop(call);
                 Err(error)
@@ -124,140 +128,364 @@ impl Inner {
         }
     }
 
-    /// The next chunk is asked for, or there is none left and the file is whole. An `Err` changes
-    /// nothing but the operation under way.
-    fn reads_on(
+    /// The attempt ends by another version than its own, and the next begins, or there is none. An
+    /// `Err` changes nothing.
+    fn change(
         &mut self,
         alloc: Global,
         file: u64,
-        fetch: Fetch,
+        fetch: &Fetch,
+        xid: u32,
+        version: u64,
         bytes: u64,
-    ) -> Result<Acts, AllocError>
-        requires sound { IsSound self.old }
-        requires xids { self.old.next + length fetch.left < 2 ^ 32 }
-        requires fits { length fetch.bytes + size_sum fetch.left ≤ 67108864 }
-        ensures ok { IfOk result (λ a. reads_on (state_of self.old) file fetch.asked fetch.version fetch.bytes fetch.left bytes ≡ (state_of self.new, a)) }
+    ) -> Result<ClientStep, AllocError>
+        requires held { IsHeld self.old }
+        requires tries { fetch.now.tries ≤ tries_most }
+        requires xids { self.old.next + 1 + later_left fetch.now.tries < 4294967296 }
+        ensures ok { IfOk result (λ a. changes (state_of self.old) self.old.waiting.calls file xid fetch.now version bytes ≡ (state_of self.new, a)) }
         ensures done { IfOk result (λ a. a.missed ≡ false) }
-        ensures err { OnErr result (idle (state_of self.new) ≡ idle (state_of self.old)) }
-        ensures sound { IsSound self.new }
+        ensures err { OnErr result (whole_of self.new ≡ whole_of self.old) }
+        ensures sound { OnOk result (IsSound self.new) }
+        ensures held { OnErr result (IsHeld self.new) }
     {
-        match parts::first_size(fetch.left.as_slice()) {
-            None => self.opened_with(alloc, file, fetch, bytes),
-            Some(size) => self.read(alloc, file, fetch, size, bytes),
+        if fetch.tries < TRIES_MOST {
+            return self.retry(alloc, file, fetch.tries, xid, bytes);
         }
+        let outcome = Outcome::Changed {
+            first: fetch.version,
+            last: version,
+        };
+        self.forget(alloc, xid);
+        Ok(parts::ends(alloc, outcome, 0, bytes))
     }
 
-    /// The file's chunks are known. An `Err` changes nothing but the operation under way.
-    fn told_hashes(
+    /// READs go out, and their answers are waited for. An `Err` changes nothing.
+    fn wait_reads(
         &mut self,
         alloc: Global,
         file: u64,
-        asked: u32,
-        hashes: Hashes,
-    ) -> Result<Acts, AllocError>
-        requires sound { IsSound self.old }
-        requires xids { self.old.next + 1024 < 2 ^ 32 }
-        ensures ok { IfOk result (λ a. told_shape (state_of self.old) file asked hashes (broken_of hashes) ≡ (state_of self.new, a)) }
+        reads: Reads,
+        asked: usize,
+        bytes: u64,
+    ) -> Result<ClientStep, AllocError>
+        requires held { IsHeld self.old }
+        requires sending { IsSendingReads asked self.old.next reads }
+        ensures ok { IfOk result (λ a. reads_if (state_of self.old) self.old.waiting.calls file 0 reads bytes false ≡ (state_of self.new, a)) }
         ensures done { IfOk result (λ a. a.missed ≡ false) }
-        ensures err { OnErr result (idle (state_of self.new) ≡ idle (state_of self.old)) }
-        ensures sound { IsSound self.new }
+        ensures err { OnErr result (whole_of self.new ≡ whole_of self.old) }
+        ensures sound { OnOk result (IsSound self.new) }
+        ensures held { OnErr result (IsHeld self.new) }
     {
-        match shape::broken_of(&hashes) {
-            Some((got, wanted)) => Ok(self.bad_peer(alloc, BadPeer::Shape { got, wanted }, 0)),
-            None => {
-                let fetch = Fetch {
-                    asked,
-                    xid: asked,
-                    version: hashes.version,
-                    left: hashes.pairs,
-                    bytes: Bytes::new(alloc),
-                };
-                self.reads_on(alloc, file, fetch, 0)
+        let Reads { fetch, next, send } = reads;
+        let count = (fetch.asked - asked) as u64;
+        match self.wait(alloc, file, Stage::Reading(fetch), next) {
+            Ok(()) => Ok(parts::sends_reads(send, count, bytes)),
+            Err(error) => {
+                drop(send);
+                Err(error)
             }
         }
     }
 
-    /// The bytes of the first chunk that is left have come, and are right. An `Err` changes nothing
-    /// but the operation under way.
+    /// All READs that may be under way go out, or all chunks are here. An `Err` changes nothing.
+    fn read_on(
+        &mut self,
+        alloc: Global,
+        file: u64,
+        fetch: Fetch,
+        xid: u32,
+        bytes: u64,
+    ) -> Result<ClientStep, AllocError>
+        requires held { IsHeld self.old }
+        requires within { IsReading fetch }
+        requires xids { HasXids self.old.next (stage.Reading fetch) }
+        ensures ok { IfOk result (λ a. reads_on (state_of self.old) self.old.waiting.calls file xid fetch bytes ≡ (state_of self.new, a)) }
+        ensures done { IfOk result (λ a. a.missed ≡ false) }
+        ensures err { OnErr result (whole_of self.new ≡ whole_of self.old) }
+        ensures sound { OnOk result (IsSound self.new) }
+        ensures held { OnErr result (IsHeld self.new) }
+    {
+        let asked = fetch.asked;
+        let reads = calls::read_all(alloc, file, fetch, self.next)?;
+        if calls::is_here(&reads.fetch) {
+            let Reads {
+                fetch,
+                next: _,
+                send,
+            } = reads;
+            drop(send);
+            self.opened_with(alloc, file, fetch, xid, bytes)
+        } else {
+            self.wait_reads(alloc, file, reads, asked, bytes)
+        }
+    }
+
+    /// The further chunks are asked for. An `Err` changes nothing.
+    fn list_on(&mut self, alloc: Global, file: u64, fetch: Fetch) -> Result<ClientStep, AllocError>
+        requires held { IsHeld self.old }
+        requires within { IsListing fetch }
+        requires xids { HasXids (self.old.next + 1) (stage.Listing 0 fetch) }
+        ensures ok { IfOk result (λ a. lists_on (state_of self.old) self.old.waiting.calls file 0 fetch false ≡ (state_of self.new, a)) }
+        ensures done { IfOk result (λ a. a.missed ≡ false) }
+        ensures err { OnErr result (whole_of self.new ≡ whole_of self.old) }
+        ensures sound { OnOk result (IsSound self.new) }
+        ensures held { OnErr result (IsHeld self.new) }
+    {
+        let xid = self.next;
+        let offset = shape::end_of(fetch.chunks.as_slice());
+        let call = messages::hash_call(alloc, xid, file, offset)?;
+        match self.wait(alloc, file, Stage::Listing { xid, fetch }, xid + 1) {
+            Ok(()) => Ok(parts::sends_one(alloc, call, 0)),
+            Err(error) => {
+                drop(call);
+                Err(error)
+            }
+        }
+    }
+
+    /// All chunks are told. An `Err` changes nothing.
+    #[tactic(auto, using(crate::proofs::Slots::listed_fits))]
+    fn read_first(
+        &mut self,
+        alloc: Global,
+        file: u64,
+        fetch: Fetch,
+        xid: u32,
+    ) -> Result<ClientStep, AllocError>
+        requires held { IsHeld self.old }
+        requires within { IsFetch fetch }
+        requires fresh { fetch.asked ≡ 0 }
+        requires xids { HasXids self.old.next (stage.Reading fetch) }
+        ensures ok { IfOk result (λ a. reads_on (state_of self.old) self.old.waiting.calls file xid (listed fetch) 0 ≡ (state_of self.new, a)) }
+        ensures done { IfOk result (λ a. a.missed ≡ false) }
+        ensures err { OnErr result (whole_of self.new ≡ whole_of self.old) }
+        ensures sound { OnOk result (IsSound self.new) }
+        ensures held { OnErr result (IsHeld self.new) }
+    {
+        let fetch = fetch::listed(alloc, fetch)?;
+        self.read_on(alloc, file, fetch, xid, 0)
+    }
+
+    /// A piece can be, and its chunks are listed. An `Err` changes nothing.
+    #[tactic(auto, using(crate::proofs::Pieces::few_pairs))]
+    fn add_piece(
+        &mut self,
+        alloc: Global,
+        file: u64,
+        fetch: Fetch,
+        hashes: &Hashes,
+        xid: u32,
+    ) -> Result<ClientStep, AllocError>
+        requires held { IsHeld self.old }
+        requires within { IsListing fetch }
+        requires can { broken_of fetch hashes.now ≡ None }
+        requires xids { HasXids self.old.next (stage.Listing 0 fetch) }
+        ensures ok { IfOk result (λ a. lists_on (state_of self.old) self.old.waiting.calls file xid (with_hashes fetch hashes.now) hashes.now.eof ≡ (state_of self.new, a)) }
+        ensures done { IfOk result (λ a. a.missed ≡ false) }
+        ensures err { OnErr result (whole_of self.new ≡ whole_of self.old) }
+        ensures sound { OnOk result (IsSound self.new) }
+        ensures held { OnErr result (IsHeld self.new) }
+    {
+        let fetch = fetch::with_hashes(fetch, hashes)?;
+        if hashes.eof {
+            self.read_first(alloc, file, fetch, xid)
+        } else {
+            self.list_on(alloc, file, fetch)
+        }
+    }
+
+    /// A piece is of the attempt's version. An `Err` changes nothing.
+    fn told_shape(
+        &mut self,
+        alloc: Global,
+        file: u64,
+        fetch: Fetch,
+        hashes: &Hashes,
+        xid: u32,
+    ) -> Result<ClientStep, AllocError>
+        requires held { IsHeld self.old }
+        requires within { IsListing fetch }
+        requires xids { HasXids self.old.next (stage.Listing 0 fetch) }
+        ensures ok { IfOk result (λ a. told_shape (state_of self.old) self.old.waiting.calls file xid fetch hashes.now (broken_of fetch hashes.now) ≡ (state_of self.new, a)) }
+        ensures done { IfOk result (λ a. a.missed ≡ false) }
+        ensures err { OnErr result (whole_of self.new ≡ whole_of self.old) }
+        ensures sound { OnOk result (IsSound self.new) }
+        ensures held { OnErr result (IsHeld self.new) }
+    {
+        match shape::broken_of(&fetch, hashes) {
+            Some((got, wanted)) => Ok(self.bad_peer(alloc, BadPeer::Shape { got, wanted }, 0)),
+            None => self.add_piece(alloc, file, fetch, hashes, xid),
+        }
+    }
+
+    /// A piece of a file's chunks has come. An `Err` changes nothing.
+    #[tactic(auto, using(crate::proofs::Pieces::may_retry))]
+    fn told_hashes(
+        &mut self,
+        alloc: Global,
+        file: u64,
+        fetch: Fetch,
+        hashes: &Hashes,
+        xid: u32,
+    ) -> Result<ClientStep, AllocError>
+        requires held { IsHeld self.old }
+        requires within { IsListing fetch }
+        requires xids { HasXids self.old.next (stage.Listing 0 fetch) }
+        ensures ok { IfOk result (λ a. told_version (state_of self.old) self.old.waiting.calls file xid fetch hashes.now (hashes.now.version == fetch.version) ≡ (state_of self.new, a)) }
+        ensures done { IfOk result (λ a. a.missed ≡ false) }
+        ensures err { OnErr result (whole_of self.new ≡ whole_of self.old) }
+        ensures sound { OnOk result (IsSound self.new) }
+        ensures held { OnErr result (IsHeld self.new) }
+    {
+        if hashes.version == fetch.version {
+            self.told_shape(alloc, file, fetch, hashes, xid)
+        } else {
+            self.change(alloc, file, &fetch, xid, hashes.version, 0)
+        }
+    }
+
+    /// Bytes don't fit: another version ends the attempt, else they are the peer's fault. An `Err`
+    /// changes nothing.
+    fn misfit(
+        &mut self,
+        alloc: Global,
+        file: u64,
+        fetch: &Fetch,
+        xid: u32,
+        fault: BadPeer,
+        piece: &Piece,
+    ) -> Result<ClientStep, AllocError>
+        requires held { IsHeld self.old }
+        requires tries { fetch.now.tries ≤ tries_most }
+        requires xids { self.old.next + 1 + later_left fetch.now.tries < 4294967296 }
+        ensures ok { IfOk result (λ a. misfits (state_of self.old) self.old.waiting.calls file xid fetch.now fault (length piece.now.bytes) (other_version fetch.now.version piece.now.attr) ≡ (state_of self.new, a)) }
+        ensures done { IfOk result (λ a. a.missed ≡ false) }
+        ensures err { OnErr result (whole_of self.new ≡ whole_of self.old) }
+        ensures sound { OnOk result (IsSound self.new) }
+        ensures held { OnErr result (IsHeld self.new) }
+    {
+        let bytes = piece.bytes.len() as u64;
+        match parts::other_version(fetch.version, &piece.attr) {
+            Some(version) => self.change(alloc, file, fetch, xid, version, bytes),
+            None => Ok(self.bad_peer(alloc, fault, bytes)),
+        }
+    }
+
+    /// The bytes of a chunk fit, and are taken. An `Err` changes nothing.
+    #[tactic(auto, using(crate::proofs::Slots::bytes_kept, crate::proofs::Slots::slot_there))]
     fn keep(
         &mut self,
         alloc: Global,
         file: u64,
-        mut fetch: Fetch,
-        bytes: &[u8],
-    ) -> Result<Acts, AllocError>
-        requires sound { IsSound self.old }
-        requires some { 0 < length fetch.left }
-        requires xids { self.old.next + length fetch.left ≤ 2 ^ 32 }
-        requires fits { length fetch.bytes + length bytes.now + size_sum (remove fetch.left 0) ≤ 67108864 }
-        ensures ok { IfOk result (λ a. told_bytes (state_of self.old) file fetch bytes.now None ≡ (state_of self.new, a)) }
+        fetch: Fetch,
+        xid: u32,
+        call: ReadCall,
+        chunk: &Chunk,
+        bytes: Bytes,
+    ) -> Result<ClientStep, AllocError>
+        requires held { IsHeld self.old }
+        requires within { IsReading fetch }
+        requires xids { HasXids self.old.next (stage.Reading fetch) }
+        requires chunk { slice_get fetch.chunks call.index ≡ Some chunk.now }
+        requires fits { length bytes ≡ chunk.now.len }
+        ensures ok { IfOk result (λ a. reads_on (state_of self.old) self.old.waiting.calls file xid (with_bytes fetch call bytes) (length bytes) ≡ (state_of self.new, a)) }
         ensures done { IfOk result (λ a. a.missed ≡ false) }
-        ensures err { OnErr result (idle (state_of self.new) ≡ idle (state_of self.old)) }
-        ensures sound { IsSound self.new }
+        ensures err { OnErr result (whole_of self.new ≡ whole_of self.old) }
+        ensures sound { OnOk result (IsSound self.new) }
+        ensures held { OnErr result (IsHeld self.new) }
     {
-        fetch.left.remove(0);
-        fetch.bytes.extend_from_slice(bytes)?;
-        self.reads_on(alloc, file, fetch, bytes.len() as u64)
+        let count = bytes.len() as u64;
+        let fetch = fetch::with_bytes(fetch, call, bytes);
+        self.read_on(alloc, file, fetch, xid, count)
     }
 
-    /// The bytes of a READ have come. An `Err` changes nothing but the operation under way.
-    #[tactic(auto, using(crate::proofs::Calls::size_sum_first))]
+    /// The bytes of a chunk have come. An `Err` changes nothing.
+    fn told_bytes(
+        &mut self,
+        alloc: Global,
+        file: u64,
+        fetch: Fetch,
+        xid: u32,
+        call: ReadCall,
+        piece: Piece,
+    ) -> Result<ClientStep, AllocError>
+        requires held { IsHeld self.old }
+        requires within { IsReading fetch }
+        requires xids { HasXids self.old.next (stage.Reading fetch) }
+        ensures ok { IfOk result (λ a. told_chunk (state_of self.old) self.old.waiting.calls file xid fetch call piece (slice_get fetch.chunks call.index) ≡ (state_of self.new, a)) }
+        ensures done { IfOk result (λ a. a.missed ≡ false) }
+        ensures err { OnErr result (whole_of self.new ≡ whole_of self.old) }
+        ensures sound { OnOk result (IsSound self.new) }
+        ensures held { OnErr result (IsHeld self.new) }
+    {
+        let Some(chunk) = calls::chunk_at(fetch.chunks.as_slice(), call.index) else {
+            return Ok(self.unknown(alloc, xid));
+        };
+        match parts::fault_in(&chunk, piece.bytes.as_slice()) {
+            Some(fault) => self.misfit(alloc, file, &fetch, xid, fault, &piece),
+            None => self.keep(alloc, file, fetch, xid, call, &chunk, piece.bytes),
+        }
+    }
+
+    /// The answer to a READ. An `Err` changes nothing.
     fn told_piece(
         &mut self,
         alloc: Global,
         file: u64,
         fetch: Fetch,
+        xid: u32,
         piece: Piece,
-    ) -> Result<Acts, AllocError>
-        requires sound { IsSound self.old }
-        requires xids { self.old.next + length fetch.left ≤ 2 ^ 32 }
-        requires fits { length fetch.bytes + size_sum fetch.left ≤ 67108864 }
-        ensures ok { IfOk result (λ a. told_piece (state_of self.old) file fetch piece (slice_get fetch.left 0) ≡ (state_of self.new, a)) }
+    ) -> Result<ClientStep, AllocError>
+        requires held { IsHeld self.old }
+        requires within { IsReading fetch }
+        requires xids { HasXids self.old.next (stage.Reading fetch) }
+        ensures ok { IfOk result (λ a. told_piece (state_of self.old) self.old.waiting.calls file xid fetch piece (read_at fetch.under xid) ≡ (state_of self.new, a)) }
         ensures done { IfOk result (λ a. a.missed ≡ false) }
-        ensures err { OnErr result (idle (state_of self.new) ≡ idle (state_of self.old)) }
-        ensures sound { IsSound self.new }
+        ensures err { OnErr result (whole_of self.new ≡ whole_of self.old) }
+        ensures sound { OnOk result (IsSound self.new) }
+        ensures held { OnErr result (IsHeld self.new) }
     {
-        let bytes = piece.bytes.as_slice();
-        let Some(pair) = fetch.left.as_slice().first() else {
-            return Ok(self.bad_peer(alloc, BadPeer::UnknownXid { xid: fetch.xid }, 0));
-        };
-        match parts::fault_in(pair, bytes) {
-            Some(fault) => Ok(self.bad_peer(alloc, fault, bytes.len() as u64)),
-            None => self.keep(alloc, file, fetch, bytes),
+        match calls::read_at(fetch.under.as_slice(), xid) {
+            Some(call) => self.told_bytes(alloc, file, fetch, xid, call, piece),
+            None => Ok(self.unknown(alloc, xid)),
         }
     }
 
-    /// An answer while the chunks of a file are asked for. An `Err` changes nothing but the operation
-    /// under way.
-    pub fn took_hashes(
+    /// An answer while the first piece of an attempt is asked for. An `Err` changes nothing.
+    #[tactic(auto, using(crate::proofs::Pieces::first_listing))]
+    pub fn took_first(
         &mut self,
         alloc: Global,
         file: u64,
-        asked: u32,
+        tries: u32,
         xid: u32,
         body: Body,
-    ) -> Result<Acts, AllocError>
-        requires sound { IsSound self.old }
-        requires xids { self.old.next + 1024 < 2 ^ 32 }
-        ensures ok { IfOk result (λ a. took (state_of self.old) file (stage.Hashing asked) xid body ≡ (state_of self.new, a)) }
+    ) -> Result<ClientStep, AllocError>
+        requires held { IsHeld self.old }
+        requires tries { tries ≤ tries_most }
+        requires xids { HasXids self.old.next (stage.Hashing tries 0) }
+        ensures ok { IfOk result (λ a. took (state_of self.old) self.old.waiting.calls file (stage.Hashing tries 0) xid body ≡ (state_of self.new, a)) }
         ensures done { IfOk result (λ a. a.missed ≡ false) }
-        ensures err { OnErr result (idle (state_of self.new) ≡ idle (state_of self.old)) }
-        ensures sound { IsSound self.new }
+        ensures err { OnErr result (whole_of self.new ≡ whole_of self.old) }
+        ensures sound { OnOk result (IsSound self.new) }
+        ensures held { OnErr result (IsHeld self.new) }
     {
         match body {
             Body::Lb(Lb::GetHashAnswer(answer)) => match answer {
-                Answer::Failed(status, _) => Ok(self.refused(alloc, status, xid)),
-                Answer::Done(hashes) => self.told_hashes(alloc, file, xid, hashes),
+                Answer::Failed(status, _) => Ok(self.refused(alloc, xid, status)),
+                Answer::Done(hashes) => {
+                    let fetch = fetch::fetch_of(alloc, tries, xid, &hashes);
+                    self.told_hashes(alloc, file, fetch, &hashes, xid)
+                }
             },
             other => {
                 drop(other);
-                Ok(self.unawaited(alloc, xid))
+                Ok(self.unknown(alloc, xid))
             }
         }
     }
 
-    /// An answer while bytes of a file are asked for. An `Err` changes nothing but the operation
-    /// under way.
+    /// An answer while a further piece is asked for. An `Err` changes nothing.
     pub fn took_piece(
         &mut self,
         alloc: Global,
@@ -265,23 +493,54 @@ impl Inner {
         fetch: Fetch,
         xid: u32,
         body: Body,
-    ) -> Result<Acts, AllocError>
-        requires sound { IsSound self.old }
-        requires xids { self.old.next + length fetch.left ≤ 2 ^ 32 }
-        requires fits { length fetch.bytes + size_sum fetch.left ≤ 67108864 }
-        ensures ok { IfOk result (λ a. took (state_of self.old) file (stage.Reading fetch) xid body ≡ (state_of self.new, a)) }
+    ) -> Result<ClientStep, AllocError>
+        requires held { IsHeld self.old }
+        requires within { IsListing fetch }
+        requires xids { HasXids self.old.next (stage.Listing 0 fetch) }
+        ensures ok { IfOk result (λ a. took (state_of self.old) self.old.waiting.calls file (stage.Listing 0 fetch) xid body ≡ (state_of self.new, a)) }
         ensures done { IfOk result (λ a. a.missed ≡ false) }
-        ensures err { OnErr result (idle (state_of self.new) ≡ idle (state_of self.old)) }
-        ensures sound { IsSound self.new }
+        ensures err { OnErr result (whole_of self.new ≡ whole_of self.old) }
+        ensures sound { OnOk result (IsSound self.new) }
+        ensures held { OnErr result (IsHeld self.new) }
     {
         match body {
-            Body::Nfs(Nfs::ReadAnswer(answer)) => match answer {
-                Answer::Failed(status, _) => Ok(self.refused(alloc, status, xid)),
-                Answer::Done(piece) => self.told_piece(alloc, file, fetch, piece),
+            Body::Lb(Lb::GetHashAnswer(answer)) => match answer {
+                Answer::Failed(status, _) => Ok(self.refused(alloc, xid, status)),
+                Answer::Done(hashes) => self.told_hashes(alloc, file, fetch, &hashes, xid),
             },
             other => {
                 drop(other);
-                Ok(self.unawaited(alloc, xid))
+                Ok(self.unknown(alloc, xid))
+            }
+        }
+    }
+
+    /// An answer while chunks are being read. An `Err` changes nothing.
+    pub fn took_bytes(
+        &mut self,
+        alloc: Global,
+        file: u64,
+        fetch: Fetch,
+        xid: u32,
+        body: Body,
+    ) -> Result<ClientStep, AllocError>
+        requires held { IsHeld self.old }
+        requires within { IsReading fetch }
+        requires xids { HasXids self.old.next (stage.Reading fetch) }
+        ensures ok { IfOk result (λ a. took (state_of self.old) self.old.waiting.calls file (stage.Reading fetch) xid body ≡ (state_of self.new, a)) }
+        ensures done { IfOk result (λ a. a.missed ≡ false) }
+        ensures err { OnErr result (whole_of self.new ≡ whole_of self.old) }
+        ensures sound { OnOk result (IsSound self.new) }
+        ensures held { OnErr result (IsHeld self.new) }
+    {
+        match body {
+            Body::Nfs(Nfs::ReadAnswer(answer)) => match answer {
+                Answer::Failed(status, _) => Ok(self.refused(alloc, xid, status)),
+                Answer::Done(piece) => self.told_piece(alloc, file, fetch, xid, piece),
+            },
+            other => {
+                drop(other);
+                Ok(self.unknown(alloc, xid))
             }
         }
     }

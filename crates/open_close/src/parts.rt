@@ -1,60 +1,45 @@
-//! The plain parts of a step: the calls, what is done, and what is wrong with what came.
+//! The plain parts of a step: what is done (`specs/Counting.antt`), and what is wrong with what came
+//! (`specs/Opening.antt`, `specs/Step.antt`).
 
-ghost use Rattle.std.specs.Prelude.{◌≡◌, ◌==◌, ◌≤◌, [], ◌∷◌, length, map, take, drop, None, option_map, slice_get, ◌<◌, IfOk, IfSome, bytes_eq};
-ghost use Rattle.std.specs.List.{All, list_any};
+ghost use Rattle.std.specs.Prelude.{◌≡◌, ◌==◌, ◌≤◌, length, None, IfSome};
+ghost use Rattle.std.specs.List.{All};
 ghost use Rattle.std.specs.Map.{values_of};
 ghost use Rattle.std.specs.Option.{option_copied};
-ghost use Rattle.open_close.specs.State.{pending_in, pending_of, way_proc, local_at, local_bytes};
-ghost use Rattle.open_close.specs.Closing.{no_counts, make_call, cond_call, commit_call};
-ghost use Rattle.open_close.specs.Step.{acts, nothing_done, sends, ends, hash_call, read_call, reads_counted, is_open, first_size, fault_in, refusal_code, fault_of};
+ghost use Rattle.limits.specs.declared.TheConstants.{FILE_MOST};
+ghost use Rattle.open_close.specs.Counting.{no_counts, sends, nothing_done, sends_one, sends_reads, ends};
+ghost use Rattle.open_close.specs.Opening.{fault_in, shown_version, other_version};
+ghost use Rattle.open_close.specs.State.{local_at, local_bytes};
+ghost use Rattle.open_close.specs.Step.{is_open, refusal_code, fault_of};
 ghost use Rattle.open_close.specs.View.{IsLocalBounded};
-ghost use Rattle.wire.specs.declared.message.Message.TheVariants as message;
-ghost use Rattle.wire.specs.declared.message.Body.TheVariants as body;
-ghost use Rattle.hash_calls.specs.declared.message.Lb.TheVariants as lb;
 
-use crate::acts::{Acts, BadPeer, Counts, Ended, Outcome};
-use crate::sends::Sends;
-use crate::task::{Chunk, Local, Stage, Under, Way};
-use hash_calls::call::{Commit, CondPiece, HashRange, NewTemp, Pair, TempPiece};
-use hash_calls::message::{Lb, LbProc};
-use lb_base::items::{Bytes, Items};
-use nfs3_calls::call::Range;
-use nfs3_calls::message::{Nfs, NfsProc};
+use crate::step::{BadPeer, ClientStep, Counts, Ended, Outcome};
+use crate::task::Local;
+use chunk_cut::chunk::Chunk;
+use send_list::SendList;
 use sha1::Sha1;
-use std::alloc::{AllocError, Global};
+use std::alloc::Global;
 use std::collections::BTreeMap;
 use wire::fault::WireFault;
-use wire::message::{Body, Message, Pending, Program, RpcRefusal};
-use xdr_codec::handle::Handle;
+use wire::message::{Message, RpcRefusal};
+use xdr_codec::attr::Attr;
 
 /// Nothing is counted.
 pub fn no_counts() -> Counts
     ensures { result ≡ no_counts }
 {
     Counts {
-        cond: 0,
-        tmp: 0,
-        read: 0,
+        cond_writes: 0,
+        temp_writes: 0,
+        reads: 0,
         bytes: 0,
     }
 }
 
-/// So many READ calls sent, and so many bytes received.
-fn reads_counted(read: u64, bytes: u64) -> Counts
-    ensures { result ≡ reads_counted read bytes }
-{
-    Counts {
-        read,
-        bytes,
-        ..no_counts()
-    }
-}
-
 /// Messages are sent. It takes no memory.
-pub fn acts(send: Sends, counts: Counts) -> Acts
-    ensures { result ≡ acts send counts }
+pub fn sends(send: SendList<Message>, counts: Counts) -> ClientStep
+    ensures { result ≡ sends send counts }
 {
-    Acts {
+    ClientStep {
         send,
         ended: None,
         counts,
@@ -63,166 +48,50 @@ pub fn acts(send: Sends, counts: Counts) -> Acts
 }
 
 /// Nothing is done. It takes no memory.
-pub fn nothing_done(alloc: Global) -> Acts
+pub fn nothing_done(alloc: Global) -> ClientStep
     ensures { result ≡ nothing_done }
 {
-    acts(Sends::none(alloc), no_counts())
+    sends(SendList::none(alloc), no_counts())
 }
 
-/// A message is sent, with so many READs, after so many bytes were received. It takes no memory.
-pub fn sends(alloc: Global, message: Message, read: u64, bytes: u64) -> Acts
-    ensures { result ≡ sends message read bytes }
+/// A message is sent, after so many bytes of a READ came. It takes no memory.
+pub fn sends_one(alloc: Global, message: Message, bytes: u64) -> ClientStep
+    ensures { result ≡ sends_one message bytes }
 {
-    acts(Sends::one(alloc, message), reads_counted(read, bytes))
+    let counts = Counts {
+        bytes,
+        ..no_counts()
+    };
+    sends(SendList::one(alloc, message), counts)
 }
 
-/// The operation ends so, resting on the call with this xid, and received so many bytes. It takes
-/// no memory.
-pub fn ends(alloc: Global, outcome: Outcome, rests_on: u32, bytes: u64) -> Acts
+/// So many READs are sent, after so many bytes of one came. It takes no memory.
+pub fn sends_reads(send: SendList<Message>, reads: u64, bytes: u64) -> ClientStep
+    requires { reads ≡ length send }
+    ensures { result ≡ sends_reads send bytes }
+{
+    let counts = Counts {
+        reads,
+        bytes,
+        ..no_counts()
+    };
+    sends(send, counts)
+}
+
+/// The operation ends so, resting on the call with this xid, after so many bytes of a READ came. It
+/// takes no memory.
+pub fn ends(alloc: Global, outcome: Outcome, rests_on: u32, bytes: u64) -> ClientStep
     ensures { result ≡ ends outcome rests_on bytes }
 {
-    Acts {
-        send: Sends::none(alloc),
+    ClientStep {
+        send: SendList::none(alloc),
         ended: Some(Ended { outcome, rests_on }),
-        counts: reads_counted(0, bytes),
+        counts: Counts {
+            bytes,
+            ..no_counts()
+        },
         missed: false,
     }
-}
-
-/// The call for the chunks of a whole file.
-pub fn hash_call(alloc: Global, xid: u32, file: u64) -> Result<Message, AllocError>
-    ensures { IfOk result (λ m. m ≡ hash_call xid file) }
-{
-    let range = HashRange {
-        handle: Handle::of_file(alloc, file)?,
-        offset: 0,
-        count: u32::MAX,
-    };
-    Ok(Message::Call(xid, Body::Lb(Lb::GetHash(range))))
-}
-
-/// The call for a part of a file.
-pub fn read_call(
-    alloc: Global,
-    xid: u32,
-    file: u64,
-    offset: u64,
-    count: u32,
-) -> Result<Message, AllocError>
-    ensures { IfOk result (λ m. m ≡ read_call xid file offset count) }
-{
-    let range = Range {
-        handle: Handle::of_file(alloc, file)?,
-        offset,
-        count,
-    };
-    Ok(Message::Call(xid, Body::Nfs(Nfs::Read(range))))
-}
-
-/// The call for a temporary file of this number.
-pub fn make_call(alloc: Global, xid: u32, fd: u32, file: u64) -> Result<Message, AllocError>
-    ensures { IfOk result (λ m. m ≡ make_call xid fd file) }
-{
-    let handle = Handle::of_file(alloc, file)?;
-    let temp = NewTemp { fd, handle };
-    Ok(Message::Call(xid, Body::Lb(Lb::MkTmpFile(temp))))
-}
-
-/// The call that names a chunk. It takes no memory.
-pub fn cond_call(xid: u32, fd: u32, chunk: &Chunk) -> Message
-    ensures { result ≡ cond_call xid fd chunk.now }
-{
-    let piece = CondPiece {
-        fd,
-        offset: chunk.offset,
-        count: chunk.size,
-        digest: chunk.digest,
-    };
-    Message::Call(xid, Body::Lb(Lb::CondWrite(piece)))
-}
-
-/// The call with the bytes of a chunk.
-pub fn tmp_call(
-    alloc: Global,
-    xid: u32,
-    fd: u32,
-    offset: u64,
-    bytes: &[u8],
-) -> Result<Message, AllocError>
-    ensures { IfOk result (λ m. m ≡ message.Call xid (body.Lb (lb.TmpWrite (record { fd = fd; offset = offset; bytes = bytes.now })))) }
-{
-    let bytes = Bytes::copy_of(alloc, bytes)?;
-    let piece = TempPiece { fd, offset, bytes };
-    Ok(Message::Call(xid, Body::Lb(Lb::TmpWrite(piece))))
-}
-
-/// The call that commits a temporary file of this size.
-pub fn commit_call(
-    alloc: Global,
-    xid: u32,
-    fd: u32,
-    file: u64,
-    size: u64,
-) -> Result<Message, AllocError>
-    ensures { IfOk result (λ m. m ≡ commit_call xid fd file size) }
-{
-    let handle = Handle::of_file(alloc, file)?;
-    let commit = Commit { fd, handle, size };
-    Ok(Message::Call(xid, Body::Lb(Lb::CommitTmp(commit))))
-}
-
-/// A call for a chunk, as one that waits.
-fn pending_of(under: &Under) -> Pending
-    ensures { result ≡ pending_of under.now }
-{
-    let procedure = match under.way {
-        Way::Named => LbProc::CondWrite,
-        Way::Whole => LbProc::TmpWrite,
-    };
-    Pending {
-        xid: under.xid,
-        program: Program::Lb(procedure),
-    }
-}
-
-/// The calls for chunks, as ones that wait.
-fn pending_for(alloc: Global, under: &[Under]) -> Result<Items<Pending>, AllocError>
-    ensures { IfOk result (λ ps. ps ≡ map pending_of under.now) }
-{
-    let mut calls = Items::new(alloc);
-    for call in under {
-        calls.push(pending_of(call))?;
-    }
-    Ok(calls)
-}
-
-/// One call that waits.
-fn pending_one(alloc: Global, xid: u32, program: Program) -> Result<Items<Pending>, AllocError>
-    ensures { IfOk result (λ ps. ps ≡ record { xid = xid; program = program } ∷ []) }
-{
-    let mut calls = Items::new(alloc);
-    calls.push(Pending { xid, program })?;
-    Ok(calls)
-}
-
-/// The calls that wait in a stage.
-pub fn pending_in(alloc: Global, stage: &Stage) -> Result<Items<Pending>, AllocError>
-    ensures { IfOk result (λ ps. ps ≡ pending_in stage.now) }
-{
-    match stage {
-        Stage::Hashing(xid) => pending_one(alloc, *xid, Program::Lb(LbProc::GetHash)),
-        Stage::Reading(fetch) => pending_one(alloc, fetch.xid, Program::Nfs(NfsProc::Read)),
-        Stage::Making(xid, _) => pending_one(alloc, *xid, Program::Lb(LbProc::MkTmpFile)),
-        Stage::Storing(store) => pending_for(alloc, store.under.as_slice()),
-        Stage::Committing(xid) => pending_one(alloc, *xid, Program::Lb(LbProc::CommitTmp)),
-    }
-}
-
-/// Whether a call with this xid waits.
-pub fn is_awaited(calls: &[Pending], xid: u32) -> bool
-    ensures { result ≡ list_any (λ c. c.xid == xid) calls.now }
-{
-    calls.iter().any(|c| c.xid == xid)
 }
 
 /// Whether the file is open.
@@ -252,7 +121,7 @@ fn find_within(opened: &BTreeMap<u64, Local>, file: u64) -> Option<&Local>
 pub fn local_bytes(opened: &BTreeMap<u64, Local>, file: u64) -> &[u8]
     requires { All IsLocalBounded (values_of opened.now.entries) }
     ensures bytes { result.now ≡ local_bytes opened.now.entries file }
-    ensures bounded { length result.now ≤ 67108864 }
+    ensures bounded { length result.now ≤ FILE_MOST }
 {
     match find_within(opened, file) {
         Some(local) => local.bytes.as_slice(),
@@ -260,34 +129,43 @@ pub fn local_bytes(opened: &BTreeMap<u64, Local>, file: u64) -> &[u8]
     }
 }
 
-/// The size of the first chunk.
-pub fn first_size(left: &[Pair]) -> Option<u32>
-    ensures size { result ≡ first_size left.now }
-    ensures some { IfSome result (λ _. 0 < length left.now) }
-{
-    left.first().map(|p| p.size)
-}
-
 /// What is wrong with the bytes of a chunk.
-pub fn fault_in(pair: &Pair, bytes: &[u8]) -> Option<BadPeer>
-    ensures fault { result ≡ fault_in pair.now bytes.now (length bytes.now == pair.now.size) }
-    ensures fits { result ≡ None → length bytes.now ≡ pair.now.size }
+pub fn fault_in(chunk: &Chunk, bytes: &[u8]) -> Option<BadPeer>
+    ensures fault { result ≡ fault_in chunk.now bytes.now (length bytes.now == chunk.now.len) }
+    ensures fits { result ≡ None → length bytes.now ≡ chunk.now.len }
 {
     let len = bytes.len() as u64;
-    if len != pair.size as u64 {
+    if len != chunk.len {
         return Some(BadPeer::Shape {
             got: len,
-            wanted: pair.size as u64,
+            wanted: chunk.len,
         });
     }
     let digest = Sha1::digest(bytes);
-    if digest != pair.digest {
+    if digest != chunk.digest {
         return Some(BadPeer::Digest {
             got: digest,
-            wanted: pair.digest,
+            wanted: chunk.digest,
         });
     }
     None
+}
+
+/// The version that attributes show.
+fn shown_version(attr: &Attr) -> u64
+    ensures { result ≡ shown_version attr.now }
+{
+    let seconds = attr.mtime.seconds;
+    let nanoseconds = attr.mtime.nanoseconds;
+    u64::from(seconds) * 1_000_000_000 + u64::from(nanoseconds)
+}
+
+/// The version that attributes show in place of this one.
+pub fn other_version(version: u64, attr: &Option<Attr>) -> Option<u64>
+    ensures { result ≡ other_version version attr.now }
+{
+    let shown = shown_version(attr.as_ref()?);
+    if shown == version { None } else { Some(shown) }
 }
 
 /// The number of a refusal: an accept_stat, or 10 and a reject_stat (RFC 5531, section 9).

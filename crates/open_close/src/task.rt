@@ -1,8 +1,7 @@
-//! What a client has under way.
+//! What a client has under way. `specs/State.antt` says which calls wait in each stage.
 
-use hash_calls::call::Pair;
+use chunk_cut::chunk::Chunk;
 use lb_base::items::{Bytes, Items};
-use xdr_codec::digest::Digest;
 
 /// What a client has of an open file. It stands under the file's id.
 #[derive(Drop)]
@@ -13,29 +12,33 @@ pub struct Local {
     pub bytes: Bytes,
 }
 
-/// A fetch whose chunks are known.
-#[derive(Drop)]
-pub struct Fetch {
-    /// The xid of the GETHASH that told its chunks.
-    pub asked: u32,
-    /// The xid of the READ under way.
+/// A READ that waits for its answer.
+#[derive(Clone, Copy, Debug, PartialEq, Eq, Drop)]
+pub struct ReadCall {
     pub xid: u32,
-    pub version: u64,
-    /// The chunks that are not here yet; the READ under way asks for the first.
-    pub left: Items<Pair>,
-    /// The bytes of the chunks before these.
-    pub bytes: Bytes,
+    /// The place of the chunk that it asks for among the file's chunks.
+    pub index: usize,
 }
 
-/// A chunk of a local content.
-#[derive(Clone, Copy, Debug, PartialEq, Eq, Drop)]
-pub struct Chunk {
-    /// The place of its first byte.
-    pub offset: u64,
-    /// How many bytes it has.
-    pub size: u32,
-    /// The SHA-1 digest of its bytes.
-    pub digest: Digest,
+/// An attempt to fetch a file, and what it has of it so far.
+#[derive(Drop)]
+pub struct Fetch {
+    /// Which attempt it is, 1 to 4.
+    pub tries: u32,
+    /// The xid of its first GETHASH.
+    pub first: u32,
+    /// The version that its answers tell.
+    pub version: u64,
+    /// The file's size, in bytes.
+    pub size: u64,
+    /// The chunks that are told so far, from the file's first on.
+    pub chunks: Items<Chunk>,
+    /// The bytes of each chunk, where they have come. There are none before all chunks are told.
+    pub slots: Items<Option<Bytes>>,
+    /// How many chunks were asked for, in order.
+    pub asked: usize,
+    /// The READs under way.
+    pub under: Items<ReadCall>,
 }
 
 /// How a chunk is sent.
@@ -47,11 +50,12 @@ pub enum Way {
     Whole,
 }
 
-/// A call for a chunk that waits for its answer.
+/// A call for a chunk of a close that waits for its answer.
 #[derive(Clone, Copy, Debug, PartialEq, Eq, Drop)]
-pub struct Under {
+pub struct StoreCall {
     pub xid: u32,
-    pub chunk: Chunk,
+    /// The place of the chunk among those of the local content.
+    pub index: usize,
     pub way: Way,
 }
 
@@ -59,24 +63,36 @@ pub struct Under {
 #[derive(Drop)]
 pub struct Store {
     /// The number of the temporary file that takes them.
-    pub fd: u32,
-    /// The chunks that weren't named yet, in order.
-    pub conds: Items<Chunk>,
-    /// The chunks that the server doesn't know, by rising places: their bytes are owed.
-    pub owed: Items<Chunk>,
+    pub temp: u32,
+    /// The chunks of the local content.
+    pub chunks: Items<Chunk>,
+    /// How many of them were named, in order.
+    pub named: usize,
     /// The calls under way.
-    pub under: Items<Under>,
+    pub under: Items<StoreCall>,
 }
 
 /// How far an operation has come.
 #[derive(Drop)]
 pub enum Stage {
-    /// An open: a GETHASH with this xid is under way.
-    Hashing(u32),
+    /// An open: the first GETHASH of an attempt is under way.
+    Hashing {
+        /// Which attempt it is, 1 to 4.
+        tries: u32,
+        xid: u32,
+    },
+    /// An open: a further GETHASH is under way.
+    Listing {
+        xid: u32,
+        fetch: Fetch,
+    },
     /// An open: the chunks are being read.
     Reading(Fetch),
-    /// A close: a MKTMPFILE with this xid is under way, for a temporary file of this number.
-    Making(u32, u32),
+    /// A close: a MKTMPFILE is under way, for a temporary file of this number.
+    Making {
+        xid: u32,
+        temp: u32,
+    },
     /// A close: the chunks are being stored in the temporary file.
     Storing(Store),
     /// A close: a COMMITTMP with this xid is under way.

@@ -1,0 +1,177 @@
+-- Worked sessions.
+use Rattle.std.specs.Prelude.{◌≡◌, ℕ, List, [], ◌∷◌, refl, codes, Some, None, Ok, Bool, true, false}
+use Rattle.sha1.specs.Sha1.{sha1, digest_bytes, hash_after, compress, rounds, schedule, first_words}
+use Rattle.chunk_cut.specs.Search.{next_end, closed_ends}
+use Rattle.chunk_cut.specs.declared.chunk.Chunk.{Chunk}
+use Rattle.command_text.specs.declared.command.Command.{Command}
+use Rattle.command_text.specs.declared.command.Command.TheVariants as command
+use Rattle.xdr_codec.specs.declared.answer.Answer.TheVariants.{Done, Failed}
+use Rattle.xdr_codec.specs.declared.attr.Attr.{Attr}
+use Rattle.xdr_codec.specs.declared.attr.Kind.TheVariants as kind
+use Rattle.xdr_codec.specs.declared.status.Status.TheVariants as status
+use Rattle.hash_calls.specs.declared.call.Pair.{Pair}
+use Rattle.hash_calls.specs.declared.message.Lb.TheVariants as lb
+use Rattle.nfs3_calls.specs.declared.message.Nfs.TheVariants as nfs
+use Rattle.wire.specs.declared.message.Body.TheVariants as body
+use Rattle.wire.specs.declared.message.Message.{Message}
+use Rattle.wire.specs.declared.message.Message.TheVariants as message
+use Rattle.wire.specs.declared.message.RpcRefusal.TheVariants as refusal
+use Rattle.open_close.specs.declared.step.BadPeer.TheVariants as bad
+use Rattle.open_close.specs.declared.step.ClientStep.{ClientStep}
+use Rattle.open_close.specs.declared.step.Outcome.TheVariants as outcome
+use Rattle.open_close.specs.declared.task.Fetch.{Fetch}
+use Rattle.open_close.specs.declared.task.Stage.TheVariants as stage
+use Rattle.open_close.specs.Closing.{make_call, cond_call, temp_call, commit_call}
+use Rattle.open_close.specs.Counting.{no_counts, sends, nothing_done, sends_one, sends_reads, ends}
+use Rattle.open_close.specs.Opening.{hash_call, read_call}
+use Rattle.open_close.specs.Shape.{with_pairs}
+use Rattle.open_close.specs.State.{State, start, read_pending}
+use Rattle.open_close.specs.Step.{command_step, got_step, joined, cut}
+
+-- ---- a run
+
+data Event : Type 0 where
+  Does : Command → Event
+  Gets : Message → Event
+  Cut : Event
+
+abbrev step : State → Event → State × ClientStep
+step s (Does c) = command_step s c 0
+step s (Gets m) = got_step s (Ok m) 0
+step s Cut = cut s
+
+abbrev after : State → List Event → State
+after s [] = s
+after s (e ∷ es) = after (step s e).0 es
+
+abbrev steps : State → List Event → List ClientStep
+steps s [] = []
+steps s (e ∷ es) = (step s e).1 ∷ steps (step s e).0 es
+
+-- ---- answers by hand
+
+abbrev hashes_are : (xid version size : ℕ) → List Pair → (eof : Bool) → Event
+hashes_are xid version size pairs eof = Gets (message.Answer xid (body.Lb (lb.GetHashAnswer (Done (record { version = version; term = 0; size = size; pairs = pairs; eof = eof })))))
+
+-- what attributes of a file show of its version
+abbrev attr_in : ℕ → Attr
+attr_in version = record { kind = kind.File; mode = 420; nlink = 1; uid = 0; gid = 0; size = 0; used = 0; rdev_major = 0; rdev_minor = 0; fsid = 0; fileid = 2; atime = record { seconds = 0; nanoseconds = 0 }; mtime = record { seconds = 0; nanoseconds = version }; ctime = record { seconds = 0; nanoseconds = 0 } }
+
+abbrev bytes_are : (xid version : ℕ) → List ℕ → Event
+bytes_are xid version bytes = Gets (message.Answer xid (body.Nfs (nfs.ReadAnswer (Done (record { attr = Some (attr_in version); count = 0; eof = true; bytes = bytes })))))
+
+abbrev pair_of : List ℕ → ℕ → Pair
+pair_of bytes size = record { digest = sha1 bytes; size = size }
+
+abbrev chunk_of : (start : ℕ) → List ℕ → ℕ → Chunk
+chunk_of start bytes size = record { start = start; len = size; digest = sha1 bytes }
+
+-- ---- opens
+
+one_chunk : steps (joined start) (Does (command.Open 2) ∷ hashes_are 1 1 3 (pair_of (codes "abc") 3 ∷ []) true ∷ Does (command.Open 3) ∷ bytes_are 2 1 (codes "abc") ∷ Does (command.Open 2) ∷ Does (command.Read 2 1 9) ∷ []) ≡ (sends_one (hash_call 1 2 0) 0 ∷ sends_reads (read_call 2 2 (chunk_of 0 (codes "abc") 3) ∷ []) 0 ∷ ends outcome.Busy 0 0 ∷ ends (outcome.Opened 2 3 (sha1 (codes "abc"))) 1 3 ∷ ends outcome.AlreadyOpen 0 0 ∷ ends (outcome.Piece 2 (sha1 (codes "bc"))) 0 0 ∷ [])
+unfolding sha1 digest_bytes hash_after compress rounds schedule first_words
+one_chunk = refl
+
+no_chunk : steps (joined start) (Does (command.Open 2) ∷ hashes_are 1 1 0 [] true ∷ []) ≡ (sends_one (hash_call 1 2 0) 0 ∷ ends (outcome.Opened 2 0 (sha1 [])) 1 0 ∷ [])
+no_chunk = refl
+
+no_link : steps start (Does (command.Open 2) ∷ Does (command.Close 2) ∷ []) ≡ (ends outcome.NoLink 0 0 ∷ ends outcome.NotOpen 0 0 ∷ [])
+no_link = refl
+
+-- two pieces: the second is asked for from the end of the first one's chunks on, and the READs wait for it
+two_pieces : steps (joined start) (Does (command.Open 2) ∷ hashes_are 1 5 2048 (pair_of (codes "a") 2048 ∷ []) false ∷ hashes_are 2 5 2048 [] true ∷ []) ≡ (sends_one (hash_call 1 2 0) 0 ∷ sends_one (hash_call 2 2 2048) 0 ∷ sends_reads (read_call 3 2 (chunk_of 0 (codes "a") 2048) ∷ []) 0 ∷ [])
+two_pieces = refl
+
+-- the chunks of a piece stand behind those that were told
+listed : with_pairs (chunk_of 0 (codes "a") 2048 ∷ chunk_of 2048 (codes "b") 3000 ∷ []) (pair_of (codes "c") 4000 ∷ pair_of (codes "d") 2 ∷ []) ≡ (chunk_of 0 (codes "a") 2048 ∷ chunk_of 2048 (codes "b") 3000 ∷ chunk_of 5048 (codes "c") 4000 ∷ chunk_of 9048 (codes "d") 2 ∷ [])
+listed = refl
+
+-- what a piece may not be
+abbrev shape_of : (size : ℕ) → List Pair → (eof : Bool) → List ClientStep
+shape_of size pairs eof = steps (joined start) (Does (command.Open 2) ∷ hashes_are 1 5 size pairs eof ∷ [])
+
+abbrev broken : (got wanted : ℕ) → List ClientStep
+broken got wanted = sends_one (hash_call 1 2 0) 0 ∷ ends (outcome.BadPeer (bad.Shape got wanted)) 0 0 ∷ []
+
+shapes : (shape_of 67108865 [] true ∷ shape_of 3 (pair_of [] 0 ∷ []) true ∷ shape_of 65537 (pair_of [] 65537 ∷ []) true ∷ shape_of 2050 (pair_of [] 2047 ∷ pair_of [] 3 ∷ []) true ∷ shape_of 2050 (pair_of [] 2047 ∷ []) false ∷ shape_of 5 (pair_of [] 4 ∷ []) true ∷ shape_of 2048 (pair_of [] 2049 ∷ []) false ∷ shape_of 2048 [] false ∷ []) ≡ (broken 67108865 67108864 ∷ broken 0 1 ∷ broken 65537 65536 ∷ broken 2047 2048 ∷ broken 2047 2048 ∷ broken 4 5 ∷ broken 2049 2048 ∷ broken 0 1 ∷ [])
+shapes = refl
+
+other_size : steps (joined start) (Does (command.Open 2) ∷ hashes_are 1 5 2050 (pair_of (codes "a") 2048 ∷ []) false ∷ hashes_are 2 5 2051 (pair_of (codes "b") 3 ∷ []) true ∷ []) ≡ (sends_one (hash_call 1 2 0) 0 ∷ sends_one (hash_call 2 2 2048) 0 ∷ ends (outcome.BadPeer (bad.Shape 2051 2050)) 0 0 ∷ [])
+other_size = refl
+
+-- ---- an attempt with two READs under way, the third of four
+
+abbrev chunks : List Chunk
+chunks = chunk_of 0 (codes "ab") 2 ∷ chunk_of 2 (codes "c") 1 ∷ []
+
+abbrev fetch_in : (tries : ℕ) → Fetch
+fetch_in tries = record { tries = tries; first = 4; version = 5; size = 3; chunks = chunks; slots = None ∷ None ∷ []; asked = 2; under = record { xid = 5; index = 0 } ∷ record { xid = 6; index = 1 } ∷ [] }
+
+abbrev fetching : (tries : ℕ) → State
+fetching tries = record (joined start) { next = 7; task = Some (record { file = 2; stage = stage.Reading (fetch_in tries) }) }
+
+-- the answers come in any order, and bytes that fit are taken of any version
+any_order : steps (fetching 3) (bytes_are 6 9 (codes "c") ∷ bytes_are 5 5 (codes "ab") ∷ []) ≡ (sends_reads [] 1 ∷ ends (outcome.Opened 2 3 (sha1 (codes "abc"))) 4 2 ∷ [])
+unfolding sha1 digest_bytes hash_after compress rounds schedule first_words
+any_order = refl
+
+-- Bytes that don't fit end the attempt where another version shows. The next begins at once, and the answer to the other READ is dropped, once.
+ended_attempt : steps (fetching 3) (bytes_are 5 9 (codes "x") ∷ bytes_are 6 5 (codes "c") ∷ bytes_are 6 5 (codes "c") ∷ []) ≡ (sends_one (hash_call 7 2 0) 1 ∷ nothing_done ∷ ends (outcome.BadPeer (bad.UnknownXid 6)) 0 0 ∷ [])
+ended_attempt = refl
+
+ended_state : after (fetching 3) (bytes_are 5 9 (codes "x") ∷ []) ≡ record (fetching 3) { next = 8; task = Some (record { file = 2; stage = stage.Hashing 4 7 }); forgotten = read_pending (record { xid = 6; index = 1 }) ∷ [] }
+ended_state = refl
+
+-- the fourth attempt is the last
+changed : steps (fetching 4) (bytes_are 5 9 (codes "x") ∷ bytes_are 6 5 (codes "c") ∷ Does (command.Open 2) ∷ []) ≡ (ends (outcome.Changed 5 9) 0 1 ∷ nothing_done ∷ sends_one (hash_call 7 2 0) 0 ∷ [])
+changed = refl
+
+-- where no other version shows they are the peer's fault
+peers_fault : (steps (fetching 1) (bytes_are 5 5 (codes "x") ∷ []) ∷ steps (fetching 1) (bytes_are 6 5 (codes "x") ∷ []) ∷ []) ≡ ((ends (outcome.BadPeer (bad.Shape 1 2)) 0 1 ∷ []) ∷ (ends (outcome.BadPeer (bad.Digest (sha1 (codes "x")) (sha1 (codes "c")))) 0 1 ∷ []) ∷ [])
+unfolding sha1 digest_bytes hash_after compress rounds schedule first_words
+peers_fault = refl
+
+-- pieces of two versions end an attempt too
+two_versions : steps (joined start) (Does (command.Open 2) ∷ hashes_are 1 5 4096 (pair_of (codes "a") 2048 ∷ []) false ∷ hashes_are 2 6 1 (pair_of (codes "b") 1 ∷ []) true ∷ hashes_are 3 6 0 [] true ∷ []) ≡ (sends_one (hash_call 1 2 0) 0 ∷ sends_one (hash_call 2 2 2048) 0 ∷ sends_one (hash_call 3 2 0) 0 ∷ ends (outcome.Opened 2 0 (sha1 [])) 3 0 ∷ [])
+two_versions = refl
+
+-- where the operation ends its other calls are forgotten, and a lost connection forgets all
+refused_one : steps (fetching 1) (Gets (message.Answer 5 (body.Nfs (nfs.ReadAnswer (Failed status.Stale None)))) ∷ Gets (message.Refuse 6 refusal.SystemErr) ∷ []) ≡ (ends (outcome.Refused status.Stale) 5 0 ∷ nothing_done ∷ [])
+refused_one = refl
+
+cut_one : after (fetching 3) (bytes_are 5 9 (codes "x") ∷ Cut ∷ []) ≡ record start { next = 8 }
+cut_one = refl
+
+-- ---- closes
+
+-- file 2 is open, with "ab" in it
+abbrev opened : State
+opened = record (joined start) { opened = (2, record { version = 1; bytes = codes "ab" }) ∷ [] }
+
+abbrev made : (xid : ℕ) → Event
+made xid = Gets (message.Answer xid (body.Lb (lb.MkTmpFileAnswer (Done tt))))
+
+abbrev committed : (xid version : ℕ) → Event
+committed xid version = Gets (message.Answer xid (body.Lb (lb.CommitTmpAnswer (Done (record { version = version; term = 0 })))))
+
+abbrev ab : Chunk
+ab = chunk_of 0 (codes "ab") 2
+
+-- the server doesn't know the chunk, so its bytes go out
+stored : steps opened (Does (command.Close 2) ∷ made 1 ∷ Gets (message.Answer 2 (body.Lb (lb.CondWriteAnswer (Failed status.HashNotFound tt)))) ∷ Gets (message.Answer 3 (body.Lb (lb.TmpWriteAnswer (Done tt)))) ∷ committed 4 2 ∷ []) ≡ (sends_one (make_call 1 1 2) 0 ∷ sends (cond_call 2 1 ab ∷ []) (record no_counts { cond_writes = 1 }) ∷ sends (temp_call 3 1 (codes "ab") ab ∷ []) (record no_counts { temp_writes = 1; bytes = 2 }) ∷ sends (commit_call 4 1 2 2 ∷ []) no_counts ∷ ends (outcome.Closed 2 2 2 (sha1 (codes "ab"))) 4 0 ∷ [])
+unfolding closed_ends next_end
+stored = refl
+
+-- the server knows it
+known : steps opened (Does (command.Close 2) ∷ made 1 ∷ Gets (message.Answer 2 (body.Lb (lb.CondWriteAnswer (Done tt)))) ∷ Gets (message.Answer 3 (body.Lb (lb.CommitTmpAnswer (Failed status.Stale tt)))) ∷ Does (command.Read 2 0 9) ∷ []) ≡ (sends_one (make_call 1 1 2) 0 ∷ sends (cond_call 2 1 ab ∷ []) (record no_counts { cond_writes = 1 }) ∷ sends (commit_call 3 1 2 2 ∷ []) no_counts ∷ ends (outcome.Refused status.Stale) 3 0 ∷ ends (outcome.Piece 2 (sha1 (codes "ab"))) 0 0 ∷ [])
+unfolding closed_ends next_end
+known = refl
+
+-- a content with nothing in it has no chunk
+empty : steps opened (Does (command.Trunc 2 0) ∷ Does (command.Close 2) ∷ made 1 ∷ committed 2 2 ∷ Does (command.Close 2) ∷ []) ≡ (ends outcome.Done 0 0 ∷ sends_one (make_call 1 1 2) 0 ∷ sends (commit_call 2 1 2 0 ∷ []) no_counts ∷ ends (outcome.Closed 2 2 0 (sha1 [])) 2 0 ∷ ends outcome.NotOpen 0 0 ∷ [])
+unfolding closed_ends next_end
+empty = refl
+
+-- a lost connection ends the close, and the file stays open; xids and numbers of temporary files begin anew
+lost : steps opened (Does (command.Close 2) ∷ Cut ∷ Does (command.Close 2) ∷ Does (command.Abandon 2) ∷ []) ≡ (sends_one (make_call 1 1 2) 0 ∷ ends outcome.Lost 0 0 ∷ ends outcome.NoLink 0 0 ∷ ends outcome.Done 0 0 ∷ [])
+lost = refl
