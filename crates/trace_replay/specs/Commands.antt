@@ -1,7 +1,7 @@
 -- Commands as operations: what each is called, and on which file.
 use Rattle.std.specs.Prelude.{ℕ, List, []}
-use Rattle.trace_text.specs.declared.line.Command.{Command}
-use Rattle.trace_text.specs.declared.line.Command.TheVariants as command
+use Rattle.command_text.specs.declared.command.Command.{Command}
+use Rattle.command_text.specs.declared.command.Command.TheVariants as command
 use Rattle.open_close.specs.State as client
 use Rattle.register_model.specs.declared.op.Word.{Word}
 use Rattle.register_model.specs.declared.op.Word.TheVariants as word

@@ -1,12 +1,12 @@
 -- A run whose readings keep the clock rule.
-use Rattle.std.specs.Prelude.{◌≡◌, ℕ, ◌+◌, List, [], ◌∷◌, Option, Some, None, Result, Ok, Err}
+use Rattle.std.specs.Prelude.{◌≡◌, ℕ, ◌+◌, List, [], ◌∷◌, map, Option, Some, None, Result, Ok, Err}
 use Rattle.clock_rule.specs.Clocks.{Clocked, read_at}
 use Rattle.clock_rule.specs.Keeping.{at_first}
 use Rattle.clock_rule.specs.declared.rule.ClockFault.{ClockFault}
 use Rattle.clock_rule.specs.declared.rule.NoteErr.{NoteErr}
 use Rattle.clock_rule.specs.declared.rule.NoteErr.TheVariants.{Fault, Memory}
 use Rattle.clock_rule.specs.declared.rule.Reading.TheVariants as reads
-use Rattle.trace_text.specs.Parts.{lines_of}
+use Rattle.command_text.specs.Parts.{lines_of}
 use Rattle.trace_text.specs.Grammar.{line_of}
 use Rattle.trace_text.specs.declared.line.Line.{Line}
 use Rattle.trace_text.specs.declared.line.Line.TheVariants as line
@@ -16,6 +16,7 @@ use Rattle.trace_replay.specs.declared.fault.Refused.{Refused}
 use Rattle.trace_replay.specs.declared.timing.Timing.{Timing}
 use Rattle.trace_replay.specs.declared.timing.Timing.TheVariants as timing
 use Rattle.trace_replay.specs.declared.turn.Turn.{Turn}
+use Rattle.trace_replay.specs.Core.{Session, numbered}
 use Rattle.trace_replay.specs.World.{World, start}
 use Rattle.trace_replay.specs.Run.{asked, turned, refused, in_header, ended}
 
@@ -29,22 +30,34 @@ pub record Times : Type 0 where
 abbrev pub no_times : Times
 no_times = record { term = 0; clocks = at_first 0 0 }
 
--- What a line says of the clocks. A session is that of the only client, and a delivery down is an event of its client.
-abbrev pub timing_of : Line → Timing
-timing_of (line.Term term) = timing.Term term
-timing_of (line.Drift drift) = timing.Drift drift
-timing_of (line.Join c r s) = timing.Reads (reads.Both s c r)
-timing_of (line.Do c r k) = timing.Reads (reads.Client c r)
-timing_of (line.Up n a s) = timing.Reads (reads.Server s)
-timing_of (line.Down n a r) = timing.Reads (reads.Client 1 r)
-timing_of (line.Settle s) = timing.Reads (reads.Server s)
-timing_of (line.Cut c r) = timing.Reads (reads.Client c r)
-timing_of (line.Hang n s) = timing.Reads (reads.Server s)
-timing_of (line.Pass n k s r) = timing.Reads (reads.Both s 1 r)
-timing_of line.Skipped = timing.Nothing
-timing_of line.Version = timing.Nothing
-timing_of (line.Clients count) = timing.Nothing
-timing_of (line.File name content) = timing.Nothing
+-- a delivery down a session is an event of its owner's clock, also where its owner has left it
+abbrev pub down_timing : (at : ℕ) → Option ℕ → Timing
+down_timing at None = timing.Nothing
+down_timing at (Some owner) = timing.Reads (reads.Client owner at)
+
+abbrev pub pass_timing : (server at : ℕ) → Option ℕ → Timing
+pass_timing server at None = timing.Nothing
+pass_timing server at (Some owner) = timing.Reads (reads.Both server owner at)
+
+-- what a line says of the clocks, where these are the owners of the sessions, by their numbers
+abbrev pub timing_of : (owners : List ℕ) → Line → Timing
+timing_of owners (line.Term term) = timing.Term term
+timing_of owners (line.Drift drift) = timing.Drift drift
+timing_of owners (line.Join c r s) = timing.Reads (reads.Both s c r)
+timing_of owners (line.Do c r k) = timing.Reads (reads.Client c r)
+timing_of owners (line.Up n a s) = timing.Reads (reads.Server s)
+timing_of owners (line.Down n a r) = down_timing r (numbered owners n)
+timing_of owners (line.Settle s) = timing.Reads (reads.Server s)
+timing_of owners (line.Cut c r) = timing.Reads (reads.Client c r)
+timing_of owners (line.Hang n s) = timing.Reads (reads.Server s)
+timing_of owners (line.Pass n k s r) = pass_timing s r (numbered owners n)
+timing_of owners line.Skipped = timing.Nothing
+timing_of owners line.Version = timing.Nothing
+timing_of owners (line.Clients count) = timing.Nothing
+timing_of owners (line.File name content) = timing.Nothing
+
+abbrev pub owners_of : World → List ℕ
+owners_of w = map (λ x. x.owner) w.core.sessions
 
 abbrev pub read_by : Times → Result Clocked ClockFault → Result Times ClockFault
 read_by t (Ok clocks) = Ok (record t { clocks = clocks })
@@ -76,13 +89,13 @@ with_times t (Ok times) = Ok (t, times)
 with_times t (Err f) = Err (Clock f)
 
 -- A line is refused by the grammar or a limit first, and then by the clock rule.
-abbrev pub times_if : Times → Line → Result Turn LineFault → Result (Turn × Times) LineFault
-times_if times l (Ok t) = with_times t (times_with times (timing_of l))
-times_if times l (Err f) = Err f
+abbrev pub times_if : Times → Timing → Result Turn LineFault → Result (Turn × Times) LineFault
+times_if times said (Ok t) = with_times t (times_with times said)
+times_if times said (Err f) = Err f
 
 -- what the line of this number asks for, and the clocks once it is read
 abbrev pub timed_asked : Timed → ℕ → Line → Result (Turn × Times) LineFault
-timed_asked v n l = times_if v.times l (asked v.world n l)
+timed_asked v n l = times_if v.times (timing_of (owners_of v.world) l) (asked v.world n l)
 
 abbrev pub timed_turn : Timed → Turn × Times → Timed
 timed_turn v t = record { world = turned v.world t.0; times = t.1 }

@@ -1,25 +1,31 @@
 -- What the replay of a trace answers, and what is promised of its history.
-use Rattle.std.specs.Prelude.{◌≡◌, ℕ, ◌+◌, ◌⊎◌, List, ◌++◌, All, Result, Ok, Err, Some, None, Contains, slice_get, option_map}
-use Rattle.sha1.specs.Sha1.{sha1}
+use Rattle.std.specs.Prelude.{true, false, ◌≡◌, ℕ, ◌+◌, ◌⊎◌, List, ◌++◌, All, Result, Ok, Err, Option, Some, None, slice_get, option_map}
 use Rattle.rpc_record.specs.Records.{Unread}
 use Rattle.wire.specs.Message.{MessageFits, message_spell}
 use Rattle.wire.specs.Parse.{parse_of}
+use Rattle.hash_calls.specs.declared.message.Lb.TheVariants as lb
+use Rattle.nfs3_calls.specs.declared.message.Nfs.TheVariants as nfs
+use Rattle.wire.specs.declared.message.Body.TheVariants as body
+use Rattle.wire.specs.declared.message.Pending.{Pending}
+use Rattle.wire.specs.declared.message.Message.TheVariants as message
 use Rattle.wire.specs.declared.message.Message.{Message}
 use Rattle.wire.specs.declared.message.Waiting.{Waiting}
-use Rattle.open_close.specs.State.{waiting_of}
-use Rattle.register_model.specs.Register.{History, IsLegal, value_at}
+use Rattle.open_close.specs.State.{waiting_of, calls_of, has_call}
+use Rattle.register_model.specs.Register.{History, IsLegal}
 use Rattle.register_model.specs.declared.op.Op.{Op}
 use Rattle.register_model.specs.declared.op.Outcome.TheVariants as told
 use Rattle.register_model.specs.declared.op.Word.TheVariants as word
-use Rattle.server_core.specs.State.{Change, file_at}
+use Rattle.server_core.specs.State.{file_at}
+use Rattle.server_core.specs.declared.change.Change.{Change}
 use Rattle.trace_replay.specs.declared.fault.Refused.{Refused}
 use Rattle.trace_replay.specs.declared.fault.TraceErr.{TraceErr}
 use Rattle.trace_replay.specs.declared.fault.TraceErr.TheVariants as errors
-use Rattle.trace_replay.specs.World.{World, bytes_of}
-use Rattle.trace_replay.specs.Delivery.{server_waiting}
-use Rattle.trace_replay.specs.Run.{history_of}
-use Rattle.trace_replay.specs.Hashed.{hashed}
-use Rattle.trace_replay.specs.Faithful.{IsFaithful, close_traffic}
+use Rattle.trace_replay.specs.Core.{Seat, Session, numbered, server_waiting}
+use Rattle.trace_replay.specs.World.{World, Wire, bytes_of, history_of}
+use Rattle.trace_replay.specs.Trail.{moments, hashed}
+use Rattle.trace_replay.specs.Traffic.{close_traffic}
+use Rattle.trace_replay.specs.Book.{Book, AreApart, book_of, value_at, version_at}
+use Rattle.trace_replay.specs.Faithful.{IsFaithful}
 use Rattle.trace_replay.specs.Complete.{IsComplete}
 
 abbrev pub Fails : TraceErr → Result World Refused → Type 0
@@ -31,41 +37,92 @@ abbrev pub Gives : Result History TraceErr → Result World Refused → Type 0
 Gives (Ok h) ran = (w : World) × (ran ≡ Ok w) × (h ≡ history_of w)
 Gives (Err e) ran = Fails e ran
 
--- no two different byte lists of these share a digest
-abbrev pub AreApart : List (List ℕ) → Type 0
-AreApart hashed = (a b : List ℕ) → Contains hashed a → Contains hashed b → sha1 a ≡ sha1 b → a ≡ b
+-- A change that waits has the content that its close is to store: the one of the value of a close that is still running, or was lost, which
+-- had sent all of its traffic. It came on a session of the close's client that the server did not see lost, and it is of the last close that
+-- sent calls there.
+pub record HoldsValue (w : World) (c : Change) : Type 0 where
+  pub place : ℕ
+  pub op : Op
+  pub there : slice_get w.core.ops place ≡ Some op
+  pub word_is : op.word ≡ word.Close
+  pub file_is : op.file ≡ c.file
+  pub untold : (op.outcome ≡ told.Running) ⊎ (op.outcome ≡ told.Lost)
+  pub pointless : op.point ≡ None
+  pub value_is : op.value ≡ c.content
+  pub traffic_is : op.traffic ≡ close_traffic op.value
+  pub session : Session
+  pub session_is : numbered w.core.sessions c.session ≡ Some session
+  pub stands : session.hung ≡ false
+  pub owner : session.owner ≡ op.client
+  pub closing : session.closing ≡ Some place
 
--- each change that waits at the server has the content that its close is to store: the one of the value of the close that asked for it,
--- which is still running, or was lost, so that by its cause (`IsRunning`, `IsLostBy`) the value is the local content that it began with;
--- that close had sent all of its traffic
-abbrev pub HoldsValues : World → Type 0
-HoldsValues w = (i : ℕ) (c : Change) → slice_get w.server.waits i ≡ Some c → (k : ℕ) × (o : Op) × (slice_get w.ops k ≡ Some o) × (o.word ≡ word.Close) × (o.file ≡ c.file) × ((o.outcome ≡ told.Running) ⊎ (o.outcome ≡ told.Lost)) × (o.point ≡ None) × (o.value ≡ c.content) × (o.traffic ≡ close_traffic o.value)
+-- so has each, and no two are of one session
+pub record HoldsValues (w : World) : Type 0 where
+  pub values : (i : ℕ) (c : Change) → slice_get w.core.server.waiting i ≡ Some c → HoldsValue w c
+  pub single : (i j : ℕ) (c d : Change) → slice_get w.core.server.waiting i ≡ Some c → slice_get w.core.server.waiting j ≡ Some d → c.session ≡ d.session → i ≡ j
 
--- the server's tree has of each file what the history says that it is
-abbrev pub HoldsFiles : World → Type 0
-HoldsFiles w = (file : ℕ) → option_map (λ f. f.content) (file_at w.server.files file) ≡ value_at (history_of w) file (w.steps + 1)
+-- the server's tree has of each file what the history says that it is, and the version
+abbrev pub HoldsFiles : Book → World → Type 0
+HoldsFiles book w = (file : ℕ) → (option_map (λ f. f.content) (file_at w.core.server.files file) ≡ value_at book file (w.core.steps + 1)) × (option_map (λ f. f.version) (file_at w.core.server.files file) ≡ option_map (λ x. version_at book file (w.core.steps + 1)) (value_at book file (w.core.steps + 1)))
 
 -- a message fits a record, and an end with these calls waiting reads it as itself
 abbrev pub IsRead : Waiting → Message → Type 0
 IsRead waiting m = MessageFits m × (parse_of waiting (message_spell m) ≡ Ok m)
 
--- what an end has of a record and what is on its way to it are together the bytes of whole messages, each of which it reads, and no start
--- of its stream is spoilt
-abbrev pub IsOfMessages : Waiting → Unread → (queue : List ℕ) → Type 0
-IsOfMessages waiting end queue = (end.spoilt ≡ None) × (ms : List Message) × All (IsRead waiting) ms × (end.rest ++ queue ≡ bytes_of ms)
+-- a call that the server does
+abbrev pub IsDone : Message → Type 0
+IsDone (message.Call xid (body.Lb (lb.GetHash a))) = Unit {0}
+IsDone (message.Call xid (body.Lb (lb.MkTmpFile a))) = Unit {0}
+IsDone (message.Call xid (body.Lb (lb.TmpWrite a))) = Unit {0}
+IsDone (message.Call xid (body.Lb (lb.CondWrite a))) = Unit {0}
+IsDone (message.Call xid (body.Lb (lb.CommitTmp a))) = Unit {0}
+IsDone (message.Call xid (body.Nfs (nfs.Read a))) = Unit {0}
+IsDone m = ⊥
 
--- so it is at both ends
+-- an answer to one of these calls
+abbrev pub IsAnswered : List Pending → Message → Type 0
+IsAnswered calls (message.Answer xid b) = has_call calls xid ≡ true
+IsAnswered calls m = ⊥
+
+abbrev pub xid_of : Message → ℕ
+xid_of (message.Call xid b) = xid
+xid_of (message.Answer xid b) = xid
+xid_of (message.Refuse xid why) = xid
+xid_of (message.Unfit xid why) = xid
+
+-- what an end has of a record and what is on its way to it are together the bytes of these whole messages, each of which it reads, and no
+-- start of its stream is spoilt
+pub record AreOfMessages (waiting : Waiting) (end : Unread) (queue : List ℕ) (ms : List Message) : Type 0 where
+  pub sound : end.spoilt ≡ None
+  pub read : All (IsRead waiting) ms
+  pub bytes : end.rest ++ queue ≡ bytes_of ms
+
+-- So it is at both ends of a session. Up come calls that the server does, and down answers to calls that the session's owner waits for, each
+-- to another.
+pub record HoldsQueues (w : World) (number : ℕ) (q : Wire) : Type 0 where
+  pub session : Session
+  pub seat : Seat
+  pub session_is : numbered w.core.sessions number ≡ Some session
+  pub seat_is : numbered w.core.seats session.owner ≡ Some seat
+  pub ups : List Message
+  pub up : AreOfMessages server_waiting q.server_end q.up ups
+  pub done : All IsDone ups
+  pub downs : List Message
+  pub down : AreOfMessages (waiting_of seat.client) q.client_end q.down downs
+  pub answered : All (IsAnswered (calls_of seat.client)) downs
+  pub once : (i j : ℕ) (a b : Message) → slice_get downs i ≡ Some a → slice_get downs j ≡ Some b → xid_of a ≡ xid_of b → i ≡ j
+
 abbrev pub HoldsMessages : World → Type 0
-HoldsMessages w = IsOfMessages server_waiting w.link.server_end w.link.up × IsOfMessages (waiting_of w.client) w.link.client_end w.link.down
+HoldsMessages w = (number : ℕ) (q : Wire) → numbered w.wires number ≡ Some q → HoldsQueues w number q
 
 -- A replayed history tells what the trace says. Each open in it gave the whole content that its file had at one moment within it, and each
 -- close that ended Closed replaced its file wholly by its local content at one moment within it, wherever no two different byte lists
 -- that were hashed in the run share a digest. An operation that is left alone has ended. What the server holds is what the history says,
--- and what is on its way between the two ends are whole messages.
+-- and what is on its way between the two ends are whole messages, which their ends take.
 pub record IsKeptPromise (input : List ℕ) (w : World) : Type 0 where
-  pub faithful : IsFaithful input w
+  pub faithful : IsFaithful input (book_of w (moments input))
   pub legal : AreApart (hashed input) → IsLegal (history_of w)
-  pub complete : IsComplete input w
+  pub complete : IsComplete (book_of w (moments input)) w
   pub waiting : HoldsValues w
-  pub tree : HoldsFiles w
+  pub tree : HoldsFiles (book_of w (moments input)) w
   pub messages : HoldsMessages w

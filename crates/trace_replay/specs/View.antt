@@ -1,18 +1,20 @@
--- The world's fields as a world.
-use Rattle.trace_replay.specs.declared.inner.Inner.{Inner}
-use Rattle.trace_replay.specs.declared.link.Link.{Link as Fields}
-use Rattle.trace_replay.specs.declared.timing.Times.{Times as TimeFields}
-use Rattle.trace_replay.specs.World.{World, Link}
-use Rattle.trace_replay.specs.Timed.{Times, Timed}
+-- The fields of the two ends as a core, and what an event leaves as what the core is turned into.
+use Rattle.std.specs.Prelude.{◌≡◌}
+use Rattle.trace_replay.specs.declared.ends.Core.{Core as Fields}
+use Rattle.trace_replay.specs.declared.turned.Loss.{Loss as Lost}
+use Rattle.trace_replay.specs.declared.turned.Loss.TheVariants as lost
+use Rattle.trace_replay.specs.declared.turned.Turned.{Turned as Left}
+use Rattle.trace_replay.specs.Core.{Core, Loss, Loss.Nothing, Loss.Made, Loss.Down_of, Loss.Up_of, Turned}
 
-abbrev pub link_of : Fields → Link
-link_of l = record { up = l.up.items; down = l.down.items; server_end = l.server_end; client_end = l.client_end; taken = l.taken.items; closing = l.closing; cut = l.cut; hung = l.hung }
+abbrev pub core_of : Fields → Core
+core_of k = record { server = k.server; seats = k.seats.items; sessions = k.sessions.items; steps = k.steps; ops = k.ops.items; entries = k.entries.items }
 
-abbrev pub world_of : Inner → World
-world_of w = record { stage = w.stage; names = w.names; opening = w.opening.items; size = w.size; server = w.server; client = w.client; sessions = w.sessions; link = link_of w.link; steps = w.steps; ops = w.ops.items; running = w.running; settled = w.settled.items; cuts = w.cuts.items }
+abbrev pub loss_of : Lost → Loss
+loss_of lost.Nothing = Nothing
+loss_of lost.Made = Made
+loss_of (lost.DownOf session) = Down_of session
+loss_of (lost.UpOf session) = Up_of session
 
-abbrev pub times_of : TimeFields → Times
-times_of t = record { term = t.term; clocks = t.clocks }
-
-abbrev pub timed_of : Inner → TimeFields → Timed
-timed_of w t = record { world = world_of w; times = times_of t }
+-- what the fields come to, with what is left to be done
+abbrev pub turned_of : Fields → Left → Turned
+turned_of k t = record { core = core_of k; loss = loss_of t.loss; session = t.session; up = t.up; down = t.down }

@@ -1,14 +1,15 @@
 //! Commands as operations: what each is called, on which file, and what it is to store.
+//! `specs/Commands.antt` says so.
 
 ghost use Rattle.std.specs.Prelude.{◌≡◌, IfOk};
 ghost use Rattle.open_close.specs.State.{local_bytes};
 ghost use Rattle.trace_replay.specs.Commands.{word_of, file_of, value_at_begin};
 
+use command_text::command::Command;
 use lb_base::items::{Bytes, Items};
 use open_close::client::Client;
 use register_model::op::Word;
 use std::alloc::{AllocError, Global};
-use trace_text::line::Command;
 
 /// What a command is called.
 pub fn word_of(command: &Command) -> Word

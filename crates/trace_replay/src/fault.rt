@@ -1,4 +1,4 @@
-//! Why a trace is not run.
+//! Why a trace is not run. `specs/Run.antt` says which line is refused.
 
 ghost use Rattle.std.specs.Prelude.{◌≡◌};
 ghost use Rattle.trace_replay.specs.declared.fault.TraceErr.TheVariants as errors;

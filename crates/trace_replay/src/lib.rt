@@ -1,24 +1,39 @@
-//! Traces replayed: both ends in one world, with a queue of bytes in each direction between them.
+//! Traces replayed: a server and its clients in one world, with a queue of bytes in each direction
+//! of each session.
 //!
 //! A trace's lines deliver bytes, and the history of the run tells what each command of a client
-//! gave. The ends are the very ones of a real connection, over the real bytes.
+//! gave. The ends are the very ones of a real connection, over the real bytes. `specs/Core.antt` says
+//! what the ends do, `specs/World.antt` and `specs/Delivery.antt` what becomes of the bytes between
+//! them, and `specs/Run.antt` and `specs/Timed.antt` what a trace comes to.
 #![tactic(auto)]
 
-mod client_end;
+mod applying;
 mod commands;
+mod delivery;
+mod doing;
+mod ends;
 pub mod fault;
+mod hearing;
 mod inner;
-pub mod law;
+mod joining;
 pub mod link;
 mod losing;
+mod lost;
 mod names;
+mod numbered;
 mod ops;
 mod outbox;
+mod places;
 mod queue;
 mod reading;
 pub mod run;
-mod server_end;
+mod seat;
+mod sending;
+mod serving;
+mod session;
 mod settling;
 pub mod timing;
 mod turn;
+mod turned;
+mod wires;
 pub mod world;

@@ -1,85 +1,116 @@
-//! A connection that is lost, at either end.
+//! A connection is lost, at either end. `cuts` and `hangs` in `specs/Core.antt` say what that makes of
+//! the two ends.
 
-ghost use Rattle.std.specs.Prelude.{◌≡◌, [], OnOk, true, false};
-ghost use Rattle.rpc_record.specs.Records.{nothing_read};
-ghost use Rattle.open_close.specs.Step.{cut};
-ghost use Rattle.trace_replay.specs.Delivery.{acted};
-ghost use Rattle.trace_replay.specs.Run.{cuts_if, cuts_off, hangs_if, hangs};
-ghost use Rattle.trace_replay.specs.View.{world_of, link_of};
+ghost use Rattle.std.specs.Prelude.{◌≡◌, ◌+◌, ◌<◌, length, slice_get, IfOk, OnOk};
+ghost use Rattle.server_core.specs.Step.{server_step};
+ghost use Rattle.server_core.specs.declared.event.Event.TheVariants as event;
+ghost use Rattle.trace_replay.specs.Core.{loss_down, cut_session, session_of, cuts, hangs, numbered};
+ghost use Rattle.trace_replay.specs.View.{core_of, loss_of, turned_of};
 
-use crate::client_end::acted;
-use crate::inner::{Inner, count_on};
-use crate::link::Link;
-use crate::server_end::SESSION;
-use rpc_record::records::Records;
+use crate::ends::{Core, count_on};
+use crate::numbered::place_of;
+use crate::ops::note_with;
+use crate::session::{Session, short_number, taken_of};
+use crate::turned::{Loss, Turned};
 use server_core::event::Event;
+use server_core::server::Server;
 use std::alloc::{AllocError, Global};
 
-/// The client, which is joined, lets go of what is under way, in a step.
-#[tactic(auto, using(crate::proofs::Doing::let_go_is))]
-fn lets_go(alloc: Global, world: &mut Inner) -> Result<(), AllocError>
-    ensures { OnOk result (world_of world.new ≡ acted (world_of world.old) (cut world.old.client).0 (cut world.old.client).1 world.old.running) }
+/// What is dropped where a client loses its newest session: what is on its way down.
+fn loss_down(session: Option<u32>) -> Loss
+    ensures { loss_of result ≡ loss_down session }
 {
-    let acts = world.client.cut(alloc);
-    let done = acted(alloc, world, &acts);
-    drop(acts);
-    done
-}
-
-/// What is on its way down is dropped, and what is on its way up stays.
-fn cut_link(alloc: Global, link: &mut Link)
-    ensures { link_of link.new ≡ record (link_of link.old) { down = []; client_end = nothing_read; cut = true } }
-{
-    link.down.clear();
-    link.client_end = Records::new(alloc);
-    link.cut = true;
-}
-
-/// The client, which is joined, sees its connection lost, in a step.
-#[tactic(auto, using(crate::proofs::Doing::cut_is))]
-fn cuts(alloc: Global, world: &mut Inner) -> Result<(), AllocError>
-    ensures { OnOk result (world_of world.new ≡ cuts_if (world_of world.old) true) }
-{
-    lets_go(alloc, world)?;
-    cut_link(alloc, &mut world.link);
-    world.cuts.push(world.steps)?;
-    Ok(())
-}
-
-/// The client sees its connection lost. Where it isn't joined that is a step, and no more.
-pub fn cuts_off(alloc: Global, world: &mut Inner) -> Result<(), AllocError>
-    ensures { OnOk result (world_of world.new ≡ cuts_off (world_of world.old)) }
-{
-    if world.client.linked() {
-        return cuts(alloc, world);
+    match session {
+        None => Loss::Nothing,
+        Some(number) => Loss::DownOf(number),
     }
-    world.steps = count_on(world.steps, 1)?;
-    Ok(())
 }
 
-/// The server sees the session's connection lost for the first time, in a step. What is on its way
-/// up is dropped, and what is on its way down stays.
-fn hang(alloc: Global, world: &mut Inner) -> Result<(), AllocError>
-    ensures { OnOk result (world_of world.new ≡ hangs_if (world_of world.old) false) }
+/// A client's newest session was cut.
+fn cut_session(sessions: &mut Vec<Session>, session: Option<u32>)
+    ensures { sessions.new.items ≡ cut_session sessions.old.items session (session_of sessions.old.items session) }
 {
-    let step = count_on(world.steps, 1)?;
-    let outs = world.server.step(alloc, Event::Hang { session: SESSION });
-    if outs.missed {
+    let number = match session {
+        Some(number) => number,
+        None => return,
+    };
+    match place_of(sessions.len(), u64::from(number)) {
+        Some(place) => sessions[place].cut = true,
+        None => (),
+    }
+}
+
+/// The client at this place sees its connection lost.
+fn cuts_at(alloc: Global, core: &mut Core, place: usize) -> Result<Turned, AllocError>
+    requires { place < length core.old.seats.items }
+    ensures { IfOk result (λ t. turned_of core.new t ≡ cuts (core_of core.old) (place + 1) (slice_get core.old.seats.items place)) }
+{
+    let step = count_on(core.steps, 1)?;
+    core.steps = step;
+    if !core.seats[place].linked() {
+        return Ok(Turned::quiet(alloc));
+    }
+    let session = core.seats[place].session();
+    let running = core.seats[place].place();
+    let acts = core.seats[place].is_cut(alloc);
+    let taken = taken_of(&core.sessions, session);
+    let client = core.seats[place].client();
+    let done = note_with(alloc, &mut core.ops, running, client, taken, step, &acts);
+    cut_session(&mut core.sessions, session);
+    match done {
+        Ok(()) => Ok(Turned::acted(alloc, loss_down(session), session, acts)),
+        Err(error) => {
+            drop(acts);
+            Err(error)
+        }
+    }
+}
+
+/// A client sees its connection lost, if there is one of this number. Where it isn't joined that is
+/// a step, and no more.
+pub fn cuts(alloc: Global, core: &mut Core, client: u64) -> Result<Turned, AllocError>
+    ensures { IfOk result (λ t. turned_of core.new t ≡ cuts (core_of core.old) client (numbered core.old.seats.items client)) }
+{
+    match place_of(core.seats.len(), client) {
+        Some(place) => cuts_at(alloc, core, place),
+        None => Ok(Turned::quiet(alloc)),
+    }
+}
+
+/// The server sees this session's connection lost, and has nothing to say.
+fn hang(alloc: Global, server: &mut Server, session: u32) -> Result<(), AllocError>
+    ensures { OnOk result (server.new ≡ (server_step server.old (event.Hang session)).0) }
+{
+    let step = server.step(alloc, Event::Hang { session });
+    let missed = step.missed;
+    drop(step);
+    if missed {
         return Err(AllocError);
     }
-    world.link.up.clear();
-    world.link.server_end = Records::new(alloc);
-    world.link.hung = true;
-    world.steps = step;
     Ok(())
 }
 
-/// The server sees the session's connection lost, unless it did so before.
-pub fn hangs(alloc: Global, world: &mut Inner) -> Result<(), AllocError>
-    ensures { OnOk result (world_of world.new ≡ hangs (world_of world.old)) }
+/// The server sees the connection lost of the session at this place, unless it did so before.
+fn hangs_at(alloc: Global, core: &mut Core, place: usize) -> Result<Turned, AllocError>
+    requires { place < length core.old.sessions.items }
+    ensures { IfOk result (λ t. turned_of core.new t ≡ hangs (core_of core.old) (place + 1) (slice_get core.old.sessions.items place)) }
 {
-    if world.link.hung {
-        return Ok(());
+    if core.sessions[place].is_hung() {
+        return Ok(Turned::quiet(alloc));
     }
-    hang(alloc, world)
+    let number = short_number(place as u64 + 1)?;
+    core.steps = count_on(core.steps, 1)?;
+    hang(alloc, &mut core.server, number)?;
+    core.sessions[place].hang();
+    Ok(Turned::losing(alloc, Loss::UpOf(number)))
+}
+
+/// The server sees a session's connection lost, if there is one of this number.
+pub fn hangs(alloc: Global, core: &mut Core, session: u64) -> Result<Turned, AllocError>
+    ensures { IfOk result (λ t. turned_of core.new t ≡ hangs (core_of core.old) session (numbered core.old.sessions.items session)) }
+{
+    match place_of(core.sessions.len(), session) {
+        Some(place) => hangs_at(alloc, core, place),
+        None => Ok(Turned::quiet(alloc)),
+    }
 }

@@ -1,4 +1,5 @@
-//! The names of a directory, each to be found without a look at the others.
+//! The names of a directory, each to be found without a look at the others. `specs/Names.antt`
+//! says what names they are.
 
 ghost use Rattle.std.specs.Prelude.{◌≡◌, OnOk, []};
 ghost use Rattle.trace_replay.specs.Names.{has_name, with_name};

@@ -1,15 +1,15 @@
-//! Messages put on their way, each as a record of one fragment.
+//! Messages as bytes on their way, each as a record of one fragment. `specs/World.antt` says which
+//! bytes they are.
 
-ghost use Rattle.std.specs.Prelude.{◌≡◌, ◌++◌, IfOk, OnOk};
+ghost use Rattle.std.specs.Prelude.{◌≡◌, ◌++◌, [], ◌∷◌, IfOk, OnOk};
 ghost use Rattle.rpc_record.specs.Records.{marked};
 ghost use Rattle.wire.specs.Message.{message_spell};
-ghost use Rattle.trace_replay.specs.World.{unless, bytes_of, messages_of};
+ghost use Rattle.trace_replay.specs.World.{bytes_of};
 
 use lb_base::items::Bytes;
 use limits::RECORD_MOST;
-use open_close::sends::Sends;
 use rpc_record::marking::mark;
-use server_core::event::Sent;
+use send_list::SendList;
 use std::alloc::{AllocError, Global};
 use wire::message::Message;
 use wire::spell::spell;
@@ -37,8 +37,15 @@ fn put(alloc: Global, bytes: &mut Vec<u8>, message: &Message) -> Result<(), Allo
     bytes.extend_from_slice(marked.as_slice())
 }
 
+/// Puts one message behind the bytes.
+pub fn put_one(alloc: Global, bytes: &mut Vec<u8>, message: &Message) -> Result<(), AllocError>
+    ensures { OnOk result (bytes.new.items ≡ bytes.old.items ++ bytes_of (message.now ∷ [])) }
+{
+    put(alloc, bytes, message)
+}
+
 /// Puts messages behind the bytes, in order.
-fn put_each(alloc: Global, bytes: &mut Vec<u8>, messages: &[Message]) -> Result<(), AllocError>
+fn put_rest(alloc: Global, bytes: &mut Vec<u8>, messages: &[Message]) -> Result<(), AllocError>
     ensures { OnOk result (bytes.new.items ≡ bytes.old.items ++ bytes_of messages.now) }
 {
     for message in messages {
@@ -47,53 +54,17 @@ fn put_each(alloc: Global, bytes: &mut Vec<u8>, messages: &[Message]) -> Result<
     Ok(())
 }
 
-/// Puts what a client sends behind the bytes, in order.
-fn put_sends(alloc: Global, bytes: &mut Vec<u8>, sends: &Sends) -> Result<(), AllocError>
-    ensures { OnOk result (bytes.new.items ≡ bytes.old.items ++ bytes_of sends.now) }
+/// Puts the messages of a step behind the bytes, in order.
+pub fn put_each(
+    alloc: Global,
+    bytes: &mut Vec<u8>,
+    messages: &SendList<Message>,
+) -> Result<(), AllocError>
+    ensures { OnOk result (bytes.new.items ≡ bytes.old.items ++ bytes_of messages.now) }
 {
-    let (first, rest) = sends.as_pair();
+    let (first, rest) = messages.as_pair();
     if let Some(message) = first {
         put(alloc, bytes, message)?;
     }
-    put_each(alloc, bytes, rest)
-}
-
-/// Puts what a server sends behind the bytes, in order.
-fn put_answers(alloc: Global, bytes: &mut Vec<u8>, sent: &[Sent]) -> Result<(), AllocError>
-    ensures { OnOk result (bytes.new.items ≡ bytes.old.items ++ bytes_of (messages_of sent.now)) }
-{
-    for one in sent {
-        put(alloc, bytes, &one.message)?;
-    }
-    Ok(())
-}
-
-/// Puts what a client sends on its way, unless the server saw the connection lost.
-pub fn put_all(
-    alloc: Global,
-    is_lost: bool,
-    bytes: &mut Vec<u8>,
-    sends: &Sends,
-) -> Result<(), AllocError>
-    ensures { OnOk result (bytes.new.items ≡ unless is_lost bytes.old.items (bytes_of sends.now)) }
-{
-    if is_lost {
-        return Ok(());
-    }
-    put_sends(alloc, bytes, sends)
-}
-
-/// Puts what a server sends on its way, unless the client saw the connection lost.
-pub fn put_sent(
-    alloc: Global,
-    is_lost: bool,
-    bytes: &mut Vec<u8>,
-    sent: &[Sent],
-) -> Result<(), AllocError>
-    ensures { OnOk result (bytes.new.items ≡ unless is_lost bytes.old.items (bytes_of (messages_of sent.now))) }
-{
-    if is_lost {
-        return Ok(());
-    }
-    put_answers(alloc, bytes, sent)
+    put_rest(alloc, bytes, rest)
 }

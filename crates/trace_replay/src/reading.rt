@@ -1,4 +1,4 @@
-//! Records read as messages.
+//! Records read as messages, by `parse_of` of `specs/Parse.antt` of `wire`.
 
 ghost use Rattle.std.specs.Prelude.{◌≡◌, IfOk};
 ghost use Rattle.wire.specs.Parse.{parse_of};

@@ -1,4 +1,4 @@
-//! A trace run line by line.
+//! A trace run line by line. `specs/Timed.antt` says what it comes to.
 
 ghost use Rattle.std.specs.Prelude.{◌≡◌};
 ghost use Rattle.trace_text.specs.declared.refusal.LineFault.TheVariants.{Grammar};
@@ -9,10 +9,11 @@ ghost use Rattle.trace_replay.specs.declared.fault.TraceErr.TheVariants as error
 
 use crate::fault::{Refused, TraceErr};
 use crate::world::World;
+use command_text::line_err::LineErr;
+use command_text::parts::first_line;
 use register_model::history::History;
 use std::alloc::Global;
-use trace_text::line::{Line, LineErr};
-use trace_text::parts::first_line;
+use trace_text::line::Line;
 use trace_text::refusal::LineFault;
 
 /// The refusal of a line outside the grammar.

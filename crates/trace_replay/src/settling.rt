@@ -1,53 +1,70 @@
-//! A change that waits at the server is made.
+//! A change that waits at the server is made. `settles` in `specs/Core.antt` says what that makes of
+//! the two ends.
 
-ghost use Rattle.std.specs.Prelude.{◌≡◌, ◌<◌, ◌^◌, OnOk, slice_get};
-ghost use Rattle.trace_replay.specs.Run.{pointed, pointed_at, settles};
-ghost use Rattle.trace_replay.specs.View.{world_of};
+ghost use Rattle.std.specs.Prelude.{◌≡◌, ◌+◌, ◌<◌, ◌^◌, ◌++◌, replicate, IfOk, OnOk};
+ghost use Rattle.trace_replay.specs.Core.{settled_ops, settles, numbered};
+ghost use Rattle.trace_replay.specs.View.{core_of, turned_of};
 
-use crate::inner::{Inner, count_on};
-use crate::outbox::put_sent;
+use crate::ends::{Core, count_on};
+use crate::numbered::place_of;
+use crate::ops::point_at;
+use crate::session::Session;
+use crate::turned::Turned;
 use register_model::op::Op;
-use server_core::event::Event;
+use server_core::event::{Event, Told};
 use std::alloc::{AllocError, Global};
 
-/// The operation of this place, if there is one, has its point at this step.
-fn point(ops: &mut Vec<Op>, place: usize, step: u64)
-    ensures { ops.new.items ≡ pointed ops.old.items place step (slice_get ops.old.items place) }
+/// Where a change was made, the last close that sent calls on its session has its point at this
+/// step.
+fn settle_session(ops: &mut Vec<Op>, sessions: &[Session], made: u32, session: u32, step: u64)
+    ensures { ops.new.items ≡ settled_ops ops.old.items made step (numbered sessions.now session) }
 {
-    if ops.len() <= place {
+    if made == 0 {
         return;
     }
-    ops[place].point = Some(step);
-}
-
-/// The close has its point where its change was made.
-fn point_at(ops: &mut Vec<Op>, closing: Option<usize>, step: u64)
-    ensures { ops.new.items ≡ pointed_at ops.old.items closing step }
-{
-    match closing {
+    match place_of(sessions.len(), u64::from(session)) {
+        Some(place) => {
+            let own = &sessions[place];
+            point_at(ops, own.closing, step)
+        }
         None => (),
-        Some(place) => point(ops, place, step),
     }
 }
 
-/// The server makes the first change that waits, if there is one, in a step at this reading of its
-/// clock. Its answer is then on its way down.
-pub fn settles(alloc: Global, world: &mut Inner, now: u64) -> Result<(), AllocError>
-    requires { now < 2 ^ 63 }
-    ensures { OnOk result (world_of world.new ≡ settles (world_of world.old) now) }
+/// Adds the step of each change that was made.
+fn enter(entries: &mut Vec<u64>, made: u32, step: u64) -> Result<(), AllocError>
+    ensures { OnOk result (entries.new.items ≡ entries.old.items ++ replicate made step) }
 {
-    let step = count_on(world.steps, 1)?;
-    let before = world.server.journal().len();
-    let outs = world.server.step(alloc, Event::Settle { now });
-    if outs.missed {
+    for _i in 0..made {
+        entries.push(step)?;
+    }
+    Ok(())
+}
+
+/// The server makes the first change that waits, if there is one that can be made, in a step at this
+/// reading of its clock.
+pub fn settles(alloc: Global, core: &mut Core, now: u64) -> Result<Turned, AllocError>
+    requires { now < 2 ^ 63 }
+    ensures { IfOk result (λ t. turned_of core.new t ≡ settles (core_of core.old) now) }
+{
+    let at = count_on(core.steps, 1)?;
+    core.steps = at;
+    let step = core.server.step(alloc, Event::Settle { now });
+    if step.missed {
+        drop(step);
         return Err(AllocError);
     }
-    if before < world.server.journal().len() {
-        point_at(&mut world.ops, world.link.closing, step);
-        world.settled.push(step)?;
+    match step.told {
+        Told::Settled { session, .. } => {
+            settle_session(&mut core.ops, &core.sessions, step.entries, session, at)
+        }
+        _ => (),
     }
-    let is_cut = world.link.cut;
-    put_sent(alloc, is_cut, &mut world.link.down, outs.send.as_slice())?;
-    world.steps = step;
-    Ok(())
+    match enter(&mut core.entries, step.entries, at) {
+        Ok(()) => Ok(Turned::served(alloc, step)),
+        Err(error) => {
+            drop(step);
+            Err(error)
+        }
+    }
 }

@@ -1,18 +1,18 @@
-//! The clocks of a trace.
+//! The clocks of a trace. `specs/Timed.antt` says what a line says of them.
 
-ghost use Rattle.std.specs.Prelude.{◌≡◌};
-ghost use Rattle.trace_replay.specs.Timed.{no_times, timing_of, times_with, IsTaken};
-ghost use Rattle.trace_replay.specs.View.{times_of};
+ghost use Rattle.std.specs.Prelude.{◌≡◌, map};
+ghost use Rattle.trace_replay.specs.Core.{numbered};
+ghost use Rattle.trace_replay.specs.Timed.{no_times, down_timing, pass_timing, timing_of, times_with, IsTaken};
+ghost use Rattle.trace_replay.specs.WorldView.{times_of};
 ghost use Rattle.trace_replay.specs.declared.timing.Timing.TheVariants as timing;
 ghost use Rattle.clock_rule.specs.declared.rule.Reading.TheVariants as reads;
 
+use crate::numbered::place_of;
+use crate::session::Session;
 use clock_rule::clocks::Clocks;
 use clock_rule::rule::{NoteErr, Reading};
 use std::alloc::Global;
 use trace_text::line::Line;
-
-/// The client of each session, which is the only one.
-const CLIENT: u64 = 1;
 
 /// What a line says of the clocks.
 #[derive(Clone, Copy, Debug, PartialEq, Eq)]
@@ -35,25 +35,6 @@ pub struct Times {
     pub clocks: Clocks,
 }
 
-/// What a line says of the clocks.
-pub fn timing_of(line: &Line) -> Timing
-    ensures { result ≡ timing_of line.now }
-{
-    match line {
-        Line::Term(term) => Timing::Term(*term),
-        Line::Drift(drift) => Timing::Drift(*drift),
-        Line::Join { client, at, server } => both(*server, *client, *at),
-        Line::Do { client, at, .. } => of_client(*client, *at),
-        Line::Up { server, .. } => Timing::Reads(Reading::Server(*server)),
-        Line::Down { at, .. } => of_client(CLIENT, *at),
-        Line::Pass { server, at, .. } => both(*server, CLIENT, *at),
-        Line::Settle { server } => Timing::Reads(Reading::Server(*server)),
-        Line::Cut { client, at } => of_client(*client, *at),
-        Line::Hang { server, .. } => Timing::Reads(Reading::Server(*server)),
-        Line::Skipped | Line::Version | Line::Clients(_) | Line::File { .. } => Timing::Nothing,
-    }
-}
-
 /// An event of a client.
 fn of_client(client: u64, at: u64) -> Timing
     ensures { result ≡ timing.Reads (reads.Client client at) }
@@ -66,6 +47,60 @@ fn both(server: u64, client: u64, at: u64) -> Timing
     ensures { result ≡ timing.Reads (reads.Both server client at) }
 {
     Timing::Reads(Reading::Both { server, client, at })
+}
+
+/// The owner of a session, if such a session was ever made.
+#[tactic(auto, using(crate::proofs::Numbers::owner_at))]
+fn owner_of(sessions: &Vec<Session>, number: u64) -> Option<u64>
+    ensures { result ≡ numbered (map (λ x. x.owner) sessions.now.items) number }
+{
+    let place = place_of(sessions.len(), number)?;
+    Some(sessions[place].owner)
+}
+
+/// A delivery down a session.
+fn down_timing(at: u64, owner: Option<u64>) -> Timing
+    ensures { result ≡ down_timing at owner }
+{
+    match owner {
+        None => Timing::Nothing,
+        Some(owner) => of_client(owner, at),
+    }
+}
+
+/// Rounds of a session.
+fn pass_timing(server: u64, at: u64, owner: Option<u64>) -> Timing
+    ensures { result ≡ pass_timing server at owner }
+{
+    match owner {
+        None => Timing::Nothing,
+        Some(owner) => both(server, owner, at),
+    }
+}
+
+/// What a line says of the clocks, where these sessions were made: a session's lines are events of
+/// its owner's clock, also where the owner has left it.
+pub fn timing_of(sessions: &Vec<Session>, line: &Line) -> Timing
+    ensures { result ≡ timing_of (map (λ x. x.owner) sessions.now.items) line.now }
+{
+    match line {
+        Line::Term(term) => Timing::Term(*term),
+        Line::Drift(drift) => Timing::Drift(*drift),
+        Line::Join { client, at, server } => both(*server, *client, *at),
+        Line::Do { client, at, .. } => of_client(*client, *at),
+        Line::Up { server, .. } => Timing::Reads(Reading::Server(*server)),
+        Line::Down { session, at, .. } => down_timing(*at, owner_of(sessions, *session)),
+        Line::Pass {
+            session,
+            server,
+            at,
+            ..
+        } => pass_timing(*server, *at, owner_of(sessions, *session)),
+        Line::Settle { server } => Timing::Reads(Reading::Server(*server)),
+        Line::Cut { client, at } => of_client(*client, *at),
+        Line::Hang { server, .. } => Timing::Reads(Reading::Server(*server)),
+        Line::Skipped | Line::Version | Line::Clients(_) | Line::File { .. } => Timing::Nothing,
+    }
 }
 
 impl Times {

@@ -1,56 +1,78 @@
-//! What a line of a trace asks for, and which lines are refused.
+//! What a line of a trace asks for, and which lines are refused. `specs/Run.antt` says so of each.
 
-ghost use Rattle.std.specs.Prelude.{◌≡◌, true, false, ◌&&◌, nat_lt, nat_le, IfOk};
+ghost use Rattle.std.specs.Prelude.{◌≡◌, true, false, nat_lt, nat_le, IfOk};
 ghost use Rattle.trace_text.specs.Reading.{IsTimely};
 ghost use Rattle.trace_replay.specs.Names.{has_name};
+ghost use Rattle.trace_replay.specs.Core.{numbered};
 ghost use Rattle.trace_replay.specs.World.{World};
-ghost use Rattle.trace_replay.specs.Run.{asks_if, named, joins_if, event_asks, asks_at, asks, asks_within, asked, in_header};
+ghost use Rattle.trace_replay.specs.Run.{is_there, asks_if, named, joins_within, joins_if, event_asks, asks_at, asks, asks_within, asked, in_header};
 ghost use Rattle.trace_replay.specs.Turns.{IsTurnBounded, stage_after};
-ghost use Rattle.trace_replay.specs.View.{world_of};
+ghost use Rattle.trace_replay.specs.View.{core_of};
+ghost use Rattle.trace_replay.specs.WorldView.{world_of};
 ghost use Rattle.trace_replay.specs.declared.link.Stage.TheVariants as stage;
+ghost use Rattle.trace_replay.specs.declared.turn.Turn.TheVariants as turn;
 
+use crate::ends::Core;
 use crate::inner::Inner;
 use crate::link::Stage;
 use crate::names::Names;
+use crate::numbered::place_of;
+use crate::seat::Seat;
+use command_text::command::Command;
+use command_text::content::{Content, length_within};
 use lb_base::items::Bytes;
-use trace_text::content::{Content, length_within};
-use trace_text::line::{Amount, Command, Line};
+use limits::{FILE_MOST, LINES_MOST, SESSIONS_MOST, TREE_MOST};
+use trace_text::line::{Amount, Line};
 use trace_text::refusal::{Limit, LineFault};
 
-/// The most lines of a trace.
-pub const LINE_MOST: u64 = limits::LINES_MOST;
-
-/// The most bytes of a file of a trace.
-pub const FILE_MOST: u64 = 2_048;
-
-/// The most bytes of all files of a trace together.
-pub const TREE_MOST: u64 = limits::TREE_MOST;
-
-/// What a line in place asks of the world.
+/// What a line in place asks of the world. Clients and sessions are numbered from 1; `now` is a
+/// reading of the clock of the end that acts, in milliseconds.
 #[derive(Drop)]
 pub enum Turn {
     /// Nothing: the line is skipped.
     Skip,
     /// Nothing but that other lines come next.
     At(Stage),
+    /// So many clients.
+    Clients(u64),
     /// A file of the root.
-    File { name: Bytes, content: Content },
+    File {
+        name: Bytes,
+        content: Content,
+    },
     /// The client joins.
-    Join,
+    Join(u64),
     /// The client's command.
-    Do(Command),
-    /// Bytes on their way up reach the server, at this reading of its clock.
-    Up(Amount, u64),
-    /// Bytes on their way down reach the client.
-    Down(Amount),
-    /// A change that waits may be made, at this reading of the server's clock.
+    Do {
+        client: u64,
+        now: u64,
+        command: Command,
+    },
+    /// Bytes on their way up the session reach the server.
+    Up {
+        session: u64,
+        amount: Amount,
+        now: u64,
+    },
+    /// Bytes on their way down the session reach its client.
+    Down {
+        session: u64,
+        amount: Amount,
+        now: u64,
+    },
+    /// A change that waits may be made.
     Settle(u64),
     /// The client sees its connection lost.
-    Cut,
+    Cut(u64),
     /// The server sees the session's connection lost.
-    Hang,
-    /// So many rounds, at this reading of the server's clock.
-    Pass(u64, u64),
+    Hang(u64),
+    /// So many rounds of the session, at a reading of the server's clock and one of the client's.
+    Pass {
+        session: u64,
+        rounds: u64,
+        server: u64,
+        at: u64,
+    },
 }
 
 /// Which lines may come after a turn.
@@ -60,6 +82,7 @@ pub fn stage_after(stage: Stage, turn: &Turn) -> Stage
     match turn {
         Turn::Skip | Turn::File { .. } => stage,
         Turn::At(next) => *next,
+        Turn::Clients(_) => Stage::Files,
         _ => Stage::Events,
     }
 }
@@ -94,7 +117,7 @@ fn header_asks(stage: Stage, line: &Line) -> Result<Turn, LineFault>
             _ => Err(LineFault::Grammar),
         },
         Stage::Clients => match line {
-            Line::Clients(count) => asks_if(*count == 1, Turn::At(Stage::Files)),
+            Line::Clients(count) => Ok(Turn::Clients(*count)),
             _ => Err(LineFault::Grammar),
         },
         _ => Err(LineFault::Grammar),
@@ -124,56 +147,129 @@ fn file_asks(names: &Names, size: u64, name: Bytes, content: Content) -> Result<
     sized(name, content, size)
 }
 
-/// A client that is free joins the first session.
-fn joins_if(is_free: bool, is_first: bool) -> Result<Turn, LineFault>
-    ensures { result ≡ joins_if is_free is_first }
+/// A client joins where a further session can stand.
+fn joins_within(has_room: bool, client: u64) -> Result<Turn, LineFault>
+    ensures { result ≡ joins_within has_room client }
 {
-    if !is_free {
+    if has_room {
+        Ok(Turn::Join(client))
+    } else {
+        Err(LineFault::Limit(Limit::Sessions))
+    }
+}
+
+/// A client that is there and isn't joined joins, where so many sessions stand.
+fn joins_if(standing: usize, client: u64, seats: &Vec<Seat>) -> Result<Turn, LineFault>
+    ensures { result ≡ joins_if standing client (numbered seats.now.items client) }
+{
+    let Some(place) = place_of(seats.len(), client) else {
+        return Err(LineFault::Grammar);
+    };
+    if seats[place].linked() {
         return Err(LineFault::Grammar);
     }
-    if !is_first {
-        return Err(LineFault::Limit(Limit::Sessions));
-    }
-    Ok(Turn::Join)
+    joins_within(standing < SESSIONS_MOST, client)
 }
 
-/// Whether so many sessions were made.
-fn is_session(session: u64, sessions: u64) -> bool
-    ensures { result ≡ (nat_lt 0 session && nat_le session sessions) }
+/// Whether there is such a client.
+fn has_client(core: &Core, client: u64) -> bool
+    ensures { result ≡ is_there (numbered (core_of core.now).seats client) }
 {
-    0 < session && session <= sessions
+    place_of(core.seats.len(), client).is_some()
 }
 
-/// What an event asks for, where a client has joined or not, and so many sessions were made.
-fn event_asks(is_linked: bool, sessions: u64, line: Line) -> Result<Turn, LineFault>
-    ensures { result ≡ event_asks is_linked sessions line }
+/// Whether such a session was ever made.
+fn has_session(core: &Core, session: u64) -> bool
+    ensures { result ≡ is_there (numbered (core_of core.now).sessions session) }
+{
+    place_of(core.sessions.len(), session).is_some()
+}
+
+/// A client that is there does what it is told to.
+fn do_asks(core: &Core, client: u64, now: u64, command: Command) -> Result<Turn, LineFault>
+    ensures { result ≡ asks_if (is_there (numbered (core_of core.now).seats client)) (turn.Do client now command) }
+{
+    let turn = Turn::Do {
+        client,
+        now,
+        command,
+    };
+    asks_if(has_client(core, client), turn)
+}
+
+/// Bytes go up a session that was made.
+fn up_asks(core: &Core, session: u64, amount: Amount, now: u64) -> Result<Turn, LineFault>
+    ensures { result ≡ asks_if (is_there (numbered (core_of core.now).sessions session)) (turn.Up session amount now) }
+{
+    let turn = Turn::Up {
+        session,
+        amount,
+        now,
+    };
+    asks_if(has_session(core, session), turn)
+}
+
+/// Bytes go down a session that was made.
+fn down_asks(core: &Core, session: u64, amount: Amount, now: u64) -> Result<Turn, LineFault>
+    ensures { result ≡ asks_if (is_there (numbered (core_of core.now).sessions session)) (turn.Down session amount now) }
+{
+    let turn = Turn::Down {
+        session,
+        amount,
+        now,
+    };
+    asks_if(has_session(core, session), turn)
+}
+
+/// Bytes go up and down a session that was made, so many times.
+fn pass_asks(
+    core: &Core,
+    session: u64,
+    rounds: u64,
+    server: u64,
+    at: u64,
+) -> Result<Turn, LineFault>
+    ensures { result ≡ asks_if (is_there (numbered (core_of core.now).sessions session)) (turn.Pass session rounds server at) }
+{
+    let turn = Turn::Pass {
+        session,
+        rounds,
+        server,
+        at,
+    };
+    asks_if(has_session(core, session), turn)
+}
+
+/// What an event asks for, which names a client and a session that are there.
+fn event_asks(core: &Core, line: Line) -> Result<Turn, LineFault>
+    ensures { result ≡ event_asks (core_of core.now) line }
 {
     match line {
-        Line::Join { client, .. } => joins_if(client == 1 && !is_linked, sessions == 0),
+        Line::Join { client, .. } => joins_if(core.server.standing(), client, &core.seats),
         Line::Do {
             client,
+            at,
             command,
-            ..
-        } => asks_if(client == 1, Turn::Do(command)),
+        } => do_asks(core, client, at, command),
         Line::Up {
             session,
             amount,
             server,
-        } => asks_if(is_session(session, sessions), Turn::Up(amount, server)),
+        } => up_asks(core, session, amount, server),
         Line::Down {
             session,
             amount,
-            ..
-        } => asks_if(is_session(session, sessions), Turn::Down(amount)),
+            at,
+        } => down_asks(core, session, amount, at),
         Line::Settle { server } => Ok(Turn::Settle(server)),
-        Line::Cut { client, .. } => asks_if(client == 1, Turn::Cut),
-        Line::Hang { session, .. } => asks_if(is_session(session, sessions), Turn::Hang),
+        Line::Cut { client, .. } => asks_if(has_client(core, client), Turn::Cut(client)),
+        Line::Hang { session, .. } => asks_if(has_session(core, session), Turn::Hang(session)),
         Line::Pass {
             session,
             rounds,
             server,
-            ..
-        } => asks_if(is_session(session, sessions), Turn::Pass(rounds, server)),
+            at,
+        } => pass_asks(core, session, rounds, server, at),
         _ => Err(LineFault::Grammar),
     }
 }
@@ -184,7 +280,7 @@ fn files_asks(world: &Inner, line: Line) -> Result<Turn, LineFault>
 {
     match line {
         Line::File { name, content } => file_asks(&world.names, world.size, name, content),
-        line => event_asks(world.client.linked(), world.sessions, line),
+        line => event_asks(&world.core, line),
     }
 }
 
@@ -194,7 +290,7 @@ fn asks_at(world: &Inner, line: Line) -> Result<Turn, LineFault>
 {
     match world.stage {
         Stage::Files => files_asks(world, line),
-        Stage::Events => event_asks(world.client.linked(), world.sessions, line),
+        Stage::Events => event_asks(&world.core, line),
         stage => header_asks(stage, &line),
     }
 }
@@ -228,5 +324,5 @@ pub fn asked(world: &Inner, number: u64, line: Line) -> Result<Turn, LineFault>
     ensures asked { result ≡ asked (world_of world.now) number line }
     ensures bounded { IfOk result IsTurnBounded }
 {
-    asks_within(number <= LINE_MOST, asks(world, line))
+    asks_within(number <= LINES_MOST, asks(world, line))
 }

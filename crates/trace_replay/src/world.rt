@@ -1,23 +1,23 @@
-//! The world that a trace runs in.
+//! The world that a trace runs in, with its clocks. `specs/Timed.antt` says what a line makes of
+//! both.
 
 ghost use Rattle.std.specs.Prelude.{◌≡◌, IfErr, OnOk};
 ghost use Rattle.trace_text.specs.Reading.{IsTimely};
 ghost use Rattle.trace_replay.specs.Timed.{timed_start, timed_asked};
-ghost use Rattle.trace_replay.specs.Run.{in_header, history_of};
+ghost use Rattle.trace_replay.specs.World.{history_of};
+ghost use Rattle.trace_replay.specs.Run.{in_header};
 ghost use Rattle.trace_replay.specs.Turns.{IsApplied, IsRefused};
 ghost use Rattle.trace_replay.specs.declared.fault.TraceErr.TheVariants as errors;
 
+use crate::ends::Core;
 use crate::fault::{Refused, TraceErr};
 use crate::inner::Inner;
-use crate::link::{Link, Stage};
-use crate::names::Names;
+use crate::link::Stage;
 use crate::timing::{Times, timing_of};
 use crate::turn::asked;
 use clock_rule::rule::NoteErr;
 use lb_base::items::Items;
-use open_close::client::Client;
 use register_model::history::History;
-use server_core::server::Server;
 use std::alloc::Global;
 use std::marker::Model;
 use trace_text::line::Line;
@@ -35,7 +35,7 @@ impl Model for World {
 
     ghost Value = { Timed };
 
-    ghost use Rattle.trace_replay.specs.View.{world_of, timed_of};
+    ghost use Rattle.trace_replay.specs.WorldView.{world_of, timed_of};
     ghost use Rattle.trace_replay.specs.Turns.{IsQuiet};
 
     ghost view = { λ w. timed_of w.inner w.times };
@@ -56,21 +56,7 @@ impl World {
         ensures { result ≡ timed_start }
     {
         World {
-            inner: Inner {
-                stage: Stage::Version,
-                names: Names::new(alloc),
-                opening: Vec::new(alloc),
-                size: 0,
-                server: Server::new(alloc),
-                client: Client::new(alloc),
-                sessions: 0,
-                link: Link::new(alloc),
-                steps: 0,
-                ops: Vec::new(alloc),
-                running: None,
-                settled: Vec::new(alloc),
-                cuts: Vec::new(alloc),
-            },
+            inner: Inner::new(alloc),
             times: Times::new(alloc),
         }
     }
@@ -86,7 +72,7 @@ impl World {
         ensures ok { OnOk result (IsApplied self.old number line self.new) }
         ensures err { IfErr result (λ e. IsRefused e self.old number line self.new) }
     {
-        let timing = timing_of(&line);
+        let timing = timing_of(&self.inner.core.sessions, &line);
         let turn = match asked(&self.inner, number, line) {
             Ok(turn) => turn,
             Err(fault) => return Err(refused(number, fault)),
@@ -121,12 +107,8 @@ impl World {
         ensures { result ≡ history_of self.world }
     {
         let World { inner, .. } = self;
-        let Inner {
-            opening,
-            ops,
-            steps,
-            ..
-        } = inner;
+        let Inner { opening, core, .. } = inner;
+        let Core { ops, steps, .. } = core;
         History::new(Items::from_vec(opening), Items::from_vec(ops), steps)
     }
 }

@@ -1,5 +1,5 @@
 use Rattle.std.proofs.Common.{◌≡◌, ◌+◌, ◌≤◌, length}
-use Rattle.trace_text.specs.Parts.{lines_of}
+use Rattle.command_text.specs.Parts.{lines_of}
 use Rattle.trace_replay.specs.Timed.{timed_start, accepted_from}
 use Rattle.trace_replay.proofs.run.replay.Given as goal
 

@@ -1,5 +1,5 @@
 use Rattle.std.proofs.Common.{ℕ, List, ◌≤◌, length, sym, ap, ◌∙◌, subst}
-use Rattle.trace_text.proofs.Contents.{content_size}
+use Rattle.command_text.proofs.Contents.{content_size}
 use Rattle.trace_replay.specs.Run.{file_most}
 use Rattle.trace_replay.proofs.inner.Inner.builds.Goals as goal
 

@@ -1,0 +1,99 @@
+-- What a line in place asks for is within its bounds.
+use Rattle.std.proofs.Common.{◌≡◌, ℕ, List, Option, Some, None, Bool, true, false, refl, sym, subst, length}
+use Rattle.std.specs.Prelude.{nat_lt, nat_le, Result, Ok, Err, IfOk}
+use Rattle.command_text.specs.Content.{content_length}
+use Rattle.command_text.specs.declared.content.Part.{Part}
+use Rattle.std.proofs.lemmas.Bool.{ltb-false}
+use Rattle.trace_text.specs.Reading.{IsTimely}
+use Rattle.trace_text.specs.declared.line.Line.{Line}
+use Rattle.trace_text.specs.declared.line.Line.TheVariants as line
+use Rattle.trace_text.specs.declared.refusal.LineFault.{LineFault}
+use Rattle.trace_text.specs.declared.refusal.LineFault.TheVariants.{Grammar}
+use Rattle.trace_replay.specs.declared.link.Stage.{Stage}
+use Rattle.trace_replay.specs.declared.link.Stage.TheVariants as stage
+use Rattle.trace_replay.specs.declared.turn.Turn.{Turn}
+use Rattle.trace_replay.specs.declared.turn.Turn.TheVariants as turn
+use Rattle.trace_replay.specs.Core.{Core, Seat, numbered}
+use Rattle.trace_replay.specs.Names.{has_name}
+use Rattle.trace_replay.specs.World.{World}
+use Rattle.trace_replay.specs.Run.{line_most, file_most, asks_if, sized, named, joins_within, joins_if, event_asks, asks_at, asks, asked}
+use Rattle.trace_replay.specs.Turns.{IsTurnBounded}
+use Rattle.trace_replay.proofs.Quiet.{asking, turn_is, refused_line, within}
+
+taken : (s t : Turn) → IsTurnBounded s → asking s ≡ asking t → IsTurnBounded t
+taken s t h e = subst (λ (x : Turn). IsTurnBounded x) (turn_is s t e) h
+
+when : (b : Bool) (s t : Turn) → IsTurnBounded s → asks_if b s ≡ asking t → IsTurnBounded t
+when true s t h e = taken s t h e
+when false s t h e = refused_line Grammar t e
+
+within_room : (b : Bool) (c : ℕ) (t : Turn) → joins_within b c ≡ asking t → IsTurnBounded t
+within_room true c t e = taken (turn.Join c) t tt e
+within_room false c t e = refused_line _ t e
+
+unless_linked : (linked has_room : Bool) (c : ℕ) (t : Turn) → (elim linked as (λ (x : Bool). Result Turn LineFault) [ true ↦ Err Grammar | false ↦ joins_within has_room c ]) ≡ asking t → IsTurnBounded t
+unless_linked true has_room c t e = refused_line Grammar t e
+unless_linked false has_room c t e = within_room has_room c t e
+
+joining : (standing c : ℕ) (o : Option Seat) (t : Turn) → joins_if standing c o ≡ asking t → IsTurnBounded t
+joining standing c None t e = refused_line Grammar t e
+joining standing c (Some seat) t e = unless_linked seat.client.linked _ c t e
+
+event : (k : Core) (l : Line) (t : Turn) → IsTimely l → event_asks k l ≡ asking t → IsTurnBounded t
+event k (line.Join c r s) t h e = joining (length k.server.sessions) c (numbered k.seats c) t e
+event k (line.Do c r d) t h e = when _ (turn.Do c r d) t tt e
+event k (line.Up n a s) t h e = when _ (turn.Up n a s) t h e
+event k (line.Down n a r) t h e = when _ (turn.Down n a r) t tt e
+event k (line.Settle s) t h e = taken (turn.Settle s) t h e
+event k (line.Cut c r) t h e = when _ (turn.Cut c) t tt e
+event k (line.Hang n s) t h e = when _ (turn.Hang n) t tt e
+event k (line.Pass n m s r) t h e = when _ (turn.Pass n m s r) t h e
+event k l t h e = refused_line Grammar t e
+
+of_size : (long much : Bool) (name : List ℕ) (content : List Part) (t : Turn) → nat_lt file_most (content_length content) ≡ long → sized long much (turn.File name content) ≡ asking t → IsTurnBounded t
+of_size true much name content t s e = refused_line _ t e
+of_size false true name content t s e = refused_line _ t e
+of_size false false name content t s e = taken (turn.File name content) t (ltb-false file_most (content_length content) s) e
+
+file : (is_taken : Bool) (size : ℕ) (name : List ℕ) (content : List Part) (t : Turn) → named is_taken size name content ≡ asking t → IsTurnBounded t
+file true size name content t e = refused_line Grammar t e
+file false size name content t e = of_size (nat_lt file_most (content_length content)) _ name content t refl e
+
+at_files : (w : World) (l : Line) (t : Turn) → IsTimely l → asks_at w stage.Files l ≡ asking t → IsTurnBounded t
+at_files w (line.File name content) t h e = file (has_name w.names name) w.size name content t e
+at_files w l t h e = event w.core l t h e
+
+at_version : (w : World) (l : Line) (t : Turn) → asks_at w stage.Version l ≡ asking t → IsTurnBounded t
+at_version w line.Version t e = taken (turn.At stage.Term) t tt e
+at_version w l t e = refused_line Grammar t e
+
+at_term : (w : World) (l : Line) (t : Turn) → asks_at w stage.Term l ≡ asking t → IsTurnBounded t
+at_term w (line.Term n) t e = taken (turn.At stage.Drift) t tt e
+at_term w l t e = refused_line Grammar t e
+
+at_drift : (w : World) (l : Line) (t : Turn) → asks_at w stage.Drift l ≡ asking t → IsTurnBounded t
+at_drift w (line.Drift n) t e = taken (turn.At stage.Clients) t tt e
+at_drift w l t e = refused_line Grammar t e
+
+at_clients : (w : World) (l : Line) (t : Turn) → asks_at w stage.Clients l ≡ asking t → IsTurnBounded t
+at_clients w (line.Clients n) t e = taken (turn.Clients n) t tt e
+at_clients w l t e = refused_line Grammar t e
+
+at_stage : (w : World) (s : Stage) (l : Line) (t : Turn) → IsTimely l → asks_at w s l ≡ asking t → IsTurnBounded t
+at_stage w stage.Events l t h e = event w.core l t h e
+at_stage w stage.Files l t h e = at_files w l t h e
+at_stage w stage.Version l t h e = at_version w l t e
+at_stage w stage.Term l t h e = at_term w l t e
+at_stage w stage.Drift l t h e = at_drift w l t e
+at_stage w stage.Clients l t h e = at_clients w l t e
+
+any_line : (w : World) (l : Line) (t : Turn) → IsTimely l → asks w l ≡ asking t → IsTurnBounded t
+any_line w line.Skipped t h e = taken turn.Skip t tt e
+any_line w l t h e = at_stage w w.stage l t h e
+
+by_result : (w : World) (n : ℕ) (l : Line) (r : Result Turn LineFault) → IsTimely l → r ≡ asked w n l → IfOk r IsTurnBounded
+by_result w n l (Ok t) h e = any_line w l t h (within (nat_le n line_most) (asks w l) t (sym e))
+by_result w n l (Err f) h e = tt
+
+pub asked_bounded : (w : World) (n : ℕ) (l : Line) (r : Result Turn LineFault) → IsTimely l → r ≡ asked w n l → IfOk r IsTurnBounded
+asked_bounded w n l r h e = by_result w n l r h e

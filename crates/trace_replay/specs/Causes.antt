@@ -1,0 +1,207 @@
+-- Why an operation ended as it did: for each outcome what must have happened.
+use Rattle.std.specs.Prelude.{◌≡◌, ℕ, zero, suc, ◌+◌, ◌*◌, ◌<◌, ◌≤◌, List, [], ◌∷◌, ◌++◌, length, take, ◌⊎◌, Bool, true, false, not, ◌&&◌, ◌==◌, nat_lt, Option, Some, None, Result, Ok, Err, IsSome, Contains, option_map, slice_get, if◌then◌else◌}
+use Rattle.std.specs.List.{list_any}
+use Rattle.std.specs.Option.{option_map_or}
+use Rattle.sha1.specs.Sha1.{sha1}
+use Rattle.command_text.specs.Content.{content_length, content_bytes}
+use Rattle.command_text.specs.declared.command.Command.{Command}
+use Rattle.command_text.specs.declared.command.Command.TheVariants as command
+use Rattle.hash_calls.specs.declared.call.Commit.{Commit}
+use Rattle.hash_calls.specs.declared.message.Lb.TheVariants as lb
+use Rattle.xdr_codec.specs.declared.answer.Answer.TheVariants.{Done}
+use Rattle.wire.specs.Parse.{parse_of}
+use Rattle.wire.specs.declared.message.Body.TheVariants as body
+use Rattle.wire.specs.declared.message.Message.TheVariants as message
+use Rattle.open_close.specs.Local.{local_most, written_size, written, truncated, part_of}
+use Rattle.open_close.specs.Opening.{calls_most}
+use Rattle.server_core.specs.Closing.{is_full}
+use Rattle.server_core.specs.declared.journal.Entry.{Entry}
+use Rattle.register_model.specs.Register.{Absent, content_of}
+use Rattle.register_model.specs.declared.op.Op.{Op}
+use Rattle.register_model.specs.declared.op.Outcome.{Outcome}
+use Rattle.register_model.specs.declared.op.Outcome.TheVariants as told
+use Rattle.trace_replay.specs.Core.{Event.Cuts, Event.Serves, numbered, server_waiting}
+use Rattle.trace_replay.specs.Commands.{file_of}
+use Rattle.trace_replay.specs.Trail.{Deed, Moment, Said, step_of, owner_in, taken_of}
+use Rattle.trace_replay.specs.Book.{Book, Or, value_at, version_at}
+
+-- ---- local contents
+
+-- What a command on a file leaves of the client's local content of it, where it ended so: an open gives the content that it got, a
+-- write and a trunc that were done change it, and an abandon that was done, or a close that replaced the file, ends it.
+abbrev pub leaves : Command → Outcome → (value : List ℕ) → Option (List ℕ) → Option (List ℕ)
+leaves (command.Open f) (told.Opened len digest) value l = Some value
+leaves (command.Write f offset content) told.Done value l = option_map (λ x. written x offset (content_bytes content)) l
+leaves (command.Trunc f size) told.Done value l = option_map (λ x. truncated x size) l
+leaves (command.Abandon f) told.Done value l = None
+leaves (command.Close f) (told.Closed version len digest) value l = None
+leaves k o value l = l
+
+abbrev pub after_one : (client file : ℕ) → Deed → Op → Option (List ℕ) → Option (List ℕ)
+after_one client file d o l = if (d.client == client) && (file_of d.command == file) then leaves d.command o.outcome o.value l else l
+
+-- a client's local content of a file after these commands, whose operations these are; none where the file is not open there
+abbrev pub local_from : (client file : ℕ) → Option (List ℕ) → List Deed → List Op → Option (List ℕ)
+local_from client file l [] ops = l
+local_from client file l (d ∷ ds) [] = l
+local_from client file l (d ∷ ds) (o ∷ os) = local_from client file (after_one client file d o l) ds os
+
+-- the same before the command at a place
+abbrev pub local_before : List Deed → List Op → (place client file : ℕ) → Option (List ℕ)
+local_before ds ops place client file = local_from client file None (take place ds) (take place ops)
+
+-- ---- what a client answers by itself
+
+-- an operation that began before lasted beyond this step
+abbrev pub lasts : (end : Option ℕ) → (step : ℕ) → Bool
+lasts None step = true
+lasts (Some e) step = nat_lt step e
+
+-- another operation of the client was under way when this one began
+abbrev pub is_busy : List Op → Op → Bool
+is_busy ops o = list_any (λ q. (q.client == o.client) && (nat_lt q.begin o.begin && lasts q.end o.begin)) ops
+
+-- a command that needs the server goes there where the client may ask it
+abbrev pub unless_asks : (asks : Bool) → Option Outcome
+unless_asks true = None
+unless_asks false = Some told.NoLink
+
+abbrev pub sized_outcome : (size : ℕ) → Outcome
+sized_outcome size = if nat_lt local_most size then told.TooBig size else told.Done
+
+-- a write of no bytes is done at any place
+abbrev pub write_outcome : (size offset count : ℕ) → Outcome
+write_outcome size offset zero = told.Done
+write_outcome size offset (suc count) = sized_outcome (written_size size offset (suc count))
+
+-- of a command on an open file, with this local content
+abbrev pub open_answer : (asks : Bool) → Command → List ℕ → Option Outcome
+open_answer asks (command.Open f) x = Some told.AlreadyOpen
+open_answer asks (command.Write f offset content) x = Some (write_outcome (length x) offset (content_length content))
+open_answer asks (command.Trunc f size) x = Some (sized_outcome size)
+open_answer asks (command.Read f offset count) x = Some (told.Piece (length (part_of x offset count)) (sha1 (part_of x offset count)))
+open_answer asks (command.Abandon f) x = Some told.Done
+open_answer asks (command.Close f) x = unless_asks asks
+
+-- of one on a file that isn't open
+abbrev pub shut_answer : (asks : Bool) → Command → Option Outcome
+shut_answer asks (command.Open f) = unless_asks asks
+shut_answer asks k = Some told.NotOpen
+
+abbrev pub free_answer : (asks : Bool) → Command → Option (List ℕ) → Option Outcome
+free_answer asks k None = shut_answer asks k
+free_answer asks k (Some x) = open_answer asks k x
+
+-- What a client answers to a command by itself, in the command's own step, where it had this local content of the file; none where it asks
+-- the server.
+abbrev pub own_answer : (busy asks : Bool) → Command → Option (List ℕ) → Option Outcome
+own_answer true asks k l = Some told.Busy
+own_answer false asks k l = free_answer asks k l
+
+-- A joined client may ask the server. (Only one that has sent 4,293,967,296 calls on its connection may not.)
+abbrev pub MayAsk : (joined asks : Bool) → (step : ℕ) → Type 0
+MayAsk true true step = Unit {0}
+MayAsk true false step = 4293967296 ≤ calls_most * step
+MayAsk false asks step = asks ≡ false
+
+-- ---- what the server's answers lead to
+
+-- A point lies within the operation.
+abbrev pub Within : Op → (point : ℕ) → Type 0
+Within o p = (o.point ≡ Some p) × (o.begin ≤ p) × ((e : ℕ) × (o.end ≡ Some e) × (p ≤ e))
+
+-- an open of a file of the tree got the content that its file had at its point
+pub record IsOpened (book : Book) (file : ℕ) (o : Op) (len : ℕ) (digest : List ℕ) : Type 0 where
+  pub there : IsSome (content_of book.opening file)
+  pub length_is : len ≡ length o.value
+  pub digest_is : digest ≡ sha1 o.value
+  pub point : ℕ
+  pub within : Within o point
+  pub value_is : Or book (value_at book file point ≡ Some o.value)
+
+-- a change of the file was made at the point, of which the server's journal tells this
+pub record IsEntered (book : Book) (file point version len : ℕ) (digest : List ℕ) : Type 0 where
+  pub place : ℕ
+  pub entry : Entry
+  pub step_is : slice_get book.entries place ≡ Some point
+  pub entry_is : slice_get book.journal place ≡ Some entry
+  pub file_is : entry.file ≡ file
+  pub version_is : entry.version ≡ version
+  pub len_is : entry.len ≡ len
+  pub digest_is : entry.sha1 ≡ digest
+
+-- a close replaced its file by its value
+pub record IsClosed (book : Book) (file : ℕ) (o : Op) (version len : ℕ) (digest : List ℕ) : Type 0 where
+  pub length_is : len ≡ length o.value
+  pub digest_is : digest ≡ sha1 o.value
+  pub point : ℕ
+  pub within : Within o point
+  pub entered : IsEntered book file point version len digest
+
+-- So many attempts from a moment on, each of which began while the file had one version, and met another.
+abbrev pub Tried : Book → (file begin count moment : ℕ) → Type 0
+Tried book file begin zero moment = begin ≤ moment
+Tried book file begin (suc n) moment = (first last : ℕ) × Tried book file begin n first × (first < last) × (last ≤ moment) × (version_at book file first ≡ version_at book file last → ⊥)
+
+-- four attempts did, the last of them these two
+pub record IsChanged (book : Book) (file : ℕ) (o : Op) (began met : ℕ) : Type 0 where
+  pub end : ℕ
+  pub end_is : o.end ≡ Some end
+  pub first : ℕ
+  pub last : ℕ
+  pub before : Tried book file o.begin 3 first
+  pub order : first < last
+  pub past : last ≤ end
+  pub first_is : version_at book file first ≡ began
+  pub last_is : version_at book file last ≡ met
+  pub apart : began ≡ met → ⊥
+
+-- its client saw its connection lost when the operation ended
+pub record IsLost (book : Book) (o : Op) : Type 0 where
+  pub end : ℕ
+  pub end_is : o.end ≡ Some end
+  pub moment : Moment
+  pub there : Contains book.moments moment
+  pub step_is : step_of moment ≡ end
+  pub event_is : moment.event ≡ Cuts o.client
+
+-- An open was refused by the server: of the root, which is a directory, by 21 (NFS3ERR_ISDIR of RFC 1813), and of a file that is not in
+-- the tree by 70 (NFS3ERR_STALE), with a point.
+abbrev pub IsOpenRefused : Book → (file : ℕ) → Op → (status : ℕ) → Type 0
+IsOpenRefused book file o status = ((status ≡ 21) × (file ≡ 1)) ⊎ ((status ≡ 70) × (content_of book.opening file ≡ Absent) × ((p : ℕ) × Within o p × (value_at book file p ≡ Absent)))
+
+-- A close was refused by the server for want of room, by 28 (NFS3ERR_NOSPC of RFC 1813): when its COMMITTMP was taken, within it, one
+-- more change, or its bytes beside those of the tree, had no place. It takes no effect. No close is refused for anything else.
+pub record IsCloseRefused (book : Book) (o : Op) (status : ℕ) : Type 0 where
+  pub status_is : status ≡ 28
+  pub pointless : o.point ≡ None
+  pub end : ℕ
+  pub end_is : o.end ≡ Some end
+  pub moment : Moment
+  pub there : Contains book.moments moment
+  pub session : ℕ
+  pub now : ℕ
+  pub bytes : List ℕ
+  pub event_is : moment.event ≡ Serves session now bytes
+  pub owner : owner_in (numbered moment.before.sessions session) ≡ o.client
+  -- that of its content
+  pub xid : ℕ
+  pub call : Commit
+  pub parsed : parse_of server_waiting bytes ≡ Ok (message.Call xid (body.Lb (lb.CommitTmp call)))
+  pub size : call.size ≡ length o.value
+  pub after : o.begin ≤ step_of moment
+  pub before : step_of moment ≤ end
+  pub full : is_full moment.before.server (length o.value) ≡ true
+
+-- the cause of how an operation ended, or goes on, that asked the server
+abbrev pub HasCause : Book → Command → Op → Outcome → Type 0
+HasCause book (command.Open f) o (told.Opened len digest) = IsOpened book f o len digest
+HasCause book (command.Open f) o (told.Refused status) = IsOpenRefused book f o status
+HasCause book (command.Open f) o (told.Changed first last) = IsChanged book f o first last
+HasCause book (command.Open f) o told.Lost = IsLost book o
+HasCause book (command.Open f) o told.Running = o.end ≡ None
+HasCause book (command.Close f) o (told.Closed version len digest) = IsClosed book f o version len digest
+HasCause book (command.Close f) o (told.Refused status) = IsCloseRefused book o status
+HasCause book (command.Close f) o told.Lost = IsLost book o
+HasCause book (command.Close f) o told.Running = o.end ≡ None
+HasCause book k o outcome = ⊥

@@ -1,0 +1,308 @@
+-- The two ends of a trace and what the history tells of them, apart from the bytes between them. Each step here is one of the
+-- core, and answers the messages that it sends: how they come to the other end is the business of the world.
+use Rattle.std.specs.Prelude.{ℕ, zero, suc, ◌+◌, List, [], ◌∷◌, ◌++◌, length, replicate, Option, Some, None, Result, Ok, Err, Bool, true, false, not, ◌&&◌, ◌==◌, slice_get, slice_set}
+use Rattle.wire.specs.Parse.{parse_of}
+use Rattle.wire.specs.declared.message.Message.{Message}
+use Rattle.wire.specs.declared.message.Message.TheVariants as message
+use Rattle.wire.specs.declared.fault.WireFault.{WireFault}
+use Rattle.wire.specs.declared.message.Side.TheVariants as side
+use Rattle.wire.specs.declared.message.Waiting.{Waiting}
+use Rattle.command_text.specs.declared.command.Command.{Command}
+use Rattle.server_core.specs.State as server
+use Rattle.server_core.specs.Step.{server_step}
+use Rattle.server_core.specs.declared.event.Event.TheVariants as event
+use Rattle.server_core.specs.declared.event.Sent.{Sent}
+use Rattle.server_core.specs.declared.event.ServerStep.{ServerStep}
+use Rattle.server_core.specs.declared.event.Told.{Told}
+use Rattle.server_core.specs.declared.event.Told.TheVariants as told
+use Rattle.open_close.specs.State as client
+use Rattle.open_close.specs.Step.{command_step, got_step, joined, cut}
+use Rattle.open_close.specs.declared.step.ClientStep.{ClientStep}
+use Rattle.register_model.specs.declared.op.Op.{Op}
+use Rattle.register_model.specs.declared.op.Word.{Word}
+use Rattle.trace_replay.specs.declared.link.Taken.{Taken}
+use Rattle.trace_replay.specs.Commands.{word_of, file_of, value_at_begin}
+use Rattle.trace_replay.specs.Ops.{begun, op_after, place_after, place_with, taken_on, closing_with, pointed_at}
+
+-- ---- numbers from 1
+
+-- what stands at a number, where the first has the number 1
+abbrev pub numbered : {A : Type 0} → List A → ℕ → Option A
+numbered xs zero = None
+numbered xs (suc k) = slice_get xs k
+
+-- the same list with another there
+abbrev pub with_numbered : {A : Type 0} → List A → ℕ → A → List A
+with_numbered xs zero x = xs
+with_numbered xs (suc k) x = slice_set xs k x
+
+-- ---- the core
+
+-- a client: its state, the number of its newest session, if it ever had one, and the place of the operation under way
+pub record Seat : Type 0 where
+  pub client : client.State
+  pub session : Option ℕ
+  pub place : Option ℕ
+
+abbrev pub new_seat : Seat
+new_seat = record { client = client.start; session = None; place = None }
+
+-- what is kept of a session beside the bytes on their way: its client, the calls of the operation under way that the server took, the
+-- place of the last close that sent calls on it, and whether an end saw the connection lost
+pub record Session : Type 0 where
+  pub owner : ℕ
+  pub taken : List Taken
+  pub closing : Option ℕ
+  pub cut : Bool
+  pub hung : Bool
+
+abbrev pub new_session : (owner : ℕ) → Session
+new_session owner = record { owner = owner; taken = []; closing = None; cut = false; hung = false }
+
+pub record Core : Type 0 where
+  pub server : server.State
+  -- the clients, by their numbers
+  pub seats : List Seat
+  -- the sessions that were ever made, by their numbers
+  pub sessions : List Session
+  -- how many steps there were
+  pub steps : ℕ
+  pub ops : List Op
+  -- the step of each change in the server's journal
+  pub entries : List ℕ
+
+-- ---- what happens
+
+-- one step of an end, or two where a client joins. What is delivered is a record.
+pub data Event : Type 0 where
+  Joins : (client : ℕ) → Event
+  Does : (client now : ℕ) → Command → Event
+  Serves : (session now : ℕ) → (bytes : List ℕ) → Event
+  Hears : (session now : ℕ) → (bytes : List ℕ) → Event
+  Settles : (now : ℕ) → Event
+  Cuts : (client : ℕ) → Event
+  Hangs : (session : ℕ) → Event
+
+-- what becomes of the bytes on their way, before more are sent: a session is made, or those on their way down or up a session are dropped
+pub data Loss : Type 0 where
+  Nothing : Loss
+  Made : Loss
+  Down_of : (session : ℕ) → Loss
+  Up_of : (session : ℕ) → Loss
+
+-- what an event leaves, and sends: these messages up a session, and those down
+pub record Turned : Type 0 where
+  pub core : Core
+  pub loss : Loss
+  pub session : Option ℕ
+  pub up : List Message
+  pub down : List Sent
+
+abbrev pub quiet : Core → Turned
+quiet k = record { core = k; loss = Nothing; session = None; up = []; down = [] }
+
+-- a step in which nothing is done
+abbrev pub idles : Core → Turned
+idles k = quiet (record k { steps = k.steps + 1 })
+
+-- ---- the server's end
+
+-- the server asks for nothing, so nothing waits there
+abbrev pub server_waiting : Waiting
+server_waiting = record { side = side.Server; calls = [] }
+
+-- a call that was taken is remembered with its step
+abbrev pub taken_with : List Taken → Message → ℕ → List Taken
+taken_with taken (message.Call xid body) step = taken ++ record { xid = xid; step = step } ∷ []
+taken_with taken _ step = taken
+
+-- a session's message is taken by the server, at a reading of its clock
+abbrev pub server_got : Core → (number now : ℕ) → Session → Message → Turned
+server_got k number now x m =
+    let r = server_step k.server (event.Got number m now) in
+    record (quiet (record k {
+      steps = k.steps + 1;
+      server = r.0;
+      sessions = with_numbered k.sessions number (record x { taken = taken_with x.taken m (k.steps + 1) });
+    })) { down = r.1.send }
+
+-- bytes that are no message change nothing at the server
+abbrev pub serves_if : Core → (number now : ℕ) → Session → Result Message WireFault → Turned
+serves_if k number now x (Ok m) = server_got k number now x m
+serves_if k number now x (Err e) = idles k
+
+abbrev pub serves : Core → (number now : ℕ) → List ℕ → Option Session → Turned
+serves k number now bytes None = quiet k
+serves k number now bytes (Some x) = serves_if k number now x (parse_of server_waiting bytes)
+
+-- ---- the client's end
+
+-- the calls that the server took of a client's newest session
+abbrev pub taken_of : Option Session → List Taken
+taken_of None = []
+taken_of (Some x) = x.taken
+
+abbrev pub session_of : List Session → Option ℕ → Option Session
+session_of sessions None = None
+session_of sessions (Some number) = numbered sessions number
+
+abbrev pub ops_after : List Op → (place : ℕ) → Option Op → client.State → List Taken → (step : ℕ) → ClientStep → List Op
+ops_after ops place None c taken step acts = ops
+ops_after ops place (Some o) c taken step acts = slice_set ops place (op_after o c taken step acts)
+
+abbrev pub ops_with : List Op → Option ℕ → client.State → List Taken → (step : ℕ) → ClientStep → List Op
+ops_with ops None c taken step acts = ops
+ops_with ops (Some place) c taken step acts = ops_after ops place (slice_get ops place) c taken step acts
+
+-- a client did this in a step
+abbrev pub acted : Core → (number : ℕ) → Seat → client.State → ClientStep → Turned
+acted k number seat c acts =
+    let taken = taken_of (session_of k.sessions seat.session) in
+    record {
+      core = record k {
+        steps = k.steps + 1;
+        seats = with_numbered k.seats number (record seat { client = c; place = place_after seat.place acts.ended });
+        ops = ops_with k.ops seat.place c taken (k.steps + 1) acts;
+      };
+      loss = Nothing;
+      session = seat.session;
+      up = acts.send;
+      down = [];
+    }
+
+abbrev pub hears_by : Core → (number now : ℕ) → Seat → List ℕ → Turned
+hears_by k number now seat bytes =
+    let r = got_step seat.client (parse_of (client.waiting_of seat.client) bytes) now in
+    acted k number seat r.0 r.1
+
+-- whether this is the newest session of a client
+abbrev pub is_newest : Option ℕ → (number : ℕ) → Bool
+is_newest None number = false
+is_newest (Some newest) number = newest == number
+
+-- what comes on a session that its client has left is heard by nobody
+abbrev pub hears_if : Core → (owner now : ℕ) → Seat → List ℕ → Bool → Turned
+hears_if k owner now seat bytes true = hears_by k owner now seat bytes
+hears_if k owner now seat bytes false = quiet k
+
+abbrev pub hears_at : Core → (number owner now : ℕ) → List ℕ → Option Seat → Turned
+hears_at k number owner now bytes None = quiet k
+hears_at k number owner now bytes (Some seat) = hears_if k owner now seat bytes (is_newest seat.session number)
+
+abbrev pub hears : Core → (number now : ℕ) → List ℕ → Option Session → Turned
+hears k number now bytes None = quiet k
+hears k number now bytes (Some x) = hears_at k number x.owner now bytes (numbered k.seats x.owner)
+
+-- ---- a command
+
+-- what a command leaves of its client's newest session
+abbrev pub commanded_session : Session → (running : Option ℕ) → (place : ℕ) → Word → ClientStep → Session
+commanded_session x running place what acts = record x { taken = taken_on running x.taken; closing = closing_with x.closing place what acts.ended }
+
+abbrev pub commanded_sessions : List Session → Option ℕ → Option Session → (running : Option ℕ) → (place : ℕ) → Word → ClientStep → List Session
+commanded_sessions sessions (Some number) (Some x) running place what acts = with_numbered sessions number (commanded_session x running place what acts)
+commanded_sessions sessions number x running place what acts = sessions
+
+-- a client does what it is told to, in a step
+abbrev pub commanded : Core → (number : ℕ) → Seat → Word → (file : ℕ) → (value : List ℕ) → client.State → ClientStep → Turned
+commanded k number seat what file value c acts = record {
+  core = record k {
+    steps = k.steps + 1;
+    seats = with_numbered k.seats number (record seat { client = c; place = place_with seat.place (length k.ops) acts.ended });
+    sessions = commanded_sessions k.sessions seat.session (session_of k.sessions seat.session) seat.place (length k.ops) what acts;
+    ops = k.ops ++ op_after (begun number what file value (k.steps + 1)) c [] (k.steps + 1) acts ∷ [];
+  };
+  loss = Nothing;
+  session = seat.session;
+  up = acts.send;
+  down = [];
+}
+
+abbrev pub does : Core → (number now : ℕ) → Command → Option Seat → Turned
+does k number now command None = quiet k
+does k number now command (Some seat) =
+    let r = command_step seat.client command now in
+    commanded k number seat (word_of command) (file_of command) (value_at_begin seat.client command) r.0 r.1
+
+-- ---- a client joins
+
+-- a step of the server, and one of the client, which has the session of this number then
+abbrev pub joins_as : Core → (number : ℕ) → Seat → server.State → Told → Turned
+joins_as k number seat s (told.Session made) = record (quiet (record k {
+  steps = k.steps + 2;
+  server = s;
+  seats = with_numbered k.seats number (record seat { client = joined seat.client; session = Some made });
+  sessions = k.sessions ++ new_session number ∷ [];
+})) { loss = Made }
+joins_as k number seat s _ = quiet (record k { steps = k.steps + 2; server = s })
+
+abbrev pub joins : Core → (number : ℕ) → Option Seat → Turned
+joins k number None = quiet k
+joins k number (Some seat) = let r = server_step k.server event.Connect in joins_as k number seat r.0 r.1.told
+
+-- ---- a change that waits is made
+
+-- the operation whose change was made has its point there: the last close that sent calls on the change's session
+abbrev pub settled_ops : List Op → (made step : ℕ) → Option Session → List Op
+settled_ops ops (suc n) step (Some x) = pointed_at ops x.closing step
+settled_ops ops made step x = ops
+
+abbrev pub settled_by : Core → (made : ℕ) → Told → List Op
+settled_by k made (told.Settled session xid) = settled_ops k.ops made (k.steps + 1) (numbered k.sessions session)
+settled_by k made _ = k.ops
+
+abbrev pub settles : Core → (now : ℕ) → Turned
+settles k now =
+    let r = server_step k.server (event.Settle now) in
+    record (quiet (record k {
+      steps = k.steps + 1;
+      server = r.0;
+      ops = settled_by k r.1.entries r.1.told;
+      entries = k.entries ++ replicate r.1.entries (k.steps + 1);
+    })) { down = r.1.send }
+
+-- ---- a connection is lost
+
+abbrev pub loss_down : Option ℕ → Loss
+loss_down None = Nothing
+loss_down (Some number) = Down_of number
+
+abbrev pub cut_session : List Session → Option ℕ → Option Session → List Session
+cut_session sessions (Some number) (Some x) = with_numbered sessions number (record x { cut = true })
+cut_session sessions number x = sessions
+
+-- The client sees it: what is on its way down is dropped. Where it isn't joined that is a step, and no more.
+abbrev pub cuts_if : Core → (number : ℕ) → Seat → (linked : Bool) → Turned
+cuts_if k number seat true =
+    let r = cut seat.client in
+    let t = acted k number seat r.0 r.1 in
+    record t { core = record t.core { sessions = cut_session k.sessions seat.session (session_of k.sessions seat.session) }; loss = loss_down seat.session }
+cuts_if k number seat false = idles k
+
+abbrev pub cuts : Core → (number : ℕ) → Option Seat → Turned
+cuts k number None = quiet k
+cuts k number (Some seat) = cuts_if k number seat seat.client.linked
+
+-- The server sees it, once: what is on its way up is dropped.
+abbrev pub hangs_if : Core → (number : ℕ) → Session → (hung : Bool) → Turned
+hangs_if k number x true = quiet k
+hangs_if k number x false = record (quiet (record k {
+  steps = k.steps + 1;
+  server = (server_step k.server (event.Hang number)).0;
+  sessions = with_numbered k.sessions number (record x { hung = true });
+})) { loss = Up_of number }
+
+abbrev pub hangs : Core → (number : ℕ) → Option Session → Turned
+hangs k number None = quiet k
+hangs k number (Some x) = hangs_if k number x x.hung
+
+-- ---- any event
+
+abbrev pub happens : Core → Event → Turned
+happens k (Joins number) = joins k number (numbered k.seats number)
+happens k (Does number now command) = does k number now command (numbered k.seats number)
+happens k (Serves number now bytes) = serves k number now bytes (numbered k.sessions number)
+happens k (Hears number now bytes) = hears k number now bytes (numbered k.sessions number)
+happens k (Settles now) = settles k now
+happens k (Cuts number) = cuts k number (numbered k.seats number)
+happens k (Hangs number) = hangs k number (numbered k.sessions number)

@@ -1,0 +1,122 @@
+-- What becomes of operations.
+use Rattle.std.specs.Prelude.{ℕ, ◌+◌, List, [], ◌∷◌, find, Option, Some, None, Bool, true, false, ◌==◌, slice_get, slice_set}
+use Rattle.std.specs.Option.{option_map}
+use Rattle.xdr_codec.specs.Status.{status_number}
+use Rattle.xdr_codec.specs.declared.status.Status.TheVariants as status
+use Rattle.open_close.specs.State as client
+use Rattle.open_close.specs.declared.step.ClientStep.{ClientStep}
+use Rattle.open_close.specs.declared.step.BadPeer.{BadPeer}
+use Rattle.open_close.specs.declared.step.BadPeer.TheVariants as bad
+use Rattle.open_close.specs.declared.step.Counts.{Counts}
+use Rattle.open_close.specs.declared.step.Ended.{Ended}
+use Rattle.open_close.specs.declared.step.Outcome.{Outcome}
+use Rattle.open_close.specs.declared.step.Outcome.TheVariants as outcome
+use Rattle.register_model.specs.declared.op.Op.{Op}
+use Rattle.register_model.specs.declared.op.Outcome.{Outcome as Told}
+use Rattle.register_model.specs.declared.op.Outcome.TheVariants as told
+use Rattle.register_model.specs.declared.op.Traffic.{Traffic}
+use Rattle.register_model.specs.declared.op.Word.{Word}
+use Rattle.register_model.specs.declared.op.Word.TheVariants as word
+use Rattle.trace_replay.specs.declared.link.Taken.{Taken}
+
+-- ---- how one ends
+
+-- the number of a peer's fault in a history
+abbrev pub fault_number : BadPeer → ℕ
+fault_number (bad.Garbage at) = 1
+fault_number (bad.UnknownXid xid) = 2
+fault_number (bad.Digest got wanted) = 3
+fault_number (bad.Denied code) = 4
+fault_number (bad.Shape got wanted) = 5
+
+-- an outcome as the history tells it
+abbrev pub told_of : Outcome → Told
+told_of (outcome.Opened file len sha1) = told.Opened len sha1
+told_of (outcome.Piece len sha1) = told.Piece len sha1
+told_of (outcome.Closed file version len sha1) = told.Closed version len sha1
+told_of outcome.Done = told.Done
+told_of outcome.Busy = told.Busy
+told_of outcome.NotOpen = told.NotOpen
+told_of outcome.AlreadyOpen = told.AlreadyOpen
+told_of (outcome.TooBig size) = told.TooBig size
+told_of outcome.Lost = told.Lost
+told_of (outcome.Changed first last) = told.Changed first last
+told_of outcome.NoLink = told.NoLink
+told_of (outcome.Refused status) = told.Refused (status_number status)
+told_of outcome.PeerMemory = told.PeerMemory
+told_of (outcome.BadPeer fault) = told.BadPeer (fault_number fault)
+told_of outcome.Memory = told.Memory
+
+-- whether an open that ended so read or missed its file at one moment
+abbrev pub has_point : Word → Outcome → Bool
+has_point word.Open (outcome.Opened file len sha1) = true
+has_point word.Open (outcome.Refused status.Stale) = true
+has_point w o = false
+
+-- the step at which the call was taken that an outcome rests on
+abbrev pub taken_at : List Taken → (xid : ℕ) → Option ℕ
+taken_at taken xid = option_map (λ t. t.step) (find (λ t. t.xid == xid) taken)
+
+-- the point that an open has by its end; that of a close is the step at which its change was made
+abbrev pub point_if : Bool → List Taken → (xid : ℕ) → Option ℕ → Option ℕ
+point_if true taken xid point = taken_at taken xid
+point_if false taken xid point = point
+
+-- the content that an open got; a close has its value from its begin
+abbrev pub value_of : List ℕ → client.State → Outcome → List ℕ
+value_of value c (outcome.Opened file len sha1) = client.local_bytes c.opened file
+value_of value c o = value
+
+abbrev pub counted : Traffic → Counts → Traffic
+counted t n = record { cond = t.cond + n.cond_writes; tmp = t.tmp + n.temp_writes; read = t.read + n.reads; «data» = t.«data» + n.bytes }
+
+abbrev pub ended_op : Op → client.State → List Taken → (step : ℕ) → Ended → Op
+ended_op o c taken step e = record o { end = Some step; point = point_if (has_point o.word e.outcome) taken e.rests_on o.point; outcome = told_of e.outcome; value = value_of o.value c e.outcome }
+
+abbrev pub op_ended : Op → client.State → List Taken → (step : ℕ) → Option Ended → Op
+op_ended o c taken step None = o
+op_ended o c taken step (Some e) = ended_op o c taken step e
+
+-- an operation after a step of its client, which did this
+abbrev pub op_after : Op → client.State → List Taken → (step : ℕ) → ClientStep → Op
+op_after o c taken step acts = op_ended (record o { traffic = counted o.traffic acts.counts }) c taken step acts.ended
+
+-- ---- one begins
+
+abbrev pub no_traffic : Traffic
+no_traffic = record { cond = 0; tmp = 0; read = 0; «data» = 0 }
+
+abbrev pub begun : (client : ℕ) → Word → (file : ℕ) → (value : List ℕ) → (step : ℕ) → Op
+begun client what file value step = record { client = client; word = what; file = file; begin = step; end = None; point = None; outcome = told.Running; value = value; traffic = no_traffic }
+
+-- ---- the operation under way
+
+-- after a step of its client
+abbrev pub place_after : Option ℕ → Option Ended → Option ℕ
+place_after place None = place
+place_after place (Some e) = None
+
+-- after a command, whose own operation is at this place: the one that was under way before, if any
+abbrev pub place_with : Option ℕ → (place : ℕ) → Option Ended → Option ℕ
+place_with None place None = Some place
+place_with None place (Some e) = None
+place_with (Some p) place ended = Some p
+
+-- the calls that were taken, as a command leaves them: those of the operation under way
+abbrev pub taken_on : Option ℕ → List Taken → List Taken
+taken_on None taken = []
+taken_on (Some p) taken = taken
+
+-- the last close that sent calls, after a command whose own operation is at this place
+abbrev pub closing_with : Option ℕ → (place : ℕ) → Word → Option Ended → Option ℕ
+closing_with closing place word.Close None = Some place
+closing_with closing place w ended = closing
+
+-- the close at a place has its point where its change was made
+abbrev pub pointed : List Op → (place step : ℕ) → Option Op → List Op
+pointed ops place step None = ops
+pointed ops place step (Some o) = slice_set ops place (record o { point = Some step })
+
+abbrev pub pointed_at : List Op → Option ℕ → (step : ℕ) → List Op
+pointed_at ops None step = ops
+pointed_at ops (Some place) step = pointed ops place step (slice_get ops place)

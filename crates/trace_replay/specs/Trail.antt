@@ -1,0 +1,270 @@
+-- A run step by step: what happened at each moment, and what was told, sent, taken and hashed then.
+use Rattle.std.specs.Prelude.{◌≡◌, ℕ, zero, suc, ◌+◌, List, [], ◌∷◌, ◌++◌, length, Option, Some, None, Result, Ok, Err, Bool, true, false, not, ◌==◌, flat_map}
+use Rattle.command_text.specs.Content.{content_bytes}
+use Rattle.command_text.specs.declared.command.Command.{Command}
+use Rattle.command_text.specs.Parts.{lines_of}
+use Rattle.trace_text.specs.Grammar.{line_of}
+use Rattle.trace_text.specs.declared.line.Line.{Line}
+use Rattle.trace_text.specs.declared.line.Line.TheVariants as line
+use Rattle.wire.specs.Parse.{parse_of}
+use Rattle.wire.specs.declared.message.Message.{Message}
+use Rattle.wire.specs.declared.message.Message.TheVariants as message
+use Rattle.wire.specs.declared.fault.WireFault.{WireFault}
+use Rattle.open_close.specs.State.{State, waiting_of, pending, has_call}
+use Rattle.open_close.specs.Hashed.{client_hashed}
+use Rattle.server_core.specs.Hashed.{server_hashed}
+use Rattle.register_model.specs.declared.op.Opening.{Opening}
+use Rattle.trace_replay.specs.declared.turn.Turn.{Turn}
+use Rattle.trace_replay.specs.declared.turn.Turn.TheVariants as turn
+use Rattle.trace_replay.specs.Core.{Core, Seat, Session, Event, Event.Joins, Event.Does, Event.Serves, Event.Hears, Event.Settles, Event.Cuts, Event.Hangs, numbered, server_waiting, is_newest, happens}
+use Rattle.trace_replay.specs.World.{World, Wire, start, happened}
+use Rattle.trace_replay.specs.Delivery.{up_taken, up_events, down_taken, down_events, up_length, down_length, up_all, round, is_still}
+use Rattle.trace_replay.specs.Run.{asked_by, turned, count_of, at_events}
+
+-- an event, and what the two ends were before it
+pub record Moment : Type 0 where
+  pub before : Core
+  pub event : Event
+
+-- the number of its step, which is the first of two where a client joins
+abbrev pub step_of : Moment → ℕ
+step_of m = m.before.steps + 1
+
+-- ---- the moments of a run
+
+abbrev pub moments_of : World → List Event → List Moment
+moments_of w [] = []
+moments_of w (e ∷ es) = record { before = w.core; event = e } ∷ moments_of (happened w e) es
+
+abbrev pub up_moments_at : World → (number count now : ℕ) → Option Wire → List Moment
+up_moments_at w number count now None = []
+up_moments_at w number count now (Some q) = moments_of (up_taken w number count q) (up_events number now count q)
+
+abbrev pub up_moments : World → (number count now : ℕ) → List Moment
+up_moments w number count now = up_moments_at w number count now (numbered w.wires number)
+
+abbrev pub down_moments_at : World → (number count now : ℕ) → Option Wire → List Moment
+down_moments_at w number count now None = []
+down_moments_at w number count now (Some q) = moments_of (down_taken w number count q) (down_events number now count q)
+
+abbrev pub down_moments : World → (number count now : ℕ) → List Moment
+down_moments w number count now = down_moments_at w number count now (numbered w.wires number)
+
+abbrev pub round_moments : World → (number server at : ℕ) → List Moment
+round_moments w number server at =
+    let v : World = up_all w number server in
+    up_moments w number (up_length (numbered w.wires number)) server ++ down_moments v number (down_length (numbered v.wires number)) at
+
+abbrev pub passes_moments : ℕ → World → (number server at : ℕ) → List Moment
+passes_moments zero w number server at = []
+passes_moments (suc k) w number server at = elim (is_still w number) [ true ↦ [] | false ↦ round_moments w number server at ++ passes_moments k (round w number server at) number server at ]
+
+abbrev pub turn_moments : World → Turn → List Moment
+turn_moments w (turn.Join c) = moments_of (at_events w) (Joins c ∷ [])
+turn_moments w (turn.Do c now command) = moments_of (at_events w) (Does c now command ∷ [])
+turn_moments w (turn.Up n a now) = up_moments (at_events w) n (count_of a (up_length (numbered w.wires n))) now
+turn_moments w (turn.Down n a now) = down_moments (at_events w) n (count_of a (down_length (numbered w.wires n))) now
+turn_moments w (turn.Settle now) = moments_of (at_events w) (Settles now ∷ [])
+turn_moments w (turn.Cut c) = moments_of (at_events w) (Cuts c ∷ [])
+turn_moments w (turn.Hang n) = moments_of (at_events w) (Hangs n ∷ [])
+turn_moments w (turn.Pass n k server at) = passes_moments k (at_events w) n server at
+turn_moments w _ = []
+
+abbrev pub moments_from : World → ℕ → List (List ℕ) → List Moment
+moments_from w n [] = []
+moments_from w n (l ∷ ls) = elim (asked_by w n (line_of l)) [ Err f ↦ [] | Ok t ↦ turn_moments w t ++ moments_from (turned w t) (n + 1) ls ]
+
+-- of a whole trace
+abbrev pub moments : List ℕ → List Moment
+moments input = moments_from start 1 (lines_of input)
+
+-- ---- what the lines say
+
+-- the files that a trace opens with, of which so many stand before: each `file` line's, by ids from 2
+abbrev pub opening_by : (count : ℕ) → Option Line → List Opening
+opening_by count (Some (line.File name content)) = record { file = count + 2; content = content_bytes content } ∷ []
+opening_by count _ = []
+
+abbrev pub openings_from : (count : ℕ) → List (List ℕ) → List Opening
+openings_from count [] = []
+openings_from count (l ∷ ls) = let first : List Opening = opening_by count (line_of l) in first ++ openings_from (count + length first) ls
+
+abbrev pub openings_of : List (List ℕ) → List Opening
+openings_of ls = openings_from 0 ls
+
+-- the events that a line tells: all but deliveries
+abbrev pub event_by : Option Line → List Event
+event_by (Some (line.Join client reading server)) = Joins client ∷ []
+event_by (Some (line.Do client reading command)) = Does client reading command ∷ []
+event_by (Some (line.Settle server)) = Settles server ∷ []
+event_by (Some (line.Cut client reading)) = Cuts client ∷ []
+event_by (Some (line.Hang number server)) = Hangs number ∷ []
+event_by _ = []
+
+abbrev pub events_of : List (List ℕ) → List Event
+events_of [] = []
+events_of (l ∷ ls) = event_by (line_of l) ++ events_of ls
+
+-- those among the moments
+abbrev pub told_by : Event → List Event
+told_by (Serves number now bytes) = []
+told_by (Hears number now bytes) = []
+told_by e = e ∷ []
+
+abbrev pub told_of : List Moment → List Event
+told_of [] = []
+told_of (m ∷ ms) = told_by m.event ++ told_of ms
+
+-- the commands of a trace, each with its client: each `do` line's, in order
+abbrev pub command_by : Option Line → List (ℕ × Command)
+command_by (Some (line.Do client reading command)) = (client, command) ∷ []
+command_by _ = []
+
+abbrev pub commands_of : List (List ℕ) → List (ℕ × Command)
+commands_of [] = []
+commands_of (l ∷ ls) = command_by (line_of l) ++ commands_of ls
+
+-- whether a client is joined after an event, if it was or wasn't before
+abbrev pub joined_by : (client : ℕ) → (was : Bool) → Event → Bool
+joined_by client was (Joins c) = elim (c == client) [ true ↦ true | false ↦ was ]
+joined_by client was (Cuts c) = elim (c == client) [ true ↦ false | false ↦ was ]
+joined_by client was e = was
+
+abbrev pub joined_from : (client : ℕ) → Bool → List Moment → Bool
+joined_from client was [] = was
+joined_from client was (m ∷ ms) = joined_from client (joined_by client was m.event) ms
+
+-- which client was told what, in which step, and whether it was joined
+pub record Deed : Type 0 where
+  pub client : ℕ
+  pub command : Command
+  pub begin : ℕ
+  pub joined : Bool
+
+abbrev pub deed_by : (past : List Moment) → (step : ℕ) → Event → List Deed
+deed_by past step (Does c now command) = record { client = c; command = command; begin = step; joined = joined_from c false past } ∷ []
+deed_by past step e = []
+
+-- the commands of these moments, where those were before
+abbrev pub deeds_from : (past : List Moment) → List Moment → List Deed
+deeds_from past [] = []
+deeds_from past (m ∷ ms) = deed_by past (step_of m) m.event ++ deeds_from (past ++ m ∷ []) ms
+
+abbrev pub deeds_of : List Moment → List Deed
+deeds_of ms = deeds_from [] ms
+
+-- the client and the command of a deed
+abbrev pub told_in : Deed → ℕ × Command
+told_in d = (d.client, d.command)
+
+-- ---- the messages of clients
+
+-- a message of a client, and the step in which it was sent or taken
+pub record Said : Type 0 where
+  pub step : ℕ
+  pub client : ℕ
+  pub message : Message
+
+abbrev pub all_said : (step client : ℕ) → List Message → List Said
+all_said step client [] = []
+all_said step client (m ∷ ms) = record { step = step; client = client; message = m } ∷ all_said step client ms
+
+abbrev pub owner_in : Option Session → ℕ
+owner_in None = 0
+owner_in (Some x) = x.owner
+
+-- the client whose step an event is; 0 where it is none's
+abbrev pub client_of : Core → Event → ℕ
+client_of k (Does c now command) = c
+client_of k (Hears number now bytes) = owner_in (numbered k.sessions number)
+client_of k e = 0
+
+-- what clients sent
+abbrev pub sent_in : Moment → List Said
+sent_in m = all_said (step_of m) (client_of m.before m.event) (happens m.before m.event).up
+
+abbrev pub sent_of : List Moment → List Said
+sent_of ms = flat_map sent_in ms
+
+-- an answer, if the operation under way still waits for it: what comes late, to a call of an ended operation or attempt, is dropped
+abbrev pub wanted_if : Bool → Message → List Message
+wanted_if true m = m ∷ []
+wanted_if false m = []
+
+abbrev pub wanted_by : State → Result Message WireFault → List Message
+wanted_by c (Ok (message.Answer xid b)) = wanted_if (has_call (pending c.task) xid) (message.Answer xid b)
+wanted_by c r = []
+
+-- a record as its client takes it, on its newest session
+abbrev pub taken_if : State → List ℕ → Bool → List Message
+taken_if c bytes true = wanted_by c (parse_of (waiting_of c) bytes)
+taken_if c bytes false = []
+
+abbrev pub taken_from : (number : ℕ) → List ℕ → Option Seat → List Message
+taken_from number bytes None = []
+taken_from number bytes (Some seat) = taken_if seat.client bytes (is_newest seat.session number)
+
+abbrev pub taken_by : Core → (owner : ℕ) → Event → List Message
+taken_by k owner (Hears number now bytes) = taken_from number bytes (numbered k.seats owner)
+taken_by k owner e = []
+
+-- the answers that clients took
+abbrev pub taken_in : Moment → List Said
+taken_in m = let c = client_of m.before m.event in all_said (step_of m) c (taken_by m.before c m.event)
+
+abbrev pub taken_of : List Moment → List Said
+taken_of ms = flat_map taken_in ms
+
+-- ---- digests
+
+abbrev pub served_hashed : Core → Result Message WireFault → List (List ℕ)
+served_hashed k (Ok m) = server_hashed k.server.files m
+served_hashed k (Err e) = []
+
+abbrev pub heard_hashed : Option Seat → (now : ℕ) → List ℕ → List (List ℕ)
+heard_hashed None now bytes = []
+heard_hashed (Some seat) now bytes = client_hashed seat.client (parse_of (waiting_of seat.client) bytes) now
+
+-- the byte lists whose digests are sent or compared then, as names of chunks
+abbrev pub hashed_by : Core → Event → List (List ℕ)
+hashed_by k (Serves number now bytes) = served_hashed k (parse_of server_waiting bytes)
+hashed_by k (Hears number now bytes) = heard_hashed (numbered k.seats (owner_in (numbered k.sessions number))) now bytes
+hashed_by k e = []
+
+abbrev pub hashed_in : Moment → List (List ℕ)
+hashed_in m = hashed_by m.before m.event
+
+abbrev pub hashed_of : List Moment → List (List ℕ)
+hashed_of ms = flat_map hashed_in ms
+
+-- of a whole run
+abbrev pub hashed : List ℕ → List (List ℕ)
+hashed input = hashed_of (moments input)
+
+-- ---- how steps count
+
+-- what comes down a session is heard if it is the newest of its client, and else by nobody
+abbrev pub is_heard : Option Seat → (number : ℕ) → Bool
+is_heard None number = false
+is_heard (Some seat) number = is_newest seat.session number
+
+-- a session that stands can hang, and one that hung can't again
+abbrev pub can_hang : Option Session → Bool
+can_hang None = false
+can_hang (Some x) = not x.hung
+
+abbrev pub step_if : Bool → ℕ
+step_if true = 1
+step_if false = 0
+
+-- how many steps an event is: two where a client joins, one of the server and one of its own; none where nothing hangs or hears; else one
+abbrev pub steps_by : Core → Event → ℕ
+steps_by k (Joins c) = 2
+steps_by k (Hears number now bytes) = step_if (is_heard (numbered k.seats (owner_in (numbered k.sessions number))) number)
+steps_by k (Hangs number) = step_if (can_hang (numbered k.sessions number))
+steps_by k e = 1
+
+-- the steps are counted on, from one number to another: before each moment, those of the moments before it
+abbrev pub AreCounted : (first : ℕ) → List Moment → (last : ℕ) → Type 0
+AreCounted first [] last = first ≡ last
+AreCounted first (m ∷ ms) last = (m.before.steps ≡ first) × AreCounted (first + steps_by m.before m.event) ms last

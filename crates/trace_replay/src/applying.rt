@@ -1,0 +1,114 @@
+//! What the lines of a trace do to a world. `specs/Run.antt` says what each is.
+
+ghost use Rattle.std.specs.Prelude.{◌≡◌, ◌≤◌, ◌+◌, IfOk, OnOk, length, []};
+ghost use Rattle.command_text.specs.Content.{content_length, content_bytes};
+ghost use Rattle.trace_replay.specs.Run.{file_most, with_file, with_clients, turned};
+ghost use Rattle.trace_replay.specs.Turns.{IsTurnBounded, IsQuiet, IsTurnQuiet};
+ghost use Rattle.trace_replay.specs.WorldView.{world_of};
+
+use crate::inner::Inner;
+use crate::link::Stage;
+use crate::turn::{Turn, stage_after};
+use command_text::content::{Content, build};
+use lb_base::items::Bytes;
+use register_model::op::Opening;
+use server_core::chunked::Chunked;
+use server_core::file::File;
+use std::alloc::{AllocError, Global};
+
+/// A size with so many bytes more. No tree comes to 2^64 bytes, so there it is want of memory.
+fn size_with(size: u64, content: &Bytes) -> Result<u64, AllocError>
+    ensures { IfOk result (λ n. n ≡ size + length content.now) }
+{
+    size.checked_add(content.len() as u64).ok_or(AllocError)
+}
+
+impl Inner {
+    /// A file of the root gets the next id, from 2, and version 1.
+    fn with_file(&mut self, alloc: Global, name: &Bytes, content: Bytes) -> Result<(), AllocError>
+        requires size { length content ≤ file_most }
+        requires quiet { self.old.core.server.waiting ≡ [] }
+        ensures { OnOk result (world_of self.new ≡ with_file (world_of self.old) name.now content) }
+    {
+        let size = size_with(self.size, &content)?;
+        let id = self.opening.len() as u64 + 2;
+        let copy = Chunked::new(alloc, content.try_clone(alloc)?)?;
+        self.names.add(alloc, name.as_slice())?;
+        self.core.add_file(File {
+            id,
+            version: 1,
+            content: copy,
+        })?;
+        self.opening.push(Opening { file: id, content })?;
+        self.size = size;
+        Ok(())
+    }
+
+    /// A file of this name and content, which is within the limit of a file.
+    fn builds(&mut self, alloc: Global, name: &Bytes, content: &Content) -> Result<(), AllocError>
+        requires size { content_length content.now ≤ file_most }
+        requires quiet { self.old.core.server.waiting ≡ [] }
+        ensures { OnOk result (world_of self.new ≡ with_file (world_of self.old) name.now (content_bytes content.now)) }
+    {
+        let bytes = build(alloc, content)?;
+        self.with_file(alloc, name, bytes)
+    }
+
+    /// What a line in place asks for. Before the events no change waits then, and where memory ran
+    /// out the events have come.
+    #[tactic(auto, using(crate::proofs::Quiet::turned_quiet))]
+    pub fn take(&mut self, alloc: Global, turn: Turn) -> Result<(), AllocError>
+        requires bounded { IsTurnBounded turn }
+        requires before { IsQuiet (world_of self.old) }
+        requires quiet { IsTurnQuiet (world_of self.old) turn }
+        ensures taken { OnOk result (world_of self.new ≡ turned (world_of self.old) turn) }
+        ensures quiet { IsQuiet (world_of self.new) }
+    {
+        match self.turn(alloc, turn) {
+            Ok(()) => Ok(()),
+            Err(error) => {
+                self.stage = Stage::Events;
+                Err(error)
+            }
+        }
+    }
+
+    /// What a line in place asks for.
+    fn turn(&mut self, alloc: Global, turn: Turn) -> Result<(), AllocError>
+        requires bounded { IsTurnBounded turn }
+        requires quiet { IsTurnQuiet (world_of self.old) turn }
+        ensures { OnOk result (world_of self.new ≡ turned (world_of self.old) turn) }
+    {
+        self.stage = stage_after(self.stage, &turn);
+        match turn {
+            Turn::Skip | Turn::At(_) => Ok(()),
+            Turn::Clients(count) => self.core.seat_all(alloc, count),
+            Turn::File { name, content } => self.builds(alloc, &name, &content),
+            Turn::Join(client) => self.joins(alloc, client),
+            Turn::Do {
+                client,
+                now,
+                command,
+            } => self.does(alloc, client, now, command),
+            Turn::Up {
+                session,
+                amount,
+                now,
+            } => self.up_some(alloc, session, amount, now),
+            Turn::Down {
+                session,
+                amount,
+                now,
+            } => self.down_some(alloc, session, amount, now),
+            Turn::Settle(now) => self.settles(alloc, now),
+            Turn::Cut(client) => self.cuts(alloc, client),
+            Turn::Hang(session) => self.hangs(alloc, session),
+            Turn::Pass {
+                session,
+                rounds,
+                server,
+                at,
+            } => self.passes(alloc, session, rounds, server, at),
+        }
+    }
+}

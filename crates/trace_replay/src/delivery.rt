@@ -1,0 +1,127 @@
+//! Bytes that reach an end: each record that they complete is a step of that end.
+//! `specs/Delivery.antt` says what a delivery, a round and a pass make of a world.
+
+ghost use Rattle.std.specs.Prelude.{◌≡◌, ◌<◌, ◌^◌, map, OnOk};
+ghost use Rattle.trace_replay.specs.Core.{numbered, Event.Serves, Event.Hears};
+ghost use Rattle.trace_replay.specs.Delivery.{all_happened, up_some, down_some, up_all, down_all, up_length, down_length, is_still, round, passes};
+ghost use Rattle.trace_replay.specs.Run.{count_of};
+ghost use Rattle.trace_replay.specs.WorldView.{world_of};
+
+use crate::inner::Inner;
+use crate::numbered::place_of;
+use lb_base::items::Bytes;
+use std::alloc::{AllocError, Global};
+use trace_text::line::Amount;
+
+impl Inner {
+    /// The server takes records of a session, in order, at a reading of its clock.
+    fn serves_all(
+        &mut self,
+        alloc: Global,
+        session: u64,
+        now: u64,
+        records: &[Bytes],
+    ) -> Result<(), AllocError>
+        requires { now < 2 ^ 63 }
+        ensures { OnOk result (world_of self.new ≡ all_happened (world_of self.old) (map (Serves session now) records.now)) }
+    {
+        for bytes in records {
+            self.serves(alloc, session, now, bytes.as_slice())?;
+        }
+        Ok(())
+    }
+
+    /// A session's client takes records, in order, at a reading of its clock.
+    fn hears_all(
+        &mut self,
+        alloc: Global,
+        session: u64,
+        now: u64,
+        records: &[Bytes],
+    ) -> Result<(), AllocError>
+        ensures { OnOk result (world_of self.new ≡ all_happened (world_of self.old) (map (Hears session now) records.now)) }
+    {
+        for bytes in records {
+            self.hears(alloc, session, now, bytes.as_slice())?;
+        }
+        Ok(())
+    }
+
+    /// Bytes that are on their way up a session reach the server, at a reading of its clock.
+    pub fn up_some(
+        &mut self,
+        alloc: Global,
+        session: u64,
+        amount: Amount,
+        now: u64,
+    ) -> Result<(), AllocError>
+        requires { now < 2 ^ 63 }
+        ensures { OnOk result (world_of self.new ≡ up_some (world_of self.old) session (count_of amount (up_length (numbered (world_of self.old).wires session))) now) }
+    {
+        let Some(place) = place_of(self.wires.len(), session) else {
+            return Ok(());
+        };
+        let records = self.wires[place].take_up(alloc, amount)?;
+        self.serves_all(alloc, session, now, records.as_slice())
+    }
+
+    /// Bytes that are on their way down a session reach its client, at a reading of that one's clock.
+    pub fn down_some(
+        &mut self,
+        alloc: Global,
+        session: u64,
+        amount: Amount,
+        now: u64,
+    ) -> Result<(), AllocError>
+        ensures { OnOk result (world_of self.new ≡ down_some (world_of self.old) session (count_of amount (down_length (numbered (world_of self.old).wires session))) now) }
+    {
+        let Some(place) = place_of(self.wires.len(), session) else {
+            return Ok(());
+        };
+        let records = self.wires[place].take_down(alloc, amount)?;
+        self.hears_all(alloc, session, now, records.as_slice())
+    }
+
+    /// Whether nothing is on its way on a session.
+    fn is_still(&self, session: u64) -> bool
+        ensures { result ≡ is_still (world_of self.now) session }
+    {
+        match place_of(self.wires.len(), session) {
+            None => true,
+            Some(place) => self.wires[place].is_still(),
+        }
+    }
+
+    /// All bytes on their way up a session reach the server, at a reading of its clock, and then all
+    /// on their way down the client, at one of that one's.
+    fn round(&mut self, alloc: Global, session: u64, server: u64, at: u64) -> Result<(), AllocError>
+        requires { server < 2 ^ 63 }
+        ensures { OnOk result (world_of self.new ≡ round (world_of self.old) session server at) }
+    {
+        self.up_some(alloc, session, Amount::All, server)?;
+        self.down_some(alloc, session, Amount::All, at)
+    }
+
+    /// So many rounds of a session, or as many as anything is on its way before.
+    pub fn passes(
+        &mut self,
+        alloc: Global,
+        session: u64,
+        count: u64,
+        server: u64,
+        at: u64,
+    ) -> Result<(), AllocError>
+        requires { server < 2 ^ 63 }
+        ensures { OnOk result (world_of self.new ≡ passes count (world_of self.old) session server at) }
+    {
+        let mut left = count;
+        'rounds: while left > 0 {
+            if self.is_still(session) {
+                return Ok(());
+            }
+            self.round(alloc, session, server, at)?;
+            left -= 1;
+        }
+        Ok(())
+    }
+}

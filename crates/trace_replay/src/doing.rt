@@ -1,0 +1,141 @@
+//! A command of a client. `does` in `specs/Core.antt` says what it makes of the two ends.
+
+ghost use Rattle.std.specs.Prelude.{◌≡◌, ◌+◌, ◌<◌, ◌++◌, ◌∷◌, [], length, slice_get, IfOk, OnOk};
+ghost use Rattle.trace_replay.specs.Commands.{word_of, file_of, value_at_begin};
+ghost use Rattle.trace_replay.specs.Core.{does, session_of, commanded_sessions, numbered};
+ghost use Rattle.trace_replay.specs.Ops.{begun, op_after};
+ghost use Rattle.trace_replay.specs.View.{core_of, turned_of};
+
+use crate::commands::{file_of, value_at_begin, word_of};
+use crate::ends::{Core, count_on};
+use crate::numbered::place_of;
+use crate::ops;
+use crate::session::{Session, short_number};
+use crate::turned::{Loss, Turned};
+use command_text::command::Command;
+use open_close::client::Client;
+use open_close::step::ClientStep;
+use register_model::op::{Op, Word};
+use std::alloc::{AllocError, Global};
+
+/// What a command leaves of its client's newest session.
+fn command_session(
+    sessions: &mut Vec<Session>,
+    session: Option<u32>,
+    running: Option<usize>,
+    place: usize,
+    word: Word,
+    acts: &ClientStep,
+)
+    ensures { sessions.new.items ≡ commanded_sessions sessions.old.items session (session_of sessions.old.items session) running place word acts.now }
+{
+    let number = match session {
+        Some(number) => number,
+        None => return,
+    };
+    match place_of(sessions.len(), u64::from(number)) {
+        Some(at) => sessions[at].commanded(running, place, word, acts),
+        None => (),
+    }
+}
+
+/// Puts a command's own operation behind the others, as its first step leaves it.
+fn begin(
+    alloc: Global,
+    ops: &mut Vec<Op>,
+    op: Op,
+    client: &Client,
+    step: u64,
+    acts: &ClientStep,
+) -> Result<(), AllocError>
+    ensures { OnOk result (ops.new.items ≡ ops.old.items ++ op_after op client.now [] step acts.now ∷ []) }
+{
+    let mut own = op;
+    ops::note(alloc, &mut own, client, &Vec::new(alloc), step, acts)?;
+    ops.push(own)?;
+    Ok(())
+}
+
+/// The operation that a command of a client begins, in this step.
+fn begun_by(
+    alloc: Global,
+    client: &Client,
+    number: u64,
+    step: u64,
+    command: &Command,
+) -> Result<Op, AllocError>
+    ensures { IfOk result (λ op. op ≡ begun number (word_of command.now) (file_of command.now) (value_at_begin client.now command.now) step) }
+{
+    let short = short_number(number)?;
+    let value = value_at_begin(alloc, client, command)?;
+    Ok(ops::begun(short, word_of(command), file_of(command), value, step))
+}
+
+/// The client at this place does what it is told to.
+fn does_at(
+    alloc: Global,
+    core: &mut Core,
+    place: usize,
+    now: u64,
+    command: Command,
+) -> Result<Turned, AllocError>
+    requires { place < length core.old.seats.items }
+    ensures { IfOk result (λ t. turned_of core.new t ≡ does (core_of core.old) (place + 1) now command (slice_get core.old.seats.items place)) }
+{
+    let step = match count_on(core.steps, 1) {
+        Ok(step) => step,
+        Err(error) => {
+            drop(command);
+            return Err(error);
+        }
+    };
+    let word = word_of(&command);
+    let seat = &core.seats[place];
+    let session = seat.session();
+    let running = seat.place();
+    let op = match begun_by(alloc, seat.client(), place as u64 + 1, step, &command) {
+        Ok(op) => op,
+        Err(error) => {
+            drop(command);
+            return Err(error);
+        }
+    };
+    let own = core.ops.len();
+    let acts = match core.seats[place].does(alloc, command, now, own) {
+        Ok(acts) => acts,
+        Err(error) => {
+            drop(op);
+            return Err(error);
+        }
+    };
+    command_session(&mut core.sessions, session, running, own, word, &acts);
+    let client = core.seats[place].client();
+    let done = begin(alloc, &mut core.ops, op, client, step, &acts);
+    core.steps = step;
+    match done {
+        Ok(()) => Ok(Turned::acted(alloc, Loss::Nothing, session, acts)),
+        Err(error) => {
+            drop(acts);
+            Err(error)
+        }
+    }
+}
+
+/// A client does what it is told to, if there is one of this number.
+pub fn does(
+    alloc: Global,
+    core: &mut Core,
+    client: u64,
+    now: u64,
+    command: Command,
+) -> Result<Turned, AllocError>
+    ensures { IfOk result (λ t. turned_of core.new t ≡ does (core_of core.old) client now command (numbered core.old.seats.items client)) }
+{
+    match place_of(core.seats.len(), client) {
+        Some(place) => does_at(alloc, core, place, now, command),
+        None => {
+            drop(command);
+            Ok(Turned::quiet(alloc))
+        }
+    }
+}

@@ -1,0 +1,90 @@
+//! A record comes to a client. `hears` in `specs/Core.antt` says what that makes of the two ends.
+
+ghost use Rattle.std.specs.Prelude.{◌≡◌, ◌+◌, ◌<◌, length, slice_get, IfOk};
+ghost use Rattle.trace_replay.specs.Core.{hears, hears_at, is_newest, numbered};
+ghost use Rattle.trace_replay.specs.View.{core_of, turned_of};
+
+use crate::ends::{Core, count_on};
+use crate::numbered::place_of;
+use crate::ops::note_with;
+use crate::session::taken_of;
+use crate::turned::{Loss, Turned};
+use std::alloc::{AllocError, Global};
+
+/// Whether this is the newest session of a client.
+fn is_newest(newest: Option<u32>, number: u64) -> bool
+    ensures { result ≡ is_newest newest number }
+{
+    match newest {
+        Some(newest) => u64::from(newest) == number,
+        None => false,
+    }
+}
+
+/// The client at this place hears a record of this session, unless it has left it.
+fn hears_at(
+    alloc: Global,
+    core: &mut Core,
+    number: u64,
+    place: usize,
+    now: u64,
+    bytes: &[u8],
+) -> Result<Turned, AllocError>
+    requires { place < length core.old.seats.items }
+    ensures { IfOk result (λ t. turned_of core.new t ≡ hears_at (core_of core.old) number (place + 1) now bytes.now (slice_get core.old.seats.items place)) }
+{
+    let session = core.seats[place].session();
+    let running = core.seats[place].place();
+    if !is_newest(session, number) {
+        return Ok(Turned::quiet(alloc));
+    }
+    let step = count_on(core.steps, 1)?;
+    let acts = core.seats[place].hears(alloc, bytes, now)?;
+    let taken = taken_of(&core.sessions, session);
+    let client = core.seats[place].client();
+    let done = note_with(alloc, &mut core.ops, running, client, taken, step, &acts);
+    core.steps = step;
+    match done {
+        Ok(()) => Ok(Turned::acted(alloc, Loss::Nothing, session, acts)),
+        Err(error) => {
+            drop(acts);
+            Err(error)
+        }
+    }
+}
+
+/// The client of this number hears a record of this session, if there is one.
+fn hears_by(
+    alloc: Global,
+    core: &mut Core,
+    number: u64,
+    owner: u64,
+    now: u64,
+    bytes: &[u8],
+) -> Result<Turned, AllocError>
+    ensures { IfOk result (λ t. turned_of core.new t ≡ hears_at (core_of core.old) number owner now bytes.now (numbered core.old.seats.items owner)) }
+{
+    match place_of(core.seats.len(), owner) {
+        Some(place) => hears_at(alloc, core, number, place, now, bytes),
+        None => Ok(Turned::quiet(alloc)),
+    }
+}
+
+/// A record of this session, if there is one, comes to its client.
+pub fn hears(
+    alloc: Global,
+    core: &mut Core,
+    number: u64,
+    now: u64,
+    bytes: &[u8],
+) -> Result<Turned, AllocError>
+    ensures { IfOk result (λ t. turned_of core.new t ≡ hears (core_of core.old) number now bytes.now (numbered core.old.sessions.items number)) }
+{
+    match place_of(core.sessions.len(), number) {
+        Some(at) => {
+            let owner = core.sessions[at].owner;
+            hears_by(alloc, core, number, owner, now, bytes)
+        }
+        None => Ok(Turned::quiet(alloc)),
+    }
+}

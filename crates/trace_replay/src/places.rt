@@ -1,0 +1,47 @@
+//! The place of the operation under way of a client. `specs/Ops.antt` says where it is.
+
+ghost use Rattle.std.specs.Prelude.{◌≡◌};
+ghost use Rattle.trace_replay.specs.Ops.{place_after, place_with, closing_with};
+
+use open_close::step::Ended;
+use register_model::op::Word;
+
+/// The place of the operation under way, after a step of its client.
+pub fn place_after(place: Option<usize>, ended: &Option<Ended>) -> Option<usize>
+    ensures { result ≡ place_after place ended.now }
+{
+    match ended {
+        None => place,
+        Some(_) => None,
+    }
+}
+
+/// The operation under way after a command, whose own operation is at this place: the one that was
+/// under way before, if any.
+pub fn place_with(running: Option<usize>, place: usize, ended: &Option<Ended>) -> Option<usize>
+    ensures { result ≡ place_with running place ended.now }
+{
+    match running {
+        None => place_after(Some(place), ended),
+        Some(under) => Some(under),
+    }
+}
+
+/// The place of the last close that sent calls, after a command whose own operation is at this
+/// place.
+pub fn closing_with(
+    closing: Option<usize>,
+    place: usize,
+    word: Word,
+    ended: &Option<Ended>,
+) -> Option<usize>
+    ensures { result ≡ closing_with closing place word ended.now }
+{
+    match word {
+        Word::Close => match ended {
+            None => Some(place),
+            Some(_) => closing,
+        },
+        _ => closing,
+    }
+}

@@ -1,0 +1,114 @@
+//! A record comes to the server. `serves` in `specs/Core.antt` says what that makes of the two ends.
+
+ghost use Rattle.std.specs.Prelude.{◌≡◌, ◌+◌, ◌<◌, ◌^◌, length, slice_get, slice_set, IfOk, IfSome, OnOk};
+ghost use Rattle.trace_replay.specs.Core.{server_waiting, taken_with, server_got, serves, numbered};
+ghost use Rattle.trace_replay.specs.View.{core_of, turned_of};
+
+use crate::ends::{Core, count_on};
+use crate::numbered::place_of;
+use crate::reading::read;
+use crate::session::short_number;
+use crate::turned::Turned;
+use lb_base::items::Items;
+use server_core::event::Event;
+use std::alloc::{AllocError, Global};
+use wire::message::{Message, Side, Waiting};
+
+/// The server asks for nothing, so nothing waits there.
+fn server_waiting(alloc: Global) -> Waiting
+    ensures { result ≡ server_waiting }
+{
+    Waiting {
+        side: Side::Server,
+        calls: Items::new(alloc),
+    }
+}
+
+/// Counts the step in which a message of the session at this place is taken, and remembers it.
+fn note(core: &mut Core, place: usize, message: &Message) -> Result<(), AllocError>
+    requires { place < length core.old.sessions.items }
+    ensures { OnOk result (IfSome (slice_get core.old.sessions.items place) (λ x. core_of core.new ≡ record (core_of core.old) { steps = core.old.steps + 1; sessions = slice_set core.old.sessions.items place (record x { taken = taken_with x.taken message.now (core.old.steps + 1) }) })) }
+{
+    let step = count_on(core.steps, 1)?;
+    core.sessions[place].remember(message, step)?;
+    core.steps = step;
+    Ok(())
+}
+
+/// The server takes a message of the session at this place, at this reading of its clock.
+fn got(
+    alloc: Global,
+    core: &mut Core,
+    place: usize,
+    now: u64,
+    message: Message,
+) -> Result<Turned, AllocError>
+    requires place { place < length core.old.sessions.items }
+    requires now { now < 2 ^ 63 }
+    ensures { IfOk result (λ t. IfSome (slice_get core.old.sessions.items place) (λ x. turned_of core.new t ≡ server_got (core_of core.old) (place + 1) now x message)) }
+{
+    let session = match short_number(place as u64 + 1) {
+        Ok(session) => session,
+        Err(error) => {
+            drop(message);
+            return Err(error);
+        }
+    };
+    match note(core, place, &message) {
+        Ok(()) => (),
+        Err(error) => {
+            drop(message);
+            return Err(error);
+        }
+    }
+    let event = Event::Got {
+        session,
+        message,
+        now,
+    };
+    let step = core.server.step(alloc, event);
+    if step.missed {
+        drop(step);
+        return Err(AllocError);
+    }
+    Ok(Turned::served(alloc, step))
+}
+
+/// The server takes a record of the session at this place, at this reading of its clock. Bytes that
+/// are no message change nothing but the count of steps.
+fn serves_at(
+    alloc: Global,
+    core: &mut Core,
+    place: usize,
+    now: u64,
+    bytes: &[u8],
+) -> Result<Turned, AllocError>
+    requires place { place < length core.old.sessions.items }
+    requires now { now < 2 ^ 63 }
+    ensures { IfOk result (λ t. turned_of core.new t ≡ serves (core_of core.old) (place + 1) now bytes.now (slice_get core.old.sessions.items place)) }
+{
+    match read(alloc, bytes, &server_waiting(alloc))? {
+        Ok(message) => got(alloc, core, place, now, message),
+        Err(_) => {
+            core.steps = count_on(core.steps, 1)?;
+            Ok(Turned::quiet(alloc))
+        }
+    }
+}
+
+/// The server takes a record of this session, if there is one, at this reading of its clock.
+pub fn serves(
+    alloc: Global,
+    core: &mut Core,
+    number: u64,
+    now: u64,
+    bytes: &[u8],
+) -> Result<Turned, AllocError>
+    requires { now < 2 ^ 63 }
+    ensures { IfOk result (λ t. turned_of core.new t ≡ serves (core_of core.old) number now bytes.now (numbered core.old.sessions.items number)) }
+{
+    match place_of(core.sessions.len(), number) {
+        Some(place) => serves_at(alloc, core, place, now, bytes),
+        None => Ok(Turned::quiet(alloc)),
+    }
+}
