@@ -1,0 +1,399 @@
+-- A step of a client that hears an answer, or sees its connection lost: what becomes of its operation, and of its local contents.
+use Rattle.std.proofs.Common.{◌⊎◌, inl, inr, ◌≡◌, ℕ, ◌+◌, ◌<◌, List, [], Option, Some, None, refl, sym, ap, ◌∙◌, subst}
+use Rattle.std.specs.Prelude.{slice_get, slice_set, option_map, unwrap_or}
+use Rattle.command_text.specs.declared.command.Command.{Command}
+use Rattle.command_text.specs.declared.command.Command.TheVariants as command
+use Rattle.open_close.specs.State as client
+use Rattle.open_close.specs.declared.step.ClientStep.{ClientStep}
+use Rattle.open_close.specs.declared.step.Ended.{Ended}
+use Rattle.open_close.specs.declared.step.Outcome.{Outcome}
+use Rattle.open_close.specs.declared.step.Outcome.TheVariants as outcome
+use Rattle.open_close.specs.declared.task.Local.{Local}
+use Rattle.open_close.specs.declared.task.Task.{Task}
+use Rattle.open_close.proofs.Locals.{local_at_itself, local_at_another, without_at_itself, without_at_another}
+use Rattle.register_model.specs.declared.op.Op.{Op}
+use Rattle.register_model.specs.declared.op.Outcome.{Outcome as Told}
+use Rattle.register_model.specs.declared.op.Outcome.TheVariants as told
+use Rattle.register_model.specs.declared.op.Word.{Word}
+use Rattle.register_model.specs.declared.op.Word.TheVariants as words
+use Rattle.trace_replay.specs.declared.link.Taken.{Taken}
+use Rattle.trace_replay.specs.Commands.{word_of}
+use Rattle.trace_replay.specs.Core.{Core, Seat, numbered, with_numbered, taken_of, session_of, ops_after, ops_with, acted}
+use Rattle.trace_replay.specs.Ops.{counted, ended_op, op_after, told_of, value_of, place_after}
+use Rattle.trace_replay.specs.Trail.{Deed}
+use Rattle.trace_replay.specs.Book.{Book}
+use Rattle.trace_replay.specs.Causes.{leaves, after_one, local_from}
+use Rattle.kept_promise.proofs.Lists.{some_is, nothing_there, same_or_not, of_replaced, at_replaced}
+use Rattle.kept_promise.proofs.Messages.{Job, job, job_of}
+use Rattle.kept_promise.proofs.Rights.{Caused}
+use Rattle.kept_promise.proofs.Turns.{set_count, around_with}
+use Rattle.kept_promise.proofs.Facts.{IsMatched}
+use Rattle.kept_promise.proofs.Leaving.{EndsWith, Leaves}
+use Rattle.kept_promise.proofs.Locally.{Idles, other_client, other_file, its_own, leaves_alike, leaves_none, idles_by, local_same, local_late}
+use Rattle.kept_promise.proofs.Deeds.{also_there, FromServer, IsDeed, local_of, HasLocals, HasDeeds, Moved, moved_same, AllMoved, all_same, deeds_moved, busy_behind}
+
+-- ---- one operation of a list becomes another
+
+pub all_set : (step : ℕ) (ops : List Op) (p : ℕ) (o r : Op) → slice_get ops p ≡ Some o → Moved step o r → AllMoved step ops (slice_set ops p r)
+all_set step ops p o r at m = record {
+  count = set_count ops p r;
+  each = λ i q s a b. elim (of_replaced ops p r i s b) [
+    | inl here ↦ subst (λ (z : Op). Moved step q z) (sym here.1) (subst (λ (z : Op). Moved step z r) (some_is o q (sym at ∙ ap (slice_get ops) (sym here.0) ∙ a)) m)
+    | inr else ↦ subst (λ (z : Op). Moved step q z) (some_is q s (sym a ∙ else.1)) (moved_same step q)
+  ];
+}
+
+-- it leaves the same
+set_same : (c f : ℕ) (l : Option (List ℕ)) (ds : List Deed) (ops : List Op) (p : ℕ) (d : Deed) (o r : Op) → slice_get ds p ≡ Some d → slice_get ops p ≡ Some o → ((z : Option (List ℕ)) → after_one c f d r z ≡ after_one c f d o z) → local_from c f l ds (slice_set ops p r) ≡ local_from c f l ds ops
+set_same c f l ds ops p d o r at is same = local_same c f l ds ops (slice_set ops p r) (sym (set_count ops p r)) (λ i e q s a b k. elim (of_replaced ops p r i s k) [
+  | inl here ↦ λ z.
+      let d_is : e ≡ d = some_is e d (sym a ∙ ap (slice_get ds) here.0 ∙ at) in
+      let o_is : q ≡ o = some_is q o (sym b ∙ ap (slice_get ops) here.0 ∙ is) in
+      ap (λ (u : Deed). after_one c f u s z) d_is ∙ ap (λ (u : Op). after_one c f d u z) here.1 ∙ same z ∙ sym (ap (λ (u : Deed). after_one c f u q z) d_is ∙ ap (λ (u : Op). after_one c f d u z) o_is)
+  | inr else ↦ λ z. ap (λ (u : Op). after_one c f e u z) (some_is s q (sym else.1 ∙ b))
+])
+
+pub set_alike : (c f : ℕ) (ds : List Deed) (ops : List Op) (p : ℕ) (d : Deed) (o r : Op) → slice_get ds p ≡ Some d → slice_get ops p ≡ Some o → r.outcome ≡ o.outcome → r.value ≡ o.value → local_from c f None ds (slice_set ops p r) ≡ local_from c f None ds ops
+set_alike c f ds ops p d o r at is a b = set_same c f None ds ops p d o r at is (leaves_alike c f d o r a b)
+
+set_else : (c f : ℕ) (ds : List Deed) (ops : List Op) (p : ℕ) (d : Deed) (o r : Op) → slice_get ds p ≡ Some d → slice_get ops p ≡ Some o → (d.client ≡ c → ⊥) → local_from c f None ds (slice_set ops p r) ≡ local_from c f None ds ops
+set_else c f ds ops p d o r at is apart = set_same c f None ds ops p d o r at is (λ z. other_client c f d r apart z ∙ sym (other_client c f d o apart z))
+
+-- ---- how an operation ends
+
+-- with an outcome that says nothing of the local content all stays as it was
+stays_so : (k : Command) (u : Outcome) (opened after : List (ℕ × Local)) (file : ℕ) (v : List ℕ) (l : Option (List ℕ)) → EndsWith opened after file u → ((n : ℕ) (d : List ℕ) → told_of u ≡ told.Opened n d → ⊥) → ((w n : ℕ) (d : List ℕ) → told_of u ≡ told.Closed w n d → ⊥) → (after ≡ opened) × (leaves k (told_of u) v l ≡ l)
+stays_so k (outcome.Opened g len digest) opened after file v l h a b = absurd (a len digest refl)
+stays_so k (outcome.Closed g version len digest) opened after file v l h a b = absurd (b version len digest refl)
+stays_so k (outcome.Piece len digest) opened after file v l h a b = absurd h
+stays_so k outcome.Done opened after file v l h a b = absurd h
+stays_so k outcome.Busy opened after file v l h a b = absurd h
+stays_so k outcome.NotOpen opened after file v l h a b = absurd h
+stays_so k outcome.AlreadyOpen opened after file v l h a b = absurd h
+stays_so k (outcome.TooBig size) opened after file v l h a b = absurd h
+stays_so k outcome.NoLink opened after file v l h a b = absurd h
+stays_so k outcome.Lost opened after file v l h a b = (h, by k)
+  where
+    by : (k : Command) → leaves k told.Lost v l ≡ l
+    by (command.Open f) = refl
+    by (command.Write f offset content) = refl
+    by (command.Trunc f size) = refl
+    by (command.Read f offset count) = refl
+    by (command.Close f) = refl
+    by (command.Abandon f) = refl
+stays_so k (outcome.Changed m n) opened after file v l h a b = (h, by k)
+  where
+    by : (k : Command) → leaves k (told.Changed m n) v l ≡ l
+    by (command.Open f) = refl
+    by (command.Write f offset content) = refl
+    by (command.Trunc f size) = refl
+    by (command.Read f offset count) = refl
+    by (command.Close f) = refl
+    by (command.Abandon f) = refl
+stays_so k (outcome.Refused t) opened after file v l h a b = (h, by k (told_of (outcome.Refused t)) refl)
+  where
+    by : (k : Command) (u : Told) → told_of (outcome.Refused t) ≡ u → leaves k (told_of (outcome.Refused t)) v l ≡ l
+    by (command.Open f) u e = refl
+    by (command.Write f offset content) u e = refl
+    by (command.Trunc f size) u e = refl
+    by (command.Read f offset count) u e = refl
+    by (command.Close f) u e = refl
+    by (command.Abandon f) u e = refl
+stays_so k outcome.PeerMemory opened after file v l h a b = (h, by k)
+  where
+    by : (k : Command) → leaves k told.PeerMemory v l ≡ l
+    by (command.Open f) = refl
+    by (command.Write f offset content) = refl
+    by (command.Trunc f size) = refl
+    by (command.Read f offset count) = refl
+    by (command.Close f) = refl
+    by (command.Abandon f) = refl
+stays_so k (outcome.BadPeer fault) opened after file v l h a b = (h, by k)
+  where
+    by : (k : Command) → leaves k (told_of (outcome.BadPeer fault)) v l ≡ l
+    by (command.Open f) = refl
+    by (command.Write f offset content) = refl
+    by (command.Trunc f size) = refl
+    by (command.Read f offset count) = refl
+    by (command.Close f) = refl
+    by (command.Abandon f) = refl
+stays_so k outcome.Memory opened after file v l h a b = (h, by k)
+  where
+    by : (k : Command) → leaves k told.Memory v l ≡ l
+    by (command.Open f) = refl
+    by (command.Write f offset content) = refl
+    by (command.Trunc f size) = refl
+    by (command.Read f offset count) = refl
+    by (command.Close f) = refl
+    by (command.Abandon f) = refl
+
+from_server : (u : Outcome) (opened after : List (ℕ × Local)) (file : ℕ) → EndsWith opened after file u → FromServer (told_of u)
+from_server (outcome.Opened g len digest) opened after file h = tt
+from_server (outcome.Closed g version len digest) opened after file h = tt
+from_server (outcome.Piece len digest) opened after file h = h
+from_server outcome.Done opened after file h = h
+from_server outcome.Busy opened after file h = h
+from_server outcome.NotOpen opened after file h = h
+from_server outcome.AlreadyOpen opened after file h = h
+from_server (outcome.TooBig size) opened after file h = h
+from_server outcome.NoLink opened after file h = h
+from_server outcome.Lost opened after file h = tt
+from_server (outcome.Changed m n) opened after file h = tt
+from_server (outcome.Refused t) opened after file h = tt
+from_server outcome.PeerMemory opened after file h = tt
+from_server (outcome.BadPeer fault) opened after file h = tt
+from_server outcome.Memory opened after file h = tt
+
+-- but for an open that got its content the value stays
+value_kept : (v : List ℕ) (s : client.State) (u : Outcome) → ((n : ℕ) (d : List ℕ) → told_of u ≡ told.Opened n d → ⊥) → value_of v s u ≡ v
+value_kept v s (outcome.Opened g len digest) a = absurd (a len digest refl)
+value_kept v s (outcome.Closed g version len digest) a = refl
+value_kept v s (outcome.Piece len digest) a = refl
+value_kept v s outcome.Done a = refl
+value_kept v s outcome.Busy a = refl
+value_kept v s outcome.NotOpen a = refl
+value_kept v s outcome.AlreadyOpen a = refl
+value_kept v s (outcome.TooBig size) a = refl
+value_kept v s outcome.NoLink a = refl
+value_kept v s outcome.Lost a = refl
+value_kept v s (outcome.Changed m n) a = refl
+value_kept v s (outcome.Refused t) a = refl
+value_kept v s outcome.PeerMemory a = refl
+value_kept v s (outcome.BadPeer fault) a = refl
+value_kept v s outcome.Memory a = refl
+
+-- an outcome is one of a content that was got, of a file that was replaced, or neither
+abbrev IsNeither : Outcome → Type 0
+IsNeither u = ((n : ℕ) (d : List ℕ) → told_of u ≡ told.Opened n d → ⊥) × ((w n : ℕ) (d : List ℕ) → told_of u ≡ told.Closed w n d → ⊥)
+
+abbrev Which : Outcome → Type 0
+Which u = ((g : ℕ) × (n : ℕ) × (d : List ℕ) × (u ≡ outcome.Opened g n d)) ⊎ (((g : ℕ) × (w : ℕ) × (n : ℕ) × (d : List ℕ) × (u ≡ outcome.Closed g w n d)) ⊎ IsNeither u)
+
+which : (u : Outcome) → Which u
+which (outcome.Opened g n d) = inl (g, n, d, refl)
+which (outcome.Closed g w n d) = inr (inl (g, w, n, d, refl))
+which (outcome.Piece len digest) = inr (inr ((λ n d e. absurd cc), λ w n d e. absurd cc))
+which outcome.Done = inr (inr ((λ n d e. absurd cc), λ w n d e. absurd cc))
+which outcome.Busy = inr (inr ((λ n d e. absurd cc), λ w n d e. absurd cc))
+which outcome.NotOpen = inr (inr ((λ n d e. absurd cc), λ w n d e. absurd cc))
+which outcome.AlreadyOpen = inr (inr ((λ n d e. absurd cc), λ w n d e. absurd cc))
+which (outcome.TooBig size) = inr (inr ((λ n d e. absurd cc), λ w n d e. absurd cc))
+which outcome.NoLink = inr (inr ((λ n d e. absurd cc), λ w n d e. absurd cc))
+which outcome.Lost = inr (inr ((λ n d e. absurd cc), λ w n d e. absurd cc))
+which (outcome.Changed m n) = inr (inr ((λ n d e. absurd cc), λ w n d e. absurd cc))
+which (outcome.Refused t) = inr (inr ((λ n d e. absurd cc), λ w n d e. absurd cc))
+which outcome.PeerMemory = inr (inr ((λ n d e. absurd cc), λ w n d e. absurd cc))
+which (outcome.BadPeer fault) = inr (inr ((λ n d e. absurd cc), λ w n d e. absurd cc))
+which outcome.Memory = inr (inr ((λ n d e. absurd cc), λ w n d e. absurd cc))
+
+abbrev bytes_at : List (ℕ × Local) → (file : ℕ) → Option (List ℕ)
+bytes_at opened f = option_map (λ (l : Local). l.bytes) (client.local_at opened f)
+
+opened_here : (k : Command) (old now : List (ℕ × Local)) (file g n : ℕ) (d : List ℕ) (l : Local) → word_of k ≡ words.Open → g ≡ file → now ≡ client.with_local old file l → bytes_at now file ≡ leaves k (told.Opened n d) (client.local_bytes now g) (bytes_at old file)
+opened_here (command.Open f) old now file g n d l w same is =
+    let at : bytes_at now file ≡ Some l.bytes = ap (λ z. bytes_at z file) is ∙ ap (option_map (λ (z : Local). z.bytes)) (local_at_itself old file l) in
+    at ∙ ap (λ z. Some z) (sym (ap (client.local_bytes now) same ∙ ap (λ o. unwrap_or o []) at))
+opened_here (command.Write f offset content) old now file g n d l w same is = absurd cc
+opened_here (command.Trunc f size) old now file g n d l w same is = absurd cc
+opened_here (command.Read f offset count) old now file g n d l w same is = absurd cc
+opened_here (command.Close f) old now file g n d l w same is = absurd cc
+opened_here (command.Abandon f) old now file g n d l w same is = absurd cc
+
+closed_here : (k : Command) (old now : List (ℕ × Local)) (file v n : ℕ) (d value : List ℕ) → word_of k ≡ words.Close → now ≡ client.without_local old file → bytes_at now file ≡ leaves k (told.Closed v n d) value (bytes_at old file)
+closed_here (command.Close f) old now file v n d value w is = ap (λ z. bytes_at z file) is ∙ ap (option_map (λ (z : Local). z.bytes)) (without_at_itself old file)
+closed_here (command.Open f) old now file v n d value w is = absurd cc
+closed_here (command.Write f offset content) old now file v n d value w is = absurd cc
+closed_here (command.Trunc f size) old now file v n d value w is = absurd cc
+closed_here (command.Read f offset count) old now file v n d value w is = absurd cc
+closed_here (command.Abandon f) old now file v n d value w is = absurd cc
+
+-- the words of what was got and replaced
+abbrev pub HasWord : Word → Told → Type 0
+HasWord w (told.Opened n d) = w ≡ words.Open
+HasWord w (told.Closed v n d) = w ≡ words.Close
+HasWord w u = Unit {0}
+
+-- of the operation's file
+ended_here : (k : Command) (old : List (ℕ × Local)) (s : client.State) (file : ℕ) (v : List ℕ) (u : Outcome) → EndsWith old s.opened file u → HasWord (word_of k) (told_of u) → bytes_at s.opened file ≡ leaves k (told_of u) (value_of v s u) (bytes_at old file)
+ended_here k old s file v u h w = by (which u)
+  where
+    got : (g n : ℕ) (d : List ℕ) → EndsWith old s.opened file (outcome.Opened g n d) → HasWord (word_of k) (told.Opened n d) → bytes_at s.opened file ≡ leaves k (told.Opened n d) (client.local_bytes s.opened g) (bytes_at old file)
+    got g n d h w = opened_here k old s.opened file g n d h.1.0 w h.0 h.1.1
+
+    replaced : (g m n : ℕ) (d : List ℕ) → EndsWith old s.opened file (outcome.Closed g m n d) → HasWord (word_of k) (told.Closed m n d) → bytes_at s.opened file ≡ leaves k (told.Closed m n d) v (bytes_at old file)
+    replaced g m n d h w = closed_here k old s.opened file m n d v w h.1
+
+    by : Which u → bytes_at s.opened file ≡ leaves k (told_of u) (value_of v s u) (bytes_at old file)
+    by (inl z) = subst (λ (x : Outcome). bytes_at s.opened file ≡ leaves k (told_of x) (value_of v s x) (bytes_at old file)) (sym z.3) (got z.0 z.1 z.2 (subst (EndsWith old s.opened file) z.3 h) (subst (λ (x : Outcome). HasWord (word_of k) (told_of x)) z.3 w))
+    by (inr (inl z)) = subst (λ (x : Outcome). bytes_at s.opened file ≡ leaves k (told_of x) (value_of v s x) (bytes_at old file)) (sym z.4) (replaced z.0 z.1 z.2 z.3 (subst (EndsWith old s.opened file) z.4 h) (subst (λ (x : Outcome). HasWord (word_of k) (told_of x)) z.4 w))
+    by (inr (inr z)) = let r = stays_so k u old s.opened file (value_of v s u) (bytes_at old file) h z.0 z.1 in ap (λ o. bytes_at o file) r.0 ∙ sym r.1
+
+-- and of all others
+ended_else : (old now : List (ℕ × Local)) (file f : ℕ) (u : Outcome) → EndsWith old now file u → (f ≡ file → ⊥) → bytes_at now f ≡ bytes_at old f
+ended_else old now file f u h apart = by (which u)
+  where
+    got : (g n : ℕ) (d : List ℕ) → EndsWith old now file (outcome.Opened g n d) → bytes_at now f ≡ bytes_at old f
+    got g n d h = ap (λ o. bytes_at o f) h.1.1 ∙ ap (option_map (λ (l : Local). l.bytes)) (local_at_another old file h.1.0 f apart)
+
+    replaced : (g m n : ℕ) (d : List ℕ) → EndsWith old now file (outcome.Closed g m n d) → bytes_at now f ≡ bytes_at old f
+    replaced g m n d h = ap (λ o. bytes_at o f) h.1 ∙ ap (option_map (λ (l : Local). l.bytes)) (without_at_another old file f apart)
+
+    by : Which u → bytes_at now f ≡ bytes_at old f
+    by (inl z) = got z.0 z.1 z.2 (subst (EndsWith old now file) z.3 h)
+    by (inr (inl z)) = replaced z.0 z.1 z.2 z.3 (subst (EndsWith old now file) z.4 h)
+    by (inr (inr z)) = ap (λ o. bytes_at o f) (stays_so (command.Open 0) u old now file [] None h z.0 z.1).0
+
+-- ---- the step
+
+pub caused_word : (book : Book) (o : Op) (u : Told) → Caused book o u → HasWord o.word u
+caused_word book o (told.Opened n d) h = h.0
+caused_word book o (told.Closed v n d) h = h.0
+caused_word book o (told.Refused s) h = tt
+caused_word book o (told.Changed a b) h = tt
+caused_word book o told.Lost h = tt
+caused_word book o told.Running h = tt
+caused_word book o (told.BadPeer n) h = tt
+caused_word book o told.PeerMemory h = tt
+caused_word book o told.Memory h = tt
+caused_word book o (told.Names names) h = tt
+caused_word book o (told.Seen file kind version len) h = tt
+caused_word book o _ h = tt
+
+open_not_close : (v : List ℕ) (s : client.State) (w : Word) (u : Outcome) → HasWord w (told_of u) → w ≡ words.Close → value_of v s u ≡ v
+open_not_close v s w u h is = by u h (which u)
+  where
+    apart : words.Close ≡ words.Open → ⊥
+    apart e = absurd cc
+
+    by : (u : Outcome) → HasWord w (told_of u) → Which u → value_of v s u ≡ v
+    by (outcome.Opened g n d) h z = absurd (apart (sym is ∙ h))
+    by (outcome.Closed g version n d) h z = refl
+    by u h (inl z) = absurd (apart (sym is ∙ subst (λ (x : Outcome). HasWord w (told_of x)) z.3 h))
+    by u h (inr (inl z)) = ap (value_of v s) z.4 ∙ sym (ap (λ x. v) z.4)
+    by u h (inr (inr z)) = value_kept v s u z.0
+
+moved_ended : (step : ℕ) (o : Op) (s : client.State) (taken : List Taken) (e : Ended) (opened : List (ℕ × Local)) (file : ℕ) → o.end ≡ None → EndsWith opened s.opened file e.outcome → HasWord o.word (told_of e.outcome) → Moved step o (ended_op o s taken step e)
+moved_ended step o s taken e opened file none h w = record {
+  client = refl;
+  word = refl;
+  file = refl;
+  begin = refl;
+  value = λ c. open_not_close o.value s o.word e.outcome w c;
+  ended = λ n at. nothing_there n (sym none ∙ at);
+  ends = λ n. inr refl;
+  asked = λ a. from_server e.outcome opened s.opened file h;
+}
+
+-- a seat's local contents, where those of its client are known
+pub locals_with : (ds : List Deed) (rs : List Op) (seats : List Seat) (c : ℕ) (seat now : Seat) → numbered seats c ≡ Some seat → ((f : ℕ) → local_of now.client f ≡ local_from c f None ds rs) → ((z : ℕ) (e : Seat) → (z ≡ c → ⊥) → numbered seats z ≡ Some e → (f : ℕ) → local_of e.client f ≡ local_from z f None ds rs) → HasLocals ds rs (with_numbered seats c now)
+locals_with ds rs seats c seat now here own others z e at f = elim (same_or_not z c) [
+  | inl mine ↦
+      let around = around_with seats c seat now here in
+      let is : e ≡ now = some_is e now (sym at ∙ ap (numbered (with_numbered seats c now)) mine ∙ around.there) in
+      ap (λ (x : Seat). local_of x.client f) is ∙ own f ∙ ap (λ (x : ℕ). local_from x f None ds rs) (sym mine)
+  | inr apart ↦ others z e apart (sym ((around_with seats c seat now here).others z apart) ∙ at) f
+]
+
+-- what a step of a client leaves of operations and clients
+pub record StepLeaves (ds : List Deed) (k : Core) (rs : List Op) (seats : List Seat) : Type 0 where
+  pub moved : AllMoved (k.steps + 1) k.ops rs
+  pub deeds : HasDeeds ds rs seats
+
+-- what a step of a client that has its operation at this place is to show
+pub record Acts (k : Core) (c : ℕ) (seat : Seat) (t : client.State) (acts : ClientStep) : Type 0 where
+  pub here : numbered k.seats c ≡ Some seat
+  pub matched : IsMatched seat
+  pub begins : (i : ℕ) (o : Op) → slice_get k.ops i ≡ Some o → o.begin < k.steps + 1
+  -- the operation under way
+  pub op : (j : Job) → job seat ≡ Some j → (o : Op) × (slice_get k.ops j.place ≡ Some o) × (o.client ≡ c) × (o.file ≡ j.file) × (o.outcome ≡ told.Running) × (o.end ≡ None)
+  pub idle : seat.client.task ≡ None → (t.opened ≡ seat.client.opened) × (acts.ended ≡ None)
+  pub busy : (x : Task) → seat.client.task ≡ Some x → Leaves seat.client.opened t.opened x.file acts.ended
+  pub words : (i : ℕ) (r : Op) → slice_get (acted k c seat t acts).core.ops i ≡ Some r → HasWord r.word r.outcome
+
+-- one goes on
+goes_on : (ds : List Deed) (k : Core) (c p : ℕ) (seat : Seat) (t : client.State) (acts : ClientStep) (place : Option ℕ) (o r : Op) → HasDeeds ds k.ops k.seats → Acts k c seat t acts → slice_get k.ops p ≡ Some o → Moved (k.steps + 1) o r → r.outcome ≡ o.outcome → r.value ≡ o.value → t.opened ≡ seat.client.opened
+    → StepLeaves ds k (slice_set k.ops p r) (with_numbered k.seats c (record seat { client = t; place = place }))
+goes_on ds k c p seat t acts place o r h a at m u v opened =
+    let moved = all_set (k.steps + 1) k.ops p o r at m in
+    let d = also_there k.ops ds p o (sym h.count) at in
+    record {
+      moved = moved;
+      deeds = deeds_moved (k.steps + 1) ds k.ops (slice_set k.ops p r) k.seats (with_numbered k.seats c (record seat { client = t; place = place })) h a.begins moved
+          (locals_with ds (slice_set k.ops p r) k.seats c seat (record seat { client = t; place = place }) a.here
+          (λ f. ap (λ (l : List (ℕ × Local)). bytes_at l f) opened ∙ h.locals c seat a.here f ∙ sym (set_alike c f ds k.ops p d.0 o r d.1 at u v))
+          (λ z e apart is f. h.locals z e is f ∙ sym (set_alike z f ds k.ops p d.0 o r d.1 at u v)));
+    }
+
+-- one ends
+one_ends : (ds : List Deed) (k : Core) (c p : ℕ) (seat : Seat) (t : client.State) (acts : ClientStep) (place : Option ℕ) (o : Op) (taken : List Taken) (e : Ended) → HasDeeds ds k.ops k.seats → Acts k c seat t acts → slice_get k.ops p ≡ Some o → o.client ≡ c → o.outcome ≡ told.Running → o.end ≡ None
+    → EndsWith seat.client.opened t.opened o.file e.outcome → HasWord o.word (told_of e.outcome) → (n : Rattle.register_model.specs.declared.op.Traffic.Traffic)
+    → StepLeaves ds k (slice_set k.ops p (ended_op (record o { traffic = n }) t taken (k.steps + 1) e)) (with_numbered k.seats c (record seat { client = t; place = place }))
+one_ends ds k c p seat t acts place o taken e h a at mine running under ends word n =
+    let q : Op = record o { traffic = n } in
+    let r = ended_op q t taken (k.steps + 1) e in
+    let m0 = moved_ended (k.steps + 1) q t taken e seat.client.opened o.file under ends word in
+    let m : Moved (k.steps + 1) o r = record { client = refl; word = refl; file = refl; begin = refl; value = m0.value; ended = m0.ended; ends = m0.ends; asked = m0.asked } in
+    let moved = all_set (k.steps + 1) k.ops p o r at m in
+    let d = also_there k.ops ds p o (sym h.count) at in
+    let deed = h.each p d.0 o d.1 at in
+    let of : d.0.client ≡ c = sym deed.client ∙ mine in
+    record {
+      moved = moved;
+      deeds = deeds_moved (k.steps + 1) ds k.ops (slice_set k.ops p r) k.seats (with_numbered k.seats c (record seat { client = t; place = place })) h a.begins moved
+          (locals_with ds (slice_set k.ops p r) k.seats c seat (record seat { client = t; place = place }) a.here
+          (λ f. own d.0 r f of deed refl refl ∙ sym (local_late c f None ds k.ops p d.0 o r d.1 at (idles_by c f d.0 o (λ l. leaves_none d.0.command o.outcome o.value l (inl running))) (λ i x q lt b s. subst (λ (z : ℕ). Idles z f x q) mine (busy_behind ds k.ops p o f h.rising h.each at under i x q lt b s))))
+          (λ z x apart is f. h.locals z x is f ∙ sym (set_else z f ds k.ops p d.0 o r d.1 at (λ same. apart (sym same ∙ of)))));
+    }
+  where
+    own : (d : Deed) (r : Op) (f : ℕ) → d.client ≡ c → IsDeed ds k.ops p d o → r.outcome ≡ told_of e.outcome → r.value ≡ value_of o.value t e.outcome → local_of t f ≡ after_one c f d r (local_from c f None ds k.ops)
+    own d r f of deed u v = elim (same_or_not f o.file) [
+      | inr apart ↦ ended_else seat.client.opened t.opened o.file f e.outcome ends apart ∙ h.locals c seat a.here f ∙ sym (other_file c f d r (λ same. apart (sym same ∙ sym deed.file)) (local_from c f None ds k.ops))
+      | inl same ↦
+          ap (bytes_at t.opened) same
+          ∙ ended_here d.command seat.client.opened t o.file o.value e.outcome ends (subst (λ (w : Word). HasWord w (told_of e.outcome)) deed.word word)
+          ∙ ap (λ (x : ℕ). leaves d.command (told_of e.outcome) (value_of o.value t e.outcome) (bytes_at seat.client.opened x)) (sym same)
+          ∙ ap (leaves d.command (told_of e.outcome) (value_of o.value t e.outcome)) (h.locals c seat a.here f)
+          ∙ sym (its_own c f d r (local_from c f None ds k.ops) of (sym deed.file ∙ sym same)
+          ∙ ap (λ (x : Told). leaves d.command x r.value (local_from c f None ds k.ops)) u ∙ ap (λ (x : List ℕ). leaves d.command (told_of e.outcome) x (local_from c f None ds k.ops)) v)
+    ]
+
+same_ops : (ds : List Deed) (k : Core) (c : ℕ) (seat : Seat) (t : client.State) (acts : ClientStep) (place : Option ℕ) → HasDeeds ds k.ops k.seats → Acts k c seat t acts → t.opened ≡ seat.client.opened → StepLeaves ds k k.ops (with_numbered k.seats c (record seat { client = t; place = place }))
+same_ops ds k c seat t acts place h a opened = record {
+  moved = all_same (k.steps + 1) k.ops;
+  deeds = deeds_moved (k.steps + 1) ds k.ops k.ops k.seats (with_numbered k.seats c (record seat { client = t; place = place })) h a.begins (all_same (k.steps + 1) k.ops)
+      (locals_with ds k.ops k.seats c seat (record seat { client = t; place = place }) a.here (λ f. ap (λ (l : List (ℕ × Local)). bytes_at l f) opened ∙ h.locals c seat a.here f) (λ z e apart is f. h.locals z e is f));
+}
+
+by_place : (ds : List Deed) (k : Core) (c : ℕ) (seat : Seat) (t : client.State) (acts : ClientStep) → HasDeeds ds k.ops k.seats → Acts k c seat t acts → (place : Option ℕ) (task : Option Task) → seat.place ≡ place → seat.client.task ≡ task → IsMatched seat
+    → ((i : ℕ) (r : Op) → slice_get (ops_with k.ops place t (taken_of (session_of k.sessions seat.session)) (k.steps + 1) acts) i ≡ Some r → HasWord r.word r.outcome)
+    → StepLeaves ds k (ops_with k.ops place t (taken_of (session_of k.sessions seat.session)) (k.steps + 1) acts) (with_numbered k.seats c (record seat { client = t; place = place_after place acts.ended }))
+by_place ds k c seat t acts h a None None e f m words = same_ops ds k c seat t acts (place_after None acts.ended) h a (a.idle f).0
+by_place ds k c seat t acts h a (Some p) (Some x) e f m words =
+    let j : Job = record { place = p; file = x.file; stage = x.stage } in
+    let o = a.op j (ap (λ (z : Option ℕ). job_of z seat.client.task) e ∙ ap (job_of (Some p)) f) in
+    let taken = taken_of (session_of k.sessions seat.session) in
+    let ops_is : ops_with k.ops (Some p) t taken (k.steps + 1) acts ≡ slice_set k.ops p (op_after o.0 t taken (k.steps + 1) acts) = ap (λ (z : Option Op). ops_after k.ops p z t taken (k.steps + 1) acts) o.1 in
+    let rights : HasWord (op_after o.0 t taken (k.steps + 1) acts).word (op_after o.0 t taken (k.steps + 1) acts).outcome =
+    words p (op_after o.0 t taken (k.steps + 1) acts) (ap (λ (z : List Op). slice_get z p) ops_is ∙ at_replaced k.ops p (op_after o.0 t taken (k.steps + 1) acts) o.0 o.1) in
+    subst (λ (z : List Op). StepLeaves ds k z (with_numbered k.seats c (record seat { client = t; place = place_after (Some p) acts.ended }))) (sym ops_is)
+    (by o.0 o.1 o.2 o.3 o.4 o.5 taken acts.ended refl (subst (λ (z : ℕ). Leaves seat.client.opened t.opened z acts.ended) (sym o.3) (a.busy x f)) rights)
+  where
+    by : (o : Op) → slice_get k.ops p ≡ Some o → o.client ≡ c → o.file ≡ x.file → o.outcome ≡ told.Running → o.end ≡ None → (taken : List Taken) (ended : Option Ended) → acts.ended ≡ ended → Leaves seat.client.opened t.opened o.file acts.ended → HasWord (op_after o t taken (k.steps + 1) acts).word (op_after o t taken (k.steps + 1) acts).outcome
+        → StepLeaves ds k (slice_set k.ops p (op_after o t taken (k.steps + 1) acts)) (with_numbered k.seats c (record seat { client = t; place = place_after (Some p) acts.ended }))
+    by o at mine file running under taken None is leaves word =
+        let r : Op = record o { traffic = counted o.traffic acts.counts } in
+        let r_is : op_after o t taken (k.steps + 1) acts ≡ r = ap (λ (z : Option Ended). Rattle.trace_replay.specs.Ops.op_ended r t taken (k.steps + 1) z) is in
+        subst (λ (z : Op). StepLeaves ds k (slice_set k.ops p z) (with_numbered k.seats c (record seat { client = t; place = place_after (Some p) acts.ended }))) (sym r_is)
+        (goes_on ds k c p seat t acts (place_after (Some p) acts.ended) o r h a at (record { client = refl; word = refl; file = refl; begin = refl; value = λ w. refl; ended = λ n b. (b, refl, refl, λ w. refl); ends = λ n. inl n; asked = λ b. b }) refl refl (subst (Leaves seat.client.opened t.opened o.file) is leaves))
+    by o at mine file running under taken (Some e) is leaves word =
+        let q : Op = record o { traffic = counted o.traffic acts.counts } in
+        let r_is : op_after o t taken (k.steps + 1) acts ≡ ended_op q t taken (k.steps + 1) e = ap (λ (z : Option Ended). Rattle.trace_replay.specs.Ops.op_ended q t taken (k.steps + 1) z) is in
+        subst (λ (z : Op). StepLeaves ds k (slice_set k.ops p z) (with_numbered k.seats c (record seat { client = t; place = place_after (Some p) acts.ended }))) (sym r_is)
+        (one_ends ds k c p seat t acts (place_after (Some p) acts.ended) o taken e h a at mine running under (subst (Leaves seat.client.opened t.opened o.file) is leaves) (subst (λ (z : Op). HasWord z.word z.outcome) r_is word) (counted o.traffic acts.counts))
+by_place ds k c seat t acts h a None (Some x) e f (inl m) words = nothing_there x (sym m.1 ∙ f)
+by_place ds k c seat t acts h a None (Some x) e f (inr m) words = nothing_there m.0 (sym (ap (λ (p : Option ℕ). job_of p seat.client.task) e) ∙ m.1)
+by_place ds k c seat t acts h a (Some p) None e f (inl m) words = nothing_there p (sym m.0 ∙ e)
+by_place ds k c seat t acts h a (Some p) None e f (inr m) words = nothing_there m.0 (sym (ap (λ (z : Option ℕ). job_of z seat.client.task) e ∙ ap (job_of (Some p)) f) ∙ m.1)
+
+pub acted_follows : (ds : List Deed) (k : Core) (c : ℕ) (seat : Seat) (t : client.State) (acts : ClientStep) → HasDeeds ds k.ops k.seats → Acts k c seat t acts → StepLeaves ds k (acted k c seat t acts).core.ops (acted k c seat t acts).core.seats
+acted_follows ds k c seat t acts h a = by_place ds k c seat t acts h a seat.place seat.client.task refl refl a.matched a.words

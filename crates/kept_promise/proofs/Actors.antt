@@ -1,0 +1,169 @@
+-- The client that acts in an event: its session, its seat and its operation.
+use Rattle.std.proofs.Common.{inl, inr, ◌≡◌, ℕ, ◌+◌, List, [], ◌∷◌, Option, Some, None, Bool, true, false, refl, sym, ap, ◌∙◌, subst, arith, ne_eqb}
+use Rattle.std.proofs.lemmas.Bool.Decides.{nat_tests}
+use Rattle.std.specs.Prelude.{◌==◌, ◌&&◌, nat_le, slice_get, is_some, not, Result, Ok}
+use Rattle.wire.specs.Message.{MessageFits, message_spell}
+use Rattle.wire.specs.Parse.{parse_of}
+use Rattle.wire.specs.declared.fault.WireFault.{WireFault}
+use Rattle.wire.specs.declared.message.Message.{Message}
+use Rattle.open_close.specs.State as client
+use Rattle.open_close.specs.Step.{got_step}
+use Rattle.open_close.specs.declared.task.Task.{Task}
+use Rattle.register_model.specs.declared.op.Op.{Op}
+use Rattle.register_model.specs.declared.op.Outcome.{Outcome}
+use Rattle.register_model.specs.declared.op.Outcome.TheVariants as told
+use Rattle.trace_replay.specs.Core.{Core, Seat, Session, Event.Hears, is_newest, acted, hears, hears_at, hears_if, numbered, happens}
+use Rattle.trace_replay.specs.Trail.{wanted_by, taken_if, taken_from, taken_by}
+use Rattle.trace_replay.specs.Traffic.{until}
+use Rattle.trace_replay.specs.Book.{Book}
+use Rattle.trace_replay.specs.Faithful.{is_running}
+use Rattle.kept_promise.specs.Talk.{Told, Queue, told_message}
+use Rattle.kept_promise.proofs.Lists.{some_is, nothing_there, same_or_not}
+use Rattle.kept_promise.proofs.Messages.{Job, job, job_of, AllTolds}
+use Rattle.kept_promise.proofs.Fits.{FitLaws}
+use Rattle.kept_promise.proofs.Moves.{expected}
+use Rattle.kept_promise.proofs.Rights.{IsRight}
+use Rattle.kept_promise.proofs.Facts.{IsKept, IsSession, IsMatched}
+use Rattle.kept_promise.proofs.Turns.{also_numbered}
+use Rattle.kept_promise.proofs.RunsCarried.{Finds}
+use Rattle.kept_promise.proofs.Counted.{IsActor}
+
+-- ---- operations
+
+running_is : (u : Outcome) → is_running u ≡ true → u ≡ told.Running
+running_is told.Running e = refl
+running_is u e = absurd cc
+
+-- an operation has no end exactly where it runs
+pub runs : (book : Book) (o : Op) → IsRight book o → o.end ≡ None → o.outcome ≡ told.Running
+runs book o r e = by (is_running o.outcome) refl (sym (ap (λ (z : Option ℕ). is_some z) e) ∙ r.ends)
+  where
+    by : (b : Bool) → is_running o.outcome ≡ b → false ≡ not b → o.outcome ≡ told.Running
+    by true q e = running_is o.outcome q
+    by false q e = absurd cc
+
+pub unended : (book : Book) (o : Op) → IsRight book o → o.outcome ≡ told.Running → o.end ≡ None
+unended book o r e = by o.end (r.ends ∙ ap (λ (u : Outcome). not (is_running u)) e)
+  where
+    by : (t : Option ℕ) → is_some t ≡ false → t ≡ None
+    by None e = refl
+    by (Some n) e = absurd cc
+
+pub job_place : (place : Option ℕ) (task : Option Task) (j : Job) → job_of place task ≡ Some j → place ≡ Some j.place
+job_place None task j e = nothing_there j e
+job_place (Some p) None j e = nothing_there j e
+job_place (Some p) (Some t) j e = ap (λ (z : Job). Some z.place) (some_is (record { place = p; file = t.file; stage = t.stage }) j e)
+
+pub job_task : (place : Option ℕ) (task : Option Task) (j : Job) → job_of place task ≡ Some j → task ≡ Some (record { file = j.file; stage = j.stage })
+job_task None task j e = nothing_there j e
+job_task (Some p) None j e = nothing_there j e
+job_task (Some p) (Some t) j e = ap (λ (z : Job). Some (record { file = z.file; stage = z.stage })) (some_is (record { place = p; file = t.file; stage = t.stage }) j e)
+
+-- the operation at a client's place is its job
+pub placed : (seat : Seat) (p : ℕ) → IsMatched seat → seat.place ≡ Some p → (j : Job) × (job seat ≡ Some j) × (j.place ≡ p)
+placed seat p (inl m) e = nothing_there p (sym m.0 ∙ e)
+placed seat p (inr m) e = (m.0, m.1, some_is m.0.place p (sym (job_place seat.place seat.client.task m.0 m.1) ∙ e))
+
+none_of : (a : Bool) (b c : Bool) → c ≡ false → (a && (b && c)) ≡ false
+none_of true true c e = e
+none_of true false c e = refl
+none_of false b c e = refl
+
+-- a step of a client is one of its operation alone
+pub acts_alone : (book : Book) (k : Core) (qs : List Queue) (i : ℕ) (seat : Seat) → IsKept book k qs → numbered k.seats i ≡ Some seat → IsActor k.ops i seat.place k.steps
+acts_alone book k qs i seat kept here = record {
+  other = λ p o at apart. elim (same_or_not i o.client) [
+    | inr foreign ↦ ap (λ b. b && (nat_le o.begin (k.steps + 1) && until o.end (k.steps + 1))) (ne_eqb i o.client foreign)
+    | inl same ↦ none_of (i == o.client) (nat_le o.begin (k.steps + 1)) (until o.end (k.steps + 1)) (over p o (there p o at) same apart o.end refl)
+  ];
+  own = λ p o e at.
+      let s = kept.seats i seat here in
+      let j = placed seat p s.matched e in
+      let of = s.task j.0 j.1 in
+      let same : of.op ≡ o = some_is of.op o (sym of.there ∙ ap (slice_get book.ops) j.2 ∙ there p o at) in
+      let r = kept.sound.rights p o (there p o at) in
+      let b = r.begun in
+      let steps = kept.steps in
+      (ap (λ (z : Op). z.client) (sym same) ∙ of.client, unended book o r (ap (λ (z : Op). z.outcome) (sym same) ∙ of.running), omega (arith, b, steps));
+}
+  where
+    there : (p : ℕ) (o : Op) → slice_get k.ops p ≡ Some o → slice_get book.ops p ≡ Some o
+    there p o at = ap (λ (l : List Op). slice_get l p) kept.ops ∙ at
+
+    over : (p : ℕ) (o : Op) → slice_get book.ops p ≡ Some o → i ≡ o.client → (seat.place ≡ Some p → ⊥) → (t : Option ℕ) → o.end ≡ t → until o.end (k.steps + 1) ≡ false
+    over p o at same apart None e =
+        let run = kept.running p o at (runs book o (kept.sound.rights p o at) e) in
+        let seat_is : run.0 ≡ seat = some_is run.0 seat (sym run.2 ∙ ap (numbered k.seats) (sym same) ∙ here) in
+        absurd (apart (ap (λ (z : Seat). z.place) (sym seat_is) ∙ job_place run.0.place run.0.client.task run.1 run.3 ∙ ap (λ (n : ℕ). Some n) run.4))
+    over p o at same apart (Some e) is =
+        let le = ((kept.sound.rights p o at).past e is).1 in
+        let steps = kept.steps in
+        ap (λ z. until z (k.steps + 1)) is ∙ (let t : nat_le (k.steps + 1) e ≡ false = grind (arith, nat_tests, le, steps) in t)
+
+-- ---- what comes to a client
+
+-- on its newest session, which is not cut
+pub record Heard (k : Core) (qs : List Queue) (n now : ℕ) (bytes : List ℕ) (mid : List Queue) : Type 0 where
+  pub session : Session
+  pub seat : Seat
+  pub queue : Queue
+  pub told : Told
+  pub behind : List Told
+  pub at : numbered k.sessions n ≡ Some session
+  pub owner : numbered k.seats session.owner ≡ Some seat
+  pub newest : seat.session ≡ Some n
+  pub uncut : session.cut ≡ false
+  pub queue_is : numbered qs n ≡ Some queue
+  pub first : queue.downs ≡ told ∷ behind
+  pub bytes_is : bytes ≡ message_spell (told_message told)
+  pub hears_is : happens k (Hears n now bytes) ≡ acted k session.owner seat (got_step seat.client (parse_of (client.waiting_of seat.client) bytes) now).0 (got_step seat.client (parse_of (client.waiting_of seat.client) bytes) now).1
+
+pub newest_is : (o : Option ℕ) (n : ℕ) → o ≡ Some n → is_newest o n ≡ true
+newest_is None n e = nothing_there n e
+newest_is (Some m) n e = let same : m ≡ n = some_is m n e in grind (arith, nat_tests, same)
+
+pub heard_at : (book : Book) (k : Core) (qs : List Queue) (n now : ℕ) (bytes : List ℕ) (mid : List Queue) → IsKept book k qs → Finds k qs (Hears n now bytes) mid → Heard k qs n now bytes mid
+heard_at book k qs n now bytes mid kept f = by (also_numbered qs k.sessions n f.0 (sym kept.made.1) f.3)
+  where
+    uncut : (x : Session) → IsSession book k.seats k.server n x f.0 → (b : Bool) → x.cut ≡ b → x.cut ≡ false
+    uncut x h false e = e
+    uncut x h true e = absurd (none_is (sym f.4 ∙ h.shut e))
+      where
+        none_is : f.1 ∷ f.2 ≡ [] → ⊥
+        none_is z = absurd cc
+
+    by : (x : Session) × (numbered k.sessions n ≡ Some x) → Heard k qs n now bytes mid
+    by x =
+        let h = kept.sessions n x.0 f.0 x.1 f.3 in
+        let u = uncut x.0 h x.0.cut refl in
+        record {
+          session = x.0;
+          seat = h.seat;
+          queue = f.0;
+          told = f.1;
+          behind = f.2;
+          at = x.1;
+          owner = h.owner;
+          newest = (h.here u).0;
+          uncut = u;
+          queue_is = f.3;
+          first = f.4;
+          bytes_is = f.5;
+          hears_is = ap (hears k n now bytes) x.1 ∙ ap (hears_at k n x.0.owner now bytes) h.owner ∙ ap (hears_if k x.0.owner now h.seat bytes) (newest_is h.seat.session n (h.here u).0);
+        }
+
+-- it is read as itself
+pub heard_reads : FitLaws → (book : Book) (k : Core) (qs : List Queue) (n now : ℕ) (bytes : List ℕ) (mid : List Queue) → IsKept book k qs → (h : Heard k qs n now bytes mid) → parse_of (client.waiting_of h.seat.client) bytes ≡ Ok (told_message h.told)
+heard_reads laws book k qs n now bytes mid kept h =
+    let s = kept.sessions n h.session h.queue h.at h.queue_is in
+    let fits = (subst (AllTolds (λ u. MessageFits (told_message u))) h.first s.downs_fit).0 in
+    let same : s.seat ≡ h.seat = some_is s.seat h.seat (sym s.owner ∙ h.owner) in
+    ap (λ (b : List ℕ). parse_of (client.waiting_of h.seat.client) b) h.bytes_is
+    ∙ subst (λ (c : Seat). parse_of (client.waiting_of c.client) (message_spell (told_message h.told)) ≡ Ok (told_message h.told)) same (laws.again (client.waiting_of s.seat.client) (told_message h.told) fits.0 (expected n k.server.waiting h.queue h.session.hung s.seat.client 0 h.told (s.talk h.uncut).balanced (ap (λ (l : List Told). slice_get l 0) h.first)))
+
+pub heard_acts : FitLaws → (book : Book) (k : Core) (qs : List Queue) (n now : ℕ) (bytes : List ℕ) (mid : List Queue) → IsKept book k qs → (h : Heard k qs n now bytes mid) → happens k (Hears n now bytes) ≡ acted k h.session.owner h.seat (got_step h.seat.client (Ok (told_message h.told)) now).0 (got_step h.seat.client (Ok (told_message h.told)) now).1
+heard_acts laws book k qs n now bytes mid kept h = h.hears_is ∙ ap (λ (r : Result Message WireFault). acted k h.session.owner h.seat (got_step h.seat.client r now).0 (got_step h.seat.client r now).1) (heard_reads laws book k qs n now bytes mid kept h)
+
+-- and taken where the operation under way waits for it
+pub heard_takes : FitLaws → (book : Book) (k : Core) (qs : List Queue) (n now : ℕ) (bytes : List ℕ) (mid : List Queue) → IsKept book k qs → (h : Heard k qs n now bytes mid) → taken_by k h.session.owner (Hears n now bytes) ≡ wanted_by h.seat.client (Ok (told_message h.told))
+heard_takes laws book k qs n now bytes mid kept h = ap (taken_from n bytes) h.owner ∙ ap (taken_if h.seat.client bytes) (newest_is h.seat.session n h.newest) ∙ ap (wanted_by h.seat.client) (heard_reads laws book k qs n now bytes mid kept h)

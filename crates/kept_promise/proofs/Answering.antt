@@ -1,0 +1,210 @@
+-- What a client's step for a command says: its own answer, and what it leaves of the local content, or that it asks the server.
+use Rattle.std.proofs.Common.{◌≡◌, ℕ, zero, suc, ◌+◌, ◌≤◌, List, [], ◌∷◌, length, Option, Some, None, Bool, true, false, refl, sym, ap, ◌∙◌, subst, arith}
+use Rattle.std.proofs.lemmas.Bool.Decides.{nat_tests}
+use Rattle.std.specs.Prelude.{◌==◌, nat_lt, is_some, option_map, if◌then◌else◌}
+use Rattle.sha1.specs.Sha1.{sha1}
+use Rattle.command_text.specs.Content.{content_length, content_bytes}
+use Rattle.command_text.specs.declared.content.Part.{Part}
+use Rattle.command_text.specs.declared.command.Command.{Command}
+use Rattle.command_text.specs.declared.command.Command.TheVariants as command
+use Rattle.command_text.proofs.Contents.{content_size}
+use Rattle.open_close.specs.State as client
+use Rattle.open_close.specs.Counting.{ends}
+use Rattle.open_close.specs.Local.{local_most, written_size, written, truncated, part_of}
+use Rattle.open_close.specs.Opening.{calls_most}
+use Rattle.open_close.specs.Step.{may_ask, asks_hashes, opens_if, opens, on_local, done_with, too_big, edits, writes, truncates, reads, abandons, asks_temp, closes, command_step}
+use Rattle.open_close.specs.declared.step.ClientStep.{ClientStep}
+use Rattle.open_close.specs.declared.step.Outcome.{Outcome}
+use Rattle.open_close.specs.declared.step.Outcome.TheVariants as outcome
+use Rattle.open_close.specs.declared.task.Local.{Local}
+use Rattle.open_close.specs.declared.task.Task.{Task}
+use Rattle.open_close.proofs.Locals.{local_at_itself, local_at_another, without_at_itself, without_at_another}
+use Rattle.register_model.specs.declared.op.Outcome.{Outcome as Told}
+use Rattle.register_model.specs.declared.op.Outcome.TheVariants as told
+use Rattle.trace_replay.specs.Commands.{file_of}
+use Rattle.trace_replay.specs.Ops.{told_of, value_of}
+use Rattle.trace_replay.specs.Causes.{leaves, own_answer, free_answer, unless_asks, write_outcome, sized_outcome}
+use Rattle.kept_promise.proofs.Does.{own_ended}
+use Rattle.kept_promise.proofs.Deeds.{local_of}
+
+-- ---- what is said
+
+-- it answers so by itself
+pub record AnswersSo (s : client.State) (d : Command) (r : client.State × ClientStep) (own : Told) : Type 0 where
+  pub outcome : Outcome
+  pub ended : r.1.ended ≡ Some (own_ended outcome)
+  pub told_is : told_of outcome ≡ own
+  pub value : (v : List ℕ) → value_of v r.0 outcome ≡ v
+  pub here : (v : List ℕ) → local_of r.0 (file_of d) ≡ leaves d own v (local_of s (file_of d))
+  pub others : (f : ℕ) → (f ≡ file_of d → ⊥) → local_of r.0 f ≡ local_of s f
+
+-- what a close is to store is the local content
+abbrev pub ValueIs : client.State → Command → Type 0
+ValueIs s (command.Close f) = local_of s f ≡ Some (client.local_bytes s.opened f)
+ValueIs s d = Unit {0}
+
+abbrev pub AnswersBy : client.State → Command → client.State × ClientStep → Option Told → Type 0
+AnswersBy s d r (Some own) = AnswersSo s d r own
+AnswersBy s d r None = (r.1.ended ≡ None) × (r.0.opened ≡ s.opened) × ValueIs s d
+
+-- what else a command leaves
+abbrev pub Stays : client.State → client.State → Type 0
+Stays s r = (r.next ≤ s.next + calls_most) × (r.linked ≡ s.linked)
+
+abbrev pub IsAnswered : client.State → Command → client.State × ClientStep → Type 0
+IsAnswered s d r = Stays s r.0 × AnswersBy s d r (own_answer false (may_ask s) d (local_of s (file_of d)))
+
+stays : (s : client.State) → Stays s s
+stays s = (omega arith, refl)
+
+one_more : 1 ≤ calls_most
+one_more = omega arith
+
+-- nothing is left but the answer
+so : (s : client.State) (d : Command) (o : Outcome) (own : Told) → told_of o ≡ own → ((v : List ℕ) → value_of v s o ≡ v) → ((v : List ℕ) (l : Option (List ℕ)) → leaves d own v l ≡ l) → AnswersSo s d (s, ends o 0 0) own
+so s d o own is value idle = record { outcome = o; ended = refl; told_is = is; value = value; here = λ v. sym (idle v (local_of s (file_of d))); others = λ f apart. refl }
+
+-- ---- on an open file
+
+put_here : (s : client.State) (file : ℕ) (l : Local) → option_map (λ (z : Local). z.bytes) (client.local_at (client.with_local s.opened file l) file) ≡ Some l.bytes
+put_here s file l = ap (option_map (λ (z : Local). z.bytes)) (local_at_itself s.opened file l)
+
+put_else : (s : client.State) (file f : ℕ) (l : Local) → (f ≡ file → ⊥) → option_map (λ (z : Local). z.bytes) (client.local_at (client.with_local s.opened file l) f) ≡ local_of s f
+put_else s file f l apart = ap (option_map (λ (z : Local). z.bytes)) (local_at_another s.opened file l f apart)
+
+-- a command that changes the local content, where it has the room
+edited : (s : client.State) (d : Command) (file : ℕ) (l : Local) (size : ℕ) (content : List ℕ) → file_of d ≡ file → local_of s file ≡ Some l.bytes → ((v : List ℕ) → leaves d told.Done v (Some l.bytes) ≡ Some content) → ((n : ℕ) (v : List ℕ) (x : Option (List ℕ)) → leaves d (told.TooBig n) v x ≡ x)
+    → Stays s (edits s file l size content).0 × AnswersSo s d (edits s file l size content) (sized_outcome size)
+edited s d file l size content mine at done big = by (nat_lt local_most size)
+  where
+    by : (b : Bool) → (let r : client.State × ClientStep = if b then too_big s size else done_with s file l content in Stays s r.0 × AnswersSo s d r (if b then told.TooBig size else told.Done))
+    by true = (stays s, so s d (outcome.TooBig size) (told.TooBig size) refl (λ v. refl) (big size))
+    by false = (
+      (omega arith, refl),
+      record {
+        outcome = outcome.Done;
+        ended = refl;
+        told_is = refl;
+        value = λ v. refl;
+        here = λ v. ap (λ f. option_map (λ (z : Local). z.bytes) (client.local_at (client.with_local s.opened file (record l { bytes = content })) f)) mine ∙ put_here s file (record l { bytes = content }) ∙ sym (done v) ∙ ap (leaves d told.Done v) (sym at ∙ ap (local_of s) (sym mine));
+        others = λ f apart. put_else s file f (record l { bytes = content }) (λ e. apart (e ∙ sym mine));
+      },
+    )
+
+wrote : (s : client.State) (file offset : ℕ) (content : List Part) (l : Local) → local_of s file ≡ Some l.bytes → (let r = writes s file offset content l in Stays s r.0 × AnswersSo s (command.Write file offset content) r (write_outcome (length l.bytes) offset (content_length content)))
+wrote s file offset content l at = by (content_length content == 0) refl
+  where
+    -- no bytes change nothing
+    none : content_length content ≡ 0 → content_bytes content ≡ []
+    none e = empty (content_bytes content) (let n = content_size content in omega (arith, n, e))
+      where
+        empty : (xs : List ℕ) → length xs ≡ 0 → xs ≡ []
+        empty [] e = refl
+        empty (x ∷ xs) e = absurd (omega (arith, e))
+
+    some : (n : ℕ) → (n == 0) ≡ false → write_outcome (length l.bytes) offset n ≡ sized_outcome (written_size (length l.bytes) offset n)
+    some zero e = absurd cc
+    some (suc n) e = refl
+
+    by : (b : Bool) → (content_length content == 0) ≡ b → (let r : client.State × ClientStep = if b then (s, ends outcome.Done 0 0) else edits s file l (written_size (length l.bytes) offset (content_length content)) (written l.bytes offset (content_bytes content)) in Stays s r.0 × AnswersSo s (command.Write file offset content) r (write_outcome (length l.bytes) offset (content_length content)))
+    by true e =
+        let z : content_length content ≡ 0 = grind (arith, nat_tests, e) in (
+          stays s,
+          subst (λ (own : Told). AnswersSo s (command.Write file offset content) (s, ends outcome.Done 0 0) own) (sym (ap (write_outcome (length l.bytes) offset) z)) (record {
+            outcome = outcome.Done;
+            ended = refl;
+            told_is = refl;
+            value = λ v. refl;
+            here = λ v. at ∙ sym (ap (option_map (λ x. written x offset (content_bytes content))) at ∙ ap (λ z. Some (written l.bytes offset z)) (none z));
+            others = λ f apart. refl;
+          }),
+        )
+    by false e =
+        subst (λ (own : Told). (let r = edits s file l (written_size (length l.bytes) offset (content_length content)) (written l.bytes offset (content_bytes content)) in Stays s r.0 × AnswersSo s (command.Write file offset content) r own)) (sym (some (content_length content) e))
+        (edited s (command.Write file offset content) file l (written_size (length l.bytes) offset (content_length content)) (written l.bytes offset (content_bytes content)) refl at (λ v. refl) (λ m v x. refl))
+
+-- ---- what is told of the local content
+
+none_map : (o : Option Local) → option_map (λ (z : Local). z.bytes) o ≡ None → o ≡ None
+none_map None e = refl
+none_map (Some l) e = absurd cc
+
+-- a command on an open file
+local_one : (s : client.State) (d : Command) (file : ℕ) (does_it : Local → client.State × ClientStep) → s.task ≡ None → file_of d ≡ file
+    → free_answer (may_ask s) d None ≡ Some told.NotOpen → ((v : List ℕ) (l : Option (List ℕ)) → leaves d told.NotOpen v l ≡ l)
+    → ((l : Local) → client.local_at s.opened file ≡ Some l → local_of s file ≡ Some l.bytes → Stays s (does_it l).0 × AnswersBy s d (does_it l) (free_answer (may_ask s) d (Some l.bytes)))
+    → IsAnswered s d (on_local s s.task (client.local_at s.opened file) does_it)
+local_one s d file does_it free mine shut idle goes = subst (λ (f : ℕ). (let r = on_local s s.task (client.local_at s.opened file) does_it in Stays s r.0 × AnswersBy s d r (free_answer (may_ask s) d (local_of s f)))) (sym mine) (subst (λ (t : Option Task). (let r = on_local s t (client.local_at s.opened file) does_it in Stays s r.0 × AnswersBy s d r (free_answer (may_ask s) d (local_of s file)))) (sym free) (by (client.local_at s.opened file) refl))
+  where
+    by : (o : Option Local) → client.local_at s.opened file ≡ o → (let r = on_local s None o does_it in Stays s r.0 × AnswersBy s d r (free_answer (may_ask s) d (option_map (λ (z : Local). z.bytes) o)))
+    by None e = (stays s, subst (λ (x : Option Told). AnswersBy s d (s, ends outcome.NotOpen 0 0) x) (sym shut) (so s d outcome.NotOpen told.NotOpen refl (λ v. refl) idle))
+    by (Some l) e = goes l e (ap (option_map (λ (z : Local). z.bytes)) e)
+
+-- ---- the server is asked
+
+asking : (s : client.State) (d : Command) (b : Bool) (begins : client.State × ClientStep) → begins.1.ended ≡ None → begins.0.opened ≡ s.opened → Stays s begins.0 → ValueIs s d → ((v : List ℕ) (l : Option (List ℕ)) → leaves d told.NoLink v l ≡ l)
+    → (let r : client.State × ClientStep = elim b [ true ↦ begins | false ↦ (s, ends outcome.NoLink 0 0) ] in Stays s r.0 × AnswersBy s d r (unless_asks b))
+asking s d true begins a b c v idle = (c, (a, b, v))
+asking s d false begins a b c v idle = (stays s, so s d outcome.NoLink told.NoLink refl (λ v. refl) idle)
+
+opened_answer : (s : client.State) (file : ℕ) → s.task ≡ None → IsAnswered s (command.Open file) (opens s file s.task)
+opened_answer s file free = subst (λ (t : Option Task). IsAnswered s (command.Open file) (opens s file t)) (sym free) (by (client.local_at s.opened file))
+  where
+    by : (o : Option Local) → (let r = opens_if s file (is_some o) in Stays s r.0 × AnswersBy s (command.Open file) r (free_answer (may_ask s) (command.Open file) (option_map (λ (z : Local). z.bytes) o)))
+    by (Some l) = (stays s, so s (command.Open file) outcome.AlreadyOpen told.AlreadyOpen refl (λ v. refl) (λ v l. refl))
+    by None = ask (may_ask s)
+      where
+        ask : (b : Bool) → (let r = asks_hashes s file b in Stays s r.0 × AnswersBy s (command.Open file) r (unless_asks b))
+        ask true = ((let o = one_more in omega (arith, o), refl), (refl, refl, tt))
+        ask false = (stays s, so s (command.Open file) outcome.NoLink told.NoLink refl (λ v. refl) (λ v l. refl))
+
+closed_answer : (s : client.State) (file : ℕ) (l : Local) → local_of s file ≡ Some l.bytes → (let r = closes s file l in Stays s r.0 × AnswersBy s (command.Close file) r (unless_asks (may_ask s)))
+closed_answer s file l at = ask (may_ask s)
+  where
+    value : local_of s file ≡ Some (client.local_bytes s.opened file)
+    value = at ∙ ap (λ z. Some z) (sym (ap (λ (o : Option (List ℕ)). Rattle.std.specs.Prelude.unwrap_or o []) at))
+
+    ask : (b : Bool) → (let r = asks_temp s file b in Stays s r.0 × AnswersBy s (command.Close file) r (unless_asks b))
+    ask true = ((let o = one_more in omega (arith, o), refl), (refl, refl, value))
+    ask false = (stays s, so s (command.Close file) outcome.NoLink told.NoLink refl (λ v. refl) (λ v l. refl))
+
+-- ---- any command
+
+-- with nothing under way
+pub free_answers : (s : client.State) (d : Command) (now : ℕ) → s.task ≡ None → IsAnswered s d (command_step s d now)
+free_answers s (command.Open file) now free = opened_answer s file free
+free_answers s (command.Write file offset content) now free = local_one s (command.Write file offset content) file (writes s file offset content) free refl refl (λ v l. refl) (λ l e at. wrote s file offset content l at)
+free_answers s (command.Trunc file size) now free = local_one s (command.Trunc file size) file (truncates s file size) free refl refl (λ v l. refl) (λ l e at. edited s (command.Trunc file size) file l size (truncated l.bytes size) refl at (λ v. refl) (λ n v x. refl))
+free_answers s (command.Read file offset count) now free = local_one s (command.Read file offset count) file (reads s offset count) free refl refl (λ v l. refl) (λ l e at. (stays s, so s (command.Read file offset count) (outcome.Piece (length (part_of l.bytes offset count)) (sha1 (part_of l.bytes offset count))) (told.Piece (length (part_of l.bytes offset count)) (sha1 (part_of l.bytes offset count))) refl (λ v. refl) (λ v l. refl)))
+free_answers s (command.Close file) now free = local_one s (command.Close file) file (closes s file) free refl refl (λ v l. refl) (λ l e at. closed_answer s file l at)
+free_answers s (command.Abandon file) now free = local_one s (command.Abandon file) file (abandons s file) free refl refl (λ v l. refl) (λ l e at. (
+  (omega arith, refl),
+  record {
+    outcome = outcome.Done;
+    ended = refl;
+    told_is = refl;
+    value = λ v. refl;
+    here = λ v. ap (option_map (λ (z : Local). z.bytes)) (without_at_itself s.opened file);
+    others = λ f apart. ap (option_map (λ (z : Local). z.bytes)) (without_at_another s.opened file f apart);
+  },
+))
+
+-- with an operation under way it is busy
+busy_by : (s : client.State) (d : Command) (t : Task) (now : ℕ) → s.task ≡ Some t → command_step s d now ≡ (s, ends outcome.Busy 0 0)
+busy_by s (command.Open file) t now e = ap (opens s file) e
+busy_by s (command.Write file offset content) t now e = ap (λ z. on_local s z (client.local_at s.opened file) (writes s file offset content)) e
+busy_by s (command.Trunc file size) t now e = ap (λ z. on_local s z (client.local_at s.opened file) (truncates s file size)) e
+busy_by s (command.Read file offset count) t now e = ap (λ z. on_local s z (client.local_at s.opened file) (reads s offset count)) e
+busy_by s (command.Close file) t now e = ap (λ z. on_local s z (client.local_at s.opened file) (closes s file)) e
+busy_by s (command.Abandon file) t now e = ap (λ z. on_local s z (client.local_at s.opened file) (abandons s file)) e
+
+busy_leaves : (d : Command) (v : List ℕ) (l : Option (List ℕ)) → leaves d told.Busy v l ≡ l
+busy_leaves (command.Open file) v l = refl
+busy_leaves (command.Write file offset content) v l = refl
+busy_leaves (command.Trunc file size) v l = refl
+busy_leaves (command.Read file offset count) v l = refl
+busy_leaves (command.Close file) v l = refl
+busy_leaves (command.Abandon file) v l = refl
+
+pub busy_answers : (s : client.State) (d : Command) (t : Task) (now : ℕ) → s.task ≡ Some t → (let r = command_step s d now in Stays s r.0 × AnswersBy s d r (Some told.Busy))
+busy_answers s d t now e = subst (λ (r : client.State × ClientStep). Stays s r.0 × AnswersBy s d r (Some told.Busy)) (sym (busy_by s d t now e)) (stays s, so s d outcome.Busy told.Busy refl (λ v. refl) (busy_leaves d))

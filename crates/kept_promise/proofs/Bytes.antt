@@ -1,0 +1,23 @@
+-- Of the records that were sent, those come whose bytes have come.
+use Rattle.std.proofs.Common.{◌≡◌, ℕ, ◌≤◌, List, ◌++◌, Option, None, length, sym, ap, subst, ◌∙◌, append_assoc}
+use Rattle.std.specs.Prelude.{All}
+use Rattle.rpc_record.specs.declared.refusal.Refusal.{Refusal}
+use Rattle.rpc_record.specs.declared.records.Fed.{Fed}
+use Rattle.rpc_record.specs.Records.{Unread, Parts, Came, split, fed, stream}
+use Rattle.rpc_record.proofs.Streaming.{stream_comes}
+use Rattle.kept_promise.proofs.Statements.{Comes, StreamsCome}
+
+abbrev parted : Parts → Unread × Fed
+parted p = (record { rest = p.rest; spoilt = p.spoilt }, record { records = p.records; spoilt = p.spoilt })
+
+-- what an end that isn't spoilt makes of a piece
+fed_sound : (end : Unread) (piece : List ℕ) → end.spoilt ≡ None → fed end piece ≡ parted (split (end.rest ++ piece))
+fed_sound end piece sound = ap (λ (s : Option Refusal). fed (record { rest = end.rest; spoilt = s }) piece) sound
+
+comes_of : (end : Unread) (piece behind : List ℕ) (records : List (List ℕ)) (parts : Parts) → Came records behind parts → Comes end.rest piece behind records (parted parts).0 (parted parts).1.records
+comes_of end piece behind records parts c = record { left = c.left; all = c.records; sound = c.sound; queued = c.bytes }
+
+pub streams_come : StreamsCome
+streams_come = λ end piece behind records short sound e.
+    let c : Came records behind (split (end.rest ++ piece)) = stream_comes records (end.rest ++ piece) behind short (append_assoc end.rest piece behind ∙ e) in
+    subst (λ (r : Unread × Fed). Comes end.rest piece behind records r.0 r.1.records) (sym (fed_sound end piece sound)) (comes_of end piece behind records (split (end.rest ++ piece)) c)

@@ -1,0 +1,213 @@
+-- What a client comes to by an answer that its close waits for.
+use Rattle.std.proofs.Common.{inl, inr, ◌≡◌, ℕ, zero, suc, ◌+◌, ◌<◌, List, [], ◌∷◌, length, Option, Some, None, Bool, true, false, refl, sym, ap, ◌∙◌, subst, arith}
+use Rattle.std.specs.Prelude.{slice_get}
+use Rattle.sha1.specs.Sha1.{sha1}
+use Rattle.chunk_cut.specs.declared.chunk.Chunk.{Chunk}
+use Rattle.xdr_codec.specs.declared.answer.Answer.{Answer}
+use Rattle.xdr_codec.specs.declared.answer.Answer.TheVariants.{Done, Failed}
+use Rattle.xdr_codec.specs.declared.status.Status.{Status}
+use Rattle.xdr_codec.specs.declared.status.Status.TheVariants as status
+use Rattle.hash_calls.specs.declared.call.Committed.{Committed}
+use Rattle.open_close.specs.State as client
+use Rattle.open_close.specs.State.{store_pending}
+use Rattle.open_close.specs.Closing.{store_of, is_stored, store_at, answered}
+use Rattle.open_close.specs.Counting.{no_counts}
+use Rattle.open_close.specs.Step.{idle, refused, goes_on, goes_if, told_temp, sends_whole, told_named, told_whole, closed}
+use Rattle.open_close.specs.declared.step.Outcome.TheVariants as outcome
+use Rattle.open_close.specs.declared.task.Stage.TheVariants as stage
+use Rattle.open_close.specs.declared.task.Store.{Store}
+use Rattle.open_close.specs.declared.task.StoreCall.{StoreCall}
+use Rattle.open_close.specs.declared.task.Way.TheVariants as way
+use Rattle.register_model.specs.declared.op.Op.{Op}
+use Rattle.register_model.specs.declared.op.Outcome.TheVariants as told
+use Rattle.register_model.specs.declared.op.Traffic.{Traffic}
+use Rattle.register_model.specs.declared.op.Word.TheVariants as words
+use Rattle.trace_replay.specs.Core.{Core, Session}
+use Rattle.trace_replay.specs.Ops.{has_point, point_if, counted}
+use Rattle.trace_replay.specs.Book.{Book}
+use Rattle.kept_promise.specs.Talk.{Reply, Reply.Made, Reply.Named, Reply.Stored, Reply.Changed, Told, Queue, reply_program}
+use Rattle.kept_promise.proofs.Lists.{some_is}
+use Rattle.kept_promise.proofs.Messages.{Job, CommitTold, CloseOf}
+use Rattle.kept_promise.proofs.Heard.{told_pending}
+use Rattle.kept_promise.proofs.Steps.{Here, session_at, Quiet, job_op}
+use Rattle.kept_promise.proofs.CloseEnds.{quiet_before, quiet_after, Unmade, refused_op, stops_refused, closed_op, stops_closed}
+use Rattle.kept_promise.proofs.CloseSteps.{local_of, Ready, named, naming, naming_sent, goes_storing, committing, committing_sent, goes_committing, sending, goes_whole, ready_made, ready_answered, ready_named, store_found, Filled}
+use Rattle.kept_promise.proofs.Comes.{op_at, client_at, Comes}
+use Rattle.kept_promise.proofs.Orderly.{NoRoom, Wanted}
+use Rattle.kept_promise.proofs.OrderSteps.{first_wanted}
+use Rattle.kept_promise.proofs.CloseFills.{filled_made, filled_answered, filled_named}
+
+-- ---- it goes on
+
+pub comes_on : (book : Book) (k : Core) (qs : List Queue) (n : ℕ) (x : Session) (q : Queue) (t : Told) (ts : List Told) (j : Job) (g : Here book k qs n x q t ts j) (st : Store) → j.file < 18446744073709551616 → Ready book k qs n x q t ts j g st → Filled book k qs n x q t ts j g q.ups st → Comes book k qs n x q t ts j g (goes_on (idle (client_at book k qs n x q t ts j g)) j.file (local_of g) st)
+comes_on book k qs n x q t ts j g st fits w filled = by (is_stored (named st (client_at book k qs n x q t ts j g).next).store) refl
+  where
+    by : (b : Bool) → is_stored (named st (client_at book k qs n x q t ts j g).next).store ≡ b → Comes book k qs n x q t ts j g (goes_if (idle (client_at book k qs n x q t ts j g)) j.file (local_of g) (named st (client_at book k qs n x q t ts j g).next) b)
+    by true e =
+        let c = client_at book k qs n x q t ts j g in
+        inl (record {
+          to = stage.Committing (named st c.next).next;
+          next = (named st c.next).next + 1;
+          forgotten = c.forgotten;
+          asks = committing st c.next j.file (length (local_of g));
+          shows = goes_committing book k qs n x q t ts j g st fits w filled e;
+          state_is = refl;
+          send_is = committing_sent st c.next j.file (length (local_of g));
+          ended_is = refl;
+        })
+    by false e =
+        let c = client_at book k qs n x q t ts j g in
+        inl (record {
+          to = stage.Storing (named st c.next).store;
+          next = (named st c.next).next;
+          forgotten = c.forgotten;
+          asks = naming st c.next;
+          shows = goes_storing book k qs n x q t ts j g st w filled e;
+          state_is = refl;
+          send_is = naming_sent st c.next;
+          ended_is = refl;
+        })
+
+-- ---- it is refused
+
+-- a commit is, for want of room
+pub comes_unmade : (book : Book) (k : Core) (qs : List Queue) (n : ℕ) (x : Session) (q : Queue) (t : Told) (ts : List Told) (j : Job) (g : Here book k qs n x q t ts j) → Quiet k n q → j.stage ≡ stage.Committing t.xid → NoRoom book (op_at book k qs n x q t ts j g) → Unmade book x j (op_at book k qs n x q t ts j g) → Comes book k qs n x q t ts j g (refused (idle (client_at book k qs n x q t ts j g)) (client.calls_of (client_at book k qs n x q t ts j g)) t.xid status.NoSpc)
+comes_unmade book k qs n x q t ts j g quiet waits room u =
+    let c = client_at book k qs n x q t ts j g in
+    let o = op_at book k qs n x q t ts j g in
+    let tr : Traffic = counted o.traffic no_counts in
+    inr (record {
+      op = refused_op o tr (book.steps + 1) 28;
+      ended = record { outcome = outcome.Refused status.NoSpc; rests_on = t.xid };
+      made = Some j.place;
+      opened = c.opened;
+      forgotten = client.without_call (client.calls_of c) t.xid;
+      shows = stops_refused book k qs n x q t ts j g tr quiet waits room u;
+      state_is = refl;
+      send_is = refl;
+      ended_is = refl;
+      op_is = ap (λ v. record o { end = Some (book.steps + 1); point = point_if (has_point v (outcome.Refused status.NoSpc)) x.taken t.xid o.point; outcome = told.Refused 28; traffic = tr }) u.unmade.0;
+    })
+
+-- what the answer is
+answer_is : (book : Book) (k : Core) (qs : List Queue) (n : ℕ) (x : Session) (q : Queue) (t : Told) (ts : List Told) (j : Job) (g : Here book k qs n x q t ts j) (r : Reply) → t.reply ≡ r → Wanted book (Some j) t.xid r
+answer_is book k qs n x q t ts j g r is = let h = session_at book k qs n x q t ts j g in subst (Wanted book (Some j) t.xid) is (first_wanted book n k.server.temps q x.hung t ts h.seat j g.first g.job_is (h.orderly g.uncut))
+
+not_done : {s : Status} {u : Unit {0}} {v : Unit {0}} → ◌≡◌ {A = Answer Unit Unit} (Failed s u) (Done v) → ⊥
+not_done e = absurd cc
+
+-- ---- by the answer to MKTMPFILE
+
+before_making : (x temp y : ℕ) → stage.Making x temp ≡ stage.Committing y → ⊥
+before_making x temp y e = absurd cc
+
+before_storing : (st : Store) (y : ℕ) → stage.Storing st ≡ stage.Committing y → ⊥
+before_storing st y e = absurd cc
+
+pub comes_made : (book : Book) (k : Core) (qs : List Queue) (n : ℕ) (x : Session) (q : Queue) (t : Told) (ts : List Told) (j : Job) (g : Here book k qs n x q t ts j) (temp : ℕ) (a : Answer Unit Unit) → j.file < 18446744073709551616 → j.stage ≡ stage.Making t.xid temp → t.reply ≡ Made a → Comes book k qs n x q t ts j g (told_temp (idle (client_at book k qs n x q t ts j g)) (client.calls_of (client_at book k qs n x q t ts j g)) j.file t.xid temp (local_of g) a)
+comes_made book k qs n x q t ts j g temp a fits waits is = by a is
+  where
+    quiet : Quiet k n q
+    quiet = quiet_before book k qs n x q t ts j g (λ y e. before_making t.xid temp y (sym waits ∙ e))
+
+    ready : Ready book k qs n x q t ts j g (store_of temp (local_of g))
+    ready = ready_made book k qs n x q t ts j g temp waits (ap reply_program is) quiet
+
+    by : (a : Answer Unit Unit) → t.reply ≡ Made a → Comes book k qs n x q t ts j g (told_temp (idle (client_at book k qs n x q t ts j g)) (client.calls_of (client_at book k qs n x q t ts j g)) j.file t.xid temp (local_of g) a)
+    by (Done u) is = comes_on book k qs n x q t ts j g (store_of temp (local_of g)) fits ready (filled_made book k qs n x q t ts j g temp waits)
+    by (Failed s u) is = absurd (not_done (answer_is book k qs n x q t ts j g (Made (Failed s u)) is).1)
+
+-- ---- by the answer to a CONDWRITE or a TMPWRITE
+
+stored_close : (book : Book) (k : Core) (qs : List Queue) (n : ℕ) (x : Session) (q : Queue) (t : Told) (ts : List Told) (j : Job) (g : Here book k qs n x q t ts j) (st : Store) → j.stage ≡ stage.Storing st → CloseOf book x.closing (session_at book k qs n x q t ts j g).contents (client_at book k qs n x q t ts j g).next_temp j (local_of g) (stage.Storing st)
+stored_close book k qs n x q t ts j g st waits = let h = session_at book k qs n x q t ts j g in subst (CloseOf book x.closing h.contents h.seat.client.next_temp j (local_of g)) waits (h.closes g.uncut j g.job_is)
+
+pub comes_stored : (book : Book) (k : Core) (qs : List Queue) (n : ℕ) (x : Session) (q : Queue) (t : Told) (ts : List Told) (j : Job) (g : Here book k qs n x q t ts j) (st : Store) (u : StoreCall) (a : Answer Unit Unit) → j.file < 18446744073709551616 → j.stage ≡ stage.Storing st → store_at st.under t.xid ≡ Some u → u.way ≡ way.Whole → store_pending u ≡ told_pending t → t.reply ≡ Stored a
+    → Comes book k qs n x q t ts j g (told_whole (idle (client_at book k qs n x q t ts j g)) (client.calls_of (client_at book k qs n x q t ts j g)) j.file t.xid (local_of g) (answered st t.xid) a)
+comes_stored book k qs n x q t ts j g st u a fits waits found whole same is = by a is
+  where
+    quiet : Quiet k n q
+    quiet = quiet_before book k qs n x q t ts j g (λ y e. before_storing st y (sym waits ∙ e))
+
+    ready : Ready book k qs n x q t ts j g (answered st t.xid)
+    ready = ready_answered book k qs n x q t ts j g st u waits found same quiet
+
+    by : (a : Answer Unit Unit) → t.reply ≡ Stored a → Comes book k qs n x q t ts j g (told_whole (idle (client_at book k qs n x q t ts j g)) (client.calls_of (client_at book k qs n x q t ts j g)) j.file t.xid (local_of g) (answered st t.xid) a)
+    by (Done v) is = comes_on book k qs n x q t ts j g (answered st t.xid) fits ready (filled_answered book k qs n x q t ts j g st u waits found whole)
+    by (Failed s v) is = absurd (not_done (answer_is book k qs n x q t ts j g (Stored (Failed s v)) is).1)
+
+chunk_there : (cs : List Chunk) (i : ℕ) → i < length cs → (c : Chunk) × (slice_get cs i ≡ Some c)
+chunk_there [] i lt = absurd (omega (arith, lt))
+chunk_there (c ∷ cs) zero lt = (c, refl)
+chunk_there (c ∷ cs) (suc i) lt = chunk_there cs i (omega (arith, lt))
+
+pub comes_named : (book : Book) (k : Core) (qs : List Queue) (n : ℕ) (x : Session) (q : Queue) (t : Told) (ts : List Told) (j : Job) (g : Here book k qs n x q t ts j) (st : Store) (u : StoreCall) (a : Answer Unit Unit) → j.file < 18446744073709551616 → j.stage ≡ stage.Storing st → store_at st.under t.xid ≡ Some u → u.way ≡ way.Named → store_pending u ≡ told_pending t → t.reply ≡ Named a
+    → Comes book k qs n x q t ts j g (told_named (idle (client_at book k qs n x q t ts j g)) (client.calls_of (client_at book k qs n x q t ts j g)) j.file t.xid (local_of g) (answered st t.xid) u a)
+comes_named book k qs n x q t ts j g st u a fits waits found by_name same is = subst (λ (b : Answer Unit Unit). Comes book k qs n x q t ts j g (told_named (idle (client_at book k qs n x q t ts j g)) (client.calls_of (client_at book k qs n x q t ts j g)) j.file t.xid (local_of g) (answered st t.xid) u b)) (sym (answer_is book k qs n x q t ts j g (Named a) is).1) unknown
+  where
+    quiet : Quiet k n q
+    quiet = quiet_before book k qs n x q t ts j g (λ y e. before_storing st y (sym waits ∙ e))
+
+    ready : Ready book k qs n x q t ts j g (answered st t.xid)
+    ready = ready_answered book k qs n x q t ts j g st u waits found same quiet
+
+    inside : u.index < st.named
+    inside = let f = store_found st.under t.xid u found in (stored_close book k qs n x q t ts j g st waits).3.inside f.0 u f.1
+
+    whole : (c : Chunk) → slice_get st.chunks u.index ≡ Some c → Comes book k qs n x q t ts j g (sends_whole (idle (client_at book k qs n x q t ts j g)) j.file t.xid (local_of g) (answered st t.xid) u (Some c))
+    whole c at =
+        let s = client_at book k qs n x q t ts j g in
+        inl (record {
+          to = stage.Storing (Rattle.open_close.specs.Closing.with_whole (answered st t.xid) u s.next);
+          next = s.next + 1;
+          forgotten = s.forgotten;
+          asks = sending (answered st t.xid) s.next (local_of g) c;
+          shows = goes_whole book k qs n x q t ts j g (answered st t.xid) u c ready inside at (filled_named book k qs n x q t ts j g st u c waits found by_name) (ready_named book k qs n x q t ts j g st u waits found by_name);
+          state_is = refl;
+          send_is = refl;
+          ended_is = refl;
+        })
+
+    unknown : Comes book k qs n x q t ts j g (sends_whole (idle (client_at book k qs n x q t ts j g)) j.file t.xid (local_of g) (answered st t.xid) u (slice_get st.chunks u.index))
+    unknown =
+        let le = (stored_close book k qs n x q t ts j g st waits).3.named in
+        let i = inside in
+        let c = chunk_there st.chunks u.index (omega (arith, le, i)) in
+        subst (λ (o : Option Chunk). Comes book k qs n x q t ts j g (sends_whole (idle (client_at book k qs n x q t ts j g)) j.file t.xid (local_of g) (answered st t.xid) u o)) (sym c.1) (whole c.0 c.1)
+
+-- ---- by the answer to COMMITTMP
+
+pub comes_failed : (book : Book) (k : Core) (qs : List Queue) (n : ℕ) (x : Session) (q : Queue) (t : Told) (ts : List Told) (j : Job) (g : Here book k qs n x q t ts j) (s : Status) (v : Unit {0}) → j.stage ≡ stage.Committing t.xid → t.reply ≡ Changed (Failed s v) → CommitTold book x.closing j (Failed s v)
+    → Comes book k qs n x q t ts j g (refused (idle (client_at book k qs n x q t ts j g)) (client.calls_of (client_at book k qs n x q t ts j g)) t.xid s)
+comes_failed book k qs n x q t ts j g s v waits is fact =
+    let h = session_at book k qs n x q t ts j g in
+    let of = job_op book k qs x h.seat j g.kept h.owner g.job_is in
+    let told_ = answer_is book k qs n x q t ts j g (Changed (Failed s v)) is in
+    let same : told_.0.1 ≡ of.op = some_is told_.0.1 of.op (sym told_.0.4 ∙ ap (λ (z : Job). slice_get book.ops z.place) (sym (some_is j told_.0.0 told_.0.2)) ∙ of.there) in
+    subst (λ (z : Status). Comes book k qs n x q t ts j g (refused (idle (client_at book k qs n x q t ts j g)) (client.calls_of (client_at book k qs n x q t ts j g)) t.xid z)) (sym told_.1)
+    (comes_unmade book k qs n x q t ts j g (quiet_after book k qs n x q t ts j g (ap reply_program is) waits) waits (subst (NoRoom book) same told_.0.6) (record { known = fact.3; unmade = subst Rattle.kept_promise.proofs.Rights.IsUnmade (some_is fact.0 of.op (sym fact.1 ∙ of.there)) fact.2 }))
+
+pub comes_closed : (book : Book) (k : Core) (qs : List Queue) (n : ℕ) (x : Session) (q : Queue) (t : Told) (ts : List Told) (j : Job) (g : Here book k qs n x q t ts j) (c : Committed) → j.stage ≡ stage.Committing t.xid → t.reply ≡ Changed (Done c) → CommitTold book x.closing j (Done c)
+    → Comes book k qs n x q t ts j g (closed (idle (client_at book k qs n x q t ts j g)) (client.calls_of (client_at book k qs n x q t ts j g)) j.file t.xid c.version (local_of g))
+comes_closed book k qs n x q t ts j g d waits is made =
+    let h = session_at book k qs n x q t ts j g in
+    let c = h.seat.client in
+    let of = job_op book k qs x h.seat j g.kept h.owner g.job_is in
+    let o = of.op in
+    let tr : Traffic = counted o.traffic no_counts in
+    let close = subst (CloseOf book x.closing h.contents c.next_temp j (local_of g)) waits (h.closes g.uncut j g.job_is) in
+    let same : close.0 ≡ o = some_is close.0 o (sym close.1 ∙ of.there) in
+    let word : o.word ≡ words.Close = ap (λ (z : Op). z.word) (sym same) ∙ close.2 in
+    let value : local_of g ≡ o.value = sym close.3 ∙ ap (λ (z : Op). z.value) same in
+    inr (record {
+      op = closed_op o tr (book.steps + 1) d.version;
+      ended = record { outcome = outcome.Closed j.file d.version (length (local_of g)) (sha1 (local_of g)); rests_on = t.xid };
+      made = None;
+      opened = client.without_local c.opened j.file;
+      forgotten = client.without_call (client.calls_of c) t.xid;
+      shows = stops_closed book k qs n x q t ts j g tr d.version (quiet_after book k qs n x q t ts j g (ap reply_program is) waits) waits made;
+      state_is = refl;
+      send_is = refl;
+      ended_is = refl;
+      op_is = ap (λ v. record o { end = Some (book.steps + 1); point = point_if (has_point v (outcome.Closed j.file d.version (length (local_of g)) (sha1 (local_of g)))) x.taken t.xid o.point; outcome = told.Closed d.version (length (local_of g)) (sha1 (local_of g)); traffic = tr }) word ∙ ap (λ (l : List ℕ). record o { end = Some (book.steps + 1); outcome = told.Closed d.version (length l) (sha1 l); traffic = tr }) value;
+    })

@@ -1,0 +1,251 @@
+-- What a client comes to by an answer that its operation waits for: it goes on, or the operation ends.
+use Rattle.std.proofs.Common.{◌⊎◌, inl, inr, ◌≡◌, ℕ, zero, suc, ◌+◌, ◌<◌, ◌≤◌, List, [], ◌∷◌, ◌++◌, length, Option, Some, None, Bool, true, false, refl, sym, ap, ◌∙◌, subst, arith}
+use Rattle.std.specs.Prelude.{slice_get, slice_set, map, not, IsSome, is_some}
+use Rattle.wire.specs.declared.message.Pending.{Pending}
+use Rattle.xdr_codec.specs.declared.status.Status.{Status}
+use Rattle.xdr_codec.specs.declared.status.Status.TheVariants as status
+use Rattle.xdr_codec.specs.declared.answer.Answer.TheVariants.{Failed}
+use Rattle.open_close.specs.State as client
+use Rattle.open_close.specs.Counting.{no_counts}
+use Rattle.open_close.specs.Step.{refused, idle}
+use Rattle.open_close.specs.declared.step.ClientStep.{ClientStep}
+use Rattle.open_close.specs.declared.step.Ended.{Ended}
+use Rattle.open_close.specs.declared.step.Outcome.TheVariants as outcome
+use Rattle.open_close.specs.declared.task.Local.{Local}
+use Rattle.open_close.specs.declared.task.Stage.{Stage}
+use Rattle.register_model.specs.Register.{content_of}
+use Rattle.register_model.specs.declared.op.Op.{Op}
+use Rattle.register_model.specs.declared.op.Outcome.{Outcome}
+use Rattle.register_model.specs.declared.op.Outcome.TheVariants as told
+use Rattle.register_model.specs.declared.op.Traffic.{Traffic}
+use Rattle.register_model.specs.declared.op.Word.{Word}
+use Rattle.register_model.specs.declared.op.Word.TheVariants as words
+use Rattle.trace_replay.specs.Core.{Core, Session}
+use Rattle.trace_replay.specs.Ops.{has_point, point_if, taken_at, told_of, value_of, counted, ended_op}
+use Rattle.trace_replay.specs.Book.{Book, value_at}
+use Rattle.trace_replay.specs.Causes.{IsOpenRefused}
+use Rattle.trace_replay.specs.Faithful.{is_running}
+use Rattle.kept_promise.specs.Talk.{Ask, Told, Queue, ask_message}
+use Rattle.kept_promise.proofs.Lists.{some_is, nothing_there}
+use Rattle.kept_promise.proofs.Messages.{Job, stage_word, IsTold, HashTold}
+use Rattle.kept_promise.proofs.Rights.{is_remote, Caused, RefusedBy, IsRight}
+use Rattle.kept_promise.proofs.Growth.{Grows, value_later}
+use Rattle.kept_promise.proofs.History.{onward, Becomes, grows_becomes}
+use Rattle.kept_promise.proofs.Facts.{IsSession, IsOf, IsKept}
+use Rattle.kept_promise.proofs.Steps.{Here, session_at, Quiet, job_op, GoesOn, Stops, gone_on, stopped, counting}
+use Rattle.kept_promise.proofs.CloseEnds.{forgets}
+
+abbrev pub op_at : (book : Book) (k : Core) (qs : List Queue) (n : ℕ) (x : Session) (q : Queue) (t : Told) (ts : List Told) (j : Job) → Here book k qs n x q t ts j → Op
+op_at book k qs n x q t ts j g = (job_op book k qs x (session_at book k qs n x q t ts j g).seat j g.kept (session_at book k qs n x q t ts j g).owner g.job_is).op
+
+abbrev pub client_at : (book : Book) (k : Core) (qs : List Queue) (n : ℕ) (x : Session) (q : Queue) (t : Told) (ts : List Told) (j : Job) → Here book k qs n x q t ts j → client.State
+client_at book k qs n x q t ts j g = (session_at book k qs n x q t ts j g).seat.client
+
+pub record GoesTo (book : Book) (k : Core) (qs : List Queue) (n : ℕ) (x : Session) (q : Queue) (t : Told) (ts : List Told) (j : Job) (g : Here book k qs n x q t ts j) (c : client.State) (acts : ClientStep) : Type 0 where
+  pub to : Stage
+  pub next : ℕ
+  pub forgotten : List Pending
+  pub asks : List Ask
+  pub shows : GoesOn book k qs n x q t ts j g to next forgotten asks
+  pub state_is : c ≡ gone_on (client_at book k qs n x q t ts j g) j.file next to forgotten
+  pub send_is : acts.send ≡ map ask_message asks
+  pub ended_is : acts.ended ≡ None
+
+pub record EndsIn (book : Book) (k : Core) (qs : List Queue) (n : ℕ) (x : Session) (q : Queue) (t : Told) (ts : List Told) (j : Job) (g : Here book k qs n x q t ts j) (c : client.State) (acts : ClientStep) : Type 0 where
+  pub op : Op
+  pub ended : Ended
+  pub made : Option ℕ
+  pub opened : List (ℕ × Local)
+  pub forgotten : List Pending
+  pub shows : Stops book k qs n x q t ts j g op made opened forgotten
+  pub state_is : c ≡ stopped (client_at book k qs n x q t ts j g) opened forgotten
+  pub send_is : acts.send ≡ []
+  pub ended_is : acts.ended ≡ Some ended
+  pub op_is : ended_op (counting (op_at book k qs n x q t ts j g) (counted (op_at book k qs n x q t ts j g).traffic acts.counts)) c x.taken (book.steps + 1) ended ≡ op
+
+abbrev pub Comes : (book : Book) (k : Core) (qs : List Queue) (n : ℕ) (x : Session) (q : Queue) (t : Told) (ts : List Told) (j : Job) → Here book k qs n x q t ts j → client.State × ClientStep → Type 0
+Comes book k qs n x q t ts j g r = GoesTo book k qs n x q t ts j g r.0 r.1 ⊎ EndsIn book k qs n x q t ts j g r.0 r.1
+
+-- ---- an open ends
+
+abbrev pub open_op : Op → Traffic → (step : ℕ) → Option ℕ → Outcome → List ℕ → Op
+open_op o tr step p u v = record o { end = Some step; point = p; outcome = u; value = v; traffic = tr }
+
+-- its point is one that it had, or a moment within it in which no change was made
+abbrev pub PointOf : Book → Op → Option ℕ → Type 0
+PointOf book o p = (m : ℕ) → p ≡ Some m → (o.point ≡ Some m) ⊎ ((o.begin ≤ m) × (m ≤ book.steps) × ((i : ℕ) → slice_get book.entries i ≡ Some m → ⊥))
+
+not_close : (w : Word) → w ≡ words.Open → w ≡ words.Close → ⊥
+not_close w e f = apart (sym e ∙ f)
+  where
+    apart : words.Open ≡ words.Close → ⊥
+    apart e = absurd cc
+
+becomes_open : (book : Book) (o : Op) (place : ℕ) (tr : Traffic) (p : Option ℕ) (u : Outcome) (v : List ℕ) → o.word ≡ words.Open → PointOf book o p → Becomes book None (Some place) place o (open_op o tr (book.steps + 1) p u v)
+becomes_open book o place tr p u v w point = record {
+  follows = record {
+    client = refl;
+    word = refl;
+    file = refl;
+    begin = refl;
+    point = λ c q e. absurd (not_close o.word w c);
+    value = λ c. absurd (not_close o.word w c);
+    unmade = λ n z. absurd (not_close o.word w z.0);
+    end = λ e s. let is = some_is (book.steps + 1) e s in inr (omega (arith, is));
+    running = λ n e. absurd (n refl);
+  };
+  close_point = λ c. absurd (not_close o.word w c);
+  point = λ m e. elim (point m e) [ inl was ↦ inl was | inr new ↦ inr (w, new.2) ];
+  remote = inl w;
+}
+
+abbrev pub Opened_ok : Book → List (ℕ × Local) → Type 0
+Opened_ok book opened = (f : ℕ) (l : Local) → client.local_at opened f ≡ Some l → IsSome (content_of book.opening f) × (length l.bytes ≤ 67108864)
+
+pub stops_open : (book : Book) (k : Core) (qs : List Queue) (n : ℕ) (x : Session) (q : Queue) (t : Told) (ts : List Told) (j : Job) (g : Here book k qs n x q t ts j) (tr : Traffic) (p : Option ℕ) (u : Outcome) (v : List ℕ) (opened : List (ℕ × Local)) → Quiet k n q → stage_word j.stage ≡ words.Open → is_running u ≡ false
+    → PointOf book (op_at book k qs n x q t ts j g) p → ((more : Book) → Grows book more None (Some j.place) → more.steps ≡ book.steps + 1 → Caused more (open_op (op_at book k qs n x q t ts j g) tr (book.steps + 1) p u v) u) → Opened_ok book opened
+    → Stops book k qs n x q t ts j g (open_op (op_at book k qs n x q t ts j g) tr (book.steps + 1) p u v) None opened (client.without_call (client.calls_of (client_at book k qs n x q t ts j g)) t.xid)
+stops_open book k qs n x q t ts j g tr p u v opened quiet word stopped_ point cause ok =
+    let h = session_at book k qs n x q t ts j g in
+    let of = job_op book k qs x h.seat j g.kept h.owner g.job_is in
+    let r = open_op of.op tr (book.steps + 1) p u v in
+    let more = onward book 1 (slice_set book.ops j.place r) in
+    let w : of.op.word ≡ words.Open = of.word ∙ word in
+    let became = becomes_open book of.op j.place tr p u v w point in
+    let grows = grows_becomes book 1 None (Some j.place) j.place of.op r of.there became in
+    let right = g.kept.sound.rights j.place of.op of.there in
+    record {
+      quiet = quiet;
+      moves = forgets book k qs n x q t ts j g;
+      becomes = became;
+      right = record {
+        cause = cause more grows refl;
+        begun = let b = right.begun in omega (arith, b);
+        pointed = λ m e. elim (point m e) [
+          | inl was ↦ let old = right.pointed m was in let le = old.1 in (old.0, omega (arith, le), ap is_remote w)
+          | inr new ↦ let le = new.1 in (new.0, omega (arith, le), ap is_remote w)
+        ];
+        past = λ e s. let is = some_is (book.steps + 1) e s in let b = right.begun in (omega (arith, b, is), omega (arith, is));
+        ends = sym (ap not stopped_);
+        within = λ l m e f s. let is = some_is (book.steps + 1) e s in elim (point m f) [
+          | inl was ↦ let old = right.pointed m was in let le = old.1 in omega (arith, le, is)
+          | inr new ↦ let le = new.1 in omega (arith, le, is)
+        ];
+        failed = λ c. absurd (not_close of.op.word w c);
+      };
+      stops = λ e. running_not u stopped_ e;
+      over = inl word;
+      made_here = λ m e. nothing_there m e;
+      opened_ok = ok;
+    }
+  where
+    running_not : (u : Outcome) → is_running u ≡ false → u ≡ told.Running → ⊥
+    running_not u s e = both (is_running u) s (ap is_running e)
+      where
+        both : (b : Bool) → b ≡ false → b ≡ true → ⊥
+        both b s e = absurd cc
+
+-- ---- it was refused
+
+-- a moment at which a call was taken is one within the operation
+pub told_point : (book : Book) (k : Core) (qs : List Queue) (n : ℕ) (x : Session) (q : Queue) (t : Told) (ts : List Told) (j : Job) (g : Here book k qs n x q t ts j) (y : ℕ) (v : Option (List ℕ)) (version : ℕ) → (is : IsTold book x.taken j y v version) → PointOf book (op_at book k qs n x q t ts j g) (Some is.moment)
+told_point book k qs n x q t ts j g y v version is m e =
+    let here = some_is is.moment m e in
+    let same = begins book k qs n x q t ts j g y v version is in
+    inr (subst (λ z. (op_at book k qs n x q t ts j g).begin ≤ z) here same, subst (λ z. z ≤ book.steps) here is.past, λ i f. is.apart i (f ∙ ap (λ z. Some z) (sym here)))
+  where
+    begins : (book : Book) (k : Core) (qs : List Queue) (n : ℕ) (x : Session) (q : Queue) (t : Told) (ts : List Told) (j : Job) (g : Here book k qs n x q t ts j) (y : ℕ) (v : Option (List ℕ)) (version : ℕ) → (is : IsTold book x.taken j y v version) → (op_at book k qs n x q t ts j g).begin ≤ is.moment
+    begins book k qs n x q t ts j g y v version is =
+        let h = session_at book k qs n x q t ts j g in
+        let of = job_op book k qs x h.seat j g.kept h.owner g.job_is in
+        let same : is.op ≡ of.op = some_is is.op of.op (sym is.there ∙ of.there) in
+        subst (λ (o : Op). o.begin ≤ is.moment) same is.after
+
+abbrev refused_at : client.State → (xid : ℕ) → Status → client.State × ClientStep
+refused_at c xid s = refused (idle c) (client.calls_of c) xid s
+
+pub comes_refused : (book : Book) (k : Core) (qs : List Queue) (n : ℕ) (x : Session) (q : Queue) (t : Told) (ts : List Told) (j : Job) (g : Here book k qs n x q t ts j) (offset : ℕ) (s : Status) → stage_word j.stage ≡ words.Open → Quiet k n q → HashTold book x.taken j t.xid offset (Failed s tt)
+    → Comes book k qs n x q t ts j g (refused_at (client_at book k qs n x q t ts j g) t.xid s)
+comes_refused book k qs n x q t ts j g offset s word quiet (inl dir) = subst (λ z. Comes book k qs n x q t ts j g (refused_at (client_at book k qs n x q t ts j g) t.xid z)) (sym dir.0) (inr (record {
+  op = r;
+  ended = record { outcome = outcome.Refused status.IsDir; rests_on = t.xid };
+  made = None;
+  opened = c.opened;
+  forgotten = client.without_call (client.calls_of c) t.xid;
+  shows = stops_open book k qs n x q t ts j g tr of.op.point (told.Refused 21) of.op.value c.opened quiet word refl (λ m e. inl e) (λ more grows steps. by more of.op.word w (inl (refl, of.file ∙ dir.1))) (g.kept.seats x.owner h.seat h.owner).opened;
+  state_is = refl;
+  send_is = refl;
+  ended_is = refl;
+  op_is = ap (λ v. open_op of.op tr (book.steps + 1) (point_if (has_point v (outcome.Refused status.IsDir)) x.taken t.xid of.op.point) (told.Refused 21) of.op.value) w;
+}))
+  where
+    h : IsSession book k.seats k.server n x q
+    h = session_at book k qs n x q t ts j g
+
+    c : client.State
+    c = h.seat.client
+
+    of : IsOf book x.owner j
+    of = job_op book k qs x h.seat j g.kept h.owner g.job_is
+
+    w : of.op.word ≡ words.Open
+    w = of.word ∙ word
+
+    tr : Traffic
+    tr = counted of.op.traffic no_counts
+
+    r : Op
+    r = open_op of.op tr (book.steps + 1) of.op.point (told.Refused 21) of.op.value
+
+    by : (more : Book) (v : Word) → v ≡ words.Open → IsOpenRefused more of.op.file r 21 → RefusedBy more r v 21
+    by more words.Open e i = i
+    by more words.Close e i = absurd cc
+    by more _ e i = absurd cc
+comes_refused book k qs n x q t ts j g offset s word quiet (inr stale) = subst (λ z. Comes book k qs n x q t ts j g (refused_at (client_at book k qs n x q t ts j g) t.xid z)) (sym stale.0) (inr (record {
+  op = r;
+  ended = record { outcome = outcome.Refused status.Stale; rests_on = t.xid };
+  made = None;
+  opened = c.opened;
+  forgotten = client.without_call (client.calls_of c) t.xid;
+  shows = stops_open book k qs n x q t ts j g tr (Some m) (told.Refused 70) of.op.value c.opened quiet word refl (told_point book k qs n x q t ts j g t.xid None stale.2.0 stale.2.1) (λ more grows steps. by more of.op.word w (inr (
+    refl,
+    ap (content_of more.opening) of.file ∙ ap (λ l. content_of l j.file) grows.opening ∙ stale.1,
+    (m, (refl, after, (book.steps + 1, refl, omega (arith, past))), ap (λ f. value_at more f m) of.file ∙ value_later book more None (Some j.place) j.file m grows (omega (arith, past)) ∙ stale.2.1.value),
+  ))) (g.kept.seats x.owner h.seat h.owner).opened;
+  state_is = refl;
+  send_is = refl;
+  ended_is = refl;
+  op_is = ap (λ v. open_op of.op tr (book.steps + 1) (point_if (has_point v (outcome.Refused status.Stale)) x.taken t.xid of.op.point) (told.Refused 70) of.op.value) w ∙ ap (λ p. open_op of.op tr (book.steps + 1) p (told.Refused 70) of.op.value) stale.2.1.was;
+}))
+  where
+    h : IsSession book k.seats k.server n x q
+    h = session_at book k qs n x q t ts j g
+
+    c : client.State
+    c = h.seat.client
+
+    of : IsOf book x.owner j
+    of = job_op book k qs x h.seat j g.kept h.owner g.job_is
+
+    w : of.op.word ≡ words.Open
+    w = of.word ∙ word
+
+    tr : Traffic
+    tr = counted of.op.traffic no_counts
+
+    m : ℕ
+    m = stale.2.1.moment
+
+    past : m ≤ book.steps
+    past = stale.2.1.past
+
+    after : of.op.begin ≤ m
+    after = subst (λ (o : Op). o.begin ≤ m) (some_is stale.2.1.op of.op (sym stale.2.1.there ∙ of.there)) stale.2.1.after
+
+    r : Op
+    r = open_op of.op tr (book.steps + 1) (Some m) (told.Refused 70) of.op.value
+
+    by : (more : Book) (v : Word) → v ≡ words.Open → IsOpenRefused more of.op.file r 70 → RefusedBy more r v 70
+    by more words.Open e i = i
+    by more words.Close e i = absurd cc
+    by more _ e i = absurd cc

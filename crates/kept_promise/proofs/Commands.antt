@@ -1,0 +1,404 @@
+-- Each command, and what its client makes of it.
+use Rattle.std.proofs.Common.{◌⊎◌, inl, inr, ◌≡◌, ℕ, zero, suc, ◌+◌, ◌*◌, ◌<◌, ◌≤◌, List, [], ◌∷◌, ◌++◌, length, Option, Some, None, Bool, true, false, refl, sym, ap, ◌∙◌, subst, arith, eq-eqb, ne_eqb, eqb-true}
+use Rattle.std.proofs.lemmas.Bool.Decides.{nat_tests}
+use Rattle.std.specs.Prelude.{slice_get, map, not, cond, ◌==◌, nat_lt, IsSome, is_some, if◌then◌else◌}
+use Rattle.sha1.specs.Sha1.{sha1}
+use Rattle.command_text.specs.Content.{content_length, content_bytes}
+use Rattle.command_text.specs.declared.content.Part.{Part}
+use Rattle.command_text.specs.declared.command.Command.{Command}
+use Rattle.command_text.specs.declared.command.Command.TheVariants as command
+use Rattle.command_text.proofs.Contents.{content_size}
+use Rattle.server_core.specs.State as server
+use Rattle.server_core.specs.declared.file.File.{File}
+use Rattle.open_close.specs.State as client
+use Rattle.open_close.specs.Closing.{make_call}
+use Rattle.open_close.specs.Counting.{ends, sends_one}
+use Rattle.open_close.specs.Local.{local_most, written_size, written, truncated, part_of}
+use Rattle.open_close.specs.Opening.{hash_call}
+use Rattle.open_close.specs.Step.{is_open, has_xids, may_ask, tries_anew, asks_hashes, opens_if, opens, on_local, done_with, edits, writes, truncates, reads, abandons, asks_temp, closes, command_step}
+use Rattle.open_close.specs.declared.step.ClientStep.{ClientStep}
+use Rattle.open_close.specs.declared.step.Outcome.{Outcome}
+use Rattle.open_close.specs.declared.step.Outcome.TheVariants as outcome
+use Rattle.open_close.specs.declared.task.Local.{Local}
+use Rattle.open_close.specs.declared.task.Stage.{Stage}
+use Rattle.open_close.specs.declared.task.Stage.TheVariants as stage
+use Rattle.open_close.specs.declared.task.Task.{Task}
+use Rattle.open_close.proofs.Edits.{written_length, truncated_length}
+use Rattle.open_close.proofs.Locals.{local_at_itself, local_at_another, without_at_itself, without_at_another}
+use Rattle.register_model.specs.Register.{content_of}
+use Rattle.register_model.specs.declared.op.Op.{Op}
+use Rattle.register_model.specs.declared.op.Outcome.TheVariants as told
+use Rattle.register_model.specs.declared.op.Word.{Word}
+use Rattle.register_model.specs.declared.op.Word.TheVariants as words
+use Rattle.trace_replay.specs.Core.{Core, Seat, Session, Event.Does, Loss, Loss.Nothing, Turned, numbered, with_numbered, session_of, commanded_sessions, commanded, does, happens}
+use Rattle.trace_replay.specs.Commands.{word_of, file_of, value_at_begin}
+use Rattle.trace_replay.specs.Ops.{begun, op_after, place_with}
+use Rattle.trace_replay.specs.World.{unless}
+use Rattle.trace_replay.specs.Book.{Book}
+use Rattle.kept_promise.specs.Talk.{Call, Call.Hash, Call.Make, Ask, Told, Queue, ask_message}
+use Rattle.kept_promise.proofs.Lists.{some_is, nothing_there, same_or_not, at_end}
+use Rattle.kept_promise.proofs.Messages.{Job, job, job_of}
+use Rattle.kept_promise.proofs.Rights.{IsRight}
+use Rattle.kept_promise.proofs.History.{onward}
+use Rattle.kept_promise.proofs.Turns.{Around, around_with, also_numbered, turned_core}
+use Rattle.kept_promise.proofs.Facts.{IsSeat, IsMatched, IsKept, FileIs}
+use Rattle.kept_promise.proofs.Leading.{Sends, IsNoted, Leads, KeptDoes, ups_put_in, ups_put, queues_after}
+use Rattle.kept_promise.proofs.Hangs.{leads_quiet}
+use Rattle.kept_promise.proofs.Cuts.{cut_core}
+use Rattle.kept_promise.proofs.Begins.{First, Free, Starts, begun_client, kept_begins}
+use Rattle.kept_promise.proofs.Does.{cleared, kept_cleared, leads_free, leads_busy, IsOwn}
+
+abbrev commanded_as : Core → (c : ℕ) → Seat → (place session : Option ℕ) → Option Session → Word → (file : ℕ) → (value : List ℕ) → client.State → ClientStep → Turned
+commanded_as k c seat place session found w file value s acts = record {
+  core = record {
+    server = k.server;
+    seats = with_numbered k.seats c (record { client = s; session = seat.session; place = place_with place (length k.ops) acts.ended });
+    sessions = commanded_sessions k.sessions session found place (length k.ops) w acts;
+    steps = k.steps + 1;
+    ops = k.ops ++ op_after (begun c w file value (k.steps + 1)) s [] (k.steps + 1) acts ∷ [];
+    entries = k.entries;
+  };
+  loss = Nothing;
+  session = session;
+  up = acts.send;
+  down = [];
+}
+
+-- a client that has nothing under way, with its command
+pub record Idle (book : Book) (k : Core) (qs : List Queue) (c : ℕ) (seat : Seat) : Type 0 where
+  pub kept : IsKept book k qs
+  pub here : numbered k.seats c ≡ Some seat
+  pub place : seat.place ≡ None
+  pub task : seat.client.task ≡ None
+  pub free : job seat ≡ None
+
+abbrev Answers : (book : Book) (k : Core) (qs : List Queue) (c : ℕ) (seat : Seat) (w : Word) (file : ℕ) (value : List ℕ) → client.State × ClientStep → Type 0
+Answers book k qs c seat w file value r = Leads book qs (commanded_as k c seat None seat.session (session_of k.sessions seat.session) w file value r.0 r.1)
+
+owner_is : (book : Book) (k : Core) (qs : List Queue) (c : ℕ) (seat : Seat) → IsKept book k qs → numbered k.seats c ≡ Some seat → (n : ℕ) (x : Session) → seat.session ≡ Some n → session_of k.sessions seat.session ≡ Some x → x.owner ≡ c
+owner_is book k qs c seat kept here n x at is =
+    let s = (kept.seats c seat here).session n at in
+    let same : s.0 ≡ x = some_is s.0 x (sym s.1 ∙ ap (session_of k.sessions) (sym at) ∙ is) in
+    ap (λ (z : Session). z.owner) (sym same) ∙ s.2
+
+-- it answers by itself, and its files are these
+own_with : (book : Book) (k : Core) (qs : List Queue) (c : ℕ) (seat : Seat) (w : Word) (file : ℕ) (value : List ℕ) (opened : List (ℕ × Local)) (o : Outcome) → IsOwn o → Idle book k qs c seat → ((f : ℕ) (l : Local) → client.local_at opened f ≡ Some l → IsSome (content_of book.opening f) × (length l.bytes ≤ 67108864)) → Answers book k qs c seat w file value (record seat.client { opened = opened }, ends o 0 0)
+own_with book k qs c seat w file value opened o own g fits = leads_free book k qs c seat seat.session (session_of k.sessions seat.session) w file value opened o own g.kept g.here g.place g.free fits refl (owner_is book k qs c seat g.kept g.here)
+
+own_same : (book : Book) (k : Core) (qs : List Queue) (c : ℕ) (seat : Seat) (w : Word) (file : ℕ) (value : List ℕ) (o : Outcome) → IsOwn o → Idle book k qs c seat → Answers book k qs c seat w file value (seat.client, ends o 0 0)
+own_same book k qs c seat w file value o own g = own_with book k qs c seat w file value seat.client.opened o own g (g.kept.seats c seat g.here).opened
+
+-- ---- on an open file
+
+has_local : (book : Book) (k : Core) (qs : List Queue) (c : ℕ) (seat : Seat) (file : ℕ) (l : Local) (bytes : List ℕ) → Idle book k qs c seat → client.local_at seat.client.opened file ≡ Some l → length bytes ≤ local_most → (f : ℕ) (v : Local) → client.local_at (client.with_local seat.client.opened file (record l { bytes = bytes })) f ≡ Some v → IsSome (content_of book.opening f) × (length v.bytes ≤ 67108864)
+has_local book k qs c seat file l bytes g at short f v is =
+    let seat_is = g.kept.seats c seat g.here in
+    elim (same_or_not f file) [
+      | inr apart ↦ seat_is.opened f v (sym (local_at_another seat.client.opened file (record l { bytes = bytes }) f apart) ∙ is)
+      | inl same ↦
+          let v_is : record l { bytes = bytes } ≡ v = some_is (record l { bytes = bytes }) v (sym (local_at_itself seat.client.opened file (record l { bytes = bytes })) ∙ ap (client.local_at (client.with_local seat.client.opened file (record l { bytes = bytes }))) (sym same) ∙ is) in
+          let len = ap (λ (z : Local). length z.bytes) v_is in
+          (subst (λ (z : ℕ). IsSome (content_of book.opening z)) (sym same) (seat_is.opened file l at).0, omega (arith, len, short))
+    ]
+
+edited : (book : Book) (k : Core) (qs : List Queue) (c : ℕ) (seat : Seat) (w : Word) (file : ℕ) (value : List ℕ) (l : Local) (size : ℕ) (bytes : List ℕ) → Idle book k qs c seat → client.local_at seat.client.opened file ≡ Some l → length bytes ≡ size → Answers book k qs c seat w file value (edits seat.client file l size bytes)
+edited book k qs c seat w file value l size bytes g at is = by (nat_lt local_most size) refl
+  where
+    by : (b : Bool) → nat_lt local_most size ≡ b → Answers book k qs c seat w file value (if b then Rattle.open_close.specs.Step.too_big seat.client size else done_with seat.client file l bytes)
+    by true e = own_same book k qs c seat w file value (outcome.TooBig size) tt g
+    by false e = own_with book k qs c seat w file value (client.with_local seat.client.opened file (record l { bytes = bytes })) outcome.Done tt g (has_local book k qs c seat file l bytes g at (let le : size ≤ local_most = grind (arith, nat_tests, e) in omega (arith, le, is)))
+
+wrote : (book : Book) (k : Core) (qs : List Queue) (c : ℕ) (seat : Seat) (file offset : ℕ) (content : List Part) (value : List ℕ) (l : Local) → Idle book k qs c seat → client.local_at seat.client.opened file ≡ Some l → Answers book k qs c seat words.Write file value (writes seat.client file offset content l)
+wrote book k qs c seat file offset content value l g at = by (content_length content == 0) refl
+  where
+    some : (content_length content == 0) ≡ false → 0 < length (content_bytes content)
+    some e = let s = content_size content in let ne : 0 < content_length content = positive (content_length content) e in omega (arith, s, ne)
+      where
+        positive : (n : ℕ) → (n == 0) ≡ false → 0 < n
+        positive zero e = absurd cc
+        positive (suc n) e = omega arith
+
+    by : (b : Bool) → (content_length content == 0) ≡ b → Answers book k qs c seat words.Write file value (if b then (seat.client, ends outcome.Done 0 0) else edits seat.client file l (written_size (length l.bytes) offset (content_length content)) (written l.bytes offset (content_bytes content)))
+    by true e = own_same book k qs c seat words.Write file value outcome.Done tt g
+    by false e = edited book k qs c seat words.Write file value l (written_size (length l.bytes) offset (content_length content)) (written l.bytes offset (content_bytes content)) g at (written_length l.bytes offset (content_bytes content) (some e) ∙ ap (written_size (length l.bytes) offset) (content_size content))
+
+gone : (book : Book) (k : Core) (qs : List Queue) (c : ℕ) (seat : Seat) (file : ℕ) → Idle book k qs c seat → (f : ℕ) (v : Local) → client.local_at (client.without_local seat.client.opened file) f ≡ Some v → IsSome (content_of book.opening f) × (length v.bytes ≤ 67108864)
+gone book k qs c seat file g f v is = elim (same_or_not f file) [
+  | inl same ↦ nothing_there v (sym (without_at_itself seat.client.opened file) ∙ ap (client.local_at (client.without_local seat.client.opened file)) (sym same) ∙ is)
+  | inr apart ↦ (g.kept.seats c seat g.here).opened f v (sym (without_at_another seat.client.opened file f apart) ∙ is)
+]
+
+local_one : (book : Book) (k : Core) (qs : List Queue) (c : ℕ) (seat : Seat) (w : Word) (file : ℕ) (value : List ℕ) (does_it : Local → client.State × ClientStep) → Idle book k qs c seat → ((l : Local) → client.local_at seat.client.opened file ≡ Some l → Answers book k qs c seat w file value (does_it l)) → Answers book k qs c seat w file value (on_local seat.client seat.client.task (client.local_at seat.client.opened file) does_it)
+local_one book k qs c seat w file value does_it g goes = subst (λ (t : Option Task). Answers book k qs c seat w file value (on_local seat.client t (client.local_at seat.client.opened file) does_it)) (sym g.task) (by (client.local_at seat.client.opened file) refl)
+  where
+    by : (o : Option Local) → client.local_at seat.client.opened file ≡ o → Answers book k qs c seat w file value (on_local seat.client None o does_it)
+    by None e = own_same book k qs c seat w file value outcome.NotOpen tt g
+    by (Some l) e = goes l e
+
+-- ---- an open, or a close, begins
+
+-- the client's session is there, and it is not cut
+pub record Linked (book : Book) (k : Core) (qs : List Queue) (c : ℕ) (seat : Seat) : Type 0 where
+  pub number : ℕ
+  pub session : Session
+  pub queue : Queue
+  pub free : Free book k qs c number session queue seat
+
+linked : (book : Book) (k : Core) (qs : List Queue) (c : ℕ) (seat : Seat) → Idle book k qs c seat → seat.client.linked ≡ true → Linked book k qs c seat
+linked book k qs c seat g is =
+    let s = g.kept.seats c seat g.here in
+    let l = s.linked is in
+    let own = s.session l.0 l.2 in
+    let q = also_numbered k.sessions qs l.0 l.1 g.kept.made.1 l.3 in
+    record {
+      number = l.0;
+      session = l.1;
+      queue = q.0;
+      free = record { kept = g.kept; here = g.here; at = l.3; is = q.1; owner = ap (λ (z : Session). z.owner) (sym (some_is own.0 l.1 (sym own.1 ∙ l.3))) ∙ own.2; newest = l.2; uncut = l.4; linked = is; task = g.task; free = g.free };
+    }
+
+-- what it asks is a first call
+hash_first : (next file : ℕ) → First next (stage.Hashing 1 next) (record { xid = next; call = Hash file 0 })
+hash_first next file = record {
+  xid = refl;
+  pending = refl;
+  hash = λ y o lt e. nothing_there o (sym (ap (λ b. cond b (Some 0) None) (ne_eqb next y (λ s. omega (arith, lt, s)))) ∙ e);
+  read = λ y. refl;
+  commit = λ y e. absurd cc;
+  none = refl;
+}
+
+make_first : (next temp file : ℕ) → First next (stage.Making next temp) (record { xid = next; call = Make temp file })
+make_first next temp file = record { xid = refl; pending = refl; hash = λ y o lt e. nothing_there o e; read = λ y. refl; commit = λ y e. absurd cc; none = refl }
+
+begun_right : (more : Book) (c : ℕ) (w : Word) (file : ℕ) (value : List ℕ) (step : ℕ) → Rattle.kept_promise.proofs.Rights.is_remote w ≡ true → more.steps ≡ step → IsRight more (begun c w file value step)
+begun_right more c w file value step remote now = record {
+  cause = (remote, refl);
+  begun = omega (arith, now);
+  pointed = λ p e. nothing_there p e;
+  past = λ e q. nothing_there e q;
+  ends = refl;
+  within = λ l p e f. nothing_there p f;
+  failed = λ a b d. refl;
+}
+
+-- a file that is open is one of the tree, and has a number of 64 bits
+file_fits : (book : Book) (k : Core) (qs : List Queue) (file : ℕ) → IsKept book k qs → IsSome (content_of book.opening file) → file < 18446744073709551616
+file_fits book k qs file kept some = by (server.file_at k.server.files file) (kept.server.held file)
+  where
+    by : (o : Option File) → FileIs book file o → file < 18446744073709551616
+    by (Some f) h = h.2
+    by None h = absurd (not_both (content_of book.opening file) h.0 some)
+      where
+        not_both : {A : Type 0} (o : Option A) → o ≡ None → IsSome o → ⊥
+        not_both (Some x) e h = absurd cc
+        not_both None e h = absurd (none_is h)
+          where
+            none_is : false ≡ true → ⊥
+            none_is e = absurd cc
+
+-- it begins: the queue, the session and the seat are as its step leaves them
+leads_begins : (book : Book) (k : Core) (qs : List Queue) (c : ℕ) (seat : Seat) (w : Word) (file : ℕ) (value : List ℕ) (temp : ℕ) (s : Stage) (a : Ask) (acts : ClientStep) → (g : Idle book k qs c seat) → (l : Linked book k qs c seat)
+    → acts.send ≡ ask_message a ∷ [] → acts.ended ≡ None → Rattle.trace_replay.specs.Ops.counted (record { cond = 0; tmp = 0; read = 0; «data» = 0 }) acts.counts ≡ record { cond = 0; tmp = 0; read = 0; «data» = 0 }
+    → ((closing : Option ℕ) → closing ≡ Rattle.trace_replay.specs.Ops.closing_with l.session.closing (length book.ops) w None → Starts book (record k { sessions = with_numbered k.sessions l.number (cleared l.session) }) qs c l.number (cleared l.session) l.queue seat (begun c w file value (k.steps + 1)) temp file s a closing value)
+    → Answers book k qs c seat w file value (begun_client seat.client temp file s, acts)
+leads_begins book k qs c seat w file value temp s a acts g l send ended counts starts =
+    let n = l.number in
+    let x = l.session in
+    let q = l.queue in
+    let f = l.free in
+    let new = begun c w file value (k.steps + 1) in
+    let more = onward book 1 (book.ops ++ new ∷ []) in
+    let free_k : Core = record k { sessions = with_numbered k.sessions n (cleared x) } in
+    let kept = kept_cleared book k qs n x seat g.kept f.at (ap (numbered k.seats) f.owner ∙ g.here) g.free in
+    let ready : Free book free_k qs c n (cleared x) q seat = record { kept = kept; here = g.here; at = (around_with k.sessions n x (cleared x) f.at).there; is = f.is; owner = f.owner; newest = f.newest; uncut = f.uncut; linked = f.linked; task = f.task; free = f.free } in
+    let closing = Rattle.trace_replay.specs.Ops.closing_with x.closing (length book.ops) w None in
+    let d : Seat = record { client = begun_client seat.client temp file s; session = seat.session; place = Some (length book.ops) } in
+    let y : Session = record x { taken = []; closing = closing } in
+    let seats = with_numbered k.seats c d in
+    let sessions = with_numbered k.sessions n y in
+    let ups = unless x.hung q.ups (a ∷ []) in
+    let after = with_numbered qs n (record { ups = ups; downs = q.downs }) in
+    let first = around_with k.sessions n x (cleared x) f.at in
+    let last = around_with k.sessions n x y f.at in
+    let now = kept_begins book free_k qs c n (cleared x) q seat new temp file s a closing value seats sessions after ready (starts closing refl) (around_with k.seats c seat d g.here) (record { there = last.there; others = λ m apart. last.others m apart ∙ sym (first.others m apart); count = last.count ∙ sym first.count }) (around_with qs n q (record { ups = ups; downs = q.downs }) f.is) in
+    let place : length book.ops ≡ length k.ops = ap (λ (z : List Op). length z) g.kept.ops in
+    let op_is : op_after new (begun_client seat.client temp file s) [] (k.steps + 1) acts ≡ new = op_same acts.ended ended in
+    let core = cut_core book more k k.server seats sessions (k.ops ++ new ∷ []) (ap (λ z. z + 1) g.kept.steps) (ap (λ (z : List Op). z ++ new ∷ []) g.kept.ops) g.kept.entries in
+    let one = subst (λ (z : Core). IsKept more z after) core now in
+    record {
+      sends = record { asks = a ∷ []; up_is = send; tolds = []; down_is = refl };
+      more = more;
+      moments = refl;
+      opening = refl;
+      kept = shape more acts.ended ended op_is place one;
+    }
+  where
+    op_same : (e : Option Rattle.open_close.specs.declared.step.Ended.Ended) → e ≡ None → Rattle.trace_replay.specs.Ops.op_ended (record (begun c w file value (k.steps + 1)) { traffic = Rattle.trace_replay.specs.Ops.counted (record { cond = 0; tmp = 0; read = 0; «data» = 0 }) acts.counts }) (begun_client seat.client temp file s) [] (k.steps + 1) e ≡ begun c w file value (k.steps + 1)
+    op_same None e = ap (λ t. record (begun c w file value (k.steps + 1)) { traffic = t }) counts
+    op_same (Some e) is = absurd cc
+
+    -- the sessions, the seats, the operations and the queues, as the step says them
+    shape : (more : Book) (e : Option Rattle.open_close.specs.declared.step.Ended.Ended) → acts.ended ≡ None → op_after (begun c w file value (k.steps + 1)) (begun_client seat.client temp file s) [] (k.steps + 1) acts ≡ begun c w file value (k.steps + 1) → length book.ops ≡ length k.ops
+        → IsKept more (record { server = k.server; seats = with_numbered k.seats c (record { client = begun_client seat.client temp file s; session = seat.session; place = Some (length book.ops) }); sessions = with_numbered k.sessions l.number (record l.session { taken = []; closing = Rattle.trace_replay.specs.Ops.closing_with l.session.closing (length book.ops) w None }); steps = k.steps + 1; ops = k.ops ++ begun c w file value (k.steps + 1) ∷ []; entries = k.entries }) (with_numbered qs l.number (record { ups = unless l.session.hung l.queue.ups (a ∷ []); downs = l.queue.downs }))
+        → IsKept more (commanded_as k c seat None seat.session (session_of k.sessions seat.session) w file value (begun_client seat.client temp file s) acts).core (ups_put (commanded_sessions k.sessions seat.session (session_of k.sessions seat.session) None (length k.ops) w acts) qs seat.session (a ∷ []))
+    shape more e ended op_is place h =
+        let f = l.free in
+        let found : session_of k.sessions seat.session ≡ Some l.session = ap (session_of k.sessions) f.newest ∙ f.at in
+        let sessions_is : commanded_sessions k.sessions seat.session (session_of k.sessions seat.session) None (length k.ops) w acts ≡ with_numbered k.sessions l.number (record l.session { taken = []; closing = Rattle.trace_replay.specs.Ops.closing_with l.session.closing (length k.ops) w None }) =
+        ap (λ (z : Option Session). commanded_sessions k.sessions seat.session z None (length k.ops) w acts) found ∙ ap (λ (z : Option ℕ). commanded_sessions k.sessions z (Some l.session) None (length k.ops) w acts) f.newest ∙ ap (λ z. with_numbered k.sessions l.number (record l.session { taken = []; closing = Rattle.trace_replay.specs.Ops.closing_with l.session.closing (length k.ops) w z })) ended in
+        let y : Session = record l.session { taken = []; closing = Rattle.trace_replay.specs.Ops.closing_with l.session.closing (length k.ops) w None } in
+        let sessions = with_numbered k.sessions l.number y in
+        let at = (around_with k.sessions l.number l.session y f.at).there in
+        let queues_is : ups_put sessions qs seat.session (a ∷ []) ≡ with_numbered qs l.number (record { ups = unless l.session.hung l.queue.ups (a ∷ []); downs = l.queue.downs }) =
+        ap (λ (z : Option ℕ). ups_put sessions qs z (a ∷ [])) f.newest ∙ ap (λ (z : Option Session). ups_put_in qs l.number (a ∷ []) z (numbered qs l.number)) at ∙ ap (λ (z : Option Queue). ups_put_in qs l.number (a ∷ []) (Some y) z) f.is in
+        let one = subst (λ (p : ℕ). IsKept more (record { server = k.server; seats = with_numbered k.seats c (record { client = begun_client seat.client temp file s; session = seat.session; place = Some p }); sessions = with_numbered k.sessions l.number (record l.session { taken = []; closing = Rattle.trace_replay.specs.Ops.closing_with l.session.closing p w None }); steps = k.steps + 1; ops = k.ops ++ begun c w file value (k.steps + 1) ∷ []; entries = k.entries }) (with_numbered qs l.number (record { ups = unless l.session.hung l.queue.ups (a ∷ []); downs = l.queue.downs }))) place h in
+        let two = subst (λ (z : List Queue). IsKept more (record { server = k.server; seats = with_numbered k.seats c (record { client = begun_client seat.client temp file s; session = seat.session; place = Some (length k.ops) }); sessions = sessions; steps = k.steps + 1; ops = k.ops ++ begun c w file value (k.steps + 1) ∷ []; entries = k.entries }) z) (sym queues_is) one in
+        let three = subst (λ (z : Op). IsKept more (record { server = k.server; seats = with_numbered k.seats c (record { client = begun_client seat.client temp file s; session = seat.session; place = Some (length k.ops) }); sessions = sessions; steps = k.steps + 1; ops = k.ops ++ z ∷ []; entries = k.entries }) (ups_put sessions qs seat.session (a ∷ []))) (sym op_is) two in
+        let four = subst (λ (z : Option Rattle.open_close.specs.declared.step.Ended.Ended). IsKept more (record { server = k.server; seats = with_numbered k.seats c (record { client = begun_client seat.client temp file s; session = seat.session; place = place_with None (length k.ops) z }); sessions = sessions; steps = k.steps + 1; ops = k.ops ++ op_after (begun c w file value (k.steps + 1)) (begun_client seat.client temp file s) [] (k.steps + 1) acts ∷ []; entries = k.entries }) (ups_put sessions qs seat.session (a ∷ []))) (sym ended) three in
+        subst (λ (z : List Session). IsKept more (record { server = k.server; seats = with_numbered k.seats c (record { client = begun_client seat.client temp file s; session = seat.session; place = place_with None (length k.ops) acts.ended }); sessions = z; steps = k.steps + 1; ops = k.ops ++ op_after (begun c w file value (k.steps + 1)) (begun_client seat.client temp file s) [] (k.steps + 1) acts ∷ []; entries = k.entries }) (ups_put z qs seat.session (a ∷ []))) (sym sessions_is) four
+
+-- ---- an open
+
+open_begins : (book : Book) (k : Core) (qs : List Queue) (c : ℕ) (seat : Seat) (file : ℕ) → file < 18446744073709551616 → (g : Idle book k qs c seat) → Linked book k qs c seat → seat.client.next < 4293967297 → Answers book k qs c seat words.Open file [] (tries_anew seat.client file 1 0)
+open_begins book k qs c seat file fits g l room =
+    let s = seat.client in
+    let a : Ask = record { xid = s.next; call = Hash file 0 } in
+    let was = (g.kept.seats c seat g.here).next in
+    let steps = g.kept.steps in
+    leads_begins book k qs c seat words.Open file [] s.next_temp (stage.Hashing 1 s.next) a (tries_anew s file 1 0).1 g l refl refl refl (λ closing is. record {
+      first = hash_first s.next file;
+      of_client = refl;
+      word = refl;
+      of_file = refl;
+      running = refl;
+      pointless = refl;
+      right = begun_right (onward book 1 (book.ops ++ begun c words.Open file [] (k.steps + 1) ∷ [])) c words.Open file [] (k.steps + 1) refl (ap (λ z. z + 1) steps);
+      asked = λ i o e w. (ap (λ (z : Job). z.file) (sym (some_is (record { place = length book.ops; file = file; stage = stage.Hashing 1 s.next }) i e)) ∙ refl_file, sym (some_is 0 o (hash_now i o e w)));
+      fits = (omega (arith, room), fits, omega arith);
+      under = tt;
+      piece = λ f. tt;
+      temps = omega arith;
+      short = omega arith;
+      fetch = λ taken j. tt;
+      closes = λ contents e. tt;
+      trying = λ m y e. record { op = begun c words.Open file [] (k.steps + 1); there = at_end book.ops (begun c words.Open file [] (k.steps + 1)); count = 0; tries_is = sym (tries_are m y e); tried = omega (arith, steps) };
+      xids = (3, refl, omega (arith, room));
+      bounded = (omega (arith, room), let le = was.1 in omega (arith, le));
+      closing_is = inl is;
+      place = λ d e. tt;
+      begins = tt;
+      tree = λ e. absurd cc;
+    })
+  where
+    refl_file : file ≡ file
+    refl_file = refl
+
+    hash_now : (i : Job) (o : ℕ) → Some (record { place = length book.ops; file = file; stage = stage.Hashing 1 seat.client.next }) ≡ Some i → Rattle.kept_promise.proofs.Messages.hash_offset i.stage seat.client.next ≡ Some o → Some 0 ≡ Some o
+    hash_now i o e w = sym (ap (λ b. cond b (Some 0) None) (eq-eqb seat.client.next seat.client.next refl)) ∙ ap (λ (z : Job). Rattle.kept_promise.proofs.Messages.hash_offset z.stage seat.client.next) (some_is (record { place = length book.ops; file = file; stage = stage.Hashing 1 seat.client.next }) i e) ∙ w
+
+    tries_are : (m y : ℕ) → stage.Hashing 1 seat.client.next ≡ stage.Hashing m y → 1 ≡ m
+    tries_are m y e = ap tries_of e
+      where
+        tries_of : Stage → ℕ
+        tries_of (stage.Hashing n z) = n
+        tries_of s = 0
+
+may : (s : client.State) → may_ask s ≡ true → (s.linked ≡ true) × (s.next < 4293967297)
+may s e = by s.linked refl e
+  where
+    by : (b : Bool) → s.linked ≡ b → elim b as (λ (x : Bool). Bool) [ true ↦ has_xids s.next | false ↦ false ] ≡ true → (s.linked ≡ true) × (s.next < 4293967297)
+    by true is e = (is, grind (arith, nat_tests, e))
+    by false is e = absurd cc
+
+opened_new : (book : Book) (k : Core) (qs : List Queue) (c : ℕ) (seat : Seat) (file : ℕ) → file < 18446744073709551616 → Idle book k qs c seat → Answers book k qs c seat words.Open file [] (opens seat.client file seat.client.task)
+opened_new book k qs c seat file fits g = subst (λ (t : Option Task). Answers book k qs c seat words.Open file [] (opens seat.client file t)) (sym g.task) (by (is_open seat.client.opened file))
+  where
+    ask : (b : Bool) → may_ask seat.client ≡ b → Answers book k qs c seat words.Open file [] (asks_hashes seat.client file b)
+    ask true e = let m = may seat.client e in open_begins book k qs c seat file fits g (linked book k qs c seat g m.0) m.1
+    ask false e = own_same book k qs c seat words.Open file [] outcome.NoLink tt g
+
+    by : (b : Bool) → Answers book k qs c seat words.Open file [] (opens_if seat.client file b)
+    by true = own_same book k qs c seat words.Open file [] outcome.AlreadyOpen tt g
+    by false = ask (may_ask seat.client) refl
+
+-- ---- a close
+
+close_begins : (book : Book) (k : Core) (qs : List Queue) (c : ℕ) (seat : Seat) (file : ℕ) (v : Local) → (g : Idle book k qs c seat) → Linked book k qs c seat → client.local_at seat.client.opened file ≡ Some v → seat.client.next < 4293967297 → Answers book k qs c seat words.Close file (client.local_bytes seat.client.opened file) (asks_temp seat.client file true)
+close_begins book k qs c seat file v g l at room =
+    let s = seat.client in
+    let a : Ask = record { xid = s.next; call = Make s.next_temp file } in
+    let was = (g.kept.seats c seat g.here).next in
+    let le = was.1 in
+    let steps = g.kept.steps in
+    let known = (g.kept.seats c seat g.here).opened file v at in
+    let value = client.local_bytes s.opened file in
+    let new = begun c words.Close file value (k.steps + 1) in
+    let bytes : value ≡ v.bytes = ap (λ (o : Option Local). Rattle.std.specs.Prelude.unwrap_or (Rattle.std.specs.Prelude.option_map (λ z. z.bytes) o) []) at in
+    leads_begins book k qs c seat words.Close file value (s.next_temp + 1) (stage.Making s.next s.next_temp) a (asks_temp s file true).1 g l refl refl refl (λ closing is. record {
+      first = make_first s.next s.next_temp file;
+      of_client = refl;
+      word = refl;
+      of_file = refl;
+      running = refl;
+      pointless = refl;
+      right = begun_right (onward book 1 (book.ops ++ new ∷ [])) c words.Close file value (k.steps + 1) refl (ap (λ z. z + 1) steps);
+      asked = tt;
+      fits = (omega (arith, room), omega (arith, room, le), file_fits book k qs file g.kept known.0);
+      under = omega arith;
+      piece = λ f. tt;
+      temps = omega arith;
+      short = let k1 = known.1 in let b = ap (λ (z : List ℕ). length z) bytes in omega (arith, k1, b);
+      fetch = λ taken j. tt;
+      closes = λ contents e. (record { known = is; op = new; there = at_end book.ops new; unmade = (refl, refl, refl); value_is = refl; small = file_fits book k qs file g.kept known.0 }, e, omega arith);
+      trying = λ m y e. absurd cc;
+      xids = omega (arith, room);
+      bounded = (omega (arith, room), omega (arith, le));
+      closing_is = inr is;
+      place = λ d e. (_, e, refl, refl);
+      begins = (file, refl);
+      tree = λ e. known.0;
+    })
+
+closed_new : (book : Book) (k : Core) (qs : List Queue) (c : ℕ) (seat : Seat) (file : ℕ) → Idle book k qs c seat → Answers book k qs c seat words.Close file (client.local_bytes seat.client.opened file) (on_local seat.client seat.client.task (client.local_at seat.client.opened file) (closes seat.client file))
+closed_new book k qs c seat file g = local_one book k qs c seat words.Close file (client.local_bytes seat.client.opened file) (closes seat.client file) g (λ l at. ask l at (may_ask seat.client) refl)
+  where
+    ask : (l : Local) → client.local_at seat.client.opened file ≡ Some l → (b : Bool) → may_ask seat.client ≡ b → Answers book k qs c seat words.Close file (client.local_bytes seat.client.opened file) (asks_temp seat.client file b)
+    ask l at true e = let m = may seat.client e in close_begins book k qs c seat file l g (linked book k qs c seat g m.0) at m.1
+    ask l at false e = own_same book k qs c seat words.Close file (client.local_bytes seat.client.opened file) outcome.NoLink tt g
+
+-- ---- any command
+
+idle_does : (book : Book) (k : Core) (qs : List Queue) (c now : ℕ) (seat : Seat) (d : Command) → file_of d < 18446744073709551616 → Idle book k qs c seat → Answers book k qs c seat (word_of d) (file_of d) (value_at_begin seat.client d) (command_step seat.client d now)
+idle_does book k qs c now seat (command.Open file) fits g = opened_new book k qs c seat file fits g
+idle_does book k qs c now seat (command.Write file offset content) fits g = local_one book k qs c seat words.Write file [] (writes seat.client file offset content) g (λ l at. wrote book k qs c seat file offset content [] l g at)
+idle_does book k qs c now seat (command.Trunc file size) fits g = local_one book k qs c seat words.Trunc file [] (truncates seat.client file size) g (λ l at. edited book k qs c seat words.Trunc file [] l size (truncated l.bytes size) g at (truncated_length l.bytes size))
+idle_does book k qs c now seat (command.Read file offset count) fits g = local_one book k qs c seat words.Read file [] (reads seat.client offset count) g (λ l at. own_same book k qs c seat words.Read file [] (outcome.Piece (length (part_of l.bytes offset count)) (sha1 (part_of l.bytes offset count))) tt g)
+idle_does book k qs c now seat (command.Close file) fits g = closed_new book k qs c seat file g
+idle_does book k qs c now seat (command.Abandon file) fits g = local_one book k qs c seat words.Abandon file [] (abandons seat.client file) g (λ l at. own_with book k qs c seat words.Abandon file [] (client.without_local seat.client.opened file) outcome.Done tt g (gone book k qs c seat file g))
+
+busy_step : (s : client.State) (t : Task) (d : Command) (now : ℕ) → s.task ≡ Some t → command_step s d now ≡ (s, ends outcome.Busy 0 0)
+busy_step s t (command.Open file) now e = ap (opens s file) e
+busy_step s t (command.Write file offset content) now e = ap (λ z. on_local s z (client.local_at s.opened file) (writes s file offset content)) e
+busy_step s t (command.Trunc file size) now e = ap (λ z. on_local s z (client.local_at s.opened file) (truncates s file size)) e
+busy_step s t (command.Read file offset count) now e = ap (λ z. on_local s z (client.local_at s.opened file) (reads s offset count)) e
+busy_step s t (command.Close file) now e = ap (λ z. on_local s z (client.local_at s.opened file) (closes s file)) e
+busy_step s t (command.Abandon file) now e = ap (λ z. on_local s z (client.local_at s.opened file) (abandons s file)) e
+
+does_as : (book : Book) (k : Core) (qs : List Queue) (c now : ℕ) (seat : Seat) (d : Command) → file_of d < 18446744073709551616 → IsKept book k qs → numbered k.seats c ≡ Some seat → (place : Option ℕ) (task : Option Task) → seat.place ≡ place → seat.client.task ≡ task → IsMatched seat
+    → Leads book qs (commanded_as k c seat place seat.session (session_of k.sessions seat.session) (word_of d) (file_of d) (value_at_begin seat.client d) (command_step seat.client d now).0 (command_step seat.client d now).1)
+does_as book k qs c now seat d fits kept here None None e f m = idle_does book k qs c now seat d fits (record { kept = kept; here = here; place = e; task = f; free = ap (λ (p : Option ℕ). job_of p seat.client.task) e })
+does_as book k qs c now seat d fits kept here (Some p) (Some t) e f m =
+    subst (λ (r : client.State × ClientStep). Leads book qs (commanded_as k c seat (Some p) seat.session (session_of k.sessions seat.session) (word_of d) (file_of d) (value_at_begin seat.client d) r.0 r.1)) (sym (busy_step seat.client t d now f))
+    (leads_busy book k qs c p seat seat.session (session_of k.sessions seat.session) (word_of d) (file_of d) (value_at_begin seat.client d) kept here e refl)
+does_as book k qs c now seat d fits kept here None (Some t) e f (inl m) = nothing_there t (sym m.1 ∙ f)
+does_as book k qs c now seat d fits kept here None (Some t) e f (inr m) = nothing_there m.0 (sym (ap (λ (p : Option ℕ). job_of p seat.client.task) e) ∙ m.1)
+does_as book k qs c now seat d fits kept here (Some p) None e f (inl m) = nothing_there p (sym m.0 ∙ e)
+does_as book k qs c now seat d fits kept here (Some p) None e f (inr m) = nothing_there m.0 (sym (ap (λ (z : Option ℕ). job_of z seat.client.task) e ∙ ap (job_of (Some p)) f) ∙ m.1)
+
+pub kept_does : KeptDoes
+kept_does = λ book k qs c now d fits kept noted. by book k qs c now d fits kept (numbered k.seats c) refl
+  where
+    by : (book : Book) (k : Core) (qs : List Queue) (c now : ℕ) (d : Command) → file_of d < 18446744073709551616 → IsKept book k qs → (o : Option Seat) → numbered k.seats c ≡ o → Leads book qs (does k c now d o)
+    by book k qs c now d fits kept None at = leads_quiet book k qs kept
+    by book k qs c now d fits kept (Some seat) at = does_as book k qs c now seat d fits kept at seat.place seat.client.task refl refl (kept.seats c seat at).matched

@@ -1,0 +1,431 @@
+-- The server takes a commit: it is refused, or its change waits.
+use Rattle.std.proofs.Common.{inl, inr, ◌≡◌, ℕ, suc, ◌+◌, ◌<◌, ◌≤◌, List, [], ◌∷◌, ◌++◌, length, max, Option, Some, None, Bool, true, false, refl, sym, ap, ◌∙◌, subst, arith, eq-eqb, ne_eqb}
+use Rattle.std.proofs.lemmas.Bool.Decides.{nat_tests}
+use Rattle.std.specs.Prelude.{slice_get, map, cond, ◌==◌, ◌||◌, nat_lt, IsSome, Result, Ok, Err, if◌then◌else◌}
+use Rattle.xdr_codec.specs.Handle.{handle_bytes}
+use Rattle.xdr_codec.specs.declared.answer.Answer.TheVariants.{Failed}
+use Rattle.xdr_codec.specs.declared.status.Status.{Status}
+use Rattle.xdr_codec.specs.declared.status.Status.TheVariants as status
+use Rattle.hash_calls.specs.declared.message.Lb.TheVariants as lb
+use Rattle.wire.specs.Message.{message_spell}
+use Rattle.server_core.specs.State as server
+use Rattle.server_core.specs.Answers.{Node, root, file, node_of}
+use Rattle.server_core.specs.Closing.{at, answers, sends, commits, commits_to, commits_whole, has_waiting, is_full, changes_most}
+use Rattle.server_core.specs.Temps.{Temp, temp_at, without_temp, key_of, assembled, size_most, joined}
+use Rattle.server_core.specs.declared.change.Change.{Change}
+use Rattle.server_core.specs.declared.file.File.{File}
+use Rattle.open_close.specs.State as client
+use Rattle.open_close.specs.declared.task.Stage.TheVariants as stage
+use Rattle.register_model.specs.Register.{content_of}
+use Rattle.trace_replay.specs.declared.link.Taken.{Taken}
+use Rattle.register_model.specs.declared.op.Op.{Op}
+use Rattle.trace_replay.specs.Core.{Core, Session, Event.Serves, numbered, with_numbered}
+use Rattle.trace_replay.specs.Trail.{owner_in}
+use Rattle.trace_replay.specs.Book.{Book}
+use Rattle.kept_promise.specs.Talk.{Call.Commit, Reply.Changed, Ask, Queue, ask_message}
+use Rattle.kept_promise.proofs.Statements.{CallFits}
+use Rattle.kept_promise.proofs.Lists.{some_is, nothing_there, same_or_not, of_appended}
+use Rattle.kept_promise.proofs.Keys.{times, times_append, own, on_way, change_key, ask_key, told_key}
+use Rattle.kept_promise.proofs.Messages.{Job, job, stage_word, AllAsks, Rising, IsAsked, IsAnswer, AnswerOf, IsCommit, IsPiece, IsPending, TempUnder, AreParts}
+use Rattle.kept_promise.proofs.History.{onward, grows_same, goes_same, still_same}
+use Rattle.kept_promise.proofs.Later.{all_asks, all_tolds, answer_later, has_fetch_later, commit_later, close_later, pending_later, seat_later, Stays, Spares}
+use Rattle.kept_promise.proofs.Taken.{finds_more, under_more, answer_found, has_fetch_found, times_map_append}
+use Rattle.kept_promise.proofs.Turns.{Around, around_same, around_with, turned_core, kept_turn}
+use Rattle.kept_promise.proofs.Fits.{FitLaws}
+use Rattle.kept_promise.proofs.Shelf.{IsShelf, shelf_out, one_out, other_out}
+use Rattle.kept_promise.proofs.Orderly.{locals_of, Wanted, HeldIn, Held}
+use Rattle.kept_promise.proofs.Ordered.{SameFound, orderly_taken}
+use Rattle.kept_promise.proofs.Chunks.{pieces_are_whole}
+use Rattle.kept_promise.proofs.Fills.{file_there}
+use Rattle.kept_promise.proofs.Facts.{FileIs, IsSession, IsKept, commits_in}
+use Rattle.kept_promise.proofs.Takes.{took, file_still}
+use Rattle.kept_promise.proofs.Serves.{answered, parsed}
+use Rattle.kept_promise.proofs.Tells.{Found, is_root, is_gone, is_file, looked}
+use Rattle.kept_promise.proofs.Shelves.{of_removed, of_lookup, joined_is}
+use Rattle.kept_promise.proofs.Calls.{Given, session_in, first_fits, rest_of, leads_by, served, held_at, place_at, rest_above}
+use Rattle.kept_promise.proofs.Leading.{Leads}
+
+-- ---- it is refused
+
+-- the commit's close is unmade, and its client waits
+pub refusal_told : (book : Book) (k : Core) (qs : List Queue) (n now : ℕ) (x : Session) (q : Queue) (xid m f size : ℕ) (us : List Ask) (s : Status) → (g : Given book k qs n now x q (record { xid = xid; call = Commit m f size }) us) → x.cut ≡ false
+    → AnswerOf (onward book 1 book.ops) (x.taken ++ record { xid = xid; step = book.steps + 1 } ∷ []) x.closing (job (session_in book k qs n now x q (record { xid = xid; call = Commit m f size }) us g).seat) xid (Changed (Failed s tt))
+refusal_told book k qs n now x q xid m f size us s g uncut = λ j is at.
+    let h = session_in book k qs n now x q (record { xid = xid; call = Commit m f size }) us g in
+    let p = (subst (AllAsks (IsCommit book x.closing x.cut (job h.seat) h.contents)) g.first h.commits).0.0 in
+    let same : p.place ≡ j.place = ap (λ (z : Job). z.place) (some_is _ j (sym (p.waited uncut) ∙ is)) in
+    (p.op, ap (λ (i : ℕ). slice_get book.ops i) (sym same) ∙ p.there, p.unmade, p.known ∙ ap (λ i. Some i) same)
+
+tails : {b c : Ask} {us vs : List Ask} → b ∷ us ≡ c ∷ vs → us ≡ vs
+tails e = cc
+
+-- with the temporary file gone, or with all as they were
+refused_with : FitLaws → (book : Book) (k : Core) (qs : List Queue) (n now : ℕ) (x : Session) (q : Queue) (xid m f size : ℕ) (us : List Ask) (s : Status) (temps : List (ℕ × Temp)) → (g : Given book k qs n now x q (record { xid = xid; call = Commit m f size }) us) → ((i : ℕ) (e : ℕ × Temp) → slice_get temps i ≡ Some e → (j : ℕ) × (slice_get k.server.temps j ≡ Some e))
+    → IsShelf temps → ((o : ℕ) → (o ≡ n → ⊥) → SameFound k.server.temps temps o) → (x.cut ≡ false → Wanted (onward book 1 book.ops) (job (session_in book k qs n now x q (record { xid = xid; call = Commit m f size }) us g).seat) xid (Changed (Failed s tt)))
+    → (x.cut ≡ false → Held temps n us (locals_of (session_in book k qs n now x q (record { xid = xid; call = Commit m f size }) us g).seat.client) (job (session_in book k qs n now x q (record { xid = xid; call = Commit m f size }) us g).seat))
+    → Leads book (rest_of qs n q us) (answered k n (max k.server.moment now) x (record { xid = xid; call = Commit m f size }) temps (Changed (Failed s tt)))
+refused_with laws book k qs n now x q xid m f size us s temps g were shelf found wanted held =
+    let a : Ask = record { xid = xid; call = Commit m f size } in
+    let h = session_in book k qs n now x q a us g in
+    let fits = first_fits book k qs n now x q a us g in
+    leads_by book k qs n now x q a us temps (Changed (Failed s tt)) g (record {
+      program = refl;
+      fits = laws.plain xid (Changed (Failed s tt)) fits.0 tt;
+      answer = λ uncut. refusal_told book k qs n now x q xid m f size us s g uncut;
+      pieces = λ i o e lt is key. let w = were i e is in h.temps w.0 o e lt w.1 key;
+      below = λ uncut i o e lt is key. let w = were i e is in (h.temps_below uncut).1 w.0 o e lt w.1 key;
+      others = λ o i p e apart lt is key. were i e is;
+      shelf = shelf;
+      found = found;
+      wanted = wanted;
+      held = λ uncut vs e. subst (λ (l : List Ask). Held temps n l (locals_of h.seat.client) (job h.seat)) (tails (sym g.first ∙ e)) (held uncut);
+    })
+
+-- ---- its change waits
+
+own_more : (m : ℕ) (ws : List Change) (c : Change) → own m (ws ++ c ∷ []) ≡ own m ws ++ own m (c ∷ [])
+own_more m [] c = refl
+own_more m (w ∷ ws) c = by (w.session == m) (own_more m ws c)
+  where
+    by : (b : Bool) → own m (ws ++ c ∷ []) ≡ own m ws ++ own m (c ∷ []) → cond b (w ∷ own m (ws ++ c ∷ [])) (own m (ws ++ c ∷ [])) ≡ cond b (w ∷ own m ws) (own m ws) ++ own m (c ∷ [])
+    by true e = ap (λ l. w ∷ l) e
+    by false e = e
+
+own_here : (m : ℕ) (ws : List Change) (c : Change) → c.session ≡ m → own m (ws ++ c ∷ []) ≡ own m ws ++ c ∷ []
+own_here m ws c e = own_more m ws c ∙ ap (λ b. own m ws ++ cond b (c ∷ []) []) (eq-eqb c.session m e)
+
+own_there : (m : ℕ) (ws : List Change) (c : Change) → (c.session ≡ m → ⊥) → own m (ws ++ c ∷ []) ≡ own m ws
+own_there m ws c apart = own_more m ws c ∙ ap (λ b. own m ws ++ cond b (c ∷ []) []) (ne_eqb c.session m apart) ∙ nil (own m ws)
+  where
+    nil : (l : List Change) → l ++ [] ≡ l
+    nil [] = refl
+    nil (z ∷ l) = ap (λ t. z ∷ t) (nil l)
+
+length_more : {A : Type 0} (xs : List A) (x : A) → length (xs ++ x ∷ []) ≡ suc (length xs)
+length_more [] x = refl
+length_more (y ∷ xs) x = ap suc (length_more xs x)
+
+-- a change that waits is where its call was
+way_waits : (n y : ℕ) (w : List Change) (c : Change) (q : Queue) (a : Ask) (us : List Ask) → q.ups ≡ a ∷ us → c.session ≡ n → change_key c ≡ ask_key a → times y (on_way n (w ++ c ∷ []) (record q { ups = us })) ≡ times y (on_way n w q)
+way_waits n y w c q a us e here same =
+    let zero_ = ap (λ (l : List Change). times y (map ask_key us ++ (map change_key l ++ map told_key q.downs))) (own_here n w c here) in
+    let one = times_append y (map ask_key us) (map change_key (own n w ++ c ∷ []) ++ map told_key q.downs) in
+    let two = times_append y (map change_key (own n w ++ c ∷ [])) (map told_key q.downs) in
+    let three = times_map_append change_key y (own n w) (c ∷ []) in
+    let was = ap (λ (l : List Ask). times y (map ask_key l ++ (map change_key (own n w) ++ map told_key q.downs))) e in
+    let four = times_append y (map ask_key (a ∷ us)) (map change_key (own n w) ++ map told_key q.downs) in
+    let five = times_append y (map change_key (own n w)) (map told_key q.downs) in
+    let six = times_append y (ask_key a ∷ []) (map ask_key us) in
+    let seven : times y (change_key c ∷ []) ≡ times y (ask_key a ∷ []) = ap (λ k. times y (k ∷ [])) same in
+    omega (arith, zero_, one, two, three, was, four, five, six, seven)
+
+kept_waits : (book : Book) (k : Core) (qs : List Queue) (n now : ℕ) (x : Session) (q : Queue) (xid m f size : ℕ) (us : List Ask) (temps : List (ℕ × Temp)) (content : List ℕ) (sessions : List Session) (after : List Queue) → (g : Given book k qs n now x q (record { xid = xid; call = Commit m f size }) us)
+    → ((i : ℕ) (e : ℕ × Temp) → slice_get temps i ≡ Some e → (j : ℕ) × (slice_get k.server.temps j ≡ Some e))
+    → content ≡ (session_in book k qs n now x q (record { xid = xid; call = Commit m f size }) us g).contents m
+    → k.server.changes + length k.server.waiting + 1 ≤ 4294967295 → IsSome (content_of book.opening f) → IsShelf temps → ((o : ℕ) → (o ≡ n → ⊥) → SameFound k.server.temps temps o)
+    → (x.cut ≡ false → Held temps n us (locals_of (session_in book k qs n now x q (record { xid = xid; call = Commit m f size }) us g).seat.client) (job (session_in book k qs n now x q (record { xid = xid; call = Commit m f size }) us g).seat))
+    → Around k.sessions sessions n (took x xid (book.steps + 1)) → Around qs after n (record q { ups = us })
+    → IsKept (onward book 1 book.ops) (turned_core (onward book 1 book.ops) (record k.server { moment = max k.server.moment now; temps = temps; waiting = k.server.waiting ++ record { session = n; xid = xid; file = f; content = content } ∷ [] }) k.seats sessions) after
+kept_waits book k qs n now x q xid m f size us temps content sessions after g were same_content room known shelf found held around queues =
+    let a : Ask = record { xid = xid; call = Commit m f size } in
+    let kept = g.kept in
+    let h = session_in book k qs n now x q a us g in
+    let more = onward book 1 book.ops in
+    let grows = grows_same book 1 in
+    let c = h.seat in
+    let y = took x xid (book.steps + 1) in
+    let d : Change = record { session = n; xid = xid; file = f; content = content } in
+    let waiting : List Change = k.server.waiting ++ d ∷ [] in
+    let r : server.State = record k.server { moment = max k.server.moment now; temps = temps; waiting = waiting } in
+    let spares : Spares x.closing None = λ p u v. nothing_there p v in
+    let first = (subst (AllAsks (IsCommit book x.closing x.cut (job c) h.contents)) g.first h.commits).0.0 in
+    kept_turn book more k qs r k.seats sessions after n x y (record q { ups = us }) c c None None (record {
+      at = g.at;
+      was = h.owner;
+      session_around = around;
+      queue_around = queues;
+      seat_around = around_same k.seats x.owner c h.owner;
+      owner = refl;
+      goes = goes_same book 1 kept.sound;
+      server = record {
+        held = λ i. file_still book more i (server.file_at k.server.files i) (still_same book 1 kept.sound) refl (kept.server.held i);
+        versions = kept.server.versions;
+        changes = let e = length_more k.server.waiting d in omega (arith, e, room);
+        lengths = λ i u at. elim (of_appended k.server.waiting d i u at) [
+          | inl new ↦ subst (λ (z : Change). length z.content ≤ 67108864) (sym new.1) (subst (λ (z : List ℕ). length z ≤ 67108864) (sym same_content) (h.lengths m))
+          | inr old ↦ kept.server.lengths i u old
+        ];
+        targets = λ i u at. elim (of_appended k.server.waiting d i u at) [
+          | inl new ↦ subst (λ (z : Change). IsSome (content_of book.opening z.file)) (sym new.1) known
+          | inr old ↦ kept.server.targets i u old
+        ];
+        xids = λ i u at. elim (of_appended k.server.waiting d i u at) [
+          | inl new ↦ subst (λ (z : Change). z.xid < 4294967296) (sym new.1) (first_fits book k qs n now x q a us g).0
+          | inr old ↦ kept.server.xids i u old
+        ];
+      };
+      sessions_made = refl;
+      view = λ o apart. record { stands_is = refl; waiting = own_there o k.server.waiting d (λ e. apart (sym e)); temps = λ i p u lt at q. were i u at; found = found o apart };
+      elsewhere = inl refl;
+      closing = λ p u. inl u;
+      made_here = λ p u. nothing_there p u;
+      ended_here = λ p o u. nothing_there p u;
+      session = record {
+        seat = c;
+        owner = h.owner;
+        here = h.here;
+        shut = h.shut;
+        lost = λ hung. absurd (not_both x.hung g.unhung hung);
+        stands_is = h.stands_is;
+        ups_fit = (subst (AllAsks (λ b. CallFits b.xid b.call)) g.first h.ups_fit).1;
+        downs_fit = h.downs_fit;
+        talk = λ uncut.
+            let talk = h.talk uncut in
+            let z : Taken = record { xid = xid; step = book.steps + 1 } in
+            let finds = finds_more x.taken z in
+            let rising = subst (λ (l : List Ask). Rising talk.floor l c.client.next) g.first talk.rising in
+            record {
+              floor = xid + 1;
+              under = under_more talk.floor x.taken z talk.under rising.0;
+              rising = rising.1;
+              asked = (subst (AllAsks (IsAsked (job c))) g.first talk.asked).1;
+              answers = all_tolds (IsAnswer book x.taken x.closing (job c)) (IsAnswer more (x.taken ++ z ∷ []) x.closing (job c)) (λ u w. answer_found more x.taken (x.taken ++ z ∷ []) x.closing (job c) u finds (answer_later book more None None x.taken x.closing (job c) u grows spares w)) q.downs talk.answers;
+              fetch = has_fetch_found more x.taken (x.taken ++ z ∷ []) (job c) finds (has_fetch_later book more None None x.taken (job c) grows talk.fetch);
+              balanced = record {
+                most = λ v. let b = talk.balanced.most v in let w = way_waits n v k.server.waiting d q a us g.first refl refl in omega (arith, b, w);
+                least = λ hung v. let b = talk.balanced.least hung v in let w = way_waits n v k.server.waiting d q a us g.first refl refl in omega (arith, b, w);
+                once = talk.balanced.once;
+                below = talk.balanced.below;
+                ours = talk.balanced.ours;
+              };
+              busy = talk.busy;
+            };
+        contents = h.contents;
+        lengths = h.lengths;
+        commits = (subst (AllAsks (IsCommit more x.closing x.cut (job c) h.contents)) g.first (all_asks (IsCommit book x.closing x.cut (job c) h.contents) (IsCommit more x.closing x.cut (job c) h.contents) (λ b w. commit_later book more None None x.closing x.cut (job c) (job c) h.contents b grows spares (λ u. refl) w) q.ups h.commits)).1;
+        pieces = (subst (AllAsks (IsPiece h.contents)) g.first h.pieces).1;
+        temps = λ i o e lt is key. let w = were i e is in h.temps w.0 o e lt w.1 key;
+        temps_below = λ uncut. ((subst (AllAsks (λ b. TempUnder c.client.next_temp b.call)) g.first (h.temps_below uncut).0).1, λ i o e lt is key. let w = were i e is in (h.temps_below uncut).1 w.0 o e lt w.1 key);
+        closes = λ uncut j u. close_later book more None None x.closing h.contents c.client.next_temp j (client.local_bytes c.client.opened j.file) j.stage grows spares (h.closes uncut j u);
+        pending = λ i u at. elim (of_appended (own n k.server.waiting) d i u (ap (λ (l : List Change). slice_get l i) (sym (own_here n k.server.waiting d refl)) ∙ at)) [
+          | inl new ↦ subst (λ (z : Change). IsPending more x.closing x.cut (job c) z.xid z.file z.content) (sym new.1) (subst (IsPending more x.closing x.cut (job c) xid f) (sym same_content) (pending_later book more None None x.closing x.cut (job c) (job c) xid f (h.contents m) grows spares (λ z. refl) first))
+          | inr old ↦ pending_later book more None None x.closing x.cut (job c) (job c) u.xid u.file u.content grows spares (λ z. refl) (h.pending i u old)
+        ];
+        single =
+            let s = h.single in
+            let e = ap commits_in g.first in
+            let l = ap (λ (z : List Change). length z) (own_here n k.server.waiting d refl) in
+            let w = length_more (own n k.server.waiting) d in
+            omega (arith, s, e, l, w);
+        old = λ p u. let o = h.old p u in let w = grows.each p o.0 o.1 in (w.0, w.1, w.2.client ∙ o.2);
+        orderly = λ uncut. orderly_taken book more None None n k.server.temps temps x.hung q a us c grows g.first (held uncut) (h.orderly uncut);
+      };
+      seat = seat_later book more None None k.sessions sessions x.owner c grows stays (λ p o u. nothing_there p u) (kept.seats x.owner c h.owner);
+      running = kept.running;
+      shelf = shelf;
+      home = λ i u at. elim (of_appended k.server.waiting d i u at) [
+        | inl new ↦ (y, ap (λ (z : Change). numbered sessions z.session) new.1 ∙ around.there, g.unhung)
+        | inr old ↦ let z = kept.home i u old in let v = later_session z.0 u.session z.1 in (v.0, v.1, v.4 ∙ z.2)
+      ];
+    }) kept.journal kept
+  where
+    not_both : (b : Bool) → b ≡ false → b ≡ true → ⊥
+    not_both b u v = absurd cc
+
+    later_session : (z : Session) (o : ℕ) → numbered k.sessions o ≡ Some z → (v : Session) × (numbered sessions o ≡ Some v) × (v.owner ≡ z.owner) × (v.cut ≡ z.cut) × (v.hung ≡ z.hung)
+    later_session z o u = elim (same_or_not o n) [
+      | inr apart ↦ (z, around.others o apart ∙ u, refl, refl, refl)
+      | inl here ↦
+          let same : x ≡ z = some_is x z (sym g.at ∙ ap (numbered k.sessions) (sym here) ∙ u) in
+          (took x xid (book.steps + 1), ap (numbered sessions) here ∙ around.there, ap (λ (v : Session). v.owner) same, ap (λ (v : Session). v.cut) same, ap (λ (v : Session). v.hung) same)
+    ]
+
+    stays : Stays k.sessions sessions x.owner
+    stays o z u = let v = later_session z o u in (v.0, v.1, v.2, λ mine. v.3)
+
+leads_waits : (book : Book) (k : Core) (qs : List Queue) (n now : ℕ) (x : Session) (q : Queue) (xid m f size : ℕ) (us : List Ask) (temps : List (ℕ × Temp)) (content : List ℕ) → (g : Given book k qs n now x q (record { xid = xid; call = Commit m f size }) us)
+    → ((i : ℕ) (e : ℕ × Temp) → slice_get temps i ≡ Some e → (j : ℕ) × (slice_get k.server.temps j ≡ Some e))
+    → content ≡ (session_in book k qs n now x q (record { xid = xid; call = Commit m f size }) us g).contents m
+    → k.server.changes + length k.server.waiting + 1 ≤ 4294967295 → IsSome (content_of book.opening f) → IsShelf temps → ((o : ℕ) → (o ≡ n → ⊥) → SameFound k.server.temps temps o)
+    → (x.cut ≡ false → Held temps n us (locals_of (session_in book k qs n now x q (record { xid = xid; call = Commit m f size }) us g).seat.client) (job (session_in book k qs n now x q (record { xid = xid; call = Commit m f size }) us g).seat))
+    → Leads book (rest_of qs n q us) (served k n x xid (record (at k.server now) { temps = temps; waiting = k.server.waiting ++ record { session = n; xid = xid; file = f; content = content } ∷ [] }, sends []))
+leads_waits book k qs n now x q xid m f size us temps content g were same room known shelf found held =
+    let y = took x xid (book.steps + 1) in
+    let z = took x xid (k.steps + 1) in
+    let same_step : y ≡ z = ap (λ (s : ℕ). took x xid (s + 1)) g.kept.steps in
+    let sessions = with_numbered k.sessions n z in
+    let around = around_with k.sessions n x z g.at in
+    let more = onward book 1 book.ops in
+    let r : server.State = record k.server { moment = max k.server.moment now; temps = temps; waiting = k.server.waiting ++ record { session = n; xid = xid; file = f; content = content } ∷ [] } in
+    let done : IsKept more (turned_core more r k.seats sessions) (rest_of qs n q us) = kept_waits book k qs n now x q xid m f size us temps content sessions (rest_of qs n q us) g were same room known shelf found held (record { there = around.there ∙ ap (λ v. Some v) (sym same_step); others = around.others; count = around.count }) (around_with qs n q (record q { ups = us }) g.is) in
+    record {
+      sends = record { asks = []; up_is = refl; tolds = []; down_is = refl };
+      more = more;
+      moments = refl;
+      opening = refl;
+      kept = subst (λ (c : Core). IsKept more c (rest_of qs n q us)) (ap (λ s. record { server = r; seats = k.seats; sessions = sessions; steps = s + 1; ops = book.ops; entries = book.entries }) g.kept.steps ∙ ap (λ o. record { server = r; seats = k.seats; sessions = sessions; steps = k.steps + 1; ops = o; entries = book.entries }) g.kept.ops ∙ ap (λ o. record { server = r; seats = k.seats; sessions = sessions; steps = k.steps + 1; ops = k.ops; entries = o }) g.kept.entries) done;
+    }
+
+-- ---- whatever becomes of it
+
+not_full : (a b c d : ℕ) → (nat_lt a b || nat_lt c d) ≡ false → b ≤ a
+not_full a b c d e = by (nat_lt a b) refl e
+  where
+    by : (t : Bool) → nat_lt a b ≡ t → (t || nat_lt c d) ≡ false → b ≤ a
+    by true same e = absurd cc
+    by false same e = grind (arith, nat_tests, same)
+
+not_both : (b : Bool) → b ≡ false → b ≡ true → ⊥
+not_both b u v = absurd cc
+
+-- where its client is there, a commit finds its temporary file whole, and its file in the tree
+pub record IsReady (book : Book) (k : Core) (qs : List Queue) (n now : ℕ) (x : Session) (q : Queue) (xid m f size : ℕ) (us : List Ask) (g : Given book k qs n now x q (record { xid = xid; call = Commit m f size }) us) : Type 0 where
+  pub job_ : Job
+  pub is : job (session_in book k qs n now x q (record { xid = xid; call = Commit m f size }) us g).seat ≡ Some job_
+  pub stage_is : job_.stage ≡ stage.Committing xid
+  pub temp : Temp
+  pub found : temp_at k.server.temps n m ≡ Some temp
+  pub content : List ℕ
+  pub whole : assembled temp size ≡ Some content
+  pub file : File
+  pub node : node_of k.server.files (handle_bytes f) ≡ Ok (Rattle.server_core.specs.Answers.file file)
+  pub small : nat_lt size_most size ≡ false
+  pub alone : has_waiting k.server.waiting n ≡ false
+  pub left : Held (without_temp k.server.temps n m) n us (locals_of (session_in book k qs n now x q (record { xid = xid; call = Commit m f size }) us g).seat.client) (job (session_in book k qs n now x q (record { xid = xid; call = Commit m f size }) us g).seat)
+
+none_waits : (n : ℕ) (ws : List Change) → length (own n ws) ≡ 0 → has_waiting ws n ≡ false
+none_waits n [] e = refl
+none_waits n (w ∷ ws) e = by (w.session == n) e (none_waits n ws)
+  where
+    by : (b : Bool) → length (cond b (w ∷ own n ws) (own n ws)) ≡ 0 → (length (own n ws) ≡ 0 → has_waiting ws n ≡ false) → (b || has_waiting ws n) ≡ false
+    by true e later = absurd (omega (arith, e))
+    by false e later = later e
+
+is_ready : (book : Book) (k : Core) (qs : List Queue) (n now : ℕ) (x : Session) (q : Queue) (xid m f size : ℕ) (us : List Ask) → (g : Given book k qs n now x q (record { xid = xid; call = Commit m f size }) us) → x.cut ≡ false → IsReady book k qs n now x q xid m f size us g
+is_ready book k qs n now x q xid m f size us g uncut =
+    let a : Ask = record { xid = xid; call = Commit m f size } in
+    let h = session_in book k qs n now x q a us g in
+    let p = place_at book k qs n now x q a us g uncut in
+    let v = locals_of h.seat.client p.0.file in
+    let held = subst (HeldIn k.server.temps n (a ∷ us) v) p.2 (subst (Held k.server.temps n (a ∷ us) (locals_of h.seat.client)) p.1 (held_at book k qs n now x q a us g uncut)) in
+    let t = held.0 (0, m, f, size, refl) in
+    let sized_is : size ≡ length (h.contents m) = (subst (AllAsks (IsCommit book x.closing x.cut (job h.seat) h.contents)) g.first h.commits).0.1 in
+    let short = h.lengths m in
+    let there = file_there book k.server f g.kept.server (subst (λ (z : ℕ). IsSome (content_of book.opening z)) p.3 ((h.orderly uncut).tree p.0 p.1 (ap stage_word p.2))) (first_fits book k qs n now x q a us g).2 in
+    let single = h.single in
+    let first = ap commits_in g.first in
+    record {
+      job_ = p.0;
+      is = p.1;
+      stage_is = p.2;
+      temp = t.0;
+      found = t.1.3;
+      content = v;
+      whole = ap (λ (z : ℕ). joined 0 z t.0.pieces) p.4 ∙ ap (joined 0 (length v)) t.2 ∙ pieces_are_whole v;
+      file = there.0;
+      node = there.2;
+      small = (let le : size ≤ 67108864 = omega (arith, sized_is, short) in grind (arith, nat_tests, le));
+      alone = none_waits n k.server.waiting (omega (arith, single, first));
+      left = subst (Held (without_temp k.server.temps n m) n us (locals_of h.seat.client)) (sym p.1) (subst (HeldIn (without_temp k.server.temps n m) n us v) (sym p.2) (λ u. absurd (rest_above book k qs n now x q a us g uncut u.0 (record { xid = xid; call = Commit u.1 u.2 u.3 }) u.4 refl), λ u. one_out k.server.temps n m t.0 g.kept.shelf t.1));
+    }
+
+-- it is refused for want of room
+no_room : FitLaws → (book : Book) (k : Core) (qs : List Queue) (n now : ℕ) (x : Session) (q : Queue) (xid m f size : ℕ) (us : List Ask) → (g : Given book k qs n now x q (record { xid = xid; call = Commit m f size }) us) → (content : List ℕ) → x.cut ≡ false → content ≡ (session_in book k qs n now x q (record { xid = xid; call = Commit m f size }) us g).contents m → is_full k.server (length content) ≡ true
+    → Wanted (onward book 1 book.ops) (job (session_in book k qs n now x q (record { xid = xid; call = Commit m f size }) us g).seat) xid (Changed (Failed status.NoSpc tt))
+no_room laws book k qs n now x q xid m f size us g content uncut is full =
+    let a : Ask = record { xid = xid; call = Commit m f size } in
+    let h = session_in book k qs n now x q a us g in
+    let p = place_at book k qs n now x q a us g uncut in
+    let of = (g.kept.seats x.owner h.seat h.owner).task p.0 p.1 in
+    let c = (subst (AllAsks (IsCommit book x.closing x.cut (job h.seat) h.contents)) g.first h.commits).0.0 in
+    let place : c.place ≡ p.0.place = ap (λ (z : Job). z.place) (some_is _ p.0 (sym (c.waited uncut) ∙ p.1)) in
+    let same : c.op ≡ of.op = some_is c.op of.op (sym c.there ∙ ap (slice_get book.ops) place ∙ of.there) in
+    let value : content ≡ of.op.value = is ∙ sym c.value_is ∙ ap (λ (z : Op). z.value) same in
+    let steps = g.kept.steps in
+    let begun = (g.kept.sound.rights p.0.place of.op of.there).begun in (
+      (
+        p.0,
+        of.op,
+        p.1,
+        p.2,
+        of.there,
+        of.word ∙ ap stage_word p.2,
+        record {
+          moment = record { before = k; event = Serves n now (message_spell (ask_message a)) };
+          there = g.noted.there;
+          session = n;
+          now = now;
+          bytes = message_spell (ask_message a);
+          event_is = refl;
+          owner = ap owner_in g.at ∙ sym of.client;
+          xid = xid;
+          call = record { fd = m; handle = handle_bytes f; size = size };
+          parsed = parsed laws a (first_fits book k qs n now x q a us g);
+          size = (subst (AllAsks (IsCommit book x.closing x.cut (job h.seat) h.contents)) g.first h.commits).0.1 ∙ ap (λ (l : List ℕ). length l) (sym c.value_is ∙ ap (λ (z : Op). z.value) same);
+          after = omega (arith, begun, steps);
+          before = omega (arith, steps);
+          full = subst (λ (l : List ℕ). is_full k.server (length l) ≡ true) value full;
+        },
+      ),
+      refl,
+    )
+
+pub serve_commit : FitLaws → (book : Book) (k : Core) (qs : List Queue) (n now : ℕ) (x : Session) (q : Queue) (xid m f size : ℕ) (us : List Ask) → Given book k qs n now x q (record { xid = xid; call = Commit m f size }) us
+    → Leads book (rest_of qs n q us) (served k n x xid (commits (at k.server now) n xid (record { fd = m; handle = handle_bytes f; size = size }) (temp_at k.server.temps n m)))
+serve_commit laws book k qs n now x q xid m f size us g = by (temp_at k.server.temps n m) refl
+  where
+    a : Ask
+    a = record { xid = xid; call = Commit m f size }
+
+    h : IsSession book k.seats k.server n x q
+    h = session_in book k qs n now x q a us g
+
+    ready : x.cut ≡ false → IsReady book k qs n now x q xid m f size us g
+    ready uncut = is_ready book k qs n now x q xid m f size us g uncut
+
+    left : List (ℕ × Temp)
+    left = without_temp k.server.temps n m
+
+    others : (o : ℕ) → (o ≡ n → ⊥) → SameFound k.server.temps left o
+    others o apart p lt = other_out k.server.temps n m o p (first_fits book k qs n now x q a us g).1 lt apart
+
+    fails : (s : Status) → (x.cut ≡ false → ⊥) → Leads book (rest_of qs n q us) (answered k n (max k.server.moment now) x a k.server.temps (Changed (Failed s tt)))
+    fails s never = refused_with laws book k qs n now x q xid m f size us s k.server.temps g (λ i e is. (i, is)) g.kept.shelf (λ o apart p lt. refl) (λ uncut. absurd (never uncut)) (λ uncut. absurd (never uncut))
+
+    ends : (s : Status) → (x.cut ≡ false → Wanted (onward book 1 book.ops) (job h.seat) xid (Changed (Failed s tt))) → Leads book (rest_of qs n q us) (answered k n (max k.server.moment now) x a left (Changed (Failed s tt)))
+    ends s wanted = refused_with laws book k qs n now x q xid m f size us s left g (λ i e is. of_removed _ k.server.temps i e is) (shelf_out k.server.temps n m g.kept.shelf) others wanted (λ uncut. (ready uncut).left)
+
+    has_room : (id : ℕ) (content : List ℕ) (w full : Bool) → has_waiting k.server.waiting n ≡ w → is_full (record (at k.server now) { temps = left }) (length content) ≡ full → id ≡ f → IsSome (content_of book.opening f) → content ≡ h.contents m
+        → Leads book (rest_of qs n q us) (served k n x xid (if w then answers (record (at k.server now) { temps = left }) n xid (lb.CommitTmpAnswer (Failed status.Jukebox tt)) else if full then answers (record (at k.server now) { temps = left }) n xid (lb.CommitTmpAnswer (Failed status.NoSpc tt)) else (record (at k.server now) { temps = left; waiting = k.server.waiting ++ record { session = n; xid = xid; file = id; content = content } ∷ [] }, sends [])))
+    has_room id content true full waits e same known is = ends status.Jukebox (λ uncut. absurd (not_both (has_waiting k.server.waiting n) (ready uncut).alone waits))
+    has_room id content false true waits e same known is = ends status.NoSpc (λ uncut. no_room laws book k qs n now x q xid m f size us g content uncut is e)
+    has_room id content false false waits e same known is = subst (λ (i : ℕ). Leads book (rest_of qs n q us) (served k n x xid (record (at k.server now) { temps = left; waiting = k.server.waiting ++ record { session = n; xid = xid; file = i; content = content } ∷ [] }, sends []))) (sym same) (leads_waits book k qs n now x q xid m f size us left content g (λ i u w. of_removed _ k.server.temps i u w) is (let le = not_full changes_most (k.server.changes + length k.server.waiting + 1) _ _ e in le) known (shelf_out k.server.temps n m g.kept.shelf) others (λ uncut. (ready uncut).left))
+
+    whole : (id : ℕ) (t : Temp) (o : Option (List ℕ)) → temp_at k.server.temps n m ≡ Some t → assembled t size ≡ o → id ≡ f → IsSome (content_of book.opening f) → ((c : List ℕ) → o ≡ Some c → c ≡ h.contents m) → Leads book (rest_of qs n q us) (served k n x xid (commits_whole (record (at k.server now) { temps = left }) n xid id o))
+    whole id t None found none same known is = ends status.Inval (λ uncut. let r = ready uncut in nothing_there r.content (sym none ∙ ap (λ (z : Temp). assembled z size) (some_is t r.temp (sym found ∙ r.found)) ∙ r.whole))
+    whole id t (Some c) found some same known is = has_room id c (has_waiting k.server.waiting n) (is_full (record (at k.server now) { temps = left }) (length c)) refl refl same known (is c refl)
+
+    sized : (b : Bool) (id : ℕ) (t : Temp) → nat_lt size_most size ≡ b → temp_at k.server.temps n m ≡ Some t → id ≡ f → IsSome (content_of book.opening f) → Leads book (rest_of qs n q us) (served k n x xid (if b then answers (record (at k.server now) { temps = left }) n xid (lb.CommitTmpAnswer (Failed status.FBig tt)) else commits_whole (record (at k.server now) { temps = left }) n xid id (assembled t size)))
+    sized true id t big found same known = ends status.FBig (λ uncut. absurd (not_both (nat_lt size_most size) (ready uncut).small big))
+    sized false id t big found same known =
+        let fits = first_fits book k qs n now x q a us g in
+        let e = of_lookup k.server.temps (key_of n m) t found in
+        let held = h.temps e.0 m e.1 fits.1 e.2 e.3 in
+        let parts : AreParts (h.contents m) t.pieces = subst (λ (u : Temp). AreParts (h.contents m) u.pieces) e.4 held.0 in
+        let sized_is : size ≡ length (h.contents m) = (subst (AllAsks (IsCommit book x.closing x.cut (job h.seat) h.contents)) g.first h.commits).0.1 in
+        whole id t (assembled t size) found refl same known (λ c is. joined_is (h.contents m) t.pieces c parts (ap (λ (z : ℕ). joined 0 z t.pieces) (sym sized_is) ∙ is))
+
+    nodes : (t : Temp) → temp_at k.server.temps n m ≡ Some t → Found k.server.files f → Leads book (rest_of qs n q us) (served k n x xid (commits_to (record (at k.server now) { temps = left }) n xid size t (node_of k.server.files (handle_bytes f))))
+    nodes t found (is_root one e) = subst (λ (nd : Result Node Status). Leads book (rest_of qs n q us) (served k n x xid (commits_to (record (at k.server now) { temps = left }) n xid size t nd))) (sym e) (ends status.IsDir (λ uncut. absurd (not_root (ready uncut).file (sym e ∙ (ready uncut).node))))
+      where
+        not_root : (z : File) → ◌≡◌ {A = Result Node Status} (Ok root) (Ok (file z)) → ⊥
+        not_root z q = absurd cc
+    nodes t found (is_gone none e) = subst (λ (nd : Result Node Status). Leads book (rest_of qs n q us) (served k n x xid (commits_to (record (at k.server now) { temps = left }) n xid size t nd))) (sym e) (ends status.Stale (λ uncut. absurd (not_err (ready uncut).file (sym e ∙ (ready uncut).node))))
+      where
+        not_err : (z : File) → Err status.Stale ≡ Ok (file z) → ⊥
+        not_err z q = absurd cc
+    nodes t found (is_file z there e) = subst (λ (nd : Result Node Status). Leads book (rest_of qs n q us) (served k n x xid (commits_to (record (at k.server now) { temps = left }) n xid size t nd))) (sym e) (sized (nat_lt size_most size) z.id t refl found (subst (FileIs book f) there (g.kept.server.held f)).0 (subst (FileIs book f) there (g.kept.server.held f)).3)
+
+    by : (o : Option Temp) → temp_at k.server.temps n m ≡ o → Leads book (rest_of qs n q us) (served k n x xid (commits (at k.server now) n xid (record { fd = m; handle = handle_bytes f; size = size }) o))
+    by None found = fails status.BadFd (λ uncut. let r = ready uncut in nothing_there r.temp (sym found ∙ r.found))
+    by (Some t) found = nodes t found (looked k.server.files f (first_fits book k qs n now x q a us g).2)

@@ -1,0 +1,149 @@
+-- An operation has ended where the newest session of its client is left alone: else one of its calls would be on its way, or a change wait.
+use Rattle.std.proofs.Common.{◌≡◌, ℕ, zero, suc, ◌<◌, ◌≤◌, List, [], ◌∷◌, ◌++◌, length, Option, Some, None, Bool, true, false, refl, sym, ap, ◌∙◌, subst, arith, append-nil, ne_eqb}
+use Rattle.std.proofs.lemmas.List.Elements.{All-nil, All-cons}
+use Rattle.std.specs.Prelude.{slice_get, map, cond, ◌==◌, ◌&&◌, All, IsSome}
+use Rattle.rpc_record.specs.Records.{Unread, Came, split, fed, stream}
+use Rattle.rpc_record.specs.declared.records.Fed.{Fed}
+use Rattle.rpc_record.proofs.Streaming.{stream_comes}
+use Rattle.rpc_record.specs.declared.refusal.Refusal.{Refusal}
+use Rattle.wire.specs.Message.{MessageFits, message_spell}
+use Rattle.wire.specs.declared.message.Message.{Message}
+use Rattle.wire.specs.declared.message.Pending.{Pending}
+use Rattle.server_core.specs.declared.change.Change.{Change}
+use Rattle.open_close.specs.State as client
+use Rattle.open_close.specs.declared.task.Stage.{Stage}
+use Rattle.open_close.specs.declared.task.Task.{Task}
+use Rattle.register_model.specs.declared.op.Op.{Op}
+use Rattle.trace_replay.specs.Core.{Seat, Session, numbered}
+use Rattle.trace_replay.specs.World.{World, Wire}
+use Rattle.trace_replay.specs.Delivery.{is_none, is_still_at}
+use Rattle.trace_replay.specs.Trail.{Moment}
+use Rattle.trace_replay.specs.Book.{book_of}
+use Rattle.trace_replay.specs.Complete.{IsAlone, IsLeftAlone}
+use Rattle.kept_promise.specs.Talk.{Ask, Told, Queue, ask_message, told_message}
+use Rattle.kept_promise.proofs.Statements.{CallFits}
+use Rattle.kept_promise.proofs.Lists.{some_is, nothing_there}
+use Rattle.kept_promise.proofs.Keys.{times, own, on_way, ask_key, told_key, change_key, pending_key, there_by}
+use Rattle.kept_promise.proofs.Messages.{Job, job, job_of, AllAsks, AllTolds}
+use Rattle.kept_promise.proofs.Fits.{FitLaws}
+use Rattle.kept_promise.proofs.Turns.{also_numbered}
+use Rattle.kept_promise.proofs.Facts.{IsBalanced, IsTalk, IsKept}
+use Rattle.kept_promise.proofs.Leading.{CarryAll}
+use Rattle.kept_promise.proofs.Rounds.{IsRested, AreRested}
+use Rattle.kept_promise.proofs.Doing.{without_end}
+use Rattle.kept_promise.proofs.CutEnds.{job_is}
+
+-- ---- no bytes, no messages
+
+idle_end : Unread → Unread × Fed
+idle_end end = (end, record { records = []; spoilt = end.spoilt })
+
+fed_none : (end : Unread) → end.spoilt ≡ None → (fed end []).1.records ≡ (split (end.rest ++ [])).records
+fed_none end sound = ap (λ (s : Option Refusal). (fed (record { rest = end.rest; spoilt = s }) []).1.records) sound
+
+-- an end that holds no whole record, and has nothing on its way, has nothing to come
+nothing_comes : (end : Unread) (records : List (List ℕ)) → All (λ r. length r ≤ 131072) records → end.spoilt ≡ None → IsRested end → end.rest ++ [] ≡ stream records → records ≡ []
+nothing_comes end records short sound rested e =
+    let c : Came records [] (split (end.rest ++ [])) = stream_comes records (end.rest ++ []) [] short (append-nil (end.rest ++ []) ∙ e) in
+    let came : (split (end.rest ++ [])).records ≡ [] = sym (fed_none end sound) ∙ ap (λ (r : Unread × Fed). r.1.records) rested in
+    c.records ∙ ap (λ l. l ++ c.left) came ∙ c.all refl
+
+fits_short : (m : Message) → MessageFits m → length (message_spell m) ≤ 131072
+fits_short m f = let l = f.1 in omega (arith, l)
+
+asks_short : FitLaws → (us : List Ask) → AllAsks (λ a. CallFits a.xid a.call) us → All (λ r. length r ≤ 131072) (map message_spell (map ask_message us))
+asks_short fits [] h = All-nil (λ r. length r ≤ 131072)
+asks_short fits (a ∷ us) h = All-cons (λ r. length r ≤ 131072) (message_spell (ask_message a)) (map message_spell (map ask_message us)) (fits_short (ask_message a) (fits.calls a.xid a.call h.0).0) (asks_short fits us h.1)
+
+tolds_short : (ts : List Told) → AllTolds (λ t. MessageFits (told_message t)) ts → All (λ r. length r ≤ 131072) (map message_spell (map told_message ts))
+tolds_short [] h = All-nil (λ r. length r ≤ 131072)
+tolds_short (t ∷ ts) h = All-cons (λ r. length r ≤ 131072) (message_spell (told_message t)) (map message_spell (map told_message ts)) (fits_short (told_message t) h.0) (tolds_short ts h.1)
+
+none_mapped : {A B : Type 0} (f : A → B) (xs : List A) → map f xs ≡ [] → xs ≡ []
+none_mapped f [] e = refl
+none_mapped f (x ∷ xs) e = absurd cc
+
+-- ---- a session that is left alone
+
+both_true : (a b : Bool) → (a && b) ≡ true → (a ≡ true) × (b ≡ true)
+both_true true true e = (refl, refl)
+both_true true false e = absurd cc
+both_true false b e = absurd cc
+
+is_empty : (xs : List ℕ) → is_none xs ≡ true → xs ≡ []
+is_empty [] e = refl
+is_empty (x ∷ xs) e = absurd cc
+
+own_none : (n : ℕ) (ws : List Change) → ((i : ℕ) (c : Change) → slice_get ws i ≡ Some c → c.session ≡ n → ⊥) → own n ws ≡ []
+own_none n [] h = refl
+own_none n (c ∷ ws) h = let e : (c.session == n) ≡ false = ne_eqb c.session n (h 0 c refl) in ap (λ t. cond t (c ∷ own n ws) (own n ws)) e ∙ own_none n ws (λ i d f. h (suc i) d f)
+
+numbered_at : {A : Type 0} (P : A → Type 0) (xs : List A) (n : ℕ) (x : A) → ((k : ℕ) (y : A) → slice_get xs k ≡ Some y → P y) → numbered xs n ≡ Some x → P x
+numbered_at P xs zero x h e = nothing_there x e
+numbered_at P xs (suc k) x h e = h k x e
+
+-- nothing is on its way there
+nothing_waits : FitLaws → (w : World) (all : List Moment) (qs : List Queue) (n : ℕ) (x : Session) (q : Queue) → IsKept (book_of w all) w.core qs → CarryAll w.wires qs → AreRested w.wires → numbered w.core.sessions n ≡ Some x → numbered qs n ≡ Some q → IsAlone w n → on_way n w.core.server.waiting q ≡ []
+nothing_waits fits w all qs n x q kept carry rested at is alone =
+    let v = also_numbered qs w.wires n q carry.0 is in
+    let c = carry.1 n v.0 q v.1 is in
+    let r = numbered_at (λ (z : Wire). IsRested z.server_end × IsRested z.client_end) w.wires n v.0 rested v.1 in
+    let still = both_true (is_none v.0.up) (is_none v.0.down) (sym (ap is_still_at v.1) ∙ alone.still) in
+    let s = kept.sessions n x q at is in
+    let ups : q.ups ≡ [] = none_mapped ask_message q.ups (none_mapped message_spell (map ask_message q.ups) (nothing_comes v.0.server_end (map message_spell (map ask_message q.ups)) (asks_short fits q.ups s.ups_fit) c.up_sound r.0 (ap (λ l. v.0.server_end.rest ++ l) (sym (is_empty v.0.up still.0)) ∙ c.up))) in
+    let downs : q.downs ≡ [] = none_mapped told_message q.downs (none_mapped message_spell (map told_message q.downs) (nothing_comes v.0.client_end (map message_spell (map told_message q.downs)) (tolds_short q.downs s.downs_fit) c.down_sound r.1 (ap (λ l. v.0.client_end.rest ++ l) (sym (is_empty v.0.down still.1)) ∙ c.down))) in
+    let changes : own n w.core.server.waiting ≡ [] = own_none n w.core.server.waiting alone.waiting in
+    ap (λ us. map ask_key us ++ (map change_key (own n w.core.server.waiting) ++ map told_key q.downs)) ups ∙ ap (λ cs. map change_key cs ++ map told_key q.downs) changes ∙ ap (map told_key) downs
+
+first_there : {A : Type 0} (xs ys : List A) → 0 < length xs → (x : A) × (slice_get (xs ++ ys) 0 ≡ Some x)
+first_there [] ys lt = absurd (omega (arith, lt))
+first_there (x ∷ xs) ys lt = (x, refl)
+
+-- and so nobody waits for it
+nobody_waits : (waiting : List Change) (n : ℕ) (q : Queue) (next : ℕ) (first more : List Pending) → IsBalanced n waiting q false next (first ++ more) → on_way n waiting q ≡ [] → 0 < length first → ⊥
+nobody_waits waiting n q next first more b none some =
+    let p = first_there first more some in
+    let a = there_by pending_key (first ++ more) 0 p.0 p.1 in
+    let le = b.least refl (pending_key p.0) in
+    let z = ap (times (pending_key p.0)) none in
+    omega (arith, a, le, z)
+
+-- ---- completeness
+
+stage_of : (p : Option ℕ) (u : Option Task) (j : Job) (t : Task) → job_of p u ≡ Some j → u ≡ Some t → j.stage ≡ t.stage
+stage_of (Some p) (Some v) j t e f = sym (ap (λ (z : Job). z.stage) (some_is (record { place = p; file = v.file; stage = v.stage }) j e)) ∙ ap (λ (z : Task). z.stage) (some_is v t f)
+stage_of (Some p) None j t e f = nothing_there t f
+stage_of None u j t e f = nothing_there j e
+
+-- a client with an operation under way has a session that is not left alone
+not_alone : FitLaws → (w : World) (all : List Moment) (qs : List Queue) (c : ℕ) (seat : Seat) (j : Job) (t : Task) → IsKept (book_of w all) w.core qs → CarryAll w.wires qs → AreRested w.wires → numbered w.core.seats c ≡ Some seat → job seat ≡ Some j → seat.client.task ≡ Some t → IsLeftAlone w c → ⊥
+not_alone fits w all qs c seat j t kept carry rested here is task alone = by seat.client.linked refl
+  where
+    by : (b : Bool) → seat.client.linked ≡ b → ⊥
+    by false off = nothing_there t (sym ((kept.seats c seat here).unlinked off).0 ∙ task)
+    by true on =
+        let s = kept.seats c seat here in
+        let l = s.linked on in
+        let n = l.0 in
+        let x = l.1 in
+        let q = also_numbered w.core.sessions qs n x kept.made.1 l.3 in
+        let h = kept.sessions n x q.0 l.3 q.1 in
+        let own = s.session n l.2 in
+        let owner : x.owner ≡ c = ap (λ (z : Session). z.owner) (some_is x own.0 (sym l.3 ∙ own.1)) ∙ own.2 in
+        let same : h.seat ≡ seat = some_is h.seat seat (sym h.owner ∙ ap (numbered w.core.seats) owner ∙ here) in
+        let lone = alone seat n here l.2 in
+        let talk = subst (IsTalk (book_of w all) n w.core.server.waiting x q.0) same (h.talk l.4) in
+        let balanced : IsBalanced n w.core.server.waiting q.0 false seat.client.next (client.pending seat.client.task ++ seat.client.forgotten) = subst (λ (z : Bool). IsBalanced n w.core.server.waiting q.0 z seat.client.next (client.calls_of seat.client)) (lone.stands x l.3) talk.balanced in
+        let busy : 0 < length (client.pending_in t.stage) = subst (λ (z : Stage). 0 < length (client.pending_in z)) (stage_of seat.place seat.client.task j t is task) (talk.busy j is) in
+        let some : 0 < length (client.pending seat.client.task) = subst (λ (z : Option Task). 0 < length (client.pending z)) (sym task) busy in
+        nobody_waits w.core.server.waiting n q.0 seat.client.next (client.pending seat.client.task) seat.client.forgotten balanced (nothing_waits fits w all qs n x q.0 kept carry rested l.3 q.1 lone) some
+
+pub completes : FitLaws → (w : World) (all : List Moment) (qs : List Queue) → IsKept (book_of w all) w.core qs → CarryAll w.wires qs → AreRested w.wires → (k : ℕ) (o : Op) → slice_get w.core.ops k ≡ Some o → IsLeftAlone w o.client → IsSome o.end
+completes fits w all qs kept carry rested k o at alone = by o.end refl
+  where
+    by : (e : Option ℕ) → o.end ≡ e → IsSome o.end
+    by (Some e) is = subst (λ (z : Option ℕ). IsSome z) (sym is) refl
+    by None is =
+        let run = kept.running k o at (without_end (book_of w all) o (kept.sound.rights k o at) is) in
+        let j = job_is run.0.place run.0.client.task run.1 run.3 in
+        absurd (not_alone fits w all qs o.client run.0 run.1 j.1.0 kept carry rested run.2 run.3 j.1.1 alone)

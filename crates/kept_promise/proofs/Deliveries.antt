@@ -1,0 +1,423 @@
+-- Two deliveries, one after the other, are one of all their bytes.
+use Rattle.std.proofs.Common.{◌≡◌, ℕ, zero, suc, ◌+◌, List, [], ◌∷◌, ◌++◌, Option, Some, None, length, take, drop, refl, sym, ap, ◌∙◌, arith, append_assoc, append-nil}
+use Rattle.std.specs.Prelude.{Result, Ok, Err, Bool, true, false, map, slice_get, slice_set, option_map}
+use Rattle.rpc_record.specs.declared.records.Fed.{Fed}
+use Rattle.rpc_record.specs.declared.refusal.Refusal.{Refusal}
+use Rattle.rpc_record.specs.Records.{Unread, Parts, split, continued, fed}
+use Rattle.rpc_record.proofs.Splitting.{split_cut}
+use Rattle.wire.specs.Parse.{parse_of}
+use Rattle.wire.specs.declared.message.Message.{Message}
+use Rattle.wire.specs.declared.fault.WireFault.{WireFault}
+use Rattle.server_core.specs.declared.event.Sent.{Sent}
+use Rattle.trace_replay.specs.Core.{Core, Seat, Session, Event, Event.Serves, Event.Hears, server_waiting, Turned, Loss, Loss.Nothing, numbered, with_numbered, serves_if, serves, hears_if, hears_at, hears, is_newest, happens}
+use Rattle.trace_replay.specs.World.{World, Wire, bytes_of, unless, up_put_in, up_put, down_put_in, down_put, lost_by, routed, happened}
+use Rattle.trace_replay.specs.Delivery.{all_happened, up_taken, up_events, up_at, up_some, down_taken, down_events, down_at, down_some}
+use Rattle.kept_promise.proofs.Statements.{UpsAddUp, DownsAddUp}
+
+-- ---- bytes
+
+-- the first bytes of a queue, and the next ones of what is left
+take_next : (m n : ℕ) (queue : List ℕ) → take m queue ++ take n (drop m queue) ≡ take (m + n) queue
+take_next zero n queue = let on : n ≡ zero + n = omega arith in ap (λ (k : ℕ). take k queue) on
+take_next (suc m) zero [] = let on : suc m ≡ suc m + zero = omega arith in ap (λ (k : ℕ). take k []) on
+take_next (suc m) (suc n) [] = let on : suc (m + suc n) ≡ suc m + suc n = omega arith in ap (λ (k : ℕ). take k []) on
+take_next (suc m) n (b ∷ queue) = let on : suc (m + n) ≡ suc m + n = omega arith in ap (λ (xs : List ℕ). b ∷ xs) (take_next m n queue) ∙ ap (λ (k : ℕ). take k (b ∷ queue)) on
+
+drop_next : (m n : ℕ) (queue : List ℕ) → drop n (drop m queue) ≡ drop (m + n) queue
+drop_next zero n queue = let on : n ≡ zero + n = omega arith in ap (λ (k : ℕ). drop k queue) on
+drop_next (suc m) zero [] = let on : suc m ≡ suc m + zero = omega arith in ap (λ (k : ℕ). drop k []) on
+drop_next (suc m) (suc n) [] = let on : suc (m + suc n) ≡ suc m + suc n = omega arith in ap (λ (k : ℕ). drop k []) on
+drop_next (suc m) n (b ∷ queue) = let on : suc (m + n) ≡ suc m + n = omega arith in drop_next m n queue ∙ ap (λ (k : ℕ). drop k (b ∷ queue)) on
+
+-- ---- an end
+
+-- the records of both pieces, and what the second leaves
+abbrev both : List (List ℕ) → Unread × Fed → Parts
+both records r = record { records = records ++ r.1.records; rest = r.0.rest; spoilt = r.0.spoilt }
+
+abbrev parts_of : Unread × Fed → Parts
+parts_of r = record { records = r.1.records; rest = r.0.rest; spoilt = r.0.spoilt }
+
+abbrev two : Unread → (first second : List ℕ) → Parts
+two end first second = let r = fed end first in both r.1.records (fed r.0 second)
+
+-- a second piece goes on from what the first one left
+goes_on : (records : List (List ℕ)) (rest : List ℕ) (spoilt : Option Refusal) (second : List ℕ) → both records (fed (record { rest = rest; spoilt = spoilt }) second) ≡ continued (record { records = records; rest = rest; spoilt = spoilt }) second
+goes_on records rest None second = refl
+goes_on records rest (Some why) second = ap (λ (rs : List (List ℕ)). record { records = rs; rest = rest; spoilt = Some why }) (append-nil records)
+
+-- an end makes of two pieces what it makes of both joined, whatever it has, and also where it is spoilt
+fed_twice : (rest : List ℕ) (spoilt : Option Refusal) (first second : List ℕ)
+    → two (record { rest = rest; spoilt = spoilt }) first second ≡ parts_of (fed (record { rest = rest; spoilt = spoilt }) (first ++ second))
+fed_twice rest (Some why) first second = refl
+fed_twice rest None first second =
+    let parts : Parts = split (rest ++ first) in
+    goes_on parts.records parts.rest parts.spoilt second ∙ sym (split_cut (rest ++ first) second) ∙ ap split (append_assoc rest first second)
+
+pub end_twice : (end : Unread) (first second : List ℕ) → two end first second ≡ parts_of (fed end (first ++ second))
+end_twice end first second = fed_twice end.rest end.spoilt first second
+
+-- ---- the wire at a number becomes another
+
+abbrev pub at_place : (Wire → Wire) → List Wire → ℕ → List Wire
+at_place f [] k = []
+at_place f (q ∷ qs) zero = f q ∷ qs
+at_place f (q ∷ qs) (suc k) = q ∷ at_place f qs k
+
+abbrev pub becomes : (Wire → Wire) → List Wire → (number : ℕ) → List Wire
+becomes f ws zero = ws
+becomes f ws (suc k) = at_place f ws k
+
+place_there : (f : Wire → Wire) (ws : List Wire) (k : ℕ) (q : Wire) → slice_get ws k ≡ Some q → slice_set ws k (f q) ≡ at_place f ws k
+place_there f [] k q e = absurd cc
+place_there f (p ∷ ps) zero q e = let same : q ≡ p = cc in ap (λ (z : Wire). f z ∷ ps) same
+place_there f (p ∷ ps) (suc k) q e = ap (λ (zs : List Wire). p ∷ zs) (place_there f ps k q e)
+
+place_none : (f : Wire → Wire) (ws : List Wire) (k : ℕ) → slice_get ws k ≡ None → at_place f ws k ≡ ws
+place_none f [] k e = refl
+place_none f (p ∷ ps) zero e = absurd cc
+place_none f (p ∷ ps) (suc k) e = ap (λ (zs : List Wire). p ∷ zs) (place_none f ps k e)
+
+pub there_is : (f : Wire → Wire) (ws : List Wire) (number : ℕ) (q : Wire) → numbered ws number ≡ Some q → with_numbered ws number (f q) ≡ becomes f ws number
+there_is f ws zero q e = refl
+there_is f ws (suc k) q e = place_there f ws k q e
+
+pub none_is : (f : Wire → Wire) (ws : List Wire) (number : ℕ) → numbered ws number ≡ None → becomes f ws number ≡ ws
+none_is f ws zero e = refl
+none_is f ws (suc k) e = place_none f ws k e
+
+place_swap : (f g : Wire → Wire) → ((q : Wire) → f (g q) ≡ g (f q)) → (ws : List Wire) (i k : ℕ) → at_place f (at_place g ws i) k ≡ at_place g (at_place f ws k) i
+place_swap f g h [] i k = refl
+place_swap f g h (q ∷ qs) zero zero = ap (λ (z : Wire). z ∷ qs) (h q)
+place_swap f g h (q ∷ qs) zero (suc k) = refl
+place_swap f g h (q ∷ qs) (suc i) zero = refl
+place_swap f g h (q ∷ qs) (suc i) (suc k) = ap (λ (zs : List Wire). q ∷ zs) (place_swap f g h qs i k)
+
+pub swap : (f g : Wire → Wire) → ((q : Wire) → f (g q) ≡ g (f q)) → (ws : List Wire) (i k : ℕ) → becomes f (becomes g ws i) k ≡ becomes g (becomes f ws k) i
+swap f g h ws zero zero = refl
+swap f g h ws zero (suc k) = refl
+swap f g h ws (suc i) zero = refl
+swap f g h ws (suc i) (suc k) = place_swap f g h ws i k
+
+place_twice : (f g : Wire → Wire) (ws : List Wire) (k : ℕ) → at_place f (at_place g ws k) k ≡ at_place (λ q. f (g q)) ws k
+place_twice f g [] k = refl
+place_twice f g (q ∷ qs) zero = refl
+place_twice f g (q ∷ qs) (suc k) = ap (λ (zs : List Wire). q ∷ zs) (place_twice f g qs k)
+
+twice : (f g : Wire → Wire) (ws : List Wire) (number : ℕ) → becomes f (becomes g ws number) number ≡ becomes (λ q. f (g q)) ws number
+twice f g ws zero = refl
+twice f g ws (suc k) = place_twice f g ws k
+
+pub place_own : (f : Wire → Wire) (ws : List Wire) (k : ℕ) (q : Wire) → slice_get ws k ≡ Some q → slice_get (at_place f ws k) k ≡ Some (f q)
+place_own f [] k q e = absurd cc
+place_own f (p ∷ ps) zero q e = let same : p ≡ q = cc in ap (λ (z : Wire). Some (f z)) same
+place_own f (p ∷ ps) (suc k) q e = place_own f ps k q e
+
+pub own : (f : Wire → Wire) (ws : List Wire) (number : ℕ) (q : Wire) → numbered ws number ≡ Some q → numbered (becomes f ws number) number ≡ Some (f q)
+own f ws zero q e = absurd cc
+own f ws (suc k) q e = place_own f ws k q e
+
+-- ---- what events put into wires
+
+-- changes of wires, each at a number
+abbrev pub all_become : List (ℕ × (Wire → Wire)) → List Wire → List Wire
+all_become [] ws = ws
+all_become (g ∷ gs) ws = all_become gs (becomes g.1 ws g.0)
+
+-- each of them goes before f as well as behind it
+abbrev AreApart : (Wire → Wire) → List (ℕ × (Wire → Wire)) → Type 0
+AreApart f [] = Unit {0}
+AreApart f (g ∷ gs) = ((q : Wire) → f (g.1 q) ≡ g.1 (f q)) × AreApart f gs
+
+all_swap : (f : Wire → Wire) (gs : List (ℕ × (Wire → Wire))) → AreApart f gs → (ws : List Wire) (number : ℕ) → all_become gs (becomes f ws number) ≡ becomes f (all_become gs ws) number
+all_swap f [] h ws number = refl
+all_swap f (g ∷ gs) h ws number = ap (all_become gs) (sym (swap f g.1 h.0 ws g.0 number)) ∙ all_swap f gs h.1 (becomes g.1 ws g.0) number
+
+apart_both : (f : Wire → Wire) (gs hs : List (ℕ × (Wire → Wire))) → AreApart f gs → AreApart f hs → AreApart f (gs ++ hs)
+apart_both f [] hs a b = b
+apart_both f (g ∷ gs) hs a b = (a.0, apart_both f gs hs a.1 b)
+
+become_both : (gs hs : List (ℕ × (Wire → Wire))) (ws : List Wire) → all_become hs (all_become gs ws) ≡ all_become (gs ++ hs) ws
+become_both [] hs ws = refl
+become_both (g ∷ gs) hs ws = become_both gs hs (becomes g.1 ws g.0)
+
+-- the world with these wires
+abbrev pub wired : World → List Wire → World
+wired w ws = record w { wires = ws }
+
+-- what events make of a world, whatever its wires: another core, and changes of wires that leave alone what is set here
+abbrev Puts : World → (List Event) → (set : List ℕ → Unread → Wire → Wire) → Type 0
+Puts w es set = (core : Core) × (gs : List (ℕ × (Wire → Wire))) × ((queue : List ℕ) (end : Unread) → AreApart (set queue end) gs) × ((ws : List Wire) → all_happened (wired w ws) es ≡ record w { core = core; wires = all_become gs ws })
+
+puts_none : (w : World) (set : List ℕ → Unread → Wire → Wire) → Puts w [] set
+puts_none w set = (w.core, [], λ queue end. tt, λ ws. refl)
+
+puts_more : (w : World) (e : Event) (es : List Event) (set : List ℕ → Unread → Wire → Wire) → (one : Puts w (e ∷ []) set) → Puts (record w { core = one.0 }) es set → Puts w (e ∷ es) set
+puts_more w e es set one more = (
+  more.0,
+  one.1 ++ more.1,
+  λ queue end. apart_both (set queue end) one.1 more.1 (one.2 queue end) (more.2 queue end),
+  λ ws. ap (λ (v : World). all_happened v es) (one.3 ws) ∙ more.3 (all_become one.1 ws) ∙ ap (λ (zs : List Wire). record w { core = more.0; wires = zs }) (become_both one.1 more.1 ws),
+)
+
+-- ---- up: the server's answers go down
+
+abbrev pub set_up : List ℕ → Unread → Wire → Wire
+set_up up end q = record q { up = up; server_end = end }
+
+abbrev pub add_down : (cut : Bool) → List ℕ → Wire → Wire
+add_down cut bytes q = record q { down = unless cut q.down bytes }
+
+-- the changes that these messages make
+abbrev pub downs_in : Sent → Option Session → List (ℕ × (Wire → Wire))
+downs_in s None = []
+downs_in s (Some x) = (s.session, add_down x.cut (bytes_of (s.message ∷ []))) ∷ []
+
+abbrev pub downs : List Session → List Sent → List (ℕ × (Wire → Wire))
+downs sessions [] = []
+downs sessions (s ∷ ss) = downs_in s (numbered sessions s.session) ++ downs sessions ss
+
+down_in_is : (ws : List Wire) (s : Sent) (x : Option Session) → down_put_in ws s x (numbered ws s.session) ≡ all_become (downs_in s x) ws
+down_in_is ws s None = refl
+down_in_is ws s (Some x) = by (numbered ws s.session) refl
+  where
+    by : (o : Option Wire) → numbered ws s.session ≡ o → down_put_in ws s (Some x) o ≡ becomes (add_down x.cut (bytes_of (s.message ∷ []))) ws s.session
+    by None e = sym (none_is (add_down x.cut (bytes_of (s.message ∷ []))) ws s.session e)
+    by (Some q) e = there_is (add_down x.cut (bytes_of (s.message ∷ []))) ws s.session q e
+
+pub down_is : (sessions : List Session) (ws : List Wire) (ss : List Sent) → down_put sessions ws ss ≡ all_become (downs sessions ss) ws
+down_is sessions ws [] = refl
+down_is sessions ws (s ∷ ss) =
+    down_is sessions (down_put_in ws s (numbered sessions s.session) (numbered ws s.session)) ss
+    ∙ ap (all_become (downs sessions ss)) (down_in_is ws s (numbered sessions s.session))
+    ∙ become_both (downs_in s (numbered sessions s.session)) (downs sessions ss) ws
+
+downs_in_apart : (up : List ℕ) (end : Unread) (s : Sent) (x : Option Session) → AreApart (set_up up end) (downs_in s x)
+downs_in_apart up end s None = tt
+downs_in_apart up end s (Some x) = ((λ q. refl), tt)
+
+downs_apart : (up : List ℕ) (end : Unread) (sessions : List Session) (ss : List Sent) → AreApart (set_up up end) (downs sessions ss)
+downs_apart up end sessions [] = tt
+downs_apart up end sessions (s ∷ ss) = apart_both (set_up up end) _ _ (downs_in_apart up end s (numbered sessions s.session)) (downs_apart up end sessions ss)
+
+-- the server's step tells nobody's bytes to be lost, and sends nothing up
+pub serves_silent : (k : Core) (number now : ℕ) (bytes : List ℕ) → ((serves k number now bytes (numbered k.sessions number)).loss ≡ Nothing) × ((serves k number now bytes (numbered k.sessions number)).session ≡ None)
+serves_silent k number now bytes = by (numbered k.sessions number)
+  where
+    by_message : (x : Session) (r : Result Message WireFault) → ((serves_if k number now x r).loss ≡ Nothing) × ((serves_if k number now x r).session ≡ None)
+    by_message x (Ok m) = (refl, refl)
+    by_message x (Err e) = (refl, refl)
+
+    by : (o : Option Session) → ((serves k number now bytes o).loss ≡ Nothing) × ((serves k number now bytes o).session ≡ None)
+    by None = (refl, refl)
+    by (Some x) = by_message x (parse_of server_waiting bytes)
+
+routed_down : (w : World) (ws : List Wire) (t : Turned) → t.loss ≡ Nothing → t.session ≡ None → routed (wired w ws) t ≡ record w { core = t.core; wires = all_become (downs t.core.sessions t.down) ws }
+routed_down w ws t loss session =
+    ap (λ (l : Loss). record w { core = t.core; wires = down_put t.core.sessions (up_put t.core.sessions (lost_by ws l) t.session t.up) t.down }) loss
+    ∙ ap (λ (o : Option ℕ). record w { core = t.core; wires = down_put t.core.sessions (up_put t.core.sessions ws o t.up) t.down }) session
+    ∙ ap (λ (zs : List Wire). record w { core = t.core; wires = zs }) (down_is t.core.sessions ws t.down)
+
+serves_one : (w : World) (number now : ℕ) (bytes : List ℕ) → Puts w (Serves number now bytes ∷ []) set_up
+serves_one w number now bytes =
+    let t : Turned = happens w.core (Serves number now bytes) in
+    let q = serves_silent w.core number now bytes in
+    (t.core, downs t.core.sessions t.down, λ up end. downs_apart up end t.core.sessions t.down, λ ws. routed_down w ws t q.0 q.1)
+
+serves_all : (w : World) (number now : ℕ) (rs : List (List ℕ)) → Puts w (map (Serves number now) rs) set_up
+serves_all w number now [] = puts_none w set_up
+serves_all w number now (r ∷ rs) =
+    let one = serves_one w number now r in
+    puts_more w (Serves number now r) (map (Serves number now) rs) set_up one (serves_all (record w { core = one.0 }) number now rs)
+
+-- ---- down: what the client sends goes up
+
+abbrev pub set_down : List ℕ → Unread → Wire → Wire
+set_down down end q = record q { down = down; client_end = end }
+
+abbrev pub add_up : (hung : Bool) → List ℕ → Wire → Wire
+add_up hung bytes q = record q { up = unless hung q.up bytes }
+
+abbrev pub ups_in : (number : ℕ) → List Message → Option Session → List (ℕ × (Wire → Wire))
+ups_in number ms None = []
+ups_in number ms (Some x) = (number, add_up x.hung (bytes_of ms)) ∷ []
+
+abbrev pub ups : List Session → Option ℕ → List Message → List (ℕ × (Wire → Wire))
+ups sessions None ms = []
+ups sessions (Some number) ms = ups_in number ms (numbered sessions number)
+
+up_in_is : (ws : List Wire) (number : ℕ) (ms : List Message) (x : Option Session) → up_put_in ws number ms x (numbered ws number) ≡ all_become (ups_in number ms x) ws
+up_in_is ws number ms None = refl
+up_in_is ws number ms (Some x) = by (numbered ws number) refl
+  where
+    by : (o : Option Wire) → numbered ws number ≡ o → up_put_in ws number ms (Some x) o ≡ becomes (add_up x.hung (bytes_of ms)) ws number
+    by None e = sym (none_is (add_up x.hung (bytes_of ms)) ws number e)
+    by (Some q) e = there_is (add_up x.hung (bytes_of ms)) ws number q e
+
+pub up_is : (sessions : List Session) (ws : List Wire) (o : Option ℕ) (ms : List Message) → up_put sessions ws o ms ≡ all_become (ups sessions o ms) ws
+up_is sessions ws None ms = refl
+up_is sessions ws (Some number) ms = up_in_is ws number ms (numbered sessions number)
+
+ups_apart : (down : List ℕ) (end : Unread) (sessions : List Session) (o : Option ℕ) (ms : List Message) → AreApart (set_down down end) (ups sessions o ms)
+ups_apart down end sessions None ms = tt
+ups_apart down end sessions (Some number) ms = by (numbered sessions number)
+  where
+    by : (x : Option Session) → AreApart (set_down down end) (ups_in number ms x)
+    by None = tt
+    by (Some x) = ((λ q. refl), tt)
+
+pub hears_silent : (k : Core) (number now : ℕ) (bytes : List ℕ) → ((hears k number now bytes (numbered k.sessions number)).loss ≡ Nothing) × ((hears k number now bytes (numbered k.sessions number)).down ≡ [])
+hears_silent k number now bytes = by (numbered k.sessions number)
+  where
+    by_newest : (owner : ℕ) (seat : Seat) (b : Bool) → ((hears_if k owner now seat bytes b).loss ≡ Nothing) × ((hears_if k owner now seat bytes b).down ≡ [])
+    by_newest owner seat true = (refl, refl)
+    by_newest owner seat false = (refl, refl)
+
+    by_seat : (owner : ℕ) (o : Option Seat) → ((hears_at k number owner now bytes o).loss ≡ Nothing) × ((hears_at k number owner now bytes o).down ≡ [])
+    by_seat owner None = (refl, refl)
+    by_seat owner (Some seat) = by_newest owner seat (is_newest seat.session number)
+
+    by : (o : Option Session) → ((hears k number now bytes o).loss ≡ Nothing) × ((hears k number now bytes o).down ≡ [])
+    by None = (refl, refl)
+    by (Some x) = by_seat x.owner (numbered k.seats x.owner)
+
+routed_up : (w : World) (ws : List Wire) (t : Turned) → t.loss ≡ Nothing → t.down ≡ [] → routed (wired w ws) t ≡ record w { core = t.core; wires = all_become (ups t.core.sessions t.session t.up) ws }
+routed_up w ws t loss none =
+    ap (λ (l : Loss). record w { core = t.core; wires = down_put t.core.sessions (up_put t.core.sessions (lost_by ws l) t.session t.up) t.down }) loss
+    ∙ ap (λ (ss : List Sent). record w { core = t.core; wires = down_put t.core.sessions (up_put t.core.sessions ws t.session t.up) ss }) none
+    ∙ ap (λ (zs : List Wire). record w { core = t.core; wires = zs }) (up_is t.core.sessions ws t.session t.up)
+
+hears_one : (w : World) (number now : ℕ) (bytes : List ℕ) → Puts w (Hears number now bytes ∷ []) set_down
+hears_one w number now bytes =
+    let t : Turned = happens w.core (Hears number now bytes) in
+    let q = hears_silent w.core number now bytes in
+    (t.core, ups t.core.sessions t.session t.up, λ down end. ups_apart down end t.core.sessions t.session t.up, λ ws. routed_up w ws t q.0 q.1)
+
+hears_all : (w : World) (number now : ℕ) (rs : List (List ℕ)) → Puts w (map (Hears number now) rs) set_down
+hears_all w number now [] = puts_none w set_down
+hears_all w number now (r ∷ rs) =
+    let one = hears_one w number now r in
+    puts_more w (Hears number now r) (map (Hears number now) rs) set_down one (hears_all (record w { core = one.0 }) number now rs)
+
+-- ---- events in a row
+
+appended : (w : World) (es fs : List Event) → all_happened (all_happened w es) fs ≡ all_happened w (es ++ fs)
+appended w [] fs = refl
+appended w (e ∷ es) fs = appended (happened w e) es fs
+
+map_both : {A : Type 0} {B : Type 0} (f : A → B) (xs ys : List A) → map f xs ++ map f ys ≡ map f (xs ++ ys)
+map_both f [] ys = refl
+map_both f (x ∷ xs) ys = ap (λ zs. f x ∷ zs) (map_both f xs ys)
+
+place_else : (f : Wire → Wire) (ws : List Wire) (i k : ℕ) (q : Wire) → slice_get ws k ≡ Some q → (p : Wire) × (slice_get (at_place f ws i) k ≡ Some p)
+place_else f [] i k q e = absurd cc
+place_else f (p ∷ ps) zero zero q e = (f p, refl)
+place_else f (p ∷ ps) zero (suc k) q e = (q, e)
+place_else f (p ∷ ps) (suc i) zero q e = (p, refl)
+place_else f (p ∷ ps) (suc i) (suc k) q e = place_else f ps i k q e
+
+-- what stands at a number is still something
+else_own : (f : Wire → Wire) (ws : List Wire) (i number : ℕ) (q : Wire) → numbered ws number ≡ Some q → (p : Wire) × (numbered (becomes f ws i) number ≡ Some p)
+else_own f ws zero number q e = (q, e)
+else_own f ws (suc i) zero q e = absurd cc
+else_own f ws (suc i) (suc k) q e = place_else f ws i k q e
+
+all_own : (gs : List (ℕ × (Wire → Wire))) (ws : List Wire) (number : ℕ) (q : Wire) → numbered ws number ≡ Some q → (p : Wire) × (numbered (all_become gs ws) number ≡ Some p)
+all_own [] ws number q e = (q, e)
+all_own (g ∷ gs) ws number q e = let one = else_own g.1 ws g.0 number q e in all_own gs (becomes g.1 ws g.0) number one.0 one.1
+
+-- ---- two deliveries up
+
+-- one delivery: these events, and the wire is read so far
+pub up_events_of : (w : World) (number count now : ℕ) (q : Wire) → numbered w.wires number ≡ Some q
+    → up_some w number count now ≡ all_happened (wired w (becomes (set_up (drop count q.up) (fed q.server_end (take count q.up)).0) w.wires number)) (map (Serves number now) (fed q.server_end (take count q.up)).1.records)
+up_events_of w number count now q e =
+    let f : Wire → Wire = set_up (drop count q.up) (fed q.server_end (take count q.up)).0 in
+    let es : List Event = up_events number now count q in
+    ap (λ (o : Option Wire). up_at w number count now o) e
+    ∙ ap (λ (ws : List Wire). all_happened (wired w ws) es) (there_is f w.wires number q e)
+
+pub up_none : (w : World) (number count now : ℕ) → numbered w.wires number ≡ None → up_some w number count now ≡ w
+up_none w number count now e = ap (λ (o : Option Wire). up_at w number count now o) e
+
+ups_twice : (w : World) (number m n now : ℕ) (q : Wire) → numbered w.wires number ≡ Some q → up_some (up_some w number m now) number n now ≡ up_some w number (m + n) now
+ups_twice w number m n now q e =
+    let r = fed q.server_end (take m q.up) in
+    let left : List ℕ = drop m q.up in
+    let d = fed r.0 (take n left) in
+    let f : Wire → Wire = set_up left r.0 in
+    let g : Wire → Wire = set_up (drop n left) d.0 in
+    let es : List Event = map (Serves number now) r.1.records in
+    let fs : List Event = map (Serves number now) d.1.records in
+    let one = serves_all w number now r.1.records in
+    let v : World = record w { core = one.0 } in
+    let there = all_own one.1 w.wires number q e in
+    let ws : List Wire = all_become one.1 w.wires in
+    let first : up_some w number m now ≡ wired v (becomes f ws number) = up_events_of w number m now q e ∙ one.3 (becomes f w.wires number) ∙ ap (λ (zs : List Wire). wired v zs) (all_swap f one.1 (one.2 left r.0) w.wires number) in
+    let second : up_some (wired v (becomes f ws number)) number n now ≡ all_happened (wired v (becomes g (becomes f ws number) number)) fs = up_events_of (wired v (becomes f ws number)) number n now (f there.0) (own f ws number there.0 there.1) in
+    let once : becomes g (becomes f ws number) number ≡ all_become one.1 (becomes g w.wires number) = twice g f ws number ∙ sym (all_swap g one.1 (one.2 (drop n left) d.0) w.wires number) in
+    ap (λ (u : World). up_some u number n now) first
+    ∙ second
+    ∙ ap (λ (zs : List Wire). all_happened (wired v zs) fs) once
+    ∙ ap (λ (u : World). all_happened u fs) (sym (one.3 (becomes g w.wires number)))
+    ∙ appended (wired w (becomes g w.wires number)) es fs
+    ∙ ap (λ (zs : List Event). all_happened (wired w (becomes g w.wires number)) zs) (map_both (Serves number now) r.1.records d.1.records)
+    ∙ ap (λ (p : Parts). all_happened (wired w (becomes (set_up (drop n left) (record { rest = p.rest; spoilt = p.spoilt })) w.wires number)) (map (Serves number now) p.records)) (end_twice q.server_end (take m q.up) (take n left))
+    ∙ ap (λ (z : List ℕ). all_happened (wired w (becomes (set_up z (fed q.server_end (take m q.up ++ take n left)).0) w.wires number)) (map (Serves number now) (fed q.server_end (take m q.up ++ take n left)).1.records)) (drop_next m n q.up)
+    ∙ ap (λ (z : List ℕ). all_happened (wired w (becomes (set_up (drop (m + n) q.up) (fed q.server_end z).0) w.wires number)) (map (Serves number now) (fed q.server_end z).1.records)) (take_next m n q.up)
+    ∙ sym (up_events_of w number (m + n) now q e)
+
+pub ups_add_up : UpsAddUp
+ups_add_up = λ w number m n now. by w number m n now (numbered w.wires number) refl
+  where
+    by : (w : World) (number m n now : ℕ) (o : Option Wire) → numbered w.wires number ≡ o → up_some (up_some w number m now) number n now ≡ up_some w number (m + n) now
+    by w number m n now None e = ap (λ (u : World). up_some u number n now) (up_none w number m now e) ∙ up_none w number n now e ∙ sym (up_none w number (m + n) now e)
+    by w number m n now (Some q) e = ups_twice w number m n now q e
+
+-- ---- two deliveries down
+
+-- one delivery: these events, and the wire is read so far
+pub down_events_of : (w : World) (number count now : ℕ) (q : Wire) → numbered w.wires number ≡ Some q
+    → down_some w number count now ≡ all_happened (wired w (becomes (set_down (drop count q.down) (fed q.client_end (take count q.down)).0) w.wires number)) (map (Hears number now) (fed q.client_end (take count q.down)).1.records)
+down_events_of w number count now q e =
+    let f : Wire → Wire = set_down (drop count q.down) (fed q.client_end (take count q.down)).0 in
+    let es : List Event = down_events number now count q in
+    ap (λ (o : Option Wire). down_at w number count now o) e
+    ∙ ap (λ (ws : List Wire). all_happened (wired w ws) es) (there_is f w.wires number q e)
+
+pub down_none : (w : World) (number count now : ℕ) → numbered w.wires number ≡ None → down_some w number count now ≡ w
+down_none w number count now e = ap (λ (o : Option Wire). down_at w number count now o) e
+
+downs_twice : (w : World) (number m n now : ℕ) (q : Wire) → numbered w.wires number ≡ Some q → down_some (down_some w number m now) number n now ≡ down_some w number (m + n) now
+downs_twice w number m n now q e =
+    let r = fed q.client_end (take m q.down) in
+    let left : List ℕ = drop m q.down in
+    let d = fed r.0 (take n left) in
+    let f : Wire → Wire = set_down left r.0 in
+    let g : Wire → Wire = set_down (drop n left) d.0 in
+    let es : List Event = map (Hears number now) r.1.records in
+    let fs : List Event = map (Hears number now) d.1.records in
+    let one = hears_all w number now r.1.records in
+    let v : World = record w { core = one.0 } in
+    let there = all_own one.1 w.wires number q e in
+    let ws : List Wire = all_become one.1 w.wires in
+    let first : down_some w number m now ≡ wired v (becomes f ws number) = down_events_of w number m now q e ∙ one.3 (becomes f w.wires number) ∙ ap (λ (zs : List Wire). wired v zs) (all_swap f one.1 (one.2 left r.0) w.wires number) in
+    let second : down_some (wired v (becomes f ws number)) number n now ≡ all_happened (wired v (becomes g (becomes f ws number) number)) fs = down_events_of (wired v (becomes f ws number)) number n now (f there.0) (own f ws number there.0 there.1) in
+    let once : becomes g (becomes f ws number) number ≡ all_become one.1 (becomes g w.wires number) = twice g f ws number ∙ sym (all_swap g one.1 (one.2 (drop n left) d.0) w.wires number) in
+    ap (λ (u : World). down_some u number n now) first
+    ∙ second
+    ∙ ap (λ (zs : List Wire). all_happened (wired v zs) fs) once
+    ∙ ap (λ (u : World). all_happened u fs) (sym (one.3 (becomes g w.wires number)))
+    ∙ appended (wired w (becomes g w.wires number)) es fs
+    ∙ ap (λ (zs : List Event). all_happened (wired w (becomes g w.wires number)) zs) (map_both (Hears number now) r.1.records d.1.records)
+    ∙ ap (λ (p : Parts). all_happened (wired w (becomes (set_down (drop n left) (record { rest = p.rest; spoilt = p.spoilt })) w.wires number)) (map (Hears number now) p.records)) (end_twice q.client_end (take m q.down) (take n left))
+    ∙ ap (λ (z : List ℕ). all_happened (wired w (becomes (set_down z (fed q.client_end (take m q.down ++ take n left)).0) w.wires number)) (map (Hears number now) (fed q.client_end (take m q.down ++ take n left)).1.records)) (drop_next m n q.down)
+    ∙ ap (λ (z : List ℕ). all_happened (wired w (becomes (set_down (drop (m + n) q.down) (fed q.client_end z).0) w.wires number)) (map (Hears number now) (fed q.client_end z).1.records)) (take_next m n q.down)
+    ∙ sym (down_events_of w number (m + n) now q e)
+
+pub downs_add_up : DownsAddUp
+downs_add_up = λ w number m n now. by w number m n now (numbered w.wires number) refl
+  where
+    by : (w : World) (number m n now : ℕ) (o : Option Wire) → numbered w.wires number ≡ o → down_some (down_some w number m now) number n now ≡ down_some w number (m + n) now
+    by w number m n now None e = ap (λ (u : World). down_some u number n now) (down_none w number m now e) ∙ down_none w number n now e ∙ sym (down_none w number (m + n) now e)
+    by w number m n now (Some q) e = downs_twice w number m n now q e

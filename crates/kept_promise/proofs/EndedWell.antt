@@ -1,0 +1,64 @@
+-- An operation that is left alone has ended well, by what it came to.
+use Rattle.std.proofs.Common.{◌≡◌, ◌⊎◌, inl, inr, ℕ, ◌*◌, ◌<◌, ◌≤◌, List, Option, Some, None, Bool, true, false, refl, sym, ap, ◌∙◌, subst, arith}
+use Rattle.std.specs.Prelude.{IsSome, Contains}
+use Rattle.command_text.specs.declared.command.Command.{Command}
+use Rattle.command_text.specs.declared.command.Command.TheVariants as command
+use Rattle.open_close.specs.Opening.{calls_most}
+use Rattle.register_model.specs.declared.op.Op.{Op}
+use Rattle.register_model.specs.declared.op.Outcome.{Outcome}
+use Rattle.register_model.specs.declared.op.Outcome.TheVariants as told
+use Rattle.trace_replay.specs.Trail.{Deed}
+use Rattle.trace_replay.specs.Book.{Book}
+use Rattle.trace_replay.specs.Causes.{MayAsk, IsLost, HasCause, is_busy, own_answer}
+use Rattle.trace_replay.specs.Faithful.{CameTo, IsDone}
+use Rattle.trace_replay.specs.Complete.{IsUncut, EndsWell}
+use Rattle.kept_promise.proofs.Lists.{nothing_there, some_is}
+
+-- a client that saw no connection lost since its operation began did not end it so
+not_lost : (book : Book) (o : Op) → IsUncut book o → ((e : ℕ) → o.end ≡ Some e → o.begin ≤ e) → IsLost book o → ⊥
+not_lost book o uncut order l =
+    let before = uncut l.moment l.there l.event_is in
+    let at = order l.end l.end_is in
+    omega (arith, before, at, l.step_is)
+
+some_end : (e : Option ℕ) → IsSome e → e ≡ None → ⊥
+some_end None h is = absurd cc
+some_end (Some n) h is = absurd cc
+
+-- what asked the server
+opened_well : (book : Book) (f : ℕ) (o : Op) (outcome : Outcome) → (IsLost book o → ⊥) → (o.end ≡ None → ⊥) → HasCause book (command.Open f) o outcome → EndsWell (command.Open f) None outcome
+opened_well book f o (told.Opened len digest) lost runs h = tt
+opened_well book f o (told.Changed first last) lost runs h = tt
+opened_well book f o (told.Refused status) lost runs (inl h) = inl h.0
+opened_well book f o (told.Refused status) lost runs (inr h) = inr h.0
+opened_well book f o told.Lost lost runs h = absurd (lost h)
+opened_well book f o told.Running lost runs h = absurd (runs h)
+opened_well book f o _ lost runs h = absurd h
+
+closed_well : (book : Book) (f : ℕ) (x : List ℕ) (o : Op) (outcome : Outcome) → (IsLost book o → ⊥) → (o.end ≡ None → ⊥) → HasCause book (command.Close f) o outcome → EndsWell (command.Close f) (Some x) outcome
+closed_well book f x o (told.Closed version len digest) lost runs h = tt
+closed_well book f x o (told.Refused status) lost runs h = h.status_is
+closed_well book f x o told.Lost lost runs h = absurd (lost h)
+closed_well book f x o told.Running lost runs h = absurd (runs h)
+closed_well book f x o _ lost runs h = absurd h
+
+-- a joined client that has xids left asks the server
+asks_it : (asks : Bool) (step : ℕ) → calls_most * step < 4293967296 → MayAsk true asks step → asks ≡ true
+asks_it true step few h = refl
+asks_it false step few h = absurd (omega (arith, few, h))
+
+came_well : (book : Book) (d : Deed) (o : Op) (l : Option (List ℕ)) (k : Command) → d.command ≡ k → (IsLost book o → ⊥) → (o.end ≡ None → ⊥) → CameTo book (record d { command = k }) o l (own_answer false true k l) → EndsWell k l o.outcome
+came_well book d o None (command.Open f) e lost runs h = opened_well book f o o.outcome lost runs h.0
+came_well book d o (Some x) (command.Open f) e lost runs h = tt
+came_well book d o None (command.Close f) e lost runs h = tt
+came_well book d o (Some x) (command.Close f) e lost runs h = closed_well book f x o o.outcome lost runs h.0
+came_well book d o l (command.Write f offset content) e lost runs h = tt
+came_well book d o l (command.Trunc f size) e lost runs h = tt
+came_well book d o l (command.Read f offset count) e lost runs h = tt
+came_well book d o l (command.Abandon f) e lost runs h = tt
+
+pub ends_well : (book : Book) (d : Deed) (o : Op) (l : Option (List ℕ)) → IsDone book d o l → IsSome o.end → d.joined ≡ true → calls_most * o.begin < 4293967296 → is_busy book.ops o ≡ false → IsUncut book o → EndsWell d.command l o.outcome
+ends_well book d o l h ended joined few free uncut =
+    let asks : h.asks ≡ true = asks_it h.asks o.begin few (subst (λ (b : Bool). MayAsk b h.asks o.begin) joined h.may_ask) in
+    let came : CameTo book d o l (own_answer false true d.command l) = subst (λ (b : Bool). CameTo book d o l (own_answer false b d.command l)) asks (subst (λ (b : Bool). CameTo book d o l (own_answer b h.asks d.command l)) free h.came_to) in
+    came_well book d o l d.command refl (not_lost book o uncut h.order) (some_end o.end ended) came

@@ -1,0 +1,161 @@
+-- What holds in each world of a run: of each session with its owner, of each client, and of all together.
+use Rattle.std.proofs.Common.{◌≡◌, ℕ, zero, suc, ◌+◌, ◌*◌, ◌<◌, ◌≤◌, List, [], ◌∷◌, ◌++◌, ◌⊎◌, Option, Some, None, Bool, true, false, length}
+use Rattle.std.specs.Prelude.{slice_get, cond, ◌==◌, map, not, IsSome, option_map}
+use Rattle.wire.specs.Message.{MessageFits}
+use Rattle.wire.specs.declared.message.Pending.{Pending}
+use Rattle.server_core.specs.State as server
+use Rattle.server_core.specs.Step.{stands}
+use Rattle.server_core.specs.Temps.{Temp, key_of}
+use Rattle.server_core.specs.declared.change.Change.{Change}
+use Rattle.server_core.specs.declared.file.File.{File}
+use Rattle.open_close.specs.State as client
+use Rattle.open_close.specs.declared.task.Fetch.{Fetch}
+use Rattle.open_close.specs.declared.task.Local.{Local}
+use Rattle.open_close.specs.declared.task.Stage.{Stage}
+use Rattle.open_close.specs.declared.task.Stage.TheVariants as stage
+use Rattle.open_close.specs.declared.task.StoreCall.{StoreCall}
+use Rattle.open_close.specs.declared.task.Way.{Way}
+use Rattle.open_close.specs.declared.task.Way.TheVariants as way
+use Rattle.register_model.specs.Register.{content_of}
+use Rattle.register_model.specs.declared.op.Op.{Op}
+use Rattle.register_model.specs.declared.op.Outcome.TheVariants as told
+use Rattle.trace_replay.specs.Core.{Core, Seat, Session, numbered}
+use Rattle.trace_replay.specs.Book.{Book, value_at, version_at}
+use Rattle.kept_promise.specs.Talk.{Call, Call.Commit, Ask, Told, Queue, told_message}
+use Rattle.kept_promise.proofs.Statements.{CallFits}
+use Rattle.kept_promise.proofs.Keys.{times, own, on_way, pending_key, IsOurs}
+use Rattle.kept_promise.proofs.Messages.{Job, job, stage_word, AllAsks, AllTolds, AllUnder, Rising, IsAsked, IsAnswer, IsTrying, HasFetch, IsCommit, IsPiece, IsPending, TempUnder, AreParts, CloseOf}
+use Rattle.kept_promise.proofs.Rights.{IsSound}
+use Rattle.kept_promise.proofs.Shelf.{IsShelf}
+use Rattle.kept_promise.proofs.Orderly.{Orderly}
+
+-- ---- xids
+
+abbrev pub names_in : List StoreCall → ℕ
+names_in [] = 0
+names_in (c ∷ cs) = elim c.way [ way.Named ↦ suc (names_in cs) | way.Whole ↦ names_in cs ]
+
+-- each call that an operation may still send has an xid
+abbrev pub HasXids : (next : ℕ) → Stage → Type 0
+HasXids next (stage.Hashing tries x) = (spare : ℕ) × (tries + spare ≡ 4) × (next + 100000 * spare + 80000 ≤ 4294967296)
+HasXids next (stage.Listing x f) = (spare : ℕ) × (f.tries + spare ≡ 4) × (next + 100000 * spare + 80000 ≤ 4294967296 + length f.chunks)
+HasXids next (stage.Reading f) = (spare : ℕ) × (f.tries + spare ≡ 4) × (next + 100000 * spare + 40000 ≤ 4294967296 + f.asked)
+HasXids next (stage.Making x temp) = next + 80002 ≤ 4294967296
+HasXids next (stage.Storing st) = next + 80001 + names_in st.under ≤ 4294967296 + 2 * st.named
+HasXids next (stage.Committing x) = next ≤ 4294967296
+
+-- ---- a session whose owner is there
+
+-- each call that waits for its answer is on its way once, unless the server lost the connection
+pub record IsBalanced (n : ℕ) (waiting : List Change) (q : Queue) (hung : Bool) (next : ℕ) (calls : List Pending) : Type 0 where
+  pub most : (y : ℕ) → times y (on_way n waiting q) ≤ times y (map pending_key calls)
+  pub least : hung ≡ false → (y : ℕ) → times y (map pending_key calls) ≤ times y (on_way n waiting q)
+  pub once : (y : ℕ) → times y (map (λ p. p.xid) calls) ≤ 1
+  pub below : (y : ℕ) → next ≤ y → times y (map (λ p. p.xid) calls) ≡ 0
+  pub ours : (i : ℕ) (p : Pending) → slice_get calls i ≡ Some p → IsOurs p.program
+
+pub record IsTalk (book : Book) (n : ℕ) (waiting : List Change) (x : Session) (q : Queue) (seat : Seat) : Type 0 where
+  pub floor : ℕ
+  pub under : AllUnder floor x.taken
+  pub rising : Rising floor q.ups seat.client.next
+  pub asked : AllAsks (IsAsked (job seat)) q.ups
+  pub answers : AllTolds (IsAnswer book x.taken x.closing (job seat)) q.downs
+  pub fetch : HasFetch book x.taken (job seat)
+  pub balanced : IsBalanced n waiting q x.hung seat.client.next (client.calls_of seat.client)
+  -- where the owner waits, something is under way
+  pub busy : (j : Job) → job seat ≡ Some j → 0 < length (client.pending_in j.stage)
+
+-- ---- any session
+
+abbrev pub commits_in : List Ask → ℕ
+commits_in [] = 0
+commits_in (a ∷ us) = elim a.call [ Commit temp file size ↦ suc (commits_in us) | _ ↦ commits_in us ]
+
+pub record IsSession (book : Book) (seats : List Seat) (s : server.State) (n : ℕ) (x : Session) (q : Queue) : Type 0 where
+  pub seat : Seat
+  pub owner : numbered seats x.owner ≡ Some seat
+  pub here : x.cut ≡ false → (seat.session ≡ Some n) × (seat.client.linked ≡ true)
+  pub shut : x.cut ≡ true → q.downs ≡ []
+  pub lost : x.hung ≡ true → q.ups ≡ []
+  pub stands_is : stands s n ≡ not x.hung
+  pub ups_fit : AllAsks (λ a. CallFits a.xid a.call) q.ups
+  pub downs_fit : AllTolds (λ t. MessageFits (told_message t)) q.downs
+  pub talk : x.cut ≡ false → IsTalk book n s.waiting x q seat
+  -- what each temporary file of the session is to be
+  pub contents : ℕ → List ℕ
+  pub lengths : (m : ℕ) → length (contents m) ≤ 67108864
+  pub commits : AllAsks (IsCommit book x.closing x.cut (job seat) contents) q.ups
+  pub pieces : AllAsks (IsPiece contents) q.ups
+  pub temps : (i m : ℕ) (e : ℕ × Temp) → m < 4294967296 → slice_get s.temps i ≡ Some e → e.0 ≡ key_of n m → AreParts (contents m) e.1.pieces × (key_of e.1.session e.1.number ≡ e.0)
+  pub temps_below : x.cut ≡ false → AllAsks (λ a. TempUnder seat.client.next_temp a.call) q.ups × ((i m : ℕ) (e : ℕ × Temp) → m < 4294967296 → slice_get s.temps i ≡ Some e → e.0 ≡ key_of n m → m < seat.client.next_temp)
+  pub closes : x.cut ≡ false → (j : Job) → job seat ≡ Some j → CloseOf book x.closing contents seat.client.next_temp j (client.local_bytes seat.client.opened j.file) j.stage
+  pub pending : (i : ℕ) (c : Change) → slice_get (own n s.waiting) i ≡ Some c → IsPending book x.closing x.cut (job seat) c.xid c.file c.content
+  pub single : commits_in q.ups + length (own n s.waiting) ≤ 1
+  pub old : (k : ℕ) → x.closing ≡ Some k → (o : Op) × (slice_get book.ops k ≡ Some o) × (o.client ≡ x.owner)
+  pub orderly : x.cut ≡ false → Orderly book n s.temps x.hung q seat
+
+-- ---- a client
+
+-- a job is that of a running operation of the client
+pub record IsOf (book : Book) (i : ℕ) (j : Job) : Type 0 where
+  pub op : Op
+  pub there : slice_get book.ops j.place ≡ Some op
+  pub client : op.client ≡ i
+  pub word : op.word ≡ stage_word j.stage
+  pub file : op.file ≡ j.file
+  pub running : op.outcome ≡ told.Running
+
+-- an operation is under way where a task is
+abbrev pub IsMatched : Seat → Type 0
+IsMatched seat = ((seat.place ≡ None) × (seat.client.task ≡ None)) ⊎ ((j : Job) × (job seat ≡ Some j))
+
+pub record IsSeat (book : Book) (sessions : List Session) (i : ℕ) (seat : Seat) : Type 0 where
+  pub session : (n : ℕ) → seat.session ≡ Some n → (x : Session) × (numbered sessions n ≡ Some x) × (x.owner ≡ i)
+  pub linked : seat.client.linked ≡ true → (n : ℕ) × (x : Session) × (seat.session ≡ Some n) × (numbered sessions n ≡ Some x) × (x.cut ≡ false)
+  pub unlinked : seat.client.linked ≡ false → (seat.client.task ≡ None) × (seat.client.forgotten ≡ [])
+  pub matched : IsMatched seat
+  pub task : (j : Job) → job seat ≡ Some j → IsOf book i j
+  pub trying : IsTrying book (job seat)
+  pub xids : (j : Job) → job seat ≡ Some j → HasXids seat.client.next j.stage
+  pub next : (seat.client.next ≤ 4294967296) × (seat.client.next_temp ≤ seat.client.next)
+  -- what is open is a file of the tree, and within the limit
+  pub opened : (f : ℕ) (l : Local) → client.local_at seat.client.opened f ≡ Some l → IsSome (content_of book.opening f) × (length l.bytes ≤ 67108864)
+
+-- ---- the server
+
+-- what the tree has of a file is what the history says
+abbrev pub FileIs : Book → (file : ℕ) → Option File → Type 0
+FileIs book f None = (content_of book.opening f ≡ None) × (value_at book f (book.steps + 1) ≡ None)
+FileIs book f (Some g) = (g.id ≡ f) × (1 < f) × (f < 18446744073709551616) × IsSome (content_of book.opening f) × (value_at book f (book.steps + 1) ≡ Some g.content) × (version_at book f (book.steps + 1) ≡ g.version) × (length g.content ≤ 67108864)
+
+pub record IsServer (book : Book) (s : server.State) : Type 0 where
+  pub held : (f : ℕ) → FileIs book f (server.file_at s.files f)
+  pub versions : (f : ℕ) (g : File) → server.file_at s.files f ≡ Some g → g.version ≤ s.changes
+  pub changes : s.changes + length s.waiting ≤ 4294967295
+  pub lengths : (i : ℕ) (c : Change) → slice_get s.waiting i ≡ Some c → length c.content ≤ 67108864
+  -- each change that waits is of a file of the tree
+  pub targets : (i : ℕ) (c : Change) → slice_get s.waiting i ≡ Some c → IsSome (content_of book.opening c.file)
+  pub xids : (i : ℕ) (c : Change) → slice_get s.waiting i ≡ Some c → c.xid < 4294967296
+
+-- ---- all of it
+
+pub record IsKept (book : Book) (k : Core) (qs : List Queue) : Type 0 where
+  pub ops : book.ops ≡ k.ops
+  pub steps : book.steps ≡ k.steps
+  pub journal : book.journal ≡ k.server.journal
+  pub entries : book.entries ≡ k.entries
+  pub sound : IsSound book
+  pub server : IsServer book k.server
+  pub made : (length k.sessions ≡ k.server.sessions_made) × (length qs ≡ length k.sessions)
+  pub sessions : (n : ℕ) (x : Session) (q : Queue) → numbered k.sessions n ≡ Some x → numbered qs n ≡ Some q → IsSession book k.seats k.server n x q
+  pub seats : (i : ℕ) (seat : Seat) → numbered k.seats i ≡ Some seat → IsSeat book k.sessions i seat
+  -- each operation that runs is its client's job
+  pub running : (p : ℕ) (o : Op) → slice_get book.ops p ≡ Some o → o.outcome ≡ told.Running → (seat : Seat) × (j : Job) × (numbered k.seats o.client ≡ Some seat) × (job seat ≡ Some j) × (j.place ≡ p)
+  -- no two sessions remember one close
+  pub closings : (m n p : ℕ) (x y : Session) → numbered k.sessions m ≡ Some x → numbered k.sessions n ≡ Some y → x.closing ≡ Some p → y.closing ≡ Some p → m ≡ n
+  -- a change that waits is of a session that the server has not lost
+  pub home : (i : ℕ) (c : Change) → slice_get k.server.waiting i ≡ Some c → (x : Session) × (numbered k.sessions c.session ≡ Some x) × (x.hung ≡ false)
+  -- temporary files stand by rising keys
+  pub shelf : IsShelf k.server.temps
+  -- no temporary file is of a session that was never made
+  pub unborn : (n m i : ℕ) (e : ℕ × Temp) → length k.sessions < n → m < 4294967296 → slice_get k.server.temps i ≡ Some e → e.0 ≡ key_of n m → ⊥

@@ -1,0 +1,395 @@
+-- The commands of a run and their operations are carried through its events.
+use Rattle.std.proofs.Common.{◌⊎◌, inl, inr, ◌≡◌, ℕ, zero, suc, ◌+◌, ◌*◌, ◌<◌, ◌≤◌, List, [], ◌∷◌, ◌++◌, length, Option, Some, None, Bool, true, false, refl, sym, ap, ◌∙◌, subst, arith, append-nil, eq-eqb, ne_eqb}
+use Rattle.std.proofs.lemmas.Bool.Decides.{nat_tests}
+use Rattle.std.specs.Prelude.{slice_get, slice_set, replicate, Result, Ok, Err, not, is_some, ◌&&◌, ◌==◌, nat_lt}
+use Rattle.command_text.specs.declared.command.Command.{Command}
+use Rattle.wire.specs.Parse.{parse_of}
+use Rattle.wire.specs.declared.message.Message.{Message}
+use Rattle.wire.specs.declared.fault.WireFault.{WireFault}
+use Rattle.server_core.specs.State as server
+use Rattle.server_core.specs.Closing as closing
+use Rattle.server_core.specs.Step.{connect, has_room}
+use Rattle.server_core.specs.declared.change.Change.{Change}
+use Rattle.server_core.specs.declared.event.ServerStep.{ServerStep}
+use Rattle.server_core.specs.declared.file.File.{File}
+use Rattle.open_close.specs.State as client
+use Rattle.open_close.specs.Opening.{calls_most}
+use Rattle.open_close.specs.Step.{command_step, got_step, joined, cut, ended_by}
+use Rattle.open_close.specs.declared.step.ClientStep.{ClientStep}
+use Rattle.open_close.specs.declared.step.Ended.{Ended}
+use Rattle.open_close.specs.declared.step.Outcome.TheVariants as outcome
+use Rattle.open_close.specs.declared.task.Task.{Task}
+use Rattle.register_model.specs.declared.op.Op.{Op}
+use Rattle.register_model.specs.declared.op.Opening.{Opening}
+use Rattle.register_model.specs.declared.op.Word.TheVariants as words
+use Rattle.trace_replay.specs.Commands.{word_of, file_of, value_at_begin}
+use Rattle.trace_replay.specs.Core.{Core, Seat, new_seat, Session, Event, Event.Joins, Event.Does, Event.Serves, Event.Hears, Event.Settles, Event.Cuts, Event.Hangs, numbered, with_numbered, server_waiting, serves_if, serves, acted, is_newest, hears_by, hears_if, hears_at, hears, does, joins_as, joins, settled_ops, settled_by, cuts_if, cuts, hangs_if, hangs, happens}
+use Rattle.trace_replay.specs.Ops.{pointed, pointed_at, place_with}
+use Rattle.trace_replay.specs.Trail.{Moment, Deed, deed_by, deeds_of, joined_by, joined_from}
+use Rattle.trace_replay.specs.Book.{Book}
+use Rattle.kept_promise.specs.Talk.{Queue}
+use Rattle.kept_promise.proofs.Lists.{some_is, nothing_there, same_or_not}
+use Rattle.kept_promise.proofs.Keys.{own}
+use Rattle.kept_promise.proofs.Rights.{IsUnmade}
+use Rattle.kept_promise.proofs.Turns.{around_with, also_numbered}
+use Rattle.kept_promise.proofs.Facts.{IsKept}
+use Rattle.kept_promise.proofs.RunsCarried.{book_at, first_core, moment, Step, Carried}
+use Rattle.kept_promise.proofs.Leaving.{Leaves, step_left, step_idle}
+use Rattle.kept_promise.proofs.Locally.{deeds_more, joined_more}
+use Rattle.kept_promise.proofs.Deeds.{also_there, local_of, HasDeeds, Moved, AllMoved, all_same, deeds_moved}
+use Rattle.kept_promise.proofs.Acting.{all_set, set_alike, HasWord, caused_word, locals_with, Acts, acted_follows}
+use Rattle.kept_promise.proofs.Doing.{with_end, asks_within, new_op, fixed, does_follows}
+
+-- ---- what is carried
+
+pub record IsFollowed (past : List Moment) (k : Core) : Type 0 where
+  pub deeds : HasDeeds (deeds_of past) k.ops k.seats
+  pub joined : (c : ℕ) (seat : Seat) → numbered k.seats c ≡ Some seat → seat.client.linked ≡ joined_from c false past
+  pub next : (c : ℕ) (seat : Seat) → numbered k.seats c ≡ Some seat → seat.client.next ≤ calls_most * k.steps + 1
+
+-- what an event leaves of the operations: each goes on, or there is one more
+abbrev pub OpsAfter : Core → List Op → Type 0
+OpsAfter k rs = AllMoved (k.steps + 1) k.ops rs ⊎ ((new : Op) × (rs ≡ k.ops ++ new ∷ []) × (new.begin ≡ k.steps + 1))
+
+pub record Goes (past : List Moment) (k : Core) (e : Event) (after : Core) : Type 0 where
+  pub followed : IsFollowed (past ++ moment k e ∷ []) after
+  pub ops : OpsAfter k after.ops
+  -- but by a command there is none more
+  pub moved : deed_by past (k.steps + 1) e ≡ [] → AllMoved (k.steps + 1) k.ops after.ops
+  pub passes : k.steps ≤ after.steps
+
+-- ---- before the first event
+
+replicated : {A : Type 0} (n i : ℕ) (x y : A) → slice_get (replicate n x) i ≡ Some y → y ≡ x
+replicated zero i x y e = nothing_there y e
+replicated (suc n) zero x y e = sym (some_is x y e)
+replicated (suc n) (suc i) x y e = replicated n i x y e
+
+seat_first : (count c : ℕ) (seat : Seat) → numbered (replicate count new_seat) c ≡ Some seat → seat ≡ new_seat
+seat_first count zero seat e = nothing_there seat e
+seat_first count (suc c) seat e = replicated count c new_seat seat e
+
+pub followed_first : (files : List (ℕ × File)) (changes count : ℕ) → IsFollowed [] (first_core files changes count)
+followed_first files changes count = record {
+  deeds = record {
+    count = refl;
+    rising = λ i j o q lt a b. nothing_there o a;
+    each = λ i d o a b. nothing_there d a;
+    locals = λ c seat at f. ap (λ (x : Seat). local_of x.client f) (seat_first count c seat at);
+  };
+  joined = λ c seat at. ap (λ (x : Seat). x.client.linked) (seat_first count c seat at);
+  next = λ c seat at. let n = ap (λ (x : Seat). x.client.next) (seat_first count c seat at) in omega (arith, n);
+}
+
+-- ---- an event that is no command
+
+no_deed : (past : List Moment) (k : Core) (e : Event) → deed_by past (k.steps + 1) e ≡ [] → deeds_of (past ++ moment k e ∷ []) ≡ deeds_of past
+no_deed past k e none = deeds_more past (moment k e) ∙ ap (λ l. deeds_of past ++ l) none ∙ append-nil (deeds_of past)
+
+begins : (opening : List Opening) (k : Core) (all : List Moment) (qs : List Queue) → IsKept (book_at opening k all) k qs → (i : ℕ) (o : Op) → slice_get k.ops i ≡ Some o → o.begin < k.steps + 1
+begins opening k all qs kept i o at = let le = (kept.sound.rights i o at).begun in omega (arith, le)
+
+goes_by : (past : List Moment) (k : Core) (e : Event) (after : Core) → deed_by past (k.steps + 1) e ≡ [] → AllMoved (k.steps + 1) k.ops after.ops → HasDeeds (deeds_of past) after.ops after.seats → k.steps ≤ after.steps
+    → ((c : ℕ) (seat : Seat) → numbered after.seats c ≡ Some seat → seat.client.linked ≡ joined_by c (joined_from c false past) e)
+    → ((c : ℕ) (seat : Seat) → numbered after.seats c ≡ Some seat → seat.client.next ≤ calls_most * after.steps + 1)
+    → Goes past k e after
+goes_by past k e after none moved deeds passes links nexts = record {
+  followed = record {
+    deeds = subst (λ (ds : List Deed). HasDeeds ds after.ops after.seats) (sym (no_deed past k e none)) deeds;
+    joined = λ c seat at. links c seat at ∙ sym (joined_more c false past (moment k e));
+    next = nexts;
+  };
+  ops = inl moved;
+  moved = λ z. moved;
+  passes = passes;
+}
+
+-- the operations and the clients are as they were
+goes_same : (past : List Moment) (k : Core) (e : Event) (after : Core) → IsFollowed past k → deed_by past (k.steps + 1) e ≡ [] → ((c : ℕ) (b : Bool) → joined_by c b e ≡ b) → after.ops ≡ k.ops → after.seats ≡ k.seats → k.steps ≤ after.steps → Goes past k e after
+goes_same past k e after h none still ops seats passes =
+    goes_by past k e after none (subst (AllMoved (k.steps + 1) k.ops) (sym ops) (all_same (k.steps + 1) k.ops)) (subst (λ (l : List Seat). HasDeeds (deeds_of past) after.ops l) (sym seats) (subst (λ (l : List Op). HasDeeds (deeds_of past) l k.seats) (sym ops) h.deeds)) passes
+    (λ c seat at. h.joined c seat (ap (λ l. numbered l c) (sym seats) ∙ at) ∙ sym (still c (joined_from c false past)))
+    (λ c seat at. let n = h.next c seat (ap (λ l. numbered l c) (sym seats) ∙ at) in omega (arith, n, passes))
+
+serves_same : (k : Core) (n now : ℕ) (bytes : List ℕ) (o : Option Session) → (let t = serves k n now bytes o in (t.core.ops ≡ k.ops) × (t.core.seats ≡ k.seats) × (k.steps ≤ t.core.steps))
+serves_same k n now bytes None = (refl, refl, omega arith)
+serves_same k n now bytes (Some x) = by (parse_of server_waiting bytes)
+  where
+    by : (m : Result Message WireFault) → (let t = serves_if k n now x m in (t.core.ops ≡ k.ops) × (t.core.seats ≡ k.seats) × (k.steps ≤ t.core.steps))
+    by (Ok m) = (refl, refl, omega arith)
+    by (Err e) = (refl, refl, omega arith)
+
+hangs_same : (k : Core) (n : ℕ) (o : Option Session) → (let t = hangs k n o in (t.core.ops ≡ k.ops) × (t.core.seats ≡ k.seats) × (k.steps ≤ t.core.steps))
+hangs_same k n None = (refl, refl, omega arith)
+hangs_same k n (Some x) = by x.hung
+  where
+    by : (b : Bool) → (let t = hangs_if k n x b in (t.core.ops ≡ k.ops) × (t.core.seats ≡ k.seats) × (k.steps ≤ t.core.steps))
+    by true = (refl, refl, omega arith)
+    by false = (refl, refl, omega arith)
+
+goes_serves : (past : List Moment) (k : Core) (n now : ℕ) (bytes : List ℕ) → IsFollowed past k → Goes past k (Serves n now bytes) (happens k (Serves n now bytes)).core
+goes_serves past k n now bytes h = let s = serves_same k n now bytes (numbered k.sessions n) in goes_same past k (Serves n now bytes) (happens k (Serves n now bytes)).core h refl (λ c b. refl) s.0 s.1 s.2
+
+goes_hangs : (past : List Moment) (k : Core) (n : ℕ) → IsFollowed past k → Goes past k (Hangs n) (happens k (Hangs n)).core
+goes_hangs past k n h = let s = hangs_same k n (numbered k.sessions n) in goes_same past k (Hangs n) (happens k (Hangs n)).core h refl (λ c b. refl) s.0 s.1 s.2
+
+-- ---- a client joins
+
+goes_joins : (past : List Moment) (opening : List Opening) (all : List Moment) (k : Core) (qs : List Queue) (c : ℕ) (seat : Seat) → IsKept (book_at opening k all) k qs → IsFollowed past k → numbered k.seats c ≡ Some seat → k.server.sessions_made < 4294967295 → length k.server.sessions < 64 → Goes past k (Joins c) (happens k (Joins c)).core
+goes_joins past opening all k qs c seat kept h at made few =
+    subst (λ (o : Option Seat). Goes past k (Joins c) (joins k c o).core) (sym at)
+    (subst (λ (r : server.State × ServerStep). Goes past k (Joins c) (joins_as k c seat r.0 r.1.told).core) (sym step)
+    (goes_by past k (Joins c) after refl (all_same (k.steps + 1) k.ops)
+    (deeds_moved (k.steps + 1) (deeds_of past) k.ops k.ops k.seats after.seats h.deeds (begins opening k all qs kept) (all_same (k.steps + 1) k.ops) (locals_with (deeds_of past) k.ops k.seats c seat now at (h.deeds.locals c seat at) (λ z e apart is. h.deeds.locals z e is)))
+    (omega arith)
+    (λ z e is. elim (same_or_not z c) [
+      | inl own ↦ ap (λ (x : Seat). x.client.linked) (there z e own is) ∙ sym (ap (λ b. elim b as (λ (y : Bool). Bool) [ true ↦ true | false ↦ joined_from z false past ]) (eq-eqb c z (sym own)))
+      | inr apart ↦ h.joined z e (sym (around.others z apart) ∙ is) ∙ sym (ap (λ b. elim b as (λ (y : Bool). Bool) [ true ↦ true | false ↦ joined_from z false past ]) (ne_eqb c z (λ q. apart (sym q))))
+    ])
+    (λ z e is. elim (same_or_not z c) [
+      | inl own ↦ let n = ap (λ (x : Seat). x.client.next) (there z e own is) in omega (arith, n)
+      | inr apart ↦ let n = h.next z e (sym (around.others z apart) ∙ is) in omega (arith, n)
+    ])))
+  where
+    step : connect k.server (has_room k.server) ≡ connect k.server true
+    step =
+        let a : nat_lt (length k.server.sessions) 64 ≡ true = grind (arith, nat_tests, few) in
+        let b : nat_lt k.server.sessions_made 4294967295 ≡ true = grind (arith, nat_tests, made) in
+        let room : has_room k.server ≡ true = rw (a, b) refl in
+        ap (connect k.server) room
+
+    after : Core
+    after = (let r = connect k.server true in joins_as k c seat r.0 r.1.told).core
+
+    now : Seat
+    now = record seat { client = joined seat.client; session = Some (k.server.sessions_made + 1) }
+
+    around : Rattle.kept_promise.proofs.Turns.Around k.seats (with_numbered k.seats c now) c now
+    around = around_with k.seats c seat now at
+
+    there : (z : ℕ) (e : Seat) → z ≡ c → numbered (with_numbered k.seats c now) z ≡ Some e → e ≡ now
+    there z e own is = some_is e now (sym is ∙ ap (numbered (with_numbered k.seats c now)) own ∙ around.there)
+
+-- ---- a change is made
+
+-- whatever is settled is the close that its session remembers, which has no point yet
+settled_moves : (opening : List Opening) (all : List Moment) (k : Core) (qs : List Queue) (now : ℕ) → IsKept (book_at opening k all) k qs → (o : List Change) → k.server.waiting ≡ o → (let r = closing.settles k.server now o in (settled_by k r.1.entries r.1.told ≡ k.ops) ⊎ ((p : ℕ) × (q : Op) × (slice_get k.ops p ≡ Some q) × IsUnmade q × (settled_by k r.1.entries r.1.told ≡ slice_set k.ops p (record q { point = Some (k.steps + 1) }))))
+settled_moves opening all k qs now kept [] e = inl refl
+settled_moves opening all k qs now kept (c ∷ cs) e = by (server.file_at k.server.files c.file)
+  where
+    home : (x : Session) × (numbered k.sessions c.session ≡ Some x) × (x.hung ≡ false)
+    home = kept.home 0 c (ap (λ (l : List Change). slice_get l 0) e)
+
+    own_first : own c.session (c ∷ cs) ≡ c ∷ own c.session cs
+    own_first = ap (λ b. Rattle.std.specs.Prelude.cond b (c ∷ own c.session cs) (own c.session cs)) (eq-eqb c.session c.session refl)
+
+    by : (f : Option File) → (let r = closing.makes_change (closing.at (record k.server { waiting = cs }) now) c f in (settled_by k r.1.entries r.1.told ≡ k.ops) ⊎ ((p : ℕ) × (q : Op) × (slice_get k.ops p ≡ Some q) × IsUnmade q × (settled_by k r.1.entries r.1.told ≡ slice_set k.ops p (record q { point = Some (k.steps + 1) }))))
+    by None = inl refl
+    by (Some f) =
+        let x = home.0 in
+        let q = also_numbered k.sessions qs c.session x kept.made.1 home.1 in
+        let s = kept.sessions c.session x q.0 home.1 q.1 in
+        let p = s.pending 0 c (ap (λ (l : List Change). slice_get (own c.session l) 0) e ∙ ap (λ (l : List Change). slice_get l 0) own_first) in
+        inr (
+          p.place,
+          p.op,
+          p.there,
+          p.unmade,
+          ap (λ (z : Option Session). settled_ops k.ops 1 (k.steps + 1) z) home.1 ∙ ap (λ (z : Option ℕ). pointed_at k.ops z (k.steps + 1)) p.known ∙ ap (λ (z : Option Op). pointed k.ops p.place (k.steps + 1) z) p.there,
+        )
+
+-- one operation of the same outcome and value takes the place of another
+goes_set : (past : List Moment) (opening : List Opening) (all : List Moment) (k : Core) (qs : List Queue) (e : Event) (after : Core) (p : ℕ) (q r : Op) → IsKept (book_at opening k all) k qs → IsFollowed past k → deed_by past (k.steps + 1) e ≡ [] → ((c : ℕ) (b : Bool) → joined_by c b e ≡ b) → slice_get k.ops p ≡ Some q → Moved (k.steps + 1) q r → r.outcome ≡ q.outcome → r.value ≡ q.value
+    → after.ops ≡ slice_set k.ops p r → after.seats ≡ k.seats → k.steps ≤ after.steps → Goes past k e after
+goes_set past opening all k qs e after p q r kept h none still at m u v ops seats passes =
+    let moved = all_set (k.steps + 1) k.ops p q r at m in
+    let d = also_there k.ops (deeds_of past) p q (sym h.deeds.count) at in
+    let now = deeds_moved (k.steps + 1) (deeds_of past) k.ops (slice_set k.ops p r) k.seats k.seats h.deeds (begins opening k all qs kept) moved (λ c seat is f. h.deeds.locals c seat is f ∙ sym (set_alike c f (deeds_of past) k.ops p d.0 q r d.1 at u v)) in
+    goes_by past k e after none (subst (AllMoved (k.steps + 1) k.ops) (sym ops) moved) (subst (λ (l : List Seat). HasDeeds (deeds_of past) after.ops l) (sym seats) (subst (λ (l : List Op). HasDeeds (deeds_of past) l k.seats) (sym ops) now)) passes
+    (λ c seat is. h.joined c seat (ap (λ l. numbered l c) (sym seats) ∙ is) ∙ sym (still c (joined_from c false past)))
+    (λ c seat is. let n = h.next c seat (ap (λ l. numbered l c) (sym seats) ∙ is) in omega (arith, n, passes))
+
+goes_settles : (past : List Moment) (opening : List Opening) (all : List Moment) (k : Core) (qs : List Queue) (now : ℕ) → IsKept (book_at opening k all) k qs → IsFollowed past k → Goes past k (Settles now) (happens k (Settles now)).core
+goes_settles past opening all k qs now kept h = by (settled_moves opening all k qs now kept k.server.waiting refl)
+  where
+    after : Core
+    after = (happens k (Settles now)).core
+
+    not_open : words.Close ≡ words.Open → ⊥
+    not_open e = absurd cc
+
+    by : (after.ops ≡ k.ops) ⊎ ((p : ℕ) × (q : Op) × (slice_get k.ops p ≡ Some q) × IsUnmade q × (after.ops ≡ slice_set k.ops p (record q { point = Some (k.steps + 1) }))) → Goes past k (Settles now) after
+    by (inl same) = goes_same past k (Settles now) after h refl (λ c b. refl) same refl (omega arith)
+    by (inr s) =
+        goes_set past opening all k qs (Settles now) after s.0 s.1 (record s.1 { point = Some (k.steps + 1) }) kept h refl (λ c b. refl) s.2
+        (record { client = refl; word = refl; file = refl; begin = refl; value = λ w. refl; ended = λ n e. (e, refl, refl, λ w. absurd (not_open (sym s.3.0 ∙ w))); ends = λ n. inl n; asked = λ a. a }) refl refl s.4 refl (omega arith)
+
+-- ---- a step of a client
+
+ops_words : (opening : List Opening) (after : Core) (all : List Moment) (qs : List Queue) → IsKept (book_at opening after all) after qs → (i : ℕ) (r : Op) → slice_get after.ops i ≡ Some r → HasWord r.word r.outcome
+ops_words opening after all qs kept i r at = caused_word (book_at opening after all) r r.outcome (kept.sound.rights i r at).cause
+
+acts_by : (opening : List Opening) (all : List Moment) (k : Core) (qs : List Queue) (c : ℕ) (seat : Seat) (t : client.State) (acts : ClientStep) → IsKept (book_at opening k all) k qs → numbered k.seats c ≡ Some seat → (seat.client.task ≡ None → (t.opened ≡ seat.client.opened) × (acts.ended ≡ None))
+    → ((x : Task) → seat.client.task ≡ Some x → Leaves seat.client.opened t.opened x.file acts.ended) → ((i : ℕ) (r : Op) → slice_get (acted k c seat t acts).core.ops i ≡ Some r → HasWord r.word r.outcome) → Acts k c seat t acts
+acts_by opening all k qs c seat t acts kept here idle busy word =
+    let s = kept.seats c seat here in
+    record {
+      here = here;
+      matched = s.matched;
+      begins = begins opening k all qs kept;
+      op = λ j e. let of = s.task j e in (of.op, of.there, of.client, of.file, of.running, with_end (book_at opening k all) of.op (kept.sound.rights j.place of.op of.there) of.running);
+      idle = idle;
+      busy = busy;
+      words = word;
+    }
+
+-- ---- a connection is lost
+
+cuts_off : (past : List Moment) (c : ℕ) (seats : List Seat) (seat now : Seat) → ((z : ℕ) (e : Seat) → numbered seats z ≡ Some e → e.client.linked ≡ joined_from z false past) → numbered seats c ≡ Some seat → now.client.linked ≡ false → (z : ℕ) (e : Seat) → numbered (with_numbered seats c now) z ≡ Some e → e.client.linked ≡ joined_by z (joined_from z false past) (Cuts c)
+cuts_off past c seats seat now links here off z e is = elim (same_or_not z c) [
+  | inl own ↦ ap (λ (x : Seat). x.client.linked) (some_is e now (sym is ∙ ap (numbered (with_numbered seats c now)) own ∙ around.there)) ∙ off ∙ sym (ap (λ b. elim b as (λ (y : Bool). Bool) [ true ↦ false | false ↦ joined_from z false past ]) (eq-eqb c z (sym own)))
+  | inr apart ↦ links z e (sym (around.others z apart) ∙ is) ∙ sym (ap (λ b. elim b as (λ (y : Bool). Bool) [ true ↦ false | false ↦ joined_from z false past ]) (ne_eqb c z (λ q. apart (sym q))))
+]
+  where
+    around : Rattle.kept_promise.proofs.Turns.Around seats (with_numbered seats c now) c now
+    around = around_with seats c seat now here
+
+cut_stays : (past : List Moment) (c : ℕ) (seats : List Seat) (seat : Seat) → ((z : ℕ) (e : Seat) → numbered seats z ≡ Some e → e.client.linked ≡ joined_from z false past) → numbered seats c ≡ Some seat → seat.client.linked ≡ false → (z : ℕ) (e : Seat) → numbered seats z ≡ Some e → e.client.linked ≡ joined_by z (joined_from z false past) (Cuts c)
+cut_stays past c seats seat links here off z e is = elim (same_or_not z c) [
+  | inl own ↦ ap (λ (x : Seat). x.client.linked) (some_is e seat (sym is ∙ ap (numbered seats) own ∙ here)) ∙ off ∙ sym (ap (λ b. elim b as (λ (y : Bool). Bool) [ true ↦ false | false ↦ joined_from z false past ]) (eq-eqb c z (sym own)))
+  | inr apart ↦ links z e is ∙ sym (ap (λ b. elim b as (λ (y : Bool). Bool) [ true ↦ false | false ↦ joined_from z false past ]) (ne_eqb c z (λ q. apart (sym q))))
+]
+
+ended_idle : (task : Option Task) (e : Ended) → task ≡ None → (ended_by task e).ended ≡ None
+ended_idle None e is = refl
+ended_idle (Some t) e is = absurd cc
+
+ended_busy : (opened : List (ℕ × Rattle.open_close.specs.declared.task.Local.Local)) (file : ℕ) (task : Option Task) (t : Task) → task ≡ Some t → Leaves opened opened file (ended_by task (record { outcome = outcome.Lost; rests_on = 0 })).ended
+ended_busy opened file (Some x) t e = refl
+ended_busy opened file None t e = absurd cc
+
+goes_cuts : (past : List Moment) (opening : List Opening) (all : List Moment) (k : Core) (qs after : List Queue) (c : ℕ) (seat : Seat) → IsKept (book_at opening k all) k qs → IsFollowed past k → numbered k.seats c ≡ Some seat → (b : Bool) → seat.client.linked ≡ b → IsKept (book_at opening (cuts_if k c seat b).core all) (cuts_if k c seat b).core after → Goes past k (Cuts c) (cuts_if k c seat b).core
+goes_cuts past opening all k qs after c seat kept h here true e left =
+    let r = cut seat.client in
+    let a = acts_by opening all k qs c seat r.0 r.1 kept here (λ f. (refl, ended_idle seat.client.task _ f)) (λ x f. ended_busy seat.client.opened x.file seat.client.task x f) (ops_words opening (cuts_if k c seat true).core all after left) in
+    let f = acted_follows (deeds_of past) k c seat r.0 r.1 h.deeds a in
+    let now : Seat = record seat { client = r.0; place = Rattle.trace_replay.specs.Ops.place_after seat.place r.1.ended } in
+    goes_by past k (Cuts c) (cuts_if k c seat true).core refl f.moved f.deeds (omega arith) (cuts_off past c k.seats seat now h.joined here refl)
+    (λ z x is. elim (same_or_not z c) [
+      | inl own ↦ let n = h.next c seat here in let m = ap (λ (y : Seat). y.client.next) (some_is x now (sym is ∙ ap (numbered (with_numbered k.seats c now)) own ∙ (around_with k.seats c seat now here).there)) in omega (arith, n, m)
+      | inr apart ↦ let n = h.next z x (sym ((around_with k.seats c seat now here).others z apart) ∙ is) in omega (arith, n)
+    ])
+goes_cuts past opening all k qs after c seat kept h here false e left =
+    goes_by past k (Cuts c) (cuts_if k c seat false).core refl (all_same (k.steps + 1) k.ops) h.deeds (omega arith) (cut_stays past c k.seats seat h.joined here e) (λ z x is. let n = h.next z x is in omega (arith, n))
+
+-- ---- an answer comes
+
+-- whatever a client hears, it is joined as it was: its session tells
+still_joined : (book more : Book) (k after : Core) (qs ts : List Queue) (c : ℕ) (seat now : Seat) → IsKept book k qs → IsKept more after ts → numbered k.seats c ≡ Some seat → numbered after.seats c ≡ Some now → after.sessions ≡ k.sessions → now.client.linked ≡ seat.client.linked
+still_joined book more k after qs ts c seat now kept left here there sessions = by now.client.linked seat.client.linked refl refl
+  where
+    -- a client whose session is not cut is joined
+    uncut : (book : Book) (k : Core) (qs : List Queue) (seat : Seat) → IsKept book k qs → numbered k.seats c ≡ Some seat → (n : ℕ) (x : Session) → numbered k.sessions n ≡ Some x → x.cut ≡ false → x.owner ≡ c → seat.client.linked ≡ true
+    uncut book k qs seat kept here n x at whole owner =
+        let q = also_numbered k.sessions qs n x kept.made.1 at in
+        let s = kept.sessions n x q.0 at q.1 in
+        ap (λ (z : Seat). z.client.linked) (some_is seat s.seat (sym here ∙ ap (numbered k.seats) (sym owner) ∙ s.owner)) ∙ (s.here whole).1
+
+    -- and the other way round
+    has_session : (book : Book) (k : Core) (qs : List Queue) (seat : Seat) → IsKept book k qs → numbered k.seats c ≡ Some seat → seat.client.linked ≡ true → (n : ℕ) × (x : Session) × (numbered k.sessions n ≡ Some x) × (x.cut ≡ false) × (x.owner ≡ c)
+    has_session book k qs seat kept here is =
+        let s = kept.seats c seat here in
+        let l = s.linked is in
+        let w = s.session l.0 l.2 in
+        (l.0, l.1, l.3, l.4, ap (λ (z : Session). z.owner) (some_is l.1 w.0 (sym l.3 ∙ w.1)) ∙ w.2)
+
+    by : (a b : Bool) → now.client.linked ≡ a → seat.client.linked ≡ b → a ≡ b
+    by true true e f = refl
+    by false false e f = refl
+    by true false e f = let l = has_session more after ts now left there e in sym (uncut book k qs seat kept here l.0 l.1 (ap (λ (z : List Session). numbered z l.0) (sym sessions) ∙ l.2) l.3 l.4) ∙ f
+    by false true e f = let l = has_session book k qs seat kept here f in sym e ∙ uncut more after ts now left there l.0 l.1 (ap (λ (z : List Session). numbered z l.0) sessions ∙ l.2) l.3 l.4
+
+heard_by : (past : List Moment) (opening : List Opening) (all : List Moment) (k : Core) (qs after : List Queue) (n now c : ℕ) (bytes : List ℕ) (seat : Seat) → IsKept (book_at opening k all) k qs → IsFollowed past k → numbered k.seats c ≡ Some seat → IsKept (book_at opening (hears_by k c now seat bytes).core all) (hears_by k c now seat bytes).core after → Goes past k (Hears n now bytes) (hears_by k c now seat bytes).core
+heard_by past opening all k qs after n now c bytes seat kept h here left =
+    let m = parse_of (client.waiting_of seat.client) bytes in
+    let r = got_step seat.client m now in
+    let a = acts_by opening all k qs c seat r.0 r.1 kept here (λ f. let i = step_idle seat.client m now f in (i.1, i.2)) (λ x f. (step_left seat.client m now x f).1) (ops_words opening (hears_by k c now seat bytes).core all after left) in
+    let f = acted_follows (deeds_of past) k c seat r.0 r.1 h.deeds a in
+    let then : Seat = record seat { client = r.0; place = Rattle.trace_replay.specs.Ops.place_after seat.place r.1.ended } in
+    let around = around_with k.seats c seat then here in
+    goes_by past k (Hears n now bytes) (hears_by k c now seat bytes).core refl f.moved f.deeds (omega arith)
+    (λ z x is. elim (same_or_not z c) [
+      | inl mine ↦ ap (λ (y : Seat). y.client.linked) (some_is x then (sym is ∙ ap (numbered (with_numbered k.seats c then)) mine ∙ around.there)) ∙ still_joined (book_at opening k all) (book_at opening (hears_by k c now seat bytes).core all) k (hears_by k c now seat bytes).core qs after c seat then kept left here around.there refl ∙ h.joined c seat here ∙ ap (λ (y : ℕ). joined_from y false past) (sym mine)
+      | inr apart ↦ h.joined z x (sym (around.others z apart) ∙ is)
+    ])
+    (λ z x is. elim (same_or_not z c) [
+      | inl mine ↦ let n = h.next c seat here in let q = more m seat.client.task refl in let o = ap (λ (y : Seat). y.client.next) (some_is x then (sym is ∙ ap (numbered (with_numbered k.seats c then)) mine ∙ around.there)) in omega (arith, n, q, o)
+      | inr apart ↦ let n = h.next z x (sym (around.others z apart) ∙ is) in omega (arith, n)
+    ])
+  where
+    more : (m : Result Message WireFault) (task : Option Task) → seat.client.task ≡ task → (got_step seat.client m now).0.next ≤ seat.client.next + calls_most
+    more m None e = let i = (step_idle seat.client m now e).0 in omega (arith, i)
+    more m (Some t) e = (step_left seat.client m now t e).0
+
+goes_hears : (past : List Moment) (opening : List Opening) (all : List Moment) (k : Core) (qs after : List Queue) (n now : ℕ) (bytes : List ℕ) → IsKept (book_at opening k all) k qs → IsFollowed past k → (o : Option Session) → numbered k.sessions n ≡ o → IsKept (book_at opening (hears k n now bytes o).core all) (hears k n now bytes o).core after → Goes past k (Hears n now bytes) (hears k n now bytes o).core
+goes_hears past opening all k qs after n now bytes kept h None at left = goes_same past k (Hears n now bytes) k h refl (λ c b. refl) refl refl (omega arith)
+goes_hears past opening all k qs after n now bytes kept h (Some x) at left = by_seat (numbered k.seats x.owner) refl left
+  where
+    by_newest : (seat : Seat) → numbered k.seats x.owner ≡ Some seat → (b : Bool) → IsKept (book_at opening (hears_if k x.owner now seat bytes b).core all) (hears_if k x.owner now seat bytes b).core after → Goes past k (Hears n now bytes) (hears_if k x.owner now seat bytes b).core
+    by_newest seat here true left = heard_by past opening all k qs after n now x.owner bytes seat kept h here left
+    by_newest seat here false left = goes_same past k (Hears n now bytes) k h refl (λ c b. refl) refl refl (omega arith)
+
+    by_seat : (o : Option Seat) → numbered k.seats x.owner ≡ o → IsKept (book_at opening (hears_at k n x.owner now bytes o).core all) (hears_at k n x.owner now bytes o).core after → Goes past k (Hears n now bytes) (hears_at k n x.owner now bytes o).core
+    by_seat None here left = goes_same past k (Hears n now bytes) k h refl (λ c b. refl) refl refl (omega arith)
+    by_seat (Some seat) here left = by_newest seat here (is_newest seat.session n) left
+
+-- ---- a command
+
+goes_does : (past : List Moment) (opening : List Opening) (all : List Moment) (k : Core) (qs : List Queue) (c now : ℕ) (d : Command) (seat : Seat) → IsKept (book_at opening k all) k qs → IsFollowed past k → numbered k.seats c ≡ Some seat → Goes past k (Does c now d) (does k c now d (Some seat)).core
+goes_does past opening all k qs c now d seat kept h here =
+    let deed : Deed = record { client = c; command = d; begin = k.steps + 1; joined = joined_from c false past } in
+    let r = command_step seat.client d now in
+    let place = place_with seat.place (length k.ops) r.1.ended in
+    let after : Core = (does k c now d (Some seat)).core in
+    let then : Seat = record seat { client = r.0; place = place } in
+    let around = around_with k.seats c seat then here in
+    let may = subst (λ (b : Bool). Rattle.trace_replay.specs.Causes.MayAsk b (Rattle.open_close.specs.Step.may_ask seat.client) (k.steps + 1)) (h.joined c seat here) (asks_within seat.client k.steps (h.next c seat here)) in
+    let f = does_follows (book_at opening k all) (deeds_of past) k qs c now seat deed place kept refl refl h.deeds here (begins opening k all qs kept) refl refl may in
+    let nexts = f.stays.0 in
+    record {
+      followed = record {
+        deeds = subst (λ (ds : List Deed). HasDeeds ds after.ops after.seats) (sym (deeds_more past (moment k (Does c now d)))) f.deeds;
+        joined = λ z x is. elim (same_or_not z c) [
+          | inl mine ↦ ap (λ (y : Seat). y.client.linked) (some_is x then (sym is ∙ ap (numbered (with_numbered k.seats c then)) mine ∙ around.there)) ∙ f.stays.1 ∙ h.joined c seat here ∙ ap (λ (y : ℕ). joined_from y false past) (sym mine) ∙ sym (joined_more z false past (moment k (Does c now d)))
+          | inr apart ↦ h.joined z x (sym (around.others z apart) ∙ is) ∙ sym (joined_more z false past (moment k (Does c now d)))
+        ];
+        next = λ z x is. elim (same_or_not z c) [
+          | inl mine ↦ let n = h.next c seat here in let o = ap (λ (y : Seat). y.client.next) (some_is x then (sym is ∙ ap (numbered (with_numbered k.seats c then)) mine ∙ around.there)) in omega (arith, n, nexts, o)
+          | inr apart ↦ let n = h.next z x (sym (around.others z apart) ∙ is) in omega (arith, n)
+        ];
+      };
+      ops = inr (new_op c (word_of d) (file_of d) (value_at_begin seat.client d) (k.steps + 1) r, refl, (fixed c (word_of d) (file_of d) (value_at_begin seat.client d) (k.steps + 1) r).3);
+      moved = λ z. absurd cc;
+      passes = omega arith;
+    }
+
+-- ---- any event
+
+pub goes : (all past rest : List Moment) (opening : List Opening) (k : Core) (qs : List Queue) (e : Event) (mid after : List Queue) → Step all past rest opening k qs e mid after → IsFollowed past k → Goes past k e (happens k e).core
+goes all past rest opening k qs (Joins c) mid after s h = let f = s.finds in goes_joins past opening all k qs c f.0 s.kept h f.1 f.3 f.4
+goes all past rest opening k qs (Does c now d) mid after s h = let f = s.finds in subst (λ (o : Option Seat). Goes past k (Does c now d) (does k c now d o).core) (sym f.1) (goes_does past opening all k qs c now d f.0 s.kept h f.1)
+goes all past rest opening k qs (Serves n now bytes) mid after s h = goes_serves past k n now bytes h
+goes all past rest opening k qs (Hears n now bytes) mid after s h = goes_hears past opening all k qs after n now bytes s.kept h (numbered k.sessions n) refl s.left
+goes all past rest opening k qs (Settles now) mid after s h = goes_settles past opening all k qs now s.kept h
+goes all past rest opening k qs (Cuts c) mid after s h = by (numbered k.seats c) s.finds.1 s.left
+  where
+    by : (o : Option Seat) → o ≡ Some s.finds.0 → IsKept (book_at opening (cuts k c o).core all) (cuts k c o).core after → Goes past k (Cuts c) (cuts k c o).core
+    by None e left = nothing_there s.finds.0 e
+    by (Some seat) e left = goes_cuts past opening all k qs after c seat s.kept h (s.finds.1 ∙ sym e) seat.client.linked refl left
+goes all past rest opening k qs (Hangs n) mid after s h = goes_hangs past k n h
+
+pub carried_deeds : Carried (λ all past opening k qs. IsFollowed past k)
+carried_deeds = record {
+  first = λ all opening files changes count kept. followed_first files changes count;
+  steps = λ all past rest opening k qs e mid after s h. (goes all past rest opening k qs e mid after s h).followed;
+}

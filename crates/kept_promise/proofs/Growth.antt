@@ -1,0 +1,182 @@
+-- How a history grows in a step, and what stays true of operations then.
+use Rattle.std.proofs.Common.{IsSome, ◌⊎◌, inl, inr, ◌≡◌, ℕ, zero, suc, ◌+◌, ◌<◌, ◌≤◌, List, [], ◌∷◌, length, Option, Some, None, Bool, true, false, refl, sym, ap, ◌∙◌, subst, arith}
+use Rattle.std.specs.Prelude.{slice_get, Contains}
+use Rattle.sha1.specs.Sha1.{sha1}
+use Rattle.server_core.specs.declared.journal.Entry.{Entry}
+use Rattle.register_model.specs.Register.{Value, content_of}
+use Rattle.register_model.specs.declared.op.Op.{Op}
+use Rattle.register_model.specs.declared.op.Opening.{Opening}
+use Rattle.register_model.specs.declared.op.Outcome.{Outcome}
+use Rattle.register_model.specs.declared.op.Outcome.TheVariants as told
+use Rattle.register_model.specs.declared.op.Word.{Word}
+use Rattle.register_model.specs.declared.op.Word.TheVariants as words
+use Rattle.trace_replay.specs.Trail.{Moment, hashed_of}
+use Rattle.trace_replay.specs.Book.{Book, Or, Collides, history, value_at, version_at}
+use Rattle.trace_replay.specs.Causes.{Tried, Within, IsOpened, IsClosed, IsChanged, IsLost, IsOpenRefused, IsCloseRefused, IsEntered}
+use Rattle.kept_promise.proofs.Lists.{some_is}
+use Rattle.kept_promise.proofs.Marks.{Mark, marks, latest_mark, left_by, value_is, count_is}
+use Rattle.kept_promise.proofs.Rights.{Caused, RefusedBy, IsRight, IsUnmade, IsMade}
+
+-- what becomes of an operation; at most one is made, and at most one ends
+pub record Follows (book : Book) (made ended : Option ℕ) (k : ℕ) (o r : Op) : Type 0 where
+  pub client : r.client ≡ o.client
+  pub word : r.word ≡ o.word
+  pub file : r.file ≡ o.file
+  pub begin : r.begin ≡ o.begin
+  pub point : o.word ≡ words.Close → (p : ℕ) → o.point ≡ Some p → r.point ≡ Some p
+  pub value : o.word ≡ words.Close → r.value ≡ o.value
+  pub unmade : (made ≡ Some k → ⊥) → IsUnmade o → IsUnmade r
+  -- it ends now, if it does
+  pub end : (e : ℕ) → r.end ≡ Some e → (o.end ≡ Some e) ⊎ (book.steps < e)
+  pub running : (ended ≡ Some k → ⊥) → o.outcome ≡ told.Running → r.outcome ≡ told.Running
+
+pub follows_same : (book : Book) (made ended : Option ℕ) (k : ℕ) (o : Op) → Follows book made ended k o o
+follows_same book made ended k o = record { client = refl; word = refl; file = refl; begin = refl; point = λ w p e. e; value = λ w. refl; unmade = λ n u. u; end = λ e q. inl q; running = λ n e. e }
+
+-- each operation is still there, and what files are at moments up to now is as it was
+pub record Grows (book more : Book) (made ended : Option ℕ) : Type 0 where
+  pub opening : more.opening ≡ book.opening
+  pub happened : (m : Moment) → Contains book.moments m → Contains more.moments m
+  pub hashed : (b : List ℕ) → Contains (hashed_of book.moments) b → Contains (hashed_of more.moments) b
+  pub passes : book.steps ≤ more.steps
+  pub steps_kept : (j p : ℕ) → slice_get book.entries j ≡ Some p → slice_get more.entries j ≡ Some p
+  pub entries_new : (j p : ℕ) → slice_get more.entries j ≡ Some p → (slice_get book.entries j ≡ Some p) ⊎ (book.steps < p)
+  pub journal_kept : (j : ℕ) (e : Entry) → slice_get book.journal j ≡ Some e → slice_get more.journal j ≡ Some e
+  pub values : (f p : ℕ) → p ≤ book.steps + 1 → marks f p more.ops ≡ marks f p book.ops
+  pub each : (k : ℕ) (o : Op) → slice_get book.ops k ≡ Some o → (r : Op) × (slice_get more.ops k ≡ Some r) × Follows book made ended k o r
+
+-- ---- values and versions
+
+abbrev pub seen_in : List Opening → (file : ℕ) → List Mark → Value
+seen_in opening f ms = left_by (content_of opening f) (latest_mark ms)
+
+pub value_seen : (book : Book) (f p : ℕ) → value_at book f p ≡ seen_in book.opening f (marks f p book.ops)
+value_seen book f p = value_is (history book) f p
+
+pub version_seen : (book : Book) (f p : ℕ) → version_at book f p ≡ length (marks f p book.ops) + 1
+version_seen book f p = ap (λ n. n + 1) (sym (count_is f p book.ops))
+
+-- the same marks at two moments, of two books
+pub value_alike : (book more : Book) (f p q : ℕ) → more.opening ≡ book.opening → marks f p more.ops ≡ marks f q book.ops → value_at more f p ≡ value_at book f q
+value_alike book more f p q o e = value_seen more f p ∙ ap (λ l. seen_in l f (marks f p more.ops)) o ∙ ap (seen_in book.opening f) e ∙ sym (value_seen book f q)
+
+pub version_alike : (book more : Book) (f p q : ℕ) → marks f p more.ops ≡ marks f q book.ops → version_at more f p ≡ version_at book f q
+version_alike book more f p q e = version_seen more f p ∙ ap (λ ms. length ms + 1) e ∙ sym (version_seen book f q)
+
+pub value_later : (book more : Book) (made ended : Option ℕ) (f p : ℕ) → Grows book more made ended → p ≤ book.steps + 1 → value_at more f p ≡ value_at book f p
+value_later book more made ended f p g le = value_alike book more f p p g.opening (g.values f p le)
+
+pub version_later : (book more : Book) (made ended : Option ℕ) (f p : ℕ) → Grows book more made ended → p ≤ book.steps + 1 → version_at more f p ≡ version_at book f p
+version_later book more made ended f p g le = version_alike book more f p p (g.values f p le)
+
+-- ---- what rests on digests
+
+pub collides_later : (book more : Book) (made ended : Option ℕ) → Grows book more made ended → Collides (hashed_of book.moments) → Collides (hashed_of more.moments)
+collides_later book more made ended g c = record { a = c.a; b = c.b; first = g.hashed c.a c.first; second = g.hashed c.b c.second; same = c.same; apart = c.apart }
+
+pub or_later : (book more : Book) (made ended : Option ℕ) (P Q : Type 0) → Grows book more made ended → (P → Q) → Or book P → Or more Q
+or_later book more made ended P Q g f (inl p) = inl (f p)
+or_later book more made ended P Q g f (inr c) = inr (collides_later book more made ended g c)
+
+pub or_map : (book : Book) (P Q : Type 0) → (P → Q) → Or book P → Or book Q
+or_map book P Q f (inl p) = inl (f p)
+or_map book P Q f (inr c) = inr c
+
+pub or_both : (book : Book) (P Q R : Type 0) → (P → Q → R) → Or book P → Or book Q → Or book R
+or_both book P Q R f (inl p) (inl q) = inl (f p q)
+or_both book P Q R f (inl p) (inr c) = inr c
+or_both book P Q R f (inr c) q = inr c
+
+-- ---- an operation
+
+pub entered_later : (book more : Book) (made ended : Option ℕ) (f p v len : ℕ) (digest : List ℕ) → Grows book more made ended → IsEntered book f p v len digest → IsEntered more f p v len digest
+entered_later book more made ended f p v len digest g h = record { place = h.place; entry = h.entry; step_is = g.steps_kept h.place p h.step_is; entry_is = g.journal_kept h.place h.entry h.entry_is; file_is = h.file_is; version_is = h.version_is; len_is = h.len_is; digest_is = h.digest_is }
+
+-- attempts stay so where versions do
+pub tried_moves : (book more : Book) (f b n p limit : ℕ) → ((q : ℕ) → q ≤ limit → version_at more f q ≡ version_at book f q) → p ≤ limit → Tried book f b n p → Tried more f b n p
+tried_moves book more f b zero p limit same le h = h
+tried_moves book more f b (suc n) p limit same le h =
+    let lt = h.3 in
+    let at = h.4 in
+    (h.0, h.1, tried_moves book more f b n h.0 limit same (omega (arith, lt, at, le)) h.2, h.3, h.4, λ e. h.5 (sym (same h.0 (omega (arith, lt, at, le))) ∙ e ∙ same h.1 (omega (arith, at, le))))
+
+pub tried_later : (book more : Book) (made ended : Option ℕ) (f b n p : ℕ) → Grows book more made ended → p ≤ book.steps + 1 → Tried book f b n p → Tried more f b n p
+tried_later book more made ended f b n p g le h = tried_moves book more f b n p (book.steps + 1) (λ q at. version_later book more made ended f q g at) le h
+
+pub tried_wider : (book : Book) (f b n p q : ℕ) → p ≤ q → Tried book f b n p → Tried book f b n q
+tried_wider book f b zero p q le h = omega (arith, le, h)
+tried_wider book f b (suc n) p q le h = let at = h.4 in (h.0, h.1, h.2, h.3, omega (arith, at, le), h.5)
+
+refused_later : (book more : Book) (made ended : Option ℕ) (o : Op) (w : Word) (s : ℕ) → Grows book more made ended → ((p : ℕ) → o.point ≡ Some p → p ≤ book.steps) → RefusedBy book o w s → RefusedBy more o w s
+refused_later book more made ended o words.Open s g past (inl h) = inl h
+refused_later book more made ended o words.Open s g past (inr h) = inr (h.0, ap (λ (l : List Opening). content_of l o.file) g.opening ∙ h.1, (h.2.0, h.2.1, value_later book more made ended o.file h.2.0 g (let le = past h.2.0 h.2.1.0 in omega (arith, le)) ∙ h.2.2))
+refused_later book more made ended o words.Close s g past h = record { status_is = h.status_is; pointless = h.pointless; end = h.end; end_is = h.end_is; moment = h.moment; there = g.happened h.moment h.there; session = h.session; now = h.now; bytes = h.bytes; event_is = h.event_is; owner = h.owner; xid = h.xid; call = h.call; parsed = h.parsed; size = h.size; after = h.after; before = h.before; full = h.full }
+refused_later book more made ended o _ s g past h = h
+
+cause_later : (book more : Book) (made ended : Option ℕ) (o : Op) (u : Outcome) → Grows book more made ended → IsRight book o → Caused book o u → Caused more o u
+cause_later book more made ended o (told.Opened len digest) g r h = (
+  h.0,
+  record {
+    length_is = h.1.length_is;
+    there = subst (λ (l : List Opening). IsSome (content_of l o.file)) (sym g.opening) h.1.there;
+    digest_is = h.1.digest_is;
+    point = h.1.point;
+    within = h.1.within;
+    value_is = or_later book more made ended _ _ g (λ e. value_later book more made ended o.file h.1.point g (let lt = (r.pointed h.1.point h.1.within.0).1 in omega (arith, lt)) ∙ e) h.1.value_is;
+  },
+)
+cause_later book more made ended o (told.Refused s) g r h = refused_later book more made ended o o.word s g (λ p e. (r.pointed p e).1) h
+cause_later book more made ended o (told.Changed v w) g r h =
+    let c = h.1 in
+    let past = (r.past c.end c.end_is).1 in
+    let le = c.past in
+    let lt = c.order in (
+      h.0,
+      record {
+        end = c.end;
+        end_is = c.end_is;
+        first = c.first;
+        last = c.last;
+        before = tried_later book more made ended o.file o.begin 3 c.first g (omega (arith, past, le, lt)) c.before;
+        order = c.order;
+        past = c.past;
+        first_is = version_later book more made ended o.file c.first g (omega (arith, past, le, lt)) ∙ c.first_is;
+        last_is = version_later book more made ended o.file c.last g (omega (arith, past, le)) ∙ c.last_is;
+        apart = c.apart;
+      },
+    )
+cause_later book more made ended o (told.Closed v len digest) g r h = (h.0, record { length_is = h.1.length_is; digest_is = h.1.digest_is; point = h.1.point; within = h.1.within; entered = entered_later book more made ended o.file h.1.point v len digest g h.1.entered })
+cause_later book more made ended o told.Lost g r h = (h.0, record { end = h.1.end; end_is = h.1.end_is; moment = h.1.moment; there = g.happened h.1.moment h.1.there; step_is = h.1.step_is; event_is = h.1.event_is })
+cause_later book more made ended o told.Running g r h = h
+cause_later book more made ended o (told.BadPeer n) g r h = h
+cause_later book more made ended o told.PeerMemory g r h = h
+cause_later book more made ended o told.Memory g r h = h
+cause_later book more made ended o (told.Names names) g r h = h
+cause_later book more made ended o (told.Seen file kind version len) g r h = h
+cause_later book more made ended o _ g r h = tt
+
+pub right_later : (book more : Book) (made ended : Option ℕ) (o : Op) → Grows book more made ended → IsRight book o → IsRight more o
+right_later book more made ended o g h = record {
+  cause = cause_later book more made ended o o.outcome g h h.cause;
+  begun = let b = h.begun in let n = g.passes in omega (arith, b, n);
+  pointed = λ p e. let r = h.pointed p e in let b = r.1 in let n = g.passes in (r.0, omega (arith, b, n), r.2);
+  past = λ e q. let r = h.past e q in let b = r.1 in let n = g.passes in (r.0, omega (arith, b, n));
+  ends = h.ends;
+  within = h.within;
+  failed = h.failed;
+}
+
+pub made_later : (book more : Book) (made ended : Option ℕ) (place v : ℕ) → Grows book more made ended → IsMade book place v → IsMade more place v
+made_later book more made ended place v g h =
+    let r = g.each place h.0 h.2 in
+    let le = h.5 in
+    let n = g.passes in
+    let same : r.0.value ≡ h.0.value = r.2.value h.3 in (
+      r.0,
+      h.1,
+      r.1,
+      r.2.word ∙ h.3,
+      r.2.point h.3 h.1 h.4,
+      omega (arith, le, n),
+      subst (λ (x : List ℕ). IsEntered more r.0.file h.1 v (length x) (sha1 x)) (sym same) (subst (λ (f : ℕ). IsEntered more f h.1 v (length h.0.value) (sha1 h.0.value)) (sym r.2.file) (entered_later book more made ended h.0.file h.1 v (length h.0.value) (sha1 h.0.value) g h.6)),
+    )

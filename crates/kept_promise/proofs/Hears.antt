@@ -1,0 +1,161 @@
+-- A client hears the first answer on its way: it is read as itself, and is either waited for or forgotten.
+use Rattle.std.proofs.Common.{inl, inr, ◌≡◌, ℕ, List, [], ◌∷◌, ◌++◌, length, Option, Some, None, Bool, true, false, refl, sym, ap, ◌∙◌, subst, arith, eq-eqb}
+use Rattle.std.proofs.lemmas.List.Elements.{Contains-append_left, Contains-push}
+use Rattle.std.specs.Prelude.{slice_get, map, Result, Ok, Contains}
+use Rattle.chunk_cut.specs.declared.chunk.Chunk.{Chunk}
+use Rattle.xdr_codec.specs.declared.answer.Answer.TheVariants.{Done}
+use Rattle.nfs3_calls.specs.declared.call.Piece.{Piece}
+use Rattle.wire.specs.Message.{MessageFits, message_spell}
+use Rattle.wire.specs.Parse.{parse_of}
+use Rattle.wire.specs.declared.message.Message.{Message}
+use Rattle.wire.specs.declared.message.Pending.{Pending}
+use Rattle.wire.specs.declared.fault.WireFault.{WireFault}
+use Rattle.open_close.specs.State as client
+use Rattle.open_close.specs.State.{has_call}
+use Rattle.open_close.specs.Hashed.{client_hashed, message_compared, answer_compared, took_compared, compared_at, compared, compared_if, task_named}
+use Rattle.open_close.specs.Step.{got_step, took_if, drops, took, idle}
+use Rattle.open_close.specs.declared.step.ClientStep.{ClientStep}
+use Rattle.open_close.specs.declared.task.Fetch.{Fetch}
+use Rattle.open_close.specs.declared.task.ReadCall.{ReadCall}
+use Rattle.open_close.specs.declared.task.Stage.{Stage}
+use Rattle.open_close.specs.declared.task.Stage.TheVariants as stage
+use Rattle.open_close.specs.declared.task.Task.{Task}
+use Rattle.open_close.specs.Opening.{read_at}
+use Rattle.trace_replay.specs.Core.{Core, Seat, Session, Event.Hears, Turned, numbered, is_newest, hears_if, hears_at, hears, acted, happens}
+use Rattle.trace_replay.specs.Trail.{owner_in, heard_hashed, hashed_by}
+use Rattle.trace_replay.specs.Book.{Book}
+use Rattle.kept_promise.specs.Talk.{Reply, Reply.Bytes, Told, Queue, reply_body, told_message}
+use Rattle.kept_promise.proofs.Lists.{some_is, nothing_there}
+use Rattle.kept_promise.proofs.Keys.{times}
+use Rattle.kept_promise.proofs.Messages.{Job, AllTolds}
+use Rattle.kept_promise.proofs.Taken.{times_map_append}
+use Rattle.kept_promise.proofs.Turns.{also_numbered}
+use Rattle.kept_promise.proofs.Fits.{FitLaws}
+use Rattle.kept_promise.proofs.Facts.{IsSession, IsMatched, IsKept}
+use Rattle.kept_promise.proofs.Heard.{told_pending}
+use Rattle.kept_promise.proofs.Moves.{expected}
+use Rattle.kept_promise.proofs.Steps.{Here, session_at}
+use Rattle.kept_promise.proofs.CloseSteps.{task_is, calls_are}
+use Rattle.kept_promise.proofs.Takings.{Noted, own_of, comes_taken}
+use Rattle.kept_promise.proofs.Acted.{rest_down, leads_comes}
+use Rattle.kept_promise.proofs.Drops.{has_there, forgotten_there, leads_drops}
+use Rattle.kept_promise.proofs.Leading.{IsNoted, Leads, KeptHears}
+
+-- ---- the answer comes whole
+
+heard : FitLaws → (book : Book) (k : Core) (qs : List Queue) (n : ℕ) (x : Session) (q : Queue) (t : Told) (ts : List Told) → (h : IsSession book k.seats k.server n x q) → q.downs ≡ t ∷ ts → x.cut ≡ false → parse_of (client.waiting_of h.seat.client) (message_spell (told_message t)) ≡ Ok (told_message t)
+heard laws book k qs n x q t ts h first uncut =
+    let fits = (subst (AllTolds (λ u. MessageFits (told_message u))) first h.downs_fit).0 in
+    laws.again (client.waiting_of h.seat.client) (told_message t) fits.0 (expected n k.server.waiting q x.hung h.seat.client 0 t (h.talk uncut).balanced (ap (λ (l : List Told). slice_get l 0) first))
+
+-- ---- what is hashed at it
+
+abbrev bytes_of : Told → List ℕ
+bytes_of t = message_spell (told_message t)
+
+hashed_is : (k : Core) (n now : ℕ) (x : Session) (seat : Seat) (t : Told) → numbered k.sessions n ≡ Some x → numbered k.seats x.owner ≡ Some seat → parse_of (client.waiting_of seat.client) (bytes_of t) ≡ Ok (told_message t)
+    → hashed_by k (Hears n now (bytes_of t)) ≡ client_hashed seat.client (Ok (told_message t)) now
+hashed_is k n now x seat t at owner read =
+    ap (λ (o : Option Session). heard_hashed (numbered k.seats (owner_in o)) now (bytes_of t)) at
+    ∙ ap (λ (o : Option Seat). heard_hashed o now (bytes_of t)) owner
+    ∙ ap (λ (r : Result Message WireFault). client_hashed seat.client r now) read
+
+-- the bytes of a READ that have their chunk's length are compared with its name
+bytes_hashed : (s : client.State) (now : ℕ) (t : Told) (file : ℕ) (f : Fetch) (p : Piece) (r : ReadCall) (c : Chunk) → s.task ≡ Some (record { file = file; stage = stage.Reading f }) → has_call (client.pending_in (stage.Reading f)) t.xid ≡ true → t.reply ≡ Bytes (Done p) → read_at f.under t.xid ≡ Some r → slice_get f.chunks r.index ≡ Some c → length p.bytes ≡ c.len
+    → Contains (client_hashed s (Ok (told_message t)) now) p.bytes
+bytes_hashed s now t file f p r c task own reply under chunk len =
+    let later = task_named s s.task (got_step s (Ok (told_message t)) now).1.send in
+    let one : message_compared s.task (told_message t) ≡ p.bytes ∷ [] =
+    ap (λ (o : Option Task). message_compared o (told_message t)) task
+    ∙ ap (answer_compared (record { file = file; stage = stage.Reading f }) t.xid (reply_body t.reply)) own
+    ∙ ap (λ (b : Reply). took_compared (stage.Reading f) t.xid (reply_body b)) reply
+    ∙ ap (λ (o : Option ReadCall). compared_at f.chunks o p.bytes) under
+    ∙ ap (λ (o : Option Chunk). compared o p.bytes) chunk
+    ∙ ap (λ (b : Bool). compared_if b p.bytes) (eq-eqb (length p.bytes) c.len len) in
+    subst (λ (l : List (List ℕ)). Contains (l ++ later) p.bytes) (sym one) (Contains-append_left (p.bytes ∷ []) later p.bytes (Contains-push [] p.bytes))
+
+notes : (book : Book) (k : Core) (n now : ℕ) (x : Session) (seat : Seat) (t : Told) (file : ℕ) (f : Fetch) → IsNoted book k (Hears n now (bytes_of t)) → numbered k.sessions n ≡ Some x → numbered k.seats x.owner ≡ Some seat → parse_of (client.waiting_of seat.client) (bytes_of t) ≡ Ok (told_message t)
+    → seat.client.task ≡ Some (record { file = file; stage = stage.Reading f }) → has_call (client.pending_in (stage.Reading f)) t.xid ≡ true → Noted book t f
+notes book k n now x seat t file f noted at owner read task own p r c reply under chunk len =
+    noted.hashed p.bytes (subst (λ (l : List (List ℕ)). Contains l p.bytes) (sym (hashed_is k n now x seat t at owner read)) (bytes_hashed seat.client now t file f p r c task own reply under chunk len))
+
+-- ---- an answer that is waited for, and one that is not
+
+abbrev heard_by : Core → (i : ℕ) → Seat → client.State × ClientStep → Turned
+heard_by k i seat r = acted k i seat r.0 r.1
+
+abbrev Heard : (book : Book) (k : Core) (qs : List Queue) (n : ℕ) (x : Session) (q : Queue) (ts : List Told) → Seat → client.State × ClientStep → Type 0
+Heard book k qs n x q ts seat r = Leads book (rest_down qs n q ts) (heard_by k x.owner seat r)
+
+waited : (book : Book) (k : Core) (qs : List Queue) (n now : ℕ) (x : Session) (q : Queue) (t : Told) (ts : List Told) (j : Job) (g : Here book k qs n x q t ts j) → IsNoted book k (Hears n now (bytes_of t)) → parse_of (client.waiting_of (session_at book k qs n x q t ts j g).seat.client) (bytes_of t) ≡ Ok (told_message t)
+    → (session_at book k qs n x q t ts j g).seat.client.task ≡ Some (record { file = j.file; stage = j.stage }) → has_call (client.pending_in j.stage) t.xid ≡ true
+    → Heard book k qs n x q ts (session_at book k qs n x q t ts j g).seat (took (idle (session_at book k qs n x q t ts j g).seat.client) (client.calls_of (session_at book k qs n x q t ts j g).seat.client) j.file j.stage t.xid (reply_body t.reply))
+waited book k qs n now x q t ts j g noted read task own =
+    let h = session_at book k qs n x q t ts j g in
+    let mine = own_of book k qs n x q t ts j g own in
+    let all = (h.talk g.uncut).balanced.once t.xid in
+    let split = times_map_append (λ (c : Pending). c.xid) t.xid (client.pending_in j.stage) h.seat.client.forgotten in
+    let calls = ap (λ (l : List Pending). times t.xid (map (λ (c : Pending). c.xid) l)) (calls_are h.seat j g.job_is) in
+    leads_comes book k qs n x q t ts j g (took (idle h.seat.client) (client.calls_of h.seat.client) j.file j.stage t.xid (reply_body t.reply))
+    (comes_taken book k qs n x q t ts j g j.stage refl mine.0 mine.1 (omega (arith, all, split, calls))
+    (λ f is. notes book k n now x h.seat t j.file f noted g.at h.owner read (task ∙ ap (λ (s : Stage). Some (record { file = j.file; stage = s })) is) (subst (λ (s : Stage). has_call (client.pending_in s) t.xid ≡ true) is own)))
+
+takes : (book : Book) (k : Core) (qs : List Queue) (n now : ℕ) (x : Session) (q : Queue) (t : Told) (ts : List Told) → (kept : IsKept book k qs) → (at : numbered k.sessions n ≡ Some x) → (is : numbered qs n ≡ Some q) → q.downs ≡ t ∷ ts → x.cut ≡ false → IsNoted book k (Hears n now (bytes_of t))
+    → parse_of (client.waiting_of (kept.sessions n x q at is).seat.client) (bytes_of t) ≡ Ok (told_message t)
+    → Heard book k qs n x q ts (kept.sessions n x q at is).seat (got_step (kept.sessions n x q at is).seat.client (Ok (told_message t)) now)
+takes book k qs n now x q t ts kept at is first uncut noted read = by h.seat.client.task refl (has_call (client.pending h.seat.client.task) t.xid) refl
+  where
+    h : IsSession book k.seats k.server n x q
+    h = kept.sessions n x q at is
+
+    forgotten : has_call (client.pending h.seat.client.task) t.xid ≡ false → (o : Option Task) → Heard book k qs n x q ts h.seat (drops h.seat.client o t.xid (has_call h.seat.client.forgotten t.xid))
+    forgotten none o =
+        let there = forgotten_there book k qs n x q t ts h first uncut none in
+        subst (λ (b : Bool). Heard book k qs n x q ts h.seat (drops h.seat.client o t.xid b)) (sym (has_there h.seat.client.forgotten there.0 (told_pending t) there.1)) (leads_drops book k qs n x q t ts kept at is first uncut none)
+
+    own : (u : Task) → h.seat.client.task ≡ Some u → has_call (client.pending (Some u)) t.xid ≡ true → IsMatched h.seat → Heard book k qs n x q ts h.seat (took (idle h.seat.client) (client.calls_of h.seat.client) u.file u.stage t.xid (reply_body t.reply))
+    own u task has (inl free) = nothing_there u (sym free.1 ∙ task)
+    own u task has (inr busy) =
+        let j = busy.0 in
+        let task_now = task_is h.seat j busy.1 in
+        let same : record { file = j.file; stage = j.stage } ≡ u = some_is _ u (sym task_now ∙ task) in
+        let g : Here book k qs n x q t ts j = record { kept = kept; at = at; is = is; first = first; uncut = uncut; job_is = busy.1 } in
+        subst (λ (z : Task). Heard book k qs n x q ts h.seat (took (idle h.seat.client) (client.calls_of h.seat.client) z.file z.stage t.xid (reply_body t.reply))) same
+        (waited book k qs n now x q t ts j g noted read task_now (subst (λ (z : Task). has_call (client.pending (Some z)) t.xid ≡ true) (sym same) has))
+
+    by : (o : Option Task) → h.seat.client.task ≡ o → (is_own : Bool) → has_call (client.pending h.seat.client.task) t.xid ≡ is_own → Heard book k qs n x q ts h.seat (took_if h.seat.client o t.xid (reply_body t.reply) is_own)
+    by None task false has = forgotten has None
+    by None task true has = absurd (apart (has_call (client.pending None) t.xid) refl (ap (λ (o : Option Task). has_call (client.pending o) t.xid) (sym task) ∙ has))
+      where
+        apart : (b : Bool) → b ≡ false → b ≡ true → ⊥
+        apart b u v = absurd cc
+    by (Some u) task false has = forgotten has (Some u)
+    by (Some u) task true has = own u task (ap (λ (o : Option Task). has_call (client.pending o) t.xid) (sym task) ∙ has) (kept.seats x.owner h.seat h.owner).matched
+
+-- ---- the event
+
+-- nothing comes down a session that its client has left
+uncut_by : (cut : Bool) (downs : List Told) (t : Told) (ts : List Told) → downs ≡ t ∷ ts → (cut ≡ true → downs ≡ []) → cut ≡ false
+uncut_by false downs t ts first shut = refl
+uncut_by true downs t ts first shut = absurd (none (sym first ∙ shut refl))
+  where
+    none : t ∷ ts ≡ [] → ⊥
+    none e = absurd cc
+
+pub kept_hears : FitLaws → KeptHears
+kept_hears laws book k qs n now q t ts kept is first noted = by (also_numbered qs k.sessions n q (sym kept.made.1) is)
+  where
+    newest : (o : Option ℕ) → o ≡ Some n → is_newest o n ≡ true
+    newest o e = ap (λ (z : Option ℕ). is_newest z n) e ∙ eq-eqb n n refl
+
+    by : (x : Session) × (numbered k.sessions n ≡ Some x) → Leads book (rest_down qs n q ts) (happens k (Hears n now (bytes_of t)))
+    by (x, at) =
+        let h = kept.sessions n x q at is in
+        let uncut = uncut_by x.cut q.downs t ts first h.shut in
+        let read = heard laws book k qs n x q t ts h first uncut in
+        let heard_is : happens k (Hears n now (bytes_of t)) ≡ heard_by k x.owner h.seat (got_step h.seat.client (Ok (told_message t)) now) =
+        ap (hears k n now (bytes_of t)) at
+        ∙ ap (hears_at k n x.owner now (bytes_of t)) h.owner
+        ∙ ap (hears_if k x.owner now h.seat (bytes_of t)) (newest h.seat.session (h.here uncut).0)
+        ∙ ap (λ (r : Result Message WireFault). heard_by k x.owner h.seat (got_step h.seat.client r now)) read in
+        subst (Leads book (rest_down qs n q ts)) (sym heard_is) (takes book k qs n now x q t ts kept at is first uncut noted read)

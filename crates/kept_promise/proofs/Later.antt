@@ -1,0 +1,240 @@
+-- Facts of messages, sessions and clients stay true while the history grows.
+use Rattle.std.proofs.Common.{◌⊎◌, inl, inr, ◌≡◌, ℕ, zero, suc, ◌+◌, ◌<◌, ◌≤◌, List, [], ◌∷◌, ◌++◌, length, Option, Some, None, Bool, true, false, refl, sym, ap, ◌∙◌, subst, arith}
+use Rattle.std.specs.Prelude.{slice_get, map, not, IsSome, Contains}
+use Rattle.chunk_cut.specs.declared.chunk.Chunk.{Chunk}
+use Rattle.xdr_codec.specs.declared.answer.Answer.{Answer}
+use Rattle.xdr_codec.specs.declared.answer.Answer.TheVariants.{Done, Failed}
+use Rattle.hash_calls.specs.declared.call.Committed.{Committed}
+use Rattle.hash_calls.specs.declared.call.Hashes.{Hashes}
+use Rattle.nfs3_calls.specs.declared.call.Piece.{Piece}
+use Rattle.xdr_codec.specs.declared.attr.Attr.{Attr}
+use Rattle.wire.specs.declared.message.Pending.{Pending}
+use Rattle.server_core.specs.State as server
+use Rattle.server_core.specs.Step.{stands}
+use Rattle.server_core.specs.Temps.{Temp, key_of}
+use Rattle.server_core.specs.declared.change.Change.{Change}
+use Rattle.open_close.specs.State as client
+use Rattle.open_close.specs.declared.task.Fetch.{Fetch}
+use Rattle.open_close.specs.declared.task.Local.{Local}
+use Rattle.open_close.specs.declared.task.Stage.{Stage}
+use Rattle.open_close.specs.declared.task.Stage.TheVariants as stage
+use Rattle.register_model.specs.Register.{Value, content_of}
+use Rattle.register_model.specs.declared.op.Op.{Op}
+use Rattle.register_model.specs.declared.op.Opening.{Opening}
+use Rattle.trace_replay.specs.declared.link.Taken.{Taken}
+use Rattle.trace_replay.specs.Core.{Seat, Session, numbered}
+use Rattle.trace_replay.specs.Book.{Book, value_at, version_at}
+use Rattle.trace_replay.specs.Causes.{Tried}
+use Rattle.kept_promise.specs.Talk.{Call, Call.Commit, Reply, Reply.Hashed, Reply.Bytes, Reply.Changed, Ask, Told, Queue}
+use Rattle.kept_promise.proofs.Keys.{times, own, on_way, change_key, ask_key, told_key, pending_key}
+use Rattle.kept_promise.proofs.Lists.{some_is}
+use Rattle.kept_promise.proofs.Messages.{Job, job, AllAsks, AllTolds, IsAsked, IsTold, IsTried, Trying, IsTrying, IsHashed, HashTold, IsRead, ReadTold, CommitTold, TriedBy, AnswerOf, IsAnswer, IsFetch, IsReading, FetchOf, HasFetch, IsPending, CommitOf, IsCommit, IsOwed, CloseOf, TempUnder}
+use Rattle.kept_promise.proofs.Rights.{IsMade}
+use Rattle.kept_promise.proofs.Growth.{Grows, Follows, value_later, version_later, or_later, tried_later, tried_wider, made_later}
+use Rattle.kept_promise.proofs.Orderly.{Orderly}
+use Rattle.kept_promise.proofs.Ordered.{SameFound, orderly_later}
+use Rattle.kept_promise.proofs.Facts.{commits_in, IsBalanced, IsTalk, IsSession, IsOf, IsSeat, HasXids}
+
+pub all_asks : (P Q : Ask → Type 0) → ((a : Ask) → P a → Q a) → (us : List Ask) → AllAsks P us → AllAsks Q us
+all_asks P Q f [] h = tt
+all_asks P Q f (a ∷ us) h = (f a h.0, all_asks P Q f us h.1)
+
+pub all_tolds : (P Q : Told → Type 0) → ((t : Told) → P t → Q t) → (ts : List Told) → AllTolds P ts → AllTolds Q ts
+all_tolds P Q f [] h = tt
+all_tolds P Q f (t ∷ ts) h = (f t h.0, all_tolds P Q f ts h.1)
+
+-- ---- messages
+
+pub told_later : (book more : Book) (made ended : Option ℕ) (taken : List Taken) (j : Job) (x : ℕ) (v : Value) (version : ℕ) → Grows book more made ended → IsTold book taken j x v version → IsTold more taken j x v version
+told_later book more made ended taken j x v version g h =
+    let r = g.each j.place h.op h.there in
+    let le = h.past in
+    let n = g.passes in
+    record {
+      moment = h.moment;
+      was = h.was;
+      past = omega (arith, le, n);
+      value = value_later book more made ended j.file h.moment g (omega (arith, le)) ∙ h.value;
+      version_is = version_later book more made ended j.file h.moment g (omega (arith, le)) ∙ h.version_is;
+      op = r.0;
+      there = r.1;
+      after = subst (λ (b : ℕ). b ≤ h.moment) (sym r.2.begin) h.after;
+      apart = λ i e. elim (g.entries_new i h.moment e) [ inl old ↦ h.apart i old | inr new ↦ omega (arith, le, new) ];
+    }
+
+pub is_tried_later : (book more : Book) (made ended : Option ℕ) (taken : List Taken) (j : Job) (x n : ℕ) → Grows book more made ended → IsTried book taken j x n → IsTried more taken j x n
+is_tried_later book more made ended taken j x n g h =
+    let r = g.each j.place h.op h.there in
+    let le = h.past in
+    let p = g.passes in
+    record { moment = h.moment; was = h.was; past = omega (arith, le, p); op = r.0; there = r.1; count = h.count; tries_is = h.tries_is; tried = subst (λ (b : ℕ). Tried more j.file b h.count h.moment) (sym r.2.begin) (tried_later book more made ended j.file h.op.begin h.count h.moment g (omega (arith, le)) h.tried) }
+
+pub trying_later : (book more : Book) (made ended : Option ℕ) (j : Job) (n : ℕ) → Grows book more made ended → Trying book j n → Trying more j n
+trying_later book more made ended j n g h =
+    let r = g.each j.place h.op h.there in
+    let p = g.passes in
+    record { op = r.0; there = r.1; count = h.count; tries_is = h.tries_is; tried = subst (λ (b : ℕ). Tried more j.file b h.count (more.steps + 1)) (sym r.2.begin) (tried_wider more j.file h.op.begin h.count (book.steps + 1) (more.steps + 1) (omega (arith, p)) (tried_later book more made ended j.file h.op.begin h.count (book.steps + 1) g (omega arith) h.tried)) }
+
+hash_later : (book more : Book) (made ended : Option ℕ) (taken : List Taken) (j : Job) (x o : ℕ) (a : Answer Hashes Unit) → Grows book more made ended → HashTold book taken j x o a → HashTold more taken j x o a
+hash_later book more made ended taken j x o (Failed s u) g (inl h) = inl h
+hash_later book more made ended taken j x o (Failed s u) g (inr h) = inr (h.0, ap (λ (l : List Opening). content_of l j.file) g.opening ∙ h.1, (h.2.0, told_later book more made ended taken j x None h.2.0 g h.2.1))
+hash_later book more made ended taken j x o (Done a) g h = record { file = h.file; is = h.is; told = told_later book more made ended taken j x (Some h.file.content) h.file.version g h.told; short = h.short; known = subst (λ (l : List Opening). IsSome (content_of l j.file)) (sym g.opening) h.known; hashed = λ i c e. g.hashed _ (h.hashed i c e) }
+
+read_later : (book more : Book) (made ended : Option ℕ) (taken : List Taken) (j : Job) (first : ℕ) (c : Chunk) (a : Answer Piece (Option Attr)) → Grows book more made ended → ReadTold book taken j first c a → ReadTold more taken j first c a
+read_later book more made ended taken j first c (Failed s a) g h = h
+read_later book more made ended taken j first c (Done p) g h =
+    let le = h.past in
+    let n = g.passes in
+    record { file = h.file; is = h.is; began = h.began; was = h.was; last = h.last; order = h.order; past = omega (arith, le, n); value = value_later book more made ended j.file h.last g (omega (arith, le)) ∙ h.value; version_is = version_later book more made ended j.file h.last g (omega (arith, le)) ∙ h.version_is }
+
+-- a close that the session remembers is not the one that is made, or decided, unless the session is that one's
+abbrev pub Spares : (closing made : Option ℕ) → Type 0
+Spares closing made = (p : ℕ) → closing ≡ Some p → made ≡ Some p → ⊥
+
+commit_told_later : (book more : Book) (made ended closing : Option ℕ) (j : Job) (a : Answer Committed Unit) → Grows book more made ended → Spares closing made → CommitTold book closing j a → CommitTold more closing j a
+commit_told_later book more made ended closing j (Done c) g spares h = made_later book more made ended j.place c.version g h
+commit_told_later book more made ended closing j (Failed s u) g spares h = let r = g.each j.place h.0 h.1 in (r.0, r.1, r.2.unmade (spares j.place h.3) h.2, h.3)
+
+tried_by_later : (book more : Book) (made ended : Option ℕ) (taken : List Taken) (j : Job) (x : ℕ) (s : Stage) → Grows book more made ended → TriedBy book taken j x s → TriedBy more taken j x s
+tried_by_later book more made ended taken j x (stage.Hashing tries y) g h = is_tried_later book more made ended taken j x tries g h
+tried_by_later book more made ended taken j x (stage.Listing y f) g h = h
+tried_by_later book more made ended taken j x _ g h = tt
+
+answer_of_later : (book more : Book) (made ended : Option ℕ) (taken : List Taken) (closing : Option ℕ) (job : Option Job) (x : ℕ) (r : Reply) → Grows book more made ended → Spares closing made → AnswerOf book taken closing job x r → AnswerOf more taken closing job x r
+answer_of_later book more made ended taken closing job x (Hashed a) g spares h = λ j o e w. let r = h j o e w in (hash_later book more made ended taken j x o a g r.0, tried_by_later book more made ended taken j x j.stage g r.1)
+answer_of_later book more made ended taken closing job x (Bytes a) g spares h = λ j f c e s w. read_later book more made ended taken j f.first c a g (h j f c e s w)
+answer_of_later book more made ended taken closing job x (Changed a) g spares h = λ j e s. commit_told_later book more made ended closing j a g spares (h j e s)
+answer_of_later book more made ended taken closing job x _ g spares h = tt
+
+pub answer_later : (book more : Book) (made ended : Option ℕ) (taken : List Taken) (closing : Option ℕ) (job : Option Job) (t : Told) → Grows book more made ended → Spares closing made → IsAnswer book taken closing job t → IsAnswer more taken closing job t
+answer_later book more made ended taken closing job t g spares h = answer_of_later book more made ended taken closing job t.xid t.reply g spares h
+
+abbrev pub fetch_later : (book more : Book) (made ended : Option ℕ) (taken : List Taken) (j : Job) (f : Fetch) → Grows book more made ended → IsFetch book taken j f → IsFetch more taken j f
+fetch_later book more made ended taken j f g h = record { content = h.content; told = told_later book more made ended taken j f.first (Some h.content) f.version g h.told; tried = is_tried_later book more made ended taken j f.first f.tries g h.tried; size = h.size; short = h.short; known = subst (λ (l : List Opening). IsSome (content_of l j.file)) (sym g.opening) h.known; count = h.count; within = h.within; chunks = h.chunks; hashed = λ i c e. g.hashed _ (h.hashed i c e) }
+
+pub reading_later : (book more : Book) (made ended : Option ℕ) (x : List ℕ) (f : Fetch) → Grows book more made ended → IsReading book x f → IsReading more x f
+reading_later book more made ended x f g h = record { whole = h.whole; slots = h.slots; came = λ i b c e w. let p = h.came i b c e w in (or_later book more made ended _ _ g (λ p. p) p.0, p.1); asked = h.asked; inside = h.inside; filled = h.filled }
+
+pub fetch_of_later : (book more : Book) (made ended : Option ℕ) (taken : List Taken) (j : Job) (s : Stage) → Grows book more made ended → FetchOf book taken j s → FetchOf more taken j s
+fetch_of_later book more made ended taken j (stage.Listing x f) g h = (fetch_later book more made ended taken j f g h.0, h.1, h.2)
+fetch_of_later book more made ended taken j (stage.Reading f) g h = (fetch_later book more made ended taken j f g h.0, reading_later book more made ended h.0.content f g h.1)
+fetch_of_later book more made ended taken j _ g h = tt
+
+pub has_fetch_later : (book more : Book) (made ended : Option ℕ) (taken : List Taken) (job : Option Job) → Grows book more made ended → HasFetch book taken job → HasFetch more taken job
+has_fetch_later book more made ended taken job g h = λ j e. fetch_of_later book more made ended taken j j.stage g (h j e)
+
+-- ---- changes and closes
+
+pub pending_later : (book more : Book) (made ended closing : Option ℕ) (cut : Bool) (job after : Option Job) (x f : ℕ) (v : List ℕ) → Grows book more made ended → Spares closing made → (cut ≡ false → after ≡ job) → IsPending book closing cut job x f v → IsPending more closing cut after x f v
+pending_later book more made ended closing cut job after x f v g spares same h =
+    let r = g.each h.place h.op h.there in
+    record { place = h.place; known = h.known; op = r.0; there = r.1; unmade = r.2.unmade (spares h.place h.known) h.unmade; file_is = r.2.file ∙ h.file_is; value_is = r.2.value h.unmade.0 ∙ h.value_is; waited = λ at. same at ∙ h.waited at }
+
+pub commit_later : (book more : Book) (made ended closing : Option ℕ) (cut : Bool) (job after : Option Job) (contents : ℕ → List ℕ) (a : Ask) → Grows book more made ended → Spares closing made → (cut ≡ false → after ≡ job) → IsCommit book closing cut job contents a → IsCommit more closing cut after contents a
+commit_later book more made ended closing cut job after contents a g spares same h = by a.call h
+  where
+    by : (c : Call) → CommitOf book closing cut job contents a.xid c → CommitOf more closing cut after contents a.xid c
+    by (Commit temp file size) h = (pending_later book more made ended closing cut job after a.xid file (contents temp) g spares same h.0, h.1)
+    by _ h = tt
+
+pub owed_later : (book more : Book) (made ended closing : Option ℕ) (j : Job) (v : List ℕ) → Grows book more made ended → Spares closing made → IsOwed book closing j v → IsOwed more closing j v
+owed_later book more made ended closing j v g spares h =
+    let r = g.each j.place h.op h.there in
+    record { known = h.known; op = r.0; there = r.1; unmade = r.2.unmade (spares j.place h.known) h.unmade; value_is = r.2.value h.unmade.0 ∙ h.value_is; small = h.small }
+
+pub close_later : (book more : Book) (made ended closing : Option ℕ) (contents : ℕ → List ℕ) (n : ℕ) (j : Job) (v : List ℕ) (s : Stage) → Grows book more made ended → Spares closing made → CloseOf book closing contents n j v s → CloseOf more closing contents n j v s
+close_later book more made ended closing contents n j v (stage.Making x temp) g spares h = (owed_later book more made ended closing j v g spares h.0, h.1, h.2)
+close_later book more made ended closing contents n j v (stage.Storing st) g spares h = (owed_later book more made ended closing j v g spares h.0, h.1, h.2, h.3)
+close_later book more made ended closing contents n j v (stage.Committing x) g spares h = let r = g.each j.place h.0 h.1 in (r.0, r.1, r.2.word ∙ h.2, r.2.value h.2 ∙ h.3)
+close_later book more made ended closing contents n j v _ g spares h = tt
+
+-- ---- sessions
+
+-- what the server has of a session
+pub record SameView (n : ℕ) (s r : server.State) : Type 0 where
+  pub stands_is : stands r n ≡ stands s n
+  pub waiting : own n r.waiting ≡ own n s.waiting
+  pub temps : (i m : ℕ) (e : ℕ × Temp) → m < 4294967296 → slice_get r.temps i ≡ Some e → e.0 ≡ key_of n m → (j : ℕ) × (slice_get s.temps j ≡ Some e)
+  pub found : SameFound s.temps r.temps n
+
+pub same_view : (n : ℕ) (s : server.State) → SameView n s s
+same_view n s = record { stands_is = refl; waiting = refl; temps = λ i m e lt at k. (i, at); found = λ m lt. refl }
+
+-- on its way is the same where the session's changes are
+way_same : (n : ℕ) (w v : List Change) (q : Queue) → own n v ≡ own n w → on_way n v q ≡ on_way n w q
+way_same n w v q e = ap (λ (l : List Change). map ask_key q.ups ++ (map change_key l ++ map told_key q.downs)) e
+
+balanced_later : (n : ℕ) (w v : List Change) (q : Queue) (hung : Bool) (next : ℕ) (calls : List Pending) → own n v ≡ own n w → IsBalanced n w q hung next calls → IsBalanced n v q hung next calls
+balanced_later n w v q hung next calls e h = record {
+  most = λ y. subst (λ (l : List ℕ). times y l ≤ times y (map pending_key calls)) (sym (way_same n w v q e)) (h.most y);
+  least = λ a y. subst (λ (l : List ℕ). times y (map pending_key calls) ≤ times y l) (sym (way_same n w v q e)) (h.least a y);
+  once = h.once;
+  below = h.below;
+  ours = h.ours;
+}
+
+pub talk_later : (book more : Book) (made ended : Option ℕ) (n : ℕ) (w v : List Change) (x : Session) (q : Queue) (seat : Seat) → Grows book more made ended → Spares x.closing made → own n v ≡ own n w → IsTalk book n w x q seat → IsTalk more n v x q seat
+talk_later book more made ended n w v x q seat g spares e h = record {
+  floor = h.floor;
+  under = h.under;
+  rising = h.rising;
+  asked = h.asked;
+  answers = all_tolds (IsAnswer book x.taken x.closing (job seat)) (IsAnswer more x.taken x.closing (job seat)) (λ t a. answer_later book more made ended x.taken x.closing (job seat) t g spares a) q.downs h.answers;
+  fetch = has_fetch_later book more made ended x.taken (job seat) g h.fetch;
+  balanced = balanced_later n w v q x.hung seat.client.next (client.calls_of seat.client) e h.balanced;
+  busy = h.busy;
+}
+
+-- a session whose owner is as it was, or is elsewhere
+pub session_later : (book more : Book) (made ended : Option ℕ) (seats others : List Seat) (s r : server.State) (n : ℕ) (x : Session) (q : Queue) (c d : Seat) → Grows book more made ended → numbered seats x.owner ≡ Some c → numbered others x.owner ≡ Some d → (x.cut ≡ false → d ≡ c) → Spares x.closing made → SameView n s r
+    → IsSession book seats s n x q → IsSession more others r n x q
+session_later book more made ended seats others s r n x q c d g was is same spares view h =
+    let e : h.seat ≡ c = some_is h.seat c (sym h.owner ∙ was) in
+    let there : x.cut ≡ false → d ≡ h.seat = λ at. same at ∙ sym e in
+    let jobs : x.cut ≡ false → job d ≡ job h.seat = λ at. ap job (there at) in
+    record {
+      seat = d;
+      owner = is;
+      here = λ at. subst (λ (z : Seat). (z.session ≡ Some n) × (z.client.linked ≡ true)) (sym (there at)) (h.here at);
+      shut = h.shut;
+      lost = h.lost;
+      stands_is = view.stands_is ∙ h.stands_is;
+      ups_fit = h.ups_fit;
+      downs_fit = h.downs_fit;
+      talk = λ at. subst (λ (z : Seat). IsTalk more n r.waiting x q z) (sym (there at)) (talk_later book more made ended n s.waiting r.waiting x q h.seat g spares view.waiting (h.talk at));
+      contents = h.contents;
+      lengths = h.lengths;
+      commits = all_asks (IsCommit book x.closing x.cut (job h.seat) h.contents) (IsCommit more x.closing x.cut (job d) h.contents) (λ a m. commit_later book more made ended x.closing x.cut (job h.seat) (job d) h.contents a g spares jobs m) q.ups h.commits;
+      pieces = h.pieces;
+      temps = λ i m u lt at k. let w = view.temps i m u lt at k in h.temps w.0 m u lt w.1 k;
+      temps_below = λ at. let f = h.temps_below at in subst (λ (z : Seat). AllAsks (λ a. TempUnder z.client.next_temp a.call) q.ups × ((i m : ℕ) (u : ℕ × Temp) → m < 4294967296 → slice_get r.temps i ≡ Some u → u.0 ≡ key_of n m → m < z.client.next_temp)) (sym (there at)) (f.0, λ i m u lt is k. let w = view.temps i m u lt is k in f.1 w.0 m u lt w.1 k);
+      closes = λ at j q. subst (λ (z : Seat). CloseOf more x.closing h.contents z.client.next_temp j (client.local_bytes z.client.opened j.file) j.stage) (sym (there at)) (close_later book more made ended x.closing h.contents h.seat.client.next_temp j (client.local_bytes h.seat.client.opened j.file) j.stage g spares (h.closes at j (sym (jobs at) ∙ q)));
+      pending = λ i c at. pending_later book more made ended x.closing x.cut (job h.seat) (job d) c.xid c.file c.content g spares jobs (h.pending i c (ap (λ (l : List Change). slice_get l i) (sym view.waiting) ∙ at));
+      single = subst (λ (l : List Change). commits_in q.ups + length l ≤ 1) (sym view.waiting) h.single;
+      old = λ k at. let o = h.old k at in let p = g.each k o.0 o.1 in (p.0, p.1, p.2.client ∙ o.2);
+      orderly = λ at. subst (λ (z : Seat). Orderly more n r.temps x.hung q z) (sym (there at)) (orderly_later book more made ended n s.temps r.temps x.hung q h.seat g view.found (h.orderly at));
+    }
+
+-- ---- clients
+
+-- each session is still there, with its owner; one that its owner has not left has not been cut
+abbrev pub Stays : List Session → List Session → (i : ℕ) → Type 0
+Stays sessions after i = (n : ℕ) (x : Session) → numbered sessions n ≡ Some x → (y : Session) × (numbered after n ≡ Some y) × (y.owner ≡ x.owner) × (x.owner ≡ i → y.cut ≡ x.cut)
+
+pub of_later : (book more : Book) (made ended : Option ℕ) (i : ℕ) (j : Job) → Grows book more made ended → ((p : ℕ) (o : Op) → ended ≡ Some p → slice_get book.ops p ≡ Some o → o.client ≡ i → ⊥) → IsOf book i j → IsOf more i j
+of_later book more made ended i j g apart h =
+    let r = g.each j.place h.op h.there in
+    record { op = r.0; there = r.1; client = r.2.client ∙ h.client; word = r.2.word ∙ h.word; file = r.2.file ∙ h.file; running = r.2.running (λ e. apart j.place h.op e h.there h.client) h.running }
+
+pub seat_later : (book more : Book) (made ended : Option ℕ) (sessions after : List Session) (i : ℕ) (c : Seat) → Grows book more made ended → Stays sessions after i → ((p : ℕ) (o : Op) → ended ≡ Some p → slice_get book.ops p ≡ Some o → o.client ≡ i → ⊥) → IsSeat book sessions i c → IsSeat more after i c
+seat_later book more made ended sessions after i c g stays apart h = record {
+  session = λ n e. let x = h.session n e in let y = stays n x.0 x.1 in (y.0, y.1, y.2 ∙ x.2);
+  linked = λ e. let l = h.linked e in let x = h.session l.0 l.2 in let y = stays l.0 l.1 l.3 in let same : l.1 ≡ x.0 = some_is l.1 x.0 (sym l.3 ∙ x.1) in (l.0, y.0, l.2, y.1, y.3 (ap (λ (z : Session). z.owner) same ∙ x.2) ∙ l.4);
+  unlinked = h.unlinked;
+  matched = h.matched;
+  task = λ j e. of_later book more made ended i j g apart (h.task j e);
+  trying = λ j n x e s. trying_later book more made ended j n g (h.trying j n x e s);
+  xids = h.xids;
+  next = h.next;
+  opened = λ f l e. let o = h.opened f l e in (subst (λ (z : List Opening). IsSome (content_of z f)) (sym g.opening) o.0, o.1);
+}

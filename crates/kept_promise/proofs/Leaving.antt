@@ -1,0 +1,281 @@
+-- What an answer leaves of a client's open files, and how far the xids of its calls go on.
+use Rattle.std.proofs.Common.{◌≡◌, ℕ, zero, suc, ◌+◌, ◌-◌, ◌≤◌, List, [], ◌∷◌, length, Option, Some, None, Bool, true, false, refl, sym, subst, arith}
+use Rattle.std.proofs.lemmas.List.{length-append}
+use Rattle.std.specs.Prelude.{slice_get, ◌==◌, ◌&&◌, Result, Ok, Err}
+use Rattle.chunk_cut.specs.declared.chunk.Chunk.{Chunk}
+use Rattle.xdr_codec.specs.declared.answer.Answer.{Answer}
+use Rattle.xdr_codec.specs.declared.answer.Answer.TheVariants.{Done, Failed}
+use Rattle.xdr_codec.specs.declared.status.Status.{Status}
+use Rattle.xdr_codec.specs.declared.status.Status.TheVariants as status
+use Rattle.hash_calls.specs.declared.call.Hashes.{Hashes}
+use Rattle.hash_calls.specs.declared.message.Lb.TheVariants as lb
+use Rattle.nfs3_calls.specs.declared.call.Piece.{Piece}
+use Rattle.nfs3_calls.specs.declared.message.Nfs.TheVariants as nfs
+use Rattle.wire.specs.declared.message.Body.{Body}
+use Rattle.wire.specs.declared.message.Body.TheVariants as body
+use Rattle.wire.specs.declared.message.Message.{Message}
+use Rattle.wire.specs.declared.message.Message.TheVariants as message
+use Rattle.wire.specs.declared.message.Pending.{Pending}
+use Rattle.wire.specs.declared.message.RpcRefusal.{RpcRefusal}
+use Rattle.wire.specs.declared.message.RpcRefusal.TheVariants as refusal
+use Rattle.wire.specs.declared.fault.WireFault.{WireFault}
+use Rattle.open_close.specs.State as client
+use Rattle.open_close.specs.Closing.{names_from, names_next, names_more, names_all, is_stored, store_of, store_at, answered}
+use Rattle.open_close.specs.Opening.{calls_most, is_none, fetch_of, with_hashes, listed, reads_from, reads_next, reads_more, reads_all, is_here, read_at, fault_in, other_version, with_bytes}
+use Rattle.open_close.specs.Shape.{Broken, broken_of}
+use Rattle.open_close.specs.Step.{idle, refused, bad_peer, reads_if, reads_on, lists_on, told_shape, told_version, told_hashes, told_first, retries, misfits, told_bytes, told_chunk, told_piece, goes_if, goes_on, told_temp, sends_whole, told_named, told_whole, told_way, told_stored, denied, took, drops, took_if, denied_if, got_message, got_fault, got_step}
+use Rattle.open_close.specs.declared.calls.Names.{Names}
+use Rattle.open_close.specs.declared.calls.Reads.{Reads}
+use Rattle.open_close.specs.declared.step.BadPeer.{BadPeer}
+use Rattle.open_close.specs.declared.step.ClientStep.{ClientStep}
+use Rattle.open_close.specs.declared.step.Ended.{Ended}
+use Rattle.open_close.specs.declared.step.Outcome.{Outcome}
+use Rattle.open_close.specs.declared.step.Outcome.TheVariants as outcome
+use Rattle.open_close.specs.declared.task.Fetch.{Fetch}
+use Rattle.open_close.specs.declared.task.Local.{Local}
+use Rattle.open_close.specs.declared.task.ReadCall.{ReadCall}
+use Rattle.open_close.specs.declared.task.Stage.{Stage}
+use Rattle.open_close.specs.declared.task.Stage.TheVariants as stage
+use Rattle.open_close.specs.declared.task.Store.{Store}
+use Rattle.open_close.specs.declared.task.StoreCall.{StoreCall}
+use Rattle.open_close.specs.declared.task.Task.{Task}
+use Rattle.open_close.specs.declared.task.Way.{Way}
+use Rattle.open_close.specs.declared.task.Way.TheVariants as way
+
+-- ---- what is said
+
+-- An operation on a file that asked the server, and ended so, leaves these files open: what an open got is under its number, a closed one
+-- is gone, and else all is as it was. What a client answers by itself is none of its ends.
+abbrev pub EndsWith : (opened after : List (ℕ × Local)) → (file : ℕ) → Outcome → Type 0
+EndsWith opened after file (outcome.Opened g len digest) = (g ≡ file) × ((l : Local) × (after ≡ client.with_local opened file l))
+EndsWith opened after file (outcome.Closed g version len digest) = (g ≡ file) × (after ≡ client.without_local opened file)
+EndsWith opened after file (outcome.Piece len digest) = ⊥
+EndsWith opened after file outcome.Done = ⊥
+EndsWith opened after file outcome.Busy = ⊥
+EndsWith opened after file outcome.NotOpen = ⊥
+EndsWith opened after file outcome.AlreadyOpen = ⊥
+EndsWith opened after file (outcome.TooBig size) = ⊥
+EndsWith opened after file outcome.NoLink = ⊥
+EndsWith opened after file o = after ≡ opened
+
+abbrev pub Leaves : (opened after : List (ℕ × Local)) → (file : ℕ) → Option Ended → Type 0
+Leaves opened after file None = after ≡ opened
+Leaves opened after file (Some e) = EndsWith opened after file e.outcome
+
+abbrev pub IsLeft : client.State → (file : ℕ) → client.State × ClientStep → Type 0
+IsLeft s file r = (r.0.next ≤ s.next + calls_most) × Leaves s.opened r.0.opened file r.1.ended
+
+-- ---- how many calls go out
+
+less_by : (a b : ℕ) → a - b ≤ a
+less_by a zero = omega arith
+less_by zero (suc b) = omega arith
+less_by (suc a) (suc b) = let h = less_by a b in omega (arith, h)
+
+reads_next_most : (file : ℕ) (r : Reads) (o : Option Chunk) → (reads_next file r o).next ≤ r.next + 1
+reads_next_most file r None = omega arith
+reads_next_most file r (Some c) = omega arith
+
+reads_more_most : (k file : ℕ) (r : Reads) → (reads_more k file r).next ≤ r.next + k
+reads_more_most zero file r = omega arith
+reads_more_most (suc k) file r =
+    let n = reads_next file r (slice_get r.fetch.chunks r.fetch.asked) in
+    let a = reads_next_most file r (slice_get r.fetch.chunks r.fetch.asked) in
+    let b = reads_more_most k file n in
+    omega (arith, a, b)
+
+names_next_most : (n : Names) (o : Option Chunk) → ((names_next n o).next ≤ n.next + 1) × ((names_next n o).next + length n.store.under ≡ n.next + length (names_next n o).store.under)
+names_next_most n None = (omega arith, refl)
+names_next_most n (Some c) = let l = length-append n.store.under (record { xid = n.next; index = n.store.named; way = way.Named } ∷ []) in (omega arith, omega (arith, l))
+
+names_more_most : (k : ℕ) (n : Names) → ((names_more k n).next ≤ n.next + k) × ((names_more k n).next + length n.store.under ≡ n.next + length (names_more k n).store.under)
+names_more_most zero n = (omega arith, refl)
+names_more_most (suc k) n =
+    let m = names_next n (slice_get n.store.chunks n.store.named) in
+    let a = names_next_most n (slice_get n.store.chunks n.store.named) in
+    let b = names_more_most k m in
+    let a0 = a.0 in
+    let a1 = a.1 in
+    let b0 = b.0 in
+    let b1 = b.1 in
+    (omega (arith, a0, b0), omega (arith, a1, b1))
+
+reads_most : (file : ℕ) (f : Fetch) (next : ℕ) → (reads_all file f next).next ≤ next + calls_most
+reads_most file f next = let a = reads_more_most (calls_most - length f.under) file (reads_from f next) in let b = less_by calls_most (length f.under) in omega (arith, a, b)
+
+names_most : (st : Store) (next : ℕ) → (names_all st next).next ≤ next + calls_most
+names_most st next = let a = (names_more_most (calls_most - length st.under) (names_from st next)).0 in let b = less_by calls_most (length st.under) in omega (arith, a, b)
+
+-- where nothing is under way none went out
+none_named : (st : Store) (next : ℕ) → is_stored (names_all st next).store ≡ true → (names_all st next).next ≤ next
+none_named st next e = by (names_all st next).store.under e (names_more_most (calls_most - length st.under) (names_from st next)).1
+  where
+    by : (us : List StoreCall) → (is_none us && (names_all st next).store.named == length (names_all st next).store.chunks) ≡ true → (names_all st next).next + length st.under ≡ next + length us → (names_all st next).next ≤ next
+    by [] e n = omega (arith, n)
+    by (u ∷ us) e n = absurd cc
+
+-- ---- an open's answers
+
+some_call : 1 ≤ calls_most
+some_call = omega arith
+
+refused_left : (s : client.State) (calls : List Pending) (file xid : ℕ) (t : Status) → IsLeft s file (refused s calls xid t)
+refused_left s calls file xid t = (omega arith, refl)
+
+fault_left : (s : client.State) (file : ℕ) (b : BadPeer) (bytes : ℕ) → IsLeft s file (bad_peer s b bytes)
+fault_left s file b bytes = (omega arith, refl)
+
+reads_if_left : (s : client.State) (calls : List Pending) (file xid : ℕ) (r : Reads) (bytes : ℕ) (b : Bool) → r.next ≤ s.next + calls_most → IsLeft s file (reads_if s calls file xid r bytes b)
+reads_if_left s calls file xid r bytes true le = (omega arith, (refl, (_, refl)))
+reads_if_left s calls file xid r bytes false le = (le, refl)
+
+reads_on_left : (s : client.State) (calls : List Pending) (file xid : ℕ) (f : Fetch) (bytes : ℕ) → IsLeft s file (reads_on s calls file xid f bytes)
+reads_on_left s calls file xid f bytes = let r = reads_all file f s.next in reads_if_left s calls file xid r bytes (is_here r.fetch) (reads_most file f s.next)
+
+lists_on_left : (s : client.State) (calls : List Pending) (file xid : ℕ) (f : Fetch) (eof : Bool) → IsLeft s file (lists_on s calls file xid f eof)
+lists_on_left s calls file xid f true = reads_on_left s calls file xid (listed f) 0
+lists_on_left s calls file xid f false = (let o = some_call in omega (arith, o), refl)
+
+retries_left : (s : client.State) (calls : List Pending) (file xid : ℕ) (b : Bool) (f : Fetch) (version bytes : ℕ) → IsLeft s file (retries s calls file xid b f version bytes)
+retries_left s calls file xid true f version bytes = (let o = some_call in omega (arith, o), refl)
+retries_left s calls file xid false f version bytes = (omega arith, refl)
+
+told_shape_left : (s : client.State) (calls : List Pending) (file xid : ℕ) (f : Fetch) (h : Hashes) (b : Broken) → IsLeft s file (told_shape s calls file xid f h b)
+told_shape_left s calls file xid f h None = lists_on_left s calls file xid (with_hashes f h) h.eof
+told_shape_left s calls file xid f h (Some b) = (omega arith, refl)
+
+told_version_left : (s : client.State) (calls : List Pending) (file xid : ℕ) (f : Fetch) (h : Hashes) (same : Bool) → IsLeft s file (told_version s calls file xid f h same)
+told_version_left s calls file xid f h true = told_shape_left s calls file xid f h (broken_of f h)
+told_version_left s calls file xid f h false = retries_left s calls file xid _ f h.version 0
+
+told_hashes_left : (s : client.State) (calls : List Pending) (file xid : ℕ) (f : Fetch) (a : Answer Hashes Unit) → IsLeft s file (told_hashes s calls file xid f a)
+told_hashes_left s calls file xid f (Failed t u) = refused_left s calls file xid t
+told_hashes_left s calls file xid f (Done h) = told_version_left s calls file xid f h (h.version == f.version)
+
+told_first_left : (s : client.State) (calls : List Pending) (file xid tries : ℕ) (a : Answer Hashes Unit) → IsLeft s file (told_first s calls file xid tries a)
+told_first_left s calls file xid tries (Failed t u) = refused_left s calls file xid t
+told_first_left s calls file xid tries (Done h) = told_hashes_left s calls file xid (fetch_of tries xid h) (Done h)
+
+misfits_left : (s : client.State) (calls : List Pending) (file xid : ℕ) (f : Fetch) (b : BadPeer) (bytes : ℕ) (o : Option ℕ) → IsLeft s file (misfits s calls file xid f b bytes o)
+misfits_left s calls file xid f b bytes (Some version) = retries_left s calls file xid _ f version bytes
+misfits_left s calls file xid f b bytes None = (omega arith, refl)
+
+told_bytes_left : (s : client.State) (calls : List Pending) (file xid : ℕ) (f : Fetch) (c : ReadCall) (piece : Piece) (o : Option BadPeer) → IsLeft s file (told_bytes s calls file xid f c piece o)
+told_bytes_left s calls file xid f c piece None = reads_on_left s calls file xid (with_bytes f c piece.bytes) (length piece.bytes)
+told_bytes_left s calls file xid f c piece (Some b) = misfits_left s calls file xid f b (length piece.bytes) (other_version f.version piece.attr)
+
+told_chunk_left : (s : client.State) (calls : List Pending) (file xid : ℕ) (f : Fetch) (c : ReadCall) (piece : Piece) (o : Option Chunk) → IsLeft s file (told_chunk s calls file xid f c piece o)
+told_chunk_left s calls file xid f c piece None = (omega arith, refl)
+told_chunk_left s calls file xid f c piece (Some k) = told_bytes_left s calls file xid f c piece (fault_in k piece.bytes (length piece.bytes == k.len))
+
+told_piece_left : (s : client.State) (calls : List Pending) (file xid : ℕ) (f : Fetch) (piece : Piece) (o : Option ReadCall) → IsLeft s file (told_piece s calls file xid f piece o)
+told_piece_left s calls file xid f piece None = (omega arith, refl)
+told_piece_left s calls file xid f piece (Some c) = told_chunk_left s calls file xid f c piece (slice_get f.chunks c.index)
+
+-- ---- a close's answers
+
+goes_if_left : (s : client.State) (file : ℕ) (content : List ℕ) (st : Store) (b : Bool) → is_stored (names_all st s.next).store ≡ b → IsLeft s file (goes_if s file content (names_all st s.next) b)
+goes_if_left s file content st true e = (let n = none_named st s.next e in let o = some_call in omega (arith, n, o), refl)
+goes_if_left s file content st false e = (names_most st s.next, refl)
+
+goes_on_left : (s : client.State) (file : ℕ) (content : List ℕ) (st : Store) → IsLeft s file (goes_on s file content st)
+goes_on_left s file content st = goes_if_left s file content st (is_stored (names_all st s.next).store) refl
+
+told_temp_left : (s : client.State) (calls : List Pending) (file xid temp : ℕ) (content : List ℕ) (a : Answer Unit Unit) → IsLeft s file (told_temp s calls file xid temp content a)
+told_temp_left s calls file xid temp content (Failed t u) = refused_left s calls file xid t
+told_temp_left s calls file xid temp content (Done u) = goes_on_left s file content (store_of temp content)
+
+sends_whole_left : (s : client.State) (file xid : ℕ) (content : List ℕ) (st : Store) (c : StoreCall) (o : Option Chunk) → IsLeft s file (sends_whole s file xid content st c o)
+sends_whole_left s file xid content st c None = (omega arith, refl)
+sends_whole_left s file xid content st c (Some k) = (let o = some_call in omega (arith, o), refl)
+
+told_named_left : (s : client.State) (calls : List Pending) (file xid : ℕ) (content : List ℕ) (st : Store) (c : StoreCall) (a : Answer Unit Unit) → IsLeft s file (told_named s calls file xid content st c a)
+told_named_left s calls file xid content st c (Done u) = goes_on_left s file content st
+told_named_left s calls file xid content st c (Failed status.HashNotFound u) = sends_whole_left s file xid content st c (slice_get st.chunks c.index)
+told_named_left s calls file xid content st c (Failed t u) = refused_left s calls file xid t
+
+told_whole_left : (s : client.State) (calls : List Pending) (file xid : ℕ) (content : List ℕ) (st : Store) (a : Answer Unit Unit) → IsLeft s file (told_whole s calls file xid content st a)
+told_whole_left s calls file xid content st (Done u) = goes_on_left s file content st
+told_whole_left s calls file xid content st (Failed t u) = refused_left s calls file xid t
+
+told_way_left : (s : client.State) (calls : List Pending) (file xid : ℕ) (content : List ℕ) (st : Store) (c : StoreCall) (w : Way) (b : Body) → IsLeft s file (told_way s calls file xid content st c w b)
+told_way_left s calls file xid content st c way.Named (body.Lb (lb.CondWriteAnswer a)) = told_named_left s calls file xid content st c a
+told_way_left s calls file xid content st c way.Whole (body.Lb (lb.TmpWriteAnswer a)) = told_whole_left s calls file xid content st a
+told_way_left s calls file xid content st c w b = (omega arith, refl)
+
+told_stored_left : (s : client.State) (calls : List Pending) (file xid : ℕ) (content : List ℕ) (st : Store) (b : Body) (o : Option StoreCall) → IsLeft s file (told_stored s calls file xid content st b o)
+told_stored_left s calls file xid content st b None = (omega arith, refl)
+told_stored_left s calls file xid content st b (Some c) = told_way_left s calls file xid content (answered st xid) c c.way b
+
+-- ---- any answer
+
+took_left : (s : client.State) (calls : List Pending) (file : ℕ) (t : Stage) (xid : ℕ) (b : Body) → IsLeft s file (took s calls file t xid b)
+took_left s calls file (stage.Hashing tries asked) xid (body.Lb (lb.GetHashAnswer a)) = told_first_left s calls file xid tries a
+took_left s calls file (stage.Listing asked f) xid (body.Lb (lb.GetHashAnswer a)) = told_hashes_left s calls file xid f a
+took_left s calls file (stage.Reading f) xid (body.Nfs (nfs.ReadAnswer (Failed t a))) = refused_left s calls file xid t
+took_left s calls file (stage.Reading f) xid (body.Nfs (nfs.ReadAnswer (Done piece))) = told_piece_left s calls file xid f piece (read_at f.under xid)
+took_left s calls file (stage.Making asked temp) xid (body.Lb (lb.MkTmpFileAnswer a)) = told_temp_left s calls file xid temp (client.local_bytes s.opened file) a
+took_left s calls file (stage.Storing st) xid b = told_stored_left s calls file xid (client.local_bytes s.opened file) st b (store_at st.under xid)
+took_left s calls file (stage.Committing asked) xid (body.Lb (lb.CommitTmpAnswer (Failed t u))) = refused_left s calls file xid t
+took_left s calls file (stage.Committing asked) xid (body.Lb (lb.CommitTmpAnswer (Done c))) = (omega arith, (refl, refl))
+took_left s calls file p xid b = (omega arith, refl)
+
+denied_left : (s : client.State) (calls : List Pending) (file xid : ℕ) (r : RpcRefusal) → IsLeft s file (denied s calls xid r)
+denied_left s calls file xid refusal.SystemErr = (omega arith, refl)
+denied_left s calls file xid r = (omega arith, refl)
+
+drops_left : (s : client.State) (o : Option Task) (file xid : ℕ) (b : Bool) → IsLeft s file (drops s o xid b)
+drops_left s o file xid true = (omega arith, refl)
+drops_left s (Some t) file xid false = (omega arith, refl)
+drops_left s None file xid false = (omega arith, refl)
+
+abbrev file_in : Option Task → ℕ
+file_in None = 0
+file_in (Some t) = t.file
+
+took_if_left : (s : client.State) (o : Option Task) (xid : ℕ) (b : Body) (own : Bool) → IsLeft s (file_in o) (took_if s o xid b own)
+took_if_left s (Some t) xid b true = took_left (idle s) (client.calls_of s) t.file t.stage xid b
+took_if_left s (Some t) xid b false = drops_left s (Some t) t.file xid (client.has_call s.forgotten xid)
+took_if_left s None xid b own = drops_left s None 0 xid (client.has_call s.forgotten xid)
+
+denied_if_left : (s : client.State) (o : Option Task) (xid : ℕ) (r : RpcRefusal) (own : Bool) → IsLeft s (file_in o) (denied_if s o xid r own)
+denied_if_left s (Some t) xid r true = denied_left (idle s) (client.calls_of s) t.file xid r
+denied_if_left s (Some t) xid r false = drops_left s (Some t) t.file xid (client.has_call s.forgotten xid)
+denied_if_left s None xid r own = drops_left s None 0 xid (client.has_call s.forgotten xid)
+
+got_left : (s : client.State) (o : Option Task) (m : Message) → IsLeft s (file_in o) (got_message s o m)
+got_left s o (message.Answer xid b) = took_if_left s o xid b (client.has_call (client.pending o) xid)
+got_left s o (message.Refuse xid r) = denied_if_left s o xid r (client.has_call (client.pending o) xid)
+got_left s o (message.Unfit xid r) = (omega arith, refl)
+got_left s o (message.Call xid b) = (omega arith, refl)
+
+fault_came_left : (s : client.State) (o : Option Task) (e : WireFault) → IsLeft s (file_in o) (got_fault s o e)
+fault_came_left s (Some t) e = (omega arith, refl)
+fault_came_left s None e = (omega arith, refl)
+
+-- whatever comes
+pub step_left : (s : client.State) (m : Result Message WireFault) (now : ℕ) (t : Task) → s.task ≡ Some t → IsLeft s t.file (got_step s m now)
+step_left s m now t e = subst (λ (o : Option Task). IsLeft s (file_in o) (got_step s m now)) e (by m)
+  where
+    by : (m : Result Message WireFault) → IsLeft s (file_in s.task) (got_step s m now)
+    by (Ok m) = got_left s s.task m
+    by (Err f) = fault_came_left s s.task f
+
+-- with nothing under way nothing ends by it
+abbrev IsIdle : client.State → client.State × ClientStep → Type 0
+IsIdle s r = (r.0.next ≡ s.next) × (r.0.opened ≡ s.opened) × (r.1.ended ≡ None)
+
+drops_idle : (s : client.State) (xid : ℕ) (b : Bool) → IsIdle s (drops s None xid b)
+drops_idle s xid true = (refl, refl, refl)
+drops_idle s xid false = (refl, refl, refl)
+
+idle_by : (s : client.State) (m : Result Message WireFault) → IsIdle s (elim m [ Ok m ↦ got_message s None m | Err e ↦ got_fault s None e ])
+idle_by s (Err e) = (refl, refl, refl)
+idle_by s (Ok (message.Answer xid b)) = drops_idle s xid (client.has_call s.forgotten xid)
+idle_by s (Ok (message.Refuse xid r)) = drops_idle s xid (client.has_call s.forgotten xid)
+idle_by s (Ok (message.Unfit xid r)) = (refl, refl, refl)
+idle_by s (Ok (message.Call xid b)) = (refl, refl, refl)
+
+pub step_idle : (s : client.State) (m : Result Message WireFault) (now : ℕ) → s.task ≡ None → (let r = got_step s m now in (r.0.next ≡ s.next) × (r.0.opened ≡ s.opened) × (r.1.ended ≡ None))
+step_idle s (Ok m) now e = subst (λ (o : Option Task). IsIdle s (got_message s o m)) (sym e) (idle_by s (Ok m))
+step_idle s (Err f) now e = subst (λ (o : Option Task). IsIdle s (got_fault s o f)) (sym e) (idle_by s (Err f))

@@ -1,0 +1,535 @@
+-- A session that its client left gets no new COMMITTMP, and remembers the close that it did.
+use Rattle.std.proofs.Common.{◌⊎◌, inl, inr, ◌≡◌, ℕ, zero, suc, ◌+◌, ◌<◌, ◌≤◌, List, [], ◌∷◌, ◌++◌, length, Option, Some, None, Bool, true, false, refl, sym, ap, ◌∙◌, subst, arith, append-nil, eq-eqb, ne_eqb}
+use Rattle.std.proofs.lemmas.List.{length-append}
+use Rattle.std.specs.Prelude.{map, not, cond, filter, ◌==◌, nat_lt, Result, Ok, Err, if◌then◌else◌}
+use Rattle.command_text.specs.Content.{content_length, content_bytes}
+use Rattle.command_text.specs.declared.command.Command.{Command}
+use Rattle.command_text.specs.declared.command.Command.TheVariants as command
+use Rattle.xdr_codec.specs.declared.answer.Answer.TheVariants.{Failed}
+use Rattle.xdr_codec.specs.declared.status.Status.{Status}
+use Rattle.xdr_codec.specs.declared.status.Status.TheVariants as status
+use Rattle.hash_calls.specs.declared.call.Commit.{Commit as Commits}
+use Rattle.hash_calls.specs.declared.call.TempPiece.{TempPiece}
+use Rattle.hash_calls.specs.declared.message.Lb.TheVariants as lb
+use Rattle.nfs3_calls.specs.declared.message.Nfs.TheVariants as nfs
+use Rattle.wire.specs.Parse.{parse_of}
+use Rattle.wire.specs.declared.message.Body.{Body}
+use Rattle.wire.specs.declared.message.Body.TheVariants as body
+use Rattle.wire.specs.declared.message.Message.{Message}
+use Rattle.wire.specs.declared.message.Message.TheVariants as message
+use Rattle.server_core.specs.State as server
+use Rattle.server_core.specs.Answers.{Node, root, file, node_of}
+use Rattle.server_core.specs.Closing as closing
+use Rattle.server_core.specs.Closing.{makes_unless, makes, room_fault, writes_unless, writes, has_waiting, is_full, commits_whole, commits_to, commits, makes_change}
+use Rattle.server_core.specs.Step.{called, got, got_if, stands, server_step, connect, has_room}
+use Rattle.server_core.specs.Step as stepping
+use Rattle.server_core.specs.Temps.{Temp, temp_at, assembled, size_most}
+use Rattle.server_core.specs.declared.change.Change.{Change}
+use Rattle.server_core.specs.declared.file.File.{File}
+use Rattle.open_close.specs.State as client
+use Rattle.open_close.specs.Counting.{ends}
+use Rattle.open_close.specs.Local.{local_most, written_size, written, truncated}
+use Rattle.open_close.specs.Step.{is_open, may_ask, asks_hashes, opens_if, opens, on_local, done_with, too_big, edits, writes as writes_local, truncates, reads, abandons, asks_temp, closes, command_step, cut, ended_by}
+use Rattle.open_close.specs.declared.step.ClientStep.{ClientStep}
+use Rattle.open_close.specs.declared.step.Ended.{Ended}
+use Rattle.open_close.specs.declared.step.Outcome.TheVariants as outcome
+use Rattle.open_close.specs.declared.task.Local.{Local}
+use Rattle.open_close.specs.declared.task.Task.{Task}
+use Rattle.register_model.specs.declared.op.Opening.{Opening}
+use Rattle.register_model.specs.declared.op.Word.{Word}
+use Rattle.register_model.specs.declared.op.Word.TheVariants as words
+use Rattle.trace_replay.specs.Commands.{word_of}
+use Rattle.trace_replay.specs.Core.{Core, Seat, Session, Event, Event.Joins, Event.Does, Event.Serves, Event.Hears, Event.Settles, Event.Cuts, Event.Hangs, Turned, numbered, with_numbered, server_waiting, session_of, serves_if, serves, is_newest, hears_if, hears_at, hears, commanded_session, commanded_sessions, does, joins_as, joins, settles, cut_session, cuts_if, cuts, hangs_if, hangs, happens}
+use Rattle.trace_replay.specs.Ops.{closing_with}
+use Rattle.trace_replay.specs.Trail.{Moment}
+use Rattle.trace_replay.specs.World.{unless}
+use Rattle.kept_promise.specs.Talk.{Call, Call.Hash, Call.Read, Call.Make, Call.Name, Call.Send, Call.Commit, Ask, Told, Queue, ask_message}
+use Rattle.kept_promise.proofs.Statements.{CallFits}
+use Rattle.kept_promise.proofs.Lists.{some_is, nothing_there, same_or_not, within}
+use Rattle.kept_promise.proofs.Keys.{own}
+use Rattle.kept_promise.proofs.Messages.{AllAsks}
+use Rattle.kept_promise.proofs.Fits.{FitLaws}
+use Rattle.kept_promise.proofs.Turns.{set_count, also_numbered}
+use Rattle.kept_promise.proofs.Facts.{IsKept, commits_in}
+use Rattle.kept_promise.proofs.Leading.{Sends, ups_put, queues_lost, queues_after}
+use Rattle.kept_promise.proofs.RunsCarried.{book_at, Finds, Step}
+use Rattle.kept_promise.proofs.QueuedCommits.{QueuesHave, AllOf, of_with, of_more, have_with, have_ups, have_downs, have_lost}
+
+-- ---- a client that isn't joined sends nothing, and answers at once
+
+abbrev IsSilent : client.State × ClientStep → Type 0
+IsSilent r = (r.1.send ≡ []) × ((e : Ended) × (r.1.ended ≡ Some e))
+
+silent : (s : client.State) (o : Rattle.open_close.specs.declared.step.Outcome.Outcome) → IsSilent (s, ends o 0 0)
+silent s o = (refl, (record { outcome = o; rests_on = 0 }, refl))
+
+not_joined : (s : client.State) → s.linked ≡ false → may_ask s ≡ false
+not_joined s e = ap (λ (b : Bool). elim b as (λ (x : Bool). Bool) [ true ↦ Rattle.open_close.specs.Step.has_xids s.next | false ↦ false ]) e
+
+local_silent : (s : client.State) (t : Option Task) (o : Option Local) (does_it : Local → client.State × ClientStep) → ((l : Local) → IsSilent (does_it l)) → IsSilent (on_local s t o does_it)
+local_silent s (Some t) o does_it h = silent s outcome.Busy
+local_silent s None None does_it h = silent s outcome.NotOpen
+local_silent s None (Some l) does_it h = h l
+
+edits_silent : (s : client.State) (g : ℕ) (l : Local) (size : ℕ) (content : List ℕ) → IsSilent (edits s g l size content)
+edits_silent s g l size content = by (nat_lt local_most size)
+  where
+    by : (b : Bool) → IsSilent (if b then too_big s size else done_with s g l content)
+    by true = silent s (outcome.TooBig size)
+    by false = (refl, (record { outcome = outcome.Done; rests_on = 0 }, refl))
+
+writes_silent : (s : client.State) (g offset : ℕ) (content : List Rattle.command_text.specs.declared.content.Part.Part) (l : Local) → IsSilent (writes_local s g offset content l)
+writes_silent s g offset content l = by (content_length content == 0)
+  where
+    by : (b : Bool) → IsSilent (if b then (s, ends outcome.Done 0 0) else edits s g l (written_size (length l.bytes) offset (content_length content)) (written l.bytes offset (content_bytes content)))
+    by true = silent s outcome.Done
+    by false = edits_silent s g l (written_size (length l.bytes) offset (content_length content)) (written l.bytes offset (content_bytes content))
+
+command_silent : (s : client.State) (d : Command) (now : ℕ) → s.linked ≡ false → IsSilent (command_step s d now)
+command_silent s (command.Open f) now off = by_task s.task
+  where
+    by_open : (b : Bool) → IsSilent (opens_if s f b)
+    by_open true = silent s outcome.AlreadyOpen
+    by_open false = subst (λ (b : Bool). IsSilent (asks_hashes s f b)) (sym (not_joined s off)) (silent s outcome.NoLink)
+
+    by_task : (t : Option Task) → IsSilent (opens s f t)
+    by_task (Some t) = silent s outcome.Busy
+    by_task None = by_open (is_open s.opened f)
+command_silent s (command.Write f offset content) now off = local_silent s s.task (client.local_at s.opened f) (writes_local s f offset content) (writes_silent s f offset content)
+command_silent s (command.Trunc f size) now off = local_silent s s.task (client.local_at s.opened f) (truncates s f size) (λ l. edits_silent s f l size (truncated l.bytes size))
+command_silent s (command.Read f offset count) now off = local_silent s s.task (client.local_at s.opened f) (reads s offset count) (λ l. silent s _)
+command_silent s (command.Close f) now off = local_silent s s.task (client.local_at s.opened f) (closes s f) (λ l. subst (λ (b : Bool). IsSilent (asks_temp s f b)) (sym (not_joined s off)) (silent s outcome.NoLink))
+command_silent s (command.Abandon f) now off = local_silent s s.task (client.local_at s.opened f) (abandons s f) (λ l. (refl, (record { outcome = outcome.Done; rests_on = 0 }, refl)))
+
+-- the session of a client that is joined is not cut
+left_off : (opening : List Opening) (all : List Moment) (k : Core) (qs : List Queue) (c n : ℕ) (seat : Seat) (x : Session) → IsKept (book_at opening k all) k qs → numbered k.seats c ≡ Some seat → seat.session ≡ Some n → numbered k.sessions n ≡ Some x → x.cut ≡ true → seat.client.linked ≡ false
+left_off opening all k qs c n seat x kept here newest at gone = by seat.client.linked refl
+  where
+    not_both : (b : Bool) → b ≡ true → b ≡ false → ⊥
+    not_both b e d = absurd cc
+
+    by : (b : Bool) → seat.client.linked ≡ b → b ≡ false
+    by false e = refl
+    by true e =
+        let l = (kept.seats c seat here).linked e in
+        let same : l.0 ≡ n = some_is l.0 n (sym l.2 ∙ newest) in
+        let is : l.1 ≡ x = some_is l.1 x (sym l.3 ∙ ap (numbered k.sessions) same ∙ at) in
+        absurd (not_both x.cut gone (ap (λ (z : Session). z.cut) (sym is) ∙ l.4))
+
+closing_stays : (c : Option ℕ) (place : ℕ) (w : Word) (o : Option Ended) (e : Ended) → o ≡ Some e → closing_with c place w o ≡ c
+closing_stays c place w o e is = ap (closing_with c place w) is ∙ by w
+  where
+    by : (w : Word) → closing_with c place w (Some e) ≡ c
+    by words.Close = refl
+    by w = refl
+
+-- ---- what waits at the server
+
+abbrev IsCommitCall : Message → Type 0
+IsCommitCall (message.Call xid (body.Lb (lb.CommitTmp a))) = Unit {0}
+IsCommitCall m = ⊥
+
+-- nothing more waits, or one change of the session, by a COMMITTMP
+abbrev Waits : (waiting : List Change) → (n : ℕ) → Type 0 → List Change → Type 0
+Waits waiting n P after = (after ≡ waiting) ⊎ ((c : Change) × (c.session ≡ n) × (after ≡ waiting ++ c ∷ []) × P)
+
+whole_waits : (s : server.State) (n xid id : ℕ) (o : Option (List ℕ)) → Waits s.waiting n (Unit {0}) (commits_whole s n xid id o).0.waiting
+whole_waits s n xid id None = inl refl
+whole_waits s n xid id (Some content) = by (has_waiting s.waiting n) (is_full s (length content))
+  where
+    by : (a b : Bool) → Waits s.waiting n (Unit {0}) (if a then closing.answers s n xid (lb.CommitTmpAnswer (Failed status.Jukebox tt)) else if b then closing.answers s n xid (lb.CommitTmpAnswer (Failed status.NoSpc tt)) else (record s { waiting = s.waiting ++ record { session = n; xid = xid; file = id; content = content } ∷ [] }, closing.sends [])).0.waiting
+    by true b = inl refl
+    by false true = inl refl
+    by false false = inr (record { session = n; xid = xid; file = id; content = content }, refl, refl, tt)
+
+to_waits : (s : server.State) (n xid size : ℕ) (t : Temp) (r : Result Node Status) → Waits s.waiting n (Unit {0}) (commits_to s n xid size t r).0.waiting
+to_waits s n xid size t (Err e) = inl refl
+to_waits s n xid size t (Ok root) = inl refl
+to_waits s n xid size t (Ok (file f)) = by (nat_lt size_most size)
+  where
+    by : (b : Bool) → Waits s.waiting n (Unit {0}) (if b then closing.answers s n xid (lb.CommitTmpAnswer (Failed status.FBig tt)) else commits_whole s n xid f.id (assembled t size)).0.waiting
+    by true = inl refl
+    by false = whole_waits s n xid f.id (assembled t size)
+
+commits_wait : (s : server.State) (n xid : ℕ) (a : Commits) (o : Option Temp) → Waits s.waiting n (Unit {0}) (commits s n xid a o).0.waiting
+commits_wait s n xid a None = inl refl
+commits_wait s n xid a (Some t) = to_waits (record s { temps = Rattle.server_core.specs.Temps.without_temp s.temps n a.fd }) n xid a.size t (node_of s.files a.handle)
+
+makes_wait : (s : server.State) (n xid number : ℕ) (r : Result Node Status) → (makes s n xid number r).0.waiting ≡ s.waiting
+makes_wait s n xid number (Err e) = refl
+makes_wait s n xid number (Ok root) = refl
+makes_wait s n xid number (Ok (file f)) = by (room_fault s.temps n number)
+  where
+    by : (o : Option Status) → (makes_unless s n xid number f.id o).0.waiting ≡ s.waiting
+    by None = refl
+    by (Some e) = refl
+
+writes_wait : (s : server.State) (n xid : ℕ) (a : TempPiece) (t : Option Temp) (o : Option Status) → (writes_unless s n xid a t o).0.waiting ≡ s.waiting
+writes_wait s n xid a (Some t) None = refl
+writes_wait s n xid a None None = refl
+writes_wait s n xid a (Some t) (Some e) = refl
+writes_wait s n xid a None (Some e) = refl
+
+called_waits : (s : server.State) (n xid : ℕ) (b : Body) → Waits s.waiting n (IsCommitCall (message.Call xid b)) (called s n xid b).0.waiting
+called_waits s n xid (body.Lb (lb.CommitTmp a)) = commits_wait s n xid a (temp_at s.temps n a.fd)
+called_waits s n xid (body.Lb (lb.MkTmpFile a)) = inl (makes_wait s n xid a.fd (node_of s.files a.handle))
+called_waits s n xid (body.Lb (lb.TmpWrite a)) = inl (writes_wait s n xid a (temp_at s.temps n a.fd) _)
+called_waits s n xid (body.Lb lb.Null) = inl refl
+called_waits s n xid (body.Lb (lb.GetHash r)) = inl refl
+called_waits s n xid (body.Lb (lb.CondWrite a)) = inl refl
+called_waits s n xid (body.Nfs nfs.Null) = inl refl
+called_waits s n xid (body.Nfs (nfs.Read r)) = inl refl
+called_waits s n xid (body.Lb b) = inl refl
+called_waits s n xid (body.Nfs b) = inl refl
+called_waits s n xid (body.Back b) = inl refl
+
+got_waits : (s : server.State) (n now : ℕ) (m : Message) (b : Bool) → Waits s.waiting n (IsCommitCall m) (got_if s b n m now).0.waiting
+got_waits s n now m false = inl refl
+got_waits s n now (message.Call xid b) true = called_waits (closing.at s now) n xid b
+got_waits s n now (message.Unfit xid why) true = inl refl
+got_waits s n now (message.Answer xid b) true = inl refl
+got_waits s n now (message.Refuse xid why) true = inl refl
+
+-- ---- changes of a session
+
+own_append : (n : ℕ) (ws : List Change) (c : Change) → own n (ws ++ c ∷ []) ≡ own n ws ++ own n (c ∷ [])
+own_append n [] c = refl
+own_append n (w ∷ ws) c = by (w.session == n) (own_append n ws c)
+  where
+    by : (b : Bool) → own n (ws ++ c ∷ []) ≡ own n ws ++ own n (c ∷ []) → cond b (w ∷ own n (ws ++ c ∷ [])) (own n (ws ++ c ∷ [])) ≡ cond b (w ∷ own n ws) (own n ws) ++ own n (c ∷ [])
+    by true e = ap (λ l. w ∷ l) e
+    by false e = e
+
+own_other : (n : ℕ) (ws : List Change) (c : Change) → (c.session ≡ n → ⊥) → own n (ws ++ c ∷ []) ≡ own n ws
+own_other n ws c apart = own_append n ws c ∙ ap (λ b. own n ws ++ cond b (c ∷ []) []) (ne_eqb c.session n apart) ∙ append-nil (own n ws)
+
+own_one : (n : ℕ) (ws : List Change) (c : Change) → length (own n (ws ++ c ∷ [])) ≤ length (own n ws) + 1
+own_one n ws c = let e = ap (λ (l : List Change). length l) (own_append n ws c) in let l = length-append (own n ws) (own n (c ∷ [])) in let s = single (c.session == n) in omega (arith, e, l, s)
+  where
+    single : (b : Bool) → length (cond b (c ∷ []) []) ≤ 1
+    single true = omega arith
+    single false = omega arith
+
+own_less : (n : ℕ) (c : Change) (cs : List Change) → length (own n cs) ≤ length (own n (c ∷ cs))
+own_less n c cs = by (c.session == n)
+  where
+    by : (b : Bool) → length (own n cs) ≤ length (cond b (c ∷ own n cs) (own n cs))
+    by true = omega arith
+    by false = omega arith
+
+own_filter : (n m : ℕ) (ws : List Change) → length (own n (filter (λ c. not (c.session == m)) ws)) ≤ length (own n ws)
+own_filter n m [] = omega arith
+own_filter n m (c ∷ ws) = by (c.session == m) (own_filter n m ws)
+  where
+    by : (b : Bool) → length (own n (filter (λ d. not (d.session == m)) ws)) ≤ length (own n ws) → length (own n (cond (not b) (c ∷ filter (λ d. not (d.session == m)) ws) (filter (λ d. not (d.session == m)) ws))) ≤ length (own n (c ∷ ws))
+    by true le = let l = own_less n c ws in omega (arith, le, l)
+    by false le = kept (c.session == n)
+      where
+        kept : (b : Bool) → length (cond b (c ∷ own n (filter (λ d. not (d.session == m)) ws)) (own n (filter (λ d. not (d.session == m)) ws))) ≤ length (cond b (c ∷ own n ws) (own n ws))
+        kept true = omega (arith, le)
+        kept false = le
+
+-- ---- what an event leaves of a session that its client left
+
+-- it was there, and remembers the same close
+abbrev SessionWas : Core → (n : ℕ) → Session → Type 0
+SessionWas k n y = (x : Session) × (numbered k.sessions n ≡ Some x) × (y.closing ≡ x.closing)
+
+abbrev SessionsWere : Core → List Session → Type 0
+SessionsWere k sessions = (n : ℕ) (y : Session) → numbered sessions n ≡ Some y → y.cut ≡ true → SessionWas k n y
+
+were_same : (k : Core) → SessionsWere k k.sessions
+were_same k n y at gone = (y, at, refl)
+
+were_with : (k : Core) (m : ℕ) (x z : Session) → numbered k.sessions m ≡ Some x → z.closing ≡ x.closing → SessionsWere k (with_numbered k.sessions m z)
+were_with k m x z at same n y is gone = elim (of_with k.sessions m n z y is) [
+  | inl here ↦ (x, ap (numbered k.sessions) here.0 ∙ at, ap (λ (v : Session). v.closing) here.1 ∙ same)
+  | inr was ↦ (y, was, refl)
+]
+
+-- what is on its way there, or waits, is no more than before
+abbrev CommitsWere : Core → List Queue → (after : List Change) → (n : ℕ) → Queue → Type 0
+CommitsWere k qs after n r = (q : Queue) × (numbered qs n ≡ Some q) × (commits_in r.ups + length (own n after) ≤ commits_in q.ups + length (own n k.server.waiting))
+
+-- of each session that its client left
+abbrev LeftSo : Core → List Queue → Core → (n : ℕ) → Queue → Type 0
+LeftSo k qs after n r = (y : Session) → numbered after.sessions n ≡ Some y → y.cut ≡ true → CommitsWere k qs after.server.waiting n r
+
+-- what an event is to show
+record Leaves (k : Core) (qs mid : List Queue) (t : Turned) : Type 0 where
+  were : SessionsWere k t.core.sessions
+  count : length mid ≡ length qs
+  taken : QueuesHave (LeftSo k qs t.core) mid
+  quiet : (n : ℕ) (y : Session) → t.session ≡ Some n → numbered t.core.sessions n ≡ Some y → y.cut ≡ true → t.up ≡ []
+
+no_asks : (us : List Ask) → [] ≡ map ask_message us → us ≡ []
+no_asks [] e = refl
+no_asks (a ∷ us) e = absurd cc
+
+numbered_within : {A : Type 0} (xs : List A) (n : ℕ) (x : A) → numbered xs n ≡ Some x → n ≤ length xs
+numbered_within xs zero x e = omega arith
+numbered_within xs (suc n) x e = let lt = within xs n x e in omega (arith, lt)
+
+nothing_put : (b : Bool) (us asks : List Ask) → asks ≡ [] → unless b us asks ≡ us
+nothing_put true us asks e = refl
+nothing_put false us asks e = ap (λ l. us ++ l) e ∙ append-nil us
+
+left_after : (k : Core) (qs mid : List Queue) (t : Turned) (s : Sends t) → length qs ≡ length k.sessions → Leaves k qs mid t → QueuesHave (LeftSo k qs t.core) (queues_after mid t s)
+left_after k qs mid t s made l =
+    let P = LeftSo k qs t.core in
+    let one = have_lost P mid t.loss l.taken (λ y at gone. let x = l.were (suc (length mid)) y at gone in let w = numbered_within k.sessions (suc (length mid)) x.0 x.1 in let c = l.count in absurd (omega (arith, w, c, made))) (λ n q h. h)
+    (λ n q h y at gone. let w = h y at gone in let le = w.2 in (w.0, w.1, omega (arith, le))) in
+    let two = have_ups P t.core.sessions (queues_lost mid t.loss) t.session s.asks one (λ n x q is at there h y is_y gone.
+    let none = no_asks s.asks (sym (l.quiet n y is is_y gone) ∙ s.up_is) in
+    let w = h y is_y gone in
+    let same = ap commits_in (nothing_put x.hung q.ups s.asks none) in
+    let le = w.2 in
+    (w.0, w.1, omega (arith, le, same))) in
+    have_downs P (λ u. Unit {0}) t.core.sessions s.tolds (ups_put t.core.sessions (queues_lost mid t.loss) t.session s.asks) (all_units s.tolds) two (λ n u q lost f h. h)
+  where
+    all_units : (ps : List (ℕ × Told)) → AllOf (λ p. Unit {0}) ps
+    all_units [] = tt
+    all_units (p ∷ ps) = (tt, all_units ps)
+
+-- nothing is taken, and no more waits
+taken_none : (k : Core) (qs mid : List Queue) (t : Turned) → mid ≡ qs → ((n : ℕ) → length (own n t.core.server.waiting) ≤ length (own n k.server.waiting)) → QueuesHave (LeftSo k qs t.core) mid
+taken_none k qs mid t same less n q at y is gone = let le = less n in (q, ap (λ (l : List Queue). numbered l n) (sym same) ∙ at, omega (arith, le))
+
+no_less : (k : Core) (after : Core) → after.server.waiting ≡ k.server.waiting → (n : ℕ) → length (own n after.server.waiting) ≤ length (own n k.server.waiting)
+no_less k after same n = let e = ap (λ ws. length (own n ws)) same in omega (arith, e)
+
+-- with no session that sends up, where nothing is taken
+leaves_plain : (k : Core) (qs mid : List Queue) (t : Turned) → SessionsWere k t.core.sessions → mid ≡ qs → t.session ≡ None → ((n : ℕ) → length (own n t.core.server.waiting) ≤ length (own n k.server.waiting)) → Leaves k qs mid t
+leaves_plain k qs mid t were same none less = record { were = were; count = ap (λ (l : List Queue). length l) same; taken = taken_none k qs mid t same less; quiet = λ n y is at gone. nothing_there n (sym none ∙ is) }
+
+-- ---- each event
+
+leaves_joins : (k : Core) (qs mid : List Queue) (c : ℕ) → mid ≡ qs → Leaves k qs mid (joins k c (numbered k.seats c))
+leaves_joins k qs mid c same = by (numbered k.seats c)
+  where
+    new_apart : (n m : ℕ) (y : Session) → ((n ≡ suc (length k.sessions)) × (y ≡ Rattle.trace_replay.specs.Core.new_session m)) ⊎ (numbered k.sessions n ≡ Some y) → y.cut ≡ true → SessionWas k n y
+    new_apart n m y (inr was) gone = (y, was, refl)
+    new_apart n m y (inl new) gone = absurd (not_true (sym (ap (λ (z : Session). z.cut) new.1) ∙ gone))
+      where
+        not_true : false ≡ true → ⊥
+        not_true e = absurd cc
+
+    by_room : (seat : Seat) (b : Bool) → (let r = connect k.server b in Leaves k qs mid (joins_as k c seat r.0 r.1.told))
+    by_room seat true = leaves_plain k qs mid _ (λ n y at gone. new_apart n c y (of_more k.sessions n (Rattle.trace_replay.specs.Core.new_session c) y at) gone) same refl (λ n. omega arith)
+    by_room seat false = leaves_plain k qs mid _ (were_same k) same refl (λ n. omega arith)
+
+    by : (o : Option Seat) → Leaves k qs mid (joins k c o)
+    by None = leaves_plain k qs mid _ (were_same k) same refl (λ n. omega arith)
+    by (Some seat) = by_room seat (has_room k.server)
+
+leaves_hangs : (k : Core) (qs mid : List Queue) (m : ℕ) → mid ≡ qs → Leaves k qs mid (hangs k m (numbered k.sessions m))
+leaves_hangs k qs mid m same = by (numbered k.sessions m) refl
+  where
+    less : (b : Bool) (n : ℕ) → length (own n (stepping.hangs_if k.server b m).0.waiting) ≤ length (own n k.server.waiting)
+    less true n = own_filter n m k.server.waiting
+    less false n = omega arith
+
+    by_hung : (x : Session) → numbered k.sessions m ≡ Some x → (b : Bool) → Leaves k qs mid (hangs_if k m x b)
+    by_hung x at true = leaves_plain k qs mid _ (were_same k) same refl (λ n. omega arith)
+    by_hung x at false = leaves_plain k qs mid _ (were_with k m x (record x { hung = true }) at refl) same refl (less (stands k.server m))
+
+    by : (o : Option Session) → numbered k.sessions m ≡ o → Leaves k qs mid (hangs k m o)
+    by None at = leaves_plain k qs mid _ (were_same k) same refl (λ n. omega arith)
+    by (Some x) at = by_hung x at x.hung
+
+leaves_settles : (k : Core) (qs mid : List Queue) (now : ℕ) → mid ≡ qs → Leaves k qs mid (settles k now)
+leaves_settles k qs mid now same = leaves_plain k qs mid _ (were_same k) same refl (by k.server.waiting refl)
+  where
+    by : (cs : List Change) → k.server.waiting ≡ cs → (n : ℕ) → length (own n (closing.settles k.server now cs).0.waiting) ≤ length (own n k.server.waiting)
+    by [] e n = omega arith
+    by (c ∷ cs) e n = made (server.file_at k.server.files c.file)
+      where
+        made : (o : Option File) → length (own n (makes_change (closing.at (record k.server { waiting = cs }) now) c o).0.waiting) ≤ length (own n k.server.waiting)
+        made None = let w = ap (λ ws. length (own n ws)) e in let l = own_less n c cs in omega (arith, w, l)
+        made (Some f) = let w = ap (λ ws. length (own n ws)) e in let l = own_less n c cs in omega (arith, w, l)
+
+cut_silent : (t : Option Task) (e : Ended) → (ended_by t e).send ≡ []
+cut_silent None e = refl
+cut_silent (Some t) e = refl
+
+leaves_cuts : (k : Core) (qs mid : List Queue) (c : ℕ) → mid ≡ qs → Leaves k qs mid (cuts k c (numbered k.seats c))
+leaves_cuts k qs mid c same = by (numbered k.seats c)
+  where
+    cut_were : (o : Option ℕ) (x : Option Session) → session_of k.sessions o ≡ x → SessionsWere k (cut_session k.sessions o x)
+    cut_were None x e = were_same k
+    cut_were (Some m) None e = were_same k
+    cut_were (Some m) (Some x) e = were_with k m x (record x { cut = true }) e refl
+
+    by_linked : (seat : Seat) (b : Bool) → Leaves k qs mid (cuts_if k c seat b)
+    by_linked seat false = leaves_plain k qs mid _ (were_same k) same refl (λ n. omega arith)
+    by_linked seat true = record {
+      were = cut_were seat.session (session_of k.sessions seat.session) refl;
+      count = ap (λ (l : List Queue). length l) same;
+      taken = taken_none k qs mid (cuts_if k c seat true) same (λ n. omega arith);
+      quiet = λ n y is at gone. cut_silent seat.client.task _;
+    }
+
+    by : (o : Option Seat) → Leaves k qs mid (cuts k c o)
+    by None = leaves_plain k qs mid _ (were_same k) same refl (λ n. omega arith)
+    by (Some seat) = by_linked seat seat.client.linked
+
+leaves_does : (opening : List Opening) (all : List Moment) (k : Core) (qs mid : List Queue) (c now : ℕ) (d : Command) → IsKept (book_at opening k all) k qs → mid ≡ qs → Leaves k qs mid (does k c now d (numbered k.seats c))
+leaves_does opening all k qs mid c now d kept same = by (numbered k.seats c) refl
+  where
+    by_session : (seat : Seat) → numbered k.seats c ≡ Some seat → (o : Option ℕ) → seat.session ≡ o → (z : Option Session) → session_of k.sessions o ≡ z
+        → SessionsWere k (commanded_sessions k.sessions o z seat.place (length k.ops) (word_of d) (command_step seat.client d now).1) × ((n : ℕ) (y : Session) → o ≡ Some n → numbered (commanded_sessions k.sessions o z seat.place (length k.ops) (word_of d) (command_step seat.client d now).1) n ≡ Some y → y.cut ≡ true → (command_step seat.client d now).1.send ≡ [])
+    by_session seat here None e z f = (were_same k, λ n y is at gone. nothing_there n is)
+    by_session seat here (Some m) e None f = (were_same k, λ n y is at gone. nothing_there y (sym f ∙ ap (numbered k.sessions) (some_is m n is) ∙ at))
+    by_session seat here (Some m) e (Some x) f =
+        let acts = (command_step seat.client d now).1 in
+        let z : Session = commanded_session x seat.place (length k.ops) (word_of d) acts in (
+          λ n y at gone. elim (of_with k.sessions m n z y at) [
+            | inr was ↦ (y, was, refl)
+            | inl new ↦
+                let off = left_off opening all k qs c m seat x kept here e f (sym (ap (λ (v : Session). v.cut) new.1) ∙ gone) in
+                let end = (command_silent seat.client d now off).1 in
+                (x, ap (numbered k.sessions) new.0 ∙ f, ap (λ (v : Session). v.closing) new.1 ∙ closing_stays x.closing (length k.ops) (word_of d) acts.ended end.0 end.1)
+          ],
+          λ n y is at gone. elim (of_with k.sessions m n z y at) [
+            | inl new ↦ (command_silent seat.client d now (left_off opening all k qs c m seat x kept here e f (sym (ap (λ (v : Session). v.cut) new.1) ∙ gone))).0
+            | inr was ↦ (command_silent seat.client d now (left_off opening all k qs c n seat y kept here (e ∙ is) was gone)).0
+          ],
+        )
+
+    by : (o : Option Seat) → numbered k.seats c ≡ o → Leaves k qs mid (does k c now d o)
+    by None here = leaves_plain k qs mid _ (were_same k) same refl (λ n. omega arith)
+    by (Some seat) here =
+        let w = by_session seat here seat.session refl (session_of k.sessions seat.session) refl in
+        record { were = w.0; count = ap (λ (l : List Queue). length l) same; taken = taken_none k qs mid (does k c now d (Some seat)) same (λ n. omega arith); quiet = w.1 }
+
+-- what is heard comes on a session that is not cut
+leaves_hears : (opening : List Opening) (all : List Moment) (k : Core) (qs mid : List Queue) (m now : ℕ) (bytes : List ℕ) → IsKept (book_at opening k all) k qs → Finds k qs (Hears m now bytes) mid → Leaves k qs mid (hears k m now bytes (numbered k.sessions m))
+leaves_hears opening all k qs mid m now bytes kept f = by (numbered k.sessions m) refl
+  where
+    count_with : length mid ≡ length qs
+    count_with = ap (λ (l : List Queue). length l) f.6 ∙ with_count qs m (record f.0 { downs = f.2 })
+      where
+        with_count : (xs : List Queue) (i : ℕ) (x : Queue) → length (with_numbered xs i x) ≡ length xs
+        with_count xs zero x = refl
+        with_count xs (suc i) x = set_count xs i x
+
+    heard : (t : Turned) → t.core.server.waiting ≡ k.server.waiting → QueuesHave (LeftSo k qs t.core) mid
+    heard t waiting = subst (QueuesHave (LeftSo k qs t.core)) (sym f.6) (have_with (LeftSo k qs t.core) qs m (record f.0 { downs = f.2 }) (taken_none k qs qs t refl (no_less k t.core waiting)) (λ y at gone. let le = no_less k t.core waiting m in (f.0, f.3, omega (arith, le))))
+
+    plain : (t : Turned) → t.core ≡ k → t.session ≡ None → Leaves k qs mid t
+    plain t core none = record { were = subst (λ (z : Core). SessionsWere k z.sessions) (sym core) (were_same k); count = count_with; taken = heard t (ap (λ (z : Core). z.server.waiting) core); quiet = λ n y is at gone. nothing_there n (sym none ∙ is) }
+
+    full : (x : Session) → numbered k.sessions m ≡ Some x → x.cut ≡ true → ⊥
+    full x at gone = none (sym (sym f.4 ∙ z))
+      where
+        z : f.0.downs ≡ []
+        z = (kept.sessions m x f.0 at f.3).shut gone
+
+        none : [] ≡ f.1 ∷ f.2 → ⊥
+        none e = absurd cc
+
+    by_newest : (seat : Seat) (x : Session) → numbered k.sessions m ≡ Some x → (b : Bool) → is_newest seat.session m ≡ b → Leaves k qs mid (hears_if k x.owner now seat bytes b)
+    by_newest seat x at false e = plain _ refl refl
+    by_newest seat x at true e = record {
+      were = were_same k;
+      count = count_with;
+      taken = heard (hears_if k x.owner now seat bytes true) refl;
+      quiet = λ n y is there gone. absurd (full y (ap (numbered k.sessions) (newest seat.session n is e) ∙ there) gone);
+    }
+      where
+        newest : (o : Option ℕ) (n : ℕ) → o ≡ Some n → is_newest o m ≡ true → m ≡ n
+        newest (Some i) n is e = sym (Rattle.std.proofs.Common.eqb-true i m e) ∙ some_is i n is
+        newest None n is e = nothing_there n is
+
+    by_seat : (x : Session) → numbered k.sessions m ≡ Some x → (o : Option Seat) → Leaves k qs mid (hears_at k m x.owner now bytes o)
+    by_seat x at None = plain _ refl refl
+    by_seat x at (Some seat) = by_newest seat x at (is_newest seat.session m) refl
+
+    by : (o : Option Session) → numbered k.sessions m ≡ o → Leaves k qs mid (hears k m now bytes o)
+    by None at = plain _ refl refl
+    by (Some x) at = by_seat x at (numbered k.seats x.owner)
+
+-- a COMMITTMP that is taken waits then, if it does
+leaves_serves : FitLaws → (opening : List Opening) (all : List Moment) (k : Core) (qs mid : List Queue) (m now : ℕ) (bytes : List ℕ) → IsKept (book_at opening k all) k qs → Finds k qs (Serves m now bytes) mid → Leaves k qs mid (serves k m now bytes (numbered k.sessions m))
+leaves_serves laws opening all k qs mid m now bytes kept f =
+    let x = also_numbered qs k.sessions m f.0 (sym kept.made.1) f.3 in
+    let s = kept.sessions m x.0 f.0 x.1 f.3 in
+    let fits : AllAsks (λ a. CallFits a.xid a.call) (f.1 ∷ f.2) = subst (AllAsks (λ a. CallFits a.xid a.call)) f.4 s.ups_fit in
+    let c = laws.calls f.1.xid f.1.call fits.0 in
+    let parsed : parse_of server_waiting bytes ≡ Ok (ask_message f.1) = ap (parse_of server_waiting) f.5 ∙ laws.again server_waiting (ask_message f.1) c.0.0 c.1 in
+    let got_as : serves k m now bytes (Some x.0) ≡ serves_if k m now x.0 (Ok (ask_message f.1)) = ap (serves_if k m now x.0) parsed in
+    subst (λ (o : Option Session). Leaves k qs mid (serves k m now bytes o)) (sym x.1) (subst (Leaves k qs mid) (sym got_as) (by x.0 x.1 (got_waits k.server m now (ask_message f.1) (stands k.server m))))
+  where
+    with_count : (xs : List Queue) (i : ℕ) (x : Queue) → length (with_numbered xs i x) ≡ length xs
+    with_count xs zero x = refl
+    with_count xs (suc i) x = set_count xs i x
+
+    -- such a call was on its way
+    one_less : (a : Ask) (us : List Ask) → IsCommitCall (ask_message a) → commits_in (a ∷ us) ≡ suc (commits_in us)
+    one_less a us h = by a.call h
+      where
+        by : (c : Call) → IsCommitCall (ask_message (record { xid = a.xid; call = c })) → commits_in (record { xid = a.xid; call = c } ∷ us) ≡ suc (commits_in us)
+        by (Commit temp g size) h = refl
+        by (Hash g offset) h = absurd h
+        by (Read g d) h = absurd h
+        by (Make temp g) h = absurd h
+        by (Name temp d) h = absurd h
+        by (Send temp start b) h = absurd h
+
+    no_more : (a : Ask) (us : List Ask) → commits_in us ≤ commits_in (a ∷ us)
+    no_more a us = by a.call
+      where
+        by : (c : Call) → commits_in us ≤ commits_in (record { xid = a.xid; call = c } ∷ us)
+        by (Commit temp g size) = omega arith
+        by (Hash g offset) = omega arith
+        by (Read g d) = omega arith
+        by (Make temp g) = omega arith
+        by (Name temp d) = omega arith
+        by (Send temp start b) = omega arith
+
+    same_there : (after : List Change) → Waits k.server.waiting m (IsCommitCall (ask_message f.1)) after → commits_in f.2 + length (own m after) ≤ commits_in f.0.ups + length (own m k.server.waiting)
+    same_there after (inl e) = let w = ap (λ ws. length (own m ws)) e in let n = no_more f.1 f.2 in let u = ap commits_in f.4 in omega (arith, w, n, u)
+    same_there after (inr c) = let w = ap (λ ws. length (own m ws)) c.2 in let l = own_one m k.server.waiting c.0 in let n = one_less f.1 f.2 c.3 in let u = ap commits_in f.4 in omega (arith, w, l, n, u)
+
+    same_else : (after : List Change) (n : ℕ) → (n ≡ m → ⊥) → Waits k.server.waiting m (IsCommitCall (ask_message f.1)) after → length (own n after) ≤ length (own n k.server.waiting)
+    same_else after n apart (inl e) = let w = ap (λ ws. length (own n ws)) e in omega (arith, w)
+    same_else after n apart (inr c) = let w = ap (λ ws. length (own n ws)) (c.2) in let o = ap (λ (l : List Change). length l) (own_other n k.server.waiting c.0 (λ e. apart (sym e ∙ c.1))) in omega (arith, w, o)
+
+    by : (x : Session) → numbered k.sessions m ≡ Some x → Waits k.server.waiting m (IsCommitCall (ask_message f.1)) (got_if k.server (stands k.server m) m (ask_message f.1) now).0.waiting → Leaves k qs mid (serves_if k m now x (Ok (ask_message f.1)))
+    by x at waits =
+        let t = serves_if k m now x (Ok (ask_message f.1)) in
+        record {
+          were = were_with k m x _ at refl;
+          count = ap (λ (l : List Queue). length l) f.6 ∙ with_count qs m (record f.0 { ups = f.2 });
+          taken = λ n r is y there gone. elim (of_with qs m n (record f.0 { ups = f.2 }) r (ap (λ (l : List Queue). numbered l n) (sym f.6) ∙ is)) [
+            | inl new ↦ let u = ap (λ (z : Queue). commits_in z.ups) new.1 in let le = same_there t.core.server.waiting waits in subst (λ (z : ℕ). CommitsWere k qs t.core.server.waiting z r) (sym new.0) (f.0, f.3, omega (arith, u, le))
+            | inr was ↦ elim (same_or_not n m) [
+              | inr apart ↦ let le = same_else t.core.server.waiting n apart waits in (r, was, omega (arith, le))
+              | inl same ↦
+                  let mine : r ≡ record f.0 { ups = f.2 } = some_is r (record f.0 { ups = f.2 }) (sym is ∙ ap (λ (l : List Queue). numbered l n) f.6 ∙ ap (numbered (with_numbered qs m (record f.0 { ups = f.2 }))) same ∙ (Rattle.kept_promise.proofs.Turns.around_with qs m f.0 (record f.0 { ups = f.2 }) f.3).there) in
+                  let u = ap (λ (z : Queue). commits_in z.ups) mine in
+                  let le = same_there t.core.server.waiting waits in
+                  subst (λ (z : ℕ). CommitsWere k qs t.core.server.waiting z r) (sym same) (f.0, f.3, omega (arith, u, le))
+            ]
+          ];
+          quiet = λ n y is there gone. nothing_there n is;
+        }
+
+leaves : FitLaws → (opening : List Opening) (all : List Moment) (k : Core) (qs mid : List Queue) (e : Event) → IsKept (book_at opening k all) k qs → Finds k qs e mid → Leaves k qs mid (happens k e)
+leaves laws opening all k qs mid (Joins c) kept f = leaves_joins k qs mid c f.5
+leaves laws opening all k qs mid (Does c now d) kept f = leaves_does opening all k qs mid c now d kept f.3
+leaves laws opening all k qs mid (Serves n now bytes) kept f = leaves_serves laws opening all k qs mid n now bytes kept f
+leaves laws opening all k qs mid (Hears n now bytes) kept f = leaves_hears opening all k qs mid n now bytes kept f
+leaves laws opening all k qs mid (Settles now) kept f = leaves_settles k qs mid now f
+leaves laws opening all k qs mid (Cuts c) kept f = leaves_cuts k qs mid c f.2
+leaves laws opening all k qs mid (Hangs n) kept f = leaves_hangs k qs mid n f.2
+
+-- A session that its client left was there before, with the same close, and no more COMMITTMPs are on its way, or wait, than then.
+pub commits_left : FitLaws → (all past rest : List Moment) (opening : List Opening) (k : Core) (qs : List Queue) (e : Event) (mid after : List Queue) → Step all past rest opening k qs e mid after
+    → (n : ℕ) (y : Session) (r : Queue) → numbered (happens k e).core.sessions n ≡ Some y → numbered after n ≡ Some r → y.cut ≡ true
+    → (x : Session) × (q : Queue) × (numbered k.sessions n ≡ Some x) × (numbered qs n ≡ Some q) × (y.closing ≡ x.closing) × (commits_in r.ups + length (own n (happens k e).core.server.waiting) ≤ commits_in q.ups + length (own n k.server.waiting))
+commits_left laws all past rest opening k qs e mid after s n y r at is gone =
+    let l = leaves laws opening all k qs mid e s.kept s.finds in
+    let x = l.were n y at gone in
+    let w = left_after k qs mid (happens k e) s.sends s.kept.made.1 l n r (ap (λ (z : List Queue). numbered z n) (sym s.after_is) ∙ is) y at gone in
+    (x.0, w.0, x.1, w.1, x.2, w.2)

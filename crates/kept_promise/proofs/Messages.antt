@@ -1,0 +1,305 @@
+-- What holds of a call and of an answer on its way, if its owner waits for it.
+use Rattle.std.proofs.Common.{◌≡◌, ℕ, zero, suc, ◌+◌, ◌<◌, ◌≤◌, List, [], ◌∷◌, ◌⊎◌, Option, Some, None, Bool, true, false, length}
+use Rattle.std.specs.Prelude.{slice_get, cond, ◌==◌, take, drop, Contains, IsSome}
+use Rattle.chunk_cut.specs.Places.{chunk_bytes, end_of}
+use Rattle.chunk_cut.specs.Chunks.{chunks_of}
+use Rattle.chunk_cut.specs.declared.chunk.Chunk.{Chunk}
+use Rattle.xdr_codec.specs.declared.answer.Answer.{Answer}
+use Rattle.xdr_codec.specs.declared.answer.Answer.TheVariants.{Done, Failed}
+use Rattle.xdr_codec.specs.declared.attr.Attr.{Attr}
+use Rattle.xdr_codec.specs.declared.status.Status.TheVariants as status
+use Rattle.hash_calls.specs.declared.call.Committed.{Committed}
+use Rattle.hash_calls.specs.declared.call.Hashes.{Hashes}
+use Rattle.hash_calls.specs.declared.call.HashRange.{HashRange}
+use Rattle.nfs3_calls.specs.declared.call.Piece.{Piece}
+use Rattle.nfs3_calls.specs.declared.call.Range.{Range}
+use Rattle.server_core.specs.Answers.{hashes_of, piece_of, told_chunks}
+use Rattle.server_core.specs.declared.file.File.{File}
+use Rattle.open_close.specs.Opening.{read_at}
+use Rattle.open_close.specs.declared.task.Fetch.{Fetch}
+use Rattle.open_close.specs.declared.task.ReadCall.{ReadCall}
+use Rattle.open_close.specs.declared.task.Stage.{Stage}
+use Rattle.open_close.specs.declared.task.Stage.TheVariants as stage
+use Rattle.open_close.specs.declared.task.Store.{Store}
+use Rattle.open_close.specs.declared.task.StoreCall.{StoreCall}
+use Rattle.open_close.specs.declared.task.Task.{Task}
+use Rattle.register_model.specs.Register.{Value, content_of}
+use Rattle.register_model.specs.declared.op.Op.{Op}
+use Rattle.register_model.specs.declared.op.Outcome.TheVariants as told
+use Rattle.register_model.specs.declared.op.Word.{Word}
+use Rattle.register_model.specs.declared.op.Word.TheVariants as words
+use Rattle.trace_replay.specs.declared.link.Taken.{Taken}
+use Rattle.trace_replay.specs.Core.{Seat}
+use Rattle.trace_replay.specs.Ops.{taken_at}
+use Rattle.trace_replay.specs.Trail.{hashed_of}
+use Rattle.trace_replay.specs.Book.{Book, Or, value_at, version_at}
+use Rattle.trace_replay.specs.Causes.{Tried}
+use Rattle.kept_promise.specs.Talk.{Call, Call.Hash, Call.Read, Call.Make, Call.Name, Call.Send, Call.Commit, Reply, Reply.Hashed, Reply.Bytes, Reply.Changed, Ask, Told}
+use Rattle.kept_promise.proofs.Rights.{IsUnmade, IsMade}
+
+-- ---- the operation under way
+
+-- an operation's place, its file, and how far it has come
+pub record Job : Type 0 where
+  pub place : ℕ
+  pub file : ℕ
+  pub stage : Stage
+
+abbrev pub job_of : Option ℕ → Option Task → Option Job
+job_of (Some k) (Some t) = Some (record { place = k; file = t.file; stage = t.stage })
+job_of place task = None
+
+abbrev pub job : Seat → Option Job
+job seat = job_of seat.place seat.client.task
+
+abbrev pub stage_word : Stage → Word
+stage_word (stage.Hashing tries x) = words.Open
+stage_word (stage.Listing x f) = words.Open
+stage_word (stage.Reading f) = words.Open
+stage_word (stage.Making x temp) = words.Close
+stage_word (stage.Storing st) = words.Close
+stage_word (stage.Committing x) = words.Close
+
+-- ---- lists of messages
+
+abbrev pub AllAsks : (Ask → Type 0) → List Ask → Type 0
+AllAsks P [] = Unit {0}
+AllAsks P (a ∷ us) = P a × AllAsks P us
+
+abbrev pub AllTolds : (Told → Type 0) → List Told → Type 0
+AllTolds P [] = Unit {0}
+AllTolds P (t ∷ ts) = P t × AllTolds P ts
+
+abbrev pub AllUnder : ℕ → List Taken → Type 0
+AllUnder n [] = Unit {0}
+AllUnder n (t ∷ ts) = (t.xid < n) × AllUnder n ts
+
+-- the xids of calls rise, from this one on, and stay under that one
+abbrev pub Rising : ℕ → List Ask → ℕ → Type 0
+Rising n [] top = n ≤ top
+Rising n (a ∷ us) top = (n ≤ a.xid) × Rising (a.xid + 1) us top
+
+-- ---- calls
+
+-- from where a GETHASH that is waited for asks, and for which chunk a READ
+abbrev pub hash_offset : Stage → (xid : ℕ) → Option ℕ
+hash_offset (stage.Hashing tries x) y = cond (x == y) (Some 0) None
+hash_offset (stage.Listing x f) y = cond (x == y) (Some (end_of f.chunks)) None
+hash_offset _ y = None
+
+abbrev pub chunk_for : List Chunk → Option ReadCall → Option Chunk
+chunk_for chunks None = None
+chunk_for chunks (Some r) = slice_get chunks r.index
+
+abbrev pub read_chunk : Stage → (xid : ℕ) → Option Chunk
+read_chunk (stage.Reading f) y = chunk_for f.chunks (read_at f.under y)
+read_chunk _ y = None
+
+-- a call that the owner waits for asks for what its task wants
+abbrev pub CallOf : Option Job → (xid : ℕ) → Call → Type 0
+CallOf job x (Hash g offset) = (j : Job) (o : ℕ) → job ≡ Some j → hash_offset j.stage x ≡ Some o → (j.file ≡ g) × (o ≡ offset)
+CallOf job x (Read g c) = (j : Job) (k : Chunk) → job ≡ Some j → read_chunk j.stage x ≡ Some k → (j.file ≡ g) × (k ≡ c)
+CallOf job x c = Unit {0}
+
+abbrev pub IsAsked : Option Job → Ask → Type 0
+IsAsked job a = CallOf job a.xid a.call
+
+-- ---- answers
+
+-- the call with this xid was taken within the job's operation, at a moment at which its file was this, in this version
+pub record IsTold (book : Book) (taken : List Taken) (j : Job) (xid : ℕ) (v : Value) (version : ℕ) : Type 0 where
+  pub moment : ℕ
+  pub was : taken_at taken xid ≡ Some moment
+  pub past : moment ≤ book.steps
+  pub value : value_at book j.file moment ≡ v
+  pub version_is : version_at book j.file moment ≡ version
+  pub op : Op
+  pub there : slice_get book.ops j.place ≡ Some op
+  pub after : op.begin ≤ moment
+  -- no change was made in that step
+  pub apart : (i : ℕ) → slice_get book.entries i ≡ Some moment → ⊥
+
+-- the attempts before the one of this GETHASH, up to the moment at which it was taken
+pub record IsTried (book : Book) (taken : List Taken) (j : Job) (xid tries : ℕ) : Type 0 where
+  pub moment : ℕ
+  pub was : taken_at taken xid ≡ Some moment
+  pub past : moment ≤ book.steps
+  pub op : Op
+  pub there : slice_get book.ops j.place ≡ Some op
+  pub count : ℕ
+  pub tries_is : tries ≡ suc count
+  pub tried : Tried book j.file op.begin count moment
+
+-- the same as long as it was not taken, up to now
+pub record Trying (book : Book) (j : Job) (tries : ℕ) : Type 0 where
+  pub op : Op
+  pub there : slice_get book.ops j.place ≡ Some op
+  pub count : ℕ
+  pub tries_is : tries ≡ suc count
+  pub tried : Tried book j.file op.begin count (book.steps + 1)
+
+abbrev pub IsTrying : Book → Option Job → Type 0
+IsTrying book job = (j : Job) (n x : ℕ) → job ≡ Some j → j.stage ≡ stage.Hashing n x → Trying book j n
+
+abbrev pub range_from : (offset : ℕ) → HashRange
+range_from offset = record { handle = []; offset = offset; count = 4294967295 }
+
+abbrev pub range_of : Chunk → Range
+range_of c = record { handle = []; offset = c.start; count = c.len }
+
+-- the chunks that are told of a file are those of its content, which were hashed
+pub record IsHashed (book : Book) (taken : List Taken) (j : Job) (xid offset : ℕ) (h : Hashes) : Type 0 where
+  pub file : File
+  pub is : h ≡ hashes_of file (range_from offset)
+  pub told : IsTold book taken j xid (Some file.content) file.version
+  pub short : length file.content ≤ 67108864
+  pub known : IsSome (content_of book.opening j.file)
+  pub hashed : (i : ℕ) (c : Chunk) → slice_get (told_chunks file.content (range_from offset)) i ≡ Some c → Contains (hashed_of book.moments) (chunk_bytes file.content c)
+
+abbrev pub HashTold : Book → List Taken → Job → (xid offset : ℕ) → Answer Hashes Unit → Type 0
+HashTold book taken j xid offset (Failed s u) = ((s ≡ status.IsDir) × (j.file ≡ 1)) ⊎ ((s ≡ status.Stale) × (content_of book.opening j.file ≡ None) × ((version : ℕ) × IsTold book taken j xid None version))
+HashTold book taken j xid offset (Done h) = IsHashed book taken j xid offset h
+
+-- a READ was taken after the attempt's first GETHASH, and this is what the file had then
+pub record IsRead (book : Book) (taken : List Taken) (j : Job) (first : ℕ) (c : Chunk) (p : Piece) : Type 0 where
+  pub file : File
+  pub is : p ≡ piece_of file (range_of c)
+  pub began : ℕ
+  pub was : taken_at taken first ≡ Some began
+  pub last : ℕ
+  pub order : began < last
+  pub past : last ≤ book.steps
+  pub value : value_at book j.file last ≡ Some file.content
+  pub version_is : version_at book j.file last ≡ file.version
+
+abbrev pub ReadTold : Book → List Taken → Job → (first : ℕ) → Chunk → Answer Piece (Option Attr) → Type 0
+ReadTold book taken j first c (Failed s a) = ⊥
+ReadTold book taken j first c (Done p) = IsRead book taken j first c p
+
+abbrev pub CommitTold : Book → (closing : Option ℕ) → Job → Answer Committed Unit → Type 0
+CommitTold book closing j (Done c) = IsMade book j.place c.version
+CommitTold book closing j (Failed s u) = (op : Op) × (slice_get book.ops j.place ≡ Some op) × IsUnmade op × (closing ≡ Some j.place)
+
+-- a call was taken behind the first one of its attempt
+pub record IsAfter (taken : List Taken) (first x : ℕ) : Type 0 where
+  pub began : ℕ
+  pub was : taken_at taken first ≡ Some began
+  pub last : ℕ
+  pub is : taken_at taken x ≡ Some last
+  pub order : began < last
+
+abbrev pub TriedBy : Book → List Taken → Job → (xid : ℕ) → Stage → Type 0
+TriedBy book taken j x (stage.Hashing tries y) = IsTried book taken j x tries
+TriedBy book taken j x (stage.Listing y f) = IsAfter taken f.first x
+TriedBy book taken j x _ = Unit {0}
+
+-- an answer that the owner waits for is true
+abbrev pub AnswerOf : Book → List Taken → (closing : Option ℕ) → Option Job → (xid : ℕ) → Reply → Type 0
+AnswerOf book taken closing job x (Hashed a) = (j : Job) (o : ℕ) → job ≡ Some j → hash_offset j.stage x ≡ Some o → HashTold book taken j x o a × TriedBy book taken j x j.stage
+AnswerOf book taken closing job x (Bytes a) = (j : Job) (f : Fetch) (c : Chunk) → job ≡ Some j → j.stage ≡ stage.Reading f → read_chunk j.stage x ≡ Some c → ReadTold book taken j f.first c a
+AnswerOf book taken closing job x (Changed a) = (j : Job) → job ≡ Some j → j.stage ≡ stage.Committing x → CommitTold book closing j a
+AnswerOf book taken closing job x r = Unit {0}
+
+abbrev pub IsAnswer : Book → List Taken → (closing : Option ℕ) → Option Job → Told → Type 0
+IsAnswer book taken closing job t = AnswerOf book taken closing job t.xid t.reply
+
+-- ---- a fetch
+
+-- an attempt has the first chunks of a content that its file had, in its version, when its first GETHASH was taken
+pub record IsFetch (book : Book) (taken : List Taken) (j : Job) (f : Fetch) : Type 0 where
+  pub content : List ℕ
+  pub told : IsTold book taken j f.first (Some content) f.version
+  pub tried : IsTried book taken j f.first f.tries
+  pub size : f.size ≡ length content
+  pub short : length content ≤ 67108864
+  pub known : IsSome (content_of book.opening j.file)
+  pub count : ℕ
+  pub within : count ≤ length (chunks_of content)
+  pub chunks : f.chunks ≡ take count (chunks_of content)
+  pub hashed : (i : ℕ) (c : Chunk) → slice_get f.chunks i ≡ Some c → Contains (hashed_of book.moments) (chunk_bytes content c)
+
+-- all chunks are told; what has come of each is its bytes, and each that was asked for has come or is under way
+pub record IsReading (book : Book) (content : List ℕ) (f : Fetch) : Type 0 where
+  pub whole : f.chunks ≡ chunks_of content
+  pub slots : length f.slots ≡ length f.chunks
+  pub came : (i : ℕ) (b : List ℕ) (c : Chunk) → slice_get f.slots i ≡ Some (Some b) → slice_get f.chunks i ≡ Some c → Or book (b ≡ chunk_bytes content c) × (length b ≡ c.len)
+  pub asked : f.asked ≤ length f.chunks
+  pub inside : (k : ℕ) (r : ReadCall) → slice_get f.under k ≡ Some r → r.index < f.asked
+  pub filled : (i : ℕ) → i < f.asked → ((b : List ℕ) × (slice_get f.slots i ≡ Some (Some b))) ⊎ ((k : ℕ) × (r : ReadCall) × (slice_get f.under k ≡ Some r) × (r.index ≡ i))
+
+abbrev pub FetchOf : Book → List Taken → Job → Stage → Type 0
+FetchOf book taken j (stage.Listing x f) = IsFetch book taken j f × (f.asked ≡ 0) × (f.under ≡ [])
+FetchOf book taken j (stage.Reading f) = (h : IsFetch book taken j f) × IsReading book h.content f
+FetchOf book taken j _ = Unit {0}
+
+abbrev pub HasFetch : Book → List Taken → Option Job → Type 0
+HasFetch book taken job = (j : Job) → job ≡ Some j → FetchOf book taken j j.stage
+
+-- ---- a change on its way
+
+-- a change is on its way, as a call or as one that waits: it is that of the close which the session remembers
+pub record IsPending (book : Book) (closing : Option ℕ) (cut : Bool) (job : Option Job) (xid file : ℕ) (content : List ℕ) : Type 0 where
+  pub place : ℕ
+  pub known : closing ≡ Some place
+  pub op : Op
+  pub there : slice_get book.ops place ≡ Some op
+  pub unmade : IsUnmade op
+  pub file_is : op.file ≡ file
+  pub value_is : op.value ≡ content
+  -- as long as the owner is at this session, it waits for it
+  pub waited : cut ≡ false → job ≡ Some (record { place = place; file = file; stage = stage.Committing xid })
+
+-- a commit names a temporary file whose pieces are to be the close's value
+abbrev pub CommitOf : Book → (closing : Option ℕ) → (cut : Bool) → Option Job → (contents : ℕ → List ℕ) → (xid : ℕ) → Call → Type 0
+CommitOf book closing cut job contents x (Commit temp file size) = IsPending book closing cut job x file (contents temp) × (size ≡ length (contents temp))
+CommitOf book closing cut job contents x c = Unit {0}
+
+abbrev pub IsCommit : Book → (closing : Option ℕ) → (cut : Bool) → Option Job → (contents : ℕ → List ℕ) → Ask → Type 0
+IsCommit book closing cut job contents a = CommitOf book closing cut job contents a.xid a.call
+
+-- ---- a close under way
+
+-- bytes are those of a content, at this place
+abbrev pub IsPartOf : (content : List ℕ) → (start : ℕ) → (bytes : List ℕ) → Type 0
+IsPartOf content start bytes = bytes ≡ take (length bytes) (drop start content)
+
+-- what is sent for a temporary file is a part of what it is to be
+abbrev pub PieceOf : (contents : ℕ → List ℕ) → Call → Type 0
+PieceOf contents (Send temp start bytes) = IsPartOf (contents temp) start bytes
+PieceOf contents c = Unit {0}
+
+abbrev pub IsPiece : (contents : ℕ → List ℕ) → Ask → Type 0
+IsPiece contents a = PieceOf contents a.call
+
+abbrev pub TempUnder : ℕ → Call → Type 0
+TempUnder n (Make temp file) = temp < n
+TempUnder n (Name temp c) = temp < n
+TempUnder n (Send temp start bytes) = temp < n
+TempUnder n (Commit temp file size) = temp < n
+TempUnder n c = Unit {0}
+
+-- the pieces of a temporary file are those of a content
+abbrev pub AreParts : (content : List ℕ) → List (ℕ × List ℕ) → Type 0
+AreParts content [] = Unit {0}
+AreParts content (p ∷ ps) = IsPartOf content p.0 p.1 × AreParts content ps
+
+-- a close that has not yet sent its commit
+pub record IsOwed (book : Book) (closing : Option ℕ) (j : Job) (content : List ℕ) : Type 0 where
+  pub known : closing ≡ Some j.place
+  pub op : Op
+  pub there : slice_get book.ops j.place ≡ Some op
+  pub unmade : IsUnmade op
+  pub value_is : op.value ≡ content
+  -- its number has a spelling
+  pub small : j.file < 18446744073709551616
+
+pub record IsStoring (content : List ℕ) (st : Store) : Type 0 where
+  pub chunks : st.chunks ≡ chunks_of content
+  pub named : st.named ≤ length st.chunks
+  pub inside : (k : ℕ) (c : StoreCall) → slice_get st.under k ≡ Some c → c.index < st.named
+
+abbrev pub CloseOf : Book → (closing : Option ℕ) → (contents : ℕ → List ℕ) → (next_temp : ℕ) → Job → (local : List ℕ) → Stage → Type 0
+CloseOf book closing contents n j v (stage.Making x temp) = IsOwed book closing j v × (contents temp ≡ v) × (temp < n)
+CloseOf book closing contents n j v (stage.Storing st) = IsOwed book closing j v × (contents st.temp ≡ v) × (st.temp < n) × IsStoring v st
+CloseOf book closing contents n j v (stage.Committing x) = (op : Op) × (slice_get book.ops j.place ≡ Some op) × (op.word ≡ words.Close) × (op.value ≡ v)
+CloseOf book closing contents n j v _ = Unit {0}

@@ -1,0 +1,253 @@
+-- What an open comes to by each answer that it waits for.
+use Rattle.std.proofs.Common.{◌⊎◌, inl, inr, ◌≡◌, ℕ, zero, suc, ◌+◌, ◌*◌, ◌<◌, ◌≤◌, List, [], ◌∷◌, ◌++◌, length, Option, Some, None, Bool, true, false, refl, sym, ap, ◌∙◌, subst, arith, eqb-true, eq-eqb, replicate}
+use Rattle.std.proofs.lemmas.Bool.Decides.{nat_tests}
+use Rattle.std.specs.Prelude.{slice_get, map, cond, ◌==◌, IsSome}
+use Rattle.chunk_cut.specs.Chunks.{chunks_of}
+use Rattle.chunk_cut.specs.Places.{end_of}
+use Rattle.chunk_cut.specs.declared.chunk.Chunk.{Chunk}
+use Rattle.xdr_codec.specs.declared.answer.Answer.{Answer}
+use Rattle.xdr_codec.specs.declared.answer.Answer.TheVariants.{Done, Failed}
+use Rattle.xdr_codec.specs.declared.status.Status.{Status}
+use Rattle.xdr_codec.specs.declared.status.Status.TheVariants as status
+use Rattle.hash_calls.specs.declared.call.Hashes.{Hashes}
+use Rattle.wire.specs.declared.message.Pending.{Pending}
+use Rattle.server_core.specs.State as server
+use Rattle.server_core.specs.declared.file.File.{File}
+use Rattle.open_close.specs.State as client
+use Rattle.open_close.specs.State.{read_pending}
+use Rattle.open_close.specs.Opening.{fetch_of, with_hashes, listed, read_at}
+use Rattle.open_close.specs.Shape.{broken_of}
+use Rattle.open_close.specs.Step.{idle, told_first, told_hashes, told_version, told_shape, lists_on, reads_on}
+use Rattle.open_close.specs.declared.task.Fetch.{Fetch}
+use Rattle.open_close.specs.declared.task.ReadCall.{ReadCall}
+use Rattle.open_close.specs.declared.task.Stage.{Stage}
+use Rattle.open_close.specs.declared.task.Stage.TheVariants as stage
+use Rattle.register_model.specs.Register.{Value, content_of}
+use Rattle.register_model.specs.declared.op.Word.TheVariants as words
+use Rattle.trace_replay.specs.Core.{Core, Session}
+use Rattle.trace_replay.specs.Book.{Book, Or, version_at}
+use Rattle.kept_promise.specs.Talk.{Reply.Hashed, Ask, Told, Queue, reply_program}
+use Rattle.kept_promise.proofs.Lists.{some_is, nothing_there, within}
+use Rattle.kept_promise.proofs.Keys.{times}
+use Rattle.kept_promise.proofs.Messages.{Job, job, stage_word, AllTolds, hash_offset, AnswerOf, IsAnswer, HashTold, IsHashed, IsAfter, IsTried, TriedBy, IsFetch, IsReading, FetchOf}
+use Rattle.kept_promise.proofs.Facts.{FileIs, HasXids, IsSession, IsKept}
+use Rattle.kept_promise.proofs.Chunks.{row_of, sum_sound}
+use Rattle.kept_promise.proofs.Tells.{not_some}
+use Rattle.kept_promise.proofs.Heard.{Moves, told_pending, ask_pending}
+use Rattle.kept_promise.proofs.Moves.{moves_single}
+use Rattle.kept_promise.proofs.Steps.{Here, session_at, Quiet, on}
+use Rattle.kept_promise.proofs.Attempts.{fetch_first, Next, fetch_next, fetch_few}
+use Rattle.kept_promise.proofs.CloseEnds.{quiet_before}
+use Rattle.kept_promise.proofs.CloseSteps.{calls_are}
+use Rattle.kept_promise.proofs.Comes.{client_at, Comes, comes_refused}
+use Rattle.kept_promise.proofs.Hashings.{file_small, hash_ask, goes_hash, Left, comes_changed}
+use Rattle.kept_promise.proofs.Listings.{fetch_on, MayRead, comes_reading}
+
+-- ---- chunks were told
+
+empty_at : {A : Type 0} (k i : ℕ) (b : A) → slice_get (replicate k None) i ≡ Some (Some b) → ⊥
+empty_at zero i b e = nothing_there (Some b) e
+empty_at (suc k) zero b e = absurd cc
+empty_at (suc k) (suc i) b e = empty_at k i b e
+
+empty_count : {A : Type 0} (k : ℕ) (x : A) → length (replicate k x) ≡ k
+empty_count zero x = refl
+empty_count (suc k) x = ap suc (empty_count k x)
+
+-- an attempt that waited for chunks, of which these were told
+pub record MayList (book : Book) (k : Core) (qs : List Queue) (n : ℕ) (x : Session) (q : Queue) (t : Told) (ts : List Told) (j : Job) (g : Here book k qs n x q t ts j) (f : Fetch) (h : Hashes) : Type 0 where
+  pub quiet : Quiet k n q
+  pub word : stage_word j.stage ≡ words.Open
+  pub pends : client.pending_in j.stage ≡ told_pending t ∷ []
+  pub fact : IsFetch book x.taken j f
+  pub bare : (f.asked ≡ 0) × (f.under ≡ [])
+  pub told : IsHashed book x.taken j t.xid (end_of f.chunks) h
+  pub same : h.version ≡ f.version
+  pub xids : (spare : ℕ) × (f.tries + spare ≡ 4) × ((client_at book k qs n x q t ts j g).next + 100000 * spare + 80000 ≤ 4294967296 + length f.chunks)
+
+-- the further chunks are asked for, or their bytes
+lists_come : (book : Book) (k : Core) (qs : List Queue) (n : ℕ) (x : Session) (q : Queue) (t : Told) (ts : List Told) (j : Job) (g : Here book k qs n x q t ts j) (f : Fetch) (h : Hashes) → MayList book k qs n x q t ts j g f h
+    → Comes book k qs n x q t ts j g (told_shape (idle (client_at book k qs n x q t ts j g)) (client.calls_of (client_at book k qs n x q t ts j g)) j.file t.xid f h (broken_of f h))
+lists_come book k qs n x q t ts j g f h may = subst (λ b. Comes book k qs n x q t ts j g (told_shape (idle c) (client.calls_of c) j.file t.xid f h b)) (sym next.broken) (by h.eof refl)
+  where
+    is : IsSession book k.seats k.server n x q
+    is = session_at book k qs n x q t ts j g
+
+    c : client.State
+    c = is.seat.client
+
+    next : Next book x.taken j f h
+    next = fetch_next book x.taken j t.xid f h may.fact may.told may.same
+
+    after : Fetch
+    after = with_hashes f h
+
+    s : Stage
+    s = stage.Listing c.next after
+
+    small : j.file < 18446744073709551616
+    small = file_small book k qs j.file g.kept may.fact.known
+
+    moves : Moves (client.calls_of c) (client.pending_in s ++ c.forgotten) t (hash_ask c.next j.file (end_of after.chunks) ∷ [])
+    moves = subst (λ l. Moves l (client.pending_in s ++ c.forgotten) t (hash_ask c.next j.file (end_of after.chunks) ∷ [])) (sym (calls_are is.seat j g.job_is)) (moves_single (client.pending_in j.stage) (client.pending_in s) c.forgotten t (hash_ask c.next j.file (end_of after.chunks) ∷ []) may.pends (λ m y. refl))
+
+    ends : end_of after.chunks ≤ 67108864
+    ends =
+        let e = ap end_of next.fetch.chunks in
+        let le = sum_sound next.fetch.content 0 next.fetch.count (chunks_of next.fetch.content) (row_of next.fetch.content) next.fetch.within in
+        let short = next.fetch.short in
+        omega (arith, e, le, short)
+
+    chunks_few : length after.chunks ≤ 32769
+    chunks_few = fetch_few book x.taken j after next.fetch
+
+    xids : length f.chunks < length after.chunks → HasXids (c.next + 1) s
+    xids lt = let z = may.xids.2 in (may.xids.0, may.xids.1, omega (arith, z, lt))
+
+    bound : c.next + 1 ≤ 4294967296
+    bound = let z = may.xids.2 in let d = fetch_few book x.taken j f may.fact in omega (arith, z, d)
+
+    -- all are told
+    whole : Fetch
+    whole = listed after
+
+    fetched : IsFetch book x.taken j whole
+    fetched = record { content = next.fetch.content; told = next.fetch.told; tried = next.fetch.tried; size = next.fetch.size; short = next.fetch.short; known = next.fetch.known; count = next.fetch.count; within = next.fetch.within; chunks = next.fetch.chunks; hashed = next.fetch.hashed }
+
+    nothing_under : (y : ℕ) (r : ReadCall) (us : List ReadCall) → us ≡ [] → read_at us y ≡ Some r → ⊥
+    nothing_under y r [] none e = nothing_there r e
+    nothing_under y r (u ∷ us) none e = absurd cc
+
+    may_read : h.eof ≡ true → MayRead book k qs n x q t ts j g whole fetched
+    may_read e = record {
+      quiet = may.quiet;
+      word = may.word;
+      reading = record {
+        whole = next.whole e;
+        slots = empty_count (length after.chunks) None;
+        came = λ i b d at. absurd (empty_at (length after.chunks) i b at);
+        asked = let z = may.bare.0 in omega (arith, z);
+        inside = λ m r at. nothing_there r (ap (λ (l : List ReadCall). slice_get l m) (sym may.bare.1) ∙ at);
+        filled = λ i lt. let z = may.bare.0 in absurd (omega (arith, z, lt));
+      };
+      moves = λ m y. ap (λ l. times y (map m (map read_pending l)) + times y (m (told_pending t) ∷ [])) may.bare.1 ∙ (let z : 0 + times y (m (told_pending t) ∷ []) ≡ times y (m (told_pending t) ∷ []) = omega arith in z) ∙ ap (λ l. times y (map m l)) (sym may.pends);
+      below = λ y r at. absurd (nothing_under y r f.under may.bare.1 at);
+      again = λ y r d at. absurd (nothing_under y r f.under may.bare.1 at);
+      xids = let z = may.xids.2 in let d = fetch_few book x.taken j f may.fact in (may.xids.0, may.xids.1, omega (arith, z, d));
+    }
+
+    by : (b : Bool) → h.eof ≡ b → Comes book k qs n x q t ts j g (lists_on (idle c) (client.calls_of c) j.file t.xid after b)
+    by true e = comes_reading book k qs n x q t ts j g whole 0 fetched (may_read e)
+    by false e = inl (record {
+      to = s;
+      next = c.next + 1;
+      forgotten = c.forgotten;
+      asks = hash_ask c.next j.file (end_of after.chunks) ∷ [];
+      shows = goes_hash book k qs n x q t ts j g s (end_of after.chunks) c.forgotten may.quiet (sym may.word) (λ y. refl) (λ y e2. absurd cc) (λ u e2. absurd cc) refl moves small ends (fetch_on book x.taken j s after next.fetch, may.bare.0, may.bare.1) tt (λ m y e2. absurd cc) (xids (next.more e)) bound may.word;
+      state_is = refl;
+      send_is = refl;
+      ended_is = refl;
+    })
+
+-- ---- a GETHASH is answered
+
+answer_at : (book : Book) (k : Core) (qs : List Queue) (n : ℕ) (x : Session) (q : Queue) (t : Told) (ts : List Told) (j : Job) (g : Here book k qs n x q t ts j) (a : Answer Hashes Unit) (o : ℕ) → t.reply ≡ Hashed a → hash_offset j.stage t.xid ≡ Some o → HashTold book x.taken j t.xid o a × TriedBy book x.taken j t.xid j.stage
+answer_at book k qs n x q t ts j g a o e waits =
+    let h = session_at book k qs n x q t ts j g in
+    let first = (subst (AllTolds (IsAnswer book x.taken x.closing (job h.seat))) g.first (h.talk g.uncut).answers).0 in
+    subst (AnswerOf book x.taken x.closing (job h.seat) t.xid) e first j o g.job_is waits
+
+pub xids_at : (book : Book) (k : Core) (qs : List Queue) (n : ℕ) (x : Session) (q : Queue) (t : Told) (ts : List Told) (j : Job) (g : Here book k qs n x q t ts j) (s : Stage) → j.stage ≡ s → HasXids (client_at book k qs n x q t ts j g).next s
+xids_at book k qs n x q t ts j g s at = let h = session_at book k qs n x q t ts j g in subst (HasXids h.seat.client.next) at ((g.kept.seats x.owner h.seat h.owner).xids j g.job_is)
+
+same_xid : (y v : ℕ) → cond (y == y) (Some v) None ≡ Some v
+same_xid y v = ap (λ b. cond b (Some v) None) (eq-eqb y y refl)
+
+pub comes_hashing : (book : Book) (k : Core) (qs : List Queue) (n : ℕ) (x : Session) (q : Queue) (t : Told) (ts : List Told) (j : Job) (g : Here book k qs n x q t ts j) (tries : ℕ) (a : Answer Hashes Unit) → j.stage ≡ stage.Hashing tries t.xid → t.reply ≡ Hashed a
+    → Comes book k qs n x q t ts j g (told_first (idle (client_at book k qs n x q t ts j g)) (client.calls_of (client_at book k qs n x q t ts j g)) j.file t.xid tries a)
+comes_hashing book k qs n x q t ts j g tries a at e = by a (answer_at book k qs n x q t ts j g a 0 e (ap (λ s. hash_offset s t.xid) at ∙ same_xid t.xid 0)).0
+  where
+    c : client.State
+    c = client_at book k qs n x q t ts j g
+
+    quiet : Quiet k n q
+    quiet = quiet_before book k qs n x q t ts j g (λ y s. apart y (sym at ∙ s))
+      where
+        apart : (y : ℕ) → stage.Hashing tries t.xid ≡ stage.Committing y → ⊥
+        apart y e = absurd cc
+
+    word : stage_word j.stage ≡ words.Open
+    word = ap stage_word at
+
+    tried : IsTried book x.taken j t.xid tries
+    tried = subst (TriedBy book x.taken j t.xid) at (answer_at book k qs n x q t ts j g a 0 e (ap (λ s. hash_offset s t.xid) at ∙ same_xid t.xid 0)).1
+
+    pends : client.pending_in j.stage ≡ told_pending t ∷ []
+    pends = ap client.pending_in at ∙ ap (λ r. record { xid = t.xid; program = reply_program r } ∷ []) (sym e)
+
+    by : (a : Answer Hashes Unit) → HashTold book x.taken j t.xid 0 a → Comes book k qs n x q t ts j g (told_first (idle c) (client.calls_of c) j.file t.xid tries a)
+    by (Failed s tt) told = comes_refused book k qs n x q t ts j g 0 s word quiet told
+    by (Done h) told = subst (λ b. Comes book k qs n x q t ts j g (told_version (idle c) (client.calls_of c) j.file t.xid (fetch_of tries t.xid h) h b)) (sym (eq-eqb h.version h.version refl)) (lists_come book k qs n x q t ts j g (fetch_of tries t.xid h) h (record {
+      quiet = quiet;
+      word = word;
+      pends = pends;
+      fact = fetch_first book x.taken j t.xid tries h told tried;
+      bare = (refl, refl);
+      told = told;
+      same = refl;
+      xids = xids_at book k qs n x q t ts j g (stage.Hashing tries t.xid) at;
+    }))
+
+pub comes_listing : (book : Book) (k : Core) (qs : List Queue) (n : ℕ) (x : Session) (q : Queue) (t : Told) (ts : List Told) (j : Job) (g : Here book k qs n x q t ts j) (f : Fetch) (a : Answer Hashes Unit) → j.stage ≡ stage.Listing t.xid f → t.reply ≡ Hashed a
+    → Comes book k qs n x q t ts j g (told_hashes (idle (client_at book k qs n x q t ts j g)) (client.calls_of (client_at book k qs n x q t ts j g)) j.file t.xid f a)
+comes_listing book k qs n x q t ts j g f a at e = by a (answer_at book k qs n x q t ts j g a (end_of f.chunks) e (ap (λ s. hash_offset s t.xid) at ∙ same_xid t.xid (end_of f.chunks))).0
+  where
+    c : client.State
+    c = client_at book k qs n x q t ts j g
+
+    quiet : Quiet k n q
+    quiet = quiet_before book k qs n x q t ts j g (λ y s. apart y (sym at ∙ s))
+      where
+        apart : (y : ℕ) → stage.Listing t.xid f ≡ stage.Committing y → ⊥
+        apart y e = absurd cc
+
+    word : stage_word j.stage ≡ words.Open
+    word = ap stage_word at
+
+    later : IsAfter x.taken f.first t.xid
+    later = subst (TriedBy book x.taken j t.xid) at (answer_at book k qs n x q t ts j g a (end_of f.chunks) e (ap (λ s. hash_offset s t.xid) at ∙ same_xid t.xid (end_of f.chunks))).1
+
+    fact : IsFetch book x.taken j f × (f.asked ≡ 0) × (f.under ≡ [])
+    fact = subst (FetchOf book x.taken j) at (((session_at book k qs n x q t ts j g).talk g.uncut).fetch j g.job_is)
+
+    pends : client.pending_in j.stage ≡ told_pending t ∷ []
+    pends = ap client.pending_in at ∙ ap (λ r. record { xid = t.xid; program = reply_program r } ∷ []) (sym e)
+
+    left : (spare : ℕ) × (f.tries + spare ≡ 4) × (c.next + 100000 * spare + 80000 ≤ 4294967296 + length f.chunks)
+    left = xids_at book k qs n x q t ts j g (stage.Listing t.xid f) at
+
+    refuses : (s : Status) → HashTold book x.taken j t.xid (end_of f.chunks) (Failed s tt) → ⊥
+    refuses s (inl dir) = one_known (server.file_at k.server.files j.file) (g.kept.server.held j.file)
+      where
+        one_known : (o : Option File) → FileIs book j.file o → ⊥
+        one_known None b = not_some (subst (λ (v : Value). IsSome v) b.0 fact.0.known)
+        one_known (Some u) b = let lt = b.1 in let one = dir.1 in omega (arith, lt, one)
+    refuses s (inr stale) = not_some (subst (λ (v : Value). IsSome v) stale.1 fact.0.known)
+
+    by : (a : Answer Hashes Unit) → HashTold book x.taken j t.xid (end_of f.chunks) a → Comes book k qs n x q t ts j g (told_hashes (idle c) (client.calls_of c) j.file t.xid f a)
+    by (Failed s tt) told = absurd (refuses s told)
+    by (Done h) told = by_version (h.version == f.version) refl
+      where
+        differ : (m v : ℕ) → (m == v) ≡ false → m ≡ v → ⊥
+        differ m v e s = grind (arith, nat_tests, e, s)
+
+        by_version : (b : Bool) → (h.version == f.version) ≡ b → Comes book k qs n x q t ts j g (told_version (idle c) (client.calls_of c) j.file t.xid f h b)
+        by_version true same = lists_come book k qs n x q t ts j g f h (record { quiet = quiet; word = word; pends = pends; fact = fact.0; bare = (fact.1, fact.2); told = told; same = eqb-true h.version f.version same; xids = left })
+        by_version false apart =
+            let began = some_is later.began fact.0.told.moment (sym later.was ∙ fact.0.told.was) in
+            let last = some_is later.last told.told.moment (sym later.is ∙ told.told.was) in
+            let order = later.order in
+            let lt : fact.0.told.moment < told.told.moment = omega (arith, began, last, order) in
+            let d = fetch_few book x.taken j f fact.0 in
+            let z = left.2 in
+            comes_changed book k qs n x q t ts j g f told.told.moment h.version 0 fact.0 word quiet lt told.told.past (told.told.version_is ∙ sym (ap (λ (v : Hashes). v.version) told.is)) (λ s. differ h.version f.version apart s) (left.0, left.1, omega (arith, d, z))

@@ -1,0 +1,354 @@
+-- Calls and answers of closes stay in order: as a run grows, where none is of the operation under way, and as the first call is taken.
+use Rattle.std.proofs.Common.{◌≡◌, ℕ, zero, suc, ◌<◌, ◌≤◌, List, [], ◌∷◌, Option, Some, None, Bool, true, false, length, refl, sym, ap, ◌∙◌, subst, arith}
+use Rattle.std.specs.Prelude.{IsSome}
+use Rattle.xdr_codec.specs.declared.answer.Answer.TheVariants.{Done, Failed}
+use Rattle.server_core.specs.Temps.{Temp, temp_at}
+use Rattle.server_core.specs.Closing.{is_full}
+use Rattle.open_close.specs.declared.task.Stage.{Stage}
+use Rattle.open_close.specs.declared.task.Stage.TheVariants as stage
+use Rattle.open_close.specs.declared.task.Store.{Store}
+use Rattle.register_model.specs.Register.{content_of}
+use Rattle.register_model.specs.declared.op.Opening.{Opening}
+use Rattle.register_model.specs.declared.op.Op.{Op}
+use Rattle.register_model.specs.declared.op.Word.TheVariants as words
+use Rattle.trace_replay.specs.Core.{Seat}
+use Rattle.trace_replay.specs.World.{unless}
+use Rattle.trace_replay.specs.Book.{Book}
+use Rattle.trace_replay.specs.Trail.{step_of}
+use Rattle.kept_promise.specs.Talk.{Call, Call.Hash, Call.Read, Call.Make, Call.Name, Call.Send, Call.Commit, Reply, Reply.Hashed, Reply.Bytes, Reply.Made, Reply.Named, Reply.Stored, Reply.Changed, Ask, Told, Queue}
+use Rattle.kept_promise.proofs.Lists.{some_is, nothing_there, at_end}
+use Rattle.kept_promise.proofs.Messages.{Job, job, stage_word, AllAsks, AllTolds}
+use Rattle.kept_promise.proofs.Growth.{Grows}
+use Rattle.kept_promise.proofs.Shelf.{NoTemp, OneTemp}
+use Rattle.kept_promise.proofs.Orderly.{locals_of, InPlace, IsInPlace, NoRoom, Wanted, IsWanted, UpMake, UpSend, UpCommit, Holds, HeldIn, Held, Orderly}
+
+-- ---- calls and answers of opens
+
+abbrev pub IsFetching : Call → Type 0
+IsFetching (Hash f o) = Unit {0}
+IsFetching (Read f c) = Unit {0}
+IsFetching _ = ⊥
+
+abbrev pub IsFetched : Reply → Type 0
+IsFetched (Made a) = ⊥
+IsFetched (Named a) = ⊥
+IsFetched (Stored a) = ⊥
+IsFetched (Changed (Failed s u)) = ⊥
+IsFetched _ = Unit {0}
+
+abbrev pub AllFetching : List Ask → Type 0
+AllFetching us = AllAsks (λ a. IsFetching a.call) us
+
+abbrev pub AllFetched : List Told → Type 0
+AllFetched ts = AllTolds (λ t. IsFetched t.reply) ts
+
+-- they are in place, whatever is under way
+pub fetching_place : (job : Option Job) (v : ℕ → List ℕ) (us : List Ask) → AllFetching us → AllAsks (IsInPlace job v) us
+fetching_place job v [] h = tt
+fetching_place job v (a ∷ us) h = (by a.call h.0, fetching_place job v us h.1)
+  where
+    by : (c : Call) → IsFetching c → InPlace job v a.xid c
+    by (Hash f o) h = tt
+    by (Read f c) h = tt
+    by (Make m f) h = absurd h
+    by (Name m c) h = absurd h
+    by (Send m s b) h = absurd h
+    by (Commit m f s) h = absurd h
+
+pub fetched_wanted : (book : Book) (job : Option Job) (ts : List Told) → AllFetched ts → AllTolds (IsWanted book job) ts
+fetched_wanted book job [] h = tt
+fetched_wanted book job (t ∷ ts) h = (by t.reply h.0, fetched_wanted book job ts h.1)
+  where
+    by : (r : Reply) → IsFetched r → Wanted book job t.xid r
+    by (Hashed a) h = tt
+    by (Bytes a) h = tt
+    by (Made a) h = absurd h
+    by (Named a) h = absurd h
+    by (Stored a) h = absurd h
+    by (Changed (Done c)) h = tt
+    by (Changed (Failed s u)) h = absurd h
+
+-- no close is under way
+abbrev pub CloseFree : Option Job → Type 0
+CloseFree job = (j : Job) → job ≡ Some j → stage_word j.stage ≡ words.Close → ⊥
+
+free_call : (job : Option Job) (v : ℕ → List ℕ) (x : ℕ) (c : Call) → CloseFree job → InPlace job v x c → IsFetching c
+free_call job v x (Hash f o) free h = tt
+free_call job v x (Read f c) free h = tt
+free_call job v x (Make m f) free h = free h.0 h.1 (ap stage_word h.2)
+free_call job v x (Name m c) free h = free h.0.of h.0.is (ap stage_word h.0.at)
+free_call job v x (Send m s b) free h = free h.0.of h.0.is (ap stage_word h.0.at)
+free_call job v x (Commit m f s) free h = free h.0 h.1 (ap stage_word h.2)
+
+pub free_asks : (job : Option Job) (v : ℕ → List ℕ) (us : List Ask) → CloseFree job → AllAsks (IsInPlace job v) us → AllFetching us
+free_asks job v [] free h = tt
+free_asks job v (a ∷ us) free h = (free_call job v a.xid a.call free h.0, free_asks job v us free h.1)
+
+free_reply : (book : Book) (job : Option Job) (x : ℕ) (r : Reply) → CloseFree job → Wanted book job x r → IsFetched r
+free_reply book job x (Hashed a) free h = tt
+free_reply book job x (Bytes a) free h = tt
+free_reply book job x (Made a) free h = free h.0.0 h.0.2 (ap stage_word h.0.3)
+free_reply book job x (Named a) free h = free h.0.of h.0.is (ap stage_word h.0.at)
+free_reply book job x (Stored a) free h = free h.0.of h.0.is (ap stage_word h.0.at)
+free_reply book job x (Changed (Done c)) free h = tt
+free_reply book job x (Changed (Failed s u)) free h = free h.0.0 h.0.2 (ap stage_word h.0.3)
+
+pub free_tolds : (book : Book) (job : Option Job) (ts : List Told) → CloseFree job → AllTolds (IsWanted book job) ts → AllFetched ts
+free_tolds book job [] free h = tt
+free_tolds book job (t ∷ ts) free h = (free_reply book job t.xid t.reply free h.0, free_tolds book job ts free h.1)
+
+pub none_free : (job : Option Job) → job ≡ None → CloseFree job
+none_free job e j f w = nothing_there j (sym e ∙ f)
+
+-- where no close is under way there is no temporary file
+pub free_held : (temps : List (ℕ × Temp)) (n : ℕ) (us : List Ask) (v : ℕ → List ℕ) (job : Option Job) → CloseFree job → Held temps n us v job → NoTemp temps n
+free_held temps n us v None free h = h
+free_held temps n us v (Some j) free h = by j.stage (free j refl) h
+  where
+    by : (s : Stage) → (stage_word s ≡ words.Close → ⊥) → HeldIn temps n us (v j.file) s → NoTemp temps n
+    by (stage.Hashing t x) free h = h
+    by (stage.Listing x f) free h = h
+    by (stage.Reading f) free h = h
+    by (stage.Making x m) free h = absurd (free refl)
+    by (stage.Storing st) free h = absurd (free refl)
+    by (stage.Committing x) free h = absurd (free refl)
+
+pub held_free : (temps : List (ℕ × Temp)) (n : ℕ) (us : List Ask) (v : ℕ → List ℕ) (job : Option Job) → CloseFree job → NoTemp temps n → Held temps n us v job
+held_free temps n us v None free h = h
+held_free temps n us v (Some j) free h = by j.stage (free j refl)
+  where
+    by : (s : Stage) → (stage_word s ≡ words.Close → ⊥) → HeldIn temps n us (v j.file) s
+    by (stage.Hashing t x) free = h
+    by (stage.Listing x f) free = h
+    by (stage.Reading f) free = h
+    by (stage.Making x m) free = absurd (free refl)
+    by (stage.Storing st) free = absurd (free refl)
+    by (stage.Committing x) free = absurd (free refl)
+
+-- ---- a run grows
+
+room_later : (book more : Book) (made ended : Option ℕ) (o r : Op) → Grows book more made ended → r.client ≡ o.client → r.begin ≡ o.begin → r.value ≡ o.value → NoRoom book o → NoRoom more r
+room_later book more made ended o r g client begin value h = record {
+  moment = h.moment;
+  there = g.happened h.moment h.there;
+  session = h.session;
+  now = h.now;
+  bytes = h.bytes;
+  event_is = h.event_is;
+  owner = h.owner ∙ sym client;
+  xid = h.xid;
+  call = h.call;
+  parsed = h.parsed;
+  size = h.size ∙ ap (λ (l : List ℕ). length l) (sym value);
+  after = subst (λ (z : ℕ). z ≤ step_of h.moment) (sym begin) h.after;
+  before = let a = h.before in let b = g.passes in omega (arith, a, b);
+  full = subst (λ (l : List ℕ). is_full h.moment.before.server (length l) ≡ true) (sym value) h.full;
+}
+
+pub wanted_later : (book more : Book) (made ended : Option ℕ) (job : Option Job) (t : Told) → Grows book more made ended → IsWanted book job t → IsWanted more job t
+wanted_later book more made ended job t g h = by t.reply h
+  where
+    by : (r : Reply) → Wanted book job t.xid r → Wanted more job t.xid r
+    by (Hashed a) h = tt
+    by (Bytes a) h = tt
+    by (Made a) h = h
+    by (Named a) h = h
+    by (Stored a) h = h
+    by (Changed (Done c)) h = tt
+    by (Changed (Failed s u)) h = let w = h.0 in let r = g.each w.0.place w.1 w.4 in ((w.0, r.0, w.2, w.3, r.1, r.2.word ∙ w.5, room_later book more made ended w.1 r.0 g r.2.client r.2.begin (r.2.value w.5) w.6), h.1)
+
+pub all_wanted_later : (book more : Book) (made ended : Option ℕ) (job : Option Job) (ts : List Told) → Grows book more made ended → AllTolds (IsWanted book job) ts → AllTolds (IsWanted more job) ts
+all_wanted_later book more made ended job [] g h = tt
+all_wanted_later book more made ended job (t ∷ ts) g h = (wanted_later book more made ended job t g h.0, all_wanted_later book more made ended job ts g h.1)
+
+-- the same is found of a session
+abbrev pub SameFound : (temps after : List (ℕ × Temp)) → (n : ℕ) → Type 0
+SameFound temps after n = (m : ℕ) → m < 4294967296 → temp_at after n m ≡ temp_at temps n m
+
+none_found : (temps after : List (ℕ × Temp)) (n : ℕ) → SameFound temps after n → NoTemp temps n → NoTemp after n
+none_found temps after n same h m lt = same m lt ∙ h m lt
+
+one_found : (temps after : List (ℕ × Temp)) (n m : ℕ) (t : Temp) → SameFound temps after n → OneTemp temps n m t → OneTemp after n m t
+one_found temps after n m t same h = (h.0, h.1, h.2, same m h.0 ∙ h.3, λ p lt apart. same p lt ∙ h.4 p lt apart)
+
+pub held_found : (temps after : List (ℕ × Temp)) (n : ℕ) (us : List Ask) (v : ℕ → List ℕ) (job : Option Job) → SameFound temps after n → Held temps n us v job → Held after n us v job
+held_found temps after n us v None same h = none_found temps after n same h
+held_found temps after n us v (Some j) same h = by j.stage h
+  where
+    by : (s : Stage) → HeldIn temps n us (v j.file) s → HeldIn after n us (v j.file) s
+    by (stage.Hashing t x) h = none_found temps after n same h
+    by (stage.Listing x f) h = none_found temps after n same h
+    by (stage.Reading f) h = none_found temps after n same h
+    by (stage.Making x m) h = (λ u. none_found temps after n same (h.0 u), λ u. let w = h.1 u in (w.0, one_found temps after n m w.0 same w.1, w.2))
+    by (stage.Storing st) h = (h.0, one_found temps after n st.temp h.0 same h.1, h.2)
+    by (stage.Committing x) h = (λ u. let w = h.0 u in (w.0, one_found temps after n u.1 w.0 same w.1, w.2), λ u. none_found temps after n same (h.1 u))
+
+tree_later : (l m : List Opening) (seat : Seat) → m ≡ l → ((j : Job) → job seat ≡ Some j → stage_word j.stage ≡ words.Close → IsSome (content_of l j.file)) → (j : Job) → job seat ≡ Some j → stage_word j.stage ≡ words.Close → IsSome (content_of m j.file)
+tree_later l m seat e h j f w = subst (λ (z : List Opening). IsSome (content_of z j.file)) (sym e) (h j f w)
+
+pub orderly_later : (book more : Book) (made ended : Option ℕ) (n : ℕ) (temps after : List (ℕ × Temp)) (hung : Bool) (q : Queue) (seat : Seat) → Grows book more made ended → SameFound temps after n → Orderly book n temps hung q seat → Orderly more n after hung q seat
+orderly_later book more made ended n temps after hung q seat g same h = record {
+  asks = h.asks;
+  tolds = all_wanted_later book more made ended (job seat) q.downs g h.tolds;
+  holds = λ up. held_found temps after n q.ups (locals_of seat.client) (job seat) same (h.holds up);
+  tree = tree_later book.opening more.opening seat g.opening h.tree;
+}
+
+-- with nothing under way, whatever else changes at the client
+pub orderly_free : (book : Book) (n : ℕ) (temps : List (ℕ × Temp)) (hung : Bool) (q : Queue) (c d : Seat) → CloseFree (job c) → CloseFree (job d) → Orderly book n temps hung q c → Orderly book n temps hung q d
+orderly_free book n temps hung q c d was is h = record {
+  asks = fetching_place (job d) (locals_of d.client) q.ups (free_asks (job c) (locals_of c.client) q.ups was h.asks);
+  tolds = fetched_wanted book (job d) q.downs (free_tolds book (job c) q.downs was h.tolds);
+  holds = λ up. held_free temps n q.ups (locals_of d.client) (job d) is (free_held temps n q.ups (locals_of c.client) (job c) was (h.holds up));
+  tree = λ j e w. absurd (is j e w);
+}
+
+-- the server lost the connection
+pub orderly_hung : (book more : Book) (made ended : Option ℕ) (n : ℕ) (temps after : List (ℕ × Temp)) (hung : Bool) (q : Queue) (seat : Seat) → Grows book more made ended → Orderly book n temps hung q seat → Orderly more n after true (record q { ups = [] }) seat
+orderly_hung book more made ended n temps after hung q seat g h = record {
+  asks = tt;
+  tolds = all_wanted_later book more made ended (job seat) q.downs g h.tolds;
+  holds = λ up. absurd cc;
+  tree = tree_later book.opening more.opening seat g.opening h.tree;
+}
+
+-- a new session
+pub orderly_new : (book : Book) (n : ℕ) (temps : List (ℕ × Temp)) (seat : Seat) → job seat ≡ None → NoTemp temps n → Orderly book n temps false (record { ups = []; downs = [] }) seat
+orderly_new book n temps seat free none = record {
+  asks = tt;
+  tolds = tt;
+  holds = λ up. held_free temps n [] (locals_of seat.client) (job seat) (none_free (job seat) free) none;
+  tree = λ j e w. nothing_there j (sym free ∙ e);
+}
+
+-- one more is told
+told_more : (book : Book) (job : Option Job) (cut : Bool) (ts : List Told) (t : Told) → IsWanted book job t → AllTolds (IsWanted book job) ts → AllTolds (IsWanted book job) (unless cut ts (t ∷ []))
+told_more book job true ts t w h = h
+told_more book job false [] t w h = (w, tt)
+told_more book job false (u ∷ ts) t w h = (h.0, told_more book job false ts t w h.1)
+
+pub orderly_told : (book : Book) (n : ℕ) (temps : List (ℕ × Temp)) (hung cut : Bool) (q : Queue) (t : Told) (seat : Seat) → IsWanted book (job seat) t → Orderly book n temps hung q seat → Orderly book n temps hung (record q { downs = unless cut q.downs (t ∷ []) }) seat
+orderly_told book n temps hung cut q t seat w h = record { asks = h.asks; tolds = told_more book (job seat) cut q.downs t w h.tolds; holds = h.holds; tree = h.tree }
+
+-- ---- the first call is taken
+
+abbrev pub IsQuietCall : Call → Type 0
+IsQuietCall (Make m f) = ⊥
+IsQuietCall (Send m s b) = ⊥
+IsQuietCall (Commit m f s) = ⊥
+IsQuietCall _ = Unit {0}
+
+pub make_up : (a : Ask) (us : List Ask) (x : ℕ) → UpMake us x → UpMake (a ∷ us) x
+make_up a us x u = (suc u.0, u.1, u.2, u.3)
+
+pub send_up : (a : Ask) (us : List Ask) (x : ℕ) → UpSend us x → UpSend (a ∷ us) x
+send_up a us x u = (suc u.0, u.1, u.2, u.3, u.4)
+
+abbrev pub commit_up : (a : Ask) (us : List Ask) (x : ℕ) → UpCommit us x → UpCommit (a ∷ us) x
+commit_up a us x u = (suc u.0, u.1, u.2, u.3, u.4)
+
+make_rest : (a : Ask) (us : List Ask) (x : ℕ) → IsQuietCall a.call → UpMake (a ∷ us) x → UpMake us x
+make_rest a us x plain (zero, m, f, e) = absurd (subst (λ (b : Ask). IsQuietCall b.call) (some_is a _ e) plain)
+make_rest a us x plain (suc i, m, f, e) = (i, m, f, e)
+
+send_rest : (a : Ask) (us : List Ask) (x : ℕ) → IsQuietCall a.call → UpSend (a ∷ us) x → UpSend us x
+send_rest a us x plain (zero, m, s, b, e) = absurd (subst (λ (b : Ask). IsQuietCall b.call) (some_is a _ e) plain)
+send_rest a us x plain (suc i, m, s, b, e) = (i, m, s, b, e)
+
+commit_rest : (a : Ask) (us : List Ask) (x : ℕ) → IsQuietCall a.call → UpCommit (a ∷ us) x → UpCommit us x
+commit_rest a us x plain (zero, m, f, s, e) = absurd (subst (λ (b : Ask). IsQuietCall b.call) (some_is a _ e) plain)
+commit_rest a us x plain (suc i, m, f, s, e) = (i, m, f, s, e)
+
+-- no bytes are among them
+holds_rest : (v : List ℕ) (a : Ask) (us : List Ask) (st : Store) (ps : List (ℕ × List ℕ)) → IsQuietCall a.call → Holds v (a ∷ us) st ps → Holds v us st ps
+holds_rest v a us st ps plain h = record {
+  has = h.has;
+  pieces_is = h.pieces_is;
+  later = h.later;
+  done = h.done;
+  by_name = h.by_name;
+  up = λ k u c at w. h.up k u c at (send_up a us u.xid w);
+  taken = λ k u c at by_way none. h.taken k u c at by_way (λ w. none (send_rest a us u.xid plain w));
+  apart = h.apart;
+}
+
+pub held_rest : (temps : List (ℕ × Temp)) (n : ℕ) (a : Ask) (us : List Ask) (v : ℕ → List ℕ) (job : Option Job) → IsQuietCall a.call → Held temps n (a ∷ us) v job → Held temps n us v job
+held_rest temps n a us v None plain h = h
+held_rest temps n a us v (Some j) plain h = by j.stage h
+  where
+    by : (s : Stage) → HeldIn temps n (a ∷ us) (v j.file) s → HeldIn temps n us (v j.file) s
+    by (stage.Hashing t x) h = h
+    by (stage.Listing x f) h = h
+    by (stage.Reading f) h = h
+    by (stage.Making x m) h = (λ u. h.0 (make_up a us x u), λ none. h.1 (λ u. none (make_rest a us x plain u)))
+    by (stage.Storing st) h = (h.0, h.1, holds_rest (v j.file) a us st h.0.pieces plain h.2)
+    by (stage.Committing x) h = (λ u. h.0 (commit_up a us x u), λ none. h.1 (λ u. none (commit_rest a us x plain u)))
+
+-- with an answer to it
+pub orderly_answered : (book more : Book) (made ended : Option ℕ) (n : ℕ) (temps after : List (ℕ × Temp)) (cut : Bool) (q : Queue) (a : Ask) (us : List Ask) (t : Told) (seat : Seat) → Grows book more made ended → q.ups ≡ a ∷ us → IsWanted more (job seat) t → Held after n us (locals_of seat.client) (job seat) → Orderly book n temps false q seat
+    → Orderly more n after false (record { ups = us; downs = unless cut q.downs (t ∷ []) }) seat
+orderly_answered book more made ended n temps after cut q a us t seat g first w held h = record {
+  asks = (subst (AllAsks (IsInPlace (job seat) (locals_of seat.client))) first h.asks).1;
+  tolds = told_more more (job seat) cut q.downs t w (all_wanted_later book more made ended (job seat) q.downs g h.tolds);
+  holds = λ up. held;
+  tree = tree_later book.opening more.opening seat g.opening h.tree;
+}
+
+-- with none
+pub orderly_taken : (book more : Book) (made ended : Option ℕ) (n : ℕ) (temps after : List (ℕ × Temp)) (hung : Bool) (q : Queue) (a : Ask) (us : List Ask) (seat : Seat) → Grows book more made ended → q.ups ≡ a ∷ us → Held after n us (locals_of seat.client) (job seat) → Orderly book n temps hung q seat → Orderly more n after hung (record q { ups = us }) seat
+orderly_taken book more made ended n temps after hung q a us seat g first held h = record {
+  asks = (subst (AllAsks (IsInPlace (job seat) (locals_of seat.client))) first h.asks).1;
+  tolds = all_wanted_later book more made ended (job seat) q.downs g h.tolds;
+  holds = λ up. held;
+  tree = tree_later book.opening more.opening seat g.opening h.tree;
+}
+
+pub held_first : (book : Book) (n : ℕ) (temps : List (ℕ × Temp)) (q : Queue) (a : Ask) (us : List Ask) (seat : Seat) → q.ups ≡ a ∷ us → Orderly book n temps false q seat → Held temps n (a ∷ us) (locals_of seat.client) (job seat)
+held_first book n temps q a us seat first h = subst (λ (l : List Ask). Held temps n l (locals_of seat.client) (job seat)) first (h.holds refl)
+
+pub place_first : (book : Book) (n : ℕ) (temps : List (ℕ × Temp)) (hung : Bool) (q : Queue) (a : Ask) (us : List Ask) (seat : Seat) → q.ups ≡ a ∷ us → Orderly book n temps hung q seat → InPlace (job seat) (locals_of seat.client) a.xid a.call
+place_first book n temps hung q a us seat first h = (subst (AllAsks (IsInPlace (job seat) (locals_of seat.client))) first h.asks).0
+
+-- ---- an operation begins
+
+-- its first stage, and the call that goes out
+abbrev pub BeginsWith : Stage → Ask → Type 0
+BeginsWith (stage.Hashing t x) a = Unit {0}
+BeginsWith (stage.Making x m) a = (f : ℕ) × (a ≡ record { xid = x; call = Make m f })
+BeginsWith s a = ⊥
+
+-- what is there of closes where nothing is under way: nothing
+pub record IsClear (temps : List (ℕ × Temp)) (n : ℕ) (hung : Bool) (q : Queue) : Type 0 where
+  pub ups : AllFetching q.ups
+  pub downs : AllFetched q.downs
+  pub none : hung ≡ false → NoTemp temps n
+
+pub orderly_clear : (book : Book) (n : ℕ) (temps : List (ℕ × Temp)) (hung : Bool) (q : Queue) (seat : Seat) → job seat ≡ None → Orderly book n temps hung q seat → IsClear temps n hung q
+orderly_clear book n temps hung q seat free h = record {
+  ups = free_asks (job seat) (locals_of seat.client) q.ups (none_free (job seat) free) h.asks;
+  downs = free_tolds book (job seat) q.downs (none_free (job seat) free) h.tolds;
+  none = λ up. free_held temps n q.ups (locals_of seat.client) (job seat) (none_free (job seat) free) (h.holds up);
+}
+
+place_more : (P : Ask → Type 0) (hung : Bool) (us : List Ask) (a : Ask) → AllAsks P us → P a → AllAsks P (unless hung us (a ∷ []))
+place_more P true us a h p = h
+place_more P false [] a h p = (p, tt)
+place_more P false (u ∷ us) a h p = (h.0, place_more P false us a h.1 p)
+
+pub orderly_begun : (book : Book) (n : ℕ) (temps : List (ℕ × Temp)) (hung : Bool) (q : Queue) (a : Ask) (d : Seat) (j : Job) → job d ≡ Some j → InPlace (job d) (locals_of d.client) a.xid a.call → BeginsWith j.stage a → (stage_word j.stage ≡ words.Close → IsSome (content_of book.opening j.file)) → IsClear temps n hung q
+    → Orderly book n temps hung (record { ups = unless hung q.ups (a ∷ []); downs = q.downs }) d
+orderly_begun book n temps hung q a d j is place begins tree clear = record {
+  asks = place_more (IsInPlace (job d) (locals_of d.client)) hung q.ups a (fetching_place (job d) (locals_of d.client) q.ups clear.ups) place;
+  tolds = fetched_wanted book (job d) q.downs clear.downs;
+  holds = λ up. subst (λ (o : Option Job). Held temps n (unless hung q.ups (a ∷ [])) (locals_of d.client) o) (sym is) (by j.stage begins hung up (clear.none up));
+  tree = λ i e w. let same = some_is j i (sym is ∙ e) in subst (λ (z : Job). IsSome (content_of book.opening z.file)) same (tree (ap (λ (z : Job). stage_word z.stage) same ∙ w));
+}
+  where
+    by : (s : Stage) → BeginsWith s a → (b : Bool) → b ≡ false → NoTemp temps n → HeldIn temps n (unless b q.ups (a ∷ [])) (locals_of d.client j.file) s
+    by (stage.Hashing t x) begins b up none = none
+    by (stage.Making x m) begins false up none = (λ u. none, λ u. absurd (u (length q.ups, m, begins.0, at_end q.ups a ∙ ap (λ (z : Ask). Some z) begins.1)))
+    by (stage.Making x m) begins true up none = absurd cc
+    by (stage.Listing x f) begins b up none = absurd begins
+    by (stage.Reading f) begins b up none = absurd begins
+    by (stage.Storing st) begins b up none = absurd begins
+    by (stage.Committing x) begins b up none = absurd begins

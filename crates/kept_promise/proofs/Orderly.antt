@@ -1,0 +1,137 @@
+-- The calls of a close and their answers are in order: each is of the operation under way, and the session's temporary file holds just
+-- what the server took.
+use Rattle.std.proofs.Common.{◌≡◌, ℕ, ◌<◌, ◌≤◌, List, [], Option, Some, None, Bool, true, false, length}
+use Rattle.std.specs.Prelude.{Result, Ok, slice_get, Contains, IsSome}
+use Rattle.chunk_cut.specs.Chunks.{chunks_of}
+use Rattle.chunk_cut.specs.Places.{chunk_bytes}
+use Rattle.chunk_cut.specs.declared.chunk.Chunk.{Chunk}
+use Rattle.xdr_codec.specs.declared.answer.Answer.TheVariants.{Done, Failed}
+use Rattle.xdr_codec.specs.declared.status.Status.TheVariants as status
+use Rattle.hash_calls.specs.declared.call.Commit.{Commit as Commit_call}
+use Rattle.hash_calls.specs.declared.message.Lb.TheVariants as lb
+use Rattle.wire.specs.Parse.{parse_of}
+use Rattle.wire.specs.declared.message.Body.TheVariants as body
+use Rattle.wire.specs.declared.message.Message.TheVariants as message
+use Rattle.server_core.specs.Closing.{is_full}
+use Rattle.server_core.specs.Temps.{Temp}
+use Rattle.open_close.specs.State as client
+use Rattle.open_close.specs.Closing.{store_at}
+use Rattle.open_close.specs.declared.task.Stage.{Stage}
+use Rattle.open_close.specs.declared.task.Stage.TheVariants as stage
+use Rattle.open_close.specs.declared.task.Store.{Store}
+use Rattle.open_close.specs.declared.task.StoreCall.{StoreCall}
+use Rattle.open_close.specs.declared.task.Way.{Way}
+use Rattle.open_close.specs.declared.task.Way.TheVariants as way
+use Rattle.register_model.specs.Register.{content_of}
+use Rattle.register_model.specs.declared.op.Op.{Op}
+use Rattle.register_model.specs.declared.op.Word.TheVariants as words
+use Rattle.trace_replay.specs.Core.{Seat, Event.Serves, numbered, server_waiting}
+use Rattle.trace_replay.specs.Trail.{Moment, step_of, owner_in}
+use Rattle.trace_replay.specs.Book.{Book}
+use Rattle.kept_promise.specs.Talk.{Call, Call.Hash, Call.Read, Call.Make, Call.Name, Call.Send, Call.Commit, Reply, Reply.Made, Reply.Named, Reply.Stored, Reply.Changed, Ask, Told, Queue}
+use Rattle.kept_promise.proofs.Statements.{PiecesOf}
+use Rattle.kept_promise.proofs.Messages.{Job, job, stage_word, AllAsks, AllTolds}
+use Rattle.kept_promise.proofs.Shelf.{NoTemp, OneTemp}
+
+-- ---- the call of a store
+
+-- the operation under way waits for this call of its store
+pub record IsStore (job : Option Job) (xid : ℕ) (w : Way) : Type 0 where
+  pub of : Job
+  pub is : job ≡ Some of
+  pub store : Store
+  pub at : of.stage ≡ stage.Storing store
+  pub call : StoreCall
+  pub found : store_at store.under xid ≡ Some call
+  pub way : call.way ≡ w
+
+-- ---- calls on their way
+
+-- what a client has open, by file
+abbrev pub locals_of : client.State → ℕ → List ℕ
+locals_of c file = client.local_bytes c.opened file
+
+-- a call of a close is one that the operation under way waits for
+abbrev pub InPlace : Option Job → (ℕ → List ℕ) → (xid : ℕ) → Call → Type 0
+InPlace job v x (Make m f) = (j : Job) × (job ≡ Some j) × (j.stage ≡ stage.Making x m) × (j.file ≡ f)
+InPlace job v x (Name m c) = (s : IsStore job x way.Named) × (s.store.temp ≡ m) × (slice_get s.store.chunks s.call.index ≡ Some c)
+InPlace job v x (Send m start bytes) = (s : IsStore job x way.Whole) × (s.store.temp ≡ m) × ((c : Chunk) × (slice_get s.store.chunks s.call.index ≡ Some c) × (start ≡ c.start) × (bytes ≡ chunk_bytes (v s.of.file) c))
+InPlace job v x (Commit m f size) = (j : Job) × (job ≡ Some j) × (j.stage ≡ stage.Committing x) × (j.file ≡ f) × (size ≡ length (v j.file))
+InPlace job v x (Hash f o) = Unit {0}
+InPlace job v x (Read f c) = Unit {0}
+
+abbrev pub IsInPlace : Option Job → (ℕ → List ℕ) → Ask → Type 0
+IsInPlace job v a = InPlace job v a.xid a.call
+
+-- ---- answers on their way
+
+-- when its COMMITTMP was taken within an operation the tree had no room for its value
+pub record NoRoom (book : Book) (o : Op) : Type 0 where
+  pub moment : Moment
+  pub there : Contains book.moments moment
+  pub session : ℕ
+  pub now : ℕ
+  pub bytes : List ℕ
+  pub event_is : moment.event ≡ Serves session now bytes
+  pub owner : owner_in (numbered moment.before.sessions session) ≡ o.client
+  pub xid : ℕ
+  pub call : Commit_call
+  pub parsed : parse_of server_waiting bytes ≡ Ok (message.Call xid (body.Lb (lb.CommitTmp call)))
+  pub size : call.size ≡ length o.value
+  pub after : o.begin ≤ step_of moment
+  pub before : step_of moment ≤ book.steps
+  pub full : is_full moment.before.server (length o.value) ≡ true
+
+-- an answer to a call of a close is one that the operation under way waits for, and it is no refusal but of a commit for want of room
+abbrev pub Wanted : Book → Option Job → (xid : ℕ) → Reply → Type 0
+Wanted book job x (Made a) = ((j : Job) × (m : ℕ) × (job ≡ Some j) × (j.stage ≡ stage.Making x m)) × (a ≡ Done tt)
+Wanted book job x (Named a) = IsStore job x way.Named × (a ≡ Failed status.HashNotFound tt)
+Wanted book job x (Stored a) = IsStore job x way.Whole × (a ≡ Done tt)
+Wanted book job x (Changed (Failed s u)) = ((j : Job) × (o : Op) × (job ≡ Some j) × (j.stage ≡ stage.Committing x) × (slice_get book.ops j.place ≡ Some o) × (o.word ≡ words.Close) × NoRoom book o) × (s ≡ status.NoSpc)
+Wanted book job x r = Unit {0}
+
+abbrev pub IsWanted : Book → Option Job → Told → Type 0
+IsWanted book job t = Wanted book job t.xid t.reply
+
+-- ---- the temporary file
+
+abbrev pub UpMake : List Ask → (xid : ℕ) → Type 0
+UpMake us x = (i m f : ℕ) × (slice_get us i ≡ Some (record { xid = x; call = Make m f }))
+
+abbrev pub UpSend : List Ask → (xid : ℕ) → Type 0
+UpSend us x = (i m s : ℕ) × (b : List ℕ) × (slice_get us i ≡ Some (record { xid = x; call = Send m s b }))
+
+abbrev pub UpCommit : List Ask → (xid : ℕ) → Type 0
+UpCommit us x = (i m f size : ℕ) × (slice_get us i ≡ Some (record { xid = x; call = Commit m f size }))
+
+-- the pieces are those of the chunks whose bytes the server took: all that were named, but those whose name is under way, or whose bytes
+-- are on their way up
+pub record Holds (v : List ℕ) (us : List Ask) (st : Store) (pieces : List (ℕ × List ℕ)) : Type 0 where
+  pub has : Chunk → Bool
+  pub pieces_is : pieces ≡ PiecesOf v has (chunks_of v)
+  pub later : (i : ℕ) (c : Chunk) → slice_get (chunks_of v) i ≡ Some c → st.named ≤ i → has c ≡ false
+  pub done : (i : ℕ) (c : Chunk) → slice_get (chunks_of v) i ≡ Some c → i < st.named → ((k : ℕ) (u : StoreCall) → slice_get st.under k ≡ Some u → u.index ≡ i → ⊥) → has c ≡ true
+  pub by_name : (k : ℕ) (u : StoreCall) (c : Chunk) → slice_get st.under k ≡ Some u → u.way ≡ way.Named → slice_get (chunks_of v) u.index ≡ Some c → has c ≡ false
+  pub up : (k : ℕ) (u : StoreCall) (c : Chunk) → slice_get st.under k ≡ Some u → UpSend us u.xid → slice_get (chunks_of v) u.index ≡ Some c → has c ≡ false
+  pub taken : (k : ℕ) (u : StoreCall) (c : Chunk) → slice_get st.under k ≡ Some u → u.way ≡ way.Whole → (UpSend us u.xid → ⊥) → slice_get (chunks_of v) u.index ≡ Some c → has c ≡ true
+  -- each chunk is under way once
+  pub apart : (k m : ℕ) (u w : StoreCall) → slice_get st.under k ≡ Some u → slice_get st.under m ≡ Some w → u.index ≡ w.index → u ≡ w
+
+abbrev pub HeldIn : List (ℕ × Temp) → (n : ℕ) → List Ask → (v : List ℕ) → Stage → Type 0
+HeldIn temps n us v (stage.Making x m) = (UpMake us x → NoTemp temps n) × ((UpMake us x → ⊥) → (t : Temp) × OneTemp temps n m t × (t.pieces ≡ []))
+HeldIn temps n us v (stage.Storing st) = (t : Temp) × OneTemp temps n st.temp t × Holds v us st t.pieces
+HeldIn temps n us v (stage.Committing x) = ((u : UpCommit us x) → (t : Temp) × OneTemp temps n u.1 t × (t.pieces ≡ PiecesOf v (λ c. true) (chunks_of v))) × ((UpCommit us x → ⊥) → NoTemp temps n)
+HeldIn temps n us v s = NoTemp temps n
+
+abbrev pub Held : List (ℕ × Temp) → (n : ℕ) → List Ask → (ℕ → List ℕ) → Option Job → Type 0
+Held temps n us v None = NoTemp temps n
+Held temps n us v (Some j) = HeldIn temps n us (v j.file) j.stage
+
+-- ---- all of it
+
+pub record Orderly (book : Book) (n : ℕ) (temps : List (ℕ × Temp)) (hung : Bool) (q : Queue) (seat : Seat) : Type 0 where
+  pub asks : AllAsks (IsInPlace (job seat) (locals_of seat.client)) q.ups
+  pub tolds : AllTolds (IsWanted book (job seat)) q.downs
+  pub holds : hung ≡ false → Held temps n q.ups (locals_of seat.client) (job seat)
+  -- a close is of a file of the tree
+  pub tree : (j : Job) → job seat ≡ Some j → stage_word j.stage ≡ words.Close → IsSome (content_of book.opening j.file)

@@ -1,0 +1,215 @@
+-- What the owners of the sessions are, and the stage, once a line was run.
+use Rattle.std.proofs.Common.{◌⊎◌, inl, inr, ◌≡◌, ℕ, zero, suc, ◌+◌, ◌<◌, ◌≤◌, List, [], ◌∷◌, ◌++◌, length, Option, Some, None, Bool, true, false, refl, sym, ap, ◌∙◌, subst, arith}
+use Rattle.std.proofs.lemmas.Bool.Decides.{nat_tests}
+use Rattle.std.specs.Prelude.{Result, Ok, Err, map, slice_get, slice_set, nat_lt, nat_le, ◌&&◌, take}
+use Rattle.rpc_record.specs.Records.{fed}
+use Rattle.wire.specs.Parse.{parse_of}
+use Rattle.wire.specs.declared.message.Message.{Message}
+use Rattle.wire.specs.declared.fault.WireFault.{WireFault}
+use Rattle.command_text.specs.declared.command.Command.{Command}
+use Rattle.server_core.specs.State as server
+use Rattle.server_core.specs.Step.{server_step, has_room, connect}
+use Rattle.open_close.specs.State as client
+use Rattle.open_close.specs.Step.{command_step}
+use Rattle.open_close.specs.declared.step.ClientStep.{ClientStep}
+use Rattle.register_model.specs.declared.op.Word.{Word}
+use Rattle.trace_text.specs.declared.line.Amount.{Amount}
+use Rattle.trace_text.specs.declared.line.Line.{Line}
+use Rattle.trace_text.specs.declared.line.Line.TheVariants as line
+use Rattle.trace_replay.specs.declared.link.Stage.{Stage}
+use Rattle.trace_replay.specs.declared.link.Stage.TheVariants as stage
+use Rattle.trace_replay.specs.declared.turn.Turn.{Turn}
+use Rattle.trace_replay.specs.declared.turn.Turn.TheVariants as turn
+use Rattle.trace_replay.specs.Core.{Core, Seat, Session, Turned, Event, Event.Joins, Event.Does, Event.Serves, Event.Hears, Event.Settles, Event.Cuts, Event.Hangs, new_session, numbered, with_numbered, session_of, server_waiting, serves, serves_if, hears, hears_at, hears_if, hears_by, is_newest, acted, commanded_sessions, does, cut_session, cuts, cuts_if, hangs, hangs_if, joins, joins_as, happens}
+use Rattle.trace_replay.specs.World.{World, Wire, happened}
+use Rattle.trace_replay.specs.Delivery.{all_happened, up_some, up_at, down_some, down_at, up_all, down_all, up_length, down_length, is_still, round, passes}
+use Rattle.trace_replay.specs.Run.{at_events, count_of, turned}
+use Rattle.trace_replay.specs.Timed.{owners_of}
+use Rattle.kept_promise.proofs.Lists.{nothing_there}
+
+abbrev owners : List Session → List ℕ
+owners xs = map (λ x. x.owner) xs
+
+set_owner : (xs : List Session) (i : ℕ) (x y : Session) → slice_get xs i ≡ Some x → y.owner ≡ x.owner → owners (slice_set xs i y) ≡ owners xs
+set_owner [] i x y at same = nothing_there x at
+set_owner (z ∷ xs) zero x y at same = ap (λ o. o ∷ owners xs) (same ∙ sym (ap owner_in at))
+  where
+    owner_in : Option Session → ℕ
+    owner_in (Some s) = s.owner
+    owner_in None = 0
+set_owner (z ∷ xs) (suc i) x y at same = ap (λ l. z.owner ∷ l) (set_owner xs i x y at same)
+
+with_owner : (xs : List Session) (n : ℕ) (x y : Session) → numbered xs n ≡ Some x → y.owner ≡ x.owner → owners (with_numbered xs n y) ≡ owners xs
+with_owner xs zero x y at same = nothing_there x at
+with_owner xs (suc i) x y at same = set_owner xs i x y at same
+
+-- ---- an event that makes no session
+
+abbrev Keeps : Core → Turned → Type 0
+Keeps k t = owners t.core.sessions ≡ owners k.sessions
+
+served : (k : Core) (n now : ℕ) (x : Session) (r : Result Message WireFault) → numbered k.sessions n ≡ Some x → Keeps k (serves_if k n now x r)
+served k n now x (Ok m) at = with_owner k.sessions n x _ at refl
+served k n now x (Err e) at = refl
+
+serves_keeps : (k : Core) (n now : ℕ) (bytes : List ℕ) → Keeps k (serves k n now bytes (numbered k.sessions n))
+serves_keeps k n now bytes = by (numbered k.sessions n) refl
+  where
+    by : (o : Option Session) → numbered k.sessions n ≡ o → Keeps k (serves k n now bytes o)
+    by None at = refl
+    by (Some x) at = served k n now x (parse_of server_waiting bytes) at
+
+hears_keeps : (k : Core) (n now : ℕ) (bytes : List ℕ) (o : Option Session) → Keeps k (hears k n now bytes o)
+hears_keeps k n now bytes None = refl
+hears_keeps k n now bytes (Some x) = by (numbered k.seats x.owner)
+  where
+    by_if : (seat : Seat) (b : Bool) → Keeps k (hears_if k x.owner now seat bytes b)
+    by_if seat true = refl
+    by_if seat false = refl
+
+    by : (o : Option Seat) → Keeps k (hears_at k n x.owner now bytes o)
+    by None = refl
+    by (Some seat) = by_if seat (is_newest seat.session n)
+
+commanded_keeps : (k : Core) (o : Option ℕ) (x : Option Session) → session_of k.sessions o ≡ x → (running : Option ℕ) (place : ℕ) (what : Word) (acts : ClientStep) → owners (commanded_sessions k.sessions o x running place what acts) ≡ owners k.sessions
+commanded_keeps k (Some n) (Some x) at running place what acts = with_owner k.sessions n x _ at refl
+commanded_keeps k (Some n) None at running place what acts = refl
+commanded_keeps k None (Some x) at running place what acts = refl
+commanded_keeps k None None at running place what acts = refl
+
+does_keeps : (k : Core) (n now : ℕ) (c : Command) (o : Option Seat) → Keeps k (does k n now c o)
+does_keeps k n now c None = refl
+does_keeps k n now c (Some seat) = commanded_keeps k seat.session (session_of k.sessions seat.session) refl seat.place (length k.ops) _ (command_step seat.client c now).1
+
+cut_keeps : (k : Core) (o : Option ℕ) (x : Option Session) → session_of k.sessions o ≡ x → owners (cut_session k.sessions o x) ≡ owners k.sessions
+cut_keeps k (Some n) (Some x) at = with_owner k.sessions n x _ at refl
+cut_keeps k (Some n) None at = refl
+cut_keeps k None (Some x) at = refl
+cut_keeps k None None at = refl
+
+cuts_keeps : (k : Core) (n : ℕ) (o : Option Seat) → Keeps k (cuts k n o)
+cuts_keeps k n None = refl
+cuts_keeps k n (Some seat) = by seat.client.linked
+  where
+    by : (b : Bool) → Keeps k (cuts_if k n seat b)
+    by true = cut_keeps k seat.session (session_of k.sessions seat.session) refl
+    by false = refl
+
+hangs_keeps : (k : Core) (n : ℕ) → Keeps k (hangs k n (numbered k.sessions n))
+hangs_keeps k n = by (numbered k.sessions n) refl
+  where
+    by_if : (x : Session) → numbered k.sessions n ≡ Some x → (b : Bool) → Keeps k (hangs_if k n x b)
+    by_if x at true = refl
+    by_if x at false = with_owner k.sessions n x _ at refl
+
+    by : (o : Option Session) → numbered k.sessions n ≡ o → Keeps k (hangs k n o)
+    by None at = refl
+    by (Some x) at = by_if x at x.hung
+
+abbrev MakesNone : Event → Type 0
+MakesNone (Joins n) = ⊥
+MakesNone e = Unit {0}
+
+happens_keeps : (k : Core) (e : Event) → MakesNone e → Keeps k (happens k e)
+happens_keeps k (Joins n) m = absurd m
+happens_keeps k (Does n now c) m = does_keeps k n now c (numbered k.seats n)
+happens_keeps k (Serves n now bytes) m = serves_keeps k n now bytes
+happens_keeps k (Hears n now bytes) m = hears_keeps k n now bytes (numbered k.sessions n)
+happens_keeps k (Settles now) m = refl
+happens_keeps k (Cuts n) m = cuts_keeps k n (numbered k.seats n)
+happens_keeps k (Hangs n) m = hangs_keeps k n
+
+-- ---- the world
+
+-- the stage and the owners stay
+pub record Same (w v : World) : Type 0 where
+  pub stage : v.stage ≡ w.stage
+  pub owners : owners_of v ≡ owners_of w
+
+same : (w : World) → Same w w
+same w = record { stage = refl; owners = refl }
+
+and_then : (w v u : World) → Same w v → Same v u → Same w u
+and_then w v u a b = record { stage = b.stage ∙ a.stage; owners = b.owners ∙ a.owners }
+
+pub happened_same : (w : World) (e : Event) → MakesNone e → Same w (happened w e)
+happened_same w e m = record { stage = refl; owners = happens_keeps w.core e m }
+
+serve_all : (w : World) (n now : ℕ) (rs : List (List ℕ)) → Same w (all_happened w (map (Serves n now) rs))
+serve_all w n now [] = same w
+serve_all w n now (r ∷ rs) = and_then w (happened w (Serves n now r)) _ (happened_same w (Serves n now r) tt) (serve_all (happened w (Serves n now r)) n now rs)
+
+hear_all : (w : World) (n now : ℕ) (rs : List (List ℕ)) → Same w (all_happened w (map (Hears n now) rs))
+hear_all w n now [] = same w
+hear_all w n now (r ∷ rs) = and_then w (happened w (Hears n now r)) _ (happened_same w (Hears n now r) tt) (hear_all (happened w (Hears n now r)) n now rs)
+
+up_same : (w : World) (n count now : ℕ) → Same w (up_some w n count now)
+up_same w n count now = by (numbered w.wires n)
+  where
+    by : (o : Option Wire) → Same w (up_at w n count now o)
+    by None = same w
+    by (Some q) = let h = serve_all (Rattle.trace_replay.specs.Delivery.up_taken w n count q) n now (fed q.server_end (take count q.up)).1.records in record { stage = h.stage; owners = h.owners }
+
+down_same : (w : World) (n count now : ℕ) → Same w (down_some w n count now)
+down_same w n count now = by (numbered w.wires n)
+  where
+    by : (o : Option Wire) → Same w (down_at w n count now o)
+    by None = same w
+    by (Some q) = let h = hear_all (Rattle.trace_replay.specs.Delivery.down_taken w n count q) n now (fed q.client_end (take count q.down)).1.records in record { stage = h.stage; owners = h.owners }
+
+round_same : (w : World) (n server at : ℕ) → Same w (round w n server at)
+round_same w n server at = and_then w (up_all w n server) _ (up_same w n (up_length (numbered w.wires n)) server) (down_same (up_all w n server) n (down_length (numbered (up_all w n server).wires n)) at)
+
+passes_same : (k : ℕ) (w : World) (n server at : ℕ) → Same w (passes k w n server at)
+passes_same zero w n server at = same w
+passes_same (suc k) w n server at = by (is_still w n) (passes_same k (round w n server at) n server at)
+  where
+    by : (b : Bool) → Same (round w n server at) (passes k (round w n server at) n server at) → Same w (elim b as (λ (x : Bool). World) [ true ↦ w | false ↦ passes k (round w n server at) n server at ])
+    by true later = same w
+    by false later = and_then w (round w n server at) _ (round_same w n server at) later
+
+-- ---- a turn
+
+abbrev pub stage_after : Stage → Turn → Stage
+stage_after s turn.Skip = s
+stage_after s (turn.At t) = t
+stage_after s (turn.Clients n) = stage.Files
+stage_after s (turn.File name content) = s
+stage_after s t = stage.Events
+
+abbrev pub owners_after : (owners : List ℕ) → (joins : Bool) → Turn → List ℕ
+owners_after os true (turn.Join c) = os ++ c ∷ []
+owners_after os b t = os
+
+pub record TurnedTo (w v : World) (t : Turn) (joins : Bool) : Type 0 where
+  pub stage : v.stage ≡ stage_after w.stage t
+  pub owners : owners_of v ≡ owners_after (owners_of w) joins t
+
+owners_one : (xs : List Session) (x : Session) → owners (xs ++ x ∷ []) ≡ owners xs ++ x.owner ∷ []
+owners_one [] x = refl
+owners_one (z ∷ xs) x = ap (λ l. z.owner ∷ l) (owners_one xs x)
+
+joined_to : (w : World) (c : ℕ) (seat : Seat) → numbered w.core.seats c ≡ Some seat → has_room w.core.server ≡ true → owners_of (happened (at_events w) (Joins c)) ≡ owners_of w ++ c ∷ []
+joined_to w c seat at room = ap (λ (o : Option Seat). owners (joins w.core c o).core.sessions) at ∙ ap (λ (b : Bool). let r = connect w.core.server b in owners (joins_as w.core c seat r.0 r.1.told).core.sessions) room ∙ owners_one w.core.sessions (new_session c)
+
+by_same : (w v : World) (t : Turn) → stage_after w.stage t ≡ stage.Events → owners_after (owners_of w) true t ≡ owners_of w → Same (at_events w) v → TurnedTo w v t true
+by_same w v t s o h = record { stage = h.stage ∙ sym s; owners = h.owners ∙ sym o }
+
+-- where a client joins there is room for its session
+abbrev pub MayTurn : World → Turn → Type 0
+MayTurn w (turn.Join c) = ((seat : Seat) × (numbered w.core.seats c ≡ Some seat)) × (has_room w.core.server ≡ true)
+MayTurn w t = Unit {0}
+
+pub turned_to : (w : World) (t : Turn) → MayTurn w t → TurnedTo w (turned w t) t true
+turned_to w turn.Skip m = record { stage = refl; owners = refl }
+turned_to w (turn.At s) m = record { stage = refl; owners = refl }
+turned_to w (turn.Clients n) m = record { stage = refl; owners = refl }
+turned_to w (turn.File name content) m = record { stage = refl; owners = refl }
+turned_to w (turn.Join c) m = record { stage = refl; owners = joined_to w c m.0.0 m.0.1 m.1 }
+turned_to w (turn.Do c now k) m = by_same w _ (turn.Do c now k) refl refl (happened_same (at_events w) (Does c now k) tt)
+turned_to w (turn.Up n a now) m = by_same w _ (turn.Up n a now) refl refl (up_same (at_events w) n (count_of a (up_length (numbered w.wires n))) now)
+turned_to w (turn.Down n a now) m = by_same w _ (turn.Down n a now) refl refl (down_same (at_events w) n (count_of a (down_length (numbered w.wires n))) now)
+turned_to w (turn.Settle now) m = by_same w _ (turn.Settle now) refl refl (happened_same (at_events w) (Settles now) tt)
+turned_to w (turn.Cut c) m = by_same w _ (turn.Cut c) refl refl (happened_same (at_events w) (Cuts c) tt)
+turned_to w (turn.Hang n) m = by_same w _ (turn.Hang n) refl refl (happened_same (at_events w) (Hangs n) tt)
+turned_to w (turn.Pass n k server at) m = by_same w _ (turn.Pass n k server at) refl refl (passes_same k (at_events w) n server at)

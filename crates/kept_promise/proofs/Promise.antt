@@ -1,0 +1,114 @@
+-- The promise, of every trace that is accepted.
+use Rattle.std.proofs.Common.{◌≡◌, ℕ, suc, List, refl, sym}
+use Rattle.std.specs.Prelude.{Ok}
+use Rattle.trace_replay.specs.World.{World}
+use Rattle.trace_replay.specs.Delivery.{passes}
+use Rattle.trace_replay.specs.Run.{run}
+use Rattle.trace_replay.specs.Timed.{accepted}
+use Rattle.trace_replay.specs.Trail.{Moment, deeds_of, moments}
+use Rattle.trace_replay.specs.Book.{book_of}
+use Rattle.trace_replay.specs.Traces.{IsKeptPromise}
+use Rattle.kept_promise.specs.Rounds.{rounds}
+use Rattle.kept_promise.proofs.Statements.{ClocksKeepTheRule}
+use Rattle.kept_promise.proofs.Turns.{also_numbered}
+use Rattle.kept_promise.proofs.Rounds.{passes_are_rounds}
+use Rattle.kept_promise.proofs.Laws.{fit_laws, kept_laws}
+use Rattle.kept_promise.proofs.RunsCarried.{Carried, Stands}
+use Rattle.kept_promise.proofs.RunsEvents.{Fact}
+use Rattle.kept_promise.proofs.Runs.{carried_run, kept_run, clocks_kept}
+use Rattle.kept_promise.proofs.RunsOpening.{opening_said}
+use Rattle.kept_promise.proofs.RunsMessages.{holds_messages}
+use Rattle.kept_promise.proofs.Commanded.{events_said, commands_said}
+use Rattle.kept_promise.proofs.StepsCount.{steps_counted}
+use Rattle.kept_promise.proofs.Done.{deeds_counted, deeds_done}
+use Rattle.kept_promise.proofs.CutEnds.{AreFollowed, carried_follow, cuts_end}
+use Rattle.kept_promise.proofs.StoredWhole.{Stored, carried_stored, have_stored, made_sent}
+use Rattle.kept_promise.proofs.VersionRuns.{Versions, carried_versions, opens_version}
+use Rattle.kept_promise.proofs.OpenedEvents.{ReadsOf, carried_reads, opened_counts}
+use Rattle.kept_promise.proofs.SettledRuns.{AllSettled, carried_settled}
+use Rattle.kept_promise.proofs.Completed.{completes}
+use Rattle.kept_promise.proofs.EndedWell.{ends_well}
+use Rattle.kept_promise.proofs.Promised.{AreWords, no_fault, legal_kept, holds_files, holds_values}
+
+-- ---- facts that are carried together
+
+pub carried_both : (P Q : Fact) → Carried P → Carried Q → Carried (λ all past opening k qs. P all past opening k qs × Q all past opening k qs)
+carried_both P Q p q = record {
+  first = λ all opening files changes count kept. (p.first all opening files changes count kept, q.first all opening files changes count kept);
+  steps = λ all past rest opening k qs e mid after s h. (p.steps all past rest opening k qs e mid after s h.0, q.steps all past rest opening k qs e mid after s h.1);
+}
+
+abbrev Follows : Fact
+Follows all past opening k qs = AreFollowed past k
+
+-- of the READs of opens, and of the steps of changes
+abbrev Read : Fact
+Read all past opening k qs = ReadsOf all past opening k qs × AllSettled all past opening k qs
+
+-- of versions too
+abbrev Fetched : Fact
+Fetched all past opening k qs = Versions all past opening k qs × Read all past opening k qs
+
+-- what is told of the commands and their operations, and of what these count
+abbrev Counted : Fact
+Counted all past opening k qs = Stored all past opening k qs × Fetched all past opening k qs
+
+abbrev Told : Fact
+Told all past opening k qs = Follows all past opening k qs × Counted all past opening k qs
+
+told_carried : Carried Told
+told_carried = carried_both Follows Counted carried_follow (carried_both Stored Fetched (carried_stored fit_laws) (carried_both Versions Read (carried_versions fit_laws) (carried_both ReadsOf AllSettled (carried_reads fit_laws) carried_settled)))
+
+-- ---- the promise of what a run leaves
+
+are_words : (w : World) (all : List Moment) (h : Stands Told all all w) → AreWords w.core.ops
+are_words w all h = λ i o at.
+    let d = also_numbered w.core.ops (deeds_of all) (suc i) o (sym (deeds_counted w all h.more.0.followed)) at in
+    (d.0.command, (deeds_done w all h.queues h.kept h.more.0.followed i d.0 o d.1 at).word)
+
+promise_of : (input : List ℕ) (w : World) → run input ≡ Ok w → Stands Told (moments input) (moments input) w → IsKeptPromise input w
+promise_of input w ran h =
+    let all : List Moment = moments input in
+    record {
+      faithful = record {
+        opening = opening_said input w ran;
+        lines = events_said input w ran;
+        commands = commands_said input w ran;
+        counted = steps_counted (kept_laws fit_laws) fit_laws input w ran;
+        count = deeds_counted w all h.more.0.followed;
+        done = deeds_done w all h.queues h.kept h.more.0.followed;
+        cuts = cuts_end w all h.more.0.cuts;
+        journal = h.kept.sound.journal;
+        settled = h.more.1.1.1.1;
+        versions = opens_version (book_of w all) w.core h.queues h.kept h.more.1.1.0.1;
+        no_fault = no_fault (book_of w all) h.kept.sound;
+        traffic = h.more.1.0.counted.counts;
+        own = h.more.1.1.1.0.own;
+        silent = h.more.1.1.1.0.silent;
+        opened = opened_counts (book_of w all) w.core h.queues h.kept h.more.1.1.1.0;
+        stored = h.more.1.0.stored.commits;
+        made = made_sent (book_of w all) all w.opening w.core h.queues h.kept h.more.1.0;
+      };
+      legal = legal_kept (book_of w all) w.core h.queues h.kept (are_words w all h);
+      complete = record {
+        ended = completes fit_laws w all h.queues h.kept h.carry h.rested;
+        well = λ k d o was at alone joined few free uncut.
+            ends_well (book_of w all) d o _ (deeds_done w all h.queues h.kept h.more.0.followed k d o was at) (completes fit_laws w all h.queues h.kept h.carry h.rested k o at alone) joined few free uncut;
+      };
+      waiting = holds_values (book_of w all) w h.queues h.kept (have_stored (book_of w all) all all w.opening w.core h.queues h.kept h.more.1.0);
+      tree = holds_files (book_of w all) w h.queues refl h.kept;
+      messages = holds_messages Told fit_laws all all w h;
+    }
+
+-- ---- the laws
+
+pub accepted_exactly : ClocksKeepTheRule
+accepted_exactly = clocks_kept (kept_laws fit_laws) fit_laws
+
+pub passes_run : (input : List ℕ) (w : World) → run input ≡ Ok w → (count number server at : ℕ) → passes count w number server at ≡ rounds count w number server at
+passes_run input w ran count number server at = passes_are_rounds count w number server at (kept_run (kept_laws fit_laws) fit_laws input w ran).rested
+
+pub promise_accepted : (input : List ℕ) (w : World) → accepted input ≡ Ok w → IsKeptPromise input w
+promise_accepted input w e =
+    let ran = ((accepted_exactly input w).0 e).0 in
+    promise_of input w ran (carried_run Told (kept_laws fit_laws) fit_laws told_carried input w ran)

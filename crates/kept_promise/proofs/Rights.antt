@@ -1,0 +1,66 @@
+-- What holds of an operation, and of the journal beside the operations.
+use Rattle.std.proofs.Common.{◌≡◌, ℕ, ◌+◌, ◌<◌, ◌≤◌, List, length, Option, Some, None, Bool, true, false}
+use Rattle.std.specs.Prelude.{slice_get, not, is_some}
+use Rattle.sha1.specs.Sha1.{sha1}
+use Rattle.server_core.specs.declared.journal.Entry.{Entry}
+use Rattle.register_model.specs.Register.{changes, is_closed, is_lost, is_untold}
+use Rattle.register_model.specs.declared.op.Op.{Op}
+use Rattle.register_model.specs.declared.op.Outcome.{Outcome}
+use Rattle.register_model.specs.declared.op.Outcome.TheVariants as told
+use Rattle.register_model.specs.declared.op.Word.{Word}
+use Rattle.register_model.specs.declared.op.Word.TheVariants as words
+use Rattle.trace_replay.specs.Book.{Book, version_at}
+use Rattle.trace_replay.specs.Causes.{IsOpened, IsClosed, IsChanged, IsLost, IsOpenRefused, IsCloseRefused, IsEntered}
+use Rattle.trace_replay.specs.Faithful.{is_running, HasJournal}
+
+-- it goes to the server
+abbrev pub is_remote : Word → Bool
+is_remote words.Open = true
+is_remote words.Close = true
+is_remote _ = false
+
+abbrev pub RefusedBy : Book → Op → Word → (status : ℕ) → Type 0
+RefusedBy book o words.Open status = IsOpenRefused book o.file o status
+RefusedBy book o words.Close status = IsCloseRefused book o status
+RefusedBy book o w status = ⊥
+
+-- The cause of an outcome, by the word alone; what a client answers by itself has none here.
+abbrev pub Caused : Book → Op → Outcome → Type 0
+Caused book o (told.Opened len digest) = (o.word ≡ words.Open) × IsOpened book o.file o len digest
+Caused book o (told.Refused status) = RefusedBy book o o.word status
+Caused book o (told.Changed first last) = (o.word ≡ words.Open) × IsChanged book o.file o first last
+Caused book o (told.Closed version len digest) = (o.word ≡ words.Close) × IsClosed book o.file o version len digest
+Caused book o told.Lost = (is_remote o.word ≡ true) × IsLost book o
+Caused book o told.Running = (is_remote o.word ≡ true) × (o.end ≡ None)
+Caused book o (told.BadPeer n) = ⊥
+Caused book o told.PeerMemory = ⊥
+Caused book o told.Memory = ⊥
+Caused book o (told.Names names) = ⊥
+Caused book o (told.Seen file kind version len) = ⊥
+Caused book o _ = Unit {0}
+
+pub record IsRight (book : Book) (o : Op) : Type 0 where
+  pub cause : Caused book o o.outcome
+  pub begun : o.begin ≤ book.steps
+  pub pointed : (p : ℕ) → o.point ≡ Some p → (o.begin ≤ p) × (p ≤ book.steps) × (is_remote o.word ≡ true)
+  pub past : (e : ℕ) → o.end ≡ Some e → (o.begin ≤ e) × (e ≤ book.steps)
+  pub ends : is_some o.end ≡ not (is_running o.outcome)
+  -- its point is not behind its end, unless it was lost
+  pub within : is_lost o.outcome ≡ false → (p e : ℕ) → o.point ≡ Some p → o.end ≡ Some e → p ≤ e
+  -- a close that was told otherwise takes no effect
+  pub failed : o.word ≡ words.Close → is_closed o.outcome ≡ false → is_untold o.outcome ≡ false → o.point ≡ None
+
+-- a close that may still take effect
+abbrev pub IsUnmade : Op → Type 0
+IsUnmade o = (o.word ≡ words.Close) × (o.point ≡ None) × (is_untold o.outcome ≡ true)
+
+-- the close at a place has its point, and its entry this version
+abbrev pub IsMade : Book → (place version : ℕ) → Type 0
+IsMade book place v = (o : Op) × (p : ℕ) × (slice_get book.ops place ≡ Some o) × (o.word ≡ words.Close) × (o.point ≡ Some p) × (p ≤ book.steps) × IsEntered book o.file p v (length o.value) (sha1 o.value)
+
+-- what holds of all operations together
+pub record IsSound (book : Book) : Type 0 where
+  pub rights : (k : ℕ) (o : Op) → slice_get book.ops k ≡ Some o → IsRight book o
+  pub journal : HasJournal book
+  -- no entry is of a step to come
+  pub past : (i p : ℕ) → slice_get book.entries i ≡ Some p → (0 < p) × (p ≤ book.steps)

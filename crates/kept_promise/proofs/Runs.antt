@@ -1,0 +1,114 @@
+-- The law over runs: what is kept by each event holds of what a whole run leaves, and the moments of the book are those of the run.
+use Rattle.std.proofs.Common.{◌≡◌, ℕ, ◌+◌, List, [], ◌∷◌, ◌++◌, Option, Some, None, Bool, true, false, refl, sym, ◌∙◌, subst, arith, append-nil, append_assoc}
+use Rattle.std.specs.Prelude.{Result, Ok, Err}
+use Rattle.command_text.specs.Parts.{lines_of}
+use Rattle.trace_text.specs.Grammar.{line_of}
+use Rattle.trace_text.specs.declared.line.Line.{Line}
+use Rattle.trace_text.specs.declared.refusal.LineFault.{LineFault}
+use Rattle.trace_replay.specs.declared.fault.Refused.{Refused}
+use Rattle.trace_replay.specs.declared.turn.Turn.{Turn}
+use Rattle.trace_replay.specs.World.{World, start}
+use Rattle.trace_replay.specs.Run.{asked, asked_by, turned, refused, in_header, ended, run_from, run}
+use Rattle.trace_replay.specs.Trail.{Moment, turn_moments, moments_from, moments}
+use Rattle.kept_promise.proofs.Statements.{ClocksKeepTheRule}
+use Rattle.kept_promise.proofs.Fits.{FitLaws}
+use Rattle.kept_promise.proofs.Readings.{HasRoom, clocks_keep_the_rule}
+use Rattle.kept_promise.proofs.RunsCarried.{KeptLaws, Carried, Stands}
+use Rattle.kept_promise.proofs.RunsFirst.{no_tree}
+use Rattle.kept_promise.proofs.RunsEvents.{Fact}
+use Rattle.kept_promise.proofs.RunsLines.{line_fits, allowed, within_lines}
+use Rattle.kept_promise.proofs.RunsTurns.{IsFirst, Before, first_stands, may_turn, before_next}
+
+-- ---- the start
+
+first_is : IsFirst 1 start []
+first_is = record { files = []; changes = 0; count = 0; core_is = refl; wires_is = refl; tree = no_tree; past_is = refl; few = omega arith }
+
+before_first : (P : Fact) → Carried P → (all : List Moment) → Before P 1 all [] start
+before_first P carried all = record { stands = first_stands P carried 1 all [] start first_is; few = omega arith; first = λ early. first_is }
+
+-- ---- a line that was read
+
+next_of : (P : Fact) → KeptLaws → FitLaws → Carried P → (n : ℕ) (all past rest : List Moment) (w : World) (bytes : List ℕ) (l : Line) (t : Turn) → line_of bytes ≡ Some l → asked w n l ≡ Ok t → Before P n all past w → all ≡ past ++ (turn_moments w t ++ rest) → Before P (n + 1) all (past ++ turn_moments w t) (turned w t)
+next_of P laws fits carried n all past rest w bytes l t read is h split = before_next P laws fits carried n all past rest w t (within_lines w n l t is) (allowed w n l t (line_fits bytes l read) is) h split
+
+-- ---- all lines
+
+abbrev whole : World → Result World Refused
+whole w = Ok w
+
+no_world : {A : Type 0} (r : Refused) (v : World) → Err r ≡ whole v → A
+no_world r v e = absurd cc
+
+world_is : (w v : World) → whole w ≡ whole v → w ≡ v
+world_is w v e = cc
+
+ended_is : (w v : World) (n : ℕ) (b : Bool) → ended w n b ≡ Ok v → w ≡ v
+ended_is w v n true e = no_world _ v e
+ended_is w v n false e = world_is w v e
+
+abbrev ran_by : World → ℕ → List (List ℕ) → Result Turn LineFault → Result World Refused
+ran_by w n ls r = elim r [ Err f ↦ Err (refused n f) | Ok t ↦ run_from (turned w t) (n + 1) ls ]
+
+abbrev moments_by : World → ℕ → List (List ℕ) → Result Turn LineFault → List Moment
+moments_by w n ls r = elim r [ Err f ↦ [] | Ok t ↦ turn_moments w t ++ moments_from (turned w t) (n + 1) ls ]
+
+carried_lines : (P : Fact) → KeptLaws → FitLaws → Carried P → (n : ℕ) (all past : List Moment) (w v : World) (ls : List (List ℕ)) → run_from w n ls ≡ Ok v → all ≡ past ++ moments_from w n ls → Before P n all past w → Stands P all all v
+carried_lines P laws fits carried n all past w v [] e split h =
+    let same : past ≡ all = sym (split ∙ append-nil past) in
+    subst (λ (z : List Moment). Stands P all z v) same (subst (λ (z : World). Stands P all past z) (ended_is w v n (in_header w.stage) e) h.stands)
+carried_lines P laws fits carried n all past w v (l ∷ ls) e split h = by_line (line_of l) refl (λ t before. carried_lines P laws fits carried (n + 1) all before (turned w t) v ls) e split
+  where
+    by_turn : (x : Line) → line_of l ≡ Some x → (r : Result Turn LineFault) → asked w n x ≡ r
+        → ((t : Turn) (before : List Moment) → run_from (turned w t) (n + 1) ls ≡ Ok v → all ≡ before ++ moments_from (turned w t) (n + 1) ls → Before P (n + 1) all before (turned w t) → Stands P all all v)
+        → ran_by w n ls r ≡ Ok v → all ≡ past ++ moments_by w n ls r → Stands P all all v
+    by_turn x read (Err f) is go e split = no_world _ v e
+    by_turn x read (Ok t) is go e split =
+        let rest : List Moment = moments_from (turned w t) (n + 1) ls in
+        go t (past ++ turn_moments w t) e (split ∙ sym (append_assoc past (turn_moments w t) rest)) (next_of P laws fits carried n all past rest w l x t read is h split)
+
+    by_line : (o : Option Line) → line_of l ≡ o
+        → ((t : Turn) (before : List Moment) → run_from (turned w t) (n + 1) ls ≡ Ok v → all ≡ before ++ moments_from (turned w t) (n + 1) ls → Before P (n + 1) all before (turned w t) → Stands P all all v)
+        → ran_by w n ls (asked_by w n o) ≡ Ok v → all ≡ past ++ moments_by w n ls (asked_by w n o) → Stands P all all v
+    by_line None read go e split = no_world _ v e
+    by_line (Some x) read go e split = by_turn x read (asked w n x) refl go e split
+
+-- What each event keeps holds of what a run leaves, whatever further facts are carried along.
+pub carried_run : (P : Fact) → KeptLaws → FitLaws → Carried P → (input : List ℕ) (w : World) → run input ≡ Ok w → Stands P (moments input) (moments input) w
+carried_run P laws fits carried input w e = carried_lines P laws fits carried 1 (moments input) [] start w (lines_of input) e refl (before_first P carried (moments input))
+
+-- ---- nothing further
+
+abbrev pub Plain : Fact
+Plain all past opening k qs = Unit {0}
+
+pub plain_carried : Carried Plain
+plain_carried = record { first = λ all opening files changes count kept. tt; steps = λ all past rest opening k qs e mid after step holds. tt }
+
+pub kept_run : KeptLaws → FitLaws → (input : List ℕ) (w : World) → run input ≡ Ok w → Stands Plain (moments input) (moments input) w
+kept_run laws fits input w e = carried_run Plain laws fits plain_carried input w e
+
+-- ---- the clocks: there is room for each session that is asked for
+
+-- what stands before a line, whatever moments come behind it
+abbrev Whatever : ℕ → World → Type 0
+Whatever n w = (past : List Moment) × ((rest : List Moment) → Before Plain n (past ++ rest) past w)
+
+has_room : KeptLaws → FitLaws → HasRoom Whatever
+has_room laws fits = record {
+  first = ([], λ rest. before_first Plain plain_carried rest);
+  next = λ n w bytes l t read h is.
+      let le = within_lines w n l t is in
+      let may = allowed w n l t (line_fits bytes l read) is in (
+        may_turn Plain n (h.0 ++ []) h.0 w t (h.1 []) le may,
+        (
+          h.0 ++ turn_moments w t,
+          λ rest. subst (λ (z : List Moment). Before Plain (n + 1) z (h.0 ++ turn_moments w t) (turned w t)) (sym (append_assoc h.0 (turn_moments w t) rest))
+              (next_of Plain laws fits plain_carried n (h.0 ++ (turn_moments w t ++ rest)) h.0 rest w bytes l t read is (h.1 (turn_moments w t ++ rest)) refl),
+        ),
+      );
+}
+
+-- a trace is accepted exactly where its run goes through and it keeps the clock rule
+pub clocks_kept : KeptLaws → FitLaws → ClocksKeepTheRule
+clocks_kept laws fits = clocks_keep_the_rule Whatever (has_room laws fits)

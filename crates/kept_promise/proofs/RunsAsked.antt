@@ -1,0 +1,98 @@
+-- What a line that is taken asks for, whatever the world is.
+use Rattle.std.proofs.Common.{◌≡◌, ℕ, Option, Some, None, Bool, true, false, List}
+use Rattle.std.specs.Prelude.{Result, Ok, Err, nat_lt, nat_le}
+use Rattle.command_text.specs.declared.content.Part.{Part}
+use Rattle.trace_text.specs.declared.line.Line.{Line}
+use Rattle.trace_text.specs.declared.line.Line.TheVariants as line
+use Rattle.trace_text.specs.declared.refusal.LineFault.{LineFault}
+use Rattle.trace_text.specs.declared.refusal.LineFault.TheVariants.{Grammar, Limit, Clock}
+use Rattle.trace_replay.specs.declared.link.Stage.{Stage}
+use Rattle.trace_replay.specs.declared.link.Stage.TheVariants as stage
+use Rattle.trace_replay.specs.declared.turn.Turn.{Turn}
+use Rattle.trace_replay.specs.declared.turn.Turn.TheVariants as turn
+use Rattle.trace_replay.specs.Names.{has_name}
+use Rattle.trace_replay.specs.Core.{Core, Seat, numbered}
+use Rattle.trace_replay.specs.World.{World}
+use Rattle.trace_replay.specs.Run.{line_most, sessions_most, asks_if, sized, named, joins_if, joins_within, event_asks, asks_at, asks, asks_within, asked}
+
+abbrev pub turn_of : Line → Turn
+turn_of line.Skipped = turn.Skip
+turn_of line.Version = turn.At stage.Term
+turn_of (line.Term n) = turn.At stage.Drift
+turn_of (line.Drift n) = turn.At stage.Clients
+turn_of (line.Clients n) = turn.Clients n
+turn_of (line.File name content) = turn.File name content
+turn_of (line.Join m r at) = turn.Join m
+turn_of (line.Do m r d) = turn.Do m r d
+turn_of (line.Up n a at) = turn.Up n a at
+turn_of (line.Down n a r) = turn.Down n a r
+turn_of (line.Settle at) = turn.Settle at
+turn_of (line.Cut m r) = turn.Cut m
+turn_of (line.Hang n at) = turn.Hang n
+turn_of (line.Pass n rounds at r) = turn.Pass n rounds at r
+
+abbrev asking : Turn → Result Turn LineFault
+asking t = Ok t
+
+turn_is : (s t : Turn) → asking s ≡ asking t → t ≡ s
+turn_is s t e = cc
+
+refused_line : {A : Type 0} (f : LineFault) (t : Turn) → Err f ≡ asking t → A
+refused_line f t e = absurd cc
+
+goes_if : (b : Bool) (u t : Turn) → asks_if b u ≡ asking t → t ≡ u
+goes_if true u t e = turn_is u t e
+goes_if false u t e = refused_line Grammar t e
+
+joins_turn : (standing client : ℕ) (o : Option Seat) (t : Turn) → joins_if standing client o ≡ asking t → t ≡ turn.Join client
+joins_turn standing client None t e = refused_line Grammar t e
+joins_turn standing client (Some seat) t e = by seat.client.linked (nat_lt standing sessions_most) e
+  where
+    by : (b room : Bool) → elim b as (λ (x : Bool). Result Turn LineFault) [ true ↦ Err Grammar | false ↦ joins_within room client ] ≡ asking t → t ≡ turn.Join client
+    by true room e = refused_line Grammar t e
+    by false true e = turn_is (turn.Join client) t e
+    by false false e = refused_line _ t e
+
+event_turn : (k : Core) (l : Line) (t : Turn) → event_asks k l ≡ asking t → t ≡ turn_of l
+event_turn k (line.Join m r at) t e = joins_turn _ m (numbered k.seats m) t e
+event_turn k (line.Do m r d) t e = goes_if _ (turn.Do m r d) t e
+event_turn k (line.Up n a at) t e = goes_if _ (turn.Up n a at) t e
+event_turn k (line.Down n a r) t e = goes_if _ (turn.Down n a r) t e
+event_turn k (line.Settle at) t e = turn_is (turn.Settle at) t e
+event_turn k (line.Cut m r) t e = goes_if _ (turn.Cut m) t e
+event_turn k (line.Hang n at) t e = goes_if _ (turn.Hang n) t e
+event_turn k (line.Pass n rounds at r) t e = goes_if _ (turn.Pass n rounds at r) t e
+event_turn k l t e = refused_line Grammar t e
+
+sized_turn : (long much : Bool) (u t : Turn) → sized long much u ≡ asking t → t ≡ u
+sized_turn true much u t e = refused_line _ t e
+sized_turn false true u t e = refused_line _ t e
+sized_turn false false u t e = turn_is u t e
+
+named_turn : (b : Bool) (size : ℕ) (name : List ℕ) (content : List Part) (t : Turn) → named b size name content ≡ asking t → t ≡ turn.File name content
+named_turn true size name content t e = refused_line Grammar t e
+named_turn false size name content t e = sized_turn _ _ (turn.File name content) t e
+
+stage_turn : (w : World) (s : Stage) (l : Line) (t : Turn) → asks_at w s l ≡ asking t → t ≡ turn_of l
+stage_turn w stage.Version line.Version t e = turn_is (turn.At stage.Term) t e
+stage_turn w stage.Term (line.Term n) t e = turn_is (turn.At stage.Drift) t e
+stage_turn w stage.Drift (line.Drift n) t e = turn_is (turn.At stage.Clients) t e
+stage_turn w stage.Clients (line.Clients n) t e = turn_is (turn.Clients n) t e
+stage_turn w stage.Files (line.File name content) t e = named_turn (has_name w.names name) w.size name content t e
+stage_turn w stage.Files l t e = event_turn w.core l t e
+stage_turn w stage.Events l t e = event_turn w.core l t e
+stage_turn w s l t e = refused_line Grammar t e
+
+line_turn : (w : World) (l : Line) (t : Turn) → asks w l ≡ asking t → t ≡ turn_of l
+line_turn w line.Skipped t e = turn_is turn.Skip t e
+line_turn w l t e = stage_turn w w.stage l t e
+
+within : (b : Bool) (r : Result Turn LineFault) (t : Turn) → asks_within b r ≡ asking t → r ≡ asking t
+within true r t e = e
+within false (Err Grammar) t e = refused_line Grammar t e
+within false (Err (Limit w)) t e = refused_line _ t e
+within false (Err (Clock f)) t e = refused_line _ t e
+within false (Ok s) t e = refused_line _ t e
+
+pub asked_turn : (w : World) (n : ℕ) (l : Line) (t : Turn) → asked w n l ≡ Ok t → t ≡ turn_of l
+asked_turn w n l t e = line_turn w l t (within (nat_le n line_most) (asks w l) t e)

@@ -1,0 +1,285 @@
+-- Bytes that come to an end, in whatever pieces: each record that they complete is that of the first call, or answer, on its way.
+use Rattle.std.proofs.Common.{◌≡◌, ℕ, zero, suc, ◌≤◌, List, [], ◌∷◌, ◌++◌, length, take, drop, Option, Some, None, Bool, true, false, refl, sym, ap, ◌∙◌, subst, arith, append-nil, append_assoc}
+use Rattle.std.proofs.lemmas.List.{take-append-drop}
+use Rattle.std.proofs.lemmas.List.Elements.{All-nil, All-cons}
+use Rattle.std.specs.Prelude.{All, map}
+use Rattle.rpc_record.specs.Records.{fed, stream}
+use Rattle.wire.specs.Message.{message_spell, MessageFits}
+use Rattle.wire.specs.declared.message.Message.{Message}
+use Rattle.trace_replay.specs.Core.{Event, Event.Serves, Event.Hears, Turned, numbered, with_numbered, happens}
+use Rattle.trace_replay.specs.World.{World, Wire, bytes_of, happened}
+use Rattle.trace_replay.specs.Delivery.{all_happened, up_taken, up_at, up_some, down_taken, down_at, down_some, up_length, down_length, up_all, round, is_still, passes}
+use Rattle.trace_replay.specs.Trail.{Moment, moments_of, up_moments_at, up_moments, down_moments_at, down_moments, round_moments, passes_moments}
+use Rattle.trace_replay.specs.Book.{book_of}
+use Rattle.kept_promise.specs.Talk.{Ask, Told, Queue, Carries, ask_message, told_message}
+use Rattle.kept_promise.proofs.Statements.{CallFits}
+use Rattle.kept_promise.proofs.Messages.{AllAsks, AllTolds}
+use Rattle.kept_promise.proofs.Facts.{IsKept}
+use Rattle.kept_promise.proofs.Fits.{FitLaws}
+use Rattle.kept_promise.proofs.Turns.{also_numbered, around_with}
+use Rattle.kept_promise.proofs.Leading.{queues_after, CarryAll}
+use Rattle.kept_promise.proofs.Routes.{routes_carry, carry_with}
+use Rattle.kept_promise.proofs.Bytes.{streams_come}
+use Rattle.kept_promise.proofs.Deliveries.{serves_silent, hears_silent}
+use Rattle.kept_promise.proofs.Rounds.{AreRested, rests_up, rests_down}
+use Rattle.kept_promise.proofs.RunsCarried.{KeptLaws, moment, Carried, Stands}
+use Rattle.kept_promise.proofs.RunsQueues.{becomes, there_is, become_same, off_ups, off_downs, served_off, served_has, heard_off, heard_has, ups_next, downs_next}
+use Rattle.kept_promise.proofs.RunsEvents.{Fact, left_by}
+
+-- ---- records and messages
+
+abbrev ask_bytes : Ask → List ℕ
+ask_bytes a = message_spell (ask_message a)
+
+abbrev told_bytes : Told → List ℕ
+told_bytes t = message_spell (told_message t)
+
+spells : {A : Type 0} (f : A → Message) (xs : List A) → map message_spell (map f xs) ≡ map (λ x. message_spell (f x)) xs
+spells f [] = refl
+spells f (x ∷ xs) = ap (λ (z : List (List ℕ)). message_spell (f x) ∷ z) (spells f xs)
+
+-- the first of these records are those of the first messages
+pub record Parted {A : Type 0} (f : A → List ℕ) (xs : List A) (came left : List (List ℕ)) : Type 0 where
+  pub front : List A
+  pub behind : List A
+  pub all : xs ≡ front ++ behind
+  pub came_is : map f front ≡ came
+  pub left_is : map f behind ≡ left
+
+pub parted : {A : Type 0} (f : A → List ℕ) (xs : List A) (came left : List (List ℕ)) → map f xs ≡ came ++ left → Parted f xs came left
+parted f xs [] left e = record { front = []; behind = xs; all = refl; came_is = refl; left_is = e }
+parted f [] (r ∷ rs) left e = absurd (by e)
+  where
+    by : [] ≡ r ∷ (rs ++ left) → ⊥
+    by h = cc
+parted f (x ∷ xs) (r ∷ rs) left e =
+    let p = parted f xs rs left (behind e) in
+    record { front = x ∷ p.front; behind = p.behind; all = ap (λ zs. x ∷ zs) p.all; came_is = ap (λ (z : List (List ℕ)). f x ∷ z) p.came_is ∙ ap (λ (z : List ℕ). z ∷ rs) (first e); left_is = p.left_is }
+  where
+    behind : f x ∷ map f xs ≡ r ∷ (rs ++ left) → map f xs ≡ rs ++ left
+    behind h = cc
+
+    first : f x ∷ map f xs ≡ r ∷ (rs ++ left) → f x ≡ r
+    first h = cc
+
+drop_front : {A : Type 0} (xs ys : List A) → drop (length xs) (xs ++ ys) ≡ ys
+drop_front [] ys = refl
+drop_front (x ∷ xs) ys = drop_front xs ys
+
+pub fits_short : (m : Message) → MessageFits m → length (message_spell m) ≤ 131072
+fits_short m f = let l = f.1 in omega (arith, l)
+
+asks_short : FitLaws → (us : List Ask) → AllAsks (λ a. CallFits a.xid a.call) us → All (λ r. length r ≤ 131072) (map message_spell (map ask_message us))
+asks_short fits [] h = All-nil (λ r. length r ≤ 131072)
+asks_short fits (a ∷ us) h = All-cons (λ r. length r ≤ 131072) (ask_bytes a) (map message_spell (map ask_message us)) (fits_short (ask_message a) (fits.calls a.xid a.call h.0).0) (asks_short fits us h.1)
+
+tolds_short : (ts : List Told) → AllTolds (λ t. MessageFits (told_message t)) ts → All (λ r. length r ≤ 131072) (map message_spell (map told_message ts))
+tolds_short [] h = All-nil (λ r. length r ≤ 131072)
+tolds_short (t ∷ ts) h = All-cons (λ r. length r ≤ 131072) (told_bytes t) (map message_spell (map told_message ts)) (fits_short (told_message t) h.0) (tolds_short ts h.1)
+
+-- a queue's bytes, cut anywhere, are still behind what its end has
+cut_whole : (rest queue bytes : List ℕ) (count : ℕ) → rest ++ queue ≡ bytes → rest ++ (take count queue ++ drop count queue) ≡ bytes
+cut_whole rest queue bytes count e = ap (λ (z : List ℕ). rest ++ z) (take-append-drop count queue) ∙ e
+
+came_of : {A : Type 0} (f : A → Message) (xs : List A) (came left : List (List ℕ)) → map message_spell (map f xs) ≡ came ++ left → map (λ x. message_spell (f x)) xs ≡ came ++ left
+came_of f xs came left e = sym (spells f xs) ∙ e
+
+-- what is left are the bytes of the messages behind
+left_bytes : {A : Type 0} (f : A → Message) (xs : List A) (left : List (List ℕ)) (bytes : List ℕ) → bytes ≡ stream left → map (λ x. message_spell (f x)) xs ≡ left → bytes ≡ bytes_of (map f xs)
+left_bytes f xs left bytes e is = e ∙ ap stream (sym is ∙ sym (spells f xs))
+
+-- a queue without its first calls, or answers
+ups_off : (qs : List Queue) (n : ℕ) (m : Queue) (front behind : List Ask) → numbered qs n ≡ Some m → m.ups ≡ front ++ behind → with_numbered qs n (record m { ups = behind }) ≡ becomes (off_ups (length front)) qs n
+ups_off qs n m front behind at is = ap (λ (z : List Ask). with_numbered qs n (record m { ups = z })) (sym (ap (drop (length front)) is ∙ drop_front front behind)) ∙ there_is (off_ups (length front)) qs n m at
+
+downs_off : (qs : List Queue) (n : ℕ) (m : Queue) (front behind : List Told) → numbered qs n ≡ Some m → m.downs ≡ front ++ behind → with_numbered qs n (record m { downs = behind }) ≡ becomes (off_downs (length front)) qs n
+downs_off qs n m front behind at is = ap (λ (z : List Told). with_numbered qs n (record m { downs = z })) (sym (ap (drop (length front)) is ∙ drop_front front behind)) ∙ there_is (off_downs (length front)) qs n m at
+
+-- ---- what stands while records come
+
+own_there : (qs : List Queue) (n : ℕ) (q r : Queue) → numbered qs n ≡ Some q → numbered (with_numbered qs n r) n ≡ Some r
+own_there qs n q r at = (around_with qs n q r at).there
+
+record Midway (P : Fact) (all past : List Moment) (w : World) : Type 0 where
+  queues : List Queue
+  kept : IsKept (book_of w all) w.core queues
+  carry : CarryAll w.wires queues
+  more : P all past w.opening w.core queues
+
+none_more : (all past : List Moment) (P : List Moment → Type 0) → P past → P (past ++ [])
+none_more all past P h = subst P (sym (append-nil past)) h
+
+-- one moment more, and those behind it
+one_more : (past : List Moment) (m : Moment) (ms : List Moment) (P : List Moment → Type 0) → P ((past ++ m ∷ []) ++ ms) → P (past ++ m ∷ ms)
+one_more past m ms P h = subst P (append_assoc past (m ∷ []) ms) h
+
+next_split : (all past : List Moment) (m : Moment) (ms rest : List Moment) → all ≡ past ++ ((m ∷ ms) ++ rest) → all ≡ (past ++ m ∷ []) ++ (ms ++ rest)
+next_split all past m ms rest e = e ∙ sym (append_assoc past (m ∷ []) (ms ++ rest))
+
+-- ---- up
+
+abbrev serve_events : (n now : ℕ) → List (List ℕ) → List Event
+serve_events n now rs = map (Serves n now) rs
+
+-- the records of the first calls on their way come, where the wires have them no more
+served_all : (P : Fact) → KeptLaws → Carried P → (all past rest : List Moment) (n now : ℕ) (us behind : List Ask) (w : World) (qs : List Queue) (q : Queue)
+    → all ≡ past ++ (moments_of w (serve_events n now (map ask_bytes us)) ++ rest) → IsKept (book_of w all) w.core qs → CarryAll w.wires (becomes (off_ups (length us)) qs n) → P all past w.opening w.core qs → numbered qs n ≡ Some q → q.ups ≡ us ++ behind
+    → Midway P all (past ++ moments_of w (serve_events n now (map ask_bytes us))) (all_happened w (serve_events n now (map ask_bytes us)))
+served_all P l carried all past rest n now [] behind w qs q split kept carry holds at is =
+    none_more all past (λ (z : List Moment). Midway P all z w) (record { queues = qs; kept = kept; carry = subst (CarryAll w.wires) (become_same (off_ups 0) (λ z. refl) qs n) carry; more = holds })
+served_all P l carried all past rest n now (a ∷ us) behind w qs q split kept carry holds at is =
+    let e : Event = Serves n now (ask_bytes a) in
+    let t : Turned = happens w.core e in
+    let m : Moment = moment w.core e in
+    let ms : List Moment = moments_of (happened w e) (serve_events n now (map ask_bytes us)) in
+    let mid : List Queue = with_numbered qs n (record q { ups = us ++ behind }) in
+    let left = left_by P l carried all past (ms ++ rest) w.opening w.core qs e mid split kept (q, a, us ++ behind, at, is, refl, refl) holds in
+    let quiet = serves_silent w.core n now (ask_bytes a) in
+    let after : List Queue = queues_after mid t left.sends in
+    let own : numbered mid n ≡ Some (record q { ups = us ++ behind }) = own_there qs n q (record q { ups = us ++ behind }) at in
+    let has = served_has mid t left.sends quiet.0 quiet.1 n (record q { ups = us ++ behind }) own in
+    let less : CarryAll w.wires (becomes (off_ups (length us)) mid n) = subst (CarryAll w.wires) (ups_next qs (length us) n q a (us ++ behind) at is) carry in
+    let sent : CarryAll (happened w e).wires (becomes (off_ups (length us)) after n) = subst (CarryAll (happened w e).wires) (served_off (length us) n mid t left.sends quiet.0 quiet.1) (routes_carry w.wires (becomes (off_ups (length us)) mid n) t left.sends less) in
+    one_more past m ms (λ (z : List Moment). Midway P all z (all_happened (happened w e) (serve_events n now (map ask_bytes us))))
+    (served_all P l carried all (past ++ m ∷ []) rest n now us behind (happened w e) after has.0 (next_split all past m ms rest split) left.kept sent left.more has.1 has.2)
+
+pub up_stands : (P : Fact) → KeptLaws → FitLaws → Carried P → (all past rest : List Moment) (w : World) (n count now : ℕ) → all ≡ past ++ (up_moments w n count now ++ rest) → Stands P all past w → Stands P all (past ++ up_moments w n count now) (up_some w n count now)
+up_stands P l fits carried all past rest w n count now split h = by (numbered w.wires n) refl split
+  where
+    some : (q : Wire) → numbered w.wires n ≡ Some q → all ≡ past ++ (up_moments_at w n count now (Some q) ++ rest) → Midway P all (past ++ up_moments_at w n count now (Some q)) (up_at w n count now (Some q))
+    some q at split =
+        let there = also_numbered w.wires h.queues n q (sym h.carry.0) at in
+        let m : Queue = there.0 in
+        let x = also_numbered h.queues w.core.sessions n m (sym h.kept.made.1) there.1 in
+        let session = h.kept.sessions n x.0 m x.1 there.1 in
+        let c = h.carry.1 n q m at there.1 in
+        let r = fed q.server_end (take count q.up) in
+        let whole = cut_whole q.server_end.rest q.up (bytes_of (map ask_message m.ups)) count c.up in
+        let comes = streams_come q.server_end (take count q.up) (drop count q.up) (map message_spell (map ask_message m.ups)) (asks_short fits m.ups session.ups_fit) c.up_sound whole in
+        let p = parted ask_bytes m.ups r.1.records comes.left (came_of ask_message m.ups r.1.records comes.left comes.all) in
+        let carries : Carries (record q { up = drop count q.up; server_end = r.0 }) (record m { ups = p.behind }) = record {
+          up_sound = comes.sound;
+          up = left_bytes ask_message p.behind comes.left (r.0.rest ++ drop count q.up) comes.queued p.left_is;
+          down_sound = c.down_sound;
+          down = c.down;
+        } in
+        let wires : List Wire = (up_taken w n count q).wires in
+        let set : CarryAll wires (with_numbered h.queues n (record m { ups = p.behind })) = carry_with w.wires h.queues n q (record q { up = drop count q.up; server_end = r.0 }) m (record m { ups = p.behind }) h.carry at there.1 carries in
+        let off = ups_off h.queues n m p.front p.behind there.1 p.all in
+        let same = p.came_is in
+        subst (λ (z : List (List ℕ)). Midway P all (past ++ moments_of (up_taken w n count q) (serve_events n now z)) (all_happened (up_taken w n count q) (serve_events n now z))) same
+        (served_all P l carried all past rest n now p.front p.behind (up_taken w n count q) h.queues m
+        (subst (λ (z : List (List ℕ)). all ≡ past ++ (moments_of (up_taken w n count q) (serve_events n now z) ++ rest)) (sym same) split)
+        h.kept (subst (CarryAll wires) off set) h.more there.1 p.all)
+
+    rest_of : (ms : List Moment) (v : World) → up_some w n count now ≡ v → Midway P all ms v → Stands P all ms v
+    rest_of ms v e m = record { queues = m.queues; kept = m.kept; carry = m.carry; rested = subst (λ (z : World). AreRested z.wires) e (rests_up w n count now h.rested); more = m.more }
+
+    by : (o : Option Wire) → numbered w.wires n ≡ o → all ≡ past ++ (up_moments_at w n count now o ++ rest) → Stands P all (past ++ up_moments_at w n count now o) (up_at w n count now o)
+    by None at split = none_more all past (λ (z : List Moment). Stands P all z w) h
+    by (Some q) at split = rest_of (past ++ up_moments_at w n count now (Some q)) (up_at w n count now (Some q)) (ap (up_at w n count now) at) (some q at split)
+
+-- ---- down
+
+abbrev hear_events : (n now : ℕ) → List (List ℕ) → List Event
+hear_events n now rs = map (Hears n now) rs
+
+-- the records of the first answers on their way come, where the wires have them no more
+heard_all : (P : Fact) → KeptLaws → Carried P → (all past rest : List Moment) (n now : ℕ) (ts behind : List Told) (w : World) (qs : List Queue) (q : Queue)
+    → all ≡ past ++ (moments_of w (hear_events n now (map told_bytes ts)) ++ rest) → IsKept (book_of w all) w.core qs → CarryAll w.wires (becomes (off_downs (length ts)) qs n) → P all past w.opening w.core qs → numbered qs n ≡ Some q → q.downs ≡ ts ++ behind
+    → Midway P all (past ++ moments_of w (hear_events n now (map told_bytes ts))) (all_happened w (hear_events n now (map told_bytes ts)))
+heard_all P l carried all past rest n now [] behind w qs q split kept carry holds at is =
+    none_more all past (λ (z : List Moment). Midway P all z w) (record { queues = qs; kept = kept; carry = subst (CarryAll w.wires) (become_same (off_downs 0) (λ z. refl) qs n) carry; more = holds })
+heard_all P l carried all past rest n now (t ∷ ts) behind w qs q split kept carry holds at is =
+    let e : Event = Hears n now (told_bytes t) in
+    let u : Turned = happens w.core e in
+    let m : Moment = moment w.core e in
+    let ms : List Moment = moments_of (happened w e) (hear_events n now (map told_bytes ts)) in
+    let mid : List Queue = with_numbered qs n (record q { downs = ts ++ behind }) in
+    let left = left_by P l carried all past (ms ++ rest) w.opening w.core qs e mid split kept (q, t, ts ++ behind, at, is, refl, refl) holds in
+    let quiet = hears_silent w.core n now (told_bytes t) in
+    let after : List Queue = queues_after mid u left.sends in
+    let own : numbered mid n ≡ Some (record q { downs = ts ++ behind }) = own_there qs n q (record q { downs = ts ++ behind }) at in
+    let has = heard_has mid u left.sends quiet.0 quiet.1 n (record q { downs = ts ++ behind }) own in
+    let less : CarryAll w.wires (becomes (off_downs (length ts)) mid n) = subst (CarryAll w.wires) (downs_next qs (length ts) n q t (ts ++ behind) at is) carry in
+    let sent : CarryAll (happened w e).wires (becomes (off_downs (length ts)) after n) = subst (CarryAll (happened w e).wires) (heard_off (length ts) n mid u left.sends quiet.0 quiet.1) (routes_carry w.wires (becomes (off_downs (length ts)) mid n) u left.sends less) in
+    one_more past m ms (λ (z : List Moment). Midway P all z (all_happened (happened w e) (hear_events n now (map told_bytes ts))))
+    (heard_all P l carried all (past ++ m ∷ []) rest n now ts behind (happened w e) after has.0 (next_split all past m ms rest split) left.kept sent left.more has.1 has.2)
+
+pub down_stands : (P : Fact) → KeptLaws → Carried P → (all past rest : List Moment) (w : World) (n count now : ℕ) → all ≡ past ++ (down_moments w n count now ++ rest) → Stands P all past w → Stands P all (past ++ down_moments w n count now) (down_some w n count now)
+down_stands P l carried all past rest w n count now split h = by (numbered w.wires n) refl split
+  where
+    some : (q : Wire) → numbered w.wires n ≡ Some q → all ≡ past ++ (down_moments_at w n count now (Some q) ++ rest) → Midway P all (past ++ down_moments_at w n count now (Some q)) (down_at w n count now (Some q))
+    some q at split =
+        let there = also_numbered w.wires h.queues n q (sym h.carry.0) at in
+        let m : Queue = there.0 in
+        let x = also_numbered h.queues w.core.sessions n m (sym h.kept.made.1) there.1 in
+        let session = h.kept.sessions n x.0 m x.1 there.1 in
+        let c = h.carry.1 n q m at there.1 in
+        let r = fed q.client_end (take count q.down) in
+        let whole = cut_whole q.client_end.rest q.down (bytes_of (map told_message m.downs)) count c.down in
+        let comes = streams_come q.client_end (take count q.down) (drop count q.down) (map message_spell (map told_message m.downs)) (tolds_short m.downs session.downs_fit) c.down_sound whole in
+        let p = parted told_bytes m.downs r.1.records comes.left (came_of told_message m.downs r.1.records comes.left comes.all) in
+        let carries : Carries (record q { down = drop count q.down; client_end = r.0 }) (record m { downs = p.behind }) = record {
+          up_sound = c.up_sound;
+          up = c.up;
+          down_sound = comes.sound;
+          down = left_bytes told_message p.behind comes.left (r.0.rest ++ drop count q.down) comes.queued p.left_is;
+        } in
+        let wires : List Wire = (down_taken w n count q).wires in
+        let set : CarryAll wires (with_numbered h.queues n (record m { downs = p.behind })) = carry_with w.wires h.queues n q (record q { down = drop count q.down; client_end = r.0 }) m (record m { downs = p.behind }) h.carry at there.1 carries in
+        let off = downs_off h.queues n m p.front p.behind there.1 p.all in
+        let same = p.came_is in
+        subst (λ (z : List (List ℕ)). Midway P all (past ++ moments_of (down_taken w n count q) (hear_events n now z)) (all_happened (down_taken w n count q) (hear_events n now z))) same
+        (heard_all P l carried all past rest n now p.front p.behind (down_taken w n count q) h.queues m
+        (subst (λ (z : List (List ℕ)). all ≡ past ++ (moments_of (down_taken w n count q) (hear_events n now z) ++ rest)) (sym same) split)
+        h.kept (subst (CarryAll wires) off set) h.more there.1 p.all)
+
+    rest_of : (ms : List Moment) (v : World) → down_some w n count now ≡ v → Midway P all ms v → Stands P all ms v
+    rest_of ms v e m = record { queues = m.queues; kept = m.kept; carry = m.carry; rested = subst (λ (z : World). AreRested z.wires) e (rests_down w n count now h.rested); more = m.more }
+
+    by : (o : Option Wire) → numbered w.wires n ≡ o → all ≡ past ++ (down_moments_at w n count now o ++ rest) → Stands P all (past ++ down_moments_at w n count now o) (down_at w n count now o)
+    by None at split = none_more all past (λ (z : List Moment). Stands P all z w) h
+    by (Some q) at split = rest_of (past ++ down_moments_at w n count now (Some q)) (down_at w n count now (Some q)) (ap (down_at w n count now) at) (some q at split)
+
+-- ---- rounds
+
+-- two runs of moments, one behind the other
+both_split : (all past ms ns rest : List Moment) → all ≡ past ++ ((ms ++ ns) ++ rest) → all ≡ past ++ (ms ++ (ns ++ rest))
+both_split all past ms ns rest e = e ∙ ap (λ (z : List Moment). past ++ z) (append_assoc ms ns rest)
+
+then_split : (all past ms ns rest : List Moment) → all ≡ past ++ ((ms ++ ns) ++ rest) → all ≡ (past ++ ms) ++ (ns ++ rest)
+then_split all past ms ns rest e = both_split all past ms ns rest e ∙ sym (append_assoc past ms (ns ++ rest))
+
+both_past : (P : List Moment → Type 0) (past ms ns : List Moment) → P ((past ++ ms) ++ ns) → P (past ++ (ms ++ ns))
+both_past P past ms ns h = subst P (append_assoc past ms ns) h
+
+round_stands : (P : Fact) → KeptLaws → FitLaws → Carried P → (all past rest : List Moment) (w : World) (n server at : ℕ) → all ≡ past ++ (round_moments w n server at ++ rest) → Stands P all past w → Stands P all (past ++ round_moments w n server at) (round w n server at)
+round_stands P l fits carried all past rest w n server at split h =
+    let v : World = up_all w n server in
+    let ms : List Moment = up_moments w n (up_length (numbered w.wires n)) server in
+    let ns : List Moment = down_moments v n (down_length (numbered v.wires n)) at in
+    let first = up_stands P l fits carried all past (ns ++ rest) w n (up_length (numbered w.wires n)) server (both_split all past ms ns rest split) h in
+    both_past (λ (z : List Moment). Stands P all z (round w n server at)) past ms ns
+    (down_stands P l carried all (past ++ ms) rest v n (down_length (numbered v.wires n)) at (then_split all past ms ns rest split) first)
+
+abbrev moments_if : (k : ℕ) → World → (n server at : ℕ) → (still : Bool) → List Moment
+moments_if k w n server at b = elim b as (λ (x : Bool). List Moment) [ true ↦ [] | false ↦ round_moments w n server at ++ passes_moments k (round w n server at) n server at ]
+
+abbrev passes_if : (k : ℕ) → World → (n server at : ℕ) → (still : Bool) → World
+passes_if k w n server at b = elim b as (λ (x : Bool). World) [ true ↦ w | false ↦ passes k (round w n server at) n server at ]
+
+pub passes_stand : (P : Fact) → KeptLaws → FitLaws → Carried P → (k : ℕ) (all past rest : List Moment) (w : World) (n server at : ℕ) → all ≡ past ++ (passes_moments k w n server at ++ rest) → Stands P all past w → Stands P all (past ++ passes_moments k w n server at) (passes k w n server at)
+passes_stand P l fits carried zero all past rest w n server at split h = none_more all past (λ (z : List Moment). Stands P all z w) h
+passes_stand P l fits carried (suc k) all past rest w n server at split h =
+    by (is_still w n) (λ before. passes_stand P l fits carried k all before rest (round w n server at) n server at) split
+  where
+    by : (b : Bool)
+        → ((before : List Moment) → all ≡ before ++ (passes_moments k (round w n server at) n server at ++ rest) → Stands P all before (round w n server at) → Stands P all (before ++ passes_moments k (round w n server at) n server at) (passes k (round w n server at) n server at))
+        → all ≡ past ++ (moments_if k w n server at b ++ rest) → Stands P all (past ++ moments_if k w n server at b) (passes_if k w n server at b)
+    by true go split = none_more all past (λ (z : List Moment). Stands P all z w) h
+    by false go split =
+        let ms : List Moment = round_moments w n server at in
+        let ns : List Moment = passes_moments k (round w n server at) n server at in
+        let one = round_stands P l fits carried all past (ns ++ rest) w n server at (both_split all past ms ns rest split) h in
+        both_past (λ (z : List Moment). Stands P all z (passes k (round w n server at) n server at)) past ms ns (go (past ++ ms) (then_split all past ms ns rest split) one)

@@ -1,0 +1,99 @@
+-- One event of a run: what it leaves is kept, and the wires carry what is on its way.
+use Rattle.std.proofs.Common.{◌≡◌, ℕ, zero, List, [], ◌∷◌, ◌++◌, refl, sym, ap, ◌∙◌, subst, arith}
+use Rattle.std.proofs.lemmas.List.Elements.{Contains-append_left, Contains-append_right}
+use Rattle.std.proofs.lemmas.Grind.{flat_map-append}
+use Rattle.std.specs.Prelude.{Contains, flat_map}
+use Rattle.server_core.specs.declared.journal.Entry.{Entry}
+use Rattle.register_model.specs.declared.op.Op.{Op}
+use Rattle.register_model.specs.declared.op.Opening.{Opening}
+use Rattle.trace_replay.specs.Core.{Core, Seat, Event, Event.Joins, Event.Does, Event.Serves, Event.Hears, Event.Settles, Event.Cuts, Event.Hangs, Turned, with_numbered, happens}
+use Rattle.trace_replay.specs.World.{World, happened}
+use Rattle.trace_replay.specs.Trail.{Moment, hashed_in, hashed_of, hashed_by}
+use Rattle.trace_replay.specs.Book.{Book}
+use Rattle.kept_promise.specs.Talk.{Queue}
+use Rattle.kept_promise.proofs.Lists.{some_is}
+use Rattle.kept_promise.proofs.Facts.{IsKept}
+use Rattle.kept_promise.proofs.Leading.{Sends, queues_after, IsNoted, Leads}
+use Rattle.kept_promise.proofs.Routes.{routes_carry}
+use Rattle.kept_promise.proofs.Rounds.{rests_happened}
+use Rattle.kept_promise.proofs.RunsCarried.{KeptLaws, book_at, moment, Finds, Carried, Stands}
+
+abbrev pub Fact : Type 1
+Fact = (all past : List Moment) → List Opening → Core → List Queue → Type 0
+
+-- ---- the moment is noted
+
+here : {A : Type 0} (x : A) (xs : List A) → Contains (x ∷ xs) x
+here x xs = (zero, omega arith, refl)
+
+noted_of : (all past rest : List Moment) (opening : List Opening) (k : Core) (e : Event) → all ≡ past ++ moment k e ∷ rest → IsNoted (book_at opening k all) k e
+noted_of all past rest opening k e split = record {
+  there = subst (λ (l : List Moment). Contains l (moment k e)) (sym split) (Contains-append_right past (moment k e ∷ rest) (moment k e) (here (moment k e) rest));
+  hashed = λ b at.
+      let own = Contains-append_left (hashed_by k e) (flat_map hashed_in rest) b at in
+      let behind = Contains-append_right (flat_map hashed_in past) (hashed_by k e ++ flat_map hashed_in rest) b own in
+      subst (λ (l : List Moment). Contains (hashed_of l) b) (sym split) (subst (λ (l : List (List ℕ)). Contains l b) (sym (flat_map-append hashed_in past (moment k e ∷ rest))) behind);
+}
+
+-- ---- the book that an event leads to is that of what it leaves
+
+same_book : (more : Book) (opening : List Opening) (k : Core) (all : List Moment) → more.opening ≡ opening → more.ops ≡ k.ops → more.steps ≡ k.steps → more.journal ≡ k.server.journal → more.entries ≡ k.entries → more.moments ≡ all → more ≡ book_at opening k all
+same_book more opening k all o p s j e m =
+    ap (λ (z : List Opening). record more { opening = z }) o
+    ∙ ap (λ (z : List Op). record { opening = opening; ops = z; steps = more.steps; journal = more.journal; entries = more.entries; moments = more.moments }) p
+    ∙ ap (λ (z : ℕ). record { opening = opening; ops = k.ops; steps = z; journal = more.journal; entries = more.entries; moments = more.moments }) s
+    ∙ ap (λ (z : List Entry). record { opening = opening; ops = k.ops; steps = k.steps; journal = z; entries = more.entries; moments = more.moments }) j
+    ∙ ap (λ (z : List ℕ). record { opening = opening; ops = k.ops; steps = k.steps; journal = k.server.journal; entries = z; moments = more.moments }) e
+    ∙ ap (λ (z : List Moment). record { opening = opening; ops = k.ops; steps = k.steps; journal = k.server.journal; entries = k.entries; moments = z }) m
+
+-- ---- any event
+
+leads_of : KeptLaws → (book : Book) (k : Core) (qs : List Queue) (e : Event) (mid : List Queue) → IsKept book k qs → Finds k qs e mid → IsNoted book k e → Leads book mid (happens k e)
+leads_of l book k qs (Joins c) mid kept f noted =
+    subst (λ (z : List Queue). Leads book z (happens k (Joins c))) (sym f.5) (l.joins book k qs c kept noted f.3 f.4 (λ seat at. ap (λ (z : Seat). z.client.linked) (some_is seat f.0 (sym at ∙ f.1)) ∙ f.2))
+leads_of l book k qs (Does c now d) mid kept f noted = subst (λ (z : List Queue). Leads book z (happens k (Does c now d))) (sym f.3) (l.does book k qs c now d f.2 kept noted)
+leads_of l book k qs (Serves n now bytes) mid kept f noted =
+    let is = f.5 in
+    subst (λ (z : List Queue). Leads book z (happens k (Serves n now bytes))) (sym f.6)
+    (subst (λ (b : List ℕ). Leads book (with_numbered qs n (record f.0 { ups = f.2 })) (happens k (Serves n now b))) (sym is)
+    (l.serves book k qs n now f.0 f.1 f.2 kept f.3 f.4 (subst (λ (b : List ℕ). IsNoted book k (Serves n now b)) is noted)))
+leads_of l book k qs (Hears n now bytes) mid kept f noted =
+    let is = f.5 in
+    subst (λ (z : List Queue). Leads book z (happens k (Hears n now bytes))) (sym f.6)
+    (subst (λ (b : List ℕ). Leads book (with_numbered qs n (record f.0 { downs = f.2 })) (happens k (Hears n now b))) (sym is)
+    (l.hears book k qs n now f.0 f.1 f.2 kept f.3 f.4 (subst (λ (b : List ℕ). IsNoted book k (Hears n now b)) is noted)))
+leads_of l book k qs (Settles now) mid kept f noted = subst (λ (z : List Queue). Leads book z (happens k (Settles now))) (sym f) (l.settles book k qs now kept noted)
+leads_of l book k qs (Cuts c) mid kept f noted = subst (λ (z : List Queue). Leads book z (happens k (Cuts c))) (sym f.2) (l.cuts book k qs c kept noted)
+leads_of l book k qs (Hangs n) mid kept f noted = subst (λ (z : List Queue). Leads book z (happens k (Hangs n))) (sym f.2) (l.hangs book k qs n kept noted)
+
+-- what an event leaves, apart from the wires
+pub record Left (P : Fact) (all past : List Moment) (opening : List Opening) (k : Core) (e : Event) (mid : List Queue) : Type 0 where
+  pub sends : Sends (happens k e)
+  pub kept : IsKept (book_at opening (happens k e).core all) (happens k e).core (queues_after mid (happens k e) sends)
+  pub more : P all (past ++ moment k e ∷ []) opening (happens k e).core (queues_after mid (happens k e) sends)
+
+pub left_by : (P : Fact) → KeptLaws → Carried P → (all past rest : List Moment) (opening : List Opening) (k : Core) (qs : List Queue) (e : Event) (mid : List Queue) → all ≡ past ++ moment k e ∷ rest → IsKept (book_at opening k all) k qs → Finds k qs e mid → P all past opening k qs → Left P all past opening k e mid
+left_by P l carried all past rest opening k qs e mid split kept finds holds =
+    let noted = noted_of all past rest opening k e split in
+    let lead = leads_of l (book_at opening k all) k qs e mid kept finds noted in
+    let t : Turned = happens k e in
+    let same : lead.more ≡ book_at opening t.core all = same_book lead.more opening t.core all lead.opening lead.kept.ops lead.kept.steps lead.kept.journal lead.kept.entries lead.moments in
+    let left = subst (λ (b : Book). IsKept b t.core (queues_after mid t lead.sends)) same lead.kept in
+    record {
+      sends = lead.sends;
+      kept = left;
+      more = carried.steps all past rest opening k qs e mid (queues_after mid t lead.sends) (record { split = split; kept = kept; noted = noted; finds = finds; sends = lead.sends; after_is = refl; left = left }) holds;
+    }
+
+-- ---- an event that takes no record
+
+pub event_stands : (P : Fact) → KeptLaws → Carried P → (all past rest : List Moment) (w : World) (e : Event) → (h : Stands P all past w) → all ≡ past ++ moment w.core e ∷ rest → Finds w.core h.queues e h.queues → Stands P all (past ++ moment w.core e ∷ []) (happened w e)
+event_stands P l carried all past rest w e h split finds =
+    let left = left_by P l carried all past rest w.opening w.core h.queues e h.queues split h.kept finds h.more in
+    record {
+      queues = queues_after h.queues (happens w.core e) left.sends;
+      kept = left.kept;
+      carry = routes_carry w.wires h.queues (happens w.core e) left.sends h.carry;
+      rested = rests_happened w e h.rested;
+      more = left.more;
+    }

@@ -1,0 +1,327 @@
+-- What a line that is taken asks for: it names what is there, within the limits, and its numbers are of 64 bits.
+use Rattle.std.proofs.Common.{◌≡◌, ℕ, ◌+◌, ◌^◌, ◌<◌, ◌≤◌, List, [], ◌∷◌, length, Option, Some, None, Bool, true, false, refl, ap, ◌∙◌, subst, arith}
+use Rattle.std.proofs.lemmas.Bool.Decides.{nat_tests}
+use Rattle.std.specs.Prelude.{Result, Ok, Err, nat_lt, nat_le, if◌then◌else◌, codes, bytes_eq, drop, take}
+use Rattle.command_text.specs.Commands.{command_of, open_of, write_of, trunc_of, read_of, close_of, abandon_of}
+use Rattle.command_text.specs.Content.{content_length}
+use Rattle.command_text.specs.Fields.{◌>>=◌, value_from, is_decimal, value_of, number_of, number_within, name_of, content_of, id_of}
+use Rattle.command_text.specs.Parts.{words_of}
+use Rattle.command_text.specs.declared.command.Command.{Command}
+use Rattle.command_text.specs.declared.command.Command.TheVariants as command
+use Rattle.command_text.specs.declared.content.Part.{Part}
+use Rattle.trace_text.specs.Fields.{reading_of, amount_of}
+use Rattle.trace_text.specs.Grammar.{version_of, term_of, drift_of, clients_of, file_of, join_of, do_of, up_of, down_of, pass_of, settle_of, cut_of, hang_of, event_from, line_from, said_by, is_skipped, line_of}
+use Rattle.trace_text.specs.declared.line.Line.{Line}
+use Rattle.trace_text.specs.declared.line.Line.TheVariants as line
+use Rattle.trace_text.specs.declared.refusal.LineFault.{LineFault}
+use Rattle.trace_text.specs.declared.refusal.LineFault.TheVariants.{Grammar, Limit, Clock}
+use Rattle.trace_replay.specs.declared.link.Stage.{Stage}
+use Rattle.trace_replay.specs.declared.link.Stage.TheVariants as stage
+use Rattle.trace_replay.specs.declared.turn.Turn.{Turn}
+use Rattle.trace_replay.specs.declared.turn.Turn.TheVariants as turn
+use Rattle.trace_replay.specs.Commands as commands
+use Rattle.trace_replay.specs.Names.{has_name}
+use Rattle.trace_replay.specs.Core.{Seat, Session, numbered}
+use Rattle.trace_replay.specs.World.{World}
+use Rattle.trace_replay.specs.Run.{line_most, file_most, tree_most, sessions_most, is_there, asks_if, sized, named, joins_if, joins_within, event_asks, asks_at, asks, asks_within, asked}
+
+-- ---- numbers of a text
+
+-- what is read, if anything, is such
+abbrev Gives : {A : Type 0} → (A → Type 0) → Option A → Type 0
+Gives P o = (x : _) → o ≡ Some x → P x
+
+gives_some : {A : Type 0} (P : A → Type 0) (x : A) → P x → Gives P (Some x)
+gives_some P x h y e = subst P (by e) h
+  where
+    by : Some x ≡ Some y → x ≡ y
+    by q = cc
+
+gives_none : {A : Type 0} (P : A → Type 0) → Gives P None
+gives_none P y e = absurd cc
+
+gives_if : {A : Type 0} (P : A → Type 0) (b : Bool) (x y : Option A) → Gives P x → Gives P y → Gives P (if b then x else y)
+gives_if P true x y g h = g
+gives_if P false x y g h = h
+
+gives_after : {A B : Type 0} (Q : A → Type 0) (P : B → Type 0) (o : Option A) (f : A → Option B) → Gives Q o → ((x : A) → Q x → Gives P (f x)) → Gives P (o >>= f)
+gives_after Q P None f g h = gives_none P
+gives_after Q P (Some x) f g h = h x (g x refl)
+
+gives_then : {A B : Type 0} (P : B → Type 0) (o : Option A) (f : A → Option B) → ((x : A) → Gives P (f x)) → Gives P (o >>= f)
+gives_then P None f h = gives_none P
+gives_then P (Some x) f h = h x
+
+small_of : (v : ℕ) (b : Bool) → nat_lt v (2 ^ 64) ≡ b → Gives (λ n. n < 18446744073709551616) (if b then Some v else None)
+small_of v true e = gives_some (λ n. n < 18446744073709551616) v (grind (arith, nat_tests, e))
+small_of v false e = gives_none (λ n. n < 18446744073709551616)
+
+number_small : (word : List ℕ) → Gives (λ n. n < 18446744073709551616) (number_of word)
+number_small word = gives_if (λ n. n < 18446744073709551616) (is_decimal word) (value_of word) None (small_of (value_from 0 word) (nat_lt (value_from 0 word) (2 ^ 64)) refl) (gives_none (λ n. n < 18446744073709551616))
+
+id_small : (word : List ℕ) → Gives (λ n. n < 18446744073709551616) (id_of word)
+id_small word = gives_if (λ n. n < 18446744073709551616) (bytes_eq (take 1 word) (codes "#")) (number_of (drop 1 word)) None (number_small (drop 1 word)) (gives_none (λ n. n < 18446744073709551616))
+
+-- ---- a command that was read
+
+abbrev pub IsSmall : Command → Type 0
+IsSmall d = commands.file_of d < 18446744073709551616
+
+open_small : (words : List (List ℕ)) → Gives IsSmall (open_of words)
+open_small [] = gives_none IsSmall
+open_small (place ∷ []) = gives_after (λ n. n < 18446744073709551616) IsSmall (id_of place) _ (id_small place) (λ n h. gives_some IsSmall (command.Open n) h)
+open_small (place ∷ w ∷ ws) = gives_none IsSmall
+
+close_small : (words : List (List ℕ)) → Gives IsSmall (close_of words)
+close_small [] = gives_none IsSmall
+close_small (place ∷ []) = gives_after (λ n. n < 18446744073709551616) IsSmall (id_of place) _ (id_small place) (λ n h. gives_some IsSmall (command.Close n) h)
+close_small (place ∷ w ∷ ws) = gives_none IsSmall
+
+abandon_small : (words : List (List ℕ)) → Gives IsSmall (abandon_of words)
+abandon_small [] = gives_none IsSmall
+abandon_small (place ∷ []) = gives_after (λ n. n < 18446744073709551616) IsSmall (id_of place) _ (id_small place) (λ n h. gives_some IsSmall (command.Abandon n) h)
+abandon_small (place ∷ w ∷ ws) = gives_none IsSmall
+
+write_small : (words : List (List ℕ)) → Gives IsSmall (write_of words)
+write_small [] = gives_none IsSmall
+write_small (place ∷ []) = gives_none IsSmall
+write_small (place ∷ offset ∷ []) = gives_none IsSmall
+write_small (place ∷ offset ∷ content ∷ []) =
+    gives_after (λ n. n < 18446744073709551616) IsSmall (id_of place) _ (id_small place) (λ f h. gives_then IsSmall (number_of offset) _ (λ o. gives_then IsSmall (content_of content) _ (λ c. gives_some IsSmall (command.Write f o c) h)))
+write_small (place ∷ offset ∷ content ∷ w ∷ ws) = gives_none IsSmall
+
+trunc_small : (words : List (List ℕ)) → Gives IsSmall (trunc_of words)
+trunc_small [] = gives_none IsSmall
+trunc_small (place ∷ []) = gives_none IsSmall
+trunc_small (place ∷ size ∷ []) = gives_after (λ n. n < 18446744073709551616) IsSmall (id_of place) _ (id_small place) (λ f h. gives_then IsSmall (number_of size) _ (λ n. gives_some IsSmall (command.Trunc f n) h))
+trunc_small (place ∷ size ∷ w ∷ ws) = gives_none IsSmall
+
+read_small : (words : List (List ℕ)) → Gives IsSmall (read_of words)
+read_small [] = gives_none IsSmall
+read_small (place ∷ []) = gives_none IsSmall
+read_small (place ∷ offset ∷ []) = gives_none IsSmall
+read_small (place ∷ offset ∷ count ∷ []) =
+    gives_after (λ n. n < 18446744073709551616) IsSmall (id_of place) _ (id_small place) (λ f h. gives_then IsSmall (number_of offset) _ (λ o. gives_then IsSmall (number_of count) _ (λ n. gives_some IsSmall (command.Read f o n) h)))
+read_small (place ∷ offset ∷ count ∷ w ∷ ws) = gives_none IsSmall
+
+command_small : (word : List ℕ) (words : List (List ℕ)) → Gives IsSmall (command_of word words)
+command_small word words =
+    gives_if IsSmall (bytes_eq word (codes "open")) _ _ (open_small words)
+    (gives_if IsSmall (bytes_eq word (codes "write")) _ _ (write_small words)
+    (gives_if IsSmall (bytes_eq word (codes "trunc")) _ _ (trunc_small words)
+    (gives_if IsSmall (bytes_eq word (codes "read")) _ _ (read_small words)
+    (gives_if IsSmall (bytes_eq word (codes "close")) _ _ (close_small words)
+    (gives_if IsSmall (bytes_eq word (codes "abandon")) _ _ (abandon_small words) (gives_none IsSmall))))))
+
+-- ---- a line that was read
+
+abbrev pub LineFits : Line → Type 0
+LineFits (line.Do c r d) = IsSmall d
+LineFits l = Unit {0}
+
+do_fits : (words : List (List ℕ)) → Gives LineFits (do_of words)
+do_fits [] = gives_none LineFits
+do_fits (client ∷ []) = gives_none LineFits
+do_fits (client ∷ at ∷ []) = gives_none LineFits
+do_fits (client ∷ at ∷ word ∷ words) =
+    gives_then LineFits (number_of client) _ (λ c. gives_then LineFits (reading_of at) _ (λ a. gives_after IsSmall LineFits (command_of word words) _ (command_small word words) (λ d h. gives_some LineFits (line.Do c a d) h)))
+
+version_fits : (words : List (List ℕ)) → Gives LineFits (version_of words)
+version_fits [] = gives_none LineFits
+version_fits (v ∷ []) = gives_if LineFits (bytes_eq v (codes "1")) _ _ (gives_some LineFits line.Version tt) (gives_none LineFits)
+version_fits (v ∷ w ∷ ws) = gives_none LineFits
+
+term_fits : (words : List (List ℕ)) → Gives LineFits (term_of words)
+term_fits [] = gives_none LineFits
+term_fits (v ∷ []) = gives_then LineFits (number_within 1 3600000 v) _ (λ n. gives_some LineFits (line.Term n) tt)
+term_fits (v ∷ w ∷ ws) = gives_none LineFits
+
+drift_fits : (words : List (List ℕ)) → Gives LineFits (drift_of words)
+drift_fits [] = gives_none LineFits
+drift_fits (v ∷ []) = gives_then LineFits (number_within 0 3600000 v) _ (λ n. gives_some LineFits (line.Drift n) tt)
+drift_fits (v ∷ w ∷ ws) = gives_none LineFits
+
+clients_fits : (words : List (List ℕ)) → Gives LineFits (clients_of words)
+clients_fits [] = gives_none LineFits
+clients_fits (v ∷ []) = gives_then LineFits (number_within 1 16 v) _ (λ n. gives_some LineFits (line.Clients n) tt)
+clients_fits (v ∷ w ∷ ws) = gives_none LineFits
+
+file_fits : (words : List (List ℕ)) → Gives LineFits (file_of words)
+file_fits [] = gives_none LineFits
+file_fits (name ∷ []) = gives_none LineFits
+file_fits (name ∷ content ∷ []) = gives_then LineFits (name_of name) _ (λ n. gives_then LineFits (content_of content) _ (λ c. gives_some LineFits (line.File n c) tt))
+file_fits (name ∷ content ∷ w ∷ ws) = gives_none LineFits
+
+join_fits : (words : List (List ℕ)) → Gives LineFits (join_of words)
+join_fits [] = gives_none LineFits
+join_fits (a ∷ []) = gives_none LineFits
+join_fits (a ∷ b ∷ []) = gives_none LineFits
+join_fits (a ∷ b ∷ c ∷ []) = gives_then LineFits (number_of a) _ (λ x. gives_then LineFits (reading_of b) _ (λ y. gives_then LineFits (reading_of c) _ (λ z. gives_some LineFits (line.Join x y z) tt)))
+join_fits (a ∷ b ∷ c ∷ w ∷ ws) = gives_none LineFits
+
+up_fits : (words : List (List ℕ)) → Gives LineFits (up_of words)
+up_fits [] = gives_none LineFits
+up_fits (a ∷ []) = gives_none LineFits
+up_fits (a ∷ b ∷ []) = gives_none LineFits
+up_fits (a ∷ b ∷ c ∷ []) = gives_then LineFits (number_of a) _ (λ x. gives_then LineFits (amount_of b) _ (λ y. gives_then LineFits (reading_of c) _ (λ z. gives_some LineFits (line.Up x y z) tt)))
+up_fits (a ∷ b ∷ c ∷ w ∷ ws) = gives_none LineFits
+
+down_fits : (words : List (List ℕ)) → Gives LineFits (down_of words)
+down_fits [] = gives_none LineFits
+down_fits (a ∷ []) = gives_none LineFits
+down_fits (a ∷ b ∷ []) = gives_none LineFits
+down_fits (a ∷ b ∷ c ∷ []) = gives_then LineFits (number_of a) _ (λ x. gives_then LineFits (amount_of b) _ (λ y. gives_then LineFits (reading_of c) _ (λ z. gives_some LineFits (line.Down x y z) tt)))
+down_fits (a ∷ b ∷ c ∷ w ∷ ws) = gives_none LineFits
+
+pass_fits : (words : List (List ℕ)) → Gives LineFits (pass_of words)
+pass_fits [] = gives_none LineFits
+pass_fits (a ∷ []) = gives_none LineFits
+pass_fits (a ∷ b ∷ []) = gives_none LineFits
+pass_fits (a ∷ b ∷ c ∷ []) = gives_none LineFits
+pass_fits (a ∷ b ∷ c ∷ d ∷ []) =
+    gives_then LineFits (number_of a) _ (λ x. gives_then LineFits (number_of b) _ (λ y. gives_then LineFits (reading_of c) _ (λ z. gives_then LineFits (reading_of d) _ (λ u. gives_some LineFits (line.Pass x y z u) tt))))
+pass_fits (a ∷ b ∷ c ∷ d ∷ w ∷ ws) = gives_none LineFits
+
+settle_fits : (words : List (List ℕ)) → Gives LineFits (settle_of words)
+settle_fits [] = gives_none LineFits
+settle_fits (a ∷ []) = gives_then LineFits (reading_of a) _ (λ x. gives_some LineFits (line.Settle x) tt)
+settle_fits (a ∷ w ∷ ws) = gives_none LineFits
+
+cut_fits : (words : List (List ℕ)) → Gives LineFits (cut_of words)
+cut_fits [] = gives_none LineFits
+cut_fits (a ∷ []) = gives_none LineFits
+cut_fits (a ∷ b ∷ []) = gives_then LineFits (number_of a) _ (λ x. gives_then LineFits (reading_of b) _ (λ y. gives_some LineFits (line.Cut x y) tt))
+cut_fits (a ∷ b ∷ w ∷ ws) = gives_none LineFits
+
+hang_fits : (words : List (List ℕ)) → Gives LineFits (hang_of words)
+hang_fits [] = gives_none LineFits
+hang_fits (a ∷ []) = gives_none LineFits
+hang_fits (a ∷ b ∷ []) = gives_then LineFits (number_of a) _ (λ x. gives_then LineFits (reading_of b) _ (λ y. gives_some LineFits (line.Hang x y) tt))
+hang_fits (a ∷ b ∷ w ∷ ws) = gives_none LineFits
+
+event_fits : (kind : List ℕ) (words : List (List ℕ)) → Gives LineFits (event_from kind words)
+event_fits kind words =
+    gives_if LineFits (bytes_eq kind (codes "join")) _ _ (join_fits words)
+    (gives_if LineFits (bytes_eq kind (codes "do")) _ _ (do_fits words)
+    (gives_if LineFits (bytes_eq kind (codes "up")) _ _ (up_fits words)
+    (gives_if LineFits (bytes_eq kind (codes "down")) _ _ (down_fits words)
+    (gives_if LineFits (bytes_eq kind (codes "pass")) _ _ (pass_fits words)
+    (gives_if LineFits (bytes_eq kind (codes "settle")) _ _ (settle_fits words)
+    (gives_if LineFits (bytes_eq kind (codes "cut")) _ _ (cut_fits words)
+    (gives_if LineFits (bytes_eq kind (codes "hang")) _ _ (hang_fits words) (gives_none LineFits))))))))
+
+words_fit : (kind : List ℕ) (words : List (List ℕ)) → Gives LineFits (line_from kind words)
+words_fit kind words =
+    gives_if LineFits (bytes_eq kind (codes "lbfs-trace")) _ _ (version_fits words)
+    (gives_if LineFits (bytes_eq kind (codes "term")) _ _ (term_fits words)
+    (gives_if LineFits (bytes_eq kind (codes "drift")) _ _ (drift_fits words)
+    (gives_if LineFits (bytes_eq kind (codes "clients")) _ _ (clients_fits words)
+    (gives_if LineFits (bytes_eq kind (codes "file")) _ _ (file_fits words) (event_fits kind words)))))
+
+said_fits : (words : List (List ℕ)) → Gives LineFits (said_by words)
+said_fits [] = gives_none LineFits
+said_fits (kind ∷ words) = words_fit kind words
+
+pub line_fits : (bytes : List ℕ) (l : Line) → line_of bytes ≡ Some l → LineFits l
+line_fits bytes = gives_if LineFits (is_skipped bytes) (Some line.Skipped) (said_by (words_of bytes)) (gives_some LineFits line.Skipped tt) (said_fits (words_of bytes))
+
+-- ---- a line that is taken
+
+abbrev asking : Turn → Result Turn LineFault
+asking t = Ok t
+
+turn_is : (s t : Turn) → asking s ≡ asking t → s ≡ t
+turn_is s t e = cc
+
+refused_line : {A : Type 0} (f : LineFault) (t : Turn) → Err f ≡ asking t → A
+refused_line f t e = absurd cc
+
+-- no event came yet
+abbrev pub is_early : Stage → Bool
+is_early stage.Events = false
+is_early s = true
+
+-- what a turn finds
+abbrev pub Allows : World → Turn → Type 0
+Allows w (turn.At s) = is_early w.stage ≡ true
+Allows w (turn.Clients n) = is_early w.stage ≡ true
+Allows w (turn.File name content) = (is_early w.stage ≡ true) × (content_length content ≤ 67108864)
+Allows w (turn.Join c) = (seat : Seat) × (numbered w.core.seats c ≡ Some seat) × (seat.client.linked ≡ false) × (length w.core.server.sessions < 64)
+Allows w (turn.Do c now d) = (seat : Seat) × (numbered w.core.seats c ≡ Some seat) × IsSmall d
+Allows w (turn.Cut c) = (seat : Seat) × (numbered w.core.seats c ≡ Some seat)
+Allows w (turn.Hang n) = (x : Session) × (numbered w.core.sessions n ≡ Some x)
+Allows w t = Unit {0}
+
+goes : (w : World) (u t : Turn) → asking u ≡ asking t → Allows w u → Allows w t
+goes w u t e h = subst (λ (z : Turn). Allows w z) (turn_is u t e) h
+
+goes_if : (w : World) (b : Bool) (u t : Turn) → asks_if b u ≡ asking t → Allows w u → Allows w t
+goes_if w true u t e h = goes w u t e h
+goes_if w false u t e h = refused_line Grammar t e
+
+-- what is asked for is there
+goes_there : {A : Type 0} (w : World) (o : Option A) (u t : Turn) → asks_if (is_there o) u ≡ asking t → ((x : A) → o ≡ Some x → Allows w u) → Allows w t
+goes_there w None u t e h = refused_line Grammar t e
+goes_there w (Some x) u t e h = goes w u t e (h x refl)
+
+joins_on : (w : World) (c : ℕ) (t : Turn) → joins_if (length w.core.server.sessions) c (numbered w.core.seats c) ≡ asking t → Allows w t
+joins_on w c t e = by (numbered w.core.seats c) refl e
+  where
+    by_room : (seat : Seat) → numbered w.core.seats c ≡ Some seat → seat.client.linked ≡ false → (b : Bool) → nat_lt (length w.core.server.sessions) sessions_most ≡ b → joins_within b c ≡ asking t → Allows w t
+    by_room seat at out true room e = goes w (turn.Join c) t e (seat, at, out, grind (arith, nat_tests, room))
+    by_room seat at out false room e = refused_line _ t e
+
+    by_seat : (seat : Seat) → numbered w.core.seats c ≡ Some seat → (b : Bool) → seat.client.linked ≡ b → elim b as (λ (x : Bool). Result Turn LineFault) [ true ↦ Err Grammar | false ↦ joins_within (nat_lt (length w.core.server.sessions) sessions_most) c ] ≡ asking t → Allows w t
+    by_seat seat at true out e = refused_line Grammar t e
+    by_seat seat at false out e = by_room seat at out (nat_lt (length w.core.server.sessions) sessions_most) refl e
+
+    by : (o : Option Seat) → numbered w.core.seats c ≡ o → joins_if (length w.core.server.sessions) c o ≡ asking t → Allows w t
+    by None at e = refused_line Grammar t e
+    by (Some seat) at e = by_seat seat at seat.client.linked refl e
+
+event_on : (w : World) (l : Line) (t : Turn) → LineFits l → event_asks w.core l ≡ asking t → Allows w t
+event_on w (line.Join c r at) t fits e = joins_on w c t e
+event_on w (line.Do c r d) t fits e = goes_there w (numbered w.core.seats c) (turn.Do c r d) t e (λ x at. (x, at, fits))
+event_on w (line.Up n a at) t fits e = goes_if w _ (turn.Up n a at) t e tt
+event_on w (line.Down n a r) t fits e = goes_if w _ (turn.Down n a r) t e tt
+event_on w (line.Settle at) t fits e = goes w (turn.Settle at) t e tt
+event_on w (line.Cut c r) t fits e = goes_there w (numbered w.core.seats c) (turn.Cut c) t e (λ x at. (x, at))
+event_on w (line.Hang n at) t fits e = goes_there w (numbered w.core.sessions n) (turn.Hang n) t e (λ x at. (x, at))
+event_on w (line.Pass n rounds at r) t fits e = goes_if w _ (turn.Pass n rounds at r) t e tt
+event_on w l t fits e = refused_line Grammar t e
+
+named_on : (w : World) (s : Stage) (b : Bool) (size : ℕ) (name : List ℕ) (content : List Part) (t : Turn) → w.stage ≡ s → is_early s ≡ true → named b size name content ≡ asking t → Allows w t
+named_on w s true size name content t at early e = refused_line Grammar t e
+named_on w s false size name content t at early e = by (nat_lt file_most (content_length content)) (nat_lt tree_most (size + content_length content)) refl e
+  where
+    by : (long much : Bool) → nat_lt file_most (content_length content) ≡ long → sized long much (turn.File name content) ≡ asking t → Allows w t
+    by true much is e = refused_line _ t e
+    by false true is e = refused_line _ t e
+    by false false is e = goes w (turn.File name content) t e (ap is_early at ∙ early, grind (arith, nat_tests, is))
+
+at_stage : (w : World) (s : Stage) (l : Line) (t : Turn) → w.stage ≡ s → LineFits l → asks_at w s l ≡ asking t → Allows w t
+at_stage w stage.Version line.Version t at fits e = goes w (turn.At stage.Term) t e (ap is_early at)
+at_stage w stage.Term (line.Term n) t at fits e = goes w (turn.At stage.Drift) t e (ap is_early at)
+at_stage w stage.Drift (line.Drift n) t at fits e = goes w (turn.At stage.Clients) t e (ap is_early at)
+at_stage w stage.Clients (line.Clients n) t at fits e = goes w (turn.Clients n) t e (ap is_early at)
+at_stage w stage.Files (line.File name content) t at fits e = named_on w stage.Files (has_name w.names name) w.size name content t at refl e
+at_stage w stage.Files l t at fits e = event_on w l t fits e
+at_stage w stage.Events l t at fits e = event_on w l t fits e
+at_stage w s l t at fits e = refused_line Grammar t e
+
+any_line : (w : World) (l : Line) (t : Turn) → LineFits l → asks w l ≡ asking t → Allows w t
+any_line w line.Skipped t fits e = goes w turn.Skip t e tt
+any_line w l t fits e = at_stage w w.stage l t refl fits e
+
+within : (b : Bool) (r : Result Turn LineFault) (t : Turn) → asks_within b r ≡ asking t → (r ≡ asking t) × (b ≡ true)
+within true r t e = (e, refl)
+within false (Err Grammar) t e = refused_line Grammar t e
+within false (Err (Limit w)) t e = refused_line _ t e
+within false (Err (Clock f)) t e = refused_line _ t e
+within false (Ok s) t e = refused_line _ t e
+
+pub allowed : (w : World) (n : ℕ) (l : Line) (t : Turn) → LineFits l → asked w n l ≡ Ok t → Allows w t
+allowed w n l t fits e = any_line w l t fits (within (nat_le n line_most) (asks w l) t e).0
+
+pub within_lines : (w : World) (n : ℕ) (l : Line) (t : Turn) → asked w n l ≡ Ok t → n ≤ 65536
+within_lines w n l t e = let h = (within (nat_le n line_most) (asks w l) t e).1 in grind (arith, nat_tests, h)

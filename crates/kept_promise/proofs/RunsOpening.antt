@@ -1,0 +1,127 @@
+-- What a run opens with is what the `file` lines say.
+use Rattle.std.proofs.Common.{◌≡◌, ℕ, zero, suc, ◌+◌, List, [], ◌∷◌, ◌++◌, length, Option, Some, None, Bool, true, false, refl, sym, ap, ◌∙◌, append-nil, append_assoc, length-append}
+use Rattle.std.specs.Prelude.{Result, Ok, Err}
+use Rattle.command_text.specs.Content.{content_bytes}
+use Rattle.command_text.specs.Parts.{lines_of}
+use Rattle.register_model.specs.declared.op.Opening.{Opening}
+use Rattle.trace_text.specs.Grammar.{line_of}
+use Rattle.trace_text.specs.declared.line.Line.{Line}
+use Rattle.trace_text.specs.declared.line.Line.TheVariants as line
+use Rattle.trace_text.specs.declared.refusal.LineFault.{LineFault}
+use Rattle.trace_replay.specs.declared.fault.Refused.{Refused}
+use Rattle.trace_replay.specs.declared.turn.Turn.{Turn}
+use Rattle.trace_replay.specs.declared.turn.Turn.TheVariants as turn
+use Rattle.trace_replay.specs.Core.{Event, numbered}
+use Rattle.trace_replay.specs.World.{World, Wire, start, happened}
+use Rattle.trace_replay.specs.Delivery.{all_happened, up_taken, up_events, up_at, down_taken, down_events, down_at, up_length, down_length, up_all, round, is_still, passes}
+use Rattle.trace_replay.specs.Run.{asked, asked_by, at_events, count_of, turned, refused, in_header, ended, run_from, run}
+use Rattle.trace_replay.specs.Trail.{opening_by, openings_from, openings_of}
+use Rattle.kept_promise.proofs.RunsAsked.{turn_of, asked_turn}
+
+-- ---- no event changes what was opened with
+
+all_same : (w : World) (es : List Event) → (all_happened w es).opening ≡ w.opening
+all_same w [] = refl
+all_same w (e ∷ es) = all_same (happened w e) es
+
+up_same : (w : World) (n count now : ℕ) (o : Option Wire) → (up_at w n count now o).opening ≡ w.opening
+up_same w n count now None = refl
+up_same w n count now (Some q) = all_same (up_taken w n count q) (up_events n now count q)
+
+down_same : (w : World) (n count now : ℕ) (o : Option Wire) → (down_at w n count now o).opening ≡ w.opening
+down_same w n count now None = refl
+down_same w n count now (Some q) = all_same (down_taken w n count q) (down_events n now count q)
+
+round_same : (w : World) (n server at : ℕ) → (round w n server at).opening ≡ w.opening
+round_same w n server at =
+    let v : World = up_all w n server in
+    down_same v n (down_length (numbered v.wires n)) at (numbered v.wires n) ∙ up_same w n (up_length (numbered w.wires n)) server (numbered w.wires n)
+
+passes_same : (k : ℕ) (w : World) (n server at : ℕ) → (passes k w n server at).opening ≡ w.opening
+passes_same zero w n server at = refl
+passes_same (suc k) w n server at = by (is_still w n) (passes_same k (round w n server at) n server at)
+  where
+    by : (b : Bool) → (passes k (round w n server at) n server at).opening ≡ (round w n server at).opening → (elim b as (λ (x : Bool). World) [ true ↦ w | false ↦ passes k (round w n server at) n server at ]).opening ≡ w.opening
+    by true later = refl
+    by false later = later ∙ round_same w n server at
+
+-- ---- what a line adds
+
+abbrev added : (count : ℕ) → Turn → List Opening
+added count (turn.File name content) = record { file = count + 2; content = content_bytes content } ∷ []
+added count t = []
+
+no_more : (w v : World) → v.opening ≡ w.opening → v.opening ≡ w.opening ++ []
+no_more w v e = e ∙ sym (append-nil w.opening)
+
+turn_adds : (w : World) (t : Turn) → (turned w t).opening ≡ w.opening ++ added (length w.opening) t
+turn_adds w turn.Skip = no_more w w refl
+turn_adds w (turn.At s) = no_more w w refl
+turn_adds w (turn.Clients m) = no_more w w refl
+turn_adds w (turn.File name content) = refl
+turn_adds w (turn.Join c) = no_more w w refl
+turn_adds w (turn.Do c now d) = no_more w w refl
+turn_adds w (turn.Settle now) = no_more w w refl
+turn_adds w (turn.Cut c) = no_more w w refl
+turn_adds w (turn.Hang n) = no_more w w refl
+turn_adds w (turn.Up n a now) = no_more w (turned w (turn.Up n a now)) (up_same (at_events w) n (count_of a (up_length (numbered w.wires n))) now (numbered w.wires n))
+turn_adds w (turn.Down n a now) = no_more w (turned w (turn.Down n a now)) (down_same (at_events w) n (count_of a (down_length (numbered w.wires n))) now (numbered w.wires n))
+turn_adds w (turn.Pass n k server at) = no_more w (turned w (turn.Pass n k server at)) (passes_same k (at_events w) n server at)
+
+line_adds : (c : ℕ) (l : Line) → added c (turn_of l) ≡ opening_by c (Some l)
+line_adds c line.Skipped = refl
+line_adds c line.Version = refl
+line_adds c (line.Term n) = refl
+line_adds c (line.Drift n) = refl
+line_adds c (line.Clients n) = refl
+line_adds c (line.File name content) = refl
+line_adds c (line.Join m r at) = refl
+line_adds c (line.Do m r d) = refl
+line_adds c (line.Up n a at) = refl
+line_adds c (line.Down n a r) = refl
+line_adds c (line.Settle at) = refl
+line_adds c (line.Cut m r) = refl
+line_adds c (line.Hang n at) = refl
+line_adds c (line.Pass n rounds at r) = refl
+
+-- ---- all lines
+
+abbrev whole : World → Result World Refused
+whole w = Ok w
+
+no_world : {A : Type 0} (r : Refused) (v : World) → Err r ≡ whole v → A
+no_world r v e = absurd cc
+
+world_is : (w v : World) → whole w ≡ whole v → w ≡ v
+world_is w v e = cc
+
+ended_is : (w v : World) (n : ℕ) (b : Bool) → ended w n b ≡ Ok v → w ≡ v
+ended_is w v n true e = no_world _ v e
+ended_is w v n false e = world_is w v e
+
+abbrev ran_by : World → ℕ → List (List ℕ) → Result Turn LineFault → Result World Refused
+ran_by w n ls r = elim r [ Err f ↦ Err (refused n f) | Ok t ↦ run_from (turned w t) (n + 1) ls ]
+
+abbrev behind : (count : ℕ) → (first : List Opening) → List (List ℕ) → List Opening
+behind count first ls = first ++ openings_from (count + length first) ls
+
+lines_add : (n : ℕ) (w v : World) (ls : List (List ℕ)) → run_from w n ls ≡ Ok v → v.opening ≡ w.opening ++ openings_from (length w.opening) ls
+lines_add n w v [] e = ap (λ (z : World). z.opening) (sym (ended_is w v n (in_header w.stage) e)) ∙ sym (append-nil w.opening)
+lines_add n w v (l ∷ ls) e = by_line (line_of l) (λ t. lines_add (n + 1) (turned w t) v ls) e
+  where
+    by_turn : (x : Line) (r : Result Turn LineFault) → asked w n x ≡ r → ((t : Turn) → run_from (turned w t) (n + 1) ls ≡ Ok v → v.opening ≡ (turned w t).opening ++ openings_from (length (turned w t).opening) ls) → ran_by w n ls r ≡ Ok v → v.opening ≡ w.opening ++ behind (length w.opening) (opening_by (length w.opening) (Some x)) ls
+    by_turn x (Err f) is go e = no_world _ v e
+    by_turn x (Ok t) is go e =
+        let first : List Opening = opening_by (length w.opening) (Some x) in
+        let adds : (turned w t).opening ≡ w.opening ++ first = turn_adds w t ∙ ap (λ (z : List Opening). w.opening ++ z) (ap (added (length w.opening)) (asked_turn w n x t is) ∙ line_adds (length w.opening) x) in
+        go t e
+        ∙ ap (λ (z : List Opening). z ++ openings_from (length z) ls) adds
+        ∙ ap (λ (c : ℕ). (w.opening ++ first) ++ openings_from c ls) (length-append w.opening first)
+        ∙ append_assoc w.opening first (openings_from (length w.opening + length first) ls)
+
+    by_line : (o : Option Line) → ((t : Turn) → run_from (turned w t) (n + 1) ls ≡ Ok v → v.opening ≡ (turned w t).opening ++ openings_from (length (turned w t).opening) ls) → ran_by w n ls (asked_by w n o) ≡ Ok v → v.opening ≡ w.opening ++ behind (length w.opening) (opening_by (length w.opening) o) ls
+    by_line None go e = no_world _ v e
+    by_line (Some x) go e = by_turn x (asked w n x) refl go e
+
+pub opening_said : (input : List ℕ) (w : World) → run input ≡ Ok w → w.opening ≡ openings_of (lines_of input)
+opening_said input w e = lines_add 1 start w (lines_of input) e

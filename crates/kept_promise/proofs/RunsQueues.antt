@@ -1,0 +1,197 @@
+-- Queues without their first calls, or answers: to take them off goes before what an event sends as well as behind it.
+use Rattle.std.proofs.Common.{◌≡◌, ℕ, zero, suc, List, [], ◌∷◌, Option, Some, None, Bool, drop, refl, sym, ap, ◌∙◌, subst}
+use Rattle.std.specs.Prelude.{slice_get, slice_set, map}
+use Rattle.trace_replay.specs.Core.{Session, Loss, Loss.Nothing, Turned, numbered, with_numbered}
+use Rattle.trace_replay.specs.World.{unless}
+use Rattle.kept_promise.specs.Talk.{Ask, Told, Queue}
+use Rattle.kept_promise.proofs.Leading.{Sends, sent_message, ups_put_in, ups_put, downs_put_in, downs_put, queues_lost, queues_after}
+
+-- ---- the queue at a number becomes another
+
+abbrev pub at_place : (Queue → Queue) → List Queue → ℕ → List Queue
+at_place f [] k = []
+at_place f (q ∷ qs) zero = f q ∷ qs
+at_place f (q ∷ qs) (suc k) = q ∷ at_place f qs k
+
+abbrev pub becomes : (Queue → Queue) → List Queue → (number : ℕ) → List Queue
+becomes f qs zero = qs
+becomes f qs (suc k) = at_place f qs k
+
+place_there : (f : Queue → Queue) (qs : List Queue) (k : ℕ) (q : Queue) → slice_get qs k ≡ Some q → slice_set qs k (f q) ≡ at_place f qs k
+place_there f [] k q e = absurd cc
+place_there f (p ∷ ps) zero q e = let same : q ≡ p = cc in ap (λ (z : Queue). f z ∷ ps) same
+place_there f (p ∷ ps) (suc k) q e = ap (λ (zs : List Queue). p ∷ zs) (place_there f ps k q e)
+
+place_none : (f : Queue → Queue) (qs : List Queue) (k : ℕ) → slice_get qs k ≡ None → at_place f qs k ≡ qs
+place_none f [] k e = refl
+place_none f (p ∷ ps) zero e = absurd cc
+place_none f (p ∷ ps) (suc k) e = ap (λ (zs : List Queue). p ∷ zs) (place_none f ps k e)
+
+pub there_is : (f : Queue → Queue) (qs : List Queue) (n : ℕ) (q : Queue) → numbered qs n ≡ Some q → with_numbered qs n (f q) ≡ becomes f qs n
+there_is f qs zero q e = refl
+there_is f qs (suc k) q e = place_there f qs k q e
+
+pub none_is : (f : Queue → Queue) (qs : List Queue) (n : ℕ) → numbered qs n ≡ None → becomes f qs n ≡ qs
+none_is f qs zero e = refl
+none_is f qs (suc k) e = place_none f qs k e
+
+place_swap : (f g : Queue → Queue) → ((q : Queue) → f (g q) ≡ g (f q)) → (qs : List Queue) (i k : ℕ) → at_place f (at_place g qs i) k ≡ at_place g (at_place f qs k) i
+place_swap f g h [] i k = refl
+place_swap f g h (q ∷ qs) zero zero = ap (λ (z : Queue). z ∷ qs) (h q)
+place_swap f g h (q ∷ qs) zero (suc k) = refl
+place_swap f g h (q ∷ qs) (suc i) zero = refl
+place_swap f g h (q ∷ qs) (suc i) (suc k) = ap (λ (zs : List Queue). q ∷ zs) (place_swap f g h qs i k)
+
+swap : (f g : Queue → Queue) → ((q : Queue) → f (g q) ≡ g (f q)) → (qs : List Queue) (i k : ℕ) → becomes f (becomes g qs i) k ≡ becomes g (becomes f qs k) i
+swap f g h qs zero zero = refl
+swap f g h qs zero (suc k) = refl
+swap f g h qs (suc i) zero = refl
+swap f g h qs (suc i) (suc k) = place_swap f g h qs i k
+
+place_same : (f : Queue → Queue) → ((q : Queue) → f q ≡ q) → (qs : List Queue) (k : ℕ) → at_place f qs k ≡ qs
+place_same f h [] k = refl
+place_same f h (q ∷ qs) zero = ap (λ (z : Queue). z ∷ qs) (h q)
+place_same f h (q ∷ qs) (suc k) = ap (λ (zs : List Queue). q ∷ zs) (place_same f h qs k)
+
+pub become_same : (f : Queue → Queue) → ((q : Queue) → f q ≡ q) → (qs : List Queue) (n : ℕ) → becomes f qs n ≡ qs
+become_same f h qs zero = refl
+become_same f h qs (suc k) = place_same f h qs k
+
+-- what is there has what the change leaves it
+place_has : {A : Type 0} (has : Queue → A) (f : Queue → Queue) → ((q : Queue) → has (f q) ≡ has q) → (qs : List Queue) (i k : ℕ) (q : Queue) → slice_get qs k ≡ Some q → (p : Queue) × (slice_get (at_place f qs i) k ≡ Some p) × (has p ≡ has q)
+place_has has f h [] i k q e = absurd cc
+place_has has f h (p ∷ ps) zero zero q e = let same : p ≡ q = cc in (f p, refl, h p ∙ ap has same)
+place_has has f h (p ∷ ps) zero (suc k) q e = (q, e, refl)
+place_has has f h (p ∷ ps) (suc i) zero q e = (q, e, refl)
+place_has has f h (p ∷ ps) (suc i) (suc k) q e = place_has has f h ps i k q e
+
+pub become_has : {A : Type 0} (has : Queue → A) (f : Queue → Queue) → ((q : Queue) → has (f q) ≡ has q) → (qs : List Queue) (i n : ℕ) (q : Queue) → numbered qs n ≡ Some q → (p : Queue) × (numbered (becomes f qs i) n ≡ Some p) × (has p ≡ has q)
+become_has has f h qs zero n q e = (q, e, refl)
+become_has has f h qs (suc i) zero q e = absurd cc
+become_has has f h qs (suc i) (suc k) q e = place_has has f h qs i k q e
+
+-- ---- what is sent, as changes of queues
+
+abbrev pub off_ups : (count : ℕ) → Queue → Queue
+off_ups i q = record q { ups = drop i q.ups }
+
+abbrev pub off_downs : (count : ℕ) → Queue → Queue
+off_downs i q = record q { downs = drop i q.downs }
+
+abbrev add_down : (lost : Bool) → Told → Queue → Queue
+add_down lost t q = record q { downs = unless lost q.downs (t ∷ []) }
+
+abbrev add_up : (lost : Bool) → List Ask → Queue → Queue
+add_up lost asks q = record q { ups = unless lost q.ups asks }
+
+down_in : (qs : List Queue) (p : ℕ × Told) (x : Session) → downs_put_in qs p (Some x) (numbered qs p.0) ≡ becomes (add_down x.cut p.1) qs p.0
+down_in qs p x = by (numbered qs p.0) refl
+  where
+    by : (o : Option Queue) → numbered qs p.0 ≡ o → downs_put_in qs p (Some x) o ≡ becomes (add_down x.cut p.1) qs p.0
+    by None e = sym (none_is (add_down x.cut p.1) qs p.0 e)
+    by (Some q) e = there_is (add_down x.cut p.1) qs p.0 q e
+
+up_in : (qs : List Queue) (n : ℕ) (asks : List Ask) (x : Session) → ups_put_in qs n asks (Some x) (numbered qs n) ≡ becomes (add_up x.hung asks) qs n
+up_in qs n asks x = by (numbered qs n) refl
+  where
+    by : (o : Option Queue) → numbered qs n ≡ o → ups_put_in qs n asks (Some x) o ≡ becomes (add_up x.hung asks) qs n
+    by None e = sym (none_is (add_up x.hung asks) qs n e)
+    by (Some q) e = there_is (add_up x.hung asks) qs n q e
+
+down_off_in : (i n : ℕ) (qs : List Queue) (p : ℕ × Told) (x : Option Session) → downs_put_in (becomes (off_ups i) qs n) p x (numbered (becomes (off_ups i) qs n) p.0) ≡ becomes (off_ups i) (downs_put_in qs p x (numbered qs p.0)) n
+down_off_in i n qs p None = refl
+down_off_in i n qs p (Some x) = down_in (becomes (off_ups i) qs n) p x ∙ sym (swap (off_ups i) (add_down x.cut p.1) (λ q. refl) qs p.0 n) ∙ ap (λ (zs : List Queue). becomes (off_ups i) zs n) (sym (down_in qs p x))
+
+downs_off : (i n : ℕ) (sessions : List Session) (qs : List Queue) (ps : List (ℕ × Told)) → downs_put sessions (becomes (off_ups i) qs n) ps ≡ becomes (off_ups i) (downs_put sessions qs ps) n
+downs_off i n sessions qs [] = refl
+downs_off i n sessions qs (p ∷ ps) =
+    ap (λ (zs : List Queue). downs_put sessions zs ps) (down_off_in i n qs p (numbered sessions p.0))
+    ∙ downs_off i n sessions (downs_put_in qs p (numbered sessions p.0) (numbered qs p.0)) ps
+
+ups_off : (i n : ℕ) (sessions : List Session) (qs : List Queue) (o : Option ℕ) (asks : List Ask) → ups_put sessions (becomes (off_downs i) qs n) o asks ≡ becomes (off_downs i) (ups_put sessions qs o asks) n
+ups_off i n sessions qs None asks = refl
+ups_off i n sessions qs (Some m) asks = by (numbered sessions m)
+  where
+    by : (x : Option Session) → ups_put_in (becomes (off_downs i) qs n) m asks x (numbered (becomes (off_downs i) qs n) m) ≡ becomes (off_downs i) (ups_put_in qs m asks x (numbered qs m)) n
+    by None = refl
+    by (Some x) = up_in (becomes (off_downs i) qs n) m asks x ∙ sym (swap (off_downs i) (add_up x.hung asks) (λ q. refl) qs m n) ∙ ap (λ (zs : List Queue). becomes (off_downs i) zs n) (sym (up_in qs m asks x))
+
+-- what is sent down leaves what is on its way up, and what is sent up what is on its way down
+downs_have_in : (qs : List Queue) (p : ℕ × Told) (x : Option Session) (n : ℕ) (q : Queue) → numbered qs n ≡ Some q → (r : Queue) × (numbered (downs_put_in qs p x (numbered qs p.0)) n ≡ Some r) × (r.ups ≡ q.ups)
+downs_have_in qs p None n q e = (q, e, refl)
+downs_have_in qs p (Some x) n q e = subst (λ (zs : List Queue). (r : Queue) × (numbered zs n ≡ Some r) × (r.ups ≡ q.ups)) (sym (down_in qs p x)) (become_has (λ r. r.ups) (add_down x.cut p.1) (λ r. refl) qs p.0 n q e)
+
+downs_have : (sessions : List Session) (qs : List Queue) (ps : List (ℕ × Told)) (n : ℕ) (q : Queue) → numbered qs n ≡ Some q → (r : Queue) × (numbered (downs_put sessions qs ps) n ≡ Some r) × (r.ups ≡ q.ups)
+downs_have sessions qs [] n q e = (q, e, refl)
+downs_have sessions qs (p ∷ ps) n q e =
+    let one = downs_have_in qs p (numbered sessions p.0) n q e in
+    let all = downs_have sessions (downs_put_in qs p (numbered sessions p.0) (numbered qs p.0)) ps n one.0 one.1 in
+    (all.0, all.1, all.2 ∙ one.2)
+
+ups_have : (sessions : List Session) (qs : List Queue) (o : Option ℕ) (asks : List Ask) (n : ℕ) (q : Queue) → numbered qs n ≡ Some q → (r : Queue) × (numbered (ups_put sessions qs o asks) n ≡ Some r) × (r.downs ≡ q.downs)
+ups_have sessions qs None asks n q e = (q, e, refl)
+ups_have sessions qs (Some m) asks n q e = by (numbered sessions m)
+  where
+    by : (x : Option Session) → (r : Queue) × (numbered (ups_put_in qs m asks x (numbered qs m)) n ≡ Some r) × (r.downs ≡ q.downs)
+    by None = (q, e, refl)
+    by (Some x) = subst (λ (zs : List Queue). (r : Queue) × (numbered zs n ≡ Some r) × (r.downs ≡ q.downs)) (sym (up_in qs m asks x)) (become_has (λ r. r.downs) (add_up x.hung asks) (λ r. refl) qs m n q e)
+
+-- ---- an event of the server, which sends nothing up
+
+abbrev after_down : List Queue → (t : Turned) → Sends t → List Queue
+after_down qs t s = downs_put t.core.sessions qs s.tolds
+
+down_is : (qs : List Queue) (t : Turned) (s : Sends t) → t.loss ≡ Nothing → t.session ≡ None → queues_after qs t s ≡ after_down qs t s
+down_is qs t s loss session =
+    ap (λ (l : Loss). downs_put t.core.sessions (ups_put t.core.sessions (queues_lost qs l) t.session s.asks) s.tolds) loss
+    ∙ ap (λ (o : Option ℕ). downs_put t.core.sessions (ups_put t.core.sessions qs o s.asks) s.tolds) session
+
+pub served_off : (i n : ℕ) (qs : List Queue) (t : Turned) (s : Sends t) → t.loss ≡ Nothing → t.session ≡ None → queues_after (becomes (off_ups i) qs n) t s ≡ becomes (off_ups i) (queues_after qs t s) n
+served_off i n qs t s loss session = down_is (becomes (off_ups i) qs n) t s loss session ∙ downs_off i n t.core.sessions qs s.tolds ∙ ap (λ (zs : List Queue). becomes (off_ups i) zs n) (sym (down_is qs t s loss session))
+
+pub served_has : (qs : List Queue) (t : Turned) (s : Sends t) → t.loss ≡ Nothing → t.session ≡ None → (n : ℕ) (q : Queue) → numbered qs n ≡ Some q → (r : Queue) × (numbered (queues_after qs t s) n ≡ Some r) × (r.ups ≡ q.ups)
+served_has qs t s loss session n q e = subst (λ (zs : List Queue). (r : Queue) × (numbered zs n ≡ Some r) × (r.ups ≡ q.ups)) (sym (down_is qs t s loss session)) (downs_have t.core.sessions qs s.tolds n q e)
+
+-- ---- an event of a client, which sends nothing down
+
+no_told : (ps : List (ℕ × Told)) → [] ≡ map sent_message ps → ps ≡ []
+no_told [] e = refl
+no_told (p ∷ ps) e = absurd (by e)
+  where
+    by : [] ≡ sent_message p ∷ map sent_message ps → ⊥
+    by h = cc
+
+up_is : (qs : List Queue) (t : Turned) (s : Sends t) → t.loss ≡ Nothing → t.down ≡ [] → queues_after qs t s ≡ ups_put t.core.sessions qs t.session s.asks
+up_is qs t s loss none =
+    ap (λ (l : Loss). downs_put t.core.sessions (ups_put t.core.sessions (queues_lost qs l) t.session s.asks) s.tolds) loss
+    ∙ ap (λ (ps : List (ℕ × Told)). downs_put t.core.sessions (ups_put t.core.sessions qs t.session s.asks) ps) (no_told s.tolds (sym none ∙ s.down_is))
+
+pub heard_off : (i n : ℕ) (qs : List Queue) (t : Turned) (s : Sends t) → t.loss ≡ Nothing → t.down ≡ [] → queues_after (becomes (off_downs i) qs n) t s ≡ becomes (off_downs i) (queues_after qs t s) n
+heard_off i n qs t s loss none = up_is (becomes (off_downs i) qs n) t s loss none ∙ ups_off i n t.core.sessions qs t.session s.asks ∙ ap (λ (zs : List Queue). becomes (off_downs i) zs n) (sym (up_is qs t s loss none))
+
+pub heard_has : (qs : List Queue) (t : Turned) (s : Sends t) → t.loss ≡ Nothing → t.down ≡ [] → (n : ℕ) (q : Queue) → numbered qs n ≡ Some q → (r : Queue) × (numbered (queues_after qs t s) n ≡ Some r) × (r.downs ≡ q.downs)
+heard_has qs t s loss none n q e = subst (λ (zs : List Queue). (r : Queue) × (numbered zs n ≡ Some r) × (r.downs ≡ q.downs)) (sym (up_is qs t s loss none)) (ups_have t.core.sessions qs t.session s.asks n q e)
+
+-- ---- to take more off
+
+off_next_place : (qs : List Queue) (i k : ℕ) (q : Queue) (a : Ask) (us : List Ask) → slice_get qs k ≡ Some q → q.ups ≡ a ∷ us → at_place (off_ups (suc i)) qs k ≡ at_place (off_ups i) (slice_set qs k (record q { ups = us })) k
+off_next_place [] i k q a us e is = absurd cc
+off_next_place (p ∷ ps) i zero q a us e is =
+    let same : p ≡ q = cc in
+    ap (λ (z : Queue). record z { ups = drop (suc i) z.ups } ∷ ps) same ∙ ap (λ (zs : List Ask). record q { ups = drop (suc i) zs } ∷ ps) is
+off_next_place (p ∷ ps) i (suc k) q a us e is = ap (λ (zs : List Queue). p ∷ zs) (off_next_place ps i k q a us e is)
+
+pub ups_next : (qs : List Queue) (i n : ℕ) (q : Queue) (a : Ask) (us : List Ask) → numbered qs n ≡ Some q → q.ups ≡ a ∷ us → becomes (off_ups (suc i)) qs n ≡ becomes (off_ups i) (with_numbered qs n (record q { ups = us })) n
+ups_next qs i zero q a us e is = absurd cc
+ups_next qs i (suc k) q a us e is = off_next_place qs i k q a us e is
+
+down_next_place : (qs : List Queue) (i k : ℕ) (q : Queue) (t : Told) (ts : List Told) → slice_get qs k ≡ Some q → q.downs ≡ t ∷ ts → at_place (off_downs (suc i)) qs k ≡ at_place (off_downs i) (slice_set qs k (record q { downs = ts })) k
+down_next_place [] i k q t ts e is = absurd cc
+down_next_place (p ∷ ps) i zero q t ts e is =
+    let same : p ≡ q = cc in
+    ap (λ (z : Queue). record z { downs = drop (suc i) z.downs } ∷ ps) same ∙ ap (λ (zs : List Told). record q { downs = drop (suc i) zs } ∷ ps) is
+down_next_place (p ∷ ps) i (suc k) q t ts e is = ap (λ (zs : List Queue). p ∷ zs) (down_next_place ps i k q t ts e is)
+
+pub downs_next : (qs : List Queue) (i n : ℕ) (q : Queue) (t : Told) (ts : List Told) → numbered qs n ≡ Some q → q.downs ≡ t ∷ ts → becomes (off_downs (suc i)) qs n ≡ becomes (off_downs i) (with_numbered qs n (record q { downs = ts })) n
+downs_next qs i zero q t ts e is = absurd cc
+downs_next qs i (suc k) q t ts e is = down_next_place qs i k q t ts e is

@@ -1,0 +1,215 @@
+-- One line of a run: what stands before it stands behind it, with its moments among those that are past.
+use Rattle.std.proofs.Common.{◌≡◌, ℕ, zero, suc, ◌+◌, ◌<◌, ◌≤◌, List, [], ◌∷◌, ◌++◌, length, max, Some, Bool, true, false, refl, sym, ap, ◌∙◌, subst, arith, append-nil}
+use Rattle.std.proofs.lemmas.Bool.Decides.{nat_tests}
+use Rattle.std.specs.Prelude.{map, nat_lt, ◌&&◌, replicate}
+use Rattle.command_text.specs.Content.{content_length, content_bytes}
+use Rattle.command_text.specs.declared.content.Part.{Part}
+use Rattle.command_text.proofs.Contents.{content_size}
+use Rattle.server_core.specs.State as server
+use Rattle.server_core.specs.Step.{has_room}
+use Rattle.server_core.specs.declared.file.File.{File}
+use Rattle.register_model.specs.declared.op.Opening.{Opening}
+use Rattle.trace_replay.specs.declared.link.Stage.{Stage}
+use Rattle.trace_replay.specs.declared.link.Stage.TheVariants as stage
+use Rattle.trace_replay.specs.declared.turn.Turn.{Turn}
+use Rattle.trace_replay.specs.declared.turn.Turn.TheVariants as turn
+use Rattle.trace_replay.specs.Core.{Core, new_seat, Session, Event.Joins, Event.Does, Event.Settles, Event.Cuts, Event.Hangs, numbered}
+use Rattle.trace_replay.specs.World.{World, Wire}
+use Rattle.trace_replay.specs.Delivery.{up_length, down_length}
+use Rattle.trace_replay.specs.Run.{at_events, count_of, turned, with_file, with_clients}
+use Rattle.trace_replay.specs.Timed.{owners_of}
+use Rattle.trace_replay.specs.Trail.{Moment, turn_moments}
+use Rattle.kept_promise.proofs.Lists.{nothing_there}
+use Rattle.kept_promise.proofs.Facts.{IsKept}
+use Rattle.kept_promise.proofs.Fits.{FitLaws}
+use Rattle.kept_promise.proofs.Leading.{CarryAll}
+use Rattle.kept_promise.proofs.Rounds.{AreRested}
+use Rattle.kept_promise.proofs.Owners.{owners_after, MayTurn, turned_to}
+use Rattle.kept_promise.proofs.RunsCarried.{KeptLaws, book_at, first_core, Carried, Stands}
+use Rattle.kept_promise.proofs.RunsFirst.{IsTree, opening_file, tree_more, kept_first}
+use Rattle.kept_promise.proofs.RunsEvents.{Fact, event_stands}
+use Rattle.kept_promise.proofs.RunsDeliveries.{up_stands, down_stands, passes_stand}
+use Rattle.kept_promise.proofs.RunsLines.{is_early, Allows}
+
+-- ---- before the first event
+
+pub record IsFirst (n : ℕ) (w : World) (past : List Moment) : Type 0 where
+  pub files : List (ℕ × File)
+  pub changes : ℕ
+  pub count : ℕ
+  pub core_is : w.core ≡ first_core files changes count
+  pub wires_is : w.wires ≡ []
+  pub tree : IsTree w.opening files changes
+  pub past_is : past ≡ []
+  pub few : length w.opening < n
+
+-- what stands before the line of this number
+pub record Before (P : Fact) (n : ℕ) (all past : List Moment) (w : World) : Type 0 where
+  pub stands : Stands P all past w
+  pub few : length w.core.sessions < n
+  pub first : is_early w.stage ≡ true → IsFirst n w past
+
+carry_none : (wires : List Wire) → wires ≡ [] → CarryAll wires []
+carry_none wires e = subst (λ (ws : List Wire). CarryAll ws []) (sym e) (refl, λ n q m f g. by n q f)
+  where
+    by : {A : Type 0} (n : ℕ) (q : Wire) → numbered [] n ≡ Some q → A
+    by zero q f = nothing_there q f
+    by (suc k) q f = nothing_there q f
+
+rested_none : (wires : List Wire) → wires ≡ [] → AreRested wires
+rested_none wires e = subst AreRested (sym e) (λ k q f. nothing_there q f)
+
+pub first_stands : (P : Fact) → Carried P → (n : ℕ) (all past : List Moment) (w : World) → IsFirst n w past → Stands P all past w
+first_stands P carried n all past w f =
+    let kept = kept_first w.opening f.files f.changes f.count all f.tree in
+    record {
+      queues = [];
+      kept = subst (λ (k : Core). IsKept (book_at w.opening k all) k []) (sym f.core_is) kept;
+      carry = carry_none w.wires f.wires_is;
+      rested = rested_none w.wires f.wires_is;
+      more = subst (λ (k : Core). P all past w.opening k []) (sym f.core_is) (subst (λ (z : List Moment). P all z w.opening (first_core f.files f.changes f.count) []) (sym f.past_is) (carried.first all w.opening f.files f.changes f.count kept));
+    }
+
+-- ---- the sessions
+
+map_count : {A B : Type 0} (f : A → B) (xs : List A) → length (map f xs) ≡ length xs
+map_count f [] = refl
+map_count f (x ∷ xs) = ap suc (map_count f xs)
+
+count_more : {A : Type 0} (xs : List A) (x : A) → length (xs ++ x ∷ []) ≡ suc (length xs)
+count_more [] x = refl
+count_more (y ∷ ys) x = ap suc (count_more ys x)
+
+owners_count : (os : List ℕ) (t : Turn) → length (owners_after os true t) ≤ length os + 1
+owners_count os (turn.Join c) = let e = count_more os c in omega (arith, e)
+owners_count os turn.Skip = omega arith
+owners_count os (turn.At s) = omega arith
+owners_count os (turn.Clients n) = omega arith
+owners_count os (turn.File name content) = omega arith
+owners_count os (turn.Do c now d) = omega arith
+owners_count os (turn.Up n a now) = omega arith
+owners_count os (turn.Down n a now) = omega arith
+owners_count os (turn.Settle now) = omega arith
+owners_count os (turn.Cut c) = omega arith
+owners_count os (turn.Hang n) = omega arith
+owners_count os (turn.Pass n k server at) = omega arith
+
+few_turned : (n : ℕ) (w : World) (t : Turn) → MayTurn w t → length w.core.sessions < n → length (turned w t).core.sessions < n + 1
+few_turned n w t may few =
+    let a = map_count (λ (x : Session). x.owner) w.core.sessions in
+    let b = map_count (λ (x : Session). x.owner) (turned w t).core.sessions in
+    let c = ap length (turned_to w t may).owners in
+    let d = owners_count (owners_of w) t in
+    omega (arith, a, b, c, d, few)
+
+made_small : (P : Fact) (n : ℕ) (all past : List Moment) (w : World) → Before P n all past w → n ≤ 65536 → w.core.server.sessions_made < 4294967295
+made_small P n all past w h le = let m = h.stands.kept.made.0 in let few = h.few in omega (arith, m, few, le)
+
+both_true : (a b : Bool) → a ≡ true → b ≡ true → (a && b) ≡ true
+both_true true true e f = refl
+both_true true false e f = f
+both_true false b e f = e
+
+pub may_turn : (P : Fact) (n : ℕ) (all past : List Moment) (w : World) (t : Turn) → Before P n all past w → n ≤ 65536 → Allows w t → MayTurn w t
+may_turn P n all past w (turn.Join c) h le f =
+    let made = made_small P n all past w h le in
+    let room = f.3 in
+    ((f.0, f.1), both_true (nat_lt (length w.core.server.sessions) 64) (nat_lt w.core.server.sessions_made 4294967295) (grind (arith, nat_tests, room)) (grind (arith, nat_tests, made)))
+may_turn P n all past w turn.Skip h le f = tt
+may_turn P n all past w (turn.At s) h le f = tt
+may_turn P n all past w (turn.Clients m) h le f = tt
+may_turn P n all past w (turn.File name content) h le f = tt
+may_turn P n all past w (turn.Do c now d) h le f = tt
+may_turn P n all past w (turn.Up m a now) h le f = tt
+may_turn P n all past w (turn.Down m a now) h le f = tt
+may_turn P n all past w (turn.Settle now) h le f = tt
+may_turn P n all past w (turn.Cut c) h le f = tt
+may_turn P n all past w (turn.Hang m) h le f = tt
+may_turn P n all past w (turn.Pass m k server at) h le f = tt
+
+-- ---- lines before the first event
+
+no_more : (past : List Moment) → past ++ [] ≡ past
+no_more past = append-nil past
+
+clients_first : (n m : ℕ) (w : World) (past : List Moment) → IsFirst n w past → IsFirst (n + 1) (with_clients w m) (past ++ [])
+clients_first n m w past f = record {
+  files = f.files;
+  changes = f.changes;
+  count = m;
+  core_is = ap (λ (k : Core). record k { seats = replicate m new_seat }) f.core_is;
+  wires_is = f.wires_is;
+  tree = f.tree;
+  past_is = no_more past ∙ f.past_is;
+  few = let e = f.few in omega (arith, e);
+}
+
+file_first : (n : ℕ) (w : World) (name : List ℕ) (content : List Part) (past : List Moment) → n ≤ 65536 → content_length content ≤ 67108864 → IsFirst n w past → IsFirst (n + 1) (with_file w name (content_bytes content)) (past ++ [])
+file_first n w name content past le size f =
+    let o : Opening = record { file = length w.opening + 2; content = content_bytes content } in
+    let few = f.few in
+    record {
+      files = server.with_file f.files (opening_file o);
+      changes = max f.changes 1;
+      count = f.count;
+      core_is = ap (λ (k : Core). record k { server = Rattle.server_core.specs.Step.opens_with k.server (opening_file o) }) f.core_is;
+      wires_is = f.wires_is;
+      tree = tree_more w.opening f.files f.changes o refl (omega (arith, few, le)) (let e = content_size content in omega (arith, e, size)) f.tree;
+      past_is = no_more past ∙ f.past_is;
+      few = let c = count_more w.opening o in omega (arith, few, c);
+    }
+
+stage_first : (n : ℕ) (w : World) (s : Stage) (past : List Moment) → IsFirst n w past → IsFirst (n + 1) (record w { stage = s }) (past ++ [])
+stage_first n w s past f = record { files = f.files; changes = f.changes; count = f.count; core_is = f.core_is; wires_is = f.wires_is; tree = f.tree; past_is = no_more past ∙ f.past_is; few = let e = f.few in omega (arith, e) }
+
+not_early : {A : Type 0} (s : Stage) → s ≡ stage.Events → is_early s ≡ true → A
+not_early s e early = absurd (by (sym (ap is_early e) ∙ early))
+  where
+    by : false ≡ true → ⊥
+    by h = cc
+
+first_turned : (n : ℕ) (w : World) (t : Turn) (past : List Moment) → MayTurn w t → n ≤ 65536 → Allows w t → (is_early w.stage ≡ true → IsFirst n w past) → is_early (turned w t).stage ≡ true → IsFirst (n + 1) (turned w t) (past ++ turn_moments w t)
+first_turned n w turn.Skip past may le f h early = stage_first n w w.stage past (h early)
+first_turned n w (turn.At s) past may le f h early = stage_first n w s past (h f)
+first_turned n w (turn.Clients m) past may le f h early = clients_first n m w past (h f)
+first_turned n w (turn.File name content) past may le f h early = file_first n w name content past le f.1 (h f.0)
+first_turned n w (turn.Join c) past may le f h early = not_early (turned w (turn.Join c)).stage (turned_to w (turn.Join c) may).stage early
+first_turned n w (turn.Do c now d) past may le f h early = not_early (turned w (turn.Do c now d)).stage (turned_to w (turn.Do c now d) may).stage early
+first_turned n w (turn.Up m a now) past may le f h early = not_early (turned w (turn.Up m a now)).stage (turned_to w (turn.Up m a now) may).stage early
+first_turned n w (turn.Down m a now) past may le f h early = not_early (turned w (turn.Down m a now)).stage (turned_to w (turn.Down m a now) may).stage early
+first_turned n w (turn.Settle now) past may le f h early = not_early (turned w (turn.Settle now)).stage (turned_to w (turn.Settle now) may).stage early
+first_turned n w (turn.Cut c) past may le f h early = not_early (turned w (turn.Cut c)).stage (turned_to w (turn.Cut c) may).stage early
+first_turned n w (turn.Hang m) past may le f h early = not_early (turned w (turn.Hang m)).stage (turned_to w (turn.Hang m) may).stage early
+first_turned n w (turn.Pass m k server at) past may le f h early = not_early (turned w (turn.Pass m k server at)).stage (turned_to w (turn.Pass m k server at) may).stage early
+
+-- ---- any line
+
+same_stands : (P : Fact) (all past : List Moment) (w : World) (s : Stage) → Stands P all past w → Stands P all past (record w { stage = s })
+same_stands P all past w s h = record { queues = h.queues; kept = h.kept; carry = h.carry; rested = h.rested; more = h.more }
+
+idle_stands : (P : Fact) (all past : List Moment) (w : World) → Stands P all past w → Stands P all (past ++ []) w
+idle_stands P all past w h = subst (λ (z : List Moment). Stands P all z w) (sym (append-nil past)) h
+
+stands_turned : (P : Fact) → KeptLaws → FitLaws → Carried P → (n : ℕ) (all past rest : List Moment) (w : World) (t : Turn) → n ≤ 65536 → Allows w t → Before P n all past w → all ≡ past ++ (turn_moments w t ++ rest) → Stands P all (past ++ turn_moments w t) (turned w t)
+stands_turned P l fits carried n all past rest w turn.Skip le f h split = idle_stands P all past w h.stands
+stands_turned P l fits carried n all past rest w (turn.At s) le f h split = idle_stands P all past (record w { stage = s }) (same_stands P all past w s h.stands)
+stands_turned P l fits carried n all past rest w (turn.Clients m) le f h split = first_stands P carried (n + 1) all (past ++ []) (with_clients w m) (clients_first n m w past (h.first f))
+stands_turned P l fits carried n all past rest w (turn.File name content) le f h split = first_stands P carried (n + 1) all (past ++ []) (with_file w name (content_bytes content)) (file_first n w name content past le f.1 (h.first f.0))
+stands_turned P l fits carried n all past rest w (turn.Join c) le f h split =
+    event_stands P l carried all past rest (at_events w) (Joins c) (same_stands P all past w stage.Events h.stands) split (f.0, f.1, f.2, made_small P n all past w h le, f.3, refl)
+stands_turned P l fits carried n all past rest w (turn.Do c now d) le f h split = event_stands P l carried all past rest (at_events w) (Does c now d) (same_stands P all past w stage.Events h.stands) split (f.0, f.1, f.2, refl)
+stands_turned P l fits carried n all past rest w (turn.Settle now) le f h split = event_stands P l carried all past rest (at_events w) (Settles now) (same_stands P all past w stage.Events h.stands) split refl
+stands_turned P l fits carried n all past rest w (turn.Cut c) le f h split = event_stands P l carried all past rest (at_events w) (Cuts c) (same_stands P all past w stage.Events h.stands) split (f.0, f.1, refl)
+stands_turned P l fits carried n all past rest w (turn.Hang m) le f h split = event_stands P l carried all past rest (at_events w) (Hangs m) (same_stands P all past w stage.Events h.stands) split (f.0, f.1, refl)
+stands_turned P l fits carried n all past rest w (turn.Up m a now) le f h split = up_stands P l fits carried all past rest (at_events w) m (count_of a (up_length (numbered w.wires m))) now split (same_stands P all past w stage.Events h.stands)
+stands_turned P l fits carried n all past rest w (turn.Down m a now) le f h split = down_stands P l carried all past rest (at_events w) m (count_of a (down_length (numbered w.wires m))) now split (same_stands P all past w stage.Events h.stands)
+stands_turned P l fits carried n all past rest w (turn.Pass m k server at) le f h split = passes_stand P l fits carried k all past rest (at_events w) m server at split (same_stands P all past w stage.Events h.stands)
+
+pub before_next : (P : Fact) → KeptLaws → FitLaws → Carried P → (n : ℕ) (all past rest : List Moment) (w : World) (t : Turn) → n ≤ 65536 → Allows w t → Before P n all past w → all ≡ past ++ (turn_moments w t ++ rest) → Before P (n + 1) all (past ++ turn_moments w t) (turned w t)
+before_next P l fits carried n all past rest w t le f h split =
+    let may = may_turn P n all past w t h le f in
+    record {
+      stands = stands_turned P l fits carried n all past rest w t le f h split;
+      few = few_turned n w t may h.few;
+      first = first_turned n w t past may le f h.first;
+    }

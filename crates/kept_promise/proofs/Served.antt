@@ -1,0 +1,59 @@
+-- The server takes the first call on its way: all calls together.
+use Rattle.std.proofs.Common.{◌≡◌, ℕ, ◌+◌, List, [], ◌∷◌, Option, Some, None, Bool, true, false, refl, sym, ap, ◌∙◌, subst, max}
+use Rattle.std.specs.Prelude.{not, Result, Ok, Err}
+use Rattle.wire.specs.Message.{message_spell}
+use Rattle.wire.specs.Parse.{parse_of}
+use Rattle.wire.specs.declared.message.Message.{Message}
+use Rattle.wire.specs.declared.fault.WireFault.{WireFault}
+use Rattle.server_core.specs.Step.{stands, got_if, got}
+use Rattle.server_core.specs.Closing.{at, cond_fault}
+use Rattle.server_core.specs.Temps.{temp_at}
+use Rattle.xdr_codec.specs.declared.answer.Answer.TheVariants.{Failed}
+use Rattle.trace_replay.specs.Core.{Core, Session, Event.Serves, Turned, numbered, with_numbered, server_waiting, server_got, serves_if, serves, taken_with, quiet, happens}
+use Rattle.trace_replay.specs.Book.{Book}
+use Rattle.kept_promise.specs.Talk.{Call, Call.Hash, Call.Read, Call.Make, Call.Name, Call.Send, Call.Commit, Reply.Named, Ask, Queue, ask_message}
+use Rattle.kept_promise.proofs.Lists.{some_is, nothing_there}
+use Rattle.kept_promise.proofs.Turns.{also_numbered}
+use Rattle.kept_promise.proofs.Fits.{FitLaws}
+use Rattle.kept_promise.proofs.Facts.{IsSession, IsKept}
+use Rattle.kept_promise.proofs.Serves.{parsed}
+use Rattle.kept_promise.proofs.Calls.{Given, session_in, first_fits, rest_of, served, serve_hash, serve_read, serve_plain, serve_make, serve_send, held_still, name_wanted}
+use Rattle.kept_promise.proofs.Commits.{serve_commit}
+use Rattle.kept_promise.proofs.Leading.{IsNoted, Leads, KeptServes}
+
+-- what the server does for a message, where its session stands or not
+abbrev got_by : Core → (n now : ℕ) → Session → Message → Bool → Turned
+got_by k n now x m b =
+    let r = got_if k.server b n m now in
+    record (quiet (record k { steps = k.steps + 1; server = r.0; sessions = with_numbered k.sessions n (record x { taken = taken_with x.taken m (k.steps + 1) }) })) { down = r.1.send }
+
+serve_call : FitLaws → (book : Book) (k : Core) (qs : List Queue) (n now : ℕ) (x : Session) (q : Queue) (xid : ℕ) (c : Call) (us : List Ask) → Given book k qs n now x q (record { xid = xid; call = c }) us → Leads book (rest_of qs n q us) (got_by k n now x (ask_message (record { xid = xid; call = c })) true)
+serve_call laws book k qs n now x q xid (Hash f o) us g = serve_hash laws book k qs n now x q xid f o us g
+serve_call laws book k qs n now x q xid (Read f d) us g = serve_read laws book k qs n now x q xid f d us g
+serve_call laws book k qs n now x q xid (Make m f) us g = serve_make laws book k qs n now x q xid m f us g
+serve_call laws book k qs n now x q xid (Name m d) us g = serve_plain laws book k qs n now x q (record { xid = xid; call = Name m d }) us (Named (Failed (cond_fault (record { fd = m; offset = d.start; count = d.len; digest = d.digest }) (temp_at k.server.temps n m)) tt)) g (λ uncut. name_wanted book k qs n now x q xid m d us g uncut) (λ uncut vs e. held_still book k qs n now x q (record { xid = xid; call = Name m d }) us g tt uncut vs e) refl tt (first_fits book k qs n now x q (record { xid = xid; call = Name m d }) us g).0 (λ uncut. tt)
+serve_call laws book k qs n now x q xid (Send m start bytes) us g = serve_send laws book k qs n now x q xid m start bytes us g
+serve_call laws book k qs n now x q xid (Commit m f size) us g = serve_commit laws book k qs n now x q xid m f size us g
+
+pub kept_serves : FitLaws → KeptServes
+kept_serves laws book k qs n now q a us kept is e noted = by (also_numbered qs k.sessions n q (sym kept.made.1) is)
+  where
+    given : (x : Session) → numbered k.sessions n ≡ Some x → (b : Bool) → x.hung ≡ b → Given book k qs n now x q a us
+    given x at false hung = record { kept = kept; at = at; is = is; first = e; unhung = hung; noted = noted }
+    given x at true hung = absurd (no_ups ((kept.sessions n x q at is).lost hung))
+      where
+        none_is : a ∷ us ≡ [] → ⊥
+        none_is z = absurd cc
+
+        no_ups : q.ups ≡ [] → ⊥
+        no_ups none = none_is (sym e ∙ none)
+
+    by : (x : Session) × (numbered k.sessions n ≡ Some x) → Leads book (rest_of qs n q us) (happens k (Serves n now (message_spell (ask_message a))))
+    by x =
+        let g = given x.0 x.1 x.0.hung refl in
+        let h = session_in book k qs n now x.0 q a us g in
+        let bytes = message_spell (ask_message a) in
+        let standing : stands k.server n ≡ true = h.stands_is ∙ ap not g.unhung in
+        let is_turned : happens k (Serves n now bytes) ≡ got_by k n now x.0 (ask_message a) true =
+        ap (serves k n now bytes) x.1 ∙ ap (serves_if k n now x.0) (parsed laws a (first_fits book k qs n now x.0 q a us g)) ∙ ap (got_by k n now x.0 (ask_message a)) standing in
+        subst (Leads book (rest_of qs n q us)) (sym is_turned) (serve_call laws book k qs n now x.0 q a.xid a.call us g)

@@ -1,0 +1,112 @@
+-- The server takes the first call on its way.
+use Rattle.std.proofs.Common.{◌⊎◌, inl, inr, ◌≡◌, ℕ, zero, suc, ◌+◌, ◌<◌, ◌≤◌, ◌^◌, List, [], ◌∷◌, ◌++◌, length, max, Option, Some, None, Bool, true, false, refl, sym, ap, ◌∙◌, subst, arith, eqb-true}
+use Rattle.std.specs.Prelude.{slice_get, map, not, cond, ◌==◌, IsSome, Result, Ok, Err, Contains}
+use Rattle.std.proofs.lemmas.List.Elements.{Contains-append_left, Contains-append_right, Contains-push}
+use Rattle.std.proofs.lemmas.Nat.{from_be_bytes-to_be_bytes_8}
+use Rattle.chunk_cut.specs.Places.{chunk_bytes, end_of}
+use Rattle.chunk_cut.specs.declared.chunk.Chunk.{Chunk}
+use Rattle.xdr_codec.specs.Handle.{handle_bytes, file_of}
+use Rattle.xdr_codec.specs.declared.answer.Answer.{Answer}
+use Rattle.xdr_codec.specs.declared.answer.Answer.TheVariants.{Done, Failed}
+use Rattle.xdr_codec.specs.declared.attr.Attr.{Attr}
+use Rattle.xdr_codec.specs.declared.status.Status.{Status}
+use Rattle.xdr_codec.specs.declared.status.Status.TheVariants as status
+use Rattle.hash_calls.specs.declared.call.Hashes.{Hashes}
+use Rattle.hash_calls.specs.declared.call.HashRange.{HashRange}
+use Rattle.nfs3_calls.specs.declared.call.Piece.{Piece}
+use Rattle.nfs3_calls.specs.declared.call.Range.{Range}
+use Rattle.wire.specs.Message.{message_spell, MessageFits}
+use Rattle.wire.specs.Parse.{parse_of}
+use Rattle.wire.specs.declared.message.Message.{Message}
+use Rattle.wire.specs.declared.fault.WireFault.{WireFault}
+use Rattle.server_core.specs.State as server
+use Rattle.server_core.specs.Step.{stands, got_if}
+use Rattle.server_core.specs.Answers.{Node, root, file, file_node, node_named, node_of, told_chunks, hashes_of, hash_answer, piece_of, read_answer}
+use Rattle.server_core.specs.Temps.{Temp, temp_at, key_of}
+use Rattle.server_core.specs.Hashed.{bytes_told, server_hashed}
+use Rattle.server_core.specs.declared.file.File.{File}
+use Rattle.trace_replay.specs.Core.{Core, Seat, Session, Event, Event.Serves, Turned, Loss.Nothing, numbered, with_numbered, server_waiting, server_got, serves_if, serves, taken_with, happens}
+use Rattle.trace_replay.specs.World.{unless}
+use Rattle.trace_replay.specs.Trail.{hashed_of}
+use Rattle.trace_replay.specs.Book.{Book}
+use Rattle.kept_promise.specs.Talk.{Call, Call.Hash, Call.Read, Call.Make, Call.Name, Call.Send, Call.Commit, Reply, Reply.Hashed, Reply.Bytes, Reply.Made, Reply.Named, Reply.Stored, Reply.Changed, Ask, Told, Queue, ask_message, told_message}
+use Rattle.kept_promise.proofs.Statements.{CallFits, IsPlain}
+use Rattle.kept_promise.proofs.Lists.{some_is, nothing_there}
+use Rattle.kept_promise.proofs.Messages.{Job, job}
+use Rattle.kept_promise.proofs.History.{onward}
+use Rattle.kept_promise.proofs.Turns.{Around, around_with, turned_core, also_numbered}
+use Rattle.kept_promise.proofs.Fits.{FitLaws}
+use Rattle.kept_promise.proofs.Takes.{took, put_down, Answers, kept_reply}
+use Rattle.kept_promise.proofs.Facts.{IsSession, IsKept}
+use Rattle.kept_promise.proofs.Leading.{Sends, IsNoted, Leads, sent_message, queues_after, downs_put_in}
+
+-- ---- what is found under this file system's own handles
+
+pub own_node : (files : List (ℕ × File)) (f : ℕ) → f < 18446744073709551616 → node_of files (handle_bytes f) ≡ node_named files (Some f)
+own_node files f small = ap (node_named files) (ap (λ (n : ℕ). Some n) (from_be_bytes-to_be_bytes_8 f small))
+
+-- ---- the message comes whole
+
+pub parsed : FitLaws → (a : Ask) → CallFits a.xid a.call → parse_of server_waiting (message_spell (ask_message a)) ≡ Ok (ask_message a)
+parsed laws a fits = let f = laws.calls a.xid a.call fits in laws.again server_waiting (ask_message a) f.0.0 f.1
+
+-- ---- the queues
+
+again : (qs : List Queue) (n : ℕ) (q r : Queue) (us : List Ask) → numbered qs n ≡ Some q → Around qs (with_numbered (with_numbered qs n (record q { ups = us })) n r) n r
+again qs n q r us is =
+    let one = around_with qs n q (record q { ups = us }) is in
+    let two = around_with (with_numbered qs n (record q { ups = us })) n (record q { ups = us }) r one.there in
+    record { there = two.there; others = λ m apart. two.others m apart ∙ one.others m apart; count = two.count ∙ one.count }
+
+put_is : (qs : List Queue) (sessions : List Session) (n : ℕ) (q : Queue) (us : List Ask) (y : Session) (t : Told) → numbered qs n ≡ Some q → numbered sessions n ≡ Some y
+    → downs_put_in (with_numbered qs n (record q { ups = us })) (n, t) (numbered sessions n) (numbered (with_numbered qs n (record q { ups = us })) n) ≡ with_numbered (with_numbered qs n (record q { ups = us })) n (put_down q us y.cut t)
+put_is qs sessions n q us y t is at =
+    ap (λ o. downs_put_in (with_numbered qs n (record q { ups = us })) (n, t) o (numbered (with_numbered qs n (record q { ups = us })) n)) at
+    ∙ ap (downs_put_in (with_numbered qs n (record q { ups = us })) (n, t) (Some y)) (around_with qs n q (record q { ups = us }) is).there
+
+-- ---- an answer at once
+
+abbrev pub answered : Core → (n moment : ℕ) → Session → Ask → List (ℕ × Temp) → Reply → Turned
+answered k n moment x a temps r = record {
+  core = record k { steps = k.steps + 1; server = record k.server { moment = moment; temps = temps }; sessions = with_numbered k.sessions n (took x a.xid (k.steps + 1)) };
+  loss = Nothing;
+  session = None;
+  up = [];
+  down = sent_message (n, record { xid = a.xid; reply = r }) ∷ [];
+}
+
+pub leads_answer : (book : Book) (k : Core) (qs : List Queue) (n moment : ℕ) (x : Session) (q : Queue) (a : Ask) (us : List Ask) (temps : List (ℕ × Temp)) (r : Reply) → (kept : IsKept book k qs) → (at : numbered k.sessions n ≡ Some x) → (is : numbered qs n ≡ Some q) → q.ups ≡ a ∷ us → x.hung ≡ false
+    → Answers book k n x q a temps r (kept.sessions n x q at is) → Leads book (with_numbered qs n (record q { ups = us })) (answered k n moment x a temps r)
+leads_answer book k qs n moment x q a us temps r kept at is e unhung shows =
+    let t : Told = record { xid = a.xid; reply = r } in
+    let y = took x a.xid (book.steps + 1) in
+    let z = took x a.xid (k.steps + 1) in
+    let same : y ≡ z = ap (λ (s : ℕ). took x a.xid (s + 1)) kept.steps in
+    let sessions = with_numbered k.sessions n z in
+    let around = around_with k.sessions n x z at in
+    let more = onward book 1 book.ops in
+    let after = with_numbered (with_numbered qs n (record q { ups = us })) n (put_down q us x.cut t) in
+    let done : IsKept more (turned_core more (record k.server { moment = moment; temps = temps }) k.seats sessions) after = kept_reply book k qs n moment x q a us temps r sessions after kept at is e unhung (record { there = around.there ∙ ap (λ v. Some v) (sym same); others = around.others; count = around.count }) (again qs n q (put_down q us x.cut t) us is) shows in
+    record {
+      sends = record { asks = []; up_is = refl; tolds = (n, t) ∷ []; down_is = refl };
+      more = more;
+      moments = refl;
+      opening = refl;
+      kept = subst (λ (l : List Queue). IsKept more (answered k n moment x a temps r).core l) (sym (put_is qs sessions n q us z t is around.there))
+          (subst (λ (c : Core). IsKept more c after) (ap (λ s. record { server = record k.server { moment = moment; temps = temps }; seats = k.seats; sessions = sessions; steps = s + 1; ops = book.ops; entries = book.entries }) kept.steps ∙ ap (λ o. record { server = record k.server { moment = moment; temps = temps }; seats = k.seats; sessions = sessions; steps = k.steps + 1; ops = o; entries = book.entries }) kept.ops ∙ ap (λ o. record { server = record k.server { moment = moment; temps = temps }; seats = k.seats; sessions = sessions; steps = k.steps + 1; ops = k.ops; entries = o }) kept.entries) done);
+    }
+
+-- ---- what is told
+
+plain_fits : FitLaws → (a : Ask) (r : Reply) → a.xid < 4294967296 → IsPlain r → MessageFits (told_message (record { xid = a.xid; reply = r }))
+plain_fits laws a r lt plain = laws.plain a.xid r lt plain
+
+pub contains_at : {A : Type 0} (xs : List A) (i : ℕ) (x : A) → slice_get xs i ≡ Some x → Contains xs x
+contains_at [] i x e = nothing_there x e
+contains_at (z ∷ xs) zero x e = subst (Contains (z ∷ xs)) (some_is z x e) (Contains-append_left (z ∷ []) xs z (Contains-push [] z))
+contains_at (z ∷ xs) (suc i) x e = Contains-append_right (z ∷ []) xs x (contains_at xs i x e)
+
+pub map_at : {A B : Type 0} (f : A → B) (xs : List A) (i : ℕ) (x : A) → slice_get xs i ≡ Some x → slice_get (map f xs) i ≡ Some (f x)
+map_at f [] i x e = nothing_there x e
+map_at f (z ∷ xs) zero x e = ap (λ a. Some (f a)) (some_is z x e)
+map_at f (z ∷ xs) (suc i) x e = map_at f xs i x e

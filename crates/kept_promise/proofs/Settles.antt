@@ -1,0 +1,407 @@
+-- The first change that waits is made, and its session told.
+use Rattle.std.proofs.Common.{inl, inr, ◌≡◌, ℕ, suc, ◌+◌, ◌≤◌, List, [], ◌∷◌, ◌++◌, length, replicate, Option, Some, None, Bool, true, false, refl, sym, ap, ◌∙◌, subst, arith, eq-eqb, ne_eqb, append-nil}
+use Rattle.std.specs.Prelude.{slice_get, slice_set, map, cond, ◌==◌, IsSome}
+use Rattle.sha1.specs.Sha1.{sha1}
+use Rattle.xdr_codec.specs.declared.answer.Answer.TheVariants.{Done, Failed}
+use Rattle.wire.specs.Message.{MessageFits}
+use Rattle.server_core.specs.State as server
+use Rattle.server_core.specs.Closing.{at, changed, entry_of, told_change, makes_change}
+use Rattle.server_core.specs.Closing as closing
+use Rattle.server_core.specs.declared.change.Change.{Change}
+use Rattle.server_core.specs.declared.event.Told.TheVariants as told_
+use Rattle.server_core.specs.declared.event.ServerStep.{ServerStep}
+use Rattle.server_core.specs.declared.file.File.{File}
+use Rattle.server_core.specs.declared.journal.Entry.{Entry}
+use Rattle.open_close.specs.State as client
+use Rattle.hash_calls.specs.declared.message.LbProc.TheVariants as lb_proc
+use Rattle.wire.specs.declared.message.Program.TheVariants as program
+use Rattle.open_close.specs.declared.task.Fetch.{Fetch}
+use Rattle.open_close.specs.declared.task.Stage.{Stage}
+use Rattle.open_close.specs.declared.task.Stage.TheVariants as stage
+use Rattle.register_model.specs.Register.{Value, content_of}
+use Rattle.register_model.specs.declared.op.Op.{Op}
+use Rattle.register_model.specs.declared.op.Outcome.TheVariants as told
+use Rattle.trace_replay.specs.Core.{Core, Seat, Session, Turned, quiet, numbered, with_numbered, settled_ops, settled_by}
+use Rattle.trace_replay.specs.Ops.{pointed, pointed_at}
+use Rattle.trace_replay.specs.World.{unless}
+use Rattle.trace_replay.specs.Book.{Book, value_at, version_at}
+use Rattle.kept_promise.specs.Talk.{Call, Call.Hash, Call.Read, Call.Make, Call.Name, Call.Send, Call.Commit, Reply, Reply.Hashed, Reply.Bytes, Reply.Made, Reply.Named, Reply.Stored, Reply.Changed, Ask, Told, Queue, told_message, reply_program}
+use Rattle.kept_promise.proofs.Lists.{some_is, nothing_there, same_or_not, at_end, at_replaced, of_replaced}
+use Rattle.kept_promise.proofs.Keys.{times, times_append, times_head, own, on_way, key, change_key, ask_key, told_key}
+use Rattle.kept_promise.proofs.Messages.{Job, job, hash_offset, FetchOf, CommitTold, AllAsks, AllTolds, IsAnswer, AnswerOf, IsCommit, CommitOf, IsPending, CloseOf}
+use Rattle.kept_promise.proofs.Rights.{IsSound, IsUnmade, IsMade}
+use Rattle.kept_promise.proofs.Marks.{marks}
+use Rattle.kept_promise.proofs.Growth.{Grows, value_alike, version_alike, made_later}
+use Rattle.kept_promise.proofs.History.{entered, made_op, IsEntryOf, grows_made, goes_made, value_now, version_now, marks_else}
+use Rattle.kept_promise.proofs.Later.{seat_later}
+use Rattle.kept_promise.proofs.Taken.{tolds_append, times_map_append}
+use Rattle.kept_promise.proofs.Turns.{around_same, around_with, also_numbered, turned_core, kept_turn}
+use Rattle.kept_promise.proofs.Fits.{FitLaws}
+use Rattle.kept_promise.proofs.Ordered.{orderly_later, orderly_told}
+use Rattle.kept_promise.proofs.Shelf.{found_put, found_else}
+use Rattle.kept_promise.proofs.OrderSteps.{keys_once}
+use Rattle.kept_promise.proofs.Facts.{FileIs, IsTalk, IsKept, commits_in}
+use Rattle.kept_promise.proofs.Leading.{Leads, downs_put_in, downs_put, KeptSettles}
+use Rattle.kept_promise.proofs.Cuts.{leads_idle}
+
+-- ---- a change that waits, in front
+
+own_first : (c : Change) (cs : List Change) → own c.session (c ∷ cs) ≡ c ∷ own c.session cs
+own_first c cs = ap (λ b. cond b (c ∷ own c.session cs) (own c.session cs)) (eq-eqb c.session c.session refl)
+
+own_other : (m : ℕ) (c : Change) (cs : List Change) → (m ≡ c.session → ⊥) → own m (c ∷ cs) ≡ own m cs
+own_other m c cs apart = ap (λ b. cond b (c ∷ own m cs) (own m cs)) (ne_eqb c.session m (λ e. apart (sym e)))
+
+-- where no commit is on its way, none is a change's
+no_commits : (book : Book) (closes : Option ℕ) (b : Bool) (j : Option Job) (contents : ℕ → List ℕ) (us : List Ask) → commits_in us ≡ 0 → AllAsks (IsCommit book closes b j contents) us
+no_commits book closes b j contents [] e = tt
+no_commits book closes b j contents (a ∷ us) e = by a.call e (λ f. no_commits book closes b j contents us f)
+  where
+    by : (c : Call) → ◌≡◌ {A = ℕ} (elim c [ Commit temp file size ↦ suc (commits_in us) | _ ↦ commits_in us ]) 0 → (commits_in us ≡ 0 → AllAsks (IsCommit book closes b j contents) us) → CommitOf book closes b j contents a.xid c × AllAsks (IsCommit book closes b j contents) us
+    by (Commit temp file size) e later = absurd (omega (arith, e))
+    by (Hash f o) e later = (tt, later e)
+    by (Read f c) e later = (tt, later e)
+    by (Make t f) e later = (tt, later e)
+    by (Name t c) e later = (tt, later e)
+    by (Send t s bytes) e later = (tt, later e)
+
+-- ---- the tree
+
+-- the book once an operation has taken effect
+abbrev made_book : Book → Entry → (j : ℕ) → Op → Book
+made_book book e j o = entered book (slice_set book.ops j (made_op book o)) e
+
+-- what the tree has of each file, once one got this content
+held_made : (book : Book) (e : Entry) (j : ℕ) (o : Op) (files : List (ℕ × File)) (g : File) → slice_get book.ops j ≡ Some o → IsUnmade o → IsSound book → o.file ≡ g.id → length o.value ≤ 67108864 → ((f : ℕ) → FileIs book f (server.file_at files f)) → server.file_at files g.id ≡ Some g
+    → (f : ℕ) → FileIs (made_book book e j o) f (server.file_at (server.with_file files (changed g o.value)) f)
+held_made book e j o files g there_ unmade sound mine short held there f = elim (same_or_not f g.id) [
+  | inl here ↦
+      let was : FileIs book g.id (Some g) = subst (FileIs book g.id) there (held g.id) in
+      let value = subst (λ n. value_at (made_book book e j o) o.file n ≡ Some o.value) two (value_now book e j o there_ unmade sound) in
+      let version = subst (λ n. version_at (made_book book e j o) o.file n ≡ version_at book o.file (book.steps + 1) + 1) two (version_now book e j o there_ unmade sound) in
+      let own : FileIs (made_book book e j o) g.id (Some (changed g o.value)) = (refl, was.1, was.2, was.3, ap (λ z. value_at (made_book book e j o) z (book.steps + 1 + 1)) (sym mine) ∙ value, ap (λ z. version_at (made_book book e j o) z (book.steps + 1 + 1)) (sym mine) ∙ version ∙ ap (λ z. version_at book z (book.steps + 1) + 1) mine ∙ ap (λ z. z + 1) was.5, short) in
+      subst (λ (z : ℕ). FileIs (made_book book e j o) z (server.file_at (server.with_file files (changed g o.value)) z)) (sym here) (subst (FileIs (made_book book e j o) g.id) (sym (found_put files g.id (changed g o.value))) own)
+  | inr apart ↦
+      let marks_ : marks f (book.steps + 1 + 1) (slice_set book.ops j (made_op book o)) ≡ marks f (book.steps + 1) book.ops = subst (λ n. marks f n (slice_set book.ops j (made_op book o)) ≡ marks f (book.steps + 1) book.ops) two (marks_else book j o f there_ unmade (λ q. apart (sym q ∙ mine)) sound) in
+      subst (FileIs (made_book book e j o) f) (sym (found_else files g.id f (changed g o.value) apart)) (others (server.file_at files f) (held f) (value_alike book (made_book book e j o) f (book.steps + 1 + 1) (book.steps + 1) refl marks_) (version_alike book (made_book book e j o) f (book.steps + 1 + 1) (book.steps + 1) marks_))
+]
+  where
+    two : book.steps + 2 ≡ book.steps + 1 + 1
+    two = omega arith
+
+    others : (z : Option File) → FileIs book f z → value_at (made_book book e j o) f (book.steps + 1 + 1) ≡ value_at book f (book.steps + 1) → version_at (made_book book e j o) f (book.steps + 1 + 1) ≡ version_at book f (book.steps + 1) → FileIs (made_book book e j o) f z
+    others None h v w = (h.0, v ∙ h.1)
+    others (Some z) h v w = (h.0, h.1, h.2, h.3, v ∙ h.4, w ∙ h.5, h.6)
+
+-- a change to a file that is there leaves each version within the changes
+versions_made : (files : List (ℕ × File)) (g : File) (content : List ℕ) (changes : ℕ) → ((f : ℕ) (z : File) → server.file_at files f ≡ Some z → z.version ≤ changes) → server.file_at files g.id ≡ Some g → (f : ℕ) (z : File) → server.file_at (server.with_file files (changed g content)) f ≡ Some z → z.version ≤ changes + 1
+versions_made files g content changes h there f z e = elim (same_or_not f g.id) [
+  | inl here ↦
+      let is : changed g content ≡ z = some_is (changed g content) z (sym (found_put files g.id (changed g content)) ∙ ap (server.file_at (server.with_file files (changed g content))) (sym here) ∙ e) in
+      let a : g.version ≤ changes = h g.id g there in
+      let b : g.version + 1 ≡ z.version = ap (λ (v : File). v.version) is in
+      omega (arith, a, b)
+  | inr apart ↦ let a = h f z (sym (found_else files g.id f (changed g content) apart) ∙ e) in omega (arith, a)
+]
+
+-- ---- the session
+
+abbrev answer : Change → (version : ℕ) → Told
+answer c version = record { xid = c.xid; reply = Changed (Done (record { version = version; term = 0 })) }
+
+-- a change that is made is told where it waited
+way_made : (n y : ℕ) (c : Change) (cs : List Change) (q : Queue) (version : ℕ) → own n (c ∷ cs) ≡ c ∷ own n cs → times y (on_way n cs (record q { downs = q.downs ++ answer c version ∷ [] })) ≡ times y (on_way n (c ∷ cs) q)
+way_made n y c cs q version first =
+    let t = answer c version in
+    let ups = map ask_key q.ups in
+    let a = times_append y ups (map change_key (own n cs) ++ map told_key (q.downs ++ t ∷ [])) in
+    let b = times_append y (map change_key (own n cs)) (map told_key (q.downs ++ t ∷ [])) in
+    let d = times_map_append told_key y q.downs (t ∷ []) in
+    let e = ap (λ (l : List Change). times y (ups ++ (map change_key l ++ map told_key q.downs))) first in
+    let f = times_append y ups (map change_key (c ∷ own n cs) ++ map told_key q.downs) in
+    let g = times_append y (map change_key (c ∷ own n cs)) (map told_key q.downs) in
+    let h = times_append y (change_key c ∷ []) (map change_key (own n cs)) in
+    omega (arith, a, b, d, e, f, g, h)
+
+-- answers of which none has this key
+all_but : (P Q : Told → Type 0) (k : ℕ) (ts : List Told) → times k (map told_key ts) ≡ 0 → ((t : Told) → (told_key t ≡ k → ⊥) → P t → Q t) → AllTolds P ts → AllTolds Q ts
+all_but P Q k [] none f h = tt
+all_but P Q k (t ∷ ts) none f h = by (told_key t == k) refl none (λ n. all_but P Q k ts n f h.1)
+  where
+    by : (b : Bool) → (told_key t == k) ≡ b → ◌≡◌ {A = ℕ} (cond b (suc (times k (map told_key ts))) (times k (map told_key ts))) 0 → (times k (map told_key ts) ≡ 0 → AllTolds Q ts) → Q t × AllTolds Q ts
+    by true e n later = absurd (omega (arith, n))
+    by false e n later = (f t (λ q. differ q e) h.0, later n)
+      where
+        differ : told_key t ≡ k → (told_key t == k) ≡ false → ⊥
+        differ q g = let z : (told_key t == k) ≡ true = eq-eqb (told_key t) k q in absurd cc
+
+not_reading : (x : ℕ) (f : Fetch) → stage.Committing x ≡ stage.Reading f → ⊥
+not_reading x f e = absurd cc
+
+same_xid : (x y : ℕ) → stage.Committing x ≡ stage.Committing y → x ≡ y
+same_xid x y e = cc
+
+-- where it waited for nothing but its commit, a client still waits for that
+settled_talk : (book : Book) (e : Entry) (j : ℕ) (o : Op) (n : ℕ) (c : Change) (cs : List Change) (x : Session) (q : Queue) (seat : Seat) (version : ℕ)
+    → Grows book (made_book book e j o) (Some j) None → own n (c ∷ cs) ≡ c ∷ own n cs → job seat ≡ Some (record { place = j; file = c.file; stage = stage.Committing c.xid }) → IsMade (made_book book e j o) j version
+    → IsTalk book n (c ∷ cs) x q seat → IsTalk (made_book book e j o) n cs x (record q { downs = q.downs ++ answer c version ∷ [] }) seat
+settled_talk book e j o n c cs x q seat version g first committing made t = record {
+  floor = t.floor;
+  under = t.under;
+  rising = t.rising;
+  asked = t.asked;
+  answers = tolds_append (IsAnswer (made_book book e j o) x.taken x.closing (job seat)) q.downs (answer c version ∷ []) (all_but (IsAnswer book x.taken x.closing (job seat)) (IsAnswer (made_book book e j o) x.taken x.closing (job seat)) (change_key c) q.downs none (λ u apart h. old_reply u.xid u.reply apart h) t.answers) (new_answer, tt);
+  fetch = λ i f. let same : here ≡ i = some_is here i (sym committing ∙ f) in subst (λ (w : Job). FetchOf (made_book book e j o) x.taken w w.stage) same tt;
+  balanced = record {
+    most = λ y. let a = t.balanced.most y in let w = way_made n y c cs q version first in omega (arith, a, w);
+    least = λ hung y. let a = t.balanced.least hung y in let w = way_made n y c cs q version first in omega (arith, a, w);
+    once = t.balanced.once;
+    below = t.balanced.below;
+    ours = t.balanced.ours;
+  };
+  busy = t.busy;
+}
+  where
+    here : Job
+    here = record { place = j; file = c.file; stage = stage.Committing c.xid }
+
+    none : times (change_key c) (map told_key q.downs) ≡ 0
+    none =
+        let k = change_key c in
+        let a = t.balanced.most k in
+        let b = t.balanced.once c.xid in
+        let d = keys_once c.xid (program.Lb lb_proc.CommitTmp) (client.calls_of seat.client) in
+        let e1 = ap (λ (l : List Change). times k (map ask_key q.ups ++ (map change_key l ++ map told_key q.downs))) first in
+        let e2 = times_append k (map ask_key q.ups) (map change_key (c ∷ own n cs) ++ map told_key q.downs) in
+        let e3 = times_append k (map change_key (c ∷ own n cs)) (map told_key q.downs) in
+        let e4 = times_head k (map change_key (own n cs)) in
+        omega (arith, a, b, d, e1, e2, e3, e4)
+
+    new_answer : IsAnswer (made_book book e j o) x.taken x.closing (job seat) (answer c version)
+    new_answer = λ i f s. let same : here ≡ i = some_is here i (sym committing ∙ f) in subst (λ (w : Job). CommitTold (made_book book e j o) x.closing w (Done (record { version = version; term = 0 }))) same made
+
+    -- an answer to anything else is not waited for, or tells of the past
+    old_reply : (y : ℕ) (r : Reply) → (key y (reply_program r) ≡ change_key c → ⊥) → AnswerOf book x.taken x.closing (job seat) y r → AnswerOf (made_book book e j o) x.taken x.closing (job seat) y r
+    old_reply y (Hashed a) apart h = λ i k f s. let same : here ≡ i = some_is here i (sym committing ∙ f) in nothing_there k (ap (λ (w : Job). hash_offset w.stage y) same ∙ s)
+    old_reply y (Bytes a) apart h = λ i k m f s w. let same : here ≡ i = some_is here i (sym committing ∙ f) in absurd (not_reading c.xid k (ap (λ (z : Job). z.stage) same ∙ s))
+    old_reply y (Changed (Done d)) apart h = λ i f s. made_later book (made_book book e j o) (Some j) None i.place d.version g (h i f s)
+    old_reply y (Changed (Failed s u)) apart h = λ i f w.
+        let same : here ≡ i = some_is here i (sym committing ∙ f) in
+        let x_is : c.xid ≡ y = same_xid c.xid y (ap (λ (z : Job). z.stage) same ∙ w) in
+        absurd (apart (ap (λ (z : ℕ). key z (program.Lb lb_proc.CommitTmp)) (sym x_is)))
+    old_reply y (Made a) apart h = tt
+    old_reply y (Named a) apart h = tt
+    old_reply y (Stored a) apart h = tt
+
+-- ---- the event
+
+fewer_waiting : (s : server.State) (c : Change) (cs : List Change) → s.waiting ≡ c ∷ cs → (i : ℕ) (d : Change) → slice_get cs i ≡ Some d → slice_get s.waiting (suc i) ≡ Some d
+fewer_waiting s c cs e i d f = ap (λ (l : List Change). slice_get l (suc i)) e ∙ f
+
+-- the server, once a change was made
+abbrev settled_server : server.State → (now : ℕ) → Change → List Change → File → server.State
+settled_server s now c cs f = (makes_change (at (record s { waiting = cs }) now) c (Some f)).0
+
+settled_now : FitLaws → (book : Book) (k : Core) (qs : List Queue) (now : ℕ) (c : Change) (cs : List Change) (f : File) (x : Session) (q : Queue) (j : ℕ) (o : Op) → (kept : IsKept book k qs) → k.server.waiting ≡ c ∷ cs → server.file_at k.server.files c.file ≡ Some f → (here : numbered k.sessions c.session ≡ Some x) → x.hung ≡ false → (is : numbered qs c.session ≡ Some q)
+    → (pending : IsPending book x.closing x.cut (job (kept.sessions c.session x q here is).seat) c.xid c.file c.content) → pending.place ≡ j → pending.op ≡ o
+    → IsKept (made_book book (entry_of c f) j o) (turned_core (made_book book (entry_of c f) j o) (settled_server k.server now c cs f) k.seats k.sessions) (with_numbered qs c.session (record q { downs = unless x.cut q.downs (answer c (f.version + 1) ∷ []) }))
+settled_now laws book k qs now c cs f x q j o kept waits there here unhung is pending place_is op_is =
+    let n : ℕ = c.session in
+    let h = kept.sessions n x q here is in
+    let e : Entry = entry_of c f in
+    let at_ : slice_get book.ops j ≡ Some o = subst (λ (z : ℕ). slice_get book.ops z ≡ Some o) place_is (pending.there ∙ ap (λ (z : Op). Some z) op_is) in
+    let known : x.closing ≡ Some j = pending.known ∙ ap (λ (z : ℕ). Some z) place_is in
+    let unmade : IsUnmade o = subst IsUnmade op_is pending.unmade in
+    let file_is : o.file ≡ c.file = ap (λ (z : Op). z.file) (sym op_is) ∙ pending.file_is in
+    let value_is : o.value ≡ c.content = ap (λ (z : Op). z.value) (sym op_is) ∙ pending.value_is in
+    let own_file : FileIs book c.file (Some f) = subst (FileIs book c.file) there (kept.server.held c.file) in
+    let id_is : f.id ≡ c.file = own_file.0 in
+    let mine : o.file ≡ f.id = file_is ∙ sym id_is in
+    let tells : IsEntryOf book o e = record { file = mine; len = ap length value_is; digest = ap sha1 value_is; version = ap (λ (z : ℕ). z + 1) (sym own_file.5 ∙ ap (λ (z : ℕ). version_at book z (book.steps + 1)) (sym id_is)) } in
+    let goes = goes_made book e j o tells at_ unmade kept.sound in
+    let g = goes.grows in
+    let more = made_book book e j o in
+    let version : ℕ = f.version + 1 in
+    let t : Told = answer c version in
+    let p : Queue = record q { downs = unless x.cut q.downs (t ∷ []) } in
+    let r = settled_server k.server now c cs f in
+    let first : own n k.server.waiting ≡ c ∷ own n cs = ap (own n) waits ∙ own_first c cs in
+    let alone : (commits_in q.ups ≡ 0) × (length (own n cs) ≡ 0) = (let a = h.single in let b = ap length first in (omega (arith, a, b), omega (arith, a, b))) in
+    let none : own n cs ≡ [] = empty_is (own n cs) alone.1 in
+    let short : length o.value ≤ 67108864 = subst (λ (z : List ℕ). length z ≤ 67108864) (sym value_is) (kept.server.lengths 0 c (ap (λ (l : List Change). slice_get l 0) waits)) in
+    let same_id : server.file_at k.server.files f.id ≡ Some f = ap (server.file_at k.server.files) id_is ∙ there in
+    let held : (z : ℕ) → FileIs more z (server.file_at r.files z) = λ z. subst (λ (v : List ℕ). FileIs more z (server.file_at (server.with_file k.server.files (changed f v)) z)) value_is (held_made book e j o k.server.files f at_ unmade kept.sound mine short kept.server.held same_id z) in
+    let made : IsMade more j version = (
+      made_op book o,
+      book.steps + 1,
+      at_replaced book.ops j (made_op book o) o at_,
+      unmade.0,
+      refl,
+      omega arith,
+      record {
+        place = length book.entries;
+        entry = e;
+        step_is = at_end book.entries (book.steps + 1);
+        entry_is = ap (slice_get (book.journal ++ e ∷ [])) kept.sound.journal.count ∙ at_end book.journal e;
+        file_is = sym mine;
+        version_is = refl;
+        len_is = ap length (sym value_is);
+        digest_is = ap sha1 (sym value_is);
+      },
+    ) in
+    kept_turn book more k qs r k.seats k.sessions (with_numbered qs n p) n x x p h.seat h.seat (Some j) None (record {
+      at = here;
+      was = h.owner;
+      session_around = around_same k.sessions n x here;
+      queue_around = around_with qs n q p is;
+      seat_around = around_same k.seats x.owner h.seat h.owner;
+      owner = refl;
+      goes = goes;
+      server = record {
+        held = held;
+        versions = versions_made k.server.files f c.content k.server.changes kept.server.versions same_id;
+        changes = (let a = kept.server.changes in let b = ap length waits in omega (arith, a, b));
+        lengths = λ i d z. kept.server.lengths (suc i) d (fewer_waiting k.server c cs waits i d z);
+        targets = λ i d z. kept.server.targets (suc i) d (fewer_waiting k.server c cs waits i d z);
+        xids = λ i d z. kept.server.xids (suc i) d (fewer_waiting k.server c cs waits i d z);
+      };
+      sessions_made = refl;
+      view = λ m apart. record { stands_is = refl; waiting = sym (ap (own m) waits ∙ own_other m c cs apart); temps = λ i m2 u lt z w. (i, z); found = λ m2 lt. refl };
+      elsewhere = inl refl;
+      closing = λ z w. inl w;
+      made_here = λ z w. known ∙ w;
+      ended_here = λ z u w. nothing_there z w;
+      session = record {
+        seat = h.seat;
+        owner = h.owner;
+        here = h.here;
+        shut = λ cut. shut_downs x.cut cut (h.shut cut);
+        lost = h.lost;
+        stands_is = h.stands_is;
+        ups_fit = h.ups_fit;
+        downs_fit = downs_fit_more x.cut h.downs_fit (laws.plain c.xid (Changed (Done (record { version = version; term = 0 }))) (kept.server.xids 0 c (ap (λ (l : List Change). slice_get l 0) waits)) (let a = kept.server.versions c.file f there in let b = kept.server.changes in let d = ap length waits in omega (arith, a, b, d), refl));
+        talk = λ uncut. subst (λ (b : Bool). IsTalk more n cs x (record q { downs = unless b q.downs (t ∷ []) }) h.seat) (sym uncut) (settled_talk book e j o n c cs x q h.seat version g (own_first c cs) (committing uncut) made (subst (λ (l : List Change). IsTalk book n l x q h.seat) waits (h.talk uncut)));
+        contents = h.contents;
+        lengths = h.lengths;
+        commits = no_commits more x.closing x.cut (job h.seat) h.contents q.ups alone.0;
+        pieces = h.pieces;
+        temps = h.temps;
+        temps_below = h.temps_below;
+        closes = λ uncut i w. close_made more uncut i w (h.closes uncut i w);
+        pending = λ i d w. nothing_there d (ap (λ (l : List Change). slice_get l i) (sym none) ∙ w);
+        single = omega (arith, alone.0, alone.1);
+        old = λ z w. let u = h.old z w in let v = g.each z u.0 u.1 in (v.0, v.1, v.2.client ∙ u.2);
+        orderly = λ uncut. orderly_told more n k.server.temps x.hung x.cut q t h.seat tt (orderly_later book more (Some j) None n k.server.temps k.server.temps x.hung q h.seat g (λ m lt. refl) (h.orderly uncut));
+      };
+      seat = seat_later book more (Some j) None k.sessions k.sessions x.owner h.seat g (λ m z w. (z, w, refl, λ u. refl)) (λ z u w. nothing_there z w) (kept.seats x.owner h.seat h.owner);
+      running = λ z u w run. still_runs z u w run;
+      shelf = kept.shelf;
+      home = λ i d w. kept.home (suc i) d (fewer_waiting k.server c cs waits i d w);
+    }) (ap (λ (l : List Entry). l ++ e ∷ []) kept.journal) kept
+  where
+    pending_there : slice_get book.ops j ≡ Some o
+    pending_there = subst (λ (z : ℕ). slice_get book.ops z ≡ Some o) place_is (pending.there ∙ ap (λ (z : Op). Some z) op_is)
+
+    pending_unmade : IsUnmade o
+    pending_unmade = subst IsUnmade op_is pending.unmade
+
+    empty_is : (l : List Change) → length l ≡ 0 → l ≡ []
+    empty_is [] w = refl
+    empty_is (d ∷ l) w = absurd (omega (arith, w))
+
+    shut_downs : (b : Bool) → b ≡ true → q.downs ≡ [] → unless b q.downs (answer c (f.version + 1) ∷ []) ≡ []
+    shut_downs true w none = none
+    shut_downs false w none = absurd cc
+
+    downs_fit_more : (b : Bool) → AllTolds (λ u. MessageFits (told_message u)) q.downs → MessageFits (told_message (answer c (f.version + 1))) → AllTolds (λ u. MessageFits (told_message u)) (unless b q.downs (answer c (f.version + 1) ∷ []))
+    downs_fit_more true w v = w
+    downs_fit_more false w v = tolds_append (λ u. MessageFits (told_message u)) q.downs (answer c (f.version + 1) ∷ []) w (v, tt)
+
+    committing : x.cut ≡ false → job (kept.sessions c.session x q here is).seat ≡ Some (record { place = j; file = c.file; stage = stage.Committing c.xid })
+    committing uncut = subst (λ (z : ℕ). job (kept.sessions c.session x q here is).seat ≡ Some (record { place = z; file = c.file; stage = stage.Committing c.xid })) place_is (pending.waited uncut)
+
+    close_made : (more : Book) → x.cut ≡ false → (i : Job) → job (kept.sessions c.session x q here is).seat ≡ Some i
+        → CloseOf book x.closing (kept.sessions c.session x q here is).contents (kept.sessions c.session x q here is).seat.client.next_temp i (client.local_bytes (kept.sessions c.session x q here is).seat.client.opened i.file) i.stage
+        → CloseOf (made_book book (entry_of c f) j o) x.closing (kept.sessions c.session x q here is).contents (kept.sessions c.session x q here is).seat.client.next_temp i (client.local_bytes (kept.sessions c.session x q here is).seat.client.opened i.file) i.stage
+    close_made more uncut i w h =
+        let own : Job = record { place = j; file = c.file; stage = stage.Committing c.xid } in
+        let same : own ≡ i = some_is own i (sym (committing uncut) ∙ w) in
+        committed i (sym (ap (λ (z : Job). z.stage) same)) (sym (ap (λ (z : Job). z.place) same)) h
+      where
+        committed : (i : Job) → i.stage ≡ stage.Committing c.xid → i.place ≡ j → CloseOf book x.closing (kept.sessions c.session x q here is).contents (kept.sessions c.session x q here is).seat.client.next_temp i (client.local_bytes (kept.sessions c.session x q here is).seat.client.opened i.file) i.stage
+            → CloseOf (made_book book (entry_of c f) j o) x.closing (kept.sessions c.session x q here is).contents (kept.sessions c.session x q here is).seat.client.next_temp i (client.local_bytes (kept.sessions c.session x q here is).seat.client.opened i.file) i.stage
+        committed i s p h =
+            let v = client.local_bytes (kept.sessions c.session x q here is).seat.client.opened i.file in
+            let old : CloseOf book x.closing (kept.sessions c.session x q here is).contents (kept.sessions c.session x q here is).seat.client.next_temp i v (stage.Committing c.xid) = subst (λ (z : Stage). CloseOf book x.closing (kept.sessions c.session x q here is).contents (kept.sessions c.session x q here is).seat.client.next_temp i v z) s h in
+            let g = grows_made book (entry_of c f) j o kept.sound.journal.count pending_there pending_unmade in
+            let r = g.each i.place old.0 old.1 in
+            subst (λ (z : Stage). CloseOf (made_book book (entry_of c f) j o) x.closing (kept.sessions c.session x q here is).contents (kept.sessions c.session x q here is).seat.client.next_temp i v z) (sym s) (r.0, r.1, r.2.word ∙ old.2, r.2.value old.2 ∙ old.3)
+
+    still_runs : (z : ℕ) (u : Op) → slice_get (slice_set book.ops j (made_op book o)) z ≡ Some u → u.outcome ≡ told.Running → (e : Seat) × (g : Job) × (numbered k.seats u.client ≡ Some e) × (job e ≡ Some g) × (g.place ≡ z)
+    still_runs z u w run = elim (of_replaced book.ops j (made_op book o) z u w) [
+      | inr was ↦ kept.running z u was.1 run
+      | inl new ↦
+          let r = kept.running j o pending_there (ap (λ (v : Op). v.outcome) (sym new.1) ∙ run) in
+          (r.0, r.1, ap (λ (v : Op). numbered k.seats v.client) new.1 ∙ r.2, r.3, r.4 ∙ sym new.0)
+    ]
+
+-- what a settling leaves, by what the server did
+abbrev settled_by_step : Core → server.State × ServerStep → Turned
+settled_by_step k r = record (quiet (record k { steps = k.steps + 1; server = r.0; ops = settled_by k r.1.entries r.1.told; entries = k.entries ++ replicate r.1.entries (k.steps + 1) })) { down = r.1.send }
+
+settled_core : (book more : Book) (k : Core) (r : server.State) (ops : List Op) (entries : List ℕ) → more.steps ≡ k.steps + 1 → more.ops ≡ ops → more.entries ≡ entries → turned_core more r k.seats k.sessions ≡ record { server = r; seats = k.seats; sessions = k.sessions; steps = k.steps + 1; ops = ops; entries = entries }
+settled_core book more k r ops entries a b c =
+    ap (λ (s : ℕ). record { server = r; seats = k.seats; sessions = k.sessions; steps = s; ops = more.ops; entries = more.entries }) a
+    ∙ ap (λ (o : List Op). record { server = r; seats = k.seats; sessions = k.sessions; steps = k.steps + 1; ops = o; entries = more.entries }) b
+    ∙ ap (λ (e : List ℕ). record { server = r; seats = k.seats; sessions = k.sessions; steps = k.steps + 1; ops = ops; entries = e }) c
+
+queue_told : (sessions : List Session) (qs : List Queue) (n : ℕ) (x : Session) (q : Queue) (t : Told) → numbered sessions n ≡ Some x → numbered qs n ≡ Some q → downs_put sessions qs ((n, t) ∷ []) ≡ with_numbered qs n (record q { downs = unless x.cut q.downs (t ∷ []) })
+queue_told sessions qs n x q t at is = ap (λ (o : Option Session). downs_put_in qs (n, t) o (numbered qs n)) at ∙ ap (λ (o : Option Queue). downs_put_in qs (n, t) (Some x) o) is
+
+settled_leads : FitLaws → (book : Book) (k : Core) (qs : List Queue) (now : ℕ) (c : Change) (cs : List Change) (f : File) → IsKept book k qs → k.server.waiting ≡ c ∷ cs → server.file_at k.server.files c.file ≡ Some f → Leads book qs (settled_by_step k (makes_change (at (record k.server { waiting = cs }) now) c (Some f)))
+settled_leads laws book k qs now c cs f kept waits there =
+    let n : ℕ = c.session in
+    let home = kept.home 0 c (ap (λ (l : List Change). slice_get l 0) waits) in
+    let x : Session = home.0 in
+    let q = also_numbered k.sessions qs n x kept.made.1 home.1 in
+    let h = kept.sessions n x q.0 home.1 q.1 in
+    let pending = h.pending 0 c (ap (λ (l : List Change). slice_get (own n l) 0) waits ∙ ap (λ (l : List Change). slice_get l 0) (own_first c cs)) in
+    let j : ℕ = pending.place in
+    let o : Op = pending.op in
+    let t : Told = answer c (f.version + 1) in
+    let more = made_book book (entry_of c f) j o in
+    let now_kept = settled_now laws book k qs now c cs f x q.0 j o kept waits there home.1 home.2 q.1 pending refl refl in
+    let ops_is : settled_by k 1 (told_.Settled n c.xid) ≡ more.ops =
+    ap (λ (z : Option Session). settled_ops k.ops 1 (k.steps + 1) z) home.1
+    ∙ ap (λ (z : Option ℕ). pointed_at k.ops z (k.steps + 1)) pending.known
+    ∙ ap (λ (os : List Op). pointed_at os (Some j) (k.steps + 1)) (sym kept.ops)
+    ∙ ap (λ (z : Option Op). pointed book.ops j (k.steps + 1) z) pending.there
+    ∙ ap (λ (s : ℕ). slice_set book.ops j (record o { point = Some (s + 1) })) (sym kept.steps) in
+    let entries_is : more.entries ≡ k.entries ++ (k.steps + 1) ∷ [] = ap (λ (es : List ℕ). es ++ (book.steps + 1) ∷ []) kept.entries ∙ ap (λ (s : ℕ). k.entries ++ (s + 1) ∷ []) kept.steps in
+    let core = settled_core book more k (settled_server k.server now c cs f) (settled_by k 1 (told_.Settled n c.xid)) (k.entries ++ (k.steps + 1) ∷ []) (ap (λ s. s + 1) kept.steps) (sym ops_is) entries_is in
+    record {
+      sends = record { asks = []; up_is = refl; tolds = (n, t) ∷ []; down_is = refl };
+      more = more;
+      moments = refl;
+      opening = refl;
+      kept = subst (λ (z : List Queue). IsKept more (settled_by_step k (makes_change (at (record k.server { waiting = cs }) now) c (Some f))).core z) (sym (queue_told k.sessions qs n x q.0 t home.1 q.1)) (subst (λ (z : Core). IsKept more z (with_numbered qs n (record q.0 { downs = unless x.cut q.0.downs (t ∷ []) }))) core now_kept);
+    }
+
+-- the file of a change that waits is there
+settled_found : FitLaws → (book : Book) (k : Core) (qs : List Queue) (now : ℕ) (c : Change) (cs : List Change) → IsKept book k qs → k.server.waiting ≡ c ∷ cs → (g : Option File) → server.file_at k.server.files c.file ≡ g → Leads book qs (settled_by_step k (makes_change (at (record k.server { waiting = cs }) now) c g))
+settled_found laws book k qs now c cs kept waits (Some f) there = settled_leads laws book k qs now c cs f kept waits there
+settled_found laws book k qs now c cs kept waits None there =
+    let known = kept.server.targets 0 c (ap (λ (l : List Change). slice_get l 0) waits) in
+    let gone : FileIs book c.file None = subst (FileIs book c.file) there (kept.server.held c.file) in
+    absurd (not_there (content_of book.opening c.file) gone.0 known)
+  where
+    not_there : (v : Value) → v ≡ None → IsSome v → ⊥
+    not_there None e h = absurd cc
+    not_there (Some x) e h = nothing_there x (sym e)
+
+settled_waiting : FitLaws → (book : Book) (k : Core) (qs : List Queue) (now : ℕ) → IsKept book k qs → (waiting : List Change) → k.server.waiting ≡ waiting → Leads book qs (settled_by_step k (closing.settles k.server now waiting))
+settled_waiting laws book k qs now kept [] e = subst (λ (es : List ℕ). Leads book qs (quiet (record k { steps = k.steps + 1; entries = es }))) (sym (append-nil k.entries)) (leads_idle book k qs kept)
+settled_waiting laws book k qs now kept (c ∷ cs) e = settled_found laws book k qs now c cs kept e (server.file_at k.server.files c.file) refl
+
+pub kept_settles : FitLaws → KeptSettles
+kept_settles laws = λ book k qs now kept noted. settled_waiting laws book k qs now kept k.server.waiting refl

@@ -1,0 +1,143 @@
+-- What the two ends say of a file within its bounds fits its record.
+use Rattle.std.proofs.Common.{◌≡◌, ℕ, zero, suc, ◌+◌, ◌/◌, ◌%◌, ◌<◌, ◌≤◌, ◌^◌, List, [], ◌∷◌, Option, Some, None, Bool, true, false, length, drop, take, min, map, refl, sym, ap, ◌∙◌, arith, subst, lit<, length-take}
+use Rattle.std.specs.Prelude.{All, slice_get, filter, cond}
+use Rattle.std.proofs.lemmas.List.Elements.{All-nil, All-cons, All-take, All-filter, All-map}
+use Rattle.sha1.specs.Sha1.{sha1, digest_bytes}
+use Rattle.chunk_cut.specs.Chunks.{chunks_of}
+use Rattle.chunk_cut.specs.Places.{chunk_bytes}
+use Rattle.chunk_cut.specs.declared.chunk.Chunk.{Chunk}
+use Rattle.xdr_codec.specs.Attr.{attr_form, kind_form, time_form}
+use Rattle.xdr_codec.specs.Xdr.{u32_form, u64_form, bool_form, bool_fits, fixed_form, count_form}
+use Rattle.xdr_codec.specs.Handle.{handle_bytes}
+use Rattle.xdr_codec.specs.declared.answer.Answer.{Answer}
+use Rattle.xdr_codec.specs.declared.answer.Answer.TheVariants.{Done, Failed}
+use Rattle.hash_calls.specs.Calls.{hashes_form, pair_form, new_temp_form, temp_piece_form, cond_piece_form, commit_form, committed_form}
+use Rattle.hash_calls.specs.Calls.{range_form as hash_range_form}
+use Rattle.hash_calls.specs.declared.call.Hashes.{Hashes}
+use Rattle.hash_calls.specs.declared.call.HashRange.{HashRange}
+use Rattle.hash_calls.specs.declared.call.Pair.{Pair}
+use Rattle.nfs3_calls.specs.Calls.{piece_form, range_form}
+use Rattle.nfs3_calls.specs.declared.call.Range.{Range}
+use Rattle.wire.specs.Message.{MessageFits}
+use Rattle.wire.specs.Parse.{IsExpected}
+use Rattle.wire.proofs.Sizes.{small_fits}
+use Rattle.server_core.specs.Answers.{meets, told_chunks, pair_of, is_end, hashes_of, piece_bytes, piece_of, attr_of, time_of}
+use Rattle.server_core.specs.declared.file.File.{File}
+use Rattle.trace_replay.specs.Core.{server_waiting}
+use Rattle.kept_promise.specs.Talk.{Call, Call.Hash, Call.Read, Call.Make, Call.Name, Call.Send, Call.Commit, Reply, Reply.Hashed, Reply.Bytes, Reply.Made, Reply.Named, Reply.Stored, Reply.Changed, Ask, Told, call_message, told_message}
+use Rattle.kept_promise.proofs.Statements.{CallFits, CallsFit, FileFits, HashAnswersFit, ReadAnswersFit, IsPlain, PlainAnswersFit, AreInRow}
+use Rattle.kept_promise.proofs.Lists.{some_is, nothing_there}
+use Rattle.kept_promise.proofs.Chunks.{chunks_in_row, chunks_are_named}
+
+handle_len : (name : ℕ) → length (handle_bytes name) ≡ 16
+handle_len name = refl
+
+sha1_len : (bytes : List ℕ) → length (sha1 bytes) ≡ 20
+unfolding sha1 digest_bytes
+sha1_len bytes = refl
+
+-- ---- calls
+
+call_fits : (xid : ℕ) (c : Call) → CallFits xid c → MessageFits (call_message xid c)
+unfolding hash_range_form range_form new_temp_form cond_piece_form temp_piece_form commit_form fixed_form u64_form u32_form
+call_fits xid (Hash file offset) f = let o = f.2 in small_fits (call_message xid (Hash file offset)) (f.0, (refl, ((omega (arith, handle_len file), omega (arith, handle_len file)), (omega (arith, o), lit< tt)))) tt
+call_fits xid (Read file c) f = let s = f.2 in let l = f.3 in small_fits (call_message xid (Read file c)) (f.0, (refl, ((omega (arith, handle_len file), omega (arith, handle_len file)), (omega (arith, s), omega (arith, l))))) tt
+call_fits xid (Make temp file) f = small_fits (call_message xid (Make temp file)) (f.0, (refl, (f.1, (omega (arith, handle_len file), omega (arith, handle_len file))))) tt
+call_fits xid (Name temp c) f = let s = f.2 in let l = f.3 in small_fits (call_message xid (Name temp c)) (f.0, (refl, (f.1, (omega (arith, s), (omega (arith, l), f.4))))) tt
+call_fits xid (Send temp start bytes) f = let s = f.2 in let l = f.3 in small_fits (call_message xid (Send temp start bytes)) (f.0, (refl, (f.1, (omega (arith, s), (omega (arith, l), omega (arith, l)))))) tt
+call_fits xid (Commit temp file size) f = let s = f.3 in small_fits (call_message xid (Commit temp file size)) (f.0, (refl, (f.1, ((omega (arith, handle_len file), omega (arith, handle_len file)), omega (arith, s))))) tt
+
+call_expected : (xid : ℕ) (c : Call) → IsExpected server_waiting (call_message xid c)
+call_expected xid (Hash file offset) = refl
+call_expected xid (Read file c) = refl
+call_expected xid (Make temp file) = refl
+call_expected xid (Name temp c) = refl
+call_expected xid (Send temp start bytes) = refl
+call_expected xid (Commit temp file size) = refl
+
+pub calls_fit : CallsFit
+calls_fit = λ xid c f. (call_fits xid c f, call_expected xid c)
+
+-- ---- GETHASH
+
+-- each of these chunks is one with a name and a length that fit
+abbrev AllNamed : List Chunk → Type 0
+AllNamed cs = All (λ (c : Chunk). (length c.digest ≡ 20) × (c.len ≤ 65536)) cs
+
+chunks_named : (x : List ℕ) → AllNamed (chunks_of x)
+chunks_named x = by (chunks_of x) 0 (length x) (chunks_in_row x) (λ i c at. let n = chunks_are_named x i c at in ap length n.0 ∙ sha1_len (chunk_bytes x c))
+  where
+    by : (cs : List Chunk) (from to : ℕ) → AreInRow from cs to → ((i : ℕ) (c : Chunk) → slice_get cs i ≡ Some c → length c.digest ≡ 20) → AllNamed cs
+    by [] from to r f = All-nil (λ (c : Chunk). (length c.digest ≡ 20) × (c.len ≤ 65536))
+    by (c ∷ cs) from to r f = All-cons (λ (c : Chunk). (length c.digest ≡ 20) × (c.len ≤ 65536)) c cs (f 0 c refl, r.2) (by cs (c.start + c.len) to r.3 (λ i d at. f (suc i) d at))
+
+pairs_fit : (x : List ℕ) (r : HashRange) → (length (map pair_of (told_chunks x r)) ≤ 1024) × All pair_form.Fits (map pair_of (told_chunks x r))
+unfolding pair_form fixed_form u32_form
+pairs_fit x r = (
+  let a = map_count (told_chunks x r) in let b = length-take 1024 (filter (meets r.offset r.count) (chunks_of x)) in omega (arith, a, b),
+  All-map pair_form.Fits pair_of (told_chunks x r) (λ i c lt. let h = told i c lt in let l = h.1 in (h.0, omega (arith, l))),
+)
+  where
+    map_count : (cs : List Chunk) → length (map pair_of cs) ≡ length cs
+    map_count [] = refl
+    map_count (c ∷ cs) = ap suc (map_count cs)
+
+    told : AllNamed (told_chunks x r)
+    told = All-take (λ (c : Chunk). (length c.digest ≡ 20) × (c.len ≤ 65536)) 1024 (filter (meets r.offset r.count) (chunks_of x)) (All-filter (meets r.offset r.count) (λ (c : Chunk). (length c.digest ≡ 20) × (c.len ≤ 65536)) (chunks_of x) (chunks_named x))
+
+hashes_are : (f : File) (r : HashRange) → FileFits f → hashes_form.Fits (hashes_of f r)
+unfolding hashes_form u64_form u32_form count_form
+hashes_are f r fit =
+    let pairs = pairs_fit f.content r in
+    let v = fit.1 in
+    let l = fit.2 in
+    (omega (arith, v), (lit< tt, (omega (arith, l), (((let le = pairs.0 in omega (arith, le), pairs.0), (refl, pairs.1)), bool_fits (is_end (length f.content) r.offset (told_chunks f.content r))))))
+
+pub hash_answers_fit : HashAnswersFit
+hash_answers_fit = λ xid g handle offset x fit. small_fits (told_message (record { xid = xid; reply = Hashed (Done (hashes_of g (record { handle = handle; offset = offset; count = 4294967295 }))) })) (x, (refl, hashes_are g (record { handle = handle; offset = offset; count = 4294967295 }) fit)) tt
+
+-- ---- READ
+
+time_fits : (version : ℕ) → version < 2 ^ 32 → time_form.Fits (time_of version)
+unfolding time_form u32_form
+time_fits version small = (omega (arith, small), omega (arith, small))
+
+attr_fits : (f : File) → FileFits f → attr_form.Fits (attr_of f)
+unfolding attr_form kind_form u32_form u64_form
+attr_fits f fit =
+    let t = time_fits f.version fit.1 in
+    let l = fit.2 in
+    (lit< tt, (lit< tt, (lit< tt, (lit< tt, (lit< tt, (omega (arith, l), (omega (arith, l), (lit< tt, (lit< tt, (lit< tt, (fit.0, (t, (t, t)))))))))))))
+
+piece_len : (f : File) (r : Range) → length (piece_of f r).bytes ≤ 65536
+piece_len f r = let l = length-take (min r.count 65536) (drop r.offset f.content) in omega (arith, l)
+
+piece_is : (f : File) (r : Range) → FileFits f → piece_form.Fits (piece_of f r)
+unfolding piece_form u32_form bool_form
+piece_is f r fit =
+    let len = piece_len f r in
+    ((bool_fits true, attr_fits f fit), (omega (arith, len), (bool_fits _, (omega (arith, len), omega (arith, len)))))
+
+pub read_answers_fit : ReadAnswersFit
+read_answers_fit = λ xid g handle offset count x fit. small_fits (told_message (record { xid = xid; reply = Bytes (Done (piece_of g (record { handle = handle; offset = offset; count = count }))) })) (x, (refl, piece_is g (record { handle = handle; offset = offset; count = count }) fit)) (piece_len g (record { handle = handle; offset = offset; count = count }))
+
+-- ---- all other answers
+
+plain_fits : (xid : ℕ) (r : Reply) → xid < 2 ^ 32 → IsPlain r → MessageFits (told_message (record { xid = xid; reply = r }))
+unfolding committed_form u64_form u32_form
+plain_fits xid (Hashed (Failed s u)) x plain = small_fits (told_message (record { xid = xid; reply = Hashed (Failed s u) })) (x, (refl, refl)) tt
+plain_fits xid (Bytes (Failed s None)) x plain = small_fits (told_message (record { xid = xid; reply = Bytes (Failed s None) })) (x, (refl, (bool_fits false, refl))) tt
+plain_fits xid (Made (Done u)) x plain = small_fits (told_message (record { xid = xid; reply = Made (Done u) })) (x, (refl, refl)) tt
+plain_fits xid (Made (Failed s u)) x plain = small_fits (told_message (record { xid = xid; reply = Made (Failed s u) })) (x, (refl, refl)) tt
+plain_fits xid (Named (Done u)) x plain = small_fits (told_message (record { xid = xid; reply = Named (Done u) })) (x, (refl, refl)) tt
+plain_fits xid (Named (Failed s u)) x plain = small_fits (told_message (record { xid = xid; reply = Named (Failed s u) })) (x, (refl, refl)) tt
+plain_fits xid (Stored (Done u)) x plain = small_fits (told_message (record { xid = xid; reply = Stored (Done u) })) (x, (refl, refl)) tt
+plain_fits xid (Stored (Failed s u)) x plain = small_fits (told_message (record { xid = xid; reply = Stored (Failed s u) })) (x, (refl, refl)) tt
+plain_fits xid (Changed (Failed s u)) x plain = small_fits (told_message (record { xid = xid; reply = Changed (Failed s u) })) (x, (refl, refl)) tt
+plain_fits xid (Changed (Done c)) x plain = let v = plain.0 in let t = plain.1 in small_fits (told_message (record { xid = xid; reply = Changed (Done c) })) (x, (refl, (omega (arith, v), omega (arith, t)))) tt
+plain_fits xid (Bytes (Failed s (Some a))) x plain = absurd plain
+plain_fits xid (Hashed (Done h)) x plain = absurd plain
+plain_fits xid (Bytes (Done p)) x plain = absurd plain
+
+pub plain_answers_fit : PlainAnswersFit
+plain_answers_fit = λ xid r x plain. plain_fits xid r x plain

@@ -1,0 +1,147 @@
+-- Statements that parts of the law show of chunk lists, of what fits a record, of deliveries, of streams and of the clocks, as types.
+use Rattle.std.specs.Prelude.{◌≡◌, ◌⊎◌, ℕ, zero, suc, ◌+◌, ◌*◌, ◌^◌, ◌<◌, ◌≤◌, List, [], ◌∷◌, ◌++◌, length, map, take, drop, min, replicate, nat_le, Option, Some, None, Result, Ok, Err, Bool, true, false, All, slice_get}
+use Rattle.std.specs.BTreeMap.{insert_entry}
+use Rattle.std.specs.Ordering.{nat_cmp}
+use Rattle.sha1.specs.Sha1.{sha1}
+use Rattle.rpc_record.specs.Records.{Unread, fed, stream}
+use Rattle.chunk_cut.specs.Chunks.{chunks_of}
+use Rattle.chunk_cut.specs.Places.{chunk_bytes, end_of}
+use Rattle.chunk_cut.specs.declared.chunk.Chunk.{Chunk}
+use Rattle.hash_calls.specs.declared.call.Hashes.{Hashes}
+use Rattle.xdr_codec.specs.declared.answer.Answer.{Answer}
+use Rattle.xdr_codec.specs.declared.answer.Answer.TheVariants.{Done, Failed}
+use Rattle.wire.specs.Message.{message_spell, MessageFits}
+use Rattle.wire.specs.Parse.{parse_of, IsExpected}
+use Rattle.server_core.specs.Answers.{told_chunks, pair_of, is_end, hashes_of, piece_of, piece_bytes}
+use Rattle.server_core.specs.Temps as temps
+use Rattle.server_core.specs.declared.file.File.{File}
+use Rattle.open_close.specs.Shape.{with_pairs, broken_of}
+use Rattle.open_close.specs.Opening.{slots_bytes}
+use Rattle.open_close.specs.declared.task.Fetch.{Fetch}
+use Rattle.trace_replay.specs.World.{World, bytes_of}
+use Rattle.trace_replay.specs.Core.{server_waiting}
+use Rattle.trace_replay.specs.Delivery.{up_some, down_some, round, passes}
+use Rattle.trace_replay.specs.Readings.{KeepsClocks}
+use Rattle.trace_replay.specs.Run.{run}
+use Rattle.trace_replay.specs.Timed.{accepted}
+use Rattle.kept_promise.specs.Talk.{Call, Call.Hash, Call.Read, Call.Make, Call.Name, Call.Send, Call.Commit, Reply, Reply.Hashed, Reply.Bytes, Reply.Made, Reply.Named, Reply.Stored, Reply.Changed, Ask, Told, Queue, call_message, ask_message, told_message, reply_body}
+
+-- ---- chunk lists
+
+-- chunks that stand one behind the other from a place to another, each of some bytes, 65,536 at most
+abbrev pub AreInRow : (from : ℕ) → List Chunk → (to : ℕ) → Type 0
+AreInRow from [] to = from ≡ to
+AreInRow from (c ∷ cs) to = (c.start ≡ from) × (0 < c.len) × (c.len ≤ 65536) × AreInRow (c.start + c.len) cs to
+
+abbrev pub ChunksInRow : Type 0
+ChunksInRow = (x : List ℕ) → AreInRow 0 (chunks_of x) (length x)
+
+-- none but the last is short
+abbrev pub ChunksAreLong : Type 0
+ChunksAreLong = (x : List ℕ) (j : ℕ) (c : Chunk) → slice_get (chunks_of x) j ≡ Some c → suc j < length (chunks_of x) → 2048 ≤ c.len
+
+abbrev pub ChunksAreNamed : Type 0
+ChunksAreNamed = (x : List ℕ) (j : ℕ) (c : Chunk) → slice_get (chunks_of x) j ≡ Some c → (c.digest ≡ sha1 (chunk_bytes x c)) × (length (chunk_bytes x c) ≡ c.len) × (c.start + c.len ≤ length x)
+
+-- the range from the end of the first chunks on
+abbrev pub TellsNext : Type 0
+TellsNext = (x : List ℕ) (i : ℕ) (handle : List ℕ) → i ≤ length (chunks_of x) → length x ≤ 67108864
+    → told_chunks x (record { handle = handle; offset = end_of (take i (chunks_of x)); count = 4294967295 }) ≡ take 1024 (drop i (chunks_of x))
+
+abbrev pub TellsEnd : Type 0
+TellsEnd = (x : List ℕ) (i : ℕ) → i ≤ length (chunks_of x) → is_end (length x) (end_of (take i (chunks_of x))) (take 1024 (drop i (chunks_of x))) ≡ nat_le (length (chunks_of x)) (i + 1024)
+
+-- what the pairs tell are the chunks again
+abbrev pub PairsTell : Type 0
+PairsTell = (x : List ℕ) (i : ℕ) → i ≤ length (chunks_of x) → with_pairs (take i (chunks_of x)) (map pair_of (take 1024 (drop i (chunks_of x)))) ≡ take (i + 1024) (chunks_of x)
+
+-- and nothing is broken in them
+abbrev pub NothingBroken : Type 0
+NothingBroken = (g : File) (f : Fetch) (x : List ℕ) (i : ℕ) (handle : List ℕ) → g.content ≡ x → length x ≤ 67108864 → f.size ≡ length x → f.chunks ≡ take i (chunks_of x) → i ≤ length (chunks_of x)
+    → broken_of f (hashes_of g (record { handle = handle; offset = end_of (take i (chunks_of x)); count = 4294967295 })) ≡ None
+
+-- a READ of a chunk gives its bytes
+abbrev pub ReadGives : Type 0
+ReadGives = (x : List ℕ) (c : Chunk) (handle : List ℕ) → c.len ≤ 65536 → piece_bytes x (record { handle = handle; offset = c.start; count = c.len }) ≡ chunk_bytes x c
+
+-- the bytes of all chunks are the content
+abbrev pub SlotsAreWhole : Type 0
+SlotsAreWhole = (x : List ℕ) (slots : List (Option (List ℕ))) → length slots ≡ length (chunks_of x)
+    → ((j : ℕ) (c : Chunk) → slice_get (chunks_of x) j ≡ Some c → slice_get slots j ≡ Some (Some (chunk_bytes x c))) → slots_bytes slots ≡ x
+
+-- pieces by rising places that are chunks' bytes, and all of them, are joined to the content (they were put in one by one, in any order)
+abbrev pub PiecesOf : List ℕ → (Chunk → Bool) → List Chunk → List (ℕ × List ℕ)
+PiecesOf x has [] = []
+PiecesOf x has (c ∷ cs) = elim (has c) [ true ↦ (c.start, chunk_bytes x c) ∷ PiecesOf x has cs | false ↦ PiecesOf x has cs ]
+
+abbrev pub PiecesAreWhole : Type 0
+PiecesAreWhole = (x : List ℕ) → temps.joined 0 (length x) (PiecesOf x (λ c. true) (chunks_of x)) ≡ Some x
+
+-- a chunk that isn't there yet can be put in, and then is there; has j tells which are
+abbrev pub PieceGoesIn : Type 0
+PieceGoesIn = (x : List ℕ) (has more : Chunk → Bool) (j : ℕ) (c : Chunk) → length x ≤ 67108864 → slice_get (chunks_of x) j ≡ Some c → has c ≡ false → more c ≡ true → ((k : ℕ) (d : Chunk) → slice_get (chunks_of x) k ≡ Some d → (k ≡ j → ⊥) → more d ≡ has d)
+    → (temps.range_fault (PiecesOf x has (chunks_of x)) c.start c.len ≡ None) × (insert_entry nat_cmp (PiecesOf x has (chunks_of x)) c.start (chunk_bytes x c) ≡ PiecesOf x more (chunks_of x))
+
+-- ---- what fits a record
+
+-- what a call's numbers need to have a record
+abbrev pub CallFits : (xid : ℕ) → Call → Type 0
+CallFits xid (Hash file offset) = (xid < 2 ^ 32) × (file < 2 ^ 64) × (offset ≤ 67108864)
+CallFits xid (Read file c) = (xid < 2 ^ 32) × (file < 2 ^ 64) × (c.start ≤ 67108864) × (c.len ≤ 65536)
+CallFits xid (Make temp file) = (xid < 2 ^ 32) × (temp < 2 ^ 32) × (file < 2 ^ 64)
+CallFits xid (Name temp c) = (xid < 2 ^ 32) × (temp < 2 ^ 32) × (c.start ≤ 67108864) × (c.len ≤ 65536) × (length c.digest ≡ 20)
+CallFits xid (Send temp start bytes) = (xid < 2 ^ 32) × (temp < 2 ^ 32) × (start ≤ 67108864) × (length bytes ≤ 65536)
+CallFits xid (Commit temp file size) = (xid < 2 ^ 32) × (temp < 2 ^ 32) × (file < 2 ^ 64) × (size ≤ 67108864)
+
+abbrev pub CallsFit : Type 0
+CallsFit = (xid : ℕ) (c : Call) → CallFits xid c → MessageFits (call_message xid c) × IsExpected server_waiting (call_message xid c)
+
+-- an answer is of a file within its bounds
+abbrev pub FileFits : File → Type 0
+FileFits g = (g.id < 2 ^ 64) × (g.version < 2 ^ 32) × (length g.content ≤ 67108864)
+
+abbrev pub HashAnswersFit : Type 0
+HashAnswersFit = (xid : ℕ) (g : File) (handle : List ℕ) (offset : ℕ) → xid < 2 ^ 32 → FileFits g → MessageFits (told_message (record { xid = xid; reply = Hashed (Done (hashes_of g (record { handle = handle; offset = offset; count = 4294967295 }))) }))
+
+abbrev pub ReadAnswersFit : Type 0
+ReadAnswersFit = (xid : ℕ) (g : File) (handle : List ℕ) (offset count : ℕ) → xid < 2 ^ 32 → FileFits g → MessageFits (told_message (record { xid = xid; reply = Bytes (Done (piece_of g (record { handle = handle; offset = offset; count = count }))) }))
+
+-- all other answers: refusals, and those that have nothing to tell but a version
+abbrev pub IsPlain : Reply → Type 0
+IsPlain (Hashed (Failed s u)) = Unit {0}
+IsPlain (Bytes (Failed s None)) = Unit {0}
+IsPlain (Made a) = Unit {0}
+IsPlain (Named a) = Unit {0}
+IsPlain (Stored a) = Unit {0}
+IsPlain (Changed (Failed s u)) = Unit {0}
+IsPlain (Changed (Done c)) = (c.version < 2 ^ 32) × (c.term ≡ 0)
+IsPlain r = ⊥
+
+abbrev pub PlainAnswersFit : Type 0
+PlainAnswersFit = (xid : ℕ) (r : Reply) → xid < 2 ^ 32 → IsPlain r → MessageFits (told_message (record { xid = xid; reply = r }))
+
+-- ---- deliveries
+
+abbrev pub UpsAddUp : Type 0
+UpsAddUp = (w : World) (number m n now : ℕ) → up_some (up_some w number m now) number n now ≡ up_some w number (m + n) now
+
+abbrev pub DownsAddUp : Type 0
+DownsAddUp = (w : World) (number m n now : ℕ) → down_some (down_some w number m now) number n now ≡ down_some w number (m + n) now
+
+-- ---- bytes
+
+-- a part of a stream of records is split as they are: some of them, and what is left begins the others
+pub record Comes (rest piece behind : List ℕ) (records : List (List ℕ)) (ends : Unread) (came : List (List ℕ)) : Type 0 where
+  pub left : List (List ℕ)
+  pub all : records ≡ came ++ left
+  pub sound : ends.spoilt ≡ None
+  pub queued : ends.rest ++ behind ≡ stream left
+
+abbrev pub StreamsCome : Type 0
+StreamsCome = (end : Unread) (piece behind : List ℕ) (records : List (List ℕ)) → All (λ r. length r ≤ 131072) records → end.spoilt ≡ None → end.rest ++ (piece ++ behind) ≡ stream records
+    → Comes end.rest piece behind records (fed end piece).0 (fed end piece).1.records
+
+-- ---- clocks
+
+abbrev pub ClocksKeepTheRule : Type 0
+ClocksKeepTheRule = (input : List ℕ) (w : World) → (accepted input ≡ Ok w → (run input ≡ Ok w) × KeepsClocks input) × ((run input ≡ Ok w) × KeepsClocks input → accepted input ≡ Ok w)

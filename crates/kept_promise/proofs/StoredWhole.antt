@@ -1,0 +1,332 @@
+-- A run carries that each COMMITTMP on its way, and each change that waits, is of a close that named and sent all of its content.
+use Rattle.std.proofs.Common.{◌⊎◌, inl, inr, ◌≡◌, ℕ, ◌+◌, ◌<◌, List, [], ◌∷◌, ◌++◌, length, Option, Some, None, Result, Ok, Err, Bool, true, false, refl, sym, ap, ◌∙◌, subst, arith}
+use Rattle.std.specs.Prelude.{slice_get, slice_set}
+use Rattle.server_core.specs.State as server
+use Rattle.server_core.specs.Step.{server_step}
+use Rattle.server_core.specs.declared.change.Change.{Change}
+use Rattle.server_core.specs.declared.event.Event.TheVariants as event
+use Rattle.server_core.specs.declared.event.Told.{Told as Announced}
+use Rattle.server_core.specs.declared.event.Told.TheVariants as announced
+use Rattle.open_close.specs.State as client
+use Rattle.open_close.specs.Step.{command_step, got_step, cut}
+use Rattle.open_close.specs.declared.step.ClientStep.{ClientStep}
+use Rattle.open_close.specs.declared.step.Ended.{Ended}
+use Rattle.open_close.specs.declared.step.Outcome.{Outcome}
+use Rattle.open_close.specs.declared.task.Stage.TheVariants as stage
+use Rattle.register_model.specs.Register.{changes}
+use Rattle.register_model.specs.declared.op.Op.{Op}
+use Rattle.register_model.specs.declared.op.Opening.{Opening}
+use Rattle.register_model.specs.declared.op.Word.{Word}
+use Rattle.register_model.specs.declared.op.Word.TheVariants as words
+use Rattle.trace_replay.specs.declared.link.Taken.{Taken}
+use Rattle.trace_replay.specs.Commands.{word_of, file_of, value_at_begin}
+use Rattle.trace_replay.specs.Ops.{has_point, point_if, begun, op_after}
+use Rattle.trace_replay.specs.Core.{Core, Seat, Session, Event, Event.Joins, Event.Does, Event.Serves, Event.Hears, Event.Settles, Event.Cuts, Event.Hangs, Turned, numbered, server_waiting, serves_if, serves, session_of, taken_of as session_taken, ops_after, ops_with, does, joins_as, joins, cuts_if, cuts, hangs_if, hangs, happens}
+use Rattle.trace_replay.specs.Trail.{Moment, sent_in, sent_of}
+use Rattle.trace_replay.specs.Traffic.{SentCommit}
+use Rattle.trace_replay.specs.Book.{Book}
+use Rattle.wire.specs.Parse.{parse_of}
+use Rattle.wire.specs.declared.fault.WireFault.{WireFault}
+use Rattle.wire.specs.declared.message.Message.{Message}
+use Rattle.kept_promise.specs.Talk.{Call, Call.Hash, Call.Read, Call.Make, Call.Name, Call.Send, Call.Commit, Ask, Queue}
+use Rattle.kept_promise.proofs.Lists.{some_is, nothing_there, within, at_replaced, of_replaced, else_replaced, of_appended, kept_appended}
+use Rattle.kept_promise.proofs.Keys.{own}
+use Rattle.kept_promise.proofs.Messages.{job, AllAsks, AllTolds, IsCommit, CommitOf, IsPending}
+use Rattle.kept_promise.proofs.History.{closes_alone}
+use Rattle.kept_promise.proofs.Fits.{FitLaws}
+use Rattle.kept_promise.proofs.Turns.{also_numbered}
+use Rattle.kept_promise.proofs.Facts.{IsKept, IsSession, commits_in}
+use Rattle.kept_promise.proofs.RunsCarried.{book_at, moment, Step, Carried}
+use Rattle.kept_promise.proofs.Counted.{AlikeUpTo, running_past}
+use Rattle.kept_promise.proofs.CountedRuns.{CountedAt, carried_counts, sent_more}
+use Rattle.kept_promise.proofs.Actors.{acts_alone, heard_at}
+use Rattle.kept_promise.proofs.VersionRuns.{Remembers, settled_are}
+use Rattle.kept_promise.proofs.Promised.{HaveStored}
+use Rattle.kept_promise.proofs.QueuedCommits.{FailsNamed, Fails, carried_fails}
+use Rattle.kept_promise.proofs.LeftCommits.{commits_left}
+use Rattle.kept_promise.proofs.StoredRuns.{AreStored, commit_more, commit_kept, ops_shape}
+use Rattle.kept_promise.proofs.StoredEvents.{StoredAt, StoredBy, stored_joins, stored_does, stored_serves, stored_hears, stored_settles, stored_cuts, stored_hangs}
+
+-- ---- any event
+
+stored_event : FitLaws → (all past rest : List Moment) (opening : List Opening) (k : Core) (qs : List Queue) (e : Event) (mid after : List Queue) → Step all past rest opening k qs e mid after → CountedAt past k → Fails all past opening k qs → StoredAt past k → StoredBy past k e (happens k e)
+stored_event laws all past rest opening k qs (Joins c) mid after s counted fails h = subst (λ (o : Option Seat). StoredBy past k (Joins c) (joins k c o)) (sym s.finds.1) (let r = server_step k.server event.Connect in stored_joins past k c s.finds.0 r.0 r.1.told s.finds.1 h)
+stored_event laws all past rest opening k qs (Does c now d) mid after s counted fails h = subst (λ (o : Option Seat). StoredBy past k (Does c now d) (does k c now d o)) (sym s.finds.1) (stored_does (book_at opening k all) past k qs c now d s.finds.0 s.kept s.finds.1 counted h)
+stored_event laws all past rest opening k qs (Serves n now bytes) mid after s counted fails h = stored_serves past k n now bytes (numbered k.sessions n) h
+stored_event laws all past rest opening k qs (Hears n now bytes) mid after s counted fails h =
+    let heard = heard_at (book_at opening k all) k qs n now bytes mid s.kept s.finds in
+    stored_hears laws (book_at opening k all) (book_at opening (happens k (Hears n now bytes)).core all) past k qs after n now bytes mid s.kept heard s.left counted (subst (AllTolds (λ t. FailsNamed t.reply)) heard.first (fails n heard.queue heard.queue_is)).0 h
+stored_event laws all past rest opening k qs (Settles now) mid after s counted fails h = stored_settles (book_at opening k all) past k qs now s.kept h
+stored_event laws all past rest opening k qs (Cuts c) mid after s counted fails h = subst (λ (o : Option Seat). IsKept (book_at opening (cuts k c o).core all) (cuts k c o).core after → StoredBy past k (Cuts c) (cuts k c o)) (sym s.finds.1) (λ left. stored_cuts (book_at opening k all) (book_at opening (cuts k c (Some s.finds.0)).core all) past k qs after c s.finds.0 s.kept s.finds.1 counted h s.finds.0.client.linked left) s.left
+stored_event laws all past rest opening k qs (Hangs n) mid after s counted fails h = stored_hangs past k n (numbered k.sessions n) h
+
+-- ---- each operation has the same part of what is past
+
+abbrev Follows : Core → List Op → Type 0
+Follows k ops = (p : ℕ) (o : Op) → slice_get k.ops p ≡ Some o → (r : Op) × (slice_get ops p ≡ Some r) × AlikeUpTo k.steps o r
+
+follows_same : (k : Core) → Follows k k.ops
+follows_same k = λ p o at. (o, at, λ step c le. refl)
+
+follows_acts : (book : Book) (k : Core) (qs : List Queue) (i : ℕ) (seat : Seat) (c : client.State) (taken : List Taken) (acts : ClientStep) → IsKept book k qs → numbered k.seats i ≡ Some seat → Follows k (ops_with k.ops seat.place c taken (k.steps + 1) acts)
+follows_acts book k qs i seat c taken acts kept here = by seat.place refl
+  where
+    by : (l : Option ℕ) → seat.place ≡ l → Follows k (ops_with k.ops l c taken (k.steps + 1) acts)
+    by None e = follows_same k
+    by (Some l) e = there (slice_get k.ops l) refl
+      where
+        there : (q : Option Op) → slice_get k.ops l ≡ q → Follows k (ops_after k.ops l q c taken (k.steps + 1) acts)
+        there None was = follows_same k
+        there (Some q) was = λ p o at. elim (else_replaced k.ops l (op_after q c taken (k.steps + 1) acts) p o at) [
+          | inl same ↦
+              let mine : q ≡ o = some_is q o (sym was ∙ ap (slice_get k.ops) (sym same) ∙ at) in
+              let running = (acts_alone book k qs i seat kept here).own l q e was in
+              (op_after q c taken (k.steps + 1) acts, ap (slice_get (slice_set k.ops l (op_after q c taken (k.steps + 1) acts))) same ∙ at_replaced k.ops l (op_after q c taken (k.steps + 1) acts) q was, subst (λ (z : Op). AlikeUpTo k.steps z (op_after q c taken (k.steps + 1) acts)) mine (running_past q c taken k.steps acts running.1))
+          | inr other ↦ (o, other.1, λ step i le. refl)
+        ]
+
+follows_event : FitLaws → (all past rest : List Moment) (opening : List Opening) (k : Core) (qs : List Queue) (e : Event) (mid after : List Queue) → Step all past rest opening k qs e mid after → Follows k (happens k e).core.ops
+follows_event laws all past rest opening k qs (Joins c) mid after s = subst (λ (o : Option Seat). Follows k (joins k c o).core.ops) (sym s.finds.1) (by s.finds.0 (server_step k.server event.Connect).0 (server_step k.server event.Connect).1.told)
+  where
+    by : (seat : Seat) (s : server.State) (o : Announced) → Follows k (joins_as k c seat s o).core.ops
+    by seat s (announced.Session made) = follows_same k
+    by seat s _ = follows_same k
+follows_event laws all past rest opening k qs (Does c now d) mid after s = subst (λ (o : Option Seat). Follows k (does k c now d o).core.ops) (sym s.finds.1) (λ p o at. (o, kept_appended k.ops _ p o at, λ step i le. refl))
+follows_event laws all past rest opening k qs (Serves n now bytes) mid after s = by (numbered k.sessions n)
+  where
+    by : (x : Option Session) → Follows k (serves k n now bytes x).core.ops
+    by None = follows_same k
+    by (Some x) = parsed (parse_of server_waiting bytes)
+      where
+        parsed : (m : Result Message WireFault) → Follows k (serves_if k n now x m).core.ops
+        parsed (Ok m) = follows_same k
+        parsed (Err e) = follows_same k
+follows_event laws all past rest opening k qs (Hears n now bytes) mid after s =
+    let heard = heard_at (book_at opening k all) k qs n now bytes mid s.kept s.finds in
+    subst (λ (t : Turned). Follows k t.core.ops) (sym heard.hears_is) (follows_acts (book_at opening k all) k qs heard.session.owner heard.seat (got_step heard.seat.client (parse_of (client.waiting_of heard.seat.client) bytes) now).0 (session_taken (session_of k.sessions heard.seat.session)) (got_step heard.seat.client (parse_of (client.waiting_of heard.seat.client) bytes) now).1 s.kept heard.owner)
+follows_event laws all past rest opening k qs (Settles now) mid after s = elim (settled_are (book_at opening k all) k qs now s.kept) [
+  | inl same ↦ subst (Follows k) (sym same) (follows_same k)
+  | inr new ↦ subst (Follows k) (sym new.4) (λ p o at. elim (else_replaced k.ops new.0 (record new.1 { point = Some (k.steps + 1) }) p o at) [
+    | inl same ↦
+        let mine : new.1 ≡ o = some_is new.1 o (sym new.2 ∙ ap (slice_get k.ops) (sym same) ∙ at) in
+        (record new.1 { point = Some (k.steps + 1) }, ap (slice_get (slice_set k.ops new.0 (record new.1 { point = Some (k.steps + 1) }))) same ∙ at_replaced k.ops new.0 (record new.1 { point = Some (k.steps + 1) }) new.1 new.2, subst (λ (z : Op). AlikeUpTo k.steps z (record new.1 { point = Some (k.steps + 1) })) mine (λ step i le. refl))
+    | inr other ↦ (o, other.1, λ step i le. refl)
+  ])
+]
+follows_event laws all past rest opening k qs (Cuts c) mid after s = subst (λ (o : Option Seat). Follows k (cuts k c o).core.ops) (sym s.finds.1) (by s.finds.0.client.linked)
+  where
+    by : (b : Bool) → Follows k (cuts_if k c s.finds.0 b).core.ops
+    by false = follows_same k
+    by true = follows_acts (book_at opening k all) k qs c s.finds.0 (cut s.finds.0.client).0 (session_taken (session_of k.sessions s.finds.0.session)) (cut s.finds.0.client).1 s.kept s.finds.1
+follows_event laws all past rest opening k qs (Hangs n) mid after s = by (numbered k.sessions n)
+  where
+    by : (x : Option Session) → Follows k (hangs k n x).core.ops
+    by None = follows_same k
+    by (Some x) = hung x.hung
+      where
+        hung : (b : Bool) → Follows k (hangs_if k n x b).core.ops
+        hung true = follows_same k
+        hung false = follows_same k
+
+-- ---- what is on its way
+
+-- the close that a session with a COMMITTMP on its way, or with a change that waits, remembers
+abbrev pub Waits : (past : List Moment) → Core → List Queue → (cut : Bool) → Type 0
+Waits past k qs cut = (n p : ℕ) (x : Session) (q : Queue) (o : Op) → numbered k.sessions n ≡ Some x → numbered qs n ≡ Some q → x.cut ≡ cut → x.closing ≡ Some p → 0 < commits_in q.ups + length (own n k.server.waiting) → slice_get k.ops p ≡ Some o → SentCommit o (sent_of past)
+
+-- what is on its way is known
+on_its_way : (book : Book) (seats : List Seat) (k : Core) (n : ℕ) (x : Session) (q : Queue) → (h : IsSession book seats k.server n x q) → 0 < commits_in q.ups + length (own n k.server.waiting) → (xid file : ℕ) × (v : List ℕ) × IsPending book x.closing x.cut (job h.seat) xid file v
+on_its_way book seats k n x q h lt = by (own n k.server.waiting) refl
+  where
+    asked : (us : List Ask) → AllAsks (IsCommit book x.closing x.cut (job h.seat) h.contents) us → 0 < commits_in us → (xid file : ℕ) × (v : List ℕ) × IsPending book x.closing x.cut (job h.seat) xid file v
+    asked [] all lt = absurd (omega (arith, lt))
+    asked (a ∷ us) all lt = one a.call all.0 lt (asked us all.1)
+      where
+        one : (c : Call) → CommitOf book x.closing x.cut (job h.seat) h.contents a.xid c → 0 < commits_in (record a { call = c } ∷ us) → (0 < commits_in us → (xid file : ℕ) × (v : List ℕ) × IsPending book x.closing x.cut (job h.seat) xid file v) → (xid file : ℕ) × (v : List ℕ) × IsPending book x.closing x.cut (job h.seat) xid file v
+        one (Commit temp file size) all lt later = (a.xid, file, h.contents temp, all.0)
+        one (Hash file offset) all lt later = later lt
+        one (Read file c) all lt later = later lt
+        one (Make temp file) all lt later = later lt
+        one (Name temp c) all lt later = later lt
+        one (Send temp start bytes) all lt later = later lt
+
+    by : (cs : List Change) → own n k.server.waiting ≡ cs → (xid file : ℕ) × (v : List ℕ) × IsPending book x.closing x.cut (job h.seat) xid file v
+    by (c ∷ cs) e = (c.xid, c.file, c.content, h.pending 0 c (ap (λ (l : List Change). slice_get l 0) e))
+    by [] e = asked q.ups h.commits (let z = ap length e in omega (arith, lt, z))
+
+-- as long as the owner is there, its job tells that it has sent its COMMITTMP
+waits_here : (book : Book) (past : List Moment) (k : Core) (qs : List Queue) → IsKept book k qs → StoredAt past k → Waits past k qs false
+waits_here book past k qs kept stored = λ n p x q o at is uncut known lt there.
+    let h = kept.sessions n x q at is in
+    let w = on_its_way book k.seats k n x q h lt in
+    let pending = w.3 in
+    let place : pending.place ≡ p = some_is pending.place p (sym pending.known ∙ known) in
+    elim (stored.jobs x.owner h.seat (record { place = pending.place; file = w.1; stage = stage.Committing w.0 }) o h.owner (pending.waited uncut) (ap (slice_get k.ops) place ∙ there)) [ inl did ↦ did.1 | inr yet ↦ absurd yet.1 ]
+
+-- ---- what was made
+
+-- each close that has its point had sent its COMMITTMP
+abbrev pub MadeAt : (past : List Moment) → Core → Type 0
+MadeAt past k = (p q : ℕ) (o : Op) → slice_get k.ops p ≡ Some o → o.word ≡ words.Close → o.point ≡ Some q → SentCommit o (sent_of past)
+
+-- what an operation was before an event that gave a close its point, or none
+abbrev Came : Core → (p : ℕ) → Op → Type 0
+Came k p r = ((o : Op) × (slice_get k.ops p ≡ Some o) × AlikeUpTo k.steps o r × (o.word ≡ r.word) × (r.word ≡ words.Close → r.point ≡ o.point)) ⊎ ((r.point ≡ None) ⊎ ((o : Op) × (slice_get k.ops p ≡ Some o) × AlikeUpTo k.steps o r × Remembers k p))
+
+abbrev AllCame : Core → List Op → Type 0
+AllCame k ops = (p : ℕ) (r : Op) → slice_get ops p ≡ Some r → Came k p r
+
+came_same : (k : Core) → AllCame k k.ops
+came_same k = λ p r at. inl (r, at, λ step i le. refl, refl, λ w. refl)
+
+-- an end gives no close its point
+close_point : (o : Op) (c : client.State) (taken : List Taken) (step : ℕ) (acts : ClientStep) → (op_after o c taken step acts).word ≡ words.Close → (op_after o c taken step acts).point ≡ o.point
+close_point o c taken step acts = by acts.ended
+  where
+    word : (w : Word) (u : Outcome) (x : ℕ) → w ≡ words.Close → point_if (has_point w u) taken x o.point ≡ o.point
+    word words.Open u x e = absurd (apart e)
+      where
+        apart : words.Open ≡ words.Close → ⊥
+        apart z = absurd cc
+    word _ u x e = refl
+
+    by : (e : Option Ended) → (op_after o c taken step (record acts { ended = e })).word ≡ words.Close → (op_after o c taken step (record acts { ended = e })).point ≡ o.point
+    by None w = refl
+    by (Some e) w = word o.word e.outcome e.rests_on w
+
+same_word : (o : Op) (c : client.State) (taken : List Taken) (step : ℕ) (acts : ClientStep) → o.word ≡ (op_after o c taken step acts).word
+same_word o c taken step acts = by acts.ended
+  where
+    by : (e : Option Ended) → o.word ≡ (op_after o c taken step (record acts { ended = e })).word
+    by None = refl
+    by (Some e) = refl
+
+came_acts : (book : Book) (k : Core) (qs : List Queue) (i : ℕ) (seat : Seat) (c : client.State) (taken : List Taken) (acts : ClientStep) → IsKept book k qs → numbered k.seats i ≡ Some seat → AllCame k (ops_with k.ops seat.place c taken (k.steps + 1) acts)
+came_acts book k qs i seat c taken acts kept here = λ p r at. elim (ops_shape k.ops seat.place c taken (k.steps + 1) acts p r at) [
+  | inr old ↦ came_same k p r old.1
+  | inl new ↦
+      let running = (acts_alone book k qs i seat kept here).own p new.0 new.1 new.2 in
+      subst (Came k p) (sym new.3) (inl (new.0, new.2, running_past new.0 c taken k.steps acts running.1, same_word new.0 c taken (k.steps + 1) acts, close_point new.0 c taken (k.steps + 1) acts))
+]
+
+came_event : FitLaws → (all past rest : List Moment) (opening : List Opening) (k : Core) (qs : List Queue) (e : Event) (mid after : List Queue) → Step all past rest opening k qs e mid after → AllCame k (happens k e).core.ops
+came_event laws all past rest opening k qs (Joins c) mid after s = subst (λ (o : Option Seat). AllCame k (joins k c o).core.ops) (sym s.finds.1) (by s.finds.0 (server_step k.server event.Connect).0 (server_step k.server event.Connect).1.told)
+  where
+    by : (seat : Seat) (s : server.State) (o : Announced) → AllCame k (joins_as k c seat s o).core.ops
+    by seat s (announced.Session made) = came_same k
+    by seat s _ = came_same k
+came_event laws all past rest opening k qs (Does c now d) mid after s = subst (λ (o : Option Seat). AllCame k (does k c now d o).core.ops) (sym s.finds.1) (by (command_step s.finds.0.client d now).0 (command_step s.finds.0.client d now).1 (command_step s.finds.0.client d now).1.ended)
+  where
+    point : (b : Bool) (x : ℕ) → point_if b [] x None ≡ None
+    point true x = refl
+    point false x = refl
+
+    by : (c_after : client.State) (acts : ClientStep) (e : Option Ended) → AllCame k (k.ops ++ op_after (begun c (word_of d) (file_of d) (value_at_begin s.finds.0.client d) (k.steps + 1)) c_after [] (k.steps + 1) (record acts { ended = e }) ∷ [])
+    by c_after acts None = λ p r at. elim (of_appended k.ops (op_after (begun c (word_of d) (file_of d) (value_at_begin s.finds.0.client d) (k.steps + 1)) c_after [] (k.steps + 1) (record acts { ended = None })) p r at) [
+      | inl new ↦ inr (inl (ap (λ (z : Op). z.point) new.1))
+      | inr old ↦ came_same k p r old
+    ]
+    by c_after acts (Some e) = λ p r at. elim (of_appended k.ops (op_after (begun c (word_of d) (file_of d) (value_at_begin s.finds.0.client d) (k.steps + 1)) c_after [] (k.steps + 1) (record acts { ended = Some e })) p r at) [
+      | inl new ↦ inr (inl (ap (λ (z : Op). z.point) new.1 ∙ point (has_point (word_of d) e.outcome) e.rests_on))
+      | inr old ↦ came_same k p r old
+    ]
+came_event laws all past rest opening k qs (Serves n now bytes) mid after s = by (numbered k.sessions n)
+  where
+    by : (x : Option Session) → AllCame k (serves k n now bytes x).core.ops
+    by None = came_same k
+    by (Some x) = parsed (parse_of server_waiting bytes)
+      where
+        parsed : (m : Result Message WireFault) → AllCame k (serves_if k n now x m).core.ops
+        parsed (Ok m) = came_same k
+        parsed (Err e) = came_same k
+came_event laws all past rest opening k qs (Hears n now bytes) mid after s =
+    let heard = heard_at (book_at opening k all) k qs n now bytes mid s.kept s.finds in
+    subst (λ (t : Turned). AllCame k t.core.ops) (sym heard.hears_is) (came_acts (book_at opening k all) k qs heard.session.owner heard.seat (got_step heard.seat.client (parse_of (client.waiting_of heard.seat.client) bytes) now).0 (session_taken (session_of k.sessions heard.seat.session)) (got_step heard.seat.client (parse_of (client.waiting_of heard.seat.client) bytes) now).1 s.kept heard.owner)
+came_event laws all past rest opening k qs (Settles now) mid after s = elim (settled_are (book_at opening k all) k qs now s.kept) [
+  | inl same ↦ subst (AllCame k) (sym same) (came_same k)
+  | inr new ↦ subst (AllCame k) (sym new.4) (λ p r at. elim (of_replaced k.ops new.0 (record new.1 { point = Some (k.steps + 1) }) p r at) [
+    | inr other ↦ came_same k p r other.1
+    | inl made ↦ subst (Came k p) (sym made.1) (inr (inr (new.1, ap (slice_get k.ops) made.0 ∙ new.2, λ step i le. refl, subst (Remembers k) (sym made.0) new.5)))
+  ])
+]
+came_event laws all past rest opening k qs (Cuts c) mid after s = subst (λ (o : Option Seat). AllCame k (cuts k c o).core.ops) (sym s.finds.1) (by s.finds.0.client.linked)
+  where
+    by : (b : Bool) → AllCame k (cuts_if k c s.finds.0 b).core.ops
+    by false = came_same k
+    by true = came_acts (book_at opening k all) k qs c s.finds.0 (cut s.finds.0.client).0 (session_taken (session_of k.sessions s.finds.0.session)) (cut s.finds.0.client).1 s.kept s.finds.1
+came_event laws all past rest opening k qs (Hangs n) mid after s = by (numbered k.sessions n)
+  where
+    by : (x : Option Session) → AllCame k (hangs k n x).core.ops
+    by None = came_same k
+    by (Some x) = hung x.hung
+      where
+        hung : (b : Bool) → AllCame k (hangs_if k n x b).core.ops
+        hung true = came_same k
+        hung false = came_same k
+
+-- ---- what a run carries
+
+pub record Stored (all past : List Moment) (opening : List Opening) (k : Core) (qs : List Queue) : Type 0 where
+  pub counted : CountedAt past k
+  pub fails : Fails all past opening k qs
+  pub stored : StoredAt past k
+  pub waits : Waits past k qs true
+  pub made : MadeAt past k
+
+waits_before : (book : Book) (past : List Moment) (k : Core) (qs : List Queue) → IsKept book k qs → StoredAt past k → Waits past k qs true → (b : Bool) → Waits past k qs b
+waits_before book past k qs kept stored waits true = waits
+waits_before book past k qs kept stored waits false = waits_here book past k qs kept stored
+
+waits_event : FitLaws → (all past rest : List Moment) (opening : List Opening) (k : Core) (qs : List Queue) (e : Event) (mid after : List Queue) → Step all past rest opening k qs e mid after → Stored all past opening k qs → Waits (past ++ moment k e ∷ []) (happens k e).core after true
+waits_event laws all past rest opening k qs e mid after s h = λ n p y r o at is is_cut known lt there.
+    let w = commits_left laws all past rest opening k qs e mid after s n y r at is is_cut in
+    let x : Session = w.0 in
+    let q : Queue = w.1 in
+    let le = w.5 in
+    let old = (s.kept.sessions n x q w.2 w.3).old p (sym w.4 ∙ known) in
+    let sent = waits_before (book_at opening k all) past k qs s.kept h.stored h.waits x.cut n p x q old.0 w.2 w.3 refl (sym w.4 ∙ known) (omega (arith, le, lt)) old.1 in
+    let follows = follows_event laws all past rest opening k qs e mid after s p old.0 old.1 in
+    let same : follows.0 ≡ o = some_is follows.0 o (sym follows.1 ∙ there) in
+    subst (λ l. SentCommit o l) (sent_more past (moment k e)) (commit_more o (sent_of past) (sent_in (moment k e)) (subst (λ (z : Op). SentCommit z (sent_of past)) same (commit_kept k.steps old.0 follows.0 (sent_of past) follows.2 h.counted.sent_by sent)))
+
+made_event : FitLaws → (all past rest : List Moment) (opening : List Opening) (k : Core) (qs : List Queue) (e : Event) (mid after : List Queue) → Step all past rest opening k qs e mid after → Stored all past opening k qs → MadeAt (past ++ moment k e ∷ []) (happens k e).core
+made_event laws all past rest opening k qs e mid after s h = λ p q r at close point.
+    subst (λ l. SentCommit r l) (sent_more past (moment k e)) (commit_more r (sent_of past) (sent_in (moment k e)) (elim (came_event laws all past rest opening k qs e mid after s p r at) [
+      | inl was ↦ commit_kept k.steps was.0 r (sent_of past) was.2 h.counted.sent_by (h.made p q was.0 was.1 (was.3 ∙ close) (sym (was.4 close) ∙ point))
+      | inr rest ↦ elim rest [
+        | inl none ↦ nothing_there q (sym none ∙ point)
+        | inr (o, there, alike, from) ↦
+            let w = also_numbered k.sessions qs from.0 from.2 s.kept.made.1 from.4 in
+            let lt = within (own from.0 k.server.waiting) from.1 from.3 from.6 in
+            commit_kept k.steps o r (sent_of past) alike h.counted.sent_by (waits_before (book_at opening k all) past k qs s.kept h.stored h.waits from.2.cut from.0 p from.2 w.0 o from.4 w.1 refl from.5 (omega (arith, lt)) there)
+      ]
+    ]))
+
+pub carried_stored : FitLaws → Carried Stored
+carried_stored laws = record {
+  first = λ all opening files changes count kept. record {
+    counted = carried_counts.first all opening files changes count kept;
+    fails = (carried_fails laws).first all opening files changes count kept;
+    stored = record { jobs = λ i seat j o here is at. nothing_there o at; commits = λ p o at c. nothing_there o at };
+    waits = λ n p x q o at is is_cut known lt there. nothing_there o there;
+    made = λ p q o at close point. nothing_there o at;
+  };
+  steps = λ all past rest opening k qs e mid after s h. record {
+    counted = carried_counts.steps all past rest opening k qs e mid after s h.counted;
+    fails = (carried_fails laws).steps all past rest opening k qs e mid after s h.fails;
+    stored = subst (λ z. AreStored z (happens k e).core.seats (happens k e).core.ops) (sent_more past (moment k e)) (stored_event laws all past rest opening k qs e mid after s h.counted h.fails h.stored);
+    waits = waits_event laws all past rest opening k qs e mid after s h;
+    made = made_event laws all past rest opening k qs e mid after s h;
+  };
+}
+
+-- ---- what it makes of the promise
+
+-- whatever is a change and has a point is a close that sent its COMMITTMP
+pub made_sent : (book : Book) (all : List Moment) (opening : List Opening) (k : Core) (qs : List Queue) → IsKept book k qs → Stored all book.moments opening k qs → (i p : ℕ) (o : Op) → slice_get book.ops i ≡ Some o → changes o.word ≡ true → o.point ≡ Some p → SentCommit o (sent_of book.moments)
+made_sent book all opening k qs kept h = λ i p o at change point. h.made i p o (ap (λ (l : List Op). slice_get l i) (sym kept.ops) ∙ at) (closes_alone book kept.sound i o at change p point) point
+
+pub have_stored : (book : Book) (all past : List Moment) (opening : List Opening) (k : Core) (qs : List Queue) → IsKept book k qs → Stored all past opening k qs → HaveStored k
+have_stored book all past opening k qs kept h = λ n p i x o c at known there waiting.
+    let q = also_numbered k.sessions qs n x kept.made.1 at in
+    h.stored.commits p o there (waits_before book past k qs kept h.stored h.waits x.cut n p x q.0 o at q.1 refl known (let lt = within (own n k.server.waiting) i c waiting in omega (arith, lt)) there)

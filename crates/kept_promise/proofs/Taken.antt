@@ -1,0 +1,112 @@
+-- Calls that were taken: what was told of them stays so when a further one is taken.
+use Rattle.std.proofs.Common.{◌⊎◌, inl, inr, ◌≡◌, ℕ, zero, suc, ◌+◌, ◌<◌, ◌≤◌, List, [], ◌∷◌, ◌++◌, length, Option, Some, None, Bool, true, false, refl, sym, ap, ◌∙◌, subst, arith, eq-eqb, ne_eqb}
+use Rattle.std.specs.Prelude.{slice_get, cond, ◌==◌, find, map}
+use Rattle.std.specs.Option.{option_map}
+use Rattle.chunk_cut.specs.declared.chunk.Chunk.{Chunk}
+use Rattle.xdr_codec.specs.declared.answer.Answer.{Answer}
+use Rattle.xdr_codec.specs.declared.answer.Answer.TheVariants.{Done, Failed}
+use Rattle.xdr_codec.specs.declared.attr.Attr.{Attr}
+use Rattle.hash_calls.specs.declared.call.Hashes.{Hashes}
+use Rattle.nfs3_calls.specs.declared.call.Piece.{Piece}
+use Rattle.open_close.specs.declared.task.Fetch.{Fetch}
+use Rattle.open_close.specs.declared.task.Stage.{Stage}
+use Rattle.open_close.specs.declared.task.Stage.TheVariants as stage
+use Rattle.register_model.specs.Register.{Value}
+use Rattle.trace_replay.specs.declared.link.Taken.{Taken}
+use Rattle.trace_replay.specs.Ops.{taken_at}
+use Rattle.trace_replay.specs.Book.{Book}
+use Rattle.kept_promise.specs.Talk.{Call, Reply, Reply.Hashed, Reply.Bytes, Reply.Changed, Ask, Told, Queue}
+use Rattle.kept_promise.proofs.Lists.{some_is, nothing_there}
+use Rattle.kept_promise.proofs.Keys.{times, times_append, ask_key, told_key}
+use Rattle.kept_promise.proofs.Messages.{Job, AllAsks, AllTolds, AllUnder, Rising, IsTold, IsTried, HashTold, ReadTold, TriedBy, AnswerOf, IsAnswer, IsFetch, FetchOf, HasFetch}
+
+-- what was found is found
+abbrev pub Finds : List Taken → List Taken → Type 0
+Finds taken after = (x p : ℕ) → taken_at taken x ≡ Some p → taken_at after x ≡ Some p
+
+pub finds_more : (taken : List Taken) (t : Taken) → Finds taken (taken ++ t ∷ [])
+finds_more [] t x p e = nothing_there p e
+finds_more (u ∷ taken) t x p e = by (u.xid == x) e (finds_more taken t x p)
+  where
+    by : (b : Bool) → option_map (λ z. z.step) (cond b (Some u) (find (λ z. z.xid == x) taken)) ≡ Some p → (option_map (λ z. z.step) (find (λ z. z.xid == x) taken) ≡ Some p → option_map (λ z. z.step) (find (λ z. z.xid == x) (taken ++ t ∷ [])) ≡ Some p) → option_map (λ z. z.step) (cond b (Some u) (find (λ z. z.xid == x) (taken ++ t ∷ []))) ≡ Some p
+    by true e later = e
+    by false e later = later e
+
+-- the last one is found where none had its xid
+pub finds_last : (taken : List Taken) (floor : ℕ) (t : Taken) → AllUnder floor taken → floor ≤ t.xid → taken_at (taken ++ t ∷ []) t.xid ≡ Some t.step
+finds_last [] floor t u le = ap (λ b. option_map (λ z. z.step) (cond b (Some t) None)) (eq-eqb t.xid t.xid refl)
+finds_last (v ∷ taken) floor t u le =
+    let lt = u.0 in
+    ap (λ b. option_map (λ z. z.step) (cond b (Some v) (find (λ z. z.xid == t.xid) (taken ++ t ∷ [])))) (ne_eqb v.xid t.xid (λ e. omega (arith, lt, le, e))) ∙ finds_last taken floor t u.1 le
+
+pub under_more : (floor : ℕ) (taken : List Taken) (t : Taken) → AllUnder floor taken → floor ≤ t.xid → AllUnder (t.xid + 1) (taken ++ t ∷ [])
+under_more floor [] t u le = (omega arith, tt)
+under_more floor (v ∷ taken) t u le = let lt = u.0 in (omega (arith, lt, le), under_more floor taken t u.1 le)
+
+-- ---- facts
+
+told_found : (book : Book) (taken after : List Taken) (j : Job) (x : ℕ) (v : Value) (version : ℕ) → Finds taken after → IsTold book taken j x v version → IsTold book after j x v version
+told_found book taken after j x v version f h = record { moment = h.moment; was = f x h.moment h.was; past = h.past; value = h.value; version_is = h.version_is; op = h.op; there = h.there; after = h.after; apart = h.apart }
+
+tried_found : (book : Book) (taken after : List Taken) (j : Job) (x n : ℕ) → Finds taken after → IsTried book taken j x n → IsTried book after j x n
+tried_found book taken after j x n f h = record { moment = h.moment; was = f x h.moment h.was; past = h.past; op = h.op; there = h.there; count = h.count; tries_is = h.tries_is; tried = h.tried }
+
+hash_found : (book : Book) (taken after : List Taken) (j : Job) (x o : ℕ) (a : Answer Hashes Unit) → Finds taken after → HashTold book taken j x o a → HashTold book after j x o a
+hash_found book taken after j x o (Failed s u) f (inl h) = inl h
+hash_found book taken after j x o (Failed s u) f (inr h) = inr (h.0, h.1, (h.2.0, told_found book taken after j x None h.2.0 f h.2.1))
+hash_found book taken after j x o (Done a) f h = record { file = h.file; is = h.is; told = told_found book taken after j x (Some h.file.content) h.file.version f h.told; short = h.short; known = h.known; hashed = h.hashed }
+
+tried_by_found : (book : Book) (taken after : List Taken) (j : Job) (x : ℕ) (s : Stage) → Finds taken after → TriedBy book taken j x s → TriedBy book after j x s
+tried_by_found book taken after j x (stage.Hashing tries y) f h = tried_found book taken after j x tries f h
+tried_by_found book taken after j x (stage.Listing y g) f h = record { began = h.began; was = f g.first h.began h.was; last = h.last; is = f x h.last h.is; order = h.order }
+tried_by_found book taken after j x _ f h = tt
+
+read_found : (book : Book) (taken after : List Taken) (j : Job) (first : ℕ) (c : Chunk) (a : Answer Piece (Option Attr)) → Finds taken after → ReadTold book taken j first c a → ReadTold book after j first c a
+read_found book taken after j first c (Failed s a) f h = h
+read_found book taken after j first c (Done p) f h = record { file = h.file; is = h.is; began = h.began; was = f first h.began h.was; last = h.last; order = h.order; past = h.past; value = h.value; version_is = h.version_is }
+
+answer_of_found : (book : Book) (taken after : List Taken) (closing : Option ℕ) (job : Option Job) (x : ℕ) (r : Reply) → Finds taken after → AnswerOf book taken closing job x r → AnswerOf book after closing job x r
+answer_of_found book taken after closing job x (Hashed a) f h = λ j o e w. let r = h j o e w in (hash_found book taken after j x o a f r.0, tried_by_found book taken after j x j.stage f r.1)
+answer_of_found book taken after closing job x (Bytes a) f h = λ j g c e s w. read_found book taken after j g.first c a f (h j g c e s w)
+answer_of_found book taken after closing job x (Changed a) f h = h
+answer_of_found book taken after closing job x _ f h = tt
+
+pub answer_found : (book : Book) (taken after : List Taken) (closing : Option ℕ) (job : Option Job) (t : Told) → Finds taken after → IsAnswer book taken closing job t → IsAnswer book after closing job t
+answer_found book taken after closing job t f h = answer_of_found book taken after closing job t.xid t.reply f h
+
+abbrev fetch_found : (book : Book) (taken after : List Taken) (j : Job) (g : Fetch) → Finds taken after → IsFetch book taken j g → IsFetch book after j g
+fetch_found book taken after j g f h = record { content = h.content; told = told_found book taken after j g.first (Some h.content) g.version f h.told; tried = tried_found book taken after j g.first g.tries f h.tried; size = h.size; short = h.short; known = h.known; count = h.count; within = h.within; chunks = h.chunks; hashed = h.hashed }
+
+fetch_of_found : (book : Book) (taken after : List Taken) (j : Job) (s : Stage) → Finds taken after → FetchOf book taken j s → FetchOf book after j s
+fetch_of_found book taken after j (stage.Listing x g) f h = (fetch_found book taken after j g f h.0, h.1, h.2)
+fetch_of_found book taken after j (stage.Reading g) f h = (fetch_found book taken after j g f h.0, h.1)
+fetch_of_found book taken after j _ f h = tt
+
+pub has_fetch_found : (book : Book) (taken after : List Taken) (job : Option Job) → Finds taken after → HasFetch book taken job → HasFetch book after job
+has_fetch_found book taken after job f h = λ j e. fetch_of_found book taken after j j.stage f (h j e)
+
+-- ---- lists of messages
+
+pub asks_append : (P : Ask → Type 0) (us vs : List Ask) → AllAsks P us → AllAsks P vs → AllAsks P (us ++ vs)
+asks_append P [] vs a b = b
+asks_append P (u ∷ us) vs a b = (a.0, asks_append P us vs a.1 b)
+
+pub tolds_append : (P : Told → Type 0) (us vs : List Told) → AllTolds P us → AllTolds P vs → AllTolds P (us ++ vs)
+tolds_append P [] vs a b = b
+tolds_append P (u ∷ us) vs a b = (a.0, tolds_append P us vs a.1 b)
+
+pub rising_append : (n : ℕ) (us vs : List Ask) (top next : ℕ) → Rising n us top → Rising top vs next → Rising n (us ++ vs) next
+rising_append n [] vs top next a b = lower n top vs next a b
+  where
+    lower : (n top : ℕ) (vs : List Ask) (next : ℕ) → n ≤ top → Rising top vs next → Rising n vs next
+    lower n top [] next le h = omega (arith, le, h)
+    lower n top (v ∷ vs) next le h = let m = h.0 in (omega (arith, le, m), h.1)
+rising_append n (u ∷ us) vs top next a b = (a.0, rising_append (u.xid + 1) us vs top next a.1 b)
+
+pub times_map_append : {A : Type 0} (f : A → ℕ) (y : ℕ) (us vs : List A) → times y (map f (us ++ vs)) ≡ times y (map f us) + times y (map f vs)
+times_map_append f y [] vs = omega arith
+times_map_append f y (u ∷ us) vs = by (f u == y) (times_map_append f y us vs)
+  where
+    by : (b : Bool) → times y (map f (us ++ vs)) ≡ times y (map f us) + times y (map f vs) → cond b (suc (times y (map f (us ++ vs)))) (times y (map f (us ++ vs))) ≡ cond b (suc (times y (map f us))) (times y (map f us)) + times y (map f vs)
+    by true e = omega (arith, e)
+    by false e = e

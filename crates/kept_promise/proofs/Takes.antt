@@ -1,0 +1,195 @@
+-- The server takes a call: the frame of all that it answers at once.
+use Rattle.std.proofs.Common.{◌⊎◌, inl, inr, ◌≡◌, ℕ, zero, suc, ◌+◌, ◌<◌, ◌≤◌, List, [], ◌∷◌, ◌++◌, length, Option, Some, None, Bool, true, false, refl, sym, ap, ◌∙◌, subst, arith}
+use Rattle.std.specs.Prelude.{slice_get, map, not, cond, ◌==◌, IsSome}
+use Rattle.wire.specs.Message.{MessageFits}
+use Rattle.server_core.specs.State as server
+use Rattle.server_core.specs.Step.{stands}
+use Rattle.server_core.specs.Temps.{Temp, key_of}
+use Rattle.server_core.specs.declared.change.Change.{Change}
+use Rattle.server_core.specs.declared.file.File.{File}
+use Rattle.open_close.specs.State as client
+use Rattle.register_model.specs.Register.{content_of}
+use Rattle.register_model.specs.declared.op.Op.{Op}
+use Rattle.register_model.specs.declared.op.Outcome.TheVariants as told
+use Rattle.trace_replay.specs.declared.link.Taken.{Taken}
+use Rattle.trace_replay.specs.Core.{Core, Seat, Session, numbered, with_numbered}
+use Rattle.trace_replay.specs.World.{unless}
+use Rattle.trace_replay.specs.Book.{Book, value_at, version_at}
+use Rattle.kept_promise.specs.Talk.{Call, Call.Hash, Call.Read, Call.Make, Call.Name, Call.Send, Call.Commit, Reply, Ask, Told, Queue, told_message, call_program, reply_program}
+use Rattle.kept_promise.proofs.Statements.{CallFits}
+use Rattle.kept_promise.proofs.Lists.{some_is, nothing_there, same_or_not}
+use Rattle.kept_promise.proofs.Keys.{times, times_append, own, on_way, key, code_of, change_key, ask_key, told_key, pending_key}
+use Rattle.kept_promise.proofs.Messages.{Job, job, AllAsks, AllTolds, Rising, IsAsked, AnswerOf, IsAnswer, IsCommit, CommitOf, IsPiece, PieceOf, TempUnder, AreParts, IsPending}
+use Rattle.kept_promise.proofs.Growth.{value_alike, version_alike}
+use Rattle.kept_promise.proofs.History.{Still, onward, grows_same, goes_same, still_same}
+use Rattle.kept_promise.proofs.Later.{all_asks, all_tolds, answer_later, has_fetch_later, commit_later, close_later, pending_later, seat_later, SameView, Stays, Spares}
+use Rattle.kept_promise.proofs.Taken.{Finds, finds_more, under_more, answer_found, has_fetch_found, tolds_append, times_map_append}
+use Rattle.kept_promise.proofs.Turns.{Around, around_same, around_with, Turn, turned_core, kept_turn}
+use Rattle.kept_promise.proofs.Shelf.{IsShelf}
+use Rattle.kept_promise.proofs.Orderly.{locals_of, Wanted, Held, Orderly}
+use Rattle.kept_promise.proofs.Ordered.{SameFound, orderly_answered}
+use Rattle.kept_promise.proofs.Facts.{FileIs, IsServer, IsBalanced, IsTalk, IsSession, IsSeat, IsKept, commits_in}
+
+-- ---- the tree, where no file changes
+
+pub file_still : (book more : Book) (f : ℕ) (g : Option File) → Still book more → more.opening ≡ book.opening → FileIs book f g → FileIs more f g
+file_still book more f None still o h = (ap (λ l. content_of l f) o ∙ h.0, value_alike book more f (more.steps + 1) (book.steps + 1) o (still f) ∙ h.1)
+file_still book more f (Some g) still o h = (h.0, h.1, h.2, subst (λ l. IsSome (content_of l f)) (sym o) h.3, value_alike book more f (more.steps + 1) (book.steps + 1) o (still f) ∙ h.4, version_alike book more f (more.steps + 1) (book.steps + 1) (still f) ∙ h.5, h.6)
+
+pub server_still : (book more : Book) (s : server.State) (moment : ℕ) (temps : List (ℕ × Temp)) → Still book more → more.opening ≡ book.opening → IsServer book s → IsServer more (record s { moment = moment; temps = temps })
+server_still book more s moment temps still o h = record { held = λ f. file_still book more f (server.file_at s.files f) still o (h.held f); versions = h.versions; changes = h.changes; lengths = h.lengths; targets = λ i c e. subst (λ l. IsSome (content_of l c.file)) (sym o) (h.targets i c e); xids = h.xids }
+
+-- ---- a session that took a call
+
+abbrev pub took : Session → (xid step : ℕ) → Session
+took x xid step = record x { taken = x.taken ++ record { xid = xid; step = step } ∷ [] }
+
+pub commits_tail : (a : Ask) (us : List Ask) → commits_in us ≤ commits_in (a ∷ us)
+commits_tail a us = by a.call
+  where
+    by : (c : Call) → commits_in us ≤ elim c [ Commit temp file size ↦ suc (commits_in us) | _ ↦ commits_in us ]
+    by (Commit temp file size) = omega arith
+    by (Hash f o) = omega arith
+    by (Read f c) = omega arith
+    by (Make t f) = omega arith
+    by (Name t c) = omega arith
+    by (Send t s b) = omega arith
+
+abbrev pub put_down : Queue → List Ask → (cut : Bool) → Told → Queue
+put_down q us cut t = record { ups = us; downs = unless cut q.downs (t ∷ []) }
+
+-- a message that is answered is where its call was
+pub way_moved : (n y : ℕ) (w : List Change) (q : Queue) (a : Ask) (us : List Ask) (t : Told) → q.ups ≡ a ∷ us → told_key t ≡ ask_key a → times y (on_way n w (put_down q us false t)) ≡ times y (on_way n w q)
+way_moved n y w q a us t e same =
+    let middle = map change_key (own n w) in
+    let one = times_append y (map ask_key us) (middle ++ map told_key (q.downs ++ t ∷ [])) in
+    let two = times_append y middle (map told_key (q.downs ++ t ∷ [])) in
+    let three = times_map_append told_key y q.downs (t ∷ []) in
+    let was = ap (λ (l : List Ask). times y (map ask_key l ++ (middle ++ map told_key q.downs))) e in
+    let four = times_append y (map ask_key (a ∷ us)) (middle ++ map told_key q.downs) in
+    let five = times_append y middle (map told_key q.downs) in
+    let six = times_append y (ask_key a ∷ []) (map ask_key us) in
+    let seven : times y (told_key t ∷ []) ≡ times y (ask_key a ∷ []) = ap (λ k. times y (k ∷ [])) same in
+    omega (arith, one, two, three, was, four, five, six, seven)
+
+downs_of : (P : Told → Type 0) (cut : Bool) (downs : List Told) (t : Told) → AllTolds P downs → P t → AllTolds P (unless cut downs (t ∷ []))
+downs_of P true downs t h p = h
+downs_of P false downs t h p = tolds_append P downs (t ∷ []) h (p, tt)
+
+-- what a call that is answered at once is to show
+pub record Answers (book : Book) (k : Core) (n : ℕ) (x : Session) (q : Queue) (a : Ask) (temps : List (ℕ × Temp)) (r : Reply) (h : IsSession book k.seats k.server n x q) : Type 0 where
+  pub program : reply_program r ≡ call_program a.call
+  pub fits : MessageFits (told_message (record { xid = a.xid; reply = r }))
+  pub answer : x.cut ≡ false → AnswerOf (onward book 1 book.ops) (x.taken ++ record { xid = a.xid; step = book.steps + 1 } ∷ []) x.closing (job h.seat) a.xid r
+  pub pieces : (i m : ℕ) (e : ℕ × Temp) → m < 4294967296 → slice_get temps i ≡ Some e → e.0 ≡ key_of n m → AreParts (h.contents m) e.1.pieces × (key_of e.1.session e.1.number ≡ e.0)
+  pub below : x.cut ≡ false → (i m : ℕ) (e : ℕ × Temp) → m < 4294967296 → slice_get temps i ≡ Some e → e.0 ≡ key_of n m → m < h.seat.client.next_temp
+  pub shelf : IsShelf temps
+  pub found : (o : ℕ) → (o ≡ n → ⊥) → SameFound k.server.temps temps o
+  pub wanted : x.cut ≡ false → Wanted (onward book 1 book.ops) (job h.seat) a.xid r
+  pub held : x.cut ≡ false → (us : List Ask) → q.ups ≡ a ∷ us → Held temps n us (locals_of h.seat.client) (job h.seat)
+  pub others : (o i m : ℕ) (e : ℕ × Temp) → (o ≡ n → ⊥) → m < 4294967296 → slice_get temps i ≡ Some e → e.0 ≡ key_of o m → (j : ℕ) × (slice_get k.server.temps j ≡ Some e)
+
+pub kept_reply : (book : Book) (k : Core) (qs : List Queue) (n moment : ℕ) (x : Session) (q : Queue) (a : Ask) (us : List Ask) (temps : List (ℕ × Temp)) (r : Reply) (sessions : List Session) (after : List Queue)
+    → (kept : IsKept book k qs) → (at : numbered k.sessions n ≡ Some x) → (is : numbered qs n ≡ Some q) → q.ups ≡ a ∷ us → x.hung ≡ false
+    → Around k.sessions sessions n (took x a.xid (book.steps + 1)) → Around qs after n (put_down q us x.cut (record { xid = a.xid; reply = r }))
+    → Answers book k n x q a temps r (kept.sessions n x q at is)
+    → IsKept (onward book 1 book.ops) (turned_core (onward book 1 book.ops) (record k.server { moment = moment; temps = temps }) k.seats sessions) after
+kept_reply book k qs n moment x q a us temps r sessions after kept at is e unhung around queues shows =
+    let h = kept.sessions n x q at is in
+    let more = onward book 1 book.ops in
+    let g = grows_same book 1 in
+    let y = took x a.xid (book.steps + 1) in
+    let t : Told = record { xid = a.xid; reply = r } in
+    let c = h.seat in
+    let spares : Spares x.closing None = λ p u v. nothing_there p v in
+    let ups_of : (P : Ask → Type 0) → AllAsks P q.ups → P a × AllAsks P us = λ P all. subst (AllAsks P) e all in
+    kept_turn book more k qs (record k.server { moment = moment; temps = temps }) k.seats sessions after n x y (put_down q us x.cut t) c c None None (record {
+      at = at;
+      was = h.owner;
+      session_around = around;
+      queue_around = queues;
+      seat_around = around_same k.seats x.owner c h.owner;
+      owner = refl;
+      goes = goes_same book 1 kept.sound;
+      server = server_still book more k.server moment temps (still_same book 1 kept.sound) refl kept.server;
+      sessions_made = refl;
+      view = λ o apart. record { stands_is = refl; waiting = refl; temps = λ i m u lt at q. shows.others o i m u apart lt at q; found = shows.found o apart };
+      elsewhere = inl refl;
+      closing = λ p f. inl f;
+      made_here = λ p f. nothing_there p f;
+      ended_here = λ p o f. nothing_there p f;
+      session = record {
+        seat = c;
+        owner = h.owner;
+        here = h.here;
+        shut = λ cut. cut_downs x.cut cut (h.shut cut);
+        lost = λ hung. absurd (not_both x.hung unhung hung);
+        stands_is = h.stands_is;
+        ups_fit = (ups_of (λ b. CallFits b.xid b.call) h.ups_fit).1;
+        downs_fit = downs_of (λ u. MessageFits (told_message u)) x.cut q.downs t h.downs_fit shows.fits;
+        talk = λ uncut. subst (λ (b : Bool). IsTalk more n k.server.waiting y (put_down q us b t) c) (sym uncut) (talks h shows uncut (h.talk uncut));
+        contents = h.contents;
+        lengths = h.lengths;
+        commits = (ups_of (IsCommit more x.closing x.cut (job c) h.contents) (all_asks (IsCommit book x.closing x.cut (job c) h.contents) (IsCommit more x.closing x.cut (job c) h.contents) (λ b m. commit_later book more None None x.closing x.cut (job c) (job c) h.contents b g spares (λ u. refl) m) q.ups h.commits)).1;
+        pieces = (ups_of (IsPiece h.contents) h.pieces).1;
+        temps = shows.pieces;
+        temps_below = λ uncut. ((ups_of (λ b. TempUnder c.client.next_temp b.call) (h.temps_below uncut).0).1, shows.below uncut);
+        closes = λ uncut j f. close_later book more None None x.closing h.contents c.client.next_temp j (client.local_bytes c.client.opened j.file) j.stage g spares (h.closes uncut j f);
+        pending = λ i d f. pending_later book more None None x.closing x.cut (job c) (job c) d.xid d.file d.content g spares (λ u. refl) (h.pending i d f);
+        single = let a1 = h.single in let b1 = commits_tail a us in let c1 = ap commits_in e in omega (arith, a1, b1, c1);
+        old = λ p f. let o = h.old p f in let u = g.each p o.0 o.1 in (u.0, u.1, u.2.client ∙ o.2);
+        orderly = λ uncut. subst (λ (b : Bool). Orderly more n temps b (put_down q us x.cut t) c) (sym unhung) (orderly_answered book more None None n k.server.temps temps x.cut q a us t c g e (shows.wanted uncut) (shows.held uncut us e) (subst (λ (b : Bool). Orderly book n k.server.temps b q c) unhung (h.orderly uncut)));
+      };
+      seat = seat_later book more None None k.sessions sessions x.owner c g stays (λ p o f. nothing_there p f) (kept.seats x.owner c h.owner);
+      running = kept.running;
+      shelf = shows.shelf;
+      home = λ i d f. let z = kept.home i d f in homes z.0 d.session z.1 z.2;
+    }) kept.journal kept
+  where
+    not_both : (b : Bool) → b ≡ false → b ≡ true → ⊥
+    not_both b u v = absurd cc
+
+    cut_downs : (b : Bool) → b ≡ true → q.downs ≡ [] → unless b q.downs (record { xid = a.xid; reply = r } ∷ []) ≡ []
+    cut_downs true u none = none
+    cut_downs false u none = absurd cc
+
+    later_session : (z : Session) (m : ℕ) → numbered k.sessions m ≡ Some z → (v : Session) × (numbered sessions m ≡ Some v) × (v.owner ≡ z.owner) × (v.cut ≡ z.cut) × (v.hung ≡ z.hung)
+    later_session z m f = elim (same_or_not m n) [
+      | inr apart ↦ (z, around.others m apart ∙ f, refl, refl, refl)
+      | inl here ↦
+          let same : x ≡ z = some_is x z (sym at ∙ ap (numbered k.sessions) (sym here) ∙ f) in
+          (took x a.xid (book.steps + 1), ap (numbered sessions) here ∙ around.there, ap (λ (v : Session). v.owner) same, ap (λ (v : Session). v.cut) same, ap (λ (v : Session). v.hung) same)
+    ]
+
+    homes : (z : Session) (m : ℕ) → numbered k.sessions m ≡ Some z → z.hung ≡ false → (v : Session) × (numbered sessions m ≡ Some v) × (v.hung ≡ false)
+    homes z m f hung = let v = later_session z m f in (v.0, v.1, v.4 ∙ hung)
+
+    stays : Stays k.sessions sessions x.owner
+    stays m z f = let v = later_session z m f in (v.0, v.1, v.2, λ mine. v.3)
+
+    talks : (h : IsSession book k.seats k.server n x q) → Answers book k n x q a temps r h → x.cut ≡ false → IsTalk book n k.server.waiting x q h.seat → IsTalk (onward book 1 book.ops) n k.server.waiting (took x a.xid (book.steps + 1)) (put_down q us false (record { xid = a.xid; reply = r })) h.seat
+    talks h shows uncut talk =
+        let more = onward book 1 book.ops in
+        let g = grows_same book 1 in
+        let t : Told = record { xid = a.xid; reply = r } in
+        let z : Taken = record { xid = a.xid; step = book.steps + 1 } in
+        let finds = finds_more x.taken z in
+        let rising = subst (λ (l : List Ask). Rising talk.floor l h.seat.client.next) e talk.rising in
+        let spares : Spares x.closing None = λ p u v. nothing_there p v in
+        let keys : told_key t ≡ ask_key a = ap (key a.xid) shows.program in
+        record {
+          floor = a.xid + 1;
+          under = under_more talk.floor x.taken z talk.under rising.0;
+          rising = rising.1;
+          asked = (subst (AllAsks (IsAsked (job h.seat))) e talk.asked).1;
+          answers = tolds_append (IsAnswer more (x.taken ++ z ∷ []) x.closing (job h.seat)) q.downs (t ∷ []) (all_tolds (IsAnswer book x.taken x.closing (job h.seat)) (IsAnswer more (x.taken ++ z ∷ []) x.closing (job h.seat)) (λ u f. answer_found more x.taken (x.taken ++ z ∷ []) x.closing (job h.seat) u finds (answer_later book more None None x.taken x.closing (job h.seat) u g spares f)) q.downs talk.answers) (shows.answer uncut, tt);
+          fetch = has_fetch_found more x.taken (x.taken ++ z ∷ []) (job h.seat) finds (has_fetch_later book more None None x.taken (job h.seat) g talk.fetch);
+          balanced = record {
+            most = λ v. let m = talk.balanced.most v in let w = way_moved n v k.server.waiting q a us t e keys in omega (arith, m, w);
+            least = λ hung v. let m = talk.balanced.least hung v in let w = way_moved n v k.server.waiting q a us t e keys in omega (arith, m, w);
+            once = talk.balanced.once;
+            below = talk.balanced.below;
+            ours = talk.balanced.ours;
+          };
+          busy = talk.busy;
+        }

@@ -1,0 +1,216 @@
+-- What the server tells of a file when it takes a GETHASH or a READ, and what other calls come to.
+use Rattle.std.proofs.Common.{◌⊎◌, inl, inr, ◌≡◌, ℕ, zero, suc, ◌+◌, ◌<◌, ◌≤◌, ◌^◌, List, [], ◌∷◌, ◌++◌, length, max, Option, Some, None, Bool, true, false, refl, sym, ap, ◌∙◌, subst, arith, eqb-true}
+use Rattle.std.specs.Prelude.{slice_get, map, not, cond, ◌==◌, IsSome, Result, Ok, Err, Contains}
+use Rattle.chunk_cut.specs.Places.{chunk_bytes, end_of}
+use Rattle.chunk_cut.specs.declared.chunk.Chunk.{Chunk}
+use Rattle.xdr_codec.specs.Handle.{handle_bytes}
+use Rattle.xdr_codec.specs.declared.answer.Answer.{Answer}
+use Rattle.xdr_codec.specs.declared.answer.Answer.TheVariants.{Done, Failed}
+use Rattle.xdr_codec.specs.declared.attr.Attr.{Attr}
+use Rattle.xdr_codec.specs.declared.status.Status.{Status}
+use Rattle.xdr_codec.specs.declared.status.Status.TheVariants as status
+use Rattle.hash_calls.specs.declared.call.HashRange.{HashRange}
+use Rattle.nfs3_calls.specs.declared.call.Range.{Range}
+use Rattle.wire.specs.Message.{message_spell, MessageFits}
+use Rattle.wire.specs.Parse.{parse_of}
+use Rattle.wire.specs.declared.message.Message.{Message}
+use Rattle.wire.specs.declared.fault.WireFault.{WireFault}
+use Rattle.server_core.specs.State as server
+use Rattle.server_core.specs.Answers.{Node, root, file, file_node, node_named, node_of, told_chunks, hashes_of, hash_answer, piece_of, read_answer}
+use Rattle.server_core.specs.Temps.{Temp, temp_at, key_of}
+use Rattle.server_core.specs.Hashed.{bytes_told, server_hashed}
+use Rattle.server_core.specs.declared.file.File.{File}
+use Rattle.open_close.specs.declared.task.Fetch.{Fetch}
+use Rattle.open_close.specs.declared.task.Stage.{Stage}
+use Rattle.open_close.specs.declared.task.Stage.TheVariants as stage
+use Rattle.register_model.specs.Register.{Value, content_of}
+use Rattle.trace_replay.specs.declared.link.Taken.{Taken}
+use Rattle.trace_replay.specs.Core.{Core, Seat, Session, Event.Serves, numbered, server_waiting}
+use Rattle.trace_replay.specs.Trail.{hashed_of, served_hashed}
+use Rattle.trace_replay.specs.Book.{Book, value_at, version_at}
+use Rattle.trace_replay.specs.Causes.{Tried}
+use Rattle.kept_promise.specs.Talk.{Call, Call.Hash, Call.Read, Call.Make, Call.Name, Call.Send, Call.Commit, Reply, Reply.Hashed, Reply.Bytes, Ask, Told, Queue, ask_message, told_message}
+use Rattle.kept_promise.proofs.Statements.{CallFits, FileFits, IsPlain}
+use Rattle.kept_promise.proofs.Lists.{some_is, nothing_there}
+use Rattle.kept_promise.proofs.Messages.{Job, job, AllAsks, AllUnder, Rising, CallOf, IsAsked, hash_offset, read_chunk, IsTold, IsTried, Trying, IsHashed, HashTold, IsRead, ReadTold, TriedBy, AnswerOf, IsFetch, IsReading, FetchOf, range_from}
+use Rattle.kept_promise.proofs.Growth.{value_later, version_later, tried_later}
+use Rattle.kept_promise.proofs.History.{onward, grows_same}
+use Rattle.kept_promise.proofs.Taken.{finds_last, finds_more, under_more}
+use Rattle.kept_promise.proofs.Fits.{FitLaws}
+use Rattle.kept_promise.proofs.Facts.{FileIs, IsServer, IsTalk, IsSession, IsSeat, IsOf, IsKept}
+use Rattle.kept_promise.proofs.Serves.{own_node, contains_at, map_at, parsed}
+use Rattle.kept_promise.proofs.Leading.{IsNoted}
+
+-- ---- what a name stands for
+
+pub data Found (files : List (ℕ × File)) (f : ℕ) : Type 0 where
+  is_root : f ≡ 1 → node_of files (handle_bytes f) ≡ Ok root → Found files f
+  is_gone : server.file_at files f ≡ None → node_of files (handle_bytes f) ≡ Err status.Stale → Found files f
+  is_file : (g : File) → server.file_at files f ≡ Some g → node_of files (handle_bytes f) ≡ Ok (file g) → Found files f
+
+abbrev named_by : List (ℕ × File) → ℕ → Bool → Result Node Status
+named_by files f b = elim b [ true ↦ Ok root | false ↦ file_node (server.file_at files f) ]
+
+found_in : (files : List (ℕ × File)) (f : ℕ) (o : Option File) → f < 18446744073709551616 → (f == 1) ≡ false → server.file_at files f ≡ o → Found files f
+found_in files f None lt other e = is_gone e (own_node files f lt ∙ ap (named_by files f) other ∙ ap file_node e)
+found_in files f (Some g) lt other e = is_file g e (own_node files f lt ∙ ap (named_by files f) other ∙ ap file_node e)
+
+found_by : (files : List (ℕ × File)) (f : ℕ) (b : Bool) → f < 18446744073709551616 → (f == 1) ≡ b → Found files f
+found_by files f true lt e = is_root (eqb-true f 1 e) (own_node files f lt ∙ ap (named_by files f) e)
+found_by files f false lt e = found_in files f (server.file_at files f) lt e refl
+
+pub looked : (files : List (ℕ × File)) (f : ℕ) → f < 18446744073709551616 → Found files f
+looked files f lt = found_by files f (f == 1) lt refl
+
+pub not_some : IsSome {T = List ℕ} None → ⊥
+not_some e = absurd cc
+
+-- ---- what was told in this step
+
+abbrev pub with_taken : Session → (xid step : ℕ) → List Taken
+with_taken x xid step = x.taken ++ record { xid = xid; step = step } ∷ []
+
+told_now : (book : Book) (k : Core) (qs : List Queue) (n : ℕ) (x : Session) (q : Queue) (a : Ask) (us : List Ask) (c : Seat) (j : Job) (v : Value) (version : ℕ) → IsKept book k qs → numbered k.seats x.owner ≡ Some c → IsTalk book n k.server.waiting x q c → q.ups ≡ a ∷ us → job c ≡ Some j
+    → value_at book j.file (book.steps + 1) ≡ v → version_at book j.file (book.steps + 1) ≡ version → IsTold (onward book 1 book.ops) (with_taken x a.xid (book.steps + 1)) j a.xid v version
+told_now book k qs n x q a us c j v version kept was talk e is value versions =
+    let of = (kept.seats x.owner c was).task j is in
+    let g = grows_same book 1 in
+    let begun = (kept.sound.rights j.place of.op of.there).begun in
+    let rising = subst (λ (l : List Ask). Rising talk.floor l c.client.next) e talk.rising in
+    record {
+      moment = book.steps + 1;
+      was = finds_last x.taken talk.floor (record { xid = a.xid; step = book.steps + 1 }) talk.under rising.0;
+      past = omega arith;
+      value = value_later book (onward book 1 book.ops) None None j.file (book.steps + 1) g (omega arith) ∙ value;
+      version_is = version_later book (onward book 1 book.ops) None None j.file (book.steps + 1) g (omega arith) ∙ versions;
+      op = of.op;
+      there = of.there;
+      after = omega (arith, begun);
+      apart = λ i f. let le = (kept.sound.past i (book.steps + 1) f).1 in omega (arith, le);
+    }
+
+tried_now : (book : Book) (k : Core) (qs : List Queue) (n : ℕ) (x : Session) (q : Queue) (a : Ask) (us : List Ask) (c : Seat) (j : Job) (s : Stage) → IsKept book k qs → numbered k.seats x.owner ≡ Some c → IsTalk book n k.server.waiting x q c → q.ups ≡ a ∷ us → job c ≡ Some j → j.stage ≡ s → TriedBy (onward book 1 book.ops) (with_taken x a.xid (book.steps + 1)) j a.xid s
+tried_now book k qs n x q a us c j (stage.Hashing tries y) kept was talk e is at =
+    let h = (kept.seats x.owner c was).trying j tries y is at in
+    let g = grows_same book 1 in
+    let rising = subst (λ (l : List Ask). Rising talk.floor l c.client.next) e talk.rising in
+    record {
+      moment = book.steps + 1;
+      was = finds_last x.taken talk.floor (record { xid = a.xid; step = book.steps + 1 }) talk.under rising.0;
+      past = omega arith;
+      op = h.op;
+      there = h.there;
+      count = h.count;
+      tries_is = h.tries_is;
+      tried = tried_later book (onward book 1 book.ops) None None j.file h.op.begin h.count (book.steps + 1) g (omega arith) h.tried;
+    }
+tried_now book k qs n x q a us c j (stage.Listing y f) kept was talk e is at =
+    let h = (subst (FetchOf book x.taken j) at (talk.fetch j is)).0 in
+    let past = h.told.past in
+    let rising = subst (λ (l : List Ask). Rising talk.floor l c.client.next) e talk.rising in
+    record {
+      began = h.told.moment;
+      was = finds_more x.taken (record { xid = a.xid; step = book.steps + 1 }) f.first h.told.moment h.told.was;
+      last = book.steps + 1;
+      is = finds_last x.taken talk.floor (record { xid = a.xid; step = book.steps + 1 }) talk.under rising.0;
+      order = omega (arith, past);
+    }
+tried_now book k qs n x q a us c j _ kept was talk e is at = tt
+
+-- ---- a GETHASH
+
+abbrev pub hash_range : (f offset : ℕ) → HashRange
+hash_range f offset = record { handle = handle_bytes f; offset = offset; count = 4294967295 }
+
+abbrev pub hash_reply : List (ℕ × File) → (f offset : ℕ) → Reply
+hash_reply files f offset = Hashed (hash_answer (node_of files (handle_bytes f)) (hash_range f offset))
+
+pub hash_reply_fits : FitLaws → (book : Book) (s : server.State) (xid f offset : ℕ) → IsServer book s → xid < 4294967296 → f < 18446744073709551616 → MessageFits (told_message (record { xid = xid; reply = hash_reply s.files f offset }))
+hash_reply_fits laws book s xid f offset h x lt = by (looked s.files f lt)
+  where
+    by : Found s.files f → MessageFits (told_message (record { xid = xid; reply = hash_reply s.files f offset }))
+    by (is_root one e) = subst (λ (node : Result Node Status). MessageFits (told_message (record { xid = xid; reply = Hashed (hash_answer node (hash_range f offset)) }))) (sym e) (laws.plain xid (Hashed (Failed status.IsDir tt)) x tt)
+    by (is_gone none e) = subst (λ (node : Result Node Status). MessageFits (told_message (record { xid = xid; reply = Hashed (hash_answer node (hash_range f offset)) }))) (sym e) (laws.plain xid (Hashed (Failed status.Stale tt)) x tt)
+    by (is_file g at e) =
+        let b = subst (FileIs book f) at (h.held f) in
+        let v = h.versions f g at in
+        let c = h.changes in
+        let id = b.0 in
+        let small = b.2 in
+        subst (λ (node : Result Node Status). MessageFits (told_message (record { xid = xid; reply = Hashed (hash_answer node (hash_range f offset)) }))) (sym e) (laws.hashes xid g (handle_bytes f) offset x (omega (arith, id, small), omega (arith, v, c), b.6))
+
+pub hash_told : FitLaws → (book : Book) (k : Core) (qs : List Queue) (n now : ℕ) (x : Session) (q : Queue) (xid f offset : ℕ) (us : List Ask) (c : Seat) → IsKept book k qs → numbered k.seats x.owner ≡ Some c → IsTalk book n k.server.waiting x q c → q.ups ≡ record { xid = xid; call = Hash f offset } ∷ us → CallFits xid (Hash f offset)
+    → IsNoted book k (Serves n now (message_spell (ask_message (record { xid = xid; call = Hash f offset })))) → AnswerOf (onward book 1 book.ops) (with_taken x xid (book.steps + 1)) x.closing (job c) xid (hash_reply k.server.files f offset)
+hash_told laws book k qs n now x q xid f offset us c kept was talk e fits noted = λ j o is waits. (
+  by j o is (asks j o is waits) (looked k.server.files f fits.1),
+  tried_now book k qs n x q (record { xid = xid; call = Hash f offset }) us c j j.stage kept was talk e is refl,
+)
+  where
+    asks : (j : Job) (o : ℕ) → job c ≡ Some j → hash_offset j.stage xid ≡ Some o → (j.file ≡ f) × (o ≡ offset)
+    asks j o is waits = (subst (AllAsks (IsAsked (job c))) e talk.asked).0 j o is waits
+
+    by : (j : Job) (o : ℕ) → job c ≡ Some j → (j.file ≡ f) × (o ≡ offset) → Found k.server.files f → HashTold (onward book 1 book.ops) (with_taken x xid (book.steps + 1)) j xid o (hash_answer (node_of k.server.files (handle_bytes f)) (hash_range f offset))
+    by j o is same (is_root one at) = subst (λ (node : Result Node Status). HashTold (onward book 1 book.ops) (with_taken x xid (book.steps + 1)) j xid o (hash_answer node (hash_range f offset))) (sym at) (inl (refl, same.0 ∙ one))
+    by j o is same (is_gone none at) =
+        let held = subst (FileIs book f) none (kept.server.held f) in
+        subst (λ (node : Result Node Status). HashTold (onward book 1 book.ops) (with_taken x xid (book.steps + 1)) j xid o (hash_answer node (hash_range f offset))) (sym at) (inr (refl, ap (content_of book.opening) same.0 ∙ held.0, (version_at book j.file (book.steps + 1), told_now book k qs n x q (record { xid = xid; call = Hash f offset }) us c j None (version_at book j.file (book.steps + 1)) kept was talk e is (ap (λ (i : ℕ). value_at book i (book.steps + 1)) same.0 ∙ held.1) refl)))
+    by j o is same (is_file g there at) =
+        let held = subst (FileIs book f) there (kept.server.held f) in
+        let noted_bytes : (i : ℕ) (d : Chunk) → slice_get (told_chunks g.content (range_from offset)) i ≡ Some d → Contains (hashed_of book.moments) (chunk_bytes g.content d) = λ i d w. noted.hashed (chunk_bytes g.content d) (subst (λ (l : List (List ℕ)). Contains l (chunk_bytes g.content d)) (sym (ap (served_hashed k) (parsed laws (record { xid = xid; call = Hash f offset }) fits) ∙ ap (λ node. bytes_told node (hash_range f offset)) at)) (contains_at (map (chunk_bytes g.content) (told_chunks g.content (hash_range f offset))) i (chunk_bytes g.content d) (map_at (chunk_bytes g.content) (told_chunks g.content (hash_range f offset)) i d w))) in
+        subst (λ (node : Result Node Status). HashTold (onward book 1 book.ops) (with_taken x xid (book.steps + 1)) j xid o (hash_answer node (hash_range f offset))) (sym at) (subst (λ (z : ℕ). IsHashed (onward book 1 book.ops) (with_taken x xid (book.steps + 1)) j xid z (hashes_of g (hash_range f offset))) (sym same.1) (record {
+          file = g;
+          is = refl;
+          told = told_now book k qs n x q (record { xid = xid; call = Hash f offset }) us c j (Some g.content) g.version kept was talk e is (ap (λ (i : ℕ). value_at book i (book.steps + 1)) same.0 ∙ held.4) (ap (λ (i : ℕ). version_at book i (book.steps + 1)) same.0 ∙ held.5);
+          short = held.6;
+          known = subst (λ (i : ℕ). IsSome (content_of book.opening i)) (sym same.0) held.3;
+          hashed = noted_bytes;
+        }))
+
+-- ---- a READ
+
+abbrev pub read_range : (f : ℕ) → Chunk → Range
+read_range f d = record { handle = handle_bytes f; offset = d.start; count = d.len }
+
+abbrev pub read_reply : List (ℕ × File) → (f : ℕ) → Chunk → Reply
+read_reply files f d = Bytes (read_answer (node_of files (handle_bytes f)) (read_range f d))
+
+pub read_reply_fits : FitLaws → (book : Book) (s : server.State) (xid f : ℕ) (d : Chunk) → IsServer book s → xid < 4294967296 → f < 18446744073709551616 → MessageFits (told_message (record { xid = xid; reply = read_reply s.files f d }))
+read_reply_fits laws book s xid f d h x lt = by (looked s.files f lt)
+  where
+    by : Found s.files f → MessageFits (told_message (record { xid = xid; reply = read_reply s.files f d }))
+    by (is_root one e) = subst (λ (node : Result Node Status). MessageFits (told_message (record { xid = xid; reply = Bytes (read_answer node (read_range f d)) }))) (sym e) (laws.plain xid (Bytes (Failed status.Inval None)) x tt)
+    by (is_gone none e) = subst (λ (node : Result Node Status). MessageFits (told_message (record { xid = xid; reply = Bytes (read_answer node (read_range f d)) }))) (sym e) (laws.plain xid (Bytes (Failed status.Stale None)) x tt)
+    by (is_file g at e) =
+        let b = subst (FileIs book f) at (h.held f) in
+        let v = h.versions f g at in
+        let c = h.changes in
+        let id = b.0 in
+        let small = b.2 in
+        subst (λ (node : Result Node Status). MessageFits (told_message (record { xid = xid; reply = Bytes (read_answer node (read_range f d)) }))) (sym e) (laws.reads xid g (handle_bytes f) d.start d.len x (omega (arith, id, small), omega (arith, v, c), b.6))
+
+pub read_told : (book : Book) (k : Core) (qs : List Queue) (n : ℕ) (x : Session) (q : Queue) (xid f : ℕ) (d : Chunk) (us : List Ask) (c : Seat) → IsKept book k qs → numbered k.seats x.owner ≡ Some c → IsTalk book n k.server.waiting x q c → q.ups ≡ record { xid = xid; call = Read f d } ∷ us → f < 18446744073709551616
+    → AnswerOf (onward book 1 book.ops) (with_taken x xid (book.steps + 1)) x.closing (job c) xid (read_reply k.server.files f d)
+read_told book k qs n x q xid f d us c kept was talk e small = λ j g w is at waits. by j g w is at ((subst (AllAsks (IsAsked (job c))) e talk.asked).0 j w is waits) (subst (FetchOf book x.taken j) at (talk.fetch j is)) (looked k.server.files f small)
+  where
+    by : (j : Job) (g : Fetch) (w : Chunk) → job c ≡ Some j → j.stage ≡ stage.Reading g → (j.file ≡ f) × (w ≡ d) → ((h : IsFetch book x.taken j g) × IsReading book h.content g) → Found k.server.files f → ReadTold (onward book 1 book.ops) (with_taken x xid (book.steps + 1)) j g.first w (read_answer (node_of k.server.files (handle_bytes f)) (read_range f d))
+    by j g w is at same h (is_root one e2) = absurd (by_held (server.file_at k.server.files f) (kept.server.held f))
+      where
+        by_held : (o : Option File) → FileIs book f o → ⊥
+        by_held None b = not_some (subst (λ (v : Value). IsSome v) b.0 (subst (λ (i : ℕ). IsSome (content_of book.opening i)) same.0 h.0.known))
+        by_held (Some z) b = let lt = b.1 in omega (arith, lt, one)
+    by j g w is at same h (is_gone none e2) = absurd (not_some (subst (λ (v : Value). IsSome v) (subst (FileIs book f) none (kept.server.held f)).0 (subst (λ (i : ℕ). IsSome (content_of book.opening i)) same.0 h.0.known)))
+    by j g w is at same h (is_file z there e2) =
+        let held = subst (FileIs book f) there (kept.server.held f) in
+        let past = h.0.told.past in
+        let grows = grows_same book 1 in
+        subst (λ (node : Result Node Status). ReadTold (onward book 1 book.ops) (with_taken x xid (book.steps + 1)) j g.first w (read_answer node (read_range f d))) (sym e2) (subst (λ (v : Chunk). IsRead (onward book 1 book.ops) (with_taken x xid (book.steps + 1)) j g.first v (piece_of z (read_range f d))) (sym same.1) (record {
+          file = z;
+          is = refl;
+          began = h.0.told.moment;
+          was = finds_more x.taken (record { xid = xid; step = book.steps + 1 }) g.first h.0.told.moment h.0.told.was;
+          last = book.steps + 1;
+          order = omega (arith, past);
+          past = omega arith;
+          value = value_later book (onward book 1 book.ops) None None j.file (book.steps + 1) grows (omega arith) ∙ ap (λ (i : ℕ). value_at book i (book.steps + 1)) same.0 ∙ held.4;
+          version_is = version_later book (onward book 1 book.ops) None None j.file (book.steps + 1) grows (omega arith) ∙ ap (λ (i : ℕ). version_at book i (book.steps + 1)) same.0 ∙ held.5;
+        }))

@@ -1,0 +1,4 @@
+pub mod Talk
+pub mod Rounds
+pub mod Whole
+pub mod Arrivals

@@ -1,0 +1,106 @@
+-- What clients of this project ask, and what the server answers: the messages that are on their way in a run.
+use Rattle.std.specs.Prelude.{◌≡◌, ℕ, zero, suc, ◌+◌, ◌*◌, List, [], ◌∷◌, ◌++◌, map, Option, Some, None, Bool, true, false, All}
+use Rattle.rpc_record.specs.Records.{Unread}
+use Rattle.chunk_cut.specs.declared.chunk.Chunk.{Chunk}
+use Rattle.xdr_codec.specs.declared.answer.Answer.{Answer}
+use Rattle.xdr_codec.specs.declared.attr.Attr.{Attr}
+use Rattle.xdr_codec.specs.Handle.{handle_bytes}
+use Rattle.hash_calls.specs.declared.call.Committed.{Committed}
+use Rattle.hash_calls.specs.declared.call.Hashes.{Hashes}
+use Rattle.hash_calls.specs.declared.message.Lb.TheVariants as lb
+use Rattle.hash_calls.specs.declared.message.LbProc.TheVariants as lb_proc
+use Rattle.nfs3_calls.specs.declared.call.Piece.{Piece}
+use Rattle.nfs3_calls.specs.declared.message.Nfs.TheVariants as nfs
+use Rattle.nfs3_calls.specs.declared.message.NfsProc.TheVariants as nfs_proc
+use Rattle.wire.specs.declared.message.Body.{Body}
+use Rattle.wire.specs.declared.message.Body.TheVariants as body
+use Rattle.wire.specs.declared.message.Message.{Message}
+use Rattle.wire.specs.declared.message.Message.TheVariants as message
+use Rattle.wire.specs.declared.message.Program.{Program}
+use Rattle.wire.specs.declared.message.Program.TheVariants as program
+use Rattle.open_close.specs.Opening.{hash_call, read_call}
+use Rattle.open_close.specs.Closing.{make_call, cond_call, commit_call}
+use Rattle.trace_replay.specs.Core.{Session, numbered, with_numbered}
+use Rattle.trace_replay.specs.World.{Wire, bytes_of, unless}
+
+-- ---- calls and answers
+
+pub data Call : Type 0 where
+  Hash : (file offset : ℕ) → Call
+  Read : (file : ℕ) → Chunk → Call
+  Make : (temp file : ℕ) → Call
+  Name : (temp : ℕ) → Chunk → Call
+  Send : (temp start : ℕ) → (bytes : List ℕ) → Call
+  Commit : (temp file size : ℕ) → Call
+
+pub data Reply : Type 0 where
+  Hashed : Answer Hashes Unit → Reply
+  Bytes : Answer Piece (Option Attr) → Reply
+  Made : Answer Unit Unit → Reply
+  Named : Answer Unit Unit → Reply
+  Stored : Answer Unit Unit → Reply
+  Changed : Answer Committed Unit → Reply
+
+-- a call, or an answer, under an xid
+pub record Ask : Type 0 where
+  pub xid : ℕ
+  pub call : Call
+
+pub record Told : Type 0 where
+  pub xid : ℕ
+  pub reply : Reply
+
+abbrev pub call_message : (xid : ℕ) → Call → Message
+call_message xid (Hash file offset) = hash_call xid file offset
+call_message xid (Read file c) = read_call xid file c
+call_message xid (Make temp file) = make_call xid temp file
+call_message xid (Name temp c) = cond_call xid temp c
+call_message xid (Send temp start bytes) = message.Call xid (body.Lb (lb.TmpWrite (record { fd = temp; offset = start; bytes = bytes })))
+call_message xid (Commit temp file size) = commit_call xid temp file size
+
+abbrev pub ask_message : Ask → Message
+ask_message a = call_message a.xid a.call
+
+abbrev pub reply_body : Reply → Body
+reply_body (Hashed a) = body.Lb (lb.GetHashAnswer a)
+reply_body (Bytes a) = body.Nfs (nfs.ReadAnswer a)
+reply_body (Made a) = body.Lb (lb.MkTmpFileAnswer a)
+reply_body (Named a) = body.Lb (lb.CondWriteAnswer a)
+reply_body (Stored a) = body.Lb (lb.TmpWriteAnswer a)
+reply_body (Changed a) = body.Lb (lb.CommitTmpAnswer a)
+
+abbrev pub told_message : Told → Message
+told_message t = message.Answer t.xid (reply_body t.reply)
+
+-- which procedure a call is of, and an answer
+abbrev pub call_program : Call → Program
+call_program (Hash file offset) = program.Lb lb_proc.GetHash
+call_program (Read file c) = program.Nfs nfs_proc.Read
+call_program (Make temp file) = program.Lb lb_proc.MkTmpFile
+call_program (Name temp c) = program.Lb lb_proc.CondWrite
+call_program (Send temp start bytes) = program.Lb lb_proc.TmpWrite
+call_program (Commit temp file size) = program.Lb lb_proc.CommitTmp
+
+abbrev pub reply_program : Reply → Program
+reply_program (Hashed a) = program.Lb lb_proc.GetHash
+reply_program (Bytes a) = program.Nfs nfs_proc.Read
+reply_program (Made a) = program.Lb lb_proc.MkTmpFile
+reply_program (Named a) = program.Lb lb_proc.CondWrite
+reply_program (Stored a) = program.Lb lb_proc.TmpWrite
+reply_program (Changed a) = program.Lb lb_proc.CommitTmp
+
+-- ---- what is on its way on a session
+
+pub record Queue : Type 0 where
+  pub ups : List Ask
+  pub downs : List Told
+
+abbrev pub no_queue : Queue
+no_queue = record { ups = []; downs = [] }
+
+-- a wire carries just these
+pub record Carries (q : Wire) (m : Queue) : Type 0 where
+  pub up_sound : q.server_end.spoilt ≡ None
+  pub up : q.server_end.rest ++ q.up ≡ bytes_of (map ask_message m.ups)
+  pub down_sound : q.client_end.spoilt ≡ None
+  pub down : q.client_end.rest ++ q.down ≡ bytes_of (map told_message m.downs)
