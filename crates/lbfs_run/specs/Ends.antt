@@ -5,7 +5,7 @@ use Rattle.std.specs.Io.KnownBytes.{Appends, Consumes, IsAtEnd}
 use Rattle.lb_base.specs.Known.{AppendsPart, AppendsPrefix}
 use Rattle.register_model.specs.Text.{history_text}
 use Rattle.trace_replay.specs.World.{World}
-use Rattle.trace_replay.specs.Run.{history_of}
+use Rattle.trace_replay.specs.World.{history_of}
 use Rattle.trace_replay.specs.Timed.{accepted}
 use Rattle.trace_replay.specs.Traces.{IsKeptPromise}
 use Rattle.lbfs_run.specs.Output.{output_of, code_of}

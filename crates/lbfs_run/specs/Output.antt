@@ -10,7 +10,7 @@ use Rattle.trace_text.specs.Refusals.{refusal_of}
 use Rattle.trace_text.specs.declared.refusal.Refusal.TheVariants as refusal
 use Rattle.trace_replay.specs.declared.fault.Refused.{Refused}
 use Rattle.trace_replay.specs.World.{World}
-use Rattle.trace_replay.specs.Run.{history_of}
+use Rattle.trace_replay.specs.World.{history_of}
 use Rattle.trace_replay.specs.Timed.{accepted}
 use Rattle.lbfs_run.specs.Words.{command_of}
 use Rattle.lbfs_run.specs.declared.words.Command.{Command}

@@ -11,10 +11,10 @@ ghost use Rattle.lbfs_run.specs.declared.run.Unread.TheVariants as unread;
 
 use crate::output::{Output, Status, command_output, refused};
 use crate::words::{Command, command_of};
+use kept_promise::law::promise_is_kept;
 use lb_base::sink::{GiveErr, Sink, give_all};
 use lb_base::source::{ReadError, Source, read_all};
 use std::alloc::{AllocError, Global};
-use trace_replay::law::promise_is_kept;
 use trace_text::refusal::Refusal;
 
 /// The most bytes that an input may have.

@@ -1,11 +1,12 @@
 //! Contents: how many bytes they have, and which.
 
 use crate::text::put_bytes;
+use command_text::content::{Content, build, length, length_within};
+use command_text::line_err::LineErr;
 use lb_base::items::Bytes;
 use std::alloc::{AllocError, Global};
 use std::fmt::Write;
-use trace_text::content::{Content, build, length, length_within};
-use trace_text::line::{Line, LineErr};
+use trace_text::line::Line;
 
 /// The most bytes of a content that are printed.
 const MOST_SHOWN: u64 = 131_072;

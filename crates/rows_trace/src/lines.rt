@@ -2,9 +2,11 @@
 
 use crate::contents::put_content;
 use crate::text::{put_bytes, unescaped};
+use command_text::command::Command;
+use command_text::line_err::LineErr;
 use std::alloc::{AllocError, Global};
 use std::fmt::Write;
-use trace_text::line::{Command, Line, LineErr};
+use trace_text::line::Line;
 
 /// What a line says, with the bytes of its content.
 fn put_line(alloc: Global, line: &Line, out: &mut String) -> Result<(), AllocError> {

@@ -6,7 +6,8 @@ ghost use Rattle.std.specs.Prelude.{◌≡◌, ◌≤◌, IfOk, length};
 use hash_calls::call::{Commit, NewTemp, TempPiece};
 use hash_calls::message::Lb;
 use lb_base::items::{Bytes, Items};
-use server_core::event::{Event, Outs, Told};
+use server_core::chunked::Chunked;
+use server_core::event::{Event, ServerStep, Told};
 use server_core::file::File;
 use server_core::server::Server;
 use std::alloc::{AllocError, Global};
@@ -41,11 +42,11 @@ fn end_of_answer(answer: &Lb) -> End {
 }
 
 /// How the event ended.
-fn end_of(outs: &Outs) -> End {
-    match outs.send.as_slice() {
-        _ if outs.missed => End::Missed,
-        [] => End::Quiet(outs.told),
-        [sent] => match &sent.message {
+fn end_of(step: &ServerStep) -> End {
+    match step.send.as_pair() {
+        _ if step.missed => End::Missed,
+        (None, []) => End::Quiet(step.told),
+        (Some(sent), []) => match &sent.message {
             Message::Answer(7, Body::Lb(answer)) => end_of_answer(answer),
             _ => End::Else,
         },
@@ -55,9 +56,9 @@ fn end_of(outs: &Outs) -> End {
 
 /// A connection is made.
 fn connected(alloc: Global, server: &mut Server) -> End {
-    let outs = server.step(alloc, Event::Connect);
-    let end = end_of(&outs);
-    drop(outs);
+    let step = server.step(alloc, Event::Connect);
+    let end = end_of(&step);
+    drop(step);
     end
 }
 
@@ -68,9 +69,9 @@ fn called(alloc: Global, server: &mut Server, call: Lb) -> End {
         message: Message::Call(7, Body::Lb(call)),
         now: 0,
     };
-    let outs = server.step(alloc, event);
-    let end = end_of(&outs);
-    drop(outs);
+    let step = server.step(alloc, event);
+    let end = end_of(&step);
+    drop(step);
     end
 }
 
@@ -103,7 +104,7 @@ fn full_server(alloc: Global) -> Result<Server, AllocError> {
         server.add_file(File {
             id,
             version: 1,
-            content: zeros(alloc, 67_108_864)?,
+            content: Chunked::new(alloc, zeros(alloc, 67_108_864)?)?,
         })?;
     }
     drop(server.step(alloc, Event::Connect));

@@ -1,9 +1,10 @@
 //! Lines too long to be written down.
 
+use command_text::content::build;
+use command_text::line_err::LineErr;
 use std::alloc::{AllocError, Global};
 use std::test::Fail;
-use trace_text::content::build;
-use trace_text::line::{Line, LineErr};
+use trace_text::line::Line;
 
 /// A line of so many bytes that begins with these, and goes on with this letter.
 fn long_line(alloc: Global, begin: &[u8], letter: u8, count: usize) -> Result<Vec<u8>, AllocError> {
