@@ -1,8 +1,7 @@
 #!/usr/bin/env bash
 # Measures `Records::feed`: a stream of records of 65,536 bytes in pieces of 65,536 bytes and of
 # 1,024, and a quarter of the stream in each, in turns. The program that does it is made in a copy
-# outside the repository, of which it is no part. The script reports the medians and judges nothing.
-# Single times move with the machine's load: only the ratios of one run say something.
+# outside the repository (bench/made). The script reports the medians and judges nothing.
 #
 #   bench/feed.sh [MIB [ROUNDS [run|try]]]     of 64 MiB, 5 rounds and run, where not said otherwise
 #
@@ -15,23 +14,8 @@ cd "$(dirname "$0")/.."
 mib=${1:-64}
 rounds=${2:-5}
 how=${3:-run}
-work=$(mktemp -d)
-trap 'rm -rf "$work"' EXIT
-
-for crate in limits lb_base xdr_codec rpc_record; do
-    mkdir -p "$work/crates/$crate"
-    for part in src specs proofs; do
-        if [ -d "crates/$crate/$part" ]; then cp -r "crates/$crate/$part" "$work/crates/$crate"; fi
-    done
-done
-cat >"$work/crates.txt" <<'EOF'
-limits:
-lb_base:
-xdr_codec: lb_base limits
-rpc_record: xdr_codec lb_base limits
-feed_bench: rpc_record lb_base limits
-EOF
-mkdir -p "$work/crates/feed_bench/src"
+. bench/made
+copy_for feed_bench "rpc_record lb_base limits" limits lb_base xdr_codec rpc_record
 cat >"$work/crates/feed_bench/src/main.rt" <<'EOF'
 //! Feeds one end of a stream of records in large and in small pieces, all of it and a quarter of
 //! it, and prints the microseconds of each.
@@ -111,26 +95,13 @@ fn main(rt: HostRuntime) -> io::Result<()> {
 }
 EOF
 
-cd "$work/crates/feed_bench"
 if [[ $how == try ]]; then
-    rt try -- "$rounds" "$mib" >"$work/log" 2>&1 || { cat "$work/log" >&2; exit 1; }
+    (cd "$work/crates/feed_bench" && rt try -- "$rounds" "$mib") >"$work/log" 2>&1 || { cat "$work/log" >&2; exit 1; }
+    keep 4
 else
-    rt run -- 0 1 >"$work/log" 2>&1 </dev/null || { tail -n 40 "$work/log" >&2; exit 1; }
-    out/feed_bench "$rounds" "$mib" >"$work/log"
+    build feed_bench 0 1
+    measure 4 feed_bench "$rounds" "$mib"
 fi
-if grep '^wrong' "$work/log" >&2; then
-    exit 1
-fi
-grep -E '^([0-9]+ ){3}[0-9]+$' "$work/log" >"$work/times"
-
-# The median of a column of the times, in microseconds.
-median() {
-    awk -v column="$1" '{ print $column }' "$work/times" | sort -n | awk '{ time[NR] = $1 } END { print time[int((NR + 1) / 2)] }'
-}
-
-ratio() {
-    awk -v a="$1" -v b="$2" 'BEGIN { printf "%.2f", a / b }'
-}
 
 large=$(median 1)
 small=$(median 2)

@@ -1,8 +1,8 @@
 #!/usr/bin/env bash
 # Measures `chunk_index` beside the kit's `lru` alone: 65,536 places are put under the keys of as many
-# digests, and each is found again, twice a round, each once before the other. The program that does it is made in a copy outside the
-# repository, of which it is no part. The script reports the medians and their ratios and judges
-# nothing. Single times move with the machine's load: only the ratios of one run say something.
+# digests, and each is found again, twice a round, each once before the other. The program that does it
+# is made in a copy outside the repository (bench/made). The script reports the medians and their
+# ratios and judges nothing.
 #
 #   bench/index.sh [ROUNDS]     9 rounds, where not said otherwise
 #
@@ -12,16 +12,8 @@ set -euo pipefail
 cd "$(dirname "$0")/.."
 
 rounds=${1:-9}
-work=$(mktemp -d)
-trap 'rm -rf "$work"' EXIT
-
-mkdir -p "$work/crates/chunk_index"
-cp -r crates/chunk_index/src crates/chunk_index/specs crates/chunk_index/proofs "$work/crates/chunk_index"
-cat >"$work/crates.txt" <<'EOF'
-chunk_index: lru
-index_bench: chunk_index lru
-EOF
-mkdir -p "$work/crates/index_bench/src"
+. bench/made
+copy_for index_bench "chunk_index lru" chunk_index
 cat >"$work/crates/index_bench/src/main.rt" <<'EOF'
 //! Puts and finds 65,536 places through the index and through `lru` alone, and prints the
 //! microseconds of each.
@@ -185,22 +177,8 @@ fn main(rt: HostRuntime) -> io::Result<()> {
 }
 EOF
 
-cd "$work/crates/index_bench"
-rt run -- 0 >"$work/log" 2>&1 </dev/null || { tail -n 40 "$work/log" >&2; exit 1; }
-out/index_bench "$rounds" >"$work/log"
-if grep '^wrong' "$work/log" >&2; then
-    exit 1
-fi
-grep -E '^([0-9]+ ){3}[0-9]+$' "$work/log" >"$work/times"
-
-# The median of a column of the times, in microseconds.
-median() {
-    awk -v column="$1" '{ print $column }' "$work/times" | sort -n | awk '{ time[NR] = $1 } END { print time[int((NR + 1) / 2)] }'
-}
-
-ratio() {
-    awk -v a="$1" -v b="$2" 'BEGIN { printf "%.2f", a / b }'
-}
+build index_bench 0
+measure 4 index_bench "$rounds"
 
 put=$(median 1)
 put_alone=$(median 2)

@@ -18,10 +18,12 @@ trap 'rm -rf "$work"' EXIT
 #   files    as many files as lines allow, each of which is opened over the wire
 #   opens    one file, opened again and again
 #   closes   one file, opened, written to, closed and settled again and again
+#   clients  the same by 16 clients, one after the other, each with a file of its own
 #   skipped  lines that are skipped
 make() {
     awk -v kind="$1" -v lines="$2" 'BEGIN {
-        print "lbfs-trace 1\nterm 60000\ndrift 100\nclients 1"
+        clients = kind == "clients" ? 16 : 1
+        print "lbfs-trace 1\nterm 60000\ndrift 100\nclients " clients
         left = lines - 4
         if (kind == "files") {
             count = int((left - 1) / 3)
@@ -35,12 +37,14 @@ make() {
             left -= 4
             while (left-- > 0) print "do 1 0 open #2"
         }
-        if (kind == "closes") {
-            print "file f t:abc\njoin 1 0 0"
-            left -= 2
-            for (; left >= 7; left -= 7) {
-                print "do 1 0 open #2\npass 1 9 0 0\ndo 1 0 write #2 0 r:" left ":2048"
-                print "do 1 0 close #2\npass 1 9 0 0\nsettle 0\npass 1 9 0 0"
+        if (kind == "closes" || kind == "clients") {
+            for (c = 1; c <= clients; c++) print "file f" c " t:abc"
+            for (c = 1; c <= clients; c++) print "join " c " 0 0"
+            left -= 2 * clients
+            for (c = 1; left >= 7; left -= 7) {
+                print "do " c " 0 open #" (c + 1) "\npass " c " 9 0 0\ndo " c " 0 write #" (c + 1) " 0 r:" left ":2048"
+                print "do " c " 0 close #" (c + 1) "\npass " c " 9 0 0\nsettle 0\npass " c " 9 0 0"
+                c = c % clients + 1
             }
         }
         while (left-- > 0) print "# a line that is skipped"
@@ -56,7 +60,8 @@ spent() {
     echo $(((to - from) / 1000))
 }
 
-for kind in files opens closes skipped; do
+declare -A longest
+for kind in files opens closes clients skipped; do
     make "$kind" 16384 >"$work/short"
     make "$kind" 65536 >"$work/long"
     short='' long=''
@@ -69,7 +74,9 @@ for kind in files opens closes skipped; do
     awk -v kind="$kind" -v a="$short" -v b="$long" \
         'BEGIN { printf "%s: 16384 lines %d us, 65536 lines %d us, ratio %.2f\n", kind, a, b, b / a }'
     tail -n 1 "$work/out"
+    longest[$kind]=$long
 done
+awk -v many="${longest[clients]}" -v one="${longest[closes]}" 'BEGIN { printf "65536 lines of 16 clients against as many of one: %.2f\n", many / one }'
 if command -v /usr/bin/time >/dev/null; then
     make files 65536 >"$work/long"
     /usr/bin/time -f 'files, 65536 lines: at most %M KiB held' "$program" replay <"$work/long" >/dev/null

@@ -1,0 +1,151 @@
+#!/usr/bin/env bash
+# Measures what a new lease costs in `lease_table`: each of 64 sessions has leases on 64 files, on 2,048
+# or on 4,096; in each table 256 leases on further files are granted, to sessions and on files as a
+# generator of numbers picks them, and dropped again; then as often one before all others, which moves
+# them all. The program that does it is made in a copy outside the repository (bench/made). The script
+# reports the medians and judges nothing.
+#
+#   bench/leases.sh [ROUNDS]     9 rounds, where not said otherwise
+#
+# The program and the crates below it are proved first, and what LLVM built is measured (some minutes,
+# where no check of them is kept on the machine).
+set -euo pipefail
+cd "$(dirname "$0")/.."
+
+rounds=${1:-9}
+. bench/made
+copy_for lease_bench "lease_table" lb_base clock_rule lease_table
+cat >"$work/crates/lease_bench/src/main.rt" <<'EOF'
+//! Grants leases in tables of several sizes, and prints the microseconds of a thousand of each kind.
+#![tactic(auto)]
+
+use lease_table::table::Leases;
+use std::alloc::{AllocError, Global};
+use std::rt::Runtime;
+use std::time::Instant;
+use std::{env, io};
+
+/// How many sessions have leases.
+const SESSIONS: u32 = 64;
+
+/// How often a lease is granted in a measurement.
+const GRANTS: usize = 256;
+
+/// The next of a generator's numbers.
+fn next(state: u64) -> u64 {
+    state
+        .wrapping_mul(6_364_136_223_846_793_005)
+        .wrapping_add(1_442_695_040_888_963_407)
+}
+
+/// A session that a number picks, from 1 to 64.
+fn session_of(state: u64) -> u32 {
+    u32::from(state.to_be_bytes()[0] & 63) + 1
+}
+
+/// A file that a number picks among as many as the table has, and has no lease on.
+fn file_of(state: u64, files: u64) -> u64 {
+    ((state >> 20) & files.wrapping_sub(1))
+        .wrapping_mul(2)
+        .wrapping_add(3)
+}
+
+/// A table in which each session has a lease on each of so many files.
+fn filled(alloc: Global, files: u64) -> Result<Leases, AllocError> {
+    let mut leases = Leases::new(alloc);
+    for file in 0..files {
+        for session in 0..SESSIONS {
+            leases.grant(session + 1, file.wrapping_mul(2).wrapping_add(2), 0, 60_000)?;
+        }
+    }
+    Ok(leases)
+}
+
+/// Grants leases, to sessions and on files as numbers pick them.
+fn grant_all(leases: &mut Leases, files: u64) -> Result<(), AllocError> {
+    let mut state = 1;
+    for _ in 0..GRANTS {
+        state = next(state);
+        leases.grant(session_of(state), file_of(state, files), 0, 60_000)?;
+    }
+    Ok(())
+}
+
+/// Drops them again.
+fn drop_all(leases: &mut Leases, files: u64) {
+    let mut state = 1;
+    for _ in 0..GRANTS {
+        state = next(state);
+        leases.drop_one(session_of(state), file_of(state, files));
+    }
+}
+
+/// Grants a lease before all others, and drops it again, as often.
+fn turn_first(leases: &mut Leases) -> Result<(), AllocError> {
+    for _ in 0..GRANTS {
+        leases.grant(1, 1, 0, 60_000)?;
+        leases.drop_one(1, 1);
+    }
+    Ok(())
+}
+
+/// The microseconds of granting, of dropping, and of both in the first place.
+fn timed(rt: &impl Runtime, leases: &mut Leases, files: u64) -> io::Result<(u128, u128, u128)> {
+    let start = Instant::now(rt)?;
+    grant_all(leases, files)?;
+    let granted = start.elapsed(rt)?;
+    let start = Instant::now(rt)?;
+    drop_all(leases, files);
+    let dropped = start.elapsed(rt)?;
+    let start = Instant::now(rt)?;
+    turn_first(leases)?;
+    let turned = start.elapsed(rt)?;
+    if leases.has(1, 1) || !leases.has(1, 2) {
+        println!(rt; "wrong: what was granted was not dropped")?;
+    }
+    Ok((granted.as_micros(), dropped.as_micros(), turned.as_micros()))
+}
+
+/// The rounds.
+fn rounds(words: &[String]) -> Option<usize> {
+    let [rounds] = words else {
+        return None;
+    };
+    rounds.parse().ok()
+}
+
+fn main(rt: HostRuntime) -> io::Result<()> {
+    let alloc = rt.alloc();
+    let words: Vec<String> = env::args(&rt)?.skip(1).collect(alloc)?;
+    let Some(rounds) = rounds(&words) else {
+        println!(rt; "a number is wanted")?;
+        return Ok(());
+    };
+    let mut small = filled(alloc, 64)?;
+    let mut middle = filled(alloc, 2048)?;
+    let mut large = filled(alloc, 4096)?;
+    for _ in 0..rounds {
+        let (granted, dropped, turned) = timed(&rt, &mut small, 64)?;
+        print!(rt; "{granted} {dropped} {turned} ")?;
+        let (granted, dropped, turned) = timed(&rt, &mut middle, 2048)?;
+        print!(rt; "{granted} {dropped} {turned} ")?;
+        let (granted, dropped, turned) = timed(&rt, &mut large, 4096)?;
+        println!(rt; "{granted} {dropped} {turned}")?;
+    }
+    Ok(())
+}
+EOF
+
+build lease_bench 0
+measure 9 lease_bench "$rounds"
+
+# The microseconds of one of 256, from a column of the times.
+each() {
+    awk -v all="$(median "$1")" 'BEGIN { printf "%.2f", all / 256 }'
+}
+
+echo "64 sessions, medians of $rounds rounds, in us"
+for size in 64 2048 4096; do
+    case $size in 64) column=1 ;; 2048) column=4 ;; *) column=7 ;; esac
+    echo "leases on $size files each: a grant $(each $column), dropped $(each $((column + 1))), both in the first place $(each $((column + 2)))"
+done
