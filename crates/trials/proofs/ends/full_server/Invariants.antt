@@ -2,4 +2,4 @@ use Rattle.std.proofs.Common.{◌≡◌, []}
 use Rattle.trials.proofs.ends.full_server.Given as goal
 
 abbrev pub invariant-loop-id : goal.invariant-loop-id
-invariant-loop-id l = l.server.waits ≡ []
+invariant-loop-id l = l.server.waiting ≡ []
