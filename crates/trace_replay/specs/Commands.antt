@@ -1,8 +1,9 @@
 -- Commands as operations: what each is called, and on which file.
-use Rattle.std.specs.Prelude.{ℕ, List, []}
+use Rattle.std.specs.Prelude.{ℕ, List, [], Option, Some, None}
 use Rattle.command_text.specs.declared.command.Command.{Command}
 use Rattle.command_text.specs.declared.command.Command.TheVariants as command
 use Rattle.open_close.specs.State as client
+use Rattle.open_close.specs.declared.step.Ended.{Ended}
 use Rattle.register_model.specs.declared.op.Word.{Word}
 use Rattle.register_model.specs.declared.op.Word.TheVariants as word
 
@@ -22,7 +23,7 @@ file_of (command.Read file offset count) = file
 file_of (command.Close file) = file
 file_of (command.Abandon file) = file
 
--- the content that a close is to store, as the client has it when the close begins
-abbrev pub value_at_begin : client.State → Command → List ℕ
-value_at_begin c (command.Close file) = client.local_bytes c.opened file
-value_at_begin c k = []
+-- the content that a close is to store, as the client has it when the close begins; nothing where its first step ends it
+abbrev pub value_at_begin : client.State → Word → (file : ℕ) → Option Ended → List ℕ
+value_at_begin c word.Close file None = client.local_bytes c.opened file
+value_at_begin c w file ended = []

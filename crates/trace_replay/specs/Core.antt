@@ -222,7 +222,7 @@ abbrev pub does : Core → (number now : ℕ) → Command → Option Seat → Tu
 does k number now command None = quiet k
 does k number now command (Some seat) =
     let r = command_step seat.client command now in
-    commanded k number seat (word_of command) (file_of command) (value_at_begin seat.client command) r.0 r.1
+    commanded k number seat (word_of command) (file_of command) (value_at_begin seat.client (word_of command) (file_of command) r.1.ended) r.0 r.1
 
 -- ---- a client joins
 

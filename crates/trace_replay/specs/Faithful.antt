@@ -19,7 +19,7 @@ use Rattle.trace_replay.specs.Ops.{no_traffic}
 use Rattle.trace_replay.specs.Commands.{word_of, file_of}
 use Rattle.trace_replay.specs.Core.{Event.Settles, Event.Cuts}
 use Rattle.trace_replay.specs.Trail.{Deed, Moment, Said, AreCounted, told_of, events_of, deeds_of, told_in, openings_of, commands_of, step_of, sent_of, taken_of}
-use Rattle.trace_replay.specs.Traffic.{is_of, traffic_of, open_traffic, close_traffic, CountsOwn, SentCommit}
+use Rattle.trace_replay.specs.Traffic.{is_of, traffic_of, open_traffic, close_traffic, CountsOwn, SentCommit, AttemptsEnd}
 use Rattle.trace_replay.specs.Book.{Book, Or, value_at, version_at}
 use Rattle.trace_replay.specs.Causes.{HasCause, MayAsk, Within, is_busy, local_before, own_answer}
 
@@ -65,10 +65,21 @@ abbrev pub Carries : (version : ℕ) → Message → Type 0
 Carries version (message.Answer xid (body.Lb (lb.GetHashAnswer (Done h)))) = h.version ≡ version
 Carries version m = ⊥
 
--- an open that ended so took an answer to a GETHASH of its that carried the version which its file had at the open's point, with the
--- content that the open gave
+-- an answer to a GETHASH
+abbrev pub IsHashes : Message → Type 0
+IsHashes (message.Answer xid (body.Lb (lb.GetHashAnswer a))) = Unit {0}
+IsHashes m = ⊥
+
+-- Each answer to a GETHASH that an open took after its point, and there is one, carried the version that its file had there, with the content
+-- that the open gave.
+pub record OpensOne (book : Book) (o : Op) : Type 0 where
+  pub point : ℕ
+  pub point_is : o.point ≡ Some point
+  pub some : (s : Said) × Contains (taken_of book.moments) s × (is_of o s ≡ true) × (point < s.step) × Carries (version_at book o.file point) s.message
+  pub all : (s : Said) → Contains (taken_of book.moments) s → is_of o s ≡ true → point < s.step → IsHashes s.message → Carries (version_at book o.file point) s.message
+
 abbrev pub OpensVersion : Book → Op → Outcome → Type 0
-OpensVersion book o (told.Opened len digest) = (s : Said) × (point : ℕ) × Contains (taken_of book.moments) s × (is_of o s ≡ true) × (o.point ≡ Some point) × Carries (version_at book o.file point) s.message
+OpensVersion book o (told.Opened len digest) = OpensOne book o
 OpensVersion book o outcome = Unit {0}
 
 -- ---- what an open counts
@@ -122,6 +133,8 @@ pub record IsFaithful (input : List ℕ) (book : Book) : Type 0 where
   -- what an operation counts is what was sent and received for it; a close that sent its COMMITTMP named and sent all chunks
   pub traffic : (k : ℕ) (o : Op) → slice_get book.ops k ≡ Some o → o.traffic ≡ traffic_of o (sent_of book.moments) (taken_of book.moments)
   pub own : (k : ℕ) (o : Op) → slice_get book.ops k ≡ Some o → CountsOwn o.word o.traffic
+  -- none began more attempts than an open may, and one that ended by Changed began just as many
+  pub attempts : (k : ℕ) (o : Op) → slice_get book.ops k ≡ Some o → AttemptsEnd (sent_of book.moments) o
   -- what a client answers by itself counts nothing
   pub silent : (k : ℕ) (o : Op) → slice_get book.ops k ≡ Some o → o.end ≡ Some o.begin → o.traffic ≡ no_traffic
   pub opened : (k len : ℕ) (digest : List ℕ) (o : Op) → slice_get book.ops k ≡ Some o → o.outcome ≡ told.Opened len digest → Or book (OpenedBy book o)

@@ -70,14 +70,14 @@ abbrev pub IsRead : Waiting → Message → Type 0
 IsRead waiting m = MessageFits m × (parse_of waiting (message_spell m) ≡ Ok m)
 
 -- a call that the server does
-abbrev pub IsDone : Message → Type 0
-IsDone (message.Call xid (body.Lb (lb.GetHash a))) = Unit {0}
-IsDone (message.Call xid (body.Lb (lb.MkTmpFile a))) = Unit {0}
-IsDone (message.Call xid (body.Lb (lb.TmpWrite a))) = Unit {0}
-IsDone (message.Call xid (body.Lb (lb.CondWrite a))) = Unit {0}
-IsDone (message.Call xid (body.Lb (lb.CommitTmp a))) = Unit {0}
-IsDone (message.Call xid (body.Nfs (nfs.Read a))) = Unit {0}
-IsDone m = ⊥
+abbrev pub IsServed : Message → Type 0
+IsServed (message.Call xid (body.Lb (lb.GetHash a))) = Unit {0}
+IsServed (message.Call xid (body.Lb (lb.MkTmpFile a))) = Unit {0}
+IsServed (message.Call xid (body.Lb (lb.TmpWrite a))) = Unit {0}
+IsServed (message.Call xid (body.Lb (lb.CondWrite a))) = Unit {0}
+IsServed (message.Call xid (body.Lb (lb.CommitTmp a))) = Unit {0}
+IsServed (message.Call xid (body.Nfs (nfs.Read a))) = Unit {0}
+IsServed m = ⊥
 
 -- an answer to one of these calls
 abbrev pub IsAnswered : List Pending → Message → Type 0
@@ -98,7 +98,7 @@ pub record AreOfMessages (waiting : Waiting) (end : Unread) (queue : List ℕ) (
   pub bytes : end.rest ++ queue ≡ bytes_of ms
 
 -- So it is at both ends of a session. Up come calls that the server does, and down answers to calls that the session's owner waits for, each
--- to another.
+-- to another; nor do two calls have one number, while the owner does not see the session lost.
 pub record HoldsQueues (w : World) (number : ℕ) (q : Wire) : Type 0 where
   pub session : Session
   pub seat : Seat
@@ -106,7 +106,8 @@ pub record HoldsQueues (w : World) (number : ℕ) (q : Wire) : Type 0 where
   pub seat_is : numbered w.core.seats session.owner ≡ Some seat
   pub ups : List Message
   pub up : AreOfMessages server_waiting q.server_end q.up ups
-  pub done : All IsDone ups
+  pub done : All IsServed ups
+  pub apart : session.cut ≡ false → (i j : ℕ) (a b : Message) → slice_get ups i ≡ Some a → slice_get ups j ≡ Some b → xid_of a ≡ xid_of b → i ≡ j
   pub downs : List Message
   pub down : AreOfMessages (waiting_of seat.client) q.client_end q.down downs
   pub answered : All (IsAnswered (calls_of seat.client)) downs

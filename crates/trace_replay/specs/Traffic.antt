@@ -7,7 +7,9 @@ use Rattle.nfs3_calls.specs.declared.message.Nfs.TheVariants as nfs
 use Rattle.wire.specs.declared.message.Body.TheVariants as body
 use Rattle.wire.specs.declared.message.Message.{Message}
 use Rattle.wire.specs.declared.message.Message.TheVariants as message
+use Rattle.open_close.specs.Opening.{tries_most}
 use Rattle.register_model.specs.declared.op.Op.{Op}
+use Rattle.register_model.specs.declared.op.Outcome.TheVariants as told
 use Rattle.register_model.specs.declared.op.Traffic.{Traffic}
 use Rattle.register_model.specs.declared.op.Word.{Word}
 use Rattle.register_model.specs.declared.op.Word.TheVariants as word
@@ -77,3 +79,24 @@ is_commit m = false
 -- an operation sent its COMMITTMP
 abbrev pub SentCommit : Op → List Said → Type 0
 SentCommit o sent = (s : Said) × Contains sent s × (is_of o s ≡ true) × (is_commit s.message ≡ true)
+
+-- ---- attempts
+
+abbrev pub number_if : Bool → ℕ → ℕ
+number_if true n = n
+number_if false n = 0
+
+-- a GETHASH from a file's first byte on: an attempt of an open begins with one
+abbrev pub first_number : Message → ℕ
+first_number (message.Call xid (body.Lb (lb.GetHash a))) = number_if (a.offset == 0) 1
+first_number m = 0
+
+-- how many attempts an operation began
+abbrev pub attempts_of : Op → List Said → ℕ
+attempts_of o [] = 0
+attempts_of o (s ∷ ss) = let later : ℕ = attempts_of o ss in number_if (is_of o s) (first_number s.message) + later
+
+-- No operation begins more attempts than an open may; one that ended by other versions began just as many.
+pub record AttemptsEnd (sent : List Said) (o : Op) : Type 0 where
+  pub most : attempts_of o sent ≤ tries_most
+  pub all : (first last : ℕ) → o.outcome ≡ told.Changed first last → attempts_of o sent ≡ tries_most

@@ -1,10 +1,17 @@
--- Worked traces: which events and commands their lines tell, and how their steps count.
-use Rattle.std.specs.Prelude.{◌≡◌, ℕ, List, [], ◌∷◌, ◌++◌, codes, refl}
+-- Worked traces: which events and commands their lines tell, how their steps count, which messages begin an attempt, and which close has a value.
+use Rattle.std.specs.Prelude.{◌≡◌, ℕ, List, [], ◌∷◌, ◌++◌, map, Bool, true, false, Some, codes, refl}
 use Rattle.command_text.specs.Parts.{lines_of}
 use Rattle.command_text.specs.declared.command.Command.TheVariants as command
 use Rattle.rpc_record.specs.Records.{record_of}
-use Rattle.trace_replay.specs.Core.{Event.Joins, Event.Does, Event.Settles, Event.Cuts, Event.Hangs}
-use Rattle.trace_replay.specs.Trail.{moments, commands_of, events_of, AreCounted}
+use Rattle.open_close.specs.Opening.{hash_call}
+use Rattle.open_close.specs.State as client
+use Rattle.server_core.specs.State as server
+use Rattle.register_model.specs.declared.op.Op.{Op}
+use Rattle.register_model.specs.declared.op.Word.TheVariants as word
+use Rattle.trace_replay.specs.Ops.{begun}
+use Rattle.trace_replay.specs.Core.{Core, new_seat, happens, Event.Joins, Event.Does, Event.Settles, Event.Cuts, Event.Hangs}
+use Rattle.trace_replay.specs.Trail.{Said, moments, commands_of, events_of, AreCounted}
+use Rattle.trace_replay.specs.Traffic.{attempts_of}
 
 abbrev header : List ℕ
 header = codes "lbfs-trace 1\nterm 60000\ndrift 100\nclients 1\n"
@@ -23,3 +30,40 @@ events_told = refl
 pub steps_counted : AreCounted 0 (moments (header ++ codes "join 1 0 0\nhang 1 5\nhang 1 6\nsettle 7\ncut 1 8\n")) 5
 unfolding record_of
 steps_counted = (refl, (refl, (refl, (refl, (refl, refl)))))
+
+-- ---- attempts
+
+-- an open of the first client
+abbrev opened : Op
+opened = record (begun 1 word.Open 2 [] 3) { end = Some 9 }
+
+-- a client asks for the chunks of file 2 from an offset on
+abbrev asks : (step client offset : ℕ) → Said
+asks step client offset = record { step = step; client = client; message = hash_call step 2 offset }
+
+-- a further piece begins no attempt, nor does what another client sends, or this one before its begin and behind its end
+pub attempts_counted : attempts_of opened (asks 2 1 0 ∷ asks 3 1 0 ∷ asks 5 1 4096 ∷ asks 7 2 0 ∷ asks 9 1 0 ∷ asks 10 1 0 ∷ []) ≡ 2
+attempts_counted = refl
+
+-- ---- the value of a close
+
+-- a client with a file open, joined or not
+abbrev holds : (linked : Bool) → Core
+holds linked = record {
+  server = server.empty;
+  seats = record new_seat { client = record client.start { linked = linked; opened = (2, record { version = 1; bytes = codes "abc" }) ∷ [] } } ∷ [];
+  sessions = [];
+  steps = 4;
+  ops = [];
+  entries = [];
+}
+
+-- the values of the operations behind a close of it
+abbrev closed_with : (linked : Bool) → List (List ℕ)
+closed_with linked = map (λ o. o.value) (happens (holds linked) (Does 1 5 (command.Close 2))).core.ops
+
+pub close_goes_on : closed_with true ≡ codes "abc" ∷ []
+close_goes_on = refl
+
+pub close_is_answered : closed_with false ≡ [] ∷ []
+close_is_answered = refl

@@ -8,6 +8,7 @@ ghost use Rattle.trace_replay.specs.Commands.{word_of, file_of, value_at_begin};
 use command_text::command::Command;
 use lb_base::items::{Bytes, Items};
 use open_close::client::Client;
+use open_close::step::Ended;
 use register_model::op::Word;
 use std::alloc::{AllocError, Global};
 
@@ -47,16 +48,23 @@ pub fn local_bytes(alloc: Global, client: &Client, file: u64) -> Result<Bytes, A
     }
 }
 
-/// The content that a close is to store, as the client has it when the close begins.
+/// The content that a close is to store, as the client has it when the close begins; nothing where
+/// its first step ends it. That step leaves a content that is to be stored as it was, so the client
+/// behind it will do.
 pub fn value_at_begin(
     alloc: Global,
     client: &Client,
-    command: &Command,
+    word: Word,
+    file: u64,
+    ended: &Option<Ended>,
 ) -> Result<Bytes, AllocError>
-    ensures { IfOk result (λ bytes. bytes ≡ value_at_begin client.now command.now) }
+    ensures { IfOk result (λ bytes. bytes ≡ value_at_begin client.now word file ended.now) }
 {
-    match command {
-        Command::Close(file) => local_bytes(alloc, client, *file),
+    match word {
+        Word::Close => match ended {
+            None => local_bytes(alloc, client, file),
+            Some(_) => Ok(Items::new(alloc)),
+        },
         _ => Ok(Items::new(alloc)),
     }
 }

@@ -3,7 +3,7 @@
 ghost use Rattle.std.specs.Prelude.{◌≡◌, ◌+◌, ◌<◌, ◌++◌, ◌∷◌, [], length, slice_get, IfOk, OnOk};
 ghost use Rattle.trace_replay.specs.Commands.{word_of, file_of, value_at_begin};
 ghost use Rattle.trace_replay.specs.Core.{does, session_of, commanded_sessions, numbered};
-ghost use Rattle.trace_replay.specs.Ops.{begun, op_after};
+ghost use Rattle.trace_replay.specs.Ops.{op_after};
 ghost use Rattle.trace_replay.specs.View.{core_of, turned_of};
 
 use crate::commands::{file_of, value_at_begin, word_of};
@@ -13,6 +13,7 @@ use crate::ops;
 use crate::session::{Session, short_number};
 use crate::turned::{Loss, Turned};
 use command_text::command::Command;
+use lb_base::items::Items;
 use open_close::client::Client;
 use open_close::step::ClientStep;
 use register_model::op::{Op, Word};
@@ -39,7 +40,8 @@ fn command_session(
     }
 }
 
-/// Puts a command's own operation behind the others, as its first step leaves it.
+/// Puts a command's own operation behind the others, as its first step leaves it. It comes without
+/// its value: the local content is copied only for a close that goes on.
 fn begin(
     alloc: Global,
     ops: &mut Vec<Op>,
@@ -48,27 +50,13 @@ fn begin(
     step: u64,
     acts: &ClientStep,
 ) -> Result<(), AllocError>
-    ensures { OnOk result (ops.new.items ≡ ops.old.items ++ op_after op client.now [] step acts.now ∷ []) }
+    ensures { OnOk result (ops.new.items ≡ ops.old.items ++ op_after (record op { value = value_at_begin client.now op.word op.file acts.now.ended }) client.now [] step acts.now ∷ []) }
 {
     let mut own = op;
+    own.value = value_at_begin(alloc, client, own.word, own.file, &acts.ended)?;
     ops::note(alloc, &mut own, client, &Vec::new(alloc), step, acts)?;
     ops.push(own)?;
     Ok(())
-}
-
-/// The operation that a command of a client begins, in this step.
-fn begun_by(
-    alloc: Global,
-    client: &Client,
-    number: u64,
-    step: u64,
-    command: &Command,
-) -> Result<Op, AllocError>
-    ensures { IfOk result (λ op. op ≡ begun number (word_of command.now) (file_of command.now) (value_at_begin client.now command.now) step) }
-{
-    let short = short_number(number)?;
-    let value = value_at_begin(alloc, client, command)?;
-    Ok(ops::begun(short, word_of(command), file_of(command), value, step))
 }
 
 /// The client at this place does what it is told to.
@@ -89,27 +77,23 @@ fn does_at(
             return Err(error);
         }
     };
-    let word = word_of(&command);
-    let seat = &core.seats[place];
-    let session = seat.session();
-    let running = seat.place();
-    let op = match begun_by(alloc, seat.client(), place as u64 + 1, step, &command) {
-        Ok(op) => op,
+    let number = match short_number(place as u64 + 1) {
+        Ok(number) => number,
         Err(error) => {
             drop(command);
             return Err(error);
         }
     };
+    let word = word_of(&command);
+    let file = file_of(&command);
+    let seat = &core.seats[place];
+    let session = seat.session();
+    let running = seat.place();
     let own = core.ops.len();
-    let acts = match core.seats[place].does(alloc, command, now, own) {
-        Ok(acts) => acts,
-        Err(error) => {
-            drop(op);
-            return Err(error);
-        }
-    };
+    let acts = core.seats[place].does(alloc, command, now, own)?;
     command_session(&mut core.sessions, session, running, own, word, &acts);
     let client = core.seats[place].client();
+    let op = ops::begun(number, word, file, Items::new(alloc), step);
     let done = begin(alloc, &mut core.ops, op, client, step, &acts);
     core.steps = step;
     match done {

@@ -1,10 +1,7 @@
-use Rattle.std.proofs.Common.{◌≡◌, ◌∙◌, ℕ, ◌+◌, refl, sym, ap, rules, length}
+use Rattle.std.proofs.Common.{◌≡◌, ◌∙◌, refl, sym, ap, rules, length}
 use Rattle.std.specs.Prelude.{slice_set}
 use Rattle.std.proofs.lemmas.Option.{slice_get_read, same_Some}
-use Rattle.open_close.specs.State as client
-use Rattle.trace_replay.specs.Commands.{word_of, file_of, value_at_begin}
 use Rattle.trace_replay.specs.Core.{Seat}
-use Rattle.trace_replay.specs.Ops.{begun}
 use Rattle.trace_replay.specs.View.{core_of}
 use Rattle.trace_replay.proofs.Commanded.{does_is, left_is}
 use Rattle.trace_replay.proofs.doing.does_at.Goals as goal
@@ -15,7 +12,5 @@ returns-in-Ok-done c =
     let at = slice_get_read seats (length seats) c.args.place c.index_mut.result.now refl c.requires c.index_mut.ensures.value in
     let first = slice_get_read seats (length seats) c.args.place c.index-seat.result.now refl c.requires c.index-seat.ensures in
     let same : c.index-seat.result.now ≡ c.index_mut.result.now = same_Some c.index-seat.result.now c.index_mut.result.now (sym first ∙ at) in
-    let k = c.args.command in
-    let o = c.in-Ok-begun_by.ensures ∙ ap (λ (x : client.State). begun (c.args.place + 1) (word_of k) (file_of k) (value_at_begin x k) c.in-Ok.step) (c.client.ensures ∙ ap (λ (s : Seat). s.client) same) ∙ ap (λ (n : ℕ). begun (c.args.place + 1) (word_of k) (file_of k) (value_at_begin c.index_mut.result.now.client k) n) c.in-Ok.ensures in
-    left_is (core_of c.args.core.now) c.index_mut.result.now (slice_set seats c.args.place c.does.new.self) c.command_session.new.sessions.items c.begin-done.new.ops.items c.in-Ok-does.acts c.in-Ok.step c.session-session.result c.acted.result c.acted.ensures c.in-Ok.ensures (c.session-session.ensures ∙ ap (λ (s : Seat). s.session) same)
-    ∙ does_is (core_of c.args.core.now) c.args.place c.args.now k c.index_mut.result.now c.does.new.self c.command_session.new.sessions.items c.begin-done.new.ops.items c.in-Ok-begun_by.op c.in-Ok-does.acts at o (search rules) (search rules) (search rules) (search rules)
+    left_is (core_of c.args.core.now) c.index_mut.result.now (slice_set seats c.args.place c.does.new.self) c.command_session.new.sessions.items c.begin-done.new.ops.items c.in_ok-acts.acts c.in-Ok.step c.session-session.result c.acted.result c.acted.ensures c.in-Ok.ensures (c.session-session.ensures ∙ ap (λ (s : Seat). s.session) same)
+    ∙ does_is (core_of c.args.core.now) c.args.place c.args.now c.args.command c.index_mut.result.now c.does.new.self c.command_session.new.sessions.items c.begin-done.new.ops.items c.in_ok-acts.acts at (search rules) (search rules) (search rules) (search rules)
