@@ -360,16 +360,23 @@ close_begins book k qs c seat file v g l at room =
       tree = λ e. known.0;
     })
 
-closed_new : (book : Book) (k : Core) (qs : List Queue) (c : ℕ) (seat : Seat) (file : ℕ) → Idle book k qs c seat → Answers book k qs c seat words.Close file (client.local_bytes seat.client.opened file) (on_local seat.client seat.client.task (client.local_at seat.client.opened file) (closes seat.client file))
-closed_new book k qs c seat file g = local_one book k qs c seat words.Close file (client.local_bytes seat.client.opened file) (closes seat.client file) g (λ l at. ask l at (may_ask seat.client) refl)
+abbrev AnswersClose : (book : Book) (k : Core) (qs : List Queue) (c : ℕ) (seat : Seat) (file : ℕ) → client.State × ClientStep → Type 0
+AnswersClose book k qs c seat file r = Answers book k qs c seat words.Close file (value_at_begin seat.client words.Close file r.1.ended) r
+
+closed_new : (book : Book) (k : Core) (qs : List Queue) (c : ℕ) (seat : Seat) (file : ℕ) → Idle book k qs c seat → AnswersClose book k qs c seat file (on_local seat.client seat.client.task (client.local_at seat.client.opened file) (closes seat.client file))
+closed_new book k qs c seat file g = subst (λ (t : Option Task). AnswersClose book k qs c seat file (on_local seat.client t (client.local_at seat.client.opened file) (closes seat.client file))) (sym g.task) (by (client.local_at seat.client.opened file) refl)
   where
-    ask : (l : Local) → client.local_at seat.client.opened file ≡ Some l → (b : Bool) → may_ask seat.client ≡ b → Answers book k qs c seat words.Close file (client.local_bytes seat.client.opened file) (asks_temp seat.client file b)
+    ask : (l : Local) → client.local_at seat.client.opened file ≡ Some l → (b : Bool) → may_ask seat.client ≡ b → AnswersClose book k qs c seat file (asks_temp seat.client file b)
     ask l at true e = let m = may seat.client e in close_begins book k qs c seat file l g (linked book k qs c seat g m.0) at m.1
-    ask l at false e = own_same book k qs c seat words.Close file (client.local_bytes seat.client.opened file) outcome.NoLink tt g
+    ask l at false e = own_same book k qs c seat words.Close file [] outcome.NoLink tt g
+
+    by : (l : Option Local) → client.local_at seat.client.opened file ≡ l → AnswersClose book k qs c seat file (on_local seat.client None l (closes seat.client file))
+    by None at = own_same book k qs c seat words.Close file [] outcome.NotOpen tt g
+    by (Some l) at = ask l at (may_ask seat.client) refl
 
 -- ---- any command
 
-idle_does : (book : Book) (k : Core) (qs : List Queue) (c now : ℕ) (seat : Seat) (d : Command) → file_of d < 18446744073709551616 → Idle book k qs c seat → Answers book k qs c seat (word_of d) (file_of d) (value_at_begin seat.client d) (command_step seat.client d now)
+idle_does : (book : Book) (k : Core) (qs : List Queue) (c now : ℕ) (seat : Seat) (d : Command) → file_of d < 18446744073709551616 → Idle book k qs c seat → Answers book k qs c seat (word_of d) (file_of d) (value_at_begin seat.client (word_of d) (file_of d) (command_step seat.client d now).1.ended) (command_step seat.client d now)
 idle_does book k qs c now seat (command.Open file) fits g = opened_new book k qs c seat file fits g
 idle_does book k qs c now seat (command.Write file offset content) fits g = local_one book k qs c seat words.Write file [] (writes seat.client file offset content) g (λ l at. wrote book k qs c seat file offset content [] l g at)
 idle_does book k qs c now seat (command.Trunc file size) fits g = local_one book k qs c seat words.Trunc file [] (truncates seat.client file size) g (λ l at. edited book k qs c seat words.Trunc file [] l size (truncated l.bytes size) g at (truncated_length l.bytes size))
@@ -386,11 +393,11 @@ busy_step s t (command.Close file) now e = ap (λ z. on_local s z (client.local_
 busy_step s t (command.Abandon file) now e = ap (λ z. on_local s z (client.local_at s.opened file) (abandons s file)) e
 
 does_as : (book : Book) (k : Core) (qs : List Queue) (c now : ℕ) (seat : Seat) (d : Command) → file_of d < 18446744073709551616 → IsKept book k qs → numbered k.seats c ≡ Some seat → (place : Option ℕ) (task : Option Task) → seat.place ≡ place → seat.client.task ≡ task → IsMatched seat
-    → Leads book qs (commanded_as k c seat place seat.session (session_of k.sessions seat.session) (word_of d) (file_of d) (value_at_begin seat.client d) (command_step seat.client d now).0 (command_step seat.client d now).1)
+    → Leads book qs (commanded_as k c seat place seat.session (session_of k.sessions seat.session) (word_of d) (file_of d) (value_at_begin seat.client (word_of d) (file_of d) (command_step seat.client d now).1.ended) (command_step seat.client d now).0 (command_step seat.client d now).1)
 does_as book k qs c now seat d fits kept here None None e f m = idle_does book k qs c now seat d fits (record { kept = kept; here = here; place = e; task = f; free = ap (λ (p : Option ℕ). job_of p seat.client.task) e })
 does_as book k qs c now seat d fits kept here (Some p) (Some t) e f m =
-    subst (λ (r : client.State × ClientStep). Leads book qs (commanded_as k c seat (Some p) seat.session (session_of k.sessions seat.session) (word_of d) (file_of d) (value_at_begin seat.client d) r.0 r.1)) (sym (busy_step seat.client t d now f))
-    (leads_busy book k qs c p seat seat.session (session_of k.sessions seat.session) (word_of d) (file_of d) (value_at_begin seat.client d) kept here e refl)
+    subst (λ (r : client.State × ClientStep). Leads book qs (commanded_as k c seat (Some p) seat.session (session_of k.sessions seat.session) (word_of d) (file_of d) (value_at_begin seat.client (word_of d) (file_of d) (command_step seat.client d now).1.ended) r.0 r.1)) (sym (busy_step seat.client t d now f))
+    (leads_busy book k qs c p seat seat.session (session_of k.sessions seat.session) (word_of d) (file_of d) (value_at_begin seat.client (word_of d) (file_of d) (command_step seat.client d now).1.ended) kept here e refl)
 does_as book k qs c now seat d fits kept here None (Some t) e f (inl m) = nothing_there t (sym m.1 ∙ f)
 does_as book k qs c now seat d fits kept here None (Some t) e f (inr m) = nothing_there m.0 (sym (ap (λ (p : Option ℕ). job_of p seat.client.task) e) ∙ m.1)
 does_as book k qs c now seat d fits kept here (Some p) None e f (inl m) = nothing_there p (sym m.0 ∙ e)

@@ -1,7 +1,7 @@
 -- What operations counted is what their clients sent and took for them, as a run goes on.
-use Rattle.std.proofs.Common.{inl, inr, ◌≡◌, ℕ, ◌+◌, ◌<◌, ◌≤◌, List, [], ◌∷◌, ◌++◌, Option, Some, None, Bool, true, false, refl, sym, ap, ◌∙◌, subst, arith, append-nil, eq-eqb}
+use Rattle.std.proofs.Common.{◌⊎◌, inl, inr, ◌≡◌, ℕ, zero, suc, ◌+◌, ◌<◌, ◌≤◌, List, [], ◌∷◌, ◌++◌, Option, Some, None, Bool, true, false, refl, sym, ap, ◌∙◌, subst, arith, append-nil, eq-eqb}
 use Rattle.std.proofs.lemmas.Bool.Decides.{nat_tests}
-use Rattle.std.specs.Prelude.{◌==◌, ◌&&◌, nat_le, slice_get}
+use Rattle.std.specs.Prelude.{Contains, ◌==◌, ◌&&◌, nat_le, slice_get}
 use Rattle.xdr_codec.specs.declared.answer.Answer.TheVariants.{Done}
 use Rattle.nfs3_calls.specs.declared.message.Nfs.TheVariants as nfs
 use Rattle.wire.specs.declared.message.Body.TheVariants as body
@@ -103,6 +103,26 @@ said_append n (s ∷ ss) ts h k = (h.0, said_append n ss ts h.1 k)
 pub said_now : (n c : ℕ) (ms : List Message) → SaidBy n (all_said n c ms)
 said_now n c [] = tt
 said_now n c (m ∷ ms) = (omega arith, said_now n c ms)
+
+-- an element of a list is its first one, or of the rest
+pub first_or_rest : {A : Type 0} (x : A) (xs : List A) (y : A) → Contains (x ∷ xs) y → (y ≡ x) ⊎ Contains xs y
+first_or_rest x xs y (zero, lt, e) = inl (sym e)
+first_or_rest x xs y (suc i, lt, e) = inr (i, omega (arith, lt), e)
+
+pub said_by : (n : ℕ) (ss : List Said) (s : Said) → SaidBy n ss → Contains ss s → s.step ≤ n
+said_by n [] s h c = let lt = c.1 in absurd (omega (arith, lt))
+said_by n (t ∷ ss) s h c = elim (first_or_rest t ss s c) [
+  | inl e ↦ subst (λ (z : Said). z.step ≤ n) (sym e) h.0
+  | inr rest ↦ said_by n ss s h.1 rest
+]
+
+-- by whom, and when
+pub said_at : (step i : ℕ) (ms : List Message) (s : Said) → Contains (all_said step i ms) s → (s.step ≡ step) × (s.client ≡ i)
+said_at step i [] s c = let lt = c.1 in absurd (omega (arith, lt))
+said_at step i (m ∷ ms) s c = elim (first_or_rest (record { step = step; client = i; message = m }) (all_said step i ms) s c) [
+  | inl e ↦ (ap (λ (z : Said). z.step) e, ap (λ (z : Said). z.client) e)
+  | inr rest ↦ said_at step i ms s rest
+]
 
 -- two operations have the same part of what is past
 abbrev pub AlikeUpTo : (n : ℕ) → Op → Op → Type 0

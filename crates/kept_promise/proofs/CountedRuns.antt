@@ -165,16 +165,16 @@ counted_does : (past : List Moment) (k : Core) (c now : ℕ) (d : Command) (seat
 counted_does past k c now d seat h =
     let r = command_step seat.client d now in
     let silent = silent_command seat.client d now in
-    counted_begins (sent_of past) (taken_of past) k.steps c k.ops (op_after (begun c (word_of d) (file_of d) (value_at_begin seat.client d) (k.steps + 1)) r.0 [] (k.steps + 1) r.1) r.1.send (begins r.0 r.1 r.1.ended) (nothing r.0 r.1 silent.1 r.1.ended) silent.0 h
+    counted_begins (sent_of past) (taken_of past) k.steps c k.ops (op_after (begun c (word_of d) (file_of d) (value_at_begin seat.client (word_of d) (file_of d) (command_step seat.client d now).1.ended) (k.steps + 1)) r.0 [] (k.steps + 1) r.1) r.1.send (begins r.0 r.1 r.1.ended) (nothing r.0 r.1 silent.1 r.1.ended) silent.0 h
   where
-    begins : (s : client.State) (acts : ClientStep) (e : Option Ended) → k.steps < (op_after (begun c (word_of d) (file_of d) (value_at_begin seat.client d) (k.steps + 1)) s [] (k.steps + 1) (record acts { ended = e })).begin
+    begins : (s : client.State) (acts : ClientStep) (e : Option Ended) → k.steps < (op_after (begun c (word_of d) (file_of d) (value_at_begin seat.client (word_of d) (file_of d) (command_step seat.client d now).1.ended) (k.steps + 1)) s [] (k.steps + 1) (record acts { ended = e })).begin
     begins s acts None = omega arith
     begins s acts (Some e) = omega arith
 
     none : counted no_traffic no_counts ≡ no_traffic
     none = traffic_is (counted no_traffic no_counts) no_traffic (omega arith) (omega arith) (omega arith) (omega arith)
 
-    nothing : (s : client.State) (acts : ClientStep) → acts.counts ≡ no_counts → (e : Option Ended) → (op_after (begun c (word_of d) (file_of d) (value_at_begin seat.client d) (k.steps + 1)) s [] (k.steps + 1) (record acts { ended = e })).traffic ≡ no_traffic
+    nothing : (s : client.State) (acts : ClientStep) → acts.counts ≡ no_counts → (e : Option Ended) → (op_after (begun c (word_of d) (file_of d) (value_at_begin seat.client (word_of d) (file_of d) (command_step seat.client d now).1.ended) (k.steps + 1)) s [] (k.steps + 1) (record acts { ended = e })).traffic ≡ no_traffic
     nothing s acts q None = ap (counted no_traffic) q ∙ none
     nothing s acts q (Some e) = ap (counted no_traffic) q ∙ none
 

@@ -122,10 +122,10 @@ record IsOne (s : client.State) (d : Deed) (new : Op) (r : client.State × Clien
   pub here : local_of r.0 (file_of d.command) ≡ leaves d.command new.outcome new.value (local_of s (file_of d.command))
   pub others : (f : ℕ) → (f ≡ file_of d.command → ⊥) → local_of r.0 f ≡ local_of s f
 
-one_new : (c step : ℕ) (s : client.State) (d : Deed) (r : client.State × ClientStep) (x : Option Told) → AnswersBy s d.command r x → IsOne s d (new_op c (word_of d.command) (file_of d.command) (value_at_begin s d.command) step r) r x
+one_new : (c step : ℕ) (s : client.State) (d : Deed) (r : client.State × ClientStep) (x : Option Told) → AnswersBy s d.command r x → IsOne s d (new_op c (word_of d.command) (file_of d.command) (value_at_begin s (word_of d.command) (file_of d.command) r.1.ended) step r) r x
 one_new c step s d r (Some own) h =
     let w = word_of d.command in
-    let v = value_at_begin s d.command in
+    let v = value_at_begin s (word_of d.command) (file_of d.command) r.1.ended in
     let q : Op = record (begun c w (file_of d.command) v step) { traffic = counted (begun c w (file_of d.command) v step).traffic r.1.counts } in
     subst (λ (o : Op). IsOne s d o r (Some own)) (sym (new_ended c w (file_of d.command) v step r (Some (own_ended h.outcome)) h.ended)) (record {
       came = (h.told_is, refl, λ z. no_point (has_point w h.outcome) 0);
@@ -134,10 +134,10 @@ one_new c step s d r (Some own) h =
     })
 one_new c step s d r None h =
     let w = word_of d.command in
-    let v = value_at_begin s d.command in
+    let v = value_at_begin s (word_of d.command) (file_of d.command) r.1.ended in
     let q : Op = record (begun c w (file_of d.command) v step) { traffic = counted (begun c w (file_of d.command) v step).traffic r.1.counts } in
     subst (λ (o : Op). IsOne s d o r None) (sym (new_ended c w (file_of d.command) v step r None h.0)) (record {
-      came = (stores d.command h.2, tt);
+      came = (subst (λ (e : Option Ended). StoresLocal d.command (record (begun c w (file_of d.command) (value_at_begin s w (file_of d.command) e) step) { traffic = counted (begun c w (file_of d.command) (value_at_begin s w (file_of d.command) e) step).traffic r.1.counts }) (local_of s (file_of d.command))) (sym h.0) (stores d.command h.2), tt);
       here = same (file_of d.command) ∙ sym (leaves_none d.command told.Running v (local_of s (file_of d.command)) (inl refl));
       others = λ f apart. same f;
     })
@@ -145,7 +145,7 @@ one_new c step s d r None h =
     same : (f : ℕ) → local_of r.0 f ≡ local_of s f
     same f = ap (λ (l : List (ℕ × Local)). Rattle.std.specs.Prelude.option_map (λ (z : Local). z.bytes) (client.local_at l f)) h.1
 
-    stores : (k : Command) → ValueIs s k → StoresLocal k (record (begun c (word_of k) (file_of k) (value_at_begin s k) step) { traffic = counted (begun c (word_of k) (file_of k) (value_at_begin s k) step).traffic r.1.counts }) (local_of s (file_of k))
+    stores : (k : Command) → ValueIs s k → StoresLocal k (record (begun c (word_of k) (file_of k) (value_at_begin s (word_of k) (file_of k) None) step) { traffic = counted (begun c (word_of k) (file_of k) (value_at_begin s (word_of k) (file_of k) None) step).traffic r.1.counts }) (local_of s (file_of k))
     stores (command.Close f) v = v
     stores (command.Open f) v = tt
     stores (command.Write f offset content) v = tt
@@ -156,14 +156,14 @@ one_new c step s d r None h =
 -- ---- the step
 
 pub record IsDoneSo (ds : List Deed) (k : Core) (c : ℕ) (seat : Seat) (d : Deed) (r : client.State × ClientStep) (place : Option ℕ) : Type 0 where
-  pub deeds : HasDeeds (ds ++ d ∷ []) (k.ops ++ new_op c (word_of d.command) (file_of d.command) (value_at_begin seat.client d.command) (k.steps + 1) r ∷ []) (with_numbered k.seats c (record seat { client = r.0; place = place }))
+  pub deeds : HasDeeds (ds ++ d ∷ []) (k.ops ++ new_op c (word_of d.command) (file_of d.command) (value_at_begin seat.client (word_of d.command) (file_of d.command) r.1.ended) (k.steps + 1) r ∷ []) (with_numbered k.seats c (record seat { client = r.0; place = place }))
   pub stays : Stays seat.client r.0
 
 does_by : (ds : List Deed) (k : Core) (c : ℕ) (seat : Seat) (d : Deed) (r : client.State × ClientStep) (place : Option ℕ) (b : Bool) → HasDeeds ds k.ops k.seats → numbered k.seats c ≡ Some seat → ((i : ℕ) (o : Op) → slice_get k.ops i ≡ Some o → o.begin < k.steps + 1) → d.client ≡ c → d.begin ≡ k.steps + 1
-    → MayAsk d.joined (may_ask seat.client) (k.steps + 1) → is_busy k.ops (new_op c (word_of d.command) (file_of d.command) (value_at_begin seat.client d.command) (k.steps + 1) r) ≡ b
+    → MayAsk d.joined (may_ask seat.client) (k.steps + 1) → is_busy k.ops (new_op c (word_of d.command) (file_of d.command) (value_at_begin seat.client (word_of d.command) (file_of d.command) r.1.ended) (k.steps + 1) r) ≡ b
     → Stays seat.client r.0 × AnswersBy seat.client d.command r (own_answer b (may_ask seat.client) d.command (local_of seat.client (file_of d.command))) → IsDoneSo ds k c seat d r place
 does_by ds k c seat d r place b h here begins mine starts may busy answers =
-    let f = fixed c (word_of d.command) (file_of d.command) (value_at_begin seat.client d.command) (k.steps + 1) r in
+    let f = fixed c (word_of d.command) (file_of d.command) (value_at_begin seat.client (word_of d.command) (file_of d.command) r.1.ended) (k.steps + 1) r in
     record {
       stays = answers.0;
       deeds = deeds_added ds k.ops k.seats (with_numbered k.seats c (record seat { client = r.0; place = place })) d new h (λ i o at. let lt = begins i o at in let n = f.3 in omega (arith, lt, n)) (record {
@@ -184,7 +184,7 @@ does_by ds k c seat d r place b h here begins mine starts may busy answers =
     }
   where
     new : Op
-    new = new_op c (word_of d.command) (file_of d.command) (value_at_begin seat.client d.command) (k.steps + 1) r
+    new = new_op c (word_of d.command) (file_of d.command) (value_at_begin seat.client (word_of d.command) (file_of d.command) r.1.ended) (k.steps + 1) r
 
     one : IsOne seat.client d new r (own_answer b (may_ask seat.client) d.command (local_of seat.client (file_of d.command)))
     one = one_new c (k.steps + 1) seat.client d r (own_answer b (may_ask seat.client) d.command (local_of seat.client (file_of d.command))) answers.1
@@ -204,10 +204,10 @@ does_follows book ds k qs c now seat d place kept ops steps h here begins mine s
     r = command_step seat.client d.command now
 
     new : Op
-    new = new_op c (word_of d.command) (file_of d.command) (value_at_begin seat.client d.command) (k.steps + 1) r
+    new = new_op c (word_of d.command) (file_of d.command) (value_at_begin seat.client (word_of d.command) (file_of d.command) r.1.ended) (k.steps + 1) r
 
-    f : (let o = new_op c (word_of d.command) (file_of d.command) (value_at_begin seat.client d.command) (k.steps + 1) (command_step seat.client d.command now) in (o.client ≡ c) × (o.word ≡ word_of d.command) × (o.file ≡ file_of d.command) × (o.begin ≡ k.steps + 1))
-    f = fixed c (word_of d.command) (file_of d.command) (value_at_begin seat.client d.command) (k.steps + 1) (command_step seat.client d.command now)
+    f : (let o = new_op c (word_of d.command) (file_of d.command) (value_at_begin seat.client (word_of d.command) (file_of d.command) (command_step seat.client d.command now).1.ended) (k.steps + 1) (command_step seat.client d.command now) in (o.client ≡ c) × (o.word ≡ word_of d.command) × (o.file ≡ file_of d.command) × (o.begin ≡ k.steps + 1))
+    f = fixed c (word_of d.command) (file_of d.command) (value_at_begin seat.client (word_of d.command) (file_of d.command) (command_step seat.client d.command now).1.ended) (k.steps + 1) (command_step seat.client d.command now)
 
     by : (p : Option ℕ) (task : Option Task) → seat.place ≡ p → seat.client.task ≡ task → IsMatched seat → IsDoneSo ds k c seat d (command_step seat.client d.command now) place
     by None None e g m = does_by ds k c seat d r place false h here begins mine starts may (is_free book k qs c seat new kept ops steps here (ap (λ (z : Option ℕ). job_of z seat.client.task) e) f.0 f.3) (free_answers seat.client d.command now g)

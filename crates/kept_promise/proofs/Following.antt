@@ -368,7 +368,7 @@ goes_does past opening all k qs c now d seat kept h here =
           | inr apart ↦ let n = h.next z x (sym (around.others z apart) ∙ is) in omega (arith, n)
         ];
       };
-      ops = inr (new_op c (word_of d) (file_of d) (value_at_begin seat.client d) (k.steps + 1) r, refl, (fixed c (word_of d) (file_of d) (value_at_begin seat.client d) (k.steps + 1) r).3);
+      ops = inr (new_op c (word_of d) (file_of d) (value_at_begin seat.client (word_of d) (file_of d) (command_step seat.client d now).1.ended) (k.steps + 1) r, refl, (fixed c (word_of d) (file_of d) (value_at_begin seat.client (word_of d) (file_of d) (command_step seat.client d now).1.ended) (k.steps + 1) r).3);
       moved = λ z. absurd cc;
       passes = omega arith;
     }

@@ -110,3 +110,5 @@ pub mod OpenedSteps
 pub mod OpenedRuns
 pub mod OpenedEvents
 pub mod Arrivals
+pub mod Tries
+pub mod TriesRuns

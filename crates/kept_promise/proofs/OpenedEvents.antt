@@ -55,10 +55,11 @@ use Rattle.kept_promise.proofs.Facts.{IsKept, IsSession, IsMatched}
 use Rattle.kept_promise.proofs.RunsCarried.{book_at, Step, Carried}
 use Rattle.kept_promise.proofs.CountedRuns.{silent_command}
 use Rattle.kept_promise.proofs.Actors.{job_place, job_task, acts_alone, Heard, heard_at, heard_acts}
-use Rattle.kept_promise.proofs.VersionRuns.{Settled, settled_are, own_op, opened_by, word_after}
+use Rattle.kept_promise.proofs.VersionRuns.{Settled, settled_are, own_op, foreign_at, opened_by, word_after}
 use Rattle.kept_promise.proofs.Versions.{version_in}
 use Rattle.kept_promise.proofs.StoreSteps.{counted_none}
-use Rattle.kept_promise.proofs.StoredEvents.{foreign_at, traffic_after, busy_command}
+use Rattle.kept_promise.proofs.Shapes.{busy_command}
+use Rattle.kept_promise.proofs.StoredEvents.{traffic_after}
 use Rattle.kept_promise.proofs.Fetching.{StageReads, TaskReads, EndReads, OutcomeReads, IsApart, tries_of}
 use Rattle.kept_promise.proofs.OpenedSteps.{OwnCounts, answered_by, begun_command}
 use Rattle.kept_promise.proofs.OpenedRuns.{Moved, tried_moved, WasRead, HaveReads, reads_seat, EndsBy, reads_pointed, reads_appended, Renewed, reads_acts, opened_is}
@@ -139,12 +140,12 @@ reads_does : (book more : Book) (all : List Moment) (k : Core) (qs after : List 
 reads_does book more all k qs after c now d seat kept here left h = by (kept.seats c seat here).matched
   where
     new : client.State → ClientStep → Op
-    new s acts = op_after (begun c (word_of d) (file_of d) (value_at_begin seat.client d) (k.steps + 1)) s [] (k.steps + 1) acts
+    new s acts = op_after (begun c (word_of d) (file_of d) (value_at_begin seat.client (word_of d) (file_of d) (command_step seat.client d now).1.ended) (k.steps + 1)) s [] (k.steps + 1) acts
 
-    nothing : (s : client.State) (acts : ClientStep) → acts.counts ≡ no_counts → (op_after (begun c (word_of d) (file_of d) (value_at_begin seat.client d) (k.steps + 1)) s [] (k.steps + 1) acts).traffic ≡ no_traffic
-    nothing s acts e = traffic_after (begun c (word_of d) (file_of d) (value_at_begin seat.client d) (k.steps + 1)) s [] (k.steps + 1) acts ∙ ap (counted no_traffic) e ∙ counted_none no_traffic
+    nothing : (s : client.State) (acts : ClientStep) → acts.counts ≡ no_counts → (op_after (begun c (word_of d) (file_of d) (value_at_begin seat.client (word_of d) (file_of d) (command_step seat.client d now).1.ended) (k.steps + 1)) s [] (k.steps + 1) acts).traffic ≡ no_traffic
+    nothing s acts e = traffic_after (begun c (word_of d) (file_of d) (value_at_begin seat.client (word_of d) (file_of d) (command_step seat.client d now).1.ended) (k.steps + 1)) s [] (k.steps + 1) acts ∙ ap (counted no_traffic) e ∙ counted_none no_traffic
 
-    pointless : (s : client.State) (acts : ClientStep) (l : Option Ended) → (op_after (begun c (word_of d) (file_of d) (value_at_begin seat.client d) (k.steps + 1)) s [] (k.steps + 1) (record acts { ended = l })).point ≡ None
+    pointless : (s : client.State) (acts : ClientStep) (l : Option Ended) → (op_after (begun c (word_of d) (file_of d) (value_at_begin seat.client (word_of d) (file_of d) (command_step seat.client d now).1.ended) (k.steps + 1)) s [] (k.steps + 1) (record acts { ended = l })).point ≡ None
     pointless s acts None = refl
     pointless s acts (Some e) = by (has_point (word_of d) e.outcome)
       where
@@ -152,10 +153,10 @@ reads_does book more all k qs after c now d seat kept here left h = by (kept.sea
         by true = refl
         by false = refl
 
-    right : (s : client.State) (acts : ClientStep) → more.ops ≡ k.ops ++ op_after (begun c (word_of d) (file_of d) (value_at_begin seat.client d) (k.steps + 1)) s [] (k.steps + 1) acts ∷ [] → IsSound more → IsRight more (op_after (begun c (word_of d) (file_of d) (value_at_begin seat.client d) (k.steps + 1)) s [] (k.steps + 1) acts)
+    right : (s : client.State) (acts : ClientStep) → more.ops ≡ k.ops ++ op_after (begun c (word_of d) (file_of d) (value_at_begin seat.client (word_of d) (file_of d) (command_step seat.client d now).1.ended) (k.steps + 1)) s [] (k.steps + 1) acts ∷ [] → IsSound more → IsRight more (op_after (begun c (word_of d) (file_of d) (value_at_begin seat.client (word_of d) (file_of d) (command_step seat.client d now).1.ended) (k.steps + 1)) s [] (k.steps + 1) acts)
     right s acts are sound = sound.rights (length k.ops) (new s acts) (ap (λ (l : List Op). slice_get l (length k.ops)) are ∙ at_end k.ops (new s acts))
 
-    never : (s : client.State) (acts : ClientStep) (len : ℕ) (digest : List ℕ) → (op_after (begun c (word_of d) (file_of d) (value_at_begin seat.client d) (k.steps + 1)) s [] (k.steps + 1) acts).outcome ≡ told.Opened len digest → IsRight more (op_after (begun c (word_of d) (file_of d) (value_at_begin seat.client d) (k.steps + 1)) s [] (k.steps + 1) acts) → ⊥
+    never : (s : client.State) (acts : ClientStep) (len : ℕ) (digest : List ℕ) → (op_after (begun c (word_of d) (file_of d) (value_at_begin seat.client (word_of d) (file_of d) (command_step seat.client d now).1.ended) (k.steps + 1)) s [] (k.steps + 1) acts).outcome ≡ told.Opened len digest → IsRight more (op_after (begun c (word_of d) (file_of d) (value_at_begin seat.client (word_of d) (file_of d) (command_step seat.client d now).1.ended) (k.steps + 1)) s [] (k.steps + 1) acts) → ⊥
     never s acts len digest e r = let w = subst (Caused more (new s acts)) e r.cause in nothing_there w.1.point (sym (pointless s acts acts.ended) ∙ w.1.within.0)
 
     old_jobs : (i : ℕ) (s : Seat) (j : Job) → numbered k.seats i ≡ Some s → job s ≡ Some j → j.place < length k.ops
@@ -171,11 +172,11 @@ reads_does book more all k qs after c now d seat kept here left h = by (kept.sea
         let r = command_step seat.client d now in
         reads_seat (hashed_of all) k.seats (k.ops ++ new r.0 r.1 ∷ []) c (record seat { client = r.0; place = place_with seat.place (length k.ops) r.1.ended }) (λ j o is at. first r.0 r.1 (begun_command seat.client d now free) (silent_command seat.client d now).1 j o (subst (λ l. job_of (place_with l (length k.ops) r.1.ended) r.0.task ≡ Some j) no_place is) at) grown
       where
-        first : (s : client.State) (acts : ClientStep) → TaskReads no_traffic s.task → acts.counts ≡ no_counts → (j : Job) (o : Op) → job_of (place_with None (length k.ops) acts.ended) s.task ≡ Some j → slice_get (k.ops ++ op_after (begun c (word_of d) (file_of d) (value_at_begin seat.client d) (k.steps + 1)) s [] (k.steps + 1) acts ∷ []) j.place ≡ Some o → StageReads o.traffic j.stage
+        first : (s : client.State) (acts : ClientStep) → TaskReads no_traffic s.task → acts.counts ≡ no_counts → (j : Job) (o : Op) → job_of (place_with None (length k.ops) acts.ended) s.task ≡ Some j → slice_get (k.ops ++ op_after (begun c (word_of d) (file_of d) (value_at_begin seat.client (word_of d) (file_of d) (command_step seat.client d now).1.ended) (k.steps + 1)) s [] (k.steps + 1) acts ∷ []) j.place ≡ Some o → StageReads o.traffic j.stage
         first s acts b counts j o is at = here_ acts.ended is
           where
             n : Op
-            n = op_after (begun c (word_of d) (file_of d) (value_at_begin seat.client d) (k.steps + 1)) s [] (k.steps + 1) acts
+            n = op_after (begun c (word_of d) (file_of d) (value_at_begin seat.client (word_of d) (file_of d) (command_step seat.client d now).1.ended) (k.steps + 1)) s [] (k.steps + 1) acts
 
             here_ : (e : Option Ended) → job_of (place_with None (length k.ops) e) s.task ≡ Some j → StageReads o.traffic j.stage
             here_ (Some e) is = nothing_there j is

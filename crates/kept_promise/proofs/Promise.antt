@@ -26,6 +26,7 @@ use Rattle.kept_promise.proofs.StoredWhole.{Stored, carried_stored, have_stored,
 use Rattle.kept_promise.proofs.VersionRuns.{Versions, carried_versions, opens_version}
 use Rattle.kept_promise.proofs.OpenedEvents.{ReadsOf, carried_reads, opened_counts}
 use Rattle.kept_promise.proofs.SettledRuns.{AllSettled, carried_settled}
+use Rattle.kept_promise.proofs.TriesRuns.{TriesOf, carried_tries}
 use Rattle.kept_promise.proofs.Completed.{completes}
 use Rattle.kept_promise.proofs.EndedWell.{ends_well}
 use Rattle.kept_promise.proofs.Promised.{AreWords, no_fault, legal_kept, holds_files, holds_values}
@@ -41,9 +42,13 @@ carried_both P Q p q = record {
 abbrev Follows : Fact
 Follows all past opening k qs = AreFollowed past k
 
--- of the READs of opens, and of the steps of changes
+-- of the attempts of opens, and of the steps of changes
+abbrev Attempts : Fact
+Attempts all past opening k qs = TriesOf all past opening k qs × AllSettled all past opening k qs
+
+-- of their READs too
 abbrev Read : Fact
-Read all past opening k qs = ReadsOf all past opening k qs × AllSettled all past opening k qs
+Read all past opening k qs = ReadsOf all past opening k qs × Attempts all past opening k qs
 
 -- of versions too
 abbrev Fetched : Fact
@@ -57,7 +62,7 @@ abbrev Told : Fact
 Told all past opening k qs = Follows all past opening k qs × Counted all past opening k qs
 
 told_carried : Carried Told
-told_carried = carried_both Follows Counted carried_follow (carried_both Stored Fetched (carried_stored fit_laws) (carried_both Versions Read (carried_versions fit_laws) (carried_both ReadsOf AllSettled (carried_reads fit_laws) carried_settled)))
+told_carried = carried_both Follows Counted carried_follow (carried_both Stored Fetched (carried_stored fit_laws) (carried_both Versions Read (carried_versions fit_laws) (carried_both ReadsOf Attempts (carried_reads fit_laws) (carried_both TriesOf AllSettled (carried_tries fit_laws) carried_settled))))
 
 -- ---- the promise of what a run leaves
 
@@ -79,11 +84,12 @@ promise_of input w ran h =
         done = deeds_done w all h.queues h.kept h.more.0.followed;
         cuts = cuts_end w all h.more.0.cuts;
         journal = h.kept.sound.journal;
-        settled = h.more.1.1.1.1;
+        settled = h.more.1.1.1.1.1;
         versions = opens_version (book_of w all) w.core h.queues h.kept h.more.1.1.0.1;
         no_fault = no_fault (book_of w all) h.kept.sound;
         traffic = h.more.1.0.counted.counts;
         own = h.more.1.1.1.0.own;
+        attempts = h.more.1.1.1.1.0.ends;
         silent = h.more.1.1.1.0.silent;
         opened = opened_counts (book_of w all) w.core h.queues h.kept h.more.1.1.1.0;
         stored = h.more.1.0.stored.commits;

@@ -12,7 +12,7 @@ use Rattle.trace_replay.specs.Core.{Session, server_waiting}
 use Rattle.trace_replay.specs.World.{World}
 use Rattle.trace_replay.specs.Trail.{Moment}
 use Rattle.trace_replay.specs.Book.{book_of}
-use Rattle.trace_replay.specs.Traces.{IsRead, IsDone, IsAnswered, xid_of, HoldsMessages}
+use Rattle.trace_replay.specs.Traces.{IsRead, IsServed, IsAnswered, xid_of, HoldsMessages}
 use Rattle.kept_promise.specs.Talk.{Call, Call.Hash, Call.Read, Call.Make, Call.Name, Call.Send, Call.Commit, Ask, Told, Queue, call_message, ask_message, told_message}
 use Rattle.kept_promise.proofs.Statements.{CallFits}
 use Rattle.kept_promise.proofs.Messages.{AllAsks, AllTolds}
@@ -20,9 +20,9 @@ use Rattle.kept_promise.proofs.Facts.{IsSession}
 use Rattle.kept_promise.proofs.Fits.{FitLaws}
 use Rattle.kept_promise.proofs.Turns.{also_numbered}
 use Rattle.kept_promise.proofs.Lists.{some_is, nothing_there}
-use Rattle.kept_promise.proofs.Heard.{told_pending}
+use Rattle.kept_promise.proofs.Heard.{told_pending, rising_times}
 use Rattle.kept_promise.proofs.Moves.{told_there, expected}
-use Rattle.kept_promise.proofs.OrderSteps.{answers_apart}
+use Rattle.kept_promise.proofs.OrderSteps.{place_once, answers_apart}
 use Rattle.kept_promise.proofs.Drops.{has_there}
 use Rattle.kept_promise.proofs.RunsCarried.{Stands}
 use Rattle.kept_promise.proofs.RunsEvents.{Fact}
@@ -38,11 +38,11 @@ tolds_read fits w [] h waits = All-nil (IsRead w)
 tolds_read fits w (t ∷ ts) h waits =
     All-cons (IsRead w) (told_message t) (map told_message ts) (h.0, fits.again w (told_message t) h.0.0 (waits zero t refl)) (tolds_read fits w ts h.1 (λ i u at. waits (suc i) u at))
 
-asks_done : (us : List Ask) → All IsDone (map ask_message us)
-asks_done [] = All-nil IsDone
-asks_done (a ∷ us) = All-cons IsDone (ask_message a) (map ask_message us) (by a.call) (asks_done us)
+asks_done : (us : List Ask) → All IsServed (map ask_message us)
+asks_done [] = All-nil IsServed
+asks_done (a ∷ us) = All-cons IsServed (ask_message a) (map ask_message us) (by a.call) (asks_done us)
   where
-    by : (c : Call) → IsDone (call_message a.xid c)
+    by : (c : Call) → IsServed (call_message a.xid c)
     by (Hash f o) = tt
     by (Read f c) = tt
     by (Make m f) = tt
@@ -60,6 +60,19 @@ of_told [] i m at = nothing_there m at
 of_told (t ∷ ts) zero m at = (t, refl, ap xid_of (some_is (told_message t) m at))
 of_told (t ∷ ts) (suc i) m at = of_told ts i m at
 
+of_ask : (us : List Ask) (i : ℕ) (m : Message) → slice_get (map ask_message us) i ≡ Some m → (a : Ask) × (slice_get us i ≡ Some a) × (a.xid ≡ xid_of m)
+of_ask [] i m at = nothing_there m at
+of_ask (a ∷ us) zero m at = (a, refl, by a.call ∙ ap xid_of (some_is (ask_message a) m at))
+  where
+    by : (c : Call) → a.xid ≡ xid_of (call_message a.xid c)
+    by (Hash f o) = refl
+    by (Read f c) = refl
+    by (Make m f) = refl
+    by (Name m c) = refl
+    by (Send m s b) = refl
+    by (Commit m f s) = refl
+of_ask (a ∷ us) (suc i) m at = of_ask us i m at
+
 pub holds_messages : (P : Fact) → FitLaws → (all past : List Moment) (w : World) → Stands P all past w → HoldsMessages w
 holds_messages P fits all past w h number q at =
     let there = also_numbered w.wires h.queues number q (sym h.carry.0) at in
@@ -75,6 +88,11 @@ holds_messages P fits all past w h number q at =
       ups = map ask_message m.ups;
       up = record { sound = c.up_sound; read = asks_read fits m.ups s.ups_fit; bytes = c.up };
       done = asks_done m.ups;
+      apart = λ uncut i j a b one two same.
+          let t = of_ask m.ups i a one in
+          let u = of_ask m.ups j b two in
+          let talk = s.talk uncut in
+          place_once (λ (z : Ask). z.xid) m.ups i j t.0 u.0 t.1 u.1 (t.2 ∙ same ∙ sym u.2) (rising_times talk.floor m.ups s.seat.client.next u.0.xid talk.rising);
       downs = map told_message m.downs;
       down = record { sound = c.down_sound; read = downs x.0 m s x.0.cut refl; bytes = c.down };
       answered = answers x.0 m s x.0.cut refl;

@@ -1,7 +1,7 @@
 -- A run carries that each change of the journal was made at a moment at which the server was told to make one.
-use Rattle.std.proofs.Common.{◌⊎◌, inl, inr, ◌≡◌, ℕ, zero, suc, ◌+◌, ◌<◌, ◌≤◌, List, [], ◌∷◌, ◌++◌, length, Option, Some, None, Result, Ok, Err, Bool, true, false, refl, sym, ap, ◌∙◌, subst, arith, append-nil}
+use Rattle.std.proofs.Common.{◌⊎◌, inl, inr, ◌≡◌, ℕ, ◌+◌, List, [], ◌∷◌, ◌++◌, Option, Some, None, Result, Ok, Err, Bool, true, false, refl, sym, ◌∙◌, subst, append-nil}
 use Rattle.std.proofs.lemmas.List.Elements.{Contains-append_left, Contains-append_right, Contains-push}
-use Rattle.std.specs.Prelude.{slice_get, replicate, Contains}
+use Rattle.std.specs.Prelude.{slice_get, replicate}
 use Rattle.wire.specs.Parse.{parse_of}
 use Rattle.wire.specs.declared.fault.WireFault.{WireFault}
 use Rattle.wire.specs.declared.message.Message.{Message}
@@ -15,11 +15,10 @@ use Rattle.server_core.specs.declared.event.Told.TheVariants as announced
 use Rattle.server_core.specs.declared.file.File.{File}
 use Rattle.register_model.specs.declared.op.Opening.{Opening}
 use Rattle.trace_replay.specs.Core.{Core, Seat, Session, Event, Event.Joins, Event.Does, Event.Serves, Event.Hears, Event.Settles, Event.Cuts, Event.Hangs, Turned, numbered, server_waiting, serves_if, serves, joins_as, joins, does, cuts_if, cuts, hangs_if, hangs, settles, happens}
-use Rattle.trace_replay.specs.Trail.{Moment, step_of}
+use Rattle.trace_replay.specs.Trail.{Moment}
 use Rattle.trace_replay.specs.Faithful.{IsSettled}
 use Rattle.kept_promise.specs.Talk.{Queue}
 use Rattle.kept_promise.proofs.Lists.{nothing_there, of_appended}
-use Rattle.kept_promise.proofs.Facts.{IsKept}
 use Rattle.kept_promise.proofs.RunsCarried.{book_at, moment, Step, Carried}
 use Rattle.kept_promise.proofs.Actors.{heard_at}
 

@@ -44,13 +44,14 @@ use Rattle.kept_promise.proofs.Rights.{IsRight, Caused, IsSound}
 use Rattle.kept_promise.proofs.Fits.{FitLaws}
 use Rattle.kept_promise.proofs.Taken.{times_map_append}
 use Rattle.kept_promise.proofs.Facts.{IsKept, IsSession, IsMatched}
-use Rattle.kept_promise.proofs.Counted.{SaidBy, running_now, running_past}
+use Rattle.kept_promise.proofs.Counted.{first_or_rest, SaidBy, running_now, running_past}
 use Rattle.kept_promise.proofs.CountedRuns.{CountedAt, silent_command}
 use Rattle.kept_promise.proofs.Actors.{job_place, job_task, acts_alone, Heard, heard_acts}
 use Rattle.kept_promise.proofs.QueuedCommits.{FailsNamed}
-use Rattle.kept_promise.proofs.VersionRuns.{settled_are, own_op}
+use Rattle.kept_promise.proofs.Shapes.{busy_command}
+use Rattle.kept_promise.proofs.VersionRuns.{foreign_at, settled_are, own_op}
 use Rattle.kept_promise.proofs.StoreSteps.{StageOn, TaskOn, NoCommits, InCommit, IsCommitting, Stores, counted_none, FailsName, Ready, TaskReady, stores_answer, silent_answer}
-use Rattle.kept_promise.proofs.StoredRuns.{first_or_rest, commit_none, commit_more, commit_alike, commit_kept, commit_early, JobStored, AreStored, stored_more, stored_seat, stored_pointed, Renewed, stored_acts, stored_begins}
+use Rattle.kept_promise.proofs.StoredRuns.{commit_none, commit_more, commit_alike, commit_kept, commit_early, JobStored, AreStored, stored_more, stored_seat, stored_pointed, Renewed, stored_acts, stored_begins}
 
 -- ---- a command
 
@@ -99,15 +100,6 @@ begins_command v s (command.Read file offset count) now free = subst (λ (o : Op
 begins_command v s (command.Close file) now free = subst (λ (o : Option Task). Begins v (on_local s o (local_at s.opened file) (closes s file))) (sym free) (begins_own v s (local_at s.opened file) (closes s file) free (λ l. begins_closes v s file (may_ask s) free))
 begins_command v s (command.Abandon file) now free = subst (λ (o : Option Task). Begins v (on_local s o (local_at s.opened file) (abandons s file))) (sym free) (begins_own v s (local_at s.opened file) (abandons s file) free (λ l. (tt, subst (TaskOn no_traffic v) (sym free) tt)))
 
--- where one was, the client is busy
-pub busy_command : (s : client.State) (d : Command) (now : ℕ) (t : Task) → s.task ≡ Some t → ((command_step s d now).1.send ≡ []) × ((command_step s d now).0 ≡ s)
-busy_command s (command.Open file) now t e = subst (λ (o : Option Task). ((opens s file o).1.send ≡ []) × ((opens s file o).0 ≡ s)) (sym e) (refl, refl)
-busy_command s (command.Write file offset content) now t e = subst (λ (o : Option Task). ((on_local s o (local_at s.opened file) (writes s file offset content)).1.send ≡ []) × ((on_local s o (local_at s.opened file) (writes s file offset content)).0 ≡ s)) (sym e) (refl, refl)
-busy_command s (command.Trunc file size) now t e = subst (λ (o : Option Task). ((on_local s o (local_at s.opened file) (truncates s file size)).1.send ≡ []) × ((on_local s o (local_at s.opened file) (truncates s file size)).0 ≡ s)) (sym e) (refl, refl)
-busy_command s (command.Read file offset count) now t e = subst (λ (o : Option Task). ((on_local s o (local_at s.opened file) (reads s offset count)).1.send ≡ []) × ((on_local s o (local_at s.opened file) (reads s offset count)).0 ≡ s)) (sym e) (refl, refl)
-busy_command s (command.Close file) now t e = subst (λ (o : Option Task). ((on_local s o (local_at s.opened file) (closes s file)).1.send ≡ []) × ((on_local s o (local_at s.opened file) (closes s file)).0 ≡ s)) (sym e) (refl, refl)
-busy_command s (command.Abandon file) now t e = subst (λ (o : Option Task). ((on_local s o (local_at s.opened file) (abandons s file)).1.send ≡ []) × ((on_local s o (local_at s.opened file) (abandons s file)).0 ≡ s)) (sym e) (refl, refl)
-
 -- ---- events of the server
 
 abbrev pub StoredBy : (past : List Moment) → Core → Event → Turned → Type 0
@@ -146,14 +138,6 @@ stored_settles book past k qs now kept h = stored_more (sent_of past) k.seats (s
 ])
 
 -- ---- events of a client
-
--- another client's job is not at its place
-pub foreign_at : (book : Book) (k : Core) (qs : List Queue) (i : ℕ) (seat : Seat) → IsKept book k qs → numbered k.seats i ≡ Some seat → (m : ℕ) (s : Seat) (j : Job) (o : Op) → numbered k.seats m ≡ Some s → job s ≡ Some j → slice_get k.ops j.place ≡ Some o → (m ≡ i → ⊥) → seat.place ≡ Some j.place → ⊥
-foreign_at book k qs i seat kept here m s j o there is at apart e =
-    let of = (kept.seats m s there).task j is in
-    let same : of.op ≡ o = some_is of.op o (sym of.there ∙ ap (λ (l : List Op). slice_get l j.place) kept.ops ∙ at) in
-    let own = own_op book k qs i seat j.place o kept here e at in
-    apart (sym of.client ∙ ap (λ (z : Op). z.client) same ∙ own.3)
 
 -- a close keeps its value
 value_kept : (more : Book) (o : Op) (c : client.State) (taken : List Taken) (step : ℕ) (acts : ClientStep) → o.word ≡ words.Close → IsRight more (op_after o c taken step acts) → (op_after o c taken step acts).value ≡ o.value
@@ -353,14 +337,14 @@ pub stored_does : (book : Book) (past : List Moment) (k : Core) (qs : List Queue
 stored_does book past k qs c now d seat kept here counted_past h = by (kept.seats c seat here).matched
   where
     new : client.State → ClientStep → Op
-    new s acts = op_after (begun c (word_of d) (file_of d) (value_at_begin seat.client d) (k.steps + 1)) s [] (k.steps + 1) acts
+    new s acts = op_after (begun c (word_of d) (file_of d) (value_at_begin seat.client (word_of d) (file_of d) (command_step seat.client d now).1.ended) (k.steps + 1)) s [] (k.steps + 1) acts
 
-    begins : (s : client.State) (acts : ClientStep) (e : Option Ended) → k.steps < (op_after (begun c (word_of d) (file_of d) (value_at_begin seat.client d) (k.steps + 1)) s [] (k.steps + 1) (record acts { ended = e })).begin
+    begins : (s : client.State) (acts : ClientStep) (e : Option Ended) → k.steps < (op_after (begun c (word_of d) (file_of d) (value_at_begin seat.client (word_of d) (file_of d) (command_step seat.client d now).1.ended) (k.steps + 1)) s [] (k.steps + 1) (record acts { ended = e })).begin
     begins s acts None = omega arith
     begins s acts (Some e) = omega arith
 
-    nothing : (s : client.State) (acts : ClientStep) → acts.counts ≡ no_counts → (op_after (begun c (word_of d) (file_of d) (value_at_begin seat.client d) (k.steps + 1)) s [] (k.steps + 1) acts).traffic ≡ no_traffic
-    nothing s acts e = traffic_after (begun c (word_of d) (file_of d) (value_at_begin seat.client d) (k.steps + 1)) s [] (k.steps + 1) acts ∙ ap (counted no_traffic) e ∙ counted_none no_traffic
+    nothing : (s : client.State) (acts : ClientStep) → acts.counts ≡ no_counts → (op_after (begun c (word_of d) (file_of d) (value_at_begin seat.client (word_of d) (file_of d) (command_step seat.client d now).1.ended) (k.steps + 1)) s [] (k.steps + 1) acts).traffic ≡ no_traffic
+    nothing s acts e = traffic_after (begun c (word_of d) (file_of d) (value_at_begin seat.client (word_of d) (file_of d) (command_step seat.client d now).1.ended) (k.steps + 1)) s [] (k.steps + 1) acts ∙ ap (counted no_traffic) e ∙ counted_none no_traffic
 
     old_jobs : (i : ℕ) (s : Seat) (j : Job) → numbered k.seats i ≡ Some s → job s ≡ Some j → j.place < length k.ops
     old_jobs i s j at is = let of = (kept.seats i s at).task j is in within k.ops j.place of.op (ap (λ (l : List Op). slice_get l j.place) (sym kept.ops) ∙ of.there)
@@ -374,11 +358,11 @@ stored_does book past k qs c now d seat kept here counted_past h = by (kept.seat
         let b = begins_command (new r.0 r.1).value seat.client d now free in
         stored_seat (sent_of past ++ all_said (k.steps + 1) c r.1.send) k.seats (k.ops ++ new r.0 r.1 ∷ []) c (record seat { client = r.0; place = place_with seat.place (length k.ops) r.1.ended }) (λ j o is at. first r.0 r.1 b (silent_command seat.client d now).1 j o (subst (λ l. job_of (place_with l (length k.ops) r.1.ended) r.0.task ≡ Some j) no_place is) at) (grown b.0)
       where
-        first : (s : client.State) (acts : ClientStep) → Begins (op_after (begun c (word_of d) (file_of d) (value_at_begin seat.client d) (k.steps + 1)) s [] (k.steps + 1) acts).value (s, acts) → acts.counts ≡ no_counts → (j : Job) (o : Op) → job_of (place_with None (length k.ops) acts.ended) s.task ≡ Some j → slice_get (k.ops ++ op_after (begun c (word_of d) (file_of d) (value_at_begin seat.client d) (k.steps + 1)) s [] (k.steps + 1) acts ∷ []) j.place ≡ Some o → JobStored (sent_of past ++ all_said (k.steps + 1) c acts.send) o j.stage
+        first : (s : client.State) (acts : ClientStep) → Begins (op_after (begun c (word_of d) (file_of d) (value_at_begin seat.client (word_of d) (file_of d) (command_step seat.client d now).1.ended) (k.steps + 1)) s [] (k.steps + 1) acts).value (s, acts) → acts.counts ≡ no_counts → (j : Job) (o : Op) → job_of (place_with None (length k.ops) acts.ended) s.task ≡ Some j → slice_get (k.ops ++ op_after (begun c (word_of d) (file_of d) (value_at_begin seat.client (word_of d) (file_of d) (command_step seat.client d now).1.ended) (k.steps + 1)) s [] (k.steps + 1) acts ∷ []) j.place ≡ Some o → JobStored (sent_of past ++ all_said (k.steps + 1) c acts.send) o j.stage
         first s acts b counts j o is at = here_ acts.ended is
           where
             n : Op
-            n = op_after (begun c (word_of d) (file_of d) (value_at_begin seat.client d) (k.steps + 1)) s [] (k.steps + 1) acts
+            n = op_after (begun c (word_of d) (file_of d) (value_at_begin seat.client (word_of d) (file_of d) (command_step seat.client d now).1.ended) (k.steps + 1)) s [] (k.steps + 1) acts
 
             never : SentCommit n (sent_of past ++ all_said (k.steps + 1) c acts.send) → ⊥
             never x = commit_early k.steps n (sent_of past) (begins s acts acts.ended) counted_past.sent_by (commit_none n (sent_of past) (k.steps + 1) c acts.send b.0 x)

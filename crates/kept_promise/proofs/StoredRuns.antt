@@ -1,5 +1,5 @@
 -- A run carries that a close which sent its COMMITTMP named and sent all of its content.
-use Rattle.std.proofs.Common.{◌⊎◌, inl, inr, ◌≡◌, ℕ, zero, suc, ◌+◌, ◌<◌, ◌≤◌, List, [], ◌∷◌, ◌++◌, length, Option, Some, None, Bool, true, false, refl, sym, ap, ◌∙◌, subst, arith}
+use Rattle.std.proofs.Common.{◌⊎◌, inl, inr, ◌≡◌, ℕ, ◌+◌, ◌<◌, List, [], ◌∷◌, ◌++◌, length, Option, Some, None, Bool, true, false, refl, sym, ap, ◌∙◌, subst, arith}
 use Rattle.std.proofs.lemmas.List.Elements.{Contains-append_left, Contains-append_cases}
 use Rattle.std.specs.Prelude.{slice_get, slice_set, Contains}
 use Rattle.wire.specs.declared.message.Message.{Message}
@@ -16,24 +16,12 @@ use Rattle.trace_replay.specs.Trail.{Said, all_said}
 use Rattle.trace_replay.specs.Traffic.{is_commit, SentCommit, close_traffic}
 use Rattle.kept_promise.proofs.Lists.{some_is, nothing_there, of_replaced, of_appended}
 use Rattle.kept_promise.proofs.Messages.{Job, job, job_of}
-use Rattle.kept_promise.proofs.Counted.{of_step, SaidBy, AlikeUpTo, IsActor, early}
+use Rattle.kept_promise.proofs.Counted.{first_or_rest, said_at, said_by, of_step, SaidBy, AlikeUpTo, IsActor, early}
 use Rattle.kept_promise.proofs.Actors.{job_place, job_task}
 use Rattle.kept_promise.proofs.Versions.{of_numbered}
 use Rattle.kept_promise.proofs.StoreSteps.{StageOn, NoCommits, InCommit}
 
 -- ---- COMMITTMPs that were sent
-
--- an element of a list is its first one, or of the rest
-pub first_or_rest : {A : Type 0} (x : A) (xs : List A) (y : A) → Contains (x ∷ xs) y → (y ≡ x) ⊎ Contains xs y
-first_or_rest x xs y (zero, lt, e) = inl (sym e)
-first_or_rest x xs y (suc i, lt, e) = inr (i, omega (arith, lt), e)
-
-pub said_by : (n : ℕ) (ss : List Said) (s : Said) → SaidBy n ss → Contains ss s → s.step ≤ n
-said_by n [] s h c = let lt = c.1 in absurd (omega (arith, lt))
-said_by n (t ∷ ss) s h c = elim (first_or_rest t ss s c) [
-  | inl e ↦ subst (λ (z : Said). z.step ≤ n) (sym e) h.0
-  | inr rest ↦ said_by n ss s h.1 rest
-]
 
 commit_in : (step i : ℕ) (ms : List Message) (s : Said) → NoCommits ms → Contains (all_said step i ms) s → is_commit s.message ≡ false
 commit_in step i [] s h c = let lt = c.1 in absurd (omega (arith, lt))
@@ -49,13 +37,6 @@ commit_past o sent step i ms none (s, there, of, is) = elim (Contains-append_cas
   | inr now ↦ absurd (apart (said_at step i ms s now) of)
 ]
   where
-    said_at : (step i : ℕ) (ms : List Message) (s : Said) → Contains (all_said step i ms) s → (s.step ≡ step) × (s.client ≡ i)
-    said_at step i [] s c = let lt = c.1 in absurd (omega (arith, lt))
-    said_at step i (m ∷ ms) s c = elim (first_or_rest (record { step = step; client = i; message = m }) (all_said step i ms) s c) [
-      | inl e ↦ (ap (λ (z : Said). z.step) e, ap (λ (z : Said). z.client) e)
-      | inr rest ↦ said_at step i ms s rest
-    ]
-
     apart : (s.step ≡ step) × (s.client ≡ i) → of_step o s.step s.client ≡ true → ⊥
     apart (a, b) e = both (of_step o step i) none (sym (ap (λ z. of_step o z s.client) a ∙ ap (of_step o step) b) ∙ e)
       where

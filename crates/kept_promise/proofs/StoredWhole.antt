@@ -221,12 +221,12 @@ came_event laws all past rest opening k qs (Does c now d) mid after s = subst (�
     point true x = refl
     point false x = refl
 
-    by : (c_after : client.State) (acts : ClientStep) (e : Option Ended) → AllCame k (k.ops ++ op_after (begun c (word_of d) (file_of d) (value_at_begin s.finds.0.client d) (k.steps + 1)) c_after [] (k.steps + 1) (record acts { ended = e }) ∷ [])
-    by c_after acts None = λ p r at. elim (of_appended k.ops (op_after (begun c (word_of d) (file_of d) (value_at_begin s.finds.0.client d) (k.steps + 1)) c_after [] (k.steps + 1) (record acts { ended = None })) p r at) [
+    by : (c_after : client.State) (acts : ClientStep) (e : Option Ended) → AllCame k (k.ops ++ op_after (begun c (word_of d) (file_of d) (value_at_begin s.finds.0.client (word_of d) (file_of d) (command_step s.finds.0.client d now).1.ended) (k.steps + 1)) c_after [] (k.steps + 1) (record acts { ended = e }) ∷ [])
+    by c_after acts None = λ p r at. elim (of_appended k.ops (op_after (begun c (word_of d) (file_of d) (value_at_begin s.finds.0.client (word_of d) (file_of d) (command_step s.finds.0.client d now).1.ended) (k.steps + 1)) c_after [] (k.steps + 1) (record acts { ended = None })) p r at) [
       | inl new ↦ inr (inl (ap (λ (z : Op). z.point) new.1))
       | inr old ↦ came_same k p r old
     ]
-    by c_after acts (Some e) = λ p r at. elim (of_appended k.ops (op_after (begun c (word_of d) (file_of d) (value_at_begin s.finds.0.client d) (k.steps + 1)) c_after [] (k.steps + 1) (record acts { ended = Some e })) p r at) [
+    by c_after acts (Some e) = λ p r at. elim (of_appended k.ops (op_after (begun c (word_of d) (file_of d) (value_at_begin s.finds.0.client (word_of d) (file_of d) (command_step s.finds.0.client d now).1.ended) (k.steps + 1)) c_after [] (k.steps + 1) (record acts { ended = Some e })) p r at) [
       | inl new ↦ inr (inl (ap (λ (z : Op). z.point) new.1 ∙ point (has_point (word_of d) e.outcome) e.rests_on))
       | inr old ↦ came_same k p r old
     ]

@@ -1,9 +1,9 @@
 -- A run carries that each open gave the content of a version that came to its client.
-use Rattle.std.proofs.Common.{◌⊎◌, inl, inr, ◌≡◌, ℕ, ◌+◌, ◌<◌, ◌≤◌, List, [], ◌∷◌, ◌++◌, length, Option, Some, None, Result, Ok, Err, Bool, true, false, refl, sym, ap, ◌∙◌, subst, arith, eq-eqb}
+use Rattle.std.proofs.Common.{◌⊎◌, inl, inr, ◌≡◌, ℕ, ◌+◌, ◌<◌, ◌≤◌, List, [], ◌∷◌, ◌++◌, zero, suc, length, Option, Some, None, Result, Ok, Err, Bool, true, false, refl, sym, ap, ◌∙◌, subst, arith, append-nil, eqb-true, eq-eqb}
 use Rattle.std.proofs.lemmas.Bool.Decides.{nat_tests}
-use Rattle.std.proofs.lemmas.List.Elements.{Contains-append_right, Contains-push}
-use Rattle.std.specs.Prelude.{◌==◌, ◌&&◌, ◌||◌, nat_lt, nat_le, slice_get, slice_set, cond, Contains}
-use Rattle.std.specs.Option.{option_map_or}
+use Rattle.std.proofs.lemmas.List.Elements.{Contains-append_left, Contains-append_right, Contains-append_cases, Contains-push}
+use Rattle.std.specs.Prelude.{◌==◌, ◌&&◌, ◌||◌, nat_lt, nat_le, slice_get, slice_set, cond, find, Contains}
+use Rattle.std.specs.Option.{option_map, option_map_or}
 use Rattle.command_text.specs.declared.command.Command.{Command}
 use Rattle.xdr_codec.specs.declared.answer.Answer.TheVariants.{Done}
 use Rattle.hash_calls.specs.declared.call.Hashes.{Hashes}
@@ -26,7 +26,6 @@ use Rattle.open_close.specs.declared.step.ClientStep.{ClientStep}
 use Rattle.open_close.specs.declared.step.Ended.{Ended}
 use Rattle.open_close.specs.declared.step.Outcome.{Outcome}
 use Rattle.open_close.specs.declared.step.Outcome.TheVariants as outcome
-use Rattle.open_close.specs.declared.task.Fetch.{Fetch}
 use Rattle.open_close.specs.declared.task.Stage.{Stage}
 use Rattle.open_close.specs.declared.task.Stage.TheVariants as stage
 use Rattle.open_close.specs.declared.task.Task.{Task}
@@ -38,59 +37,154 @@ use Rattle.register_model.specs.declared.op.Outcome.TheVariants as told
 use Rattle.register_model.specs.declared.op.Word.TheVariants as words
 use Rattle.trace_replay.specs.declared.link.Taken.{Taken}
 use Rattle.trace_replay.specs.Commands.{word_of, file_of, value_at_begin}
-use Rattle.trace_replay.specs.Ops.{told_of, has_point, point_if, op_after, begun, taken_at, place_after, place_with, pointed, pointed_at}
-use Rattle.trace_replay.specs.Core.{Core, Seat, Session, Event, Event.Joins, Event.Does, Event.Serves, Event.Hears, Event.Settles, Event.Cuts, Event.Hangs, Turned, numbered, with_numbered, server_waiting, serves_if, serves, session_of, taken_of as session_taken, ops_after, ops_with, acted, does, joins_as, joins, settled_ops, settled_by, settles, cuts_if, cuts, hangs_if, hangs, happens}
+use Rattle.trace_replay.specs.Ops.{told_of, has_point, point_if, op_after, begun, taken_at, place_after, place_with, taken_on, pointed, pointed_at}
+use Rattle.trace_replay.specs.Core.{Core, Seat, Session, Event, Event.Joins, Event.Does, Event.Serves, Event.Hears, Event.Settles, Event.Cuts, Event.Hangs, Turned, numbered, with_numbered, new_session, taken_with, commanded_session, commanded_sessions, cut_session, server_waiting, serves_if, serves, session_of, taken_of as session_taken, ops_after, ops_with, acted, does, joins_as, joins, settled_ops, settled_by, settles, cuts_if, cuts, hangs_if, hangs, happens}
 use Rattle.trace_replay.specs.Trail.{Moment, Said, all_said, owner_in, client_of, wanted_if, wanted_by, taken_by, taken_of}
-use Rattle.trace_replay.specs.Book.{Book, value_at, version_at}
+use Rattle.trace_replay.specs.Book.{Book, version_at}
 use Rattle.trace_replay.specs.Traffic.{until}
-use Rattle.trace_replay.specs.Faithful.{Carries, OpensVersion}
-use Rattle.kept_promise.specs.Talk.{Reply, Reply.Hashed, Told, Queue, reply_body, told_message}
-use Rattle.kept_promise.proofs.Lists.{some_is, nothing_there, at_replaced}
-use Rattle.kept_promise.proofs.Messages.{Job, job, job_of, AllTolds, hash_offset, IsHashed, AnswerOf, IsAnswer, IsFetch, FetchOf}
+use Rattle.trace_replay.specs.Faithful.{IsHashes, Carries, OpensVersion}
+use Rattle.kept_promise.specs.Talk.{Reply, Reply.Hashed, Reply.Bytes, Told, Queue, reply_body, told_message}
+use Rattle.kept_promise.proofs.Lists.{some_is, nothing_there, at_end, within, same_or_not, of_replaced, of_appended, kept_appended, at_replaced}
+use Rattle.kept_promise.proofs.Marks.{unpointed}
+use Rattle.kept_promise.proofs.Messages.{Job, job, job_of, AllTolds, AllUnder, hash_offset, IsHashed, AnswerOf, IsAnswer}
 use Rattle.kept_promise.proofs.Rights.{IsRight, Caused, IsSound, IsUnmade}
 use Rattle.kept_promise.proofs.Fits.{FitLaws}
 use Rattle.kept_promise.proofs.Keys.{own}
-use Rattle.kept_promise.proofs.Turns.{also_numbered}
+use Rattle.kept_promise.proofs.Turns.{also_numbered, around_with}
+use Rattle.kept_promise.proofs.Heard.{rising_to}
 use Rattle.kept_promise.proofs.Promised.{own_there}
 use Rattle.kept_promise.proofs.Facts.{IsKept, IsSession, IsMatched}
 use Rattle.kept_promise.proofs.RunsCarried.{book_at, moment, Step, Carried}
-use Rattle.kept_promise.proofs.Counted.{of_step, SaidBy, said_later, said_append, said_now, AlikeUpTo}
-use Rattle.kept_promise.proofs.StoredRuns.{said_by}
+use Rattle.kept_promise.proofs.Counted.{IsActor, first_or_rest, said_by, said_at, early, of_step, SaidBy, said_later, said_append, said_now, AlikeUpTo}
+use Rattle.kept_promise.proofs.StoredRuns.{ops_shape}
 use Rattle.kept_promise.proofs.Actors.{acts_alone, job_place, job_task, placed, Heard, heard_at, heard_acts, heard_takes}
 use Rattle.kept_promise.proofs.CountedRuns.{CountedAt, carried_counts, taken_more}
-use Rattle.kept_promise.proofs.Shapes.{StageGood, TaskGood, OutcomeGood, EndGood, Good, FirstIn, FirstGood, good_answer, good_command}
-use Rattle.kept_promise.proofs.Versions.{version_in, after_alike, CameTo, HaveVersions, stage_map, came_more, versions_more, versions_seat, versions_replaced, versions_appended}
+use Rattle.kept_promise.proofs.Shapes.{TaskGood, OutcomeGood, EndGood, Good, TookIn, TaskTook, good_answer, good_command, busy_command}
+use Rattle.kept_promise.proofs.Versions.{of_numbered, version_in, count_replaced, count_appended, after_alike, CameTo, Since, Attempt, Untold, takens, JobVersion, HaveVersions, Alike, alike_same, Extends, extends_same, came_alike, since_alike, job_alike, JobCame, versions_onward}
 
 abbrev pub VersionsAt : (past : List Moment) → Core → Type 0
-VersionsAt past k = HaveVersions (taken_of past) k.seats k.ops
+VersionsAt past k = HaveVersions (taken_of past) k.sessions k.seats k.ops
 
 abbrev pub VersionsBy : (past : List Moment) → Core → Event → Turned → Type 0
-VersionsBy past k e t = HaveVersions (taken_of past ++ all_said (k.steps + 1) (client_of k e) (taken_by k (client_of k e) e)) t.core.seats t.core.ops
+VersionsBy past k e t = HaveVersions (taken_of past ++ all_said (k.steps + 1) (client_of k e) (taken_by k (client_of k e) e)) t.core.sessions t.core.seats t.core.ops
+
+-- nothing is said
+unsaid : (said : List Said) (sessions : List Session) (seats : List Seat) (ops : List Op) → HaveVersions said sessions seats ops → HaveVersions (said ++ []) sessions seats ops
+unsaid said sessions seats ops h = subst (λ z. HaveVersions z sessions seats ops) (sym (append-nil said)) h
+
+-- ---- what was taken of a client's newest session
+
+else_set : {A : Type 0} (xs : List A) (k m : ℕ) (x : A) → (m ≡ k → ⊥) → slice_get (slice_set xs k x) m ≡ slice_get xs m
+else_set [] k m x apart = refl
+else_set (y ∷ xs) zero zero x apart = absurd (apart refl)
+else_set (y ∷ xs) zero (suc m) x apart = refl
+else_set (y ∷ xs) (suc k) zero x apart = refl
+else_set (y ∷ xs) (suc k) (suc m) x apart = else_set xs k m x (λ e. apart (ap suc e))
+
+takens_else : (n m : ℕ) (sessions : List Session) (y : Session) (session : Option ℕ) → (session ≡ Some m → ⊥) → Extends n (session_taken (session_of sessions session)) (session_taken (session_of (with_numbered sessions m y) session))
+takens_else n m sessions y None apart = extends_same n []
+takens_else n m sessions y (Some l) apart = by m (λ e. apart (ap (λ z. Some z) e))
+  where
+    by : (m : ℕ) → (l ≡ m → ⊥) → Extends n (session_taken (numbered sessions l)) (session_taken (numbered (with_numbered sessions m y) l))
+    by zero far = extends_same n (session_taken (numbered sessions l))
+    by (suc m) far = subst (λ z. Extends n (session_taken (numbered sessions l)) (session_taken z)) (sym (other sessions m y l far)) (extends_same n (session_taken (numbered sessions l)))
+      where
+        other : (xs : List Session) (m : ℕ) (y : Session) (l : ℕ) → (l ≡ suc m → ⊥) → numbered (slice_set xs m y) l ≡ numbered xs l
+        other xs m y zero far = refl
+        other xs m y (suc l) far = else_set xs m l y (λ e. far (ap suc e))
+
+takens_with : (n m : ℕ) (sessions : List Session) (x y : Session) (session : Option ℕ) → numbered sessions m ≡ Some x → Extends n x.taken y.taken → Extends n (session_taken (session_of sessions session)) (session_taken (session_of (with_numbered sessions m y) session))
+takens_with n m sessions x y None at e = extends_same n []
+takens_with n m sessions x y (Some l) at e = elim (same_or_not l m) [
+  | inr apart ↦ takens_else n m sessions y (Some l) (λ q. apart (some_is l m q))
+  | inl same ↦
+      let around = around_with sessions m x y at in
+      subst (λ z. Extends n (session_taken z) (session_taken (numbered (with_numbered sessions m y) l))) (sym (ap (numbered sessions) same ∙ at)) (subst (λ z. Extends n x.taken (session_taken z)) (sym (ap (numbered (with_numbered sessions m y)) same ∙ around.there)) e)
+]
+
+takens_more : (n : ℕ) (sessions : List Session) (y : Session) (session : Option ℕ) → ((l : ℕ) → session ≡ Some l → (x : Session) × (numbered sessions l ≡ Some x)) → Extends n (session_taken (session_of sessions session)) (session_taken (session_of (sessions ++ y ∷ []) session))
+takens_more n sessions y None there = extends_same n []
+takens_more n sessions y (Some l) there = by l (there l refl)
+  where
+    by : (l : ℕ) → (x : Session) × (numbered sessions l ≡ Some x) → Extends n (session_taken (numbered sessions l)) (session_taken (numbered (sessions ++ y ∷ []) l))
+    by zero (x, e) = nothing_there x e
+    by (suc l) (x, e) = subst (λ z. Extends n (session_taken z) (session_taken (slice_get (sessions ++ y ∷ []) l))) (sym e) (subst (λ z. Extends n x.taken (session_taken z)) (sym (kept_appended sessions y l x e)) (extends_same n x.taken))
+
+-- a call that is taken now
+taken_more_at : (n : ℕ) (taken : List Taken) (t : Taken) → n < t.step → Extends n taken (taken ++ t ∷ [])
+taken_more_at n [] t lt = (λ y q e. nothing_there q e, λ y q e. by y q (t.xid == y) e)
+  where
+    by : (y q : ℕ) (b : Bool) → option_map (λ (z : Taken). z.step) (cond b (Some t) None) ≡ Some q → (None ≡ Some q) ⊎ (n < q)
+    by y q true e = inr (let same : t.step ≡ q = some_is t.step q e in omega (arith, lt, same))
+    by y q false e = inl e
+taken_more_at n (u ∷ taken) t lt = (λ y q e. keeps y q (u.xid == y) e ((taken_more_at n taken t lt).0 y q), λ y q e. adds y q (u.xid == y) e ((taken_more_at n taken t lt).1 y q))
+  where
+    keeps : (y q : ℕ) (b : Bool) → option_map (λ (z : Taken). z.step) (cond b (Some u) (find (λ (z : Taken). z.xid == y) taken)) ≡ Some q → (taken_at taken y ≡ Some q → taken_at (taken ++ t ∷ []) y ≡ Some q) → option_map (λ (z : Taken). z.step) (cond b (Some u) (find (λ (z : Taken). z.xid == y) (taken ++ t ∷ []))) ≡ Some q
+    keeps y q true e later = e
+    keeps y q false e later = later e
+
+    adds : (y q : ℕ) (b : Bool) → option_map (λ (z : Taken). z.step) (cond b (Some u) (find (λ (z : Taken). z.xid == y) (taken ++ t ∷ []))) ≡ Some q → (taken_at (taken ++ t ∷ []) y ≡ Some q → (taken_at taken y ≡ Some q) ⊎ (n < q)) → (option_map (λ (z : Taken). z.step) (cond b (Some u) (find (λ (z : Taken). z.xid == y) taken)) ≡ Some q) ⊎ (n < q)
+    adds y q true e later = inl e
+    adds y q false e later = later e
+
+-- what has an xid from a floor on was not taken
+not_taken : (floor : ℕ) (taken : List Taken) (y q : ℕ) → AllUnder floor taken → floor ≤ y → taken_at taken y ≡ Some q → ⊥
+not_taken floor [] y q under le e = nothing_there q e
+not_taken floor (t ∷ taken) y q under le e = by (t.xid == y) refl e (not_taken floor taken y q under.1 le)
+  where
+    by : (b : Bool) → (t.xid == y) ≡ b → option_map (λ (z : Taken). z.step) (cond b (Some t) (find (λ (z : Taken). z.xid == y) taken)) ≡ Some q → (taken_at taken y ≡ Some q → ⊥) → ⊥
+    by true same e later = let lt = under.0 in grind (arith, nat_tests, same, lt, le)
+    by false same e later = later e
 
 -- ---- events of the server
 
-versions_joins : (past : List Moment) (k : Core) (c : ℕ) (seat : Seat) (s : server.State) (o : Announced) → numbered k.seats c ≡ Some seat → VersionsAt past k → VersionsBy past k (Joins c) (joins_as k c seat s o)
-versions_joins past k c seat s (announced.Session made) here h = versions_seat (taken_of past ++ []) k.seats k.ops c (record { client = joined seat.client; session = Some made; place = seat.place }) (λ j op is at. more.jobs c seat j op here is at) more
-  where
-    more : HaveVersions (taken_of past ++ []) k.seats k.ops
-    more = versions_more (taken_of past) [] k.seats k.ops h
-versions_joins past k c seat s _ here h = versions_more (taken_of past) [] k.seats k.ops h
+-- sessions alone change
+versions_sessions : (n : ℕ) (said : List Said) (sessions later : List Session) (seats : List Seat) (ops : List Op) → SaidBy n said → ((i : ℕ) (seat : Seat) → numbered seats i ≡ Some seat → Extends n (takens sessions seat) (takens later seat)) → HaveVersions said sessions seats ops → HaveVersions said later seats ops
+versions_sessions n said sessions later seats ops past e h = versions_onward n said said sessions later seats seats ops ops past (λ f q le. refl)
+    (λ i seat j r here is at. inl (seat, r, here, is, at, alike_same said r, e i seat here))
+    (λ p len q digest r at is point. inl (r, at, alike_same said r, is, point)) h
 
-versions_serves : (past : List Moment) (k : Core) (n now : ℕ) (bytes : List ℕ) (x : Option Session) → VersionsAt past k → VersionsBy past k (Serves n now bytes) (serves k n now bytes x)
-versions_serves past k n now bytes None h = versions_more (taken_of past) [] k.seats k.ops h
-versions_serves past k n now bytes (Some x) h = by (parse_of server_waiting bytes)
+versions_joins : (book : Book) (past : List Moment) (k : Core) (qs : List Queue) (c : ℕ) (seat : Seat) (s : server.State) (o : Announced) → IsKept book k qs → numbered k.seats c ≡ Some seat → seat.client.linked ≡ false → CountedAt past k → VersionsAt past k → VersionsBy past k (Joins c) (joins_as k c seat s o)
+versions_joins book past k qs c seat s (announced.Session made) kept here free counted h = unsaid (taken_of past) (k.sessions ++ new_session c ∷ []) (with_numbered k.seats c new) k.ops
+    (versions_onward k.steps (taken_of past) (taken_of past) k.sessions (k.sessions ++ new_session c ∷ []) k.seats (with_numbered k.seats c new) k.ops k.ops counted.taken_by (λ f q le. refl)
+    (λ i z j r there is at. elim (of_numbered k.seats c new i z there) [
+      | inl mine ↦ nothing_there j (sym (idle seat.place) ∙ ap job (sym mine.1) ∙ is)
+      | inr other ↦ inl (z, r, other.1, is, at, alike_same (taken_of past) r, takens_more k.steps k.sessions (new_session c) z.session (λ l e. let x = (kept.seats i z other.1).session l e in (x.0, x.1)))
+    ])
+    (λ p len q digest r at is point. inl (r, at, alike_same (taken_of past) r, is, point)) h)
   where
+    new : Seat
+    new = record { client = joined seat.client; session = Some made; place = seat.place }
+
+    none : seat.client.task ≡ None
+    none = ((kept.seats c seat here).unlinked free).0
+
+    idle : (l : Option ℕ) → job_of l seat.client.task ≡ None
+    idle None = refl
+    idle (Some l) = ap (job_of (Some l)) none
+versions_joins book past k qs c seat s _ kept here free counted h = unsaid (taken_of past) k.sessions k.seats k.ops h
+
+versions_serves : (past : List Moment) (k : Core) (n now : ℕ) (bytes : List ℕ) (x : Option Session) → numbered k.sessions n ≡ x → CountedAt past k → VersionsAt past k → VersionsBy past k (Serves n now bytes) (serves k n now bytes x)
+versions_serves past k n now bytes None is counted h = unsaid (taken_of past) k.sessions k.seats k.ops h
+versions_serves past k n now bytes (Some x) is counted h = by (parse_of server_waiting bytes)
+  where
+    called : (m : Message) → Extends k.steps x.taken (taken_with x.taken m (k.steps + 1))
+    called (message.Call xid body) = taken_more_at k.steps x.taken (record { xid = xid; step = k.steps + 1 }) (omega arith)
+    called (message.Answer xid body) = extends_same k.steps x.taken
+    called (message.Refuse xid why) = extends_same k.steps x.taken
+    called (message.Unfit xid why) = extends_same k.steps x.taken
+
     by : (m : Result Message WireFault) → VersionsBy past k (Serves n now bytes) (serves_if k n now x m)
-    by (Ok m) = versions_more (taken_of past) [] k.seats k.ops h
-    by (Err e) = versions_more (taken_of past) [] k.seats k.ops h
+    by (Err e) = unsaid (taken_of past) k.sessions k.seats k.ops h
+    by (Ok m) = unsaid (taken_of past) (with_numbered k.sessions n (record x { taken = taken_with x.taken m (k.steps + 1) })) k.seats k.ops (versions_sessions k.steps (taken_of past) k.sessions (with_numbered k.sessions n (record x { taken = taken_with x.taken m (k.steps + 1) })) k.seats k.ops counted.taken_by (λ i z here. takens_with k.steps n k.sessions x (record x { taken = taken_with x.taken m (k.steps + 1) }) z.session is (called m)) h)
 
-versions_hangs : (past : List Moment) (k : Core) (n : ℕ) (x : Option Session) → VersionsAt past k → VersionsBy past k (Hangs n) (hangs k n x)
-versions_hangs past k n None h = versions_more (taken_of past) [] k.seats k.ops h
-versions_hangs past k n (Some x) h = by x.hung
+versions_hangs : (past : List Moment) (k : Core) (n : ℕ) (x : Option Session) → numbered k.sessions n ≡ x → CountedAt past k → VersionsAt past k → VersionsBy past k (Hangs n) (hangs k n x)
+versions_hangs past k n None is counted h = unsaid (taken_of past) k.sessions k.seats k.ops h
+versions_hangs past k n (Some x) is counted h = by x.hung
   where
     by : (b : Bool) → VersionsBy past k (Hangs n) (hangs_if k n x b)
-    by true = versions_more (taken_of past) [] k.seats k.ops h
-    by false = versions_more (taken_of past) [] k.seats k.ops h
+    by true = unsaid (taken_of past) k.sessions k.seats k.ops h
+    by false = unsaid (taken_of past) (with_numbered k.sessions n (record x { hung = true })) k.seats k.ops (versions_sessions k.steps (taken_of past) k.sessions (with_numbered k.sessions n (record x { hung = true })) k.seats k.ops counted.taken_by (λ i z here. takens_with k.steps n k.sessions x (record x { hung = true }) z.session is (extends_same k.steps x.taken)) h)
 
 -- a session whose change waits remembers the close at this place
 abbrev pub Remembers : Core → (place : ℕ) → Type 0
@@ -132,33 +226,54 @@ close_not_opened book o len digest r close e = apart (sym close ∙ (subst (Caus
     apart : words.Close ≡ words.Open → ⊥
     apart z = absurd cc
 
-versions_settles : (book : Book) (past : List Moment) (k : Core) (qs : List Queue) (now : ℕ) → IsKept book k qs → VersionsAt past k → VersionsBy past k (Settles now) (settles k now)
-versions_settles book past k qs now kept h = versions_more (taken_of past) [] k.seats (settles k now).core.ops (by (settled_are book k qs now kept))
+versions_settles : (book : Book) (past : List Moment) (k : Core) (qs : List Queue) (now : ℕ) → IsKept book k qs → CountedAt past k → VersionsAt past k → VersionsBy past k (Settles now) (settles k now)
+versions_settles book past k qs now kept counted h = unsaid (taken_of past) k.sessions k.seats (settles k now).core.ops (by (settled_are book k qs now kept))
   where
-    by : Settled k (settles k now).core.ops → HaveVersions (taken_of past) k.seats (settles k now).core.ops
-    by (inl same) = subst (HaveVersions (taken_of past) k.seats) (sym same) h
+    by : Settled k (settles k now).core.ops → HaveVersions (taken_of past) k.sessions k.seats (settles k now).core.ops
+    by (inl same) = subst (HaveVersions (taken_of past) k.sessions k.seats) (sym same) h
     by (inr (place, o, at, unmade, is, from)) =
         let there : slice_get book.ops place ≡ Some o = ap (λ (l : List Op). slice_get l place) kept.ops ∙ at in
-        subst (HaveVersions (taken_of past) k.seats) (sym is)
-        (versions_replaced (taken_of past) k.seats k.ops k.steps place o (record o { point = Some (k.steps + 1) }) at (λ v c. c) alike
-        (λ p q u there point. let le = ((kept.sound.rights p u (ap (λ (l : List Op). slice_get l p) kept.ops ∙ there)).pointed q point).1 in let s = kept.steps in omega (arith, le, s))
-        (λ len digest e. absurd (close_not_opened book o len digest (kept.sound.rights place o there) unmade.0 e)) h)
+        let new : Op = record o { point = Some (k.steps + 1) } in
+        subst (HaveVersions (taken_of past) k.sessions k.seats) (sym is)
+        (versions_onward k.steps (taken_of past) (taken_of past) k.sessions k.sessions k.seats k.seats k.ops (slice_set k.ops place new) counted.taken_by (λ f q le. ap (λ z. z + 1) (count_replaced f q k.ops place o new at (alike f q le)))
+        (λ i z j r here job_is was. elim (of_replaced k.ops place new j.place r was) [
+          | inr old ↦ inl (z, r, here, job_is, old.1, alike_same (taken_of past) r, extends_same k.steps (takens k.sessions z))
+          | inl made ↦ inl (z, o, here, job_is, ap (slice_get k.ops) made.0 ∙ at, subst (λ (y : Op). Alike (taken_of past) (taken_of past) o y) (sym made.1) (record { file = refl; forth = λ s c e. (c, e); back = λ s c e. (c, e) }), extends_same k.steps (takens k.sessions z))
+        ])
+        (λ p len q digest r was e point. elim (of_replaced k.ops place new p r was) [
+          | inr old ↦ inl (r, old.1, alike_same (taken_of past) r, e, point)
+          | inl made ↦ absurd (close_not_opened book o len digest (kept.sound.rights place o there) unmade.0 (ap (λ (z : Op). z.outcome) (sym made.1) ∙ e))
+        ]) h)
       where
         alike : (f p : ℕ) → p ≤ k.steps → changed_before f p (record o { point = Some (k.steps + 1) }) ≡ changed_before f p o
         alike f p le = ap (λ b. (changes o.word && (o.file == f)) && b) (let t : nat_lt (k.steps + 1) p ≡ false = grind (arith, nat_tests, le) in t) ∙ ap (λ z. (changes o.word && (o.file == f)) && option_map_or (λ q. nat_lt q p) z false) (sym unmade.1)
 
--- ---- a client goes on with its operation
+-- ---- a client's own operation
 
--- what is true of its attempt: a version that came, and that the file had when its first call was taken
-abbrev pub Attempt : (taken : List Said) → List Op → (i : ℕ) → List Taken → Op → (version first : ℕ) → Type 0
-Attempt said ops i taken o v x = CameTo said o v × ((q : ℕ) → taken_at taken x ≡ Some q → version_in ops o.file q ≡ v)
+-- the operation that runs at a client's place
+pub own_op : (book : Book) (k : Core) (qs : List Queue) (i : ℕ) (seat : Seat) (p : ℕ) (o : Op) → IsKept book k qs → numbered k.seats i ≡ Some seat → seat.place ≡ Some p → slice_get k.ops p ≡ Some o → (j : Job) × (job seat ≡ Some j) × (j.place ≡ p) × (o.client ≡ i) × (o.outcome ≡ told.Running) × (o.file ≡ j.file)
+own_op book k qs i seat p o kept here e at =
+    let s = kept.seats i seat here in
+    let j = placed seat p s.matched e in
+    let of = s.task j.0 j.1 in
+    let same : of.op ≡ o = some_is of.op o (sym of.there ∙ ap (slice_get book.ops) j.2 ∙ ap (λ (l : List Op). slice_get l p) kept.ops ∙ at) in
+    (j.0, j.1, j.2, ap (λ (z : Op). z.client) (sym same) ∙ of.client, ap (λ (z : Op). z.outcome) (sym same) ∙ of.running, ap (λ (z : Op). z.file) (sym same) ∙ of.file)
 
-pub record Acting (said : List Said) (ops : List Op) (n i : ℕ) (c : client.State) (taken : List Taken) (step : ℕ) (acts : ClientStep) (o : Op) : Type 0 where
-  pub client : o.client ≡ i
-  pub running : o.outcome ≡ told.Running
-  pub still : (v : ℕ) → CameTo said o v → CameTo said (op_after o c taken step acts) v
-  pub good : Good (Attempt said ops i taken o) (c, acts)
-  pub right : (len : ℕ) (digest : List ℕ) → (op_after o c taken step acts).outcome ≡ told.Opened len digest → (o.word ≡ words.Open) × ((q : ℕ) → (op_after o c taken step acts).point ≡ Some q → q ≤ n)
+-- another client's job is not at its place
+pub foreign_at : (book : Book) (k : Core) (qs : List Queue) (i : ℕ) (seat : Seat) → IsKept book k qs → numbered k.seats i ≡ Some seat → (m : ℕ) (s : Seat) (j : Job) (o : Op) → numbered k.seats m ≡ Some s → job s ≡ Some j → slice_get k.ops j.place ≡ Some o → (m ≡ i → ⊥) → seat.place ≡ Some j.place → ⊥
+foreign_at book k qs i seat kept here m s j o there is at apart e =
+    let of = (kept.seats m s there).task j is in
+    let same : of.op ≡ o = some_is of.op o (sym of.there ∙ ap (λ (l : List Op). slice_get l j.place) kept.ops ∙ at) in
+    let own = own_op book k qs i seat j.place o kept here e at in
+    apart (sym of.client ∙ ap (λ (z : Op). z.client) same ∙ own.3)
+
+-- what was said by this step is still of it
+running_upto : (o : Op) (c : client.State) (taken : List Taken) (n : ℕ) (acts : ClientStep) → o.end ≡ None → AlikeUpTo (n + 1) o (op_after o c taken (n + 1) acts)
+running_upto o c taken n acts none = λ step i le. by acts.ended step i le
+  where
+    by : (e : Option Ended) (step i : ℕ) → step ≤ n + 1 → of_step (op_after o c taken (n + 1) (record acts { ended = e })) step i ≡ of_step o step i
+    by None step i le = refl
+    by (Some e) step i le = ap (λ b. (i == o.client) && (nat_le o.begin step && b)) (let t : nat_le step (n + 1) ≡ true = grind (arith, nat_tests, le) in t ∙ sym (ap (λ z. until z step) none))
 
 pub opened_by : (u : Outcome) (len : ℕ) (digest : List ℕ) → told_of u ≡ told.Opened len digest → (file : ℕ) × (u ≡ outcome.Opened file len digest)
 opened_by (outcome.Opened file l d) len digest e = (file, ap (λ (z : History). outcome.Opened file (opened_len z) (opened_digest z)) e)
@@ -171,180 +286,6 @@ opened_by (outcome.Opened file l d) len digest e = (file, ap (λ (z : History). 
     opened_digest (told.Opened l d) = d
     opened_digest u = []
 opened_by u len digest e = absurd cc
-
-ends_opened : (said : List Said) (ops : List Op) (n i : ℕ) (c : client.State) (taken : List Taken) (step : ℕ) (acts : ClientStep) (o : Op) → Acting said ops n i c taken step acts o → (len : ℕ) (digest : List ℕ) → (op_after o c taken step acts).outcome ≡ told.Opened len digest
-    → (v : ℕ) × CameTo said (op_after o c taken step acts) v × ((q : ℕ) → (op_after o c taken step acts).point ≡ Some q → (q ≤ n) × (version_in ops (op_after o c taken step acts).file q ≡ v))
-ends_opened said ops n i c taken step acts o a len digest e = by acts.ended a.good.1 e (a.right len digest e) a.still
-  where
-    ends : (x : ℕ) (u : Outcome) (file : ℕ) → u ≡ outcome.Opened file len digest → OutcomeGood (Attempt said ops i taken o) u x → (v : ℕ) × Attempt said ops i taken o v x
-    ends x u file is h = subst (λ (z : Outcome). OutcomeGood (Attempt said ops i taken o) z x) is h
-
-    point : (x : ℕ) (u : Outcome) (file q : ℕ) → u ≡ outcome.Opened file len digest → o.word ≡ words.Open → point_if (has_point o.word u) taken x o.point ≡ Some q → taken_at taken x ≡ Some q
-    point x u file q is w h = ap (λ z. point_if (has_point z (outcome.Opened file len digest)) taken x o.point) (sym w) ∙ ap (λ z. point_if (has_point o.word z) taken x o.point) (sym is) ∙ h
-
-    by : (l : Option Ended) → EndGood (Attempt said ops i taken o) l → (op_after o c taken step (record acts { ended = l })).outcome ≡ told.Opened len digest → (o.word ≡ words.Open) × ((q : ℕ) → (op_after o c taken step (record acts { ended = l })).point ≡ Some q → q ≤ n) → ((v : ℕ) → CameTo said o v → CameTo said (op_after o c taken step (record acts { ended = l })) v)
-        → (v : ℕ) × CameTo said (op_after o c taken step (record acts { ended = l })) v × ((q : ℕ) → (op_after o c taken step (record acts { ended = l })).point ≡ Some q → (q ≤ n) × (version_in ops (op_after o c taken step (record acts { ended = l })).file q ≡ v))
-    by None good e right still = absurd (not_opened (sym a.running ∙ e))
-      where
-        not_opened : told.Running ≡ told.Opened len digest → ⊥
-        not_opened z = absurd cc
-    by (Some l) good e right still =
-        let is = opened_by l.outcome len digest e in
-        let r = ends l.rests_on l.outcome is.0 is.1 good in
-        (r.0, still r.0 r.1.0, λ q at. (right.1 q at, r.1.1 q (point l.rests_on l.outcome is.0 q is.1 right.0 at)))
-
-pub versions_acts : (said : List Said) (seats : List Seat) (ops : List Op) (n i : ℕ) (seat : Seat) (c : client.State) (taken : List Taken) (step : ℕ) (acts : ClientStep)
-    → ((p : ℕ) (o : Op) → seat.place ≡ Some p → slice_get ops p ≡ Some o → Acting said ops n i c taken step acts o) → ((p q : ℕ) (o : Op) → slice_get ops p ≡ Some o → o.point ≡ Some q → q ≤ n)
-    → HaveVersions said seats ops → HaveVersions said (with_numbered seats i (record seat { client = c; place = place_after seat.place acts.ended })) (ops_with ops seat.place c taken step acts)
-versions_acts said seats ops n i seat c taken step acts acting points h = place seat.place acting
-  where
-    new : Option ℕ → Seat
-    new l = record seat { client = c; place = place_after l acts.ended }
-
-    -- the new stage, if there is one
-    stages : (p : ℕ) (o : Op) → Good (Attempt said ops i taken o) (c, acts) → (j : Job) → job_of (place_after (Some p) acts.ended) c.task ≡ Some j → (p ≡ j.place) × StageGood (λ v x. CameTo said o v) j.stage
-    stages p o good j is = by acts.ended is
-      where
-        by : (l : Option Ended) → job_of (place_after (Some p) l) c.task ≡ Some j → (p ≡ j.place) × StageGood (λ v x. CameTo said o v) j.stage
-        by None is = (some_is p j.place (job_place (Some p) c.task j is), stage_map (Attempt said ops i taken o) (λ v x. CameTo said o v) (λ v x r. r.0) j.stage (subst (TaskGood (Attempt said ops i taken o)) (job_task (Some p) c.task j is) good.0))
-        by (Some l) is = nothing_there j is
-
-    there : (p : ℕ) (q : Option Op) → slice_get ops p ≡ q → ((o : Op) → slice_get ops p ≡ Some o → Acting said ops n i c taken step acts o) → HaveVersions said (with_numbered seats i (record seat { client = c; place = place_after (Some p) acts.ended })) (ops_after ops p q c taken step acts)
-    there p None at act = versions_seat said seats ops i (record seat { client = c; place = place_after (Some p) acts.ended }) (λ j op is was. by_place acts.ended j op is was) h
-      where
-        by_place : (l : Option Ended) (j : Job) (op : Op) → job_of (place_after (Some p) l) c.task ≡ Some j → slice_get ops j.place ≡ Some op → StageGood (λ v x. CameTo said op v) j.stage
-        by_place None j op is was = nothing_there op (sym at ∙ ap (slice_get ops) (some_is p j.place (job_place (Some p) c.task j is)) ∙ was)
-        by_place (Some l) j op is was = nothing_there j is
-    there p (Some o) at act =
-        let a = act o at in
-        versions_seat said seats (slice_set ops p (op_after o c taken step acts)) i (record seat { client = c; place = place_after (Some p) acts.ended })
-        (λ j op is was.
-        let s = stages p o a.good j is in
-        let same : op_after o c taken step acts ≡ op = some_is (op_after o c taken step acts) op (sym (at_replaced ops p (op_after o c taken step acts) o at) ∙ ap (slice_get (slice_set ops p (op_after o c taken step acts))) s.0 ∙ was) in
-        subst (λ (z : Op). StageGood (λ v x. CameTo said z v) j.stage) same (stage_map (λ v x. CameTo said o v) (λ v x. CameTo said (op_after o c taken step acts) v) (λ v x d. a.still v d) j.stage s.1))
-        (versions_replaced said seats ops n p o (op_after o c taken step acts) at a.still (λ f q le. after_alike f q o c taken step acts) points (ends_opened said ops n i c taken step acts o a) h)
-
-    place : (l : Option ℕ) → ((p : ℕ) (o : Op) → l ≡ Some p → slice_get ops p ≡ Some o → Acting said ops n i c taken step acts o) → HaveVersions said (with_numbered seats i (record seat { client = c; place = place_after l acts.ended })) (ops_with ops l c taken step acts)
-    place None act = versions_seat said seats ops i (record seat { client = c; place = place_after None acts.ended }) (λ j op is was. by_end acts.ended j op is) h
-      where
-        by_end : (l : Option Ended) (j : Job) (op : Op) → job_of (place_after None l) c.task ≡ Some j → StageGood (λ v x. CameTo said op v) j.stage
-        by_end None j op is = nothing_there j is
-        by_end (Some l) j op is = nothing_there j is
-    place (Some p) act = there p (slice_get ops p) refl (λ o at. act p o refl at)
-
--- what was said by this step is still of it
-running_upto : (o : Op) (c : client.State) (taken : List Taken) (n : ℕ) (acts : ClientStep) → o.end ≡ None → AlikeUpTo (n + 1) o (op_after o c taken (n + 1) acts)
-running_upto o c taken n acts none = λ step i le. by acts.ended step i le
-  where
-    by : (e : Option Ended) (step i : ℕ) → step ≤ n + 1 → of_step (op_after o c taken (n + 1) (record acts { ended = e })) step i ≡ of_step o step i
-    by None step i le = refl
-    by (Some e) step i le = ap (λ b. (i == o.client) && (nat_le o.begin step && b)) (let t : nat_le step (n + 1) ≡ true = grind (arith, nat_tests, le) in t ∙ sym (ap (λ z. until z step) none))
-
-came_on : (n : ℕ) (o r : Op) (said : List Said) (v : ℕ) → AlikeUpTo n o r → SaidBy n said → CameTo said o v → CameTo said r v
-came_on n o r said v same past (s, there, of, carries) = (s, there, same s.step s.client (said_by n said s past there) ∙ of, carries)
-
--- ---- its events
-
--- no point is of a step to come
-points_by : (book : Book) (k : Core) (qs : List Queue) → IsKept book k qs → (p q : ℕ) (o : Op) → slice_get k.ops p ≡ Some o → o.point ≡ Some q → q ≤ k.steps
-points_by book k qs kept p q o there point = let le = ((kept.sound.rights p o (ap (λ (l : List Op). slice_get l p) kept.ops ∙ there)).pointed q point).1 in let s = kept.steps in omega (arith, le, s)
-
--- the operation that runs at a client's place
-pub own_op : (book : Book) (k : Core) (qs : List Queue) (i : ℕ) (seat : Seat) (p : ℕ) (o : Op) → IsKept book k qs → numbered k.seats i ≡ Some seat → seat.place ≡ Some p → slice_get k.ops p ≡ Some o → (j : Job) × (job seat ≡ Some j) × (j.place ≡ p) × (o.client ≡ i) × (o.outcome ≡ told.Running) × (o.file ≡ j.file)
-own_op book k qs i seat p o kept here e at =
-    let s = kept.seats i seat here in
-    let j = placed seat p s.matched e in
-    let of = s.task j.0 j.1 in
-    let same : of.op ≡ o = some_is of.op o (sym of.there ∙ ap (slice_get book.ops) j.2 ∙ ap (λ (l : List Op). slice_get l p) kept.ops ∙ at) in
-    (j.0, j.1, j.2, ap (λ (z : Op). z.client) (sym same) ∙ of.client, ap (λ (z : Op). z.outcome) (sym same) ∙ of.running, ap (λ (z : Op). z.file) (sym same) ∙ of.file)
-
-versions_cuts : (book : Book) (past : List Moment) (k : Core) (qs : List Queue) (c : ℕ) (seat : Seat) → IsKept book k qs → numbered k.seats c ≡ Some seat → CountedAt past k → VersionsAt past k → (b : Bool) → VersionsBy past k (Cuts c) (cuts_if k c seat b)
-versions_cuts book past k qs c seat kept here counted h false = versions_more (taken_of past) [] k.seats k.ops h
-versions_cuts book past k qs c seat kept here counted h true = by seat.client.task
-  where
-    lost : Ended
-    lost = record { outcome = outcome.Lost; rests_on = 0 }
-
-    taken : List Taken
-    taken = session_taken (session_of k.sessions seat.session)
-
-    after : client.State
-    after = record seat.client { linked = false; task = None; forgotten = [] }
-
-    acting : (t : Option Task) (p : ℕ) (o : Op) → seat.place ≡ Some p → slice_get k.ops p ≡ Some o → Acting (taken_of past ++ []) k.ops k.steps c (record seat.client { linked = false; task = None; forgotten = [] }) taken (k.steps + 1) (ended_by t lost) o
-    acting t p o e at = let w = own_op book k qs c seat p o kept here e at in record { client = w.3; running = w.4; still = λ v d. came_on (k.steps + 1) o (op_after o (record seat.client { linked = false; task = None; forgotten = [] }) taken (k.steps + 1) (ended_by t lost)) (taken_of past ++ []) v (running_upto o (record seat.client { linked = false; task = None; forgotten = [] }) taken k.steps (ended_by t lost) ((acts_alone book k qs c seat kept here).own p o e at).1) (said_append (k.steps + 1) (taken_of past) [] (said_later k.steps (k.steps + 1) (taken_of past) (omega arith) counted.taken_by) tt) d; good = (tt, good t); right = λ len digest is. absurd (not_opened t o w.4 len digest is) }
-      where
-        good : (t : Option Task) → EndGood (Attempt (taken_of past ++ []) k.ops c taken o) (ended_by t lost).ended
-        good None = tt
-        good (Some u) = tt
-
-        lost_not : (len : ℕ) (digest : List ℕ) → told.Lost ≡ told.Opened len digest → ⊥
-        lost_not len digest z = absurd cc
-
-        running_not : (len : ℕ) (digest : List ℕ) → told.Running ≡ told.Opened len digest → ⊥
-        running_not len digest z = absurd cc
-
-        not_opened : (t : Option Task) (o : Op) → o.outcome ≡ told.Running → (len : ℕ) (digest : List ℕ) → (op_after o after taken (k.steps + 1) (ended_by t lost)).outcome ≡ told.Opened len digest → ⊥
-        not_opened None o run len digest z = running_not len digest (sym run ∙ z)
-        not_opened (Some u) o run len digest z = lost_not len digest z
-
-    by : (t : Option Task) → HaveVersions (taken_of past ++ []) (with_numbered k.seats c (record seat { client = record seat.client { linked = false; task = None; forgotten = [] }; place = place_after seat.place (ended_by t lost).ended })) (ops_with k.ops seat.place (record seat.client { linked = false; task = None; forgotten = [] }) taken (k.steps + 1) (ended_by t lost))
-    by t = versions_acts (taken_of past ++ []) k.seats k.ops k.steps c seat after taken (k.steps + 1) (ended_by t lost) (acting t) (points_by book k qs kept) (versions_more (taken_of past) [] k.seats k.ops h)
-
--- ---- a command
-
-versions_does : (book more : Book) (past : List Moment) (k : Core) (qs after : List Queue) (c now : ℕ) (d : Command) (seat : Seat) → IsKept book k qs → numbered k.seats c ≡ Some seat → IsKept more (does k c now d (Some seat)).core after → VersionsAt past k → VersionsBy past k (Does c now d) (does k c now d (Some seat))
-versions_does book more past k qs after c now d seat kept here left h =
-    let r = command_step seat.client d now in
-    versions_seat (taken_of past ++ []) k.seats (k.ops ++ new r.0 r.1 ∷ []) c (record seat { client = r.0; place = place_with seat.place (length k.ops) r.1.ended }) (λ j op is at. jobs seat.place refl j op is at)
-    (versions_appended (taken_of past ++ []) k.seats k.ops (new r.0 r.1) (pointless r.0 r.1 r.1.ended) old_jobs (λ len digest e. never r.0 r.1 len digest e (right r.0 r.1 left.ops left.sound)) kept_more)
-  where
-    new : client.State → ClientStep → Op
-    new s acts = op_after (begun c (word_of d) (file_of d) (value_at_begin seat.client d) (k.steps + 1)) s [] (k.steps + 1) acts
-
-    kept_more : HaveVersions (taken_of past ++ []) k.seats k.ops
-    kept_more = versions_more (taken_of past) [] k.seats k.ops h
-
-    pointless : (s : client.State) (acts : ClientStep) (l : Option Ended) → (op_after (begun c (word_of d) (file_of d) (value_at_begin seat.client d) (k.steps + 1)) s [] (k.steps + 1) (record acts { ended = l })).point ≡ None
-    pointless s acts None = refl
-    pointless s acts (Some e) = by (has_point (word_of d) e.outcome)
-      where
-        by : (b : Bool) → point_if b [] e.rests_on None ≡ None
-        by true = refl
-        by false = refl
-
-    right : (s : client.State) (acts : ClientStep) → more.ops ≡ k.ops ++ op_after (begun c (word_of d) (file_of d) (value_at_begin seat.client d) (k.steps + 1)) s [] (k.steps + 1) acts ∷ [] → IsSound more → IsRight more (op_after (begun c (word_of d) (file_of d) (value_at_begin seat.client d) (k.steps + 1)) s [] (k.steps + 1) acts)
-    right s acts are sound = sound.rights (length k.ops) (new s acts) (ap (λ (l : List Op). slice_get l (length k.ops)) are ∙ Rattle.kept_promise.proofs.Lists.at_end k.ops (new s acts))
-
-    never : (s : client.State) (acts : ClientStep) (len : ℕ) (digest : List ℕ) → (op_after (begun c (word_of d) (file_of d) (value_at_begin seat.client d) (k.steps + 1)) s [] (k.steps + 1) acts).outcome ≡ told.Opened len digest → IsRight more (op_after (begun c (word_of d) (file_of d) (value_at_begin seat.client d) (k.steps + 1)) s [] (k.steps + 1) acts) → ⊥
-    never s acts len digest e r = let w = subst (Caused more (new s acts)) e r.cause in nothing_there w.1.point (sym (pointless s acts acts.ended) ∙ w.1.within.0)
-
-    old_jobs : (i : ℕ) (s : Seat) (j : Job) → numbered k.seats i ≡ Some s → job s ≡ Some j → j.place < length k.ops
-    old_jobs i s j at is = let of = (kept.seats i s at).task j is in Rattle.kept_promise.proofs.Lists.within k.ops j.place of.op (ap (λ (l : List Op). slice_get l j.place) (sym kept.ops) ∙ of.there)
-
-    jobs : (l : Option ℕ) → seat.place ≡ l → (j : Job) (op : Op) → job_of (place_with l (length k.ops) (command_step seat.client d now).1.ended) (command_step seat.client d now).0.task ≡ Some j → slice_get (k.ops ++ new (command_step seat.client d now).0 (command_step seat.client d now).1 ∷ []) j.place ≡ Some op → StageGood (λ v x. CameTo (taken_of past ++ []) op v) j.stage
-    jobs None e j op is at = subst (TaskGood (λ v x. CameTo (taken_of past ++ []) op v)) (by_end (command_step seat.client d now).1.ended is) (good_command (λ v x. CameTo (taken_of past ++ []) op v) seat.client d now (free (kept.seats c seat here).matched)).0
-      where
-        by_end : (l : Option Ended) → job_of (place_with None (length k.ops) l) (command_step seat.client d now).0.task ≡ Some j → (command_step seat.client d now).0.task ≡ Some (record { file = j.file; stage = j.stage })
-        by_end None is = job_task (Some (length k.ops)) (command_step seat.client d now).0.task j is
-        by_end (Some u) is = nothing_there j is
-
-        free : IsMatched seat → TaskGood (λ v x. CameTo (taken_of past ++ []) op v) seat.client.task
-        free (inl m) = subst (TaskGood (λ v x. CameTo (taken_of past ++ []) op v)) (sym m.1) tt
-        free (inr m) = nothing_there m.0.place (sym e ∙ job_place seat.place seat.client.task m.0 m.1)
-    jobs (Some p) e j op is at = subst (TaskGood (λ v x. CameTo (taken_of past ++ []) op v)) (job_task (Some p) (command_step seat.client d now).0.task j is) (good_command (λ v x. CameTo (taken_of past ++ []) op v) seat.client d now (busy (placed seat p (kept.seats c seat here).matched e))).0
-      where
-        same_place : p ≡ j.place
-        same_place = some_is p j.place (job_place (Some p) (command_step seat.client d now).0.task j is)
-
-        busy : (i : Job) × (job seat ≡ Some i) × (i.place ≡ p) → TaskGood (λ v x. CameTo (taken_of past ++ []) op v) seat.client.task
-        busy (i, at_i, place_i) =
-            let of = (kept.seats c seat here).task i at_i in
-            let there : slice_get k.ops i.place ≡ Some of.op = ap (λ (l : List Op). slice_get l i.place) (sym kept.ops) ∙ of.there in
-            let same : of.op ≡ op = some_is of.op op (sym (Rattle.kept_promise.proofs.Lists.kept_appended k.ops (new (command_step seat.client d now).0 (command_step seat.client d now).1) i.place of.op there) ∙ ap (slice_get (k.ops ++ new (command_step seat.client d now).0 (command_step seat.client d now).1 ∷ [])) (place_i ∙ same_place) ∙ at) in
-            subst (TaskGood (λ v x. CameTo (taken_of past ++ []) op v)) (sym (job_task seat.place seat.client.task i at_i)) (subst (λ (z : Op). StageGood (λ v x. CameTo (taken_of past ++ []) z v) i.stage) same (kept_more.jobs c seat i of.op here at_i there))
-
--- ---- an answer
 
 pub word_after : (o : Op) (c : client.State) (taken : List Taken) (step : ℕ) (acts : ClientStep) → (op_after o c taken step acts).word ≡ o.word
 word_after o c taken step acts = by acts.ended
@@ -360,23 +301,6 @@ or_none false e = e
 same_reply : (t : Told) (r : Reply) → t.reply ≡ r → told_message t ≡ message.Answer t.xid (reply_body r)
 same_reply t r e = ap (λ z. message.Answer t.xid (reply_body z)) e
 
--- what the operation of a client that hears has, of its attempt and of the answer
-heard_stage : (book : Book) (k : Core) (said more : List Said) (i : ℕ) (taken : List Taken) (j : Job) (o : Op) → book.ops ≡ k.ops → o.file ≡ j.file → (st : Stage) → StageGood (λ v x. CameTo said o v) st → FetchOf book taken j st → StageGood (Attempt (said ++ more) k.ops i taken o) st
-heard_stage book k said more i taken j o ops file st came fetch = by st came fetch
-  where
-    version : (v : ℕ) (x : ℕ) (f : Fetch) → IsFetch book taken j f → f.version ≡ v → f.first ≡ x → (q : ℕ) → taken_at taken x ≡ Some q → version_in k.ops o.file q ≡ v
-    version v x f h vs xs q was =
-        let now : h.told.moment ≡ q = some_is h.told.moment q (sym h.told.was ∙ ap (taken_at taken) xs ∙ was) in
-        ap (λ l. version_in l o.file q) (sym ops) ∙ ap (λ z. version_in book.ops z q) file ∙ ap (version_in book.ops j.file) (sym now) ∙ h.told.version_is ∙ vs
-
-    by : (st : Stage) → StageGood (λ v x. CameTo said o v) st → FetchOf book taken j st → StageGood (Attempt (said ++ more) k.ops i taken o) st
-    by (stage.Listing x f) c h = (came_more said more o f.version c, version f.version f.first f h.0 refl refl)
-    by (stage.Reading f) c h = (came_more said more o f.version c, version f.version f.first f h.0 refl refl)
-    by (stage.Hashing tries x) c h = tt
-    by (stage.Making x temp) c h = tt
-    by (stage.Storing s) c h = tt
-    by (stage.Committing x) c h = tt
-
 -- a running operation's part of its client's step
 open_now : (o : Op) (n i : ℕ) → o.client ≡ i → o.end ≡ None → o.begin ≤ n → of_step o (n + 1) i ≡ true
 open_now o n i mine none begun =
@@ -384,36 +308,300 @@ open_now o n i mine none begun =
     ∙ ap (λ b. true && (b && until o.end (n + 1))) (let t : nat_le o.begin (n + 1) ≡ true = grind (arith, nat_tests, begun) in t)
     ∙ ap (λ z. until z (n + 1)) none
 
-heard_first : (book : Book) (k : Core) (past : List Said) (i : ℕ) (taken : List Taken) (closing : Option ℕ) (c : client.State) (t : Told) (j : Job) (o : Op) → book.ops ≡ k.ops → o.file ≡ j.file → o.client ≡ i → o.end ≡ None → o.begin ≤ k.steps → c.task ≡ Some (record { file = j.file; stage = j.stage }) → AnswerOf book taken closing (Some j) t.xid t.reply → (st : Stage) → j.stage ≡ st → (r : Reply) → t.reply ≡ r
-    → FirstIn (Attempt (past ++ all_said (k.steps + 1) i (wanted_by c (Ok (told_message t)))) k.ops i taken o) st t.xid (reply_body r)
-heard_first book k past i taken closing c t j o ops file mine none begun task answer (stage.Hashing tries y) at (Hashed (Done g)) is = λ has.
-    let own : (y == t.xid) ≡ true = or_none (y == t.xid) has in
+-- ---- a client acts
+
+-- versions stay
+acts_stay : (ops : List Op) (place : Option ℕ) (c : client.State) (taken : List Taken) (step : ℕ) (acts : ClientStep) (f q : ℕ) → version_in (ops_with ops place c taken step acts) f q ≡ version_in ops f q
+acts_stay ops None c taken step acts f q = refl
+acts_stay ops (Some l) c taken step acts f q = by (slice_get ops l) refl
+  where
+    by : (o : Option Op) → slice_get ops l ≡ o → version_in (ops_after ops l o c taken step acts) f q ≡ version_in ops f q
+    by None e = refl
+    by (Some o) e = ap (λ z. z + 1) (count_replaced f q ops l o (op_after o c taken step acts) e (after_alike f q o c taken step acts))
+
+-- what is said in a client's step is of no other operation
+alike_other : (said : List Said) (step i : ℕ) (ms : List Message) (o : Op) → of_step o step i ≡ false → Alike said (said ++ all_said step i ms) o o
+alike_other said step i ms o none = record {
+  file = refl;
+  forth = λ s c e. (Contains-append_left said (all_said step i ms) s c, e);
+  back = λ s c e. elim (Contains-append_cases said (all_said step i ms) s c) [
+    | inl old ↦ (old, e)
+    | inr now ↦ absurd (apart s (said_at step i ms s now) e)
+  ];
+}
+  where
+    apart : (s : Said) → (s.step ≡ step) × (s.client ≡ i) → of_step o s.step s.client ≡ true → ⊥
+    apart s (a, b) e = both (of_step o step i) none (sym (ap (λ z. of_step o z s.client) a ∙ ap (of_step o step) b) ∙ e)
+      where
+        both : (b : Bool) → b ≡ false → b ≡ true → ⊥
+        both b e d = absurd cc
+
+-- an operation and what becomes of it in its client's step
+alike_after : (n : ℕ) (said : List Said) (o r : Op) → SaidBy n said → r.file ≡ o.file → AlikeUpTo n o r → Alike said said o r
+alike_after n said o r past file same = record {
+  file = file;
+  forth = λ s c e. (c, same s.step s.client (said_by n said s past c) ∙ e);
+  back = λ s c e. (c, sym (same s.step s.client (said_by n said s past c)) ∙ e);
+}
+
+file_after : (o : Op) (c : client.State) (taken : List Taken) (step : ℕ) (acts : ClientStep) → (op_after o c taken step acts).file ≡ o.file
+file_after o c taken step acts = by acts.ended
+  where
+    by : (e : Option Ended) → (op_after o c taken step (record acts { ended = e })).file ≡ o.file
+    by None = refl
+    by (Some e) = refl
+
+-- a connection is lost
+
+versions_cuts : (book : Book) (past : List Moment) (k : Core) (qs : List Queue) (c : ℕ) (seat : Seat) → IsKept book k qs → numbered k.seats c ≡ Some seat → CountedAt past k → VersionsAt past k → (b : Bool) → VersionsBy past k (Cuts c) (cuts_if k c seat b)
+versions_cuts book past k qs c seat kept here counted h false = unsaid (taken_of past) k.sessions k.seats k.ops h
+versions_cuts book past k qs c seat kept here counted h true = unsaid (taken_of past) (cut_session k.sessions seat.session (session_of k.sessions seat.session)) (with_numbered k.seats c (gone_seat seat.client.task)) (ops_with k.ops seat.place gone taken (k.steps + 1) (ended_by seat.client.task lost)) (by seat.client.task)
+  where
+    lost : Ended
+    lost = record { outcome = outcome.Lost; rests_on = 0 }
+
+    taken : List Taken
+    taken = session_taken (session_of k.sessions seat.session)
+
+    gone : client.State
+    gone = record seat.client { linked = false; task = None; forgotten = [] }
+
+    gone_seat : Option Task → Seat
+    gone_seat t = record seat { client = gone; place = place_after seat.place (ended_by t lost).ended }
+
+    no_job : (l : Option ℕ) → job_of l None ≡ None
+    no_job None = refl
+    no_job (Some l) = refl
+
+    cut_taken : (i : ℕ) (z : Seat) → numbered k.seats i ≡ Some z → Extends k.steps (takens k.sessions z) (takens (cut_session k.sessions seat.session (session_of k.sessions seat.session)) z)
+    cut_taken i z there = newest seat.session
+      where
+        at : (m : ℕ) (x : Option Session) → numbered k.sessions m ≡ x → Extends k.steps (takens k.sessions z) (takens (cut_session k.sessions (Some m) x) z)
+        at m None e = extends_same k.steps (takens k.sessions z)
+        at m (Some x) e = takens_with k.steps m k.sessions x (record x { cut = true }) z.session e (extends_same k.steps x.taken)
+
+        newest : (l : Option ℕ) → Extends k.steps (takens k.sessions z) (takens (cut_session k.sessions l (session_of k.sessions l)) z)
+        newest None = extends_same k.steps (takens k.sessions z)
+        newest (Some m) = at m (numbered k.sessions m) refl
+
+    not_opened : (t : Option Task) (o : Op) → o.outcome ≡ told.Running → (len : ℕ) (digest : List ℕ) → (op_after o gone taken (k.steps + 1) (ended_by t lost)).outcome ≡ told.Opened len digest → ⊥
+    not_opened None o run len digest z = running_not (sym run ∙ z)
+      where
+        running_not : told.Running ≡ told.Opened len digest → ⊥
+        running_not z = absurd cc
+    not_opened (Some u) o run len digest z = absurd cc
+
+    by : (t : Option Task) → HaveVersions (taken_of past) (cut_session k.sessions seat.session (session_of k.sessions seat.session)) (with_numbered k.seats c (gone_seat t)) (ops_with k.ops seat.place gone taken (k.steps + 1) (ended_by t lost))
+    by t = versions_onward k.steps (taken_of past) (taken_of past) k.sessions (cut_session k.sessions seat.session (session_of k.sessions seat.session)) k.seats (with_numbered k.seats c (gone_seat t)) k.ops (ops_with k.ops seat.place gone taken (k.steps + 1) (ended_by t lost)) counted.taken_by (λ f q le. acts_stay k.ops seat.place gone taken (k.steps + 1) (ended_by t lost) f q)
+        (λ i z j r there is at. elim (of_numbered k.seats c (gone_seat t) i z there) [
+          | inl mine ↦ nothing_there j (sym (no_job (place_after seat.place (ended_by t lost).ended)) ∙ ap job (sym mine.1) ∙ is)
+          | inr other ↦ elim (ops_shape k.ops seat.place gone taken (k.steps + 1) (ended_by t lost) j.place r at) [
+            | inl new ↦ absurd (foreign_at book k qs c seat kept here i z j new.0 other.1 is new.2 other.0 new.1)
+            | inr old ↦ inl (z, r, other.1, is, old.1, alike_same (taken_of past) r, cut_taken i z other.1)
+          ]
+        ])
+        (λ p len q digest r at e point. elim (ops_shape k.ops seat.place gone taken (k.steps + 1) (ended_by t lost) p r at) [
+          | inl new ↦ absurd (not_opened t new.0 (own_op book k qs c seat p new.0 kept here new.1 new.2).4 len digest (ap (λ (z : Op). z.outcome) (sym new.3) ∙ e))
+          | inr old ↦ inl (r, old.1, alike_same (taken_of past) r, e, point)
+        ]) h
+
+-- ---- a command
+
+versions_does : (book more : Book) (past : List Moment) (k : Core) (qs after : List Queue) (c now : ℕ) (d : Command) (seat : Seat) → IsKept book k qs → numbered k.seats c ≡ Some seat → IsKept more (does k c now d (Some seat)).core after → CountedAt past k → VersionsAt past k → VersionsBy past k (Does c now d) (does k c now d (Some seat))
+versions_does book more past k qs after c now d seat kept here left counted h =
+    let r = command_step seat.client d now in
+    unsaid (taken_of past) (later r.1) (with_numbered k.seats c (record seat { client = r.0; place = place_with seat.place (length k.ops) r.1.ended })) (k.ops ++ new r.0 r.1 ∷ [])
+    (grown r.0 r.1 (right r.0 r.1 left.ops left.sound) (own_job r.0 r.1 (kept.seats c seat here).matched (λ Q R fresh free. (good_command Q R seat.client fresh d now free).0) (λ t e. (busy_command seat.client d now t e).1)))
+  where
+    new : client.State → ClientStep → Op
+    new s acts = op_after (begun c (word_of d) (file_of d) (value_at_begin seat.client (word_of d) (file_of d) (command_step seat.client d now).1.ended) (k.steps + 1)) s [] (k.steps + 1) acts
+
+    begins : (s : client.State) (acts : ClientStep) (e : Option Ended) → k.steps < (op_after (begun c (word_of d) (file_of d) (value_at_begin seat.client (word_of d) (file_of d) (command_step seat.client d now).1.ended) (k.steps + 1)) s [] (k.steps + 1) (record acts { ended = e })).begin
+    begins s acts None = omega arith
+    begins s acts (Some e) = omega arith
+
+    pointless : (s : client.State) (acts : ClientStep) (l : Option Ended) → (op_after (begun c (word_of d) (file_of d) (value_at_begin seat.client (word_of d) (file_of d) (command_step seat.client d now).1.ended) (k.steps + 1)) s [] (k.steps + 1) (record acts { ended = l })).point ≡ None
+    pointless s acts None = refl
+    pointless s acts (Some e) = by (has_point (word_of d) e.outcome)
+      where
+        by : (b : Bool) → point_if b [] e.rests_on None ≡ None
+        by true = refl
+        by false = refl
+
+    right : (s : client.State) (acts : ClientStep) → more.ops ≡ k.ops ++ op_after (begun c (word_of d) (file_of d) (value_at_begin seat.client (word_of d) (file_of d) (command_step seat.client d now).1.ended) (k.steps + 1)) s [] (k.steps + 1) acts ∷ [] → IsSound more → IsRight more (op_after (begun c (word_of d) (file_of d) (value_at_begin seat.client (word_of d) (file_of d) (command_step seat.client d now).1.ended) (k.steps + 1)) s [] (k.steps + 1) acts)
+    right s acts are sound = sound.rights (length k.ops) (new s acts) (ap (λ (l : List Op). slice_get l (length k.ops)) are ∙ at_end k.ops (new s acts))
+
+    -- nothing was said of it before
+    fresh : (s : client.State) (acts : ClientStep) (taken : List Taken) (x : ℕ) → Untold (taken_of past) taken (op_after (begun c (word_of d) (file_of d) (value_at_begin seat.client (word_of d) (file_of d) (command_step seat.client d now).1.ended) (k.steps + 1)) s [] (k.steps + 1) acts) x
+    fresh s acts taken x = λ q was z there of lt is. both (of_step (new s acts) z.step z.client) (early (new s acts) z.step z.client (let le = said_by k.steps (taken_of past) z counted.taken_by there in let b = begins s acts acts.ended in omega (arith, le, b))) of
+      where
+        both : (b : Bool) → b ≡ false → b ≡ true → ⊥
+        both b e f = absurd cc
+
+    later : ClientStep → List Session
+    later acts = commanded_sessions k.sessions seat.session (session_of k.sessions seat.session) seat.place (length k.ops) (word_of d) acts
+
+    -- the calls of a seat, where it is another's, or where an operation was under way
+    kept_taken : (acts : ClientStep) (i : ℕ) (z : Seat) → numbered k.seats i ≡ Some z → (i ≡ c → (p : ℕ) × (seat.place ≡ Some p)) → Extends k.steps (session_taken (session_of k.sessions z.session)) (session_taken (session_of (commanded_sessions k.sessions seat.session (session_of k.sessions seat.session) seat.place (length k.ops) (word_of d) acts) z.session))
+    kept_taken acts i z there mine = newest seat.session (λ m e. (kept.seats c seat here).session m e)
+      where
+        on : (l : Option ℕ) (t : List Taken) (p : ℕ) → l ≡ Some p → t ≡ taken_on l t
+        on None t p e = nothing_there p e
+        on (Some l) t p e = refl
+
+        at : (m : ℕ) (x : Session) → numbered k.sessions m ≡ Some x → x.owner ≡ c → Extends k.steps (session_taken (session_of k.sessions z.session)) (session_taken (session_of (with_numbered k.sessions m (commanded_session x seat.place (length k.ops) (word_of d) acts)) z.session))
+        at m x e owner = elim (same_or_not i c) [
+          | inl same ↦ (let w = mine same in takens_with k.steps m k.sessions x (commanded_session x seat.place (length k.ops) (word_of d) acts) z.session e (subst (Extends k.steps x.taken) (on seat.place x.taken w.0 w.1) (extends_same k.steps x.taken)))
+          | inr apart ↦ takens_else k.steps m k.sessions (commanded_session x seat.place (length k.ops) (word_of d) acts) z.session (λ q. let w = (kept.seats i z there).session m q in apart (sym w.2 ∙ ap (λ (y : Session). y.owner) (some_is w.0 x (sym w.1 ∙ e)) ∙ owner))
+        ]
+
+        newest : (l : Option ℕ) → ((m : ℕ) → l ≡ Some m → (x : Session) × (numbered k.sessions m ≡ Some x) × (x.owner ≡ c)) → Extends k.steps (session_taken (session_of k.sessions z.session)) (session_taken (session_of (commanded_sessions k.sessions l (session_of k.sessions l) seat.place (length k.ops) (word_of d) acts) z.session))
+        newest None has = extends_same k.steps (session_taken (session_of k.sessions z.session))
+        newest (Some m) has = let w = has m refl in subst (λ y. Extends k.steps (session_taken (session_of k.sessions z.session)) (session_taken (session_of (commanded_sessions k.sessions (Some m) y seat.place (length k.ops) (word_of d) acts) z.session))) (sym w.1) (at m w.0 w.1 w.2)
+
+    old_place : (i : ℕ) (z : Seat) (j : Job) → numbered k.seats i ≡ Some z → job z ≡ Some j → j.place < length k.ops
+    old_place i z j at is = let of = (kept.seats i z at).task j is in within k.ops j.place of.op (ap (λ (l : List Op). slice_get l j.place) (sym kept.ops) ∙ of.there)
+
+    old_op : (s : client.State) (acts : ClientStep) (i : ℕ) (z : Seat) (j : Job) (r : Op) → numbered k.seats i ≡ Some z → job z ≡ Some j → slice_get (k.ops ++ op_after (begun c (word_of d) (file_of d) (value_at_begin seat.client (word_of d) (file_of d) (command_step seat.client d now).1.ended) (k.steps + 1)) s [] (k.steps + 1) acts ∷ []) j.place ≡ Some r → slice_get k.ops j.place ≡ Some r
+    old_op s acts i z j r there is at = elim (of_appended k.ops (new s acts) j.place r at) [
+      | inr old ↦ old
+      | inl last ↦ (let lt = old_place i z j there is in let e = last.0 in absurd (omega (arith, lt, e)))
+    ]
+
+    OwnJob : (s : client.State) (acts : ClientStep) → Type 0
+    OwnJob s acts = (j : Job) (r : Op) → job_of (place_with seat.place (length k.ops) acts.ended) s.task ≡ Some j → slice_get (k.ops ++ op_after (begun c (word_of d) (file_of d) (value_at_begin seat.client (word_of d) (file_of d) (command_step seat.client d now).1.ended) (k.steps + 1)) s [] (k.steps + 1) acts ∷ []) j.place ≡ Some r
+        → JobCame k.steps (taken_of past) (taken_of past) k.sessions (commanded_sessions k.sessions seat.session (session_of k.sessions seat.session) seat.place (length k.ops) (word_of d) acts) k.seats k.ops (k.ops ++ op_after (begun c (word_of d) (file_of d) (value_at_begin seat.client (word_of d) (file_of d) (command_step seat.client d now).1.ended) (k.steps + 1)) s [] (k.steps + 1) acts ∷ []) c (record seat { client = s; place = place_with seat.place (length k.ops) acts.ended }) j r
+
+    own_job : (s : client.State) (acts : ClientStep) → IsMatched seat → ((Q : ℕ → ℕ → Type 0) (R : ℕ → Type 0) → R seat.client.next → TaskGood Q R seat.client.task → TaskGood Q R s.task) → ((t : Task) → seat.client.task ≡ Some t → s ≡ seat.client)
+        → (j : Job) (r : Op) → job_of (place_with seat.place (length k.ops) acts.ended) s.task ≡ Some j → slice_get (k.ops ++ op_after (begun c (word_of d) (file_of d) (value_at_begin seat.client (word_of d) (file_of d) (command_step seat.client d now).1.ended) (k.steps + 1)) s [] (k.steps + 1) acts ∷ []) j.place ≡ Some r
+        → JobCame k.steps (taken_of past) (taken_of past) k.sessions (commanded_sessions k.sessions seat.session (session_of k.sessions seat.session) seat.place (length k.ops) (word_of d) acts) k.seats k.ops (k.ops ++ op_after (begun c (word_of d) (file_of d) (value_at_begin seat.client (word_of d) (file_of d) (command_step seat.client d now).1.ended) (k.steps + 1)) s [] (k.steps + 1) acts ∷ []) c (record seat { client = s; place = place_with seat.place (length k.ops) acts.ended }) j r
+    own_job s acts (inl (no_place, free)) good busy j r is at = by acts.ended (subst (λ l. job_of (place_with l (length k.ops) acts.ended) s.task ≡ Some j) no_place is)
+      where
+        taken : List Taken
+        taken = session_taken (session_of (commanded_sessions k.sessions seat.session (session_of k.sessions seat.session) seat.place (length k.ops) (word_of d) acts) seat.session)
+
+        all : List Op
+        all = k.ops ++ op_after (begun c (word_of d) (file_of d) (value_at_begin seat.client (word_of d) (file_of d) (command_step seat.client d now).1.ended) (k.steps + 1)) s [] (k.steps + 1) acts ∷ []
+
+        by : (e : Option Ended) → job_of (place_with None (length k.ops) e) s.task ≡ Some j → JobCame k.steps (taken_of past) (taken_of past) k.sessions (commanded_sessions k.sessions seat.session (session_of k.sessions seat.session) seat.place (length k.ops) (word_of d) acts) k.seats k.ops (k.ops ++ op_after (begun c (word_of d) (file_of d) (value_at_begin seat.client (word_of d) (file_of d) (command_step seat.client d now).1.ended) (k.steps + 1)) s [] (k.steps + 1) acts ∷ []) c (record seat { client = s; place = place_with seat.place (length k.ops) acts.ended }) j r
+        by (Some e) is = nothing_there j is
+        by None is =
+            let place : length k.ops ≡ j.place = some_is (length k.ops) j.place (job_place (Some (length k.ops)) s.task j is) in
+            let same : new s acts ≡ r = some_is (new s acts) r (sym (at_end k.ops (new s acts)) ∙ ap (slice_get (k.ops ++ new s acts ∷ [])) place ∙ at) in
+            let on = subst (TaskGood (Attempt (taken_of past) all taken (new s acts)) (Untold (taken_of past) taken (new s acts))) (job_task (Some (length k.ops)) s.task j is) (good (Attempt (taken_of past) all taken (new s acts)) (Untold (taken_of past) taken (new s acts)) (fresh s acts taken seat.client.next) (subst (TaskGood (Attempt (taken_of past) all taken (new s acts)) (Untold (taken_of past) taken (new s acts))) (sym free) tt)) in
+            inr (subst (λ (z : Op). JobVersion (taken_of past) all taken z j.stage) same on)
+    own_job s acts (inr (i, was)) good busy j r is at =
+        let place = job_place seat.place seat.client.task i was in
+        let same = busy (record { file = i.file; stage = i.stage }) (job_task seat.place seat.client.task i was) in
+        let still : job seat ≡ Some j = by seat.place place (ap (λ (z : client.State). job_of (place_with seat.place (length k.ops) acts.ended) z.task) (sym same) ∙ is) in
+        inl (seat, r, here, still, old_op s acts c seat j r here still at, alike_same (taken_of past) r, kept_taken acts c seat here (λ e. (i.place, place)))
+      where
+        by : (l : Option ℕ) → l ≡ Some i.place → job_of (place_with l (length k.ops) acts.ended) seat.client.task ≡ Some j → job_of l seat.client.task ≡ Some j
+        by None w q = nothing_there i.place w
+        by (Some p) w q = q
+
+    grown : (s : client.State) (acts : ClientStep) → IsRight more (op_after (begun c (word_of d) (file_of d) (value_at_begin seat.client (word_of d) (file_of d) (command_step seat.client d now).1.ended) (k.steps + 1)) s [] (k.steps + 1) acts)
+        → ((j : Job) (r : Op) → job_of (place_with seat.place (length k.ops) acts.ended) s.task ≡ Some j → slice_get (k.ops ++ op_after (begun c (word_of d) (file_of d) (value_at_begin seat.client (word_of d) (file_of d) (command_step seat.client d now).1.ended) (k.steps + 1)) s [] (k.steps + 1) acts ∷ []) j.place ≡ Some r
+        → JobCame k.steps (taken_of past) (taken_of past) k.sessions (commanded_sessions k.sessions seat.session (session_of k.sessions seat.session) seat.place (length k.ops) (word_of d) acts) k.seats k.ops (k.ops ++ op_after (begun c (word_of d) (file_of d) (value_at_begin seat.client (word_of d) (file_of d) (command_step seat.client d now).1.ended) (k.steps + 1)) s [] (k.steps + 1) acts ∷ []) c (record seat { client = s; place = place_with seat.place (length k.ops) acts.ended }) j r)
+        → HaveVersions (taken_of past) (commanded_sessions k.sessions seat.session (session_of k.sessions seat.session) seat.place (length k.ops) (word_of d) acts) (with_numbered k.seats c (record seat { client = s; place = place_with seat.place (length k.ops) acts.ended })) (k.ops ++ op_after (begun c (word_of d) (file_of d) (value_at_begin seat.client (word_of d) (file_of d) (command_step seat.client d now).1.ended) (k.steps + 1)) s [] (k.steps + 1) acts ∷ [])
+    grown s acts right_new mine = versions_onward k.steps (taken_of past) (taken_of past) k.sessions (later acts) k.seats (with_numbered k.seats c (record seat { client = s; place = place_with seat.place (length k.ops) acts.ended })) k.ops (k.ops ++ new s acts ∷ []) counted.taken_by (λ f q le. ap (λ z. z + 1) (count_appended f q k.ops (new s acts) (unpointed f q (new s acts) (pointless s acts acts.ended))))
+        (λ i z j r there is at. elim (of_numbered k.seats c (record seat { client = s; place = place_with seat.place (length k.ops) acts.ended }) i z there) [
+          | inr other ↦ inl (z, r, other.1, is, old_op s acts i z j r other.1 is at, alike_same (taken_of past) r, kept_taken acts i z other.1 (λ e. absurd (other.0 e)))
+          | inl own ↦ subst (λ n. JobCame k.steps (taken_of past) (taken_of past) k.sessions (later acts) k.seats k.ops (k.ops ++ new s acts ∷ []) n z j r) (sym own.0) (subst (λ y. JobCame k.steps (taken_of past) (taken_of past) k.sessions (later acts) k.seats k.ops (k.ops ++ new s acts ∷ []) c y j r) (sym own.1) (mine j r (ap job (sym own.1) ∙ is) at))
+        ])
+        (λ p len q digest r at e point. elim (of_appended k.ops (new s acts) p r at) [
+          | inr old ↦ inl (r, old, alike_same (taken_of past) r, e, point)
+          | inl last ↦ nothing_there q (sym (pointless s acts acts.ended) ∙ ap (λ (z : Op). z.point) (sym last.1) ∙ point)
+        ]) h
+
+-- ---- an answer
+
+-- one answer more was said, or none
+one_more : (said : List Said) (s z : Said) → Contains (said ++ s ∷ []) z → Contains said z ⊎ (z ≡ s)
+one_more said s z c = elim (Contains-append_cases said (s ∷ []) z c) [
+  | inl old ↦ inl old
+  | inr now ↦ elim (first_or_rest s [] z now) [
+    | inl same ↦ inr same
+    | inr none ↦ (let lt = none.1 in absurd (omega (arith, lt)))
+  ]
+]
+
+alike_none : (said more : List Said) (o : Op) → more ≡ [] → Alike said (said ++ more) o o
+alike_none said more o none = record {
+  file = refl;
+  forth = λ s c e. (Contains-append_left said more s c, e);
+  back = λ s c e. (subst (λ l. Contains l s) (ap (λ l. said ++ l) none ∙ append-nil said) c, e);
+}
+
+-- what an attempt has when one more answer of it came
+attempt_more : (said : List Said) (ops : List Op) (taken : List Taken) (o : Op) (s : Said) (v x : ℕ) → (IsHashes s.message → Carries v s.message) → Attempt said ops taken o v x → Attempt (said ++ s ∷ []) ops taken o v x
+attempt_more said ops taken o s v x carries (q, was, version, (z, there, of, lt, c), since) = (
+  q,
+  was,
+  version,
+  (z, Contains-append_left said (s ∷ []) z there, of, lt, c),
+  λ w here mine late is. elim (one_more said s w here) [
+    | inl old ↦ since w old mine late is
+    | inr same ↦ subst (λ (y : Said). Carries v y.message) (sym same) (carries (subst (λ (y : Said). IsHashes y.message) same is))
+  ],
+)
+
+took_in : (book : Book) (k : Core) (said : List Said) (i : ℕ) (taken : List Taken) (closing : Option ℕ) (t : Told) (j : Job) (o : Op) → book.ops ≡ k.ops → book.steps ≡ k.steps → o.file ≡ j.file → o.client ≡ i → o.end ≡ None → o.begin ≤ k.steps → has_call (client.pending_in j.stage) t.xid ≡ true → AnswerOf book taken closing (Some j) t.xid t.reply
+    → (st : Stage) → j.stage ≡ st → (r : Reply) → t.reply ≡ r → JobVersion said k.ops taken o st → TookIn (Attempt (said ++ record { step = k.steps + 1; client = i; message = told_message t } ∷ []) k.ops taken o) st t.xid (reply_body r)
+took_in book k said i taken closing t j o ops steps file mine none begun has answer (stage.Hashing tries y) at (Hashed (Done g)) is old =
+    let own : (y == t.xid) ≡ true = or_none (y == t.xid) (ap (λ z. has_call (client.pending_in z) t.xid) (sym at) ∙ has) in
     let told = subst (AnswerOf book taken closing (Some j) t.xid) is answer j 0 refl (ap (λ s. hash_offset s t.xid) at ∙ ap (λ b. cond b (Some 0) None) own) in
     let h : IsHashed book taken j t.xid 0 g = told.0 in
+    let q = h.told.moment in
     let version : g.version ≡ h.file.version = ap (λ (z : Hashes). z.version) h.is in
     let s : Said = record { step = k.steps + 1; client = i; message = told_message t } in
-    let all : wanted_by c (Ok (told_message t)) ≡ told_message t ∷ [] =
-    ap (λ u. wanted_if (has_call (pending u) t.xid) (told_message t)) (task ∙ ap (λ z. Some (record { file = j.file; stage = z })) at) ∙ ap (λ b. wanted_if b (told_message t)) has in
-    let there : Contains (past ++ all_said (k.steps + 1) i (wanted_by c (Ok (told_message t)))) s =
-    subst (λ l. Contains (past ++ all_said (k.steps + 1) i l) s) (sym all) (Contains-append_right past (s ∷ []) s (Contains-push [] s)) in (
-      (s, there, open_now o k.steps i mine none begun, subst (λ m. Carries g.version m) (sym (same_reply t (Hashed (Done g)) is)) refl),
-      λ q was. let now : h.told.moment ≡ q = some_is h.told.moment q (sym h.told.was ∙ was) in
-          ap (λ l. version_in l o.file q) (sym ops) ∙ ap (λ z. version_in book.ops z q) file ∙ ap (version_in book.ops j.file) (sym now) ∙ h.told.version_is ∙ sym version,
+    let carries : Carries g.version (told_message t) = subst (λ m. Carries g.version m) (sym (same_reply t (Hashed (Done g)) is)) refl in
+    let past = h.told.past in
+    let same_xid : y ≡ t.xid = grind (arith, nat_tests, own) in (
+      q,
+      h.told.was,
+      ap (λ l. version_in l o.file q) (sym ops) ∙ ap (λ z. version_in book.ops z q) file ∙ h.told.version_is ∙ sym version,
+      (s, Contains-append_right said (s ∷ []) s (Contains-push [] s), open_now o k.steps i mine none begun, omega (arith, past, steps), carries),
+      λ w here of late hashes. elim (one_more said s w here) [
+        | inl was ↦ absurd (old q (ap (taken_at taken) same_xid ∙ h.told.was) w was of late hashes)
+        | inr same ↦ subst (λ (z : Said). Carries g.version z.message) (sym same) carries
+      ],
     )
-heard_first book k past i taken closing c t j o ops file mine none begun task answer st at r is = tt
+took_in book k said i taken closing t j o ops steps file mine none begun has answer (stage.Listing y f) at (Hashed (Done g)) is old = λ same.
+    attempt_more said k.ops taken o (record { step = k.steps + 1; client = i; message = told_message t }) f.version f.first (λ hashes. subst (λ m. Carries f.version m) (sym (same_reply t (Hashed (Done g)) is)) (eqb-true g.version f.version same)) old
+took_in book k said i taken closing t j o ops steps file mine none begun has answer (stage.Reading f) at (Bytes (Done p)) is old =
+    attempt_more said k.ops taken o (record { step = k.steps + 1; client = i; message = told_message t }) f.version f.first (λ hashes. absurd (subst (λ m. IsHashes m) (same_reply t (Bytes (Done p)) is) hashes)) old
+took_in book k said i taken closing t j o ops steps file mine none begun has answer st at r is old = tt
 
 versions_hears : FitLaws → (book more : Book) (past : List Moment) (k : Core) (qs after : List Queue) (n now : ℕ) (bytes : List ℕ) (mid : List Queue) → IsKept book k qs → (h : Heard k qs n now bytes mid) → IsKept more (happens k (Hears n now bytes)).core after → CountedAt past k → VersionsAt past k → VersionsBy past k (Hears n now bytes) (happens k (Hears n now bytes))
 versions_hears laws book more past k qs after n now bytes mid kept h left counted before =
     subst (VersionsBy past k (Hears n now bytes)) (sym turned)
-    (subst (λ i. HaveVersions (taken_of past ++ all_said (k.steps + 1) i (taken_by k i (Hears n now bytes))) (with_numbered k.seats h.session.owner (record h.seat { client = r.0; place = place_after h.seat.place r.1.ended })) (ops_with k.ops h.seat.place r.0 taken (k.steps + 1) r.1)) (sym owner)
-    (subst (λ l. HaveVersions (taken_of past ++ all_said (k.steps + 1) h.session.owner l) (with_numbered k.seats h.session.owner (record h.seat { client = r.0; place = place_after h.seat.place r.1.ended })) (ops_with k.ops h.seat.place r.0 taken (k.steps + 1) r.1)) (sym (heard_takes laws book k qs n now bytes mid kept h))
-    (versions_acts said k.seats k.ops (k.steps + 1) h.session.owner h.seat r.0 taken (k.steps + 1) r.1 acting (λ p q o there point. let le = points_by book k qs kept p q o there point in omega (arith, le)) (versions_more (taken_of past) (all_said (k.steps + 1) h.session.owner (wanted_by h.seat.client (Ok (told_message h.told)))) k.seats k.ops before))))
+    (subst (λ i. HaveVersions (taken_of past ++ all_said (k.steps + 1) i (taken_by k i (Hears n now bytes))) k.sessions (with_numbered k.seats h.session.owner new) (ops_with k.ops h.seat.place r.0 taken (k.steps + 1) r.1)) (sym owner)
+    (subst (λ l. HaveVersions (taken_of past ++ all_said (k.steps + 1) h.session.owner l) k.sessions (with_numbered k.seats h.session.owner new) (ops_with k.ops h.seat.place r.0 taken (k.steps + 1) r.1)) (sym (heard_takes laws book k qs n now bytes mid kept h))
+    (versions_onward k.steps (taken_of past) said k.sessions k.sessions k.seats (with_numbered k.seats h.session.owner new) k.ops (ops_with k.ops h.seat.place r.0 taken (k.steps + 1) r.1) counted.taken_by (λ f q le. acts_stay k.ops h.seat.place r.0 taken (k.steps + 1) r.1 f q)
+    (λ i z j o there is at. elim (of_numbered k.seats h.session.owner new i z there) [
+      | inr other ↦ elim (ops_shape k.ops h.seat.place r.0 taken (k.steps + 1) r.1 j.place o at) [
+        | inl mine ↦ absurd (foreign_at book k qs h.session.owner h.seat kept h.owner i z j mine.0 other.1 is mine.2 other.0 mine.1)
+        | inr old ↦ inl (z, o, other.1, is, old.1, alike_other (taken_of past) (k.steps + 1) h.session.owner (wanted_by h.seat.client (Ok (told_message h.told))) o (actor.other j.place o old.1 old.0), extends_same k.steps (takens k.sessions z))
+      ]
+      | inl own ↦ (let w = place_is h.seat.place r.1.ended j (ap job (sym own.1) ∙ is) in elim (ops_shape k.ops h.seat.place r.0 taken (k.steps + 1) r.1 j.place o at) [
+        | inl mine ↦ inr (subst (λ (y : Seat). JobVersion said (ops_with k.ops h.seat.place r.0 taken (k.steps + 1) r.1) (takens k.sessions y) o j.stage) (sym own.1) (subst (λ (y : Op). JobVersion said (ops_with k.ops h.seat.place r.0 taken (k.steps + 1) r.1) taken y j.stage) (sym mine.3) (own_job j.place mine.0 mine.1 mine.2 j w.2)))
+        | inr old ↦ absurd (old.0 w.0)
+      ])
+    ])
+    (λ p len q digest o at e point. elim (ops_shape k.ops h.seat.place r.0 taken (k.steps + 1) r.1 p o at) [
+      | inr old ↦ inl (o, old.1, alike_other (taken_of past) (k.steps + 1) h.session.owner (wanted_by h.seat.client (Ok (told_message h.told))) o (actor.other p o old.1 old.0), e, point)
+      | inl mine ↦ inr (subst (λ (y : Op). CameTo said y q (version_in (ops_with k.ops h.seat.place r.0 taken (k.steps + 1) r.1) y.file q) × Since said y q (version_in (ops_with k.ops h.seat.place r.0 taken (k.steps + 1) r.1) y.file q)) (sym mine.3) (ended p mine.0 mine.1 mine.2 len q digest (ap (λ (y : Op). y.outcome) (sym mine.3) ∙ e) (ap (λ (y : Op). y.point) (sym mine.3) ∙ point)))
+    ]) before)))
   where
     r : client.State × ClientStep
     r = got_step h.seat.client (Ok (told_message h.told)) now
 
     taken : List Taken
     taken = session_taken (session_of k.sessions h.seat.session)
+
+    new : Seat
+    new = record h.seat { client = r.0; place = place_after h.seat.place r.1.ended }
 
     said : List Said
     said = taken_of past ++ all_said (k.steps + 1) h.session.owner (wanted_by h.seat.client (Ok (told_message h.told)))
@@ -427,8 +615,8 @@ versions_hears laws book more past k qs after n now bytes mid kept h left counte
     taken_is : h.session.taken ≡ taken
     taken_is = sym (ap (λ l. session_taken (session_of k.sessions l)) h.newest ∙ ap session_taken h.at)
 
-    steps : more.steps ≡ k.steps + 1
-    steps = left.steps ∙ ap (λ (t : Turned). t.core.steps) turned
+    actor : IsActor k.ops h.session.owner h.seat.place k.steps
+    actor = acts_alone book k qs h.session.owner h.seat kept h.owner
 
     s : IsSession book k.seats k.server n h.session h.queue
     s = kept.sessions n h.session h.queue h.at h.queue_is
@@ -436,49 +624,87 @@ versions_hears laws book more past k qs after n now bytes mid kept h left counte
     same_seat : s.seat ≡ h.seat
     same_seat = some_is s.seat h.seat (sym s.owner ∙ h.owner)
 
-    acting : (p : ℕ) (o : Op) → h.seat.place ≡ Some p → slice_get k.ops p ≡ Some o → Acting said k.ops (k.steps + 1) h.session.owner r.0 taken (k.steps + 1) r.1 o
-    acting p o e at =
+    said_past : SaidBy (k.steps + 1) said
+    said_past = said_append (k.steps + 1) (taken_of past) (all_said (k.steps + 1) h.session.owner (wanted_by h.seat.client (Ok (told_message h.told)))) (said_later k.steps (k.steps + 1) (taken_of past) (omega arith) counted.taken_by) (said_now (k.steps + 1) h.session.owner (wanted_by h.seat.client (Ok (told_message h.told))))
+
+    place_is : (l : Option ℕ) (e : Option Ended) (j : Job) → job_of (place_after l e) r.0.task ≡ Some j → (l ≡ Some j.place) × (e ≡ None) × (r.0.task ≡ Some (record { file = j.file; stage = j.stage }))
+    place_is l None j is = (job_place l r.0.task j is, refl, job_task l r.0.task j is)
+    place_is l (Some e) j is = nothing_there j is
+
+    -- the operation as it was, after the answer
+    good : (p : ℕ) (o : Op) → h.seat.place ≡ Some p → slice_get k.ops p ≡ Some o → Good (Attempt said k.ops taken o) (Untold said taken o) r
+    good p o e at =
         let w = own_op book k qs h.session.owner h.seat p o kept h.owner e at in
         let j : Job = w.0 in
-        let begun = (Rattle.kept_promise.proofs.Actors.acts_alone book k qs h.session.owner h.seat kept h.owner).own p o e at in
+        let own = actor.own p o e at in
         let task = job_task h.seat.place h.seat.client.task j w.1 in
         let job_is : job s.seat ≡ Some j = ap job same_seat ∙ w.1 in
         let talk = s.talk h.uncut in
-        let fetch = subst (λ z. FetchOf book z j j.stage) taken_is (talk.fetch j job_is) in
         let answer = subst (λ z. AnswerOf book z h.session.closing (Some j) h.told.xid h.told.reply) taken_is (subst (λ z. AnswerOf book h.session.taken h.session.closing z h.told.xid h.told.reply) job_is (subst (AllTolds (IsAnswer book h.session.taken h.session.closing (job s.seat))) h.first talk.answers).0) in
-        let at_place : slice_get k.ops j.place ≡ Some o = ap (slice_get k.ops) w.2 ∙ at in
-        let stage_good = heard_stage book k (taken_of past) (all_said (k.steps + 1) h.session.owner (wanted_by h.seat.client (Ok (told_message h.told)))) h.session.owner taken j o kept.ops w.5 j.stage (before.jobs h.session.owner h.seat j o h.owner w.1 at_place) fetch in
-        let first = heard_first book k (taken_of past) h.session.owner taken h.session.closing h.seat.client h.told j o kept.ops w.5 w.3 begun.1 begun.2 task answer j.stage refl h.told.reply refl in
-        record {
-          client = w.3;
-          running = w.4;
-          still = λ v d. came_on (k.steps + 1) o (op_after o r.0 taken (k.steps + 1) r.1) said v (running_upto o r.0 taken k.steps r.1 begun.1) (said_append (k.steps + 1) (taken_of past) (all_said (k.steps + 1) h.session.owner (wanted_by h.seat.client (Ok (told_message h.told)))) (said_later k.steps (k.steps + 1) (taken_of past) (omega arith) counted.taken_by) (said_now (k.steps + 1) h.session.owner (wanted_by h.seat.client (Ok (told_message h.told))))) d;
-          good = good_answer (Attempt said k.ops h.session.owner taken o) h.seat.client h.told.xid (reply_body h.told.reply) (subst (TaskGood (Attempt said k.ops h.session.owner taken o)) (sym task) stage_good) (subst (λ z. FirstGood (Attempt said k.ops h.session.owner taken o) z (told_message h.told)) (sym task) first);
-          right = λ len digest is.
-              let there : slice_get more.ops p ≡ Some (op_after o r.0 taken (k.steps + 1) r.1) =
-              ap (λ (l : List Op). slice_get l p) (left.ops ∙ ap (λ (t : Turned). t.core.ops) turned ∙ ap (λ l. ops_with k.ops l r.0 taken (k.steps + 1) r.1) e ∙ ap (λ l. ops_after k.ops p l r.0 taken (k.steps + 1) r.1) at) ∙ at_replaced k.ops p (op_after o r.0 taken (k.steps + 1) r.1) o at in
-              let right = left.sound.rights p (op_after o r.0 taken (k.steps + 1) r.1) there in
-              (sym (word_after o r.0 taken (k.steps + 1) r.1) ∙ (subst (Caused more (op_after o r.0 taken (k.steps + 1) r.1)) is right.cause).0, λ q point. let le = (right.pointed q point).1 in let now_ = steps in omega (arith, le, now_));
-        }
+        let old = before.jobs h.session.owner h.seat j o h.owner w.1 (ap (slice_get k.ops) w.2 ∙ at) in
+        let floor = rising_to talk.floor h.queue.ups s.seat.client.next talk.rising in
+        let fresh : Untold said taken o h.seat.client.next = λ q was. absurd (not_taken talk.floor h.session.taken h.seat.client.next q talk.under (subst (λ (z : Seat). talk.floor ≤ z.client.next) same_seat floor) (ap (λ l. taken_at l h.seat.client.next) taken_is ∙ was)) in
+        good_answer (Attempt said k.ops taken o) (Untold said taken o) h.seat.client fresh h.told.xid (reply_body h.told.reply)
+        (λ free. subst (TaskGood (Attempt said k.ops taken o) (Untold said taken o)) (sym task) (job_alike k.steps (taken_of past) said k.ops k.ops taken taken o o j.stage counted.taken_by (alike_none (taken_of past) (all_said (k.steps + 1) h.session.owner (wanted_by h.seat.client (Ok (told_message h.told)))) o (ap (λ b. all_said (k.steps + 1) h.session.owner (wanted_if b (told_message h.told))) free)) (extends_same k.steps taken) (λ f q le. refl) old))
+        (λ has. subst (λ (l : List Message). TaskTook (Attempt (taken_of past ++ all_said (k.steps + 1) h.session.owner l) k.ops taken o) h.seat.client.task h.told.xid (reply_body h.told.reply)) (sym (ap (λ b. wanted_if b (told_message h.told)) has))
+        (subst (λ z. TaskTook (Attempt (taken_of past ++ record { step = k.steps + 1; client = h.session.owner; message = told_message h.told } ∷ []) k.ops taken o) z h.told.xid (reply_body h.told.reply)) (sym task)
+        (took_in book k (taken_of past) h.session.owner taken h.session.closing h.told j o kept.ops kept.steps w.5 w.3 own.1 own.2 (ap (λ z. has_call (pending z) h.told.xid) (sym task) ∙ has) answer j.stage refl h.told.reply refl old)))
+
+    -- and in its new form
+    alike : (p : ℕ) (o : Op) → h.seat.place ≡ Some p → slice_get k.ops p ≡ Some o → Alike said said o (op_after o r.0 taken (k.steps + 1) r.1)
+    alike p o e at = alike_after (k.steps + 1) said o (op_after o r.0 taken (k.steps + 1) r.1) said_past (file_after o r.0 taken (k.steps + 1) r.1) (running_upto o r.0 taken k.steps r.1 (actor.own p o e at).1)
+
+    own_job : (p : ℕ) (o : Op) → h.seat.place ≡ Some p → slice_get k.ops p ≡ Some o → (j : Job) → r.0.task ≡ Some (record { file = j.file; stage = j.stage }) → JobVersion said (ops_with k.ops h.seat.place r.0 taken (k.steps + 1) r.1) taken (op_after o r.0 taken (k.steps + 1) r.1) j.stage
+    own_job p o e at j task = job_alike (k.steps + 1) said said k.ops (ops_with k.ops h.seat.place r.0 taken (k.steps + 1) r.1) taken taken o (op_after o r.0 taken (k.steps + 1) r.1) j.stage said_past (alike p o e at) (extends_same (k.steps + 1) taken) (λ f q le. acts_stay k.ops h.seat.place r.0 taken (k.steps + 1) r.1 f q) (subst (TaskGood (Attempt said k.ops taken o) (Untold said taken o)) task (good p o e at).0)
+
+    ended : (p : ℕ) (o : Op) → h.seat.place ≡ Some p → slice_get k.ops p ≡ Some o → (len q : ℕ) (digest : List ℕ) → (op_after o r.0 taken (k.steps + 1) r.1).outcome ≡ told.Opened len digest → (op_after o r.0 taken (k.steps + 1) r.1).point ≡ Some q
+        → CameTo said (op_after o r.0 taken (k.steps + 1) r.1) q (version_in (ops_with k.ops h.seat.place r.0 taken (k.steps + 1) r.1) (op_after o r.0 taken (k.steps + 1) r.1).file q) × Since said (op_after o r.0 taken (k.steps + 1) r.1) q (version_in (ops_with k.ops h.seat.place r.0 taken (k.steps + 1) r.1) (op_after o r.0 taken (k.steps + 1) r.1).file q)
+    ended p o e at len q digest opened point =
+        let there : slice_get more.ops p ≡ Some (op_after o r.0 taken (k.steps + 1) r.1) =
+        ap (λ (l : List Op). slice_get l p) (left.ops ∙ ap (λ (t : Turned). t.core.ops) turned ∙ ap (λ l. ops_with k.ops l r.0 taken (k.steps + 1) r.1) e ∙ ap (λ l. ops_after k.ops p l r.0 taken (k.steps + 1) r.1) at) ∙ at_replaced k.ops p (op_after o r.0 taken (k.steps + 1) r.1) o at in
+        let right = left.sound.rights p (op_after o r.0 taken (k.steps + 1) r.1) there in
+        let word : o.word ≡ words.Open = sym (word_after o r.0 taken (k.steps + 1) r.1) ∙ (subst (Caused more (op_after o r.0 taken (k.steps + 1) r.1)) opened right.cause).0 in
+        let running = (own_op book k qs h.session.owner h.seat p o kept h.owner e at).4 in
+        let a = by word running r.1.ended (good p o e at).1 opened point in
+        let same = alike p o e at in
+        let version = ap (λ f. version_in (ops_with k.ops h.seat.place r.0 taken (k.steps + 1) r.1) f q) same.file ∙ acts_stay k.ops h.seat.place r.0 taken (k.steps + 1) r.1 o.file q ∙ a.1 in
+        subst (λ v. CameTo said (op_after o r.0 taken (k.steps + 1) r.1) q v × Since said (op_after o r.0 taken (k.steps + 1) r.1) q v) (sym version) (came_alike said said o (op_after o r.0 taken (k.steps + 1) r.1) q a.0 same a.2, since_alike said said o (op_after o r.0 taken (k.steps + 1) r.1) q a.0 same a.3)
+      where
+        ends : (x : ℕ) (u : Outcome) (file : ℕ) → u ≡ outcome.Opened file len digest → OutcomeGood (Attempt said k.ops taken o) u x → (v : ℕ) × Attempt said k.ops taken o v x
+        ends x u file is g = subst (λ (z : Outcome). OutcomeGood (Attempt said k.ops taken o) z x) is g
+
+        pointed_ : (x : ℕ) (u : Outcome) (file : ℕ) → u ≡ outcome.Opened file len digest → o.word ≡ words.Open → point_if (has_point o.word u) taken x o.point ≡ Some q → taken_at taken x ≡ Some q
+        pointed_ x u file is w g = ap (λ z. point_if (has_point z (outcome.Opened file len digest)) taken x o.point) (sym w) ∙ ap (λ z. point_if (has_point o.word z) taken x o.point) (sym is) ∙ g
+
+        by : o.word ≡ words.Open → o.outcome ≡ told.Running → (l : Option Ended) → EndGood (Attempt said k.ops taken o) l → (op_after o r.0 taken (k.steps + 1) (record r.1 { ended = l })).outcome ≡ told.Opened len digest → (op_after o r.0 taken (k.steps + 1) (record r.1 { ended = l })).point ≡ Some q → (v : ℕ) × (version_in k.ops o.file q ≡ v) × CameTo said o q v × Since said o q v
+        by word running None g opened point = absurd (running_not (sym running ∙ opened))
+          where
+            running_not : told.Running ≡ told.Opened len digest → ⊥
+            running_not z = absurd cc
+        by word running (Some l) g opened point =
+            let is = opened_by l.outcome len digest opened in
+            let a = ends l.rests_on l.outcome is.0 is.1 g in
+            let same : a.1.0 ≡ q = some_is a.1.0 q (sym a.1.1 ∙ pointed_ l.rests_on l.outcome is.0 is.1 word point) in
+            (a.0, ap (version_in k.ops o.file) (sym same) ∙ a.1.2, subst (λ z. CameTo said o z a.0) same a.1.3, subst (λ z. Since said o z a.0) same a.1.4)
 
 -- ---- any event
 
 versions_event : FitLaws → (all past rest : List Moment) (opening : List Opening) (k : Core) (qs : List Queue) (e : Event) (mid after : List Queue) → Step all past rest opening k qs e mid after → CountedAt past k → VersionsAt past k → VersionsBy past k e (happens k e)
-versions_event laws all past rest opening k qs (Joins c) mid after s counted h = subst (λ (o : Option Seat). VersionsBy past k (Joins c) (joins k c o)) (sym s.finds.1) (let r = server_step k.server event.Connect in versions_joins past k c s.finds.0 r.0 r.1.told s.finds.1 h)
-versions_event laws all past rest opening k qs (Does c now d) mid after s counted h = subst (λ (o : Option Seat). IsKept (book_at opening (does k c now d o).core all) (does k c now d o).core after → VersionsBy past k (Does c now d) (does k c now d o)) (sym s.finds.1) (λ left. versions_does (book_at opening k all) (book_at opening (does k c now d (Some s.finds.0)).core all) past k qs after c now d s.finds.0 s.kept s.finds.1 left h) s.left
-versions_event laws all past rest opening k qs (Serves n now bytes) mid after s counted h = versions_serves past k n now bytes (numbered k.sessions n) h
+versions_event laws all past rest opening k qs (Joins c) mid after s counted h = subst (λ (o : Option Seat). VersionsBy past k (Joins c) (joins k c o)) (sym s.finds.1) (let r = server_step k.server event.Connect in versions_joins (book_at opening k all) past k qs c s.finds.0 r.0 r.1.told s.kept s.finds.1 s.finds.2 counted h)
+versions_event laws all past rest opening k qs (Does c now d) mid after s counted h = subst (λ (o : Option Seat). IsKept (book_at opening (does k c now d o).core all) (does k c now d o).core after → VersionsBy past k (Does c now d) (does k c now d o)) (sym s.finds.1) (λ left. versions_does (book_at opening k all) (book_at opening (does k c now d (Some s.finds.0)).core all) past k qs after c now d s.finds.0 s.kept s.finds.1 left counted h) s.left
+versions_event laws all past rest opening k qs (Serves n now bytes) mid after s counted h = versions_serves past k n now bytes (numbered k.sessions n) refl counted h
 versions_event laws all past rest opening k qs (Hears n now bytes) mid after s counted h = versions_hears laws (book_at opening k all) (book_at opening (happens k (Hears n now bytes)).core all) past k qs after n now bytes mid s.kept (heard_at (book_at opening k all) k qs n now bytes mid s.kept s.finds) s.left counted h
-versions_event laws all past rest opening k qs (Settles now) mid after s counted h = versions_settles (book_at opening k all) past k qs now s.kept h
+versions_event laws all past rest opening k qs (Settles now) mid after s counted h = versions_settles (book_at opening k all) past k qs now s.kept counted h
 versions_event laws all past rest opening k qs (Cuts c) mid after s counted h = subst (λ (o : Option Seat). VersionsBy past k (Cuts c) (cuts k c o)) (sym s.finds.1) (versions_cuts (book_at opening k all) past k qs c s.finds.0 s.kept s.finds.1 counted h s.finds.0.client.linked)
-versions_event laws all past rest opening k qs (Hangs n) mid after s counted h = versions_hangs past k n (numbered k.sessions n) h
+versions_event laws all past rest opening k qs (Hangs n) mid after s counted h = versions_hangs past k n (numbered k.sessions n) refl counted h
 
 abbrev pub Versions : (all past : List Moment) → List Opening → Core → List Queue → Type 0
 Versions all past opening k qs = CountedAt past k × VersionsAt past k
 
 pub carried_versions : FitLaws → Carried Versions
 carried_versions laws = record {
-  first = λ all opening files changes count kept. (carried_counts.first all opening files changes count kept, record { jobs = λ i seat j op here is at. nothing_there op at; opened = λ p len digest o at e. nothing_there o at });
-  steps = λ all past rest opening k qs e mid after s h. (carried_counts.steps all past rest opening k qs e mid after s h.0, subst (λ z. HaveVersions z (happens k e).core.seats (happens k e).core.ops) (taken_more past (moment k e)) (versions_event laws all past rest opening k qs e mid after s h.0 h.1));
+  first = λ all opening files changes count kept. (carried_counts.first all opening files changes count kept, record { jobs = λ i seat j o here is at. nothing_there o at; opened = λ p len q digest o at e point. nothing_there o at });
+  steps = λ all past rest opening k qs e mid after s h. (carried_counts.steps all past rest opening k qs e mid after s h.0, subst (λ z. HaveVersions z (happens k e).core.sessions (happens k e).core.seats (happens k e).core.ops) (taken_more past (moment k e)) (versions_event laws all past rest opening k qs e mid after s h.0 h.1));
 }
 
 -- ---- what it makes of the promise
@@ -488,9 +714,9 @@ opens_version book k qs kept h p o at = by o.outcome refl (kept.sound.rights p o
   where
     by : (u : History) → o.outcome ≡ u → Caused book o u → OpensVersion book o u
     by (told.Opened len digest) e cause =
-        let r = h.opened p len digest o (ap (λ (l : List Op). slice_get l p) (sym kept.ops) ∙ at) e in
-        let s = r.1 in
         let point = cause.1.point in
-        let version : version_at book o.file point ≡ r.0 = ap (λ l. version_in l o.file point) kept.ops ∙ r.2 point cause.1.within.0 in
-        (s.0, point, s.1, s.2, cause.1.within.0, subst (λ v. Carries v s.0.message) (sym version) s.3)
+        let w = h.opened p len point digest o (ap (λ (l : List Op). slice_get l p) (sym kept.ops) ∙ at) e cause.1.within.0 in
+        let version : version_at book o.file point ≡ version_in k.ops o.file point = ap (λ l. version_in l o.file point) kept.ops in
+        let v = subst (λ v. CameTo (taken_of book.moments) o point v × Since (taken_of book.moments) o point v) (sym version) w in
+        record { point = point; point_is = cause.1.within.0; some = v.0; all = v.1 }
     by _ e cause = tt

@@ -1,6 +1,5 @@
 -- An open that ended gave the content of a version that an answer to a GETHASH of its carried, as a run goes on.
 use Rattle.std.proofs.Common.{◌⊎◌, inl, inr, ◌≡◌, ℕ, zero, suc, ◌+◌, ◌<◌, ◌≤◌, List, [], ◌∷◌, ◌++◌, length, Option, Some, None, Bool, true, false, refl, sym, ap, ◌∙◌, subst, arith}
-use Rattle.std.proofs.lemmas.List.Elements.{Contains-append_left}
 use Rattle.std.specs.Prelude.{◌==◌, ◌&&◌, nat_lt, slice_get, slice_set, filter, cond, Contains}
 use Rattle.std.specs.Option.{option_map_or}
 use Rattle.open_close.specs.State as client
@@ -15,13 +14,14 @@ use Rattle.register_model.specs.declared.op.Outcome.TheVariants as told
 use Rattle.register_model.specs.declared.op.Word.{Word}
 use Rattle.register_model.specs.declared.op.Word.TheVariants as words
 use Rattle.trace_replay.specs.declared.link.Taken.{Taken}
-use Rattle.trace_replay.specs.Ops.{has_point, point_if, op_after}
-use Rattle.trace_replay.specs.Core.{Seat, numbered, with_numbered}
+use Rattle.trace_replay.specs.Ops.{has_point, point_if, op_after, taken_at}
+use Rattle.trace_replay.specs.Core.{Seat, Session, numbered, with_numbered, session_of, taken_of as session_taken}
 use Rattle.trace_replay.specs.Trail.{Said}
 use Rattle.trace_replay.specs.Traffic.{is_of}
-use Rattle.trace_replay.specs.Faithful.{Carries}
-use Rattle.kept_promise.proofs.Lists.{some_is, nothing_there, of_replaced, of_appended}
+use Rattle.trace_replay.specs.Faithful.{IsHashes, Carries}
+use Rattle.kept_promise.proofs.Lists.{some_is, nothing_there, of_replaced}
 use Rattle.kept_promise.proofs.Messages.{Job, job}
+use Rattle.kept_promise.proofs.Counted.{SaidBy, said_by}
 use Rattle.kept_promise.proofs.Shapes.{StageGood}
 
 -- ---- lists
@@ -73,71 +73,104 @@ after_alike f p o c taken step acts = by acts.ended
 
 -- ---- what is carried
 
--- an answer to a GETHASH of this operation carried this version
-abbrev pub CameTo : List Said → Op → (version : ℕ) → Type 0
-CameTo taken o v = (s : Said) × Contains taken s × (is_of o s ≡ true) × Carries v s.message
+-- an answer to a GETHASH that this operation took after a moment carried this version
+abbrev pub CameTo : List Said → Op → (moment version : ℕ) → Type 0
+CameTo said o q v = (s : Said) × Contains said s × (is_of o s ≡ true) × (q < s.step) × Carries v s.message
 
-pub record HaveVersions (taken : List Said) (seats : List Seat) (ops : List Op) : Type 0 where
+-- and so did each that it took after that moment
+abbrev pub Since : List Said → Op → (moment version : ℕ) → Type 0
+Since said o q v = (s : Said) → Contains said s → is_of o s ≡ true → q < s.step → IsHashes s.message → Carries v s.message
+
+-- an attempt: the moment at which its first call was taken, the version that the file had then, and what was told of it since
+abbrev pub Attempt : List Said → List Op → List Taken → Op → (version first : ℕ) → Type 0
+Attempt said ops taken o v x = (q : ℕ) × (taken_at taken x ≡ Some q) × (version_in ops o.file q ≡ v) × CameTo said o q v × Since said o q v
+
+-- nothing was told yet since a first call was taken, if it was
+abbrev pub Untold : List Said → List Taken → Op → (first : ℕ) → Type 0
+Untold said taken o x = (q : ℕ) → taken_at taken x ≡ Some q → (s : Said) → Contains said s → is_of o s ≡ true → q < s.step → IsHashes s.message → ⊥
+
+-- the calls that were taken of a client's newest session
+abbrev pub takens : List Session → Seat → List Taken
+takens sessions seat = session_taken (session_of sessions seat.session)
+
+abbrev pub JobVersion : List Said → List Op → List Taken → Op → Stage → Type 0
+JobVersion said ops taken o s = StageGood (Attempt said ops taken o) (Untold said taken o) s
+
+pub record HaveVersions (said : List Said) (sessions : List Session) (seats : List Seat) (ops : List Op) : Type 0 where
   -- the version of an attempt under way
-  pub jobs : (i : ℕ) (seat : Seat) (j : Job) (op : Op) → numbered seats i ≡ Some seat → job seat ≡ Some j → slice_get ops j.place ≡ Some op → StageGood (λ v x. CameTo taken op v) j.stage
-  -- and of an open that ended: the file had it at the open's point
-  pub opened : (p len : ℕ) (digest : List ℕ) (o : Op) → slice_get ops p ≡ Some o → o.outcome ≡ told.Opened len digest → (v : ℕ) × CameTo taken o v × ((q : ℕ) → o.point ≡ Some q → version_in ops o.file q ≡ v)
+  pub jobs : (i : ℕ) (seat : Seat) (j : Job) (o : Op) → numbered seats i ≡ Some seat → job seat ≡ Some j → slice_get ops j.place ≡ Some o → JobVersion said ops (takens sessions seat) o j.stage
+  -- and of an open that ended
+  pub opened : (p len q : ℕ) (digest : List ℕ) (o : Op) → slice_get ops p ≡ Some o → o.outcome ≡ told.Opened len digest → o.point ≡ Some q → CameTo said o q (version_in ops o.file q) × Since said o q (version_in ops o.file q)
 
-pub stage_map : (P Q : ℕ → ℕ → Type 0) → ((v x : ℕ) → P v x → Q v x) → (s : Stage) → StageGood P s → StageGood Q s
-stage_map P Q f (stage.Listing x g) h = f g.version g.first h
-stage_map P Q f (stage.Reading g) h = f g.version g.first h
-stage_map P Q f s h = tt
+-- ---- what stays
 
-pub came_more : (taken more : List Said) (o : Op) (v : ℕ) → CameTo taken o v → CameTo (taken ++ more) o v
-came_more taken more o v h = (h.0, Contains-append_left taken more h.0 h.1, h.2, h.3)
+-- an operation has the same part of what was said
+pub record Alike (said more : List Said) (o r : Op) : Type 0 where
+  pub file : r.file ≡ o.file
+  pub forth : (s : Said) → Contains said s → is_of o s ≡ true → Contains more s × (is_of r s ≡ true)
+  pub back : (s : Said) → Contains more s → is_of r s ≡ true → Contains said s × (is_of o s ≡ true)
 
-pub versions_more : (taken more : List Said) (seats : List Seat) (ops : List Op) → HaveVersions taken seats ops → HaveVersions (taken ++ more) seats ops
-versions_more taken more seats ops h = record {
-  jobs = λ i seat j op here is at. stage_map (λ v x. CameTo taken op v) (λ v x. CameTo (taken ++ more) op v) (λ v x c. came_more taken more op v c) j.stage (h.jobs i seat j op here is at);
-  opened = λ p len digest o at e. let r = h.opened p len digest o at e in (r.0, came_more taken more o r.0 r.1, r.2);
-}
+pub alike_same : (said : List Said) (o : Op) → Alike said said o o
+alike_same said o = record { file = refl; forth = λ s c e. (c, e); back = λ s c e. (c, e) }
 
--- another seat of a client
-pub versions_seat : (taken : List Said) (seats : List Seat) (ops : List Op) (c : ℕ) (new : Seat) → ((j : Job) (op : Op) → job new ≡ Some j → slice_get ops j.place ≡ Some op → StageGood (λ v x. CameTo taken op v) j.stage) → HaveVersions taken seats ops → HaveVersions taken (with_numbered seats c new) ops
-versions_seat taken seats ops c new jobs h = record {
-  jobs = λ i seat j op here is at. elim (of_numbered seats c new i seat here) [
-    | inr other ↦ h.jobs i seat j op other.1 is at
-    | inl same ↦ jobs j op (ap job (sym same.1) ∙ is) at
-  ];
-  opened = h.opened;
-}
+-- what was taken is so still; what was not may be, after this step
+abbrev pub Extends : (n : ℕ) → List Taken → List Taken → Type 0
+Extends n taken more = ((y q : ℕ) → taken_at taken y ≡ Some q → taken_at more y ≡ Some q) × ((y q : ℕ) → taken_at more y ≡ Some q → (taken_at taken y ≡ Some q) ⊎ (n < q))
 
--- another form of an operation, which is a change at no moment up to this one where it was none
-pub versions_replaced : (taken : List Said) (seats : List Seat) (ops : List Op) (n place : ℕ) (old new : Op) → slice_get ops place ≡ Some old → ((v : ℕ) → CameTo taken old v → CameTo taken new v) → ((f p : ℕ) → p ≤ n → changed_before f p new ≡ changed_before f p old)
-    → ((p q : ℕ) (o : Op) → slice_get ops p ≡ Some o → o.point ≡ Some q → q ≤ n)
-    → ((len : ℕ) (digest : List ℕ) → new.outcome ≡ told.Opened len digest → (v : ℕ) × CameTo taken new v × ((q : ℕ) → new.point ≡ Some q → (q ≤ n) × (version_in ops new.file q ≡ v)))
-    → HaveVersions taken seats ops → HaveVersions taken seats (slice_set ops place new)
-versions_replaced taken seats ops n place old new was still same points now h = record {
-  jobs = λ i seat j op here is at. elim (of_replaced ops place new j.place op at) [
-    | inr other ↦ h.jobs i seat j op here is other.1
-    | inl new_one ↦ subst (λ (z : Op). StageGood (λ v x. CameTo taken z v) j.stage) (sym new_one.1) (stage_map (λ v x. CameTo taken old v) (λ v x. CameTo taken new v) (λ v x c. still v c) j.stage (h.jobs i seat j old here is (ap (slice_get ops) new_one.0 ∙ was)))
-  ];
-  opened = λ p len digest o at e. elim (of_replaced ops place new p o at) [
-    | inr other ↦ let r = h.opened p len digest o other.1 e in (r.0, r.1, λ q point. stays o.file q (points p q o other.1 point) ∙ r.2 q point)
-    | inl new_one ↦
-        let r = now len digest (ap (λ (z : Op). z.outcome) (sym new_one.1) ∙ e) in
-        subst (λ (z : Op). (v : ℕ) × CameTo taken z v × ((q : ℕ) → z.point ≡ Some q → version_in (slice_set ops place new) z.file q ≡ v)) (sym new_one.1) (r.0, r.1, λ q point. let u = r.2 q point in stays new.file q u.0 ∙ u.1)
-  ];
-}
+pub extends_same : (n : ℕ) (taken : List Taken) → Extends n taken taken
+extends_same n taken = (λ y q e. e, λ y q e. inl e)
+
+pub came_alike : (said more : List Said) (o r : Op) (q v : ℕ) → Alike said more o r → CameTo said o q v → CameTo more r q v
+came_alike said more o r q v a (s, there, of, lt, c) = let f = a.forth s there of in (s, f.0, f.1, lt, c)
+
+pub since_alike : (said more : List Said) (o r : Op) (q v : ℕ) → Alike said more o r → Since said o q v → Since more r q v
+since_alike said more o r q v a h = λ s there of lt is. let b = a.back s there of in h s b.0 b.1 lt is
+
+-- a moment at which something was told before is past
+came_past : (n : ℕ) (said : List Said) (o : Op) (q v : ℕ) → SaidBy n said → CameTo said o q v → q ≤ n
+came_past n said o q v past (s, there, of, lt, c) = let le = said_by n said s past there in omega (arith, lt, le)
+
+pub job_alike : (n : ℕ) (said more : List Said) (ops after : List Op) (taken later : List Taken) (o r : Op) (s : Stage) → SaidBy n said → Alike said more o r → Extends n taken later → ((f q : ℕ) → q ≤ n → version_in after f q ≡ version_in ops f q) → JobVersion said ops taken o s → JobVersion more after later r s
+job_alike n said more ops after taken later o r s past a e stays h = by s h
   where
-    stays : (f q : ℕ) → q ≤ n → version_in (slice_set ops place new) f q ≡ version_in ops f q
-    stays f q le = ap (λ z. z + 1) (count_replaced f q ops place old new was (same f q le))
+    attempt : (v x : ℕ) → Attempt said ops taken o v x → Attempt more after later r v x
+    attempt v x (q, was, version, came, since) = (q, e.0 x q was, ap (λ f. version_in after f q) a.file ∙ stays o.file q (came_past n said o q v past came) ∙ version, came_alike said more o r q v a came, since_alike said more o r q v a since)
 
--- one more operation, which has not ended as an open
-pub versions_appended : (taken : List Said) (seats : List Seat) (ops : List Op) (new : Op) → new.point ≡ None → ((i : ℕ) (seat : Seat) (j : Job) → numbered seats i ≡ Some seat → job seat ≡ Some j → j.place < length ops) → ((len : ℕ) (digest : List ℕ) → new.outcome ≡ told.Opened len digest → ⊥)
-    → HaveVersions taken seats ops → HaveVersions taken seats (ops ++ new ∷ [])
-versions_appended taken seats ops new none old not_opened h = record {
-  jobs = λ i seat j op here is at. elim (of_appended ops new j.place op at) [
-    | inr was ↦ h.jobs i seat j op here is was
-    | inl last ↦ (let lt = old i seat j here is in let e = last.0 in absurd (omega (arith, lt, e)))
+    by : (s : Stage) → JobVersion said ops taken o s → JobVersion more after later r s
+    by (stage.Hashing tries x) h = λ q was s there of lt is. let b = a.back s there of in elim (e.1 x q was) [
+      | inl old ↦ h q old s b.0 b.1 lt is
+      | inr new ↦ (let le = said_by n said s past b.0 in omega (arith, le, lt, new))
+    ]
+    by (stage.Listing x f) h = attempt f.version f.first h
+    by (stage.Reading f) h = attempt f.version f.first h
+    by (stage.Making x temp) h = tt
+    by (stage.Storing st) h = tt
+    by (stage.Committing x) h = tt
+
+-- a job was there before, or is shown
+abbrev pub JobCame : (n : ℕ) → (said more : List Said) → (sessions later : List Session) → (seats : List Seat) → (ops after : List Op) → (i : ℕ) → Seat → Job → Op → Type 0
+JobCame n said more sessions later seats ops after i seat j r =
+    ((old : Seat) × (o : Op) × (numbered seats i ≡ Some old) × (job old ≡ Some j) × (slice_get ops j.place ≡ Some o) × Alike said more o r × Extends n (takens sessions old) (takens later seat)) ⊎ JobVersion more after (takens later seat) r j.stage
+
+-- an open that has ended was there before, or is shown
+abbrev pub OpenCame : (said more : List Said) → (ops after : List Op) → (p len q : ℕ) → (digest : List ℕ) → Op → Type 0
+OpenCame said more ops after p len q digest r =
+    ((o : Op) × (slice_get ops p ≡ Some o) × Alike said more o r × (o.outcome ≡ told.Opened len digest) × (o.point ≡ Some q)) ⊎ (CameTo more r q (version_in after r.file q) × Since more r q (version_in after r.file q))
+
+pub versions_onward : (n : ℕ) (said more : List Said) (sessions later : List Session) (seats next : List Seat) (ops after : List Op) → SaidBy n said → ((f q : ℕ) → q ≤ n → version_in after f q ≡ version_in ops f q)
+    → ((i : ℕ) (seat : Seat) (j : Job) (r : Op) → numbered next i ≡ Some seat → job seat ≡ Some j → slice_get after j.place ≡ Some r → JobCame n said more sessions later seats ops after i seat j r)
+    → ((p len q : ℕ) (digest : List ℕ) (r : Op) → slice_get after p ≡ Some r → r.outcome ≡ told.Opened len digest → r.point ≡ Some q → OpenCame said more ops after p len q digest r)
+    → HaveVersions said sessions seats ops → HaveVersions more later next after
+versions_onward n said more sessions later seats next ops after past stays jobs opens h = record {
+  jobs = λ i seat j r here is at. elim (jobs i seat j r here is at) [
+    | inr shown ↦ shown
+    | inl (old, o, there, was, old_at, a, e) ↦ job_alike n said more ops after (takens sessions old) (takens later seat) o r j.stage past a e stays (h.jobs i old j o there was old_at)
   ];
-  opened = λ p len digest o at e. elim (of_appended ops new p o at) [
-    | inr was ↦ let r = h.opened p len digest o was e in (r.0, r.1, λ q point. ap (λ z. z + 1) (count_appended o.file q ops new (Rattle.kept_promise.proofs.Marks.unpointed o.file q new none)) ∙ r.2 q point)
-    | inl last ↦ absurd (not_opened len digest (ap (λ (z : Op). z.outcome) (sym last.1) ∙ e))
+  opened = λ p len q digest r at e point. elim (opens p len q digest r at e point) [
+    | inr shown ↦ shown
+    | inl (o, there, a, was, old_point) ↦
+        let w = h.opened p len q digest o there was old_point in
+        let same : version_in after r.file q ≡ version_in ops o.file q = ap (λ f. version_in after f q) a.file ∙ stays o.file q (came_past n said o q (version_in ops o.file q) past w.0) in
+        subst (λ v. CameTo more r q v × Since more r q v) (sym same) (came_alike said more o r q (version_in ops o.file q) a w.0, since_alike said more o r q (version_in ops o.file q) a w.1)
   ];
 }
