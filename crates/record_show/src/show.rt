@@ -6,6 +6,7 @@ ghost use Rattle.record_show.specs.Show.{record_text, end_text, shown};
 use crate::line::put_line;
 use crate::reading::line_of;
 use lb_base::items::{Bytes, Items};
+use rpc_record::record::Record;
 use rpc_record::records::Records;
 use rpc_record::refusal::Refusal;
 use std::alloc::{AllocError, Global};
@@ -15,7 +16,7 @@ use std::fmt::Write;
 const AT_ONCE: usize = 65_536;
 
 /// The lines of records.
-fn put_records(alloc: Global, out: &mut String, records: &[Bytes]) -> Result<(), AllocError>
+fn put_records(alloc: Global, out: &mut String, records: &[Record]) -> Result<(), AllocError>
     ensures { OnOk result (string_bytes out.new ≡ string_bytes out.old ++ flat_map record_text records.now) }
 {
     for contents in records {

@@ -4,6 +4,7 @@ pub mod Splitting
 pub mod Streaming
 pub mod Joining
 pub mod Cutting
+pub mod Alone
 pub mod Headers
 pub mod Exact
 pub mod Framing

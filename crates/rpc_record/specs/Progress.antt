@@ -1,5 +1,5 @@
 -- How far the record at the front of some bytes is known.
-use Rattle.std.specs.Prelude.{◌≡◌, ℕ, ◌<◌, ◌≤◌, List, ◌++◌, length, drop}
+use Rattle.std.specs.Prelude.{◌≡◌, ℕ, ◌<◌, ◌≤◌, List, [], ◌++◌, length, drop}
 use Rattle.limits.specs.declared.TheConstants.{RECORD_MOST, FRAGMENTS_MOST}
 use Rattle.rpc_record.specs.declared.fragments.Progress.{Progress}
 use Rattle.rpc_record.specs.declared.fragments.Found.{Found}
@@ -46,3 +46,12 @@ pub record IsCut (bytes : List ℕ) (cut : Cut) : Type 0 where
   pub parts : split bytes ≡ record { records = cut.records.items; rest = drop cut.used bytes; spoilt = cut.spoilt }
   pub within : cut.used ≤ length bytes
   pub known : Reaches (drop cut.used bytes) cut.progress
+
+-- the bytes are a record of one fragment, and nothing else
+abbrev pub IsAlone : List ℕ → Type 0
+IsAlone bytes = (4 ≤ length bytes) × (record_of bytes ≡ Whole (drop 4 bytes) [])
+
+-- the records are taken off, and what is left is known so far
+pub record IsOff (bytes left : List ℕ) (cut : Cut) : Type 0 where
+  pub parts : split bytes ≡ record { records = cut.records.items; rest = left; spoilt = cut.spoilt }
+  pub known : Reaches left cut.progress

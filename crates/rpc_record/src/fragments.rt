@@ -1,9 +1,9 @@
 //! Fragments of records (RFC 5531, section 11): what their headers say, and how far a record is
 //! known. `specs/Records.antt` states the first, `specs/Progress.antt` the second.
 
-ghost use Rattle.std.specs.Prelude.{◌≡◌, ℕ, List, IfOk};
+ghost use Rattle.std.specs.Prelude.{◌≡◌, ℕ, List, IfOk, IsTrue};
 ghost use Rattle.rpc_record.specs.Records.{header_of, HasRecord};
-ghost use Rattle.rpc_record.specs.Progress.{Reaches, IsStep, IsFound};
+ghost use Rattle.rpc_record.specs.Progress.{Reaches, IsStep, IsFound, IsAlone};
 
 use crate::refusal::Refusal;
 use lb_base::items::{Bytes, Items};
@@ -115,6 +115,22 @@ pub fn find(bytes: &[u8], known: Progress) -> Found
             Step::Done(found) => return found,
         }
     }
+}
+
+/// Whether the bytes are a record of one fragment, and nothing else.
+pub fn is_alone(bytes: &[u8]) -> bool
+    ensures { IsTrue result → IsAlone bytes.now }
+{
+    let Some(header) = header_of(bytes) else {
+        return false;
+    };
+    if !header.last {
+        return false;
+    }
+    if RECORD_MOST < header.len {
+        return false;
+    }
+    bytes.len() == 4 + header.len
 }
 
 /// The contents of the record at the front.

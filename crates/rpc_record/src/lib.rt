@@ -7,5 +7,6 @@ pub mod header;
 pub mod laws;
 pub mod marking;
 pub mod messages;
+pub mod record;
 pub mod records;
 pub mod refusal;

@@ -3,27 +3,30 @@
 
 ghost use Rattle.std.specs.Prelude.{◌≡◌, ◌≤◌, IfOk, OnErr, drop, length};
 ghost use Rattle.rpc_record.specs.Records.{nothing_read, fed};
-ghost use Rattle.rpc_record.specs.Progress.{Reaches, IsCut};
+ghost use Rattle.rpc_record.specs.Progress.{Reaches, IsCut, IsAlone, IsOff};
 
-use crate::fragments::{Found, Progress, START, find, join};
+use crate::fragments::{Found, Progress, START, find, is_alone, join};
+use crate::record::Record;
 use crate::refusal::Refusal;
 use lb_base::items::{Bytes, Items};
 use std::alloc::{AllocError, Global};
 use std::marker::Model;
+use std::mem;
 
 /// What a piece of a stream completed.
 #[derive(Drop, Debug)]
 pub struct Fed {
     /// The records that end in the piece, in order.
-    pub records: Items<Bytes>,
+    pub records: Items<Record>,
     /// Why no record can follow, if none can.
     pub spoilt: Option<Refusal>,
 }
 
 /// What was found in some bytes.
+#[derive(Drop)]
 struct Cut {
     /// The whole records.
-    pub records: Vec<Bytes>,
+    pub records: Vec<Record>,
     /// How many bytes are done with.
     pub used: usize,
     /// What is known of the record that begins behind them.
@@ -44,7 +47,7 @@ fn cut_off(alloc: Global, bytes: &Vec<u8>, known: Progress) -> Result<Cut, Alloc
     loop {
         match find(left, known) {
             Found::Whole { end } => {
-                records.push(join(alloc, left)?)?;
+                records.push(Record::of(join(alloc, left)?))?;
                 left = left.split_at(end).1;
                 used += end;
                 known = START;
@@ -80,6 +83,37 @@ fn forget(bytes: &mut Vec<u8>, used: usize)
     let left = bytes.len() - used;
     bytes.copy_within(used.., 0);
     bytes.truncate(left);
+}
+
+/// Takes off bytes that are a record of one fragment, and nothing else. They stay where they are.
+fn alone(alloc: Global, bytes: &mut Vec<u8>) -> Result<Cut, AllocError>
+    requires { IsAlone bytes.old.items }
+    ensures ok { IfOk result (λ cut. IsOff bytes.old.items bytes.new.items cut) }
+    ensures err { OnErr result (bytes.new.items ≡ bytes.old.items) }
+{
+    let mut records = Vec::with_capacity(alloc, 1)?;
+    let held = Items::from_vec(mem::replace(bytes, Vec::new(alloc)));
+    records.push_reserved(Record::behind(held, 4));
+    Ok(Cut {
+        records,
+        used: 0,
+        progress: START,
+        spoilt: None,
+    })
+}
+
+/// Takes off the whole records at the front, of the first of which so much is known.
+fn take_off(alloc: Global, bytes: &mut Vec<u8>, known: Progress) -> Result<Cut, AllocError>
+    requires { Reaches bytes.old.items known }
+    ensures ok { IfOk result (λ cut. IsOff bytes.old.items bytes.new.items cut) }
+    ensures err { OnErr result (bytes.new.items ≡ bytes.old.items) }
+{
+    if is_alone(bytes) {
+        return alone(alloc, bytes);
+    }
+    let cut = cut_off(alloc, bytes, known)?;
+    forget(bytes, cut.used);
+    Ok(cut)
 }
 
 /// One end of a stream of records. A record has at most `RECORD_MOST` bytes, in at most `FRAGMENTS_MOST` fragments;
@@ -138,7 +172,7 @@ impl Records {
         }
         let kept = self.rest.len();
         self.rest.extend_from_slice(piece)?;
-        match cut_off(alloc, &self.rest, self.known) {
+        match take_off(alloc, &mut self.rest, self.known) {
             Err(failed) => {
                 self.rest.truncate(kept);
                 Err(failed)
@@ -146,12 +180,11 @@ impl Records {
             Ok(
                 Cut {
                     records,
-                    used,
                     progress,
                     spoilt,
+                    ..
                 },
             ) => {
-                forget(&mut self.rest, used);
                 self.known = progress;
                 self.spoilt = spoilt;
                 Ok(Fed {
@@ -160,5 +193,30 @@ impl Records {
                 })
             }
         }
+    }
+
+    /// Takes a piece as `feed` does, by value: where nothing is kept the bytes stay where they are, and
+    /// where they are a record of one fragment, and nothing else, its contents stay there, too.
+    pub fn take(&mut self, alloc: Global, piece: Bytes) -> Result<Fed, AllocError>
+        ensures ok { IfOk result (λ given. fed self.old piece ≡ (self.new, given)) }
+        ensures err { OnErr result (self.new ≡ self.old) }
+    {
+        if self.spoilt.is_some() || !self.rest.is_empty() {
+            return self.feed(alloc, piece.as_slice());
+        }
+        let mut bytes = piece.into_vec();
+        let Cut {
+            records,
+            progress: known,
+            spoilt: why,
+            ..
+        } = take_off(alloc, &mut bytes, START)?;
+        self.rest = bytes;
+        self.known = known;
+        self.spoilt = why;
+        Ok(Fed {
+            records: Items::from_vec(records),
+            spoilt: why,
+        })
     }
 }

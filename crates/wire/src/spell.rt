@@ -1,12 +1,17 @@
 //! The record of a message. `specs/Message.antt` states it.
 
-ghost use Rattle.std.specs.Prelude.{◌≡◌, ◌++◌, ◌<◌, ◌^◌, IfOk, OnOk};
+ghost use Rattle.std.specs.Prelude.{◌≡◌, ◌++◌, ◌<◌, ◌≤◌, ◌^◌, length, drop, IfOk, OnOk, IfErr};
+ghost use Rattle.limits.specs.declared.TheConstants.{RECORD_MOST};
+ghost use Rattle.rpc_record.specs.Records.{marked};
+ghost use Rattle.rpc_record.specs.declared.refusal.MarkError.TheVariants as mark_errors;
 ghost use Rattle.wire.specs.Message.{message_spell, body_spell, refusal_head, call_head, no_auth, IsShort, IsSpelled, IsShortBody, BodyFits, RefusalFits};
 ghost use Rattle.rpc_record.specs.Header.{front_form, call_form};
 
 use crate::message::{Body, Message, Program, RPC_VERSION, RpcRefusal};
 use lb_base::items::Bytes;
 use rpc_record::header::{Accept, Auth, CallHead, Denial, Direction, Front, ReplyHead, Versions};
+use rpc_record::marking::mark_in_place;
+use rpc_record::refusal::MarkError;
 use std::alloc::{AllocError, Global};
 use xdr_codec::item::Item;
 use xdr_codec::program::ProgramBody;
@@ -24,6 +29,43 @@ pub fn spell(alloc: Global, message: &Message) -> Result<Bytes, AllocError>
     let mut writer = Writer::new(alloc);
     put(alloc, &mut writer, message)?;
     Ok(writer.done())
+}
+
+/// Four bytes, in whose place a mark is to stand.
+fn room_for_mark(alloc: Global) -> Result<Writer, AllocError>
+    ensures { IfOk result (λ writer. length writer ≡ 4) }
+{
+    let mut writer = Writer::new(alloc);
+    writer.u32(0)?;
+    Ok(writer)
+}
+
+/// Four bytes, and the record of a message behind them.
+fn spell_behind(alloc: Global, message: &Message) -> Result<Vec<u8>, AllocError>
+    ensures long { IfOk result (λ bytes. 4 ≤ length bytes.items) }
+    ensures spelled { IfOk result (λ bytes. drop 4 bytes.items ≡ message_spell message.now) }
+    ensures fits { OnOk result (IsShort message.now → IsSpelled message.now) }
+{
+    let mut writer = room_for_mark(alloc)?;
+    put(alloc, &mut writer, message)?;
+    Ok(writer.done().into_vec())
+}
+
+/// The record of a message as it is sent: what `spell` gives, marked as its only fragment. It is
+/// spelled where it is sent from, behind its header, so that none of its bytes is copied again.
+///
+/// More than `RECORD_MOST` bytes are refused as `TooBig`; else only memory can be wanting.
+pub fn spell_marked(alloc: Global, message: &Message) -> Result<Bytes, MarkError>
+    ensures marked { IfOk result (λ bytes. bytes ≡ marked (message_spell message.now)) }
+    ensures within { OnOk result (length (message_spell message.now) ≤ RECORD_MOST) }
+    ensures fits { OnOk result (IsShort message.now → IsSpelled message.now) }
+    ensures refused { IfErr result (λ e. length (message_spell message.now) ≤ RECORD_MOST → e ≡ mark_errors.Memory) }
+{
+    let mut bytes = spell_behind(alloc, message)?;
+    match mark_in_place(&mut bytes) {
+        Ok(()) => Ok(Bytes::from_vec(bytes)),
+        Err(refused) => Err(refused),
+    }
 }
 
 fn put(alloc: Global, writer: &mut Writer, message: &Message) -> Result<(), AllocError>

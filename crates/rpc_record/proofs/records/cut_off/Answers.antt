@@ -1,4 +1,5 @@
-use Rattle.std.proofs.Common.{arith, subst}
+use Rattle.std.proofs.Common.{sym, arith, subst}
+use Rattle.rpc_record.specs.Records.{HasRecord}
 use Rattle.rpc_record.specs.Progress.{Reaches}
 use Rattle.rpc_record.proofs.Reaching.{reach_start}
 use Rattle.rpc_record.proofs.Cutting.{cuts_more, cuts_begun, cuts_bad}
@@ -6,7 +7,7 @@ use Rattle.rpc_record.proofs.records.cut_off.Goals as goal
 
 pub loop-end-preserved : goal.loop-end-preserved
 loop-end-preserved c = record {
-  cuts = cuts_more _ _ _ _ _ _ _ _ c.loop-end.invariant.cuts c.in-Whole.ensures c.in_ok-join-in-Whole.ensures c.split_at.ensures.back c.in_ok-push-in-Whole.ensures.items;
+  cuts = cuts_more _ _ _ _ _ _ _ _ c.loop-end.invariant.cuts c.in-Whole.ensures (subst (HasRecord _) (sym c.of.ensures) c.in_ok-join-in-Whole.ensures) c.split_at.ensures.back c.in_ok-push-in-Whole.ensures.items;
   known = reach_start _;
 }
 
