@@ -2,44 +2,11 @@
 use Rattle.std.proofs.Common.{◌≡◌, refl, sym, ap, ◌∙◌, ℕ, ◌+◌, ◌≤◌, List, [], ◌∷◌, ◌++◌, length, Option, Some, None, Bool, true, false, true≢false, append_assoc, length-append, arith}
 use Rattle.std.specs.Prelude.{◌==◌, is_some, if◌then◌else◌}
 use Rattle.std.specs.Option.{option_map}
-use Rattle.temp_files.specs.Pieces.{Piece, StandApart, joined, size_most}
+use Rattle.temp_files.specs.Pieces.{Piece, StandApart, joined, all_bytes, size_most}
 
 -- bytes before those that are there, if any are
 abbrev pub behind : List ℕ → Option (List ℕ) → Option (List ℕ)
 behind w o = option_map (λ bytes. w ++ bytes) o
-
-pub behind_none : (o : Option (List ℕ)) → behind [] o ≡ o
-behind_none None = refl
-behind_none (Some b) = refl
-
-pub behind_more : (w v : List ℕ) (o : Option (List ℕ)) → behind w (behind v o) ≡ behind (w ++ v) o
-behind_more w v None = refl
-behind_more w v (Some b) = ap Some (sym (append_assoc w v b))
-
-same_number : (n : ℕ) → (n == n) ≡ true
-same_number n = search arith
-
--- a piece that begins where the bytes so far end
-pub join_step : (w : List ℕ) (size : ℕ) (p : Piece) (ps : List Piece) → (p.0 == length w) ≡ true
-    → behind w (joined (length w) size (p ∷ ps)) ≡ behind (w ++ p.1) (joined (length (w ++ p.1)) size ps)
-join_step w size p ps is =
-    ap (λ b. behind w (if b then behind p.1 (joined (length w + length p.1) size ps) else None)) is
-    ∙ behind_more w p.1 (joined (length w + length p.1) size ps)
-    ∙ ap (λ n. behind (w ++ p.1) (joined n size ps)) (sym (length-append w p.1))
-
--- a piece that begins elsewhere
-pub join_stop : (w : List ℕ) (size : ℕ) (p : Piece) (ps : List Piece) → (p.0 == length w) ≡ false
-    → behind w (joined (length w) size (p ∷ ps)) ≡ None
-join_stop w size p ps is = ap (λ b. behind w (if b then behind p.1 (joined (length w + length p.1) size ps) else None)) is
-
--- no further piece
-pub join_end : (w : List ℕ) (size : ℕ) (b : Bool) → (length w == size) ≡ b → behind w (joined (length w) size []) ≡ (if b then Some w else None)
-join_end w size true is = ap (λ b. behind w (if b then Some [] else None)) is ∙ ap Some (append_nil w)
-  where
-    append_nil : (xs : List ℕ) → xs ++ [] ≡ xs
-    append_nil [] = refl
-    append_nil (x ∷ xs) = ap (λ l. x ∷ l) (append_nil xs)
-join_end w size false is = ap (λ b. behind w (if b then Some [] else None)) is
 
 -- ---- whether they come to anything
 
@@ -93,3 +60,28 @@ joined_size at size (p ∷ ps) bytes h = by (p.0 == at) (joined (at + length p.1
     by true (Some rest) e g = omega (arith, e rest refl, ap length (some_same (p.1 ++ rest) bytes g), length-append p.1 rest)
     by true None e g = absurd (none_differs bytes g)
     by false o e g = absurd (none_differs bytes g)
+
+-- what the pieces come to is their bytes
+pub joined_all : (at size : ℕ) (ps : List Piece) (bytes : List ℕ) → joined at size ps ≡ Some bytes → bytes ≡ all_bytes ps
+joined_all at size [] bytes h = by (at == size) h
+  where
+    by : (b : Bool) → (if b then Some [] else None) ≡ Some bytes → bytes ≡ []
+    by true g = sym (some_same [] bytes g)
+    by false g = absurd (none_differs bytes g)
+joined_all at size (p ∷ ps) bytes h = by (p.0 == at) (joined (at + length p.1) size ps) (joined_all (at + length p.1) size ps) h
+  where
+    by : (b : Bool) (o : Option (List ℕ)) → ((rest : List ℕ) → o ≡ Some rest → rest ≡ all_bytes ps) → (if b then behind p.1 o else None) ≡ Some bytes → bytes ≡ p.1 ++ all_bytes ps
+    by true (Some rest) e g = sym (some_same (p.1 ++ rest) bytes g) ∙ ap (λ t. p.1 ++ t) (e rest refl)
+    by true None e g = absurd (none_differs bytes g)
+    by false o e g = absurd (none_differs bytes g)
+
+-- so where they come to something, it is their bytes, as many as the size
+pub whole_is : (size : ℕ) (ps : List Piece) → is_some (joined 0 size ps) ≡ true → Some (all_bytes ps) ≡ joined 0 size ps
+whole_is size ps h = by (joined 0 size ps) refl h
+  where
+    by : (o : Option (List ℕ)) → joined 0 size ps ≡ o → is_some o ≡ true → Some (all_bytes ps) ≡ o
+    by None e g = absurd (true≢false (sym g))
+    by (Some bytes) e g = ap Some (sym (joined_all 0 size ps bytes e))
+
+pub whole_length : (size : ℕ) (ps : List Piece) → is_some (joined 0 size ps) ≡ true → length (all_bytes ps) ≡ size
+whole_length size ps h = omega (arith, joined_size 0 size ps (all_bytes ps) (sym (whole_is size ps h)))

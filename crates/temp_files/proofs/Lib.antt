@@ -4,3 +4,4 @@ pub mod Joins
 pub mod Covering
 pub mod Counts
 pub mod TempLemmas
+pub mod Wholes

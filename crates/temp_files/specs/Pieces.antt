@@ -44,6 +44,11 @@ StandApart at (p ∷ ps) = (at ≤ p.0) × (0 < length p.1) × StandApart (p.0 +
 
 -- ---- what they come to
 
+-- the bytes of all pieces, one behind the other
+abbrev pub all_bytes : List Piece → List ℕ
+all_bytes [] = []
+all_bytes (p ∷ ps) = p.1 ++ all_bytes ps
+
 -- the pieces joined, where the first begins at this place, each other where the one before it ends, and the end is at the size
 abbrev pub joined : (at size : ℕ) → List Piece → Option (List ℕ)
 joined at size [] = if at == size then Some [] else None

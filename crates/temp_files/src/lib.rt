@@ -6,7 +6,5 @@
 #![tactic(auto)]
 
 pub mod fault;
-mod temp;
+pub mod temp;
 pub mod temps;
-#[cfg(test)]
-mod tests;

@@ -1,11 +1,10 @@
 //! One temporary file and its pieces. `specs/Pieces.antt` says which piece may be put, and what all
 //! of them come to.
 
-ghost use Rattle.std.specs.Prelude.{◌≡◌, ◌≤◌, [], None, IfOk, OnOk, OnErr, IsErrOf, length, is_some};
+ghost use Rattle.std.specs.Prelude.{◌≡◌, ◌+◌, ◌≤◌, ◌++◌, [], None, OnOk, OnErr, IsErrOf, length, is_some, vec_capacity};
 ghost use Rattle.std.specs.List.{list_any};
 ghost use Rattle.temp_files.specs.declared.fault.TempErr.TheVariants as refusal;
-ghost use Rattle.temp_files.specs.Pieces.{StandApart, overlaps, range_fault, joined, size_most};
-ghost use Rattle.temp_files.specs.Covered.{ComesTo};
+ghost use Rattle.temp_files.specs.Pieces.{StandApart, overlaps, range_fault, joined, all_bytes};
 ghost use Rattle.temp_files.specs.Temps.{assembled, empty_temp, with_piece, Tells};
 
 use crate::fault::TempErr;
@@ -77,7 +76,7 @@ fn range_fault(pieces: &Pieces, offset: u64, count: u64) -> Result<(), TempErr>
     Ok(())
 }
 
-/// Whether the pieces cover 0 to the size once each and nothing beyond.
+/// Whether the pieces cover 0 to the size once each and nothing beyond. It takes no memory.
 fn cover(pieces: &Pieces, size: u64) -> bool
     requires { StandApart 0 pieces.now.entries }
     ensures { result ≡ is_some (joined 0 size pieces.now.entries) }
@@ -92,24 +91,19 @@ fn cover(pieces: &Pieces, size: u64) -> bool
     end == size
 }
 
-/// The pieces joined in one pass, where they cover 0 to the size once each and nothing beyond. The
-/// one error is want of memory. Memory for the size is taken at first, so it is asked for only where
-/// the pieces cover that.
-fn join(alloc: Global, pieces: &Pieces, size: u64) -> Result<Option<Bytes>, AllocError>
-    requires { size ≤ size_most }
-    ensures { IfOk result (λ whole. whole ≡ joined 0 size pieces.now.entries) }
+/// The bytes of all pieces behind those that are there. Each piece is let go as soon as its bytes are
+/// moved, so that they are never all held twice.
+fn move_all(pieces: Pieces, mut whole: Vec<u8>) -> Vec<u8>
+    requires { length whole.items + length (all_bytes pieces.entries) ≤ vec_capacity whole }
+    ensures { result.items ≡ whole.items ++ all_bytes pieces.entries }
 {
-    let mut whole = Vec::with_capacity(alloc, size as usize)?;
-    for (at, bytes) in pieces.iter() {
-        if *at != whole.len() as u64 {
-            return Ok(None);
+    for (_at, bytes) in pieces {
+        match whole.extend_from_slice(bytes.as_slice()) {
+            Ok(()) => {}
+            Err(_) => unreachable!(),
         }
-        whole.extend_from_slice(bytes.as_slice())?;
     }
-    if whole.len() as u64 != size {
-        return Ok(None);
-    }
-    Ok(Some(Bytes::from_vec(whole)))
+    whole
 }
 
 impl Temp {
@@ -152,16 +146,29 @@ impl Temp {
         Ok(())
     }
 
-    /// The whole content, where the pieces cover 0 to the size once each and nothing beyond. The
-    /// one error is want of memory.
-    pub fn assembled(&self, alloc: Global, size: u64) -> Result<Option<Bytes>, AllocError>
-        requires { size ≤ size_most }
-        ensures exact { IfOk result (λ whole. whole ≡ assembled self.now size) }
-        ensures covered { IfOk result (ComesTo self.now.pieces size) }
+    /// Whether the pieces cover 0 to the size once each and nothing beyond. It takes no memory.
+    pub fn covers(&self, size: u64) -> bool
+        ensures exact { result ≡ is_some (assembled self.now size) }
+        ensures apart { StandApart 0 self.now.pieces }
     {
-        if !cover(&self.pieces, size) {
-            return Ok(None);
-        }
-        join(alloc, &self.pieces, size)
+        cover(&self.pieces, size)
+    }
+
+    /// The pieces, by the places of their first bytes.
+    pub fn pieces(&self) -> &BTreeMap<u64, Bytes>
+        ensures { result.now.entries ≡ self.now.pieces }
+    {
+        &self.pieces
+    }
+
+    /// The bytes of the pieces, one behind the other, in memory that is there for them. The pieces
+    /// are let go one by one.
+    pub fn into_bytes(self, room: Vec<u8>) -> Bytes
+        requires none { room.items ≡ [] }
+        requires fits { length (all_bytes self.pieces) ≤ vec_capacity room }
+        ensures { result ≡ all_bytes self.pieces }
+    {
+        let Temp { pieces, .. } = self;
+        Bytes::from_vec(move_all(pieces, room))
     }
 }

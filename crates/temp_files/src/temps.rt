@@ -1,7 +1,7 @@
 //! The temporary files of all sessions. `specs/Temps.antt` says what each call makes of them, and why
 //! it is refused.
 
-ghost use Rattle.std.specs.Prelude.{◌≡◌, ◌≤◌, [], IfOk, OnOk, OnErr, IsErrOf, is_some, length, None};
+ghost use Rattle.std.specs.Prelude.{◌≡◌, ◌≤◌, [], IfOk, OnOk, OnErr, IsErrOf, is_some, length, None, Some, true, vec_capacity};
 ghost use Rattle.std.specs.BTreeMap.Range.{entries_between};
 ghost use Rattle.std.specs.declared.ops.Bound.TheVariants.{Included};
 ghost use Rattle.std.specs.List.{All};
@@ -9,6 +9,7 @@ ghost use Rattle.std.specs.Ordering.{nat_cmp};
 ghost use Rattle.std.specs.Option.{option_copied};
 ghost use Rattle.temp_files.specs.declared.fault.TempErr.TheVariants as refusal;
 ghost use Rattle.temp_files.specs.Covered.{ComesTo};
+ghost use Rattle.temp_files.specs.Pieces.{StandApart};
 ghost use Rattle.temp_files.specs.Temps.{key_of, temp_at, with_temp, without_temp, without_session, temps_of, temps_most, empty_temp, room_fault, piece_fault, with_more, size_fault, whole_of, pieces_of, IsTempKeyed, Tells};
 
 use crate::fault::TempErr;
@@ -101,6 +102,66 @@ fn put(
     }
 }
 
+/// Whether the pieces of a temporary file cover 0 to the size once each and nothing beyond.
+fn covers(temps: &Keyed, session: u32, fd: u32, size: u64) -> Result<bool, TempErr>
+    ensures told { Tells result (size_fault (temp_at temps.now.entries session fd) size) }
+    ensures sure { ¬ IsErrOf result refusal.Memory }
+    ensures exact { IfOk result (λ b. b ≡ is_some (whole_of (temp_at temps.now.entries session fd) size)) }
+    ensures apart { StandApart 0 (pieces_of (temp_at temps.now.entries session fd)) }
+{
+    match find(temps, session, fd) {
+        None => Err(TempErr::BadFd),
+        Some(temp) => {
+            let covers = temp.covers(size);
+            if size > SIZE_MOST {
+                return Err(TempErr::FBig);
+            }
+            Ok(covers)
+        }
+    }
+}
+
+/// Takes out a temporary file whose pieces cover 0 to the size, and gives their bytes, in memory that
+/// is there for them.
+fn take_whole(temps: &mut Keyed, session: u32, fd: u32, size: u64, room: Vec<u8>) -> Bytes
+    requires whole { is_some (whole_of (temp_at temps.old.entries session fd) size) ≡ true }
+    requires none { room.items ≡ [] }
+    requires fits { size ≤ vec_capacity room }
+    ensures exact { Some result ≡ whole_of (temp_at temps.old.entries session fd) size }
+    ensures ended { temps.new.entries ≡ without_temp temps.old.entries session fd }
+{
+    match temps.remove(&key_of(session, fd)) {
+        Some(temp) => temp.into_bytes(room),
+        None => unreachable!(),
+    }
+}
+
+/// Takes out a temporary file, and gives its whole content where there is one.
+fn take(
+    alloc: Global,
+    temps: &mut Keyed,
+    session: u32,
+    fd: u32,
+    size: u64,
+) -> Result<Option<Bytes>, TempErr>
+    requires { All IsTempKeyed temps.old.entries }
+    ensures told { Tells result (size_fault (temp_at temps.old.entries session fd) size) }
+    ensures exact { IfOk result (λ whole. whole ≡ whole_of (temp_at temps.old.entries session fd) size) }
+    ensures covered { IfOk result (ComesTo (pieces_of (temp_at temps.old.entries session fd)) size) }
+    ensures ended { OnOk result (temps.new.entries ≡ without_temp temps.old.entries session fd) }
+    ensures err { OnErr result (temps.new.entries ≡ temps.old.entries) }
+    ensures keyed { All IsTempKeyed temps.new.entries }
+{
+    let covers = covers(temps, session, fd, size)?;
+    if !covers {
+        temps.remove(&key_of(session, fd));
+        return Ok(None);
+    }
+    let room = Vec::with_capacity(alloc, size as usize)?;
+    let whole = take_whole(temps, session, fd, size, room);
+    Ok(Some(whole))
+}
+
 /// The temporary files of all sessions. A session's own are told apart by numbers that its client
 /// picks; it has at most sixteen, each of at most 67,108,864 bytes.
 ///
@@ -134,11 +195,11 @@ impl Temps {
         }
     }
 
-    /// Whether a session has a temporary file under a number. It takes no memory.
-    pub fn has(&self, session: u32, fd: u32) -> bool
-        ensures { result ≡ is_some (temp_at self.now session fd) }
+    /// The temporary file that a session has under a number. It takes no memory.
+    pub fn find(&self, session: u32, fd: u32) -> Option<&Temp>
+        ensures { option_copied result ≡ temp_at self.now session fd }
     {
-        find(&self.files, session, fd).is_some()
+        find(&self.files, session, fd)
     }
 
     /// Makes a temporary file with nothing in it, for the file with the id `target`: `FdInUse` where
@@ -177,21 +238,18 @@ impl Temps {
         Ok(())
     }
 
-    /// The whole content of a temporary file, where its pieces cover 0 to the size once each and
-    /// nothing beyond, and else none: `BadFd` where there is no such file, `FBig` where the size is
-    /// beyond 67,108,864 bytes.
-    pub fn whole(&self, session: u32, fd: u32, size: u64) -> Result<Option<Bytes>, TempErr>
-        ensures told { Tells result (size_fault (temp_at self.now session fd) size) }
-        ensures exact { IfOk result (λ whole. whole ≡ whole_of (temp_at self.now session fd) size) }
-        ensures covered { IfOk result (ComesTo (pieces_of (temp_at self.now session fd)) size) }
+    /// Ends a temporary file, and gives its whole content, where its pieces cover 0 to the size once
+    /// each and nothing beyond, and else none: `BadFd` where there is no such file, `FBig` where the
+    /// size is beyond 67,108,864 bytes. Memory for the content is taken first, and then each piece let
+    /// go as its bytes are moved. All stays as it was where the call is refused.
+    pub fn take(&mut self, session: u32, fd: u32, size: u64) -> Result<Option<Bytes>, TempErr>
+        ensures told { Tells result (size_fault (temp_at self.old session fd) size) }
+        ensures exact { IfOk result (λ whole. whole ≡ whole_of (temp_at self.old session fd) size) }
+        ensures covered { IfOk result (ComesTo (pieces_of (temp_at self.old session fd)) size) }
+        ensures ended { OnOk result (self.new ≡ without_temp self.old session fd) }
+        ensures err { OnErr result (self.new ≡ self.old) }
     {
-        let Some(temp) = find(&self.files, session, fd) else {
-            return Err(TempErr::BadFd);
-        };
-        if size > SIZE_MOST {
-            return Err(TempErr::FBig);
-        }
-        let whole = temp.assembled(self.alloc, size)?;
+        let whole = take(self.alloc, &mut self.files, session, fd, size)?;
         Ok(whole)
     }
 
