@@ -17,7 +17,7 @@ use Rattle.chunk_cut.proofs.Only.{are_ends, chunks_are}
 use Rattle.hash_calls.specs.declared.call.HashRange.{HashRange}
 use Rattle.server_core.specs.Answers.{chunks_most, meets, told_chunks}
 use Rattle.server_core.specs.Chunks.{AreInRow, ends_behind, begins_before, IsWithin}
-use Rattle.server_core.proofs.Entries.{some_same}
+use Rattle.temp_files.proofs.Entries.{some_same}
 
 -- ---- the chunks of a content
 

@@ -3,18 +3,20 @@ use Rattle.std.proofs.Common.{◌≡◌, refl, sym, ap, ◌∙◌, ℕ, ◌+◌,
 use Rattle.std.specs.Prelude.{Result, Ok, Err, is_ok, is_some, nat_lt, if◌then◌else◌}
 use Rattle.xdr_codec.specs.declared.status.Status.{Status}
 use Rattle.xdr_codec.specs.declared.status.Status.TheVariants as status
-use Rattle.xdr_codec.specs.declared.answer.Answer.TheVariants.{Failed}
+use Rattle.xdr_codec.specs.declared.answer.Answer.TheVariants.{Done, Failed}
+use Rattle.hash_calls.specs.declared.call.TempPiece.{TempPiece}
 use Rattle.hash_calls.specs.declared.call.Commit.{Commit}
 use Rattle.hash_calls.specs.declared.message.Lb.TheVariants as lb
 use Rattle.wire.specs.declared.message.Body.TheVariants as body
 use Rattle.wire.specs.declared.message.Message.TheVariants as message
+use Rattle.temp_files.specs.Pieces.{size_most, all_bytes}
+use Rattle.temp_files.specs.Temps.{Temp, Temps, temp_at, with_temp, with_more, without_temp, empty_temp, room_fault, piece_fault, assembled, whole_of}
 use Rattle.server_core.specs.declared.event.ServerStep.{ServerStep}
 use Rattle.server_core.specs.Answers.{Node, root, file, node_of}
-use Rattle.server_core.specs.Asking.{target_in, commit_target}
-use Rattle.server_core.specs.Closing.{answers, sends, to, room_fault, makes, makes_unless, has_waiting, is_full, commits_whole, commits_to, commits}
+use Rattle.server_core.specs.Asking.{target_in, commit_target, admits}
+use Rattle.server_core.specs.Closing.{answers, sends, to, makes, makes_unless, writes, writes_unless, has_waiting, is_full, commits_whole, commits_to, commits}
 use Rattle.server_core.specs.State.{State, Change, waiting_size}
-use Rattle.server_core.specs.Temps.{Temp, temp_at, without_temp, assembled, size_most}
-use Rattle.server_core.proofs.Joins.{joined_size}
+use Rattle.temp_files.proofs.Joins.{joined_size, joined_all}
 
 -- ---- MKTMPFILE, by the file that the handle names
 
@@ -26,6 +28,50 @@ pub makes_as : (s : State) (session xid fd : ℕ) (n : Result Node Status) → m
 makes_as s session xid fd (Err e) = refl
 makes_as s session xid fd (Ok root) = refl
 makes_as s session xid fd (Ok (file f)) = refl
+
+-- one for no file
+pub makes_none : (s : State) (session xid fd : ℕ) (n : Result Node Status) (e : Status) (o : ServerStep) → target_in n ≡ Err e
+    → o ≡ to session (message.Answer xid (body.Lb (lb.MkTmpFileAnswer (Failed e tt)))) → makes s session xid fd n ≡ (s, o)
+makes_none s session xid fd n e o target said =
+    makes_as s session xid fd n
+    ∙ ap (λ (r : Result ℕ Status). makes_for s session xid fd r) target
+    ∙ ap (λ (x : ServerStep). (s, x)) (sym said)
+
+-- one that has room
+pub makes_new : (s : State) (session xid fd id : ℕ) (n : Result Node Status) (temps : Temps) (o : ServerStep) → target_in n ≡ Ok id → room_fault s.temps session fd ≡ None
+    → temps ≡ with_temp s.temps (empty_temp session fd id) → o ≡ to session (message.Answer xid (body.Lb (lb.MkTmpFileAnswer (Done tt)))) → makes s session xid fd n ≡ (record s { temps = temps }, o)
+makes_new s session xid fd id n temps o target room is said =
+    makes_as s session xid fd n
+    ∙ ap (λ (r : Result ℕ Status). makes_for s session xid fd r) target
+    ∙ ap (λ (f : Option Status). makes_unless s session xid fd id f) room
+    ∙ ap (λ (l : Temps). (record s { temps = l }, to session (message.Answer xid (body.Lb (lb.MkTmpFileAnswer (Done tt)))))) (sym is)
+    ∙ ap (λ (x : ServerStep). (record s { temps = temps }, x)) (sym said)
+
+-- one that has none
+pub makes_refused : (s : State) (session xid fd id : ℕ) (n : Result Node Status) (e : Status) (temps : Temps) (o : ServerStep) → target_in n ≡ Ok id → room_fault s.temps session fd ≡ Some e
+    → temps ≡ s.temps → o ≡ to session (message.Answer xid (body.Lb (lb.MkTmpFileAnswer (Failed e tt)))) → makes s session xid fd n ≡ (record s { temps = temps }, o)
+makes_refused s session xid fd id n e temps o target room is said =
+    makes_as s session xid fd n
+    ∙ ap (λ (r : Result ℕ Status). makes_for s session xid fd r) target
+    ∙ ap (λ (f : Option Status). makes_unless s session xid fd id f) room
+    ∙ ap (λ (l : Temps). (record s { temps = l }, to session (message.Answer xid (body.Lb (lb.MkTmpFileAnswer (Failed e tt)))))) (sym is)
+    ∙ ap (λ (x : ServerStep). (record s { temps = temps }, x)) (sym said)
+
+-- ---- TMPWRITE
+
+-- a piece that may be put is put
+pub writes_put : (s : State) (session xid : ℕ) (a : TempPiece) (t : Option Temp) (new : Temps) → piece_fault t a.offset (length a.bytes) ≡ None → new ≡ with_more s.temps t a.offset a.bytes
+    → writes s session xid a t ≡ (record s { temps = new }, to session (message.Answer xid (body.Lb (lb.TmpWriteAnswer (Done tt)))))
+writes_put s session xid a None new fits is = absurd (true≢false (ap is_some fits))
+writes_put s session xid a (Some t) new fits is =
+    ap (λ (f : Option Status). writes_unless s session xid a (Some t) f) fits
+    ∙ ap (λ (l : Temps). (record s { temps = l }, to session (message.Answer xid (body.Lb (lb.TmpWriteAnswer (Done tt)))))) (sym is)
+
+-- one that may not is refused
+pub writes_refused : (s : State) (session xid : ℕ) (a : TempPiece) (t : Option Temp) (e : Status) → piece_fault t a.offset (length a.bytes) ≡ Some e
+    → writes s session xid a t ≡ (s, to session (message.Answer xid (body.Lb (lb.TmpWriteAnswer (Failed e tt)))))
+writes_refused s session xid a None e is = ap (λ (f : Option Status). writes_unless s session xid a None f) is
+writes_refused s session xid a (Some t) e is = ap (λ (f : Option Status). writes_unless s session xid a (Some t) f) is
 
 -- ---- COMMITTMP
 
@@ -40,7 +86,7 @@ pub whole_size : (t : Temp) (size : ℕ) (content : List ℕ) → Some content �
 whole_size t size content is = omega (arith, joined_size 0 size t.pieces content (sym is))
 
 -- whether it can be done doesn't rest on the temporary files
-commits_as : (s : State) (left : List (ℕ × Temp)) (session xid size : ℕ) (t : Temp) (n : Result Node Status)
+commits_as : (s : State) (left : Temps) (session xid size : ℕ) (t : Temp) (n : Result Node Status)
     → commits_to (record s { temps = left }) session xid size t n ≡ ends_by (record s { temps = left }) session xid (commit_target s session size t (target_in n)) (assembled t size)
 commits_as s left session xid size t (Err e) = refl
 commits_as s left session xid size t (Ok root) = refl
@@ -71,33 +117,45 @@ commits_as s left session xid size t (Ok (file f)) = by (nat_lt size_most size) 
         ∙ ap (λ n. ends_by ended session xid (target false true (has_waiting s.waiting session) (is_full s n)) (Some content)) (whole_size t size content (sym is))
 
 -- one that is refused
-pub commit_refused : (s : State) (session xid : ℕ) (a : Commit) (t : Temp) (e : Status) (temps : List (ℕ × Temp)) (o : ServerStep)
+pub commit_refused : (s : State) (session xid : ℕ) (a : Commit) (t : Temp) (e : Status) (temps : Temps) (o : ServerStep)
     → temp_at s.temps session a.fd ≡ Some t → commit_target s session a.size t (target_in (node_of s.files a.handle)) ≡ Err e
     → temps ≡ without_temp s.temps session a.fd → o ≡ to session (message.Answer xid (body.Lb (lb.CommitTmpAnswer (Failed e tt))))
     → commits s session xid a (temp_at s.temps session a.fd) ≡ (record s { temps = temps }, o)
 commit_refused s session xid a t e temps o at target ended said =
-    let left : List (ℕ × Temp) = without_temp s.temps session a.fd in
+    let left : Temps = without_temp s.temps session a.fd in
     ap (λ (x : Option Temp). commits s session xid a x) at
     ∙ commits_as s left session xid a.size t (node_of s.files a.handle)
     ∙ ap (λ (x : Result ℕ Status). ends_by (record s { temps = left }) session xid x (assembled t a.size)) target
-    ∙ ap (λ (l : List (ℕ × Temp)). (record s { temps = l }, to session (message.Answer xid (body.Lb (lb.CommitTmpAnswer (Failed e tt)))))) (sym ended)
+    ∙ ap (λ (l : Temps). (record s { temps = l }, to session (message.Answer xid (body.Lb (lb.CommitTmpAnswer (Failed e tt)))))) (sym ended)
     ∙ ap (λ (x : ServerStep). (record s { temps = temps }, x)) (sym said)
 
 -- one whose change waits from now on
-pub commit_taken : (s n : State) (session xid id : ℕ) (a : Commit) (t : Temp) (content : List ℕ) (temps : List (ℕ × Temp)) (o : ServerStep)
+pub commit_taken : (s n : State) (session xid id : ℕ) (a : Commit) (t : Temp) (content : List ℕ) (o : ServerStep)
     → temp_at s.temps session a.fd ≡ Some t → commit_target s session a.size t (target_in (node_of s.files a.handle)) ≡ Ok id
-    → Some content ≡ assembled t a.size → n ≡ record s { waiting = s.waiting ++ record { session = session; xid = xid; file = id; content = content } ∷ [] }
-    → temps ≡ without_temp n.temps session a.fd → o ≡ sends []
-    → commits s session xid a (temp_at s.temps session a.fd) ≡ (record n { temps = temps }, o)
-commit_taken s n session xid id a t content temps o at target whole waits ended said =
-    let left : List (ℕ × Temp) = without_temp s.temps session a.fd in
+    → Some content ≡ assembled t a.size → n ≡ admits s session xid id a.fd content → o ≡ sends []
+    → commits s session xid a (temp_at s.temps session a.fd) ≡ (n, o)
+commit_taken s n session xid id a t content o at target whole waits said =
+    let left : Temps = without_temp s.temps session a.fd in
     ap (λ (x : Option Temp). commits s session xid a x) at
     ∙ commits_as s left session xid a.size t (node_of s.files a.handle)
     ∙ ap (λ (x : Result ℕ Status). ends_by (record s { temps = left }) session xid x (assembled t a.size)) target
     ∙ ap (λ (x : Option (List ℕ)). ends_by (record s { temps = left }) session xid (Ok id) x) (sym whole)
-    ∙ ap (λ (m : State). (record m { temps = without_temp m.temps session a.fd }, sends [])) (sym waits)
-    ∙ ap (λ (l : List (ℕ × Temp)). (record n { temps = l }, sends [])) (sym ended)
-    ∙ ap (λ (x : ServerStep). (record n { temps = temps }, x)) (sym said)
+    ∙ ap (λ (m : State). (m, sends [])) (sym waits)
+    ∙ ap (λ (x : ServerStep). (n, x)) (sym said)
+
+-- the same of one that may not be there
+pub whole_of_size : (t : Option Temp) (size : ℕ) (content : List ℕ) → Some content ≡ whole_of t size → length content ≡ size
+whole_of_size None size content is = absurd (true≢false (ap is_some is))
+whole_of_size (Some t) size content is = whole_size t size content is
+
+-- what a temporary file comes to is the bytes of its pieces
+pub whole_bytes : (t : Temp) (size : ℕ) (content : List ℕ) → Some content ≡ assembled t size → content ≡ all_bytes t.pieces
+whole_bytes t size content is = joined_all 0 size t.pieces content (sym is)
+
+-- what is there
+pub there : (o : Option (List ℕ)) → is_some o ≡ true → (content : List ℕ) × (Some content ≡ o)
+there None h = absurd (true≢false (sym h))
+there (Some content) h = (content, refl)
 
 -- what can be done is whole, within the limit of a file, and has its place
 pub target_fits : (s : State) (session size : ℕ) (t : Temp) (r : Result ℕ Status) (id : ℕ) → commit_target s session size t r ≡ Ok id

@@ -1,5 +1,5 @@
 -- How many bytes the files hold, after one is put among them.
-use Rattle.std.proofs.Common.{◌≡◌, refl, sym, ap, ◌∙◌, ℕ, ◌+◌, List, [], ◌∷◌, length, Option, Some, None, arith}
+use Rattle.std.proofs.Common.{◌≡◌, refl, sym, ap, ◌∙◌, ℕ, ◌+◌, List, [], ◌∷◌, length, Option, arith}
 use Rattle.std.specs.Prelude.{unwrap_or}
 use Rattle.std.specs.Cmp.{nat_cmp_total}
 use Rattle.std.specs.List.{sum_by}
@@ -24,13 +24,3 @@ files_size_sum (e ∷ es) = ap (λ n. length e.1.content + n) (files_size_sum es
 pub size_with_file : (files : List (ℕ × File)) (g : File) → IsStrictlySortedBy nat_cmp (keys_of files)
     → files_size (with_file files g) + size_at (file_at files g.id) ≡ files_size files + length g.content
 size_with_file files g s = omega (arith, files_size_sum files, files_size_sum (with_file files g), sum_by-insert_entry (λ (f : File). length f.content) nat_cmp_total files g.id g s)
-
--- a file in the place of another
-pub size_replaced : (files : List (ℕ × File)) (g old : File) → IsStrictlySortedBy nat_cmp (keys_of files) → file_at files g.id ≡ Some old
-    → files_size (with_file files g) + length old.content ≡ files_size files + length g.content
-size_replaced files g old s at = omega (arith, size_with_file files g s, ap size_at at)
-
--- a file under an id that was free
-pub size_added : (files : List (ℕ × File)) (g : File) → IsStrictlySortedBy nat_cmp (keys_of files) → file_at files g.id ≡ None
-    → files_size (with_file files g) ≡ files_size files + length g.content
-size_added files g s at = omega (arith, size_with_file files g s, ap size_at at)

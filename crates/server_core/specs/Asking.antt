@@ -1,12 +1,13 @@
 -- When the change of a COMMITTMP may wait, apart from what becomes of it: this is found before any of its content is joined.
-use Rattle.std.specs.Prelude.{◌≡◌, ℕ, Option, Some, None, Result, Ok, Err, true, is_ok, is_some, nat_lt, if◌then◌else◌}
+use Rattle.std.specs.Prelude.{◌≡◌, ℕ, List, [], ◌∷◌, ◌++◌, Option, Some, None, Result, Ok, Err, true, is_ok, is_some, nat_lt, if◌then◌else◌}
 use Rattle.xdr_codec.specs.declared.status.Status.{Status}
 use Rattle.xdr_codec.specs.declared.status.Status.TheVariants as status
 use Rattle.hash_calls.specs.declared.call.Commit.{Commit}
+use Rattle.temp_files.specs.Pieces.{size_most}
+use Rattle.temp_files.specs.Temps.{Temp, without_temp, assembled}
 use Rattle.server_core.specs.Answers.{Node, root, file, node_of}
 use Rattle.server_core.specs.Closing.{has_waiting, is_full}
 use Rattle.server_core.specs.State.{State}
-use Rattle.server_core.specs.Temps.{Temp, assembled, size_most}
 
 -- the id of the file that a handle names; the root is none
 abbrev pub target_in : Result Node Status → Result ℕ Status
@@ -26,3 +27,7 @@ commit_target s session size t (Ok id) =
 abbrev pub CanWait : State → (session : ℕ) → Commit → Option Temp → Type 0
 CanWait s session a None = ⊥
 CanWait s session a (Some t) = is_ok (commit_target s session a.size t (target_in (node_of s.files a.handle))) ≡ true
+
+-- what a temporary file comes to waits from now on as the next content of a file, and the temporary file has ended
+abbrev pub admits : State → (session xid id fd : ℕ) → List ℕ → State
+admits s session xid id fd content = record s { temps = without_temp s.temps session fd; waiting = s.waiting ++ record { session = session; xid = xid; file = id; content = content } ∷ [] }

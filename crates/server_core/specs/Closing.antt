@@ -1,6 +1,6 @@
 -- What the server does for the calls of a close: MKTMPFILE, TMPWRITE, CONDWRITE and COMMITTMP, and how a change is made.
-use Rattle.std.specs.Prelude.{ℕ, ◌+◌, List, [], ◌∷◌, ◌++◌, length, Option, Some, None, Result, Ok, Err, Bool, false, ◌||◌, ◌==◌, is_some, unwrap_or, max, nat_lt, nat_le, if◌then◌else◌}
-use Rattle.limits.specs.declared.TheConstants.{TEMPS_MOST, PIECE_MOST, TREE_MOST, CHANGES_MOST}
+use Rattle.std.specs.Prelude.{ℕ, ◌+◌, List, [], ◌∷◌, ◌++◌, length, Option, Some, None, Result, Ok, Err, Bool, false, ◌||◌, ◌==◌, unwrap_or, max, nat_lt, if◌then◌else◌}
+use Rattle.limits.specs.declared.TheConstants.{PIECE_MOST, TREE_MOST, CHANGES_MOST}
 use Rattle.std.specs.List.{list_any}
 use Rattle.sha1.specs.Sha1.{sha1}
 use Rattle.xdr_codec.specs.declared.status.Status.{Status}
@@ -16,6 +16,8 @@ use Rattle.hash_calls.specs.declared.message.Lb.TheVariants as lb
 use Rattle.wire.specs.declared.message.Body.TheVariants as body
 use Rattle.wire.specs.declared.message.Message.{Message}
 use Rattle.wire.specs.declared.message.Message.TheVariants as message
+use Rattle.temp_files.specs.Pieces.{size_most}
+use Rattle.temp_files.specs.Temps.{Temp, with_temp, without_temp, empty_temp, room_fault, piece_fault, with_piece, assembled}
 use Rattle.server_core.specs.declared.event.Sent.{Sent}
 use Rattle.server_core.specs.declared.event.ServerStep.{ServerStep}
 use Rattle.server_core.specs.declared.event.Told.TheVariants as told
@@ -24,13 +26,8 @@ use Rattle.server_core.specs.declared.journal.Entry.{Entry}
 use Rattle.server_core.specs.declared.journal.EntryKind.TheVariants as entry
 use Rattle.server_core.specs.Answers.{Node, root, file, node_of}
 use Rattle.server_core.specs.State.{State, Change, file_at, with_file, bytes_held}
-use Rattle.server_core.specs.Temps.{Temp, temp_at, with_temp, without_temp, temps_of, piece_fault, with_piece, assembled, size_most}
 
 -- ---- limits
-
--- the most temporary files of a session
-abbrev pub temps_most : ℕ
-temps_most = TEMPS_MOST
 
 -- the most bytes that one CONDWRITE names
 abbrev pub cond_most : ℕ
@@ -63,22 +60,15 @@ done_unless (Some e) = Failed e tt
 
 -- ---- MKTMPFILE
 
--- why the session can't have a further temporary file under this number
-abbrev pub room_fault : List (ℕ × Temp) → (session number : ℕ) → Option Status
-room_fault temps session number =
-    if is_some (temp_at temps session number) then Some status.FdInUse
-    else if nat_le temps_most (temps_of temps session) then Some status.TooManyTemps
-    else None
-
-abbrev pub makes_unless : State → (session xid number target : ℕ) → Option Status → State × ServerStep
-makes_unless s session xid number target (Some e) = answers s session xid (lb.MkTmpFileAnswer (Failed e tt))
-makes_unless s session xid number target None = answers (record s { temps = with_temp s.temps (record { session = session; number = number; target = target; pieces = [] }) }) session xid (lb.MkTmpFileAnswer (Done tt))
+abbrev pub makes_unless : State → (session xid fd target : ℕ) → Option Status → State × ServerStep
+makes_unless s session xid fd target (Some e) = answers s session xid (lb.MkTmpFileAnswer (Failed e tt))
+makes_unless s session xid fd target None = answers (record s { temps = with_temp s.temps (empty_temp session fd target) }) session xid (lb.MkTmpFileAnswer (Done tt))
 
 -- a temporary file with nothing in it, for a file that is there
-abbrev pub makes : State → (session xid number : ℕ) → Result Node Status → State × ServerStep
-makes s session xid number (Err e) = answers s session xid (lb.MkTmpFileAnswer (Failed e tt))
-makes s session xid number (Ok root) = answers s session xid (lb.MkTmpFileAnswer (Failed status.IsDir tt))
-makes s session xid number (Ok (file f)) = makes_unless s session xid number f.id (room_fault s.temps session number)
+abbrev pub makes : State → (session xid fd : ℕ) → Result Node Status → State × ServerStep
+makes s session xid fd (Err e) = answers s session xid (lb.MkTmpFileAnswer (Failed e tt))
+makes s session xid fd (Ok root) = answers s session xid (lb.MkTmpFileAnswer (Failed status.IsDir tt))
+makes s session xid fd (Ok (file f)) = makes_unless s session xid fd f.id (room_fault s.temps session fd)
 
 -- ---- TMPWRITE
 

@@ -1,6 +1,4 @@
 pub mod State
-pub mod Temps
-pub mod Pieces
 pub mod Chunks
 pub mod Answers
 pub mod Closing

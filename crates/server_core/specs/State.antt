@@ -6,7 +6,7 @@ use Rattle.std.specs.Ordering.{nat_cmp}
 pub use Rattle.server_core.specs.declared.change.Change.{Change}
 use Rattle.server_core.specs.declared.file.File.{File}
 use Rattle.server_core.specs.declared.journal.Entry.{Entry}
-use Rattle.server_core.specs.Temps.{Temp}
+use Rattle.temp_files.specs.Temps.{Temps}
 
 pub record State : Type 0 where
   -- the files of the root, each with its id, by rising id
@@ -16,7 +16,7 @@ pub record State : Type 0 where
   -- the changes that were made since, the oldest first
   pub journal : List Entry
   -- the temporary files, each with its key, by rising key
-  pub temps : List (ℕ × Temp)
+  pub temps : Temps
   -- the changes that wait, the one that came first before the others
   pub waiting : List Change
   -- the sessions that stand

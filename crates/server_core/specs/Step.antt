@@ -10,16 +10,16 @@ use Rattle.wire.specs.declared.message.Body.TheVariants as body
 use Rattle.wire.specs.declared.message.Message.{Message}
 use Rattle.wire.specs.declared.message.Message.TheVariants as message
 use Rattle.wire.specs.declared.message.RpcRefusal.TheVariants as refusal
+use Rattle.temp_files.specs.Temps.{temp_at, without_session, room_fault, piece_fault}
 use Rattle.server_core.specs.declared.event.Event.{Event}
 use Rattle.server_core.specs.declared.event.Event.TheVariants as event
 use Rattle.server_core.specs.declared.event.ServerStep.{ServerStep}
 use Rattle.server_core.specs.declared.event.Told.TheVariants as told
 use Rattle.server_core.specs.declared.file.File.{File}
 use Rattle.server_core.specs.State.{State, with_file}
-use Rattle.server_core.specs.Temps.{temp_at, piece_fault}
 use Rattle.server_core.specs.Answers.{Node, file, node_of, hash_answer, read_answer}
 use Rattle.server_core.specs.Asking.{CanWait}
-use Rattle.server_core.specs.Closing.{sends, to, at, room_fault, makes, writes, names, commits, settles}
+use Rattle.server_core.specs.Closing.{sends, to, at, makes, writes, names, commits, settles}
 
 -- ---- a message
 
@@ -67,7 +67,7 @@ connect s false = (s, record { send = []; told = told.Full; entries = 0; missed 
 
 -- the session's temporary files go, and its change that waits
 abbrev pub hangs : State → (session : ℕ) → State
-hangs s session = record s { sessions = filter (λ k. not (k == session)) s.sessions; temps = filter (λ e. not (e.1.session == session)) s.temps; waiting = filter (λ c. not (c.session == session)) s.waiting }
+hangs s session = record s { sessions = filter (λ k. not (k == session)) s.sessions; temps = without_session s.temps session; waiting = filter (λ c. not (c.session == session)) s.waiting }
 
 abbrev pub hangs_if : State → Bool → (session : ℕ) → State × ServerStep
 hangs_if s true session = (hangs s session, sends [])

@@ -1,12 +1,15 @@
 //! Contents of files, each with its chunks. `specs/Chunks.antt` of `chunk_cut` says which chunks a
 //! content has.
 
-ghost use Rattle.std.specs.Prelude.{◌≡◌, length, IfOk};
+ghost use Rattle.std.specs.Prelude.{◌≡◌, ◌<◌, ◌^◌, length, IfOk};
 ghost use Rattle.chunk_cut.specs.Chunks.{chunks_of};
+ghost use Rattle.temp_files.specs.Pieces.{all_bytes};
 
 use chunk_cut::chunk::Chunk;
+use chunk_cut::cutter::Cutter;
 use lb_base::items::{Bytes, Items};
 use std::alloc::{AllocError, Global};
+use std::collections::BTreeMap;
 use std::marker::Model;
 
 /// A content, with its chunks beside it: they are made once, when the content comes. Contracts see
@@ -37,6 +40,14 @@ impl Chunked {
         Ok(Chunked { bytes, chunks })
     }
 
+    /// A content whose chunks are these. It takes no memory.
+    pub fn with_chunks(bytes: Bytes, chunks: Items<Chunk>) -> Chunked
+        requires { chunks ≡ chunks_of bytes }
+        ensures { result ≡ bytes }
+    {
+        Chunked { bytes, chunks }
+    }
+
     /// How many bytes the content has.
     pub fn len(&self) -> usize
         ensures { result ≡ length self.now }
@@ -56,5 +67,26 @@ impl Chunked {
         ensures { result.now ≡ chunks_of self.now }
     {
         self.chunks.as_slice()
+    }
+}
+
+/// The chunks of a content that is held in pieces, one behind the other. The one error is want of
+/// memory.
+pub fn cut_pieces(alloc: Global, pieces: &BTreeMap<u64, Bytes>) -> Result<Items<Chunk>, AllocError>
+    requires { length (all_bytes pieces.now.entries) < 2 ^ 64 }
+    ensures { IfOk result (λ chunks. chunks ≡ chunks_of (all_bytes pieces.now.entries)) }
+{
+    let mut cutter = Cutter::new();
+    let mut chunks = Items::new(alloc);
+    for (_at, bytes) in pieces.iter() {
+        let ended = cutter.feed(alloc, bytes.as_slice())?;
+        chunks.extend_from_slice(ended.as_slice())?;
+    }
+    match cutter.finish() {
+        Some(last) => {
+            chunks.push(last)?;
+            Ok(chunks)
+        }
+        None => Ok(chunks),
     }
 }

@@ -1,48 +1,61 @@
 //! The calls of a close: MKTMPFILE, TMPWRITE, CONDWRITE and COMMITTMP. `specs/Closing.antt` says what
 //! each does, and `specs/Asking.antt` when the change of a COMMITTMP may wait.
 
-ghost use Rattle.std.specs.Prelude.{◌≡◌, ◌==◌, ◌+◌, ◌≤◌, ◌∷◌, ◌++◌, [], None, length, IfOk, OnOk, OnErr, false};
+ghost use Rattle.std.specs.Prelude.{◌≡◌, ◌==◌, ◌≤◌, ℕ, List, ◌∷◌, ◌++◌, [], Some, None, length, is_some, IfOk, OnOk, OnErr, true, false};
 ghost use Rattle.std.specs.List.{list_any};
 ghost use Rattle.hash_calls.specs.declared.message.Lb.TheVariants as lb;
 ghost use Rattle.wire.specs.declared.message.Body.TheVariants as body;
 ghost use Rattle.wire.specs.declared.message.Message.TheVariants as message;
 ghost use Rattle.xdr_codec.specs.declared.answer.Answer.TheVariants.{Failed};
+ghost use Rattle.temp_files.specs.Pieces.{size_most};
+ghost use Rattle.temp_files.specs.Temps.{temp_at, without_temp, room_fault, piece_fault, whole_of, status_of};
 ghost use Rattle.server_core.specs.Answers.{node_of};
-ghost use Rattle.server_core.specs.Asking.{target_in, commit_target, CanWait};
-ghost use Rattle.server_core.specs.Closing.{to, room_fault, makes, writes, names, commits, cond_fault, has_waiting, is_full};
+ghost use Rattle.server_core.specs.Asking.{target_in, commit_target, CanWait, admits};
+ghost use Rattle.server_core.specs.Closing.{to, makes, writes, names, commits, cond_fault, has_waiting, is_full};
 ghost use Rattle.server_core.specs.Step.{IsFile};
-ghost use Rattle.server_core.specs.Temps.{temp_at, piece_fault, size_most};
-ghost use Rattle.server_core.specs.View.{state_of, IsBounded};
+ghost use Rattle.server_core.specs.View.{state_of, IsBounded, HasRoom};
 
+use crate::answers;
 use crate::change::Change;
-use crate::chunked::Chunked;
+use crate::chunked::{self, Chunked};
 use crate::event::ServerStep;
 use crate::state::ServerState;
 use crate::steps::{answer, nothing};
-use crate::temp::Temp;
-use crate::temps::Temps;
-use crate::{answers, temps};
 use hash_calls::call::{Commit, CondPiece, NewTemp, TempPiece};
 use hash_calls::message::Lb;
 use lb_base::items::Bytes;
 use limits::{CHANGES_MOST, FILE_MOST, PIECE_MOST, TREE_MOST};
 use std::alloc::{AllocError, Global};
 use std::mem;
+use temp_files::fault::TempErr;
+use temp_files::temp::Temp;
+use temp_files::temps::Temps;
 use wire::message::Body;
 use xdr_codec::answer::Answer;
 use xdr_codec::status::Status;
 
+/// The status of a call that the temporary files refuse. The one error is want of memory.
+fn status_of(refusal: TempErr) -> Result<Status, AllocError>
+    ensures ok { IfOk result (λ status. status_of refusal ≡ Some status) }
+    ensures err { OnErr result (status_of refusal ≡ None) }
+{
+    match refusal.status() {
+        Some(status) => Ok(status),
+        None => Err(AllocError),
+    }
+}
+
 /// Why a CONDWRITE can't be done. This server knows no bytes by their digest.
 fn cond_fault(temps: &Temps, session: u32, piece: &CondPiece) -> Status
-    ensures { result ≡ cond_fault piece.now (temp_at temps.now.entries session piece.now.fd) }
+    ensures { result ≡ cond_fault piece.now (temp_at temps.now session piece.now.fd) }
 {
     if piece.count == 0 || piece.count > PIECE_MOST {
         return Status::Inval;
     }
     let count = u64::from(piece.count);
-    match temps::piece_fault(temps, session, piece.fd, piece.offset, count) {
-        Some(status) => status,
-        None => Status::HashNotFound,
+    match temps.check(session, piece.fd, piece.offset, count) {
+        Ok(()) => Status::HashNotFound,
+        Err(refusal) => refusal.status().unwrap_or(Status::HashNotFound),
     }
 }
 
@@ -75,9 +88,34 @@ fn wrote(alloc: Global, session: u32, xid: u32, told: Answer<(), ()>) -> ServerS
     answer(alloc, session, xid, Body::Lb(Lb::TmpWriteAnswer(told)))
 }
 
+/// The content that a temporary file comes to, with its chunks. The temporary file ends. Its chunks are
+/// cut while it stands, so that memory is there for all before its first piece is let go. The one
+/// error is want of memory, and all then stays as it was.
+fn take_content(
+    alloc: Global,
+    temps: &mut Temps,
+    session: u32,
+    commit: &Commit,
+) -> Result<Chunked, AllocError>
+    requires size { commit.now.size ≤ size_most }
+    requires whole { is_some (whole_of (temp_at temps.old session commit.now.fd) commit.now.size) ≡ true }
+    ensures content { IfOk result (λ content. Some content ≡ whole_of (temp_at temps.old session commit.now.fd) commit.now.size) }
+    ensures ended { OnOk result (temps.new ≡ without_temp temps.old session commit.now.fd) }
+    ensures err { OnErr result (temps.new ≡ temps.old) }
+{
+    let Some(temp) = temps.find(session, commit.fd) else {
+        unreachable!()
+    };
+    let chunks = chunked::cut_pieces(alloc, temp.pieces())?;
+    match temps.take(session, commit.fd, commit.size) {
+        Ok(Some(bytes)) => Ok(Chunked::with_chunks(bytes, chunks)),
+        Ok(None) => unreachable!(),
+        Err(_) => Err(AllocError),
+    }
+}
+
 impl ServerState {
     /// A MKTMPFILE. An `Err` changes nothing.
-    #[tactic(auto, using(crate::proofs::Closes::makes_as))]
     pub fn make_temp(
         &mut self,
         alloc: Global,
@@ -96,11 +134,13 @@ impl ServerState {
             Ok(id) => id,
             Err(status) => return Ok(made(alloc, session, xid, Answer::Failed(status, ()))),
         };
-        if let Some(status) = temps::room_fault(&self.temps, session, new.fd) {
-            return Ok(made(alloc, session, xid, Answer::Failed(status, ())));
+        match self.temps.make(session, new.fd, target) {
+            Ok(()) => Ok(made(alloc, session, xid, Answer::Done(()))),
+            Err(refusal) => {
+                let status = status_of(refusal)?;
+                Ok(made(alloc, session, xid, Answer::Failed(status, ())))
+            }
         }
-        temps::make(alloc, &mut self.temps, session, new.fd, target)?;
-        Ok(made(alloc, session, xid, Answer::Done(())))
     }
 
     /// A TMPWRITE. Its bytes are taken out of it. An `Err` changes nothing.
@@ -118,19 +158,14 @@ impl ServerState {
         ensures takes { OnErr result (piece_fault (temp_at (state_of self.old).temps session piece.old.fd) piece.old.offset (length piece.old.bytes) ≡ None) }
         ensures bounded { IsBounded self.new }
     {
-        let count = piece.bytes.len() as u64;
-        if let Some(status) = temps::piece_fault(
-            &self.temps,
-            session,
-            piece.fd,
-            piece.offset,
-            count,
-        ) {
-            return Ok(wrote(alloc, session, xid, Answer::Failed(status, ())));
-        }
         let bytes = mem::replace(&mut piece.bytes, Bytes::new(alloc));
-        temps::put(&mut self.temps, session, piece.fd, piece.offset, bytes)?;
-        Ok(wrote(alloc, session, xid, Answer::Done(())))
+        match self.temps.put(session, piece.fd, piece.offset, bytes) {
+            Ok(()) => Ok(wrote(alloc, session, xid, Answer::Done(()))),
+            Err(refusal) => {
+                let status = status_of(refusal)?;
+                Ok(wrote(alloc, session, xid, Answer::Failed(status, ())))
+            }
+        }
     }
 
     /// A CONDWRITE, which is never done here. It takes no memory.
@@ -159,26 +194,47 @@ impl ServerState {
         ensures takes { OnErr result (CanWait (state_of self.old) session commit.now (temp_at (state_of self.old).temps session commit.now.fd)) }
         ensures bounded { IsBounded self.new }
     {
-        let Some(temp) = temps::find(&self.temps, session, commit.fd) else {
+        let Some(temp) = self.temps.find(session, commit.fd) else {
             return Ok(refuse_commit(alloc, session, xid, Status::BadFd));
         };
         let file = match self.commit_target(session, temp, commit) {
             Ok(file) => file,
             Err(status) => {
-                temps::end(&mut self.temps, session, commit.fd);
+                self.temps.end(session, commit.fd);
                 return Ok(refuse_commit(alloc, session, xid, status));
             }
         };
-        let bytes = temp.joined(alloc, commit.size)?;
-        let content = Chunked::new(alloc, bytes)?;
+        self.admit(alloc, session, xid, file, commit)?;
+        Ok(nothing(alloc))
+    }
+
+    /// What a temporary file comes to waits from now on as the next content of a file, and the
+    /// temporary file ends. An `Err` changes nothing.
+    fn admit(
+        &mut self,
+        alloc: Global,
+        session: u32,
+        xid: u32,
+        file: u64,
+        commit: &Commit,
+    ) -> Result<(), AllocError>
+        requires bounded { IsBounded self.old }
+        requires size { commit.now.size ≤ size_most }
+        requires whole { is_some (whole_of (temp_at (state_of self.old).temps session commit.now.fd) commit.now.size) ≡ true }
+        requires room { is_full (state_of self.old) commit.now.size ≡ false }
+        ensures ok { (content : List ℕ) → Some content ≡ whole_of (temp_at (state_of self.old).temps session commit.now.fd) commit.now.size → OnOk result (state_of self.new ≡ admits (state_of self.old) session xid file commit.now.fd content) }
+        ensures err { OnErr result (state_of self.new ≡ state_of self.old) }
+        ensures bounded { IsBounded self.new }
+    {
+        self.reserve()?;
+        let content = take_content(alloc, &mut self.temps, session, commit)?;
         self.wait(Change {
             session,
             xid,
             file,
             content,
-        })?;
-        temps::end(&mut self.temps, session, commit.fd);
-        Ok(nothing(alloc))
+        });
+        Ok(())
     }
 
     /// The id of the file that is to get what a temporary file comes to, or why it can't get it.
@@ -216,19 +272,28 @@ impl ServerState {
         changes > CHANGES_MOST || self.bytes_held.saturating_add(size) > TREE_MOST
     }
 
-    /// A change waits from now on, behind the others. An `Err` changes nothing.
-    fn wait(&mut self, change: Change) -> Result<(), AllocError>
+    /// Takes memory for one change more that waits, and for its entry. Nothing else changes.
+    fn reserve(&mut self) -> Result<(), AllocError>
+        requires { IsBounded self.old }
+        ensures same { state_of self.new ≡ state_of self.old }
+        ensures bounded { IsBounded self.new }
+        ensures room { OnOk result (HasRoom self.new) }
+    {
+        self.journal.reserve(self.waiting.len() + 1)?;
+        self.waiting.reserve(1)?;
+        Ok(())
+    }
+
+    /// A change waits from now on, behind the others. It takes no memory.
+    fn wait(&mut self, change: Change)
         requires bounded { IsBounded self.old }
         requires size { length change.content ≤ size_most }
-        requires room { is_full (state_of self.old) (length change.content) ≡ false }
-        ensures ok { OnOk result (state_of self.new ≡ record (state_of self.old) { waiting = (state_of self.old).waiting ++ change ∷ [] }) }
-        ensures err { OnErr result (state_of self.new ≡ state_of self.old) }
+        requires place { is_full (state_of self.old) (length change.content) ≡ false }
+        requires room { HasRoom self.old }
+        ensures waits { state_of self.new ≡ record (state_of self.old) { waiting = (state_of self.old).waiting ++ change ∷ [] } }
         ensures bounded { IsBounded self.new }
     {
-        let size = change.content.len() as u64;
-        self.journal.reserve(self.waiting.len() + 1)?;
-        self.waiting.push(change)?;
-        self.bytes_held += size;
-        Ok(())
+        self.bytes_held += change.content.len() as u64;
+        self.waiting.push_reserved(change);
     }
 }

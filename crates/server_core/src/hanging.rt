@@ -8,7 +8,7 @@ ghost use Rattle.server_core.specs.View.{state_of, IsBounded};
 use crate::change::Change;
 use crate::event::ServerStep;
 use crate::state::{ServerState, stands};
-use crate::{steps, temps};
+use crate::steps;
 use std::alloc::Global;
 
 /// The session no longer stands.
@@ -64,7 +64,7 @@ impl ServerState {
         let gone = bytes_of(&self.waiting, session);
         self.bytes_held = bytes_held - gone;
         withdraw(&mut self.waiting, session);
-        temps::end_all(&mut self.temps, session);
+        self.temps.drop_session(session);
         leave(&mut self.sessions, session);
     }
 }

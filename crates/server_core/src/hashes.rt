@@ -5,10 +5,10 @@ ghost use Rattle.std.specs.List.{All};
 ghost use Rattle.std.specs.List.Sorted.{IsNonDecreasingBy};
 ghost use Rattle.std.specs.Map.{values_of};
 ghost use Rattle.chunk_cut.specs.Places.{end_of};
+ghost use Rattle.temp_files.specs.Pieces.{size_most};
 ghost use Rattle.server_core.specs.Answers.{node_of, told_chunks, pair_of, hashes_of, hash_answer};
 ghost use Rattle.server_core.specs.Chunks.{ends_behind, begins_before, IsWithin};
 ghost use Rattle.server_core.specs.Step.{IsFileBounded, IsFile};
-ghost use Rattle.server_core.specs.Temps.{size_most};
 
 use crate::answers::{self, ROOT};
 use crate::chunked::Chunked;

@@ -17,6 +17,4 @@ pub mod server;
 mod settling;
 mod state;
 mod steps;
-mod temp;
-mod temps;
 mod tree;

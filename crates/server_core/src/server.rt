@@ -13,6 +13,7 @@ use crate::state::ServerState;
 use std::alloc::{AllocError, Global};
 use std::collections::BTreeMap;
 use std::marker::Model;
+use temp_files::temps::Temps;
 
 /// A server of a tree of files.
 #[derive(Drop)]
@@ -42,7 +43,7 @@ impl Server {
                 files: BTreeMap::new(alloc),
                 changes: 0,
                 journal: Vec::new(alloc),
-                temps: BTreeMap::new(alloc),
+                temps: Temps::new(alloc),
                 waiting: Vec::new(alloc),
                 bytes_held: 0,
                 sessions: Vec::new(alloc),

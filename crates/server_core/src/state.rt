@@ -20,7 +20,6 @@ use crate::event::{Event, ServerStep, Told};
 use crate::file::File;
 use crate::journal::Entry;
 use crate::steps::{self, answer, refuse};
-use crate::temps::Temps;
 use crate::tree::{self, Files};
 use crate::{answers, hashes};
 use hash_calls::call::HashRange;
@@ -29,6 +28,7 @@ use limits::{SESSIONS_EVER_MOST, SESSIONS_MOST};
 use nfs3_calls::call::Range;
 use nfs3_calls::message::Nfs;
 use std::alloc::{AllocError, Global};
+use temp_files::temps::Temps;
 use wire::message::{Body, Message, RpcRefusal};
 
 /// A server's fields.
@@ -40,7 +40,7 @@ pub struct ServerState {
     pub changes: u64,
     /// The changes that were made since the server stands.
     pub journal: Vec<Entry>,
-    /// The temporary files by their keys.
+    /// The temporary files of all sessions.
     pub temps: Temps,
     /// The changes that wait, in the order of their arrival.
     pub waiting: Vec<Change>,

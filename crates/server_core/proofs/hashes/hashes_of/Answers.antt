@@ -1,8 +1,8 @@
 use Rattle.std.proofs.Common.{List, sym, subst}
 use Rattle.std.specs.List.{All}
 use Rattle.chunk_cut.specs.declared.chunk.Chunk.{Chunk}
+use Rattle.temp_files.specs.Pieces.{size_most}
 use Rattle.server_core.specs.Chunks.{IsWithin}
-use Rattle.server_core.specs.Temps.{size_most}
 use Rattle.server_core.proofs.ChunkRows.{told_within}
 use Rattle.server_core.proofs.hashes.hashes_of.Goals as goal
 

@@ -1,6 +1,6 @@
 use Rattle.std.proofs.Common.{refl}
 use Rattle.server_core.specs.View.{IsFileKeyed}
-use Rattle.server_core.proofs.Entries.{All-inserted}
+use Rattle.temp_files.proofs.Entries.{All-inserted}
 use Rattle.server_core.proofs.tree.put.Goals as goal
 
 pub returns-in-Some-clause-keyed : goal.returns-in-Some-clause-keyed

@@ -13,7 +13,6 @@ returns-clause-bounded c =
       files = rw put (All-with_file IsFileBounded before c.args.file b.files c.requires.file);
       versions = rw put (versions_opened c.args.self.now.changes c.max-self.result before c.args.file b.versions (omega (arith, c.max-self.ensures)) (omega (arith, c.max-self.ensures)));
       file_keys = c.in_ok-replaced.ensures.keyed;
-      temp_keys = b.temp_keys;
       changes = omega (arith, c.max-self.ensures, ap length c.requires.quiet, c.requires.file.version, b.changes);
       waiting = b.waiting;
       bytes_held = omega (arith, c.in_ok-replaced.ensures.size, b.bytes_held, c.len-size.ensures);

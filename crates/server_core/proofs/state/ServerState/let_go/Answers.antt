@@ -18,7 +18,6 @@ returns-clause-bounded c =
       files = b.files;
       versions = b.versions;
       file_keys = b.file_keys;
-      temp_keys = c.end_all.ensures.keyed;
       changes = omega (arith, b.changes, few, ap length items);
       waiting = rw items (All-filter (λ x. not (x.session == c.args.session)) IsChangeBounded before b.waiting);
       bytes_held = omega (arith, b.bytes_held, c.bytes_of-gone.ensures, ap waiting_size items);

@@ -10,7 +10,7 @@ use Rattle.server_core.specs.Closing.{changed}
 use Rattle.server_core.specs.State.{file_at, with_file}
 use Rattle.server_core.specs.Step.{IsFileBounded}
 use Rattle.server_core.specs.View.{IsFileKeyed, IsVersioned}
-use Rattle.server_core.proofs.Entries.{All-at}
+use Rattle.temp_files.proofs.Entries.{All-at}
 use Rattle.server_core.proofs.Files.{All-with_file}
 use Rattle.server_core.proofs.Making.{versions_more}
 use Rattle.server_core.proofs.state.ServerState.make_change.Goals as goal
@@ -37,7 +37,6 @@ returns-clause-bounded c =
       versions = subst (λ (es : List (ℕ × File)). All (IsVersioned (c.args.self.now.changes + 1)) (values_of es)) (sym after)
           (versions_more c.args.self.now.changes files f content c.requires.versions version);
       file_keys = c.replace.ensures.keyed;
-      temp_keys = c.requires.temp_keys;
       changes = omega (arith, c.requires.changes);
       waiting = c.requires.waiting;
       bytes_held = omega (arith, c.replace.ensures.size, c.requires.bytes_held);

@@ -1,24 +1,22 @@
-use Rattle.std.proofs.Common.{ℕ, ◌∙◌, sym, ap}
-use Rattle.std.specs.Prelude.{Result, Option}
-use Rattle.xdr_codec.specs.declared.status.Status.{Status}
-use Rattle.server_core.specs.declared.event.ServerStep.{ServerStep}
+use Rattle.std.proofs.Common.{◌∙◌, sym}
 use Rattle.server_core.specs.Answers.{node_of}
-use Rattle.server_core.specs.Closing.{makes_unless}
 use Rattle.server_core.specs.View.{state_of}
-use Rattle.server_core.proofs.Closes.{makes_as, makes_for}
+use Rattle.server_core.proofs.Closes.{makes_none, makes_new, makes_refused}
 use Rattle.server_core.proofs.state.ServerState.make_temp.Goals as goal
 
 pub returns-in-Err-clause-ok : goal.returns-in-Err-clause-ok
 returns-in-Err-clause-ok c =
     let s = state_of c.args.self.now in
-    makes_as s c.args.session c.args.xid c.args.new.now.fd (node_of s.files c.args.new.now.handle)
-    ∙ ap (λ (r : Result ℕ Status). makes_for s c.args.session c.args.xid c.args.new.now.fd r) (sym c.target_in.ensures ∙ c.in-Err.is)
-    ∙ ap (λ (x : ServerStep). (s, x)) (sym c.made.ensures)
+    makes_none s c.args.session c.args.xid c.args.new.now.fd (node_of s.files c.args.new.now.handle) c.in-Err.status c.made.result (sym c.target_in.ensures ∙ c.in-Err.is) c.made.ensures
 
-pub returns-in-Some-clause-ok : goal.returns-in-Some-clause-ok
-returns-in-Some-clause-ok c =
+pub returns-in-Ok-make-clause-ok : goal.returns-in-Ok-make-clause-ok
+returns-in-Ok-make-clause-ok c =
     let s = state_of c.args.self.now in
-    makes_as s c.args.session c.args.xid c.args.new.now.fd (node_of s.files c.args.new.now.handle)
-    ∙ ap (λ (r : Result ℕ Status). makes_for s c.args.session c.args.xid c.args.new.now.fd r) (sym c.target_in.ensures ∙ c.in-Ok.is)
-    ∙ ap (λ (f : Option Status). makes_unless s c.args.session c.args.xid c.args.new.now.fd c.in-Ok.id f) (sym c.room_fault.ensures ∙ c.in-Some.is)
-    ∙ ap (λ (x : ServerStep). (s, x)) (sym c.made-in-Some.ensures)
+    makes_new s c.args.session c.args.xid c.args.new.now.fd c.in-Ok.id (node_of s.files c.args.new.now.handle) c.make.new.self c.made-in-Ok-make.result
+    (sym c.target_in.ensures ∙ c.in-Ok.is) c.in-Ok-make.ensures.told c.in-Ok-make.ensures.ok c.made-in-Ok-make.ensures
+
+pub returns-in_ok-status-in-Err-make-clause-ok : goal.returns-in_ok-status-in-Err-make-clause-ok
+returns-in_ok-status-in-Err-make-clause-ok c =
+    let s = state_of c.args.self.now in
+    makes_refused s c.args.session c.args.xid c.args.new.now.fd c.in-Ok.id (node_of s.files c.args.new.now.handle) c.in_ok-status-in-Err-make.status c.make.new.self c.made-in-Err-make.result
+    (sym c.target_in.ensures ∙ c.in-Ok.is) (c.in-Err-make.ensures.told ∙ c.in_ok-status-in-Err-make.ensures.ok) c.in-Err-make.ensures.err c.made-in-Err-make.ensures

@@ -11,14 +11,13 @@ returns-clause-bounded c =
     let b = c.requires.bounded in
     let before = c.args.self.now.waiting.items in
     let one = c.args.change ∷ [] in
-    let items = c.in_ok-push.ensures.items in
+    let items = c.push_reserved.ensures.items in
     record {
       files = b.files;
       versions = b.versions;
       file_keys = b.file_keys;
-      temp_keys = b.temp_keys;
-      changes = omega (arith, (not_full (state_of c.args.self.now) (length c.args.change.content) c.requires.room).0, ap length items, length-append before one);
+      changes = omega (arith, (not_full (state_of c.args.self.now) (length c.args.change.content) c.requires.place).0, ap length items, length-append before one);
       waiting = rw items (All-append IsChangeBounded before one b.waiting (All-cons IsChangeBounded c.args.change [] c.requires.size (All-nil IsChangeBounded)));
-      bytes_held = omega (arith, b.bytes_held, ap waiting_size items, waiting_size_more before c.args.change, c.len-size.ensures);
-      room = omega (arith, c.in_ok-reserve.ensures.ok, c.reserve.new.self.ok.0, c.args.self.now.waiting.ok.0, c.len.ensures, ap length items, length-append before one);
+      bytes_held = omega (arith, b.bytes_held, ap waiting_size items, waiting_size_more before c.args.change, c.len.ensures);
+      room = omega (arith, c.requires.room.0, ap length items, length-append before one);
     }

@@ -1,0 +1,23 @@
+use Rattle.std.proofs.Common.{◌≡◌, List, ℕ, ◌++◌, ◌∙◌, sym, ap, subst}
+use Rattle.chunk_cut.specs.Chunks.{complete}
+use Rattle.chunk_cut.specs.Cutting.{IsFed}
+use Rattle.chunk_cut.specs.declared.chunk.Chunk.{Chunk}
+use Rattle.temp_files.specs.Pieces.{Piece, all_bytes}
+use Rattle.server_core.proofs.Cuttings.{IsCut, cut_begins, cut_more}
+use Rattle.server_core.proofs.chunked.cut_pieces.Goals as goal
+
+pub loop-at-init : goal.loop-at-init
+loop-at-init c =
+    let pieces = c.args.pieces.now.entries in
+    subst (λ (ps : List Piece). IsCut c.new-cutter.result c.new-chunks.result (all_bytes ps) (all_bytes pieces)) (sym (c.into_iter-at-iterator.ensures.into_iter_gives ∙ c.iter-at-items.ensures.rest))
+    (cut_begins c.new-cutter.result c.new-chunks.result (all_bytes pieces) c.new-cutter.ensures.empty c.new-chunks.ensures)
+
+pub loop-at-preserved : goal.loop-at-preserved
+loop-at-preserved c =
+    let bytes = c.in-Some.bytes.now in
+    let ended = c.in_ok-ended.ended in
+    cut_more c.loop-at.cutter c.feed.new.self c.loop-at.chunks ended c.extend_from_slice.new.self bytes (all_bytes c.next.new.self) (all_bytes c.args.pieces.now.entries)
+    (rw c.in-Some.ensures.steps at c.loop-at.invariant)
+    (λ content was. subst (λ (b : List ℕ). complete (content ++ b) ≡ complete content ++ ended) c.as_slice.ensures (c.in_ok-ended.ensures.chunks content was))
+    (λ content was. subst (λ (b : List ℕ). IsFed c.feed.new.self (content ++ b)) c.as_slice.ensures (c.in_ok-ended.ensures.content content was))
+    (c.in_ok-extend_from_slice.ensures.ok ∙ ap (λ (cs : List Chunk). c.loop-at.chunks ++ cs) c.as_slice-in-loop-at.ensures)
