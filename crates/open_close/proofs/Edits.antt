@@ -3,13 +3,20 @@ use Rattle.std.proofs.Common.{◌≡◌, refl, sym, ap, ◌∙◌, ℕ, ◌+◌,
 use Rattle.std.specs.Prelude.{min, max}
 use Rattle.std.proofs.Math.ListN.{drop_of_length-le}
 use Rattle.std.proofs.Math.Seq.{drop-length}
-use Rattle.std.proofs.lemmas.List.{length-append, length-replicate, length-take, length-drop}
+use Rattle.std.proofs.lemmas.List.{length-append, length-replicate, length-take, length-drop, take_all}
 use Rattle.open_close.specs.Local.{written, written_size, truncated}
 
 -- a write of some bytes
 pub written_some : (content : List ℕ) (offset : ℕ) (more : List ℕ) → 0 < length more → written content offset more ≡ take offset content ++ replicate (offset - length content) 0 ++ more ++ drop (offset + length more) content
 written_some content offset [] some = let no : ⊥ = omega (arith, some) in absurd no
 written_some content offset (b ∷ bs) some = refl
+
+-- the first bytes, and a gap behind them, are those of the first bytes alone
+pub filled_first : (n : ℕ) (content : List ℕ) → take n (take n content) ++ replicate (n - length (take n content)) 0 ≡ take n content ++ replicate (n - length content) 0
+filled_first n content = ap (λ l. l ++ replicate (n - length (take n content)) 0) (take_again n content) ∙ ap (λ m. take n content ++ replicate m 0) (let l = length-take n content in omega (arith, l))
+  where
+    take_again : (n : ℕ) (content : List ℕ) → take n (take n content) ≡ take n content
+    take_again n content = take_all n (take n content) (let l = length-take n content in omega (arith, l))
 
 -- past its end a content has no bytes
 pub drop_past : (n : ℕ) (content : List ℕ) → length content ≤ n → drop n content ≡ drop (length content) content

@@ -19,8 +19,9 @@ use Rattle.open_close.specs.declared.task.Fetch.{Fetch}
 use Rattle.open_close.specs.declared.task.ReadCall.{ReadCall}
 use Rattle.open_close.specs.Shape.{with_pairs}
 
--- the most calls of one operation that are under way at once
-abbrev pub calls_most : ℕ
+-- The most calls of one operation that are under way at once. It stays shut in a proof that doesn't ask to unfold it, so that none looks at so
+-- many calls one by one.
+unfoldable pub calls_most : ℕ
 calls_most = CALLS_MOST
 
 -- the most attempts of an open

@@ -23,7 +23,7 @@ use Rattle.open_close.specs.declared.task.Fetch.{Fetch}
 use Rattle.open_close.specs.declared.task.Stage.TheVariants as stage
 use Rattle.open_close.specs.Closing.{make_call, cond_call, temp_call, commit_call}
 use Rattle.open_close.specs.Counting.{no_counts, sends, nothing_done, sends_one, sends_reads, ends}
-use Rattle.open_close.specs.Opening.{hash_call, read_call}
+use Rattle.open_close.specs.Opening.{calls_most, hash_call, read_call}
 use Rattle.open_close.specs.Shape.{with_pairs}
 use Rattle.open_close.specs.State.{State, start, read_pending}
 use Rattle.open_close.specs.Step.{command_step, got_step, joined, cut}
@@ -69,10 +69,11 @@ chunk_of start bytes size = record { start = start; len = size; digest = sha1 by
 -- ---- opens
 
 one_chunk : steps (joined start) (Does (command.Open 2) ∷ hashes_are 1 1 3 (pair_of (codes "abc") 3 ∷ []) true ∷ Does (command.Open 3) ∷ bytes_are 2 1 (codes "abc") ∷ Does (command.Open 2) ∷ Does (command.Read 2 1 9) ∷ []) ≡ (sends_one (hash_call 1 2 0) 0 ∷ sends_reads (read_call 2 2 (chunk_of 0 (codes "abc") 3) ∷ []) 0 ∷ ends outcome.Busy 0 0 ∷ ends (outcome.Opened 2 3 (sha1 (codes "abc"))) 1 3 ∷ ends outcome.AlreadyOpen 0 0 ∷ ends (outcome.Piece 2 (sha1 (codes "bc"))) 0 0 ∷ [])
-unfolding sha1 digest_bytes hash_after compress rounds schedule first_words
+unfolding calls_most sha1 digest_bytes hash_after compress rounds schedule first_words
 one_chunk = refl
 
 no_chunk : steps (joined start) (Does (command.Open 2) ∷ hashes_are 1 1 0 [] true ∷ []) ≡ (sends_one (hash_call 1 2 0) 0 ∷ ends (outcome.Opened 2 0 (sha1 [])) 1 0 ∷ [])
+unfolding calls_most
 no_chunk = refl
 
 no_link : steps start (Does (command.Open 2) ∷ Does (command.Close 2) ∷ []) ≡ (ends outcome.NoLink 0 0 ∷ ends outcome.NotOpen 0 0 ∷ [])
@@ -80,6 +81,7 @@ no_link = refl
 
 -- two pieces: the second is asked for from the end of the first one's chunks on, and the READs wait for it
 two_pieces : steps (joined start) (Does (command.Open 2) ∷ hashes_are 1 5 2048 (pair_of (codes "a") 2048 ∷ []) false ∷ hashes_are 2 5 2048 [] true ∷ []) ≡ (sends_one (hash_call 1 2 0) 0 ∷ sends_one (hash_call 2 2 2048) 0 ∷ sends_reads (read_call 3 2 (chunk_of 0 (codes "a") 2048) ∷ []) 0 ∷ [])
+unfolding calls_most
 two_pieces = refl
 
 -- the chunks of a piece stand behind those that were told
@@ -112,7 +114,7 @@ fetching tries = record (joined start) { next = 7; task = Some (record { file = 
 
 -- the answers come in any order, and bytes that fit are taken of any version
 any_order : steps (fetching 3) (bytes_are 6 9 (codes "c") ∷ bytes_are 5 5 (codes "ab") ∷ []) ≡ (sends_reads [] 1 ∷ ends (outcome.Opened 2 3 (sha1 (codes "abc"))) 4 2 ∷ [])
-unfolding sha1 digest_bytes hash_after compress rounds schedule first_words
+unfolding calls_most sha1 digest_bytes hash_after compress rounds schedule first_words
 any_order = refl
 
 -- Bytes that don't fit end the attempt where another version shows. The next begins at once, and the answer to the other READ is dropped, once.
@@ -133,6 +135,7 @@ peers_fault = refl
 
 -- pieces of two versions end an attempt too
 two_versions : steps (joined start) (Does (command.Open 2) ∷ hashes_are 1 5 4096 (pair_of (codes "a") 2048 ∷ []) false ∷ hashes_are 2 6 1 (pair_of (codes "b") 1 ∷ []) true ∷ hashes_are 3 6 0 [] true ∷ []) ≡ (sends_one (hash_call 1 2 0) 0 ∷ sends_one (hash_call 2 2 2048) 0 ∷ sends_one (hash_call 3 2 0) 0 ∷ ends (outcome.Opened 2 0 (sha1 [])) 3 0 ∷ [])
+unfolding calls_most
 two_versions = refl
 
 -- where the operation ends its other calls are forgotten, and a lost connection forgets all
@@ -159,17 +162,17 @@ ab = chunk_of 0 (codes "ab") 2
 
 -- the server doesn't know the chunk, so its bytes go out
 stored : steps opened (Does (command.Close 2) ∷ made 1 ∷ Gets (message.Answer 2 (body.Lb (lb.CondWriteAnswer (Failed status.HashNotFound tt)))) ∷ Gets (message.Answer 3 (body.Lb (lb.TmpWriteAnswer (Done tt)))) ∷ committed 4 2 ∷ []) ≡ (sends_one (make_call 1 1 2) 0 ∷ sends (cond_call 2 1 ab ∷ []) (record no_counts { cond_writes = 1 }) ∷ sends (temp_call 3 1 (codes "ab") ab ∷ []) (record no_counts { temp_writes = 1; bytes = 2 }) ∷ sends (commit_call 4 1 2 2 ∷ []) no_counts ∷ ends (outcome.Closed 2 2 2 (sha1 (codes "ab"))) 4 0 ∷ [])
-unfolding closed_ends next_end
+unfolding calls_most closed_ends next_end
 stored = refl
 
 -- the server knows it
 known : steps opened (Does (command.Close 2) ∷ made 1 ∷ Gets (message.Answer 2 (body.Lb (lb.CondWriteAnswer (Done tt)))) ∷ Gets (message.Answer 3 (body.Lb (lb.CommitTmpAnswer (Failed status.Stale tt)))) ∷ Does (command.Read 2 0 9) ∷ []) ≡ (sends_one (make_call 1 1 2) 0 ∷ sends (cond_call 2 1 ab ∷ []) (record no_counts { cond_writes = 1 }) ∷ sends (commit_call 3 1 2 2 ∷ []) no_counts ∷ ends (outcome.Refused status.Stale) 3 0 ∷ ends (outcome.Piece 2 (sha1 (codes "ab"))) 0 0 ∷ [])
-unfolding closed_ends next_end
+unfolding calls_most closed_ends next_end
 known = refl
 
 -- a content with nothing in it has no chunk
 empty : steps opened (Does (command.Trunc 2 0) ∷ Does (command.Close 2) ∷ made 1 ∷ committed 2 2 ∷ Does (command.Close 2) ∷ []) ≡ (ends outcome.Done 0 0 ∷ sends_one (make_call 1 1 2) 0 ∷ sends (commit_call 2 1 2 0 ∷ []) no_counts ∷ ends (outcome.Closed 2 2 0 (sha1 [])) 2 0 ∷ ends outcome.NotOpen 0 0 ∷ [])
-unfolding closed_ends next_end
+unfolding calls_most closed_ends next_end
 empty = refl
 
 -- a lost connection ends the close, and the file stays open; xids and numbers of temporary files begin anew

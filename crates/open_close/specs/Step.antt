@@ -1,5 +1,5 @@
 -- One command, or one message, of the client.
-use Rattle.std.specs.Prelude.{◌≡◌, ℕ, ◌+◌, List, [], ◌∷◌, ◌++◌, length, Option, Some, None, Result, Ok, Err, Bool, true, false, ◌==◌, nat_lt, slice_get, is_some, if◌then◌else◌}
+use Rattle.std.specs.Prelude.{◌≡◌, ℕ, ◌+◌, ◌<◌, ◌≤◌, ◌^◌, List, [], ◌∷◌, ◌++◌, length, Option, Some, None, Result, Ok, Err, Bool, true, false, ◌==◌, nat_lt, slice_get, is_some, if◌then◌else◌}
 use Rattle.sha1.specs.Sha1.{sha1}
 use Rattle.chunk_cut.specs.Places.{chunk_bytes, end_of}
 use Rattle.chunk_cut.specs.declared.chunk.Chunk.{Chunk}
@@ -339,6 +339,29 @@ abbrev pub cut : State → State × ClientStep
 cut s = (record s { linked = false; task = None; forgotten = [] }, ended_by s.task (record { outcome = outcome.Lost; rests_on = 0 }))
 
 -- ---- want of memory
+
+-- a command on an open file takes memory only where nothing is under way, the file is open, and this holds
+abbrev pub MayMissOn : Option Task → Option Local → (Local → Type 0) → Type 0
+MayMissOn None (Some l) takes = takes l
+MayMissOn task l takes = ⊥
+
+-- A write of some bytes takes memory, unless it is told that the file would have too many. (A number past 128 bits can't be told.)
+abbrev pub WriteTakes : (offset : ℕ) → List Part → Local → Type 0
+WriteTakes offset content l = (content_length content ≡ 0 → ⊥) × (written_size (length l.bytes) offset (content_length content) < 2 ^ 128 → written_size (length l.bytes) offset (content_length content) ≤ local_most)
+
+-- an open takes memory only where it asks for the file
+abbrev pub MayMissOpen : State → ℕ → Option Task → Type 0
+MayMissOpen s file None = (is_open s.opened file ≡ false) × (may_ask s ≡ true)
+MayMissOpen s file (Some t) = ⊥
+
+-- Which commands may meet want of memory: those that send a call, and those that make a local content. What is told at once takes none.
+abbrev pub MayMissCommand : State → Command → Type 0
+MayMissCommand s (command.Open file) = MayMissOpen s file s.task
+MayMissCommand s (command.Write file offset content) = MayMissOn s.task (local_at s.opened file) (WriteTakes offset content)
+MayMissCommand s (command.Trunc file size) = MayMissOn s.task (local_at s.opened file) (λ l. size ≤ local_most)
+MayMissCommand s (command.Read file offset count) = ⊥
+MayMissCommand s (command.Close file) = MayMissOn s.task (local_at s.opened file) (λ l. may_ask s ≡ true)
+MayMissCommand s (command.Abandon file) = ⊥
 
 -- what is left where memory ran out at what came: the operation under way has ended by it
 abbrev pub missed_at : State → Result Message WireFault → State

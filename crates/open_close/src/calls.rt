@@ -5,7 +5,7 @@ ghost use Rattle.std.specs.Prelude.{◌≡◌, ◌+◌, ◌-◌, ◌<◌, ◌==�
 ghost use Rattle.std.specs.List.{All};
 ghost use Rattle.std.specs.Option.{option_copied};
 ghost use Rattle.open_close.specs.Closing.{commit_call, names_next, names_all, is_stored, store_at, without_store};
-ghost use Rattle.open_close.specs.Opening.{reads_next, reads_all, is_here, read_at, without_read};
+ghost use Rattle.open_close.specs.Opening.{calls_most, reads_next, reads_all, is_here, read_at, without_read};
 ghost use Rattle.open_close.specs.View.{IsChunkBounded, IsReading, IsStore, IsSendingReads, IsSendingNames, HasXids};
 ghost use Rattle.open_close.specs.declared.task.Stage.TheVariants as stage;
 
@@ -34,6 +34,14 @@ pub struct Names {
     pub store: Store,
     pub next: u32,
     pub send: SendList<Message>,
+}
+
+/// How many calls may go out beside so many that are under way.
+#[tactic(auto, unfolding(crate::specs::Opening::calls_most))]
+fn room_beside(under: usize) -> usize
+    ensures { result ≡ calls_most - under }
+{
+    CALLS_MOST.saturating_sub(under)
 }
 
 /// A copy of the chunk at this place, if it is there.
@@ -70,7 +78,7 @@ pub fn read_all(alloc: Global, file: u64, fetch: Fetch, next: u32) -> Result<Rea
     ensures all { IfOk result (λ r. r ≡ reads_all file fetch next) }
     ensures kept { IfOk result (λ r. IsSendingReads fetch.asked next r) }
 {
-    let room = CALLS_MOST.saturating_sub(fetch.under.len());
+    let room = room_beside(fetch.under.len());
     let mut reads = Reads {
         fetch,
         next,
@@ -116,7 +124,7 @@ pub fn name_all(alloc: Global, store: Store, next: u32) -> Result<Names, AllocEr
     ensures all { IfOk result (λ n. n ≡ names_all store next) }
     ensures kept { IfOk result (λ n. IsSendingNames store.named next n) }
 {
-    let room = CALLS_MOST.saturating_sub(store.under.len());
+    let room = room_beside(store.under.len());
     let mut names = Names {
         store,
         next,
@@ -185,9 +193,9 @@ pub fn read_at(under: &[ReadCall], xid: u32) -> Option<ReadCall>
 pub fn without_read(under: Items<ReadCall>, xid: u32) -> Items<ReadCall>
     ensures { result ≡ without_read under xid }
 {
-    let mut held = under.into_vec();
-    held.retain(|c| c.xid != xid);
-    Items::from_vec(held)
+    let mut left = under.into_vec();
+    left.retain(|c| c.xid != xid);
+    Items::from_vec(left)
 }
 
 /// The call of a close under way with this xid.
@@ -211,7 +219,7 @@ pub fn store_at(under: &[StoreCall], xid: u32) -> Option<StoreCall>
 pub fn without_store(under: Items<StoreCall>, xid: u32) -> Items<StoreCall>
     ensures { result ≡ without_store under xid }
 {
-    let mut held = under.into_vec();
-    held.retain(|c| c.xid != xid);
-    Items::from_vec(held)
+    let mut left = under.into_vec();
+    left.retain(|c| c.xid != xid);
+    Items::from_vec(left)
 }

@@ -4,7 +4,7 @@ ghost use Rattle.std.specs.Prelude.{◌≡◌, false, true, option_map, Some};
 ghost use Rattle.std.specs.Option.{option_copied};
 ghost use Rattle.open_close.specs.State.{start, waiting_of, local_at};
 ghost use Rattle.open_close.specs.Counting.{misses, by_memory};
-ghost use Rattle.open_close.specs.Step.{command_step, got_step, cut, joined, missed_at, MayMiss};
+ghost use Rattle.open_close.specs.Step.{command_step, got_step, cut, joined, missed_at, MayMiss, MayMissCommand};
 
 use crate::parts;
 use crate::state::ClientState;
@@ -72,12 +72,13 @@ impl Client {
         }
     }
 
-    /// A command, at a reading of the client's clock in milliseconds. Where memory runs out it ends by
-    /// that, and all else is as before.
+    /// A command, at a reading of the client's clock in milliseconds. Only one that sends a call or
+    /// makes a local content may run out of memory: it then ends by that, and all else is as before.
     pub fn command(&mut self, alloc: Global, command: Command, now: u64) -> ClientStep
         ensures exact { result.missed ≡ false → command_step self.old command now ≡ (self.new, result) }
         ensures missed { result.missed ≡ true → self.new ≡ self.old }
         ensures silent { result.missed ≡ true → result ≡ misses (Some by_memory) }
+        ensures sure { result.missed ≡ true → MayMissCommand self.old command }
     {
         match self.state.command(alloc, command, now) {
             Ok(step) => step,

@@ -4,9 +4,10 @@
 ghost use Rattle.std.specs.Prelude.{◌≡◌, ◌+◌, ◌<◌, ◌≤◌, length, None, Some, slice_get, IfOk, OnOk, OnErr, false, true};
 ghost use Rattle.open_close.specs.Closing.{store_of, answered, is_stored, store_at};
 ghost use Rattle.open_close.specs.State.{local_at, local_bytes};
-ghost use Rattle.open_close.specs.Step.{on_local, closes, asks_temp, goes_if, goes_on, told_temp, sends_whole, told_named, told_whole, told_way, told_stored, closed, took};
+ghost use Rattle.open_close.specs.Step.{on_local, closes, may_ask, MayMissOn, asks_temp, goes_if, goes_on, told_temp, sends_whole, told_named, told_whole, told_way, told_stored, closed, took};
 ghost use Rattle.open_close.specs.View.{state_of, whole_of, calls_after, store_left, IsStore, IsHeld, IsSound, IsSendingNames, HasXids, IsWithin};
 ghost use Rattle.open_close.specs.declared.task.Stage.TheVariants as stage;
+ghost use Rattle.open_close.specs.declared.task.Way.TheVariants as way;
 
 use crate::calls::{self, Names};
 use crate::state::ClientState;
@@ -23,12 +24,13 @@ use xdr_codec::answer::Answer;
 use xdr_codec::status::Status;
 
 impl ClientState {
-    /// A command to close a file. An `Err` changes nothing.
+    /// A command to close a file. An `Err` changes nothing, and comes only where a call is sent.
     pub fn close(&mut self, alloc: Global, file: u64) -> Result<ClientStep, AllocError>
         requires { IsSound self.old }
         ensures ok { IfOk result (λ a. on_local (state_of self.old) self.old.task (local_at self.old.opened.entries file) (closes (state_of self.old) file) ≡ (state_of self.new, a)) }
         ensures done { IfOk result (λ a. a.missed ≡ false) }
         ensures err { OnErr result (state_of self.new ≡ state_of self.old) }
+        ensures sure { OnErr result (MayMissOn self.old.task (local_at self.old.opened.entries file) (λ l. may_ask (state_of self.old) ≡ true)) }
         ensures sound { IsSound self.new }
     {
         if self.task.is_some() {
@@ -311,6 +313,67 @@ impl ClientState {
         }
     }
 
+    /// An answer where a CONDWRITE was under way. An `Err` changes nothing.
+    fn took_named(
+        &mut self,
+        alloc: Global,
+        file: u64,
+        store: Store,
+        call: StoreCall,
+        xid: u32,
+        body: Body,
+    ) -> Result<ClientStep, AllocError>
+        requires held { IsHeld self.old }
+        requires within { IsStore store }
+        requires xids { self.old.next + store_left store + 1 < 4294967296 }
+        ensures ok { IfOk result (λ a. told_way (state_of self.old) self.old.waiting.calls file xid (local_bytes self.old.opened.entries file) store call way.Named body ≡ (state_of self.new, a)) }
+        ensures done { IfOk result (λ a. a.missed ≡ false) }
+        ensures err { OnErr result (whole_of self.new ≡ whole_of self.old) }
+        ensures sound { OnOk result (IsSound self.new) }
+        ensures held { OnErr result (IsHeld self.new) }
+    {
+        match body {
+            Body::Lb(Lb::CondWriteAnswer(answer)) => {
+                self.told_named(alloc, file, store, call, xid, answer)
+            }
+            other => {
+                drop(other);
+                Ok(self.unknown(alloc, xid))
+            }
+        }
+    }
+
+    /// An answer where a TMPWRITE was under way. An `Err` changes nothing.
+    fn took_whole(
+        &mut self,
+        alloc: Global,
+        file: u64,
+        store: Store,
+        call: StoreCall,
+        xid: u32,
+        body: Body,
+    ) -> Result<ClientStep, AllocError>
+        requires held { IsHeld self.old }
+        requires within { IsStore store }
+        requires xids { HasXids self.old.next (stage.Storing store) }
+        ensures ok { IfOk result (λ a. told_way (state_of self.old) self.old.waiting.calls file xid (local_bytes self.old.opened.entries file) store call way.Whole body ≡ (state_of self.new, a)) }
+        ensures done { IfOk result (λ a. a.missed ≡ false) }
+        ensures err { OnErr result (whole_of self.new ≡ whole_of self.old) }
+        ensures sound { OnOk result (IsSound self.new) }
+        ensures held { OnErr result (IsHeld self.new) }
+    {
+        match body {
+            Body::Lb(Lb::TmpWriteAnswer(answer)) => match answer {
+                Answer::Done(_) => self.go_on(alloc, file, store),
+                Answer::Failed(status, _) => Ok(self.refused(alloc, xid, status)),
+            },
+            other => {
+                drop(other);
+                Ok(self.unknown(alloc, xid))
+            }
+        }
+    }
+
     /// The answer to a call for a chunk, which is no longer under way. An `Err` changes nothing.
     fn told_chunk(
         &mut self,
@@ -330,18 +393,9 @@ impl ClientState {
         ensures sound { OnOk result (IsSound self.new) }
         ensures held { OnErr result (IsHeld self.new) }
     {
-        match (call.way, body) {
-            (Way::Named, Body::Lb(Lb::CondWriteAnswer(answer))) => {
-                self.told_named(alloc, file, store, call, xid, answer)
-            }
-            (Way::Whole, Body::Lb(Lb::TmpWriteAnswer(answer))) => match answer {
-                Answer::Done(_) => self.go_on(alloc, file, store),
-                Answer::Failed(status, _) => Ok(self.refused(alloc, xid, status)),
-            },
-            (_, other) => {
-                drop(other);
-                Ok(self.unknown(alloc, xid))
-            }
+        match call.way {
+            Way::Named => self.took_named(alloc, file, store, call, xid, body),
+            Way::Whole => self.took_whole(alloc, file, store, call, xid, body),
         }
     }
 
@@ -384,14 +438,16 @@ impl ClientState {
         ensures sound { IsSound self.new }
     {
         let content = parts::local_bytes(&self.opened, file);
+        let len = content.len() as u64;
+        let sha1 = Sha1::digest(content);
+        self.shut(file);
+        self.forget(alloc, xid);
         let outcome = Outcome::Closed {
             file,
             version,
-            len: content.len() as u64,
-            sha1: Sha1::digest(content),
+            len,
+            sha1,
         };
-        self.shut(file);
-        self.forget(alloc, xid);
         parts::ends(alloc, outcome, xid, 0)
     }
 

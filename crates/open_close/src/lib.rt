@@ -21,4 +21,4 @@ pub mod step;
 mod stores;
 mod taking;
 pub mod task;
-mod waits;
+mod waiting;

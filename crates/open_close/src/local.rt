@@ -1,6 +1,6 @@
 //! What write, trunc and read make of an open file's bytes: `specs/Local.antt`.
 
-ghost use Rattle.std.specs.Prelude.{◌≡◌, [], ◌+◌, ◌-◌, ◌++◌, ◌<◌, ◌≤◌, length, take, drop, replicate, IfOk, OnOk};
+ghost use Rattle.std.specs.Prelude.{◌≡◌, [], ◌+◌, ◌-◌, ◌^◌, ◌++◌, ◌<◌, ◌≤◌, length, take, drop, replicate, IfOk, OnOk, MatchResult};
 ghost use Rattle.open_close.specs.Local.{written_size, written, truncated, part_of};
 
 use lb_base::items::{Bytes, Items};
@@ -43,18 +43,19 @@ pub fn part_of(bytes: &[u8], offset: u64, count: u64) -> &[u8]
 
 /// How long a content is after a write of so many bytes. A number past 128 bits is want of memory.
 pub fn written_size(size: u64, offset: u64, count: u128) -> Result<u128, AllocError>
-    ensures { IfOk result (λ n. n ≡ written_size size offset count) }
+    ensures { MatchResult result (λ n. n ≡ written_size size offset count) (λ e. 2 ^ 128 ≤ written_size size offset count) }
 {
     let end = u128::from(offset).checked_add(count).ok_or(AllocError)?;
     Ok(u128::from(size).max(end))
 }
 
-/// The bytes before a place: a gap is filled with zeros.
-fn filled(alloc: Global, bytes: &[u8], offset: u64) -> Result<Vec<u8>, AllocError>
+/// The bytes before a place: a gap is filled with zeros. There is room for a whole of this size.
+#[tactic(auto, using(crate::proofs::Edits::filled_first))]
+fn filled(alloc: Global, bytes: &[u8], offset: u64, size: u64) -> Result<Vec<u8>, AllocError>
     ensures { IfOk result (λ v. v.items ≡ take offset bytes.now ++ replicate (offset - length bytes.now) 0) }
 {
-    let mut filled = Vec::new(alloc);
-    filled.extend_from_slice(bytes)?;
+    let mut filled = Vec::with_capacity(alloc, size as usize)?;
+    filled.extend_from_slice(first_of(bytes, offset))?;
     filled.resize(offset as usize, 0)?;
     Ok(filled)
 }
@@ -67,9 +68,10 @@ pub fn written(alloc: Global, bytes: &[u8], offset: u64, more: &[u8]) -> Result<
     ensures written { IfOk result (λ b. b ≡ written bytes.now offset more.now) }
     ensures size { IfOk result (λ b. length b ≡ written_size (length bytes.now) offset (length more.now)) }
 {
-    let mut whole = filled(alloc, bytes, offset)?;
+    let end = offset + more.len() as u64;
+    let mut whole = filled(alloc, bytes, offset, end.max(bytes.len() as u64))?;
     whole.extend_from_slice(more)?;
-    whole.extend_from_slice(rest_of(bytes, offset + more.len() as u64))?;
+    whole.extend_from_slice(rest_of(bytes, end))?;
     Ok(Items::from_vec(whole))
 }
 
@@ -79,6 +81,6 @@ pub fn truncated(alloc: Global, bytes: &[u8], size: u64) -> Result<Bytes, AllocE
     ensures truncated { IfOk result (λ b. b ≡ truncated bytes.now size) }
     ensures size { IfOk result (λ b. length b ≡ size) }
 {
-    let whole = filled(alloc, bytes, size)?;
+    let whole = filled(alloc, bytes, size, size)?;
     Ok(Items::from_vec(whole))
 }

@@ -4,7 +4,7 @@
 ghost use Rattle.std.specs.Prelude.{◌≡◌, ◌+◌, ◌<◌, ◌≤◌, ◌==◌, length, None, Some, slice_get, nat_lt, IfOk, OnOk, OnErr, false, true};
 ghost use Rattle.open_close.specs.Opening.{is_here, read_at, fault_in, with_bytes, other_version, fetch_of, with_hashes, listed, tries_most};
 ghost use Rattle.open_close.specs.Shape.{broken_of};
-ghost use Rattle.open_close.specs.Step.{opens, forgets, tries_anew, opened_with, retries, changes, reads_if, reads_on, lists_on, told_shape, told_version, told_hashes, told_first, misfits, told_bytes, told_chunk, told_piece, took};
+ghost use Rattle.open_close.specs.Step.{opens, MayMissOpen, forgets, tries_anew, opened_with, retries, changes, reads_if, reads_on, lists_on, told_shape, told_version, told_hashes, told_first, misfits, told_bytes, told_chunk, told_piece, took};
 ghost use Rattle.open_close.specs.View.{state_of, whole_of, later_left, IsListing, IsReading, IsFetch, IsHeld, IsSound, IsSendingReads, HasXids, IsWithin};
 ghost use Rattle.open_close.specs.declared.task.Stage.TheVariants as stage;
 
@@ -23,18 +23,20 @@ use sha1::Sha1;
 use std::alloc::{AllocError, Global};
 use wire::message::Body;
 use xdr_codec::answer::Answer;
+use xdr_codec::attr::Attr;
 
 /// The most attempts of an open.
 const TRIES_MOST: u32 = limits::ATTEMPTS_MOST;
 
 impl ClientState {
-    /// A command to open a file. An `Err` changes nothing.
+    /// A command to open a file. An `Err` changes nothing, and comes only where the file is asked for.
     #[tactic(auto, using(crate::proofs::Pending::held_of))]
     pub fn open(&mut self, alloc: Global, file: u64) -> Result<ClientStep, AllocError>
         requires { IsSound self.old }
         ensures ok { IfOk result (λ a. opens (state_of self.old) file self.old.task ≡ (state_of self.new, a)) }
         ensures done { IfOk result (λ a. a.missed ≡ false) }
         ensures err { OnErr result (state_of self.new ≡ state_of self.old) }
+        ensures sure { OnErr result (MayMissOpen (state_of self.old) file self.old.task) }
         ensures sound { IsSound self.new }
     {
         if self.task.is_some() {
@@ -89,14 +91,11 @@ impl ClientState {
         ensures held { OnErr result (IsHeld self.new) }
     {
         let content = fetch::slots_bytes(alloc, fetch.slots.as_slice(), fetch.size)?;
-        let outcome = Outcome::Opened {
-            file,
-            len: content.len() as u64,
-            sha1: Sha1::digest(content.as_slice()),
-        };
-        let version = fetch.version;
-        self.put(file, version, content)?;
+        let len = content.len() as u64;
+        let sha1 = Sha1::digest(content.as_slice());
+        self.put(file, fetch.version, content)?;
         self.forget(alloc, xid);
+        let outcome = Outcome::Opened { file, len, sha1 };
         Ok(parts::ends(alloc, outcome, fetch.first, bytes))
     }
 
@@ -151,11 +150,11 @@ impl ClientState {
         if fetch.tries < TRIES_MOST {
             return self.retry(alloc, file, fetch.tries, xid, bytes);
         }
+        self.forget(alloc, xid);
         let outcome = Outcome::Changed {
             first: fetch.version,
             last: version,
         };
-        self.forget(alloc, xid);
         Ok(parts::ends(alloc, outcome, 0, bytes))
     }
 
@@ -353,21 +352,22 @@ impl ClientState {
         fetch: &Fetch,
         xid: u32,
         fault: BadPeer,
-        piece: &Piece,
+        bytes: &Bytes,
+        attr: &Option<Attr>,
     ) -> Result<ClientStep, AllocError>
         requires held { IsHeld self.old }
         requires tries { fetch.now.tries ≤ tries_most }
         requires xids { self.old.next + 1 + later_left fetch.now.tries < 4294967296 }
-        ensures ok { IfOk result (λ a. misfits (state_of self.old) self.old.waiting.calls file xid fetch.now fault (length piece.now.bytes) (other_version fetch.now.version piece.now.attr) ≡ (state_of self.new, a)) }
+        ensures ok { IfOk result (λ a. misfits (state_of self.old) self.old.waiting.calls file xid fetch.now fault (length bytes.now) (other_version fetch.now.version attr.now) ≡ (state_of self.new, a)) }
         ensures done { IfOk result (λ a. a.missed ≡ false) }
         ensures err { OnErr result (whole_of self.new ≡ whole_of self.old) }
         ensures sound { OnOk result (IsSound self.new) }
         ensures held { OnErr result (IsHeld self.new) }
     {
-        let bytes = piece.bytes.len() as u64;
-        match parts::other_version(fetch.version, &piece.attr) {
-            Some(version) => self.change(alloc, file, fetch, xid, version, bytes),
-            None => Ok(self.bad_peer(alloc, fault, bytes)),
+        let count = bytes.len() as u64;
+        match parts::other_version(fetch.version, attr) {
+            Some(version) => self.change(alloc, file, fetch, xid, version, count),
+            None => Ok(self.bad_peer(alloc, fault, count)),
         }
     }
 
@@ -418,12 +418,18 @@ impl ClientState {
         ensures sound { OnOk result (IsSound self.new) }
         ensures held { OnErr result (IsHeld self.new) }
     {
+        let Piece {
+            attr,
+            count: _,
+            eof: _,
+            bytes,
+        } = piece;
         let Some(chunk) = calls::chunk_at(fetch.chunks.as_slice(), call.index) else {
             return Ok(self.unknown(alloc, xid));
         };
-        match parts::fault_in(&chunk, piece.bytes.as_slice()) {
-            Some(fault) => self.misfit(alloc, file, &fetch, xid, fault, &piece),
-            None => self.keep(alloc, file, fetch, xid, call, &chunk, piece.bytes),
+        match parts::fault_in(&chunk, bytes.as_slice()) {
+            Some(fault) => self.misfit(alloc, file, &fetch, xid, fault, &bytes, &attr),
+            None => self.keep(alloc, file, fetch, xid, call, &chunk, bytes),
         }
     }
 

@@ -2,12 +2,14 @@
 //! (`specs/Opening.antt`, `specs/Step.antt`).
 
 ghost use Rattle.std.specs.Prelude.{◌≡◌, ◌==◌, ◌≤◌, length, None, IfSome};
+ghost use Rattle.std.specs.Str.{bytes_eq};
+ghost use Rattle.sha1.specs.Sha1.{sha1};
 ghost use Rattle.std.specs.List.{All};
 ghost use Rattle.std.specs.Map.{values_of};
 ghost use Rattle.std.specs.Option.{option_copied};
 ghost use Rattle.limits.specs.declared.TheConstants.{FILE_MOST};
 ghost use Rattle.open_close.specs.Counting.{no_counts, sends, nothing_done, sends_one, sends_reads, ends};
-ghost use Rattle.open_close.specs.Opening.{fault_in, shown_version, other_version};
+ghost use Rattle.open_close.specs.Opening.{fault_in, fault_in_digest, shown_version, other_version};
 ghost use Rattle.open_close.specs.State.{local_at, local_bytes};
 ghost use Rattle.open_close.specs.Step.{is_open, refusal_code, fault_of};
 ghost use Rattle.open_close.specs.View.{IsLocalBounded};
@@ -101,15 +103,8 @@ pub fn is_open(opened: &BTreeMap<u64, Local>, file: u64) -> bool
     opened.contains_key(&file)
 }
 
-/// The open file.
-pub fn find_local(opened: &BTreeMap<u64, Local>, file: u64) -> Option<&Local>
-    ensures { option_copied result ≡ local_at opened.now.entries file }
-{
-    opened.get(&file)
-}
-
 /// The open file, which is within the limit of a file.
-fn find_within(opened: &BTreeMap<u64, Local>, file: u64) -> Option<&Local>
+pub fn find_local(opened: &BTreeMap<u64, Local>, file: u64) -> Option<&Local>
     requires { All IsLocalBounded (values_of opened.now.entries) }
     ensures found { option_copied result ≡ local_at opened.now.entries file }
     ensures bounded { IfSome result (λ l. IsLocalBounded l.now) }
@@ -123,9 +118,22 @@ pub fn local_bytes(opened: &BTreeMap<u64, Local>, file: u64) -> &[u8]
     ensures bytes { result.now ≡ local_bytes opened.now.entries file }
     ensures bounded { length result.now ≤ FILE_MOST }
 {
-    match find_within(opened, file) {
+    match find_local(opened, file) {
         Some(local) => local.bytes.as_slice(),
         None => &[],
+    }
+}
+
+/// What is wrong with bytes that are as long as a chunk: their digest.
+fn digest_fault(chunk: &Chunk, bytes: &[u8]) -> Option<BadPeer>
+    ensures { result ≡ fault_in_digest chunk.now bytes.now (bytes_eq (sha1 bytes.now) chunk.now.digest) }
+{
+    let got = Sha1::digest(bytes);
+    let wanted = chunk.digest;
+    if got == wanted {
+        None
+    } else {
+        Some(BadPeer::Digest { got, wanted })
     }
 }
 
@@ -134,21 +142,13 @@ pub fn fault_in(chunk: &Chunk, bytes: &[u8]) -> Option<BadPeer>
     ensures fault { result ≡ fault_in chunk.now bytes.now (length bytes.now == chunk.now.len) }
     ensures fits { result ≡ None → length bytes.now ≡ chunk.now.len }
 {
-    let len = bytes.len() as u64;
-    if len != chunk.len {
-        return Some(BadPeer::Shape {
-            got: len,
-            wanted: chunk.len,
-        });
+    let got = bytes.len() as u64;
+    let wanted = chunk.len;
+    if got == wanted {
+        digest_fault(chunk, bytes)
+    } else {
+        Some(BadPeer::Shape { got, wanted })
     }
-    let digest = Sha1::digest(bytes);
-    if digest != chunk.digest {
-        return Some(BadPeer::Digest {
-            got: digest,
-            wanted: chunk.digest,
-        });
-    }
-    None
 }
 
 /// The version that attributes show.

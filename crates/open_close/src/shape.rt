@@ -158,7 +158,7 @@ pub fn with_pairs(chunks: Items<Chunk>, pairs: &[Pair]) -> Result<Items<Chunk>, 
     ensures { IfOk result (λ cs. cs ≡ with_pairs chunks pairs.now) }
 {
     let at = end_of(chunks.as_slice());
-    let mut held = chunks.into_vec();
-    add_pairs(&mut held, at, pairs)?;
-    Ok(Items::from_vec(held))
+    let mut all = chunks.into_vec();
+    add_pairs(&mut all, at, pairs)?;
+    Ok(Items::from_vec(all))
 }

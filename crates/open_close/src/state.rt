@@ -9,7 +9,7 @@ ghost use Rattle.open_close.specs.declared.task.Stage.TheVariants as stage;
 
 use crate::step::{BadPeer, ClientStep, Outcome};
 use crate::task::{Local, Stage, Task};
-use crate::{parts, waits};
+use crate::{parts, waiting};
 use lb_base::items::Items;
 use std::alloc::{AllocError, Global};
 use std::collections::BTreeMap;
@@ -49,7 +49,7 @@ fn with_forgotten(
     ensures calls { IfOk result (λ p. p.0 ≡ pending_in stage.now ++ forgotten.now) }
     ensures own { IfOk result (λ p. p.1 ≡ length (pending_in stage.now)) }
 {
-    let mut calls = waits::pending_in(alloc, stage)?;
+    let mut calls = waiting::pending_in(alloc, stage)?;
     let own = calls.len();
     calls.extend_from_slice(forgotten)?;
     Ok((Items::from_vec(calls), own))
@@ -102,7 +102,8 @@ impl ClientState {
         self.waiting.calls = calls;
         self.own = own;
         self.next = next;
-        self.task = Some(Task { file, stage });
+        let old = self.task.replace(Task { file, stage });
+        drop(old);
         Ok(())
     }
 
@@ -124,12 +125,13 @@ impl ClientState {
         ensures held { OnErr result (IsHeld self.new) }
     {
         let asked = self.next;
-        let calls = waits::anew(alloc, asked, self.waiting.calls.as_slice(), xid)?;
-        let stage = Stage::Hashing { tries, xid: asked };
+        let calls = waiting::anew(alloc, asked, self.waiting.calls.as_slice(), xid)?;
         self.waiting.calls = calls;
         self.own = 1;
         self.next = asked + 1;
-        self.task = Some(Task { file, stage });
+        let stage = Stage::Hashing { tries, xid: asked };
+        let old = self.task.replace(Task { file, stage });
+        drop(old);
         Ok(())
     }
 
@@ -141,7 +143,7 @@ impl ClientState {
         ensures sound { IsSound self.new }
     {
         let calls = mem::replace(&mut self.waiting.calls, Items::new(alloc));
-        self.waiting.calls = waits::without_call(calls, xid);
+        self.waiting.calls = waiting::without_call(calls, xid);
         self.own = 0;
     }
 
@@ -151,7 +153,7 @@ impl ClientState {
         requires { IsBase self.old }
         ensures rest { state_of self.new ≡ record (state_of self.old) { opened = without_local self.old.opened.entries file } }
         ensures task { self.new.task ≡ self.old.task }
-        ensures waits { self.new.waiting ≡ self.old.waiting }
+        ensures waiting { self.new.waiting ≡ self.old.waiting }
         ensures own { self.new.own ≡ self.old.own }
         ensures base { IsBase self.new }
     {
@@ -230,7 +232,7 @@ impl ClientState {
         ensures sound { IsSound self.new }
     {
         let calls = mem::replace(&mut self.waiting.calls, Items::new(alloc));
-        self.waiting.calls = waits::first_calls(calls, self.own);
+        self.waiting.calls = waiting::first_calls(calls, self.own);
         self.linked = true;
         self.next = 1;
         self.next_temp = 1;
@@ -275,7 +277,7 @@ impl ClientState {
         ensures sound { IsSound self.new }
     {
         let calls = mem::replace(&mut self.waiting.calls, Items::new(alloc));
-        self.waiting.calls = waits::without_call(calls, xid);
+        self.waiting.calls = waiting::without_call(calls, xid);
         parts::nothing_done(alloc)
     }
 
@@ -301,7 +303,7 @@ impl ClientState {
         ensures done { result.missed ≡ false }
         ensures sound { IsSound self.new }
     {
-        if waits::has_call(self.forgotten(), xid) {
+        if waiting::has_call(self.forgotten(), xid) {
             self.drop_answer(alloc, xid)
         } else {
             self.unawaited(alloc, xid)

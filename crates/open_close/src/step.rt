@@ -71,16 +71,18 @@ pub enum Outcome {
     Memory,
 }
 
-/// How a command ended, and on which call of its operation that rests: the call's xid, or 0 for the
-/// command itself.
+/// How a command ended, and on which call of its operation that rests.
 #[derive(Drop)]
 pub struct Ended {
     pub outcome: Outcome,
+    /// The call's xid: the first GETHASH of the last attempt for Opened, the call that was answered for
+    /// Closed and Refused. 0 where it rests on no call: what the client tells by itself, and Lost,
+    /// Changed, PeerMemory, BadPeer and Memory.
     pub rests_on: u32,
 }
 
 /// What was sent and received for an operation in a step.
-#[derive(Clone, Copy, Debug, PartialEq, Eq, Drop)]
+#[derive(Clone, Copy, Drop)]
 pub struct Counts {
     /// CONDWRITE calls sent.
     pub cond_writes: u64,

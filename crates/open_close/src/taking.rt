@@ -2,21 +2,21 @@
 
 ghost use Rattle.std.specs.Prelude.{◌≡◌, None, Some, Ok, IfOk, OnOk, OnErr, false, true};
 ghost use Rattle.open_close.specs.State.{pending, has_call};
-ghost use Rattle.open_close.specs.Step.{command_step, forgets, took, took_if, denied_if, got_message, got_fault, got_step, missed_at, MayMiss, InCommit, IsCommitting};
+ghost use Rattle.open_close.specs.Step.{command_step, forgets, took, took_if, denied_if, got_message, got_fault, got_step, missed_at, MayMiss, MayMissCommand, InCommit, IsCommitting};
 ghost use Rattle.open_close.specs.View.{state_of, whole_of, IsHeld, IsSound, HasXids, IsWithin};
 ghost use Rattle.wire.specs.declared.message.Message.TheVariants as message;
 
 use crate::state::ClientState;
 use crate::step::ClientStep;
 use crate::task::{Stage, Task};
-use crate::{parts, waits};
+use crate::{parts, waiting};
 use command_text::command::Command;
 use std::alloc::{AllocError, Global};
 use wire::fault::WireFault;
 use wire::message::{Body, Message, RpcRefusal};
 
 impl ClientState {
-    /// A command. An `Err` changes nothing.
+    /// A command. An `Err` changes nothing, and comes only where memory is taken.
     pub fn command(
         &mut self,
         alloc: Global,
@@ -27,6 +27,7 @@ impl ClientState {
         ensures ok { IfOk result (λ a. command_step (state_of self.old) command _now ≡ (state_of self.new, a)) }
         ensures done { IfOk result (λ a. a.missed ≡ false) }
         ensures err { OnErr result (state_of self.new ≡ state_of self.old) }
+        ensures sure { OnErr result (MayMissCommand (state_of self.old) command) }
         ensures sound { IsSound self.new }
     {
         match command {
@@ -35,7 +36,11 @@ impl ClientState {
                 file,
                 offset,
                 content,
-            } => self.write(alloc, file, offset, content),
+            } => {
+                let done = self.write(alloc, file, offset, &content);
+                drop(content);
+                done
+            }
             Command::Trunc { file, size } => self.trunc(alloc, file, size),
             Command::Read {
                 file,
@@ -47,8 +52,8 @@ impl ClientState {
         }
     }
 
-    /// An answer to a call of the operation that is held. An `Err` changes nothing, and doesn't come
-    /// once COMMITTMP was sent.
+    /// An answer to a call of this operation, which is taken out. An `Err` changes nothing, and doesn't
+    /// come once COMMITTMP was sent.
     fn took(
         &mut self,
         alloc: Global,
@@ -66,8 +71,8 @@ impl ClientState {
         ensures sound { OnOk result (IsSound self.new) }
         ensures held { OnErr result (IsHeld self.new) }
     {
-        let file = task.file;
-        match task.stage {
+        let Task { file, stage } = task;
+        match stage {
             Stage::Hashing { tries, xid: _ } => self.took_first(alloc, file, tries, xid, body),
             Stage::Listing { xid: _, fetch } => self.took_piece(alloc, file, fetch, xid, body),
             Stage::Reading(fetch) => self.took_bytes(alloc, file, fetch, xid, body),
@@ -114,7 +119,7 @@ impl ClientState {
         ensures sure { OnErr result (MayMiss (state_of self.old) (Ok (message.Answer xid body))) }
         ensures sound { IsSound self.new }
     {
-        if !waits::has_call(self.own_calls(), xid) {
+        if !waiting::has_call(self.own_calls(), xid) {
             drop(body);
             return Ok(self.take_other(alloc, xid));
         }
@@ -134,7 +139,7 @@ impl ClientState {
         ensures done { result.missed ≡ false }
         ensures sound { IsSound self.new }
     {
-        if !waits::has_call(self.own_calls(), xid) {
+        if !waiting::has_call(self.own_calls(), xid) {
             return self.take_other(alloc, xid);
         }
         match self.task.take() {

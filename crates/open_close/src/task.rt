@@ -13,7 +13,7 @@ pub struct Local {
 }
 
 /// A READ that waits for its answer.
-#[derive(Clone, Copy, Debug, PartialEq, Eq, Drop)]
+#[derive(Clone, Copy, Drop)]
 pub struct ReadCall {
     pub xid: u32,
     /// The place of the chunk that it asks for among the file's chunks.
@@ -42,7 +42,7 @@ pub struct Fetch {
 }
 
 /// How a chunk is sent.
-#[derive(Clone, Copy, Debug, PartialEq, Eq, Drop)]
+#[derive(Clone, Copy, Drop)]
 pub enum Way {
     /// By its digest: a CONDWRITE.
     Named,
@@ -51,7 +51,7 @@ pub enum Way {
 }
 
 /// A call for a chunk of a close that waits for its answer.
-#[derive(Clone, Copy, Debug, PartialEq, Eq, Drop)]
+#[derive(Clone, Copy, Drop)]
 pub struct StoreCall {
     pub xid: u32,
     /// The place of the chunk among those of the local content.

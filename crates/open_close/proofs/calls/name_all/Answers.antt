@@ -8,7 +8,7 @@ use Rattle.open_close.proofs.calls.name_all.Goals as goal
 pub loop-i-preserved : goal.loop-i-preserved
 loop-i-preserved c =
     let n : Names = c.loop-i.names in
-    let room = c.saturating_sub-room.result in
+    let room = c.room_beside-room.result in
     let i = c.loop-i._i in
     let e : c.name_next.new.names ≡ names_next n (slice_get n.store.chunks n.store.named) = c.in-Ok.ensures in
     record {
@@ -18,5 +18,5 @@ loop-i-preserved c =
 
 pub returns-clause-all : goal.returns-clause-all
 returns-clause-all c =
-    let e : c.saturating_sub-room.result - c.loop-i._i ≡ 0 = omega arith in
+    let e : c.room_beside-room.result - c.loop-i._i ≡ 0 = omega arith in
     ap (λ k. names_more k c.loop-i.names) (sym e) ∙ c.loop-i.invariant.same

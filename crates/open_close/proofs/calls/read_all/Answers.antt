@@ -9,7 +9,7 @@ pub loop-i-preserved : goal.loop-i-preserved
 loop-i-preserved c =
     let r : Reads = c.loop-i.reads in
     let file = c.args.file in
-    let room = c.saturating_sub-room.result in
+    let room = c.room_beside-room.result in
     let i = c.loop-i._i in
     let e : c.read_next.new.reads ≡ reads_next file r (slice_get r.fetch.chunks r.fetch.asked) = c.in-Ok.ensures in
     record {
@@ -19,5 +19,5 @@ loop-i-preserved c =
 
 pub returns-clause-all : goal.returns-clause-all
 returns-clause-all c =
-    let e : c.saturating_sub-room.result - c.loop-i._i ≡ 0 = omega arith in
+    let e : c.room_beside-room.result - c.loop-i._i ≡ 0 = omega arith in
     ap (λ n. reads_more n c.args.file c.loop-i.reads) (sym e) ∙ c.loop-i.invariant.same

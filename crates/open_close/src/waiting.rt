@@ -95,9 +95,9 @@ pub fn has_call(calls: &[Pending], xid: u32) -> bool
 pub fn without_call(calls: Items<Pending>, xid: u32) -> Items<Pending>
     ensures { result ≡ without_call calls xid }
 {
-    let mut held = calls.into_vec();
-    held.retain(|c| c.xid != xid);
-    Items::from_vec(held)
+    let mut left = calls.into_vec();
+    left.retain(|c| c.xid != xid);
+    Items::from_vec(left)
 }
 
 /// A GETHASH that waits, and behind it the calls with other xids than the one that was answered.
@@ -110,20 +110,16 @@ pub fn anew(
     ensures { IfOk result (λ ps. ps ≡ record { xid = asked; program = program.Lb lb_proc.GetHash } ∷ without_call calls.now xid) }
 {
     let others = without_call(Items::copy_of(alloc, calls)?, xid);
-    let mut held = others.into_vec();
-    let first = Pending {
-        xid: asked,
-        program: Program::Lb(LbProc::GetHash),
-    };
-    held.insert(0, first)?;
-    Ok(Items::from_vec(held))
+    let mut all = lb_pending(alloc, LbProc::GetHash, asked)?;
+    all.extend_from_slice(others.as_slice())?;
+    Ok(Items::from_vec(all))
 }
 
 /// The first so many of these calls. It takes no memory.
 pub fn first_calls(calls: Items<Pending>, count: usize) -> Items<Pending>
     ensures { result ≡ take count calls }
 {
-    let mut held = calls.into_vec();
-    held.truncate(count);
-    Items::from_vec(held)
+    let mut first = calls.into_vec();
+    first.truncate(count);
+    Items::from_vec(first)
 }

@@ -1,6 +1,6 @@
 use Rattle.std.proofs.Common.{◌≡◌, ◌++◌, map, drop}
 use Rattle.open_close.specs.State.{read_pending}
-use Rattle.open_close.proofs.waits.reads_pending.Given as goal
+use Rattle.open_close.proofs.waiting.reads_pending.Given as goal
 
 -- those so far, and those that are left
 abbrev pub invariant-loop-call : goal.invariant-loop-call

@@ -1,6 +1,6 @@
 use Rattle.std.proofs.Common.{◌≡◌, ◌++◌, map, drop}
 use Rattle.open_close.specs.State.{store_pending}
-use Rattle.open_close.proofs.waits.stores_pending.Given as goal
+use Rattle.open_close.proofs.waiting.stores_pending.Given as goal
 
 -- those so far, and those that are left
 abbrev pub invariant-loop-call : goal.invariant-loop-call
