@@ -13,17 +13,17 @@ use Rattle.open_close.specs.declared.step.ClientStep.{ClientStep}
 use Rattle.register_model.specs.declared.op.Op.{Op}
 use Rattle.register_model.specs.declared.op.Word.TheVariants as word
 use Rattle.trace_replay.specs.Commands.{word_of, file_of, value_at_begin}
-use Rattle.trace_replay.specs.Core.{Core, Seat, Session, Turned, Loss.Nothing, with_numbered, session_of, commanded_sessions, does}
+use Rattle.trace_replay.specs.Core.{Core, Seat, Session, CoreStep, Loss.Nothing, with_numbered, session_of, commanded_sessions, does}
 use Rattle.trace_replay.specs.View.{loss_of}
-use Rattle.trace_replay.specs.declared.turned.Loss.TheVariants as lost
-use Rattle.trace_replay.specs.declared.turned.Turned.{Turned as Left}
+use Rattle.trace_replay.specs.declared.core_step.Loss.TheVariants as lost
+use Rattle.trace_replay.specs.declared.core_step.CoreStep.{CoreStep as Left}
 use Rattle.trace_replay.specs.Ops.{begun, op_after, place_with}
 
-abbrev pub as_turned : Core → Left → Turned
-as_turned k t = record { core = k; loss = loss_of t.loss; session = t.session; up = t.up; down = t.down }
+abbrev pub as_core_step : Core → Left → CoreStep
+as_core_step k t = record { core = k; loss = loss_of t.loss; session = t.session; up = t.up; down = t.down }
 
 -- what is left where these are the seats, the sessions and the operations
-abbrev pub left : Core → (first : Seat) → List Seat → List Session → List Op → ClientStep → Turned
+abbrev pub left : Core → (first : Seat) → List Seat → List Session → List Op → ClientStep → CoreStep
 left k first seats sessions ops acts = record {
   core = record { server = k.server; seats = seats; sessions = sessions; steps = k.steps + 1; ops = ops; entries = k.entries };
   loss = Nothing;
@@ -96,9 +96,9 @@ pub left_is : (k : Core) (seat : Seat) (seats : List Seat) (sessions : List Sess
     → t ≡ record { loss = lost.Nothing; session = session; up = acts.send; down = [] }
     → step ≡ k.steps + 1
     → session ≡ seat.session
-    → as_turned (record { server = k.server; seats = seats; sessions = sessions; steps = step; ops = ops; entries = k.entries }) t ≡ left k seat seats sessions ops acts
+    → as_core_step (record { server = k.server; seats = seats; sessions = sessions; steps = step; ops = ops; entries = k.entries }) t ≡ left k seat seats sessions ops acts
 left_is k seat seats sessions ops acts step session t e n s =
     let core : ℕ → Core = λ m. record { server = k.server; seats = seats; sessions = sessions; steps = m; ops = ops; entries = k.entries } in
-    ap (as_turned (core step)) e
-    ∙ ap (λ (m : ℕ). as_turned (core m) (record { loss = lost.Nothing; session = session; up = acts.send; down = [] })) n
-    ∙ ap (λ (o : Option ℕ). as_turned (core (k.steps + 1)) (record { loss = lost.Nothing; session = o; up = acts.send; down = [] })) s
+    ap (as_core_step (core step)) e
+    ∙ ap (λ (m : ℕ). as_core_step (core m) (record { loss = lost.Nothing; session = session; up = acts.send; down = [] })) n
+    ∙ ap (λ (o : Option ℕ). as_core_step (core (k.steps + 1)) (record { loss = lost.Nothing; session = o; up = acts.send; down = [] })) s

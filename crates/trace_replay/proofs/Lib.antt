@@ -6,3 +6,6 @@ pub mod Rounds
 pub mod Quiet
 pub mod Bounded
 pub mod Applied
+mod Giving
+mod Delivering
+pub mod Going

@@ -1,5 +1,5 @@
 -- Why an operation ended as it did: for each outcome what must have happened.
-use Rattle.std.specs.Prelude.{◌≡◌, ℕ, zero, suc, ◌+◌, ◌*◌, ◌<◌, ◌≤◌, List, [], ◌∷◌, ◌++◌, length, take, ◌⊎◌, Bool, true, false, not, ◌&&◌, ◌==◌, nat_lt, Option, Some, None, Result, Ok, Err, IsSome, Contains, option_map, slice_get, if◌then◌else◌}
+use Rattle.std.specs.Prelude.{◌≡◌, ℕ, zero, suc, ◌+◌, ◌*◌, ◌<◌, ◌≤◌, List, [], ◌∷◌, ◌++◌, length, take, ◌⊎◌, Bool, true, false, not, ◌&&◌, ◌==◌, nat_lt, nat_le, Option, Some, None, Result, Ok, Err, IsSome, Contains, option_map, slice_get, if◌then◌else◌}
 use Rattle.std.specs.List.{list_any}
 use Rattle.std.specs.Option.{option_map_or}
 use Rattle.sha1.specs.Sha1.{sha1}
@@ -13,7 +13,6 @@ use Rattle.wire.specs.Parse.{parse_of}
 use Rattle.wire.specs.declared.message.Body.TheVariants as body
 use Rattle.wire.specs.declared.message.Message.TheVariants as message
 use Rattle.open_close.specs.Local.{local_most, written_size, written, truncated, part_of}
-use Rattle.open_close.specs.Opening.{calls_most}
 use Rattle.server_core.specs.Closing.{is_full}
 use Rattle.server_core.specs.declared.journal.Entry.{Entry}
 use Rattle.register_model.specs.Register.{Absent, content_of}
@@ -98,11 +97,9 @@ abbrev pub own_answer : (busy asks : Bool) → Command → Option (List ℕ) →
 own_answer true asks k l = Some told.Busy
 own_answer false asks k l = free_answer asks k l
 
--- A joined client may ask the server. (Only one that has sent 4,293,967,296 calls on its connection may not.)
-abbrev pub MayAsk : (joined asks : Bool) → (step : ℕ) → Type 0
-MayAsk true true step = Unit {0}
-MayAsk true false step = 4293967296 ≤ calls_most * step
-MayAsk false asks step = asks ≡ false
+-- A client may ask the server where it is joined, and 1,000,000 numbers of calls are left on its connection, which has 4,294,967,295 of them.
+abbrev pub can_ask : (joined : Bool) → (calls : ℕ) → Bool
+can_ask joined calls = joined && nat_le (calls + 1000000) 4294967295
 
 -- ---- what the server's answers lead to
 

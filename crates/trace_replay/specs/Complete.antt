@@ -1,8 +1,7 @@
 -- When the operations of a history must have ended, and how.
-use Rattle.std.specs.Prelude.{◌≡◌, ◌⊎◌, ℕ, ◌*◌, ◌<◌, List, Bool, true, false, Option, Some, None, IsSome, Contains, slice_get}
+use Rattle.std.specs.Prelude.{◌≡◌, ◌⊎◌, ℕ, ◌<◌, List, Bool, true, false, Option, Some, None, IsSome, Contains, slice_get}
 use Rattle.command_text.specs.declared.command.Command.{Command}
 use Rattle.command_text.specs.declared.command.Command.TheVariants as command
-use Rattle.open_close.specs.Opening.{calls_most}
 use Rattle.server_core.specs.declared.change.Change.{Change}
 use Rattle.register_model.specs.declared.op.Op.{Op}
 use Rattle.register_model.specs.declared.op.Outcome.{Outcome}
@@ -13,7 +12,7 @@ use Rattle.trace_replay.specs.World.{World}
 use Rattle.trace_replay.specs.Delivery.{is_still}
 use Rattle.trace_replay.specs.Trail.{Deed, Moment, deeds_of, step_of}
 use Rattle.trace_replay.specs.Book.{Book}
-use Rattle.trace_replay.specs.Causes.{is_busy, local_before}
+use Rattle.trace_replay.specs.Causes.{can_ask, is_busy, local_before}
 
 -- nothing is on its way on a session, none of its changes waits, and the server did not see its connection lost
 pub record IsAlone (w : World) (number : ℕ) : Type 0 where
@@ -42,10 +41,10 @@ EndsWell (command.Close f) (Some x) (told.Refused status) = status ≡ 28
 EndsWell (command.Close f) (Some x) o = ⊥
 EndsWell k l o = Unit {0}
 
--- An operation has ended whose client is left alone; and one that a joined client began while it wasn't busy (and had xids left), and whose
+-- An operation has ended whose client is left alone; and one that a client began while it could ask the server and wasn't busy, and whose
 -- connection the client didn't see lost since then, has ended well.
 pub record IsComplete (book : Book) (w : World) : Type 0 where
   pub ended : (k : ℕ) (o : Op) → slice_get book.ops k ≡ Some o → IsLeftAlone w o.client → IsSome o.end
   pub well : (k : ℕ) (d : Deed) (o : Op) → slice_get (deeds_of book.moments) k ≡ Some d → slice_get book.ops k ≡ Some o → IsLeftAlone w o.client
-      → d.joined ≡ true → calls_most * o.begin < 4293967296 → is_busy book.ops o ≡ false → IsUncut book o
+      → can_ask d.joined d.calls ≡ true → is_busy book.ops o ≡ false → IsUncut book o
       → EndsWell d.command (local_before (deeds_of book.moments) book.ops k d.client (file_of d.command)) o.outcome

@@ -20,7 +20,7 @@ use Rattle.open_close.specs.Step.{command_step, got_step, joined, cut}
 use Rattle.open_close.specs.declared.step.ClientStep.{ClientStep}
 use Rattle.register_model.specs.declared.op.Op.{Op}
 use Rattle.register_model.specs.declared.op.Word.{Word}
-use Rattle.trace_replay.specs.declared.link.Taken.{Taken}
+use Rattle.trace_replay.specs.declared.taken_call.TakenCall.{TakenCall}
 use Rattle.trace_replay.specs.Commands.{word_of, file_of, value_at_begin}
 use Rattle.trace_replay.specs.Ops.{begun, op_after, place_after, place_with, taken_on, closing_with, pointed_at}
 
@@ -51,7 +51,7 @@ new_seat = record { client = client.start; session = None; place = None }
 -- place of the last close that sent calls on it, and whether an end saw the connection lost
 pub record Session : Type 0 where
   pub owner : ℕ
-  pub taken : List Taken
+  pub taken : List TakenCall
   pub closing : Option ℕ
   pub cut : Bool
   pub hung : Bool
@@ -91,18 +91,18 @@ pub data Loss : Type 0 where
   Up_of : (session : ℕ) → Loss
 
 -- what an event leaves, and sends: these messages up a session, and those down
-pub record Turned : Type 0 where
+pub record CoreStep : Type 0 where
   pub core : Core
   pub loss : Loss
   pub session : Option ℕ
   pub up : List Message
   pub down : List Sent
 
-abbrev pub quiet : Core → Turned
+abbrev pub quiet : Core → CoreStep
 quiet k = record { core = k; loss = Nothing; session = None; up = []; down = [] }
 
 -- a step in which nothing is done
-abbrev pub idles : Core → Turned
+abbrev pub idles : Core → CoreStep
 idles k = quiet (record k { steps = k.steps + 1 })
 
 -- ---- the server's end
@@ -112,12 +112,12 @@ abbrev pub server_waiting : Waiting
 server_waiting = record { side = side.Server; calls = [] }
 
 -- a call that was taken is remembered with its step
-abbrev pub taken_with : List Taken → Message → ℕ → List Taken
+abbrev pub taken_with : List TakenCall → Message → ℕ → List TakenCall
 taken_with taken (message.Call xid body) step = taken ++ record { xid = xid; step = step } ∷ []
 taken_with taken _ step = taken
 
 -- a session's message is taken by the server, at a reading of its clock
-abbrev pub server_got : Core → (number now : ℕ) → Session → Message → Turned
+abbrev pub server_got : Core → (number now : ℕ) → Session → Message → CoreStep
 server_got k number now x m =
     let r = server_step k.server (event.Got number m now) in
     record (quiet (record k {
@@ -127,18 +127,18 @@ server_got k number now x m =
     })) { down = r.1.send }
 
 -- bytes that are no message change nothing at the server
-abbrev pub serves_if : Core → (number now : ℕ) → Session → Result Message WireFault → Turned
+abbrev pub serves_if : Core → (number now : ℕ) → Session → Result Message WireFault → CoreStep
 serves_if k number now x (Ok m) = server_got k number now x m
 serves_if k number now x (Err e) = idles k
 
-abbrev pub serves : Core → (number now : ℕ) → List ℕ → Option Session → Turned
+abbrev pub serves : Core → (number now : ℕ) → List ℕ → Option Session → CoreStep
 serves k number now bytes None = quiet k
 serves k number now bytes (Some x) = serves_if k number now x (parse_of server_waiting bytes)
 
 -- ---- the client's end
 
 -- the calls that the server took of a client's newest session
-abbrev pub taken_of : Option Session → List Taken
+abbrev pub taken_of : Option Session → List TakenCall
 taken_of None = []
 taken_of (Some x) = x.taken
 
@@ -146,16 +146,16 @@ abbrev pub session_of : List Session → Option ℕ → Option Session
 session_of sessions None = None
 session_of sessions (Some number) = numbered sessions number
 
-abbrev pub ops_after : List Op → (place : ℕ) → Option Op → client.State → List Taken → (step : ℕ) → ClientStep → List Op
+abbrev pub ops_after : List Op → (place : ℕ) → Option Op → client.State → List TakenCall → (step : ℕ) → ClientStep → List Op
 ops_after ops place None c taken step acts = ops
 ops_after ops place (Some o) c taken step acts = slice_set ops place (op_after o c taken step acts)
 
-abbrev pub ops_with : List Op → Option ℕ → client.State → List Taken → (step : ℕ) → ClientStep → List Op
+abbrev pub ops_with : List Op → Option ℕ → client.State → List TakenCall → (step : ℕ) → ClientStep → List Op
 ops_with ops None c taken step acts = ops
 ops_with ops (Some place) c taken step acts = ops_after ops place (slice_get ops place) c taken step acts
 
 -- a client did this in a step
-abbrev pub acted : Core → (number : ℕ) → Seat → client.State → ClientStep → Turned
+abbrev pub acted : Core → (number : ℕ) → Seat → client.State → ClientStep → CoreStep
 acted k number seat c acts =
     let taken = taken_of (session_of k.sessions seat.session) in
     record {
@@ -170,7 +170,7 @@ acted k number seat c acts =
       down = [];
     }
 
-abbrev pub hears_by : Core → (number now : ℕ) → Seat → List ℕ → Turned
+abbrev pub hears_by : Core → (number now : ℕ) → Seat → List ℕ → CoreStep
 hears_by k number now seat bytes =
     let r = got_step seat.client (parse_of (client.waiting_of seat.client) bytes) now in
     acted k number seat r.0 r.1
@@ -181,15 +181,15 @@ is_newest None number = false
 is_newest (Some newest) number = newest == number
 
 -- what comes on a session that its client has left is heard by nobody
-abbrev pub hears_if : Core → (owner now : ℕ) → Seat → List ℕ → Bool → Turned
+abbrev pub hears_if : Core → (owner now : ℕ) → Seat → List ℕ → Bool → CoreStep
 hears_if k owner now seat bytes true = hears_by k owner now seat bytes
 hears_if k owner now seat bytes false = quiet k
 
-abbrev pub hears_at : Core → (number owner now : ℕ) → List ℕ → Option Seat → Turned
+abbrev pub hears_at : Core → (number owner now : ℕ) → List ℕ → Option Seat → CoreStep
 hears_at k number owner now bytes None = quiet k
 hears_at k number owner now bytes (Some seat) = hears_if k owner now seat bytes (is_newest seat.session number)
 
-abbrev pub hears : Core → (number now : ℕ) → List ℕ → Option Session → Turned
+abbrev pub hears : Core → (number now : ℕ) → List ℕ → Option Session → CoreStep
 hears k number now bytes None = quiet k
 hears k number now bytes (Some x) = hears_at k number x.owner now bytes (numbered k.seats x.owner)
 
@@ -204,7 +204,7 @@ commanded_sessions sessions (Some number) (Some x) running place what acts = wit
 commanded_sessions sessions number x running place what acts = sessions
 
 -- a client does what it is told to, in a step
-abbrev pub commanded : Core → (number : ℕ) → Seat → Word → (file : ℕ) → (value : List ℕ) → client.State → ClientStep → Turned
+abbrev pub commanded : Core → (number : ℕ) → Seat → Word → (file : ℕ) → (value : List ℕ) → client.State → ClientStep → CoreStep
 commanded k number seat what file value c acts = record {
   core = record k {
     steps = k.steps + 1;
@@ -218,7 +218,7 @@ commanded k number seat what file value c acts = record {
   down = [];
 }
 
-abbrev pub does : Core → (number now : ℕ) → Command → Option Seat → Turned
+abbrev pub does : Core → (number now : ℕ) → Command → Option Seat → CoreStep
 does k number now command None = quiet k
 does k number now command (Some seat) =
     let r = command_step seat.client command now in
@@ -227,7 +227,7 @@ does k number now command (Some seat) =
 -- ---- a client joins
 
 -- a step of the server, and one of the client, which has the session of this number then
-abbrev pub joins_as : Core → (number : ℕ) → Seat → server.State → Told → Turned
+abbrev pub joins_as : Core → (number : ℕ) → Seat → server.State → Told → CoreStep
 joins_as k number seat s (told.Session made) = record (quiet (record k {
   steps = k.steps + 2;
   server = s;
@@ -236,7 +236,7 @@ joins_as k number seat s (told.Session made) = record (quiet (record k {
 })) { loss = Made }
 joins_as k number seat s _ = quiet (record k { steps = k.steps + 2; server = s })
 
-abbrev pub joins : Core → (number : ℕ) → Option Seat → Turned
+abbrev pub joins : Core → (number : ℕ) → Option Seat → CoreStep
 joins k number None = quiet k
 joins k number (Some seat) = let r = server_step k.server event.Connect in joins_as k number seat r.0 r.1.told
 
@@ -251,7 +251,7 @@ abbrev pub settled_by : Core → (made : ℕ) → Told → List Op
 settled_by k made (told.Settled session xid) = settled_ops k.ops made (k.steps + 1) (numbered k.sessions session)
 settled_by k made _ = k.ops
 
-abbrev pub settles : Core → (now : ℕ) → Turned
+abbrev pub settles : Core → (now : ℕ) → CoreStep
 settles k now =
     let r = server_step k.server (event.Settle now) in
     record (quiet (record k {
@@ -272,19 +272,19 @@ cut_session sessions (Some number) (Some x) = with_numbered sessions number (rec
 cut_session sessions number x = sessions
 
 -- The client sees it: what is on its way down is dropped. Where it isn't joined that is a step, and no more.
-abbrev pub cuts_if : Core → (number : ℕ) → Seat → (linked : Bool) → Turned
+abbrev pub cuts_if : Core → (number : ℕ) → Seat → (linked : Bool) → CoreStep
 cuts_if k number seat true =
     let r = cut seat.client in
     let t = acted k number seat r.0 r.1 in
     record t { core = record t.core { sessions = cut_session k.sessions seat.session (session_of k.sessions seat.session) }; loss = loss_down seat.session }
 cuts_if k number seat false = idles k
 
-abbrev pub cuts : Core → (number : ℕ) → Option Seat → Turned
+abbrev pub cuts : Core → (number : ℕ) → Option Seat → CoreStep
 cuts k number None = quiet k
 cuts k number (Some seat) = cuts_if k number seat seat.client.linked
 
 -- The server sees it, once: what is on its way up is dropped.
-abbrev pub hangs_if : Core → (number : ℕ) → Session → (hung : Bool) → Turned
+abbrev pub hangs_if : Core → (number : ℕ) → Session → (hung : Bool) → CoreStep
 hangs_if k number x true = quiet k
 hangs_if k number x false = record (quiet (record k {
   steps = k.steps + 1;
@@ -292,13 +292,13 @@ hangs_if k number x false = record (quiet (record k {
   sessions = with_numbered k.sessions number (record x { hung = true });
 })) { loss = Up_of number }
 
-abbrev pub hangs : Core → (number : ℕ) → Option Session → Turned
+abbrev pub hangs : Core → (number : ℕ) → Option Session → CoreStep
 hangs k number None = quiet k
 hangs k number (Some x) = hangs_if k number x x.hung
 
 -- ---- any event
 
-abbrev pub happens : Core → Event → Turned
+abbrev pub happens : Core → Event → CoreStep
 happens k (Joins number) = joins k number (numbered k.seats number)
 happens k (Does number now command) = does k number now command (numbered k.seats number)
 happens k (Serves number now bytes) = serves k number now bytes (numbered k.sessions number)

@@ -1,5 +1,5 @@
 -- When the history of a run is faithful to its trace.
-use Rattle.std.specs.Prelude.{◌≡◌, ℕ, ◌+◌, ◌<◌, ◌≤◌, List, [], ◌∷◌, length, take, ◌⊎◌, Bool, true, false, not, Option, Some, None, is_some, Contains, slice_get, filter, map}
+use Rattle.std.specs.Prelude.{◌≡◌, ℕ, ◌+◌, ◌*◌, ◌<◌, ◌≤◌, List, [], ◌∷◌, length, take, ◌⊎◌, Bool, true, false, not, Option, Some, None, is_some, Contains, slice_get, filter, map}
 use Rattle.sha1.specs.Sha1.{sha1}
 use Rattle.chunk_cut.specs.Chunks.{chunks_of}
 use Rattle.command_text.specs.Parts.{lines_of}
@@ -10,18 +10,22 @@ use Rattle.hash_calls.specs.declared.message.Lb.TheVariants as lb
 use Rattle.wire.specs.declared.message.Body.TheVariants as body
 use Rattle.wire.specs.declared.message.Message.{Message}
 use Rattle.wire.specs.declared.message.Message.TheVariants as message
+use Rattle.open_close.specs.Opening.{calls_most}
+use Rattle.server_core.specs.declared.change.Change.{Change}
 use Rattle.server_core.specs.declared.journal.Entry.{Entry}
+use Rattle.server_core.specs.declared.journal.EntryKind.TheVariants as kind
 use Rattle.register_model.specs.Register.{changes}
 use Rattle.register_model.specs.declared.op.Op.{Op}
 use Rattle.register_model.specs.declared.op.Outcome.{Outcome}
 use Rattle.register_model.specs.declared.op.Outcome.TheVariants as told
+use Rattle.register_model.specs.declared.op.Word.TheVariants as word
 use Rattle.trace_replay.specs.Ops.{no_traffic}
 use Rattle.trace_replay.specs.Commands.{word_of, file_of}
-use Rattle.trace_replay.specs.Core.{Event.Settles, Event.Cuts}
+use Rattle.trace_replay.specs.Core.{Session, Event.Settles, Event.Cuts, numbered}
 use Rattle.trace_replay.specs.Trail.{Deed, Moment, Said, AreCounted, told_of, events_of, deeds_of, told_in, openings_of, commands_of, step_of, sent_of, taken_of}
-use Rattle.trace_replay.specs.Traffic.{is_of, traffic_of, open_traffic, close_traffic, CountsOwn, SentCommit, AttemptsEnd}
+use Rattle.trace_replay.specs.Traffic.{is_of, traffic_of, open_traffic, close_traffic, CountsOwn, SentCommit, AttemptsEnd, AttemptsMet, deals_of, AreOwn, NamesChunks, last_fetch, fetch_of}
 use Rattle.trace_replay.specs.Book.{Book, Or, value_at, version_at}
-use Rattle.trace_replay.specs.Causes.{HasCause, MayAsk, Within, is_busy, local_before, own_answer}
+use Rattle.trace_replay.specs.Causes.{HasCause, can_ask, Within, is_busy, local_before, own_answer}
 
 -- ---- an operation
 
@@ -46,9 +50,9 @@ pub record IsDone (book : Book) (d : Deed) (o : Op) (l : Option (List ℕ)) : Ty
   pub word : o.word ≡ word_of d.command
   pub file : o.file ≡ file_of d.command
   pub begin : o.begin ≡ d.begin
-  pub asks : Bool
-  pub may_ask : MayAsk d.joined asks o.begin
-  pub came_to : CameTo book d o l (own_answer (is_busy book.ops o) asks d.command l)
+  -- no step sends more calls than one operation may have under way
+  pub few : d.calls ≤ calls_most * d.begin
+  pub came_to : CameTo book d o l (own_answer (is_busy book.ops o) (can_ask d.joined d.calls) d.command l)
   -- it has an end exactly where it is not running, and not before its begin
   pub end : is_some o.end ≡ not (is_running o.outcome)
   pub order : (e : ℕ) → o.end ≡ Some e → o.begin ≤ e
@@ -106,9 +110,36 @@ pub record HasJournal (book : Book) : Type 0 where
   -- which no other operation made: none has the same point
   pub once : (k m p : ℕ) (o q : Op) → slice_get book.ops k ≡ Some o → slice_get book.ops m ≡ Some q → changes o.word ≡ true → o.point ≡ Some p → q.point ≡ Some p → k ≡ m
 
--- the change of this number was made in this step: at a moment at which the server was told to make one, with so many before it
-abbrev pub IsSettled : List Moment → (number step : ℕ) → Type 0
-IsSettled moments number step = (m : Moment) × (now : ℕ) × Contains moments m × (m.event ≡ Settles now) × (step_of m ≡ step) × (length m.before.server.journal ≡ number)
+-- The change of this number was made in this step: at a moment at which the server was told to make one, with so many before it. It is the
+-- one that waited first, and the journal's entry tells it; it is that of a close of the client whose session asked for it, and the last close
+-- that had sent calls there.
+pub record IsSettled (book : Book) (number step : ℕ) : Type 0 where
+  pub moment : Moment
+  pub there : Contains book.moments moment
+  pub now : ℕ
+  pub event_is : moment.event ≡ Settles now
+  pub step_is : step_of moment ≡ step
+  pub number_is : length moment.before.server.journal ≡ number
+  pub change : Change
+  pub first : slice_get moment.before.server.waiting 0 ≡ Some change
+  pub entry : Entry
+  pub entry_is : slice_get book.journal number ≡ Some entry
+  pub kind_is : entry.kind ≡ kind.Commit
+  pub file_is : entry.file ≡ change.file
+  pub session_is : entry.session ≡ change.session
+  pub session : Session
+  pub on : numbered moment.before.sessions change.session ≡ Some session
+  pub place : ℕ
+  pub op : Op
+  pub op_is : slice_get book.ops place ≡ Some op
+  pub word_is : op.word ≡ word.Close
+  pub point_is : op.point ≡ Some step
+  pub owner : session.owner ≡ op.client
+  pub closing : session.closing ≡ Some place
+
+-- where changes wait, a settling makes the one that came first, in its own step
+abbrev pub SettlesFirst : Book → Type 0
+SettlesFirst book = (m : Moment) (now : ℕ) (c : Change) → Contains book.moments m → m.event ≡ Settles now → slice_get m.before.server.waiting 0 ≡ Some c → slice_get book.entries (length m.before.server.journal) ≡ Some (step_of m)
 
 -- ---- all of it
 
@@ -126,7 +157,8 @@ pub record IsFaithful (input : List ℕ) (book : Book) : Type 0 where
       → IsDone book d o (local_before (deeds_of book.moments) book.ops k d.client (file_of d.command))
   pub cuts : CutsEnd book
   pub journal : HasJournal book
-  pub settled : (i p : ℕ) → slice_get book.entries i ≡ Some p → IsSettled book.moments i p
+  pub settled : (i p : ℕ) → slice_get book.entries i ≡ Some p → IsSettled book i p
+  pub settles : SettlesFirst book
   pub versions : (k : ℕ) (o : Op) → slice_get book.ops k ≡ Some o → OpensVersion book o o.outcome
   -- a peer's fault never comes
   pub no_fault : (k n : ℕ) (o : Op) → slice_get book.ops k ≡ Some o → o.outcome ≡ told.BadPeer n → ⊥
@@ -135,9 +167,17 @@ pub record IsFaithful (input : List ℕ) (book : Book) : Type 0 where
   pub own : (k : ℕ) (o : Op) → slice_get book.ops k ≡ Some o → CountsOwn o.word o.traffic
   -- none began more attempts than an open may, and one that ended by Changed began just as many
   pub attempts : (k : ℕ) (o : Op) → slice_get book.ops k ≡ Some o → AttemptsEnd (sent_of book.moments) o
+  -- and no open gave one up but where it had met another version
+  pub met : (k : ℕ) (o : Op) → slice_get book.ops k ≡ Some o → o.word ≡ word.Open → AttemptsMet o (deals_of o book.moments)
+  -- what is sent for an operation are its own calls
+  pub calls : (k : ℕ) (o : Op) → slice_get book.ops k ≡ Some o → AreOwn o.word o.file o.value (deals_of o book.moments)
   -- what a client answers by itself counts nothing
   pub silent : (k : ℕ) (o : Op) → slice_get book.ops k ≡ Some o → o.end ≡ Some o.begin → o.traffic ≡ no_traffic
   pub opened : (k len : ℕ) (digest : List ℕ) (o : Op) → slice_get book.ops k ≡ Some o → o.outcome ≡ told.Opened len digest → Or book (OpenedBy book o)
+  -- since its last attempt began an open that got its content read each chunk of it, in order, and each once, and that is what came
+  pub fetched : (k len : ℕ) (digest : List ℕ) (o : Op) → slice_get book.ops k ≡ Some o → o.outcome ≡ told.Opened len digest → Or book (last_fetch (deals_of o book.moments) ≡ fetch_of o.value)
+  -- a close, whatever comes of it, has named the first chunks of its value, in order, and sent the bytes of those that the server didn't know
+  pub named : (k : ℕ) (o : Op) → slice_get book.ops k ≡ Some o → o.word ≡ word.Close → NamesChunks o.value (deals_of o book.moments)
   pub stored : (k : ℕ) (o : Op) → slice_get book.ops k ≡ Some o → SentCommit o (sent_of book.moments) → o.traffic ≡ close_traffic o.value
   -- and each that replaced its file had sent it
   pub made : (k p : ℕ) (o : Op) → slice_get book.ops k ≡ Some o → changes o.word ≡ true → o.point ≡ Some p → SentCommit o (sent_of book.moments)

@@ -5,8 +5,10 @@ pub mod Core
 pub mod View
 pub mod World
 pub mod Delivery
+pub mod Queue
 pub mod Run
 pub mod Timed
+pub mod Lines
 pub mod WorldView
 pub mod Turns
 pub mod Readings

@@ -17,7 +17,7 @@ use Rattle.register_model.specs.declared.op.Outcome.TheVariants as told
 use Rattle.register_model.specs.declared.op.Traffic.{Traffic}
 use Rattle.register_model.specs.declared.op.Word.{Word}
 use Rattle.register_model.specs.declared.op.Word.TheVariants as word
-use Rattle.trace_replay.specs.declared.link.Taken.{Taken}
+use Rattle.trace_replay.specs.declared.taken_call.TakenCall.{TakenCall}
 
 -- ---- how one ends
 
@@ -54,11 +54,11 @@ has_point word.Open (outcome.Refused status.Stale) = true
 has_point w o = false
 
 -- the step at which the call was taken that an outcome rests on
-abbrev pub taken_at : List Taken → (xid : ℕ) → Option ℕ
+abbrev pub taken_at : List TakenCall → (xid : ℕ) → Option ℕ
 taken_at taken xid = option_map (λ t. t.step) (find (λ t. t.xid == xid) taken)
 
 -- the point that an open has by its end; that of a close is the step at which its change was made
-abbrev pub point_if : Bool → List Taken → (xid : ℕ) → Option ℕ → Option ℕ
+abbrev pub point_if : Bool → List TakenCall → (xid : ℕ) → Option ℕ → Option ℕ
 point_if true taken xid point = taken_at taken xid
 point_if false taken xid point = point
 
@@ -70,15 +70,15 @@ value_of value c o = value
 abbrev pub counted : Traffic → Counts → Traffic
 counted t n = record { cond = t.cond + n.cond_writes; tmp = t.tmp + n.temp_writes; read = t.read + n.reads; «data» = t.«data» + n.bytes }
 
-abbrev pub ended_op : Op → client.State → List Taken → (step : ℕ) → Ended → Op
+abbrev pub ended_op : Op → client.State → List TakenCall → (step : ℕ) → Ended → Op
 ended_op o c taken step e = record o { end = Some step; point = point_if (has_point o.word e.outcome) taken e.rests_on o.point; outcome = told_of e.outcome; value = value_of o.value c e.outcome }
 
-abbrev pub op_ended : Op → client.State → List Taken → (step : ℕ) → Option Ended → Op
+abbrev pub op_ended : Op → client.State → List TakenCall → (step : ℕ) → Option Ended → Op
 op_ended o c taken step None = o
 op_ended o c taken step (Some e) = ended_op o c taken step e
 
 -- an operation after a step of its client, which did this
-abbrev pub op_after : Op → client.State → List Taken → (step : ℕ) → ClientStep → Op
+abbrev pub op_after : Op → client.State → List TakenCall → (step : ℕ) → ClientStep → Op
 op_after o c taken step acts = op_ended (record o { traffic = counted o.traffic acts.counts }) c taken step acts.ended
 
 -- ---- one begins
@@ -103,7 +103,7 @@ place_with None place (Some e) = None
 place_with (Some p) place ended = Some p
 
 -- the calls that were taken, as a command leaves them: those of the operation under way
-abbrev pub taken_on : Option ℕ → List Taken → List Taken
+abbrev pub taken_on : Option ℕ → List TakenCall → List TakenCall
 taken_on None taken = []
 taken_on (Some p) taken = taken
 

@@ -1,28 +1,38 @@
 -- What an operation sent and received, by the messages of the run.
-use Rattle.std.specs.Prelude.{◌≡◌, ℕ, ◌+◌, ◌<◌, ◌≤◌, List, [], ◌∷◌, length, Option, Some, None, Bool, true, false, not, ◌&&◌, ◌==◌, nat_lt, nat_le, Contains}
-use Rattle.xdr_codec.specs.declared.answer.Answer.TheVariants.{Done}
+use Rattle.std.specs.Prelude.{◌≡◌, ℕ, ◌+◌, ◌<◌, ◌≤◌, List, [], ◌∷◌, ◌++◌, length, map, take, option_map, slice_get, Option, Some, None, Bool, true, false, not, ◌&&◌, ◌==◌, nat_lt, nat_le, Contains}
+use Rattle.xdr_codec.specs.declared.answer.Answer.TheVariants.{Done, Failed}
 use Rattle.chunk_cut.specs.Chunks.{chunks_of}
+use Rattle.chunk_cut.specs.Places.{chunk_bytes}
+use Rattle.xdr_codec.specs.Handle.{handle_bytes}
+use Rattle.chunk_cut.specs.declared.chunk.Chunk.{Chunk}
+use Rattle.xdr_codec.specs.declared.status.Status.TheVariants as status
 use Rattle.hash_calls.specs.declared.message.Lb.TheVariants as lb
 use Rattle.nfs3_calls.specs.declared.message.Nfs.TheVariants as nfs
 use Rattle.wire.specs.declared.message.Body.TheVariants as body
 use Rattle.wire.specs.declared.message.Message.{Message}
 use Rattle.wire.specs.declared.message.Message.TheVariants as message
-use Rattle.open_close.specs.Opening.{tries_most}
+use Rattle.xdr_codec.specs.declared.attr.Attr.{Attr}
+use Rattle.open_close.specs.Opening.{tries_most, other_version}
 use Rattle.register_model.specs.declared.op.Op.{Op}
 use Rattle.register_model.specs.declared.op.Outcome.TheVariants as told
 use Rattle.register_model.specs.declared.op.Traffic.{Traffic}
 use Rattle.register_model.specs.declared.op.Word.{Word}
 use Rattle.register_model.specs.declared.op.Word.TheVariants as word
 use Rattle.trace_replay.specs.Ops.{no_traffic}
-use Rattle.trace_replay.specs.Trail.{Said}
+use Rattle.trace_replay.specs.Core.{happens}
+use Rattle.trace_replay.specs.Trail.{Moment, Said, step_of, client_of, taken_by}
 
 abbrev pub until : (end : Option ℕ) → (step : ℕ) → Bool
 until None step = true
 until (Some e) step = nat_le step e
 
--- a message of the operation's client, in a step from its begin to its end: a client has one operation under way
+-- a step of the operation's client, from its begin to its end: a client has one operation under way
+abbrev pub is_in : Op → (step client : ℕ) → Bool
+is_in o step c = (c == o.client) && (nat_le o.begin step && until o.end step)
+
+-- a message of such a step
 abbrev pub is_of : Op → Said → Bool
-is_of o s = (s.client == o.client) && (nat_le o.begin s.step && until o.end s.step)
+is_of o s = is_in o s.step s.client
 
 -- ---- what a message counts
 
@@ -100,3 +110,191 @@ attempts_of o (s ∷ ss) = let later : ℕ = attempts_of o ss in number_if (is_o
 pub record AttemptsEnd (sent : List Said) (o : Op) : Type 0 where
   pub most : attempts_of o sent ≤ tries_most
   pub all : (first last : ℕ) → o.outcome ≡ told.Changed first last → attempts_of o sent ≡ tries_most
+
+-- ---- what was said for an operation, in order
+
+-- a message that its client took, or sent
+pub data Deal : Type 0 where
+  Took : Message → Deal
+  Sent : Message → Deal
+
+-- what a client took in a step, and sent then
+abbrev pub deals_with : (taken sent : List Message) → List Deal
+deals_with taken sent = map Took taken ++ map Sent sent
+
+abbrev pub deals_if : Bool → (taken sent : List Message) → List Deal
+deals_if true taken sent = deals_with taken sent
+deals_if false taken sent = []
+
+-- at a moment, and at all of them
+abbrev pub deals_in : Op → Moment → List Deal
+deals_in o m = let c : ℕ = client_of m.before m.event in deals_if (is_in o (step_of m) c) (taken_by m.before c m.event) (happens m.before m.event).up
+
+abbrev pub deals_of : Op → List Moment → List Deal
+deals_of o [] = []
+deals_of o (m ∷ ms) = deals_in o m ++ deals_of o ms
+
+-- ---- what a close named and sent
+
+-- the chunks that CONDWRITEs named
+abbrev pub named_by : Deal → List Chunk
+named_by (Sent (message.Call xid (body.Lb (lb.CondWrite a)))) = record { start = a.offset; len = a.count; digest = a.digest } ∷ []
+named_by d = []
+
+abbrev pub named_in : List Deal → List Chunk
+named_in [] = []
+named_in (d ∷ ds) = named_by d ++ named_in ds
+
+-- how many answers told that a chunk isn't known, and how many TMPWRITEs sent one
+abbrev pub unknown_number : Deal → ℕ
+unknown_number (Took (message.Answer xid (body.Lb (lb.CondWriteAnswer (Failed status.HashNotFound u))))) = 1
+unknown_number d = 0
+
+abbrev pub unknown_in : List Deal → ℕ
+unknown_in [] = 0
+unknown_in (d ∷ ds) = unknown_number d + unknown_in ds
+
+abbrev pub whole_number : Deal → ℕ
+whole_number (Sent (message.Call xid (body.Lb (lb.TmpWrite a)))) = 1
+whole_number d = 0
+
+abbrev pub whole_in : List Deal → ℕ
+whole_in [] = 0
+whole_in (d ∷ ds) = whole_number d + whole_in ds
+
+-- A close named the first chunks of its value, in order, each once, and sent the bytes of one for each answer that one isn't known.
+pub record NamesChunks (value : List ℕ) (deals : List Deal) : Type 0 where
+  pub count : ℕ
+  pub named : named_in deals ≡ take count (chunks_of value)
+  pub whole : whole_in deals ≡ unknown_in deals
+
+-- ---- what the last attempt of an open read
+
+-- the READs that were sent, each by its place and length, and how many bytes came
+pub record LastFetch : Type 0 where
+  pub reads : List (ℕ × ℕ)
+  pub bytes : ℕ
+
+abbrev pub no_fetch : LastFetch
+no_fetch = record { reads = []; bytes = 0 }
+
+-- a GETHASH from the file's first byte on begins a new attempt
+abbrev pub fetch_if : (begins : Bool) → LastFetch → LastFetch
+fetch_if true f = no_fetch
+fetch_if false f = f
+
+abbrev pub fetch_with : LastFetch → Deal → LastFetch
+fetch_with f (Sent (message.Call xid (body.Lb (lb.GetHash a)))) = fetch_if (a.offset == 0) f
+fetch_with f (Sent (message.Call xid (body.Nfs (nfs.Read r)))) = record f { reads = f.reads ++ (r.offset, r.count) ∷ [] }
+fetch_with f (Took (message.Answer xid (body.Nfs (nfs.ReadAnswer (Done piece))))) = record f { bytes = f.bytes + length piece.bytes }
+fetch_with f d = f
+
+abbrev pub fetch_from : LastFetch → List Deal → LastFetch
+fetch_from f [] = f
+fetch_from f (d ∷ ds) = fetch_from (fetch_with f d) ds
+
+abbrev pub last_fetch : List Deal → LastFetch
+last_fetch ds = fetch_from no_fetch ds
+
+abbrev pub place_of : Chunk → ℕ × ℕ
+place_of c = (c.start, c.len)
+
+-- each chunk of a content was read, in order, and each once, and its bytes came
+abbrev pub fetch_of : (content : List ℕ) → LastFetch
+fetch_of content = record { reads = map place_of (chunks_of content); bytes = length content }
+
+-- ---- attempts that met another version
+
+-- the version that an attempt's first answer told, and the other one that its last answer showed, if it did
+pub record Attempt : Type 0 where
+  pub told : Option ℕ
+  pub met : Option ℕ
+
+abbrev pub new_attempt : Attempt
+new_attempt = record { told = None; met = None }
+
+-- the attempt under way, and those before it, which were given up
+pub record Attempts : Type 0 where
+  pub last : Option Attempt
+  pub failed : List Attempt
+
+abbrev pub no_attempt : Attempts
+no_attempt = record { last = None; failed = [] }
+
+abbrev pub other_if : (same : Bool) → (shown : ℕ) → Option ℕ
+other_if true shown = None
+other_if false shown = Some shown
+
+-- an answer to a GETHASH tells a version, and one to a READ may show one by its attributes
+abbrev pub told_if : Option ℕ → (shown : ℕ) → Attempt
+told_if None shown = record { told = Some shown; met = None }
+told_if (Some version) shown = record { told = Some version; met = other_if (shown == version) shown }
+
+abbrev pub shown_if : Option ℕ → Option Attr → Attempt
+shown_if None attr = new_attempt
+shown_if (Some version) attr = record { told = Some version; met = other_version version attr }
+
+abbrev pub given_up : Option Attempt → List Attempt
+given_up None = []
+given_up (Some a) = a ∷ []
+
+abbrev pub begun_anew : Attempts → Attempts
+begun_anew t = record { last = Some new_attempt; failed = t.failed ++ given_up t.last }
+
+abbrev pub begun_if : (begins : Bool) → Attempts → Attempts
+begun_if true t = begun_anew t
+begun_if false t = t
+
+abbrev pub attempts_with : Attempts → Deal → Attempts
+attempts_with t (Sent (message.Call xid (body.Lb (lb.GetHash a)))) = begun_if (a.offset == 0) t
+attempts_with t (Took (message.Answer xid (body.Lb (lb.GetHashAnswer (Done h))))) = record t { last = option_map (λ a. told_if a.told h.version) t.last }
+attempts_with t (Took (message.Answer xid (body.Nfs (nfs.ReadAnswer (Done piece))))) = record t { last = option_map (λ a. shown_if a.told piece.attr) t.last }
+attempts_with t d = t
+
+abbrev pub attempts_from : Attempts → List Deal → Attempts
+attempts_from t [] = t
+attempts_from t (d ∷ ds) = attempts_from (attempts_with t d) ds
+
+abbrev pub attempts_in : List Deal → Attempts
+attempts_in ds = attempts_from no_attempt ds
+
+-- one version was told, and another met
+abbrev pub HasMet : (told met : ℕ) → Attempt → Type 0
+HasMet told met a = (a.told ≡ Some told) × (a.met ≡ Some met) × (told ≡ met → ⊥)
+
+abbrev pub AllMet : List Attempt → Type 0
+AllMet [] = Unit {0}
+AllMet (a ∷ later) = ((told : ℕ) × (met : ℕ) × HasMet told met a) × AllMet later
+
+-- Each attempt of an open that was given up had met another version by its last answer; and one that ended by that gave up as many as there may be,
+-- of the last of which it tells the two.
+pub record AttemptsMet (o : Op) (deals : List Deal) : Type 0 where
+  pub each : AllMet (attempts_in deals).failed
+  pub changed : (first last : ℕ) → o.outcome ≡ told.Changed first last → (length (attempts_in deals).failed + 1 ≡ tries_most) × ((a : Attempt) × ((attempts_in deals).last ≡ Some a) × HasMet first last a)
+
+-- ---- the calls of an operation
+
+-- an open asks for chunks and bytes of its file
+abbrev pub IsFetchCall : (file : ℕ) → Message → Type 0
+IsFetchCall file (message.Call xid (body.Lb (lb.GetHash a))) = a.handle ≡ handle_bytes file
+IsFetchCall file (message.Call xid (body.Nfs (nfs.Read r))) = r.handle ≡ handle_bytes file
+IsFetchCall file m = ⊥
+
+-- a close puts chunks of its value into a temporary file, and has its file replaced by it
+abbrev pub IsStoreCall : (file : ℕ) (value : List ℕ) → Message → Type 0
+IsStoreCall file value (message.Call xid (body.Lb (lb.MkTmpFile a))) = a.handle ≡ handle_bytes file
+IsStoreCall file value (message.Call xid (body.Lb (lb.CondWrite a))) = Unit {0}
+IsStoreCall file value (message.Call xid (body.Lb (lb.TmpWrite a))) = (i : ℕ) × (c : Chunk) × (slice_get (chunks_of value) i ≡ Some c) × (a.offset ≡ c.start) × (a.bytes ≡ chunk_bytes value c)
+IsStoreCall file value (message.Call xid (body.Lb (lb.CommitTmp a))) = (a.handle ≡ handle_bytes file) × (a.size ≡ length value)
+IsStoreCall file value m = ⊥
+
+abbrev pub IsOwnCall : Word → (file : ℕ) (value : List ℕ) → Message → Type 0
+IsOwnCall word.Open file value m = IsFetchCall file m
+IsOwnCall word.Close file value m = IsStoreCall file value m
+IsOwnCall w file value m = ⊥
+
+-- whatever was sent for it is its own
+abbrev pub AreOwn : Word → (file : ℕ) (value : List ℕ) → List Deal → Type 0
+AreOwn w file value [] = Unit {0}
+AreOwn w file value (Took m ∷ ds) = AreOwn w file value ds
+AreOwn w file value (Sent m ∷ ds) = IsOwnCall w file value m × AreOwn w file value ds

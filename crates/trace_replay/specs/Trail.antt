@@ -134,15 +134,51 @@ abbrev pub joined_from : (client : ℕ) → Bool → List Moment → Bool
 joined_from client was [] = was
 joined_from client was (m ∷ ms) = joined_from client (joined_by client was m.event) ms
 
--- which client was told what, in which step, and whether it was joined
+abbrev pub owner_in : Option Session → ℕ
+owner_in None = 0
+owner_in (Some x) = x.owner
+
+-- the client whose step an event is; 0 where it is none's
+abbrev pub client_of : Core → Event → ℕ
+client_of k (Does c now command) = c
+client_of k (Hears number now bytes) = owner_in (numbered k.sessions number)
+client_of k e = 0
+
+-- a call counts one
+abbrev pub call_number : Message → ℕ
+call_number (message.Call xid b) = 1
+call_number m = 0
+
+abbrev pub calls_among : List Message → ℕ
+calls_among [] = 0
+calls_among (m ∷ ms) = call_number m + calls_among ms
+
+-- how many calls a client sends on its connection by an event, if it sent so many before: none yet where it joins
+abbrev pub calls_at : (client was : ℕ) → Event → (sent : ℕ) → ℕ
+calls_at client was (Joins c) sent = elim (c == client) [ true ↦ 0 | false ↦ was ]
+calls_at client was e sent = was + sent
+
+abbrev pub sent_if : Bool → List Message → ℕ
+sent_if true ms = calls_among ms
+sent_if false ms = 0
+
+abbrev pub calls_by : (client was : ℕ) → Moment → ℕ
+calls_by client was m = calls_at client was m.event (sent_if (client_of m.before m.event == client) (happens m.before m.event).up)
+
+abbrev pub calls_from : (client was : ℕ) → List Moment → ℕ
+calls_from client was [] = was
+calls_from client was (m ∷ ms) = calls_from client (calls_by client was m) ms
+
+-- which client was told what, in which step, whether it was joined, and how many calls it had sent on its connection
 pub record Deed : Type 0 where
   pub client : ℕ
   pub command : Command
   pub begin : ℕ
   pub joined : Bool
+  pub calls : ℕ
 
 abbrev pub deed_by : (past : List Moment) → (step : ℕ) → Event → List Deed
-deed_by past step (Does c now command) = record { client = c; command = command; begin = step; joined = joined_from c false past } ∷ []
+deed_by past step (Does c now command) = record { client = c; command = command; begin = step; joined = joined_from c false past; calls = calls_from c 0 past } ∷ []
 deed_by past step e = []
 
 -- the commands of these moments, where those were before
@@ -168,16 +204,6 @@ pub record Said : Type 0 where
 abbrev pub all_said : (step client : ℕ) → List Message → List Said
 all_said step client [] = []
 all_said step client (m ∷ ms) = record { step = step; client = client; message = m } ∷ all_said step client ms
-
-abbrev pub owner_in : Option Session → ℕ
-owner_in None = 0
-owner_in (Some x) = x.owner
-
--- the client whose step an event is; 0 where it is none's
-abbrev pub client_of : Core → Event → ℕ
-client_of k (Does c now command) = c
-client_of k (Hears number now bytes) = owner_in (numbered k.sessions number)
-client_of k e = 0
 
 -- what clients sent
 abbrev pub sent_in : Moment → List Said

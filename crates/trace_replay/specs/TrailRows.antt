@@ -1,4 +1,4 @@
--- Worked traces: which events and commands their lines tell, how their steps count, which messages begin an attempt, and which close has a value.
+-- Worked traces: which events and commands their lines tell, how their steps and the calls of a connection count, which messages begin an attempt, and which close has a value.
 use Rattle.std.specs.Prelude.{◌≡◌, ℕ, List, [], ◌∷◌, ◌++◌, map, Bool, true, false, Some, codes, refl}
 use Rattle.command_text.specs.Parts.{lines_of}
 use Rattle.command_text.specs.declared.command.Command.TheVariants as command
@@ -10,8 +10,9 @@ use Rattle.register_model.specs.declared.op.Op.{Op}
 use Rattle.register_model.specs.declared.op.Word.TheVariants as word
 use Rattle.trace_replay.specs.Ops.{begun}
 use Rattle.trace_replay.specs.Core.{Core, new_seat, happens, Event.Joins, Event.Does, Event.Settles, Event.Cuts, Event.Hangs}
-use Rattle.trace_replay.specs.Trail.{Said, moments, commands_of, events_of, AreCounted}
+use Rattle.trace_replay.specs.Trail.{Deed, Said, moments, deeds_of, commands_of, events_of, AreCounted}
 use Rattle.trace_replay.specs.Traffic.{attempts_of}
+use Rattle.trace_replay.specs.Causes.{can_ask}
 
 abbrev header : List ℕ
 header = codes "lbfs-trace 1\nterm 60000\ndrift 100\nclients 1\n"
@@ -30,6 +31,20 @@ events_told = refl
 pub steps_counted : AreCounted 0 (moments (header ++ codes "join 1 0 0\nhang 1 5\nhang 1 6\nsettle 7\ncut 1 8\n")) 5
 unfolding record_of
 steps_counted = (refl, (refl, (refl, (refl, (refl, refl)))))
+
+-- ---- the calls of a connection
+
+-- an open asks for hashes; where the client sees its connection lost the count stays until the next join
+abbrev joined_twice : List ℕ
+joined_twice = header ++ codes "file a t:abc\njoin 1 0 0\ndo 1 5 open #2\ndo 1 8 abandon #3\ncut 1 9\ndo 1 9 abandon #3\njoin 1 9 9\ndo 1 9 abandon #3\n"
+
+pub calls_counted : map (λ (d : Deed). d.calls) (deeds_of (moments joined_twice)) ≡ 0 ∷ 1 ∷ 1 ∷ 0 ∷ []
+unfolding record_of
+calls_counted = refl
+
+-- with 1,000,000 numbers left of 4,294,967,295 it may ask, and with one less it may not
+pub numbers_left : can_ask true 4293967295 ∷ can_ask true 4293967296 ∷ can_ask false 0 ∷ [] ≡ true ∷ false ∷ false ∷ []
+numbers_left = refl
 
 -- ---- attempts
 

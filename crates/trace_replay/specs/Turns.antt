@@ -5,8 +5,8 @@ use Rattle.trace_text.specs.declared.line.Line.{Line}
 use Rattle.server_core.specs.declared.change.Change.{Change}
 use Rattle.trace_replay.specs.declared.fault.TraceErr.{TraceErr}
 use Rattle.trace_replay.specs.declared.fault.TraceErr.TheVariants as errors
-use Rattle.trace_replay.specs.declared.link.Stage.{Stage}
-use Rattle.trace_replay.specs.declared.link.Stage.TheVariants as stage
+use Rattle.trace_replay.specs.declared.stage.Stage.{Stage}
+use Rattle.trace_replay.specs.declared.stage.Stage.TheVariants as stage
 use Rattle.trace_replay.specs.declared.turn.Turn.{Turn}
 use Rattle.trace_replay.specs.declared.turn.Turn.TheVariants as turn
 use Rattle.trace_replay.specs.World.{World}

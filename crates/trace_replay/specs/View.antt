@@ -1,10 +1,10 @@
 -- The fields of the two ends as a core, and what an event leaves as what the core is turned into.
 use Rattle.std.specs.Prelude.{◌≡◌}
-use Rattle.trace_replay.specs.declared.ends.Core.{Core as Fields}
-use Rattle.trace_replay.specs.declared.turned.Loss.{Loss as Lost}
-use Rattle.trace_replay.specs.declared.turned.Loss.TheVariants as lost
-use Rattle.trace_replay.specs.declared.turned.Turned.{Turned as Left}
-use Rattle.trace_replay.specs.Core.{Core, Loss, Loss.Nothing, Loss.Made, Loss.Down_of, Loss.Up_of, Turned}
+use Rattle.trace_replay.specs.declared.world_core.Core.{Core as Fields}
+use Rattle.trace_replay.specs.declared.core_step.Loss.{Loss as Lost}
+use Rattle.trace_replay.specs.declared.core_step.Loss.TheVariants as lost
+use Rattle.trace_replay.specs.declared.core_step.CoreStep.{CoreStep as Left}
+use Rattle.trace_replay.specs.Core.{Core, Loss, Loss.Nothing, Loss.Made, Loss.Down_of, Loss.Up_of, CoreStep}
 
 abbrev pub core_of : Fields → Core
 core_of k = record { server = k.server; seats = k.seats.items; sessions = k.sessions.items; steps = k.steps; ops = k.ops.items; entries = k.entries.items }
@@ -16,5 +16,5 @@ loss_of (lost.DownOf session) = Down_of session
 loss_of (lost.UpOf session) = Up_of session
 
 -- what the fields come to, with what is left to be done
-abbrev pub turned_of : Fields → Left → Turned
-turned_of k t = record { core = core_of k; loss = loss_of t.loss; session = t.session; up = t.up; down = t.down }
+abbrev pub core_step_of : Fields → Left → CoreStep
+core_step_of k t = record { core = core_of k; loss = loss_of t.loss; session = t.session; up = t.up; down = t.down }

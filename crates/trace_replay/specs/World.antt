@@ -7,9 +7,9 @@ use Rattle.server_core.specs.State as server
 use Rattle.server_core.specs.declared.event.Sent.{Sent}
 use Rattle.register_model.specs.Register.{History}
 use Rattle.register_model.specs.declared.op.Opening.{Opening}
-use Rattle.trace_replay.specs.declared.link.Stage.{Stage}
-use Rattle.trace_replay.specs.declared.link.Stage.TheVariants as stage
-use Rattle.trace_replay.specs.Core.{Core, Session, Turned, Event, Loss, Loss.Nothing, Loss.Made, Loss.Down_of, Loss.Up_of, numbered, with_numbered, happens}
+use Rattle.trace_replay.specs.declared.stage.Stage.{Stage}
+use Rattle.trace_replay.specs.declared.stage.Stage.TheVariants as stage
+use Rattle.trace_replay.specs.Core.{Core, Session, CoreStep, Event, Loss, Loss.Nothing, Loss.Made, Loss.Down_of, Loss.Up_of, numbered, with_numbered, happens}
 
 -- the bytes of a session on their way up and down, and what each end has of a record that is not whole
 pub record Wire : Type 0 where
@@ -92,7 +92,7 @@ lost_by wires Made = wires ++ new_wire ∷ []
 lost_by wires (Down_of number) = down_lost wires number (numbered wires number)
 lost_by wires (Up_of number) = up_lost wires number (numbered wires number)
 
-abbrev pub routed : World → Turned → World
+abbrev pub routed : World → CoreStep → World
 routed w t = record w { core = t.core; wires = down_put t.core.sessions (up_put t.core.sessions (lost_by w.wires t.loss) t.session t.up) t.down }
 
 abbrev pub happened : World → Event → World

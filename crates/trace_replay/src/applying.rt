@@ -6,12 +6,12 @@ ghost use Rattle.trace_replay.specs.Run.{file_most, with_file, with_clients, tur
 ghost use Rattle.trace_replay.specs.Turns.{IsTurnBounded, IsQuiet, IsTurnQuiet};
 ghost use Rattle.trace_replay.specs.WorldView.{world_of};
 
-use crate::inner::Inner;
-use crate::link::Stage;
+use crate::opening::OpeningFile;
+use crate::stage::Stage;
+use crate::state::WorldState;
 use crate::turn::{Turn, stage_after};
 use command_text::content::{Content, build};
 use lb_base::items::Bytes;
-use register_model::op::Opening;
 use server_core::chunked::Chunked;
 use server_core::file::File;
 use std::alloc::{AllocError, Global};
@@ -23,35 +23,43 @@ fn size_with(size: u64, content: &Bytes) -> Result<u64, AllocError>
     size.checked_add(content.len() as u64).ok_or(AllocError)
 }
 
-impl Inner {
-    /// A file of the root gets the next id, from 2, and version 1.
-    fn with_file(&mut self, alloc: Global, name: &Bytes, content: Bytes) -> Result<(), AllocError>
-        requires size { length content ≤ file_most }
+impl WorldState {
+    /// A file of the root gets the next id, from 2, and version 1. Its content is here as bytes, for
+    /// the server, and in parts.
+    fn with_file(
+        &mut self,
+        alloc: Global,
+        name: &Bytes,
+        bytes: Bytes,
+        content: Content,
+    ) -> Result<(), AllocError>
+        requires same { bytes ≡ content_bytes content }
+        requires size { length bytes ≤ file_most }
         requires quiet { self.old.core.server.waiting ≡ [] }
-        ensures { OnOk result (world_of self.new ≡ with_file (world_of self.old) name.now content) }
+        ensures { OnOk result (world_of self.new ≡ with_file (world_of self.old) name.now (content_bytes content)) }
     {
-        let size = size_with(self.size, &content)?;
+        let size = size_with(self.size, &bytes)?;
         let id = self.opening.len() as u64 + 2;
-        let copy = Chunked::new(alloc, content.try_clone(alloc)?)?;
+        let whole = Chunked::new(alloc, bytes)?;
         self.names.add(alloc, name.as_slice())?;
         self.core.add_file(File {
             id,
             version: 1,
-            content: copy,
+            content: whole,
         })?;
-        self.opening.push(Opening { file: id, content })?;
+        self.opening.push(OpeningFile::new(id, content))?;
         self.size = size;
         Ok(())
     }
 
     /// A file of this name and content, which is within the limit of a file.
-    fn builds(&mut self, alloc: Global, name: &Bytes, content: &Content) -> Result<(), AllocError>
-        requires size { content_length content.now ≤ file_most }
+    fn builds(&mut self, alloc: Global, name: &Bytes, content: Content) -> Result<(), AllocError>
+        requires size { content_length content ≤ file_most }
         requires quiet { self.old.core.server.waiting ≡ [] }
-        ensures { OnOk result (world_of self.new ≡ with_file (world_of self.old) name.now (content_bytes content.now)) }
+        ensures { OnOk result (world_of self.new ≡ with_file (world_of self.old) name.now (content_bytes content)) }
     {
-        let bytes = build(alloc, content)?;
-        self.with_file(alloc, name, bytes)
+        let bytes = build(alloc, &content)?;
+        self.with_file(alloc, name, bytes, content)
     }
 
     /// What a line in place asks for. Before the events no change waits then, and where memory ran
@@ -83,7 +91,7 @@ impl Inner {
         match turn {
             Turn::Skip | Turn::At(_) => Ok(()),
             Turn::Clients(count) => self.core.seat_all(alloc, count),
-            Turn::File { name, content } => self.builds(alloc, &name, &content),
+            Turn::File { name, content } => self.builds(alloc, &name, content),
             Turn::Join(client) => self.joins(alloc, client),
             Turn::Do {
                 client,

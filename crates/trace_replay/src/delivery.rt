@@ -7,20 +7,20 @@ ghost use Rattle.trace_replay.specs.Delivery.{all_happened, up_some, down_some, 
 ghost use Rattle.trace_replay.specs.Run.{count_of};
 ghost use Rattle.trace_replay.specs.WorldView.{world_of};
 
-use crate::inner::Inner;
 use crate::numbered::place_of;
-use lb_base::items::Bytes;
+use crate::state::WorldState;
+use rpc_record::record::Record;
 use std::alloc::{AllocError, Global};
 use trace_text::line::Amount;
 
-impl Inner {
+impl WorldState {
     /// The server takes records of a session, in order, at a reading of its clock.
     fn serves_all(
         &mut self,
         alloc: Global,
         session: u64,
         now: u64,
-        records: &[Bytes],
+        records: &[Record],
     ) -> Result<(), AllocError>
         requires { now < 2 ^ 63 }
         ensures { OnOk result (world_of self.new ≡ all_happened (world_of self.old) (map (Serves session now) records.now)) }
@@ -37,7 +37,7 @@ impl Inner {
         alloc: Global,
         session: u64,
         now: u64,
-        records: &[Bytes],
+        records: &[Record],
     ) -> Result<(), AllocError>
         ensures { OnOk result (world_of self.new ≡ all_happened (world_of self.old) (map (Hears session now) records.now)) }
     {

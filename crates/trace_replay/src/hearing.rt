@@ -2,13 +2,13 @@
 
 ghost use Rattle.std.specs.Prelude.{◌≡◌, ◌+◌, ◌<◌, length, slice_get, IfOk};
 ghost use Rattle.trace_replay.specs.Core.{hears, hears_at, is_newest, numbered};
-ghost use Rattle.trace_replay.specs.View.{core_of, turned_of};
+ghost use Rattle.trace_replay.specs.View.{core_of, core_step_of};
 
-use crate::ends::{Core, count_on};
+use crate::core_step::{CoreStep, Loss};
 use crate::numbered::place_of;
 use crate::ops::note_with;
 use crate::session::taken_of;
-use crate::turned::{Loss, Turned};
+use crate::world_core::{Core, count_on};
 use std::alloc::{AllocError, Global};
 
 /// Whether this is the newest session of a client.
@@ -29,14 +29,14 @@ fn hears_at(
     place: usize,
     now: u64,
     bytes: &[u8],
-) -> Result<Turned, AllocError>
+) -> Result<CoreStep, AllocError>
     requires { place < length core.old.seats.items }
-    ensures { IfOk result (λ t. turned_of core.new t ≡ hears_at (core_of core.old) number (place + 1) now bytes.now (slice_get core.old.seats.items place)) }
+    ensures { IfOk result (λ t. core_step_of core.new t ≡ hears_at (core_of core.old) number (place + 1) now bytes.now (slice_get core.old.seats.items place)) }
 {
     let session = core.seats[place].session();
     let running = core.seats[place].place();
     if !is_newest(session, number) {
-        return Ok(Turned::quiet(alloc));
+        return Ok(CoreStep::quiet(alloc));
     }
     let step = count_on(core.steps, 1)?;
     let acts = core.seats[place].hears(alloc, bytes, now)?;
@@ -45,7 +45,7 @@ fn hears_at(
     let done = note_with(alloc, &mut core.ops, running, client, taken, step, &acts);
     core.steps = step;
     match done {
-        Ok(()) => Ok(Turned::acted(alloc, Loss::Nothing, session, acts)),
+        Ok(()) => Ok(CoreStep::acted(alloc, Loss::Nothing, session, acts)),
         Err(error) => {
             drop(acts);
             Err(error)
@@ -61,12 +61,12 @@ fn hears_by(
     owner: u64,
     now: u64,
     bytes: &[u8],
-) -> Result<Turned, AllocError>
-    ensures { IfOk result (λ t. turned_of core.new t ≡ hears_at (core_of core.old) number owner now bytes.now (numbered core.old.seats.items owner)) }
+) -> Result<CoreStep, AllocError>
+    ensures { IfOk result (λ t. core_step_of core.new t ≡ hears_at (core_of core.old) number owner now bytes.now (numbered core.old.seats.items owner)) }
 {
     match place_of(core.seats.len(), owner) {
         Some(place) => hears_at(alloc, core, number, place, now, bytes),
-        None => Ok(Turned::quiet(alloc)),
+        None => Ok(CoreStep::quiet(alloc)),
     }
 }
 
@@ -77,14 +77,14 @@ pub fn hears(
     number: u64,
     now: u64,
     bytes: &[u8],
-) -> Result<Turned, AllocError>
-    ensures { IfOk result (λ t. turned_of core.new t ≡ hears (core_of core.old) number now bytes.now (numbered core.old.sessions.items number)) }
+) -> Result<CoreStep, AllocError>
+    ensures { IfOk result (λ t. core_step_of core.new t ≡ hears (core_of core.old) number now bytes.now (numbered core.old.sessions.items number)) }
 {
     match place_of(core.sessions.len(), number) {
         Some(at) => {
             let owner = core.sessions[at].owner;
             hears_by(alloc, core, number, owner, now, bytes)
         }
-        None => Ok(Turned::quiet(alloc)),
+        None => Ok(CoreStep::quiet(alloc)),
     }
 }

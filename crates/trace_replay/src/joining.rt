@@ -5,12 +5,12 @@ ghost use Rattle.server_core.specs.Step.{server_step};
 ghost use Rattle.server_core.specs.declared.event.Event.TheVariants as event;
 ghost use Rattle.server_core.specs.declared.event.Told.TheVariants as told;
 ghost use Rattle.trace_replay.specs.Core.{joins, joins_as, numbered};
-ghost use Rattle.trace_replay.specs.View.{core_of, turned_of};
+ghost use Rattle.trace_replay.specs.View.{core_of, core_step_of};
 
-use crate::ends::{Core, count_on};
+use crate::core_step::{CoreStep, Loss};
 use crate::numbered::place_of;
 use crate::session::Session;
-use crate::turned::{Loss, Turned};
+use crate::world_core::{Core, count_on};
 use server_core::event::{Event, Told};
 use server_core::server::Server;
 use std::alloc::{AllocError, Global};
@@ -31,9 +31,9 @@ fn connect(alloc: Global, server: &mut Server) -> Result<Told, AllocError>
 }
 
 /// The client at this place joins: a step of the server, and one of its own.
-fn joins_at(alloc: Global, core: &mut Core, place: usize) -> Result<Turned, AllocError>
+fn joins_at(alloc: Global, core: &mut Core, place: usize) -> Result<CoreStep, AllocError>
     requires { place < length core.old.seats.items }
-    ensures { IfOk result (λ t. turned_of core.new t ≡ joins (core_of core.old) (place + 1) (slice_get core.old.seats.items place)) }
+    ensures { IfOk result (λ t. core_step_of core.new t ≡ joins (core_of core.old) (place + 1) (slice_get core.old.seats.items place)) }
 {
     core.steps = count_on(core.steps, 2)?;
     match connect(alloc, &mut core.server)? {
@@ -41,18 +41,18 @@ fn joins_at(alloc: Global, core: &mut Core, place: usize) -> Result<Turned, Allo
             core.seats[place].joins(alloc, made);
             let session = Session::new(alloc, place as u64 + 1);
             core.sessions.push(session)?;
-            Ok(Turned::losing(alloc, Loss::Made))
+            Ok(CoreStep::losing(alloc, Loss::Made))
         }
-        _ => Ok(Turned::quiet(alloc)),
+        _ => Ok(CoreStep::quiet(alloc)),
     }
 }
 
 /// A client joins, if there is one of this number.
-pub fn joins(alloc: Global, core: &mut Core, client: u64) -> Result<Turned, AllocError>
-    ensures { IfOk result (λ t. turned_of core.new t ≡ joins (core_of core.old) client (numbered core.old.seats.items client)) }
+pub fn joins(alloc: Global, core: &mut Core, client: u64) -> Result<CoreStep, AllocError>
+    ensures { IfOk result (λ t. core_step_of core.new t ≡ joins (core_of core.old) client (numbered core.old.seats.items client)) }
 {
     match place_of(core.seats.len(), client) {
         Some(place) => joins_at(alloc, core, place),
-        None => Ok(Turned::quiet(alloc)),
+        None => Ok(CoreStep::quiet(alloc)),
     }
 }

@@ -11,7 +11,7 @@ use std::marker::Model;
 /// The names of a directory, in the order of their bytes.
 #[derive(Drop)]
 pub struct Names {
-    held: BTreeSet<Vec<u8>>,
+    sorted: BTreeSet<Vec<u8>>,
 }
 
 impl Model for Names {
@@ -19,7 +19,7 @@ impl Model for Names {
 
     ghost Value = { List (List ℕ) };
 
-    ghost view = { λ n. map (λ v. v.items) n.held.keys };
+    ghost view = { λ n. map (λ v. v.items) n.sorted.keys };
 }
 
 impl Names {
@@ -28,7 +28,7 @@ impl Names {
         ensures { result ≡ [] }
     {
         Names {
-            held: BTreeSet::new(alloc),
+            sorted: BTreeSet::new(alloc),
         }
     }
 
@@ -36,7 +36,7 @@ impl Names {
     pub fn has(&self, name: &[u8]) -> bool
         ensures { result ≡ has_name self.now name.now }
     {
-        self.held.contains(name)
+        self.sorted.contains(name)
     }
 
     /// The name is there, too.
@@ -45,7 +45,7 @@ impl Names {
     {
         let mut own = Vec::with_capacity(alloc, name.len())?;
         own.extend_from_slice(name)?;
-        self.held.insert(own)?;
+        self.sorted.insert(own)?;
         Ok(())
     }
 }

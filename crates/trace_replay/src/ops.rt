@@ -7,7 +7,7 @@ ghost use Rattle.trace_replay.specs.Core.{ops_after, ops_with};
 ghost use Rattle.trace_replay.specs.Ops.{fault_number, told_of, has_point, taken_at, point_if, value_of, counted, ended_op, op_after, begun, pointed, pointed_at};
 
 use crate::commands::local_bytes;
-use crate::link::Taken;
+use crate::taken_call::TakenCall;
 use lb_base::items::Bytes;
 use open_close::client::Client;
 use open_close::step;
@@ -85,14 +85,14 @@ fn has_point(word: Word, outcome: &step::Outcome) -> bool
 }
 
 /// The call with this xid.
-fn find_taken(taken: &[Taken], xid: u32) -> Option<&Taken>
+fn find_taken(taken: &[TakenCall], xid: u32) -> Option<&TakenCall>
     ensures { option_copied result ≡ find (λ t. t.xid == xid) taken.now }
 {
     taken.iter().find(|t| t.xid == xid)
 }
 
 /// The step at which the call was taken that an outcome rests on.
-fn taken_at(taken: &[Taken], xid: u32) -> Option<u64>
+fn taken_at(taken: &[TakenCall], xid: u32) -> Option<u64>
     ensures { result ≡ taken_at taken.now xid }
 {
     find_taken(taken, xid).map(|t| t.step)
@@ -100,7 +100,7 @@ fn taken_at(taken: &[Taken], xid: u32) -> Option<u64>
 
 /// The point that an operation has by its end; that of a close is the step at which its change was
 /// made.
-fn point_of(word: Word, point: Option<u64>, ended: &Ended, taken: &[Taken]) -> Option<u64>
+fn point_of(word: Word, point: Option<u64>, ended: &Ended, taken: &[TakenCall]) -> Option<u64>
     ensures { result ≡ point_if (has_point word ended.now.outcome) taken.now ended.now.rests_on point }
 {
     if has_point(word, &ended.outcome) {
@@ -178,7 +178,7 @@ fn end(
     alloc: Global,
     op: &mut Op,
     client: &Client,
-    taken: &[Taken],
+    taken: &[TakenCall],
     step: u64,
     ended: &Ended,
 ) -> Result<(), AllocError>
@@ -196,7 +196,7 @@ pub fn note(
     alloc: Global,
     op: &mut Op,
     client: &Client,
-    taken: &[Taken],
+    taken: &[TakenCall],
     step: u64,
     acts: &ClientStep,
 ) -> Result<(), AllocError>
@@ -215,7 +215,7 @@ fn note_at(
     ops: &mut Vec<Op>,
     place: usize,
     client: &Client,
-    taken: &[Taken],
+    taken: &[TakenCall],
     step: u64,
     acts: &ClientStep,
 ) -> Result<(), AllocError>
@@ -233,7 +233,7 @@ pub fn note_with(
     ops: &mut Vec<Op>,
     place: Option<usize>,
     client: &Client,
-    taken: &[Taken],
+    taken: &[TakenCall],
     step: u64,
     acts: &ClientStep,
 ) -> Result<(), AllocError>

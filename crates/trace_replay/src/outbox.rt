@@ -6,65 +6,60 @@ ghost use Rattle.rpc_record.specs.Records.{marked};
 ghost use Rattle.wire.specs.Message.{message_spell};
 ghost use Rattle.trace_replay.specs.World.{bytes_of};
 
+use crate::queue::Queue;
 use lb_base::items::Bytes;
-use limits::RECORD_MOST;
-use rpc_record::marking::mark;
 use send_list::SendList;
 use std::alloc::{AllocError, Global};
 use wire::message::Message;
-use wire::spell::spell;
+use wire::spell::spell_marked;
 
-/// The record of one fragment. Neither end sends more than a record may have, so there it is want
-/// of memory.
-fn record_of(alloc: Global, contents: &[u8]) -> Result<Bytes, AllocError>
-    ensures { IfOk result (λ bytes. bytes ≡ marked contents.now) }
+/// A message's record of one fragment. Neither end sends more than a record may have, so there it is
+/// want of memory.
+fn record_of(alloc: Global, message: &Message) -> Result<Bytes, AllocError>
+    ensures { IfOk result (λ bytes. bytes ≡ marked (message_spell message.now)) }
 {
-    if RECORD_MOST < contents.len() {
-        return Err(AllocError);
-    }
-    match mark(alloc, contents) {
+    match spell_marked(alloc, message) {
         Ok(bytes) => Ok(bytes),
         Err(_) => Err(AllocError),
     }
 }
 
-/// Puts a message behind the bytes.
-fn put(alloc: Global, bytes: &mut Vec<u8>, message: &Message) -> Result<(), AllocError>
-    ensures { OnOk result (bytes.new.items ≡ bytes.old.items ++ marked (message_spell message.now)) }
+/// Puts a message on its way.
+fn put(alloc: Global, queue: &mut Queue, message: &Message) -> Result<(), AllocError>
+    ensures { OnOk result (queue.new ≡ queue.old ++ marked (message_spell message.now)) }
 {
-    let spelled = spell(alloc, message)?;
-    let marked = record_of(alloc, spelled.as_slice())?;
-    bytes.extend_from_slice(marked.as_slice())
+    let record = record_of(alloc, message)?;
+    queue.put(record)
 }
 
-/// Puts one message behind the bytes.
-pub fn put_one(alloc: Global, bytes: &mut Vec<u8>, message: &Message) -> Result<(), AllocError>
-    ensures { OnOk result (bytes.new.items ≡ bytes.old.items ++ bytes_of (message.now ∷ [])) }
+/// Puts one message on its way.
+pub fn put_one(alloc: Global, queue: &mut Queue, message: &Message) -> Result<(), AllocError>
+    ensures { OnOk result (queue.new ≡ queue.old ++ bytes_of (message.now ∷ [])) }
 {
-    put(alloc, bytes, message)
+    put(alloc, queue, message)
 }
 
-/// Puts messages behind the bytes, in order.
-fn put_rest(alloc: Global, bytes: &mut Vec<u8>, messages: &[Message]) -> Result<(), AllocError>
-    ensures { OnOk result (bytes.new.items ≡ bytes.old.items ++ bytes_of messages.now) }
+/// Puts messages on their way, in order.
+fn put_rest(alloc: Global, queue: &mut Queue, messages: &[Message]) -> Result<(), AllocError>
+    ensures { OnOk result (queue.new ≡ queue.old ++ bytes_of messages.now) }
 {
     for message in messages {
-        put(alloc, bytes, message)?;
+        put(alloc, queue, message)?;
     }
     Ok(())
 }
 
-/// Puts the messages of a step behind the bytes, in order.
+/// Puts the messages of a step on their way, in order.
 pub fn put_each(
     alloc: Global,
-    bytes: &mut Vec<u8>,
+    queue: &mut Queue,
     messages: &SendList<Message>,
 ) -> Result<(), AllocError>
-    ensures { OnOk result (bytes.new.items ≡ bytes.old.items ++ bytes_of messages.now) }
+    ensures { OnOk result (queue.new ≡ queue.old ++ bytes_of messages.now) }
 {
     let (first, rest) = messages.as_pair();
     if let Some(message) = first {
-        put(alloc, bytes, message)?;
+        put(alloc, queue, message)?;
     }
-    put_rest(alloc, bytes, rest)
+    put_rest(alloc, queue, rest)
 }

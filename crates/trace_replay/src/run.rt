@@ -1,9 +1,11 @@
 //! A trace run line by line. `specs/Timed.antt` says what it comes to.
 
-ghost use Rattle.std.specs.Prelude.{◌≡◌};
+ghost use Rattle.std.specs.Prelude.{◌≡◌, ◌<◌, ◌^◌};
+ghost use Rattle.command_text.specs.Parts.{lines_of};
 ghost use Rattle.trace_text.specs.declared.refusal.LineFault.TheVariants.{Grammar};
 ghost use Rattle.trace_replay.specs.Run.{refused};
 ghost use Rattle.trace_replay.specs.Timed.{accepted};
+ghost use Rattle.trace_replay.specs.Lines.{applied_from, AreApplied, ComesTo};
 ghost use Rattle.trace_replay.specs.Traces.{Gives};
 ghost use Rattle.trace_replay.specs.declared.fault.TraceErr.TheVariants as errors;
 
@@ -26,15 +28,15 @@ fn bad_line(line: u64) -> TraceErr
     })
 }
 
-/// The history that a trace comes to. `Refused`: the first line that is outside the grammar, out
-/// of place, past a limit, or against the clock rule, or the one behind the last where the header is
-/// not whole.
-pub fn replay(alloc: Global, input: &[u8]) -> Result<History, TraceErr>
-    ensures { Gives result (accepted input.now) }
+/// Runs the lines of a text, of which the first has this number, and gives the number of the line
+/// behind them. `Refused`: the first line that is outside the grammar, out of place, past a limit, or
+/// against the clock rule.
+pub fn run_lines(alloc: Global, world: &mut World, first: u64, text: &[u8]) -> Result<u64, TraceErr>
+    requires { first < 2 ^ 63 }
+    ensures { AreApplied result (applied_from world.old first (lines_of text.now)) world.new }
 {
-    let mut world = World::new(alloc);
-    let mut number: u64 = 1;
-    let mut rest = input;
+    let mut number = first;
+    let mut rest = text;
     'lines: while let Some((line, left)) = first_line(rest) {
         let line = match Line::read(alloc, line) {
             Ok(line) => line,
@@ -45,8 +47,27 @@ pub fn replay(alloc: Global, input: &[u8]) -> Result<History, TraceErr>
         number += 1;
         rest = left;
     }
+    Ok(number)
+}
+
+/// The world that a trace comes to. `Refused`: the first line that is refused, or the one behind the
+/// last where the header is not whole.
+#[tactic(auto, using(crate::proofs::Going::accepted_at_end))]
+pub fn run(alloc: Global, input: &[u8]) -> Result<World, TraceErr>
+    ensures { ComesTo result (accepted input.now) }
+{
+    let mut world = World::new(alloc);
+    let next = run_lines(alloc, &mut world, 1, input)?;
     if world.in_header() {
-        return Err(bad_line(number));
+        return Err(bad_line(next));
     }
-    Ok(world.history())
+    Ok(world)
+}
+
+/// The history that a trace comes to, or the first line that is refused.
+pub fn replay(alloc: Global, input: &[u8]) -> Result<History, TraceErr>
+    ensures { Gives result (accepted input.now) }
+{
+    let world = run(alloc, input)?;
+    Ok(world.history(alloc)?)
 }

@@ -8,8 +8,8 @@ ghost use Rattle.open_close.specs.Step.{command_step, got_step, joined, cut};
 ghost use Rattle.trace_replay.specs.Core.{new_seat};
 ghost use Rattle.trace_replay.specs.Ops.{place_after, place_with};
 
+use crate::parsing::parse_record;
 use crate::places::{place_after, place_with};
-use crate::reading::read;
 use command_text::command::Command;
 use open_close::client::Client;
 use open_close::step::ClientStep;
@@ -107,7 +107,7 @@ impl Seat {
         ensures acts { IfOk result (λ acts. (got_step self.old.client (parse_of (waiting_of self.old.client) bytes.now) now).1 ≡ acts) }
         ensures seat { IfOk result (λ acts. self.new ≡ record self.old { client = (got_step self.old.client (parse_of (waiting_of self.old.client) bytes.now) now).0; place = place_after self.old.place acts.ended }) }
     {
-        let said = read(alloc, bytes, self.client.waiting())?;
+        let said = parse_record(alloc, bytes, self.client.waiting())?;
         let acts = self.client.got(alloc, said, now);
         if acts.missed {
             drop(acts);
@@ -118,7 +118,7 @@ impl Seat {
     }
 
     /// The client sees its connection lost.
-    pub fn is_cut(&mut self, alloc: Global) -> ClientStep
+    pub fn cuts(&mut self, alloc: Global) -> ClientStep
         ensures acts { (cut self.old.client).1 ≡ result }
         ensures seat { self.new ≡ record self.old { client = (cut self.old.client).0; place = place_after self.old.place result.ended } }
     {

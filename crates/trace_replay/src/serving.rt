@@ -2,13 +2,13 @@
 
 ghost use Rattle.std.specs.Prelude.{◌≡◌, ◌+◌, ◌<◌, ◌^◌, length, slice_get, slice_set, IfOk, IfSome, OnOk};
 ghost use Rattle.trace_replay.specs.Core.{server_waiting, taken_with, server_got, serves, numbered};
-ghost use Rattle.trace_replay.specs.View.{core_of, turned_of};
+ghost use Rattle.trace_replay.specs.View.{core_of, core_step_of};
 
-use crate::ends::{Core, count_on};
+use crate::core_step::CoreStep;
 use crate::numbered::place_of;
-use crate::reading::read;
+use crate::parsing::parse_record;
 use crate::session::short_number;
-use crate::turned::Turned;
+use crate::world_core::{Core, count_on};
 use lb_base::items::Items;
 use server_core::event::Event;
 use std::alloc::{AllocError, Global};
@@ -42,10 +42,10 @@ fn got(
     place: usize,
     now: u64,
     message: Message,
-) -> Result<Turned, AllocError>
+) -> Result<CoreStep, AllocError>
     requires place { place < length core.old.sessions.items }
     requires now { now < 2 ^ 63 }
-    ensures { IfOk result (λ t. IfSome (slice_get core.old.sessions.items place) (λ x. turned_of core.new t ≡ server_got (core_of core.old) (place + 1) now x message)) }
+    ensures { IfOk result (λ t. IfSome (slice_get core.old.sessions.items place) (λ x. core_step_of core.new t ≡ server_got (core_of core.old) (place + 1) now x message)) }
 {
     let session = match short_number(place as u64 + 1) {
         Ok(session) => session,
@@ -71,7 +71,7 @@ fn got(
         drop(step);
         return Err(AllocError);
     }
-    Ok(Turned::served(alloc, step))
+    Ok(CoreStep::served(alloc, step))
 }
 
 /// The server takes a record of the session at this place, at this reading of its clock. Bytes that
@@ -82,16 +82,16 @@ fn serves_at(
     place: usize,
     now: u64,
     bytes: &[u8],
-) -> Result<Turned, AllocError>
+) -> Result<CoreStep, AllocError>
     requires place { place < length core.old.sessions.items }
     requires now { now < 2 ^ 63 }
-    ensures { IfOk result (λ t. turned_of core.new t ≡ serves (core_of core.old) (place + 1) now bytes.now (slice_get core.old.sessions.items place)) }
+    ensures { IfOk result (λ t. core_step_of core.new t ≡ serves (core_of core.old) (place + 1) now bytes.now (slice_get core.old.sessions.items place)) }
 {
-    match read(alloc, bytes, &server_waiting(alloc))? {
+    match parse_record(alloc, bytes, &server_waiting(alloc))? {
         Ok(message) => got(alloc, core, place, now, message),
         Err(_) => {
             core.steps = count_on(core.steps, 1)?;
-            Ok(Turned::quiet(alloc))
+            Ok(CoreStep::quiet(alloc))
         }
     }
 }
@@ -103,12 +103,12 @@ pub fn serves(
     number: u64,
     now: u64,
     bytes: &[u8],
-) -> Result<Turned, AllocError>
+) -> Result<CoreStep, AllocError>
     requires { now < 2 ^ 63 }
-    ensures { IfOk result (λ t. turned_of core.new t ≡ serves (core_of core.old) number now bytes.now (numbered core.old.sessions.items number)) }
+    ensures { IfOk result (λ t. core_step_of core.new t ≡ serves (core_of core.old) number now bytes.now (numbered core.old.sessions.items number)) }
 {
     match place_of(core.sessions.len(), number) {
         Some(place) => serves_at(alloc, core, place, now, bytes),
-        None => Ok(Turned::quiet(alloc)),
+        None => Ok(CoreStep::quiet(alloc)),
     }
 }

@@ -4,9 +4,9 @@
 ghost use Rattle.std.specs.Prelude.{◌≡◌, true, OnOk, IfOk};
 ghost use Rattle.trace_replay.specs.Core.{new_session, taken_with, taken_of, session_of, commanded_session};
 
-use crate::link::Taken;
 use crate::numbered::place_of;
 use crate::places::closing_with;
+use crate::taken_call::TakenCall;
 use open_close::step::ClientStep;
 use register_model::op::Word;
 use std::alloc::{AllocError, Global};
@@ -19,7 +19,7 @@ pub struct Session {
     /// The number of its client.
     pub owner: u64,
     /// The calls of the operation under way that the server took.
-    pub taken: Vec<Taken>,
+    pub taken: Vec<TakenCall>,
     /// The place of the last close that sent calls on it.
     pub closing: Option<usize>,
     /// Whether the client saw the connection lost.
@@ -83,12 +83,12 @@ impl Session {
 }
 
 /// Remembers a call that is taken, with its step.
-fn remember(taken: &mut Vec<Taken>, message: &Message, step: u64) -> Result<(), AllocError>
+fn remember(taken: &mut Vec<TakenCall>, message: &Message, step: u64) -> Result<(), AllocError>
     ensures { OnOk result (taken.new.items ≡ taken_with taken.old.items message.now step) }
 {
     match message {
         Message::Call(xid, _) => {
-            taken.push(Taken { xid: *xid, step })?;
+            taken.push(TakenCall { xid: *xid, step })?;
             Ok(())
         }
         Message::Answer(..) | Message::Refuse(..) | Message::Unfit(..) => Ok(()),
@@ -96,7 +96,7 @@ fn remember(taken: &mut Vec<Taken>, message: &Message, step: u64) -> Result<(), 
 }
 
 /// The calls that the server took of a client's newest session.
-pub fn taken_of(sessions: &[Session], session: Option<u32>) -> &[Taken]
+pub fn taken_of(sessions: &[Session], session: Option<u32>) -> &[TakenCall]
     ensures { result.now ≡ taken_of (session_of sessions.now session) }
 {
     match session {

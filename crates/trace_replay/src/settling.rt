@@ -3,13 +3,13 @@
 
 ghost use Rattle.std.specs.Prelude.{◌≡◌, ◌+◌, ◌<◌, ◌^◌, ◌++◌, replicate, IfOk, OnOk};
 ghost use Rattle.trace_replay.specs.Core.{settled_ops, settles, numbered};
-ghost use Rattle.trace_replay.specs.View.{core_of, turned_of};
+ghost use Rattle.trace_replay.specs.View.{core_of, core_step_of};
 
-use crate::ends::{Core, count_on};
+use crate::core_step::CoreStep;
 use crate::numbered::place_of;
 use crate::ops::point_at;
 use crate::session::Session;
-use crate::turned::Turned;
+use crate::world_core::{Core, count_on};
 use register_model::op::Op;
 use server_core::event::{Event, Told};
 use std::alloc::{AllocError, Global};
@@ -43,9 +43,9 @@ fn enter(entries: &mut Vec<u64>, made: u32, step: u64) -> Result<(), AllocError>
 
 /// The server makes the first change that waits, if there is one that can be made, in a step at this
 /// reading of its clock.
-pub fn settles(alloc: Global, core: &mut Core, now: u64) -> Result<Turned, AllocError>
+pub fn settles(alloc: Global, core: &mut Core, now: u64) -> Result<CoreStep, AllocError>
     requires { now < 2 ^ 63 }
-    ensures { IfOk result (λ t. turned_of core.new t ≡ settles (core_of core.old) now) }
+    ensures { IfOk result (λ t. core_step_of core.new t ≡ settles (core_of core.old) now) }
 {
     let at = count_on(core.steps, 1)?;
     core.steps = at;
@@ -61,7 +61,7 @@ pub fn settles(alloc: Global, core: &mut Core, now: u64) -> Result<Turned, Alloc
         _ => (),
     }
     match enter(&mut core.entries, step.entries, at) {
-        Ok(()) => Ok(Turned::served(alloc, step)),
+        Ok(()) => Ok(CoreStep::served(alloc, step)),
         Err(error) => {
             drop(step);
             Err(error)

@@ -15,7 +15,7 @@ use std::alloc::Global;
 use trace_text::line::Line;
 
 /// What a line says of the clocks.
-#[derive(Clone, Copy, Debug, PartialEq, Eq)]
+#[derive(Clone, Copy)]
 pub enum Timing {
     /// Nothing.
     Nothing,

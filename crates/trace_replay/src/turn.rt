@@ -9,15 +9,15 @@ ghost use Rattle.trace_replay.specs.Run.{is_there, asks_if, named, joins_within,
 ghost use Rattle.trace_replay.specs.Turns.{IsTurnBounded, stage_after};
 ghost use Rattle.trace_replay.specs.View.{core_of};
 ghost use Rattle.trace_replay.specs.WorldView.{world_of};
-ghost use Rattle.trace_replay.specs.declared.link.Stage.TheVariants as stage;
+ghost use Rattle.trace_replay.specs.declared.stage.Stage.TheVariants as stage;
 ghost use Rattle.trace_replay.specs.declared.turn.Turn.TheVariants as turn;
 
-use crate::ends::Core;
-use crate::inner::Inner;
-use crate::link::Stage;
 use crate::names::Names;
 use crate::numbered::place_of;
 use crate::seat::Seat;
+use crate::stage::Stage;
+use crate::state::WorldState;
+use crate::world_core::Core;
 use command_text::command::Command;
 use command_text::content::{Content, length_within};
 use lb_base::items::Bytes;
@@ -275,7 +275,7 @@ fn event_asks(core: &Core, line: Line) -> Result<Turn, LineFault>
 }
 
 /// What a line behind the header asks for, where a file may come.
-fn files_asks(world: &Inner, line: Line) -> Result<Turn, LineFault>
+fn files_asks(world: &WorldState, line: Line) -> Result<Turn, LineFault>
     ensures { result ≡ asks_at (world_of world.now) stage.Files line }
 {
     match line {
@@ -285,7 +285,7 @@ fn files_asks(world: &Inner, line: Line) -> Result<Turn, LineFault>
 }
 
 /// What a line asks for that isn't skipped.
-fn asks_at(world: &Inner, line: Line) -> Result<Turn, LineFault>
+fn asks_at(world: &WorldState, line: Line) -> Result<Turn, LineFault>
     ensures { result ≡ asks_at (world_of world.now) world.now.stage line }
 {
     match world.stage {
@@ -296,7 +296,7 @@ fn asks_at(world: &Inner, line: Line) -> Result<Turn, LineFault>
 }
 
 /// What a line asks for, whatever its number.
-fn asks(world: &Inner, line: Line) -> Result<Turn, LineFault>
+fn asks(world: &WorldState, line: Line) -> Result<Turn, LineFault>
     ensures { result ≡ asks (world_of world.now) line }
 {
     match line {
@@ -319,7 +319,7 @@ fn asks_within(is_within: bool, asked: Result<Turn, LineFault>) -> Result<Turn, 
 }
 
 /// What the line of this number asks for, or why it is refused.
-pub fn asked(world: &Inner, number: u64, line: Line) -> Result<Turn, LineFault>
+pub fn asked(world: &WorldState, number: u64, line: Line) -> Result<Turn, LineFault>
     requires { IsTimely line }
     ensures asked { result ≡ asked (world_of world.now) number line }
     ensures bounded { IfOk result IsTurnBounded }

@@ -10,8 +10,9 @@ ghost use Rattle.trace_replay.specs.Run.{count_of};
 ghost use Rattle.std.specs.Prelude.{Some, ◌∷◌};
 
 use crate::outbox::{put_each, put_one};
-use crate::queue::first_of;
-use lb_base::items::{Bytes, Items};
+use crate::queue::{Queue, deliver};
+use lb_base::items::Items;
+use rpc_record::record::Record;
 use rpc_record::records::Records;
 use send_list::SendList;
 use std::alloc::{AllocError, Global};
@@ -23,9 +24,9 @@ use wire::message::Message;
 #[derive(Drop)]
 pub struct Wire {
     /// The bytes on their way to the server.
-    up: Vec<u8>,
+    up: Queue,
     /// The bytes on their way to the client.
-    down: Vec<u8>,
+    down: Queue,
     /// What the server has of a record that is not whole.
     server_end: Records,
     /// What the client has of a record that is not whole.
@@ -37,7 +38,7 @@ impl Model for Wire {
 
     ghost Value = { world.Wire };
 
-    ghost view = { λ q. record { up = q.up.items; down = q.down.items; server_end = q.server_end; client_end = q.client_end } };
+    ghost view = { λ q. record { up = q.up; down = q.down; server_end = q.server_end; client_end = q.client_end } };
 }
 
 impl Wire {
@@ -46,8 +47,8 @@ impl Wire {
         ensures { result ≡ new_wire }
     {
         Wire {
-            up: Vec::new(alloc),
-            down: Vec::new(alloc),
+            up: Queue::new(alloc),
+            down: Queue::new(alloc),
             server_end: Records::new(alloc),
             client_end: Records::new(alloc),
         }
@@ -91,23 +92,19 @@ impl Wire {
     }
 
     /// So many bytes on their way up reach the server, which has these records of them.
-    pub fn take_up(&mut self, alloc: Global, amount: Amount) -> Result<Items<Bytes>, AllocError>
+    pub fn take_up(&mut self, alloc: Global, amount: Amount) -> Result<Items<Record>, AllocError>
         ensures records { IfOk result (λ records. records ≡ (fed self.old.server_end (take (count_of amount (length self.old.up)) self.old.up)).1.records) }
         ensures rest { OnOk result (self.new ≡ record self.old { up = drop (count_of amount (length self.old.up)) self.old.up; server_end = (fed self.old.server_end (take (count_of amount (length self.old.up)) self.old.up)).0 }) }
     {
-        let up = first_of(&mut self.up, amount)?;
-        let fed = self.server_end.feed(alloc, &up)?;
-        Ok(fed.records)
+        deliver(alloc, &mut self.up, amount, &mut self.server_end)
     }
 
     /// So many bytes on their way down reach the client, which has these records of them.
-    pub fn take_down(&mut self, alloc: Global, amount: Amount) -> Result<Items<Bytes>, AllocError>
+    pub fn take_down(&mut self, alloc: Global, amount: Amount) -> Result<Items<Record>, AllocError>
         ensures records { IfOk result (λ records. records ≡ (fed self.old.client_end (take (count_of amount (length self.old.down)) self.old.down)).1.records) }
         ensures rest { OnOk result (self.new ≡ record self.old { down = drop (count_of amount (length self.old.down)) self.old.down; client_end = (fed self.old.client_end (take (count_of amount (length self.old.down)) self.old.down)).0 }) }
     {
-        let down = first_of(&mut self.down, amount)?;
-        let fed = self.client_end.feed(alloc, &down)?;
-        Ok(fed.records)
+        deliver(alloc, &mut self.down, amount, &mut self.client_end)
     }
 
     /// The server saw the connection lost: what is on its way up is dropped, and so is what the
@@ -115,7 +112,7 @@ impl Wire {
     pub fn lose_up(&mut self, alloc: Global)
         ensures { self.new ≡ record self.old { up = []; server_end = nothing_read } }
     {
-        self.up.clear();
+        self.up = Queue::new(alloc);
         self.server_end = Records::new(alloc);
     }
 
@@ -124,7 +121,7 @@ impl Wire {
     pub fn lose_down(&mut self, alloc: Global)
         ensures { self.new ≡ record self.old { down = []; client_end = nothing_read } }
     {
-        self.down.clear();
+        self.down = Queue::new(alloc);
         self.client_end = Records::new(alloc);
     }
 }

@@ -1,7 +1,7 @@
 //! The world that a trace runs in, with its clocks. `specs/Timed.antt` says what a line makes of
 //! both.
 
-ghost use Rattle.std.specs.Prelude.{◌≡◌, IfErr, OnOk};
+ghost use Rattle.std.specs.Prelude.{◌≡◌, length, IfOk, IfErr, OnOk};
 ghost use Rattle.trace_text.specs.Reading.{IsTimely};
 ghost use Rattle.trace_replay.specs.Timed.{timed_start, timed_asked};
 ghost use Rattle.trace_replay.specs.World.{history_of};
@@ -9,16 +9,15 @@ ghost use Rattle.trace_replay.specs.Run.{in_header};
 ghost use Rattle.trace_replay.specs.Turns.{IsApplied, IsRefused};
 ghost use Rattle.trace_replay.specs.declared.fault.TraceErr.TheVariants as errors;
 
-use crate::ends::Core;
 use crate::fault::{Refused, TraceErr};
-use crate::inner::Inner;
-use crate::link::Stage;
+use crate::opening::build_all;
+use crate::stage::Stage;
+use crate::state::WorldState;
 use crate::timing::{Times, timing_of};
 use crate::turn::asked;
 use clock_rule::rule::NoteErr;
-use lb_base::items::Items;
 use register_model::history::History;
-use std::alloc::Global;
+use std::alloc::{AllocError, Global};
 use std::marker::Model;
 use trace_text::line::Line;
 use trace_text::refusal::LineFault;
@@ -26,7 +25,7 @@ use trace_text::refusal::LineFault;
 /// The two ends of a trace, what is on its way between them, and their clocks.
 #[derive(Drop)]
 pub struct World {
-    inner: Inner,
+    state: WorldState,
     times: Times,
 }
 
@@ -38,9 +37,9 @@ impl Model for World {
     ghost use Rattle.trace_replay.specs.WorldView.{world_of, timed_of};
     ghost use Rattle.trace_replay.specs.Turns.{IsQuiet};
 
-    ghost view = { λ w. timed_of w.inner w.times };
+    ghost view = { λ w. timed_of w.state w.times };
 
-    ghost invariant = { λ w. IsQuiet (world_of w.inner) };
+    ghost invariant = { λ w. IsQuiet (world_of w.state) };
 }
 
 /// A line that is refused.
@@ -56,7 +55,7 @@ impl World {
         ensures { result ≡ timed_start }
     {
         World {
-            inner: Inner::new(alloc),
+            state: WorldState::new(alloc),
             times: Times::new(alloc),
         }
     }
@@ -72,8 +71,8 @@ impl World {
         ensures ok { OnOk result (IsApplied self.old number line self.new) }
         ensures err { IfErr result (λ e. IsRefused e self.old number line self.new) }
     {
-        let timing = timing_of(&self.inner.core.sessions, &line);
-        let turn = match asked(&self.inner, number, line) {
+        let timing = timing_of(&self.state.core.sessions, &line);
+        let turn = match asked(&self.state, number, line) {
             Ok(turn) => turn,
             Err(fault) => return Err(refused(number, fault)),
         };
@@ -88,7 +87,7 @@ impl World {
                 return Err(TraceErr::Memory);
             }
         }
-        self.inner.take(alloc, turn)?;
+        self.state.take(alloc, turn)?;
         Ok(())
     }
 
@@ -97,18 +96,27 @@ impl World {
         ensures { result ≡ in_header self.now.world.stage }
     {
         matches!(
-            self.inner.stage,
+            self.state.stage,
             Stage::Version | Stage::Term | Stage::Drift | Stage::Clients
         )
     }
 
-    /// The history that the world has come to.
-    pub fn history(self) -> History
-        ensures { result ≡ history_of self.world }
+    /// How many changes the server's journal has.
+    pub fn journal(&self) -> usize
+        ensures { result ≡ length self.now.world.core.server.journal }
     {
-        let World { inner, .. } = self;
-        let Inner { opening, core, .. } = inner;
-        let Core { ops, steps, .. } = core;
-        History::new(Items::from_vec(opening), Items::from_vec(ops), steps)
+        self.state.core.server.journal().len()
+    }
+
+    /// The history that the world has come to. The ends are let go before the bytes of the opening
+    /// files are made. The one error is want of memory.
+    pub fn history(self, alloc: Global) -> Result<History, AllocError>
+        ensures { IfOk result (λ history. history ≡ history_of self.world) }
+    {
+        let World { state, .. } = self;
+        let WorldState { opening, core, .. } = state;
+        let (ops, steps) = core.history();
+        let opening = build_all(alloc, opening.as_slice())?;
+        Ok(History::new(opening, ops, steps))
     }
 }

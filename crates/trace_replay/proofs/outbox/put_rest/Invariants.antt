@@ -3,4 +3,4 @@ use Rattle.trace_replay.specs.World.{bytes_of}
 use Rattle.trace_replay.proofs.outbox.put_rest.Given as goal
 
 abbrev pub invariant-loop-message : goal.invariant-loop-message
-invariant-loop-message l = l.bytes.items ++ bytes_of (drop l.message-index l.messages) ≡ l.fn.bytes.items ++ bytes_of l.messages
+invariant-loop-message l = l.queue ++ bytes_of (drop l.message-index l.messages) ≡ l.fn.queue ++ bytes_of l.messages

@@ -9,6 +9,6 @@ use Rattle.trace_replay.proofs.Keys.{insert_map}
 pub returns : goal.returns
 returns c =
     ap (map (λ v. v.items)) c.in_ok-insert.ensures.keys
-    ∙ insert_map (λ v. v.items) (slice_cmp nat_cmp) c.self.inside.held.keys c.extend_from_slice.new.self
+    ∙ insert_map (λ v. v.items) (slice_cmp nat_cmp) c.self.inside.sorted.keys c.extend_from_slice.new.self
     ∙ ap (λ (names : List (List ℕ)). with_name names c.extend_from_slice.new.self.items) c.self.view_is
     ∙ ap (λ (name : List ℕ). with_name c.args.self.now name) (c.in_ok-extend_from_slice.ensures.items ∙ search rules)

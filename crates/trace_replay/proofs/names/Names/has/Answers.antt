@@ -9,5 +9,5 @@ use Rattle.trace_replay.proofs.Keys.{any_map}
 pub returns : goal.returns
 returns c =
     c.contains.ensures
-    ∙ any_map (λ v. v.items) (is_at (slice_cmp nat_cmp c.args.name.now)) c.self.inside.held.keys
+    ∙ any_map (λ v. v.items) (is_at (slice_cmp nat_cmp c.args.name.now)) c.self.inside.sorted.keys
     ∙ ap (λ (names : List (List ℕ)). has_name names c.args.name.now) c.self.view_is

@@ -1,0 +1,150 @@
+//! The world's fields, and events in it: a step of the ends, and what it sends put on its way.
+//! `specs/World.antt` says what an event makes of a world.
+
+ghost use Rattle.std.specs.Prelude.{◌≡◌, ◌<◌, ◌^◌, OnOk};
+ghost use Rattle.trace_replay.specs.Core.{Event.Joins, Event.Does, Event.Serves, Event.Hears, Event.Settles, Event.Cuts, Event.Hangs};
+ghost use Rattle.trace_replay.specs.World.{start, routed, happened};
+ghost use Rattle.trace_replay.specs.View.{core_of, core_step_of};
+ghost use Rattle.trace_replay.specs.WorldView.{world_of};
+
+use crate::core_step::CoreStep;
+use crate::names::Names;
+use crate::opening::OpeningFile;
+use crate::sending::{down_put, up_put};
+use crate::stage::Stage;
+use crate::wire_loss::lose;
+use crate::wires::Wire;
+use crate::world_core::Core;
+use command_text::command::Command;
+use std::alloc::{AllocError, Global};
+
+/// A world's fields.
+#[derive(Drop)]
+pub struct WorldState {
+    pub stage: Stage,
+    /// The names of the files that the trace opens with.
+    pub names: Names,
+    /// The files that the trace opens with.
+    pub opening: Vec<OpeningFile>,
+    /// The bytes of their contents together.
+    pub size: u64,
+    pub core: Core,
+    /// The bytes of each session that was ever made, by its number.
+    pub wires: Vec<Wire>,
+}
+
+impl WorldState {
+    /// The world before the first line. It takes no memory.
+    pub fn new(alloc: Global) -> WorldState
+        ensures { world_of result ≡ start }
+    {
+        WorldState {
+            stage: Stage::Version,
+            names: Names::new(alloc),
+            opening: Vec::new(alloc),
+            size: 0,
+            core: Core::new(alloc),
+            wires: Vec::new(alloc),
+        }
+    }
+
+    /// What an event dropped is gone, and what it sent is on its way.
+    fn routes(&mut self, alloc: Global, step: &CoreStep) -> Result<(), AllocError>
+        ensures { OnOk result (world_of self.new ≡ routed (world_of self.old) (core_step_of self.old.core step.now)) }
+    {
+        lose(alloc, &mut self.wires, step.loss)?;
+        let sessions = self.core.sessions.as_slice();
+        up_put(alloc, sessions, &mut self.wires, step.session, &step.up)?;
+        down_put(alloc, sessions, &mut self.wires, &step.down)
+    }
+
+    /// A client joins.
+    pub fn joins(&mut self, alloc: Global, client: u64) -> Result<(), AllocError>
+        ensures { OnOk result (world_of self.new ≡ happened (world_of self.old) (Joins client)) }
+    {
+        let step = self.core.joins(alloc, client)?;
+        let done = self.routes(alloc, &step);
+        drop(step);
+        done
+    }
+
+    /// A client does what it is told to, at a reading of its clock.
+    pub fn does(
+        &mut self,
+        alloc: Global,
+        client: u64,
+        now: u64,
+        command: Command,
+    ) -> Result<(), AllocError>
+        ensures { OnOk result (world_of self.new ≡ happened (world_of self.old) (Does client now command)) }
+    {
+        let step = self.core.does(alloc, client, now, command)?;
+        let done = self.routes(alloc, &step);
+        drop(step);
+        done
+    }
+
+    /// The server takes a record of a session, at a reading of its clock.
+    pub fn serves(
+        &mut self,
+        alloc: Global,
+        session: u64,
+        now: u64,
+        bytes: &[u8],
+    ) -> Result<(), AllocError>
+        requires { now < 2 ^ 63 }
+        ensures { OnOk result (world_of self.new ≡ happened (world_of self.old) (Serves session now bytes.now)) }
+    {
+        let step = self.core.serves(alloc, session, now, bytes)?;
+        let done = self.routes(alloc, &step);
+        drop(step);
+        done
+    }
+
+    /// A session's client takes a record, at a reading of its clock.
+    pub fn hears(
+        &mut self,
+        alloc: Global,
+        session: u64,
+        now: u64,
+        bytes: &[u8],
+    ) -> Result<(), AllocError>
+        ensures { OnOk result (world_of self.new ≡ happened (world_of self.old) (Hears session now bytes.now)) }
+    {
+        let step = self.core.hears(alloc, session, now, bytes)?;
+        let done = self.routes(alloc, &step);
+        drop(step);
+        done
+    }
+
+    /// A change that waits may be made, at a reading of the server's clock.
+    pub fn settles(&mut self, alloc: Global, now: u64) -> Result<(), AllocError>
+        requires { now < 2 ^ 63 }
+        ensures { OnOk result (world_of self.new ≡ happened (world_of self.old) (Settles now)) }
+    {
+        let step = self.core.settles(alloc, now)?;
+        let done = self.routes(alloc, &step);
+        drop(step);
+        done
+    }
+
+    /// A client sees its connection lost.
+    pub fn cuts(&mut self, alloc: Global, client: u64) -> Result<(), AllocError>
+        ensures { OnOk result (world_of self.new ≡ happened (world_of self.old) (Cuts client)) }
+    {
+        let step = self.core.cuts(alloc, client)?;
+        let done = self.routes(alloc, &step);
+        drop(step);
+        done
+    }
+
+    /// The server sees a session's connection lost.
+    pub fn hangs(&mut self, alloc: Global, session: u64) -> Result<(), AllocError>
+        ensures { OnOk result (world_of self.new ≡ happened (world_of self.old) (Hangs session)) }
+    {
+        let step = self.core.hangs(alloc, session)?;
+        let done = self.routes(alloc, &step);
+        drop(step);
+        done
+    }
+}

@@ -1,0 +1,44 @@
+//! What an event does to the bytes on their way before more are sent. `specs/World.antt` says what
+//! is lost.
+
+ghost use Rattle.std.specs.Prelude.{◌≡◌, OnOk};
+ghost use Rattle.trace_replay.specs.World.{down_lost, up_lost, lost_by};
+ghost use Rattle.trace_replay.specs.Core.{numbered};
+ghost use Rattle.trace_replay.specs.View.{loss_of};
+
+use crate::core_step::Loss;
+use crate::numbered::place_of;
+use crate::wires::Wire;
+use std::alloc::{AllocError, Global};
+
+/// What is on its way down a session is dropped.
+fn lose_down(alloc: Global, wires: &mut Vec<Wire>, number: u32)
+    ensures { wires.new.items ≡ down_lost wires.old.items number (numbered wires.old.items number) }
+{
+    if let Some(place) = place_of(wires.len(), u64::from(number)) {
+        wires[place].lose_down(alloc);
+    }
+}
+
+/// What is on its way up a session is dropped.
+fn lose_up(alloc: Global, wires: &mut Vec<Wire>, number: u32)
+    ensures { wires.new.items ≡ up_lost wires.old.items number (numbered wires.old.items number) }
+{
+    if let Some(place) = place_of(wires.len(), u64::from(number)) {
+        wires[place].lose_up(alloc);
+    }
+}
+
+/// A session is made, or what is on its way down or up one is dropped. The one error is want of
+/// memory for a session that is made.
+pub fn lose(alloc: Global, wires: &mut Vec<Wire>, loss: Loss) -> Result<(), AllocError>
+    ensures { OnOk result (wires.new.items ≡ lost_by wires.old.items (loss_of loss)) }
+{
+    match loss {
+        Loss::Nothing => {}
+        Loss::Made => wires.push(Wire::new(alloc))?,
+        Loss::DownOf(number) => lose_down(alloc, wires, number),
+        Loss::UpOf(number) => lose_up(alloc, wires, number),
+    }
+    Ok(())
+}
