@@ -1,16 +1,7 @@
 -- A client has acted on an answer: its core and its queues are those of the facts, whatever came of the answer.
-use Rattle.std.proofs.Common.{inl, inr, ◌≡◌, ℕ, ◌+◌, List, [], Option, Some, None, refl, sym, ap, ◌∙◌, subst}
-use Rattle.std.specs.Prelude.{slice_set, map}
-use Rattle.wire.specs.declared.message.Message.{Message}
+use Rattle.std.proofs.Common.{inl, inr, ◌≡◌, ℕ, ◌+◌, List, [], Option, Some, None, refl, sym, ap, ◌∙◌, subst, map}
 use Rattle.open_close.specs.State as client
-use Rattle.open_close.specs.declared.step.ClientStep.{ClientStep}
-use Rattle.open_close.specs.declared.step.Ended.{Ended}
-use Rattle.register_model.specs.declared.op.Op.{Op}
-use Rattle.trace_replay.specs.declared.link.Taken.{Taken}
-use Rattle.trace_replay.specs.Core.{Core, Seat, Session, Turned, Loss.Nothing, numbered, with_numbered, taken_of, session_of, ops_after, ops_with, acted}
-use Rattle.trace_replay.specs.Ops.{counted, op_ended, op_after, place_after}
-use Rattle.trace_replay.specs.Book.{Book}
-use Rattle.kept_promise.specs.Talk.{Ask, Told, Queue, ask_message}
+use Rattle.kept_promise.proofs.Common.{slice_set, Message, ClientStep, Ended, Op, TakenCall, Core, Seat, Session, CoreStep, Loss.Nothing, numbered, with_numbered, taken_of, session_of, ops_after, ops_with, acted, counted, op_ended, op_after, place_after, Book, Ask, Told, Queue, ask_message}
 use Rattle.kept_promise.proofs.Lists.{some_is, nothing_there}
 use Rattle.kept_promise.proofs.Messages.{Job, job, job_of}
 use Rattle.kept_promise.proofs.History.{onward}
@@ -25,7 +16,7 @@ use Rattle.kept_promise.proofs.Comes.{GoesTo, EndsIn, Comes}
 -- ---- the turn
 
 -- a client acted: this is its state and the place of its operation now, and these are the operations
-abbrev pub acted_as : Core → (i : ℕ) → (was : Option ℕ) → client.State → (place : Option ℕ) → List Op → (session : Option ℕ) → List Message → Turned
+abbrev pub acted_as : Core → (i : ℕ) → (was : Option ℕ) → client.State → (place : Option ℕ) → List Op → (session : Option ℕ) → List Message → CoreStep
 acted_as k i was c place ops session up = record {
   core = record {
     server = k.server;
@@ -45,7 +36,7 @@ acted_is : (k : Core) (i n : ℕ) (x : Session) (seat : Seat) (c : client.State)
     → acted k i seat c acts ≡ acted_as k i seat.session c place ops (Some n) (map ask_message asks)
 acted_is k i n x seat c acts place ops asks at here place_is ops_is send_is =
     let taken : taken_of (session_of k.sessions seat.session) ≡ x.taken = ap (λ (o : Option ℕ). taken_of (session_of k.sessions o)) here ∙ ap taken_of at in
-    let ops_now : ops_with k.ops seat.place c (taken_of (session_of k.sessions seat.session)) (k.steps + 1) acts ≡ ops = ap (λ (l : List Taken). ops_with k.ops seat.place c l (k.steps + 1) acts) taken ∙ ops_is in
+    let ops_now : ops_with k.ops seat.place c (taken_of (session_of k.sessions seat.session)) (k.steps + 1) acts ≡ ops = ap (λ (l : List TakenCall). ops_with k.ops seat.place c l (k.steps + 1) acts) taken ∙ ops_is in
     ap (λ (p : Option ℕ). acted_as k i seat.session c p (ops_with k.ops seat.place c (taken_of (session_of k.sessions seat.session)) (k.steps + 1) acts) seat.session acts.send) place_is
     ∙ ap (λ (l : List Op). acted_as k i seat.session c place l seat.session acts.send) ops_now
     ∙ ap (λ (o : Option ℕ). acted_as k i seat.session c place ops o acts.send) here
@@ -97,11 +88,10 @@ place_of seat j e = by seat.place seat.client.task e
   where
     by : (p : Option ℕ) (o : Option Rattle.open_close.specs.declared.task.Task.Task) → job_of p o ≡ Some j → p ≡ Some j.place
     by (Some p) (Some o) e = ap (λ (z : Job). Some z.place) (some_is _ j e)
-    by None o e = nothing_there j e
-    by (Some p) None e = nothing_there j e
+    by _ _ e = nothing_there j e
 
 -- the operation after the step
-ops_now : (book : Book) (i : ℕ) (seat : Seat) (j : Job) (of : IsOf book i j) (c : client.State) (taken : List Taken) (acts : ClientStep) → job seat ≡ Some j → ops_with book.ops seat.place c taken (book.steps + 1) acts ≡ slice_set book.ops j.place (op_after of.op c taken (book.steps + 1) acts)
+ops_now : (book : Book) (i : ℕ) (seat : Seat) (j : Job) (of : IsOf book i j) (c : client.State) (taken : List TakenCall) (acts : ClientStep) → job seat ≡ Some j → ops_with book.ops seat.place c taken (book.steps + 1) acts ≡ slice_set book.ops j.place (op_after of.op c taken (book.steps + 1) acts)
 ops_now book i seat j of c taken acts is =
     ap (λ (p : Option ℕ). ops_with book.ops p c taken (book.steps + 1) acts) (place_of seat j is)
     ∙ ap (λ (o : Option Op). ops_after book.ops j.place o c taken (book.steps + 1) acts) of.there

@@ -1,32 +1,16 @@
 -- A step of a client that hears an answer, or sees its connection lost: what becomes of its operation, and of its local contents.
 use Rattle.std.proofs.Common.{◌⊎◌, inl, inr, ◌≡◌, ℕ, ◌+◌, ◌<◌, List, [], Option, Some, None, refl, sym, ap, ◌∙◌, subst}
-use Rattle.std.specs.Prelude.{slice_get, slice_set, option_map, unwrap_or}
-use Rattle.command_text.specs.declared.command.Command.{Command}
 use Rattle.command_text.specs.declared.command.Command.TheVariants as command
 use Rattle.open_close.specs.State as client
-use Rattle.open_close.specs.declared.step.ClientStep.{ClientStep}
-use Rattle.open_close.specs.declared.step.Ended.{Ended}
-use Rattle.open_close.specs.declared.step.Outcome.{Outcome}
 use Rattle.open_close.specs.declared.step.Outcome.TheVariants as outcome
-use Rattle.open_close.specs.declared.task.Local.{Local}
-use Rattle.open_close.specs.declared.task.Task.{Task}
-use Rattle.open_close.proofs.Locals.{local_at_itself, local_at_another, without_at_itself, without_at_another}
-use Rattle.register_model.specs.declared.op.Op.{Op}
 use Rattle.register_model.specs.declared.op.Outcome.{Outcome as Told}
 use Rattle.register_model.specs.declared.op.Outcome.TheVariants as told
-use Rattle.register_model.specs.declared.op.Word.{Word}
 use Rattle.register_model.specs.declared.op.Word.TheVariants as words
-use Rattle.trace_replay.specs.declared.link.Taken.{Taken}
-use Rattle.trace_replay.specs.Commands.{word_of}
-use Rattle.trace_replay.specs.Core.{Core, Seat, numbered, with_numbered, taken_of, session_of, ops_after, ops_with, acted}
-use Rattle.trace_replay.specs.Ops.{counted, ended_op, op_after, told_of, value_of, place_after}
-use Rattle.trace_replay.specs.Trail.{Deed}
-use Rattle.trace_replay.specs.Book.{Book}
-use Rattle.trace_replay.specs.Causes.{leaves, after_one, local_from}
-use Rattle.kept_promise.proofs.Lists.{some_is, nothing_there, same_or_not, of_replaced, at_replaced}
+use Rattle.kept_promise.proofs.Common.{slice_get, slice_set, option_map, unwrap_or, Command, ClientStep, Ended, Outcome, Local, Task, local_at_itself, local_at_another, without_at_itself, without_at_another, Op, Word, TakenCall, word_of, Core, Seat, numbered, with_numbered, taken_of, session_of, ops_after, ops_with, acted, counted, ended_op, op_after, told_of, value_of, place_after, Deed, Book, leaves, after_one, local_from}
+use Rattle.kept_promise.proofs.Lists.{some_is, nothing_there, same_or_not, of_replaced, at_replaced, set_count}
 use Rattle.kept_promise.proofs.Messages.{Job, job, job_of}
-use Rattle.kept_promise.proofs.Rights.{Caused}
-use Rattle.kept_promise.proofs.Turns.{set_count, around_with}
+use Rattle.kept_promise.proofs.Rights.{Caused, close_not_open}
+use Rattle.kept_promise.proofs.Turns.{around_with}
 use Rattle.kept_promise.proofs.Facts.{IsMatched}
 use Rattle.kept_promise.proofs.Leaving.{EndsWith, Leaves}
 use Rattle.kept_promise.proofs.Locally.{Idles, other_client, other_file, its_own, leaves_alike, leaves_none, idles_by, local_same, local_late}
@@ -65,13 +49,6 @@ set_else c f ds ops p d o r at is apart = set_same c f None ds ops p d o r at is
 stays_so : (k : Command) (u : Outcome) (opened after : List (ℕ × Local)) (file : ℕ) (v : List ℕ) (l : Option (List ℕ)) → EndsWith opened after file u → ((n : ℕ) (d : List ℕ) → told_of u ≡ told.Opened n d → ⊥) → ((w n : ℕ) (d : List ℕ) → told_of u ≡ told.Closed w n d → ⊥) → (after ≡ opened) × (leaves k (told_of u) v l ≡ l)
 stays_so k (outcome.Opened g len digest) opened after file v l h a b = absurd (a len digest refl)
 stays_so k (outcome.Closed g version len digest) opened after file v l h a b = absurd (b version len digest refl)
-stays_so k (outcome.Piece len digest) opened after file v l h a b = absurd h
-stays_so k outcome.Done opened after file v l h a b = absurd h
-stays_so k outcome.Busy opened after file v l h a b = absurd h
-stays_so k outcome.NotOpen opened after file v l h a b = absurd h
-stays_so k outcome.AlreadyOpen opened after file v l h a b = absurd h
-stays_so k (outcome.TooBig size) opened after file v l h a b = absurd h
-stays_so k outcome.NoLink opened after file v l h a b = absurd h
 stays_so k outcome.Lost opened after file v l h a b = (h, by k)
   where
     by : (k : Command) → leaves k told.Lost v l ≡ l
@@ -126,10 +103,9 @@ stays_so k outcome.Memory opened after file v l h a b = (h, by k)
     by (command.Read f offset count) = refl
     by (command.Close f) = refl
     by (command.Abandon f) = refl
+stays_so k _ opened after file v l h a b = absurd h
 
 from_server : (u : Outcome) (opened after : List (ℕ × Local)) (file : ℕ) → EndsWith opened after file u → FromServer (told_of u)
-from_server (outcome.Opened g len digest) opened after file h = tt
-from_server (outcome.Closed g version len digest) opened after file h = tt
 from_server (outcome.Piece len digest) opened after file h = h
 from_server outcome.Done opened after file h = h
 from_server outcome.Busy opened after file h = h
@@ -137,30 +113,12 @@ from_server outcome.NotOpen opened after file h = h
 from_server outcome.AlreadyOpen opened after file h = h
 from_server (outcome.TooBig size) opened after file h = h
 from_server outcome.NoLink opened after file h = h
-from_server outcome.Lost opened after file h = tt
-from_server (outcome.Changed m n) opened after file h = tt
-from_server (outcome.Refused t) opened after file h = tt
-from_server outcome.PeerMemory opened after file h = tt
-from_server (outcome.BadPeer fault) opened after file h = tt
-from_server outcome.Memory opened after file h = tt
+from_server _ opened after file h = tt
 
 -- but for an open that got its content the value stays
 value_kept : (v : List ℕ) (s : client.State) (u : Outcome) → ((n : ℕ) (d : List ℕ) → told_of u ≡ told.Opened n d → ⊥) → value_of v s u ≡ v
 value_kept v s (outcome.Opened g len digest) a = absurd (a len digest refl)
-value_kept v s (outcome.Closed g version len digest) a = refl
-value_kept v s (outcome.Piece len digest) a = refl
-value_kept v s outcome.Done a = refl
-value_kept v s outcome.Busy a = refl
-value_kept v s outcome.NotOpen a = refl
-value_kept v s outcome.AlreadyOpen a = refl
-value_kept v s (outcome.TooBig size) a = refl
-value_kept v s outcome.NoLink a = refl
-value_kept v s outcome.Lost a = refl
-value_kept v s (outcome.Changed m n) a = refl
-value_kept v s (outcome.Refused t) a = refl
-value_kept v s outcome.PeerMemory a = refl
-value_kept v s (outcome.BadPeer fault) a = refl
-value_kept v s outcome.Memory a = refl
+value_kept v s _ a = refl
 
 -- an outcome is one of a content that was got, of a file that was replaced, or neither
 abbrev IsNeither : Outcome → Type 0
@@ -193,19 +151,11 @@ opened_here : (k : Command) (old now : List (ℕ × Local)) (file g n : ℕ) (d 
 opened_here (command.Open f) old now file g n d l w same is =
     let at : bytes_at now file ≡ Some l.bytes = ap (λ z. bytes_at z file) is ∙ ap (option_map (λ (z : Local). z.bytes)) (local_at_itself old file l) in
     at ∙ ap (λ z. Some z) (sym (ap (client.local_bytes now) same ∙ ap (λ o. unwrap_or o []) at))
-opened_here (command.Write f offset content) old now file g n d l w same is = absurd cc
-opened_here (command.Trunc f size) old now file g n d l w same is = absurd cc
-opened_here (command.Read f offset count) old now file g n d l w same is = absurd cc
-opened_here (command.Close f) old now file g n d l w same is = absurd cc
-opened_here (command.Abandon f) old now file g n d l w same is = absurd cc
+opened_here _ old now file g n d l w same is = absurd cc
 
 closed_here : (k : Command) (old now : List (ℕ × Local)) (file v n : ℕ) (d value : List ℕ) → word_of k ≡ words.Close → now ≡ client.without_local old file → bytes_at now file ≡ leaves k (told.Closed v n d) value (bytes_at old file)
 closed_here (command.Close f) old now file v n d value w is = ap (λ z. bytes_at z file) is ∙ ap (option_map (λ (z : Local). z.bytes)) (without_at_itself old file)
-closed_here (command.Open f) old now file v n d value w is = absurd cc
-closed_here (command.Write f offset content) old now file v n d value w is = absurd cc
-closed_here (command.Trunc f size) old now file v n d value w is = absurd cc
-closed_here (command.Read f offset count) old now file v n d value w is = absurd cc
-closed_here (command.Abandon f) old now file v n d value w is = absurd cc
+closed_here _ old now file v n d value w is = absurd cc
 
 -- the words of what was got and replaced
 abbrev pub HasWord : Word → Told → Type 0
@@ -248,31 +198,19 @@ ended_else old now file f u h apart = by (which u)
 pub caused_word : (book : Book) (o : Op) (u : Told) → Caused book o u → HasWord o.word u
 caused_word book o (told.Opened n d) h = h.0
 caused_word book o (told.Closed v n d) h = h.0
-caused_word book o (told.Refused s) h = tt
-caused_word book o (told.Changed a b) h = tt
-caused_word book o told.Lost h = tt
-caused_word book o told.Running h = tt
-caused_word book o (told.BadPeer n) h = tt
-caused_word book o told.PeerMemory h = tt
-caused_word book o told.Memory h = tt
-caused_word book o (told.Names names) h = tt
-caused_word book o (told.Seen file kind version len) h = tt
 caused_word book o _ h = tt
 
 open_not_close : (v : List ℕ) (s : client.State) (w : Word) (u : Outcome) → HasWord w (told_of u) → w ≡ words.Close → value_of v s u ≡ v
 open_not_close v s w u h is = by u h (which u)
   where
-    apart : words.Close ≡ words.Open → ⊥
-    apart e = absurd cc
-
     by : (u : Outcome) → HasWord w (told_of u) → Which u → value_of v s u ≡ v
-    by (outcome.Opened g n d) h z = absurd (apart (sym is ∙ h))
+    by (outcome.Opened g n d) h z = absurd (close_not_open (sym is ∙ h))
     by (outcome.Closed g version n d) h z = refl
-    by u h (inl z) = absurd (apart (sym is ∙ subst (λ (x : Outcome). HasWord w (told_of x)) z.3 h))
+    by u h (inl z) = absurd (close_not_open (sym is ∙ subst (λ (x : Outcome). HasWord w (told_of x)) z.3 h))
     by u h (inr (inl z)) = ap (value_of v s) z.4 ∙ sym (ap (λ x. v) z.4)
     by u h (inr (inr z)) = value_kept v s u z.0
 
-moved_ended : (step : ℕ) (o : Op) (s : client.State) (taken : List Taken) (e : Ended) (opened : List (ℕ × Local)) (file : ℕ) → o.end ≡ None → EndsWith opened s.opened file e.outcome → HasWord o.word (told_of e.outcome) → Moved step o (ended_op o s taken step e)
+moved_ended : (step : ℕ) (o : Op) (s : client.State) (taken : List TakenCall) (e : Ended) (opened : List (ℕ × Local)) (file : ℕ) → o.end ≡ None → EndsWith opened s.opened file e.outcome → HasWord o.word (told_of e.outcome) → Moved step o (ended_op o s taken step e)
 moved_ended step o s taken e opened file none h w = record {
   client = refl;
   word = refl;
@@ -325,7 +263,7 @@ goes_on ds k c p seat t acts place o r h a at m u v opened =
     }
 
 -- one ends
-one_ends : (ds : List Deed) (k : Core) (c p : ℕ) (seat : Seat) (t : client.State) (acts : ClientStep) (place : Option ℕ) (o : Op) (taken : List Taken) (e : Ended) → HasDeeds ds k.ops k.seats → Acts k c seat t acts → slice_get k.ops p ≡ Some o → o.client ≡ c → o.outcome ≡ told.Running → o.end ≡ None
+one_ends : (ds : List Deed) (k : Core) (c p : ℕ) (seat : Seat) (t : client.State) (acts : ClientStep) (place : Option ℕ) (o : Op) (taken : List TakenCall) (e : Ended) → HasDeeds ds k.ops k.seats → Acts k c seat t acts → slice_get k.ops p ≡ Some o → o.client ≡ c → o.outcome ≡ told.Running → o.end ≡ None
     → EndsWith seat.client.opened t.opened o.file e.outcome → HasWord o.word (told_of e.outcome) → (n : Rattle.register_model.specs.declared.op.Traffic.Traffic)
     → StepLeaves ds k (slice_set k.ops p (ended_op (record o { traffic = n }) t taken (k.steps + 1) e)) (with_numbered k.seats c (record seat { client = t; place = place }))
 one_ends ds k c p seat t acts place o taken e h a at mine running under ends word n =
@@ -378,7 +316,7 @@ by_place ds k c seat t acts h a (Some p) (Some x) e f m words =
     subst (λ (z : List Op). StepLeaves ds k z (with_numbered k.seats c (record seat { client = t; place = place_after (Some p) acts.ended }))) (sym ops_is)
     (by o.0 o.1 o.2 o.3 o.4 o.5 taken acts.ended refl (subst (λ (z : ℕ). Leaves seat.client.opened t.opened z acts.ended) (sym o.3) (a.busy x f)) rights)
   where
-    by : (o : Op) → slice_get k.ops p ≡ Some o → o.client ≡ c → o.file ≡ x.file → o.outcome ≡ told.Running → o.end ≡ None → (taken : List Taken) (ended : Option Ended) → acts.ended ≡ ended → Leaves seat.client.opened t.opened o.file acts.ended → HasWord (op_after o t taken (k.steps + 1) acts).word (op_after o t taken (k.steps + 1) acts).outcome
+    by : (o : Op) → slice_get k.ops p ≡ Some o → o.client ≡ c → o.file ≡ x.file → o.outcome ≡ told.Running → o.end ≡ None → (taken : List TakenCall) (ended : Option Ended) → acts.ended ≡ ended → Leaves seat.client.opened t.opened o.file acts.ended → HasWord (op_after o t taken (k.steps + 1) acts).word (op_after o t taken (k.steps + 1) acts).outcome
         → StepLeaves ds k (slice_set k.ops p (op_after o t taken (k.steps + 1) acts)) (with_numbered k.seats c (record seat { client = t; place = place_after (Some p) acts.ended }))
     by o at mine file running under taken None is leaves word =
         let r : Op = record o { traffic = counted o.traffic acts.counts } in

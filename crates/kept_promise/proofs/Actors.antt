@@ -1,23 +1,9 @@
 -- The client that acts in an event: its session, its seat and its operation.
-use Rattle.std.proofs.Common.{inl, inr, ◌≡◌, ℕ, ◌+◌, List, [], ◌∷◌, Option, Some, None, Bool, true, false, refl, sym, ap, ◌∙◌, subst, arith, ne_eqb}
-use Rattle.std.proofs.lemmas.Bool.Decides.{nat_tests}
-use Rattle.std.specs.Prelude.{◌==◌, ◌&&◌, nat_le, slice_get, is_some, not, Result, Ok}
-use Rattle.wire.specs.Message.{MessageFits, message_spell}
-use Rattle.wire.specs.Parse.{parse_of}
-use Rattle.wire.specs.declared.fault.WireFault.{WireFault}
-use Rattle.wire.specs.declared.message.Message.{Message}
+use Rattle.std.proofs.Common.{inl, inr, ◌≡◌, ℕ, ◌+◌, List, [], ◌∷◌, Option, Some, None, Bool, true, false, refl, sym, ap, ◌∙◌, subst, arith, ne_eqb, Result, Ok}
 use Rattle.open_close.specs.State as client
-use Rattle.open_close.specs.Step.{got_step}
-use Rattle.open_close.specs.declared.task.Task.{Task}
-use Rattle.register_model.specs.declared.op.Op.{Op}
 use Rattle.register_model.specs.declared.op.Outcome.{Outcome}
 use Rattle.register_model.specs.declared.op.Outcome.TheVariants as told
-use Rattle.trace_replay.specs.Core.{Core, Seat, Session, Event.Hears, is_newest, acted, hears, hears_at, hears_if, numbered, happens}
-use Rattle.trace_replay.specs.Trail.{wanted_by, taken_if, taken_from, taken_by}
-use Rattle.trace_replay.specs.Traffic.{until}
-use Rattle.trace_replay.specs.Book.{Book}
-use Rattle.trace_replay.specs.Faithful.{is_running}
-use Rattle.kept_promise.specs.Talk.{Told, Queue, told_message}
+use Rattle.kept_promise.proofs.Common.{nat_tests, ◌==◌, ◌&&◌, nat_le, slice_get, is_some, not, MessageFits, message_spell, parse_of, WireFault, Message, got_step, Task, Op, Core, Seat, Session, Event.Hears, is_newest, acted, hears, hears_at, hears_if, numbered, happens, wanted_by, taken_if, taken_from, taken_by, until, Book, is_running, Told, Queue, told_message}
 use Rattle.kept_promise.proofs.Lists.{some_is, nothing_there, same_or_not}
 use Rattle.kept_promise.proofs.Messages.{Job, job, job_of, AllTolds}
 use Rattle.kept_promise.proofs.Fits.{FitLaws}
@@ -50,14 +36,12 @@ unended book o r e = by o.end (r.ends ∙ ap (λ (u : Outcome). not (is_running 
     by (Some n) e = absurd cc
 
 pub job_place : (place : Option ℕ) (task : Option Task) (j : Job) → job_of place task ≡ Some j → place ≡ Some j.place
-job_place None task j e = nothing_there j e
-job_place (Some p) None j e = nothing_there j e
 job_place (Some p) (Some t) j e = ap (λ (z : Job). Some z.place) (some_is (record { place = p; file = t.file; stage = t.stage }) j e)
+job_place _ _ j e = nothing_there j e
 
 pub job_task : (place : Option ℕ) (task : Option Task) (j : Job) → job_of place task ≡ Some j → task ≡ Some (record { file = j.file; stage = j.stage })
-job_task None task j e = nothing_there j e
-job_task (Some p) None j e = nothing_there j e
 job_task (Some p) (Some t) j e = ap (λ (z : Job). Some (record { file = z.file; stage = z.stage })) (some_is (record { place = p; file = t.file; stage = t.stage }) j e)
+job_task _ _ j e = nothing_there j e
 
 -- the operation at a client's place is its job
 pub placed : (seat : Seat) (p : ℕ) → IsMatched seat → seat.place ≡ Some p → (j : Job) × (job seat ≡ Some j) × (j.place ≡ p)
@@ -66,8 +50,7 @@ placed seat p (inr m) e = (m.0, m.1, some_is m.0.place p (sym (job_place seat.pl
 
 none_of : (a : Bool) (b c : Bool) → c ≡ false → (a && (b && c)) ≡ false
 none_of true true c e = e
-none_of true false c e = refl
-none_of false b c e = refl
+none_of _ _ c e = refl
 
 -- a step of a client is one of its operation alone
 pub acts_alone : (book : Book) (k : Core) (qs : List Queue) (i : ℕ) (seat : Seat) → IsKept book k qs → numbered k.seats i ≡ Some seat → IsActor k.ops i seat.place k.steps

@@ -1,36 +1,12 @@
 -- A client takes an answer to a call of its operation under way: which call it is, and what comes of it.
-use Rattle.std.proofs.Common.{◌⊎◌, inl, inr, ◌≡◌, ℕ, zero, suc, ◌+◌, ◌<◌, ◌≤◌, List, [], ◌∷◌, ◌++◌, length, Option, Some, None, Bool, true, false, refl, sym, ap, ◌∙◌, subst, arith, eqb-true, eq-eqb}
-use Rattle.std.proofs.lemmas.Bool.Decides.{nat_tests}
-use Rattle.std.specs.Prelude.{slice_get, map, cond, ◌==◌, ◌||◌}
-use Rattle.std.specs.List.{list_any}
-use Rattle.xdr_codec.specs.declared.answer.Answer.{Answer}
-use Rattle.xdr_codec.specs.declared.attr.Attr.{Attr}
-use Rattle.hash_calls.specs.declared.call.Committed.{Committed}
-use Rattle.hash_calls.specs.declared.call.Hashes.{Hashes}
-use Rattle.nfs3_calls.specs.declared.call.Piece.{Piece}
-use Rattle.hash_calls.specs.declared.message.LbProc.TheVariants as lb_proc
-use Rattle.nfs3_calls.specs.declared.message.NfsProc.TheVariants as nfs_proc
-use Rattle.wire.specs.Parse.{waiting}
-use Rattle.wire.specs.declared.message.Pending.{Pending}
-use Rattle.wire.specs.declared.message.Program.{Program}
-use Rattle.wire.specs.declared.message.Program.TheVariants as program
-use Rattle.open_close.specs.State.{has_call, store_pending, read_pending}
-use Rattle.open_close.specs.Closing.{store_at}
-use Rattle.open_close.specs.Opening.{read_at}
-use Rattle.open_close.specs.declared.task.ReadCall.{ReadCall}
-use Rattle.open_close.specs.declared.task.StoreCall.{StoreCall}
-use Rattle.kept_promise.specs.Talk.{Reply, Reply.Hashed, Reply.Bytes, Reply.Made, Reply.Named, Reply.Stored, Reply.Changed, Told, reply_program}
-use Rattle.kept_promise.proofs.Lists.{some_is, nothing_there}
+use Rattle.std.proofs.Common.{◌≡◌, ℕ, zero, suc, ◌≤◌, List, [], ◌∷◌, ◌++◌, Option, Some, Bool, true, false, refl, sym, ap, ◌∙◌, subst, arith, eqb-true, eq-eqb, map}
+use Rattle.kept_promise.proofs.Common.{slice_get, cond, ◌==◌, ◌||◌, Answer, Attr, Committed, Hashes, Piece, waiting, Pending, Program, has_call, store_pending, read_pending, store_at, read_at, ReadCall, StoreCall, Reply, Reply.Hashed, Reply.Bytes, Reply.Made, Reply.Named, Reply.Stored, Reply.Changed, Told, reply_program}
+use Rattle.kept_promise.proofs.Lists.{some_is, nothing_there, in_front, false_and_true}
 use Rattle.kept_promise.proofs.Keys.{times, code_of}
 use Rattle.kept_promise.proofs.Heard.{told_pending}
 use Rattle.kept_promise.proofs.Moves.{waits_under}
 
 -- ---- which call it is
-
-front : {A : Type 0} (xs ys : List A) (i : ℕ) (x : A) → slice_get xs i ≡ Some x → slice_get (xs ++ ys) i ≡ Some x
-front [] ys i x e = nothing_there x e
-front (z ∷ xs) ys zero x e = e
-front (z ∷ xs) ys (suc i) x e = front xs ys i x e
 
 pub called : (calls : List Pending) (x : ℕ) → has_call calls x ≡ true → (i : ℕ) × (p : Pending) × (slice_get calls i ≡ Some p) × (p.xid ≡ x)
 called [] x e = absurd cc
@@ -52,7 +28,7 @@ one_call calls i k p q a b same once =
 pub own_call : (mine others : List Pending) (k : ℕ) (t : Told) → slice_get (mine ++ others) k ≡ Some (told_pending t) → times t.xid (map (λ c. c.xid) (mine ++ others)) ≤ 1 → has_call mine t.xid ≡ true → (i : ℕ) × (slice_get mine i ≡ Some (told_pending t))
 own_call mine others k t at once has =
     let c = called mine t.xid has in
-    (c.0, c.2 ∙ ap (λ (p : Pending). Some p) (one_call (mine ++ others) c.0 k c.1 (told_pending t) (front mine others c.0 c.1 c.2) at c.3 once))
+    (c.0, c.2 ∙ ap (λ (p : Pending). Some p) (one_call (mine ++ others) c.0 k c.1 (told_pending t) (in_front mine others c.0 c.1 c.2) at c.3 once))
 
 pub store_here : (under : List StoreCall) (i : ℕ) (t : Told) → slice_get (map store_pending under) i ≡ Some (told_pending t) → (m : ℕ) × (u : StoreCall) × (store_at under t.xid ≡ Some u) × (slice_get (map store_pending under) m ≡ Some (store_pending u)) × (u.xid ≡ t.xid)
 store_here [] i t e = nothing_there (told_pending t) e
@@ -60,10 +36,7 @@ store_here (u ∷ us) i t e = by (u.xid == t.xid) refl i e (λ k. store_here us 
   where
     by : (b : Bool) → (u.xid == t.xid) ≡ b → (i : ℕ) → slice_get (map store_pending (u ∷ us)) i ≡ Some (told_pending t) → ((k : ℕ) → slice_get (map store_pending us) k ≡ Some (told_pending t) → (m : ℕ) × (v : StoreCall) × (store_at us t.xid ≡ Some v) × (slice_get (map store_pending us) m ≡ Some (store_pending v)) × (v.xid ≡ t.xid)) → (m : ℕ) × (v : StoreCall) × (cond b (Some u) (store_at us t.xid) ≡ Some v) × (slice_get (map store_pending (u ∷ us)) m ≡ Some (store_pending v)) × (v.xid ≡ t.xid)
     by true same i e later = (0, u, refl, refl, eqb-true u.xid t.xid same)
-    by false same zero e later = let x : u.xid ≡ t.xid = ap (λ (p : Pending). p.xid) (some_is (store_pending u) (told_pending t) e) in absurd (apart (u.xid == t.xid) same (eq-eqb u.xid t.xid x))
-      where
-        apart : (b : Bool) → b ≡ false → b ≡ true → ⊥
-        apart b u v = absurd cc
+    by false same zero e later = let x : u.xid ≡ t.xid = ap (λ (p : Pending). p.xid) (some_is (store_pending u) (told_pending t) e) in absurd (false_and_true (u.xid == t.xid) same (eq-eqb u.xid t.xid x))
     by false same (suc i) e later = let h = later i e in (suc h.0, h.1, h.2, h.3, h.4)
 
 pub read_here : (under : List ReadCall) (i : ℕ) (t : Told) → slice_get (map read_pending under) i ≡ Some (told_pending t) → (r : ReadCall) × (read_at under t.xid ≡ Some r)
@@ -72,58 +45,31 @@ read_here (u ∷ us) i t e = by (u.xid == t.xid) refl i e (λ k. read_here us k 
   where
     by : (b : Bool) → (u.xid == t.xid) ≡ b → (i : ℕ) → slice_get (map read_pending (u ∷ us)) i ≡ Some (told_pending t) → ((k : ℕ) → slice_get (map read_pending us) k ≡ Some (told_pending t) → (r : ReadCall) × (read_at us t.xid ≡ Some r)) → (r : ReadCall) × (cond b (Some u) (read_at us t.xid) ≡ Some r)
     by true same i e later = (u, refl)
-    by false same zero e later = let x : u.xid ≡ t.xid = ap (λ (p : Pending). p.xid) (some_is (read_pending u) (told_pending t) e) in absurd (apart (u.xid == t.xid) same (eq-eqb u.xid t.xid x))
-      where
-        apart : (b : Bool) → b ≡ false → b ≡ true → ⊥
-        apart b u v = absurd cc
+    by false same zero e later = let x : u.xid ≡ t.xid = ap (λ (p : Pending). p.xid) (some_is (read_pending u) (told_pending t) e) in absurd (false_and_true (u.xid == t.xid) same (eq-eqb u.xid t.xid x))
     by false same (suc i) e later = later i e
 
 -- ---- an answer to a procedure is of its kind
 
 pub hash_reply : (r : Reply) → 1 ≡ code_of (reply_program r) → (a : Answer Hashes Unit) × (r ≡ Hashed a)
 hash_reply (Hashed a) e = (a, refl)
-hash_reply (Bytes a) e = absurd (omega (arith, e))
-hash_reply (Made a) e = absurd (omega (arith, e))
-hash_reply (Named a) e = absurd (omega (arith, e))
-hash_reply (Stored a) e = absurd (omega (arith, e))
-hash_reply (Changed a) e = absurd (omega (arith, e))
+hash_reply _ e = absurd (omega (arith, e))
 
 pub made_reply : (r : Reply) → 2 ≡ code_of (reply_program r) → (a : Answer Unit Unit) × (r ≡ Made a)
 made_reply (Made a) e = (a, refl)
-made_reply (Bytes a) e = absurd (omega (arith, e))
-made_reply (Hashed a) e = absurd (omega (arith, e))
-made_reply (Named a) e = absurd (omega (arith, e))
-made_reply (Stored a) e = absurd (omega (arith, e))
-made_reply (Changed a) e = absurd (omega (arith, e))
+made_reply _ e = absurd (omega (arith, e))
 
 pub named_reply : (r : Reply) → 3 ≡ code_of (reply_program r) → (a : Answer Unit Unit) × (r ≡ Named a)
 named_reply (Named a) e = (a, refl)
-named_reply (Bytes a) e = absurd (omega (arith, e))
-named_reply (Hashed a) e = absurd (omega (arith, e))
-named_reply (Made a) e = absurd (omega (arith, e))
-named_reply (Stored a) e = absurd (omega (arith, e))
-named_reply (Changed a) e = absurd (omega (arith, e))
+named_reply _ e = absurd (omega (arith, e))
 
 pub stored_reply : (r : Reply) → 4 ≡ code_of (reply_program r) → (a : Answer Unit Unit) × (r ≡ Stored a)
 stored_reply (Stored a) e = (a, refl)
-stored_reply (Bytes a) e = absurd (omega (arith, e))
-stored_reply (Hashed a) e = absurd (omega (arith, e))
-stored_reply (Made a) e = absurd (omega (arith, e))
-stored_reply (Named a) e = absurd (omega (arith, e))
-stored_reply (Changed a) e = absurd (omega (arith, e))
+stored_reply _ e = absurd (omega (arith, e))
 
 pub changed_reply : (r : Reply) → 5 ≡ code_of (reply_program r) → (a : Answer Committed Unit) × (r ≡ Changed a)
 changed_reply (Changed a) e = (a, refl)
-changed_reply (Bytes a) e = absurd (omega (arith, e))
-changed_reply (Hashed a) e = absurd (omega (arith, e))
-changed_reply (Made a) e = absurd (omega (arith, e))
-changed_reply (Named a) e = absurd (omega (arith, e))
-changed_reply (Stored a) e = absurd (omega (arith, e))
+changed_reply _ e = absurd (omega (arith, e))
 
 pub read_reply : (r : Reply) → 6 ≡ code_of (reply_program r) → (a : Answer Piece (Option Attr)) × (r ≡ Bytes a)
 read_reply (Bytes a) e = (a, refl)
-read_reply (Hashed a) e = absurd (omega (arith, e))
-read_reply (Made a) e = absurd (omega (arith, e))
-read_reply (Named a) e = absurd (omega (arith, e))
-read_reply (Stored a) e = absurd (omega (arith, e))
-read_reply (Changed a) e = absurd (omega (arith, e))
+read_reply _ e = absurd (omega (arith, e))

@@ -1,30 +1,14 @@
 -- What a client's step for a command says: its own answer, and what it leaves of the local content, or that it asks the server.
 use Rattle.std.proofs.Common.{◌≡◌, ℕ, zero, suc, ◌+◌, ◌≤◌, List, [], ◌∷◌, length, Option, Some, None, Bool, true, false, refl, sym, ap, ◌∙◌, subst, arith}
-use Rattle.std.proofs.lemmas.Bool.Decides.{nat_tests}
-use Rattle.std.specs.Prelude.{◌==◌, nat_lt, is_some, option_map, if◌then◌else◌}
-use Rattle.sha1.specs.Sha1.{sha1}
-use Rattle.command_text.specs.Content.{content_length, content_bytes}
-use Rattle.command_text.specs.declared.content.Part.{Part}
-use Rattle.command_text.specs.declared.command.Command.{Command}
 use Rattle.command_text.specs.declared.command.Command.TheVariants as command
-use Rattle.command_text.proofs.Contents.{content_size}
 use Rattle.open_close.specs.State as client
-use Rattle.open_close.specs.Counting.{ends}
-use Rattle.open_close.specs.Local.{local_most, written_size, written, truncated, part_of}
-use Rattle.open_close.specs.Opening.{calls_most}
-use Rattle.open_close.specs.Step.{may_ask, asks_hashes, opens_if, opens, on_local, done_with, too_big, edits, writes, truncates, reads, abandons, asks_temp, closes, command_step}
-use Rattle.open_close.specs.declared.step.ClientStep.{ClientStep}
-use Rattle.open_close.specs.declared.step.Outcome.{Outcome}
 use Rattle.open_close.specs.declared.step.Outcome.TheVariants as outcome
-use Rattle.open_close.specs.declared.task.Local.{Local}
-use Rattle.open_close.specs.declared.task.Task.{Task}
-use Rattle.open_close.proofs.Locals.{local_at_itself, local_at_another, without_at_itself, without_at_another}
 use Rattle.register_model.specs.declared.op.Outcome.{Outcome as Told}
 use Rattle.register_model.specs.declared.op.Outcome.TheVariants as told
-use Rattle.trace_replay.specs.Commands.{file_of}
-use Rattle.trace_replay.specs.Ops.{told_of, value_of}
-use Rattle.trace_replay.specs.Causes.{leaves, own_answer, free_answer, unless_asks, write_outcome, sized_outcome}
+use Rattle.trace_replay.specs.Causes.{free_answer}
+use Rattle.kept_promise.proofs.Common.{nat_tests, ◌==◌, nat_lt, is_some, option_map, if◌then◌else◌, sha1, content_length, content_bytes, Part, Command, content_size, ends, local_most, written_size, written, truncated, part_of, calls_most, may_ask, asks_hashes, opens_if, opens, on_local, done_with, too_big, edits, writes, truncates, reads, abandons, asks_temp, closes, command_step, ClientStep, Outcome, Local, Task, local_at_itself, local_at_another, without_at_itself, without_at_another, file_of, told_of, value_of, leaves, own_answer, unless_asks, write_outcome, sized_outcome}
 use Rattle.kept_promise.proofs.Does.{own_ended}
+use Rattle.kept_promise.proofs.Naming.{some_call}
 use Rattle.kept_promise.proofs.Deeds.{local_of}
 
 -- ---- what is said
@@ -56,9 +40,6 @@ IsAnswered s d r = Stays s r.0 × AnswersBy s d r (own_answer false (may_ask s) 
 
 stays : (s : client.State) → Stays s s
 stays s = (omega arith, refl)
-
-one_more : 1 ≤ calls_most
-one_more = omega arith
 
 -- nothing is left but the answer
 so : (s : client.State) (d : Command) (o : Outcome) (own : Told) → told_of o ≡ own → ((v : List ℕ) → value_of v s o ≡ v) → ((v : List ℕ) (l : Option (List ℕ)) → leaves d own v l ≡ l) → AnswersSo s d (s, ends o 0 0) own
@@ -155,7 +136,7 @@ opened_answer s file free = subst (λ (t : Option Task). IsAnswered s (command.O
     by None = ask (may_ask s)
       where
         ask : (b : Bool) → (let r = asks_hashes s file b in Stays s r.0 × AnswersBy s (command.Open file) r (unless_asks b))
-        ask true = ((let o = one_more in omega (arith, o), refl), (refl, refl, tt))
+        ask true = ((let o = some_call in omega (arith, o), refl), (refl, refl, tt))
         ask false = (stays s, so s (command.Open file) outcome.NoLink told.NoLink refl (λ v. refl) (λ v l. refl))
 
 closed_answer : (s : client.State) (file : ℕ) (l : Local) → local_of s file ≡ Some l.bytes → (let r = closes s file l in Stays s r.0 × AnswersBy s (command.Close file) r (unless_asks (may_ask s)))
@@ -165,7 +146,7 @@ closed_answer s file l at = ask (may_ask s)
     value = at ∙ ap (λ z. Some z) (sym (ap (λ (o : Option (List ℕ)). Rattle.std.specs.Prelude.unwrap_or o []) at))
 
     ask : (b : Bool) → (let r = asks_temp s file b in Stays s r.0 × AnswersBy s (command.Close file) r (unless_asks b))
-    ask true = ((let o = one_more in omega (arith, o), refl), (refl, refl, value))
+    ask true = ((let o = some_call in omega (arith, o), refl), (refl, refl, value))
     ask false = (stays s, so s (command.Close file) outcome.NoLink told.NoLink refl (λ v. refl) (λ v l. refl))
 
 -- ---- any command

@@ -1,20 +1,9 @@
 -- Messages that are on their way, in any number, are taken one after the other, wherever deliveries cut them.
-use Rattle.std.proofs.Common.{◌≡◌, ℕ, suc, ◌+◌, ◌≤◌, List, [], ◌∷◌, ◌++◌, length, take, drop, Option, Some, None, refl, sym, ap, ◌∙◌, subst, arith, append_assoc}
-use Rattle.std.proofs.lemmas.List.{take-append-drop}
-use Rattle.std.proofs.lemmas.List.Elements.{All-map}
-use Rattle.std.specs.Prelude.{All, map}
-use Rattle.rpc_record.specs.declared.records.Fed.{Fed}
-use Rattle.rpc_record.specs.declared.refusal.Refusal.{Refusal}
-use Rattle.rpc_record.specs.Records.{Unread, Begun, Parts, Came, record_of, split, fed, stream}
-use Rattle.rpc_record.proofs.Streaming.{stream_comes}
-use Rattle.wire.specs.Message.{MessageFits, message_spell}
-use Rattle.wire.specs.declared.message.Message.{Message}
-use Rattle.trace_replay.specs.Core.{Event, Event.Serves, Event.Hears, numbered}
-use Rattle.trace_replay.specs.World.{World, Wire, bytes_of}
-use Rattle.trace_replay.specs.Delivery.{all_happened, up_at, up_some, down_at, down_some}
-use Rattle.kept_promise.specs.Whole.{up_with, down_with}
-use Rattle.kept_promise.specs.Arrivals.{AreComing, TakesUp, TakesDown, UpsComeInOrder, DownsComeInOrder}
-use Rattle.kept_promise.proofs.RunsDeliveries.{Parted, parted, fits_short}
+use Rattle.std.proofs.Common.{◌≡◌, ℕ, ◌≤◌, List, [], ◌∷◌, ◌++◌, length, take, drop, Option, None, refl, sym, ap, ◌∙◌, subst, arith, append_assoc, map}
+use Rattle.rpc_record.specs.Records.{Begun}
+use Rattle.kept_promise.specs.Arrivals.{AreComing, UpsComeInOrder, DownsComeInOrder}
+use Rattle.kept_promise.proofs.Common.{take-append-drop, All-map, All, Fed, Refusal, Unread, Parts, Came, record_of, split, fed, stream, stream_comes, MessageFits, message_spell, Message, Event, Event.Serves, Event.Hears, bytes_of, all_happened, up_at, down_at, up_with, down_with}
+use Rattle.kept_promise.proofs.RunsDeliveries.{parted, fits_short, drop_front}
 
 abbrev ended : Parts → Unread × Fed
 ended p = (record { rest = p.rest; spoilt = p.spoilt }, record { records = p.records; spoilt = p.spoilt })
@@ -46,10 +35,6 @@ takes end queue count ms fits coming =
 take_front : {A : Type 0} (xs ys : List A) → take (length xs) (xs ++ ys) ≡ xs
 take_front [] ys = refl
 take_front (x ∷ xs) ys = ap (λ zs. x ∷ zs) (take_front xs ys)
-
-drop_front : {A : Type 0} (xs ys : List A) → drop (length xs) (xs ++ ys) ≡ ys
-drop_front [] ys = refl
-drop_front (x ∷ xs) ys = drop_front xs ys
 
 front_within : {A : Type 0} (xs ys : List A) → length xs ≤ length (xs ++ ys)
 front_within [] ys = omega arith

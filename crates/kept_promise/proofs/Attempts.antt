@@ -1,28 +1,13 @@
 -- An attempt to fetch a file: its chunks, as they are told, and what another version makes of it.
-use Rattle.std.proofs.Common.{◌⊎◌, inl, inr, ◌≡◌, ℕ, zero, suc, ◌+◌, ◌*◌, ◌<◌, ◌≤◌, List, [], ◌∷◌, ◌++◌, length, Option, Some, None, Bool, true, false, refl, sym, ap, ◌∙◌, subst, arith, eqb-true, eq-eqb}
-use Rattle.std.proofs.lemmas.Bool.Decides.{nat_tests}
+use Rattle.std.proofs.Common.{◌⊎◌, inl, inr, ◌≡◌, ℕ, zero, suc, ◌+◌, ◌*◌, ◌<◌, ◌≤◌, List, [], ◌∷◌, ◌++◌, length, Option, Some, None, Bool, true, false, refl, sym, ap, ◌∙◌, subst, arith, map, take, drop}
 use Rattle.std.proofs.lemmas.List.{length-append}
-use Rattle.std.specs.Prelude.{slice_get, map, take, drop, nat_le, ◌==◌, Contains}
-use Rattle.chunk_cut.specs.Chunks.{chunks_of}
-use Rattle.chunk_cut.specs.Places.{chunk_bytes, end_of}
-use Rattle.chunk_cut.specs.declared.chunk.Chunk.{Chunk}
-use Rattle.hash_calls.specs.declared.call.Hashes.{Hashes}
-use Rattle.server_core.specs.Answers.{hashes_of, told_chunks, pair_of, is_end}
-use Rattle.server_core.specs.declared.file.File.{File}
-use Rattle.open_close.specs.Opening.{fetch_of, with_hashes, slots_bytes}
-use Rattle.open_close.specs.Shape.{broken_of, with_pairs}
-use Rattle.open_close.specs.declared.task.Fetch.{Fetch}
-use Rattle.trace_replay.specs.declared.link.Taken.{Taken}
-use Rattle.open_close.specs.declared.task.Stage.{Stage}
-use Rattle.trace_replay.specs.Ops.{taken_at}
-use Rattle.trace_replay.specs.Book.{Book, Or, value_at, version_at}
-use Rattle.trace_replay.specs.Trail.{hashed_of}
-use Rattle.trace_replay.specs.Causes.{Tried}
-use Rattle.kept_promise.proofs.Lists.{some_is, nothing_there, take_whole}
+use Rattle.kept_promise.proofs.Common.{nat_tests, slice_get, nat_le, Contains, chunks_of, chunk_bytes, end_of, Chunk, Hashes, hashes_of, told_chunks, pair_of, is_end, fetch_of, with_hashes, slots_bytes, broken_of, with_pairs, Fetch, TakenCall, Stage, taken_at, Book, Or, value_at, version_at, hashed_of, Tried}
+use Rattle.kept_promise.proofs.Lists.{some_is, nothing_there, take_whole, of_both}
 use Rattle.kept_promise.proofs.Marks.{marks, same_version}
 use Rattle.kept_promise.proofs.Growth.{seen_in, value_seen, version_seen, or_both, or_map}
 use Rattle.kept_promise.proofs.Messages.{Job, IsTold, IsTried, Trying, IsHashed, IsFetch, range_from}
 use Rattle.kept_promise.proofs.Chunks.{Row, row_of, tells_next, tells_end, pairs_tell, nothing_broken, slots_are_whole}
+use Rattle.kept_promise.proofs.CloseSteps.{chunks_few}
 
 -- ---- chunks
 
@@ -36,9 +21,6 @@ few_from x s (c ∷ d ∷ cs) r = by r.0.long (few_from x (c.start + c.len) (d �
     by (inl e) h = let at = r.0.start in let w = r.1.0.within in let p = r.1.0.some in absurd (omega (arith, e, at, w, p))
     by (inr le) h = let at = r.0.start in omega (arith, le, at, h)
 
-pub few : (x : List ℕ) → length x ≤ 67108864 → length (chunks_of x) ≤ 32769
-few x le = let h = few_from x 0 (chunks_of x) (row_of x) in omega (arith, h, le)
-
 take_past : {A : Type 0} (i : ℕ) (xs : List A) → length xs ≤ i → take i xs ≡ xs
 take_past zero [] le = refl
 take_past zero (x ∷ xs) le = absurd (omega (arith, le))
@@ -49,11 +31,6 @@ pub take_split : {A : Type 0} (i m : ℕ) (xs : List A) → take (i + m) xs ≡ 
 take_split zero m xs = let e : 0 + m ≡ m = omega arith in ap (λ n. take n xs) e
 take_split (suc i) m [] = let e : suc i + m ≡ suc (i + m) = omega arith in ap (λ n. take n []) e ∙ sym (take_past m [] (omega arith))
 take_split (suc i) m (x ∷ xs) = let e : suc i + m ≡ suc (i + m) = omega arith in ap (λ n. take n (x ∷ xs)) e ∙ ap (λ l. x ∷ l) (take_split i m xs)
-
-pub of_both : {A : Type 0} (us bs : List A) (k : ℕ) (c : A) → slice_get (us ++ bs) k ≡ Some c → (slice_get us k ≡ Some c) ⊎ ((m : ℕ) × (slice_get bs m ≡ Some c))
-of_both [] bs k c e = inr (k, e)
-of_both (a ∷ us) bs zero c e = inl e
-of_both (a ∷ us) bs (suc k) c e = of_both us bs k c e
 
 pub take_count : {A : Type 0} (i : ℕ) (xs : List A) → i ≤ length xs → length (take i xs) ≡ i
 take_count zero xs le = refl
@@ -78,7 +55,7 @@ one_content book f p q a b at is same = by (nat_le p q) refl
 
 -- ---- its chunks are told
 
-pub fetch_first : (book : Book) (taken : List Taken) (j : Job) (x tries : ℕ) (h : Hashes) → IsHashed book taken j x 0 h → IsTried book taken j x tries → IsFetch book taken j (fetch_of tries x h)
+pub fetch_first : (book : Book) (taken : List TakenCall) (j : Job) (x tries : ℕ) (h : Hashes) → IsHashed book taken j x 0 h → IsTried book taken j x tries → IsFetch book taken j (fetch_of tries x h)
 fetch_first book taken j x tries h is tried = record {
   content = is.file.content;
   told = subst (λ v. IsTold book taken j x (Some is.file.content) v) (sym (ap (λ (z : Hashes). z.version) is.is)) is.told;
@@ -92,13 +69,13 @@ fetch_first book taken j x tries h is tried = record {
   hashed = λ k c e. nothing_there c e;
 }
 
-pub record Next (book : Book) (taken : List Taken) (j : Job) (f : Fetch) (h : Hashes) : Type 0 where
+pub record Next (book : Book) (taken : List TakenCall) (j : Job) (f : Fetch) (h : Hashes) : Type 0 where
   pub broken : broken_of f h ≡ None
   pub fetch : IsFetch book taken j (with_hashes f h)
   pub whole : h.eof ≡ true → (with_hashes f h).chunks ≡ chunks_of fetch.content
   pub more : h.eof ≡ false → length f.chunks < length (with_hashes f h).chunks
 
-pub fetch_next : (book : Book) (taken : List Taken) (j : Job) (x : ℕ) (f : Fetch) (h : Hashes) → IsFetch book taken j f → IsHashed book taken j x (end_of f.chunks) h → h.version ≡ f.version → Next book taken j f h
+pub fetch_next : (book : Book) (taken : List TakenCall) (j : Job) (x : ℕ) (f : Fetch) (h : Hashes) → IsFetch book taken j f → IsHashed book taken j x (end_of f.chunks) h → h.version ≡ f.version → Next book taken j f h
 fetch_next book taken j x f h fact is same = by (nat_le (length (chunks_of fact.content)) (fact.count + 1024)) refl
   where
     v : List ℕ
@@ -159,8 +136,8 @@ fetch_next book taken j x f h fact is same = by (nat_le (length (chunks_of fact.
         not_both : (b : Bool) → b ≡ true → b ≡ false → ⊥
         not_both b e d = absurd cc
 
-pub fetch_few : (book : Book) (taken : List Taken) (j : Job) (f : Fetch) → IsFetch book taken j f → length f.chunks ≤ 32769
-fetch_few book taken j f h = let a = ap length h.chunks ∙ take_count h.count (chunks_of h.content) h.within in let b = h.within in let c = few h.content h.short in omega (arith, a, b, c)
+pub fetch_few : (book : Book) (taken : List TakenCall) (j : Job) (f : Fetch) → IsFetch book taken j f → length f.chunks ≤ 32769
+fetch_few book taken j f h = let a = ap length h.chunks ∙ take_count h.count (chunks_of h.content) h.within in let b = h.within in let c = chunks_few h.content h.short in omega (arith, a, b, c)
 
 -- ---- all have come
 
@@ -182,8 +159,6 @@ came_or book x (c ∷ cs) (o ∷ slots) came =
 
 came_length : (book : Book) (x : List ℕ) (s : ℕ) (cs : List Chunk) (slots : List (Option (List ℕ))) → Row x s cs → length slots ≡ length cs → Came book x cs slots → length (slots_bytes slots) + s ≡ length x
 came_length book x s [] [] r e came = omega (arith, r)
-came_length book x s [] (o ∷ slots) r e came = absurd (omega (arith, e))
-came_length book x s (c ∷ cs) [] r e came = absurd (omega (arith, e))
 came_length book x s (c ∷ cs) (o ∷ slots) r e came =
     let h = came 0 c refl in
     let later = came_length book x (c.start + c.len) cs slots r.1 (omega (arith, e)) (λ k d at. came (suc k) d at) in
@@ -191,6 +166,7 @@ came_length book x s (c ∷ cs) (o ∷ slots) r e came =
     let len = h.3 in
     let at = r.0.start in
     omega (arith, later, first, len, at)
+came_length book x s _ _ r e came = absurd (omega (arith, e))
 
 pub whole_length : (book : Book) (x : List ℕ) (slots : List (Option (List ℕ))) → length slots ≡ length (chunks_of x) → Came book x (chunks_of x) slots → length (slots_bytes slots) ≡ length x
 whole_length book x slots e came = let h = came_length book x 0 (chunks_of x) slots (row_of x) e came in omega (arith, h)
@@ -200,11 +176,11 @@ whole_value book x slots e came = or_map book _ _ (λ all. slots_are_whole x slo
 
 -- ---- another version
 
-same_moment : (taken : List Taken) (x p q : ℕ) → taken_at taken x ≡ Some p → taken_at taken x ≡ Some q → p ≡ q
+same_moment : (taken : List TakenCall) (x p q : ℕ) → taken_at taken x ≡ Some p → taken_at taken x ≡ Some q → p ≡ q
 same_moment taken x p q a b = some_is p q (sym a ∙ b)
 
 -- an attempt that met another version at a later moment
-pub tried_again : (book : Book) (taken : List Taken) (j : Job) (s : Stage) (f : Fetch) (last : ℕ) → (h : IsFetch book taken j f) → h.told.moment < last → last ≤ book.steps → (version_at book j.file last ≡ f.version → ⊥) → Trying book (record { place = j.place; file = j.file; stage = s }) (f.tries + 1)
+pub tried_again : (book : Book) (taken : List TakenCall) (j : Job) (s : Stage) (f : Fetch) (last : ℕ) → (h : IsFetch book taken j f) → h.told.moment < last → last ≤ book.steps → (version_at book j.file last ≡ f.version → ⊥) → Trying book (record { place = j.place; file = j.file; stage = s }) (f.tries + 1)
 tried_again book taken j s f last h lt le apart =
     let n = h.tried.tries_is in
     let same = same_moment taken f.first h.tried.moment h.told.moment h.tried.was h.told.was in

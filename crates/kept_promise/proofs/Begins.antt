@@ -1,37 +1,22 @@
 -- An operation begins that asks the server: its first call goes up.
-use Rattle.std.proofs.Common.{◌⊎◌, inl, inr, ◌≡◌, ℕ, zero, suc, ◌+◌, ◌<◌, ◌≤◌, List, [], ◌∷◌, ◌++◌, length, Option, Some, None, Bool, true, false, refl, sym, ap, ◌∙◌, subst, arith, eq-eqb, ne_eqb}
-use Rattle.std.proofs.lemmas.Bool.Decides.{nat_tests}
-use Rattle.std.specs.Prelude.{slice_get, map, not, cond, ◌==◌, nat_le, IsSome}
-use Rattle.wire.specs.declared.message.Pending.{Pending}
-use Rattle.server_core.specs.State as server
-use Rattle.server_core.specs.Temps.{Temp, key_of}
-use Rattle.server_core.specs.declared.change.Change.{Change}
+use Rattle.std.proofs.Common.{◌⊎◌, inl, inr, ◌≡◌, ℕ, zero, suc, ◌+◌, ◌<◌, ◌≤◌, List, [], ◌∷◌, ◌++◌, length, Option, Some, None, Bool, true, false, refl, sym, ap, ◌∙◌, subst, arith, eq-eqb, ne_eqb, map, IsSome}
 use Rattle.open_close.specs.State as client
-use Rattle.open_close.specs.declared.task.Stage.{Stage}
 use Rattle.open_close.specs.declared.task.Stage.TheVariants as stage
-use Rattle.open_close.specs.declared.task.Fetch.{Fetch}
-use Rattle.chunk_cut.specs.declared.chunk.Chunk.{Chunk}
-use Rattle.register_model.specs.Register.{content_of}
-use Rattle.register_model.specs.declared.op.Op.{Op}
 use Rattle.register_model.specs.declared.op.Outcome.TheVariants as told
 use Rattle.register_model.specs.declared.op.Word.TheVariants as words
-use Rattle.trace_replay.specs.declared.link.Taken.{Taken}
-use Rattle.trace_replay.specs.Core.{Core, Seat, Session, numbered, with_numbered}
-use Rattle.trace_replay.specs.World.{unless}
-use Rattle.trace_replay.specs.Book.{Book}
-use Rattle.kept_promise.specs.Talk.{Call, Call.Hash, Call.Read, Call.Make, Call.Name, Call.Send, Call.Commit, Reply, Reply.Hashed, Reply.Bytes, Reply.Made, Reply.Named, Reply.Stored, Reply.Changed, Ask, Told, Queue, told_message}
+use Rattle.kept_promise.proofs.Common.{nat_tests, slice_get, cond, ◌==◌, Pending, Temp, key_of, Change, Stage, content_of, Op, TakenCall, Core, Seat, Session, numbered, unless, Book, Call, Call.Hash, Call.Read, Call.Send, Call.Commit, Reply, Reply.Hashed, Reply.Bytes, Reply.Changed, Ask, Queue}
 use Rattle.kept_promise.proofs.Statements.{CallFits}
-use Rattle.kept_promise.proofs.Lists.{some_is, nothing_there, same_or_not, at_end, of_appended, within}
+use Rattle.kept_promise.proofs.Lists.{some_is, nothing_there, same_or_not, at_end, of_appended, false_and_true}
 use Rattle.kept_promise.proofs.Keys.{times, times_append, own, on_way, ask_key, change_key, told_key, pending_key, IsOurs, call_ours}
-use Rattle.kept_promise.proofs.Messages.{Job, job, job_of, stage_word, AllAsks, AllTolds, Rising, hash_offset, read_chunk, CallOf, IsAsked, AnswerOf, IsAnswer, HasFetch, FetchOf, IsCommit, CommitOf, IsPending, IsPiece, PieceOf, TempUnder, AreParts, CloseOf, Trying}
+use Rattle.kept_promise.proofs.Messages.{Job, job, stage_word, AllAsks, Rising, hash_offset, read_chunk, CallOf, IsAsked, AnswerOf, IsAnswer, FetchOf, IsCommit, CommitOf, IsPending, IsPiece, PieceOf, TempUnder, AreParts, CloseOf, Trying}
 use Rattle.kept_promise.proofs.Rights.{IsRight}
-use Rattle.kept_promise.proofs.History.{Goes, Still, onward, goes_appended, still_appended}
-use Rattle.kept_promise.proofs.Later.{all_asks, all_tolds, SameView, same_view}
-use Rattle.kept_promise.proofs.Turns.{Around, Turn, turned_core, kept_turn}
-use Rattle.kept_promise.proofs.Taken.{asks_append, rising_append, times_map_append}
+use Rattle.kept_promise.proofs.History.{onward, goes_appended, still_appended}
+use Rattle.kept_promise.proofs.Later.{all_asks, all_tolds, same_view}
+use Rattle.kept_promise.proofs.Turns.{Around, turned_core, kept_turn}
+use Rattle.kept_promise.proofs.Taken.{rising_append, times_map_append}
 use Rattle.kept_promise.proofs.Orderly.{locals_of, InPlace}
-use Rattle.kept_promise.proofs.Ordered.{BeginsWith, orderly_clear, orderly_begun}
-use Rattle.kept_promise.proofs.Facts.{IsServer, IsBalanced, IsTalk, IsSession, IsOf, IsSeat, HasXids, IsKept, commits_in}
+use Rattle.kept_promise.proofs.Ordered.{BeginsWith, orderly_clear, orderly_begun, place_more}
+use Rattle.kept_promise.proofs.Facts.{IsBalanced, IsTalk, IsOf, IsSeat, HasXids, IsKept, commits_in}
 use Rattle.kept_promise.proofs.Takes.{server_still}
 use Rattle.kept_promise.proofs.Heard.{ask_pending}
 use Rattle.kept_promise.proofs.Steps.{no_commits, asks_below, tolds_below}
@@ -47,11 +32,7 @@ free_commits book closing cut o contents (a ∷ us) uncut free all = by a.call a
   where
     by : (c : Call) → CommitOf book closing cut o contents a.xid c → commits_in us ≡ 0 → commits_if c (commits_in us) ≡ 0
     by (Commit temp file size) h none = nothing_there _ (sym free ∙ h.0.waited uncut)
-    by (Hash f p) h none = none
-    by (Read f c) h none = none
-    by (Make m f) h none = none
-    by (Name m c) h none = none
-    by (Send m s b) h none = none
+    by _ h none = none
 
 free_waiting : (book : Book) (closing : Option ℕ) (cut : Bool) (o : Option Job) (cs : List Change) → cut ≡ false → o ≡ None → ((i : ℕ) (d : Change) → slice_get cs i ≡ Some d → IsPending book closing cut o d.xid d.file d.content) → cs ≡ []
 free_waiting book closing cut o [] uncut free all = refl
@@ -73,7 +54,7 @@ call_first next j s a f is y (Hash g o) lt = λ i p e w. absurd (f.hash y p lt (
 call_first next j s a f is y (Read g d) lt = λ i p e w. nothing_there p (sym (f.read y) ∙ ap (λ (z : Stage). read_chunk z y) (sym is) ∙ ap (λ (z : Job). read_chunk z.stage y) (some_is j i e) ∙ w)
 call_first next j s a f is y _ lt = tt
 
-answer_first : (book : Book) (taken : List Taken) (closing : Option ℕ) (next : ℕ) (j : Job) (s : Stage) (a : Ask) → First next s a → j.stage ≡ s → (y : ℕ) (r : Reply) → y < next → AnswerOf book taken closing (Some j) y r
+answer_first : (book : Book) (taken : List TakenCall) (closing : Option ℕ) (next : ℕ) (j : Job) (s : Stage) (a : Ask) → First next s a → j.stage ≡ s → (y : ℕ) (r : Reply) → y < next → AnswerOf book taken closing (Some j) y r
 answer_first book taken closing next j s a f is y (Hashed h) lt = λ i p e w. absurd (f.hash y p lt (ap (λ (z : Stage). hash_offset z y) (sym is) ∙ ap (λ (z : Job). hash_offset z.stage y) (some_is j i e) ∙ w))
 answer_first book taken closing next j s a f is y (Bytes h) lt = λ i g c e at w. nothing_there c (sym (f.read y) ∙ ap (λ (z : Stage). read_chunk z y) (sym is) ∙ ap (λ (z : Job). read_chunk z.stage y) (some_is j i e) ∙ w)
 answer_first book taken closing next j s a f is y (Changed h) lt = λ i e w. absurd (f.commit y (sym is ∙ ap (λ (z : Job). z.stage) (some_is j i e) ∙ w))
@@ -81,10 +62,6 @@ answer_first book taken closing next j s a f is y _ lt = tt
 
 map_asks : (P Q : Ask → Type 0) → ((a : Ask) → P a → Q a) → (us : List Ask) → AllAsks P us → AllAsks Q us
 map_asks P Q f us h = all_asks P Q f us h
-
-unless_asks : (P : Ask → Type 0) (hung : Bool) (us : List Ask) (a : Ask) → AllAsks P us → P a → AllAsks P (unless hung us (a ∷ []))
-unless_asks P true us a h p = h
-unless_asks P false us a h p = asks_append P us (a ∷ []) h (p, tt)
 
 unless_rising : (hung : Bool) (n : ℕ) (us : List Ask) (a : Ask) (top : ℕ) → Rising n us top → a.xid ≡ top → Rising n (unless hung us (a ∷ [])) (top + 1)
 unless_rising true n us a top r e = wider n us r
@@ -101,11 +78,7 @@ unless_commits false (u ∷ us) a e f = by u.call e (unless_commits false us a)
   where
     by : (c : Call) → commits_if c (commits_in us) ≡ 0 → (commits_in us ≡ 0 → commits_in (a ∷ []) ≡ 0 → commits_in (us ++ a ∷ []) ≡ 0) → commits_if c (commits_in (us ++ a ∷ [])) ≡ 0
     by (Commit temp file size) e later = absurd (omega (arith, e))
-    by (Hash g o) e later = later e f
-    by (Read g c) e later = later e f
-    by (Make m g) e later = later e f
-    by (Name m c) e later = later e f
-    by (Send m s b) e later = later e f
+    by _ e later = later e f
 
 balanced_first : (n : ℕ) (w : List Change) (q : Queue) (hung : Bool) (next : ℕ) (calls : List Pending) (a : Ask) → a.xid ≡ next → IsBalanced n w q hung next calls → IsBalanced n w (record { ups = unless hung q.ups (a ∷ []); downs = q.downs }) hung (next + 1) (ask_pending a ∷ calls)
 balanced_first n w q hung next calls a e h = record {
@@ -166,11 +139,7 @@ piece_else f n v a lt h = by a.call lt h
   where
     by : (c : Call) → TempUnder n c → PieceOf f c → PieceOf (with_content f n v) c
     by (Send m s b) lt h = subst (λ (l : List ℕ). b ≡ Rattle.std.specs.Prelude.take (length b) (Rattle.std.specs.Prelude.drop s l)) (sym (content_else f n v m (λ e. omega (arith, lt, e)))) h
-    by (Hash g o) lt h = tt
-    by (Read g c) lt h = tt
-    by (Make m g) lt h = tt
-    by (Name m c) lt h = tt
-    by (Commit m g s) lt h = tt
+    by _ lt h = tt
 
 pieces_else : (f : ℕ → List ℕ) (n : ℕ) (v : List ℕ) (us : List Ask) → AllAsks (λ a. TempUnder n a.call) us → AllAsks (IsPiece f) us → AllAsks (IsPiece (with_content f n v)) us
 pieces_else f n v [] lt h = tt
@@ -181,12 +150,9 @@ under_more n m le [] h = tt
 under_more n m le (a ∷ us) h = (by a.call h.0, under_more n m le us h.1)
   where
     by : (c : Call) → TempUnder n c → TempUnder m c
-    by (Make t f) lt = omega (arith, lt, le)
-    by (Name t c) lt = omega (arith, lt, le)
-    by (Send t s b) lt = omega (arith, lt, le)
-    by (Commit t f s) lt = omega (arith, lt, le)
     by (Hash g o) lt = tt
     by (Read g c) lt = tt
+    by _ lt = omega (arith, lt, le)
 
 -- the client's session, and that nothing is under way
 pub record Free (book : Book) (k : Core) (qs : List Queue) (c n : ℕ) (x : Session) (q : Queue) (seat : Seat) : Type 0 where
@@ -219,7 +185,7 @@ pub record Starts (book : Book) (k : Core) (qs : List Queue) (c n : ℕ) (x : Se
   pub piece : (f : ℕ → List ℕ) → IsPiece f a
   pub temps : seat.client.next_temp ≤ temp
   pub short : length value ≤ 67108864
-  pub fetch : (taken : List Taken) (j : Job) → FetchOf (onward book 1 (book.ops ++ new ∷ [])) taken j s
+  pub fetch : (taken : List TakenCall) (j : Job) → FetchOf (onward book 1 (book.ops ++ new ∷ [])) taken j s
   pub closes : (contents : ℕ → List ℕ) → contents seat.client.next_temp ≡ value → CloseOf (onward book 1 (book.ops ++ new ∷ [])) closing contents temp (record { place = length book.ops; file = file; stage = s }) (client.local_bytes seat.client.opened file) s
   pub trying : (m y : ℕ) → s ≡ stage.Hashing m y → Trying (onward book 1 (book.ops ++ new ∷ [])) (record { place = length book.ops; file = file; stage = s }) m
   pub xids : HasXids (seat.client.next + 1) s
@@ -270,16 +236,16 @@ kept_begins book k qs c n x q seat new temp file s a closing value seats session
         seat = d;
         owner = ap (numbered seats) g.owner ∙ seat_around.there;
         here = λ u. (g.newest, g.linked);
-        shut = λ cut. absurd (not_both x.cut g.uncut cut);
+        shut = λ cut. absurd (false_and_true x.cut g.uncut cut);
         lost = λ hung. absurd_hung hung;
         stands_is = h.stands_is;
-        ups_fit = unless_asks (λ u. CallFits u.xid u.call) x.hung q.ups a h.ups_fit w.fits;
+        ups_fit = place_more (λ u. CallFits u.xid u.call) x.hung q.ups a h.ups_fit w.fits;
         downs_fit = h.downs_fit;
         talk = λ u. record {
           floor = talk.floor;
           under = talk.under;
           rising = unless_rising x.hung talk.floor q.ups a seat.client.next talk.rising w.first.xid;
-          asked = unless_asks (IsAsked (Some j)) x.hung q.ups a (all_asks (λ v. v.xid < seat.client.next) (IsAsked (Some j)) (λ v lt. call_first seat.client.next j s a w.first refl v.xid v.call lt) q.ups (asks_below talk.floor q.ups seat.client.next talk.rising)) (w.asked);
+          asked = place_more (IsAsked (Some j)) x.hung q.ups a (all_asks (λ v. v.xid < seat.client.next) (IsAsked (Some j)) (λ v lt. call_first seat.client.next j s a w.first refl v.xid v.call lt) q.ups (asks_below talk.floor q.ups seat.client.next talk.rising)) (w.asked);
           answers = all_tolds (λ v. v.xid < seat.client.next) (IsAnswer more x.taken closing (Some j)) (λ v lt. answer_first more x.taken closing seat.client.next j s a w.first refl v.xid v.reply lt) q.downs (tolds_below n k.server.waiting q x.hung seat.client.next (client.calls_of seat.client) talk.balanced);
           fetch = λ i e. subst (λ (z : Job). FetchOf more x.taken z z.stage) (some_is j i e) (w.fetch x.taken j);
           balanced = subst (IsBalanced n k.server.waiting (record { ups = ups; downs = q.downs }) x.hung (seat.client.next + 1)) (sym calls) (balanced_first n k.server.waiting q x.hung seat.client.next seat.client.forgotten a w.first.xid (subst (IsBalanced n k.server.waiting q x.hung seat.client.next) forgot talk.balanced));
@@ -288,9 +254,9 @@ kept_begins book k qs c n x q seat new temp file s a closing value seats session
         contents = contents;
         lengths = λ m. short_by (m == seat.client.next_temp) m h.lengths;
         commits = no_commits more closing x.cut (Some j) contents ups (unless_commits x.hung q.ups a none_up w.first.none);
-        pieces = unless_asks (IsPiece contents) x.hung q.ups a (pieces_else h.contents seat.client.next_temp value q.ups below.0 h.pieces) (w.piece contents);
+        pieces = place_more (IsPiece contents) x.hung q.ups a (pieces_else h.contents seat.client.next_temp value q.ups below.0 h.pieces) (w.piece contents);
         temps = λ i m e lt b key. let t = h.temps i m e lt b key in let less = below.1 i m e lt b key in (subst (λ l. AreParts l e.1.pieces) (sym (content_else h.contents seat.client.next_temp value m (λ same. omega (arith, same, less)))) t.0, t.1);
-        temps_below = λ u. (unless_asks (λ v. TempUnder temp v.call) x.hung q.ups a (under_more seat.client.next_temp temp w.temps q.ups below.0) w.under, λ i m e lt b key. let less = below.1 i m e lt b key in let le = w.temps in omega (arith, less, le));
+        temps_below = λ u. (place_more (λ v. TempUnder temp v.call) x.hung q.ups a (under_more seat.client.next_temp temp w.temps q.ups below.0) w.under, λ i m e lt b key. let less = below.1 i m e lt b key in let le = w.temps in omega (arith, less, le));
         closes = λ u i e. subst (λ (z : Job). CloseOf more closing contents temp z (client.local_bytes seat.client.opened z.file) z.stage) (some_is j i e) (w.closes contents (content_at h.contents seat.client.next_temp value));
         pending = λ i z f. nothing_there z (ap (λ (l : List Change). slice_get l i) (sym none_waits) ∙ f);
         single = let u = unless_commits x.hung q.ups a none_up w.first.none in let v = ap (λ (l : List Change). length l) none_waits in omega (arith, u, v);
@@ -303,7 +269,7 @@ kept_begins book k qs c n x q seat new temp file s a closing value seats session
       seat = subst (λ (z : ℕ). IsSeat more sessions z d) (sym g.owner) (record {
         session = λ m e. let same : n ≡ m = some_is n m (sym g.newest ∙ e) in (y, ap (numbered sessions) (sym same) ∙ session_around.there, g.owner);
         linked = λ e. (n, y, g.newest, session_around.there, g.uncut);
-        unlinked = λ e. absurd (not_both seat.client.linked e g.linked);
+        unlinked = λ e. absurd (false_and_true seat.client.linked e g.linked);
         matched = inr (j, refl);
         task = λ i e. subst (IsOf more c) (some_is j i e) new_job;
         trying = λ i m z e f. let same = some_is j i e in subst (λ (v : Job). Trying more v m) same (w.trying m z (ap (λ (v : Job). v.stage) same ∙ f));
@@ -325,9 +291,6 @@ kept_begins book k qs c n x q seat new temp file s a closing value seats session
       ];
     }) g.kept.journal g.kept
   where
-    not_both : (b : Bool) → b ≡ false → b ≡ true → ⊥
-    not_both b u v = absurd cc
-
     past_end : {A : Type 0} (xs : List A) (p : ℕ) → length xs ≡ p → slice_get xs p ≡ None
     past_end [] p e = refl
     past_end (z ∷ xs) zero e = absurd (omega (arith, e))

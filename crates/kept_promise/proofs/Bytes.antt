@@ -1,17 +1,13 @@
 -- Of the records that were sent, those come whose bytes have come.
-use Rattle.std.proofs.Common.{◌≡◌, ℕ, ◌≤◌, List, ◌++◌, Option, None, length, sym, ap, subst, ◌∙◌, append_assoc}
-use Rattle.std.specs.Prelude.{All}
-use Rattle.rpc_record.specs.declared.refusal.Refusal.{Refusal}
-use Rattle.rpc_record.specs.declared.records.Fed.{Fed}
-use Rattle.rpc_record.specs.Records.{Unread, Parts, Came, split, fed, stream}
-use Rattle.rpc_record.proofs.Streaming.{stream_comes}
+use Rattle.std.proofs.Common.{◌≡◌, ℕ, List, ◌++◌, Option, None, sym, ap, subst, ◌∙◌, append_assoc}
+use Rattle.kept_promise.proofs.Common.{Refusal, Fed, Unread, Parts, Came, split, fed, stream_comes}
 use Rattle.kept_promise.proofs.Statements.{Comes, StreamsCome}
 
 abbrev parted : Parts → Unread × Fed
 parted p = (record { rest = p.rest; spoilt = p.spoilt }, record { records = p.records; spoilt = p.spoilt })
 
 -- what an end that isn't spoilt makes of a piece
-fed_sound : (end : Unread) (piece : List ℕ) → end.spoilt ≡ None → fed end piece ≡ parted (split (end.rest ++ piece))
+pub fed_sound : (end : Unread) (piece : List ℕ) → end.spoilt ≡ None → fed end piece ≡ parted (split (end.rest ++ piece))
 fed_sound end piece sound = ap (λ (s : Option Refusal). fed (record { rest = end.rest; spoilt = s }) piece) sound
 
 comes_of : (end : Unread) (piece behind : List ℕ) (records : List (List ℕ)) (parts : Parts) → Came records behind parts → Comes end.rest piece behind records (parted parts).0 (parted parts).1.records

@@ -1,25 +1,11 @@
 -- The server takes the first call on its way, whichever it is.
-use Rattle.std.proofs.Common.{inl, inr, ◌≡◌, ℕ, zero, suc, ◌+◌, ◌<◌, ◌≤◌, List, [], ◌∷◌, ◌++◌, length, max, Option, Some, None, Bool, false, refl, sym, ap, ◌∙◌, subst, arith}
-use Rattle.std.specs.Prelude.{slice_get, IsSome, Result, Ok, Err}
-use Rattle.chunk_cut.specs.declared.chunk.Chunk.{Chunk}
-use Rattle.xdr_codec.specs.Handle.{handle_bytes}
-use Rattle.xdr_codec.specs.declared.answer.Answer.TheVariants.{Done, Failed}
-use Rattle.xdr_codec.specs.declared.status.Status.{Status}
+use Rattle.std.proofs.Common.{inl, inr, ◌≡◌, ℕ, zero, suc, ◌+◌, ◌<◌, ◌≤◌, List, [], ◌∷◌, ◌++◌, length, max, Option, Some, None, Bool, false, refl, sym, ap, ◌∙◌, subst, arith, IsSome, Result, Ok, Err}
 use Rattle.xdr_codec.specs.declared.status.Status.TheVariants as status
-use Rattle.wire.specs.Message.{message_spell, MessageFits}
 use Rattle.server_core.specs.State as server
-use Rattle.server_core.specs.Answers.{Node, root, file, node_of}
-use Rattle.server_core.specs.Closing.{at, makes, makes_unless, room_fault, writes_unless, cond_fault, done_unless}
-use Rattle.server_core.specs.Temps.{Temp, temp_at, with_temp, with_piece, key_of, piece_fault, range_fault}
-use Rattle.std.specs.BTreeMap.{insert_entry}
-use Rattle.std.specs.Ordering.{nat_cmp}
+use Rattle.server_core.specs.Closing.{done_unless}
+use Rattle.temp_files.specs.Temps.{with_piece}
 use Rattle.open_close.specs.declared.task.Way.TheVariants as way
-use Rattle.server_core.specs.declared.event.ServerStep.{ServerStep}
-use Rattle.server_core.specs.declared.file.File.{File}
-use Rattle.trace_replay.specs.Core.{Core, Session, Event.Serves, Turned, Loss.Nothing, numbered, with_numbered}
-use Rattle.register_model.specs.Register.{content_of}
-use Rattle.trace_replay.specs.Book.{Book}
-use Rattle.kept_promise.specs.Talk.{Call.Hash, Call.Read, Call.Make, Call.Name, Call.Send, Reply, Reply.Made, Reply.Named, Reply.Stored, Ask, Queue, ask_message, told_message, call_program, reply_program}
+use Rattle.kept_promise.proofs.Common.{slice_get, Chunk, handle_bytes, Done, Failed, Status, message_spell, MessageFits, Node, root, file, node_of, at, makes, makes_unless, writes_unless, cond_fault, room_fault, Temp, temp_at, with_temp, key_of, piece_fault, range_fault, insert_entry, nat_cmp, ServerStep, File, Core, Session, Event.Serves, CoreStep, Loss.Nothing, numbered, with_numbered, content_of, Book, Call.Hash, Call.Read, Call.Make, Call.Name, Call.Send, Reply, Reply.Made, Reply.Named, Reply.Stored, Ask, Queue, ask_message, told_message, call_program, reply_program}
 use Rattle.kept_promise.proofs.Statements.{CallFits, IsPlain}
 use Rattle.kept_promise.proofs.Lists.{some_is, nothing_there}
 use Rattle.kept_promise.proofs.Messages.{Job, job, stage_word, AllAsks, Rising, AreParts, IsPiece, TempUnder, AnswerOf}
@@ -57,9 +43,9 @@ same_temps book k n x q a r h shelf wanted held program fits answer = record {
 
 -- ---- what is answered with one put in
 
-pub put_temp : (book : Book) (k : Core) (n : ℕ) (x : Session) (q : Queue) (a : Ask) (r : Reply) (m : ℕ) (t : Temp) (h : IsSession book k.seats k.server n x q) → IsShelf k.server.temps → t.number < 4294967296 → (x.cut ≡ false → Wanted (onward book 1 book.ops) (job h.seat) a.xid r) → (x.cut ≡ false → (us : List Ask) → q.ups ≡ a ∷ us → Held (with_temp k.server.temps t) n us (locals_of h.seat.client) (job h.seat)) → reply_program r ≡ call_program a.call → MessageFits (told_message (record { xid = a.xid; reply = r }))
+pub put_temp : (book : Book) (k : Core) (n : ℕ) (x : Session) (q : Queue) (a : Ask) (r : Reply) (m : ℕ) (t : Temp) (h : IsSession book k.seats k.server n x q) → IsShelf k.server.temps → t.fd < 4294967296 → (x.cut ≡ false → Wanted (onward book 1 book.ops) (job h.seat) a.xid r) → (x.cut ≡ false → (us : List Ask) → q.ups ≡ a ∷ us → Held (with_temp k.server.temps t) n us (locals_of h.seat.client) (job h.seat)) → reply_program r ≡ call_program a.call → MessageFits (told_message (record { xid = a.xid; reply = r }))
     → (x.cut ≡ false → AnswerOf (onward book 1 book.ops) (x.taken ++ record { xid = a.xid; step = book.steps + 1 } ∷ []) x.closing (job h.seat) a.xid r)
-    → m < 4294967296 → key_of t.session t.number ≡ key_of n m → AreParts (h.contents m) t.pieces → (x.cut ≡ false → m < h.seat.client.next_temp) → Answers book k n x q a (with_temp k.server.temps t) r h
+    → m < 4294967296 → key_of t.session t.fd ≡ key_of n m → AreParts (h.contents m) t.pieces → (x.cut ≡ false → m < h.seat.client.next_temp) → Answers book k n x q a (with_temp k.server.temps t) r h
 put_temp book k n x q a r m t h shelf number wanted held program fits answer small keyed parts under = record {
   shelf = shelf_put k.server.temps t number shelf;
   found = λ o apart p lt. other_put k.server.temps n m o p t small lt apart keyed;
@@ -68,17 +54,17 @@ put_temp book k n x q a r m t h shelf number wanted held program fits answer sma
   program = program;
   fits = fits;
   answer = answer;
-  pieces = λ i p e lt is key. elim (of_inserted k.server.temps (key_of t.session t.number) t i e is) [
+  pieces = λ i p e lt is key. elim (of_inserted k.server.temps (key_of t.session t.fd) t i e is) [
     | inl new ↦
         let same : m ≡ p = keys_number n m p (sym keyed ∙ sym new.0 ∙ key) in
-        (subst (λ (z : ℕ). AreParts (h.contents z) e.1.pieces) same (subst (λ (u : Temp). AreParts (h.contents m) u.pieces) (sym new.1) parts), ap (λ (u : Temp). key_of u.session u.number) new.1 ∙ sym new.0)
+        (subst (λ (z : ℕ). AreParts (h.contents z) e.1.pieces) same (subst (λ (u : Temp). AreParts (h.contents m) u.pieces) (sym new.1) parts), ap (λ (u : Temp). key_of u.session u.fd) new.1 ∙ sym new.0)
     | inr old ↦ h.temps old.0 p e lt old.1 key
   ];
-  below = λ uncut i p e lt is key. elim (of_inserted k.server.temps (key_of t.session t.number) t i e is) [
+  below = λ uncut i p e lt is key. elim (of_inserted k.server.temps (key_of t.session t.fd) t i e is) [
     | inl new ↦ subst (λ (z : ℕ). z < h.seat.client.next_temp) (keys_number n m p (sym keyed ∙ sym new.0 ∙ key)) (under uncut)
     | inr old ↦ (h.temps_below uncut).1 old.0 p e lt old.1 key
   ];
-  others = λ o i p e apart lt is key. elim (of_inserted k.server.temps (key_of t.session t.number) t i e is) [
+  others = λ o i p e apart lt is key. elim (of_inserted k.server.temps (key_of t.session t.fd) t i e is) [
     | inl new ↦ absurd (apart (keys_tell o p n m lt small (sym key ∙ new.0 ∙ keyed)))
     | inr old ↦ old
   ];
@@ -87,7 +73,7 @@ put_temp book k n x q a r m t h shelf number wanted held program fits answer sma
 -- ---- each call but a commit
 
 -- the server did this for a call
-abbrev pub served : Core → (n : ℕ) → Session → (xid : ℕ) → server.State × ServerStep → Turned
+abbrev pub served : Core → (n : ℕ) → Session → (xid : ℕ) → server.State × ServerStep → CoreStep
 served k n x xid r = record {
   core = record k { steps = k.steps + 1; server = r.0; sessions = with_numbered k.sessions n (took x xid (k.steps + 1)) };
   loss = Nothing;
@@ -203,7 +189,7 @@ serve_make laws book k qs n now x q xid m f us g = by (node_of k.server.files (h
     made : x.cut ≡ false → Wanted (onward book 1 book.ops) (job h.seat) xid (Made (Done tt))
     made uncut = let p = place_at book k qs n now x q a us g uncut in ((p.0, m, p.1, p.2), refl)
 
-    held : (t : Temp) → t.session ≡ n → t.number ≡ m → t.pieces ≡ [] → x.cut ≡ false → (vs : List Ask) → q.ups ≡ a ∷ vs → Held (with_temp k.server.temps t) n vs (locals_of h.seat.client) (job h.seat)
+    held : (t : Temp) → t.session ≡ n → t.fd ≡ m → t.pieces ≡ [] → x.cut ≡ false → (vs : List Ask) → q.ups ≡ a ∷ vs → Held (with_temp k.server.temps t) n vs (locals_of h.seat.client) (job h.seat)
     held t session number empty uncut vs e =
         let p = place_at book k qs n now x q a us g uncut in
         let same : us ≡ vs = tails (sym g.first ∙ e) in
@@ -218,7 +204,7 @@ serve_make laws book k qs n now x q xid m f us g = by (node_of k.server.files (h
     faults : (o : Option Status) (t : ℕ) → room_fault k.server.temps n m ≡ o → Leads book (rest_of qs n q us) (served k n x xid (makes_unless (at k.server now) n xid m t o))
     faults (Some e) t is = refuses e (λ uncut. nothing_there e (sym (room_there k.server.temps n m fits.1 g.kept.shelf (none uncut)) ∙ is))
     faults None t is =
-        let w : Temp = record { session = n; number = m; target = t; pieces = [] } in
+        let w : Temp = record { session = n; fd = m; target = t; pieces = [] } in
         leads_by book k qs n now x q a us (with_temp k.server.temps w) (Made (Done tt)) g (put_temp book k n x q a (Made (Done tt)) m w h g.kept.shelf fits.1 made (held w refl refl refl) refl (laws.plain xid (Made (Done tt)) fits.0 tt) (λ uncut. tt) fits.1 refl tt (λ uncut. (subst (AllAsks (λ b. TempUnder h.seat.client.next_temp b.call)) g.first (h.temps_below uncut).0).0))
 
     by : (nd : Result Node Status) → node_of k.server.files (handle_bytes f) ≡ nd → Leads book (rest_of qs n q us) (served k n x xid (makes (at k.server now) n xid m nd))
@@ -246,7 +232,7 @@ serve_send laws book k qs n now x q xid m start bytes us g = by (temp_at k.serve
     fits = first_fits book k qs n now x q a us g
 
     -- where its client is there, the bytes of a chunk are put into the one temporary file, which had not held them
-    goes : x.cut ≡ false → (t : Temp) × (temp_at k.server.temps n m ≡ Some t) × (piece_fault (temp_at k.server.temps n m) start (length bytes) ≡ None) × (t.session ≡ n) × (t.number ≡ m) × Held (with_temp k.server.temps (with_piece t start bytes)) n us (locals_of h.seat.client) (job h.seat)
+    goes : x.cut ≡ false → (t : Temp) × (temp_at k.server.temps n m ≡ Some t) × (piece_fault (temp_at k.server.temps n m) start (length bytes) ≡ None) × (t.session ≡ n) × (t.fd ≡ m) × Held (with_temp k.server.temps (with_piece t start bytes)) n us (locals_of h.seat.client) (job h.seat)
     goes uncut =
         let p = place_at book k qs n now x q a us g uncut in
         let s = p.0 in
@@ -275,8 +261,8 @@ serve_send laws book k qs n now x q xid m start bytes us g = by (temp_at k.serve
         let e = of_lookup k.server.temps (key_of n m) t found in
         let held = h.temps e.0 m e.1 fits.1 e.2 e.3 in
         let parts : AreParts (h.contents m) t.pieces = subst (λ (u : Temp). AreParts (h.contents m) u.pieces) e.4 held.0 in
-        let keyed : key_of t.session t.number ≡ key_of n m = ap (λ (u : Temp). key_of u.session u.number) (sym e.4) ∙ held.1 ∙ e.3 in
-        let small : t.number < 4294967296 = subst (λ (u : Temp). u.number < 4294967296) e.4 (g.kept.shelf.1 e.0 e.1 e.2).1 in
+        let keyed : key_of t.session t.fd ≡ key_of n m = ap (λ (u : Temp). key_of u.session u.fd) (sym e.4) ∙ held.1 ∙ e.3 in
+        let small : t.fd < 4294967296 = subst (λ (u : Temp). u.fd < 4294967296) e.4 (g.kept.shelf.1 e.0 e.1 e.2).1 in
         leads_by book k qs n now x q a us (with_temp k.server.temps (with_piece t start bytes)) (Stored (Done tt)) g (put_temp book k n x q a (Stored (Done tt)) m (with_piece t start bytes) h g.kept.shelf small (λ uncut. ((place_at book k qs n now x q a us g uncut).0, refl)) (λ uncut vs e2. after uncut vs e2 t found) refl (laws.plain xid (Stored (Done tt)) fits.0 tt) (λ uncut. tt) fits.1 keyed (parts_put (h.contents m) t.pieces start bytes parts (subst (AllAsks (IsPiece h.contents)) g.first h.pieces).0) (λ uncut. (subst (AllAsks (λ b. TempUnder h.seat.client.next_temp b.call)) g.first (h.temps_below uncut).0).0))
       where
         tails : {b c : Ask} {us vs : List Ask} → b ∷ us ≡ c ∷ vs → us ≡ vs

@@ -1,26 +1,15 @@
 -- The chunks of a content, as the two ends tell each other of them.
-use Rattle.std.proofs.Common.{◌≡◌, ◌⊎◌, inl, inr, ℕ, zero, suc, ◌+◌, ◌-◌, ◌<◌, ◌≤◌, List, [], ◌∷◌, ◌++◌, length, take, drop, Option, Some, None, Bool, true, false, refl, sym, ap, subst, ◌∙◌, arith}
-use Rattle.std.specs.Prelude.{map, min, nat_lt, nat_le, ◌==◌, ◌&&◌, ◌||◌, cond, filter, slice_get}
-use Rattle.std.specs.List.{list_any}
-use Rattle.std.specs.BTreeMap.{insert_entry}
-use Rattle.std.specs.Ordering.{nat_cmp}
+use Rattle.std.proofs.Common.{◌≡◌, ◌⊎◌, inl, inr, ℕ, zero, suc, ◌+◌, ◌-◌, ◌<◌, ◌≤◌, List, [], ◌∷◌, ◌++◌, length, take, drop, Option, Some, None, Bool, true, false, refl, sym, ap, subst, ◌∙◌, arith, map, min}
 use Rattle.std.proofs.lemmas.Bool.{cases_lt}
-use Rattle.std.proofs.lemmas.Bool.Decides.{nat_tests}
-use Rattle.std.proofs.lemmas.List.{take-append-drop, length-take, length-drop, take_all}
+use Rattle.std.proofs.lemmas.List.{length-take}
 use Rattle.std.proofs.Math.Seq.{drop-length}
-use Rattle.sha1.specs.Sha1.{sha1}
-use Rattle.chunk_cut.specs.Chunks.{chunk_at, chunks_between, chunks_of}
+use Rattle.chunk_cut.specs.Chunks.{chunk_at, chunks_between}
 use Rattle.chunk_cut.specs.Ends.{IsOpen, IsNextEnd, AreEndsFrom}
 use Rattle.chunk_cut.specs.Search.{ends}
-use Rattle.chunk_cut.specs.Places.{chunk_bytes, end_from, end_of}
-use Rattle.chunk_cut.specs.declared.chunk.Chunk.{Chunk}
 use Rattle.chunk_cut.proofs.Only.{are_ends, chunks_are}
-use Rattle.hash_calls.specs.declared.call.Pair.{Pair}
-use Rattle.server_core.specs.Answers.{meets, told_chunks, pair_of, is_end}
-use Rattle.server_core.specs.Temps as temps
-use Rattle.open_close.specs.Shape.{broken_if, broken_inner, broken_pair, broken_pairs, broken_sum, broken_of, chunks_from, with_pairs}
-use Rattle.open_close.specs.Opening.{slots_bytes}
-use Rattle.open_close.specs.declared.task.Fetch.{Fetch}
+use Rattle.temp_files.specs.Pieces as piece_rules
+use Rattle.open_close.specs.Shape.{broken_inner}
+use Rattle.kept_promise.proofs.Common.{nat_lt, nat_le, ◌==◌, ◌&&◌, ◌||◌, cond, filter, slice_get, list_any, insert_entry, nat_cmp, nat_tests, take-append-drop, length-drop, take_all, sha1, chunks_of, chunk_bytes, end_from, end_of, Chunk, Pair, meets, told_chunks, pair_of, is_end, broken_if, broken_pair, broken_pairs, broken_sum, broken_of, chunks_from, with_pairs, slots_bytes, Fetch}
 use Rattle.kept_promise.proofs.Statements.{AreInRow, ChunksInRow, ChunksAreLong, ChunksAreNamed, TellsNext, TellsEnd, PairsTell, NothingBroken, ReadGives, SlotsAreWhole, PiecesOf, PiecesAreWhole, PieceGoesIn}
 use Rattle.kept_promise.proofs.Lists.{some_is, nothing_there}
 
@@ -141,7 +130,7 @@ is_not_le a b h = grind (arith, nat_tests, h)
 is_same : (a b : ℕ) → a ≡ b → (a == b) ≡ true
 is_same a b h = grind (arith, nat_tests, h)
 
-is_other : (a b : ℕ) → (a ≡ b → ⊥) → (a == b) ≡ false
+pub is_other : (a b : ℕ) → (a ≡ b → ⊥) → (a == b) ≡ false
 is_other a b h = by (a == b) refl
   where
     by : (t : Bool) → (a == b) ≡ t → (a == b) ≡ false
@@ -266,7 +255,7 @@ pairs_tell = λ x i le.
 
 -- ---- nothing that a piece tells breaks a bound
 
-len_map : (cs : List Chunk) → length (map pair_of cs) ≡ length cs
+pub len_map : (cs : List Chunk) → length (map pair_of cs) ≡ length cs
 len_map [] = refl
 len_map (c ∷ cs) = ap suc (len_map cs)
 
@@ -418,7 +407,7 @@ slots_are_whole = λ x slots e h. slots_whole x 0 (chunks_of x) slots (row_of x)
 -- ---- pieces of a temporary file
 
 -- they stand at rising places
-pieces_join : (x : List ℕ) (s : ℕ) (cs : List Chunk) → Row x s cs → temps.joined s (length x) (PiecesOf x (λ c. true) cs) ≡ Some (drop s x)
+pieces_join : (x : List ℕ) (s : ℕ) (cs : List Chunk) → Row x s cs → piece_rules.joined s (length x) (PiecesOf x (λ c. true) cs) ≡ Some (drop s x)
 pieces_join x s [] r =
     let e : (s == length x) ≡ true = is_same s (length x) r in
     let n : drop s x ≡ [] = nothing_past x s r in
@@ -428,10 +417,10 @@ pieces_join x s (c ∷ cs) r =
     let w : s + c.len ≤ length x = r.0.within in
     let n : length (chunk_bytes x c) ≡ c.len = bytes_count x c.start c.len (omega (arith, st, w)) in
     let e : (c.start == c.start) ≡ true = is_same c.start c.start refl in
-    let rest : temps.joined (c.start + c.len) (length x) (PiecesOf x (λ k. true) cs) ≡ Some (drop (c.start + c.len) x) = pieces_join x (c.start + c.len) cs r.1 in
+    let rest : piece_rules.joined (c.start + c.len) (length x) (PiecesOf x (λ k. true) cs) ≡ Some (drop (c.start + c.len) x) = pieces_join x (c.start + c.len) cs r.1 in
     let b : chunk_bytes x c ++ drop (c.start + c.len) x ≡ drop c.start x = bytes_on x c in
-    let at : temps.joined c.start (length x) (PiecesOf x (λ k. true) (c ∷ cs)) ≡ Some (drop c.start x) = rw (e, n, rest, b) refl in
-    subst (λ (t : ℕ). temps.joined t (length x) (PiecesOf x (λ k. true) (c ∷ cs)) ≡ Some (drop t x)) st at
+    let at : piece_rules.joined c.start (length x) (PiecesOf x (λ k. true) (c ∷ cs)) ≡ Some (drop c.start x) = rw (e, n, rest, b) refl in
+    subst (λ (t : ℕ). piece_rules.joined t (length x) (PiecesOf x (λ k. true) (c ∷ cs)) ≡ Some (drop t x)) st at
 
 pub pieces_are_whole : PiecesAreWhole
 pieces_are_whole = λ x. pieces_join x 0 (chunks_of x) (row_of x)
@@ -447,14 +436,14 @@ pieces_agree x has more (c ∷ cs) h =
     ∙ ap (λ (ps : List (ℕ × List ℕ)). one_more x (has c) c ps) (pieces_agree x has more cs (λ k d e. h (suc k) d e))
 
 -- pieces from a place on don't meet what ends there, and a piece before that place goes before them
-none_meets : (x : List ℕ) (has : Chunk → Bool) (s o e : ℕ) (cs : List Chunk) → Row x s cs → e ≤ s → list_any (temps.overlaps o e) (PiecesOf x has cs) ≡ false
+none_meets : (x : List ℕ) (has : Chunk → Bool) (s o e : ℕ) (cs : List Chunk) → Row x s cs → e ≤ s → list_any (piece_rules.overlaps o e) (PiecesOf x has cs) ≡ false
 none_meets x has s o e [] r h = refl
 none_meets x has s o e (c ∷ cs) r h =
     let st : c.start ≡ s = r.0.start in
-    let later : list_any (temps.overlaps o e) (PiecesOf x has cs) ≡ false = none_meets x has (c.start + c.len) o e cs r.1 (omega (arith, st, h)) in
+    let later : list_any (piece_rules.overlaps o e) (PiecesOf x has cs) ≡ false = none_meets x has (c.start + c.len) o e cs r.1 (omega (arith, st, h)) in
     by (has c) (is_not_lt c.start e (omega (arith, st, h))) later
   where
-    by : (b : Bool) → nat_lt c.start e ≡ false → list_any (temps.overlaps o e) (PiecesOf x has cs) ≡ false → list_any (temps.overlaps o e) (one_more x b c (PiecesOf x has cs)) ≡ false
+    by : (b : Bool) → nat_lt c.start e ≡ false → list_any (piece_rules.overlaps o e) (PiecesOf x has cs) ≡ false → list_any (piece_rules.overlaps o e) (one_more x b c (PiecesOf x has cs)) ≡ false
     by true q l = rw (q, l) refl
     by false q l = l
 
@@ -470,7 +459,7 @@ goes_first x has s k v (c ∷ cs) r h =
     by false q l = l
 
 -- a piece that ends where another begins doesn't meet it, and the other goes behind it
-skips_one : (x : List ℕ) (b : Bool) (d : Chunk) (o e : ℕ) (ps : List (ℕ × List ℕ)) → d.start + length (chunk_bytes x d) ≤ o → list_any (temps.overlaps o e) ps ≡ false → list_any (temps.overlaps o e) (one_more x b d ps) ≡ false
+skips_one : (x : List ℕ) (b : Bool) (d : Chunk) (o e : ℕ) (ps : List (ℕ × List ℕ)) → d.start + length (chunk_bytes x d) ≤ o → list_any (piece_rules.overlaps o e) ps ≡ false → list_any (piece_rules.overlaps o e) (one_more x b d ps) ≡ false
 skips_one x true d o e ps h l =
     let q : nat_lt o (d.start + length (chunk_bytes x d)) ≡ false = is_not_lt o _ h in
     rw (q, l) (by (nat_lt d.start e))
@@ -489,23 +478,23 @@ goes_behind x false d k v ps qs h e = e
 
 goes_in : (x : List ℕ) (has more : Chunk → Bool) (s : ℕ) (cs : List Chunk) (j : ℕ) (c : Chunk) → Row x s cs → slice_get cs j ≡ Some c → has c ≡ false → more c ≡ true
     → ((k : ℕ) (d : Chunk) → slice_get cs k ≡ Some d → (k ≡ j → ⊥) → more d ≡ has d)
-    → (s ≤ c.start) × (list_any (temps.overlaps c.start (c.start + c.len)) (PiecesOf x has cs) ≡ false) × (insert_entry nat_cmp (PiecesOf x has cs) c.start (chunk_bytes x c) ≡ PiecesOf x more cs)
+    → (s ≤ c.start) × (list_any (piece_rules.overlaps c.start (c.start + c.len)) (PiecesOf x has cs) ≡ false) × (insert_entry nat_cmp (PiecesOf x has cs) c.start (chunk_bytes x c) ≡ PiecesOf x more cs)
 goes_in x has more s [] j c r e h m others = nothing_there c e
 goes_in x has more s (d ∷ ds) zero c r e h m others =
     let same : d ≡ c = some_is d c e in
-    subst (λ (z : Chunk). (s ≤ z.start) × (list_any (temps.overlaps z.start (z.start + z.len)) (PiecesOf x has (d ∷ ds)) ≡ false) × (insert_entry nat_cmp (PiecesOf x has (d ∷ ds)) z.start (chunk_bytes x z) ≡ PiecesOf x more (d ∷ ds))) same
+    subst (λ (z : Chunk). (s ≤ z.start) × (list_any (piece_rules.overlaps z.start (z.start + z.len)) (PiecesOf x has (d ∷ ds)) ≡ false) × (insert_entry nat_cmp (PiecesOf x has (d ∷ ds)) z.start (chunk_bytes x z) ≡ PiecesOf x more (d ∷ ds))) same
     (here (subst (λ (z : Chunk). has z ≡ false) (sym same) h) (subst (λ (z : Chunk). more z ≡ true) (sym same) m))
   where
-    here : has d ≡ false → more d ≡ true → (s ≤ d.start) × (list_any (temps.overlaps d.start (d.start + d.len)) (PiecesOf x has (d ∷ ds)) ≡ false) × (insert_entry nat_cmp (PiecesOf x has (d ∷ ds)) d.start (chunk_bytes x d) ≡ PiecesOf x more (d ∷ ds))
+    here : has d ≡ false → more d ≡ true → (s ≤ d.start) × (list_any (piece_rules.overlaps d.start (d.start + d.len)) (PiecesOf x has (d ∷ ds)) ≡ false) × (insert_entry nat_cmp (PiecesOf x has (d ∷ ds)) d.start (chunk_bytes x d) ≡ PiecesOf x more (d ∷ ds))
     here p q =
         let st : d.start ≡ s = r.0.start in
         let some : 0 < d.len = r.0.some in
-        let a : list_any (temps.overlaps d.start (d.start + d.len)) (PiecesOf x has ds) ≡ false = none_meets x has (d.start + d.len) d.start (d.start + d.len) ds r.1 (omega arith) in
+        let a : list_any (piece_rules.overlaps d.start (d.start + d.len)) (PiecesOf x has ds) ≡ false = none_meets x has (d.start + d.len) d.start (d.start + d.len) ds r.1 (omega arith) in
         let b : insert_entry nat_cmp (PiecesOf x has ds) d.start (chunk_bytes x d) ≡ (d.start, chunk_bytes x d) ∷ PiecesOf x has ds = goes_first x has (d.start + d.len) d.start (chunk_bytes x d) ds r.1 (omega (arith, some)) in
         let f : PiecesOf x more ds ≡ PiecesOf x has ds = pieces_agree x has more ds (λ k z g. others (suc k) z g (λ y. omega (arith, y))) in
         let none : PiecesOf x has (d ∷ ds) ≡ PiecesOf x has ds = ap (λ (t : Bool). one_more x t d (PiecesOf x has ds)) p in
         let first : PiecesOf x more (d ∷ ds) ≡ (d.start, chunk_bytes x d) ∷ PiecesOf x has ds = ap (λ (t : Bool). one_more x t d (PiecesOf x more ds)) q ∙ ap (λ (ps : List (ℕ × List ℕ)). (d.start, chunk_bytes x d) ∷ ps) f in
-        (omega (arith, st), ap (λ (ps : List (ℕ × List ℕ)). list_any (temps.overlaps d.start (d.start + d.len)) ps) none ∙ a, ap (λ (ps : List (ℕ × List ℕ)). insert_entry nat_cmp ps d.start (chunk_bytes x d)) none ∙ b ∙ sym first)
+        (omega (arith, st), ap (λ (ps : List (ℕ × List ℕ)). list_any (piece_rules.overlaps d.start (d.start + d.len)) ps) none ∙ a, ap (λ (ps : List (ℕ × List ℕ)). insert_entry nat_cmp ps d.start (chunk_bytes x d)) none ∙ b ∙ sym first)
 goes_in x has more s (d ∷ ds) (suc j) c r e h m others =
     let later = goes_in x has more (d.start + d.len) ds j c r.1 e h m (λ k z g y. others (suc k) z g (λ q. y (omega (arith, q)))) in
     let le : d.start + d.len ≤ c.start = later.0 in
@@ -518,7 +507,7 @@ goes_in x has more s (d ∷ ds) (suc j) c r e h m others =
     let b = goes_behind x (has d) d c.start (chunk_bytes x c) (PiecesOf x has ds) (PiecesOf x more ds) (omega (arith, le, some)) later.2 in
     (omega (arith, le, st), a, b ∙ ap (λ (t : Bool). one_more x t d (PiecesOf x more ds)) (sym same))
 
-no_fault : (pieces : List (ℕ × List ℕ)) (offset count : ℕ) → 0 < count → offset + count ≤ 67108864 → list_any (temps.overlaps offset (offset + count)) pieces ≡ false → temps.range_fault pieces offset count ≡ None
+no_fault : (pieces : List (ℕ × List ℕ)) (offset count : ℕ) → 0 < count → offset + count ≤ 67108864 → list_any (piece_rules.overlaps offset (offset + count)) pieces ≡ false → piece_rules.range_fault pieces offset count ≡ None
 no_fault pieces offset count some most none =
     let a : (count == 0) ≡ false = is_other count 0 (λ q. omega (arith, q, some)) in
     let b : nat_lt 18446744073709551615 (offset + count) ≡ false = is_not_lt _ _ (omega (arith, most)) in

@@ -1,32 +1,15 @@
 -- What a client comes to by an answer that its close waits for.
-use Rattle.std.proofs.Common.{inl, inr, ◌≡◌, ℕ, zero, suc, ◌+◌, ◌<◌, List, [], ◌∷◌, length, Option, Some, None, Bool, true, false, refl, sym, ap, ◌∙◌, subst, arith}
-use Rattle.std.specs.Prelude.{slice_get}
-use Rattle.sha1.specs.Sha1.{sha1}
-use Rattle.chunk_cut.specs.declared.chunk.Chunk.{Chunk}
-use Rattle.xdr_codec.specs.declared.answer.Answer.{Answer}
-use Rattle.xdr_codec.specs.declared.answer.Answer.TheVariants.{Done, Failed}
-use Rattle.xdr_codec.specs.declared.status.Status.{Status}
+use Rattle.std.proofs.Common.{inl, inr, ◌≡◌, ℕ, ◌+◌, ◌<◌, List, length, Option, Some, None, Bool, true, false, refl, sym, ap, ◌∙◌, subst, arith}
 use Rattle.xdr_codec.specs.declared.status.Status.TheVariants as status
-use Rattle.hash_calls.specs.declared.call.Committed.{Committed}
 use Rattle.open_close.specs.State as client
-use Rattle.open_close.specs.State.{store_pending}
-use Rattle.open_close.specs.Closing.{store_of, is_stored, store_at, answered}
-use Rattle.open_close.specs.Counting.{no_counts}
-use Rattle.open_close.specs.Step.{idle, refused, goes_on, goes_if, told_temp, sends_whole, told_named, told_whole, closed}
 use Rattle.open_close.specs.declared.step.Outcome.TheVariants as outcome
 use Rattle.open_close.specs.declared.task.Stage.TheVariants as stage
-use Rattle.open_close.specs.declared.task.Store.{Store}
-use Rattle.open_close.specs.declared.task.StoreCall.{StoreCall}
 use Rattle.open_close.specs.declared.task.Way.TheVariants as way
-use Rattle.register_model.specs.declared.op.Op.{Op}
 use Rattle.register_model.specs.declared.op.Outcome.TheVariants as told
-use Rattle.register_model.specs.declared.op.Traffic.{Traffic}
 use Rattle.register_model.specs.declared.op.Word.TheVariants as words
-use Rattle.trace_replay.specs.Core.{Core, Session}
-use Rattle.trace_replay.specs.Ops.{has_point, point_if, counted}
-use Rattle.trace_replay.specs.Book.{Book}
-use Rattle.kept_promise.specs.Talk.{Reply, Reply.Made, Reply.Named, Reply.Stored, Reply.Changed, Told, Queue, reply_program}
-use Rattle.kept_promise.proofs.Lists.{some_is}
+use Rattle.open_close.specs.Step.{closed}
+use Rattle.kept_promise.proofs.Common.{refused, slice_get, sha1, Chunk, Answer, Done, Failed, Status, Committed, store_pending, store_of, is_stored, store_at, answered, no_counts, idle, goes_on, goes_if, told_temp, sends_whole, told_named, told_whole, Store, StoreCall, Op, Traffic, Core, Session, has_point, point_if, counted, Book, Reply, Reply.Made, Reply.Named, Reply.Stored, Reply.Changed, Told, Queue, reply_program}
+use Rattle.kept_promise.proofs.Lists.{some_is, there_at}
 use Rattle.kept_promise.proofs.Messages.{Job, CommitTold, CloseOf}
 use Rattle.kept_promise.proofs.Heard.{told_pending}
 use Rattle.kept_promise.proofs.Steps.{Here, session_at, Quiet, job_op}
@@ -136,11 +119,6 @@ comes_stored book k qs n x q t ts j g st u a fits waits found whole same is = by
     by (Done v) is = comes_on book k qs n x q t ts j g (answered st t.xid) fits ready (filled_answered book k qs n x q t ts j g st u waits found whole)
     by (Failed s v) is = absurd (not_done (answer_is book k qs n x q t ts j g (Stored (Failed s v)) is).1)
 
-chunk_there : (cs : List Chunk) (i : ℕ) → i < length cs → (c : Chunk) × (slice_get cs i ≡ Some c)
-chunk_there [] i lt = absurd (omega (arith, lt))
-chunk_there (c ∷ cs) zero lt = (c, refl)
-chunk_there (c ∷ cs) (suc i) lt = chunk_there cs i (omega (arith, lt))
-
 pub comes_named : (book : Book) (k : Core) (qs : List Queue) (n : ℕ) (x : Session) (q : Queue) (t : Told) (ts : List Told) (j : Job) (g : Here book k qs n x q t ts j) (st : Store) (u : StoreCall) (a : Answer Unit Unit) → j.file < 18446744073709551616 → j.stage ≡ stage.Storing st → store_at st.under t.xid ≡ Some u → u.way ≡ way.Named → store_pending u ≡ told_pending t → t.reply ≡ Named a
     → Comes book k qs n x q t ts j g (told_named (idle (client_at book k qs n x q t ts j g)) (client.calls_of (client_at book k qs n x q t ts j g)) j.file t.xid (local_of g) (answered st t.xid) u a)
 comes_named book k qs n x q t ts j g st u a fits waits found by_name same is = subst (λ (b : Answer Unit Unit). Comes book k qs n x q t ts j g (told_named (idle (client_at book k qs n x q t ts j g)) (client.calls_of (client_at book k qs n x q t ts j g)) j.file t.xid (local_of g) (answered st t.xid) u b)) (sym (answer_is book k qs n x q t ts j g (Named a) is).1) unknown
@@ -172,7 +150,7 @@ comes_named book k qs n x q t ts j g st u a fits waits found by_name same is = s
     unknown =
         let le = (stored_close book k qs n x q t ts j g st waits).3.named in
         let i = inside in
-        let c = chunk_there st.chunks u.index (omega (arith, le, i)) in
+        let c = there_at st.chunks u.index (omega (arith, le, i)) in
         subst (λ (o : Option Chunk). Comes book k qs n x q t ts j g (sends_whole (idle (client_at book k qs n x q t ts j g)) j.file t.xid (local_of g) (answered st t.xid) u o)) (sym c.1) (whole c.0 c.1)
 
 -- ---- by the answer to COMMITTMP

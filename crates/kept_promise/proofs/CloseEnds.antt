@@ -1,24 +1,12 @@
 -- A close ends by an answer: it was refused, or its change was made.
-use Rattle.std.proofs.Common.{inl, inr, ◌≡◌, ℕ, suc, ◌+◌, ◌<◌, ◌≤◌, List, [], ◌∷◌, ◌++◌, length, Option, Some, None, Bool, true, false, refl, sym, ap, ◌∙◌, subst, arith, eqb-true, eq-eqb}
-use Rattle.std.specs.Prelude.{slice_get, slice_set, map, cond, ◌==◌}
-use Rattle.sha1.specs.Sha1.{sha1}
-use Rattle.wire.specs.declared.message.Pending.{Pending}
+use Rattle.std.proofs.Common.{inl, inr, ◌≡◌, ℕ, suc, ◌+◌, ◌<◌, ◌≤◌, List, [], ◌∷◌, ◌++◌, length, Option, Some, None, Bool, true, false, refl, sym, ap, ◌∙◌, subst, arith, eqb-true, eq-eqb, map}
 use Rattle.wire.specs.declared.message.Program.TheVariants as program
 use Rattle.hash_calls.specs.declared.message.LbProc.TheVariants as lb_proc
-use Rattle.server_core.specs.declared.change.Change.{Change}
 use Rattle.open_close.specs.State as client
-use Rattle.open_close.specs.declared.task.Local.{Local}
-use Rattle.open_close.specs.declared.task.Stage.{Stage}
 use Rattle.open_close.specs.declared.task.Stage.TheVariants as stage
-use Rattle.open_close.proofs.Locals.{without_at_itself, without_at_another}
-use Rattle.register_model.specs.declared.op.Op.{Op}
 use Rattle.register_model.specs.declared.op.Outcome.TheVariants as told
-use Rattle.register_model.specs.declared.op.Traffic.{Traffic}
-use Rattle.register_model.specs.declared.op.Word.{Word}
 use Rattle.register_model.specs.declared.op.Word.TheVariants as words
-use Rattle.trace_replay.specs.Core.{Core, Session}
-use Rattle.trace_replay.specs.Book.{Book}
-use Rattle.kept_promise.specs.Talk.{Call, Call.Commit, Ask, Told, Queue, reply_program}
+use Rattle.kept_promise.proofs.Common.{slice_get, slice_set, cond, ◌==◌, sha1, Pending, Change, Local, Stage, without_at_itself, without_at_another, Op, Traffic, Word, Core, Session, Book, Call, Call.Commit, Ask, Told, Queue, reply_program}
 use Rattle.kept_promise.proofs.Lists.{some_is, nothing_there, same_or_not}
 use Rattle.kept_promise.proofs.Keys.{times, times_append, own, on_way, ask_key, change_key, told_key, pending_key, there_by, key, key_xid}
 use Rattle.kept_promise.proofs.Messages.{Job, job, AllAsks, IsCommit, CommitOf, IsPending}
@@ -42,11 +30,7 @@ commits_apart book closing cut o j contents (a ∷ us) uncut is apart all = by a
   where
     by : (c : Call) → a.call ≡ c → CommitOf book closing cut o contents a.xid c → commits_in us ≡ 0 → commits_if c (commits_in us) ≡ 0
     by (Commit temp file size) e h none = absurd (apart 0 a temp file size refl e (ap (λ (z : Job). z.stage) (some_is j _ (sym is ∙ h.0.waited uncut))))
-    by (Call.Hash f p) e h none = none
-    by (Call.Read f c) e h none = none
-    by (Call.Make m f) e h none = none
-    by (Call.Name m c) e h none = none
-    by (Call.Send m s b) e h none = none
+    by _ e h none = none
 
 waiting_apart : (book : Book) (closing : Option ℕ) (cut : Bool) (o : Option Job) (j : Job) (cs : List Change) → cut ≡ false → o ≡ Some j → ((i : ℕ) (d : Change) → slice_get cs i ≡ Some d → j.stage ≡ stage.Committing d.xid → ⊥) → ((i : ℕ) (d : Change) → slice_get cs i ≡ Some d → IsPending book closing cut o d.xid d.file d.content) → cs ≡ []
 waiting_apart book closing cut o j [] uncut is apart all = refl
@@ -181,7 +165,6 @@ right_refused book place o tr r u room = record {
   where
     by : (w : Word) → w ≡ words.Close → Caused (onward book 1 (slice_set book.ops place (refused_op o tr (book.steps + 1) 28))) (record (refused_op o tr (book.steps + 1) 28) { word = w }) (told.Refused 28)
     by words.Close e = record { status_is = refl; pointless = u.1; end = book.steps + 1; end_is = refl; moment = room.moment; there = room.there; session = room.session; now = room.now; bytes = room.bytes; event_is = room.event_is; owner = room.owner; xid = room.xid; call = room.call; parsed = room.parsed; size = room.size; after = room.after; before = (let b = room.before in omega (arith, b)); full = room.full }
-    by words.Open e = absurd cc
     by _ e = absurd cc
 
 -- a commit was refused for want of room

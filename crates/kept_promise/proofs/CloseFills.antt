@@ -1,19 +1,9 @@
 -- What the temporary file of a close holds once an answer to it was taken.
 use Rattle.std.proofs.Common.{◌≡◌, ℕ, List, ◌++◌, Some, false, refl, sym, ap, ◌∙◌, subst}
-use Rattle.std.specs.Prelude.{slice_get}
-use Rattle.chunk_cut.specs.Places.{chunk_bytes}
-use Rattle.chunk_cut.specs.declared.chunk.Chunk.{Chunk}
 use Rattle.open_close.specs.State as client
-use Rattle.open_close.specs.Closing.{store_of, store_at, answered, with_whole}
-use Rattle.open_close.specs.declared.task.Stage.{Stage}
 use Rattle.open_close.specs.declared.task.Stage.TheVariants as stage
-use Rattle.open_close.specs.declared.task.Store.{Store}
-use Rattle.open_close.specs.declared.task.StoreCall.{StoreCall}
-use Rattle.open_close.specs.declared.task.Way.{Way}
 use Rattle.open_close.specs.declared.task.Way.TheVariants as way
-use Rattle.trace_replay.specs.Core.{Core, Session}
-use Rattle.trace_replay.specs.Book.{Book}
-use Rattle.kept_promise.specs.Talk.{Call.Make, Call.Send, Ask, Told, Queue}
+use Rattle.kept_promise.proofs.Common.{slice_get, chunk_bytes, Chunk, store_of, store_at, answered, with_whole, Stage, Store, StoreCall, Way, Core, Session, Book, Call.Make, Call.Send, Ask, Told, Queue}
 use Rattle.kept_promise.proofs.Lists.{some_is}
 use Rattle.kept_promise.proofs.Messages.{Job}
 use Rattle.kept_promise.proofs.Orderly.{locals_of, UpMake, UpSend, Holds, HeldIn, Held}

@@ -1,37 +1,15 @@
 -- A close goes on by an answer: chunks are named, the bytes of one go out, or its commit.
-use Rattle.std.proofs.Common.{◌⊎◌, inl, inr, ◌≡◌, ℕ, zero, suc, ◌+◌, ◌-◌, ◌*◌, ◌<◌, ◌≤◌, List, [], ◌∷◌, ◌++◌, length, Option, Some, None, Bool, true, false, refl, sym, ap, ◌∙◌, subst, arith, eqb-true, eq-eqb, append_assoc}
-use Rattle.std.proofs.lemmas.Bool.Decides.{nat_tests}
-use Rattle.std.specs.Prelude.{slice_get, map, filter, find, not, cond, ◌==◌, ◌&&◌, IsSome, nat_le}
+use Rattle.std.proofs.Common.{◌⊎◌, inl, inr, ◌≡◌, ℕ, zero, suc, ◌+◌, ◌-◌, ◌*◌, ◌<◌, ◌≤◌, List, [], ◌∷◌, ◌++◌, length, Option, Some, None, Bool, true, false, refl, sym, ap, ◌∙◌, subst, arith, eqb-true, eq-eqb, append_assoc, map, IsSome}
 use Rattle.sha1.specs.Sha1.{sha1, digest_bytes}
-use Rattle.chunk_cut.specs.Chunks.{chunks_of}
-use Rattle.chunk_cut.specs.Places.{chunk_bytes}
-use Rattle.chunk_cut.specs.declared.chunk.Chunk.{Chunk}
 use Rattle.hash_calls.specs.declared.message.LbProc.TheVariants as lb_proc
-use Rattle.wire.specs.declared.message.Pending.{Pending}
-use Rattle.wire.specs.declared.message.Program.{Program}
 use Rattle.wire.specs.declared.message.Program.TheVariants as program
-use Rattle.server_core.specs.Temps.{Temp}
 use Rattle.open_close.specs.State as client
-use Rattle.open_close.specs.State.{store_pending, without_call}
-use Rattle.open_close.specs.Closing.{names_from, names_all, store_of, is_stored, store_at, without_store, answered, with_whole, commit_call, temp_call}
-use Rattle.open_close.specs.Opening.{calls_most, is_none}
-use Rattle.open_close.specs.declared.calls.Names.{Names}
-use Rattle.open_close.specs.declared.task.Stage.{Stage}
 use Rattle.open_close.specs.declared.task.Stage.TheVariants as stage
-use Rattle.open_close.specs.declared.task.Store.{Store}
-use Rattle.open_close.specs.declared.task.StoreCall.{StoreCall}
-use Rattle.open_close.specs.declared.task.Task.{Task}
-use Rattle.open_close.specs.declared.task.Way.{Way}
 use Rattle.open_close.specs.declared.task.Way.TheVariants as way
-use Rattle.register_model.specs.declared.op.Op.{Op}
 use Rattle.register_model.specs.declared.op.Word.TheVariants as words
-use Rattle.register_model.specs.Register.{content_of}
-use Rattle.trace_replay.specs.Core.{Core, Seat, Session}
-use Rattle.trace_replay.specs.Book.{Book}
-use Rattle.trace_replay.specs.World.{unless}
-use Rattle.kept_promise.specs.Talk.{Call, Call.Name, Call.Send, Call.Commit, Ask, Told, Queue, ask_message, reply_program}
+use Rattle.kept_promise.proofs.Common.{nat_tests, slice_get, not, cond, ◌==◌, ◌&&◌, nat_le, chunks_of, chunk_bytes, Chunk, Pending, Program, Temp, store_pending, without_call, names_from, names_all, store_of, is_stored, store_at, without_store, answered, with_whole, commit_call, temp_call, calls_most, is_none, Names, Stage, Store, StoreCall, Task, Way, Op, content_of, Core, Seat, Session, Book, unless, Call, Call.Name, Call.Send, Call.Commit, Ask, Told, Queue, ask_message, reply_program}
 use Rattle.kept_promise.proofs.Statements.{CallFits, AreInRow, PiecesOf}
-use Rattle.kept_promise.proofs.Lists.{some_is, nothing_there, of_appended, at_end}
+use Rattle.kept_promise.proofs.Lists.{some_is, nothing_there, of_appended, at_end, there_at, false_and_true}
 use Rattle.kept_promise.proofs.Keys.{times, times_append, there_by}
 use Rattle.kept_promise.proofs.Messages.{Job, job, stage_word, AllAsks, AllTolds, Rising, IsAsked, IsCommit, IsPiece, TempUnder, IsOwed, IsStoring, CloseOf}
 use Rattle.kept_promise.proofs.Chunks.{chunks_in_row, chunks_are_long, chunks_are_named}
@@ -39,7 +17,7 @@ use Rattle.kept_promise.proofs.Facts.{IsSession, HasXids, commits_in, names_in}
 use Rattle.kept_promise.proofs.Taken.{asks_append, rising_append, times_map_append}
 use Rattle.kept_promise.proofs.Heard.{ask_pending, told_pending, asks_unless}
 use Rattle.kept_promise.proofs.Moves.{without_moves}
-use Rattle.kept_promise.proofs.Naming.{Ran, names_run, named_rising, named_bound, named_all, named_count, named_inside, named_times, named_note, named_commits}
+use Rattle.kept_promise.proofs.Naming.{some_call, Ran, names_run, named_rising, named_bound, named_all, named_count, named_inside, named_times, named_note, named_commits}
 use Rattle.kept_promise.proofs.Steps.{Again, Here, session_at, Quiet, on, job_op, GoesOn, GoesInOrder}
 use Rattle.kept_promise.proofs.Later.{all_asks, all_tolds}
 use Rattle.kept_promise.proofs.Shelf.{OneTemp}
@@ -191,11 +169,6 @@ naming_sent st next = (run_of st next).send_is
 idle_is_stored : (n : Names) (st : Store) (notes : List StoreCall) → n.store ≡ record st { named = st.named + length notes; under = st.under ++ notes } → (length st.under < calls_most → (c : Chunk) → slice_get st.chunks st.named ≡ Some c → 0 < length notes) → st.named + length notes ≤ length st.chunks → is_stored n.store ≡ false → 0 < length n.store.under
 idle_is_stored n st notes is some le off = by st.under notes refl refl
   where
-    chunk_there : (cs : List Chunk) (i : ℕ) → i < length cs → (c : Chunk) × (slice_get cs i ≡ Some c)
-    chunk_there [] i lt = absurd (omega (arith, lt))
-    chunk_there (c ∷ cs) zero lt = (c, refl)
-    chunk_there (c ∷ cs) (suc i) lt = chunk_there cs i (omega (arith, lt))
-
     off_as : (us vs : List StoreCall) → st.under ≡ us → notes ≡ vs → (is_none (us ++ vs) && (st.named + length vs == length st.chunks)) ≡ false
     off_as us vs e f = ap (λ (l : List StoreCall). is_none (l ++ vs) && (st.named + length vs == length st.chunks)) (sym e) ∙ ap (λ (l : List StoreCall). is_none (st.under ++ l) && (st.named + length l == length st.chunks)) (sym f) ∙ ap is_stored (sym is) ∙ off
 
@@ -209,14 +182,12 @@ idle_is_stored n st notes is some le off = by st.under notes refl refl
         let differs = off_as [] [] e f in
         let none = ap (λ (l : List StoreCall). length l) e in
         let ended = ap (λ (l : List StoreCall). length l) f in
-        let apart : st.named ≡ length st.chunks → ⊥ = λ same. absurd (not_both (st.named + 0 == length st.chunks) differs (eq-eqb (st.named + 0) (length st.chunks) (omega (arith, same)))) in
-        let c = chunk_there st.chunks st.named (less le ended apart) in
-        let there = some (omega (arith, none)) c.0 c.1 in
+        let apart : st.named ≡ length st.chunks → ⊥ = λ same. absurd (false_and_true (st.named + 0 == length st.chunks) differs (eq-eqb (st.named + 0) (length st.chunks) (omega (arith, same)))) in
+        let c = there_at st.chunks st.named (less le ended apart) in
+        let one = some_call in
+        let there = some (omega (arith, none, one)) c.0 c.1 in
         absurd (omega (arith, there, ended))
       where
-        not_both : (b : Bool) → b ≡ false → b ≡ true → ⊥
-        not_both b u v = absurd cc
-
         less : st.named + length notes ≤ length st.chunks → length notes ≡ 0 → (st.named ≡ length st.chunks → ⊥) → st.named < length st.chunks
         less le none apart = under (st.named == length st.chunks) refl
           where

@@ -1,37 +1,18 @@
 -- What a client comes to by an answer that its operation waits for: it goes on, or the operation ends.
-use Rattle.std.proofs.Common.{◌⊎◌, inl, inr, ◌≡◌, ℕ, zero, suc, ◌+◌, ◌<◌, ◌≤◌, List, [], ◌∷◌, ◌++◌, length, Option, Some, None, Bool, true, false, refl, sym, ap, ◌∙◌, subst, arith}
-use Rattle.std.specs.Prelude.{slice_get, slice_set, map, not, IsSome, is_some}
-use Rattle.wire.specs.declared.message.Pending.{Pending}
-use Rattle.xdr_codec.specs.declared.status.Status.{Status}
+use Rattle.std.proofs.Common.{◌⊎◌, inl, inr, ◌≡◌, ℕ, ◌+◌, ◌≤◌, List, [], length, Option, Some, None, false, refl, sym, ap, ◌∙◌, subst, arith, map, IsSome}
 use Rattle.xdr_codec.specs.declared.status.Status.TheVariants as status
-use Rattle.xdr_codec.specs.declared.answer.Answer.TheVariants.{Failed}
 use Rattle.open_close.specs.State as client
-use Rattle.open_close.specs.Counting.{no_counts}
-use Rattle.open_close.specs.Step.{refused, idle}
-use Rattle.open_close.specs.declared.step.ClientStep.{ClientStep}
-use Rattle.open_close.specs.declared.step.Ended.{Ended}
 use Rattle.open_close.specs.declared.step.Outcome.TheVariants as outcome
-use Rattle.open_close.specs.declared.task.Local.{Local}
-use Rattle.open_close.specs.declared.task.Stage.{Stage}
-use Rattle.register_model.specs.Register.{content_of}
-use Rattle.register_model.specs.declared.op.Op.{Op}
 use Rattle.register_model.specs.declared.op.Outcome.{Outcome}
 use Rattle.register_model.specs.declared.op.Outcome.TheVariants as told
-use Rattle.register_model.specs.declared.op.Traffic.{Traffic}
-use Rattle.register_model.specs.declared.op.Word.{Word}
 use Rattle.register_model.specs.declared.op.Word.TheVariants as words
-use Rattle.trace_replay.specs.Core.{Core, Session}
-use Rattle.trace_replay.specs.Ops.{has_point, point_if, taken_at, told_of, value_of, counted, ended_op}
-use Rattle.trace_replay.specs.Book.{Book, value_at}
-use Rattle.trace_replay.specs.Causes.{IsOpenRefused}
-use Rattle.trace_replay.specs.Faithful.{is_running}
-use Rattle.kept_promise.specs.Talk.{Ask, Told, Queue, ask_message}
-use Rattle.kept_promise.proofs.Lists.{some_is, nothing_there}
+use Rattle.kept_promise.proofs.Common.{refused, slice_get, slice_set, not, Pending, Status, Failed, no_counts, idle, ClientStep, Ended, Local, Stage, content_of, Op, Traffic, Word, Core, Session, has_point, point_if, counted, ended_op, Book, value_at, IsOpenRefused, is_running, Ask, Told, Queue, ask_message}
+use Rattle.kept_promise.proofs.Lists.{some_is, nothing_there, false_and_true}
 use Rattle.kept_promise.proofs.Messages.{Job, stage_word, IsTold, HashTold}
-use Rattle.kept_promise.proofs.Rights.{is_remote, Caused, RefusedBy, IsRight}
+use Rattle.kept_promise.proofs.Rights.{is_remote, Caused, RefusedBy, open_not_close}
 use Rattle.kept_promise.proofs.Growth.{Grows, value_later}
 use Rattle.kept_promise.proofs.History.{onward, Becomes, grows_becomes}
-use Rattle.kept_promise.proofs.Facts.{IsSession, IsOf, IsKept}
+use Rattle.kept_promise.proofs.Facts.{IsSession, IsOf}
 use Rattle.kept_promise.proofs.Steps.{Here, session_at, Quiet, job_op, GoesOn, Stops, gone_on, stopped, counting}
 use Rattle.kept_promise.proofs.CloseEnds.{forgets}
 
@@ -76,10 +57,7 @@ abbrev pub PointOf : Book → Op → Option ℕ → Type 0
 PointOf book o p = (m : ℕ) → p ≡ Some m → (o.point ≡ Some m) ⊎ ((o.begin ≤ m) × (m ≤ book.steps) × ((i : ℕ) → slice_get book.entries i ≡ Some m → ⊥))
 
 not_close : (w : Word) → w ≡ words.Open → w ≡ words.Close → ⊥
-not_close w e f = apart (sym e ∙ f)
-  where
-    apart : words.Open ≡ words.Close → ⊥
-    apart e = absurd cc
+not_close w e f = open_not_close (sym e ∙ f)
 
 becomes_open : (book : Book) (o : Op) (place : ℕ) (tr : Traffic) (p : Option ℕ) (u : Outcome) (v : List ℕ) → o.word ≡ words.Open → PointOf book o p → Becomes book None (Some place) place o (open_op o tr (book.steps + 1) p u v)
 becomes_open book o place tr p u v w point = record {
@@ -140,10 +118,7 @@ stops_open book k qs n x q t ts j g tr p u v opened quiet word stopped_ point ca
     }
   where
     running_not : (u : Outcome) → is_running u ≡ false → u ≡ told.Running → ⊥
-    running_not u s e = both (is_running u) s (ap is_running e)
-      where
-        both : (b : Bool) → b ≡ false → b ≡ true → ⊥
-        both b s e = absurd cc
+    running_not u s e = false_and_true (is_running u) s (ap is_running e)
 
 -- ---- it was refused
 
@@ -199,7 +174,6 @@ comes_refused book k qs n x q t ts j g offset s word quiet (inl dir) = subst (λ
 
     by : (more : Book) (v : Word) → v ≡ words.Open → IsOpenRefused more of.op.file r 21 → RefusedBy more r v 21
     by more words.Open e i = i
-    by more words.Close e i = absurd cc
     by more _ e i = absurd cc
 comes_refused book k qs n x q t ts j g offset s word quiet (inr stale) = subst (λ z. Comes book k qs n x q t ts j g (refused_at (client_at book k qs n x q t ts j g) t.xid z)) (sym stale.0) (inr (record {
   op = r;
@@ -247,5 +221,4 @@ comes_refused book k qs n x q t ts j g offset s word quiet (inr stale) = subst (
 
     by : (more : Book) (v : Word) → v ≡ words.Open → IsOpenRefused more of.op.file r 70 → RefusedBy more r v 70
     by more words.Open e i = i
-    by more words.Close e i = absurd cc
     by more _ e i = absurd cc

@@ -1,22 +1,11 @@
 -- What happens in a run, deliveries apart, is what its lines tell, and the commands are those of its `do` lines.
-use Rattle.std.proofs.Common.{◌≡◌, ℕ, zero, suc, ◌+◌, List, [], ◌∷◌, ◌++◌, Option, Some, None, Bool, true, false, refl, sym, ap, ◌∙◌, append_assoc}
-use Rattle.std.specs.Prelude.{Result, Ok, Err, map, flat_map, take}
-use Rattle.rpc_record.specs.Records.{fed}
-use Rattle.command_text.specs.Parts.{lines_of}
-use Rattle.command_text.specs.declared.command.Command.{Command}
-use Rattle.trace_text.specs.Grammar.{line_of}
-use Rattle.trace_text.specs.declared.line.Line.{Line}
+use Rattle.std.proofs.Common.{◌≡◌, ℕ, zero, suc, ◌+◌, List, [], ◌∷◌, ◌++◌, Option, Some, None, Bool, true, false, refl, sym, ap, ◌∙◌, append_assoc, Result, Ok, Err, map, take}
 use Rattle.trace_text.specs.declared.line.Line.TheVariants as line
-use Rattle.trace_text.specs.declared.refusal.LineFault.{LineFault}
-use Rattle.trace_replay.specs.declared.fault.Refused.{Refused}
-use Rattle.trace_replay.specs.declared.turn.Turn.{Turn}
 use Rattle.trace_replay.specs.declared.turn.Turn.TheVariants as turn
-use Rattle.trace_replay.specs.Core.{Event, Event.Joins, Event.Does, Event.Serves, Event.Hears, Event.Settles, Event.Cuts, Event.Hangs, numbered}
-use Rattle.trace_replay.specs.World.{World, Wire, start, happened}
-use Rattle.trace_replay.specs.Delivery.{up_taken, down_taken, up_length, down_length, up_all, round, is_still}
-use Rattle.trace_replay.specs.Run.{at_events, count_of, asked, asked_by, turned, refused, run_from, run}
-use Rattle.trace_replay.specs.Trail.{Moment, Deed, deed_by, deeds_from, deeds_of, told_in, event_by, events_of, told_by, told_of, command_by, commands_of, step_of, moments_of, up_moments_at, up_moments, down_moments_at, down_moments, round_moments, passes_moments, turn_moments, moments_from, moments}
+use Rattle.trace_replay.specs.Trail.{told_in, event_by, events_of, told_by, told_of, command_by, commands_of}
+use Rattle.kept_promise.proofs.Common.{flat_map, fed, lines_of, Command, line_of, Line, LineFault, Turn, Event, Event.Joins, Event.Does, Event.Serves, Event.Hears, Event.Settles, Event.Cuts, Event.Hangs, numbered, World, Wire, start, happened, up_taken, down_taken, up_length, down_length, up_all, round, is_still, at_events, count_of, asked, asked_by, turned, run_from, run, Moment, Deed, deed_by, deeds_from, deeds_of, step_of, moments_of, up_moments_at, up_moments, down_moments_at, down_moments, round_moments, passes_moments, turn_moments, moments_from, moments}
 use Rattle.kept_promise.proofs.RunsAsked.{turn_of, asked_turn}
+use Rattle.kept_promise.proofs.RunsResults.{no_world, ran_by, moments_by}
 
 -- ---- of moments
 
@@ -78,18 +67,10 @@ turn_told (turn.Hang n) = Hangs n ∷ []
 turn_told t = []
 
 turn_tells : (w : World) (t : Turn) → told_of (turn_moments w t) ≡ turn_told t
-turn_tells w turn.Skip = refl
-turn_tells w (turn.At s) = refl
-turn_tells w (turn.Clients m) = refl
-turn_tells w (turn.File name content) = refl
-turn_tells w (turn.Join c) = refl
-turn_tells w (turn.Do c now d) = refl
-turn_tells w (turn.Settle now) = refl
-turn_tells w (turn.Cut c) = refl
-turn_tells w (turn.Hang n) = refl
 turn_tells w (turn.Up n a now) = up_told (at_events w) n (count_of a (up_length (numbered w.wires n))) now
 turn_tells w (turn.Down n a now) = down_told (at_events w) n (count_of a (down_length (numbered w.wires n))) now
 turn_tells w (turn.Pass n k server at) = passes_told k (at_events w) n server at
+turn_tells w _ = refl
 
 -- ---- of a line
 
@@ -110,18 +91,6 @@ line_tells (line.Hang n at) = refl
 line_tells (line.Pass n rounds at r) = refl
 
 -- ---- of all lines
-
-abbrev whole : World → Result World Refused
-whole w = Ok w
-
-no_world : {A : Type 0} (r : Refused) (v : World) → Err r ≡ whole v → A
-no_world r v e = absurd cc
-
-abbrev ran_by : World → ℕ → List (List ℕ) → Result Turn LineFault → Result World Refused
-ran_by w n ls r = elim r [ Err f ↦ Err (refused n f) | Ok t ↦ run_from (turned w t) (n + 1) ls ]
-
-abbrev moments_by : World → ℕ → List (List ℕ) → Result Turn LineFault → List Moment
-moments_by w n ls r = elim r [ Err f ↦ [] | Ok t ↦ turn_moments w t ++ moments_from (turned w t) (n + 1) ls ]
 
 abbrev Later : ℕ → (w v : World) → List (List ℕ) → Type 0
 Later n w v ls = (t : Turn) → run_from (turned w t) (n + 1) ls ≡ Ok v → told_of (moments_from (turned w t) (n + 1) ls) ≡ events_of ls
@@ -157,12 +126,7 @@ deeds_told past (m ∷ ms) = by m.event (deeds_from (past ++ m ∷ []) ms) (told
   where
     by : (e : Event) (ds : List Deed) (es : List Event) → map told_in ds ≡ flat_map commanded es → map told_in (deed_by past (step_of m) e ++ ds) ≡ flat_map commanded (told_by e ++ es)
     by (Does c now d) ds es h = ap (λ (z : List Told). (c, d) ∷ z) h
-    by (Joins c) ds es h = h
-    by (Serves n now bytes) ds es h = h
-    by (Hears n now bytes) ds es h = h
-    by (Settles now) ds es h = h
-    by (Cuts c) ds es h = h
-    by (Hangs n) ds es h = h
+    by _ ds es h = h
 
 lines_told : (ls : List (List ℕ)) → flat_map commanded (events_of ls) ≡ commands_of ls
 lines_told [] = refl

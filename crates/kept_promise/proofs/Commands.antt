@@ -1,54 +1,26 @@
 -- Each command, and what its client makes of it.
-use Rattle.std.proofs.Common.{◌⊎◌, inl, inr, ◌≡◌, ℕ, zero, suc, ◌+◌, ◌*◌, ◌<◌, ◌≤◌, List, [], ◌∷◌, ◌++◌, length, Option, Some, None, Bool, true, false, refl, sym, ap, ◌∙◌, subst, arith, eq-eqb, ne_eqb, eqb-true}
-use Rattle.std.proofs.lemmas.Bool.Decides.{nat_tests}
-use Rattle.std.specs.Prelude.{slice_get, map, not, cond, ◌==◌, nat_lt, IsSome, is_some, if◌then◌else◌}
-use Rattle.sha1.specs.Sha1.{sha1}
-use Rattle.command_text.specs.Content.{content_length, content_bytes}
-use Rattle.command_text.specs.declared.content.Part.{Part}
-use Rattle.command_text.specs.declared.command.Command.{Command}
+use Rattle.std.proofs.Common.{inl, inr, ◌≡◌, ℕ, zero, suc, ◌+◌, ◌<◌, ◌≤◌, List, [], ◌∷◌, ◌++◌, length, Option, Some, None, Bool, true, false, refl, sym, ap, ◌∙◌, subst, arith, eq-eqb, ne_eqb, IsSome}
 use Rattle.command_text.specs.declared.command.Command.TheVariants as command
-use Rattle.command_text.proofs.Contents.{content_size}
-use Rattle.server_core.specs.State as server
-use Rattle.server_core.specs.declared.file.File.{File}
 use Rattle.open_close.specs.State as client
-use Rattle.open_close.specs.Closing.{make_call}
-use Rattle.open_close.specs.Counting.{ends, sends_one}
-use Rattle.open_close.specs.Local.{local_most, written_size, written, truncated, part_of}
-use Rattle.open_close.specs.Opening.{hash_call}
-use Rattle.open_close.specs.Step.{is_open, has_xids, may_ask, tries_anew, asks_hashes, opens_if, opens, on_local, done_with, edits, writes, truncates, reads, abandons, asks_temp, closes, command_step}
-use Rattle.open_close.specs.declared.step.ClientStep.{ClientStep}
-use Rattle.open_close.specs.declared.step.Outcome.{Outcome}
 use Rattle.open_close.specs.declared.step.Outcome.TheVariants as outcome
-use Rattle.open_close.specs.declared.task.Local.{Local}
-use Rattle.open_close.specs.declared.task.Stage.{Stage}
 use Rattle.open_close.specs.declared.task.Stage.TheVariants as stage
-use Rattle.open_close.specs.declared.task.Task.{Task}
 use Rattle.open_close.proofs.Edits.{written_length, truncated_length}
-use Rattle.open_close.proofs.Locals.{local_at_itself, local_at_another, without_at_itself, without_at_another}
-use Rattle.register_model.specs.Register.{content_of}
-use Rattle.register_model.specs.declared.op.Op.{Op}
-use Rattle.register_model.specs.declared.op.Outcome.TheVariants as told
-use Rattle.register_model.specs.declared.op.Word.{Word}
 use Rattle.register_model.specs.declared.op.Word.TheVariants as words
-use Rattle.trace_replay.specs.Core.{Core, Seat, Session, Event.Does, Loss, Loss.Nothing, Turned, numbered, with_numbered, session_of, commanded_sessions, commanded, does, happens}
-use Rattle.trace_replay.specs.Commands.{word_of, file_of, value_at_begin}
-use Rattle.trace_replay.specs.Ops.{begun, op_after, place_with}
-use Rattle.trace_replay.specs.World.{unless}
-use Rattle.trace_replay.specs.Book.{Book}
-use Rattle.kept_promise.specs.Talk.{Call, Call.Hash, Call.Make, Ask, Told, Queue, ask_message}
+use Rattle.kept_promise.proofs.Common.{nat_tests, cond, ◌==◌, nat_lt, if◌then◌else◌, sha1, content_length, content_bytes, Part, Command, content_size, ends, local_most, written_size, written, truncated, part_of, is_open, has_xids, may_ask, tries_anew, asks_hashes, opens_if, opens, on_local, done_with, edits, writes, truncates, reads, abandons, asks_temp, closes, command_step, ClientStep, Outcome, Local, Stage, Task, local_at_itself, local_at_another, without_at_itself, without_at_another, content_of, Op, Word, Core, Seat, Session, Loss.Nothing, CoreStep, numbered, with_numbered, session_of, commanded_sessions, does, word_of, file_of, value_at_begin, begun, op_after, place_with, unless, Book, Call.Hash, Call.Make, Ask, Queue, ask_message}
 use Rattle.kept_promise.proofs.Lists.{some_is, nothing_there, same_or_not, at_end}
 use Rattle.kept_promise.proofs.Messages.{Job, job, job_of}
 use Rattle.kept_promise.proofs.Rights.{IsRight}
 use Rattle.kept_promise.proofs.History.{onward}
-use Rattle.kept_promise.proofs.Turns.{Around, around_with, also_numbered, turned_core}
-use Rattle.kept_promise.proofs.Facts.{IsSeat, IsMatched, IsKept, FileIs}
-use Rattle.kept_promise.proofs.Leading.{Sends, IsNoted, Leads, KeptDoes, ups_put_in, ups_put, queues_after}
+use Rattle.kept_promise.proofs.Turns.{around_with, also_numbered}
+use Rattle.kept_promise.proofs.Facts.{IsMatched, IsKept}
+use Rattle.kept_promise.proofs.Leading.{Leads, KeptDoes, ups_put_in, ups_put}
 use Rattle.kept_promise.proofs.Hangs.{leads_quiet}
 use Rattle.kept_promise.proofs.Cuts.{cut_core}
 use Rattle.kept_promise.proofs.Begins.{First, Free, Starts, begun_client, kept_begins}
 use Rattle.kept_promise.proofs.Does.{cleared, kept_cleared, leads_free, leads_busy, IsOwn}
+use Rattle.kept_promise.proofs.Hashings.{file_small}
 
-abbrev commanded_as : Core → (c : ℕ) → Seat → (place session : Option ℕ) → Option Session → Word → (file : ℕ) → (value : List ℕ) → client.State → ClientStep → Turned
+abbrev commanded_as : Core → (c : ℕ) → Seat → (place session : Option ℕ) → Option Session → Word → (file : ℕ) → (value : List ℕ) → client.State → ClientStep → CoreStep
 commanded_as k c seat place session found w file value s acts = record {
   core = record {
     server = k.server;
@@ -181,21 +153,6 @@ begun_right more c w file value step remote now = record {
   within = λ l p e f. nothing_there p f;
   failed = λ a b d. refl;
 }
-
--- a file that is open is one of the tree, and has a number of 64 bits
-file_fits : (book : Book) (k : Core) (qs : List Queue) (file : ℕ) → IsKept book k qs → IsSome (content_of book.opening file) → file < 18446744073709551616
-file_fits book k qs file kept some = by (server.file_at k.server.files file) (kept.server.held file)
-  where
-    by : (o : Option File) → FileIs book file o → file < 18446744073709551616
-    by (Some f) h = h.2
-    by None h = absurd (not_both (content_of book.opening file) h.0 some)
-      where
-        not_both : {A : Type 0} (o : Option A) → o ≡ None → IsSome o → ⊥
-        not_both (Some x) e h = absurd cc
-        not_both None e h = absurd (none_is h)
-          where
-            none_is : false ≡ true → ⊥
-            none_is e = absurd cc
 
 -- it begins: the queue, the session and the seat are as its step leaves them
 leads_begins : (book : Book) (k : Core) (qs : List Queue) (c : ℕ) (seat : Seat) (w : Word) (file : ℕ) (value : List ℕ) (temp : ℕ) (s : Stage) (a : Ask) (acts : ClientStep) → (g : Idle book k qs c seat) → (l : Linked book k qs c seat)
@@ -344,13 +301,13 @@ close_begins book k qs c seat file v g l at room =
       pointless = refl;
       right = begun_right (onward book 1 (book.ops ++ new ∷ [])) c words.Close file value (k.steps + 1) refl (ap (λ z. z + 1) steps);
       asked = tt;
-      fits = (omega (arith, room), omega (arith, room, le), file_fits book k qs file g.kept known.0);
+      fits = (omega (arith, room), omega (arith, room, le), file_small book k qs file g.kept known.0);
       under = omega arith;
       piece = λ f. tt;
       temps = omega arith;
       short = let k1 = known.1 in let b = ap (λ (z : List ℕ). length z) bytes in omega (arith, k1, b);
       fetch = λ taken j. tt;
-      closes = λ contents e. (record { known = is; op = new; there = at_end book.ops new; unmade = (refl, refl, refl); value_is = refl; small = file_fits book k qs file g.kept known.0 }, e, omega arith);
+      closes = λ contents e. (record { known = is; op = new; there = at_end book.ops new; unmade = (refl, refl, refl); value_is = refl; small = file_small book k qs file g.kept known.0 }, e, omega arith);
       trying = λ m y e. absurd cc;
       xids = omega (arith, room);
       bounded = (omega (arith, room), omega (arith, le));

@@ -1,30 +1,15 @@
 -- The server takes a commit: it is refused, or its change waits.
-use Rattle.std.proofs.Common.{inl, inr, ◌≡◌, ℕ, suc, ◌+◌, ◌<◌, ◌≤◌, List, [], ◌∷◌, ◌++◌, length, max, Option, Some, None, Bool, true, false, refl, sym, ap, ◌∙◌, subst, arith, eq-eqb, ne_eqb}
-use Rattle.std.proofs.lemmas.Bool.Decides.{nat_tests}
-use Rattle.std.specs.Prelude.{slice_get, map, cond, ◌==◌, ◌||◌, nat_lt, IsSome, Result, Ok, Err, if◌then◌else◌}
-use Rattle.xdr_codec.specs.Handle.{handle_bytes}
-use Rattle.xdr_codec.specs.declared.answer.Answer.TheVariants.{Failed}
-use Rattle.xdr_codec.specs.declared.status.Status.{Status}
+use Rattle.std.proofs.Common.{inl, inr, ◌≡◌, ℕ, ◌+◌, ◌<◌, ◌≤◌, List, [], ◌∷◌, ◌++◌, length, max, Option, Some, None, Bool, true, false, refl, sym, ap, ◌∙◌, subst, arith, eq-eqb, ne_eqb, map, IsSome, Result, Ok, Err}
 use Rattle.xdr_codec.specs.declared.status.Status.TheVariants as status
 use Rattle.hash_calls.specs.declared.message.Lb.TheVariants as lb
-use Rattle.wire.specs.Message.{message_spell}
 use Rattle.server_core.specs.State as server
-use Rattle.server_core.specs.Answers.{Node, root, file, node_of}
-use Rattle.server_core.specs.Closing.{at, answers, sends, commits, commits_to, commits_whole, has_waiting, is_full, changes_most}
-use Rattle.server_core.specs.Temps.{Temp, temp_at, without_temp, key_of, assembled, size_most, joined}
-use Rattle.server_core.specs.declared.change.Change.{Change}
-use Rattle.server_core.specs.declared.file.File.{File}
+use Rattle.server_core.specs.Closing.{answers, sends, changes_most}
+use Rattle.temp_files.specs.Pieces.{joined}
 use Rattle.open_close.specs.State as client
 use Rattle.open_close.specs.declared.task.Stage.TheVariants as stage
-use Rattle.register_model.specs.Register.{content_of}
-use Rattle.trace_replay.specs.declared.link.Taken.{Taken}
-use Rattle.register_model.specs.declared.op.Op.{Op}
-use Rattle.trace_replay.specs.Core.{Core, Session, Event.Serves, numbered, with_numbered}
-use Rattle.trace_replay.specs.Trail.{owner_in}
-use Rattle.trace_replay.specs.Book.{Book}
-use Rattle.kept_promise.specs.Talk.{Call.Commit, Reply.Changed, Ask, Queue, ask_message}
+use Rattle.kept_promise.proofs.Common.{nat_tests, slice_get, cond, ◌==◌, ◌||◌, nat_lt, if◌then◌else◌, handle_bytes, Failed, Status, message_spell, Node, root, file, node_of, at, commits, commits_to, commits_whole, has_waiting, is_full, size_most, Temp, temp_at, without_temp, key_of, assembled, Change, File, content_of, TakenCall, Op, Core, Session, Event.Serves, numbered, with_numbered, owner_in, Book, Call.Commit, Reply.Changed, Ask, Queue, ask_message}
 use Rattle.kept_promise.proofs.Statements.{CallFits}
-use Rattle.kept_promise.proofs.Lists.{some_is, nothing_there, same_or_not, of_appended}
+use Rattle.kept_promise.proofs.Lists.{some_is, nothing_there, same_or_not, of_appended, count_more, false_and_true}
 use Rattle.kept_promise.proofs.Keys.{times, times_append, own, on_way, change_key, ask_key, told_key}
 use Rattle.kept_promise.proofs.Messages.{Job, job, stage_word, AllAsks, Rising, IsAsked, IsAnswer, AnswerOf, IsCommit, IsPiece, IsPending, TempUnder, AreParts}
 use Rattle.kept_promise.proofs.History.{onward, grows_same, goes_same, still_same}
@@ -83,7 +68,7 @@ refused_with laws book k qs n now x q xid m f size us s temps g were shelf found
 
 -- ---- its change waits
 
-own_more : (m : ℕ) (ws : List Change) (c : Change) → own m (ws ++ c ∷ []) ≡ own m ws ++ own m (c ∷ [])
+pub own_more : (m : ℕ) (ws : List Change) (c : Change) → own m (ws ++ c ∷ []) ≡ own m ws ++ own m (c ∷ [])
 own_more m [] c = refl
 own_more m (w ∷ ws) c = by (w.session == m) (own_more m ws c)
   where
@@ -94,16 +79,12 @@ own_more m (w ∷ ws) c = by (w.session == m) (own_more m ws c)
 own_here : (m : ℕ) (ws : List Change) (c : Change) → c.session ≡ m → own m (ws ++ c ∷ []) ≡ own m ws ++ c ∷ []
 own_here m ws c e = own_more m ws c ∙ ap (λ b. own m ws ++ cond b (c ∷ []) []) (eq-eqb c.session m e)
 
-own_there : (m : ℕ) (ws : List Change) (c : Change) → (c.session ≡ m → ⊥) → own m (ws ++ c ∷ []) ≡ own m ws
+pub own_there : (m : ℕ) (ws : List Change) (c : Change) → (c.session ≡ m → ⊥) → own m (ws ++ c ∷ []) ≡ own m ws
 own_there m ws c apart = own_more m ws c ∙ ap (λ b. own m ws ++ cond b (c ∷ []) []) (ne_eqb c.session m apart) ∙ nil (own m ws)
   where
     nil : (l : List Change) → l ++ [] ≡ l
     nil [] = refl
     nil (z ∷ l) = ap (λ t. z ∷ t) (nil l)
-
-length_more : {A : Type 0} (xs : List A) (x : A) → length (xs ++ x ∷ []) ≡ suc (length xs)
-length_more [] x = refl
-length_more (y ∷ xs) x = ap suc (length_more xs x)
 
 -- a change that waits is where its call was
 way_waits : (n y : ℕ) (w : List Change) (c : Change) (q : Queue) (a : Ask) (us : List Ask) → q.ups ≡ a ∷ us → c.session ≡ n → change_key c ≡ ask_key a → times y (on_way n (w ++ c ∷ []) (record q { ups = us })) ≡ times y (on_way n w q)
@@ -150,7 +131,7 @@ kept_waits book k qs n now x q xid m f size us temps content sessions after g we
       server = record {
         held = λ i. file_still book more i (server.file_at k.server.files i) (still_same book 1 kept.sound) refl (kept.server.held i);
         versions = kept.server.versions;
-        changes = let e = length_more k.server.waiting d in omega (arith, e, room);
+        changes = let e = count_more k.server.waiting d in omega (arith, e, room);
         lengths = λ i u at. elim (of_appended k.server.waiting d i u at) [
           | inl new ↦ subst (λ (z : Change). length z.content ≤ 67108864) (sym new.1) (subst (λ (z : List ℕ). length z ≤ 67108864) (sym same_content) (h.lengths m))
           | inr old ↦ kept.server.lengths i u old
@@ -175,13 +156,13 @@ kept_waits book k qs n now x q xid m f size us temps content sessions after g we
         owner = h.owner;
         here = h.here;
         shut = h.shut;
-        lost = λ hung. absurd (not_both x.hung g.unhung hung);
+        lost = λ hung. absurd (false_and_true x.hung g.unhung hung);
         stands_is = h.stands_is;
         ups_fit = (subst (AllAsks (λ b. CallFits b.xid b.call)) g.first h.ups_fit).1;
         downs_fit = h.downs_fit;
         talk = λ uncut.
             let talk = h.talk uncut in
-            let z : Taken = record { xid = xid; step = book.steps + 1 } in
+            let z : TakenCall = record { xid = xid; step = book.steps + 1 } in
             let finds = finds_more x.taken z in
             let rising = subst (λ (l : List Ask). Rising talk.floor l c.client.next) g.first talk.rising in
             record {
@@ -215,7 +196,7 @@ kept_waits book k qs n now x q xid m f size us temps content sessions after g we
             let s = h.single in
             let e = ap commits_in g.first in
             let l = ap (λ (z : List Change). length z) (own_here n k.server.waiting d refl) in
-            let w = length_more (own n k.server.waiting) d in
+            let w = count_more (own n k.server.waiting) d in
             omega (arith, s, e, l, w);
         old = λ p u. let o = h.old p u in let w = grows.each p o.0 o.1 in (w.0, w.1, w.2.client ∙ o.2);
         orderly = λ uncut. orderly_taken book more None None n k.server.temps temps x.hung q a us c grows g.first (held uncut) (h.orderly uncut);
@@ -229,9 +210,6 @@ kept_waits book k qs n now x q xid m f size us temps content sessions after g we
       ];
     }) kept.journal kept
   where
-    not_both : (b : Bool) → b ≡ false → b ≡ true → ⊥
-    not_both b u v = absurd cc
-
     later_session : (z : Session) (o : ℕ) → numbered k.sessions o ≡ Some z → (v : Session) × (numbered sessions o ≡ Some v) × (v.owner ≡ z.owner) × (v.cut ≡ z.cut) × (v.hung ≡ z.hung)
     later_session z o u = elim (same_or_not o n) [
       | inr apart ↦ (z, around.others o apart ∙ u, refl, refl, refl)
@@ -274,9 +252,6 @@ not_full a b c d e = by (nat_lt a b) refl e
     by : (t : Bool) → nat_lt a b ≡ t → (t || nat_lt c d) ≡ false → b ≤ a
     by true same e = absurd cc
     by false same e = grind (arith, nat_tests, same)
-
-not_both : (b : Bool) → b ≡ false → b ≡ true → ⊥
-not_both b u v = absurd cc
 
 -- where its client is there, a commit finds its temporary file whole, and its file in the tree
 pub record IsReady (book : Book) (k : Core) (qs : List Queue) (n now : ℕ) (x : Session) (q : Queue) (xid m f size : ℕ) (us : List Ask) (g : Given book k qs n now x q (record { xid = xid; call = Commit m f size }) us) : Type 0 where
@@ -397,7 +372,7 @@ serve_commit laws book k qs n now x q xid m f size us g = by (temp_at k.server.t
 
     has_room : (id : ℕ) (content : List ℕ) (w full : Bool) → has_waiting k.server.waiting n ≡ w → is_full (record (at k.server now) { temps = left }) (length content) ≡ full → id ≡ f → IsSome (content_of book.opening f) → content ≡ h.contents m
         → Leads book (rest_of qs n q us) (served k n x xid (if w then answers (record (at k.server now) { temps = left }) n xid (lb.CommitTmpAnswer (Failed status.Jukebox tt)) else if full then answers (record (at k.server now) { temps = left }) n xid (lb.CommitTmpAnswer (Failed status.NoSpc tt)) else (record (at k.server now) { temps = left; waiting = k.server.waiting ++ record { session = n; xid = xid; file = id; content = content } ∷ [] }, sends [])))
-    has_room id content true full waits e same known is = ends status.Jukebox (λ uncut. absurd (not_both (has_waiting k.server.waiting n) (ready uncut).alone waits))
+    has_room id content true full waits e same known is = ends status.Jukebox (λ uncut. absurd (false_and_true (has_waiting k.server.waiting n) (ready uncut).alone waits))
     has_room id content false true waits e same known is = ends status.NoSpc (λ uncut. no_room laws book k qs n now x q xid m f size us g content uncut is e)
     has_room id content false false waits e same known is = subst (λ (i : ℕ). Leads book (rest_of qs n q us) (served k n x xid (record (at k.server now) { temps = left; waiting = k.server.waiting ++ record { session = n; xid = xid; file = i; content = content } ∷ [] }, sends []))) (sym same) (leads_waits book k qs n now x q xid m f size us left content g (λ i u w. of_removed _ k.server.temps i u w) is (let le = not_full changes_most (k.server.changes + length k.server.waiting + 1) _ _ e in le) known (shelf_out k.server.temps n m g.kept.shelf) others (λ uncut. (ready uncut).left))
 
@@ -406,7 +381,7 @@ serve_commit laws book k qs n now x q xid m f size us g = by (temp_at k.server.t
     whole id t (Some c) found some same known is = has_room id c (has_waiting k.server.waiting n) (is_full (record (at k.server now) { temps = left }) (length c)) refl refl same known (is c refl)
 
     sized : (b : Bool) (id : ℕ) (t : Temp) → nat_lt size_most size ≡ b → temp_at k.server.temps n m ≡ Some t → id ≡ f → IsSome (content_of book.opening f) → Leads book (rest_of qs n q us) (served k n x xid (if b then answers (record (at k.server now) { temps = left }) n xid (lb.CommitTmpAnswer (Failed status.FBig tt)) else commits_whole (record (at k.server now) { temps = left }) n xid id (assembled t size)))
-    sized true id t big found same known = ends status.FBig (λ uncut. absurd (not_both (nat_lt size_most size) (ready uncut).small big))
+    sized true id t big found same known = ends status.FBig (λ uncut. absurd (false_and_true (nat_lt size_most size) (ready uncut).small big))
     sized false id t big found same known =
         let fits = first_fits book k qs n now x q a us g in
         let e = of_lookup k.server.temps (key_of n m) t found in

@@ -1,37 +1,21 @@
 -- An operation has ended where the newest session of its client is left alone: else one of its calls would be on its way, or a change wait.
-use Rattle.std.proofs.Common.{◌≡◌, ℕ, zero, suc, ◌<◌, ◌≤◌, List, [], ◌∷◌, ◌++◌, length, Option, Some, None, Bool, true, false, refl, sym, ap, ◌∙◌, subst, arith, append-nil, ne_eqb}
-use Rattle.std.proofs.lemmas.List.Elements.{All-nil, All-cons}
-use Rattle.std.specs.Prelude.{slice_get, map, cond, ◌==◌, ◌&&◌, All, IsSome}
-use Rattle.rpc_record.specs.Records.{Unread, Came, split, fed, stream}
-use Rattle.rpc_record.specs.declared.records.Fed.{Fed}
-use Rattle.rpc_record.proofs.Streaming.{stream_comes}
-use Rattle.rpc_record.specs.declared.refusal.Refusal.{Refusal}
-use Rattle.wire.specs.Message.{MessageFits, message_spell}
-use Rattle.wire.specs.declared.message.Message.{Message}
-use Rattle.wire.specs.declared.message.Pending.{Pending}
-use Rattle.server_core.specs.declared.change.Change.{Change}
+use Rattle.std.proofs.Common.{◌≡◌, ℕ, zero, suc, ◌<◌, ◌≤◌, List, [], ◌∷◌, ◌++◌, length, Option, Some, None, Bool, true, false, refl, sym, ap, ◌∙◌, subst, arith, append-nil, map, IsSome}
 use Rattle.open_close.specs.State as client
-use Rattle.open_close.specs.declared.task.Stage.{Stage}
-use Rattle.open_close.specs.declared.task.Task.{Task}
-use Rattle.register_model.specs.declared.op.Op.{Op}
-use Rattle.trace_replay.specs.Core.{Seat, Session, numbered}
-use Rattle.trace_replay.specs.World.{World, Wire}
-use Rattle.trace_replay.specs.Delivery.{is_none, is_still_at}
-use Rattle.trace_replay.specs.Trail.{Moment}
-use Rattle.trace_replay.specs.Book.{book_of}
+use Rattle.trace_replay.specs.Delivery.{is_none}
 use Rattle.trace_replay.specs.Complete.{IsAlone, IsLeftAlone}
-use Rattle.kept_promise.specs.Talk.{Ask, Told, Queue, ask_message, told_message}
-use Rattle.kept_promise.proofs.Statements.{CallFits}
-use Rattle.kept_promise.proofs.Lists.{some_is, nothing_there}
+use Rattle.kept_promise.proofs.Common.{slice_get, All, Unread, Came, split, fed, stream, Fed, stream_comes, Refusal, message_spell, Pending, Change, Stage, Task, Op, Seat, Session, numbered, World, Wire, is_still_at, Moment, book_of, Queue, ask_message, told_message}
+use Rattle.kept_promise.proofs.Lists.{some_is, nothing_there, both_true}
 use Rattle.kept_promise.proofs.Keys.{times, own, on_way, ask_key, told_key, change_key, pending_key, there_by}
-use Rattle.kept_promise.proofs.Messages.{Job, job, job_of, AllAsks, AllTolds}
+use Rattle.kept_promise.proofs.Messages.{Job, job, job_of}
 use Rattle.kept_promise.proofs.Fits.{FitLaws}
 use Rattle.kept_promise.proofs.Turns.{also_numbered}
 use Rattle.kept_promise.proofs.Facts.{IsBalanced, IsTalk, IsKept}
 use Rattle.kept_promise.proofs.Leading.{CarryAll}
-use Rattle.kept_promise.proofs.Rounds.{IsRested, AreRested}
+use Rattle.kept_promise.proofs.Rounds.{IsRested, AreRested, is_empty}
 use Rattle.kept_promise.proofs.Doing.{without_end}
 use Rattle.kept_promise.proofs.CutEnds.{job_is}
+use Rattle.kept_promise.proofs.RunsDeliveries.{asks_short, tolds_short}
+use Rattle.kept_promise.proofs.Joins.{own_none}
 
 -- ---- no bytes, no messages
 
@@ -48,35 +32,11 @@ nothing_comes end records short sound rested e =
     let came : (split (end.rest ++ [])).records ≡ [] = sym (fed_none end sound) ∙ ap (λ (r : Unread × Fed). r.1.records) rested in
     c.records ∙ ap (λ l. l ++ c.left) came ∙ c.all refl
 
-fits_short : (m : Message) → MessageFits m → length (message_spell m) ≤ 131072
-fits_short m f = let l = f.1 in omega (arith, l)
-
-asks_short : FitLaws → (us : List Ask) → AllAsks (λ a. CallFits a.xid a.call) us → All (λ r. length r ≤ 131072) (map message_spell (map ask_message us))
-asks_short fits [] h = All-nil (λ r. length r ≤ 131072)
-asks_short fits (a ∷ us) h = All-cons (λ r. length r ≤ 131072) (message_spell (ask_message a)) (map message_spell (map ask_message us)) (fits_short (ask_message a) (fits.calls a.xid a.call h.0).0) (asks_short fits us h.1)
-
-tolds_short : (ts : List Told) → AllTolds (λ t. MessageFits (told_message t)) ts → All (λ r. length r ≤ 131072) (map message_spell (map told_message ts))
-tolds_short [] h = All-nil (λ r. length r ≤ 131072)
-tolds_short (t ∷ ts) h = All-cons (λ r. length r ≤ 131072) (message_spell (told_message t)) (map message_spell (map told_message ts)) (fits_short (told_message t) h.0) (tolds_short ts h.1)
-
 none_mapped : {A B : Type 0} (f : A → B) (xs : List A) → map f xs ≡ [] → xs ≡ []
 none_mapped f [] e = refl
 none_mapped f (x ∷ xs) e = absurd cc
 
 -- ---- a session that is left alone
-
-both_true : (a b : Bool) → (a && b) ≡ true → (a ≡ true) × (b ≡ true)
-both_true true true e = (refl, refl)
-both_true true false e = absurd cc
-both_true false b e = absurd cc
-
-is_empty : (xs : List ℕ) → is_none xs ≡ true → xs ≡ []
-is_empty [] e = refl
-is_empty (x ∷ xs) e = absurd cc
-
-own_none : (n : ℕ) (ws : List Change) → ((i : ℕ) (c : Change) → slice_get ws i ≡ Some c → c.session ≡ n → ⊥) → own n ws ≡ []
-own_none n [] h = refl
-own_none n (c ∷ ws) h = let e : (c.session == n) ≡ false = ne_eqb c.session n (h 0 c refl) in ap (λ t. cond t (c ∷ own n ws) (own n ws)) e ∙ own_none n ws (λ i d f. h (suc i) d f)
 
 numbered_at : {A : Type 0} (P : A → Type 0) (xs : List A) (n : ℕ) (x : A) → ((k : ℕ) (y : A) → slice_get xs k ≡ Some y → P y) → numbered xs n ≡ Some x → P x
 numbered_at P xs zero x h e = nothing_there x e

@@ -1,23 +1,11 @@
 -- What operations counted is what their clients sent and took for them, as a run goes on.
 use Rattle.std.proofs.Common.{◌⊎◌, inl, inr, ◌≡◌, ℕ, zero, suc, ◌+◌, ◌<◌, ◌≤◌, List, [], ◌∷◌, ◌++◌, Option, Some, None, Bool, true, false, refl, sym, ap, ◌∙◌, subst, arith, append-nil, eq-eqb}
-use Rattle.std.proofs.lemmas.Bool.Decides.{nat_tests}
-use Rattle.std.specs.Prelude.{Contains, ◌==◌, ◌&&◌, nat_le, slice_get}
-use Rattle.xdr_codec.specs.declared.answer.Answer.TheVariants.{Done}
 use Rattle.nfs3_calls.specs.declared.message.Nfs.TheVariants as nfs
 use Rattle.wire.specs.declared.message.Body.TheVariants as body
-use Rattle.wire.specs.declared.message.Message.{Message}
 use Rattle.wire.specs.declared.message.Message.TheVariants as message
 use Rattle.open_close.specs.State as client
-use Rattle.open_close.specs.declared.step.ClientStep.{ClientStep}
-use Rattle.open_close.specs.declared.step.Counts.{Counts}
-use Rattle.open_close.specs.declared.step.Ended.{Ended}
-use Rattle.register_model.specs.declared.op.Op.{Op}
-use Rattle.register_model.specs.declared.op.Traffic.{Traffic}
-use Rattle.trace_replay.specs.declared.link.Taken.{Taken}
-use Rattle.trace_replay.specs.Core.{ops_after, ops_with}
-use Rattle.trace_replay.specs.Ops.{no_traffic, counted, op_after, pointed, pointed_at}
-use Rattle.trace_replay.specs.Trail.{Said, all_said}
-use Rattle.trace_replay.specs.Traffic.{until, is_of, sent_traffic, taken_traffic, both, traffic_if, sent_for, taken_for, traffic_of}
+use Rattle.trace_replay.specs.Traffic.{traffic_if, sent_for, taken_for, traffic_of}
+use Rattle.kept_promise.proofs.Common.{nat_tests, Contains, ◌==◌, ◌&&◌, nat_le, slice_get, Done, Message, ClientStep, Counts, Ended, Op, Traffic, TakenCall, ops_after, ops_with, no_traffic, counted, op_after, pointed, pointed_at, Said, all_said, until, is_of, sent_traffic, taken_traffic, both}
 use Rattle.kept_promise.proofs.Lists.{some_is, nothing_there, of_replaced, of_appended}
 use Rattle.kept_promise.proofs.Tallies.{sent_sum, taken_sum, Tallied}
 
@@ -210,7 +198,7 @@ pub record IsActor (ops : List Op) (i : ℕ) (place : Option ℕ) (steps : ℕ) 
   pub own : (p : ℕ) (o : Op) → place ≡ Some p → slice_get ops p ≡ Some o → (o.client ≡ i) × (o.end ≡ None) × (o.begin ≤ steps)
 
 -- an operation that runs in a step, until then and perhaps no longer
-pub running_now : (o : Op) (c : client.State) (taken : List Taken) (n i : ℕ) (acts : ClientStep) → o.client ≡ i → o.end ≡ None → o.begin ≤ n → of_step (op_after o c taken (n + 1) acts) (n + 1) i ≡ true
+pub running_now : (o : Op) (c : client.State) (taken : List TakenCall) (n i : ℕ) (acts : ClientStep) → o.client ≡ i → o.end ≡ None → o.begin ≤ n → of_step (op_after o c taken (n + 1) acts) (n + 1) i ≡ true
 running_now o c taken n i acts client none le = by acts.ended
   where
     before : nat_le o.begin (n + 1) ≡ true
@@ -226,14 +214,14 @@ running_now o c taken n i acts client none le = by acts.ended
     by None = head (until o.end (n + 1)) (ap (λ z. until z (n + 1)) none)
     by (Some e) = head (nat_le (n + 1) (n + 1)) last
 
-pub running_past : (o : Op) (c : client.State) (taken : List Taken) (n : ℕ) (acts : ClientStep) → o.end ≡ None → AlikeUpTo n o (op_after o c taken (n + 1) acts)
+pub running_past : (o : Op) (c : client.State) (taken : List TakenCall) (n : ℕ) (acts : ClientStep) → o.end ≡ None → AlikeUpTo n o (op_after o c taken (n + 1) acts)
 running_past o c taken n acts none = λ step i le. by acts.ended step i le
   where
     by : (e : Option Ended) (step i : ℕ) → step ≤ n → of_step (op_after o c taken (n + 1) (record acts { ended = e })) step i ≡ of_step o step i
     by None step i le = refl
     by (Some e) step i le = ap (λ b. (i == o.client) && (nat_le o.begin step && b)) (let t : nat_le step (n + 1) ≡ true = grind (arith, nat_tests, le) in t ∙ sym (ap (λ z. until z step) none))
 
-pub counted_acts : (ss rs : List Said) (n i : ℕ) (ops : List Op) (place : Option ℕ) (c : client.State) (taken : List Taken) (acts : ClientStep) (ms ts : List Message) → IsActor ops i place n → ((p : ℕ) (o : Op) → place ≡ Some p → slice_get ops p ≡ Some o → Tallied acts.counts ms (taken_sum ts).«data»)
+pub counted_acts : (ss rs : List Said) (n i : ℕ) (ops : List Op) (place : Option ℕ) (c : client.State) (taken : List TakenCall) (acts : ClientStep) (ms ts : List Message) → IsActor ops i place n → ((p : ℕ) (o : Op) → place ≡ Some p → slice_get ops p ≡ Some o → Tallied acts.counts ms (taken_sum ts).«data»)
     → AreCounted ss rs n ops → AreCounted (ss ++ all_said (n + 1) i ms) (rs ++ all_said (n + 1) i ts) (n + 1) (ops_with ops place c taken (n + 1) acts)
 counted_acts ss rs n i ops place c taken acts ms ts actor tally h = record {
   sent_by = said_append (n + 1) ss (all_said (n + 1) i ms) (said_later n (n + 1) ss (omega arith) h.sent_by) (said_now (n + 1) i ms);

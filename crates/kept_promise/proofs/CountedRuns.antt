@@ -1,47 +1,24 @@
 -- A run carries that each operation counts what its client sent and took for it.
-use Rattle.std.proofs.Common.{inl, inr, ◌≡◌, ℕ, zero, suc, ◌+◌, ◌<◌, List, [], ◌∷◌, ◌++◌, length, Option, Some, None, Result, Ok, Err, Bool, true, false, refl, sym, ap, ◌∙◌, subst, arith}
+use Rattle.std.proofs.Common.{inl, inr, ◌≡◌, ℕ, suc, ◌+◌, List, [], ◌∷◌, ◌++◌, length, Option, Some, None, Result, Ok, Err, Bool, true, false, refl, sym, ap, ◌∙◌, subst, arith}
 use Rattle.std.proofs.lemmas.List.{flat_map_more}
-use Rattle.std.specs.Prelude.{◌==◌, slice_get, nat_lt, if◌then◌else◌}
-use Rattle.command_text.specs.Content.{content_length, content_bytes}
-use Rattle.command_text.specs.declared.command.Command.{Command}
 use Rattle.command_text.specs.declared.command.Command.TheVariants as command
-use Rattle.command_text.specs.declared.content.Part.{Part}
-use Rattle.wire.specs.Parse.{parse_of}
-use Rattle.wire.specs.declared.message.Message.{Message}
-use Rattle.wire.specs.declared.fault.WireFault.{WireFault}
 use Rattle.server_core.specs.State as server
-use Rattle.server_core.specs.Step.{server_step}
 use Rattle.server_core.specs.declared.event.Event.TheVariants as event
 use Rattle.server_core.specs.declared.event.Told.{Told}
 use Rattle.server_core.specs.declared.event.Told.TheVariants as told
-use Rattle.open_close.specs.Counting.{no_counts, ends}
-use Rattle.open_close.specs.Local.{local_most, written_size, written, truncated}
 use Rattle.open_close.specs.State as client
-use Rattle.open_close.specs.State.{local_at}
-use Rattle.open_close.specs.Step.{is_open, may_ask, asks_hashes, opens_if, opens, on_local, too_big, done_with, edits, writes, truncates, reads, abandons, asks_temp, closes, command_step, got_step, ended_by, cut}
-use Rattle.open_close.specs.declared.step.BadPeer.{BadPeer}
-use Rattle.open_close.specs.declared.step.ClientStep.{ClientStep}
-use Rattle.open_close.specs.declared.step.Ended.{Ended}
-use Rattle.open_close.specs.declared.step.Outcome.{Outcome}
 use Rattle.open_close.specs.declared.step.Outcome.TheVariants as outcome
-use Rattle.open_close.specs.declared.task.Local.{Local}
-use Rattle.open_close.specs.declared.task.Task.{Task}
-use Rattle.register_model.specs.declared.op.Op.{Op}
-use Rattle.register_model.specs.declared.op.Opening.{Opening}
-use Rattle.trace_replay.specs.declared.link.Taken.{Taken}
-use Rattle.trace_replay.specs.Commands.{word_of, file_of, value_at_begin}
-use Rattle.trace_replay.specs.Ops.{no_traffic, counted, begun, op_after, ended_op, told_of}
-use Rattle.trace_replay.specs.Core.{Core, Seat, Session, Event, Event.Joins, Event.Does, Event.Serves, Event.Hears, Event.Settles, Event.Cuts, Event.Hangs, Turned, numbered, server_waiting, serves_if, serves, session_of, taken_of as session_taken, ops_after, ops_with, does, joins_as, joins, settled_ops, settled_by, settles, cuts_if, cuts, hangs_if, hangs, happens}
-use Rattle.trace_replay.specs.Trail.{Moment, all_said, owner_in, client_of, sent_in, sent_of, wanted_by, taken_if, taken_from, taken_by, taken_in, taken_of}
-use Rattle.trace_replay.specs.Book.{Book}
-use Rattle.kept_promise.specs.Talk.{Queue}
+use Rattle.trace_replay.specs.Core.{taken_of as session_taken}
+use Rattle.trace_replay.specs.Trail.{taken_in, taken_of}
+use Rattle.kept_promise.proofs.Common.{◌==◌, slice_get, nat_lt, if◌then◌else◌, content_length, content_bytes, Command, Part, parse_of, Message, WireFault, server_step, no_counts, ends, local_most, written_size, written, truncated, local_at, is_open, may_ask, asks_hashes, opens_if, opens, on_local, too_big, done_with, edits, writes, truncates, reads, abandons, asks_temp, closes, command_step, got_step, ended_by, cut, BadPeer, ClientStep, Ended, Outcome, Local, Task, Op, Opening, TakenCall, no_traffic, counted, op_after, ended_op, told_of, Core, Seat, Session, Event, Event.Joins, Event.Does, Event.Serves, Event.Hears, Event.Settles, Event.Cuts, Event.Hangs, CoreStep, numbered, server_waiting, serves_if, serves, session_of, ops_after, ops_with, does, joins_as, joins, settled_ops, settled_by, settles, cuts_if, cuts, hangs_if, hangs, happens, Moment, all_said, owner_in, client_of, sent_in, sent_of, wanted_by, taken_if, taken_from, taken_by, Book, Queue}
 use Rattle.kept_promise.proofs.Lists.{nothing_there, at_replaced}
 use Rattle.kept_promise.proofs.Rights.{IsRight, Caused}
 use Rattle.kept_promise.proofs.Facts.{IsKept}
 use Rattle.kept_promise.proofs.RunsCarried.{book_at, moment, Step, Carried}
 use Rattle.kept_promise.proofs.Tallies.{sent_sum, taken_sum, Tallied, IsFault, Tallies, tally_got}
-use Rattle.kept_promise.proofs.Counted.{traffic_is, AreCounted, counted_quiet, counted_pointed, counted_acts, counted_begins}
+use Rattle.kept_promise.proofs.Counted.{AreCounted, counted_quiet, counted_pointed, counted_acts, counted_begins}
 use Rattle.kept_promise.proofs.Actors.{acts_alone, Heard, heard_at, newest_is}
+use Rattle.kept_promise.proofs.CommandOps.{made_by, made_later, made_silent}
 
 -- ---- what a command sends counts nothing
 
@@ -68,7 +45,7 @@ silent_local s (Some t) l f h = silent_ends s outcome.Busy
 silent_local s None None f h = silent_ends s outcome.NotOpen
 silent_local s None (Some l) f h = h l
 
-silent_edits : (s : client.State) (file : ℕ) (l : Local) (size : ℕ) (content : List ℕ) → IsSilent (edits s file l size content)
+pub silent_edits : (s : client.State) (file : ℕ) (l : Local) (size : ℕ) (content : List ℕ) → IsSilent (edits s file l size content)
 silent_edits s file l size content = by (nat_lt local_most size)
   where
     by : (b : Bool) → IsSilent (if b then too_big s size else done_with s file l content)
@@ -103,7 +80,7 @@ pub taken_more : (past : List Moment) (m : Moment) → taken_of past ++ taken_in
 taken_more past m = flat_map_more taken_in [] past m
 
 -- after an event of these two ends, which the past does not have yet
-abbrev pub CountedBy : (past : List Moment) → Core → Event → Turned → Type 0
+abbrev pub CountedBy : (past : List Moment) → Core → Event → CoreStep → Type 0
 CountedBy past k e t = AreCounted (sent_of past ++ all_said (k.steps + 1) (client_of k e) t.up) (taken_of past ++ all_said (k.steps + 1) (client_of k e) (taken_by k (client_of k e) e)) t.core.steps t.core.ops
 
 abbrev pub CountedAt : (past : List Moment) → Core → Type 0
@@ -141,8 +118,7 @@ counted_settles past k now h =
 
     there : (made : ℕ) (x : Option Session) → AreCounted (sent_of past) (taken_of past) k.steps (settled_ops k.ops made (k.steps + 1) x)
     there (suc n) (Some x) = counted_pointed (sent_of past) (taken_of past) k.steps (k.steps + 1) k.ops x.closing h
-    there zero x = h
-    there made None = h
+    there _ _ = h
 
     by : (o : Told) (made : ℕ) → AreCounted (sent_of past ++ []) (taken_of past ++ []) (k.steps + 1) (settled_by k made o)
     by (told.Settled session xid) made = quietly (settled_ops k.ops made (k.steps + 1) (numbered k.sessions session)) (there made (numbered k.sessions session))
@@ -165,21 +141,10 @@ counted_does : (past : List Moment) (k : Core) (c now : ℕ) (d : Command) (seat
 counted_does past k c now d seat h =
     let r = command_step seat.client d now in
     let silent = silent_command seat.client d now in
-    counted_begins (sent_of past) (taken_of past) k.steps c k.ops (op_after (begun c (word_of d) (file_of d) (value_at_begin seat.client (word_of d) (file_of d) (command_step seat.client d now).1.ended) (k.steps + 1)) r.0 [] (k.steps + 1) r.1) r.1.send (begins r.0 r.1 r.1.ended) (nothing r.0 r.1 silent.1 r.1.ended) silent.0 h
-  where
-    begins : (s : client.State) (acts : ClientStep) (e : Option Ended) → k.steps < (op_after (begun c (word_of d) (file_of d) (value_at_begin seat.client (word_of d) (file_of d) (command_step seat.client d now).1.ended) (k.steps + 1)) s [] (k.steps + 1) (record acts { ended = e })).begin
-    begins s acts None = omega arith
-    begins s acts (Some e) = omega arith
-
-    none : counted no_traffic no_counts ≡ no_traffic
-    none = traffic_is (counted no_traffic no_counts) no_traffic (omega arith) (omega arith) (omega arith) (omega arith)
-
-    nothing : (s : client.State) (acts : ClientStep) → acts.counts ≡ no_counts → (e : Option Ended) → (op_after (begun c (word_of d) (file_of d) (value_at_begin seat.client (word_of d) (file_of d) (command_step seat.client d now).1.ended) (k.steps + 1)) s [] (k.steps + 1) (record acts { ended = e })).traffic ≡ no_traffic
-    nothing s acts q None = ap (counted no_traffic) q ∙ none
-    nothing s acts q (Some e) = ap (counted no_traffic) q ∙ none
+    counted_begins (sent_of past) (taken_of past) k.steps c k.ops (made_by k c now d seat r.0 r.1) r.1.send (made_later k c now d seat r.0 r.1 r.1.ended) (made_silent k c now d seat r.0 r.1 silent.1 r.1.ended) silent.0 h
 
 -- no peer's fault ends an operation
-pub no_fault_after : (more : Book) (o : Op) (c : client.State) (taken : List Taken) (step : ℕ) (acts : ClientStep) → IsRight more (op_after o c taken step acts) → IsFault acts.ended → ⊥
+pub no_fault_after : (more : Book) (o : Op) (c : client.State) (taken : List TakenCall) (step : ℕ) (acts : ClientStep) → IsRight more (op_after o c taken step acts) → IsFault acts.ended → ⊥
 no_fault_after more o c taken step acts right fault = by acts.ended right fault
   where
     told : (e : Ended) → (f : BadPeer) → e.outcome ≡ outcome.BadPeer f → Caused more (ended_op (record o { traffic = counted o.traffic acts.counts }) c taken step e) (told_of e.outcome) → ⊥
@@ -202,7 +167,7 @@ counted_hears book more past k qs after n now bytes mid kept h left counted_past
     r : client.State × ClientStep
     r = got_step h.seat.client (parse_of (client.waiting_of h.seat.client) bytes) now
 
-    taken : List Taken
+    taken : List TakenCall
     taken = session_taken (session_of k.sessions h.seat.session)
 
     ops : List Op
@@ -215,7 +180,7 @@ counted_hears book more past k qs after n now bytes mid kept h left counted_past
     took = ap (taken_from n bytes) h.owner ∙ ap (taken_if h.seat.client bytes) (newest_is h.seat.session n h.newest)
 
     ops_are : (happens k (Hears n now bytes)).core.ops ≡ ops
-    ops_are = ap (λ (t : Turned). t.core.ops) h.hears_is
+    ops_are = ap (λ (t : CoreStep). t.core.ops) h.hears_is
 
     tallied : (p : ℕ) (o : Op) → h.seat.place ≡ Some p → slice_get k.ops p ≡ Some o → Tallies (taken_sum (wanted_by h.seat.client message)).«data» r → Tallied r.1.counts r.1.send (taken_sum (wanted_by h.seat.client message)).«data»
     tallied p o e at (inl t) = t

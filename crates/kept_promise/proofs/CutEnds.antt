@@ -1,22 +1,9 @@
 -- Where a client saw its connection lost, each operation that it began before has ended.
 use Rattle.std.proofs.Common.{◌⊎◌, inl, inr, ◌≡◌, ℕ, ◌+◌, ◌<◌, ◌≤◌, List, [], ◌∷◌, ◌++◌, Option, Some, None, Bool, true, false, refl, sym, ap, ◌∙◌, subst, arith}
-use Rattle.std.proofs.lemmas.List.Elements.{Contains-push_cases}
-use Rattle.std.specs.Prelude.{slice_get, slice_set, Contains}
-use Rattle.open_close.specs.Step.{cut, ended_by}
-use Rattle.open_close.specs.declared.step.Ended.{Ended}
 use Rattle.open_close.specs.declared.step.Outcome.TheVariants as outcome
-use Rattle.open_close.specs.declared.task.Task.{Task}
-use Rattle.register_model.specs.declared.op.Op.{Op}
-use Rattle.register_model.specs.declared.op.Opening.{Opening}
 use Rattle.register_model.specs.declared.op.Outcome.TheVariants as told
-use Rattle.trace_replay.specs.declared.link.Taken.{Taken}
-use Rattle.trace_replay.specs.Core.{Core, Seat, Event, Event.Joins, Event.Does, Event.Serves, Event.Hears, Event.Settles, Event.Cuts, Event.Hangs, numbered, taken_of, session_of, ops_after, ops_with, cuts_if, cuts, happens}
-use Rattle.trace_replay.specs.Ops.{op_ended, op_after, counted}
-use Rattle.trace_replay.specs.Trail.{Moment, step_of}
-use Rattle.trace_replay.specs.World.{World}
-use Rattle.trace_replay.specs.Book.{book_of}
 use Rattle.trace_replay.specs.Faithful.{CutsEnd}
-use Rattle.kept_promise.specs.Talk.{Queue}
+use Rattle.kept_promise.proofs.Common.{Contains-push_cases, slice_get, slice_set, Contains, cut, ended_by, Ended, Task, Op, Opening, TakenCall, Core, Seat, Event, Event.Cuts, numbered, taken_of, session_of, ops_after, ops_with, cuts_if, cuts, happens, op_ended, op_after, counted, Moment, step_of, World, book_of, Queue}
 use Rattle.kept_promise.proofs.Lists.{some_is, nothing_there, of_appended, at_replaced}
 use Rattle.kept_promise.proofs.Messages.{Job, job, job_of}
 use Rattle.kept_promise.proofs.Facts.{IsKept}
@@ -40,8 +27,7 @@ pub record HasCuts (past : List Moment) (k : Core) : Type 0 where
 
 pub job_is : (place : Option ℕ) (task : Option Task) (j : Job) → job_of place task ≡ Some j → (place ≡ Some j.place) × ((t : Task) × (task ≡ Some t))
 job_is (Some p) (Some t) j e = (ap (λ (z : Job). Some z.place) (some_is (record { place = p; file = t.file; stage = t.stage }) j e), (t, refl))
-job_is (Some p) None j e = nothing_there j e
-job_is None task j e = nothing_there j e
+job_is _ _ j e = nothing_there j e
 
 -- an operation that was under way ends by it, in its step
 ends_by_cut : (opening : List Opening) (all : List Moment) (k : Core) (qs : List Queue) (c : ℕ) (seat : Seat) → IsKept (book_at opening k all) k qs → numbered k.seats c ≡ Some seat → (b : Bool) → seat.client.linked ≡ b → (i : ℕ) (o r : Op) → slice_get k.ops i ≡ Some o → o.client ≡ c → o.end ≡ None
@@ -56,7 +42,7 @@ ends_by_cut opening all k qs c seat kept here b linked i o r at mine under is =
     lost : Ended
     lost = record { outcome = outcome.Lost; rests_on = 0 }
 
-    lost_so : (taken : List Taken) (e : Option Ended) → e ≡ Some lost → (let z = op_ended (record o { traffic = counted o.traffic (cut seat.client).1.counts }) (cut seat.client).0 taken (k.steps + 1) e in (z.end ≡ Some (k.steps + 1)) × (z.outcome ≡ told.Lost))
+    lost_so : (taken : List TakenCall) (e : Option Ended) → e ≡ Some lost → (let z = op_ended (record o { traffic = counted o.traffic (cut seat.client).1.counts }) (cut seat.client).0 taken (k.steps + 1) e in (z.end ≡ Some (k.steps + 1)) × (z.outcome ≡ told.Lost))
     lost_so taken (Some x) e = (refl, ap (λ (y : Ended). Rattle.trace_replay.specs.Ops.told_of y.outcome) (some_is x lost e))
     lost_so taken None e = nothing_there lost e
 
@@ -109,12 +95,7 @@ new_moment all past rest opening k qs (Cuts d) mid after s h c i r e at mine = c
 
     same : d ≡ c
     same = ap number e
-new_moment all past rest opening k qs (Joins d) mid after s h c i r e at mine = absurd cc
-new_moment all past rest opening k qs (Does d now x) mid after s h c i r e at mine = absurd cc
-new_moment all past rest opening k qs (Serves n now bytes) mid after s h c i r e at mine = absurd cc
-new_moment all past rest opening k qs (Hears n now bytes) mid after s h c i r e at mine = absurd cc
-new_moment all past rest opening k qs (Settles now) mid after s h c i r e at mine = absurd cc
-new_moment all past rest opening k qs (Hangs n) mid after s h c i r e at mine = absurd cc
+new_moment all past rest opening k qs _ mid after s h c i r e at mine = absurd cc
 
 pub cuts_go : (all past rest : List Moment) (opening : List Opening) (k : Core) (qs : List Queue) (e : Event) (mid after : List Queue) → Step all past rest opening k qs e mid after → IsFollowed past k → HasCuts past k → HasCuts (past ++ moment k e ∷ []) (happens k e).core
 cuts_go all past rest opening k qs e mid after s f h =

@@ -1,43 +1,24 @@
 -- A client sees its connection lost: its operation ends by that, and what is on its way down goes.
-use Rattle.std.proofs.Common.{◌⊎◌, inl, inr, ◌≡◌, ℕ, zero, suc, ◌+◌, ◌<◌, ◌≤◌, List, [], ◌∷◌, ◌++◌, length, Option, Some, None, Bool, true, false, refl, sym, ap, ◌∙◌, subst, arith, append-nil}
-use Rattle.std.specs.Prelude.{slice_get, slice_set, map, not, Contains, IsSome}
+use Rattle.std.proofs.Common.{◌⊎◌, inl, inr, ◌≡◌, ℕ, ◌+◌, ◌<◌, List, [], Option, Some, None, Bool, true, false, refl, sym, ap, ◌∙◌, subst, arith, append-nil, IsSome}
 use Rattle.server_core.specs.State as server
-use Rattle.server_core.specs.declared.change.Change.{Change}
 use Rattle.open_close.specs.State as client
-use Rattle.open_close.specs.Step.{cut, ended_by}
-use Rattle.open_close.specs.Counting.{nothing_done}
-use Rattle.open_close.specs.declared.step.ClientStep.{ClientStep}
-use Rattle.open_close.specs.declared.step.Ended.{Ended}
 use Rattle.open_close.specs.declared.step.Outcome.TheVariants as outcome
-use Rattle.open_close.specs.declared.task.Stage.{Stage}
-use Rattle.open_close.specs.declared.task.Stage.TheVariants as stage
-use Rattle.open_close.specs.declared.task.Task.{Task}
-use Rattle.register_model.specs.Register.{is_untold, is_closed, content_of}
-use Rattle.register_model.specs.declared.op.Op.{Op}
 use Rattle.register_model.specs.declared.op.Outcome.TheVariants as told
-use Rattle.register_model.specs.declared.op.Word.{Word}
 use Rattle.register_model.specs.declared.op.Word.TheVariants as words
-use Rattle.trace_replay.specs.declared.link.Taken.{Taken}
-use Rattle.trace_replay.specs.Core.{Core, Seat, Session, Event, Event.Cuts, Loss, Turned, quiet, idles, taken_of, session_of, ops_after, ops_with, loss_down, cut_session, cuts_if, cuts, numbered, with_numbered, happens}
-use Rattle.trace_replay.specs.Ops.{has_point, point_if, op_after, place_after}
-use Rattle.trace_replay.specs.World.{unless}
-use Rattle.trace_replay.specs.Trail.{Moment}
-use Rattle.trace_replay.specs.Book.{Book}
-use Rattle.trace_replay.specs.Causes.{IsLost}
-use Rattle.kept_promise.specs.Talk.{Ask, Told, Queue}
+use Rattle.trace_replay.specs.Core.{idles, loss_down}
+use Rattle.kept_promise.proofs.Common.{slice_get, slice_set, cut, ended_by, nothing_done, ClientStep, Ended, Task, content_of, Op, Word, TakenCall, Core, Seat, Session, Event.Cuts, CoreStep, taken_of, session_of, ops_after, ops_with, cut_session, cuts_if, cuts, numbered, with_numbered, has_point, point_if, op_after, place_after, unless, Book, Ask, Queue, Call, Call.Commit}
 use Rattle.kept_promise.proofs.Lists.{some_is, nothing_there, same_or_not, of_replaced}
-use Rattle.kept_promise.proofs.Messages.{Job, job, job_of, stage_word, AllAsks, IsCommit, CommitOf, IsPending}
-use Rattle.kept_promise.specs.Talk.{Call, Call.Hash, Call.Read, Call.Make, Call.Name, Call.Send, Call.Commit}
-use Rattle.kept_promise.proofs.Rights.{is_remote, IsRight, IsUnmade}
-use Rattle.kept_promise.proofs.Growth.{Follows, Grows}
+use Rattle.kept_promise.proofs.Messages.{Job, job, job_of, IsCommit, CommitOf, IsPending}
+use Rattle.kept_promise.proofs.Rights.{is_remote, IsRight}
 use Rattle.kept_promise.proofs.History.{Goes, Still, Becomes, onward, goes_same, still_same, goes_becomes, still_becomes}
-use Rattle.kept_promise.proofs.Later.{all_asks, commit_later, pending_later, SameView, same_view, Spares}
-use Rattle.kept_promise.proofs.Turns.{Around, around_with, also_numbered, Turn, turned_core, kept_turn}
+use Rattle.kept_promise.proofs.Later.{all_asks, commit_later, pending_later, same_view, Spares}
+use Rattle.kept_promise.proofs.Turns.{Around, around_with, also_numbered, turned_core, kept_turn}
 use Rattle.kept_promise.proofs.Rests.{kept_rest}
-use Rattle.kept_promise.proofs.Facts.{IsServer, IsSession, IsSeat, IsMatched, IsOf, IsKept}
-use Rattle.kept_promise.proofs.Leading.{Sends, IsNoted, Leads, ups_put_in, ups_put, downs_lost, queues_lost, queues_after, KeptCuts}
+use Rattle.kept_promise.proofs.Facts.{IsSeat, IsMatched, IsKept}
+use Rattle.kept_promise.proofs.Leading.{IsNoted, Leads, ups_put_in, ups_put, downs_lost, KeptCuts}
 use Rattle.kept_promise.proofs.Takes.{file_still}
 use Rattle.kept_promise.proofs.Hangs.{leads_quiet, core_is}
+use Rattle.kept_promise.proofs.Steps.{remote_words}
 
 -- ---- a change on its way is that of a close which nobody waits for any more
 
@@ -46,11 +27,7 @@ cut_pending book closing b j r x f v p = record { place = p.place; known = p.kno
 
 cut_commit : (book : Book) (closing : Option ℕ) (b : Bool) (j r : Option Job) (contents : ℕ → List ℕ) (x : ℕ) (c : Call) → CommitOf book closing b j contents x c → CommitOf book closing true r contents x c
 cut_commit book closing b j r contents x (Commit temp file size) h = (cut_pending book closing b j r x file (contents temp) h.0, h.1)
-cut_commit book closing b j r contents x (Hash f o) h = tt
-cut_commit book closing b j r contents x (Read f c) h = tt
-cut_commit book closing b j r contents x (Make t f) h = tt
-cut_commit book closing b j r contents x (Name t c) h = tt
-cut_commit book closing b j r contents x (Send t s bytes) h = tt
+cut_commit book closing b j r contents x _ h = tt
 
 -- ---- what is the same for a client with an operation under way, and for one without
 
@@ -150,22 +127,14 @@ lost = record { outcome = outcome.Lost; rests_on = 0 }
 abbrev lost_step : ClientStep
 lost_step = record nothing_done { ended = Some lost }
 
-abbrev lost_op : Op → client.State → List Taken → ℕ → Op
+abbrev lost_op : Op → client.State → List TakenCall → ℕ → Op
 lost_op o s taken step = op_after o s taken step lost_step
-
-remote_word : (s : Stage) → (stage_word s ≡ words.Open) ⊎ (stage_word s ≡ words.Close)
-remote_word (stage.Hashing t x) = inl refl
-remote_word (stage.Listing x f) = inl refl
-remote_word (stage.Reading f) = inl refl
-remote_word (stage.Making x t) = inr refl
-remote_word (stage.Storing st) = inr refl
-remote_word (stage.Committing x) = inr refl
 
 remote_is : (w : Word) → (w ≡ words.Open) ⊎ (w ≡ words.Close) → is_remote w ≡ true
 remote_is w (inl e) = ap is_remote e
 remote_is w (inr e) = ap is_remote e
 
-lost_becomes : (book : Book) (p : ℕ) (o : Op) (s : client.State) (taken : List Taken) (step : ℕ) → book.steps < step → (o.word ≡ words.Open) ⊎ (o.word ≡ words.Close) → Becomes book None (Some p) p o (lost_op o s taken step)
+lost_becomes : (book : Book) (p : ℕ) (o : Op) (s : client.State) (taken : List TakenCall) (step : ℕ) → book.steps < step → (o.word ≡ words.Open) ⊎ (o.word ≡ words.Close) → Becomes book None (Some p) p o (lost_op o s taken step)
 lost_becomes book p o s taken step late remote =
     record {
       follows = record {
@@ -187,7 +156,7 @@ lost_becomes book p o s taken step late remote =
     lost_point : (lost_op o s taken step).point ≡ o.point
     lost_point = ap (λ (b : Bool). point_if b taken 0 o.point) (lost_pointless o.word)
 
-lost_right : (book : Book) (k : Core) (qs : List Queue) (c p : ℕ) (o : Op) (s : client.State) (taken : List Taken) → IsKept book k qs → IsNoted book k (Cuts c) → slice_get book.ops p ≡ Some o → o.client ≡ c → (o.word ≡ words.Open) ⊎ (o.word ≡ words.Close)
+lost_right : (book : Book) (k : Core) (qs : List Queue) (c p : ℕ) (o : Op) (s : client.State) (taken : List TakenCall) → IsKept book k qs → IsNoted book k (Cuts c) → slice_get book.ops p ≡ Some o → o.client ≡ c → (o.word ≡ words.Open) ⊎ (o.word ≡ words.Close)
     → IsRight (onward book 1 (slice_set book.ops p (lost_op o s taken (k.steps + 1)))) (lost_op o s taken (k.steps + 1))
 lost_right book k qs c p o s taken kept noted there mine remote =
     let r = kept.sound.rights p o there in
@@ -216,7 +185,7 @@ pub leads_idle : (book : Book) (k : Core) (qs : List Queue) → IsKept book k qs
 leads_idle book k qs kept = record { sends = record { asks = []; up_is = refl; tolds = []; down_is = refl }; more = onward book 1 book.ops; moments = refl; opening = refl; kept = idle_kept book k qs kept }
 
 -- what a cut leaves, by what its client had under way
-abbrev cut_after : Core → (c : ℕ) → Seat → (place : Option ℕ) → ClientStep → (session : Option ℕ) → Turned
+abbrev cut_after : Core → (c : ℕ) → Seat → (place : Option ℕ) → ClientStep → (session : Option ℕ) → CoreStep
 cut_after k c seat place did session = record {
   core = record {
     server = k.server;
@@ -293,7 +262,7 @@ cut_busy book k qs c n p x q seat j kept noted here at is owner newest busy plac
     let s = (cut seat.client).0 in
     let r = lost_op o s taken (k.steps + 1) in
     let more = onward book 1 (slice_set book.ops p r) in
-    let remote : (o.word ≡ words.Open) ⊎ (o.word ≡ words.Close) = elim (remote_word j.stage) [ inl e ↦ inl (of.word ∙ e) | inr e ↦ inr (of.word ∙ e) ] in
+    let remote : (o.word ≡ words.Open) ⊎ (o.word ≡ words.Close) = elim (remote_words j.stage) [ inl e ↦ inl (of.word ∙ e) | inr e ↦ inr (of.word ∙ e) ] in
     let becomes = lost_becomes book p o s taken (k.steps + 1) (let e = kept.steps in omega (arith, e)) remote in
     let goes = goes_becomes book 1 None (Some p) p o r there becomes (lost_right book k qs c p o s taken kept noted there of.client remote) kept.sound in
     let y : Session = record x { cut = true } in

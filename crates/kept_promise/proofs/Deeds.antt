@@ -1,21 +1,12 @@
 -- The commands of a run and their operations, one for one: what each client answered by itself, and what it asked the server for.
-use Rattle.std.proofs.Common.{◌⊎◌, inl, inr, ◌≡◌, ℕ, zero, suc, ◌+◌, ◌<◌, ◌≤◌, List, [], ◌∷◌, ◌++◌, length, Option, Some, None, Bool, true, false, refl, sym, ap, ◌∙◌, subst, arith}
-use Rattle.std.proofs.lemmas.Bool.Decides.{nat_tests}
+use Rattle.std.proofs.Common.{◌⊎◌, inl, inr, ◌≡◌, ℕ, zero, suc, ◌+◌, ◌<◌, ◌≤◌, List, [], ◌∷◌, ◌++◌, length, Option, Some, None, Bool, true, false, refl, sym, ap, ◌∙◌, subst, arith, take}
 use Rattle.std.proofs.lemmas.List.{length-append}
-use Rattle.std.specs.Prelude.{slice_get, take, nat_lt, option_map}
-use Rattle.command_text.specs.declared.command.Command.{Command}
 use Rattle.command_text.specs.declared.command.Command.TheVariants as command
 use Rattle.open_close.specs.State as client
-use Rattle.open_close.specs.declared.task.Local.{Local}
-use Rattle.register_model.specs.declared.op.Op.{Op}
 use Rattle.register_model.specs.declared.op.Outcome.{Outcome}
 use Rattle.register_model.specs.declared.op.Outcome.TheVariants as told
 use Rattle.register_model.specs.declared.op.Word.TheVariants as words
-use Rattle.trace_replay.specs.Commands.{word_of, file_of}
-use Rattle.trace_replay.specs.Core.{Seat, numbered}
-use Rattle.trace_replay.specs.Trail.{Deed}
-use Rattle.trace_replay.specs.Causes.{MayAsk, lasts, is_busy, local_from, local_before, own_answer, after_one}
-use Rattle.trace_replay.specs.Faithful.{StoresLocal}
+use Rattle.kept_promise.proofs.Common.{nat_tests, slice_get, nat_lt, option_map, Command, Local, Op, word_of, file_of, Seat, numbered, Deed, can_ask, lasts, is_busy, local_from, local_before, own_answer, after_one, StoresLocal}
 use Rattle.kept_promise.proofs.Lists.{some_is, nothing_there, same_or_not, of_appended, within, take_before, take_whole}
 use Rattle.kept_promise.proofs.Locally.{Idles, other_client, leaves_alike, leaves_none, idles_by, local_same, local_more, in_taken, keeps, busy_by, free_each, busy_same, busy_more, keeps_is, keeps_if, keeps_not}
 
@@ -42,9 +33,7 @@ pub record IsDeed (ds : List Deed) (ops : List Op) (i : ℕ) (d : Deed) (o : Op)
   pub word : o.word ≡ word_of d.command
   pub file : o.file ≡ file_of d.command
   pub begin : o.begin ≡ d.begin
-  pub asks : Bool
-  pub may_ask : MayAsk d.joined asks o.begin
-  pub came : Came d o (local_before ds ops i d.client (file_of d.command)) (own_answer (is_busy ops o) asks d.command (local_before ds ops i d.client (file_of d.command)))
+  pub came : Came d o (local_before ds ops i d.client (file_of d.command)) (own_answer (is_busy ops o) (can_ask d.joined d.calls) d.command (local_before ds ops i d.client (file_of d.command)))
 
 -- the local content that a client has of a file
 abbrev pub local_of : client.State → (file : ℕ) → Option (List ℕ)
@@ -173,18 +162,16 @@ each_moved step ds ops rs count rising each past moved i d r at is =
       word = m.word ∙ h.word;
       file = m.file ∙ h.file;
       begin = m.begin ∙ h.begin;
-      asks = h.asks;
-      may_ask = subst (MayAsk d.joined h.asks) (sym m.begin) h.may_ask;
-      came = subst (λ (b : Bool). Came d r (local_before ds rs i d.client (file_of d.command)) (own_answer b h.asks d.command (local_before ds rs i d.client (file_of d.command)))) (sym busy) (by o h m w.1 (is_busy ops o) refl h.came);
+      came = subst (λ (b : Bool). Came d r (local_before ds rs i d.client (file_of d.command)) (own_answer b (can_ask d.joined d.calls) d.command (local_before ds rs i d.client (file_of d.command)))) (sym busy) (by o h m w.1 (is_busy ops o) refl h.came);
     }
   where
     by : (o : Op) (h : IsDeed ds ops i d o) → Moved step o r → slice_get ops i ≡ Some o → (b : Bool) → is_busy ops o ≡ b
-        → Came d o (local_before ds ops i d.client (file_of d.command)) (own_answer b h.asks d.command (local_before ds ops i d.client (file_of d.command)))
-        → Came d r (local_before ds rs i d.client (file_of d.command)) (own_answer b h.asks d.command (local_before ds rs i d.client (file_of d.command)))
+        → Came d o (local_before ds ops i d.client (file_of d.command)) (own_answer b (can_ask d.joined d.calls) d.command (local_before ds ops i d.client (file_of d.command)))
+        → Came d r (local_before ds rs i d.client (file_of d.command)) (own_answer b (can_ask d.joined d.calls) d.command (local_before ds rs i d.client (file_of d.command)))
     by o h m there true e c = came_moved step d o r (local_before ds ops i d.client (file_of d.command)) (Some told.Busy) h.word m c
     by o h m there false e c =
-        subst (λ (l : Option (List ℕ)). Came d r l (own_answer false h.asks d.command l)) (sym (local_before_same step ds ops rs i d o (file_of d.command) rising each moved at there e))
-        (came_moved step d o r (local_before ds ops i d.client (file_of d.command)) (own_answer false h.asks d.command (local_before ds ops i d.client (file_of d.command))) h.word m c)
+        subst (λ (l : Option (List ℕ)). Came d r l (own_answer false (can_ask d.joined d.calls) d.command l)) (sym (local_before_same step ds ops rs i d o (file_of d.command) rising each moved at there e))
+        (came_moved step d o r (local_before ds ops i d.client (file_of d.command)) (own_answer false (can_ask d.joined d.calls) d.command (local_before ds ops i d.client (file_of d.command))) h.word m c)
 
 pub deeds_moved : (step : ℕ) (ds : List Deed) (ops rs : List Op) (seats others : List Seat) → HasDeeds ds ops seats → ((i : ℕ) (o : Op) → slice_get ops i ≡ Some o → o.begin < step) → AllMoved step ops rs → HasLocals ds rs others → HasDeeds ds rs others
 deeds_moved step ds ops rs seats others h past moved locals = record {
@@ -208,7 +195,7 @@ busy_behind ds ops p o f rising each at under i e q lt a b = elim (same_or_not e
   | inl mine ↦
       let h = each i e q a b in
       let busy : is_busy ops q ≡ true = busy_by ops q p o at (keeps_if q o (sym mine ∙ sym h.client) (rising p i o q lt at b) (ap (λ z. lasts z q.begin) under)) in
-      let c : Came e q (local_before ds ops i e.client (file_of e.command)) (Some told.Busy) = subst (λ (z : Bool). Came e q (local_before ds ops i e.client (file_of e.command)) (own_answer z h.asks e.command (local_before ds ops i e.client (file_of e.command)))) busy h.came in
+      let c : Came e q (local_before ds ops i e.client (file_of e.command)) (Some told.Busy) = subst (λ (z : Bool). Came e q (local_before ds ops i e.client (file_of e.command)) (own_answer z (can_ask e.joined e.calls) e.command (local_before ds ops i e.client (file_of e.command)))) busy h.came in
       idles_by o.client f e q (λ l. leaves_none e.command q.outcome q.value l (inr c.0))
 ]
 
@@ -220,9 +207,7 @@ pub record IsNew (ds : List Deed) (ops : List Op) (d : Deed) (o : Op) : Type 0 w
   pub word : o.word ≡ word_of d.command
   pub file : o.file ≡ file_of d.command
   pub begin : o.begin ≡ d.begin
-  pub asks : Bool
-  pub may_ask : MayAsk d.joined asks o.begin
-  pub came : Came d o (local_from d.client (file_of d.command) None ds ops) (own_answer (is_busy ops o) asks d.command (local_from d.client (file_of d.command) None ds ops))
+  pub came : Came d o (local_from d.client (file_of d.command) None ds ops) (own_answer (is_busy ops o) (can_ask d.joined d.calls) d.command (local_from d.client (file_of d.command) None ds ops))
 
 before_more : (ds : List Deed) (ops : List Op) (d : Deed) (o : Op) (i c f : ℕ) → length ops ≡ length ds → i ≤ length ops → local_before (ds ++ d ∷ []) (ops ++ o ∷ []) i c f ≡ local_before ds ops i c f
 before_more ds ops d o i c f n le = ap (λ z. local_from c f None z (take i (ops ++ o ∷ []))) (take_before ds d i (omega (arith, n, le))) ∙ ap (local_from c f None (take i ds)) (take_before ops o i le)
@@ -267,10 +252,8 @@ deeds_added ds ops seats others d new h past fresh locals = record {
       word = fresh.word;
       file = fresh.file;
       begin = fresh.begin;
-      asks = fresh.asks;
-      may_ask = fresh.may_ask;
-      came = subst (λ (b : Bool). Came d new (local_before (ds ++ d ∷ []) (ops ++ new ∷ []) (length ops) d.client (file_of d.command)) (own_answer b fresh.asks d.command (local_before (ds ++ d ∷ []) (ops ++ new ∷ []) (length ops) d.client (file_of d.command)))) (sym busy_new)
-          (subst (λ (l : Option (List ℕ)). Came d new l (own_answer (is_busy ops new) fresh.asks d.command l)) (sym (before_more ds ops d new (length ops) d.client (file_of d.command) h.count (omega arith) ∙ before_all ds ops d.client (file_of d.command) h.count)) fresh.came);
+      came = subst (λ (b : Bool). Came d new (local_before (ds ++ d ∷ []) (ops ++ new ∷ []) (length ops) d.client (file_of d.command)) (own_answer b (can_ask d.joined d.calls) d.command (local_before (ds ++ d ∷ []) (ops ++ new ∷ []) (length ops) d.client (file_of d.command)))) (sym busy_new)
+          (subst (λ (l : Option (List ℕ)). Came d new l (own_answer (is_busy ops new) (can_ask d.joined d.calls) d.command l)) (sym (before_more ds ops d new (length ops) d.client (file_of d.command) h.count (omega arith) ∙ before_all ds ops d.client (file_of d.command) h.count)) fresh.came);
     }
 
     was : (i : ℕ) (e : Deed) (o : Op) → slice_get ops i ≡ Some o → IsDeed ds ops i e o → IsDeed (ds ++ d ∷ []) (ops ++ new ∷ []) i e o
@@ -279,9 +262,7 @@ deeds_added ds ops seats others d new h past fresh locals = record {
       word = k.word;
       file = k.file;
       begin = k.begin;
-      asks = k.asks;
-      may_ask = k.may_ask;
       came = let lt = past i o at in let there = within ops i o at in
-          subst (λ (b : Bool). Came e o (local_before (ds ++ d ∷ []) (ops ++ new ∷ []) i e.client (file_of e.command)) (own_answer b k.asks e.command (local_before (ds ++ d ∷ []) (ops ++ new ∷ []) i e.client (file_of e.command)))) (sym (busy_more ops o new (keeps_not o new (λ less. omega (arith, lt, less)))))
-          (subst (λ (l : Option (List ℕ)). Came e o l (own_answer (is_busy ops o) k.asks e.command l)) (sym (before_more ds ops d new i e.client (file_of e.command) h.count (omega (arith, there)))) k.came);
+          subst (λ (b : Bool). Came e o (local_before (ds ++ d ∷ []) (ops ++ new ∷ []) i e.client (file_of e.command)) (own_answer b (can_ask e.joined e.calls) e.command (local_before (ds ++ d ∷ []) (ops ++ new ∷ []) i e.client (file_of e.command)))) (sym (busy_more ops o new (keeps_not o new (λ less. omega (arith, lt, less)))))
+          (subst (λ (l : Option (List ℕ)). Came e o l (own_answer (is_busy ops o) (can_ask e.joined e.calls) e.command l)) (sym (before_more ds ops d new i e.client (file_of e.command) h.count (omega (arith, there)))) k.came);
     }

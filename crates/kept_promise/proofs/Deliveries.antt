@@ -1,18 +1,12 @@
 -- Two deliveries, one after the other, are one of all their bytes.
-use Rattle.std.proofs.Common.{◌≡◌, ℕ, zero, suc, ◌+◌, List, [], ◌∷◌, ◌++◌, Option, Some, None, length, take, drop, refl, sym, ap, ◌∙◌, arith, append_assoc, append-nil}
-use Rattle.std.specs.Prelude.{Result, Ok, Err, Bool, true, false, map, slice_get, slice_set, option_map}
-use Rattle.rpc_record.specs.declared.records.Fed.{Fed}
-use Rattle.rpc_record.specs.declared.refusal.Refusal.{Refusal}
-use Rattle.rpc_record.specs.Records.{Unread, Parts, split, continued, fed}
+use Rattle.std.proofs.Common.{◌≡◌, ℕ, zero, suc, ◌+◌, List, [], ◌∷◌, ◌++◌, Option, Some, None, take, drop, refl, sym, ap, ◌∙◌, arith, append_assoc, append-nil, Result, Ok, Err, Bool, true, false, map}
+use Rattle.rpc_record.specs.Records.{continued}
 use Rattle.rpc_record.proofs.Splitting.{split_cut}
-use Rattle.wire.specs.Parse.{parse_of}
-use Rattle.wire.specs.declared.message.Message.{Message}
-use Rattle.wire.specs.declared.fault.WireFault.{WireFault}
 use Rattle.server_core.specs.declared.event.Sent.{Sent}
-use Rattle.trace_replay.specs.Core.{Core, Seat, Session, Event, Event.Serves, Event.Hears, server_waiting, Turned, Loss, Loss.Nothing, numbered, with_numbered, serves_if, serves, hears_if, hears_at, hears, is_newest, happens}
-use Rattle.trace_replay.specs.World.{World, Wire, bytes_of, unless, up_put_in, up_put, down_put_in, down_put, lost_by, routed, happened}
-use Rattle.trace_replay.specs.Delivery.{all_happened, up_taken, up_events, up_at, up_some, down_taken, down_events, down_at, down_some}
+use Rattle.kept_promise.proofs.Common.{slice_get, Fed, Refusal, Unread, Parts, split, fed, parse_of, Message, WireFault, Core, Seat, Session, Event, Event.Serves, Event.Hears, server_waiting, CoreStep, Loss, Loss.Nothing, numbered, serves_if, serves, hears_if, hears_at, hears, is_newest, happens, World, Wire, bytes_of, unless, up_put_in, up_put, down_put_in, down_put, lost_by, routed, happened, all_happened, up_events, up_at, up_some, down_events, down_at, down_some}
 use Rattle.kept_promise.proofs.Statements.{UpsAddUp, DownsAddUp}
+use Rattle.kept_promise.proofs.Places.{at_place, becomes, there_is, none_is, swap, twice, own}
+use Rattle.kept_promise.proofs.Shelves.{drop_next}
 
 -- ---- bytes
 
@@ -22,12 +16,6 @@ take_next zero n queue = let on : n ≡ zero + n = omega arith in ap (λ (k : �
 take_next (suc m) zero [] = let on : suc m ≡ suc m + zero = omega arith in ap (λ (k : ℕ). take k []) on
 take_next (suc m) (suc n) [] = let on : suc (m + suc n) ≡ suc m + suc n = omega arith in ap (λ (k : ℕ). take k []) on
 take_next (suc m) n (b ∷ queue) = let on : suc (m + n) ≡ suc m + n = omega arith in ap (λ (xs : List ℕ). b ∷ xs) (take_next m n queue) ∙ ap (λ (k : ℕ). take k (b ∷ queue)) on
-
-drop_next : (m n : ℕ) (queue : List ℕ) → drop n (drop m queue) ≡ drop (m + n) queue
-drop_next zero n queue = let on : n ≡ zero + n = omega arith in ap (λ (k : ℕ). drop k queue) on
-drop_next (suc m) zero [] = let on : suc m ≡ suc m + zero = omega arith in ap (λ (k : ℕ). drop k []) on
-drop_next (suc m) (suc n) [] = let on : suc (m + suc n) ≡ suc m + suc n = omega arith in ap (λ (k : ℕ). drop k []) on
-drop_next (suc m) n (b ∷ queue) = let on : suc (m + n) ≡ suc m + n = omega arith in drop_next m n queue ∙ ap (λ (k : ℕ). drop k (b ∷ queue)) on
 
 -- ---- an end
 
@@ -56,66 +44,6 @@ fed_twice rest None first second =
 
 pub end_twice : (end : Unread) (first second : List ℕ) → two end first second ≡ parts_of (fed end (first ++ second))
 end_twice end first second = fed_twice end.rest end.spoilt first second
-
--- ---- the wire at a number becomes another
-
-abbrev pub at_place : (Wire → Wire) → List Wire → ℕ → List Wire
-at_place f [] k = []
-at_place f (q ∷ qs) zero = f q ∷ qs
-at_place f (q ∷ qs) (suc k) = q ∷ at_place f qs k
-
-abbrev pub becomes : (Wire → Wire) → List Wire → (number : ℕ) → List Wire
-becomes f ws zero = ws
-becomes f ws (suc k) = at_place f ws k
-
-place_there : (f : Wire → Wire) (ws : List Wire) (k : ℕ) (q : Wire) → slice_get ws k ≡ Some q → slice_set ws k (f q) ≡ at_place f ws k
-place_there f [] k q e = absurd cc
-place_there f (p ∷ ps) zero q e = let same : q ≡ p = cc in ap (λ (z : Wire). f z ∷ ps) same
-place_there f (p ∷ ps) (suc k) q e = ap (λ (zs : List Wire). p ∷ zs) (place_there f ps k q e)
-
-place_none : (f : Wire → Wire) (ws : List Wire) (k : ℕ) → slice_get ws k ≡ None → at_place f ws k ≡ ws
-place_none f [] k e = refl
-place_none f (p ∷ ps) zero e = absurd cc
-place_none f (p ∷ ps) (suc k) e = ap (λ (zs : List Wire). p ∷ zs) (place_none f ps k e)
-
-pub there_is : (f : Wire → Wire) (ws : List Wire) (number : ℕ) (q : Wire) → numbered ws number ≡ Some q → with_numbered ws number (f q) ≡ becomes f ws number
-there_is f ws zero q e = refl
-there_is f ws (suc k) q e = place_there f ws k q e
-
-pub none_is : (f : Wire → Wire) (ws : List Wire) (number : ℕ) → numbered ws number ≡ None → becomes f ws number ≡ ws
-none_is f ws zero e = refl
-none_is f ws (suc k) e = place_none f ws k e
-
-place_swap : (f g : Wire → Wire) → ((q : Wire) → f (g q) ≡ g (f q)) → (ws : List Wire) (i k : ℕ) → at_place f (at_place g ws i) k ≡ at_place g (at_place f ws k) i
-place_swap f g h [] i k = refl
-place_swap f g h (q ∷ qs) zero zero = ap (λ (z : Wire). z ∷ qs) (h q)
-place_swap f g h (q ∷ qs) zero (suc k) = refl
-place_swap f g h (q ∷ qs) (suc i) zero = refl
-place_swap f g h (q ∷ qs) (suc i) (suc k) = ap (λ (zs : List Wire). q ∷ zs) (place_swap f g h qs i k)
-
-pub swap : (f g : Wire → Wire) → ((q : Wire) → f (g q) ≡ g (f q)) → (ws : List Wire) (i k : ℕ) → becomes f (becomes g ws i) k ≡ becomes g (becomes f ws k) i
-swap f g h ws zero zero = refl
-swap f g h ws zero (suc k) = refl
-swap f g h ws (suc i) zero = refl
-swap f g h ws (suc i) (suc k) = place_swap f g h ws i k
-
-place_twice : (f g : Wire → Wire) (ws : List Wire) (k : ℕ) → at_place f (at_place g ws k) k ≡ at_place (λ q. f (g q)) ws k
-place_twice f g [] k = refl
-place_twice f g (q ∷ qs) zero = refl
-place_twice f g (q ∷ qs) (suc k) = ap (λ (zs : List Wire). q ∷ zs) (place_twice f g qs k)
-
-twice : (f g : Wire → Wire) (ws : List Wire) (number : ℕ) → becomes f (becomes g ws number) number ≡ becomes (λ q. f (g q)) ws number
-twice f g ws zero = refl
-twice f g ws (suc k) = place_twice f g ws k
-
-pub place_own : (f : Wire → Wire) (ws : List Wire) (k : ℕ) (q : Wire) → slice_get ws k ≡ Some q → slice_get (at_place f ws k) k ≡ Some (f q)
-place_own f [] k q e = absurd cc
-place_own f (p ∷ ps) zero q e = let same : p ≡ q = cc in ap (λ (z : Wire). Some (f z)) same
-place_own f (p ∷ ps) (suc k) q e = place_own f ps k q e
-
-pub own : (f : Wire → Wire) (ws : List Wire) (number : ℕ) (q : Wire) → numbered ws number ≡ Some q → numbered (becomes f ws number) number ≡ Some (f q)
-own f ws zero q e = absurd cc
-own f ws (suc k) q e = place_own f ws k q e
 
 -- ---- what events put into wires
 
@@ -212,7 +140,7 @@ serves_silent k number now bytes = by (numbered k.sessions number)
     by None = (refl, refl)
     by (Some x) = by_message x (parse_of server_waiting bytes)
 
-routed_down : (w : World) (ws : List Wire) (t : Turned) → t.loss ≡ Nothing → t.session ≡ None → routed (wired w ws) t ≡ record w { core = t.core; wires = all_become (downs t.core.sessions t.down) ws }
+routed_down : (w : World) (ws : List Wire) (t : CoreStep) → t.loss ≡ Nothing → t.session ≡ None → routed (wired w ws) t ≡ record w { core = t.core; wires = all_become (downs t.core.sessions t.down) ws }
 routed_down w ws t loss session =
     ap (λ (l : Loss). record w { core = t.core; wires = down_put t.core.sessions (up_put t.core.sessions (lost_by ws l) t.session t.up) t.down }) loss
     ∙ ap (λ (o : Option ℕ). record w { core = t.core; wires = down_put t.core.sessions (up_put t.core.sessions ws o t.up) t.down }) session
@@ -220,7 +148,7 @@ routed_down w ws t loss session =
 
 serves_one : (w : World) (number now : ℕ) (bytes : List ℕ) → Puts w (Serves number now bytes ∷ []) set_up
 serves_one w number now bytes =
-    let t : Turned = happens w.core (Serves number now bytes) in
+    let t : CoreStep = happens w.core (Serves number now bytes) in
     let q = serves_silent w.core number now bytes in
     (t.core, downs t.core.sessions t.down, λ up end. downs_apart up end t.core.sessions t.down, λ ws. routed_down w ws t q.0 q.1)
 
@@ -281,7 +209,7 @@ hears_silent k number now bytes = by (numbered k.sessions number)
     by None = (refl, refl)
     by (Some x) = by_seat x.owner (numbered k.seats x.owner)
 
-routed_up : (w : World) (ws : List Wire) (t : Turned) → t.loss ≡ Nothing → t.down ≡ [] → routed (wired w ws) t ≡ record w { core = t.core; wires = all_become (ups t.core.sessions t.session t.up) ws }
+routed_up : (w : World) (ws : List Wire) (t : CoreStep) → t.loss ≡ Nothing → t.down ≡ [] → routed (wired w ws) t ≡ record w { core = t.core; wires = all_become (ups t.core.sessions t.session t.up) ws }
 routed_up w ws t loss none =
     ap (λ (l : Loss). record w { core = t.core; wires = down_put t.core.sessions (up_put t.core.sessions (lost_by ws l) t.session t.up) t.down }) loss
     ∙ ap (λ (ss : List Sent). record w { core = t.core; wires = down_put t.core.sessions (up_put t.core.sessions ws t.session t.up) ss }) none
@@ -289,7 +217,7 @@ routed_up w ws t loss none =
 
 hears_one : (w : World) (number now : ℕ) (bytes : List ℕ) → Puts w (Hears number now bytes ∷ []) set_down
 hears_one w number now bytes =
-    let t : Turned = happens w.core (Hears number now bytes) in
+    let t : CoreStep = happens w.core (Hears number now bytes) in
     let q = hears_silent w.core number now bytes in
     (t.core, ups t.core.sessions t.session t.up, λ down end. ups_apart down end t.core.sessions t.session t.up, λ ws. routed_up w ws t q.0 q.1)
 

@@ -1,43 +1,23 @@
 -- A client does what it is told to: it answers by itself, or an operation begins.
-use Rattle.std.proofs.Common.{◌⊎◌, inl, inr, ◌≡◌, ℕ, zero, suc, ◌+◌, ◌<◌, ◌≤◌, List, [], ◌∷◌, ◌++◌, length, Option, Some, None, Bool, true, false, refl, sym, ap, ◌∙◌, subst, arith, append-nil}
-use Rattle.std.proofs.lemmas.Bool.Decides.{nat_tests}
-use Rattle.std.specs.Prelude.{slice_get, slice_set, map, not, cond, nat_lt, IsSome, is_some}
-use Rattle.command_text.specs.declared.command.Command.{Command}
-use Rattle.command_text.specs.declared.command.Command.TheVariants as command
+use Rattle.std.proofs.Common.{inl, inr, ◌≡◌, ℕ, zero, suc, ◌+◌, ◌<◌, ◌≤◌, List, [], ◌∷◌, ◌++◌, length, Option, Some, None, true, refl, sym, ap, ◌∙◌, subst, arith, IsSome}
 use Rattle.server_core.specs.State as server
-use Rattle.server_core.specs.declared.change.Change.{Change}
 use Rattle.open_close.specs.State as client
-use Rattle.open_close.specs.Counting.{ends, no_counts}
-use Rattle.open_close.specs.declared.step.ClientStep.{ClientStep}
-use Rattle.open_close.specs.declared.step.Ended.{Ended}
-use Rattle.open_close.specs.declared.step.Outcome.{Outcome}
 use Rattle.open_close.specs.declared.step.Outcome.TheVariants as outcome
-use Rattle.open_close.specs.declared.task.Local.{Local}
-use Rattle.register_model.specs.Register.{content_of}
-use Rattle.register_model.specs.declared.op.Op.{Op}
-use Rattle.register_model.specs.declared.op.Outcome.{Outcome as Told_as}
 use Rattle.register_model.specs.declared.op.Outcome.TheVariants as told
-use Rattle.register_model.specs.declared.op.Word.{Word}
 use Rattle.register_model.specs.declared.op.Word.TheVariants as words
-use Rattle.trace_replay.specs.declared.link.Taken.{Taken}
-use Rattle.trace_replay.specs.Core.{Core, Seat, Session, Event, Event.Does, Loss, Loss.Nothing, Turned, numbered, with_numbered, session_of, commanded_session, commanded_sessions, commanded, does, happens}
-use Rattle.trace_replay.specs.Ops.{begun, has_point, point_if, told_of, value_of, op_after, ended_op, place_with, taken_on, closing_with}
-use Rattle.trace_replay.specs.World.{unless}
-use Rattle.trace_replay.specs.Book.{Book}
-use Rattle.trace_replay.specs.Faithful.{is_running}
-use Rattle.kept_promise.specs.Talk.{Ask, Told, Queue, ask_message}
+use Rattle.kept_promise.proofs.Common.{slice_get, slice_set, not, ends, Ended, Outcome, Local, content_of, Op, Word, TakenCall, Core, Seat, Session, Loss.Nothing, CoreStep, numbered, with_numbered, session_of, commanded_sessions, begun, has_point, point_if, told_of, op_after, place_with, closing_with, Book, is_running, Ask, Told, Queue}
 use Rattle.kept_promise.proofs.Lists.{some_is, nothing_there, same_or_not, of_appended}
-use Rattle.kept_promise.proofs.Messages.{Job, job, job_of, AllTolds, IsAnswer, HasFetch}
-use Rattle.kept_promise.proofs.Rights.{is_remote, Caused, IsRight}
+use Rattle.kept_promise.proofs.Messages.{Job, job, AllTolds, IsAnswer}
+use Rattle.kept_promise.proofs.Rights.{Caused, IsRight}
 use Rattle.kept_promise.proofs.History.{onward, goes_appended, still_appended}
 use Rattle.kept_promise.proofs.Later.{same_view}
-use Rattle.kept_promise.proofs.Turns.{Around, around_with, also_numbered, turned_core}
+use Rattle.kept_promise.proofs.Turns.{Around, around_with, turned_core}
 use Rattle.kept_promise.proofs.Rests.{kept_rest, with_opened, kept_opened}
-use Rattle.kept_promise.proofs.Facts.{IsTalk, IsSession, IsSeat, IsMatched, IsKept}
-use Rattle.kept_promise.proofs.Leading.{Sends, IsNoted, Leads, ups_put_in, ups_put, KeptDoes}
+use Rattle.kept_promise.proofs.Facts.{IsSession, IsKept}
+use Rattle.kept_promise.proofs.Leading.{Leads, ups_put_in, ups_put}
 use Rattle.kept_promise.proofs.Takes.{server_still}
-use Rattle.kept_promise.proofs.Hangs.{leads_quiet}
 use Rattle.kept_promise.proofs.Cuts.{cut_core}
+use Rattle.kept_promise.proofs.OrderSteps.{ups_same}
 
 -- ---- a list with the same at a number
 
@@ -55,7 +35,7 @@ with_same xs (suc i) x e = set_same xs i x e
 abbrev pub cleared : Session → Session
 cleared x = record x { taken = [] }
 
-answers_free : (book : Book) (taken : List Taken) (closing : Option ℕ) (o : Option Job) (ts : List Told) → o ≡ None → AllTolds (IsAnswer book taken closing o) ts
+answers_free : (book : Book) (taken : List TakenCall) (closing : Option ℕ) (o : Option Job) (ts : List Told) → o ≡ None → AllTolds (IsAnswer book taken closing o) ts
 answers_free book taken closing o ts e = subst (λ (z : Option Job). AllTolds (IsAnswer book taken closing z) ts) (sym e) (Rattle.kept_promise.proofs.Steps.answers_none book taken closing ts)
 
 session_cleared : (book : Book) (seats : List Seat) (s : server.State) (n : ℕ) (x : Session) (q : Queue) → (h : IsSession book seats s n x q) → job h.seat ≡ None → IsSession book seats s n (cleared x) q
@@ -193,18 +173,13 @@ own_right more step c w file value s o own now = record {
 
 -- ---- nothing is sent
 
-no_ups : (b : Bool) (us : List Ask) → unless b us [] ≡ us
-no_ups true us = refl
-no_ups false us = append-nil us
-
 pub ups_none : (sessions : List Session) (qs : List Queue) (session : Option ℕ) → ups_put sessions qs session [] ≡ qs
 ups_none sessions qs None = refl
 ups_none sessions qs (Some n) = by (numbered sessions n) (numbered qs n) refl
   where
     by : (x : Option Session) (q : Option Queue) → numbered qs n ≡ q → ups_put_in qs n [] x q ≡ qs
-    by None q e = refl
-    by (Some x) None e = refl
-    by (Some x) (Some q) e = ap (λ (us : List Ask). with_numbered qs n (record { ups = us; downs = q.downs })) (no_ups x.hung q.ups) ∙ with_same qs n q e
+    by (Some x) (Some q) e = ap (λ (us : List Ask). with_numbered qs n (record { ups = us; downs = q.downs })) (ups_same x.hung q.ups) ∙ with_same qs n q e
+    by _ _ e = refl
 
 closing_same : (closing : Option ℕ) (place : ℕ) (w : Word) (e : Ended) → closing_with closing place w (Some e) ≡ closing
 closing_same closing place words.Close e = refl
@@ -218,7 +193,7 @@ own_ended o = record { outcome = o; rests_on = 0 }
 abbrev pub own_op : Core → (c : ℕ) → Word → (file : ℕ) → (value : List ℕ) → client.State → Outcome → Op
 own_op k c w file value s o = op_after (begun c w file value (k.steps + 1)) s [] (k.steps + 1) (ends o 0 0)
 
-abbrev pub after_own : Core → (c : ℕ) → Seat → (place session : Option ℕ) → Option Session → Word → (file : ℕ) → (value : List ℕ) → client.State → Outcome → Turned
+abbrev pub after_own : Core → (c : ℕ) → Seat → (place session : Option ℕ) → Option Session → Word → (file : ℕ) → (value : List ℕ) → client.State → Outcome → CoreStep
 after_own k c seat place session found w file value s o = record {
   core = record {
     server = k.server;
@@ -334,6 +309,5 @@ leads_busy book k qs c p seat session found w file value kept here busy is =
     }
   where
     by : (session : Option ℕ) (found : Option Session) → session_of k.sessions session ≡ found → commanded_sessions k.sessions session found (Some p) (length k.ops) w (ends outcome.Busy 0 0) ≡ k.sessions
-    by None found is = refl
-    by (Some n) None is = refl
     by (Some n) (Some x) is = ap (λ (q : Option ℕ). with_numbered k.sessions n (record x { closing = q })) (closing_same x.closing (length k.ops) w (own_ended outcome.Busy)) ∙ with_same k.sessions n x is
+    by _ _ is = refl

@@ -1,28 +1,10 @@
 -- A client is told to do something: one command more, and its operation.
-use Rattle.std.proofs.Common.{◌⊎◌, inl, inr, ◌≡◌, ℕ, ◌+◌, ◌*◌, ◌<◌, ◌≤◌, List, [], ◌∷◌, ◌++◌, Option, Some, None, Bool, true, false, refl, sym, ap, ◌∙◌, subst, arith}
-use Rattle.std.proofs.lemmas.Bool.Decides.{nat_tests}
-use Rattle.std.specs.Prelude.{slice_get, nat_lt, not, is_some}
-use Rattle.command_text.specs.declared.command.Command.{Command}
+use Rattle.std.proofs.Common.{◌⊎◌, inl, inr, ◌≡◌, ℕ, ◌+◌, ◌<◌, ◌≤◌, List, [], ◌∷◌, ◌++◌, Option, Some, None, Bool, true, false, refl, sym, ap, ◌∙◌, subst, arith}
 use Rattle.command_text.specs.declared.command.Command.TheVariants as command
 use Rattle.open_close.specs.State as client
-use Rattle.open_close.specs.Opening.{calls_most}
-use Rattle.open_close.specs.Step.{has_xids, may_ask, command_step}
-use Rattle.open_close.specs.declared.step.ClientStep.{ClientStep}
-use Rattle.open_close.specs.declared.step.Ended.{Ended}
-use Rattle.open_close.specs.declared.task.Local.{Local}
-use Rattle.open_close.specs.declared.task.Task.{Task}
-use Rattle.register_model.specs.declared.op.Op.{Op}
 use Rattle.register_model.specs.declared.op.Outcome.{Outcome as Told}
 use Rattle.register_model.specs.declared.op.Outcome.TheVariants as told
-use Rattle.register_model.specs.declared.op.Word.{Word}
-use Rattle.trace_replay.specs.Commands.{word_of, file_of, value_at_begin}
-use Rattle.trace_replay.specs.Core.{Core, Seat, numbered, with_numbered}
-use Rattle.trace_replay.specs.Ops.{begun, counted, op_ended, op_after, has_point, point_if, value_of}
-use Rattle.trace_replay.specs.Trail.{Deed}
-use Rattle.trace_replay.specs.Book.{Book}
-use Rattle.trace_replay.specs.Causes.{MayAsk, leaves, lasts, is_busy, after_one, local_from, own_answer}
-use Rattle.trace_replay.specs.Faithful.{is_running, StoresLocal}
-use Rattle.kept_promise.specs.Talk.{Queue}
+use Rattle.kept_promise.proofs.Common.{nat_tests, slice_get, nat_le, not, is_some, Command, has_xids, may_ask, command_step, ClientStep, Ended, Local, Task, Op, Word, word_of, file_of, value_at_begin, Core, Seat, numbered, with_numbered, begun, counted, op_ended, op_after, has_point, point_if, value_of, Deed, Book, can_ask, leaves, lasts, is_busy, after_one, local_from, own_answer, is_running, StoresLocal, Queue}
 use Rattle.kept_promise.proofs.Lists.{some_is, nothing_there, same_or_not}
 use Rattle.kept_promise.proofs.Messages.{Job, job, job_of}
 use Rattle.kept_promise.proofs.Rights.{IsRight}
@@ -82,15 +64,18 @@ is_occupied book k qs c seat j new kept ops steps here is mine begins =
 
 -- ---- whether it may ask
 
-pub asks_within : (s : client.State) (steps : ℕ) → s.next ≤ calls_most * steps + 1 → MayAsk s.linked (may_ask s) (steps + 1)
-asks_within s steps le = by s.linked
+-- as the calls that it sent on its connection say
+pub asks_by : (s : client.State) (joined : Bool) (calls : ℕ) → s.linked ≡ joined → s.next ≡ calls + 1 → can_ask joined calls ≡ may_ask s
+asks_by s joined calls link next = ap (λ b. can_ask b calls) (sym link) ∙ by s.linked
   where
-    room : (b : Bool) → has_xids s.next ≡ b → MayAsk true b (steps + 1)
-    room true e = tt
-    room false e = let lt : 4293967297 ≤ s.next = grind (arith, nat_tests, e) in omega (arith, lt, le)
+    room : (a b : Bool) → nat_le (calls + 1000000) 4294967295 ≡ a → has_xids s.next ≡ b → a ≡ b
+    room true true p q = refl
+    room false false p q = refl
+    room true false p q = let le : calls + 1000000 ≤ 4294967295 = grind (arith, nat_tests, p) in let ge : 4293967297 ≤ s.next = grind (arith, nat_tests, q) in absurd (omega (arith, le, ge, next))
+    room false true p q = let gt : 4294967295 < calls + 1000000 = grind (arith, nat_tests, p) in let lt : s.next < 4293967297 = grind (arith, nat_tests, q) in absurd (omega (arith, gt, lt, next))
 
-    by : (b : Bool) → MayAsk b (elim b [ true ↦ has_xids s.next | false ↦ false ]) (steps + 1)
-    by true = room (has_xids s.next) refl
+    by : (b : Bool) → can_ask b calls ≡ elim b [ true ↦ has_xids s.next | false ↦ false ]
+    by true = room (nat_le (calls + 1000000) 4294967295) (has_xids s.next) refl refl
     by false = refl
 
 -- ---- the operation
@@ -160,7 +145,7 @@ pub record IsDoneSo (ds : List Deed) (k : Core) (c : ℕ) (seat : Seat) (d : Dee
   pub stays : Stays seat.client r.0
 
 does_by : (ds : List Deed) (k : Core) (c : ℕ) (seat : Seat) (d : Deed) (r : client.State × ClientStep) (place : Option ℕ) (b : Bool) → HasDeeds ds k.ops k.seats → numbered k.seats c ≡ Some seat → ((i : ℕ) (o : Op) → slice_get k.ops i ≡ Some o → o.begin < k.steps + 1) → d.client ≡ c → d.begin ≡ k.steps + 1
-    → MayAsk d.joined (may_ask seat.client) (k.steps + 1) → is_busy k.ops (new_op c (word_of d.command) (file_of d.command) (value_at_begin seat.client (word_of d.command) (file_of d.command) r.1.ended) (k.steps + 1) r) ≡ b
+    → can_ask d.joined d.calls ≡ may_ask seat.client → is_busy k.ops (new_op c (word_of d.command) (file_of d.command) (value_at_begin seat.client (word_of d.command) (file_of d.command) r.1.ended) (k.steps + 1) r) ≡ b
     → Stays seat.client r.0 × AnswersBy seat.client d.command r (own_answer b (may_ask seat.client) d.command (local_of seat.client (file_of d.command))) → IsDoneSo ds k c seat d r place
 does_by ds k c seat d r place b h here begins mine starts may busy answers =
     let f = fixed c (word_of d.command) (file_of d.command) (value_at_begin seat.client (word_of d.command) (file_of d.command) r.1.ended) (k.steps + 1) r in
@@ -171,10 +156,9 @@ does_by ds k c seat d r place b h here begins mine starts may busy answers =
         word = f.1;
         file = f.2;
         begin = f.3 ∙ sym starts;
-        asks = may_ask seat.client;
-        may_ask = subst (MayAsk d.joined (may_ask seat.client)) (sym f.3) may;
-        came = subst (λ (l : Option (List ℕ)). Came d new l (own_answer (is_busy k.ops new) (may_ask seat.client) d.command l)) (h.locals c seat here (file_of d.command) ∙ ap (λ (z : ℕ). local_from z (file_of d.command) None ds k.ops) (sym mine))
-            (subst (λ (z : Bool). Came d new (local_of seat.client (file_of d.command)) (own_answer z (may_ask seat.client) d.command (local_of seat.client (file_of d.command)))) (sym busy) one.came);
+        came = subst (λ (l : Option (List ℕ)). Came d new l (own_answer (is_busy k.ops new) (can_ask d.joined d.calls) d.command l)) (h.locals c seat here (file_of d.command) ∙ ap (λ (z : ℕ). local_from z (file_of d.command) None ds k.ops) (sym mine))
+            (subst (λ (a : Bool). Came d new (local_of seat.client (file_of d.command)) (own_answer (is_busy k.ops new) a d.command (local_of seat.client (file_of d.command)))) (sym may)
+            (subst (λ (z : Bool). Came d new (local_of seat.client (file_of d.command)) (own_answer z (may_ask seat.client) d.command (local_of seat.client (file_of d.command)))) (sym busy) one.came));
       }) (λ z e at g. elim (same_or_not z c) [
         | inr apart ↦ h.locals z e (sym (around.others z apart) ∙ at) g ∙ sym (other_client z g d new (λ same. apart (sym same ∙ mine)) (local_from z g None ds k.ops))
         | inl own ↦
@@ -197,7 +181,7 @@ does_by ds k c seat d r place b h here begins mine starts may busy answers =
     around = around_with k.seats c seat (record seat { client = r.0; place = place }) here
 
 pub does_follows : (book : Book) (ds : List Deed) (k : Core) (qs : List Queue) (c now : ℕ) (seat : Seat) (d : Deed) (place : Option ℕ) → IsKept book k qs → book.ops ≡ k.ops → book.steps ≡ k.steps → HasDeeds ds k.ops k.seats → numbered k.seats c ≡ Some seat → ((i : ℕ) (o : Op) → slice_get k.ops i ≡ Some o → o.begin < k.steps + 1) → d.client ≡ c → d.begin ≡ k.steps + 1
-    → MayAsk d.joined (may_ask seat.client) (k.steps + 1) → IsDoneSo ds k c seat d (command_step seat.client d.command now) place
+    → can_ask d.joined d.calls ≡ may_ask seat.client → IsDoneSo ds k c seat d (command_step seat.client d.command now) place
 does_follows book ds k qs c now seat d place kept ops steps h here begins mine starts may = by seat.place seat.client.task refl refl (kept.seats c seat here).matched
   where
     r : client.State × ClientStep

@@ -1,23 +1,10 @@
 -- Each command has its operation, which came to what its client answered, or to what the server's answers led to.
-use Rattle.std.proofs.Common.{◌≡◌, ℕ, zero, suc, List, length, Option, Some, None, Bool, true, false, refl, sym, ap, ◌∙◌, subst}
-use Rattle.std.specs.Prelude.{slice_get, nat_lt, if◌then◌else◌}
-use Rattle.command_text.specs.Content.{content_length}
-use Rattle.command_text.specs.declared.command.Command.{Command}
+use Rattle.std.proofs.Common.{◌≡◌, ℕ, ◌*◌, ◌≤◌, zero, suc, List, length, Option, Some, None, Bool, true, false, refl, sym, ap, ◌∙◌, subst}
 use Rattle.command_text.specs.declared.command.Command.TheVariants as command
-use Rattle.open_close.specs.Local.{local_most, written_size}
-use Rattle.register_model.specs.Register.{is_closed, is_untold}
-use Rattle.register_model.specs.declared.op.Op.{Op}
 use Rattle.register_model.specs.declared.op.Outcome.{Outcome}
 use Rattle.register_model.specs.declared.op.Outcome.TheVariants as told
-use Rattle.register_model.specs.declared.op.Word.{Word}
 use Rattle.register_model.specs.declared.op.Word.TheVariants as words
-use Rattle.trace_replay.specs.Commands.{word_of, file_of}
-use Rattle.trace_replay.specs.World.{World}
-use Rattle.trace_replay.specs.Trail.{Moment, Deed, deeds_of}
-use Rattle.trace_replay.specs.Book.{Book, book_of}
-use Rattle.trace_replay.specs.Causes.{IsOpened, IsClosed, IsChanged, IsOpenRefused, HasCause, is_busy, local_before, own_answer, unless_asks, write_outcome, sized_outcome}
-use Rattle.trace_replay.specs.Faithful.{CameTo, IsDone}
-use Rattle.kept_promise.specs.Talk.{Queue}
+use Rattle.kept_promise.proofs.Common.{slice_get, nat_lt, if◌then◌else◌, content_length, Command, local_most, written_size, is_closed, is_untold, Op, Word, word_of, file_of, World, calls_most, Moment, Deed, deeds_of, Book, book_of, can_ask, IsOpened, IsClosed, IsChanged, IsOpenRefused, HasCause, is_busy, local_before, own_answer, unless_asks, write_outcome, sized_outcome, CameTo, IsDone, Queue}
 use Rattle.kept_promise.proofs.Rights.{is_remote, RefusedBy, Caused, IsRight}
 use Rattle.kept_promise.proofs.Facts.{IsKept}
 use Rattle.kept_promise.proofs.Deeds.{FromServer, Came, IsDeed}
@@ -149,15 +136,14 @@ came_to : (book : Book) (d : Deed) (o : Op) (l : Option (List ℕ)) (x : Option 
 came_to book d o l (Some own) right w e plain c = (c.0, c.1, pointless book o own right c.0 plain c.2)
 came_to book d o l None right w e plain c = (has_cause book d.command o plain w e c.1 right.cause, c.0)
 
-pub is_done : (book : Book) (ds : List Deed) (i : ℕ) (d : Deed) (o : Op) → IsRight book o → IsDeed ds book.ops i d o → IsDone book d o (local_before ds book.ops i d.client (file_of d.command))
-is_done book ds i d o right h = record {
+pub is_done : (book : Book) (ds : List Deed) (i : ℕ) (d : Deed) (o : Op) → d.calls ≤ calls_most * d.begin → IsRight book o → IsDeed ds book.ops i d o → IsDone book d o (local_before ds book.ops i d.client (file_of d.command))
+is_done book ds i d o few right h = record {
   client = h.client;
   word = h.word;
   file = h.file;
   begin = h.begin;
-  asks = h.asks;
-  may_ask = h.may_ask;
-  came_to = came_to book d o (local_before ds book.ops i d.client (file_of d.command)) (own_answer (is_busy book.ops o) h.asks d.command (local_before ds book.ops i d.client (file_of d.command))) right h.word h.file (own_plain (is_busy book.ops o) h.asks d.command (local_before ds book.ops i d.client (file_of d.command))) h.came;
+  few = few;
+  came_to = came_to book d o (local_before ds book.ops i d.client (file_of d.command)) (own_answer (is_busy book.ops o) (can_ask d.joined d.calls) d.command (local_before ds book.ops i d.client (file_of d.command))) right h.word h.file (own_plain (is_busy book.ops o) (can_ask d.joined d.calls) d.command (local_before ds book.ops i d.client (file_of d.command))) h.came;
   end = right.ends;
   order = λ e at. (right.past e at).0;
 }
@@ -168,4 +154,4 @@ deeds_counted w all h = h.deeds.count
 
 pub deeds_done : (w : World) (all : List Moment) (qs : List Queue) → IsKept (book_of w all) w.core qs → IsFollowed all w.core → (k : ℕ) (d : Deed) (o : Op) → slice_get (deeds_of all) k ≡ Some d → slice_get w.core.ops k ≡ Some o
     → IsDone (book_of w all) d o (local_before (deeds_of all) w.core.ops k d.client (file_of d.command))
-deeds_done w all qs kept h k d o at is = is_done (book_of w all) (deeds_of all) k d o (kept.sound.rights k o is) (h.deeds.each k d o at is)
+deeds_done w all qs kept h k d o at is = is_done (book_of w all) (deeds_of all) k d o (h.few k d at) (kept.sound.rights k o is) (h.deeds.each k d o at is)

@@ -1,17 +1,9 @@
 -- A client takes an answer to a call that it has forgotten: it is dropped, and what is under way stays as it is.
-use Rattle.std.proofs.Common.{inl, inr, ◌≡◌, ℕ, zero, suc, ◌+◌, ◌≤◌, List, [], ◌∷◌, ◌++◌, Option, Some, None, Bool, true, false, refl, sym, ap, ◌∙◌, subst, arith, eq-eqb}
-use Rattle.std.specs.Prelude.{slice_get, slice_set, map, ◌==◌, ◌||◌}
-use Rattle.wire.specs.declared.message.Pending.{Pending}
+use Rattle.std.proofs.Common.{inl, inr, ◌≡◌, ℕ, zero, suc, ◌+◌, ◌≤◌, List, [], ◌∷◌, ◌++◌, Option, Some, None, Bool, true, false, refl, sym, ap, ◌∙◌, subst, arith, eq-eqb, map}
 use Rattle.open_close.specs.State as client
-use Rattle.open_close.specs.State.{has_call, without_call}
-use Rattle.open_close.specs.Counting.{no_counts, nothing_done}
-use Rattle.register_model.specs.declared.op.Op.{Op}
 use Rattle.register_model.specs.declared.op.Outcome.TheVariants as told
-use Rattle.trace_replay.specs.Core.{Core, Seat, Session, numbered, ops_with, ops_after, acted}
-use Rattle.trace_replay.specs.Ops.{counted}
-use Rattle.trace_replay.specs.Book.{Book}
-use Rattle.kept_promise.specs.Talk.{Told, Queue}
-use Rattle.kept_promise.proofs.Lists.{some_is, nothing_there, same_or_not, of_replaced}
+use Rattle.kept_promise.proofs.Common.{slice_get, slice_set, ◌==◌, ◌||◌, Pending, has_call, without_call, no_counts, nothing_done, Op, Core, Seat, Session, numbered, ops_with, ops_after, acted, counted, Book, Told, Queue}
+use Rattle.kept_promise.proofs.Lists.{some_is, nothing_there, same_or_not, of_replaced, false_and_true}
 use Rattle.kept_promise.proofs.Keys.{times}
 use Rattle.kept_promise.proofs.Messages.{Job, job, AllTolds, IsAnswer, IsCommit}
 use Rattle.kept_promise.proofs.History.{Goes, Still, onward, goes_same, still_same, still_becomes}
@@ -33,12 +25,9 @@ in_either : (mine others : List Pending) (i : ℕ) (p : Pending) → slice_get (
 in_either [] others i p at none = (i, at)
 in_either (c ∷ cs) others i p at none = by (c.xid == p.xid) refl none i at (λ m. in_either cs others m p)
   where
-    apart : (b : Bool) → b ≡ false → b ≡ true → ⊥
-    apart b u v = absurd cc
-
     by : (b : Bool) → (c.xid == p.xid) ≡ b → (b || has_call cs p.xid) ≡ false → (i : ℕ) → slice_get (c ∷ (cs ++ others)) i ≡ Some p → ((m : ℕ) → slice_get (cs ++ others) m ≡ Some p → has_call cs p.xid ≡ false → (k : ℕ) × (slice_get others k ≡ Some p)) → (k : ℕ) × (slice_get others k ≡ Some p)
     by true same none i at later = absurd cc
-    by false same none zero at later = absurd (apart (c.xid == p.xid) same (eq-eqb c.xid p.xid (ap (λ (z : Pending). z.xid) (some_is c p at))))
+    by false same none zero at later = absurd (false_and_true (c.xid == p.xid) same (eq-eqb c.xid p.xid (ap (λ (z : Pending). z.xid) (some_is c p at))))
     by false same none (suc i) at later = later i at none
 
 pub has_there : (calls : List Pending) (i : ℕ) (p : Pending) → slice_get calls i ≡ Some p → has_call calls p.xid ≡ true
@@ -117,7 +106,7 @@ seat_dropped : (book : Book) (sessions : List Session) (i : ℕ) (seat : Seat) (
 seat_dropped book sessions i seat xid linked h = record {
   session = h.session;
   linked = h.linked;
-  unlinked = λ e. absurd (apart seat.client.linked e linked);
+  unlinked = λ e. absurd (false_and_true seat.client.linked e linked);
   matched = h.matched;
   task = h.task;
   trying = h.trying;
@@ -125,9 +114,6 @@ seat_dropped book sessions i seat xid linked h = record {
   next = h.next;
   opened = h.opened;
 }
-  where
-    apart : (b : Bool) → b ≡ false → b ≡ true → ⊥
-    apart b u v = absurd cc
 
 -- another client's running operation is its job still
 elsewhere : (book : Book) (k : Core) (qs : List Queue) (i : ℕ) (seat : Seat) (d : Seat) (others : List Seat) → IsKept book k qs → numbered k.seats i ≡ Some seat → job d ≡ job seat → Around k.seats others i d → (p : ℕ) (o : Op) → slice_get book.ops p ≡ Some o → o.outcome ≡ told.Running → (e : Seat) × (j : Job) × (numbered others o.client ≡ Some e) × (job e ≡ Some j) × (j.place ≡ p)

@@ -1,18 +1,10 @@
 -- An operation that is left alone has ended well, by what it came to.
-use Rattle.std.proofs.Common.{◌≡◌, ◌⊎◌, inl, inr, ℕ, ◌*◌, ◌<◌, ◌≤◌, List, Option, Some, None, Bool, true, false, refl, sym, ap, ◌∙◌, subst, arith}
-use Rattle.std.specs.Prelude.{IsSome, Contains}
-use Rattle.command_text.specs.declared.command.Command.{Command}
+use Rattle.std.proofs.Common.{◌≡◌, inl, inr, ℕ, ◌≤◌, List, Option, Some, None, Bool, true, false, refl, subst, arith, IsSome}
 use Rattle.command_text.specs.declared.command.Command.TheVariants as command
-use Rattle.open_close.specs.Opening.{calls_most}
-use Rattle.register_model.specs.declared.op.Op.{Op}
 use Rattle.register_model.specs.declared.op.Outcome.{Outcome}
 use Rattle.register_model.specs.declared.op.Outcome.TheVariants as told
-use Rattle.trace_replay.specs.Trail.{Deed}
-use Rattle.trace_replay.specs.Book.{Book}
-use Rattle.trace_replay.specs.Causes.{MayAsk, IsLost, HasCause, is_busy, own_answer}
-use Rattle.trace_replay.specs.Faithful.{CameTo, IsDone}
 use Rattle.trace_replay.specs.Complete.{IsUncut, EndsWell}
-use Rattle.kept_promise.proofs.Lists.{nothing_there, some_is}
+use Rattle.kept_promise.proofs.Common.{Command, Op, Deed, Book, can_ask, IsLost, HasCause, is_busy, own_answer, CameTo, IsDone}
 
 -- a client that saw no connection lost since its operation began did not end it so
 not_lost : (book : Book) (o : Op) → IsUncut book o → ((e : ℕ) → o.end ≡ Some e → o.begin ≤ e) → IsLost book o → ⊥
@@ -42,11 +34,6 @@ closed_well book f x o told.Lost lost runs h = absurd (lost h)
 closed_well book f x o told.Running lost runs h = absurd (runs h)
 closed_well book f x o _ lost runs h = absurd h
 
--- a joined client that has xids left asks the server
-asks_it : (asks : Bool) (step : ℕ) → calls_most * step < 4293967296 → MayAsk true asks step → asks ≡ true
-asks_it true step few h = refl
-asks_it false step few h = absurd (omega (arith, few, h))
-
 came_well : (book : Book) (d : Deed) (o : Op) (l : Option (List ℕ)) (k : Command) → d.command ≡ k → (IsLost book o → ⊥) → (o.end ≡ None → ⊥) → CameTo book (record d { command = k }) o l (own_answer false true k l) → EndsWell k l o.outcome
 came_well book d o None (command.Open f) e lost runs h = opened_well book f o o.outcome lost runs h.0
 came_well book d o (Some x) (command.Open f) e lost runs h = tt
@@ -57,8 +44,7 @@ came_well book d o l (command.Trunc f size) e lost runs h = tt
 came_well book d o l (command.Read f offset count) e lost runs h = tt
 came_well book d o l (command.Abandon f) e lost runs h = tt
 
-pub ends_well : (book : Book) (d : Deed) (o : Op) (l : Option (List ℕ)) → IsDone book d o l → IsSome o.end → d.joined ≡ true → calls_most * o.begin < 4293967296 → is_busy book.ops o ≡ false → IsUncut book o → EndsWell d.command l o.outcome
-ends_well book d o l h ended joined few free uncut =
-    let asks : h.asks ≡ true = asks_it h.asks o.begin few (subst (λ (b : Bool). MayAsk b h.asks o.begin) joined h.may_ask) in
-    let came : CameTo book d o l (own_answer false true d.command l) = subst (λ (b : Bool). CameTo book d o l (own_answer false b d.command l)) asks (subst (λ (b : Bool). CameTo book d o l (own_answer b h.asks d.command l)) free h.came_to) in
+pub ends_well : (book : Book) (d : Deed) (o : Op) (l : Option (List ℕ)) → IsDone book d o l → IsSome o.end → can_ask d.joined d.calls ≡ true → is_busy book.ops o ≡ false → IsUncut book o → EndsWell d.command l o.outcome
+ends_well book d o l h ended asks free uncut =
+    let came : CameTo book d o l (own_answer false true d.command l) = subst (λ (b : Bool). CameTo book d o l (own_answer false b d.command l)) asks (subst (λ (b : Bool). CameTo book d o l (own_answer b (can_ask d.joined d.calls) d.command l)) free h.came_to) in
     came_well book d o l d.command refl (not_lost book o uncut h.order) (some_end o.end ended) came

@@ -1,27 +1,11 @@
 -- What holds in each world of a run: of each session with its owner, of each client, and of all together.
-use Rattle.std.proofs.Common.{◌≡◌, ℕ, zero, suc, ◌+◌, ◌*◌, ◌<◌, ◌≤◌, List, [], ◌∷◌, ◌++◌, ◌⊎◌, Option, Some, None, Bool, true, false, length}
-use Rattle.std.specs.Prelude.{slice_get, cond, ◌==◌, map, not, IsSome, option_map}
-use Rattle.wire.specs.Message.{MessageFits}
-use Rattle.wire.specs.declared.message.Pending.{Pending}
+use Rattle.std.proofs.Common.{◌≡◌, ℕ, suc, ◌+◌, ◌*◌, ◌<◌, ◌≤◌, List, [], ◌∷◌, ◌⊎◌, Option, Some, None, Bool, true, false, length, map, IsSome}
 use Rattle.server_core.specs.State as server
-use Rattle.server_core.specs.Step.{stands}
-use Rattle.server_core.specs.Temps.{Temp, key_of}
-use Rattle.server_core.specs.declared.change.Change.{Change}
-use Rattle.server_core.specs.declared.file.File.{File}
 use Rattle.open_close.specs.State as client
-use Rattle.open_close.specs.declared.task.Fetch.{Fetch}
-use Rattle.open_close.specs.declared.task.Local.{Local}
-use Rattle.open_close.specs.declared.task.Stage.{Stage}
 use Rattle.open_close.specs.declared.task.Stage.TheVariants as stage
-use Rattle.open_close.specs.declared.task.StoreCall.{StoreCall}
-use Rattle.open_close.specs.declared.task.Way.{Way}
 use Rattle.open_close.specs.declared.task.Way.TheVariants as way
-use Rattle.register_model.specs.Register.{content_of}
-use Rattle.register_model.specs.declared.op.Op.{Op}
 use Rattle.register_model.specs.declared.op.Outcome.TheVariants as told
-use Rattle.trace_replay.specs.Core.{Core, Seat, Session, numbered}
-use Rattle.trace_replay.specs.Book.{Book, value_at, version_at}
-use Rattle.kept_promise.specs.Talk.{Call, Call.Commit, Ask, Told, Queue, told_message}
+use Rattle.kept_promise.proofs.Common.{slice_get, not, MessageFits, Pending, stands, Temp, key_of, Change, File, Local, Stage, StoreCall, content_of, Op, Core, Seat, Session, numbered, Book, value_at, version_at, Call.Commit, Ask, Queue, told_message}
 use Rattle.kept_promise.proofs.Statements.{CallFits}
 use Rattle.kept_promise.proofs.Keys.{times, own, on_way, pending_key, IsOurs}
 use Rattle.kept_promise.proofs.Messages.{Job, job, stage_word, AllAsks, AllTolds, AllUnder, Rising, IsAsked, IsAnswer, IsTrying, HasFetch, IsCommit, IsPiece, IsPending, TempUnder, AreParts, CloseOf}
@@ -86,7 +70,7 @@ pub record IsSession (book : Book) (seats : List Seat) (s : server.State) (n : �
   pub lengths : (m : ℕ) → length (contents m) ≤ 67108864
   pub commits : AllAsks (IsCommit book x.closing x.cut (job seat) contents) q.ups
   pub pieces : AllAsks (IsPiece contents) q.ups
-  pub temps : (i m : ℕ) (e : ℕ × Temp) → m < 4294967296 → slice_get s.temps i ≡ Some e → e.0 ≡ key_of n m → AreParts (contents m) e.1.pieces × (key_of e.1.session e.1.number ≡ e.0)
+  pub temps : (i m : ℕ) (e : ℕ × Temp) → m < 4294967296 → slice_get s.temps i ≡ Some e → e.0 ≡ key_of n m → AreParts (contents m) e.1.pieces × (key_of e.1.session e.1.fd ≡ e.0)
   pub temps_below : x.cut ≡ false → AllAsks (λ a. TempUnder seat.client.next_temp a.call) q.ups × ((i m : ℕ) (e : ℕ × Temp) → m < 4294967296 → slice_get s.temps i ≡ Some e → e.0 ≡ key_of n m → m < seat.client.next_temp)
   pub closes : x.cut ≡ false → (j : Job) → job seat ≡ Some j → CloseOf book x.closing contents seat.client.next_temp j (client.local_bytes seat.client.opened j.file) j.stage
   pub pending : (i : ℕ) (c : Change) → slice_get (own n s.waiting) i ≡ Some c → IsPending book x.closing x.cut (job seat) c.xid c.file c.content

@@ -1,37 +1,13 @@
 -- What an open counts while it fetches a content: a READ for each chunk that was asked for, and the bytes that have come.
-use Rattle.std.proofs.Common.{◌⊎◌, inl, inr, ◌≡◌, ℕ, zero, suc, ◌+◌, ◌-◌, ◌<◌, ◌≤◌, List, [], ◌∷◌, ◌++◌, length, replicate, Option, Some, None, Bool, true, false, refl, sym, ap, ◌∙◌, subst, arith, length-append}
-use Rattle.std.proofs.lemmas.Bool.Decides.{nat_tests}
-use Rattle.std.specs.Prelude.{◌==◌, ◌&&◌, nat_lt, slice_get, slice_set, map, cond, not}
-use Rattle.chunk_cut.specs.declared.chunk.Chunk.{Chunk}
-use Rattle.xdr_codec.specs.declared.answer.Answer.{Answer}
-use Rattle.xdr_codec.specs.declared.answer.Answer.TheVariants.{Done, Failed}
-use Rattle.hash_calls.specs.declared.call.Hashes.{Hashes}
+use Rattle.std.proofs.Common.{◌⊎◌, inl, inr, ◌≡◌, ℕ, zero, suc, ◌+◌, ◌-◌, ◌<◌, ◌≤◌, List, [], ◌∷◌, ◌++◌, length, replicate, Option, Some, None, Bool, true, false, refl, sym, ap, ◌∙◌, subst, arith, length-append, map}
 use Rattle.hash_calls.specs.declared.message.Lb.TheVariants as lb
-use Rattle.nfs3_calls.specs.declared.call.Piece.{Piece}
 use Rattle.nfs3_calls.specs.declared.message.Nfs.TheVariants as nfs
-use Rattle.wire.specs.declared.message.Body.{Body}
 use Rattle.wire.specs.declared.message.Body.TheVariants as body
-use Rattle.wire.specs.declared.message.Pending.{Pending}
-use Rattle.open_close.specs.Counting.{no_counts}
-use Rattle.open_close.specs.Opening.{calls_most, tries_most, is_none, fetch_of, with_hashes, listed, reads_from, reads_next, reads_more, reads_all, is_here, slots_bytes, read_at, without_read, fault_in, other_version, with_bytes}
-use Rattle.open_close.specs.Shape.{Broken, broken_of}
-use Rattle.open_close.specs.State.{State}
-use Rattle.open_close.specs.Step.{bad_peer, retries, reads_if, reads_on, lists_on, told_shape, told_version, told_hashes, told_first, misfits, told_bytes, told_chunk, told_piece, took}
-use Rattle.open_close.specs.declared.calls.Reads.{Reads}
-use Rattle.open_close.specs.declared.step.BadPeer.{BadPeer}
 use Rattle.open_close.specs.declared.step.BadPeer.TheVariants as bad
-use Rattle.open_close.specs.declared.step.ClientStep.{ClientStep}
-use Rattle.open_close.specs.declared.step.Ended.{Ended}
-use Rattle.open_close.specs.declared.step.Outcome.{Outcome}
 use Rattle.open_close.specs.declared.step.Outcome.TheVariants as outcome
-use Rattle.open_close.specs.declared.task.Fetch.{Fetch}
-use Rattle.open_close.specs.declared.task.ReadCall.{ReadCall}
-use Rattle.open_close.specs.declared.task.Stage.{Stage}
 use Rattle.open_close.specs.declared.task.Stage.TheVariants as stage
-use Rattle.open_close.specs.declared.task.Task.{Task}
-use Rattle.register_model.specs.declared.op.Traffic.{Traffic}
-use Rattle.trace_replay.specs.Ops.{counted}
-use Rattle.kept_promise.proofs.Lists.{some_is, nothing_there, within}
+use Rattle.kept_promise.proofs.Common.{nat_tests, ◌==◌, nat_lt, slice_get, slice_set, cond, not, Chunk, Answer, Done, Failed, Hashes, Piece, Body, Pending, no_counts, calls_most, tries_most, is_none, fetch_of, with_hashes, listed, reads_from, reads_next, reads_more, reads_all, is_here, slots_bytes, read_at, without_read, fault_in, other_version, with_bytes, Broken, broken_of, State, bad_peer, retries, reads_if, reads_on, lists_on, told_shape, told_version, told_hashes, told_first, misfits, told_bytes, told_chunk, told_piece, took, Reads, BadPeer, ClientStep, Ended, Outcome, Fetch, ReadCall, Stage, Task, Traffic, counted}
+use Rattle.kept_promise.proofs.Lists.{some_is, nothing_there, within, count_more, both_true, set_count, set_else}
 use Rattle.kept_promise.proofs.Keys.{times}
 
 -- ---- slots, and the calls under way for them
@@ -44,7 +20,7 @@ abbrev pub AllOpen : Slots → (from : ℕ) → List ReadCall → (asked : ℕ) 
 AllOpen slots lo [] n = lo ≤ n
 AllOpen slots lo (c ∷ cs) n = (lo ≤ c.index) × (slice_get slots c.index ≡ Some None) × AllOpen slots (c.index + 1) cs n
 
-slot_put : (slots : Slots) (i : ℕ) (b : List ℕ) → slice_get slots i ≡ Some None → length (slots_bytes (slice_set slots i (Some b))) ≡ length (slots_bytes slots) + length b
+pub slot_put : (slots : Slots) (i : ℕ) (b : List ℕ) → slice_get slots i ≡ Some None → length (slots_bytes (slice_set slots i (Some b))) ≡ length (slots_bytes slots) + length b
 slot_put [] i b e = nothing_there None e
 slot_put (s ∷ ss) zero b e = by s (some_is s None e)
   where
@@ -57,18 +33,6 @@ slot_put (s ∷ ss) (suc i) b e = by s (slot_put ss i b e)
     by None l = l
     by (Some x) l = let m = length-append x (slots_bytes (slice_set ss i (Some b))) in let n = length-append x (slots_bytes ss) in omega (arith, l, m, n)
 
-set_else : (slots : Slots) (i k : ℕ) (x : Option (List ℕ)) → (k ≡ i → ⊥) → slice_get (slice_set slots i x) k ≡ slice_get slots k
-set_else [] i k x apart = refl
-set_else (s ∷ ss) zero zero x apart = absurd (apart refl)
-set_else (s ∷ ss) zero (suc k) x apart = refl
-set_else (s ∷ ss) (suc i) zero x apart = refl
-set_else (s ∷ ss) (suc i) (suc k) x apart = set_else ss i k x (λ e. apart (ap suc e))
-
-set_count : (slots : Slots) (i : ℕ) (x : Option (List ℕ)) → length (slice_set slots i x) ≡ length slots
-set_count [] i x = refl
-set_count (s ∷ ss) zero x = refl
-set_count (s ∷ ss) (suc i) x = ap suc (set_count ss i x)
-
 open_lower : (slots : Slots) (lo hi : ℕ) (us : List ReadCall) (n : ℕ) → lo ≤ hi → AllOpen slots hi us n → AllOpen slots lo us n
 open_lower slots lo hi [] n le h = let a = h in omega (arith, a, le)
 open_lower slots lo hi (u ∷ us) n le h = let a = h.0 in (omega (arith, a, le), h.1, h.2)
@@ -80,22 +44,22 @@ open_set slots i x lo (u ∷ us) n lt h =
     let a = h.0 in
     (h.0, set_else slots i u.index x (λ e. omega (arith, a, lt, e)) ∙ h.1, open_set slots i x (u.index + 1) us n (omega (arith, a, lt)) h.2)
 
-open_more : (slots : Slots) (lo : ℕ) (us : List ReadCall) (n xid : ℕ) → slice_get slots n ≡ Some None → AllOpen slots lo us n → AllOpen slots lo (us ++ record { xid = xid; index = n } ∷ []) (n + 1)
+pub open_more : (slots : Slots) (lo : ℕ) (us : List ReadCall) (n xid : ℕ) → slice_get slots n ≡ Some None → AllOpen slots lo us n → AllOpen slots lo (us ++ record { xid = xid; index = n } ∷ []) (n + 1)
 open_more slots lo [] n xid e h = (h, e, omega arith)
 open_more slots lo (u ∷ us) n xid e h = (h.0, h.1, open_more slots (u.index + 1) us n xid e h.2)
 
 -- the call with an xid is for an empty slot, from the place on, and below what was asked for
-record Found (slots : Slots) (lo n x : ℕ) (c : ReadCall) : Type 0 where
-  from : lo ≤ c.index
-  below : c.index < n
-  empty : slice_get slots c.index ≡ Some None
-  xid : c.xid ≡ x
+pub record Found (slots : Slots) (lo n x : ℕ) (c : ReadCall) : Type 0 where
+  pub from : lo ≤ c.index
+  pub below : c.index < n
+  pub empty : slice_get slots c.index ≡ Some None
+  pub xid : c.xid ≡ x
 
 open_bound : (slots : Slots) (lo : ℕ) (us : List ReadCall) (n : ℕ) → AllOpen slots lo us n → lo ≤ n
 open_bound slots lo [] n h = h
 open_bound slots lo (u ∷ us) n h = let a = h.0 in let b = open_bound slots (u.index + 1) us n h.2 in omega (arith, a, b)
 
-open_at : (slots : Slots) (lo : ℕ) (us : List ReadCall) (n x : ℕ) (c : ReadCall) → AllOpen slots lo us n → read_at us x ≡ Some c → Found slots lo n x c
+pub open_at : (slots : Slots) (lo : ℕ) (us : List ReadCall) (n x : ℕ) (c : ReadCall) → AllOpen slots lo us n → read_at us x ≡ Some c → Found slots lo n x c
 open_at slots lo [] n x c h e = nothing_there c e
 open_at slots lo (u ∷ us) n x c h e = by (u.xid == x) refl e (λ later. open_at slots (u.index + 1) us n x c h.2 later)
   where
@@ -105,7 +69,7 @@ open_at slots lo (u ∷ us) n x c h e = by (u.xid == x) refl e (λ later. open_a
         subst (λ (z : ReadCall). Found slots lo n x z) (some_is u c at) (record { from = h.0; below = omega (arith, bound); empty = h.1; xid = (let q = is in grind (arith, nat_tests, q)) })
     by false is at later = let f = later at in let a = f.from in let b = h.0 in record { from = omega (arith, a, b); below = f.below; empty = f.empty; xid = f.xid }
 
-none_without : (us : List ReadCall) (x : ℕ) → times x (map (λ (c : ReadCall). c.xid) us) ≡ 0 → without_read us x ≡ us
+pub none_without : (us : List ReadCall) (x : ℕ) → times x (map (λ (c : ReadCall). c.xid) us) ≡ 0 → without_read us x ≡ us
 none_without [] x none = refl
 none_without (u ∷ us) x none = by (u.xid == x) refl none (none_without us x)
   where
@@ -114,7 +78,7 @@ none_without (u ∷ us) x none = by (u.xid == x) refl none (none_without us x)
     by false e none later = ap (λ l. u ∷ l) (later none)
 
 -- its slot is filled, and it is no longer under way
-open_less : (slots : Slots) (lo : ℕ) (us : List ReadCall) (n x : ℕ) (c : ReadCall) (b : List ℕ) → AllOpen slots lo us n → read_at us x ≡ Some c → times x (map (λ (u : ReadCall). u.xid) us) ≤ 1 → AllOpen (slice_set slots c.index (Some b)) lo (without_read us x) n
+pub open_less : (slots : Slots) (lo : ℕ) (us : List ReadCall) (n x : ℕ) (c : ReadCall) (b : List ℕ) → AllOpen slots lo us n → read_at us x ≡ Some c → times x (map (λ (u : ReadCall). u.xid) us) ≤ 1 → AllOpen (slice_set slots c.index (Some b)) lo (without_read us x) n
 open_less slots lo [] n x c b h e once = nothing_there c e
 open_less slots lo (u ∷ us) n x c b h e once = by (u.xid == x) refl e once (λ at few. open_less slots (u.index + 1) us n x c b h.2 at few) (λ at. open_at slots (u.index + 1) us n x c h.2 at)
   where
@@ -189,11 +153,7 @@ record Asking (tr : Traffic) (bytes first : ℕ) (r : Reads) : Type 0 where
   asked : r.fetch.asked ≡ first + length r.send
   some : r.fetch.under ≡ [] → r.send ≡ []
 
-count_more : {A : Type 0} (xs : List A) (x : A) → length (xs ++ x ∷ []) ≡ suc (length xs)
-count_more [] x = refl
-count_more (y ∷ ys) x = ap suc (count_more ys x)
-
-not_none : {A B : Type 0} (xs : List A) (x : A) → xs ++ x ∷ [] ≡ [] → B
+pub not_none : {A B : Type 0} (xs : List A) (x : A) → xs ++ x ∷ [] ≡ [] → B
 not_none [] x e = absurd cc
 not_none (y ∷ ys) x e = absurd cc
 
@@ -235,14 +195,9 @@ chunks_same (suc k) file r = by (slice_get r.fetch.chunks r.fetch.asked) (λ q. 
     by None go = go r
     by (Some c) go = go (reads_next file r (Some c))
 
-none_is : {A : Type 0} (xs : List A) → is_none xs ≡ true → xs ≡ []
+pub none_is : {A : Type 0} (xs : List A) → is_none xs ≡ true → xs ≡ []
 none_is [] e = refl
 none_is (x ∷ xs) e = absurd cc
-
-both_true : (a b : Bool) → (a && b) ≡ true → (a ≡ true) × (b ≡ true)
-both_true true true e = (refl, refl)
-both_true true false e = absurd cc
-both_true false b e = absurd cc
 
 fetched_reads : (tr : Traffic) (st : Stage) (s : State) (calls : List Pending) (file xid : ℕ) (f : Fetch) (bytes : ℕ) → (f.tries ≡ tries_of st) → IsReads tr bytes f → ((f.asked ≡ 0) ⊎ ((g : Fetch) × (st ≡ stage.Reading g) × (length f.chunks ≡ length g.chunks) × (f.first ≡ g.first))) → Fetched tr st (reads_on s calls file xid f bytes)
 fetched_reads tr st s calls file xid f bytes tries h from = by (is_here (reads_all file f s.next).fetch) refl
@@ -306,19 +261,19 @@ fetched_retries tr st s calls file xid false f version bytes lt = record { task 
 
 -- ---- GETHASHes
 
-abbrev no_bytes : ℕ → Slots
+abbrev pub no_bytes : ℕ → Slots
 no_bytes n = replicate n None
 
-no_slots_yet : (n i : ℕ) → i < length (no_bytes n) → slice_get (no_bytes n) i ≡ Some None
+pub no_slots_yet : (n i : ℕ) → i < length (no_bytes n) → slice_get (no_bytes n) i ≡ Some None
 no_slots_yet zero i lt = absurd (omega (arith, lt))
 no_slots_yet (suc n) zero lt = refl
 no_slots_yet (suc n) (suc i) lt = no_slots_yet n i (omega (arith, lt))
 
-none_bytes : (n : ℕ) → length (slots_bytes (no_bytes n)) ≡ 0
+pub none_bytes : (n : ℕ) → length (slots_bytes (no_bytes n)) ≡ 0
 none_bytes zero = refl
 none_bytes (suc n) = none_bytes n
 
-count_none : (n : ℕ) → length (no_bytes n) ≡ n
+pub count_none : (n : ℕ) → length (no_bytes n) ≡ n
 count_none zero = refl
 count_none (suc n) = ap suc (count_none n)
 

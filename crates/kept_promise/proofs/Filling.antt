@@ -1,16 +1,9 @@
 -- A client fills a temporary file: what is held as its store goes on.
 use Rattle.std.proofs.Common.{◌⊎◌, inl, inr, ◌≡◌, ℕ, zero, suc, ◌+◌, ◌<◌, ◌≤◌, List, [], ◌∷◌, ◌++◌, length, Some, Bool, true, false, refl, sym, ap, ◌∙◌, subst, arith, eq-eqb, eqb-true}
-use Rattle.std.proofs.lemmas.Bool.Decides.{nat_tests}
-use Rattle.std.specs.Prelude.{slice_get, cond, ◌==◌, not, nat_lt}
-use Rattle.chunk_cut.specs.Chunks.{chunks_of}
-use Rattle.chunk_cut.specs.declared.chunk.Chunk.{Chunk}
-use Rattle.open_close.specs.Closing.{store_of, without_store, answered, with_whole}
-use Rattle.open_close.specs.declared.task.Store.{Store}
-use Rattle.open_close.specs.declared.task.StoreCall.{StoreCall}
 use Rattle.open_close.specs.declared.task.Way.TheVariants as way
-use Rattle.kept_promise.specs.Talk.{Call.Name, Call.Send, Ask}
+use Rattle.kept_promise.proofs.Common.{nat_tests, slice_get, cond, ◌==◌, not, nat_lt, chunks_of, Chunk, store_of, without_store, answered, with_whole, Store, StoreCall, Call.Name, Call.Send, Ask}
 use Rattle.kept_promise.proofs.Statements.{PiecesOf}
-use Rattle.kept_promise.proofs.Lists.{some_is, nothing_there, same_or_not, of_appended, at_end}
+use Rattle.kept_promise.proofs.Lists.{some_is, nothing_there, same_or_not, of_appended, at_end, false_and_true}
 use Rattle.kept_promise.proofs.Chunks.{pieces_agree}
 use Rattle.kept_promise.proofs.Naming.{Named}
 use Rattle.kept_promise.proofs.Orderly.{UpSend, Holds}
@@ -51,10 +44,7 @@ was_under (v ∷ vs) x m u at = by (v.xid == x) refl m at (was_under vs x)
   where
     by : (b : Bool) → (v.xid == x) ≡ b → (m : ℕ) → slice_get (cond (not b) (v ∷ without_store vs x) (without_store vs x)) m ≡ Some u → ((m : ℕ) (u : StoreCall) → slice_get (without_store vs x) m ≡ Some u → (k : ℕ) × (slice_get vs k ≡ Some u) × (u.xid ≡ x → ⊥)) → (k : ℕ) × (slice_get (v ∷ vs) k ≡ Some u) × (u.xid ≡ x → ⊥)
     by true e m at later = let h = later m u at in (suc h.0, h.1, h.2)
-    by false e zero at later = (0, at, λ s. not_both (v.xid == x) e (eq-eqb v.xid x (ap (λ (z : StoreCall). z.xid) (some_is v u at) ∙ s)))
-      where
-        not_both : (b : Bool) → b ≡ false → b ≡ true → ⊥
-        not_both b u v = absurd cc
+    by false e zero at later = (0, at, λ s. false_and_true (v.xid == x) e (eq-eqb v.xid x (ap (λ (z : StoreCall). z.xid) (some_is v u at) ∙ s)))
     by false e (suc m) at later = let h = later m u at in (suc h.0, h.1, h.2)
 
 -- an index that no other call has, but the one that was answered
@@ -181,8 +171,7 @@ no_sends temp chunks x i (n ∷ ns) (a ∷ b) y s z (zero, m, st, bs, e) = not_s
         calls : Name temp s.1.0 ≡ Send m st bs → ⊥
         calls e = absurd cc
 no_sends temp chunks x i (n ∷ ns) (a ∷ b) y s z (suc k, m, st, bs, e) = no_sends temp chunks (x + 1) (i + 1) ns b y s.2 z (k, m, st, bs, e)
-no_sends temp chunks x i [] (a ∷ b) y s z u = absurd s
-no_sends temp chunks x i (n ∷ ns) [] y s z u = absurd s
+no_sends temp chunks x i _ _ y s z u = absurd s
 
 -- which notes there are
 pub note_is : (temp : ℕ) (chunks : List Chunk) (x i : ℕ) (us : List StoreCall) (b : List Ask) (y k : ℕ) (u : StoreCall) → Named temp chunks x i us b y → slice_get us k ≡ Some u → u ≡ record { xid = x + k; index = i + k; way = way.Named }

@@ -1,26 +1,10 @@
 -- A temporary file fills with the chunks of its close: what the server finds of a call that is in order, and what is held once it is taken.
-use Rattle.std.proofs.Common.{◌⊎◌, inl, inr, ◌≡◌, ℕ, zero, suc, ◌+◌, ◌<◌, ◌≤◌, List, [], ◌∷◌, length, Option, Some, None, Bool, true, false, refl, sym, ap, ◌∙◌, subst, arith, eq-eqb, ne_eqb}
-use Rattle.std.proofs.lemmas.Bool.Decides.{nat_tests}
-use Rattle.std.specs.Prelude.{slice_get, ◌==◌, ◌||◌, nat_lt, nat_le, is_some, IsSome, Ok, if◌then◌else◌, unwrap_or}
-use Rattle.std.specs.BTreeMap.{insert_entry}
-use Rattle.std.specs.Ordering.{nat_cmp}
-use Rattle.xdr_codec.specs.Handle.{handle_bytes}
-use Rattle.xdr_codec.specs.declared.status.Status.{Status}
+use Rattle.std.proofs.Common.{◌⊎◌, inl, inr, ◌≡◌, ℕ, zero, suc, ◌+◌, ◌<◌, ◌≤◌, List, [], ◌∷◌, length, Option, Some, None, Bool, true, false, refl, sym, ap, ◌∙◌, subst, arith, eq-eqb, ne_eqb, IsSome, Ok}
 use Rattle.xdr_codec.specs.declared.status.Status.TheVariants as status
-use Rattle.chunk_cut.specs.Chunks.{chunks_of}
-use Rattle.chunk_cut.specs.Places.{chunk_bytes}
-use Rattle.chunk_cut.specs.declared.chunk.Chunk.{Chunk}
 use Rattle.server_core.specs.State as server
-use Rattle.server_core.specs.Answers.{file, node_of}
-use Rattle.server_core.specs.Closing.{room_fault, cond_fault, cond_most}
-use Rattle.server_core.specs.Temps.{Temp, temp_at, temps_of, range_fault}
-use Rattle.server_core.specs.declared.file.File.{File}
-use Rattle.open_close.specs.declared.task.Store.{Store}
-use Rattle.open_close.specs.declared.task.StoreCall.{StoreCall}
+use Rattle.server_core.specs.Closing.{cond_most}
 use Rattle.open_close.specs.declared.task.Way.TheVariants as way
-use Rattle.register_model.specs.Register.{content_of}
-use Rattle.trace_replay.specs.Book.{Book}
-use Rattle.kept_promise.specs.Talk.{Call.Send, Ask}
+use Rattle.kept_promise.proofs.Common.{nat_tests, slice_get, ◌==◌, ◌||◌, nat_lt, nat_le, is_some, if◌then◌else◌, unwrap_or, insert_entry, nat_cmp, handle_bytes, Status, chunks_of, chunk_bytes, Chunk, file, node_of, cond_fault, room_fault, Temp, temp_at, temps_of, range_fault, File, Store, StoreCall, content_of, Book, Call.Send, Ask}
 use Rattle.kept_promise.proofs.Statements.{PiecesOf, AreInRow}
 use Rattle.kept_promise.proofs.Lists.{some_is, nothing_there, same_or_not}
 use Rattle.kept_promise.proofs.Chunks.{chunks_in_row, piece_goes_in}

@@ -1,10 +1,7 @@
 -- That every message of a run fits its record and is read again, as one record of laws.
-use Rattle.std.proofs.Common.{◌≡◌}
-use Rattle.std.specs.Prelude.{Ok}
-use Rattle.wire.specs.Message.{message_spell, IsSpelled}
-use Rattle.wire.specs.Parse.{parse_of, IsExpected}
-use Rattle.wire.specs.declared.message.Message.{Message}
-use Rattle.wire.specs.declared.message.Waiting.{Waiting}
+use Rattle.std.proofs.Common.{◌≡◌, Ok}
+use Rattle.wire.specs.Message.{IsSpelled}
+use Rattle.kept_promise.proofs.Common.{message_spell, parse_of, IsExpected, Message, Waiting}
 use Rattle.kept_promise.proofs.Statements.{CallsFit, HashAnswersFit, ReadAnswersFit, PlainAnswersFit}
 
 pub record FitLaws : Type 0 where

@@ -1,44 +1,25 @@
 -- The commands of a run and their operations are carried through its events.
-use Rattle.std.proofs.Common.{◌⊎◌, inl, inr, ◌≡◌, ℕ, zero, suc, ◌+◌, ◌*◌, ◌<◌, ◌≤◌, List, [], ◌∷◌, ◌++◌, length, Option, Some, None, Bool, true, false, refl, sym, ap, ◌∙◌, subst, arith, append-nil, eq-eqb, ne_eqb}
-use Rattle.std.proofs.lemmas.Bool.Decides.{nat_tests}
-use Rattle.std.specs.Prelude.{slice_get, slice_set, replicate, Result, Ok, Err, not, is_some, ◌&&◌, ◌==◌, nat_lt}
-use Rattle.command_text.specs.declared.command.Command.{Command}
-use Rattle.wire.specs.Parse.{parse_of}
-use Rattle.wire.specs.declared.message.Message.{Message}
-use Rattle.wire.specs.declared.fault.WireFault.{WireFault}
+use Rattle.std.proofs.Common.{◌⊎◌, inl, inr, ◌≡◌, ℕ, zero, suc, ◌+◌, ◌*◌, ◌<◌, ◌≤◌, List, [], ◌∷◌, ◌++◌, length, Option, Some, None, Bool, true, false, refl, sym, ap, ◌∙◌, subst, arith, append-nil, eq-eqb, ne_eqb, replicate, Result, Ok, Err}
 use Rattle.server_core.specs.State as server
 use Rattle.server_core.specs.Closing as closing
-use Rattle.server_core.specs.Step.{connect, has_room}
-use Rattle.server_core.specs.declared.change.Change.{Change}
-use Rattle.server_core.specs.declared.event.ServerStep.{ServerStep}
-use Rattle.server_core.specs.declared.file.File.{File}
 use Rattle.open_close.specs.State as client
-use Rattle.open_close.specs.Opening.{calls_most}
-use Rattle.open_close.specs.Step.{command_step, got_step, joined, cut, ended_by}
-use Rattle.open_close.specs.declared.step.ClientStep.{ClientStep}
-use Rattle.open_close.specs.declared.step.Ended.{Ended}
 use Rattle.open_close.specs.declared.step.Outcome.TheVariants as outcome
-use Rattle.open_close.specs.declared.task.Task.{Task}
-use Rattle.register_model.specs.declared.op.Op.{Op}
-use Rattle.register_model.specs.declared.op.Opening.{Opening}
 use Rattle.register_model.specs.declared.op.Word.TheVariants as words
-use Rattle.trace_replay.specs.Commands.{word_of, file_of, value_at_begin}
-use Rattle.trace_replay.specs.Core.{Core, Seat, new_seat, Session, Event, Event.Joins, Event.Does, Event.Serves, Event.Hears, Event.Settles, Event.Cuts, Event.Hangs, numbered, with_numbered, server_waiting, serves_if, serves, acted, is_newest, hears_by, hears_if, hears_at, hears, does, joins_as, joins, settled_ops, settled_by, cuts_if, cuts, hangs_if, hangs, happens}
-use Rattle.trace_replay.specs.Ops.{pointed, pointed_at, place_with}
-use Rattle.trace_replay.specs.Trail.{Moment, Deed, deed_by, deeds_of, joined_by, joined_from}
-use Rattle.trace_replay.specs.Book.{Book}
-use Rattle.kept_promise.specs.Talk.{Queue}
-use Rattle.kept_promise.proofs.Lists.{some_is, nothing_there, same_or_not}
+use Rattle.trace_replay.specs.Core.{hears_by}
+use Rattle.open_close.specs.Opening.{calls_most}
+use Rattle.kept_promise.proofs.Common.{nat_tests, slice_get, slice_set, ◌==◌, nat_lt, Command, parse_of, Message, WireFault, connect, has_room, Change, ServerStep, File, command_step, got_step, joined, cut, ended_by, ClientStep, Ended, Task, Op, Opening, word_of, file_of, value_at_begin, Core, Seat, new_seat, Session, Event, Event.Joins, Event.Does, Event.Serves, Event.Hears, Event.Settles, Event.Cuts, Event.Hangs, CoreStep, numbered, with_numbered, server_waiting, serves_if, serves, acted, is_newest, hears_if, hears_at, hears, does, joins_as, joins, settled_ops, settled_by, cuts_if, cuts, hangs_if, hangs, happens, pointed, pointed_at, place_with, Moment, Deed, deed_by, deeds_of, joined_by, joined_from, owner_in, client_of, calls_among, sent_if, calls_by, calls_from, Book, Queue}
+use Rattle.kept_promise.proofs.Lists.{some_is, nothing_there, same_or_not, of_appended}
 use Rattle.kept_promise.proofs.Keys.{own}
 use Rattle.kept_promise.proofs.Rights.{IsUnmade}
 use Rattle.kept_promise.proofs.Turns.{around_with, also_numbered}
 use Rattle.kept_promise.proofs.Facts.{IsKept}
 use Rattle.kept_promise.proofs.RunsCarried.{book_at, first_core, moment, Step, Carried}
 use Rattle.kept_promise.proofs.Leaving.{Leaves, step_left, step_idle}
+use Rattle.kept_promise.proofs.Numbering.{got_number, command_number, calls_more, no_calls, other_calls, own_calls}
 use Rattle.kept_promise.proofs.Locally.{deeds_more, joined_more}
 use Rattle.kept_promise.proofs.Deeds.{also_there, local_of, HasDeeds, Moved, AllMoved, all_same, deeds_moved}
 use Rattle.kept_promise.proofs.Acting.{all_set, set_alike, HasWord, caused_word, locals_with, Acts, acted_follows}
-use Rattle.kept_promise.proofs.Doing.{with_end, asks_within, new_op, fixed, does_follows}
+use Rattle.kept_promise.proofs.Doing.{with_end, asks_by, new_op, fixed, does_follows}
 
 -- ---- what is carried
 
@@ -46,6 +27,8 @@ pub record IsFollowed (past : List Moment) (k : Core) : Type 0 where
   pub deeds : HasDeeds (deeds_of past) k.ops k.seats
   pub joined : (c : ℕ) (seat : Seat) → numbered k.seats c ≡ Some seat → seat.client.linked ≡ joined_from c false past
   pub next : (c : ℕ) (seat : Seat) → numbered k.seats c ≡ Some seat → seat.client.next ≤ calls_most * k.steps + 1
+  pub calls : (c : ℕ) (seat : Seat) → numbered k.seats c ≡ Some seat → seat.client.next ≡ calls_from c 0 past + 1
+  pub few : (i : ℕ) (d : Deed) → slice_get (deeds_of past) i ≡ Some d → d.calls ≤ calls_most * d.begin
 
 -- what an event leaves of the operations: each goes on, or there is one more
 abbrev pub OpsAfter : Core → List Op → Type 0
@@ -70,6 +53,7 @@ seat_first count zero seat e = nothing_there seat e
 seat_first count (suc c) seat e = replicated count c new_seat seat e
 
 pub followed_first : (files : List (ℕ × File)) (changes count : ℕ) → IsFollowed [] (first_core files changes count)
+unfolding calls_most
 followed_first files changes count = record {
   deeds = record {
     count = refl;
@@ -79,6 +63,8 @@ followed_first files changes count = record {
   };
   joined = λ c seat at. ap (λ (x : Seat). x.client.linked) (seat_first count c seat at);
   next = λ c seat at. let n = ap (λ (x : Seat). x.client.next) (seat_first count c seat at) in omega (arith, n);
+  calls = λ c seat at. ap (λ (x : Seat). x.client.next) (seat_first count c seat at);
+  few = λ i d at. nothing_there d at;
 }
 
 -- ---- an event that is no command
@@ -89,15 +75,18 @@ no_deed past k e none = deeds_more past (moment k e) ∙ ap (λ l. deeds_of past
 begins : (opening : List Opening) (k : Core) (all : List Moment) (qs : List Queue) → IsKept (book_at opening k all) k qs → (i : ℕ) (o : Op) → slice_get k.ops i ≡ Some o → o.begin < k.steps + 1
 begins opening k all qs kept i o at = let le = (kept.sound.rights i o at).begun in omega (arith, le)
 
-goes_by : (past : List Moment) (k : Core) (e : Event) (after : Core) → deed_by past (k.steps + 1) e ≡ [] → AllMoved (k.steps + 1) k.ops after.ops → HasDeeds (deeds_of past) after.ops after.seats → k.steps ≤ after.steps
+goes_by : (past : List Moment) (k : Core) (e : Event) (after : Core) → IsFollowed past k → deed_by past (k.steps + 1) e ≡ [] → AllMoved (k.steps + 1) k.ops after.ops → HasDeeds (deeds_of past) after.ops after.seats → k.steps ≤ after.steps
     → ((c : ℕ) (seat : Seat) → numbered after.seats c ≡ Some seat → seat.client.linked ≡ joined_by c (joined_from c false past) e)
     → ((c : ℕ) (seat : Seat) → numbered after.seats c ≡ Some seat → seat.client.next ≤ calls_most * after.steps + 1)
+    → ((c : ℕ) (seat : Seat) → numbered after.seats c ≡ Some seat → seat.client.next ≡ calls_by c (calls_from c 0 past) (moment k e) + 1)
     → Goes past k e after
-goes_by past k e after none moved deeds passes links nexts = record {
+goes_by past k e after h none moved deeds passes links nexts calls = record {
   followed = record {
     deeds = subst (λ (ds : List Deed). HasDeeds ds after.ops after.seats) (sym (no_deed past k e none)) deeds;
     joined = λ c seat at. links c seat at ∙ sym (joined_more c false past (moment k e));
     next = nexts;
+    calls = λ c seat at. calls c seat at ∙ ap (λ n. n + 1) (sym (calls_more c 0 past (moment k e)));
+    few = subst (λ (ds : List Deed). (i : ℕ) (d : Deed) → slice_get ds i ≡ Some d → d.calls ≤ calls_most * d.begin) (sym (no_deed past k e none)) h.few;
   };
   ops = inl moved;
   moved = λ z. moved;
@@ -105,41 +94,44 @@ goes_by past k e after none moved deeds passes links nexts = record {
 }
 
 -- the operations and the clients are as they were
-goes_same : (past : List Moment) (k : Core) (e : Event) (after : Core) → IsFollowed past k → deed_by past (k.steps + 1) e ≡ [] → ((c : ℕ) (b : Bool) → joined_by c b e ≡ b) → after.ops ≡ k.ops → after.seats ≡ k.seats → k.steps ≤ after.steps → Goes past k e after
-goes_same past k e after h none still ops seats passes =
-    goes_by past k e after none (subst (AllMoved (k.steps + 1) k.ops) (sym ops) (all_same (k.steps + 1) k.ops)) (subst (λ (l : List Seat). HasDeeds (deeds_of past) after.ops l) (sym seats) (subst (λ (l : List Op). HasDeeds (deeds_of past) l k.seats) (sym ops) h.deeds)) passes
+goes_same : (past : List Moment) (k : Core) (e : Event) (after : Core) → IsFollowed past k → deed_by past (k.steps + 1) e ≡ [] → ((c : ℕ) (b : Bool) → joined_by c b e ≡ b) → ((c n : ℕ) → calls_by c n (moment k e) ≡ n) → after.ops ≡ k.ops → after.seats ≡ k.seats → k.steps ≤ after.steps → Goes past k e after
+unfolding calls_most
+goes_same past k e after h none still silent ops seats passes =
+    goes_by past k e after h none (subst (AllMoved (k.steps + 1) k.ops) (sym ops) (all_same (k.steps + 1) k.ops)) (subst (λ (l : List Seat). HasDeeds (deeds_of past) after.ops l) (sym seats) (subst (λ (l : List Op). HasDeeds (deeds_of past) l k.seats) (sym ops) h.deeds)) passes
     (λ c seat at. h.joined c seat (ap (λ l. numbered l c) (sym seats) ∙ at) ∙ sym (still c (joined_from c false past)))
     (λ c seat at. let n = h.next c seat (ap (λ l. numbered l c) (sym seats) ∙ at) in omega (arith, n, passes))
+    (λ c seat at. h.calls c seat (ap (λ l. numbered l c) (sym seats) ∙ at) ∙ ap (λ n. n + 1) (sym (silent c (calls_from c 0 past))))
 
-serves_same : (k : Core) (n now : ℕ) (bytes : List ℕ) (o : Option Session) → (let t = serves k n now bytes o in (t.core.ops ≡ k.ops) × (t.core.seats ≡ k.seats) × (k.steps ≤ t.core.steps))
-serves_same k n now bytes None = (refl, refl, omega arith)
+serves_same : (k : Core) (n now : ℕ) (bytes : List ℕ) (o : Option Session) → (let t = serves k n now bytes o in (t.core.ops ≡ k.ops) × (t.core.seats ≡ k.seats) × (k.steps ≤ t.core.steps) × (t.up ≡ []))
+serves_same k n now bytes None = (refl, refl, omega arith, refl)
 serves_same k n now bytes (Some x) = by (parse_of server_waiting bytes)
   where
-    by : (m : Result Message WireFault) → (let t = serves_if k n now x m in (t.core.ops ≡ k.ops) × (t.core.seats ≡ k.seats) × (k.steps ≤ t.core.steps))
-    by (Ok m) = (refl, refl, omega arith)
-    by (Err e) = (refl, refl, omega arith)
+    by : (m : Result Message WireFault) → (let t = serves_if k n now x m in (t.core.ops ≡ k.ops) × (t.core.seats ≡ k.seats) × (k.steps ≤ t.core.steps) × (t.up ≡ []))
+    by (Ok m) = (refl, refl, omega arith, refl)
+    by (Err e) = (refl, refl, omega arith, refl)
 
-hangs_same : (k : Core) (n : ℕ) (o : Option Session) → (let t = hangs k n o in (t.core.ops ≡ k.ops) × (t.core.seats ≡ k.seats) × (k.steps ≤ t.core.steps))
-hangs_same k n None = (refl, refl, omega arith)
+hangs_same : (k : Core) (n : ℕ) (o : Option Session) → (let t = hangs k n o in (t.core.ops ≡ k.ops) × (t.core.seats ≡ k.seats) × (k.steps ≤ t.core.steps) × (t.up ≡ []))
+hangs_same k n None = (refl, refl, omega arith, refl)
 hangs_same k n (Some x) = by x.hung
   where
-    by : (b : Bool) → (let t = hangs_if k n x b in (t.core.ops ≡ k.ops) × (t.core.seats ≡ k.seats) × (k.steps ≤ t.core.steps))
-    by true = (refl, refl, omega arith)
-    by false = (refl, refl, omega arith)
+    by : (b : Bool) → (let t = hangs_if k n x b in (t.core.ops ≡ k.ops) × (t.core.seats ≡ k.seats) × (k.steps ≤ t.core.steps) × (t.up ≡ []))
+    by true = (refl, refl, omega arith, refl)
+    by false = (refl, refl, omega arith, refl)
 
 goes_serves : (past : List Moment) (k : Core) (n now : ℕ) (bytes : List ℕ) → IsFollowed past k → Goes past k (Serves n now bytes) (happens k (Serves n now bytes)).core
-goes_serves past k n now bytes h = let s = serves_same k n now bytes (numbered k.sessions n) in goes_same past k (Serves n now bytes) (happens k (Serves n now bytes)).core h refl (λ c b. refl) s.0 s.1 s.2
+goes_serves past k n now bytes h = let s = serves_same k n now bytes (numbered k.sessions n) in goes_same past k (Serves n now bytes) (happens k (Serves n now bytes)).core h refl (λ c b. refl) (λ c m. no_calls c 0 m (happens k (Serves n now bytes)).up s.3) s.0 s.1 s.2
 
 goes_hangs : (past : List Moment) (k : Core) (n : ℕ) → IsFollowed past k → Goes past k (Hangs n) (happens k (Hangs n)).core
-goes_hangs past k n h = let s = hangs_same k n (numbered k.sessions n) in goes_same past k (Hangs n) (happens k (Hangs n)).core h refl (λ c b. refl) s.0 s.1 s.2
+goes_hangs past k n h = let s = hangs_same k n (numbered k.sessions n) in goes_same past k (Hangs n) (happens k (Hangs n)).core h refl (λ c b. refl) (λ c m. no_calls c 0 m (happens k (Hangs n)).up s.3) s.0 s.1 s.2
 
 -- ---- a client joins
 
 goes_joins : (past : List Moment) (opening : List Opening) (all : List Moment) (k : Core) (qs : List Queue) (c : ℕ) (seat : Seat) → IsKept (book_at opening k all) k qs → IsFollowed past k → numbered k.seats c ≡ Some seat → k.server.sessions_made < 4294967295 → length k.server.sessions < 64 → Goes past k (Joins c) (happens k (Joins c)).core
+unfolding calls_most
 goes_joins past opening all k qs c seat kept h at made few =
     subst (λ (o : Option Seat). Goes past k (Joins c) (joins k c o).core) (sym at)
     (subst (λ (r : server.State × ServerStep). Goes past k (Joins c) (joins_as k c seat r.0 r.1.told).core) (sym step)
-    (goes_by past k (Joins c) after refl (all_same (k.steps + 1) k.ops)
+    (goes_by past k (Joins c) after h refl (all_same (k.steps + 1) k.ops)
     (deeds_moved (k.steps + 1) (deeds_of past) k.ops k.ops k.seats after.seats h.deeds (begins opening k all qs kept) (all_same (k.steps + 1) k.ops) (locals_with (deeds_of past) k.ops k.seats c seat now at (h.deeds.locals c seat at) (λ z e apart is. h.deeds.locals z e is)))
     (omega arith)
     (λ z e is. elim (same_or_not z c) [
@@ -149,6 +141,10 @@ goes_joins past opening all k qs c seat kept h at made few =
     (λ z e is. elim (same_or_not z c) [
       | inl own ↦ let n = ap (λ (x : Seat). x.client.next) (there z e own is) in omega (arith, n)
       | inr apart ↦ let n = h.next z e (sym (around.others z apart) ∙ is) in omega (arith, n)
+    ])
+    (λ z e is. elim (same_or_not z c) [
+      | inl own ↦ ap (λ (x : Seat). x.client.next) (there z e own is) ∙ sym (ap (λ b. elim b as (λ (y : Bool). ℕ) [ true ↦ 0 | false ↦ calls_from z 0 past ] + 1) (eq-eqb c z (sym own)))
+      | inr apart ↦ h.calls z e (sym (around.others z apart) ∙ is) ∙ sym (ap (λ b. elim b as (λ (y : Bool). ℕ) [ true ↦ 0 | false ↦ calls_from z 0 past ] + 1) (ne_eqb c z (λ q. apart (sym q))))
     ])))
   where
     step : connect k.server (has_room k.server) ≡ connect k.server true
@@ -199,15 +195,17 @@ settled_moves opening all k qs now kept (c ∷ cs) e = by (server.file_at k.serv
         )
 
 -- one operation of the same outcome and value takes the place of another
-goes_set : (past : List Moment) (opening : List Opening) (all : List Moment) (k : Core) (qs : List Queue) (e : Event) (after : Core) (p : ℕ) (q r : Op) → IsKept (book_at opening k all) k qs → IsFollowed past k → deed_by past (k.steps + 1) e ≡ [] → ((c : ℕ) (b : Bool) → joined_by c b e ≡ b) → slice_get k.ops p ≡ Some q → Moved (k.steps + 1) q r → r.outcome ≡ q.outcome → r.value ≡ q.value
+goes_set : (past : List Moment) (opening : List Opening) (all : List Moment) (k : Core) (qs : List Queue) (e : Event) (after : Core) (p : ℕ) (q r : Op) → IsKept (book_at opening k all) k qs → IsFollowed past k → deed_by past (k.steps + 1) e ≡ [] → ((c : ℕ) (b : Bool) → joined_by c b e ≡ b) → ((c n : ℕ) → calls_by c n (moment k e) ≡ n) → slice_get k.ops p ≡ Some q → Moved (k.steps + 1) q r → r.outcome ≡ q.outcome → r.value ≡ q.value
     → after.ops ≡ slice_set k.ops p r → after.seats ≡ k.seats → k.steps ≤ after.steps → Goes past k e after
-goes_set past opening all k qs e after p q r kept h none still at m u v ops seats passes =
+unfolding calls_most
+goes_set past opening all k qs e after p q r kept h none still silent at m u v ops seats passes =
     let moved = all_set (k.steps + 1) k.ops p q r at m in
     let d = also_there k.ops (deeds_of past) p q (sym h.deeds.count) at in
     let now = deeds_moved (k.steps + 1) (deeds_of past) k.ops (slice_set k.ops p r) k.seats k.seats h.deeds (begins opening k all qs kept) moved (λ c seat is f. h.deeds.locals c seat is f ∙ sym (set_alike c f (deeds_of past) k.ops p d.0 q r d.1 at u v)) in
-    goes_by past k e after none (subst (AllMoved (k.steps + 1) k.ops) (sym ops) moved) (subst (λ (l : List Seat). HasDeeds (deeds_of past) after.ops l) (sym seats) (subst (λ (l : List Op). HasDeeds (deeds_of past) l k.seats) (sym ops) now)) passes
+    goes_by past k e after h none (subst (AllMoved (k.steps + 1) k.ops) (sym ops) moved) (subst (λ (l : List Seat). HasDeeds (deeds_of past) after.ops l) (sym seats) (subst (λ (l : List Op). HasDeeds (deeds_of past) l k.seats) (sym ops) now)) passes
     (λ c seat is. h.joined c seat (ap (λ l. numbered l c) (sym seats) ∙ is) ∙ sym (still c (joined_from c false past)))
     (λ c seat is. let n = h.next c seat (ap (λ l. numbered l c) (sym seats) ∙ is) in omega (arith, n, passes))
+    (λ c seat is. h.calls c seat (ap (λ l. numbered l c) (sym seats) ∙ is) ∙ ap (λ n. n + 1) (sym (silent c (calls_from c 0 past))))
 
 goes_settles : (past : List Moment) (opening : List Opening) (all : List Moment) (k : Core) (qs : List Queue) (now : ℕ) → IsKept (book_at opening k all) k qs → IsFollowed past k → Goes past k (Settles now) (happens k (Settles now)).core
 goes_settles past opening all k qs now kept h = by (settled_moves opening all k qs now kept k.server.waiting refl)
@@ -219,9 +217,9 @@ goes_settles past opening all k qs now kept h = by (settled_moves opening all k 
     not_open e = absurd cc
 
     by : (after.ops ≡ k.ops) ⊎ ((p : ℕ) × (q : Op) × (slice_get k.ops p ≡ Some q) × IsUnmade q × (after.ops ≡ slice_set k.ops p (record q { point = Some (k.steps + 1) }))) → Goes past k (Settles now) after
-    by (inl same) = goes_same past k (Settles now) after h refl (λ c b. refl) same refl (omega arith)
+    by (inl same) = goes_same past k (Settles now) after h refl (λ c b. refl) (λ c m. no_calls c 0 m [] refl) same refl (omega arith)
     by (inr s) =
-        goes_set past opening all k qs (Settles now) after s.0 s.1 (record s.1 { point = Some (k.steps + 1) }) kept h refl (λ c b. refl) s.2
+        goes_set past opening all k qs (Settles now) after s.0 s.1 (record s.1 { point = Some (k.steps + 1) }) kept h refl (λ c b. refl) (λ c m. no_calls c 0 m [] refl) s.2
         (record { client = refl; word = refl; file = refl; begin = refl; value = λ w. refl; ended = λ n e. (e, refl, refl, λ w. absurd (not_open (sym s.3.0 ∙ w))); ends = λ n. inl n; asked = λ a. a }) refl refl s.4 refl (omega arith)
 
 -- ---- a step of a client
@@ -268,19 +266,38 @@ ended_busy : (opened : List (ℕ × Rattle.open_close.specs.declared.task.Local.
 ended_busy opened file (Some x) t e = refl
 ended_busy opened file None t e = absurd cc
 
+-- nothing is sent
+cuts_silent : (k : Core) (c : ℕ) (o : Option Seat) → (cuts k c o).up ≡ []
+cuts_silent k c None = refl
+cuts_silent k c (Some seat) = by seat.client.linked seat.client.task
+  where
+    by : (b : Bool) (task : Option Task) → (cuts_if k c (record seat { client = record seat.client { task = task } }) b).up ≡ []
+    by false task = refl
+    by true None = refl
+    by true (Some t) = refl
+
 goes_cuts : (past : List Moment) (opening : List Opening) (all : List Moment) (k : Core) (qs after : List Queue) (c : ℕ) (seat : Seat) → IsKept (book_at opening k all) k qs → IsFollowed past k → numbered k.seats c ≡ Some seat → (b : Bool) → seat.client.linked ≡ b → IsKept (book_at opening (cuts_if k c seat b).core all) (cuts_if k c seat b).core after → Goes past k (Cuts c) (cuts_if k c seat b).core
+unfolding calls_most
 goes_cuts past opening all k qs after c seat kept h here true e left =
     let r = cut seat.client in
     let a = acts_by opening all k qs c seat r.0 r.1 kept here (λ f. (refl, ended_idle seat.client.task _ f)) (λ x f. ended_busy seat.client.opened x.file seat.client.task x f) (ops_words opening (cuts_if k c seat true).core all after left) in
     let f = acted_follows (deeds_of past) k c seat r.0 r.1 h.deeds a in
     let now : Seat = record seat { client = r.0; place = Rattle.trace_replay.specs.Ops.place_after seat.place r.1.ended } in
-    goes_by past k (Cuts c) (cuts_if k c seat true).core refl f.moved f.deeds (omega arith) (cuts_off past c k.seats seat now h.joined here refl)
+    goes_by past k (Cuts c) (cuts_if k c seat true).core h refl f.moved f.deeds (omega arith) (cuts_off past c k.seats seat now h.joined here refl)
     (λ z x is. elim (same_or_not z c) [
       | inl own ↦ let n = h.next c seat here in let m = ap (λ (y : Seat). y.client.next) (some_is x now (sym is ∙ ap (numbered (with_numbered k.seats c now)) own ∙ (around_with k.seats c seat now here).there)) in omega (arith, n, m)
       | inr apart ↦ let n = h.next z x (sym ((around_with k.seats c seat now here).others z apart) ∙ is) in omega (arith, n)
     ])
+    (λ z x is. elim (same_or_not z c) [
+      | inl own ↦ ap (λ (y : Seat). y.client.next) (some_is x now (sym is ∙ ap (numbered (with_numbered k.seats c now)) own ∙ (around_with k.seats c seat now here).there)) ∙ h.calls c seat here ∙ ap (λ y. calls_from y 0 past + 1) (sym own) ∙ silent z
+      | inr apart ↦ h.calls z x (sym ((around_with k.seats c seat now here).others z apart) ∙ is) ∙ silent z
+    ])
+  where
+    silent : (z : ℕ) → calls_from z 0 past + 1 ≡ calls_by z (calls_from z 0 past) (moment k (Cuts c)) + 1
+    silent z = ap (λ n. n + 1) (sym (no_calls z 0 (calls_from z 0 past) (happens k (Cuts c)).up (cuts_silent k c (numbered k.seats c))))
 goes_cuts past opening all k qs after c seat kept h here false e left =
-    goes_by past k (Cuts c) (cuts_if k c seat false).core refl (all_same (k.steps + 1) k.ops) h.deeds (omega arith) (cut_stays past c k.seats seat h.joined here e) (λ z x is. let n = h.next z x is in omega (arith, n))
+    goes_by past k (Cuts c) (cuts_if k c seat false).core h refl (all_same (k.steps + 1) k.ops) h.deeds (omega arith) (cut_stays past c k.seats seat h.joined here e) (λ z x is. let n = h.next z x is in omega (arith, n))
+    (λ z x is. h.calls z x is ∙ ap (λ n. n + 1) (sym (no_calls z 0 (calls_from z 0 past) (happens k (Cuts c)).up (cuts_silent k c (numbered k.seats c)))))
 
 -- ---- an answer comes
 
@@ -309,15 +326,15 @@ still_joined book more k after qs ts c seat now kept left here there sessions = 
     by true false e f = let l = has_session more after ts now left there e in sym (uncut book k qs seat kept here l.0 l.1 (ap (λ (z : List Session). numbered z l.0) (sym sessions) ∙ l.2) l.3 l.4) ∙ f
     by false true e f = let l = has_session book k qs seat kept here f in sym e ∙ uncut more after ts now left there l.0 l.1 (ap (λ (z : List Session). numbered z l.0) sessions ∙ l.2) l.3 l.4
 
-heard_by : (past : List Moment) (opening : List Opening) (all : List Moment) (k : Core) (qs after : List Queue) (n now c : ℕ) (bytes : List ℕ) (seat : Seat) → IsKept (book_at opening k all) k qs → IsFollowed past k → numbered k.seats c ≡ Some seat → IsKept (book_at opening (hears_by k c now seat bytes).core all) (hears_by k c now seat bytes).core after → Goes past k (Hears n now bytes) (hears_by k c now seat bytes).core
-heard_by past opening all k qs after n now c bytes seat kept h here left =
+heard_by : (past : List Moment) (opening : List Opening) (all : List Moment) (k : Core) (qs after : List Queue) (n now c : ℕ) (bytes : List ℕ) (seat : Seat) → IsKept (book_at opening k all) k qs → IsFollowed past k → numbered k.seats c ≡ Some seat → client_of k (Hears n now bytes) ≡ c → happens k (Hears n now bytes) ≡ hears_by k c now seat bytes → IsKept (book_at opening (hears_by k c now seat bytes).core all) (hears_by k c now seat bytes).core after → Goes past k (Hears n now bytes) (hears_by k c now seat bytes).core
+heard_by past opening all k qs after n now c bytes seat kept h here owner is_by left =
     let m = parse_of (client.waiting_of seat.client) bytes in
     let r = got_step seat.client m now in
     let a = acts_by opening all k qs c seat r.0 r.1 kept here (λ f. let i = step_idle seat.client m now f in (i.1, i.2)) (λ x f. (step_left seat.client m now x f).1) (ops_words opening (hears_by k c now seat bytes).core all after left) in
     let f = acted_follows (deeds_of past) k c seat r.0 r.1 h.deeds a in
     let then : Seat = record seat { client = r.0; place = Rattle.trace_replay.specs.Ops.place_after seat.place r.1.ended } in
     let around = around_with k.seats c seat then here in
-    goes_by past k (Hears n now bytes) (hears_by k c now seat bytes).core refl f.moved f.deeds (omega arith)
+    goes_by past k (Hears n now bytes) (hears_by k c now seat bytes).core h refl f.moved f.deeds (omega arith)
     (λ z x is. elim (same_or_not z c) [
       | inl mine ↦ ap (λ (y : Seat). y.client.linked) (some_is x then (sym is ∙ ap (numbered (with_numbered k.seats c then)) mine ∙ around.there)) ∙ still_joined (book_at opening k all) (book_at opening (hears_by k c now seat bytes).core all) k (hears_by k c now seat bytes).core qs after c seat then kept left here around.there refl ∙ h.joined c seat here ∙ ap (λ (y : ℕ). joined_from y false past) (sym mine)
       | inr apart ↦ h.joined z x (sym (around.others z apart) ∙ is)
@@ -326,34 +343,55 @@ heard_by past opening all k qs after n now c bytes seat kept h here left =
       | inl mine ↦ let n = h.next c seat here in let q = more m seat.client.task refl in let o = ap (λ (y : Seat). y.client.next) (some_is x then (sym is ∙ ap (numbered (with_numbered k.seats c then)) mine ∙ around.there)) in omega (arith, n, q, o)
       | inr apart ↦ let n = h.next z x (sym (around.others z apart) ∙ is) in omega (arith, n)
     ])
+    (λ z x is. elim (same_or_not z c) [
+      | inl mine ↦
+          let n = h.calls c seat here in
+          let q = got_number seat.client m now in
+          let o = ap (λ (y : Seat). y.client.next) (some_is x then (sym is ∙ ap (numbered (with_numbered k.seats c then)) mine ∙ around.there)) in
+          let p = own_calls z c (calls_from z 0 past) r.1.send mine ∙ ap (λ y. calls_from y 0 past + calls_among r.1.send) mine in
+          let s = sent z in
+          omega (arith, n, q, o, p, s)
+      | inr apart ↦ let n = h.calls z x (sym (around.others z apart) ∙ is) in let p = other_calls z c (calls_from z 0 past) r.1.send apart in let s = sent z in omega (arith, n, p, s)
+    ])
   where
+    sent : (z : ℕ) → calls_by z (calls_from z 0 past) (moment k (Hears n now bytes)) ≡ calls_from z 0 past + sent_if (c == z) (got_step seat.client (parse_of (client.waiting_of seat.client) bytes) now).1.send
+    sent z = ap (λ i. calls_from z 0 past + sent_if (i == z) (happens k (Hears n now bytes)).up) owner ∙ ap (λ (t : CoreStep). calls_from z 0 past + sent_if (c == z) t.up) is_by
+
     more : (m : Result Message WireFault) (task : Option Task) → seat.client.task ≡ task → (got_step seat.client m now).0.next ≤ seat.client.next + calls_most
     more m None e = let i = (step_idle seat.client m now e).0 in omega (arith, i)
     more m (Some t) e = (step_left seat.client m now t e).0
 
+-- what nobody hears sends nothing
+unheard : (k : Core) (n now : ℕ) (bytes : List ℕ) → (happens k (Hears n now bytes)).up ≡ [] → (z m : ℕ) → calls_by z m (moment k (Hears n now bytes)) ≡ m
+unheard k n now bytes none z m = no_calls z (client_of k (Hears n now bytes)) m (happens k (Hears n now bytes)).up none
+
 goes_hears : (past : List Moment) (opening : List Opening) (all : List Moment) (k : Core) (qs after : List Queue) (n now : ℕ) (bytes : List ℕ) → IsKept (book_at opening k all) k qs → IsFollowed past k → (o : Option Session) → numbered k.sessions n ≡ o → IsKept (book_at opening (hears k n now bytes o).core all) (hears k n now bytes o).core after → Goes past k (Hears n now bytes) (hears k n now bytes o).core
-goes_hears past opening all k qs after n now bytes kept h None at left = goes_same past k (Hears n now bytes) k h refl (λ c b. refl) refl refl (omega arith)
+goes_hears past opening all k qs after n now bytes kept h None at left = goes_same past k (Hears n now bytes) k h refl (λ c b. refl) (unheard k n now bytes (ap (λ (o : Option Session). (hears k n now bytes o).up) at)) refl refl (omega arith)
 goes_hears past opening all k qs after n now bytes kept h (Some x) at left = by_seat (numbered k.seats x.owner) refl left
   where
-    by_newest : (seat : Seat) → numbered k.seats x.owner ≡ Some seat → (b : Bool) → IsKept (book_at opening (hears_if k x.owner now seat bytes b).core all) (hears_if k x.owner now seat bytes b).core after → Goes past k (Hears n now bytes) (hears_if k x.owner now seat bytes b).core
-    by_newest seat here true left = heard_by past opening all k qs after n now x.owner bytes seat kept h here left
-    by_newest seat here false left = goes_same past k (Hears n now bytes) k h refl (λ c b. refl) refl refl (omega arith)
+    is_at : happens k (Hears n now bytes) ≡ hears_at k n x.owner now bytes (numbered k.seats x.owner)
+    is_at = ap (hears k n now bytes) at
+
+    by_newest : (seat : Seat) → numbered k.seats x.owner ≡ Some seat → (b : Bool) → is_newest seat.session n ≡ b → IsKept (book_at opening (hears_if k x.owner now seat bytes b).core all) (hears_if k x.owner now seat bytes b).core after → Goes past k (Hears n now bytes) (hears_if k x.owner now seat bytes b).core
+    by_newest seat here true e left = heard_by past opening all k qs after n now x.owner bytes seat kept h here (ap owner_in at) (is_at ∙ ap (hears_at k n x.owner now bytes) here ∙ ap (hears_if k x.owner now seat bytes) e) left
+    by_newest seat here false e left = goes_same past k (Hears n now bytes) k h refl (λ c b. refl) (unheard k n now bytes (ap (λ (t : CoreStep). t.up) (is_at ∙ ap (hears_at k n x.owner now bytes) here ∙ ap (hears_if k x.owner now seat bytes) e))) refl refl (omega arith)
 
     by_seat : (o : Option Seat) → numbered k.seats x.owner ≡ o → IsKept (book_at opening (hears_at k n x.owner now bytes o).core all) (hears_at k n x.owner now bytes o).core after → Goes past k (Hears n now bytes) (hears_at k n x.owner now bytes o).core
-    by_seat None here left = goes_same past k (Hears n now bytes) k h refl (λ c b. refl) refl refl (omega arith)
-    by_seat (Some seat) here left = by_newest seat here (is_newest seat.session n) left
+    by_seat None here left = goes_same past k (Hears n now bytes) k h refl (λ c b. refl) (unheard k n now bytes (ap (λ (t : CoreStep). t.up) (is_at ∙ ap (hears_at k n x.owner now bytes) here))) refl refl (omega arith)
+    by_seat (Some seat) here left = by_newest seat here (is_newest seat.session n) refl left
 
 -- ---- a command
 
 goes_does : (past : List Moment) (opening : List Opening) (all : List Moment) (k : Core) (qs : List Queue) (c now : ℕ) (d : Command) (seat : Seat) → IsKept (book_at opening k all) k qs → IsFollowed past k → numbered k.seats c ≡ Some seat → Goes past k (Does c now d) (does k c now d (Some seat)).core
+unfolding calls_most
 goes_does past opening all k qs c now d seat kept h here =
-    let deed : Deed = record { client = c; command = d; begin = k.steps + 1; joined = joined_from c false past } in
+    let deed : Deed = record { client = c; command = d; begin = k.steps + 1; joined = joined_from c false past; calls = calls_from c 0 past } in
     let r = command_step seat.client d now in
     let place = place_with seat.place (length k.ops) r.1.ended in
     let after : Core = (does k c now d (Some seat)).core in
     let then : Seat = record seat { client = r.0; place = place } in
     let around = around_with k.seats c seat then here in
-    let may = subst (λ (b : Bool). Rattle.trace_replay.specs.Causes.MayAsk b (Rattle.open_close.specs.Step.may_ask seat.client) (k.steps + 1)) (h.joined c seat here) (asks_within seat.client k.steps (h.next c seat here)) in
+    let may = asks_by seat.client (joined_from c false past) (calls_from c 0 past) (h.joined c seat here) (h.calls c seat here) in
     let f = does_follows (book_at opening k all) (deeds_of past) k qs c now seat deed place kept refl refl h.deeds here (begins opening k all qs kept) refl refl may in
     let nexts = f.stays.0 in
     record {
@@ -367,11 +405,34 @@ goes_does past opening all k qs c now d seat kept h here =
           | inl mine ↦ let n = h.next c seat here in let o = ap (λ (y : Seat). y.client.next) (some_is x then (sym is ∙ ap (numbered (with_numbered k.seats c then)) mine ∙ around.there)) in omega (arith, n, nexts, o)
           | inr apart ↦ let n = h.next z x (sym (around.others z apart) ∙ is) in omega (arith, n)
         ];
+        calls = λ z x is. (elim (same_or_not z c) [
+          | inl mine ↦
+              let n = h.calls c seat here in
+              let q = command_number seat.client d now in
+              let o = ap (λ (y : Seat). y.client.next) (some_is x then (sym is ∙ ap (numbered (with_numbered k.seats c then)) mine ∙ around.there)) in
+              let p = own_calls z c (calls_from z 0 past) r.1.send mine ∙ ap (λ y. calls_from y 0 past + calls_among r.1.send) mine in
+              let s = sent z in
+              let m : x.client.next ≡ calls_by z (calls_from z 0 past) (moment k (Does c now d)) + 1 = omega (arith, n, q, o, p, s) in
+              m
+          | inr apart ↦
+              let n = h.calls z x (sym (around.others z apart) ∙ is) in
+              let p = other_calls z c (calls_from z 0 past) r.1.send apart in
+              let s = sent z in
+              let m : x.client.next ≡ calls_by z (calls_from z 0 past) (moment k (Does c now d)) + 1 = omega (arith, n, p, s) in
+              m
+        ]) ∙ ap (λ n. n + 1) (sym (calls_more z 0 past (moment k (Does c now d))));
+        few = subst (λ (ds : List Deed). (i : ℕ) (e : Deed) → slice_get ds i ≡ Some e → e.calls ≤ calls_most * e.begin) (sym (deeds_more past (moment k (Does c now d)))) (λ i e at. elim (of_appended (deeds_of past) deed i e at) [
+          | inr old ↦ h.few i e old
+          | inl last ↦ subst (λ (z : Deed). z.calls ≤ calls_most * z.begin) (sym last.1) (let n = h.next c seat here in let m = h.calls c seat here in omega (arith, n, m))
+        ]);
       };
       ops = inr (new_op c (word_of d) (file_of d) (value_at_begin seat.client (word_of d) (file_of d) (command_step seat.client d now).1.ended) (k.steps + 1) r, refl, (fixed c (word_of d) (file_of d) (value_at_begin seat.client (word_of d) (file_of d) (command_step seat.client d now).1.ended) (k.steps + 1) r).3);
       moved = λ z. absurd cc;
       passes = omega arith;
     }
+  where
+    sent : (z : ℕ) → calls_by z (calls_from z 0 past) (moment k (Does c now d)) ≡ calls_from z 0 past + sent_if (c == z) (command_step seat.client d now).1.send
+    sent z = ap (λ (o : Option Seat). calls_from z 0 past + sent_if (c == z) (does k c now d o).up) here
 
 -- ---- any event
 

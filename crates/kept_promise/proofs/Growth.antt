@@ -1,19 +1,9 @@
 -- How a history grows in a step, and what stays true of operations then.
-use Rattle.std.proofs.Common.{IsSome, ◌⊎◌, inl, inr, ◌≡◌, ℕ, zero, suc, ◌+◌, ◌<◌, ◌≤◌, List, [], ◌∷◌, length, Option, Some, None, Bool, true, false, refl, sym, ap, ◌∙◌, subst, arith}
-use Rattle.std.specs.Prelude.{slice_get, Contains}
-use Rattle.sha1.specs.Sha1.{sha1}
-use Rattle.server_core.specs.declared.journal.Entry.{Entry}
-use Rattle.register_model.specs.Register.{Value, content_of}
-use Rattle.register_model.specs.declared.op.Op.{Op}
-use Rattle.register_model.specs.declared.op.Opening.{Opening}
+use Rattle.std.proofs.Common.{IsSome, ◌⊎◌, inl, inr, ◌≡◌, ℕ, zero, suc, ◌+◌, ◌<◌, ◌≤◌, List, length, Option, Some, refl, sym, ap, ◌∙◌, subst, arith}
 use Rattle.register_model.specs.declared.op.Outcome.{Outcome}
 use Rattle.register_model.specs.declared.op.Outcome.TheVariants as told
-use Rattle.register_model.specs.declared.op.Word.{Word}
 use Rattle.register_model.specs.declared.op.Word.TheVariants as words
-use Rattle.trace_replay.specs.Trail.{Moment, hashed_of}
-use Rattle.trace_replay.specs.Book.{Book, Or, Collides, history, value_at, version_at}
-use Rattle.trace_replay.specs.Causes.{Tried, Within, IsOpened, IsClosed, IsChanged, IsLost, IsOpenRefused, IsCloseRefused, IsEntered}
-use Rattle.kept_promise.proofs.Lists.{some_is}
+use Rattle.kept_promise.proofs.Common.{slice_get, Contains, sha1, Entry, Value, content_of, Op, Opening, Word, Moment, hashed_of, Book, Or, Collides, history, value_at, version_at, Tried, IsEntered}
 use Rattle.kept_promise.proofs.Marks.{Mark, marks, latest_mark, left_by, value_is, count_is}
 use Rattle.kept_promise.proofs.Rights.{Caused, RefusedBy, IsRight, IsUnmade, IsMade}
 

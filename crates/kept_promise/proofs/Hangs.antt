@@ -1,35 +1,25 @@
 -- The server sees a connection lost: what is on its way up goes, the session's temporary files, and its change that waits.
-use Rattle.std.proofs.Common.{◌⊎◌, inl, inr, ◌≡◌, ℕ, zero, suc, ◌+◌, ◌*◌, ◌/◌, ◌<◌, ◌≤◌, List, [], ◌∷◌, ◌++◌, length, Option, Some, None, Bool, true, false, refl, sym, ap, ◌∙◌, subst, arith, eq-eqb, ne_eqb, eqb-true}
-use Rattle.std.proofs.lemmas.Bool.Decides.{nat_tests}
-use Rattle.std.specs.Prelude.{slice_get, map, not, cond, ◌==◌, filter, IsSome}
-use Rattle.std.specs.List.{list_any}
+use Rattle.std.proofs.Common.{inl, inr, ◌≡◌, ℕ, zero, suc, ◌+◌, ◌≤◌, List, [], ◌∷◌, ◌++◌, length, Option, Some, None, Bool, true, false, refl, sym, ap, ◌∙◌, subst, arith, eq-eqb, eqb-true, map}
 use Rattle.server_core.specs.State as server
-use Rattle.server_core.specs.Step.{stands, hangs, hangs_if, server_step}
-use Rattle.server_core.specs.Temps.{Temp, key_of}
-use Rattle.server_core.specs.declared.change.Change.{Change}
-use Rattle.server_core.specs.declared.file.File.{File}
+use Rattle.server_core.specs.Step.{hangs, hangs_if}
 use Rattle.server_core.specs.declared.event.Event.TheVariants as event
-use Rattle.register_model.specs.declared.op.Op.{Op}
 use Rattle.open_close.specs.State as client
-use Rattle.trace_replay.specs.Core.{Core, Seat, Session, Event, Event.Hangs, Loss, Loss.Nothing, Loss.Up_of, Turned, quiet, numbered, with_numbered, hangs_if as core_hangs_if, hangs as core_hangs, happens}
-use Rattle.trace_replay.specs.Book.{Book}
-use Rattle.kept_promise.specs.Talk.{Ask, Told, Queue}
+use Rattle.trace_replay.specs.Core.{hangs_if as core_hangs_if, hangs as core_hangs}
+use Rattle.kept_promise.proofs.Common.{slice_get, not, cond, ◌==◌, filter, list_any, stands, server_step, Change, Op, Core, Seat, Session, quiet, numbered, with_numbered, Book, Ask, Queue}
 use Rattle.kept_promise.proofs.Lists.{some_is, nothing_there, same_or_not}
 use Rattle.kept_promise.proofs.Keys.{times, times_append, own, on_way, change_key, ask_key, told_key, pending_key}
-use Rattle.kept_promise.proofs.Messages.{Job, job, AllAsks, AllTolds, Rising, IsAnswer, IsCommit, TempUnder, IsPending}
+use Rattle.kept_promise.proofs.Messages.{job, Rising, IsAnswer}
 use Rattle.kept_promise.proofs.History.{onward, grows_same, goes_same, still_same}
-use Rattle.kept_promise.proofs.Later.{all_tolds, answer_later, has_fetch_later, close_later, seat_later, SameView, Stays, Spares}
-use Rattle.kept_promise.proofs.Turns.{Around, around_same, around_with, also_numbered, Turn, turned_core, kept_turn}
+use Rattle.kept_promise.proofs.Later.{all_tolds, answer_later, has_fetch_later, close_later, seat_later, Stays, Spares}
+use Rattle.kept_promise.proofs.Turns.{Around, around_same, around_with, also_numbered, turned_core, kept_turn}
 use Rattle.kept_promise.proofs.Shelf.{shelf_left, else_left}
 use Rattle.kept_promise.proofs.Ordered.{orderly_hung}
-use Rattle.kept_promise.proofs.Facts.{FileIs, IsServer, IsBalanced, IsTalk, IsSession, IsSeat, IsKept, commits_in}
-use Rattle.kept_promise.proofs.Leading.{Sends, IsNoted, Leads, ups_lost, queues_lost, queues_after, KeptHangs}
+use Rattle.kept_promise.proofs.Facts.{FileIs, IsServer, IsTalk, IsKept}
+use Rattle.kept_promise.proofs.Leading.{Leads, ups_lost, KeptHangs}
 use Rattle.kept_promise.proofs.Takes.{file_still}
+use Rattle.kept_promise.proofs.Chunks.{is_other}
 
 -- ---- what the server still has of other sessions
-
-not_same : (a b : ℕ) → (a ≡ b → ⊥) → (a == b) ≡ false
-not_same a b h = ne_eqb a b h
 
 -- a session's own among those of others
 own_else : (m n : ℕ) → (m ≡ n → ⊥) → (ws : List Change) → own m (filter (λ c. not (c.session == n)) ws) ≡ own m ws
@@ -37,7 +27,7 @@ own_else m n apart [] = refl
 own_else m n apart (c ∷ ws) = by (c.session == n) refl (own_else m n apart ws)
   where
     gone : c.session ≡ n → (c.session == m) ≡ false
-    gone e = not_same c.session m (λ q. apart (sym q ∙ e))
+    gone e = is_other c.session m (λ q. apart (sym q ∙ e))
 
     by : (b : Bool) → (c.session == n) ≡ b → own m (filter (λ d. not (d.session == n)) ws) ≡ own m ws → own m (cond (not b) (c ∷ filter (λ d. not (d.session == n)) ws) (filter (λ d. not (d.session == n)) ws)) ≡ cond (c.session == m) (c ∷ own m ws) (own m ws)
     by true e h = h ∙ sym (ap (λ t. cond t (c ∷ own m ws) (own m ws)) (gone (eqb-true c.session n e)))
@@ -56,7 +46,7 @@ stands_else m n apart [] = refl
 stands_else m n apart (k ∷ ks) = by (k == n) refl (stands_else m n apart ks)
   where
     by : (b : Bool) → (k == n) ≡ b → list_any (λ z. z == m) (filter (λ z. not (z == n)) ks) ≡ list_any (λ z. z == m) ks → list_any (λ z. z == m) (cond (not b) (k ∷ filter (λ z. not (z == n)) ks) (filter (λ z. not (z == n)) ks)) ≡ list_any (λ z. z == m) (k ∷ ks)
-    by true e h = let f : (k == m) ≡ false = not_same k m (λ q. apart (sym q ∙ eqb-true k n e)) in rw (f, h) refl
+    by true e h = let f : (k == m) ≡ false = is_other k m (λ q. apart (sym q ∙ eqb-true k n e)) in rw (f, h) refl
     by false e h = rw h refl
 
 stands_gone : (n : ℕ) (ks : List ℕ) → list_any (λ k. k == n) (filter (λ k. not (k == n)) ks) ≡ false

@@ -1,29 +1,14 @@
 -- An open asks for chunks: the next of them, or all again after another version.
-use Rattle.std.proofs.Common.{inl, inr, ◌≡◌, ℕ, zero, suc, ◌+◌, ◌*◌, ◌<◌, ◌≤◌, List, [], ◌∷◌, ◌++◌, length, Option, Some, None, Bool, true, false, refl, sym, ap, ◌∙◌, subst, arith, eqb-true}
-use Rattle.std.proofs.lemmas.Bool.Decides.{nat_tests}
-use Rattle.std.specs.Prelude.{slice_get, cond, ◌==◌, nat_lt, IsSome}
-use Rattle.wire.specs.declared.message.Pending.{Pending}
+use Rattle.std.proofs.Common.{inl, inr, ◌≡◌, ℕ, zero, suc, ◌+◌, ◌*◌, ◌<◌, ◌≤◌, List, [], ◌∷◌, ◌++◌, length, Option, Some, None, Bool, true, false, refl, sym, ap, ◌∙◌, subst, arith, eqb-true, IsSome}
 use Rattle.hash_calls.specs.declared.message.LbProc.TheVariants as lb_proc
 use Rattle.server_core.specs.State as server
-use Rattle.server_core.specs.declared.file.File.{File}
 use Rattle.open_close.specs.State as client
-use Rattle.open_close.specs.Counting.{no_counts}
-use Rattle.open_close.specs.Opening.{tries_most}
-use Rattle.open_close.specs.Step.{idle, changes, retries}
+use Rattle.open_close.specs.Step.{changes}
 use Rattle.open_close.specs.declared.step.Outcome.TheVariants as outcome
-use Rattle.open_close.specs.declared.task.Fetch.{Fetch}
-use Rattle.open_close.specs.declared.task.Stage.{Stage}
 use Rattle.open_close.specs.declared.task.Stage.TheVariants as stage
-use Rattle.register_model.specs.Register.{Value, content_of}
-use Rattle.register_model.specs.declared.op.Op.{Op}
 use Rattle.register_model.specs.declared.op.Outcome.TheVariants as told
-use Rattle.register_model.specs.declared.op.Traffic.{Traffic}
 use Rattle.register_model.specs.declared.op.Word.TheVariants as words
-use Rattle.trace_replay.specs.Core.{Core, Session}
-use Rattle.trace_replay.specs.Ops.{has_point, point_if, counted}
-use Rattle.trace_replay.specs.Book.{Book, version_at}
-use Rattle.trace_replay.specs.Causes.{Tried}
-use Rattle.kept_promise.specs.Talk.{Call.Hash, Ask, Told, Queue}
+use Rattle.kept_promise.proofs.Common.{nat_tests, slice_get, cond, ◌==◌, nat_lt, Pending, File, no_counts, tries_most, idle, retries, Fetch, Stage, Value, content_of, Op, Traffic, Core, Session, has_point, point_if, counted, Book, version_at, Tried, Call.Hash, Ask, Told, Queue}
 use Rattle.kept_promise.proofs.Lists.{some_is, nothing_there}
 use Rattle.kept_promise.proofs.Messages.{Job, stage_word, hash_offset, FetchOf, CloseOf, IsFetch, Trying}
 use Rattle.kept_promise.proofs.Growth.{version_later, tried_later}

@@ -1,31 +1,19 @@
 -- A client takes an answer: the frame of all that it makes of it.
-use Rattle.std.proofs.Common.{◌⊎◌, inl, inr, ◌≡◌, ℕ, zero, suc, ◌+◌, ◌<◌, ◌≤◌, List, [], ◌∷◌, ◌++◌, length, Option, Some, None, Bool, true, false, refl, sym, ap, ◌∙◌, subst, arith, eqb-true, ne_eqb}
-use Rattle.std.proofs.lemmas.Bool.Decides.{nat_tests}
-use Rattle.std.specs.Prelude.{slice_get, map, not, cond, ◌==◌, nat_le}
-use Rattle.wire.specs.Message.{MessageFits}
-use Rattle.wire.specs.declared.message.Pending.{Pending}
-use Rattle.server_core.specs.State as server
-use Rattle.server_core.specs.declared.change.Change.{Change}
+use Rattle.std.proofs.Common.{inl, inr, ◌≡◌, ℕ, zero, suc, ◌+◌, ◌<◌, ◌≤◌, List, [], ◌∷◌, ◌++◌, length, Option, Some, Bool, true, false, refl, sym, ap, ◌∙◌, subst, arith, eqb-true, ne_eqb, map}
 use Rattle.open_close.specs.State as client
-use Rattle.register_model.specs.declared.op.Op.{Op}
 use Rattle.register_model.specs.declared.op.Outcome.TheVariants as told
-use Rattle.trace_replay.specs.declared.link.Taken.{Taken}
-use Rattle.trace_replay.specs.Core.{Core, Seat, Session, numbered, with_numbered}
-use Rattle.trace_replay.specs.World.{unless}
-use Rattle.trace_replay.specs.Book.{Book}
-use Rattle.kept_promise.specs.Talk.{Call, Call.Hash, Call.Read, Call.Make, Call.Name, Call.Send, Call.Commit, Reply, Ask, Told, Queue, told_message, call_program, reply_program}
+use Rattle.kept_promise.proofs.Common.{nat_tests, slice_get, cond, ◌==◌, nat_le, MessageFits, Pending, Change, Op, Core, Seat, Session, numbered, unless, Book, Call, Call.Commit, Ask, Told, Queue, told_message, call_program, reply_program}
 use Rattle.kept_promise.proofs.Statements.{CallFits}
-use Rattle.kept_promise.proofs.Lists.{some_is, nothing_there, same_or_not}
 use Rattle.kept_promise.proofs.Keys.{times, times_append, own, on_way, change_key, ask_key, told_key, pending_key, IsOurs, call_ours, found_by, there_by, key_code}
-use Rattle.kept_promise.proofs.Messages.{Job, job, job_of, AllAsks, AllTolds, Rising, IsAsked, IsAnswer, HasFetch, IsCommit, CommitOf, IsPiece, IsPending, TempUnder, CloseOf}
-use Rattle.kept_promise.proofs.Growth.{Grows}
+use Rattle.kept_promise.proofs.Messages.{Job, job, job_of, AllAsks, AllTolds, Rising, IsAsked, IsAnswer, HasFetch, IsCommit, IsPiece, IsPending, TempUnder, CloseOf}
 use Rattle.kept_promise.proofs.History.{Goes, Still, onward}
-use Rattle.kept_promise.proofs.Later.{all_asks, SameView, same_view}
+use Rattle.kept_promise.proofs.Later.{same_view}
 use Rattle.kept_promise.proofs.Taken.{asks_append, rising_append, times_map_append}
-use Rattle.kept_promise.proofs.Turns.{Around, around_same, around_with, turned_core, kept_turn}
+use Rattle.kept_promise.proofs.Turns.{Around, around_same, turned_core, kept_turn}
 use Rattle.kept_promise.proofs.Orderly.{Orderly}
-use Rattle.kept_promise.proofs.Facts.{IsServer, IsBalanced, IsTalk, IsSession, IsSeat, IsKept, commits_in}
+use Rattle.kept_promise.proofs.Facts.{IsBalanced, IsSession, IsSeat, IsKept, commits_in}
 use Rattle.kept_promise.proofs.Takes.{server_still}
+use Rattle.kept_promise.proofs.Lists.{false_and_true}
 
 -- ---- calls that wait
 
@@ -98,11 +86,7 @@ commits_both (a ∷ us) vs = by a.call (commits_both us vs)
   where
     by : (c : Call) → commits_in (us ++ vs) ≡ commits_in us + commits_in vs → elim c [ Commit temp file size ↦ suc (commits_in (us ++ vs)) | _ ↦ commits_in (us ++ vs) ] ≡ elim c [ Commit temp file size ↦ suc (commits_in us) | _ ↦ commits_in us ] + commits_in vs
     by (Commit temp file size) e = omega (arith, e)
-    by (Hash f o) e = e
-    by (Read f d) e = e
-    by (Make m f) e = e
-    by (Name m d) e = e
-    by (Send m s b) e = e
+    by _ e = e
 
 pub asks_unless : (P : Ask → Type 0) (hung : Bool) (us vs : List Ask) → AllAsks P us → AllAsks P vs → AllAsks P (unless hung us vs)
 asks_unless P true us vs a b = a
@@ -207,7 +191,7 @@ kept_heard book ops k qs n x q t ts c place asks made ended seats after kept at 
         seat = d;
         owner = around.there;
         here = λ u. ((h.here uncut).0, shows.linked);
-        shut = λ cut. absurd (not_both x.cut uncut cut);
+        shut = λ cut. absurd (false_and_true x.cut uncut cut);
         lost = λ hung. hung_ups x.hung hung (h.lost hung);
         stands_is = h.stands_is;
         ups_fit = asks_unless (λ a. CallFits a.xid a.call) x.hung q.ups asks h.ups_fit shows.fits;
@@ -242,9 +226,6 @@ kept_heard book ops k qs n x q t ts c place asks made ended seats after kept at 
       home = kept.home;
     }) kept.journal kept
   where
-    not_both : (b : Bool) → b ≡ false → b ≡ true → ⊥
-    not_both b u v = absurd cc
-
     hung_ups : (b : Bool) → b ≡ true → q.ups ≡ [] → unless b q.ups asks ≡ []
     hung_ups true u none = none
     hung_ups false u none = absurd cc

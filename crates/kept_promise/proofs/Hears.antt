@@ -1,31 +1,11 @@
 -- A client hears the first answer on its way: it is read as itself, and is either waited for or forgotten.
-use Rattle.std.proofs.Common.{inl, inr, ◌≡◌, ℕ, List, [], ◌∷◌, ◌++◌, length, Option, Some, None, Bool, true, false, refl, sym, ap, ◌∙◌, subst, arith, eq-eqb}
-use Rattle.std.proofs.lemmas.List.Elements.{Contains-append_left, Contains-push}
-use Rattle.std.specs.Prelude.{slice_get, map, Result, Ok, Contains}
-use Rattle.chunk_cut.specs.declared.chunk.Chunk.{Chunk}
-use Rattle.xdr_codec.specs.declared.answer.Answer.TheVariants.{Done}
-use Rattle.nfs3_calls.specs.declared.call.Piece.{Piece}
-use Rattle.wire.specs.Message.{MessageFits, message_spell}
-use Rattle.wire.specs.Parse.{parse_of}
-use Rattle.wire.specs.declared.message.Message.{Message}
-use Rattle.wire.specs.declared.message.Pending.{Pending}
-use Rattle.wire.specs.declared.fault.WireFault.{WireFault}
+use Rattle.std.proofs.Common.{inl, inr, ◌≡◌, ℕ, List, [], ◌∷◌, ◌++◌, length, Option, Some, None, Bool, true, false, refl, sym, ap, ◌∙◌, subst, arith, eq-eqb, map, Result, Ok}
 use Rattle.open_close.specs.State as client
-use Rattle.open_close.specs.State.{has_call}
 use Rattle.open_close.specs.Hashed.{client_hashed, message_compared, answer_compared, took_compared, compared_at, compared, compared_if, task_named}
-use Rattle.open_close.specs.Step.{got_step, took_if, drops, took, idle}
-use Rattle.open_close.specs.declared.step.ClientStep.{ClientStep}
-use Rattle.open_close.specs.declared.task.Fetch.{Fetch}
-use Rattle.open_close.specs.declared.task.ReadCall.{ReadCall}
-use Rattle.open_close.specs.declared.task.Stage.{Stage}
 use Rattle.open_close.specs.declared.task.Stage.TheVariants as stage
-use Rattle.open_close.specs.declared.task.Task.{Task}
-use Rattle.open_close.specs.Opening.{read_at}
-use Rattle.trace_replay.specs.Core.{Core, Seat, Session, Event.Hears, Turned, numbered, is_newest, hears_if, hears_at, hears, acted, happens}
-use Rattle.trace_replay.specs.Trail.{owner_in, heard_hashed, hashed_by}
-use Rattle.trace_replay.specs.Book.{Book}
-use Rattle.kept_promise.specs.Talk.{Reply, Reply.Bytes, Told, Queue, reply_body, told_message}
-use Rattle.kept_promise.proofs.Lists.{some_is, nothing_there}
+use Rattle.trace_replay.specs.Trail.{heard_hashed}
+use Rattle.kept_promise.proofs.Common.{Contains-append_left, Contains-push, slice_get, Contains, Chunk, Done, Piece, MessageFits, message_spell, parse_of, Message, Pending, WireFault, has_call, got_step, took_if, drops, took, idle, ClientStep, Fetch, ReadCall, Stage, Task, read_at, Core, Seat, Session, Event.Hears, CoreStep, numbered, is_newest, hears_if, hears_at, hears, acted, happens, owner_in, hashed_by, Book, Reply, Reply.Bytes, Told, Queue, reply_body, told_message}
+use Rattle.kept_promise.proofs.Lists.{some_is, nothing_there, false_and_true}
 use Rattle.kept_promise.proofs.Keys.{times}
 use Rattle.kept_promise.proofs.Messages.{Job, AllTolds}
 use Rattle.kept_promise.proofs.Taken.{times_map_append}
@@ -81,7 +61,7 @@ notes book k n now x seat t file f noted at owner read task own p r c reply unde
 
 -- ---- an answer that is waited for, and one that is not
 
-abbrev heard_by : Core → (i : ℕ) → Seat → client.State × ClientStep → Turned
+abbrev heard_by : Core → (i : ℕ) → Seat → client.State × ClientStep → CoreStep
 heard_by k i seat r = acted k i seat r.0 r.1
 
 abbrev Heard : (book : Book) (k : Core) (qs : List Queue) (n : ℕ) (x : Session) (q : Queue) (ts : List Told) → Seat → client.State × ClientStep → Type 0
@@ -125,10 +105,7 @@ takes book k qs n now x q t ts kept at is first uncut noted read = by h.seat.cli
 
     by : (o : Option Task) → h.seat.client.task ≡ o → (is_own : Bool) → has_call (client.pending h.seat.client.task) t.xid ≡ is_own → Heard book k qs n x q ts h.seat (took_if h.seat.client o t.xid (reply_body t.reply) is_own)
     by None task false has = forgotten has None
-    by None task true has = absurd (apart (has_call (client.pending None) t.xid) refl (ap (λ (o : Option Task). has_call (client.pending o) t.xid) (sym task) ∙ has))
-      where
-        apart : (b : Bool) → b ≡ false → b ≡ true → ⊥
-        apart b u v = absurd cc
+    by None task true has = absurd (false_and_true (has_call (client.pending None) t.xid) refl (ap (λ (o : Option Task). has_call (client.pending o) t.xid) (sym task) ∙ has))
     by (Some u) task false has = forgotten has (Some u)
     by (Some u) task true has = own u task (ap (λ (o : Option Task). has_call (client.pending o) t.xid) (sym task) ∙ has) (kept.seats x.owner h.seat h.owner).matched
 

@@ -1,20 +1,13 @@
 -- The ways in which a history grows in a step: nothing of it changes, an operation is appended, one takes another form, or one takes effect.
-use Rattle.std.proofs.Common.{◌⊎◌, inl, inr, ◌≡◌, ℕ, zero, suc, ◌+◌, ◌<◌, ◌≤◌, List, [], ◌∷◌, ◌++◌, length, Option, Some, None, Bool, true, false, refl, sym, ap, ◌∙◌, subst, arith}
-use Rattle.std.specs.Prelude.{slice_get, slice_set, not, is_some}
-use Rattle.sha1.specs.Sha1.{sha1}
-use Rattle.server_core.specs.declared.journal.Entry.{Entry}
-use Rattle.register_model.specs.Register.{changes, changed_before, value_from, is_lost, is_untold, content_of}
-use Rattle.register_model.specs.declared.op.Op.{Op}
+use Rattle.std.proofs.Common.{◌⊎◌, inl, inr, ◌≡◌, ℕ, suc, ◌+◌, ◌<◌, ◌≤◌, List, [], ◌∷◌, ◌++◌, length, Option, Some, None, true, false, refl, sym, ap, ◌∙◌, subst, arith}
 use Rattle.register_model.specs.declared.op.Outcome.{Outcome}
 use Rattle.register_model.specs.declared.op.Outcome.TheVariants as told
-use Rattle.register_model.specs.declared.op.Word.{Word}
 use Rattle.register_model.specs.declared.op.Word.TheVariants as words
-use Rattle.trace_replay.specs.Book.{Book, value_at, version_at}
-use Rattle.trace_replay.specs.Faithful.{is_running, HasJournal}
-use Rattle.kept_promise.proofs.Lists.{some_is, nothing_there, at_end, within, of_appended, kept_appended, of_replaced, at_replaced, else_replaced}
-use Rattle.kept_promise.proofs.Marks.{Mark, marks, mark_of, latest_mark, left_by, AllBelow, ArePast, Inserted, unpointed, unchanging, made_before, marks_appended, marks_neither, marks_same, marks_before, marks_elsewhere, marks_later, marks_made, all_below, inserted_count, inserted_latest}
+use Rattle.kept_promise.proofs.Common.{slice_get, slice_set, not, is_some, sha1, Entry, changes, changed_before, value_from, is_lost, is_untold, content_of, Op, Word, Book, value_at, version_at, is_running, HasJournal}
+use Rattle.kept_promise.proofs.Lists.{some_is, nothing_there, at_end, within, of_appended, kept_appended, of_replaced, at_replaced, else_replaced, count_more, true_and_false}
+use Rattle.kept_promise.proofs.Marks.{marks, mark_of, left_by, ArePast, unpointed, unchanging, made_before, marks_appended, marks_neither, marks_same, marks_before, marks_elsewhere, marks_later, marks_made, all_below, inserted_count, inserted_latest}
 use Rattle.kept_promise.proofs.Rights.{is_remote, Caused, IsRight, IsSound, IsUnmade}
-use Rattle.kept_promise.proofs.Growth.{Follows, follows_same, Grows, seen_in, value_seen, version_seen, value_alike, version_alike, version_later, right_later}
+use Rattle.kept_promise.proofs.Growth.{Follows, follows_same, Grows, value_seen, version_seen, version_later, right_later}
 
 -- so many steps later, with these operations
 abbrev pub onward : Book → (steps : ℕ) → List Op → Book
@@ -70,19 +63,16 @@ journal_grown book n ops made ended g was closes sound = record {
       (m.0, r.0, r.1, ap changes r.2.word ∙ m.3, r.2.point w p m.4, r.2.file ∙ m.5, ap length same ∙ m.6, ap sha1 same ∙ m.7, m.8 ∙ ap (λ v. v + 1) (sym (version_later book (onward book n ops) made ended e.file p g (omega (arith, le)))));
   only = λ k p o at c e. elim (was k o p at e) [
     | inl s ↦ sound.journal.only k p s.0 s.1 (ap changes s.2 ∙ c) s.3
-    | inr n ↦ absurd (not_both (changes o.word) c n.0)
+    | inr n ↦ absurd (true_and_false (changes o.word) c n.0)
   ];
   once = λ k m p o q at is c e d. elim (was k o p at e) [
-    | inr n ↦ absurd (not_both (changes o.word) c n.0)
+    | inr n ↦ absurd (true_and_false (changes o.word) c n.0)
     | inl s ↦ elim (was m q p is d) [
       | inl t ↦ sound.journal.once k m p s.0 t.0 s.1 t.1 (ap changes s.2 ∙ c) s.3 t.3
       | inr n ↦ let i = sound.journal.only k p s.0 s.1 (ap changes s.2 ∙ c) s.3 in absurd (n.1 i.0 i.1)
     ]
   ];
 }
-  where
-    not_both : (b : Bool) → b ≡ true → b ≡ false → ⊥
-    not_both b e d = absurd cc
 
 -- whatever is a change and has a point is a close
 pub closes_alone : (book : Book) → IsSound book → (k : ℕ) (o : Op) → slice_get book.ops k ≡ Some o → changes o.word ≡ true → (p : ℕ) → o.point ≡ Some p → o.word ≡ words.Close
@@ -90,10 +80,6 @@ closes_alone book sound k o at c p e = by o.word c ((sound.rights k o at).pointe
   where
     by : (w : Word) → changes w ≡ true → is_remote w ≡ true → w ≡ words.Close
     by words.Close c r = refl
-    by words.Open c r = absurd cc
-    by words.Make c r = absurd cc
-    by words.Remove c r = absurd cc
-    by words.Rename c r = absurd cc
     by _ c r = absurd cc
 
 past_grown : (book : Book) (n i p : ℕ) → IsSound book → slice_get book.entries i ≡ Some p → (0 < p) × (p ≤ book.steps + n)
@@ -232,17 +218,13 @@ right_made book e j o r u = record {
   past = λ d q. let p = r.past d q in let le = p.1 in (p.0, omega (arith, le));
   ends = r.ends;
   within = λ l p d f s. absurd (ended o.outcome u.2 l d s r.ends);
-  failed = λ w c n. absurd (not_both (is_untold o.outcome) u.2 n);
+  failed = λ w c n. absurd (true_and_false (is_untold o.outcome) u.2 n);
 }
   where
-    not_both : (b : Bool) → b ≡ true → b ≡ false → ⊥
-    not_both b e d = absurd cc
-
     -- what nobody was told of has no end, if it was not lost
     ended : (t : Outcome) → is_untold t ≡ true → is_lost t ≡ false → (d : ℕ) → o.end ≡ Some d → is_some o.end ≡ not (is_running t) → ⊥
-    ended told.Running u l d s ends = absurd (not_both (is_some o.end) (ap is_some s) ends)
-    ended told.Lost u l d s ends = absurd cc
-    ended t u l d s ends = absurd cc
+    ended told.Running u l d s ends = absurd (true_and_false (is_some o.end) (ap is_some s) ends)
+    ended _ u l d s ends = absurd cc
 
     by : (t : Outcome) → is_untold t ≡ true → Caused book o t → Caused (entered book (slice_set book.ops j (made_op book o)) e) (made_op book o) t
     by told.Lost u h = (h.0, record { end = h.1.end; end_is = h.1.end_is; moment = h.1.moment; there = h.1.there; step_is = h.1.step_is; event_is = h.1.event_is })
@@ -262,7 +244,7 @@ goes_made book e j o tells at u sound = record {
       | inr there ↦ right_later book more (Some j) None q grows (sound.rights k q there.1)
     ];
     journal = record {
-      count = length_one book.entries (book.steps + 1) ∙ ap suc sound.journal.count ∙ sym (length_one book.journal e);
+      count = count_more book.entries (book.steps + 1) ∙ ap suc sound.journal.count ∙ sym (count_more book.journal e);
       rising = λ i k p q lt a b. elim (of_appended book.entries (book.steps + 1) k q b) [
         | inl last ↦ elim (of_appended book.entries (book.steps + 1) i p a) [
           | inl both ↦ let x = last.0 in let y = both.0 in absurd (omega (arith, x, y, lt))
@@ -328,10 +310,6 @@ goes_made book e j o tells at u sound = record {
 
     grows : Grows book more (Some j) None
     grows = grows_made book e j o sound.journal.count at u
-
-    length_one : {A : Type 0} (xs : List A) (x : A) → length (xs ++ x ∷ []) ≡ suc (length xs)
-    length_one [] x = refl
-    length_one (y ∷ xs) x = ap suc (length_one xs x)
 
 -- ---- what the file is then
 

@@ -1,18 +1,8 @@
 -- The calls of a store and their answers stay in order as the store goes on.
 use Rattle.std.proofs.Common.{◌≡◌, ℕ, zero, suc, ◌+◌, ◌≤◌, List, [], ◌∷◌, ◌++◌, Some, Bool, true, false, refl, sym, ap, ◌∙◌, arith, eq-eqb, eqb-true, ne_eqb}
-use Rattle.std.specs.Prelude.{slice_get, cond, ◌==◌, not}
-use Rattle.chunk_cut.specs.Places.{chunk_bytes}
-use Rattle.chunk_cut.specs.declared.chunk.Chunk.{Chunk}
-use Rattle.xdr_codec.specs.declared.answer.Answer.TheVariants.{Done, Failed}
-use Rattle.open_close.specs.Closing.{store_at, without_store}
-use Rattle.open_close.specs.declared.task.Stage.{Stage}
 use Rattle.open_close.specs.declared.task.Stage.TheVariants as stage
-use Rattle.open_close.specs.declared.task.Store.{Store}
-use Rattle.open_close.specs.declared.task.StoreCall.{StoreCall}
-use Rattle.open_close.specs.declared.task.Way.{Way}
 use Rattle.open_close.specs.declared.task.Way.TheVariants as way
-use Rattle.trace_replay.specs.Book.{Book}
-use Rattle.kept_promise.specs.Talk.{Call, Call.Hash, Call.Read, Call.Make, Call.Name, Call.Send, Call.Commit, Reply, Reply.Hashed, Reply.Bytes, Reply.Made, Reply.Named, Reply.Stored, Reply.Changed, Ask}
+use Rattle.kept_promise.proofs.Common.{slice_get, cond, ◌==◌, not, chunk_bytes, Chunk, Failed, store_at, without_store, Stage, Store, StoreCall, Way, Book, Call, Call.Make, Call.Name, Call.Send, Call.Commit, Reply, Reply.Made, Reply.Named, Reply.Stored, Reply.Changed, Ask}
 use Rattle.kept_promise.proofs.Lists.{some_is, nothing_there}
 use Rattle.kept_promise.proofs.Messages.{Job}
 use Rattle.kept_promise.proofs.Naming.{Named as Notes}
@@ -73,8 +63,6 @@ stage_of : (j i : Job) (s r : Stage) → Some j ≡ Some i → j.stage ≡ s →
 stage_of j i s r same a b = sym a ∙ ap (λ (z : Job). z.stage) (some_is j i same) ∙ b
 
 pub place_over : (j i : Job) (v : ℕ → List ℕ) (st more : Store) (y : ℕ) (c : Call) → GoesOver j i st more y → InPlace (Some j) v y c → InPlace (Some i) v y c
-place_over j i v st more y (Hash f o) g h = tt
-place_over j i v st more y (Read f c) g h = tt
 place_over j i v st more y (Make m f) g h = absurd (not_storing_making st y m (stage_of j h.0 (stage.Storing st) (stage.Making y m) h.1 g.was h.2))
 place_over j i v st more y (Commit m f s) g h = absurd (not_storing_committing st y (stage_of j h.0 (stage.Storing st) (stage.Committing y) h.1 g.was h.2))
 place_over j i v st more y (Name m c) g h =
@@ -85,34 +73,30 @@ place_over j i v st more y (Send m s b) g h =
     let o = store_of_job j st y way.Whole g.was h.0 in
     let r : IsStore (Some i) y way.Whole = record { of = i; is = refl; store = more; at = g.is; call = h.0.call; found = g.found h.0.call (ap (λ (z : Store). store_at z.under y) (sym o.1) ∙ h.0.found); way = h.0.way } in
     (r, g.temp ∙ ap (λ (z : Store). z.temp) (sym o.1) ∙ h.1, (h.2.0, ap (λ (l : List Chunk). slice_get l h.0.call.index) (g.chunks ∙ ap (λ (z : Store). z.chunks) (sym o.1)) ∙ h.2.1, h.2.2, h.2.3 ∙ ap (λ (z : ℕ). chunk_bytes (v z) h.2.0) (ap (λ (z : Job). z.file) o.0 ∙ sym g.file)))
+place_over j i v st more y _ g h = tt
 
 pub want_over : (book : Book) (j i : Job) (st more : Store) (y : ℕ) (r : Reply) → GoesOver j i st more y → Wanted book (Some j) y r → Wanted book (Some i) y r
-want_over book j i st more y (Hashed a) g h = tt
-want_over book j i st more y (Bytes a) g h = tt
-want_over book j i st more y (Changed (Done c)) g h = tt
 want_over book j i st more y (Made a) g h = absurd (not_storing_making st y h.0.1 (stage_of j h.0.0 (stage.Storing st) (stage.Making y h.0.1) h.0.2 g.was h.0.3))
 want_over book j i st more y (Changed (Failed s u)) g h = absurd (not_storing_committing st y (stage_of j h.0.0 (stage.Storing st) (stage.Committing y) h.0.2 g.was h.0.3))
 want_over book j i st more y (Named a) g h = (store_over j i st more y way.Named g h.0, h.1)
 want_over book j i st more y (Stored a) g h = (store_over j i st more y way.Whole g h.0, h.1)
+want_over book j i st more y _ g h = tt
 
 -- ---- nothing is under way
 
 pub idle_call : (j : Job) (v : ℕ → List ℕ) (st : Store) (y : ℕ) (c : Call) → j.stage ≡ stage.Storing st → st.under ≡ [] → InPlace (Some j) v y c → IsFetching c
-idle_call j v st y (Hash f o) was none h = tt
-idle_call j v st y (Read f c) was none h = tt
 idle_call j v st y (Make m f) was none h = not_storing_making st y m (stage_of j h.0 (stage.Storing st) (stage.Making y m) h.1 was h.2)
 idle_call j v st y (Commit m f s) was none h = not_storing_committing st y (stage_of j h.0 (stage.Storing st) (stage.Committing y) h.1 was h.2)
 idle_call j v st y (Name m c) was none h = let o = store_of_job j st y way.Named was h.0 in nothing_there h.0.call (ap (λ l. store_at l y) (sym none) ∙ ap (λ (z : Store). store_at z.under y) (sym o.1) ∙ h.0.found)
 idle_call j v st y (Send m s b) was none h = let o = store_of_job j st y way.Whole was h.0 in nothing_there h.0.call (ap (λ l. store_at l y) (sym none) ∙ ap (λ (z : Store). store_at z.under y) (sym o.1) ∙ h.0.found)
+idle_call j v st y _ was none h = tt
 
 pub idle_reply : (book : Book) (j : Job) (st : Store) (y : ℕ) (r : Reply) → j.stage ≡ stage.Storing st → st.under ≡ [] → Wanted book (Some j) y r → IsFetched r
-idle_reply book j st y (Hashed a) was none h = tt
-idle_reply book j st y (Bytes a) was none h = tt
-idle_reply book j st y (Changed (Done c)) was none h = tt
 idle_reply book j st y (Made a) was none h = not_storing_making st y h.0.1 (stage_of j h.0.0 (stage.Storing st) (stage.Making y h.0.1) h.0.2 was h.0.3)
 idle_reply book j st y (Changed (Failed s u)) was none h = not_storing_committing st y (stage_of j h.0.0 (stage.Storing st) (stage.Committing y) h.0.2 was h.0.3)
 idle_reply book j st y (Named a) was none h = let o = store_of_job j st y way.Named was h.0 in nothing_there h.0.call (ap (λ l. store_at l y) (sym none) ∙ ap (λ (z : Store). store_at z.under y) (sym o.1) ∙ h.0.found)
 idle_reply book j st y (Stored a) was none h = let o = store_of_job j st y way.Whole was h.0 in nothing_there h.0.call (ap (λ l. store_at l y) (sym none) ∙ ap (λ (z : Store). store_at z.under y) (sym o.1) ∙ h.0.found)
+idle_reply book j st y _ was none h = tt
 
 -- ---- names that go out
 

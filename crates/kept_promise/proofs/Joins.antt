@@ -1,43 +1,23 @@
 -- A client joins: a session begins, with nothing on its way.
-use Rattle.std.proofs.Common.{◌⊎◌, inl, inr, ◌≡◌, ℕ, zero, suc, ◌+◌, ◌<◌, ◌≤◌, List, [], ◌∷◌, ◌++◌, length, Option, Some, None, Bool, true, false, refl, sym, ap, ◌∙◌, subst, arith, eq-eqb, ne_eqb}
-use Rattle.std.proofs.lemmas.Bool.Decides.{nat_tests}
+use Rattle.std.proofs.Common.{◌⊎◌, inl, inr, ◌≡◌, ℕ, zero, suc, ◌+◌, ◌<◌, List, [], ◌∷◌, ◌++◌, length, Option, Some, None, Bool, true, false, refl, sym, ap, ◌∙◌, subst, arith, eq-eqb, ne_eqb, map}
 use Rattle.std.proofs.lemmas.List.Folds.{list_any-append}
-use Rattle.std.specs.Prelude.{slice_get, map, not, cond, ◌==◌, ◌&&◌, ◌||◌, nat_lt, filter}
-use Rattle.std.specs.List.{list_any}
 use Rattle.server_core.specs.State as server
-use Rattle.server_core.specs.Step.{stands, has_room, connect, server_step}
-use Rattle.server_core.specs.Temps.{Temp, temp_at, key_of}
-use Rattle.server_core.specs.declared.change.Change.{Change}
-use Rattle.server_core.specs.declared.event.Event.TheVariants as event
-use Rattle.server_core.specs.declared.event.ServerStep.{ServerStep}
 use Rattle.open_close.specs.State as client
-use Rattle.open_close.specs.Step.{joined}
-use Rattle.open_close.specs.declared.task.Task.{Task}
-use Rattle.open_close.specs.declared.task.Local.{Local}
-use Rattle.wire.specs.declared.message.Pending.{Pending}
-use Rattle.register_model.specs.declared.op.Op.{Op}
-use Rattle.register_model.specs.declared.op.Outcome.TheVariants as told
-use Rattle.trace_replay.specs.Core.{Core, Seat, Session, Event, Event.Joins, Loss, Loss.Made, Turned, quiet, new_session, numbered, with_numbered, joins_as, joins, happens}
-use Rattle.trace_replay.specs.Book.{Book}
-use Rattle.kept_promise.specs.Talk.{Queue, no_queue}
-use Rattle.kept_promise.proofs.Lists.{some_is, nothing_there, same_or_not, at_end, of_appended, kept_appended, within}
+use Rattle.kept_promise.proofs.Common.{nat_tests, slice_get, cond, ◌==◌, ◌||◌, nat_lt, list_any, has_room, connect, Temp, temp_at, key_of, Change, ServerStep, joined, Task, Pending, Op, Core, Seat, Session, new_session, numbered, with_numbered, joins_as, joins, Book, Queue, no_queue}
+use Rattle.kept_promise.proofs.Lists.{some_is, nothing_there, same_or_not, at_end, of_appended, kept_appended, count_more}
 use Rattle.kept_promise.proofs.Keys.{times, own, on_way, change_key, pending_key}
 use Rattle.kept_promise.proofs.Messages.{Job, job, job_of}
 use Rattle.kept_promise.proofs.History.{onward, grows_same, goes_same, still_same}
-use Rattle.kept_promise.proofs.Later.{session_later, seat_later, SameView, Stays, Spares}
-use Rattle.kept_promise.proofs.Turns.{Around, around_with, also_numbered, turned_core}
+use Rattle.kept_promise.proofs.Later.{session_later, seat_later, SameView}
+use Rattle.kept_promise.proofs.Turns.{around_with, turned_core, numbered_within}
 use Rattle.kept_promise.proofs.Shelves.{of_lookup}
 use Rattle.kept_promise.proofs.Ordered.{orderly_new}
-use Rattle.kept_promise.proofs.Facts.{IsServer, IsBalanced, IsTalk, IsSession, IsSeat, IsMatched, IsKept}
-use Rattle.kept_promise.proofs.Leading.{Sends, IsNoted, Leads, queues_after, KeptJoins}
+use Rattle.kept_promise.proofs.Facts.{IsTalk, IsSession, IsSeat, IsMatched, IsKept}
+use Rattle.kept_promise.proofs.Leading.{Leads, KeptJoins}
 use Rattle.kept_promise.proofs.Takes.{file_still}
 use Rattle.kept_promise.proofs.Hangs.{leads_quiet}
 
 -- ---- lists with one more
-
-one_more : {A : Type 0} (xs : List A) (x : A) → length (xs ++ x ∷ []) ≡ suc (length xs)
-one_more [] x = refl
-one_more (y ∷ xs) x = ap suc (one_more xs x)
 
 at_new : {A : Type 0} (xs : List A) (x : A) (n : ℕ) → n ≡ suc (length xs) → numbered (xs ++ x ∷ []) n ≡ Some x
 at_new xs x n e = ap (numbered (xs ++ x ∷ [])) e ∙ at_end xs x
@@ -51,16 +31,11 @@ of_new : {A : Type 0} (xs : List A) (x : A) (n : ℕ) (y : A) → numbered (xs +
 of_new xs x zero y e = nothing_there y e
 of_new xs x (suc k) y e = elim (of_appended xs x k y e) [ inl h ↦ inl (ap suc h.0, h.1) | inr h ↦ inr h ]
 
-below : {A : Type 0} (xs : List A) (n : ℕ) (y : A) → numbered xs n ≡ Some y → n ≤ length xs
-below xs zero y e = nothing_there y e
-below xs (suc k) y e = let w = within xs k y e in omega (arith, w)
-
 -- ---- a client without a task
 
 no_job : (place : Option ℕ) (task : Option Task) → task ≡ None → job_of place task ≡ None
-no_job None task e = refl
-no_job (Some k) None e = refl
 no_job (Some k) (Some t) e = absurd cc
+no_job _ _ e = refl
 
 no_calls : (task : Option Task) (forgotten : List Pending) → task ≡ None → forgotten ≡ [] → client.pending task ++ forgotten ≡ []
 no_calls None forgotten e f = f
@@ -72,7 +47,7 @@ unmatched seat none (inr h) = nothing_there h.0 (sym (no_job seat.place seat.cli
 
 -- ---- the server
 
-own_none : (n : ℕ) (ws : List Change) → ((i : ℕ) (c : Change) → slice_get ws i ≡ Some c → c.session ≡ n → ⊥) → own n ws ≡ []
+pub own_none : (n : ℕ) (ws : List Change) → ((i : ℕ) (c : Change) → slice_get ws i ≡ Some c → c.session ≡ n → ⊥) → own n ws ≡ []
 own_none n [] h = refl
 own_none n (c ∷ ws) h = let e : (c.session == n) ≡ false = ne_eqb c.session n (h 0 c refl) in ap (λ t. cond t (c ∷ own n ws) (own n ws)) e ∙ own_none n ws (λ i d f. h (suc i) d f)
 
@@ -140,7 +115,7 @@ joined_now book k qs c n seat kept number at unlinked =
     let made = kept.made.0 in
     let late : n ≡ suc (length k.sessions) = omega (arith, number, made) in
     let late_q : n ≡ suc (length qs) = omega (arith, late, kept.made.1) in
-    let none : own n s.waiting ≡ [] = own_none n s.waiting (λ i d e same. let z = kept.home i d e in let w = below k.sessions d.session z.0 z.1 in omega (arith, w, same, late)) in
+    let none : own n s.waiting ≡ [] = own_none n s.waiting (λ i d e same. let z = kept.home i d e in let w = numbered_within k.sessions d.session z.0 z.1 in omega (arith, w, same, late)) in
     record {
       ops = refl;
       steps = refl;
@@ -148,14 +123,14 @@ joined_now book k qs c n seat kept number at unlinked =
       entries = refl;
       sound = (goes_same book 2 kept.sound).sound;
       server = record { held = λ f. file_still book more f (server.file_at s.files f) (still_same book 2 kept.sound) refl (kept.server.held f); versions = kept.server.versions; changes = kept.server.changes; lengths = kept.server.lengths; targets = kept.server.targets; xids = kept.server.xids };
-      made = (let a = one_more k.sessions (new_session c) in omega (arith, a, made), one_more qs no_queue ∙ ap suc kept.made.1 ∙ sym (one_more k.sessions (new_session c)));
+      made = (let a = count_more k.sessions (new_session c) in omega (arith, a, made), count_more qs no_queue ∙ ap suc kept.made.1 ∙ sym (count_more k.sessions (new_session c)));
       sessions = λ m z p f h. elim (of_new k.sessions (new_session c) m z f) [
         | inl new ↦ elim (of_new qs no_queue m p h) [
           | inl also ↦ new_session_is m z p (new.0 ∙ sym late) new.1 also.1 free none
-          | inr old ↦ let w = below qs m p old in absurd (omega (arith, w, new.0, kept.made.1))
+          | inr old ↦ let w = numbered_within qs m p old in absurd (omega (arith, w, new.0, kept.made.1))
         ]
         | inr old ↦ elim (of_new qs no_queue m p h) [
-          | inl also ↦ let w = below k.sessions m z old in absurd (omega (arith, w, also.0, kept.made.1))
+          | inl also ↦ let w = numbered_within k.sessions m z old in absurd (omega (arith, w, also.0, kept.made.1))
           | inr there ↦ old_session m z p late old (kept.sessions m z p old there) (same_or_not z.owner c)
         ]
       ];
@@ -176,7 +151,7 @@ joined_now book k qs c n seat kept number at unlinked =
       ];
       home = λ i d f. let z = kept.home i d f in (z.0, still_there k.sessions (new_session c) d.session z.0 z.1, z.2);
       shelf = kept.shelf;
-      unborn = λ o m i e past lt g at. kept.unborn o m i e (let a = one_more k.sessions (new_session c) in omega (arith, past, a)) lt g at;
+      unborn = λ o m i e past lt g at. kept.unborn o m i e (let a = count_more k.sessions (new_session c) in omega (arith, past, a)) lt g at;
     }
   where
     busy : (e : Seat) (j : Job) → e ≡ seat → job e ≡ Some j → seat.client.task ≡ None → ⊥
@@ -222,7 +197,7 @@ joined_now book k qs c n seat kept number at unlinked =
         })))
 
     view : (m : ℕ) (z : Session) → n ≡ suc (length k.sessions) → numbered k.sessions m ≡ Some z → SameView m k.server (with_session k.server n)
-    view m z late f = let w = below k.sessions m z f in record { stands_is = stands_more m n k.server.sessions (λ q. omega (arith, w, q, late)); waiting = refl; temps = λ i m e lt g at. (i, g); found = λ m lt. refl }
+    view m z late f = let w = numbered_within k.sessions m z f in record { stands_is = stands_more m n k.server.sessions (λ q. omega (arith, w, q, late)); waiting = refl; temps = λ i m e lt g at. (i, g); found = λ m lt. refl }
 
     old_session : (m : ℕ) (z : Session) (p : Queue) → n ≡ suc (length k.sessions) → numbered k.sessions m ≡ Some z → IsSession book k.seats k.server m z p → ((z.owner ≡ c) ⊎ (z.owner ≡ c → ⊥)) → IsSession (onward book 2 book.ops) (with_numbered k.seats c (seated seat n)) (with_session k.server n) m z p
     old_session m z p late f old (inr apart) =

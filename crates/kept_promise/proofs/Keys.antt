@@ -1,15 +1,9 @@
 -- Calls by their keys: an xid, and which procedure it is of. Each call that waits for its answer is on its way once.
-use Rattle.std.proofs.Common.{◌≡◌, ℕ, zero, suc, ◌+◌, ◌*◌, ◌<◌, ◌≤◌, List, [], ◌∷◌, ◌++◌, ◌⊎◌, inl, inr, Option, Some, None, Bool, true, false, length, refl, sym, ap, ◌∙◌, subst, arith, eq-eqb, ne_eqb}
-use Rattle.std.proofs.lemmas.Bool.Decides.{nat_tests}
-use Rattle.std.specs.Prelude.{slice_get, cond, ◌==◌, not, map, filter}
+use Rattle.std.proofs.Common.{◌≡◌, ℕ, zero, suc, ◌+◌, ◌*◌, ◌<◌, List, [], ◌∷◌, ◌++◌, Some, Bool, true, false, refl, sym, ap, subst, arith, eq-eqb, ne_eqb, map}
 use Rattle.hash_calls.specs.declared.message.LbProc.TheVariants as lb_proc
 use Rattle.nfs3_calls.specs.declared.message.NfsProc.TheVariants as nfs_proc
-use Rattle.wire.specs.declared.message.Pending.{Pending}
-use Rattle.wire.specs.declared.message.Program.{Program}
 use Rattle.wire.specs.declared.message.Program.TheVariants as program
-use Rattle.server_core.specs.declared.change.Change.{Change}
-use Rattle.open_close.specs.State.{without_call}
-use Rattle.kept_promise.specs.Talk.{Call, Reply, Ask, Told, Queue, call_program, reply_program}
+use Rattle.kept_promise.proofs.Common.{nat_tests, slice_get, cond, ◌==◌, filter, Pending, Program, Change, Call, Ask, Told, Queue, call_program, reply_program}
 use Rattle.kept_promise.proofs.Lists.{some_is, nothing_there}
 
 -- ---- keys

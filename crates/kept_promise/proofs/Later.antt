@@ -1,39 +1,16 @@
 -- Facts of messages, sessions and clients stay true while the history grows.
-use Rattle.std.proofs.Common.{◌⊎◌, inl, inr, ◌≡◌, ℕ, zero, suc, ◌+◌, ◌<◌, ◌≤◌, List, [], ◌∷◌, ◌++◌, length, Option, Some, None, Bool, true, false, refl, sym, ap, ◌∙◌, subst, arith}
-use Rattle.std.specs.Prelude.{slice_get, map, not, IsSome, Contains}
-use Rattle.chunk_cut.specs.declared.chunk.Chunk.{Chunk}
-use Rattle.xdr_codec.specs.declared.answer.Answer.{Answer}
-use Rattle.xdr_codec.specs.declared.answer.Answer.TheVariants.{Done, Failed}
-use Rattle.hash_calls.specs.declared.call.Committed.{Committed}
-use Rattle.hash_calls.specs.declared.call.Hashes.{Hashes}
-use Rattle.nfs3_calls.specs.declared.call.Piece.{Piece}
-use Rattle.xdr_codec.specs.declared.attr.Attr.{Attr}
-use Rattle.wire.specs.declared.message.Pending.{Pending}
+use Rattle.std.proofs.Common.{inl, inr, ◌≡◌, ℕ, ◌+◌, ◌<◌, ◌≤◌, List, [], ◌∷◌, ◌++◌, length, Option, Some, None, Bool, true, false, refl, sym, ap, ◌∙◌, subst, arith, map, IsSome}
 use Rattle.server_core.specs.State as server
-use Rattle.server_core.specs.Step.{stands}
-use Rattle.server_core.specs.Temps.{Temp, key_of}
-use Rattle.server_core.specs.declared.change.Change.{Change}
 use Rattle.open_close.specs.State as client
-use Rattle.open_close.specs.declared.task.Fetch.{Fetch}
-use Rattle.open_close.specs.declared.task.Local.{Local}
-use Rattle.open_close.specs.declared.task.Stage.{Stage}
 use Rattle.open_close.specs.declared.task.Stage.TheVariants as stage
-use Rattle.register_model.specs.Register.{Value, content_of}
-use Rattle.register_model.specs.declared.op.Op.{Op}
-use Rattle.register_model.specs.declared.op.Opening.{Opening}
-use Rattle.trace_replay.specs.declared.link.Taken.{Taken}
-use Rattle.trace_replay.specs.Core.{Seat, Session, numbered}
-use Rattle.trace_replay.specs.Book.{Book, value_at, version_at}
-use Rattle.trace_replay.specs.Causes.{Tried}
-use Rattle.kept_promise.specs.Talk.{Call, Call.Commit, Reply, Reply.Hashed, Reply.Bytes, Reply.Changed, Ask, Told, Queue}
+use Rattle.kept_promise.proofs.Common.{slice_get, Chunk, Answer, Done, Failed, Committed, Hashes, Piece, Attr, Pending, stands, Temp, key_of, Change, Fetch, Stage, Value, content_of, Op, Opening, TakenCall, Seat, Session, numbered, Book, Tried, Call, Call.Commit, Reply, Reply.Hashed, Reply.Bytes, Reply.Changed, Ask, Told, Queue}
 use Rattle.kept_promise.proofs.Keys.{times, own, on_way, change_key, ask_key, told_key, pending_key}
 use Rattle.kept_promise.proofs.Lists.{some_is}
-use Rattle.kept_promise.proofs.Messages.{Job, job, AllAsks, AllTolds, IsAsked, IsTold, IsTried, Trying, IsTrying, IsHashed, HashTold, IsRead, ReadTold, CommitTold, TriedBy, AnswerOf, IsAnswer, IsFetch, IsReading, FetchOf, HasFetch, IsPending, CommitOf, IsCommit, IsOwed, CloseOf, TempUnder}
-use Rattle.kept_promise.proofs.Rights.{IsMade}
-use Rattle.kept_promise.proofs.Growth.{Grows, Follows, value_later, version_later, or_later, tried_later, tried_wider, made_later}
+use Rattle.kept_promise.proofs.Messages.{Job, job, AllAsks, AllTolds, IsTold, IsTried, Trying, HashTold, ReadTold, CommitTold, TriedBy, AnswerOf, IsAnswer, IsFetch, IsReading, FetchOf, HasFetch, IsPending, CommitOf, IsCommit, IsOwed, CloseOf, TempUnder}
+use Rattle.kept_promise.proofs.Growth.{Grows, value_later, version_later, or_later, tried_later, tried_wider, made_later}
 use Rattle.kept_promise.proofs.Orderly.{Orderly}
 use Rattle.kept_promise.proofs.Ordered.{SameFound, orderly_later}
-use Rattle.kept_promise.proofs.Facts.{commits_in, IsBalanced, IsTalk, IsSession, IsOf, IsSeat, HasXids}
+use Rattle.kept_promise.proofs.Facts.{commits_in, IsBalanced, IsTalk, IsSession, IsOf, IsSeat}
 
 pub all_asks : (P Q : Ask → Type 0) → ((a : Ask) → P a → Q a) → (us : List Ask) → AllAsks P us → AllAsks Q us
 all_asks P Q f [] h = tt
@@ -45,7 +22,7 @@ all_tolds P Q f (t ∷ ts) h = (f t h.0, all_tolds P Q f ts h.1)
 
 -- ---- messages
 
-pub told_later : (book more : Book) (made ended : Option ℕ) (taken : List Taken) (j : Job) (x : ℕ) (v : Value) (version : ℕ) → Grows book more made ended → IsTold book taken j x v version → IsTold more taken j x v version
+pub told_later : (book more : Book) (made ended : Option ℕ) (taken : List TakenCall) (j : Job) (x : ℕ) (v : Value) (version : ℕ) → Grows book more made ended → IsTold book taken j x v version → IsTold more taken j x v version
 told_later book more made ended taken j x v version g h =
     let r = g.each j.place h.op h.there in
     let le = h.past in
@@ -62,7 +39,7 @@ told_later book more made ended taken j x v version g h =
       apart = λ i e. elim (g.entries_new i h.moment e) [ inl old ↦ h.apart i old | inr new ↦ omega (arith, le, new) ];
     }
 
-pub is_tried_later : (book more : Book) (made ended : Option ℕ) (taken : List Taken) (j : Job) (x n : ℕ) → Grows book more made ended → IsTried book taken j x n → IsTried more taken j x n
+pub is_tried_later : (book more : Book) (made ended : Option ℕ) (taken : List TakenCall) (j : Job) (x n : ℕ) → Grows book more made ended → IsTried book taken j x n → IsTried more taken j x n
 is_tried_later book more made ended taken j x n g h =
     let r = g.each j.place h.op h.there in
     let le = h.past in
@@ -75,12 +52,12 @@ trying_later book more made ended j n g h =
     let p = g.passes in
     record { op = r.0; there = r.1; count = h.count; tries_is = h.tries_is; tried = subst (λ (b : ℕ). Tried more j.file b h.count (more.steps + 1)) (sym r.2.begin) (tried_wider more j.file h.op.begin h.count (book.steps + 1) (more.steps + 1) (omega (arith, p)) (tried_later book more made ended j.file h.op.begin h.count (book.steps + 1) g (omega arith) h.tried)) }
 
-hash_later : (book more : Book) (made ended : Option ℕ) (taken : List Taken) (j : Job) (x o : ℕ) (a : Answer Hashes Unit) → Grows book more made ended → HashTold book taken j x o a → HashTold more taken j x o a
+hash_later : (book more : Book) (made ended : Option ℕ) (taken : List TakenCall) (j : Job) (x o : ℕ) (a : Answer Hashes Unit) → Grows book more made ended → HashTold book taken j x o a → HashTold more taken j x o a
 hash_later book more made ended taken j x o (Failed s u) g (inl h) = inl h
 hash_later book more made ended taken j x o (Failed s u) g (inr h) = inr (h.0, ap (λ (l : List Opening). content_of l j.file) g.opening ∙ h.1, (h.2.0, told_later book more made ended taken j x None h.2.0 g h.2.1))
 hash_later book more made ended taken j x o (Done a) g h = record { file = h.file; is = h.is; told = told_later book more made ended taken j x (Some h.file.content) h.file.version g h.told; short = h.short; known = subst (λ (l : List Opening). IsSome (content_of l j.file)) (sym g.opening) h.known; hashed = λ i c e. g.hashed _ (h.hashed i c e) }
 
-read_later : (book more : Book) (made ended : Option ℕ) (taken : List Taken) (j : Job) (first : ℕ) (c : Chunk) (a : Answer Piece (Option Attr)) → Grows book more made ended → ReadTold book taken j first c a → ReadTold more taken j first c a
+read_later : (book more : Book) (made ended : Option ℕ) (taken : List TakenCall) (j : Job) (first : ℕ) (c : Chunk) (a : Answer Piece (Option Attr)) → Grows book more made ended → ReadTold book taken j first c a → ReadTold more taken j first c a
 read_later book more made ended taken j first c (Failed s a) g h = h
 read_later book more made ended taken j first c (Done p) g h =
     let le = h.past in
@@ -95,32 +72,32 @@ commit_told_later : (book more : Book) (made ended closing : Option ℕ) (j : Jo
 commit_told_later book more made ended closing j (Done c) g spares h = made_later book more made ended j.place c.version g h
 commit_told_later book more made ended closing j (Failed s u) g spares h = let r = g.each j.place h.0 h.1 in (r.0, r.1, r.2.unmade (spares j.place h.3) h.2, h.3)
 
-tried_by_later : (book more : Book) (made ended : Option ℕ) (taken : List Taken) (j : Job) (x : ℕ) (s : Stage) → Grows book more made ended → TriedBy book taken j x s → TriedBy more taken j x s
+tried_by_later : (book more : Book) (made ended : Option ℕ) (taken : List TakenCall) (j : Job) (x : ℕ) (s : Stage) → Grows book more made ended → TriedBy book taken j x s → TriedBy more taken j x s
 tried_by_later book more made ended taken j x (stage.Hashing tries y) g h = is_tried_later book more made ended taken j x tries g h
 tried_by_later book more made ended taken j x (stage.Listing y f) g h = h
 tried_by_later book more made ended taken j x _ g h = tt
 
-answer_of_later : (book more : Book) (made ended : Option ℕ) (taken : List Taken) (closing : Option ℕ) (job : Option Job) (x : ℕ) (r : Reply) → Grows book more made ended → Spares closing made → AnswerOf book taken closing job x r → AnswerOf more taken closing job x r
+answer_of_later : (book more : Book) (made ended : Option ℕ) (taken : List TakenCall) (closing : Option ℕ) (job : Option Job) (x : ℕ) (r : Reply) → Grows book more made ended → Spares closing made → AnswerOf book taken closing job x r → AnswerOf more taken closing job x r
 answer_of_later book more made ended taken closing job x (Hashed a) g spares h = λ j o e w. let r = h j o e w in (hash_later book more made ended taken j x o a g r.0, tried_by_later book more made ended taken j x j.stage g r.1)
 answer_of_later book more made ended taken closing job x (Bytes a) g spares h = λ j f c e s w. read_later book more made ended taken j f.first c a g (h j f c e s w)
 answer_of_later book more made ended taken closing job x (Changed a) g spares h = λ j e s. commit_told_later book more made ended closing j a g spares (h j e s)
 answer_of_later book more made ended taken closing job x _ g spares h = tt
 
-pub answer_later : (book more : Book) (made ended : Option ℕ) (taken : List Taken) (closing : Option ℕ) (job : Option Job) (t : Told) → Grows book more made ended → Spares closing made → IsAnswer book taken closing job t → IsAnswer more taken closing job t
+pub answer_later : (book more : Book) (made ended : Option ℕ) (taken : List TakenCall) (closing : Option ℕ) (job : Option Job) (t : Told) → Grows book more made ended → Spares closing made → IsAnswer book taken closing job t → IsAnswer more taken closing job t
 answer_later book more made ended taken closing job t g spares h = answer_of_later book more made ended taken closing job t.xid t.reply g spares h
 
-abbrev pub fetch_later : (book more : Book) (made ended : Option ℕ) (taken : List Taken) (j : Job) (f : Fetch) → Grows book more made ended → IsFetch book taken j f → IsFetch more taken j f
+abbrev pub fetch_later : (book more : Book) (made ended : Option ℕ) (taken : List TakenCall) (j : Job) (f : Fetch) → Grows book more made ended → IsFetch book taken j f → IsFetch more taken j f
 fetch_later book more made ended taken j f g h = record { content = h.content; told = told_later book more made ended taken j f.first (Some h.content) f.version g h.told; tried = is_tried_later book more made ended taken j f.first f.tries g h.tried; size = h.size; short = h.short; known = subst (λ (l : List Opening). IsSome (content_of l j.file)) (sym g.opening) h.known; count = h.count; within = h.within; chunks = h.chunks; hashed = λ i c e. g.hashed _ (h.hashed i c e) }
 
 pub reading_later : (book more : Book) (made ended : Option ℕ) (x : List ℕ) (f : Fetch) → Grows book more made ended → IsReading book x f → IsReading more x f
 reading_later book more made ended x f g h = record { whole = h.whole; slots = h.slots; came = λ i b c e w. let p = h.came i b c e w in (or_later book more made ended _ _ g (λ p. p) p.0, p.1); asked = h.asked; inside = h.inside; filled = h.filled }
 
-pub fetch_of_later : (book more : Book) (made ended : Option ℕ) (taken : List Taken) (j : Job) (s : Stage) → Grows book more made ended → FetchOf book taken j s → FetchOf more taken j s
+pub fetch_of_later : (book more : Book) (made ended : Option ℕ) (taken : List TakenCall) (j : Job) (s : Stage) → Grows book more made ended → FetchOf book taken j s → FetchOf more taken j s
 fetch_of_later book more made ended taken j (stage.Listing x f) g h = (fetch_later book more made ended taken j f g h.0, h.1, h.2)
 fetch_of_later book more made ended taken j (stage.Reading f) g h = (fetch_later book more made ended taken j f g h.0, reading_later book more made ended h.0.content f g h.1)
 fetch_of_later book more made ended taken j _ g h = tt
 
-pub has_fetch_later : (book more : Book) (made ended : Option ℕ) (taken : List Taken) (job : Option Job) → Grows book more made ended → HasFetch book taken job → HasFetch more taken job
+pub has_fetch_later : (book more : Book) (made ended : Option ℕ) (taken : List TakenCall) (job : Option Job) → Grows book more made ended → HasFetch book taken job → HasFetch more taken job
 has_fetch_later book more made ended taken job g h = λ j e. fetch_of_later book more made ended taken j j.stage g (h j e)
 
 -- ---- changes and closes

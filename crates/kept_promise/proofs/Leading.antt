@@ -1,16 +1,8 @@
 -- What each event is to be shown to keep.
-use Rattle.std.proofs.Common.{◌≡◌, ℕ, zero, suc, ◌+◌, ◌<◌, ◌≤◌, List, [], ◌∷◌, ◌++◌, length, Option, Some, None, Bool, true, false}
-use Rattle.std.specs.Prelude.{slice_get, map, Contains}
-use Rattle.wire.specs.Message.{message_spell}
-use Rattle.wire.specs.declared.message.Message.{Message}
+use Rattle.std.proofs.Common.{◌≡◌, ℕ, ◌<◌, List, [], ◌∷◌, ◌++◌, length, Option, Some, None, false, map}
+use Rattle.trace_replay.specs.Core.{Loss.Made}
 use Rattle.server_core.specs.declared.event.Sent.{Sent}
-use Rattle.command_text.specs.declared.command.Command.{Command}
-use Rattle.trace_replay.specs.Commands.{file_of}
-use Rattle.trace_replay.specs.Core.{Core, Seat, Session, Event, Event.Joins, Event.Does, Event.Serves, Event.Hears, Event.Settles, Event.Cuts, Event.Hangs, Loss, Loss.Nothing, Loss.Made, Loss.Down_of, Loss.Up_of, Turned, numbered, with_numbered, happens}
-use Rattle.trace_replay.specs.World.{Wire, unless, lost_by, up_put, down_put}
-use Rattle.trace_replay.specs.Trail.{Moment, hashed_of, hashed_by}
-use Rattle.trace_replay.specs.Book.{Book}
-use Rattle.kept_promise.specs.Talk.{Ask, Told, Queue, no_queue, Carries, ask_message, told_message}
+use Rattle.kept_promise.proofs.Common.{Contains, message_spell, Command, file_of, Core, Seat, Session, Event, Event.Joins, Event.Does, Event.Serves, Event.Hears, Event.Settles, Event.Cuts, Event.Hangs, Loss, Loss.Nothing, Loss.Down_of, Loss.Up_of, CoreStep, numbered, with_numbered, happens, Wire, unless, lost_by, up_put, down_put, hashed_of, hashed_by, Book, Ask, Told, Queue, no_queue, Carries, ask_message, told_message}
 use Rattle.kept_promise.proofs.Facts.{IsKept}
 
 -- ---- what is sent, as calls and answers
@@ -18,7 +10,7 @@ use Rattle.kept_promise.proofs.Facts.{IsKept}
 abbrev pub sent_message : ℕ × Told → Sent
 sent_message p = record { session = p.0; message = told_message p.1 }
 
-pub record Sends (t : Turned) : Type 0 where
+pub record Sends (t : CoreStep) : Type 0 where
   pub asks : List Ask
   pub up_is : t.up ≡ map ask_message asks
   pub tolds : List (ℕ × Told)
@@ -55,7 +47,7 @@ queues_lost qs (Down_of n) = downs_lost qs n (numbered qs n)
 queues_lost qs (Up_of n) = ups_lost qs n (numbered qs n)
 
 -- the queues after an event, which sent these
-abbrev pub queues_after : List Queue → (t : Turned) → Sends t → List Queue
+abbrev pub queues_after : List Queue → (t : CoreStep) → Sends t → List Queue
 queues_after qs t s = downs_put t.core.sessions (ups_put t.core.sessions (queues_lost qs t.loss) t.session s.asks) s.tolds
 
 -- ---- an event
@@ -66,7 +58,7 @@ pub record IsNoted (book : Book) (k : Core) (e : Event) : Type 0 where
   pub hashed : (b : List ℕ) → Contains (hashed_by k e) b → Contains (hashed_of book.moments) b
 
 -- what it leaves is kept, in a book with the same moments
-pub record Leads (book : Book) (qs : List Queue) (t : Turned) : Type 0 where
+pub record Leads (book : Book) (qs : List Queue) (t : CoreStep) : Type 0 where
   pub sends : Sends t
   pub more : Book
   pub moments : more.moments ≡ book.moments
@@ -80,7 +72,7 @@ CarryAll wires qs = (length wires ≡ length qs) × ((n : ℕ) (q : Wire) (m : Q
 -- ---- wanted
 
 abbrev pub RoutesCarry : Type 0
-RoutesCarry = (wires : List Wire) (qs : List Queue) (t : Turned) (s : Sends t) → CarryAll wires qs → CarryAll (down_put t.core.sessions (up_put t.core.sessions (lost_by wires t.loss) t.session t.up) t.down) (queues_after qs t s)
+RoutesCarry = (wires : List Wire) (qs : List Queue) (t : CoreStep) (s : Sends t) → CarryAll wires qs → CarryAll (down_put t.core.sessions (up_put t.core.sessions (lost_by wires t.loss) t.session t.up) t.down) (queues_after qs t s)
 
 -- the number of a session that can be made is not used up
 abbrev pub KeptJoins : Type 0

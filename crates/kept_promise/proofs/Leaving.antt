@@ -1,46 +1,18 @@
 -- What an answer leaves of a client's open files, and how far the xids of its calls go on.
-use Rattle.std.proofs.Common.{◌≡◌, ℕ, zero, suc, ◌+◌, ◌-◌, ◌≤◌, List, [], ◌∷◌, length, Option, Some, None, Bool, true, false, refl, sym, subst, arith}
+use Rattle.std.proofs.Common.{◌≡◌, ℕ, zero, suc, ◌+◌, ◌-◌, ◌≤◌, List, [], ◌∷◌, length, Option, Some, None, Bool, true, false, refl, sym, subst, arith, Result, Ok, Err}
 use Rattle.std.proofs.lemmas.List.{length-append}
-use Rattle.std.specs.Prelude.{slice_get, ◌==◌, ◌&&◌, Result, Ok, Err}
-use Rattle.chunk_cut.specs.declared.chunk.Chunk.{Chunk}
-use Rattle.xdr_codec.specs.declared.answer.Answer.{Answer}
-use Rattle.xdr_codec.specs.declared.answer.Answer.TheVariants.{Done, Failed}
-use Rattle.xdr_codec.specs.declared.status.Status.{Status}
 use Rattle.xdr_codec.specs.declared.status.Status.TheVariants as status
-use Rattle.hash_calls.specs.declared.call.Hashes.{Hashes}
 use Rattle.hash_calls.specs.declared.message.Lb.TheVariants as lb
-use Rattle.nfs3_calls.specs.declared.call.Piece.{Piece}
 use Rattle.nfs3_calls.specs.declared.message.Nfs.TheVariants as nfs
-use Rattle.wire.specs.declared.message.Body.{Body}
 use Rattle.wire.specs.declared.message.Body.TheVariants as body
-use Rattle.wire.specs.declared.message.Message.{Message}
 use Rattle.wire.specs.declared.message.Message.TheVariants as message
-use Rattle.wire.specs.declared.message.Pending.{Pending}
-use Rattle.wire.specs.declared.message.RpcRefusal.{RpcRefusal}
 use Rattle.wire.specs.declared.message.RpcRefusal.TheVariants as refusal
-use Rattle.wire.specs.declared.fault.WireFault.{WireFault}
 use Rattle.open_close.specs.State as client
-use Rattle.open_close.specs.Closing.{names_from, names_next, names_more, names_all, is_stored, store_of, store_at, answered}
-use Rattle.open_close.specs.Opening.{calls_most, is_none, fetch_of, with_hashes, listed, reads_from, reads_next, reads_more, reads_all, is_here, read_at, fault_in, other_version, with_bytes}
-use Rattle.open_close.specs.Shape.{Broken, broken_of}
-use Rattle.open_close.specs.Step.{idle, refused, bad_peer, reads_if, reads_on, lists_on, told_shape, told_version, told_hashes, told_first, retries, misfits, told_bytes, told_chunk, told_piece, goes_if, goes_on, told_temp, sends_whole, told_named, told_whole, told_way, told_stored, denied, took, drops, took_if, denied_if, got_message, got_fault, got_step}
-use Rattle.open_close.specs.declared.calls.Names.{Names}
-use Rattle.open_close.specs.declared.calls.Reads.{Reads}
-use Rattle.open_close.specs.declared.step.BadPeer.{BadPeer}
-use Rattle.open_close.specs.declared.step.ClientStep.{ClientStep}
-use Rattle.open_close.specs.declared.step.Ended.{Ended}
-use Rattle.open_close.specs.declared.step.Outcome.{Outcome}
 use Rattle.open_close.specs.declared.step.Outcome.TheVariants as outcome
-use Rattle.open_close.specs.declared.task.Fetch.{Fetch}
-use Rattle.open_close.specs.declared.task.Local.{Local}
-use Rattle.open_close.specs.declared.task.ReadCall.{ReadCall}
-use Rattle.open_close.specs.declared.task.Stage.{Stage}
 use Rattle.open_close.specs.declared.task.Stage.TheVariants as stage
-use Rattle.open_close.specs.declared.task.Store.{Store}
-use Rattle.open_close.specs.declared.task.StoreCall.{StoreCall}
-use Rattle.open_close.specs.declared.task.Task.{Task}
-use Rattle.open_close.specs.declared.task.Way.{Way}
 use Rattle.open_close.specs.declared.task.Way.TheVariants as way
+use Rattle.kept_promise.proofs.Common.{slice_get, ◌==◌, ◌&&◌, Chunk, Answer, Done, Failed, Status, Hashes, Piece, Body, Message, Pending, RpcRefusal, WireFault, names_from, names_next, names_more, names_all, is_stored, store_of, store_at, answered, calls_most, is_none, fetch_of, with_hashes, listed, reads_from, reads_next, reads_more, reads_all, is_here, read_at, fault_in, other_version, with_bytes, Broken, broken_of, idle, refused, bad_peer, reads_if, reads_on, lists_on, told_shape, told_version, told_hashes, told_first, retries, misfits, told_bytes, told_chunk, told_piece, goes_if, goes_on, told_temp, sends_whole, told_named, told_whole, told_way, told_stored, denied, took, drops, took_if, denied_if, got_message, got_fault, got_step, Names, Reads, BadPeer, ClientStep, Ended, Outcome, Fetch, Local, ReadCall, Stage, Store, StoreCall, Task, Way}
+use Rattle.kept_promise.proofs.Naming.{some_call}
 
 -- ---- what is said
 
@@ -68,9 +40,8 @@ IsLeft s file r = (r.0.next ≤ s.next + calls_most) × Leaves s.opened r.0.open
 -- ---- how many calls go out
 
 less_by : (a b : ℕ) → a - b ≤ a
-less_by a zero = omega arith
-less_by zero (suc b) = omega arith
 less_by (suc a) (suc b) = let h = less_by a b in omega (arith, h)
+less_by _ _ = omega arith
 
 reads_next_most : (file : ℕ) (r : Reads) (o : Option Chunk) → (reads_next file r o).next ≤ r.next + 1
 reads_next_most file r None = omega arith
@@ -115,9 +86,6 @@ none_named st next e = by (names_all st next).store.under e (names_more_most (ca
     by (u ∷ us) e n = absurd cc
 
 -- ---- an open's answers
-
-some_call : 1 ≤ calls_most
-some_call = omega arith
 
 refused_left : (s : client.State) (calls : List Pending) (file xid : ℕ) (t : Status) → IsLeft s file (refused s calls xid t)
 refused_left s calls file xid t = (omega arith, refl)
@@ -246,8 +214,7 @@ denied_if_left s None xid r own = drops_left s None 0 xid (client.has_call s.for
 got_left : (s : client.State) (o : Option Task) (m : Message) → IsLeft s (file_in o) (got_message s o m)
 got_left s o (message.Answer xid b) = took_if_left s o xid b (client.has_call (client.pending o) xid)
 got_left s o (message.Refuse xid r) = denied_if_left s o xid r (client.has_call (client.pending o) xid)
-got_left s o (message.Unfit xid r) = (omega arith, refl)
-got_left s o (message.Call xid b) = (omega arith, refl)
+got_left s o _ = (omega arith, refl)
 
 fault_came_left : (s : client.State) (o : Option Task) (e : WireFault) → IsLeft s (file_in o) (got_fault s o e)
 fault_came_left s (Some t) e = (omega arith, refl)
@@ -270,11 +237,9 @@ drops_idle s xid true = (refl, refl, refl)
 drops_idle s xid false = (refl, refl, refl)
 
 idle_by : (s : client.State) (m : Result Message WireFault) → IsIdle s (elim m [ Ok m ↦ got_message s None m | Err e ↦ got_fault s None e ])
-idle_by s (Err e) = (refl, refl, refl)
 idle_by s (Ok (message.Answer xid b)) = drops_idle s xid (client.has_call s.forgotten xid)
 idle_by s (Ok (message.Refuse xid r)) = drops_idle s xid (client.has_call s.forgotten xid)
-idle_by s (Ok (message.Unfit xid r)) = (refl, refl, refl)
-idle_by s (Ok (message.Call xid b)) = (refl, refl, refl)
+idle_by s _ = (refl, refl, refl)
 
 pub step_idle : (s : client.State) (m : Result Message WireFault) (now : ℕ) → s.task ≡ None → (let r = got_step s m now in (r.0.next ≡ s.next) × (r.0.opened ≡ s.opened) × (r.1.ended ≡ None))
 step_idle s (Ok m) now e = subst (λ (o : Option Task). IsIdle s (got_message s o m)) (sym e) (idle_by s (Ok m))

@@ -1,59 +1,34 @@
 -- A session that its client left gets no new COMMITTMP, and remembers the close that it did.
-use Rattle.std.proofs.Common.{◌⊎◌, inl, inr, ◌≡◌, ℕ, zero, suc, ◌+◌, ◌<◌, ◌≤◌, List, [], ◌∷◌, ◌++◌, length, Option, Some, None, Bool, true, false, refl, sym, ap, ◌∙◌, subst, arith, append-nil, eq-eqb, ne_eqb}
+use Rattle.std.proofs.Common.{◌⊎◌, inl, inr, ◌≡◌, ℕ, zero, suc, ◌+◌, ◌<◌, ◌≤◌, List, [], ◌∷◌, ◌++◌, length, Option, Some, None, Bool, true, false, refl, sym, ap, ◌∙◌, subst, arith, append-nil, eq-eqb, ne_eqb, map, Result, Ok, Err}
 use Rattle.std.proofs.lemmas.List.{length-append}
-use Rattle.std.specs.Prelude.{map, not, cond, filter, ◌==◌, nat_lt, Result, Ok, Err, if◌then◌else◌}
-use Rattle.command_text.specs.Content.{content_length, content_bytes}
-use Rattle.command_text.specs.declared.command.Command.{Command}
 use Rattle.command_text.specs.declared.command.Command.TheVariants as command
-use Rattle.xdr_codec.specs.declared.answer.Answer.TheVariants.{Failed}
-use Rattle.xdr_codec.specs.declared.status.Status.{Status}
 use Rattle.xdr_codec.specs.declared.status.Status.TheVariants as status
 use Rattle.hash_calls.specs.declared.call.Commit.{Commit as Commits}
-use Rattle.hash_calls.specs.declared.call.TempPiece.{TempPiece}
 use Rattle.hash_calls.specs.declared.message.Lb.TheVariants as lb
 use Rattle.nfs3_calls.specs.declared.message.Nfs.TheVariants as nfs
-use Rattle.wire.specs.Parse.{parse_of}
-use Rattle.wire.specs.declared.message.Body.{Body}
 use Rattle.wire.specs.declared.message.Body.TheVariants as body
-use Rattle.wire.specs.declared.message.Message.{Message}
 use Rattle.wire.specs.declared.message.Message.TheVariants as message
 use Rattle.server_core.specs.State as server
-use Rattle.server_core.specs.Answers.{Node, root, file, node_of}
 use Rattle.server_core.specs.Closing as closing
-use Rattle.server_core.specs.Closing.{makes_unless, makes, room_fault, writes_unless, writes, has_waiting, is_full, commits_whole, commits_to, commits, makes_change}
-use Rattle.server_core.specs.Step.{called, got, got_if, stands, server_step, connect, has_room}
+use Rattle.server_core.specs.Closing.{writes}
 use Rattle.server_core.specs.Step as stepping
-use Rattle.server_core.specs.Temps.{Temp, temp_at, assembled, size_most}
-use Rattle.server_core.specs.declared.change.Change.{Change}
-use Rattle.server_core.specs.declared.file.File.{File}
 use Rattle.open_close.specs.State as client
-use Rattle.open_close.specs.Counting.{ends}
-use Rattle.open_close.specs.Local.{local_most, written_size, written, truncated}
-use Rattle.open_close.specs.Step.{is_open, may_ask, asks_hashes, opens_if, opens, on_local, done_with, too_big, edits, writes as writes_local, truncates, reads, abandons, asks_temp, closes, command_step, cut, ended_by}
-use Rattle.open_close.specs.declared.step.ClientStep.{ClientStep}
-use Rattle.open_close.specs.declared.step.Ended.{Ended}
+use Rattle.open_close.specs.Step.{writes as writes_local}
 use Rattle.open_close.specs.declared.step.Outcome.TheVariants as outcome
-use Rattle.open_close.specs.declared.task.Local.{Local}
-use Rattle.open_close.specs.declared.task.Task.{Task}
-use Rattle.register_model.specs.declared.op.Opening.{Opening}
-use Rattle.register_model.specs.declared.op.Word.{Word}
 use Rattle.register_model.specs.declared.op.Word.TheVariants as words
-use Rattle.trace_replay.specs.Commands.{word_of}
-use Rattle.trace_replay.specs.Core.{Core, Seat, Session, Event, Event.Joins, Event.Does, Event.Serves, Event.Hears, Event.Settles, Event.Cuts, Event.Hangs, Turned, numbered, with_numbered, server_waiting, session_of, serves_if, serves, is_newest, hears_if, hears_at, hears, commanded_session, commanded_sessions, does, joins_as, joins, settles, cut_session, cuts_if, cuts, hangs_if, hangs, happens}
-use Rattle.trace_replay.specs.Ops.{closing_with}
-use Rattle.trace_replay.specs.Trail.{Moment}
-use Rattle.trace_replay.specs.World.{unless}
-use Rattle.kept_promise.specs.Talk.{Call, Call.Hash, Call.Read, Call.Make, Call.Name, Call.Send, Call.Commit, Ask, Told, Queue, ask_message}
+use Rattle.kept_promise.proofs.Common.{not, cond, filter, ◌==◌, nat_lt, if◌then◌else◌, content_length, content_bytes, Command, Failed, Status, TempPiece, parse_of, Body, Message, Node, root, file, node_of, makes_unless, makes, writes_unless, has_waiting, is_full, commits_whole, commits_to, commits, makes_change, room_fault, Temp, temp_at, assembled, called, got_if, stands, connect, has_room, size_most, Change, File, ends, local_most, written_size, written, truncated, is_open, may_ask, asks_hashes, opens_if, opens, on_local, done_with, too_big, edits, truncates, reads, abandons, asks_temp, closes, command_step, ended_by, ClientStep, Ended, Local, Task, Opening, Word, word_of, Core, Seat, Session, Event, Event.Joins, Event.Does, Event.Serves, Event.Hears, Event.Settles, Event.Cuts, Event.Hangs, CoreStep, numbered, with_numbered, server_waiting, session_of, serves_if, serves, is_newest, hears_if, hears_at, hears, commanded_session, commanded_sessions, does, joins_as, joins, settles, cut_session, cuts_if, cuts, hangs_if, hangs, happens, closing_with, Moment, unless, Call, Call.Commit, Ask, Told, Queue, ask_message}
 use Rattle.kept_promise.proofs.Statements.{CallFits}
-use Rattle.kept_promise.proofs.Lists.{some_is, nothing_there, same_or_not, within}
+use Rattle.kept_promise.proofs.Lists.{some_is, nothing_there, same_or_not, set_count, true_and_false}
 use Rattle.kept_promise.proofs.Keys.{own}
 use Rattle.kept_promise.proofs.Messages.{AllAsks}
 use Rattle.kept_promise.proofs.Fits.{FitLaws}
-use Rattle.kept_promise.proofs.Turns.{set_count, also_numbered}
+use Rattle.kept_promise.proofs.Turns.{also_numbered, numbered_within}
 use Rattle.kept_promise.proofs.Facts.{IsKept, commits_in}
 use Rattle.kept_promise.proofs.Leading.{Sends, ups_put, queues_lost, queues_after}
 use Rattle.kept_promise.proofs.RunsCarried.{book_at, Finds, Step}
 use Rattle.kept_promise.proofs.QueuedCommits.{QueuesHave, AllOf, of_with, of_more, have_with, have_ups, have_downs, have_lost}
+use Rattle.kept_promise.proofs.Commits.{own_more, own_there}
+use Rattle.kept_promise.proofs.Takes.{commits_tail}
 
 -- ---- a client that isn't joined sends nothing, and answers at once
 
@@ -105,16 +80,13 @@ command_silent s (command.Abandon f) now off = local_silent s s.task (client.loc
 left_off : (opening : List Opening) (all : List Moment) (k : Core) (qs : List Queue) (c n : ℕ) (seat : Seat) (x : Session) → IsKept (book_at opening k all) k qs → numbered k.seats c ≡ Some seat → seat.session ≡ Some n → numbered k.sessions n ≡ Some x → x.cut ≡ true → seat.client.linked ≡ false
 left_off opening all k qs c n seat x kept here newest at gone = by seat.client.linked refl
   where
-    not_both : (b : Bool) → b ≡ true → b ≡ false → ⊥
-    not_both b e d = absurd cc
-
     by : (b : Bool) → seat.client.linked ≡ b → b ≡ false
     by false e = refl
     by true e =
         let l = (kept.seats c seat here).linked e in
         let same : l.0 ≡ n = some_is l.0 n (sym l.2 ∙ newest) in
         let is : l.1 ≡ x = some_is l.1 x (sym l.3 ∙ ap (numbered k.sessions) same ∙ at) in
-        absurd (not_both x.cut gone (ap (λ (z : Session). z.cut) (sym is) ∙ l.4))
+        absurd (true_and_false x.cut gone (ap (λ (z : Session). z.cut) (sym is) ∙ l.4))
 
 closing_stays : (c : Option ℕ) (place : ℕ) (w : Word) (o : Option Ended) (e : Ended) → o ≡ Some e → closing_with c place w o ≡ c
 closing_stays c place w o e is = ap (closing_with c place w) is ∙ by w
@@ -138,9 +110,8 @@ whole_waits s n xid id None = inl refl
 whole_waits s n xid id (Some content) = by (has_waiting s.waiting n) (is_full s (length content))
   where
     by : (a b : Bool) → Waits s.waiting n (Unit {0}) (if a then closing.answers s n xid (lb.CommitTmpAnswer (Failed status.Jukebox tt)) else if b then closing.answers s n xid (lb.CommitTmpAnswer (Failed status.NoSpc tt)) else (record s { waiting = s.waiting ++ record { session = n; xid = xid; file = id; content = content } ∷ [] }, closing.sends [])).0.waiting
-    by true b = inl refl
-    by false true = inl refl
     by false false = inr (record { session = n; xid = xid; file = id; content = content }, refl, refl, tt)
+    by _ _ = inl refl
 
 to_waits : (s : server.State) (n xid size : ℕ) (t : Temp) (r : Result Node Status) → Waits s.waiting n (Unit {0}) (commits_to s n xid size t r).0.waiting
 to_waits s n xid size t (Err e) = inl refl
@@ -153,7 +124,7 @@ to_waits s n xid size t (Ok (file f)) = by (nat_lt size_most size)
 
 commits_wait : (s : server.State) (n xid : ℕ) (a : Commits) (o : Option Temp) → Waits s.waiting n (Unit {0}) (commits s n xid a o).0.waiting
 commits_wait s n xid a None = inl refl
-commits_wait s n xid a (Some t) = to_waits (record s { temps = Rattle.server_core.specs.Temps.without_temp s.temps n a.fd }) n xid a.size t (node_of s.files a.handle)
+commits_wait s n xid a (Some t) = to_waits (record s { temps = Rattle.temp_files.specs.Temps.without_temp s.temps n a.fd }) n xid a.size t (node_of s.files a.handle)
 
 makes_wait : (s : server.State) (n xid number : ℕ) (r : Result Node Status) → (makes s n xid number r).0.waiting ≡ s.waiting
 makes_wait s n xid number (Err e) = refl
@@ -192,19 +163,8 @@ got_waits s n now (message.Refuse xid why) true = inl refl
 
 -- ---- changes of a session
 
-own_append : (n : ℕ) (ws : List Change) (c : Change) → own n (ws ++ c ∷ []) ≡ own n ws ++ own n (c ∷ [])
-own_append n [] c = refl
-own_append n (w ∷ ws) c = by (w.session == n) (own_append n ws c)
-  where
-    by : (b : Bool) → own n (ws ++ c ∷ []) ≡ own n ws ++ own n (c ∷ []) → cond b (w ∷ own n (ws ++ c ∷ [])) (own n (ws ++ c ∷ [])) ≡ cond b (w ∷ own n ws) (own n ws) ++ own n (c ∷ [])
-    by true e = ap (λ l. w ∷ l) e
-    by false e = e
-
-own_other : (n : ℕ) (ws : List Change) (c : Change) → (c.session ≡ n → ⊥) → own n (ws ++ c ∷ []) ≡ own n ws
-own_other n ws c apart = own_append n ws c ∙ ap (λ b. own n ws ++ cond b (c ∷ []) []) (ne_eqb c.session n apart) ∙ append-nil (own n ws)
-
 own_one : (n : ℕ) (ws : List Change) (c : Change) → length (own n (ws ++ c ∷ [])) ≤ length (own n ws) + 1
-own_one n ws c = let e = ap (λ (l : List Change). length l) (own_append n ws c) in let l = length-append (own n ws) (own n (c ∷ [])) in let s = single (c.session == n) in omega (arith, e, l, s)
+own_one n ws c = let e = ap (λ (l : List Change). length l) (own_more n ws c) in let l = length-append (own n ws) (own n (c ∷ [])) in let s = single (c.session == n) in omega (arith, e, l, s)
   where
     single : (b : Bool) → length (cond b (c ∷ []) []) ≤ 1
     single true = omega arith
@@ -256,7 +216,7 @@ abbrev LeftSo : Core → List Queue → Core → (n : ℕ) → Queue → Type 0
 LeftSo k qs after n r = (y : Session) → numbered after.sessions n ≡ Some y → y.cut ≡ true → CommitsWere k qs after.server.waiting n r
 
 -- what an event is to show
-record Leaves (k : Core) (qs mid : List Queue) (t : Turned) : Type 0 where
+record Leaves (k : Core) (qs mid : List Queue) (t : CoreStep) : Type 0 where
   were : SessionsWere k t.core.sessions
   count : length mid ≡ length qs
   taken : QueuesHave (LeftSo k qs t.core) mid
@@ -266,15 +226,11 @@ no_asks : (us : List Ask) → [] ≡ map ask_message us → us ≡ []
 no_asks [] e = refl
 no_asks (a ∷ us) e = absurd cc
 
-numbered_within : {A : Type 0} (xs : List A) (n : ℕ) (x : A) → numbered xs n ≡ Some x → n ≤ length xs
-numbered_within xs zero x e = omega arith
-numbered_within xs (suc n) x e = let lt = within xs n x e in omega (arith, lt)
-
 nothing_put : (b : Bool) (us asks : List Ask) → asks ≡ [] → unless b us asks ≡ us
 nothing_put true us asks e = refl
 nothing_put false us asks e = ap (λ l. us ++ l) e ∙ append-nil us
 
-left_after : (k : Core) (qs mid : List Queue) (t : Turned) (s : Sends t) → length qs ≡ length k.sessions → Leaves k qs mid t → QueuesHave (LeftSo k qs t.core) (queues_after mid t s)
+left_after : (k : Core) (qs mid : List Queue) (t : CoreStep) (s : Sends t) → length qs ≡ length k.sessions → Leaves k qs mid t → QueuesHave (LeftSo k qs t.core) (queues_after mid t s)
 left_after k qs mid t s made l =
     let P = LeftSo k qs t.core in
     let one = have_lost P mid t.loss l.taken (λ y at gone. let x = l.were (suc (length mid)) y at gone in let w = numbered_within k.sessions (suc (length mid)) x.0 x.1 in let c = l.count in absurd (omega (arith, w, c, made))) (λ n q h. h)
@@ -292,14 +248,14 @@ left_after k qs mid t s made l =
     all_units (p ∷ ps) = (tt, all_units ps)
 
 -- nothing is taken, and no more waits
-taken_none : (k : Core) (qs mid : List Queue) (t : Turned) → mid ≡ qs → ((n : ℕ) → length (own n t.core.server.waiting) ≤ length (own n k.server.waiting)) → QueuesHave (LeftSo k qs t.core) mid
+taken_none : (k : Core) (qs mid : List Queue) (t : CoreStep) → mid ≡ qs → ((n : ℕ) → length (own n t.core.server.waiting) ≤ length (own n k.server.waiting)) → QueuesHave (LeftSo k qs t.core) mid
 taken_none k qs mid t same less n q at y is gone = let le = less n in (q, ap (λ (l : List Queue). numbered l n) (sym same) ∙ at, omega (arith, le))
 
 no_less : (k : Core) (after : Core) → after.server.waiting ≡ k.server.waiting → (n : ℕ) → length (own n after.server.waiting) ≤ length (own n k.server.waiting)
 no_less k after same n = let e = ap (λ ws. length (own n ws)) same in omega (arith, e)
 
 -- with no session that sends up, where nothing is taken
-leaves_plain : (k : Core) (qs mid : List Queue) (t : Turned) → SessionsWere k t.core.sessions → mid ≡ qs → t.session ≡ None → ((n : ℕ) → length (own n t.core.server.waiting) ≤ length (own n k.server.waiting)) → Leaves k qs mid t
+leaves_plain : (k : Core) (qs mid : List Queue) (t : CoreStep) → SessionsWere k t.core.sessions → mid ≡ qs → t.session ≡ None → ((n : ℕ) → length (own n t.core.server.waiting) ≤ length (own n k.server.waiting)) → Leaves k qs mid t
 leaves_plain k qs mid t were same none less = record { were = were; count = ap (λ (l : List Queue). length l) same; taken = taken_none k qs mid t same less; quiet = λ n y is at gone. nothing_there n (sym none ∙ is) }
 
 -- ---- each event
@@ -356,9 +312,8 @@ leaves_cuts : (k : Core) (qs mid : List Queue) (c : ℕ) → mid ≡ qs → Leav
 leaves_cuts k qs mid c same = by (numbered k.seats c)
   where
     cut_were : (o : Option ℕ) (x : Option Session) → session_of k.sessions o ≡ x → SessionsWere k (cut_session k.sessions o x)
-    cut_were None x e = were_same k
-    cut_were (Some m) None e = were_same k
     cut_were (Some m) (Some x) e = were_with k m x (record x { cut = true }) e refl
+    cut_were _ _ e = were_same k
 
     by_linked : (seat : Seat) (b : Bool) → Leaves k qs mid (cuts_if k c seat b)
     by_linked seat false = leaves_plain k qs mid _ (were_same k) same refl (λ n. omega arith)
@@ -413,10 +368,10 @@ leaves_hears opening all k qs mid m now bytes kept f = by (numbered k.sessions m
         with_count xs zero x = refl
         with_count xs (suc i) x = set_count xs i x
 
-    heard : (t : Turned) → t.core.server.waiting ≡ k.server.waiting → QueuesHave (LeftSo k qs t.core) mid
+    heard : (t : CoreStep) → t.core.server.waiting ≡ k.server.waiting → QueuesHave (LeftSo k qs t.core) mid
     heard t waiting = subst (QueuesHave (LeftSo k qs t.core)) (sym f.6) (have_with (LeftSo k qs t.core) qs m (record f.0 { downs = f.2 }) (taken_none k qs qs t refl (no_less k t.core waiting)) (λ y at gone. let le = no_less k t.core waiting m in (f.0, f.3, omega (arith, le))))
 
-    plain : (t : Turned) → t.core ≡ k → t.session ≡ None → Leaves k qs mid t
+    plain : (t : CoreStep) → t.core ≡ k → t.session ≡ None → Leaves k qs mid t
     plain t core none = record { were = subst (λ (z : Core). SessionsWere k z.sessions) (sym core) (were_same k); count = count_with; taken = heard t (ap (λ (z : Core). z.server.waiting) core); quiet = λ n y is at gone. nothing_there n (sym none ∙ is) }
 
     full : (x : Session) → numbered k.sessions m ≡ Some x → x.cut ≡ true → ⊥
@@ -470,30 +425,15 @@ leaves_serves laws opening all k qs mid m now bytes kept f =
       where
         by : (c : Call) → IsCommitCall (ask_message (record { xid = a.xid; call = c })) → commits_in (record { xid = a.xid; call = c } ∷ us) ≡ suc (commits_in us)
         by (Commit temp g size) h = refl
-        by (Hash g offset) h = absurd h
-        by (Read g d) h = absurd h
-        by (Make temp g) h = absurd h
-        by (Name temp d) h = absurd h
-        by (Send temp start b) h = absurd h
-
-    no_more : (a : Ask) (us : List Ask) → commits_in us ≤ commits_in (a ∷ us)
-    no_more a us = by a.call
-      where
-        by : (c : Call) → commits_in us ≤ commits_in (record { xid = a.xid; call = c } ∷ us)
-        by (Commit temp g size) = omega arith
-        by (Hash g offset) = omega arith
-        by (Read g d) = omega arith
-        by (Make temp g) = omega arith
-        by (Name temp d) = omega arith
-        by (Send temp start b) = omega arith
+        by _ h = absurd h
 
     same_there : (after : List Change) → Waits k.server.waiting m (IsCommitCall (ask_message f.1)) after → commits_in f.2 + length (own m after) ≤ commits_in f.0.ups + length (own m k.server.waiting)
-    same_there after (inl e) = let w = ap (λ ws. length (own m ws)) e in let n = no_more f.1 f.2 in let u = ap commits_in f.4 in omega (arith, w, n, u)
+    same_there after (inl e) = let w = ap (λ ws. length (own m ws)) e in let n = commits_tail f.1 f.2 in let u = ap commits_in f.4 in omega (arith, w, n, u)
     same_there after (inr c) = let w = ap (λ ws. length (own m ws)) c.2 in let l = own_one m k.server.waiting c.0 in let n = one_less f.1 f.2 c.3 in let u = ap commits_in f.4 in omega (arith, w, l, n, u)
 
     same_else : (after : List Change) (n : ℕ) → (n ≡ m → ⊥) → Waits k.server.waiting m (IsCommitCall (ask_message f.1)) after → length (own n after) ≤ length (own n k.server.waiting)
     same_else after n apart (inl e) = let w = ap (λ ws. length (own n ws)) e in omega (arith, w)
-    same_else after n apart (inr c) = let w = ap (λ ws. length (own n ws)) (c.2) in let o = ap (λ (l : List Change). length l) (own_other n k.server.waiting c.0 (λ e. apart (sym e ∙ c.1))) in omega (arith, w, o)
+    same_else after n apart (inr c) = let w = ap (λ ws. length (own n ws)) (c.2) in let o = ap (λ (l : List Change). length l) (own_there n k.server.waiting c.0 (λ e. apart (sym e ∙ c.1))) in omega (arith, w, o)
 
     by : (x : Session) → numbered k.sessions m ≡ Some x → Waits k.server.waiting m (IsCommitCall (ask_message f.1)) (got_if k.server (stands k.server m) m (ask_message f.1) now).0.waiting → Leaves k qs mid (serves_if k m now x (Ok (ask_message f.1)))
     by x at waits =

@@ -1,5 +1,12 @@
+pub mod Common
 pub mod Statements
 pub mod Lists
+pub mod Logs
+pub mod LogEvents
+pub mod ClosesLog
+pub mod OpensLog
+pub mod MetLog
+pub mod OwnLog
 pub mod Marks
 pub mod Rights
 pub mod Growth
@@ -49,6 +56,7 @@ pub mod Listings
 pub mod OpenSteps
 pub mod ReadSteps
 pub mod Bytes
+pub mod Places
 pub mod Deliveries
 pub mod Rounds
 pub mod Spelled
@@ -69,6 +77,7 @@ pub mod RunsQueues
 pub mod RunsEvents
 pub mod RunsDeliveries
 pub mod RunsFirst
+pub mod RunsResults
 pub mod RunsLines
 pub mod RunsTurns
 pub mod Runs
@@ -79,6 +88,7 @@ pub mod StepsCount
 pub mod RunsMessages
 pub mod Whole
 pub mod Leaving
+pub mod Numbering
 pub mod Locally
 pub mod Deeds
 pub mod Answering
@@ -90,8 +100,10 @@ pub mod CutEnds
 pub mod Completed
 pub mod EndedWell
 pub mod Tallies
+pub mod TookCases
 pub mod Counted
 pub mod Actors
+pub mod CommandOps
 pub mod CountedRuns
 pub mod Promised
 pub mod Shapes
@@ -100,10 +112,11 @@ pub mod VersionRuns
 pub mod QueuedCommits
 pub mod LeftCommits
 pub mod StoreSteps
+pub mod JobFacts
 pub mod StoredRuns
 pub mod StoredEvents
 pub mod StoredWhole
-pub mod SettledRuns
+pub mod MadeRuns
 pub mod Promise
 pub mod Fetching
 pub mod OpenedSteps

@@ -1,36 +1,14 @@
 -- An open is told chunks: it asks for more of them, or for their bytes.
-use Rattle.std.proofs.Common.{◌⊎◌, inl, inr, ◌≡◌, ℕ, zero, suc, ◌+◌, ◌-◌, ◌*◌, ◌<◌, ◌≤◌, List, [], ◌∷◌, ◌++◌, length, Option, Some, None, Bool, true, false, refl, sym, ap, ◌∙◌, subst, arith, eqb-true}
-use Rattle.std.proofs.lemmas.Bool.Decides.{nat_tests}
-use Rattle.std.specs.Prelude.{slice_get, map, cond, ◌==◌, ◌&&◌, nat_lt, IsSome}
-use Rattle.sha1.specs.Sha1.{sha1}
-use Rattle.chunk_cut.specs.Chunks.{chunks_of}
-use Rattle.chunk_cut.specs.declared.chunk.Chunk.{Chunk}
-use Rattle.wire.specs.declared.message.Pending.{Pending}
+use Rattle.std.proofs.Common.{◌⊎◌, inl, inr, ◌≡◌, ℕ, suc, ◌+◌, ◌-◌, ◌*◌, ◌<◌, ◌≤◌, List, [], ◌∷◌, ◌++◌, length, Option, Some, None, Bool, true, false, refl, sym, ap, ◌∙◌, subst, arith, eqb-true, map, IsSome}
 use Rattle.open_close.specs.State as client
-use Rattle.open_close.specs.State.{read_pending}
-use Rattle.open_close.specs.Counting.{no_counts}
-use Rattle.open_close.specs.Opening.{is_none, is_here, reads_from, reads_all, calls_most, read_at, slots_bytes}
-use Rattle.open_close.specs.Step.{idle, reads_on, reads_if, opened_with}
-use Rattle.open_close.specs.declared.calls.Reads.{Reads}
+use Rattle.open_close.specs.Step.{opened_with}
 use Rattle.open_close.specs.declared.step.Outcome.TheVariants as outcome
-use Rattle.open_close.specs.declared.task.Fetch.{Fetch}
-use Rattle.open_close.specs.declared.task.Local.{Local}
-use Rattle.open_close.specs.declared.task.ReadCall.{ReadCall}
-use Rattle.open_close.specs.declared.task.Stage.{Stage}
 use Rattle.open_close.specs.declared.task.Stage.TheVariants as stage
-use Rattle.open_close.proofs.Locals.{local_at_itself, local_at_another}
-use Rattle.register_model.specs.Register.{content_of}
-use Rattle.register_model.specs.declared.op.Op.{Op}
 use Rattle.register_model.specs.declared.op.Outcome.TheVariants as told
-use Rattle.register_model.specs.declared.op.Traffic.{Traffic}
 use Rattle.register_model.specs.declared.op.Word.TheVariants as words
-use Rattle.trace_replay.specs.declared.link.Taken.{Taken}
-use Rattle.trace_replay.specs.Core.{Core, Session}
-use Rattle.trace_replay.specs.Ops.{has_point, point_if, counted}
-use Rattle.trace_replay.specs.Book.{Book, value_at}
-use Rattle.kept_promise.specs.Talk.{Call.Read, Ask, Told, Queue}
+use Rattle.kept_promise.proofs.Common.{nat_tests, slice_get, ◌==◌, ◌&&◌, nat_lt, sha1, chunks_of, Chunk, Pending, read_pending, no_counts, is_none, is_here, reads_from, reads_all, calls_most, read_at, slots_bytes, idle, reads_on, reads_if, Reads, Fetch, Local, ReadCall, Stage, local_at_itself, local_at_another, content_of, Op, Traffic, TakenCall, Core, Session, has_point, point_if, counted, Book, value_at, Call.Read, Ask, Told, Queue}
 use Rattle.kept_promise.proofs.Statements.{CallFits}
-use Rattle.kept_promise.proofs.Lists.{some_is, nothing_there, same_or_not, within}
+use Rattle.kept_promise.proofs.Lists.{some_is, nothing_there, same_or_not, within, in_front, of_both, there_at}
 use Rattle.kept_promise.proofs.Keys.{times}
 use Rattle.kept_promise.proofs.Messages.{Job, stage_word, IsAsked, read_chunk, chunk_for, IsFetch, IsReading, IsCommit, IsPiece, TempUnder}
 use Rattle.kept_promise.proofs.Growth.{or_later, value_later}
@@ -39,6 +17,7 @@ use Rattle.kept_promise.proofs.Taken.{times_map_append}
 use Rattle.kept_promise.proofs.Heard.{told_pending}
 use Rattle.kept_promise.proofs.Ordered.{IsFetching}
 use Rattle.kept_promise.proofs.Steps.{Here, session_at, Quiet, job_op, GoesOn, on, opens_in_order}
+use Rattle.kept_promise.proofs.Naming.{some_call}
 use Rattle.kept_promise.proofs.ReadCalls.{Sent, Ran, reads_run, sent_rising, sent_all, sent_count, sent_inside, sent_times, sent_note, sent_commits, read_found, read_front}
 use Rattle.kept_promise.proofs.Chunks.{row_of, link_at}
 use Rattle.kept_promise.proofs.Attempts.{fetch_few, Came, whole_length, whole_value}
@@ -47,7 +26,7 @@ use Rattle.kept_promise.proofs.Comes.{client_at, Comes, open_op, stops_open, tol
 use Rattle.kept_promise.proofs.Hashings.{file_small}
 
 -- a fetch of a job is that of its next stage
-abbrev pub fetch_on : (book : Book) (taken : List Taken) (j : Job) (s : Stage) (f : Fetch) → IsFetch book taken j f → IsFetch book taken (on j s) f
+abbrev pub fetch_on : (book : Book) (taken : List TakenCall) (j : Job) (s : Stage) (f : Fetch) → IsFetch book taken j f → IsFetch book taken (on j s) f
 fetch_on book taken j s f h = record {
   content = h.content;
   told = record { moment = h.told.moment; was = h.told.was; past = h.told.past; value = h.told.value; version_is = h.told.version_is; op = h.told.op; there = h.told.there; after = h.told.after; apart = h.told.apart };
@@ -88,21 +67,6 @@ get_past : {A : Type 0} (us vs : List A) (k : ℕ) (u : A) → slice_get vs k �
 get_past [] vs k u e = let z : 0 + k ≡ k = omega arith in ap (slice_get vs) z ∙ e
 get_past (x ∷ us) vs k u e = let z : suc (length us) + k ≡ suc (length us + k) = omega arith in ap (slice_get (x ∷ us ++ vs)) z ∙ get_past us vs k u e
 
-get_front : {A : Type 0} (us vs : List A) (k : ℕ) (u : A) → slice_get us k ≡ Some u → slice_get (us ++ vs) k ≡ Some u
-get_front [] vs k u e = nothing_there u e
-get_front (x ∷ us) vs zero u e = e
-get_front (x ∷ us) vs (suc k) u e = get_front us vs k u e
-
-get_or : {A : Type 0} (us vs : List A) (k : ℕ) (u : A) → slice_get (us ++ vs) k ≡ Some u → (slice_get us k ≡ Some u) ⊎ ((m : ℕ) × (slice_get vs m ≡ Some u))
-get_or [] vs k u e = inr (k, e)
-get_or (x ∷ us) vs zero u e = inl e
-get_or (x ∷ us) vs (suc k) u e = get_or us vs k u e
-
-there_at : {A : Type 0} (xs : List A) (k : ℕ) → k < length xs → (x : A) × (slice_get xs k ≡ Some x)
-there_at [] k lt = absurd (omega (arith, lt))
-there_at (x ∷ xs) zero lt = (x, refl)
-there_at (x ∷ xs) (suc k) lt = there_at xs k (omega (arith, lt))
-
 abbrev read_fetch : Fetch → List ReadCall → Fetch
 read_fetch f notes = record f { asked = f.asked + length notes; under = f.under ++ notes }
 
@@ -113,7 +77,7 @@ reading_more book v f file x y notes asks h s = record {
   slots = h.slots;
   came = h.came;
   asked = sent_inside file f.chunks x f.asked notes asks y h.asked s;
-  inside = λ k r e. elim (get_or f.under notes k r e) [
+  inside = λ k r e. elim (of_both f.under notes k r e) [
     | inl old ↦ let lt = h.inside k r old in omega (arith, lt)
     | inr new ↦ let note = (sent_note file f.chunks x f.asked notes asks y new.0 r s new.1).0 in let lt = within notes new.0 r new.1 in omega (arith, note, lt)
   ];
@@ -121,7 +85,7 @@ reading_more book v f file x y notes asks h s = record {
 }
   where
     by : (i : ℕ) (b : Bool) → nat_lt i f.asked ≡ b → i < f.asked + length notes → ((c : List ℕ) × (slice_get f.slots i ≡ Some (Some c))) ⊎ ((k : ℕ) × (r : ReadCall) × (slice_get (f.under ++ notes) k ≡ Some r) × (r.index ≡ i))
-    by i true less lt = elim (h.filled i (grind (arith, nat_tests, less))) [ inl here ↦ inl here | inr under ↦ inr (under.0, under.1, get_front f.under notes under.0 under.1 under.2, under.3) ]
+    by i true less lt = elim (h.filled i (grind (arith, nat_tests, less))) [ inl here ↦ inl here | inr under ↦ inr (under.0, under.1, in_front f.under notes under.0 under.1 under.2, under.3) ]
     by i false more lt =
         let le : f.asked ≤ i = grind (arith, nat_tests, more) in
         let r = there_at notes (i - f.asked) (omega (arith, le, lt)) in
@@ -132,8 +96,7 @@ reading_more book v f file x y notes asks h s = record {
 
 is_none_means : (us : List ReadCall) (b : Bool) → (is_none us && b) ≡ true → (us ≡ []) × (b ≡ true)
 is_none_means [] true e = (refl, refl)
-is_none_means [] false e = absurd cc
-is_none_means (u ∷ us) b e = absurd cc
+is_none_means _ _ e = absurd cc
 
 -- a file's content has come, as far as digests tell
 all_came : (book : Book) (v : List ℕ) (f : Fetch) → IsReading book v f → f.under ≡ [] → f.asked ≡ length f.chunks → Came book v (chunks_of v) f.slots
@@ -358,7 +321,8 @@ comes_reading book k qs n x q t ts j g f bytes fact may = by (is_here r.fetch) r
           let u = ap (λ (l : List ReadCall). length l) before.0 in
           let le = may.reading.asked in
           let at = there_at f.chunks f.asked (less r.fetch.asked (length r.fetch.chunks) f.asked (length f.chunks) short (let z : r.fetch.asked ≡ f.asked = omega (arith, a, d) in z) b le) in
-          let sent = ran.some (let z : 0 < most = omega (arith, u) in z) at.0 at.1 in
+          let one = some_call in
+          let sent = ran.some (let z : 0 < most = omega (arith, u, one) in z) at.0 at.1 in
           absurd (omega (arith, sent, d))
     ]
       where

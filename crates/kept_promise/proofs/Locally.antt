@@ -1,16 +1,10 @@
 -- What commands leave of a client's local contents, and which of them find it busy, as operations go on and end.
-use Rattle.std.proofs.Common.{◌⊎◌, inl, inr, ◌≡◌, ℕ, zero, suc, ◌<◌, List, [], ◌∷◌, ◌++◌, length, Option, Some, Bool, true, false, refl, sym, ap, ◌∙◌, arith, eq-eqb, ne_eqb}
-use Rattle.std.proofs.lemmas.Bool.Decides.{nat_tests}
-use Rattle.std.specs.Prelude.{slice_get, slice_set, take, ◌==◌, ◌&&◌, ◌||◌, nat_lt, if◌then◌else◌}
-use Rattle.register_model.specs.declared.op.Op.{Op}
+use Rattle.std.proofs.Common.{◌⊎◌, inl, inr, ◌≡◌, ℕ, zero, suc, ◌<◌, List, [], ◌∷◌, ◌++◌, length, Option, Some, Bool, true, false, refl, sym, ap, ◌∙◌, arith, eq-eqb, ne_eqb, take}
 use Rattle.register_model.specs.declared.op.Outcome.{Outcome}
 use Rattle.register_model.specs.declared.op.Outcome.TheVariants as told
-use Rattle.command_text.specs.declared.command.Command.{Command}
 use Rattle.command_text.specs.declared.command.Command.TheVariants as command
-use Rattle.trace_replay.specs.Commands.{file_of}
-use Rattle.trace_replay.specs.Trail.{Moment, Deed, step_of, deed_by, deeds_from, deeds_of, joined_by, joined_from}
-use Rattle.trace_replay.specs.Causes.{leaves, after_one, local_from, lasts, is_busy}
-use Rattle.kept_promise.proofs.Lists.{some_is, nothing_there}
+use Rattle.kept_promise.proofs.Common.{nat_tests, slice_get, slice_set, ◌==◌, ◌&&◌, ◌||◌, nat_lt, if◌then◌else◌, Op, Command, file_of, Moment, Deed, step_of, deed_by, deeds_from, deeds_of, joined_by, joined_from, leaves, after_one, local_from, lasts, is_busy}
+use Rattle.kept_promise.proofs.Lists.{some_is, nothing_there, true_and_false}
 
 -- ---- moments
 
@@ -44,10 +38,9 @@ joined_more c was (z ∷ past) m = joined_more c (joined_by c was z.event) past 
 -- ---- lists
 
 pub in_taken : {A : Type 0} (n i : ℕ) (xs : List A) (x : A) → slice_get (take n xs) i ≡ Some x → (i < n) × (slice_get xs i ≡ Some x)
-in_taken zero i xs x e = nothing_there x e
-in_taken (suc n) i [] x e = nothing_there x e
 in_taken (suc n) zero (y ∷ xs) x e = (omega arith, e)
 in_taken (suc n) (suc i) (y ∷ xs) x e = let h = in_taken n i xs x e in let lt = h.0 in (omega (arith, lt), h.1)
+in_taken _ i _ x e = nothing_there x e
 
 -- ---- local contents
 
@@ -59,11 +52,10 @@ abbrev AllSame : (c f : ℕ) → List Deed → List Op → List Op → Type 0
 AllSame c f ds os rs = (i : ℕ) (d : Deed) (o r : Op) → slice_get ds i ≡ Some d → slice_get os i ≡ Some o → slice_get rs i ≡ Some r → LeavesSame c f d o r
 
 pub local_same : (c f : ℕ) (l : Option (List ℕ)) (ds : List Deed) (os rs : List Op) → length os ≡ length rs → AllSame c f ds os rs → local_from c f l ds rs ≡ local_from c f l ds os
-local_same c f l [] os rs n h = refl
-local_same c f l (d ∷ ds) [] [] n h = refl
 local_same c f l (d ∷ ds) [] (r ∷ rs) n h = absurd (omega (arith, n))
 local_same c f l (d ∷ ds) (o ∷ os) [] n h = absurd (omega (arith, n))
 local_same c f l (d ∷ ds) (o ∷ os) (r ∷ rs) n h = ap (λ (z : Option (List ℕ)). local_from c f z ds rs) (h 0 d o r refl refl refl l) ∙ local_same c f (after_one c f d o l) ds os rs (omega (arith, n)) (λ i e p q a b k. h (suc i) e p q a b k)
+local_same c f l _ _ _ n h = refl
 
 -- one that leaves nothing else
 abbrev pub Idles : (c f : ℕ) → Deed → Op → Type 0
@@ -73,9 +65,8 @@ abbrev pub AllIdle : (c f : ℕ) → List Deed → List Op → Type 0
 AllIdle c f ds os = (i : ℕ) (d : Deed) (o : Op) → slice_get ds i ≡ Some d → slice_get os i ≡ Some o → Idles c f d o
 
 local_idle : (c f : ℕ) (l : Option (List ℕ)) (ds : List Deed) (os : List Op) → AllIdle c f ds os → local_from c f l ds os ≡ l
-local_idle c f l [] os h = refl
-local_idle c f l (d ∷ ds) [] h = refl
 local_idle c f l (d ∷ ds) (o ∷ os) h = ap (λ (z : Option (List ℕ)). local_from c f z ds os) (h 0 d o refl refl l) ∙ local_idle c f l ds os (λ i e p a b. h (suc i) e p a b)
+local_idle c f l _ _ h = refl
 
 -- One that ends late: none behind it left anything, and it left nothing as long as it was under way.
 pub local_late : (c f : ℕ) (l : Option (List ℕ)) (ds : List Deed) (os : List Op) (p : ℕ) (d : Deed) (o r : Op) → slice_get ds p ≡ Some d → slice_get os p ≡ Some o → Idles c f d o → ((i : ℕ) (e : Deed) (q : Op) → p < i → slice_get ds i ≡ Some e → slice_get os i ≡ Some q → Idles c f e q)
@@ -93,9 +84,8 @@ local_late c f l (e ∷ ds) (q ∷ os) (suc p) d o r at is idle later = local_la
 -- one command more
 pub local_more : (c f : ℕ) (l : Option (List ℕ)) (ds : List Deed) (os : List Op) (d : Deed) (o : Op) → length os ≡ length ds → local_from c f l (ds ++ d ∷ []) (os ++ o ∷ []) ≡ after_one c f d o (local_from c f l ds os)
 local_more c f l [] [] d o n = refl
-local_more c f l [] (q ∷ os) d o n = absurd (omega (arith, n))
-local_more c f l (e ∷ ds) [] d o n = absurd (omega (arith, n))
 local_more c f l (e ∷ ds) (q ∷ os) d o n = local_more c f (after_one c f e q l) ds os d o (omega (arith, n))
+local_more c f l _ _ d o n = absurd (omega (arith, n))
 
 -- ---- a command of another client, or on another file
 
@@ -167,18 +157,14 @@ pub free_each : (ops : List Op) (o : Op) (i : ℕ) (q : Op) → is_busy ops o �
 free_each ops o i q e at = by (keeps o q) refl
   where
     by : (b : Bool) → keeps o q ≡ b → b ≡ false
-    by true is = absurd (not_both (is_busy ops o) (busy_by ops o i q at is) e)
-      where
-        not_both : (b : Bool) → b ≡ true → b ≡ false → ⊥
-        not_both b e d = absurd cc
+    by true is = absurd (true_and_false (is_busy ops o) (busy_by ops o i q at is) e)
     by false is = refl
 
 -- the same where each keeps it busy as before
 pub busy_same : (ops rs : List Op) (o r : Op) → length ops ≡ length rs → ((i : ℕ) (p q : Op) → slice_get ops i ≡ Some p → slice_get rs i ≡ Some q → keeps r q ≡ keeps o p) → is_busy rs r ≡ is_busy ops o
 busy_same [] [] o r n h = refl
-busy_same [] (q ∷ rs) o r n h = absurd (omega (arith, n))
-busy_same (p ∷ ops) [] o r n h = absurd (omega (arith, n))
 busy_same (p ∷ ops) (q ∷ rs) o r n h = ap (λ b. b || is_busy rs r) (h 0 p q refl refl) ∙ ap (λ b. keeps o p || b) (busy_same ops rs o r (omega (arith, n)) (λ i a b at is. h (suc i) a b at is))
+busy_same _ _ o r n h = absurd (omega (arith, n))
 
 pub busy_more : (ops : List Op) (o new : Op) → keeps o new ≡ false → is_busy (ops ++ new ∷ []) o ≡ is_busy ops o
 busy_more [] o new e = ap (λ b. b || false) e
@@ -190,9 +176,7 @@ keeps_is o q e = by (q.client == o.client) (nat_lt q.begin o.begin) (lasts q.end
   where
     by : (a b c : Bool) → (q.client == o.client) ≡ a → nat_lt q.begin o.begin ≡ b → lasts q.end o.begin ≡ c → (a && (b && c)) ≡ true → (q.client ≡ o.client) × (q.begin < o.begin) × (lasts q.end o.begin ≡ true)
     by true true true x y z e = (grind (arith, nat_tests, x), grind (arith, nat_tests, y), z)
-    by true true false x y z e = absurd cc
-    by true false c x y z e = absurd cc
-    by false b c x y z e = absurd cc
+    by _ _ _ x y z e = absurd cc
 
 pub keeps_if : (o q : Op) → q.client ≡ o.client → q.begin < o.begin → lasts q.end o.begin ≡ true → keeps o q ≡ true
 keeps_if o q a b c = ap (λ x. x && (nat_lt q.begin o.begin && lasts q.end o.begin)) (eq-eqb q.client o.client a) ∙ (let lt : nat_lt q.begin o.begin ≡ true = grind (arith, nat_tests, b) in ap (λ x. x && lasts q.end o.begin) lt) ∙ c

@@ -1,14 +1,9 @@
 -- What a file is at a moment, and in which version, by the marks that changes left: a value, and its point.
-use Rattle.std.proofs.Common.{◌≡◌, ℕ, zero, suc, ◌+◌, ◌<◌, ◌≤◌, List, [], ◌∷◌, ◌++◌, ◌⊎◌, inl, inr, Option, Some, None, Bool, true, false, length, refl, sym, ap, ◌∙◌, subst, arith, lt-ltb, le-ltb, ne_eqb, eq-eqb}
-use Rattle.std.proofs.lemmas.Bool.Decides.{nat_tests}
-use Rattle.std.specs.Prelude.{slice_get, slice_set, cond, ◌==◌, ◌&&◌, nat_lt, filter, map, unwrap_or}
-use Rattle.std.specs.Option.{option_map, option_map_or}
-use Rattle.register_model.specs.Register.{History, Value, changes, value_from, changed_before, later, latest, content_of, value_after, value_at_first, value_at}
-use Rattle.register_model.specs.declared.op.Op.{Op}
-use Rattle.register_model.specs.declared.op.Opening.{Opening}
-use Rattle.register_model.specs.declared.op.Word.{Word}
-use Rattle.register_model.specs.declared.op.Word.TheVariants as word
-use Rattle.kept_promise.proofs.Lists.{some_is, nothing_there, at_replaced}
+use Rattle.std.proofs.Common.{◌≡◌, ℕ, zero, suc, ◌<◌, ◌≤◌, List, [], ◌∷◌, ◌++◌, Option, Some, None, Bool, true, false, length, refl, sym, ap, ◌∙◌, subst, arith, lt-ltb, le-ltb, ne_eqb, eq-eqb, map}
+use Rattle.std.specs.Option.{option_map}
+use Rattle.register_model.specs.Register.{History, later, value_at_first, value_at}
+use Rattle.kept_promise.proofs.Common.{nat_tests, slice_get, slice_set, cond, ◌==◌, ◌&&◌, nat_lt, filter, unwrap_or, option_map_or, Value, changes, value_from, changed_before, latest, value_after, Op}
+use Rattle.kept_promise.proofs.Lists.{some_is, nothing_there}
 
 -- the point of a change, and what it leaves of its file
 abbrev pub Mark : Type 0
@@ -241,8 +236,7 @@ still_changed f p q o le x y = both (changes o.word && (o.file == f)) o.point x 
   where
     both : (a : Bool) (t : Option ℕ) → (a && option_map_or (λ z. nat_lt z p) t false) ≡ true → (a && option_map_or (λ z. nat_lt z q) t false) ≡ false → ⊥
     both true (Some z) x y = grind (arith, nat_tests, x, y, le)
-    both true None x y = absurd cc
-    both false t x y = absurd cc
+    both _ _ x y = absurd cc
 
 more_marks : (f p q : ℕ) (ops : List Op) → p ≤ q → length (marks f p ops) ≤ length (marks f q ops)
 more_marks f p q [] le = omega arith

@@ -1,40 +1,9 @@
 -- What holds of a call and of an answer on its way, if its owner waits for it.
-use Rattle.std.proofs.Common.{◌≡◌, ℕ, zero, suc, ◌+◌, ◌<◌, ◌≤◌, List, [], ◌∷◌, ◌⊎◌, Option, Some, None, Bool, true, false, length}
-use Rattle.std.specs.Prelude.{slice_get, cond, ◌==◌, take, drop, Contains, IsSome}
-use Rattle.chunk_cut.specs.Places.{chunk_bytes, end_of}
-use Rattle.chunk_cut.specs.Chunks.{chunks_of}
-use Rattle.chunk_cut.specs.declared.chunk.Chunk.{Chunk}
-use Rattle.xdr_codec.specs.declared.answer.Answer.{Answer}
-use Rattle.xdr_codec.specs.declared.answer.Answer.TheVariants.{Done, Failed}
-use Rattle.xdr_codec.specs.declared.attr.Attr.{Attr}
+use Rattle.std.proofs.Common.{◌≡◌, ℕ, suc, ◌+◌, ◌<◌, ◌≤◌, List, [], ◌∷◌, ◌⊎◌, Option, Some, None, Bool, false, length, take, drop, IsSome}
 use Rattle.xdr_codec.specs.declared.status.Status.TheVariants as status
-use Rattle.hash_calls.specs.declared.call.Committed.{Committed}
-use Rattle.hash_calls.specs.declared.call.Hashes.{Hashes}
-use Rattle.hash_calls.specs.declared.call.HashRange.{HashRange}
-use Rattle.nfs3_calls.specs.declared.call.Piece.{Piece}
-use Rattle.nfs3_calls.specs.declared.call.Range.{Range}
-use Rattle.server_core.specs.Answers.{hashes_of, piece_of, told_chunks}
-use Rattle.server_core.specs.declared.file.File.{File}
-use Rattle.open_close.specs.Opening.{read_at}
-use Rattle.open_close.specs.declared.task.Fetch.{Fetch}
-use Rattle.open_close.specs.declared.task.ReadCall.{ReadCall}
-use Rattle.open_close.specs.declared.task.Stage.{Stage}
 use Rattle.open_close.specs.declared.task.Stage.TheVariants as stage
-use Rattle.open_close.specs.declared.task.Store.{Store}
-use Rattle.open_close.specs.declared.task.StoreCall.{StoreCall}
-use Rattle.open_close.specs.declared.task.Task.{Task}
-use Rattle.register_model.specs.Register.{Value, content_of}
-use Rattle.register_model.specs.declared.op.Op.{Op}
-use Rattle.register_model.specs.declared.op.Outcome.TheVariants as told
-use Rattle.register_model.specs.declared.op.Word.{Word}
 use Rattle.register_model.specs.declared.op.Word.TheVariants as words
-use Rattle.trace_replay.specs.declared.link.Taken.{Taken}
-use Rattle.trace_replay.specs.Core.{Seat}
-use Rattle.trace_replay.specs.Ops.{taken_at}
-use Rattle.trace_replay.specs.Trail.{hashed_of}
-use Rattle.trace_replay.specs.Book.{Book, Or, value_at, version_at}
-use Rattle.trace_replay.specs.Causes.{Tried}
-use Rattle.kept_promise.specs.Talk.{Call, Call.Hash, Call.Read, Call.Make, Call.Name, Call.Send, Call.Commit, Reply, Reply.Hashed, Reply.Bytes, Reply.Changed, Ask, Told}
+use Rattle.kept_promise.proofs.Common.{slice_get, cond, ◌==◌, Contains, chunk_bytes, end_of, chunks_of, Chunk, Answer, Done, Failed, Attr, Committed, Hashes, HashRange, Piece, Range, hashes_of, piece_of, told_chunks, File, read_at, Fetch, ReadCall, Stage, Store, StoreCall, Task, Value, content_of, Op, Word, TakenCall, Seat, taken_at, hashed_of, Book, Or, value_at, version_at, Tried, Call, Call.Hash, Call.Read, Call.Make, Call.Name, Call.Send, Call.Commit, Reply, Reply.Hashed, Reply.Bytes, Reply.Changed, Ask, Told}
 use Rattle.kept_promise.proofs.Rights.{IsUnmade, IsMade}
 
 -- ---- the operation under way
@@ -53,12 +22,10 @@ abbrev pub job : Seat → Option Job
 job seat = job_of seat.place seat.client.task
 
 abbrev pub stage_word : Stage → Word
-stage_word (stage.Hashing tries x) = words.Open
-stage_word (stage.Listing x f) = words.Open
-stage_word (stage.Reading f) = words.Open
 stage_word (stage.Making x temp) = words.Close
 stage_word (stage.Storing st) = words.Close
 stage_word (stage.Committing x) = words.Close
+stage_word _ = words.Open
 
 -- ---- lists of messages
 
@@ -70,7 +37,7 @@ abbrev pub AllTolds : (Told → Type 0) → List Told → Type 0
 AllTolds P [] = Unit {0}
 AllTolds P (t ∷ ts) = P t × AllTolds P ts
 
-abbrev pub AllUnder : ℕ → List Taken → Type 0
+abbrev pub AllUnder : ℕ → List TakenCall → Type 0
 AllUnder n [] = Unit {0}
 AllUnder n (t ∷ ts) = (t.xid < n) × AllUnder n ts
 
@@ -107,7 +74,7 @@ IsAsked job a = CallOf job a.xid a.call
 -- ---- answers
 
 -- the call with this xid was taken within the job's operation, at a moment at which its file was this, in this version
-pub record IsTold (book : Book) (taken : List Taken) (j : Job) (xid : ℕ) (v : Value) (version : ℕ) : Type 0 where
+pub record IsTold (book : Book) (taken : List TakenCall) (j : Job) (xid : ℕ) (v : Value) (version : ℕ) : Type 0 where
   pub moment : ℕ
   pub was : taken_at taken xid ≡ Some moment
   pub past : moment ≤ book.steps
@@ -120,7 +87,7 @@ pub record IsTold (book : Book) (taken : List Taken) (j : Job) (xid : ℕ) (v : 
   pub apart : (i : ℕ) → slice_get book.entries i ≡ Some moment → ⊥
 
 -- the attempts before the one of this GETHASH, up to the moment at which it was taken
-pub record IsTried (book : Book) (taken : List Taken) (j : Job) (xid tries : ℕ) : Type 0 where
+pub record IsTried (book : Book) (taken : List TakenCall) (j : Job) (xid tries : ℕ) : Type 0 where
   pub moment : ℕ
   pub was : taken_at taken xid ≡ Some moment
   pub past : moment ≤ book.steps
@@ -148,7 +115,7 @@ abbrev pub range_of : Chunk → Range
 range_of c = record { handle = []; offset = c.start; count = c.len }
 
 -- the chunks that are told of a file are those of its content, which were hashed
-pub record IsHashed (book : Book) (taken : List Taken) (j : Job) (xid offset : ℕ) (h : Hashes) : Type 0 where
+pub record IsHashed (book : Book) (taken : List TakenCall) (j : Job) (xid offset : ℕ) (h : Hashes) : Type 0 where
   pub file : File
   pub is : h ≡ hashes_of file (range_from offset)
   pub told : IsTold book taken j xid (Some file.content) file.version
@@ -156,12 +123,12 @@ pub record IsHashed (book : Book) (taken : List Taken) (j : Job) (xid offset : �
   pub known : IsSome (content_of book.opening j.file)
   pub hashed : (i : ℕ) (c : Chunk) → slice_get (told_chunks file.content (range_from offset)) i ≡ Some c → Contains (hashed_of book.moments) (chunk_bytes file.content c)
 
-abbrev pub HashTold : Book → List Taken → Job → (xid offset : ℕ) → Answer Hashes Unit → Type 0
+abbrev pub HashTold : Book → List TakenCall → Job → (xid offset : ℕ) → Answer Hashes Unit → Type 0
 HashTold book taken j xid offset (Failed s u) = ((s ≡ status.IsDir) × (j.file ≡ 1)) ⊎ ((s ≡ status.Stale) × (content_of book.opening j.file ≡ None) × ((version : ℕ) × IsTold book taken j xid None version))
 HashTold book taken j xid offset (Done h) = IsHashed book taken j xid offset h
 
 -- a READ was taken after the attempt's first GETHASH, and this is what the file had then
-pub record IsRead (book : Book) (taken : List Taken) (j : Job) (first : ℕ) (c : Chunk) (p : Piece) : Type 0 where
+pub record IsRead (book : Book) (taken : List TakenCall) (j : Job) (first : ℕ) (c : Chunk) (p : Piece) : Type 0 where
   pub file : File
   pub is : p ≡ piece_of file (range_of c)
   pub began : ℕ
@@ -172,7 +139,7 @@ pub record IsRead (book : Book) (taken : List Taken) (j : Job) (first : ℕ) (c 
   pub value : value_at book j.file last ≡ Some file.content
   pub version_is : version_at book j.file last ≡ file.version
 
-abbrev pub ReadTold : Book → List Taken → Job → (first : ℕ) → Chunk → Answer Piece (Option Attr) → Type 0
+abbrev pub ReadTold : Book → List TakenCall → Job → (first : ℕ) → Chunk → Answer Piece (Option Attr) → Type 0
 ReadTold book taken j first c (Failed s a) = ⊥
 ReadTold book taken j first c (Done p) = IsRead book taken j first c p
 
@@ -181,32 +148,32 @@ CommitTold book closing j (Done c) = IsMade book j.place c.version
 CommitTold book closing j (Failed s u) = (op : Op) × (slice_get book.ops j.place ≡ Some op) × IsUnmade op × (closing ≡ Some j.place)
 
 -- a call was taken behind the first one of its attempt
-pub record IsAfter (taken : List Taken) (first x : ℕ) : Type 0 where
+pub record IsAfter (taken : List TakenCall) (first x : ℕ) : Type 0 where
   pub began : ℕ
   pub was : taken_at taken first ≡ Some began
   pub last : ℕ
   pub is : taken_at taken x ≡ Some last
   pub order : began < last
 
-abbrev pub TriedBy : Book → List Taken → Job → (xid : ℕ) → Stage → Type 0
+abbrev pub TriedBy : Book → List TakenCall → Job → (xid : ℕ) → Stage → Type 0
 TriedBy book taken j x (stage.Hashing tries y) = IsTried book taken j x tries
 TriedBy book taken j x (stage.Listing y f) = IsAfter taken f.first x
 TriedBy book taken j x _ = Unit {0}
 
 -- an answer that the owner waits for is true
-abbrev pub AnswerOf : Book → List Taken → (closing : Option ℕ) → Option Job → (xid : ℕ) → Reply → Type 0
+abbrev pub AnswerOf : Book → List TakenCall → (closing : Option ℕ) → Option Job → (xid : ℕ) → Reply → Type 0
 AnswerOf book taken closing job x (Hashed a) = (j : Job) (o : ℕ) → job ≡ Some j → hash_offset j.stage x ≡ Some o → HashTold book taken j x o a × TriedBy book taken j x j.stage
 AnswerOf book taken closing job x (Bytes a) = (j : Job) (f : Fetch) (c : Chunk) → job ≡ Some j → j.stage ≡ stage.Reading f → read_chunk j.stage x ≡ Some c → ReadTold book taken j f.first c a
 AnswerOf book taken closing job x (Changed a) = (j : Job) → job ≡ Some j → j.stage ≡ stage.Committing x → CommitTold book closing j a
 AnswerOf book taken closing job x r = Unit {0}
 
-abbrev pub IsAnswer : Book → List Taken → (closing : Option ℕ) → Option Job → Told → Type 0
+abbrev pub IsAnswer : Book → List TakenCall → (closing : Option ℕ) → Option Job → Told → Type 0
 IsAnswer book taken closing job t = AnswerOf book taken closing job t.xid t.reply
 
 -- ---- a fetch
 
 -- an attempt has the first chunks of a content that its file had, in its version, when its first GETHASH was taken
-pub record IsFetch (book : Book) (taken : List Taken) (j : Job) (f : Fetch) : Type 0 where
+pub record IsFetch (book : Book) (taken : List TakenCall) (j : Job) (f : Fetch) : Type 0 where
   pub content : List ℕ
   pub told : IsTold book taken j f.first (Some content) f.version
   pub tried : IsTried book taken j f.first f.tries
@@ -227,12 +194,12 @@ pub record IsReading (book : Book) (content : List ℕ) (f : Fetch) : Type 0 whe
   pub inside : (k : ℕ) (r : ReadCall) → slice_get f.under k ≡ Some r → r.index < f.asked
   pub filled : (i : ℕ) → i < f.asked → ((b : List ℕ) × (slice_get f.slots i ≡ Some (Some b))) ⊎ ((k : ℕ) × (r : ReadCall) × (slice_get f.under k ≡ Some r) × (r.index ≡ i))
 
-abbrev pub FetchOf : Book → List Taken → Job → Stage → Type 0
+abbrev pub FetchOf : Book → List TakenCall → Job → Stage → Type 0
 FetchOf book taken j (stage.Listing x f) = IsFetch book taken j f × (f.asked ≡ 0) × (f.under ≡ [])
 FetchOf book taken j (stage.Reading f) = (h : IsFetch book taken j f) × IsReading book h.content f
 FetchOf book taken j _ = Unit {0}
 
-abbrev pub HasFetch : Book → List Taken → Option Job → Type 0
+abbrev pub HasFetch : Book → List TakenCall → Option Job → Type 0
 HasFetch book taken job = (j : Job) → job ≡ Some j → FetchOf book taken j j.stage
 
 -- ---- a change on its way

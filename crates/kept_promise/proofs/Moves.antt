@@ -1,25 +1,13 @@
 -- Calls that wait, as one is answered and others are sent.
-use Rattle.std.proofs.Common.{◌⊎◌, inl, inr, ◌≡◌, ℕ, zero, suc, ◌+◌, ◌<◌, ◌≤◌, List, [], ◌∷◌, ◌++◌, length, Option, Some, None, Bool, true, false, refl, sym, ap, ◌∙◌, subst, arith, eqb-true, eq-eqb, ne_eqb}
-use Rattle.std.proofs.lemmas.Bool.Decides.{nat_tests}
-use Rattle.std.specs.Prelude.{slice_get, map, filter, not, cond, ◌==◌, ◌||◌}
-use Rattle.std.specs.List.{list_any}
-use Rattle.wire.specs.Parse.{IsExpected, waiting}
-use Rattle.wire.specs.declared.message.Body.{Body}
+use Rattle.std.proofs.Common.{◌≡◌, ℕ, zero, suc, ◌+◌, ◌<◌, ◌≤◌, List, [], ◌∷◌, ◌++◌, Some, Bool, true, false, refl, sym, ap, ◌∙◌, arith, eq-eqb, map}
 use Rattle.wire.specs.Message.{program_of}
-use Rattle.wire.specs.declared.message.Pending.{Pending}
-use Rattle.wire.specs.declared.message.Program.{Program}
 use Rattle.wire.specs.declared.message.Program.TheVariants as program
 use Rattle.hash_calls.specs.declared.message.LbProc.TheVariants as lb_proc
 use Rattle.nfs3_calls.specs.declared.message.NfsProc.TheVariants as nfs_proc
-use Rattle.server_core.specs.declared.change.Change.{Change}
 use Rattle.open_close.specs.State as client
-use Rattle.open_close.specs.State.{without_call, has_call, read_pending}
-use Rattle.open_close.specs.Opening.{without_read}
-use Rattle.open_close.specs.declared.task.ReadCall.{ReadCall}
-use Rattle.xdr_codec.specs.declared.answer.Answer.TheVariants.{Done, Failed}
-use Rattle.kept_promise.specs.Talk.{Reply, Reply.Hashed, Reply.Bytes, Reply.Made, Reply.Named, Reply.Stored, Reply.Changed, Ask, Told, Queue, reply_program, reply_body, told_message}
+use Rattle.kept_promise.proofs.Common.{slice_get, not, cond, ◌==◌, IsExpected, waiting, Pending, Program, Change, without_call, Reply, Reply.Hashed, Reply.Bytes, Reply.Made, Reply.Named, Reply.Stored, Reply.Changed, Ask, Told, Queue, reply_program, reply_body, told_message}
 use Rattle.kept_promise.proofs.Lists.{some_is, nothing_there}
-use Rattle.kept_promise.proofs.Keys.{times, times_append, code_of, key, pending_key, told_key, ask_key, change_key, own, on_way, found_by, there_by, key_xid, key_code}
+use Rattle.kept_promise.proofs.Keys.{times, times_append, code_of, pending_key, told_key, ask_key, change_key, own, found_by, there_by, key_xid, key_code}
 use Rattle.kept_promise.proofs.Taken.{times_map_append}
 use Rattle.kept_promise.proofs.Facts.{IsBalanced}
 use Rattle.kept_promise.proofs.Heard.{ask_pending, told_pending, Moves}

@@ -1,22 +1,18 @@
 -- CONDWRITEs that go out, in chunk order.
-use Rattle.std.proofs.Common.{◌⊎◌, inl, inr, ◌≡◌, ℕ, zero, suc, ◌+◌, ◌-◌, ◌*◌, ◌<◌, ◌≤◌, List, [], ◌∷◌, ◌++◌, length, Option, Some, None, Bool, true, false, refl, sym, ap, ◌∙◌, subst, arith, eqb-true, eq-eqb, ne_eqb, append_assoc, append-nil}
-use Rattle.std.specs.Prelude.{slice_get, map, cond, ◌==◌, not}
-use Rattle.chunk_cut.specs.declared.chunk.Chunk.{Chunk}
-use Rattle.wire.specs.declared.message.Message.{Message}
-use Rattle.wire.specs.declared.message.Pending.{Pending}
-use Rattle.open_close.specs.State.{store_pending}
-use Rattle.open_close.specs.declared.calls.Names.{Names}
-use Rattle.open_close.specs.Closing.{names_from, names_next, names_more, names_all}
-use Rattle.open_close.specs.Opening.{calls_most}
-use Rattle.open_close.specs.declared.task.Store.{Store}
-use Rattle.open_close.specs.declared.task.StoreCall.{StoreCall}
+use Rattle.std.proofs.Common.{◌≡◌, ℕ, zero, suc, ◌+◌, ◌<◌, ◌≤◌, List, [], ◌∷◌, ◌++◌, length, Option, Some, None, refl, sym, ap, ◌∙◌, subst, arith, append_assoc, append-nil, map}
 use Rattle.open_close.specs.declared.task.Way.TheVariants as way
-use Rattle.kept_promise.specs.Talk.{Call, Call.Name, Ask, ask_message}
+use Rattle.open_close.specs.Opening.{calls_most}
+use Rattle.kept_promise.proofs.Common.{slice_get, cond, ◌==◌, Chunk, Pending, store_pending, Names, names_next, names_more, Store, StoreCall, Call.Name, Ask, ask_message}
 use Rattle.kept_promise.proofs.Lists.{some_is, nothing_there, within}
 use Rattle.kept_promise.proofs.Keys.{times}
 use Rattle.kept_promise.proofs.Messages.{AllAsks, Rising}
 use Rattle.kept_promise.proofs.Facts.{commits_in, names_in}
 use Rattle.kept_promise.proofs.Heard.{ask_pending}
+
+-- where no call is under way one may be
+pub some_call : 0 < calls_most
+unfolding calls_most
+some_call = omega arith
 
 -- these notes and calls: for the chunks from an index on, with xids from this one up to that
 abbrev pub Named : (temp : ℕ) → List Chunk → (xid index : ℕ) → List StoreCall → List Ask → (next : ℕ) → Type 0
@@ -69,22 +65,19 @@ names_run (suc most) n = by (slice_get n.store.chunks n.store.named) refl (names
 pub named_rising : (temp : ℕ) (chunks : List Chunk) (x i : ℕ) (us : List StoreCall) (b : List Ask) (y : ℕ) → Named temp chunks x i us b y → Rising x b y
 named_rising temp chunks x i [] [] y s = omega (arith, s)
 named_rising temp chunks x i (u ∷ us) (a ∷ b) y s = let e : a.xid ≡ x = ap (λ (z : Ask). z.xid) s.1.2 in (omega (arith, e), subst (λ (z : ℕ). Rising (z + 1) b y) (sym e) (named_rising temp chunks (x + 1) (i + 1) us b y s.2))
-named_rising temp chunks x i [] (a ∷ b) y s = absurd s
-named_rising temp chunks x i (u ∷ us) [] y s = absurd s
+named_rising temp chunks x i _ _ y s = absurd s
 
 pub named_bound : (temp : ℕ) (chunks : List Chunk) (x i : ℕ) (us : List StoreCall) (b : List Ask) (y : ℕ) → Named temp chunks x i us b y → x ≤ y
 named_bound temp chunks x i [] [] y s = omega (arith, s)
 named_bound temp chunks x i (u ∷ us) (a ∷ b) y s = let le = named_bound temp chunks (x + 1) (i + 1) us b y s.2 in omega (arith, le)
-named_bound temp chunks x i [] (a ∷ b) y s = absurd s
-named_bound temp chunks x i (u ∷ us) [] y s = absurd s
+named_bound temp chunks x i _ _ y s = absurd s
 
 pub named_all : (P : Ask → Type 0) (temp : ℕ) (chunks : List Chunk) (x i : ℕ) (us : List StoreCall) (b : List Ask) (y : ℕ) → ((z k : ℕ) (c : Chunk) → slice_get chunks k ≡ Some c → x ≤ z → z < y → P (record { xid = z; call = Name temp c })) → Named temp chunks x i us b y → AllAsks P b
 named_all P temp chunks x i [] [] y f s = tt
 named_all P temp chunks x i (u ∷ us) (a ∷ b) y f s =
     let lt = named_bound temp chunks (x + 1) (i + 1) us b y s.2 in
     (subst P (sym s.1.2) (f x i s.1.0 s.1.1 (omega arith) (omega (arith, lt))), named_all P temp chunks (x + 1) (i + 1) us b y (λ z k c at le less. f z k c at (omega (arith, le)) less) s.2)
-named_all P temp chunks x i [] (a ∷ b) y f s = absurd s
-named_all P temp chunks x i (u ∷ us) [] y f s = absurd s
+named_all P temp chunks x i _ _ y f s = absurd s
 
 pub named_count : (temp : ℕ) (chunks : List Chunk) (x i : ℕ) (us : List StoreCall) (b : List Ask) (y : ℕ) → Named temp chunks x i us b y → (x + length us ≡ y) × (names_in us ≡ length us)
 named_count temp chunks x i [] [] y s = (omega (arith, s), refl)
@@ -92,15 +85,13 @@ named_count temp chunks x i (u ∷ us) (a ∷ b) y s =
     let e = named_count temp chunks (x + 1) (i + 1) us b y s.2 in
     let one = e.0 in
     (omega (arith, one), ap (λ (v : StoreCall). names_in (v ∷ us)) s.0 ∙ ap suc e.1)
-named_count temp chunks x i [] (a ∷ b) y s = absurd s
-named_count temp chunks x i (u ∷ us) [] y s = absurd s
+named_count temp chunks x i _ _ y s = absurd s
 
 -- the index of the last is that of a chunk
 pub named_inside : (temp : ℕ) (chunks : List Chunk) (x i : ℕ) (us : List StoreCall) (b : List Ask) (y : ℕ) → i ≤ length chunks → Named temp chunks x i us b y → i + length us ≤ length chunks
 named_inside temp chunks x i [] [] y le s = omega (arith, le)
 named_inside temp chunks x i (u ∷ us) (a ∷ b) y le s = let lt = within chunks i s.1.0 s.1.1 in let e = named_inside temp chunks (x + 1) (i + 1) us b y (omega (arith, lt)) s.2 in omega (arith, e)
-named_inside temp chunks x i [] (a ∷ b) y le s = absurd s
-named_inside temp chunks x i (u ∷ us) [] y le s = absurd s
+named_inside temp chunks x i _ _ y le s = absurd s
 
 pub named_times : (f : Pending → ℕ) (z : ℕ) (temp : ℕ) (chunks : List Chunk) (x i : ℕ) (us : List StoreCall) (b : List Ask) (y : ℕ) → Named temp chunks x i us b y → times z (map f (map store_pending us)) ≡ times z (map (λ a. f (ask_pending a)) b)
 named_times f z temp chunks x i [] [] y s = refl
@@ -108,19 +99,16 @@ named_times f z temp chunks x i (u ∷ us) (a ∷ b) y s =
     let later = named_times f z temp chunks (x + 1) (i + 1) us b y s.2 in
     let head : f (store_pending u) ≡ f (ask_pending a) = ap (λ (v : StoreCall). f (store_pending v)) s.0 ∙ ap (λ (v : Ask). f (ask_pending v)) (sym s.1.2) in
     ap (λ n. cond (n == z) (suc (times z (map f (map store_pending us)))) (times z (map f (map store_pending us)))) head ∙ ap (λ n. cond (f (ask_pending a) == z) (suc n) n) later
-named_times f z temp chunks x i [] (a ∷ b) y s = absurd s
-named_times f z temp chunks x i (u ∷ us) [] y s = absurd s
+named_times f z temp chunks x i _ _ y s = absurd s
 
 -- each note is of an index from there on
 pub named_note : (temp : ℕ) (chunks : List Chunk) (x i : ℕ) (us : List StoreCall) (b : List Ask) (y k : ℕ) (u : StoreCall) → Named temp chunks x i us b y → slice_get us k ≡ Some u → u.index < i + length us
 named_note temp chunks x i [] [] y k u s at = nothing_there u at
 named_note temp chunks x i (v ∷ us) (a ∷ b) y zero u s at = let e : u.index ≡ i = ap (λ (z : StoreCall). z.index) (sym (some_is v u at) ∙ s.0) in omega (arith, e)
 named_note temp chunks x i (v ∷ us) (a ∷ b) y (suc k) u s at = let r = named_note temp chunks (x + 1) (i + 1) us b y k u s.2 at in omega (arith, r)
-named_note temp chunks x i [] (a ∷ b) y k u s at = absurd s
-named_note temp chunks x i (v ∷ us) [] y k u s at = absurd s
+named_note temp chunks x i _ _ y k u s at = absurd s
 
 pub named_commits : (temp : ℕ) (chunks : List Chunk) (x i : ℕ) (us : List StoreCall) (b : List Ask) (y : ℕ) → Named temp chunks x i us b y → commits_in b ≡ 0
 named_commits temp chunks x i [] [] y s = refl
 named_commits temp chunks x i (u ∷ us) (a ∷ b) y s = ap (λ (v : Ask). commits_in (v ∷ b)) s.1.2 ∙ named_commits temp chunks (x + 1) (i + 1) us b y s.2
-named_commits temp chunks x i [] (a ∷ b) y s = absurd s
-named_commits temp chunks x i (u ∷ us) [] y s = absurd s
+named_commits temp chunks x i _ _ y s = absurd s

@@ -1,46 +1,24 @@
 -- What an open comes to by each answer that it waits for.
-use Rattle.std.proofs.Common.{◌⊎◌, inl, inr, ◌≡◌, ℕ, zero, suc, ◌+◌, ◌*◌, ◌<◌, ◌≤◌, List, [], ◌∷◌, ◌++◌, length, Option, Some, None, Bool, true, false, refl, sym, ap, ◌∙◌, subst, arith, eqb-true, eq-eqb, replicate}
-use Rattle.std.proofs.lemmas.Bool.Decides.{nat_tests}
-use Rattle.std.specs.Prelude.{slice_get, map, cond, ◌==◌, IsSome}
-use Rattle.chunk_cut.specs.Chunks.{chunks_of}
-use Rattle.chunk_cut.specs.Places.{end_of}
-use Rattle.chunk_cut.specs.declared.chunk.Chunk.{Chunk}
-use Rattle.xdr_codec.specs.declared.answer.Answer.{Answer}
-use Rattle.xdr_codec.specs.declared.answer.Answer.TheVariants.{Done, Failed}
-use Rattle.xdr_codec.specs.declared.status.Status.{Status}
-use Rattle.xdr_codec.specs.declared.status.Status.TheVariants as status
-use Rattle.hash_calls.specs.declared.call.Hashes.{Hashes}
-use Rattle.wire.specs.declared.message.Pending.{Pending}
+use Rattle.std.proofs.Common.{inl, inr, ◌≡◌, ℕ, zero, suc, ◌+◌, ◌*◌, ◌<◌, ◌≤◌, List, [], ◌∷◌, ◌++◌, length, Option, Some, None, Bool, true, false, refl, sym, ap, ◌∙◌, subst, arith, eqb-true, eq-eqb, replicate, map, IsSome}
 use Rattle.server_core.specs.State as server
-use Rattle.server_core.specs.declared.file.File.{File}
 use Rattle.open_close.specs.State as client
-use Rattle.open_close.specs.State.{read_pending}
-use Rattle.open_close.specs.Opening.{fetch_of, with_hashes, listed, read_at}
-use Rattle.open_close.specs.Shape.{broken_of}
-use Rattle.open_close.specs.Step.{idle, told_first, told_hashes, told_version, told_shape, lists_on, reads_on}
-use Rattle.open_close.specs.declared.task.Fetch.{Fetch}
-use Rattle.open_close.specs.declared.task.ReadCall.{ReadCall}
-use Rattle.open_close.specs.declared.task.Stage.{Stage}
 use Rattle.open_close.specs.declared.task.Stage.TheVariants as stage
-use Rattle.register_model.specs.Register.{Value, content_of}
 use Rattle.register_model.specs.declared.op.Word.TheVariants as words
-use Rattle.trace_replay.specs.Core.{Core, Session}
-use Rattle.trace_replay.specs.Book.{Book, Or, version_at}
-use Rattle.kept_promise.specs.Talk.{Reply.Hashed, Ask, Told, Queue, reply_program}
-use Rattle.kept_promise.proofs.Lists.{some_is, nothing_there, within}
+use Rattle.kept_promise.proofs.Common.{nat_tests, slice_get, cond, ◌==◌, chunks_of, end_of, Answer, Done, Failed, Status, Hashes, File, read_pending, fetch_of, with_hashes, listed, read_at, broken_of, idle, told_first, told_hashes, told_version, told_shape, lists_on, Fetch, ReadCall, Stage, Value, Core, Session, Book, Reply.Hashed, Told, Queue, reply_program}
+use Rattle.kept_promise.proofs.Lists.{some_is, nothing_there}
 use Rattle.kept_promise.proofs.Keys.{times}
-use Rattle.kept_promise.proofs.Messages.{Job, job, stage_word, AllTolds, hash_offset, AnswerOf, IsAnswer, HashTold, IsHashed, IsAfter, IsTried, TriedBy, IsFetch, IsReading, FetchOf}
-use Rattle.kept_promise.proofs.Facts.{FileIs, HasXids, IsSession, IsKept}
+use Rattle.kept_promise.proofs.Messages.{Job, job, stage_word, AllTolds, hash_offset, AnswerOf, IsAnswer, HashTold, IsHashed, IsAfter, IsTried, TriedBy, IsFetch, FetchOf}
+use Rattle.kept_promise.proofs.Facts.{FileIs, HasXids, IsSession}
 use Rattle.kept_promise.proofs.Chunks.{row_of, sum_sound}
 use Rattle.kept_promise.proofs.Tells.{not_some}
-use Rattle.kept_promise.proofs.Heard.{Moves, told_pending, ask_pending}
+use Rattle.kept_promise.proofs.Heard.{Moves, told_pending}
 use Rattle.kept_promise.proofs.Moves.{moves_single}
-use Rattle.kept_promise.proofs.Steps.{Here, session_at, Quiet, on}
+use Rattle.kept_promise.proofs.Steps.{Here, session_at, Quiet}
 use Rattle.kept_promise.proofs.Attempts.{fetch_first, Next, fetch_next, fetch_few}
 use Rattle.kept_promise.proofs.CloseEnds.{quiet_before}
 use Rattle.kept_promise.proofs.CloseSteps.{calls_are}
 use Rattle.kept_promise.proofs.Comes.{client_at, Comes, comes_refused}
-use Rattle.kept_promise.proofs.Hashings.{file_small, hash_ask, goes_hash, Left, comes_changed}
+use Rattle.kept_promise.proofs.Hashings.{file_small, hash_ask, goes_hash, comes_changed}
 use Rattle.kept_promise.proofs.Listings.{fetch_on, MayRead, comes_reading}
 
 -- ---- chunks were told

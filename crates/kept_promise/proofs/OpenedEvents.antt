@@ -1,60 +1,28 @@
 -- Each event of a run keeps what opens counted.
-use Rattle.std.proofs.Common.{◌⊎◌, inl, inr, ◌≡◌, ℕ, zero, suc, ◌+◌, ◌<◌, ◌≤◌, List, [], ◌∷◌, ◌++◌, length, Option, Some, None, Result, Ok, Err, Bool, true, false, refl, sym, ap, ◌∙◌, subst, arith}
-use Rattle.std.specs.Prelude.{◌==◌, ◌&&◌, map, slice_get, slice_set, filter, cond, nat_lt}
-use Rattle.std.specs.Option.{option_map_or}
-use Rattle.chunk_cut.specs.Chunks.{chunks_of}
-use Rattle.chunk_cut.specs.declared.chunk.Chunk.{Chunk}
-use Rattle.command_text.specs.declared.command.Command.{Command}
-use Rattle.wire.specs.Parse.{parse_of}
-use Rattle.wire.specs.declared.fault.WireFault.{WireFault}
-use Rattle.wire.specs.declared.message.Message.{Message}
-use Rattle.wire.specs.declared.message.Pending.{Pending}
+use Rattle.std.proofs.Common.{◌⊎◌, inl, inr, ◌≡◌, ℕ, zero, suc, ◌+◌, ◌≤◌, List, [], ◌∷◌, ◌++◌, length, Option, Some, None, Result, Ok, Err, Bool, true, false, refl, sym, ap, ◌∙◌, subst, arith, map}
 use Rattle.server_core.specs.State as server
-use Rattle.server_core.specs.Step.{server_step}
 use Rattle.server_core.specs.declared.event.Event.TheVariants as event
 use Rattle.server_core.specs.declared.event.Told.{Told as Announced}
 use Rattle.server_core.specs.declared.event.Told.TheVariants as announced
-use Rattle.open_close.specs.Counting.{no_counts}
 use Rattle.open_close.specs.State as client
-use Rattle.open_close.specs.Step.{command_step, got_step, joined, ended_by}
-use Rattle.open_close.specs.declared.step.ClientStep.{ClientStep}
-use Rattle.open_close.specs.declared.step.Counts.{Counts}
-use Rattle.open_close.specs.declared.step.Ended.{Ended}
-use Rattle.open_close.specs.declared.step.Outcome.{Outcome}
 use Rattle.open_close.specs.declared.step.Outcome.TheVariants as outcome
-use Rattle.open_close.specs.declared.task.Fetch.{Fetch}
-use Rattle.open_close.specs.declared.task.ReadCall.{ReadCall}
-use Rattle.open_close.specs.declared.task.Stage.{Stage}
 use Rattle.open_close.specs.declared.task.Stage.TheVariants as stage
-use Rattle.open_close.specs.declared.task.Task.{Task}
-use Rattle.register_model.specs.Register.{content_of, changes, changed_before, latest, value_after, is_untold}
-use Rattle.register_model.specs.declared.op.Op.{Op}
-use Rattle.register_model.specs.declared.op.Opening.{Opening}
 use Rattle.register_model.specs.declared.op.Outcome.{Outcome as History}
 use Rattle.register_model.specs.declared.op.Outcome.TheVariants as told
-use Rattle.register_model.specs.declared.op.Traffic.{Traffic}
 use Rattle.register_model.specs.declared.op.Word.TheVariants as words
-use Rattle.trace_replay.specs.declared.link.Taken.{Taken}
-use Rattle.trace_replay.specs.Commands.{word_of, file_of, value_at_begin}
-use Rattle.trace_replay.specs.Ops.{no_traffic, counted, begun, has_point, point_if, taken_at, op_after, ended_op, told_of, place_after, place_with}
-use Rattle.trace_replay.specs.Core.{Core, Seat, Session, Event, Event.Joins, Event.Does, Event.Serves, Event.Hears, Event.Settles, Event.Cuts, Event.Hangs, Turned, numbered, with_numbered, server_waiting, serves_if, serves, session_of, taken_of as session_taken, ops_after, ops_with, acted, does, joins_as, joins, settles, cuts_if, cuts, hangs_if, hangs, happens}
-use Rattle.trace_replay.specs.Traffic.{CountsOwn}
-use Rattle.trace_replay.specs.Trail.{Moment, hashed_of}
-use Rattle.trace_replay.specs.Book.{Book, Or, Collides, value_at}
-use Rattle.trace_replay.specs.Causes.{Tried, IsOpened}
-use Rattle.trace_replay.specs.Faithful.{OpenedBy}
-use Rattle.kept_promise.specs.Talk.{Queue, reply_body, told_message}
-use Rattle.kept_promise.proofs.Lists.{some_is, nothing_there, same_or_not, at_end, at_replaced, within}
+use Rattle.trace_replay.specs.Core.{taken_of as session_taken}
+use Rattle.kept_promise.proofs.Common.{◌==◌, ◌&&◌, slice_get, slice_set, filter, cond, nat_lt, option_map_or, chunks_of, Chunk, Command, parse_of, WireFault, Message, Pending, server_step, no_counts, command_step, got_step, joined, ended_by, ClientStep, Counts, Ended, Outcome, Fetch, ReadCall, Stage, Task, content_of, changes, changed_before, latest, value_after, is_untold, Op, Opening, Traffic, TakenCall, no_traffic, counted, has_point, point_if, taken_at, op_after, ended_op, told_of, place_after, place_with, Core, Seat, Session, Event, Event.Joins, Event.Does, Event.Serves, Event.Hears, Event.Settles, Event.Cuts, Event.Hangs, CoreStep, numbered, with_numbered, server_waiting, serves_if, serves, session_of, ops_after, ops_with, acted, does, joins_as, joins, settles, cuts_if, cuts, hangs_if, hangs, happens, CountsOwn, Moment, hashed_of, Book, Or, Collides, value_at, Tried, IsOpened, OpenedBy, Queue, reply_body, told_message}
+use Rattle.kept_promise.proofs.Lists.{some_is, nothing_there, same_or_not, at_replaced}
 use Rattle.kept_promise.proofs.Keys.{times}
 use Rattle.kept_promise.proofs.Chunks.{Row, row_of}
 use Rattle.kept_promise.proofs.Messages.{Job, job, job_of, stage_word, IsTried, IsFetch, IsReading, FetchOf, Trying, IsTrying}
-use Rattle.kept_promise.proofs.Rights.{IsRight, Caused, IsSound}
+use Rattle.kept_promise.proofs.Rights.{IsRight, Caused, close_not_open}
 use Rattle.kept_promise.proofs.Fits.{FitLaws}
 use Rattle.kept_promise.proofs.Taken.{times_map_append}
 use Rattle.kept_promise.proofs.Facts.{IsKept, IsSession, IsMatched}
 use Rattle.kept_promise.proofs.RunsCarried.{book_at, Step, Carried}
 use Rattle.kept_promise.proofs.CountedRuns.{silent_command}
-use Rattle.kept_promise.proofs.Actors.{job_place, job_task, acts_alone, Heard, heard_at, heard_acts}
+use Rattle.kept_promise.proofs.Actors.{job_task, acts_alone, Heard, heard_at, heard_acts}
 use Rattle.kept_promise.proofs.VersionRuns.{Settled, settled_are, own_op, foreign_at, opened_by, word_after}
 use Rattle.kept_promise.proofs.Versions.{version_in}
 use Rattle.kept_promise.proofs.StoreSteps.{counted_none}
@@ -63,6 +31,7 @@ use Rattle.kept_promise.proofs.StoredEvents.{traffic_after}
 use Rattle.kept_promise.proofs.Fetching.{StageReads, TaskReads, EndReads, OutcomeReads, IsApart, tries_of}
 use Rattle.kept_promise.proofs.OpenedSteps.{OwnCounts, answered_by, begun_command}
 use Rattle.kept_promise.proofs.OpenedRuns.{Moved, tried_moved, WasRead, HaveReads, reads_seat, EndsBy, reads_pointed, reads_appended, Renewed, reads_acts, opened_is}
+use Rattle.kept_promise.proofs.CommandOps.{made_by, made_pointless, made_silent, last_right, old_jobs, job_begins, job_stays}
 
 abbrev pub ReadsAt : (all : List Moment) → Core → Type 0
 ReadsAt all k = HaveReads (hashed_of all) k.seats k.ops
@@ -114,7 +83,7 @@ reads_cuts book all k qs c seat kept here h true = by seat.client.task
     lost : Ended
     lost = record { outcome = outcome.Lost; rests_on = 0 }
 
-    taken : List Taken
+    taken : List TakenCall
     taken = session_taken (session_of k.sessions seat.session)
 
     gone : client.State
@@ -140,62 +109,29 @@ reads_does : (book more : Book) (all : List Moment) (k : Core) (qs after : List 
 reads_does book more all k qs after c now d seat kept here left h = by (kept.seats c seat here).matched
   where
     new : client.State → ClientStep → Op
-    new s acts = op_after (begun c (word_of d) (file_of d) (value_at_begin seat.client (word_of d) (file_of d) (command_step seat.client d now).1.ended) (k.steps + 1)) s [] (k.steps + 1) acts
+    new s acts = made_by k c now d seat s acts
 
-    nothing : (s : client.State) (acts : ClientStep) → acts.counts ≡ no_counts → (op_after (begun c (word_of d) (file_of d) (value_at_begin seat.client (word_of d) (file_of d) (command_step seat.client d now).1.ended) (k.steps + 1)) s [] (k.steps + 1) acts).traffic ≡ no_traffic
-    nothing s acts e = traffic_after (begun c (word_of d) (file_of d) (value_at_begin seat.client (word_of d) (file_of d) (command_step seat.client d now).1.ended) (k.steps + 1)) s [] (k.steps + 1) acts ∙ ap (counted no_traffic) e ∙ counted_none no_traffic
-
-    pointless : (s : client.State) (acts : ClientStep) (l : Option Ended) → (op_after (begun c (word_of d) (file_of d) (value_at_begin seat.client (word_of d) (file_of d) (command_step seat.client d now).1.ended) (k.steps + 1)) s [] (k.steps + 1) (record acts { ended = l })).point ≡ None
-    pointless s acts None = refl
-    pointless s acts (Some e) = by (has_point (word_of d) e.outcome)
-      where
-        by : (b : Bool) → point_if b [] e.rests_on None ≡ None
-        by true = refl
-        by false = refl
-
-    right : (s : client.State) (acts : ClientStep) → more.ops ≡ k.ops ++ op_after (begun c (word_of d) (file_of d) (value_at_begin seat.client (word_of d) (file_of d) (command_step seat.client d now).1.ended) (k.steps + 1)) s [] (k.steps + 1) acts ∷ [] → IsSound more → IsRight more (op_after (begun c (word_of d) (file_of d) (value_at_begin seat.client (word_of d) (file_of d) (command_step seat.client d now).1.ended) (k.steps + 1)) s [] (k.steps + 1) acts)
-    right s acts are sound = sound.rights (length k.ops) (new s acts) (ap (λ (l : List Op). slice_get l (length k.ops)) are ∙ at_end k.ops (new s acts))
-
-    never : (s : client.State) (acts : ClientStep) (len : ℕ) (digest : List ℕ) → (op_after (begun c (word_of d) (file_of d) (value_at_begin seat.client (word_of d) (file_of d) (command_step seat.client d now).1.ended) (k.steps + 1)) s [] (k.steps + 1) acts).outcome ≡ told.Opened len digest → IsRight more (op_after (begun c (word_of d) (file_of d) (value_at_begin seat.client (word_of d) (file_of d) (command_step seat.client d now).1.ended) (k.steps + 1)) s [] (k.steps + 1) acts) → ⊥
-    never s acts len digest e r = let w = subst (Caused more (new s acts)) e r.cause in nothing_there w.1.point (sym (pointless s acts acts.ended) ∙ w.1.within.0)
-
-    old_jobs : (i : ℕ) (s : Seat) (j : Job) → numbered k.seats i ≡ Some s → job s ≡ Some j → j.place < length k.ops
-    old_jobs i s j at is = let of = (kept.seats i s at).task j is in within k.ops j.place of.op (ap (λ (l : List Op). slice_get l j.place) (sym kept.ops) ∙ of.there)
+    never : (s : client.State) (acts : ClientStep) (len : ℕ) (digest : List ℕ) → (made_by k c now d seat s acts).outcome ≡ told.Opened len digest → IsRight more (made_by k c now d seat s acts) → ⊥
+    never s acts len digest e r = let w = subst (Caused more (new s acts)) e r.cause in nothing_there w.1.point (sym (made_pointless k c now d seat s acts acts.ended) ∙ w.1.within.0)
 
     grown : HaveReads (hashed_of all) k.seats (k.ops ++ new (command_step seat.client d now).0 (command_step seat.client d now).1 ∷ [])
     grown =
         let r = command_step seat.client d now in
-        reads_appended (hashed_of all) k.seats k.ops (new r.0 r.1) (pointless r.0 r.1 r.1.ended) (nothing r.0 r.1 (silent_command seat.client d now).1) old_jobs (λ len digest e. never r.0 r.1 len digest e (right r.0 r.1 left.ops left.sound)) h
+        reads_appended (hashed_of all) k.seats k.ops (new r.0 r.1) (made_pointless k c now d seat r.0 r.1 r.1.ended) (made_silent k c now d seat r.0 r.1 (silent_command seat.client d now).1 r.1.ended) (old_jobs book k qs kept) (λ len digest e. never r.0 r.1 len digest e (last_right more k.ops (new r.0 r.1) left.ops left.sound)) h
 
     by : IsMatched seat → ReadsAt all (does k c now d (Some seat)).core
     by (inl (no_place, free)) =
         let r = command_step seat.client d now in
         reads_seat (hashed_of all) k.seats (k.ops ++ new r.0 r.1 ∷ []) c (record seat { client = r.0; place = place_with seat.place (length k.ops) r.1.ended }) (λ j o is at. first r.0 r.1 (begun_command seat.client d now free) (silent_command seat.client d now).1 j o (subst (λ l. job_of (place_with l (length k.ops) r.1.ended) r.0.task ≡ Some j) no_place is) at) grown
       where
-        first : (s : client.State) (acts : ClientStep) → TaskReads no_traffic s.task → acts.counts ≡ no_counts → (j : Job) (o : Op) → job_of (place_with None (length k.ops) acts.ended) s.task ≡ Some j → slice_get (k.ops ++ op_after (begun c (word_of d) (file_of d) (value_at_begin seat.client (word_of d) (file_of d) (command_step seat.client d now).1.ended) (k.steps + 1)) s [] (k.steps + 1) acts ∷ []) j.place ≡ Some o → StageReads o.traffic j.stage
-        first s acts b counts j o is at = here_ acts.ended is
-          where
-            n : Op
-            n = op_after (begun c (word_of d) (file_of d) (value_at_begin seat.client (word_of d) (file_of d) (command_step seat.client d now).1.ended) (k.steps + 1)) s [] (k.steps + 1) acts
-
-            here_ : (e : Option Ended) → job_of (place_with None (length k.ops) e) s.task ≡ Some j → StageReads o.traffic j.stage
-            here_ (Some e) is = nothing_there j is
-            here_ None is =
-                let place : length k.ops ≡ j.place = some_is (length k.ops) j.place (job_place (Some (length k.ops)) s.task j is) in
-                let same : n ≡ o = some_is n o (sym (at_end k.ops n) ∙ ap (slice_get (k.ops ++ n ∷ [])) place ∙ at) in
-                let on : StageReads no_traffic j.stage = subst (TaskReads no_traffic) (job_task (Some (length k.ops)) s.task j is) b in
-                subst (λ (z : Op). StageReads z.traffic j.stage) same (subst (λ z. StageReads z j.stage) (sym (nothing s acts counts)) on)
+        first : (s : client.State) (acts : ClientStep) → TaskReads no_traffic s.task → acts.counts ≡ no_counts → (j : Job) (o : Op) → job_of (place_with None (length k.ops) acts.ended) s.task ≡ Some j → slice_get (k.ops ++ made_by k c now d seat s acts ∷ []) j.place ≡ Some o → StageReads o.traffic j.stage
+        first s acts b counts j o is at =
+            let w = job_begins k.ops (new s acts) o s.task acts.ended j is at in
+            subst (λ (z : Op). StageReads z.traffic j.stage) w.0 (subst (λ z. StageReads z j.stage) (sym (made_silent k c now d seat s acts counts acts.ended)) (subst (TaskReads no_traffic) w.1 b))
     by (inr (i, is)) =
         let r = command_step seat.client d now in
         let busy = busy_command seat.client d now (record { file = i.file; stage = i.stage }) (job_task seat.place seat.client.task i is) in
-        reads_seat (hashed_of all) k.seats (k.ops ++ new r.0 r.1 ∷ []) c (record seat { client = r.0; place = place_with seat.place (length k.ops) r.1.ended }) (λ j o e at. grown.jobs c seat j o here (same r.1.ended (ap (λ (z : client.State). job_of (place_with seat.place (length k.ops) r.1.ended) z.task) (sym busy.1) ∙ e)) at) grown
-      where
-        same : {j : Job} (e : Option Ended) → job_of (place_with seat.place (length k.ops) e) seat.client.task ≡ Some j → job seat ≡ Some j
-        same {j} e q = by_place seat.place (job_place seat.place seat.client.task i is) q
-          where
-            by_place : (l : Option ℕ) → l ≡ Some i.place → job_of (place_with l (length k.ops) e) seat.client.task ≡ Some j → job_of l seat.client.task ≡ Some j
-            by_place None w q = nothing_there i.place w
-            by_place (Some p) w q = q
+        reads_seat (hashed_of all) k.seats (k.ops ++ new r.0 r.1 ∷ []) c (record seat { client = r.0; place = place_with seat.place (length k.ops) r.1.ended }) (λ j o e at. grown.jobs c seat j o here (job_stays seat i (length k.ops) is j r.1.ended (ap (λ (z : client.State). job_of (place_with seat.place (length k.ops) r.1.ended) z.task) (sym busy.1) ∙ e)) at) grown
 
 -- ---- an open ends: its content is that of the file when its attempt began
 
@@ -209,19 +145,16 @@ filter_set f m (o ∷ os) (suc p) old new at a b = ap (λ l. cond (changed_befor
 no_change : (f m : ℕ) (o : Op) → o.word ≡ words.Open → changed_before f m o ≡ false
 no_change f m o e = ap (λ w. (changes w && (o.file == f)) && option_map_or (λ p. nat_lt p m) o.point false) e
 
-same_value : (book more : Book) (f m p : ℕ) (old new : Op) → more.opening ≡ book.opening → more.ops ≡ slice_set book.ops p new → slice_get book.ops p ≡ Some old → old.word ≡ words.Open → new.word ≡ words.Open → value_at more f m ≡ value_at book f m
+pub same_value : (book more : Book) (f m p : ℕ) (old new : Op) → more.opening ≡ book.opening → more.ops ≡ slice_set book.ops p new → slice_get book.ops p ≡ Some old → old.word ≡ words.Open → new.word ≡ words.Open → value_at more f m ≡ value_at book f m
 same_value book more f m p old new opening are at a b =
     ap (λ (l : List Opening). value_after (content_of l f) (latest (filter (changed_before f m) more.ops))) opening
     ∙ ap (λ (l : List Op). value_after (content_of book.opening f) (latest (filter (changed_before f m) l))) are
     ∙ ap (λ (l : List Op). value_after (content_of book.opening f) (latest l)) (filter_set f m book.ops p old new at (no_change f m old a) (no_change f m new b))
 
 -- where an open has tried before, its file has moved
-moved_by : (book : Book) (taken : List Taken) (j : Job) (o : Op) → slice_get book.ops j.place ≡ Some o → IsTrying book (Some j) → FetchOf book taken j j.stage → stage_word j.stage ≡ words.Open → (tries_of j.stage ≡ 1 → ⊥) → Moved book.ops j.file o.begin (book.steps + 1)
+moved_by : (book : Book) (taken : List TakenCall) (j : Job) (o : Op) → slice_get book.ops j.place ≡ Some o → IsTrying book (Some j) → FetchOf book taken j j.stage → stage_word j.stage ≡ words.Open → (tries_of j.stage ≡ 1 → ⊥) → Moved book.ops j.file o.begin (book.steps + 1)
 moved_by book taken j o at trying fetch word more = by j.stage refl fetch word more
   where
-    closed : words.Close ≡ words.Open → ⊥
-    closed e = absurd cc
-
     one_more : (n count : ℕ) → n ≡ suc count → (n ≡ 1 → ⊥) → (c : ℕ) × (count ≡ suc c)
     one_more n zero e more = absurd (more e)
     one_more n (suc c) e more = (c, refl)
@@ -248,30 +181,28 @@ moved_by book taken j o at trying fetch word more = by j.stage refl fetch word m
     by (stage.Hashing tries x) e f w more = hashing tries (trying j tries x refl e) more
     by (stage.Listing x g) e f w more = fetched g.first g.tries f.0.tried more
     by (stage.Reading g) e f w more = fetched g.first g.tries f.0.tried more
-    by (stage.Making x temp) e f w more = absurd (closed w)
-    by (stage.Storing st) e f w more = absurd (closed w)
-    by (stage.Committing x) e f w more = absurd (closed w)
+    by _ e f w more = absurd (close_not_open w)
 
-no_bytes : (x : List ℕ) → length x ≡ 0 → x ≡ []
+pub no_bytes : (x : List ℕ) → length x ≡ 0 → x ≡ []
 no_bytes [] e = refl
 no_bytes (b ∷ x) e = absurd (omega (arith, e))
 
-no_chunks : (cs : List Chunk) → Row [] 0 cs → length cs ≡ 0
+pub no_chunks : (cs : List Chunk) → Row [] 0 cs → length cs ≡ 0
 no_chunks [] r = refl
 no_chunks (c ∷ cs) r = let some = r.0.some in let most = r.0.within in absurd (omega (arith, some, most))
 
 -- what is known of an operation as its client takes an answer
-record Taking (book more : Book) (taken : List Taken) (j : Job) (o : Op) (p : ℕ) : Type 0 where
-  at : slice_get book.ops j.place ≡ Some o
-  place : j.place ≡ p
-  file : o.file ≡ j.file
-  word : o.word ≡ stage_word j.stage
-  running : o.outcome ≡ told.Running
-  fetch : FetchOf book taken j j.stage
-  trying : IsTrying book (Some j)
-  opening : more.opening ≡ book.opening
+pub record Taking (book more : Book) (taken : List TakenCall) (j : Job) (o : Op) (p : ℕ) : Type 0 where
+  pub at : slice_get book.ops j.place ≡ Some o
+  pub place : j.place ≡ p
+  pub file : o.file ≡ j.file
+  pub word : o.word ≡ stage_word j.stage
+  pub running : o.outcome ≡ told.Running
+  pub fetch : FetchOf book taken j j.stage
+  pub trying : IsTrying book (Some j)
+  pub opening : more.opening ≡ book.opening
 
-open_ends : (book more : Book) (taken : List Taken) (j : Job) (o : Op) (p : ℕ) (c : client.State) (acts : ClientStep) → Taking book more taken j o p → more.ops ≡ slice_set book.ops p (op_after o c taken (book.steps + 1) acts) → EndReads (counted o.traffic acts.counts) j.stage acts.ended → IsRight more (op_after o c taken (book.steps + 1) acts)
+open_ends : (book more : Book) (taken : List TakenCall) (j : Job) (o : Op) (p : ℕ) (c : client.State) (acts : ClientStep) → Taking book more taken j o p → more.ops ≡ slice_set book.ops p (op_after o c taken (book.steps + 1) acts) → EndReads (counted o.traffic acts.counts) j.stage acts.ended → IsRight more (op_after o c taken (book.steps + 1) acts)
     → more.moments ≡ book.moments → (len : ℕ) (digest : List ℕ) → (op_after o c taken (book.steps + 1) acts).outcome ≡ told.Opened len digest → WasRead (hashed_of book.moments) book.ops (op_after o c taken (book.steps + 1) acts)
 open_ends book more taken j o p c acts t are end right moments len digest e = by acts.ended are end right e
   where
@@ -354,33 +285,27 @@ open_ends book more taken j o p c acts t are end right moments len digest e = by
 -- ---- an answer
 
 own_counted : (st : Stage) (tr : Traffic) (n : Counts) → CountsOwn (stage_word st) tr → OwnCounts st n → CountsOwn (stage_word st) (counted tr n)
-own_counted (stage.Hashing tries x) tr n h c = let a = h.0 in let b = h.1 in let p = c.0 in let q = c.1 in (omega (arith, a, p), omega (arith, b, q))
-own_counted (stage.Listing x f) tr n h c = let a = h.0 in let b = h.1 in let p = c.0 in let q = c.1 in (omega (arith, a, p), omega (arith, b, q))
-own_counted (stage.Reading f) tr n h c = let a = h.0 in let b = h.1 in let p = c.0 in let q = c.1 in (omega (arith, a, p), omega (arith, b, q))
 own_counted (stage.Making x temp) tr n h c = let a = h in let b = c in omega (arith, a, b)
 own_counted (stage.Storing st) tr n h c = let a = h in let b = c in omega (arith, a, b)
 own_counted (stage.Committing x) tr n h c = let a = h in let b = c in omega (arith, a, b)
+own_counted _ tr n h c = let a = h.0 in let b = h.1 in let p = c.0 in let q = c.1 in (omega (arith, a, p), omega (arith, b, q))
 
 read_xids : (us : List ReadCall) → map (λ (p : Pending). p.xid) (map client.read_pending us) ≡ map (λ (u : ReadCall). u.xid) us
 read_xids [] = refl
 read_xids (u ∷ us) = ap (λ (l : List ℕ). u.xid ∷ l) (read_xids us)
 
-apart_in : (x : ℕ) (st : Stage) → times x (map (λ (p : Pending). p.xid) (client.pending_in st)) ≤ 1 → IsApart x st
+pub apart_in : (x : ℕ) (st : Stage) → times x (map (λ (p : Pending). p.xid) (client.pending_in st)) ≤ 1 → IsApart x st
 apart_in x (stage.Reading f) once = subst (λ (l : List ℕ). times x l ≤ 1) (read_xids f.under) once
-apart_in x (stage.Hashing tries y) once = tt
-apart_in x (stage.Listing y f) once = tt
-apart_in x (stage.Making y temp) once = tt
-apart_in x (stage.Storing st) once = tt
-apart_in x (stage.Committing y) once = tt
+apart_in x _ once = tt
 
 reads_hears : FitLaws → (book more : Book) (all : List Moment) (k : Core) (qs after : List Queue) (n now : ℕ) (bytes : List ℕ) (mid : List Queue) → IsKept book k qs → (h : Heard k qs n now bytes mid) → IsKept more (happens k (Hears n now bytes)).core after → book.moments ≡ all → more.moments ≡ book.moments → more.opening ≡ book.opening → ReadsAt all k → ReadsAt all (happens k (Hears n now bytes)).core
 reads_hears laws book more all k qs after n now bytes mid kept h left all_is moments opening before =
-    subst (λ (t : Turned). ReadsAt all t.core) (sym turned) (reads_acts (hashed_of all) k.seats k.ops h.session.owner h.seat r.0 taken (k.steps + 1) r.1 (foreign_at book k qs h.session.owner h.seat kept h.owner) renewed before)
+    subst (λ (t : CoreStep). ReadsAt all t.core) (sym turned) (reads_acts (hashed_of all) k.seats k.ops h.session.owner h.seat r.0 taken (k.steps + 1) r.1 (foreign_at book k qs h.session.owner h.seat kept h.owner) renewed before)
   where
     r : client.State × ClientStep
     r = got_step h.seat.client (Ok (told_message h.told)) now
 
-    taken : List Taken
+    taken : List TakenCall
     taken = session_taken (session_of k.sessions h.seat.session)
 
     turned : happens k (Hears n now bytes) ≡ acted k h.session.owner h.seat r.0 r.1
@@ -405,7 +330,7 @@ reads_hears laws book more all k qs after n now bytes mid kept h left all_is mom
         let word : o.word ≡ stage_word j.stage = ap (λ (z : Op). z.word) (some_is o of.op (sym book_at_place ∙ of.there)) ∙ of.word in
         let task = job_task h.seat.place h.seat.client.task j w.1 in
         let new : Op = op_after o r.0 taken (k.steps + 1) r.1 in
-        let ops_are : more.ops ≡ slice_set k.ops p new = left.ops ∙ ap (λ (t : Turned). t.core.ops) turned ∙ ap (λ l. ops_with k.ops l r.0 taken (k.steps + 1) r.1) e ∙ ap (λ l. ops_after k.ops p l r.0 taken (k.steps + 1) r.1) at in
+        let ops_are : more.ops ≡ slice_set k.ops p new = left.ops ∙ ap (λ (t : CoreStep). t.core.ops) turned ∙ ap (λ l. ops_with k.ops l r.0 taken (k.steps + 1) r.1) e ∙ ap (λ l. ops_after k.ops p l r.0 taken (k.steps + 1) r.1) at in
         let right = left.sound.rights p new (ap (λ (l : List Op). slice_get l p) ops_are ∙ at_replaced k.ops p new o at) in
         let job_is : job s.seat ≡ Some j = ap job same_seat ∙ w.1 in
         let talk = s.talk h.uncut in

@@ -1,34 +1,17 @@
 -- What opens counted, as a run carries it: of an operation under way by its stage, and of an open that got its content by that content.
 use Rattle.std.proofs.Common.{◌⊎◌, inl, inr, ◌≡◌, ℕ, zero, suc, ◌+◌, ◌<◌, ◌≤◌, List, [], ◌∷◌, ◌++◌, length, Option, Some, None, Bool, true, false, refl, sym, ap, ◌∙◌, subst, arith}
-use Rattle.std.proofs.lemmas.Bool.Decides.{nat_tests}
-use Rattle.std.specs.Prelude.{◌==◌, ◌&&◌, nat_lt, cond, slice_get, slice_set, filter}
-use Rattle.std.specs.Option.{option_map_or}
-use Rattle.chunk_cut.specs.Chunks.{chunks_of}
 use Rattle.open_close.specs.State as client
-use Rattle.open_close.specs.declared.step.ClientStep.{ClientStep}
-use Rattle.open_close.specs.declared.step.Ended.{Ended}
-use Rattle.open_close.specs.declared.task.Task.{Task}
-use Rattle.register_model.specs.Register.{changes, changed_before}
-use Rattle.register_model.specs.declared.op.Op.{Op}
 use Rattle.register_model.specs.declared.op.Outcome.TheVariants as told
-use Rattle.register_model.specs.declared.op.Word.{Word}
 use Rattle.register_model.specs.declared.op.Word.TheVariants as words
-use Rattle.trace_replay.specs.declared.link.Taken.{Taken}
-use Rattle.trace_replay.specs.Ops.{no_traffic, op_after, place_after}
-use Rattle.trace_replay.specs.Core.{Seat, numbered, with_numbered, ops_after, ops_with}
-use Rattle.trace_replay.specs.Traffic.{open_traffic, CountsOwn}
-use Rattle.trace_replay.specs.Book.{Book, Or, Collides, version_at}
-use Rattle.trace_replay.specs.Causes.{Tried}
-use Rattle.trace_replay.specs.Faithful.{OpenedBy}
-use Rattle.trace_replay.specs.Trail.{hashed_of}
-use Rattle.kept_promise.proofs.Lists.{some_is, nothing_there, of_appended, of_replaced}
+use Rattle.trace_replay.specs.Traffic.{open_traffic}
+use Rattle.kept_promise.proofs.Common.{nat_tests, ◌==◌, ◌&&◌, nat_lt, cond, slice_get, slice_set, filter, option_map_or, chunks_of, ClientStep, Task, changes, changed_before, Op, Word, TakenCall, no_traffic, op_after, place_after, Seat, numbered, with_numbered, ops_after, ops_with, CountsOwn, Book, Or, Collides, version_at, Tried, OpenedBy, hashed_of}
+use Rattle.kept_promise.proofs.Lists.{some_is}
 use Rattle.kept_promise.proofs.Marks.{unpointed}
-use Rattle.kept_promise.proofs.Messages.{Job, job, job_of}
+use Rattle.kept_promise.proofs.Messages.{Job, job}
 use Rattle.kept_promise.proofs.Counted.{traffic_is}
-use Rattle.kept_promise.proofs.Actors.{job_place, job_task}
-use Rattle.kept_promise.proofs.Versions.{version_in, of_numbered, cons_count, count_replaced, count_appended, after_alike}
-use Rattle.kept_promise.proofs.StoredRuns.{ops_shape}
+use Rattle.kept_promise.proofs.Versions.{version_in, cons_count, count_replaced, count_appended, after_alike}
 use Rattle.kept_promise.proofs.Fetching.{StageReads}
+use Rattle.kept_promise.proofs.JobFacts.{jobs_seat, jobs_set, ops_set, jobs_more, ops_more, jobs_act, ops_act}
 
 -- ---- versions grow
 
@@ -36,9 +19,8 @@ changed_later : (f p q : ℕ) (o : Op) → p ≤ q → changed_before f p o ≡ 
 changed_later f p q o le e = by (changes o.word && (o.file == f)) o.point e
   where
     by : (b : Bool) (t : Option ℕ) → (b && option_map_or (λ x. nat_lt x p) t false) ≡ true → (b && option_map_or (λ x. nat_lt x q) t false) ≡ true
-    by true None e = absurd cc
     by true (Some x) e = grind (arith, nat_tests, e, le)
-    by false t e = absurd cc
+    by _ _ e = absurd cc
 
 count_later : (f p q : ℕ) (ops : List Op) → p ≤ q → length (filter (changed_before f p) ops) ≤ length (filter (changed_before f q) ops)
 count_later f p q [] le = omega arith
@@ -60,7 +42,7 @@ version_later ops f p q le = let c = count_later f p q ops le in omega (arith, c
 
 -- ---- attempts
 
-tried_from : (book : Book) (f b n p : ℕ) → Tried book f b n p → b ≤ p
+pub tried_from : (book : Book) (f b n p : ℕ) → Tried book f b n p → b ≤ p
 tried_from book f b zero p h = h
 tried_from book f b (suc n) p h = let le = tried_from book f b n h.0 h.2 in let lt = h.3 in let at = h.4 in omega (arith, le, lt, at)
 
@@ -112,17 +94,16 @@ pub record HaveReads (hashed : List (List ℕ)) (seats : List Seat) (ops : List 
   pub silent : (p : ℕ) (o : Op) → slice_get ops p ≡ Some o → o.end ≡ Some o.begin → o.traffic ≡ no_traffic
   pub opened : (p len : ℕ) (digest : List ℕ) (o : Op) → slice_get ops p ≡ Some o → o.outcome ≡ told.Opened len digest → WasRead hashed ops o
 
+-- one that ended with its begin counts nothing
+abbrev IsSilent : Op → Type 0
+IsSilent o = o.end ≡ Some o.begin → o.traffic ≡ no_traffic
+
+abbrev OpenRead : List (List ℕ) → List Op → (len : ℕ) → (digest : List ℕ) → Op → Type 0
+OpenRead hashed ops len digest o = o.outcome ≡ told.Opened len digest → WasRead hashed ops o
+
 -- another seat of a client
 pub reads_seat : (hashed : List (List ℕ)) (seats : List Seat) (ops : List Op) (c : ℕ) (new : Seat) → ((j : Job) (o : Op) → job new ≡ Some j → slice_get ops j.place ≡ Some o → StageReads o.traffic j.stage) → HaveReads hashed seats ops → HaveReads hashed (with_numbered seats c new) ops
-reads_seat hashed seats ops c new jobs h = record {
-  jobs = λ i seat j o here is at. elim (of_numbered seats c new i seat here) [
-    | inr other ↦ h.jobs i seat j o other.1 is at
-    | inl same ↦ jobs j o (ap job (sym same.1) ∙ is) at
-  ];
-  own = h.own;
-  silent = h.silent;
-  opened = h.opened;
-}
+reads_seat hashed seats ops c new jobs h = record { jobs = jobs_seat (λ o. StageReads o.traffic) seats ops c new jobs h.jobs; own = h.own; silent = h.silent; opened = h.opened }
 
 -- no end is of a step to come
 abbrev pub EndsBy : (steps : ℕ) → List Op → Type 0
@@ -131,22 +112,11 @@ EndsBy n ops = (p e : ℕ) (o : Op) → slice_get ops p ≡ Some o → o.end ≡
 -- an operation gets its point
 pub reads_pointed : (hashed : List (List ℕ)) (seats : List Seat) (ops : List Op) (n place : ℕ) (o : Op) → slice_get ops place ≡ Some o → o.point ≡ None → EndsBy n ops → ((len : ℕ) (digest : List ℕ) → o.outcome ≡ told.Opened len digest → ⊥) → HaveReads hashed seats ops → HaveReads hashed seats (slice_set ops place (record o { point = Some (n + 1) }))
 reads_pointed hashed seats ops n place o was none ends never h = record {
-  jobs = λ i seat j r here is at. elim (of_replaced ops place new j.place r at) [
-    | inr other ↦ h.jobs i seat j r here is other.1
-    | inl same ↦ subst (λ (z : Op). StageReads z.traffic j.stage) (sym same.1) (h.jobs i seat j o here is (ap (slice_get ops) same.0 ∙ was))
-  ];
-  own = λ p r at. elim (of_replaced ops place new p r at) [
-    | inr other ↦ h.own p r other.1
-    | inl same ↦ subst (λ (z : Op). CountsOwn z.word z.traffic) (sym same.1) (h.own place o was)
-  ];
-  silent = λ p r at. elim (of_replaced ops place new p r at) [
-    | inr other ↦ h.silent p r other.1
-    | inl same ↦ subst (λ (z : Op). z.end ≡ Some z.begin → z.traffic ≡ no_traffic) (sym same.1) (h.silent place o was)
-  ];
-  opened = λ p len digest r at e. elim (of_replaced ops place new p r at) [
-    | inr other ↦ (let w = h.opened p len digest r other.1 e in was_later hashed ops (slice_set ops place new) r w (λ q le. stays r.file q (let b = ends p w.end r other.1 w.end_is in omega (arith, le, b))))
-    | inl same ↦ absurd (never len digest (ap (λ (z : Op). z.outcome) (sym same.1) ∙ e))
-  ];
+  jobs = jobs_set (λ z. StageReads z.traffic) seats ops place o new was (λ st f. f) h.jobs;
+  own = ops_set (λ z. CountsOwn z.word z.traffic) (λ z. CountsOwn z.word z.traffic) ops place o new was (λ p z at f. f) (λ f. f) h.own;
+  silent = ops_set IsSilent IsSilent ops place o new was (λ p z at f. f) (λ f. f) h.silent;
+  opened = λ p len digest. (ops_set (OpenRead hashed ops len digest) (OpenRead hashed (slice_set ops place new) len digest) ops place o new was
+      (λ q z at f e. let w = f e in was_later hashed ops (slice_set ops place new) z w (λ m le. stays z.file m (let b = ends q w.end z at w.end_is in omega (arith, le, b)))) (λ f e. absurd (never len digest e)) (λ q z at. h.opened q len digest z at)) p;
 }
   where
     new : Op
@@ -162,32 +132,20 @@ reads_pointed hashed seats ops n place o was none ends never h = record {
 pub reads_appended : (hashed : List (List ℕ)) (seats : List Seat) (ops : List Op) (new : Op) → new.point ≡ None → new.traffic ≡ no_traffic → ((i : ℕ) (seat : Seat) (j : Job) → numbered seats i ≡ Some seat → job seat ≡ Some j → j.place < length ops) → ((len : ℕ) (digest : List ℕ) → new.outcome ≡ told.Opened len digest → ⊥)
     → HaveReads hashed seats ops → HaveReads hashed seats (ops ++ new ∷ [])
 reads_appended hashed seats ops new none nothing old never h = record {
-  jobs = λ i seat j o here is at. elim (of_appended ops new j.place o at) [
-    | inr was ↦ h.jobs i seat j o here is was
-    | inl last ↦ (let lt = old i seat j here is in let e = last.0 in absurd (omega (arith, lt, e)))
-  ];
-  own = λ p o at. elim (of_appended ops new p o at) [
-    | inr was ↦ h.own p o was
-    | inl last ↦ subst (λ (z : Op). CountsOwn z.word z.traffic) (sym last.1) (subst (CountsOwn new.word) (sym nothing) (own_none new.word))
-  ];
-  silent = λ p o at e. elim (of_appended ops new p o at) [
-    | inr was ↦ h.silent p o was e
-    | inl last ↦ ap (λ (z : Op). z.traffic) last.1 ∙ nothing
-  ];
-  opened = λ p len digest o at e. elim (of_appended ops new p o at) [
-    | inr was ↦ was_later hashed ops (ops ++ new ∷ []) o (h.opened p len digest o was e) (λ q le. ap (λ z. z + 1) (count_appended o.file q ops new (unpointed o.file q new none)))
-    | inl last ↦ absurd (never len digest (ap (λ (z : Op). z.outcome) (sym last.1) ∙ e))
-  ];
+  jobs = jobs_more (λ z. StageReads z.traffic) (λ z. StageReads z.traffic) seats ops new old (λ p z st at f. f) h.jobs;
+  own = ops_more (λ z. CountsOwn z.word z.traffic) (λ z. CountsOwn z.word z.traffic) ops new (λ p z at f. f) (subst (CountsOwn new.word) (sym nothing) (own_none new.word)) h.own;
+  silent = ops_more IsSilent IsSilent ops new (λ p z at f. f) (λ e. nothing) h.silent;
+  opened = λ p len digest. ops_more (OpenRead hashed ops len digest) (OpenRead hashed (ops ++ new ∷ []) len digest) ops new
+      (λ q z at f e. was_later hashed ops (ops ++ new ∷ []) z (f e) (λ m le. ap (λ y. y + 1) (count_appended z.file m ops new (unpointed z.file m new none)))) (λ e. absurd (never len digest e)) (λ q z at. h.opened q len digest z at) p;
 }
   where
     own_none : (w : Word) → CountsOwn w no_traffic
     own_none words.Open = (refl, refl)
-    own_none words.Close = refl
-    own_none w = refl
+    own_none _ = refl
 
 -- ---- a client goes on with its operation
 
-pub versions_after : (ops : List Op) (place : Option ℕ) (c : client.State) (taken : List Taken) (step : ℕ) (acts : ClientStep) (f q : ℕ) → version_in (ops_with ops place c taken step acts) f q ≡ version_in ops f q
+pub versions_after : (ops : List Op) (place : Option ℕ) (c : client.State) (taken : List TakenCall) (step : ℕ) (acts : ClientStep) (f q : ℕ) → version_in (ops_with ops place c taken step acts) f q ≡ version_in ops f q
 versions_after ops None c taken step acts f q = refl
 versions_after ops (Some l) c taken step acts f q = by (slice_get ops l) refl
   where
@@ -202,43 +160,20 @@ pub record Renewed (hashed : List (List ℕ)) (ops : List Op) (c : client.State)
   pub silent : new.end ≡ Some new.begin → new.traffic ≡ no_traffic
   pub opened : (len : ℕ) (digest : List ℕ) → new.outcome ≡ told.Opened len digest → WasRead hashed ops new
 
-pub reads_acts : (hashed : List (List ℕ)) (seats : List Seat) (ops : List Op) (i : ℕ) (seat : Seat) (c : client.State) (taken : List Taken) (step : ℕ) (acts : ClientStep)
+pub reads_acts : (hashed : List (List ℕ)) (seats : List Seat) (ops : List Op) (i : ℕ) (seat : Seat) (c : client.State) (taken : List TakenCall) (step : ℕ) (acts : ClientStep)
     → ((m : ℕ) (s : Seat) (j : Job) (o : Op) → numbered seats m ≡ Some s → job s ≡ Some j → slice_get ops j.place ≡ Some o → (m ≡ i → ⊥) → seat.place ≡ Some j.place → ⊥)
     → ((p : ℕ) (o : Op) → seat.place ≡ Some p → slice_get ops p ≡ Some o → Renewed hashed ops c acts (op_after o c taken step acts))
     → HaveReads hashed seats ops → HaveReads hashed (with_numbered seats i (record seat { client = c; place = place_after seat.place acts.ended })) (ops_with ops seat.place c taken step acts)
 reads_acts hashed seats ops i seat c taken step acts foreign renewed h = record {
-  jobs = λ m s j o here is at. elim (of_numbered seats i (record seat { client = c; place = place_after seat.place acts.ended }) m s here) [
-    | inl same ↦ own_job j o (ap job (sym same.1) ∙ is) (ops_shape ops seat.place c taken step acts j.place o at)
-    | inr other ↦ elim (ops_shape ops seat.place c taken step acts j.place o at) [
-      | inl new ↦ absurd (foreign m s j new.0 other.1 is new.2 other.0 new.1)
-      | inr old ↦ h.jobs m s j o other.1 is old.1
-    ]
-  ];
-  own = λ p o at. elim (ops_shape ops seat.place c taken step acts p o at) [
-    | inl new ↦ subst (λ (z : Op). CountsOwn z.word z.traffic) (sym new.3) (renewed p new.0 new.1 new.2).own
-    | inr old ↦ h.own p o old.1
-  ];
-  silent = λ p o at. elim (ops_shape ops seat.place c taken step acts p o at) [
-    | inl new ↦ subst (λ (z : Op). z.end ≡ Some z.begin → z.traffic ≡ no_traffic) (sym new.3) (renewed p new.0 new.1 new.2).silent
-    | inr old ↦ h.silent p o old.1
-  ];
-  opened = λ p len digest o at e. elim (ops_shape ops seat.place c taken step acts p o at) [
-    | inl new ↦ later o (subst (WasRead hashed ops) (sym new.3) ((renewed p new.0 new.1 new.2).opened len digest (ap (λ (z : Op). z.outcome) (sym new.3) ∙ e)))
-    | inr old ↦ later o (h.opened p len digest o old.1 e)
-  ];
+  jobs = jobs_act (λ z. StageReads z.traffic) (λ z. StageReads z.traffic) seats ops i seat c taken step acts foreign (λ p o st at apart f. f) (λ p o u e at on is. (renewed p o e at).stage u on is) h.jobs;
+  own = ops_act (λ z. CountsOwn z.word z.traffic) (λ z. CountsOwn z.word z.traffic) ops seat.place c taken step acts (λ p o at apart f. f) (λ p o e at. (renewed p o e at).own) h.own;
+  silent = ops_act IsSilent IsSilent ops seat.place c taken step acts (λ p o at apart f. f) (λ p o e at. (renewed p o e at).silent) h.silent;
+  opened = λ p len digest. ops_act (OpenRead hashed ops len digest) (OpenRead hashed (ops_with ops seat.place c taken step acts) len digest) ops seat.place c taken step acts
+      (λ q o at apart f e. later o (f e)) (λ q o e at is. later (op_after o c taken step acts) ((renewed q o e at).opened len digest is)) (λ q z at. h.opened q len digest z at) p;
 }
   where
     later : (o : Op) → WasRead hashed ops o → WasRead hashed (ops_with ops seat.place c taken step acts) o
     later o w = was_later hashed ops (ops_with ops seat.place c taken step acts) o w (λ q le. versions_after ops seat.place c taken step acts o.file q)
-
-    place_is : (l : Option ℕ) (e : Option Ended) (j : Job) → job_of (place_after l e) c.task ≡ Some j → (l ≡ Some j.place) × (e ≡ None) × (c.task ≡ Some (record { file = j.file; stage = j.stage }))
-    place_is l None j is = (job_place l c.task j is, refl, job_task l c.task j is)
-    place_is l (Some e) j is = nothing_there j is
-
-    own_job : (j : Job) (o : Op) → job_of (place_after seat.place acts.ended) c.task ≡ Some j
-        → ((q : Op) × (seat.place ≡ Some j.place) × (slice_get ops j.place ≡ Some q) × (o ≡ op_after q c taken step acts)) ⊎ ((seat.place ≡ Some j.place → ⊥) × (slice_get ops j.place ≡ Some o)) → StageReads o.traffic j.stage
-    own_job j o is (inl new) = let w = place_is seat.place acts.ended j is in subst (λ (z : Op). StageReads z.traffic j.stage) (sym new.3) ((renewed j.place new.0 new.1 new.2).stage (record { file = j.file; stage = j.stage }) w.1 w.2)
-    own_job j o is (inr old) = absurd (old.0 (place_is seat.place acts.ended j is).0)
 
 -- ---- what it makes of the promise
 

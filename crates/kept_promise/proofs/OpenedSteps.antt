@@ -1,37 +1,14 @@
 -- What an answer leaves of what an open counts, and that a close sends no READ.
 use Rattle.std.proofs.Common.{◌≡◌, ℕ, List, length, Option, Some, None, Bool, true, false, refl, sym, subst, arith}
-use Rattle.std.specs.Prelude.{slice_get, nat_lt, ◌==◌, if◌then◌else◌}
-use Rattle.chunk_cut.specs.declared.chunk.Chunk.{Chunk}
-use Rattle.command_text.specs.Content.{content_length, content_bytes}
-use Rattle.command_text.specs.declared.command.Command.{Command}
 use Rattle.command_text.specs.declared.command.Command.TheVariants as command
-use Rattle.command_text.specs.declared.content.Part.{Part}
-use Rattle.xdr_codec.specs.declared.answer.Answer.{Answer}
-use Rattle.xdr_codec.specs.declared.answer.Answer.TheVariants.{Done, Failed}
 use Rattle.xdr_codec.specs.declared.status.Status.TheVariants as status
 use Rattle.hash_calls.specs.declared.message.Lb.TheVariants as lb
-use Rattle.wire.specs.declared.message.Body.{Body}
 use Rattle.wire.specs.declared.message.Body.TheVariants as body
 use Rattle.wire.specs.declared.message.Message.TheVariants as message
-use Rattle.wire.specs.declared.message.Pending.{Pending}
-use Rattle.open_close.specs.Closing.{names_all, store_of, is_stored, store_at, answered}
-use Rattle.open_close.specs.Counting.{no_counts, ends}
-use Rattle.open_close.specs.Local.{local_most, written_size, written, truncated}
-use Rattle.open_close.specs.State.{State, local_at, local_bytes, pending, calls_of, has_call}
-use Rattle.open_close.specs.Step.{is_open, may_ask, asks_hashes, opens_if, opens, on_local, too_big, done_with, edits, writes, truncates, reads, abandons, asks_temp, closes, command_step, idle, goes_if, goes_on, told_temp, sends_whole, told_named, told_whole, told_way, told_stored, took, drops, took_if, got_message}
-use Rattle.open_close.specs.declared.step.ClientStep.{ClientStep}
-use Rattle.open_close.specs.declared.step.Counts.{Counts}
 use Rattle.open_close.specs.declared.step.Outcome.TheVariants as outcome
-use Rattle.open_close.specs.declared.task.Local.{Local}
-use Rattle.open_close.specs.declared.task.Stage.{Stage}
 use Rattle.open_close.specs.declared.task.Stage.TheVariants as stage
-use Rattle.open_close.specs.declared.task.Store.{Store}
-use Rattle.open_close.specs.declared.task.StoreCall.{StoreCall}
-use Rattle.open_close.specs.declared.task.Task.{Task}
-use Rattle.open_close.specs.declared.task.Way.{Way}
 use Rattle.open_close.specs.declared.task.Way.TheVariants as way
-use Rattle.register_model.specs.declared.op.Traffic.{Traffic}
-use Rattle.trace_replay.specs.Ops.{no_traffic, counted}
+use Rattle.kept_promise.proofs.Common.{slice_get, nat_lt, ◌==◌, if◌then◌else◌, Chunk, content_length, content_bytes, Command, Part, Answer, Done, Failed, Body, Pending, names_all, store_of, is_stored, store_at, answered, no_counts, ends, local_most, written_size, written, truncated, State, local_at, local_bytes, pending, calls_of, has_call, is_open, may_ask, asks_hashes, opens_if, opens, on_local, too_big, done_with, edits, writes, truncates, reads, abandons, asks_temp, closes, command_step, idle, goes_if, goes_on, told_temp, sends_whole, told_named, told_whole, told_way, told_stored, took, drops, took_if, got_message, ClientStep, Counts, Local, Stage, Store, StoreCall, Task, Way, Traffic, no_traffic, counted}
 use Rattle.kept_promise.proofs.StoreSteps.{counted_none}
 use Rattle.kept_promise.proofs.Fetching.{StageReads, TaskReads, EndReads, Fetched, IsApart, fetched_took}
 
@@ -108,12 +85,10 @@ answered_took tr s calls file (stage.Making asked temp) xid b apart h = record {
 answered_took tr s calls file (stage.Committing asked) xid b apart h = record { task = tt; end = tt; own = refl }
 
 no_own : (s : Stage) → OwnCounts s no_counts
-no_own (stage.Hashing tries x) = (refl, refl)
-no_own (stage.Listing x f) = (refl, refl)
-no_own (stage.Reading f) = (refl, refl)
 no_own (stage.Making x temp) = refl
 no_own (stage.Storing st) = refl
 no_own (stage.Committing x) = refl
+no_own _ = (refl, refl)
 
 -- whatever answer comes to a client with an operation under way
 pub answered_by : (tr : Traffic) (s : State) (t : Task) (xid : ℕ) (b : Body) → s.task ≡ Some t → IsApart xid t.stage → StageReads tr t.stage → Answered tr t.stage (got_message s s.task (message.Answer xid b))

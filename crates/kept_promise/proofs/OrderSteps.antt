@@ -1,19 +1,8 @@
 -- A client takes an answer: what else is on its way is to other calls, and stays in order as its operation goes on or ends.
-use Rattle.std.proofs.Common.{eqb-true, ◌⊎◌, inl, inr, ◌≡◌, ℕ, zero, suc, ◌<◌, ◌≤◌, List, [], ◌∷◌, ◌++◌, Option, Some, Bool, true, false, refl, sym, ap, ◌∙◌, subst, arith, eq-eqb, append-nil}
-use Rattle.std.specs.Prelude.{slice_get, map, cond, ◌==◌, IsSome}
-use Rattle.wire.specs.declared.message.Pending.{Pending}
-use Rattle.wire.specs.declared.message.Program.{Program}
-use Rattle.server_core.specs.Temps.{Temp}
-use Rattle.server_core.specs.declared.change.Change.{Change}
-use Rattle.xdr_codec.specs.declared.answer.Answer.TheVariants.{Done, Failed}
-use Rattle.open_close.specs.declared.task.Stage.{Stage}
+use Rattle.std.proofs.Common.{eqb-true, ◌⊎◌, inl, inr, ◌≡◌, ℕ, zero, suc, ◌<◌, ◌≤◌, List, [], ◌∷◌, ◌++◌, Option, Some, Bool, true, false, refl, sym, ap, ◌∙◌, subst, arith, eq-eqb, append-nil, map, IsSome}
 use Rattle.open_close.specs.declared.task.Stage.TheVariants as stage
-use Rattle.register_model.specs.Register.{content_of}
 use Rattle.register_model.specs.declared.op.Word.TheVariants as words
-use Rattle.trace_replay.specs.Core.{Seat}
-use Rattle.trace_replay.specs.World.{unless}
-use Rattle.trace_replay.specs.Book.{Book}
-use Rattle.kept_promise.specs.Talk.{Call, Call.Hash, Call.Read, Call.Make, Call.Name, Call.Send, Call.Commit, Reply, Reply.Hashed, Reply.Bytes, Reply.Made, Reply.Named, Reply.Stored, Reply.Changed, Ask, Told, Queue, call_program, reply_program}
+use Rattle.kept_promise.proofs.Common.{slice_get, cond, ◌==◌, Pending, Program, Temp, Change, Failed, Stage, content_of, Seat, unless, Book, Call, Call.Make, Call.Name, Call.Send, Call.Commit, Reply, Reply.Made, Reply.Named, Reply.Stored, Reply.Changed, Ask, Told, Queue, call_program, reply_program}
 use Rattle.kept_promise.proofs.Lists.{some_is, nothing_there}
 use Rattle.kept_promise.proofs.Keys.{times, times_append, key, own, on_way, ask_key, told_key, change_key, pending_key, found_by, there_by, key_xid}
 use Rattle.kept_promise.proofs.Messages.{Job, job, stage_word, AllAsks, AllTolds}
@@ -21,6 +10,7 @@ use Rattle.kept_promise.proofs.Growth.{Grows}
 use Rattle.kept_promise.proofs.Orderly.{locals_of, InPlace, IsInPlace, Wanted, IsWanted, HeldIn, Held, Orderly}
 use Rattle.kept_promise.proofs.Ordered.{IsFetching, IsFetched, AllFetching, AllFetched, fetching_place, fetched_wanted, CloseFree, free_held, held_free, all_wanted_later}
 use Rattle.kept_promise.proofs.Facts.{IsBalanced}
+use Rattle.kept_promise.proofs.Rights.{open_not_close}
 
 -- ---- what is there once
 
@@ -130,21 +120,18 @@ WaitsFor (stage.Storing st) y = ⊥
 WaitsFor s y = Unit {0}
 
 other_call : (j : Job) (v : ℕ → List ℕ) (x y : ℕ) (c : Call) → WaitsFor j.stage x → (y ≡ x → ⊥) → InPlace (Some j) v y c → IsFetching c
-other_call j v x y (Hash f o) w apart h = tt
-other_call j v x y (Read f c) w apart h = tt
 other_call j v x y (Make m f) w apart h = apart (sym (subst (λ (s : Stage). WaitsFor s x → x ≡ y) (sym (ap (λ (z : Job). z.stage) (some_is j h.0 h.1) ∙ h.2)) (λ e. sym e) w))
 other_call j v x y (Name m c) w apart h = absurd (subst (λ (s : Stage). WaitsFor s x → ⊥) (sym (ap (λ (z : Job). z.stage) (some_is j h.0.of h.0.is) ∙ h.0.at)) (λ e. e) w)
 other_call j v x y (Send m s b) w apart h = absurd (subst (λ (s : Stage). WaitsFor s x → ⊥) (sym (ap (λ (z : Job). z.stage) (some_is j h.0.of h.0.is) ∙ h.0.at)) (λ e. e) w)
 other_call j v x y (Commit m f s) w apart h = apart (sym (subst (λ (s : Stage). WaitsFor s x → x ≡ y) (sym (ap (λ (z : Job). z.stage) (some_is j h.0 h.1) ∙ h.2)) (λ e. sym e) w))
+other_call j v x y _ w apart h = tt
 
 other_reply : (book : Book) (j : Job) (x y : ℕ) (r : Reply) → WaitsFor j.stage x → (y ≡ x → ⊥) → Wanted book (Some j) y r → IsFetched r
-other_reply book j x y (Hashed a) w apart h = tt
-other_reply book j x y (Bytes a) w apart h = tt
 other_reply book j x y (Made a) w apart h = apart (sym (subst (λ (s : Stage). WaitsFor s x → x ≡ y) (sym (ap (λ (z : Job). z.stage) (some_is j h.0.0 h.0.2) ∙ h.0.3)) (λ e. sym e) w))
 other_reply book j x y (Named a) w apart h = absurd (subst (λ (s : Stage). WaitsFor s x → ⊥) (sym (ap (λ (z : Job). z.stage) (some_is j h.0.of h.0.is) ∙ h.0.at)) (λ e. e) w)
 other_reply book j x y (Stored a) w apart h = absurd (subst (λ (s : Stage). WaitsFor s x → ⊥) (sym (ap (λ (z : Job). z.stage) (some_is j h.0.of h.0.is) ∙ h.0.at)) (λ e. e) w)
-other_reply book j x y (Changed (Done c)) w apart h = tt
 other_reply book j x y (Changed (Failed s u)) w apart h = apart (sym (subst (λ (s : Stage). WaitsFor s x → x ≡ y) (sym (ap (λ (z : Job). z.stage) (some_is j h.0.0 h.0.2) ∙ h.0.3)) (λ e. sym e) w))
+other_reply book j x y _ w apart h = tt
 
 pub all_asks_at : (P : Ask → Type 0) (us : List Ask) → ((i : ℕ) (a : Ask) → slice_get us i ≡ Some a → P a) → AllAsks P us
 all_asks_at P [] f = tt
@@ -208,18 +195,13 @@ orderly_dropped book more made ended n temps hung q t ts seat g first h = record
 -- ---- the operation ends, or an open goes on
 
 open_waits : (s : Stage) (x : ℕ) → stage_word s ≡ words.Open → WaitsFor s x
-open_waits (stage.Hashing t y) x e = tt
-open_waits (stage.Listing y f) x e = tt
-open_waits (stage.Reading f) x e = tt
 open_waits (stage.Making y m) x e = absurd cc
 open_waits (stage.Storing st) x e = absurd cc
 open_waits (stage.Committing y) x e = absurd cc
+open_waits _ x e = tt
 
 open_free : (j : Job) → stage_word j.stage ≡ words.Open → CloseFree (Some j)
-open_free j e i f w = apart (sym e ∙ ap (λ (z : Job). stage_word z.stage) (some_is j i f) ∙ w)
-  where
-    apart : words.Open ≡ words.Close → ⊥
-    apart e = absurd cc
+open_free j e i f w = open_not_close (sym e ∙ ap (λ (z : Job). stage_word z.stage) (some_is j i f) ∙ w)
 
 -- an operation ends by an answer to an open, or to a commit
 abbrev pub EndsAt : Job → (xid : ℕ) → Type 0

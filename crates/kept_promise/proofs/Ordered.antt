@@ -1,21 +1,8 @@
 -- Calls and answers of closes stay in order: as a run grows, where none is of the operation under way, and as the first call is taken.
-use Rattle.std.proofs.Common.{◌≡◌, ℕ, zero, suc, ◌<◌, ◌≤◌, List, [], ◌∷◌, Option, Some, None, Bool, true, false, length, refl, sym, ap, ◌∙◌, subst, arith}
-use Rattle.std.specs.Prelude.{IsSome}
-use Rattle.xdr_codec.specs.declared.answer.Answer.TheVariants.{Done, Failed}
-use Rattle.server_core.specs.Temps.{Temp, temp_at}
-use Rattle.server_core.specs.Closing.{is_full}
-use Rattle.open_close.specs.declared.task.Stage.{Stage}
+use Rattle.std.proofs.Common.{◌≡◌, ℕ, zero, suc, ◌<◌, ◌≤◌, List, [], ◌∷◌, Option, Some, None, Bool, true, false, length, refl, sym, ap, ◌∙◌, subst, arith, IsSome}
 use Rattle.open_close.specs.declared.task.Stage.TheVariants as stage
-use Rattle.open_close.specs.declared.task.Store.{Store}
-use Rattle.register_model.specs.Register.{content_of}
-use Rattle.register_model.specs.declared.op.Opening.{Opening}
-use Rattle.register_model.specs.declared.op.Op.{Op}
 use Rattle.register_model.specs.declared.op.Word.TheVariants as words
-use Rattle.trace_replay.specs.Core.{Seat}
-use Rattle.trace_replay.specs.World.{unless}
-use Rattle.trace_replay.specs.Book.{Book}
-use Rattle.trace_replay.specs.Trail.{step_of}
-use Rattle.kept_promise.specs.Talk.{Call, Call.Hash, Call.Read, Call.Make, Call.Name, Call.Send, Call.Commit, Reply, Reply.Hashed, Reply.Bytes, Reply.Made, Reply.Named, Reply.Stored, Reply.Changed, Ask, Told, Queue}
+use Rattle.kept_promise.proofs.Common.{Done, Failed, Temp, temp_at, is_full, Stage, Store, content_of, Opening, Op, Seat, unless, Book, step_of, Call, Call.Hash, Call.Read, Call.Make, Call.Name, Call.Send, Call.Commit, Reply, Reply.Hashed, Reply.Bytes, Reply.Made, Reply.Named, Reply.Stored, Reply.Changed, Ask, Told, Queue}
 use Rattle.kept_promise.proofs.Lists.{some_is, nothing_there, at_end}
 use Rattle.kept_promise.proofs.Messages.{Job, job, stage_word, AllAsks, AllTolds}
 use Rattle.kept_promise.proofs.Growth.{Grows}
@@ -50,10 +37,7 @@ fetching_place job v (a ∷ us) h = (by a.call h.0, fetching_place job v us h.1)
     by : (c : Call) → IsFetching c → InPlace job v a.xid c
     by (Hash f o) h = tt
     by (Read f c) h = tt
-    by (Make m f) h = absurd h
-    by (Name m c) h = absurd h
-    by (Send m s b) h = absurd h
-    by (Commit m f s) h = absurd h
+    by _ h = absurd h
 
 pub fetched_wanted : (book : Book) (job : Option Job) (ts : List Told) → AllFetched ts → AllTolds (IsWanted book job) ts
 fetched_wanted book job [] h = tt
@@ -62,36 +46,30 @@ fetched_wanted book job (t ∷ ts) h = (by t.reply h.0, fetched_wanted book job 
     by : (r : Reply) → IsFetched r → Wanted book job t.xid r
     by (Hashed a) h = tt
     by (Bytes a) h = tt
-    by (Made a) h = absurd h
-    by (Named a) h = absurd h
-    by (Stored a) h = absurd h
     by (Changed (Done c)) h = tt
-    by (Changed (Failed s u)) h = absurd h
+    by _ h = absurd h
 
 -- no close is under way
 abbrev pub CloseFree : Option Job → Type 0
 CloseFree job = (j : Job) → job ≡ Some j → stage_word j.stage ≡ words.Close → ⊥
 
 free_call : (job : Option Job) (v : ℕ → List ℕ) (x : ℕ) (c : Call) → CloseFree job → InPlace job v x c → IsFetching c
-free_call job v x (Hash f o) free h = tt
-free_call job v x (Read f c) free h = tt
 free_call job v x (Make m f) free h = free h.0 h.1 (ap stage_word h.2)
 free_call job v x (Name m c) free h = free h.0.of h.0.is (ap stage_word h.0.at)
 free_call job v x (Send m s b) free h = free h.0.of h.0.is (ap stage_word h.0.at)
 free_call job v x (Commit m f s) free h = free h.0 h.1 (ap stage_word h.2)
+free_call job v x _ free h = tt
 
 pub free_asks : (job : Option Job) (v : ℕ → List ℕ) (us : List Ask) → CloseFree job → AllAsks (IsInPlace job v) us → AllFetching us
 free_asks job v [] free h = tt
 free_asks job v (a ∷ us) free h = (free_call job v a.xid a.call free h.0, free_asks job v us free h.1)
 
 free_reply : (book : Book) (job : Option Job) (x : ℕ) (r : Reply) → CloseFree job → Wanted book job x r → IsFetched r
-free_reply book job x (Hashed a) free h = tt
-free_reply book job x (Bytes a) free h = tt
 free_reply book job x (Made a) free h = free h.0.0 h.0.2 (ap stage_word h.0.3)
 free_reply book job x (Named a) free h = free h.0.of h.0.is (ap stage_word h.0.at)
 free_reply book job x (Stored a) free h = free h.0.of h.0.is (ap stage_word h.0.at)
-free_reply book job x (Changed (Done c)) free h = tt
 free_reply book job x (Changed (Failed s u)) free h = free h.0.0 h.0.2 (ap stage_word h.0.3)
+free_reply book job x _ free h = tt
 
 pub free_tolds : (book : Book) (job : Option Job) (ts : List Told) → CloseFree job → AllTolds (IsWanted book job) ts → AllFetched ts
 free_tolds book job [] free h = tt
@@ -106,24 +84,20 @@ free_held temps n us v None free h = h
 free_held temps n us v (Some j) free h = by j.stage (free j refl) h
   where
     by : (s : Stage) → (stage_word s ≡ words.Close → ⊥) → HeldIn temps n us (v j.file) s → NoTemp temps n
-    by (stage.Hashing t x) free h = h
-    by (stage.Listing x f) free h = h
-    by (stage.Reading f) free h = h
     by (stage.Making x m) free h = absurd (free refl)
     by (stage.Storing st) free h = absurd (free refl)
     by (stage.Committing x) free h = absurd (free refl)
+    by _ free h = h
 
 pub held_free : (temps : List (ℕ × Temp)) (n : ℕ) (us : List Ask) (v : ℕ → List ℕ) (job : Option Job) → CloseFree job → NoTemp temps n → Held temps n us v job
 held_free temps n us v None free h = h
 held_free temps n us v (Some j) free h = by j.stage (free j refl)
   where
     by : (s : Stage) → (stage_word s ≡ words.Close → ⊥) → HeldIn temps n us (v j.file) s
-    by (stage.Hashing t x) free = h
-    by (stage.Listing x f) free = h
-    by (stage.Reading f) free = h
     by (stage.Making x m) free = absurd (free refl)
     by (stage.Storing st) free = absurd (free refl)
     by (stage.Committing x) free = absurd (free refl)
+    by _ free = h
 
 -- ---- a run grows
 
@@ -149,13 +123,11 @@ pub wanted_later : (book more : Book) (made ended : Option ℕ) (job : Option Jo
 wanted_later book more made ended job t g h = by t.reply h
   where
     by : (r : Reply) → Wanted book job t.xid r → Wanted more job t.xid r
-    by (Hashed a) h = tt
-    by (Bytes a) h = tt
     by (Made a) h = h
     by (Named a) h = h
     by (Stored a) h = h
-    by (Changed (Done c)) h = tt
     by (Changed (Failed s u)) h = let w = h.0 in let r = g.each w.0.place w.1 w.4 in ((w.0, r.0, w.2, w.3, r.1, r.2.word ∙ w.5, room_later book more made ended w.1 r.0 g r.2.client r.2.begin (r.2.value w.5) w.6), h.1)
+    by _ h = tt
 
 pub all_wanted_later : (book more : Book) (made ended : Option ℕ) (job : Option Job) (ts : List Told) → Grows book more made ended → AllTolds (IsWanted book job) ts → AllTolds (IsWanted more job) ts
 all_wanted_later book more made ended job [] g h = tt
@@ -176,12 +148,10 @@ held_found temps after n us v None same h = none_found temps after n same h
 held_found temps after n us v (Some j) same h = by j.stage h
   where
     by : (s : Stage) → HeldIn temps n us (v j.file) s → HeldIn after n us (v j.file) s
-    by (stage.Hashing t x) h = none_found temps after n same h
-    by (stage.Listing x f) h = none_found temps after n same h
-    by (stage.Reading f) h = none_found temps after n same h
     by (stage.Making x m) h = (λ u. none_found temps after n same (h.0 u), λ u. let w = h.1 u in (w.0, one_found temps after n m w.0 same w.1, w.2))
     by (stage.Storing st) h = (h.0, one_found temps after n st.temp h.0 same h.1, h.2)
     by (stage.Committing x) h = (λ u. let w = h.0 u in (w.0, one_found temps after n u.1 w.0 same w.1, w.2), λ u. none_found temps after n same (h.1 u))
+    by _ h = none_found temps after n same h
 
 tree_later : (l m : List Opening) (seat : Seat) → m ≡ l → ((j : Job) → job seat ≡ Some j → stage_word j.stage ≡ words.Close → IsSome (content_of l j.file)) → (j : Job) → job seat ≡ Some j → stage_word j.stage ≡ words.Close → IsSome (content_of m j.file)
 tree_later l m seat e h j f w = subst (λ (z : List Opening). IsSome (content_of z j.file)) (sym e) (h j f w)
@@ -277,12 +247,10 @@ held_rest temps n a us v None plain h = h
 held_rest temps n a us v (Some j) plain h = by j.stage h
   where
     by : (s : Stage) → HeldIn temps n (a ∷ us) (v j.file) s → HeldIn temps n us (v j.file) s
-    by (stage.Hashing t x) h = h
-    by (stage.Listing x f) h = h
-    by (stage.Reading f) h = h
     by (stage.Making x m) h = (λ u. h.0 (make_up a us x u), λ none. h.1 (λ u. none (make_rest a us x plain u)))
     by (stage.Storing st) h = (h.0, h.1, holds_rest (v j.file) a us st h.0.pieces plain h.2)
     by (stage.Committing x) h = (λ u. h.0 (commit_up a us x u), λ none. h.1 (λ u. none (commit_rest a us x plain u)))
+    by _ h = h
 
 -- with an answer to it
 pub orderly_answered : (book more : Book) (made ended : Option ℕ) (n : ℕ) (temps after : List (ℕ × Temp)) (cut : Bool) (q : Queue) (a : Ask) (us : List Ask) (t : Told) (seat : Seat) → Grows book more made ended → q.ups ≡ a ∷ us → IsWanted more (job seat) t → Held after n us (locals_of seat.client) (job seat) → Orderly book n temps false q seat
@@ -330,7 +298,7 @@ orderly_clear book n temps hung q seat free h = record {
   none = λ up. free_held temps n q.ups (locals_of seat.client) (job seat) (none_free (job seat) free) (h.holds up);
 }
 
-place_more : (P : Ask → Type 0) (hung : Bool) (us : List Ask) (a : Ask) → AllAsks P us → P a → AllAsks P (unless hung us (a ∷ []))
+pub place_more : (P : Ask → Type 0) (hung : Bool) (us : List Ask) (a : Ask) → AllAsks P us → P a → AllAsks P (unless hung us (a ∷ []))
 place_more P true us a h p = h
 place_more P false [] a h p = (p, tt)
 place_more P false (u ∷ us) a h p = (h.0, place_more P false us a h.1 p)
@@ -348,7 +316,4 @@ orderly_begun book n temps hung q a d j is place begins tree clear = record {
     by (stage.Hashing t x) begins b up none = none
     by (stage.Making x m) begins false up none = (λ u. none, λ u. absurd (u (length q.ups, m, begins.0, at_end q.ups a ∙ ap (λ (z : Ask). Some z) begins.1)))
     by (stage.Making x m) begins true up none = absurd cc
-    by (stage.Listing x f) begins b up none = absurd begins
-    by (stage.Reading f) begins b up none = absurd begins
-    by (stage.Storing st) begins b up none = absurd begins
-    by (stage.Committing x) begins b up none = absurd begins
+    by _ begins b up none = absurd begins

@@ -1,34 +1,16 @@
 -- The calls of a close and their answers are in order: each is of the operation under way, and the session's temporary file holds just
 -- what the server took.
-use Rattle.std.proofs.Common.{◌≡◌, ℕ, ◌<◌, ◌≤◌, List, [], Option, Some, None, Bool, true, false, length}
-use Rattle.std.specs.Prelude.{Result, Ok, slice_get, Contains, IsSome}
-use Rattle.chunk_cut.specs.Chunks.{chunks_of}
-use Rattle.chunk_cut.specs.Places.{chunk_bytes}
-use Rattle.chunk_cut.specs.declared.chunk.Chunk.{Chunk}
-use Rattle.xdr_codec.specs.declared.answer.Answer.TheVariants.{Done, Failed}
+use Rattle.std.proofs.Common.{◌≡◌, ℕ, ◌<◌, ◌≤◌, List, [], Option, Some, None, Bool, true, false, length, Ok, IsSome}
 use Rattle.xdr_codec.specs.declared.status.Status.TheVariants as status
 use Rattle.hash_calls.specs.declared.call.Commit.{Commit as Commit_call}
 use Rattle.hash_calls.specs.declared.message.Lb.TheVariants as lb
-use Rattle.wire.specs.Parse.{parse_of}
 use Rattle.wire.specs.declared.message.Body.TheVariants as body
 use Rattle.wire.specs.declared.message.Message.TheVariants as message
-use Rattle.server_core.specs.Closing.{is_full}
-use Rattle.server_core.specs.Temps.{Temp}
 use Rattle.open_close.specs.State as client
-use Rattle.open_close.specs.Closing.{store_at}
-use Rattle.open_close.specs.declared.task.Stage.{Stage}
 use Rattle.open_close.specs.declared.task.Stage.TheVariants as stage
-use Rattle.open_close.specs.declared.task.Store.{Store}
-use Rattle.open_close.specs.declared.task.StoreCall.{StoreCall}
-use Rattle.open_close.specs.declared.task.Way.{Way}
 use Rattle.open_close.specs.declared.task.Way.TheVariants as way
-use Rattle.register_model.specs.Register.{content_of}
-use Rattle.register_model.specs.declared.op.Op.{Op}
 use Rattle.register_model.specs.declared.op.Word.TheVariants as words
-use Rattle.trace_replay.specs.Core.{Seat, Event.Serves, numbered, server_waiting}
-use Rattle.trace_replay.specs.Trail.{Moment, step_of, owner_in}
-use Rattle.trace_replay.specs.Book.{Book}
-use Rattle.kept_promise.specs.Talk.{Call, Call.Hash, Call.Read, Call.Make, Call.Name, Call.Send, Call.Commit, Reply, Reply.Made, Reply.Named, Reply.Stored, Reply.Changed, Ask, Told, Queue}
+use Rattle.kept_promise.proofs.Common.{slice_get, Contains, chunks_of, chunk_bytes, Chunk, Done, Failed, parse_of, is_full, Temp, store_at, Stage, Store, StoreCall, Way, content_of, Op, Seat, Event.Serves, numbered, server_waiting, Moment, step_of, owner_in, Book, Call, Call.Make, Call.Name, Call.Send, Call.Commit, Reply, Reply.Made, Reply.Named, Reply.Stored, Reply.Changed, Ask, Told, Queue}
 use Rattle.kept_promise.proofs.Statements.{PiecesOf}
 use Rattle.kept_promise.proofs.Messages.{Job, job, stage_word, AllAsks, AllTolds}
 use Rattle.kept_promise.proofs.Shelf.{NoTemp, OneTemp}
@@ -57,8 +39,7 @@ InPlace job v x (Make m f) = (j : Job) × (job ≡ Some j) × (j.stage ≡ stage
 InPlace job v x (Name m c) = (s : IsStore job x way.Named) × (s.store.temp ≡ m) × (slice_get s.store.chunks s.call.index ≡ Some c)
 InPlace job v x (Send m start bytes) = (s : IsStore job x way.Whole) × (s.store.temp ≡ m) × ((c : Chunk) × (slice_get s.store.chunks s.call.index ≡ Some c) × (start ≡ c.start) × (bytes ≡ chunk_bytes (v s.of.file) c))
 InPlace job v x (Commit m f size) = (j : Job) × (job ≡ Some j) × (j.stage ≡ stage.Committing x) × (j.file ≡ f) × (size ≡ length (v j.file))
-InPlace job v x (Hash f o) = Unit {0}
-InPlace job v x (Read f c) = Unit {0}
+InPlace job v x _ = Unit {0}
 
 abbrev pub IsInPlace : Option Job → (ℕ → List ℕ) → Ask → Type 0
 IsInPlace job v a = InPlace job v a.xid a.call

@@ -1,30 +1,9 @@
 -- What the owners of the sessions are, and the stage, once a line was run.
-use Rattle.std.proofs.Common.{◌⊎◌, inl, inr, ◌≡◌, ℕ, zero, suc, ◌+◌, ◌<◌, ◌≤◌, List, [], ◌∷◌, ◌++◌, length, Option, Some, None, Bool, true, false, refl, sym, ap, ◌∙◌, subst, arith}
-use Rattle.std.proofs.lemmas.Bool.Decides.{nat_tests}
-use Rattle.std.specs.Prelude.{Result, Ok, Err, map, slice_get, slice_set, nat_lt, nat_le, ◌&&◌, take}
-use Rattle.rpc_record.specs.Records.{fed}
-use Rattle.wire.specs.Parse.{parse_of}
-use Rattle.wire.specs.declared.message.Message.{Message}
-use Rattle.wire.specs.declared.fault.WireFault.{WireFault}
-use Rattle.command_text.specs.declared.command.Command.{Command}
-use Rattle.server_core.specs.State as server
-use Rattle.server_core.specs.Step.{server_step, has_room, connect}
-use Rattle.open_close.specs.State as client
-use Rattle.open_close.specs.Step.{command_step}
-use Rattle.open_close.specs.declared.step.ClientStep.{ClientStep}
-use Rattle.register_model.specs.declared.op.Word.{Word}
-use Rattle.trace_text.specs.declared.line.Amount.{Amount}
-use Rattle.trace_text.specs.declared.line.Line.{Line}
-use Rattle.trace_text.specs.declared.line.Line.TheVariants as line
-use Rattle.trace_replay.specs.declared.link.Stage.{Stage}
-use Rattle.trace_replay.specs.declared.link.Stage.TheVariants as stage
-use Rattle.trace_replay.specs.declared.turn.Turn.{Turn}
+use Rattle.std.proofs.Common.{◌≡◌, ℕ, zero, suc, List, [], ◌∷◌, ◌++◌, length, Option, Some, None, Bool, true, false, refl, sym, ap, ◌∙◌, Result, Ok, Err, map, take}
+use Rattle.trace_replay.specs.declared.stage.Stage.{Stage}
+use Rattle.trace_replay.specs.declared.stage.Stage.TheVariants as stage
 use Rattle.trace_replay.specs.declared.turn.Turn.TheVariants as turn
-use Rattle.trace_replay.specs.Core.{Core, Seat, Session, Turned, Event, Event.Joins, Event.Does, Event.Serves, Event.Hears, Event.Settles, Event.Cuts, Event.Hangs, new_session, numbered, with_numbered, session_of, server_waiting, serves, serves_if, hears, hears_at, hears_if, hears_by, is_newest, acted, commanded_sessions, does, cut_session, cuts, cuts_if, hangs, hangs_if, joins, joins_as, happens}
-use Rattle.trace_replay.specs.World.{World, Wire, happened}
-use Rattle.trace_replay.specs.Delivery.{all_happened, up_some, up_at, down_some, down_at, up_all, down_all, up_length, down_length, is_still, round, passes}
-use Rattle.trace_replay.specs.Run.{at_events, count_of, turned}
-use Rattle.trace_replay.specs.Timed.{owners_of}
+use Rattle.kept_promise.proofs.Common.{slice_get, slice_set, fed, parse_of, Message, WireFault, Command, has_room, connect, command_step, ClientStep, Word, Turn, Core, Seat, Session, CoreStep, Event, Event.Joins, Event.Does, Event.Serves, Event.Hears, Event.Settles, Event.Cuts, Event.Hangs, new_session, numbered, with_numbered, session_of, server_waiting, serves, serves_if, hears, hears_at, hears_if, is_newest, commanded_sessions, does, cut_session, cuts, cuts_if, hangs, hangs_if, joins, joins_as, happens, World, Wire, happened, all_happened, up_some, up_at, down_some, down_at, up_all, up_length, down_length, is_still, round, passes, at_events, count_of, turned, owners_of}
 use Rattle.kept_promise.proofs.Lists.{nothing_there}
 
 abbrev owners : List Session → List ℕ
@@ -45,7 +24,7 @@ with_owner xs (suc i) x y at same = set_owner xs i x y at same
 
 -- ---- an event that makes no session
 
-abbrev Keeps : Core → Turned → Type 0
+abbrev Keeps : Core → CoreStep → Type 0
 Keeps k t = owners t.core.sessions ≡ owners k.sessions
 
 served : (k : Core) (n now : ℕ) (x : Session) (r : Result Message WireFault) → numbered k.sessions n ≡ Some x → Keeps k (serves_if k n now x r)
@@ -73,9 +52,7 @@ hears_keeps k n now bytes (Some x) = by (numbered k.seats x.owner)
 
 commanded_keeps : (k : Core) (o : Option ℕ) (x : Option Session) → session_of k.sessions o ≡ x → (running : Option ℕ) (place : ℕ) (what : Word) (acts : ClientStep) → owners (commanded_sessions k.sessions o x running place what acts) ≡ owners k.sessions
 commanded_keeps k (Some n) (Some x) at running place what acts = with_owner k.sessions n x _ at refl
-commanded_keeps k (Some n) None at running place what acts = refl
-commanded_keeps k None (Some x) at running place what acts = refl
-commanded_keeps k None None at running place what acts = refl
+commanded_keeps k _ _ at running place what acts = refl
 
 does_keeps : (k : Core) (n now : ℕ) (c : Command) (o : Option Seat) → Keeps k (does k n now c o)
 does_keeps k n now c None = refl
@@ -83,9 +60,7 @@ does_keeps k n now c (Some seat) = commanded_keeps k seat.session (session_of k.
 
 cut_keeps : (k : Core) (o : Option ℕ) (x : Option Session) → session_of k.sessions o ≡ x → owners (cut_session k.sessions o x) ≡ owners k.sessions
 cut_keeps k (Some n) (Some x) at = with_owner k.sessions n x _ at refl
-cut_keeps k (Some n) None at = refl
-cut_keeps k None (Some x) at = refl
-cut_keeps k None None at = refl
+cut_keeps k _ _ at = refl
 
 cuts_keeps : (k : Core) (n : ℕ) (o : Option Seat) → Keeps k (cuts k n o)
 cuts_keeps k n None = refl
@@ -201,10 +176,6 @@ MayTurn w (turn.Join c) = ((seat : Seat) × (numbered w.core.seats c ≡ Some se
 MayTurn w t = Unit {0}
 
 pub turned_to : (w : World) (t : Turn) → MayTurn w t → TurnedTo w (turned w t) t true
-turned_to w turn.Skip m = record { stage = refl; owners = refl }
-turned_to w (turn.At s) m = record { stage = refl; owners = refl }
-turned_to w (turn.Clients n) m = record { stage = refl; owners = refl }
-turned_to w (turn.File name content) m = record { stage = refl; owners = refl }
 turned_to w (turn.Join c) m = record { stage = refl; owners = joined_to w c m.0.0 m.0.1 m.1 }
 turned_to w (turn.Do c now k) m = by_same w _ (turn.Do c now k) refl refl (happened_same (at_events w) (Does c now k) tt)
 turned_to w (turn.Up n a now) m = by_same w _ (turn.Up n a now) refl refl (up_same (at_events w) n (count_of a (up_length (numbered w.wires n))) now)
@@ -213,3 +184,4 @@ turned_to w (turn.Settle now) m = by_same w _ (turn.Settle now) refl refl (happe
 turned_to w (turn.Cut c) m = by_same w _ (turn.Cut c) refl refl (happened_same (at_events w) (Cuts c) tt)
 turned_to w (turn.Hang n) m = by_same w _ (turn.Hang n) refl refl (happened_same (at_events w) (Hangs n) tt)
 turned_to w (turn.Pass n k server at) m = by_same w _ (turn.Pass n k server at) refl refl (passes_same k (at_events w) n server at)
+turned_to w _ m = record { stage = refl; owners = refl }

@@ -1,30 +1,16 @@
 -- What the facts of a world make of its history: each open and each close is whole, and what the server holds is what the history says.
-use Rattle.std.proofs.Common.{◌⊎◌, inl, inr, ◌≡◌, ℕ, zero, suc, ◌+◌, ◌<◌, ◌≤◌, List, [], ◌∷◌, length, Option, Some, None, Bool, true, false, refl, sym, ap, ◌∙◌, subst, arith, eq-eqb}
-use Rattle.std.proofs.lemmas.Bool.Decides.{nat_tests}
+use Rattle.std.proofs.Common.{◌⊎◌, inl, inr, ◌≡◌, ℕ, zero, suc, ◌+◌, ◌<◌, ◌≤◌, List, [], ◌∷◌, length, Option, Some, None, Bool, true, false, refl, sym, ap, ◌∙◌, subst, arith, eq-eqb, IsSome}
 use Rattle.std.proofs.lemmas.Option.{slice_get-get_or}
-use Rattle.std.specs.Prelude.{◌==◌, ◌&&◌, ◌||◌, nat_lt, All, IsSome, slice_get, cond, option_map}
-use Rattle.std.specs.Option.{option_map_or}
-use Rattle.command_text.specs.declared.command.Command.{Command}
 use Rattle.command_text.specs.declared.command.Command.TheVariants as command
 use Rattle.server_core.specs.State as server
-use Rattle.server_core.specs.declared.change.Change.{Change}
-use Rattle.server_core.specs.declared.file.File.{File}
 use Rattle.register_model.specs.Register as register
-use Rattle.register_model.specs.Register.{Value, Absent, IsLegal, IsApart, IsWithin, OpensWhole, FindsGone, ChangesOnce, ChangesNothing, IsFit, changes, changed_before, value_from, content_of, is_closed, is_opened, is_stale, is_lost, is_untold}
-use Rattle.register_model.specs.declared.op.Op.{Op}
+use Rattle.register_model.specs.Register.{Absent, IsLegal, IsApart, IsWithin, OpensWhole, FindsGone, ChangesOnce, ChangesNothing, IsFit, is_opened, is_stale}
 use Rattle.register_model.specs.declared.op.Outcome.{Outcome}
 use Rattle.register_model.specs.declared.op.Outcome.TheVariants as told
-use Rattle.register_model.specs.declared.op.Word.{Word}
 use Rattle.register_model.specs.declared.op.Word.TheVariants as words
-use Rattle.trace_replay.specs.Commands.{word_of}
-use Rattle.trace_replay.specs.Core.{Core, Session, numbered}
-use Rattle.trace_replay.specs.World.{World}
-use Rattle.trace_replay.specs.Trail.{hashed_of}
-use Rattle.trace_replay.specs.Traffic.{close_traffic}
-use Rattle.trace_replay.specs.Book.{Book, Or, AreApart, history, value_at, version_at}
-use Rattle.trace_replay.specs.Causes.{IsOpenRefused}
+use Rattle.trace_replay.specs.Book.{AreApart}
 use Rattle.trace_replay.specs.Traces.{HoldsValues, HoldsFiles}
-use Rattle.kept_promise.specs.Talk.{Queue}
+use Rattle.kept_promise.proofs.Common.{nat_tests, ◌==◌, ◌&&◌, ◌||◌, nat_lt, All, slice_get, cond, option_map, option_map_or, Command, Change, File, Value, changes, changed_before, value_from, content_of, is_closed, is_untold, Op, Word, word_of, Core, Session, numbered, World, hashed_of, close_traffic, Book, Or, history, value_at, version_at, IsOpenRefused, Queue}
 use Rattle.kept_promise.proofs.Lists.{some_is, nothing_there, within}
 use Rattle.kept_promise.proofs.Marks.{Mark, marks, mark_of, marks_cons, with_mark, latest_mark, later_mark, left_by, value_is, made_before}
 use Rattle.kept_promise.proofs.Keys.{own}
@@ -188,11 +174,7 @@ Kind w = (w ≡ words.Close) ⊎ ((changes w ≡ false) × ((file : ℕ) (u : Ou
 
 kind_of : (d : Command) → Kind (word_of d)
 kind_of (command.Close f) = inl refl
-kind_of (command.Open f) = inr (refl, λ file u. refl)
-kind_of (command.Write f offset content) = inr (refl, λ file u. refl)
-kind_of (command.Trunc f size) = inr (refl, λ file u. refl)
-kind_of (command.Read f offset count) = inr (refl, λ file u. refl)
-kind_of (command.Abandon f) = inr (refl, λ file u. refl)
+kind_of _ = inr (refl, λ file u. refl)
 
 closed_is : (o : Op) → o.word ≡ words.Close → register.succeeded o ≡ is_closed o.outcome
 closed_is o e = ap (λ (x : Word). register.success x o.file o.outcome) e

@@ -1,32 +1,18 @@
 -- No answer on its way to a CONDWRITE says that its chunk is known.
-use Rattle.std.proofs.Common.{◌⊎◌, inl, inr, ◌≡◌, ℕ, zero, suc, List, [], ◌∷◌, ◌++◌, length, Option, Some, None, Bool, true, false, refl, sym, ap, subst}
-use Rattle.std.specs.Prelude.{map, nat_lt, Result, Ok, Err, if◌then◌else◌}
-use Rattle.xdr_codec.specs.declared.answer.Answer.TheVariants.{Done, Failed}
-use Rattle.xdr_codec.specs.declared.status.Status.{Status}
+use Rattle.std.proofs.Common.{◌⊎◌, inl, inr, ◌≡◌, ℕ, zero, suc, List, [], ◌∷◌, ◌++◌, length, Option, Some, None, Bool, true, false, refl, sym, ap, subst, map, Result, Ok, Err}
 use Rattle.hash_calls.specs.declared.call.Commit.{Commit as Commits}
-use Rattle.hash_calls.specs.declared.call.TempPiece.{TempPiece}
 use Rattle.hash_calls.specs.declared.message.Lb.TheVariants as lb
 use Rattle.nfs3_calls.specs.declared.message.Nfs.TheVariants as nfs
-use Rattle.wire.specs.Parse.{parse_of}
-use Rattle.wire.specs.declared.fault.WireFault.{WireFault}
-use Rattle.wire.specs.declared.message.Body.{Body}
 use Rattle.wire.specs.declared.message.Body.TheVariants as body
-use Rattle.wire.specs.declared.message.Message.{Message}
 use Rattle.wire.specs.declared.message.Message.TheVariants as message
 use Rattle.server_core.specs.State as server
-use Rattle.server_core.specs.Answers.{Node, root, file, node_of}
 use Rattle.server_core.specs.Closing as closing
-use Rattle.server_core.specs.Closing.{makes_unless, makes, room_fault, writes_unless, writes, has_waiting, is_full, commits_whole, commits_to, commits, makes_change}
-use Rattle.server_core.specs.Step.{called, got, got_if, stands, server_step}
-use Rattle.server_core.specs.Temps.{Temp, temp_at, assembled}
-use Rattle.server_core.specs.declared.change.Change.{Change}
+use Rattle.server_core.specs.Closing.{writes}
+use Rattle.server_core.specs.Step.{got}
 use Rattle.server_core.specs.declared.event.Event.TheVariants as event
 use Rattle.server_core.specs.declared.event.Sent.{Sent}
-use Rattle.server_core.specs.declared.file.File.{File}
-use Rattle.trace_replay.specs.Core.{Core, Seat, Session, Event, Event.Joins, Event.Does, Event.Serves, Event.Hears, Event.Settles, Event.Cuts, Event.Hangs, Loss, Loss.Nothing, Loss.Made, Loss.Down_of, Loss.Up_of, numbered, with_numbered, server_waiting, serves_if, serves, is_newest, hears_if, hears_at, hears, does, joins_as, joins, cuts_if, cuts, hangs_if, hangs, happens}
-use Rattle.trace_replay.specs.Trail.{Moment}
-use Rattle.trace_replay.specs.World.{unless}
-use Rattle.kept_promise.specs.Talk.{Reply, Reply.Hashed, Reply.Bytes, Reply.Made, Reply.Named, Reply.Stored, Reply.Changed, Ask, Told, Queue, no_queue, reply_body, told_message}
+use Rattle.trace_replay.specs.Core.{Loss.Made}
+use Rattle.kept_promise.proofs.Common.{nat_lt, if◌then◌else◌, Done, Failed, Status, TempPiece, parse_of, WireFault, Body, Message, Node, root, file, node_of, makes_unless, makes, writes_unless, has_waiting, is_full, commits_whole, commits_to, commits, makes_change, room_fault, Temp, temp_at, assembled, called, got_if, stands, server_step, Change, File, Core, Seat, Session, Event, Event.Joins, Event.Does, Event.Serves, Event.Hears, Event.Settles, Event.Cuts, Event.Hangs, Loss, Loss.Nothing, Loss.Down_of, Loss.Up_of, numbered, with_numbered, server_waiting, serves_if, serves, is_newest, hears_if, hears_at, hears, does, joins_as, joins, cuts_if, cuts, hangs_if, hangs, happens, Moment, unless, Reply, Reply.Made, Reply.Named, Ask, Told, Queue, no_queue, reply_body, told_message}
 use Rattle.kept_promise.proofs.Lists.{nothing_there, of_appended, of_replaced}
 use Rattle.kept_promise.proofs.Messages.{AllTolds}
 use Rattle.kept_promise.proofs.Fits.{FitLaws}
@@ -63,9 +49,8 @@ have_ups P sessions qs None asks h put = h
 have_ups P sessions qs (Some m) asks h put = by (numbered sessions m) (numbered qs m) refl refl
   where
     by : (x : Option Session) (q : Option Queue) → numbered sessions m ≡ x → numbered qs m ≡ q → QueuesHave P (ups_put_in qs m asks x q)
-    by None q e f = h
-    by (Some x) None e f = h
     by (Some x) (Some q) e f = have_with P qs m (record q { ups = unless x.hung q.ups asks }) h (put m x q refl e f (h m q f))
+    by _ _ e f = h
 
 abbrev pub AllOf : {A : Type 0} → (A → Type 0) → List A → Type 0
 AllOf P [] = Unit {0}
@@ -77,9 +62,8 @@ have_downs P Q sessions [] qs all h put = h
 have_downs P Q sessions (p ∷ ps) qs all h put = have_downs P Q sessions ps (downs_put_in qs p (numbered sessions p.0) (numbered qs p.0)) all.1 (by (numbered sessions p.0) (numbered qs p.0) refl) put
   where
     by : (x : Option Session) (q : Option Queue) → numbered qs p.0 ≡ q → QueuesHave P (downs_put_in qs p x q)
-    by None q f = h
-    by (Some x) None f = h
     by (Some x) (Some q) f = have_with P qs p.0 (record q { downs = unless x.cut q.downs (p.1 ∷ []) }) h (put p.0 p.1 q x.cut all.0 (h p.0 q f))
+    by _ _ f = h
 
 pub have_lost : (P : ℕ → Queue → Type 0) (qs : List Queue) (loss : Loss) → QueuesHave P qs → P (suc (length qs)) no_queue → ((n : ℕ) (q : Queue) → P n q → P n (record q { downs = [] })) → ((n : ℕ) (q : Queue) → P n q → P n (record q { ups = [] })) → QueuesHave P (queues_lost qs loss)
 have_lost P qs Nothing h new down up = h
@@ -132,14 +116,13 @@ commits_whole_fails s n xid id None = (tt, tt)
 commits_whole_fails s n xid id (Some content) = by (has_waiting s.waiting n) (is_full s (length content))
   where
     by : (a b : Bool) → AreFails (if a then closing.answers s n xid (lb.CommitTmpAnswer (Failed Rattle.xdr_codec.specs.declared.status.Status.TheVariants.Jukebox tt)) else if b then closing.answers s n xid (lb.CommitTmpAnswer (Failed Rattle.xdr_codec.specs.declared.status.Status.TheVariants.NoSpc tt)) else (record s { waiting = s.waiting ++ record { session = n; xid = xid; file = id; content = content } ∷ [] }, closing.sends [])).1.send
-    by true b = (tt, tt)
-    by false true = (tt, tt)
     by false false = tt
+    by _ _ = (tt, tt)
 
 commits_to_fails : (s : server.State) (n xid size : ℕ) (t : Temp) (r : Result Node Status) → AreFails (commits_to s n xid size t r).1.send
 commits_to_fails s n xid size t (Err e) = (tt, tt)
 commits_to_fails s n xid size t (Ok root) = (tt, tt)
-commits_to_fails s n xid size t (Ok (file f)) = by (nat_lt Rattle.server_core.specs.Temps.size_most size)
+commits_to_fails s n xid size t (Ok (file f)) = by (nat_lt Rattle.temp_files.specs.Pieces.size_most size)
   where
     by : (b : Bool) → AreFails (if b then closing.answers s n xid (lb.CommitTmpAnswer (Failed Rattle.xdr_codec.specs.declared.status.Status.TheVariants.FBig tt)) else commits_whole s n xid f.id (assembled t size)).1.send
     by true = (tt, tt)
@@ -165,8 +148,7 @@ called_fails s n xid (body.Back b) = (tt, tt)
 got_fails : (s : server.State) (n : ℕ) (m : Message) → AreFails (got s n m).1.send
 got_fails s n (message.Call xid b) = called_fails s n xid b
 got_fails s n (message.Unfit xid why) = (tt, tt)
-got_fails s n (message.Answer xid b) = tt
-got_fails s n (message.Refuse xid why) = tt
+got_fails s n _ = tt
 
 serves_fails : (k : Core) (n now : ℕ) (bytes : List ℕ) (o : Option Session) → AreFails (serves k n now bytes o).down
 serves_fails k n now bytes None = tt
@@ -242,12 +224,7 @@ told_fails t h = by t.reply h
   where
     by : (r : Reply) → FailsSent (message.Answer t.xid (reply_body r)) → FailsNamed r
     by (Named (Done u)) h = h
-    by (Named (Failed s u)) h = tt
-    by (Hashed a) h = tt
-    by (Bytes a) h = tt
-    by (Made a) h = tt
-    by (Stored a) h = tt
-    by (Changed a) h = tt
+    by _ h = tt
 
 all_fail : (ps : List (ℕ × Told)) (ss : List Sent) → ss ≡ map sent_message ps → AreFails ss → AllOf (λ p. FailsNamed p.1.reply) ps
 all_fail [] ss e h = tt
@@ -275,8 +252,7 @@ mid_fails k qs mid (Does c now d) f h = subst (QueuesHave HasFails) (sym f.3) h
 mid_fails k qs mid (Serves n now bytes) f h = subst (QueuesHave HasFails) (sym f.6) (have_with HasFails qs n (record f.0 { ups = f.2 }) h (h n f.0 f.3))
 mid_fails k qs mid (Hears n now bytes) f h = subst (QueuesHave HasFails) (sym f.6) (have_with HasFails qs n (record f.0 { downs = f.2 }) h (tail_fails f.1 f.2 f.0.downs f.4 (h n f.0 f.3)))
 mid_fails k qs mid (Settles now) f h = subst (QueuesHave HasFails) (sym f) h
-mid_fails k qs mid (Cuts c) f h = subst (QueuesHave HasFails) (sym f.2) h
-mid_fails k qs mid (Hangs n) f h = subst (QueuesHave HasFails) (sym f.2) h
+mid_fails k qs mid _ f h = subst (QueuesHave HasFails) (sym f.2) h
 
 put_fails : (q : Queue) (t : Told) (lost : Bool) → FailsNamed t.reply → HasFails 0 q → AllTolds (λ u. FailsNamed u.reply) (unless lost q.downs (t ∷ []))
 put_fails q t true f h = h

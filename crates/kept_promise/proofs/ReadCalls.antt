@@ -1,17 +1,6 @@
 -- READs that go out, in chunk order.
-use Rattle.std.proofs.Common.{◌⊎◌, inl, inr, ◌≡◌, ℕ, zero, suc, ◌+◌, ◌-◌, ◌<◌, ◌≤◌, List, [], ◌∷◌, ◌++◌, length, Option, Some, None, Bool, true, false, refl, sym, ap, ◌∙◌, subst, arith, eqb-true, eq-eqb, ne_eqb, append_assoc, append-nil}
-use Rattle.std.proofs.lemmas.Bool.Decides.{nat_tests}
-use Rattle.std.specs.Prelude.{slice_get, map, cond, ◌==◌, not, find, filter}
-use Rattle.chunk_cut.specs.declared.chunk.Chunk.{Chunk}
-use Rattle.wire.specs.declared.message.Message.{Message}
-use Rattle.wire.specs.declared.message.Pending.{Pending}
-use Rattle.open_close.specs.State.{read_pending}
-use Rattle.open_close.specs.declared.calls.Reads.{Reads}
-use Rattle.open_close.specs.Opening.{reads_from, reads_next, reads_more, reads_all, calls_most, read_at, without_read}
-use Rattle.open_close.specs.declared.task.Fetch.{Fetch}
-use Rattle.open_close.specs.declared.task.ReadCall.{ReadCall}
-use Rattle.kept_promise.specs.Talk.{Call, Call.Read, Ask, ask_message}
-use Rattle.kept_promise.proofs.Statements.{CallFits}
+use Rattle.std.proofs.Common.{◌⊎◌, inl, inr, ◌≡◌, ℕ, zero, suc, ◌+◌, ◌<◌, ◌≤◌, List, [], ◌∷◌, ◌++◌, length, Option, Some, None, Bool, true, false, refl, sym, ap, ◌∙◌, subst, arith, eqb-true, ne_eqb, append_assoc, append-nil, map}
+use Rattle.kept_promise.proofs.Common.{nat_tests, slice_get, cond, ◌==◌, not, Chunk, Pending, read_pending, Reads, reads_next, reads_more, read_at, without_read, Fetch, ReadCall, Call.Read, Ask, ask_message}
 use Rattle.kept_promise.proofs.Lists.{some_is, nothing_there, within}
 use Rattle.kept_promise.proofs.Keys.{times}
 use Rattle.kept_promise.proofs.Messages.{AllAsks, Rising}
@@ -69,35 +58,30 @@ reads_run (suc most) file r = by (slice_get r.fetch.chunks r.fetch.asked) refl (
 pub sent_rising : (file : ℕ) (chunks : List Chunk) (x i : ℕ) (us : List ReadCall) (b : List Ask) (y : ℕ) → Sent file chunks x i us b y → Rising x b y
 sent_rising file chunks x i [] [] y s = omega (arith, s)
 sent_rising file chunks x i (u ∷ us) (a ∷ b) y s = let e : a.xid ≡ x = ap (λ (z : Ask). z.xid) s.1.2 in (omega (arith, e), subst (λ (z : ℕ). Rising (z + 1) b y) (sym e) (sent_rising file chunks (x + 1) (i + 1) us b y s.2))
-sent_rising file chunks x i [] (a ∷ b) y s = absurd s
-sent_rising file chunks x i (u ∷ us) [] y s = absurd s
+sent_rising file chunks x i _ _ y s = absurd s
 
 pub sent_bound : (file : ℕ) (chunks : List Chunk) (x i : ℕ) (us : List ReadCall) (b : List Ask) (y : ℕ) → Sent file chunks x i us b y → x ≤ y
 sent_bound file chunks x i [] [] y s = omega (arith, s)
 sent_bound file chunks x i (u ∷ us) (a ∷ b) y s = let le = sent_bound file chunks (x + 1) (i + 1) us b y s.2 in omega (arith, le)
-sent_bound file chunks x i [] (a ∷ b) y s = absurd s
-sent_bound file chunks x i (u ∷ us) [] y s = absurd s
+sent_bound file chunks x i _ _ y s = absurd s
 
 pub sent_all : (P : Ask → Type 0) (file : ℕ) (chunks : List Chunk) (x i : ℕ) (us : List ReadCall) (b : List Ask) (y : ℕ) → ((z k : ℕ) (c : Chunk) → slice_get chunks k ≡ Some c → x ≤ z → z < y → x + k ≡ z + i → P (record { xid = z; call = Read file c })) → Sent file chunks x i us b y → AllAsks P b
 sent_all P file chunks x i [] [] y f s = tt
 sent_all P file chunks x i (u ∷ us) (a ∷ b) y f s =
     let lt = sent_bound file chunks (x + 1) (i + 1) us b y s.2 in
     (subst P (sym s.1.2) (f x i s.1.0 s.1.1 (omega arith) (omega (arith, lt)) refl), sent_all P file chunks (x + 1) (i + 1) us b y (λ z k c at le less same. f z k c at (omega (arith, le)) less (omega (arith, same))) s.2)
-sent_all P file chunks x i [] (a ∷ b) y f s = absurd s
-sent_all P file chunks x i (u ∷ us) [] y f s = absurd s
+sent_all P file chunks x i _ _ y f s = absurd s
 
 pub sent_count : (file : ℕ) (chunks : List Chunk) (x i : ℕ) (us : List ReadCall) (b : List Ask) (y : ℕ) → Sent file chunks x i us b y → x + length us ≡ y
 sent_count file chunks x i [] [] y s = omega (arith, s)
 sent_count file chunks x i (u ∷ us) (a ∷ b) y s = let e = sent_count file chunks (x + 1) (i + 1) us b y s.2 in omega (arith, e)
-sent_count file chunks x i [] (a ∷ b) y s = absurd s
-sent_count file chunks x i (u ∷ us) [] y s = absurd s
+sent_count file chunks x i _ _ y s = absurd s
 
 -- the index of the last is that of a chunk
 pub sent_inside : (file : ℕ) (chunks : List Chunk) (x i : ℕ) (us : List ReadCall) (b : List Ask) (y : ℕ) → i ≤ length chunks → Sent file chunks x i us b y → i + length us ≤ length chunks
 sent_inside file chunks x i [] [] y le s = omega (arith, le)
 sent_inside file chunks x i (u ∷ us) (a ∷ b) y le s = let lt = within chunks i s.1.0 s.1.1 in let e = sent_inside file chunks (x + 1) (i + 1) us b y (omega (arith, lt)) s.2 in omega (arith, e)
-sent_inside file chunks x i [] (a ∷ b) y le s = absurd s
-sent_inside file chunks x i (u ∷ us) [] y le s = absurd s
+sent_inside file chunks x i _ _ y le s = absurd s
 
 pub sent_times : (f : Pending → ℕ) (z : ℕ) (file : ℕ) (chunks : List Chunk) (x i : ℕ) (us : List ReadCall) (b : List Ask) (y : ℕ) → Sent file chunks x i us b y → times z (map f (map read_pending us)) ≡ times z (map (λ a. f (ask_pending a)) b)
 sent_times f z file chunks x i [] [] y s = refl
@@ -105,22 +89,19 @@ sent_times f z file chunks x i (u ∷ us) (a ∷ b) y s =
     let later = sent_times f z file chunks (x + 1) (i + 1) us b y s.2 in
     let head : f (read_pending u) ≡ f (ask_pending a) = ap (λ (v : ReadCall). f (read_pending v)) s.0 ∙ ap (λ (v : Ask). f (ask_pending v)) (sym s.1.2) in
     ap (λ n. cond (n == z) (suc (times z (map f (map read_pending us)))) (times z (map f (map read_pending us)))) head ∙ ap (λ n. cond (f (ask_pending a) == z) (suc n) n) later
-sent_times f z file chunks x i [] (a ∷ b) y s = absurd s
-sent_times f z file chunks x i (u ∷ us) [] y s = absurd s
+sent_times f z file chunks x i _ _ y s = absurd s
 
 -- each note is of an index from there on, and each such index has its note
 pub sent_note : (file : ℕ) (chunks : List Chunk) (x i : ℕ) (us : List ReadCall) (b : List Ask) (y k : ℕ) (u : ReadCall) → Sent file chunks x i us b y → slice_get us k ≡ Some u → (u.index ≡ i + k) × (u.xid ≡ x + k)
 sent_note file chunks x i [] [] y k u s at = nothing_there u at
 sent_note file chunks x i (v ∷ us) (a ∷ b) y zero u s at = let e = sym (some_is v u at) ∙ s.0 in (ap (λ (z : ReadCall). z.index) e ∙ (let q : i ≡ i + 0 = omega arith in q), ap (λ (z : ReadCall). z.xid) e ∙ (let q : x ≡ x + 0 = omega arith in q))
 sent_note file chunks x i (v ∷ us) (a ∷ b) y (suc k) u s at = let r = sent_note file chunks (x + 1) (i + 1) us b y k u s.2 at in let p = r.0 in let q = r.1 in (omega (arith, p), omega (arith, q))
-sent_note file chunks x i [] (a ∷ b) y k u s at = absurd s
-sent_note file chunks x i (v ∷ us) [] y k u s at = absurd s
+sent_note file chunks x i _ _ y k u s at = absurd s
 
 pub sent_commits : (file : ℕ) (chunks : List Chunk) (x i : ℕ) (us : List ReadCall) (b : List Ask) (y : ℕ) → Sent file chunks x i us b y → commits_in b ≡ 0
 sent_commits file chunks x i [] [] y s = refl
 sent_commits file chunks x i (u ∷ us) (a ∷ b) y s = ap (λ (v : Ask). commits_in (v ∷ b)) s.1.2 ∙ sent_commits file chunks (x + 1) (i + 1) us b y s.2
-sent_commits file chunks x i [] (a ∷ b) y s = absurd s
-sent_commits file chunks x i (u ∷ us) [] y s = absurd s
+sent_commits file chunks x i _ _ y s = absurd s
 
 -- ---- READs under way
 

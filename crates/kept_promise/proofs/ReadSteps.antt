@@ -1,41 +1,19 @@
 -- What an open comes to by the answer to a READ.
+use Rattle.std.proofs.Common.{inl, inr, ◌≡◌, ℕ, zero, suc, ◌+◌, ◌<◌, ◌≤◌, List, [], ◌∷◌, ◌++◌, length, Option, Some, None, Bool, true, false, refl, sym, ap, ◌∙◌, subst, arith, eqb-true, eq-eqb, ne_eqb, map}
 use native.Mathlib.Nat.{div-add-mod'}
-use Rattle.std.proofs.Common.{◌⊎◌, inl, inr, ◌≡◌, ℕ, zero, suc, ◌+◌, ◌*◌, ◌<◌, ◌≤◌, List, [], ◌∷◌, ◌++◌, length, Option, Some, None, Bool, true, false, refl, sym, ap, ◌∙◌, subst, arith, eqb-true, eq-eqb, ne_eqb}
-use Rattle.std.proofs.lemmas.Bool.Decides.{nat_tests}
 use Rattle.std.proofs.lemmas.Slice.Eq.{bytes_eq-Decides}
-use Rattle.std.specs.Prelude.{slice_get, slice_set, map, filter, not, cond, ◌==◌, ◌/◌, ◌%◌, nat_le, bytes_eq, Contains}
-use Rattle.sha1.specs.Sha1.{sha1}
-use Rattle.chunk_cut.specs.Chunks.{chunks_of}
-use Rattle.chunk_cut.specs.Places.{chunk_bytes}
-use Rattle.chunk_cut.specs.declared.chunk.Chunk.{Chunk}
-use Rattle.xdr_codec.specs.declared.answer.Answer.{Answer}
-use Rattle.xdr_codec.specs.declared.answer.Answer.TheVariants.{Done, Failed}
-use Rattle.xdr_codec.specs.declared.attr.Attr.{Attr}
-use Rattle.nfs3_calls.specs.declared.call.Piece.{Piece}
-use Rattle.wire.specs.declared.message.Pending.{Pending}
-use Rattle.server_core.specs.Answers.{attr_of, piece_of, piece_bytes}
-use Rattle.server_core.specs.declared.file.File.{File}
 use Rattle.open_close.specs.State as client
-use Rattle.open_close.specs.State.{read_pending, without_call}
-use Rattle.open_close.specs.Opening.{read_at, without_read, fault_in, fault_in_digest, shown_version, other_version, with_bytes}
-use Rattle.open_close.specs.Step.{idle, told_piece, told_chunk, told_bytes, misfits}
-use Rattle.open_close.specs.declared.step.BadPeer.{BadPeer}
-use Rattle.open_close.specs.declared.task.Fetch.{Fetch}
-use Rattle.open_close.specs.declared.task.ReadCall.{ReadCall}
+use Rattle.open_close.specs.Opening.{fault_in_digest}
 use Rattle.open_close.specs.declared.task.Stage.TheVariants as stage
 use Rattle.register_model.specs.declared.op.Word.TheVariants as words
-use Rattle.trace_replay.specs.Core.{Core, Session}
-use Rattle.trace_replay.specs.Trail.{hashed_of}
-use Rattle.trace_replay.specs.Book.{Book, Or}
-use Rattle.kept_promise.specs.Talk.{Reply.Bytes, Told, Queue, reply_program}
-use Rattle.kept_promise.proofs.Lists.{some_is, nothing_there, same_or_not, within, of_replaced, at_replaced, else_replaced}
+use Rattle.kept_promise.proofs.Common.{shown_version, nat_tests, slice_get, slice_set, not, cond, ◌==◌, nat_le, bytes_eq, Contains, sha1, chunks_of, chunk_bytes, Chunk, Done, Piece, Pending, attr_of, piece_bytes, File, read_pending, without_call, read_at, without_read, fault_in, other_version, with_bytes, idle, told_piece, told_chunk, told_bytes, misfits, BadPeer, Fetch, ReadCall, Core, Session, hashed_of, Book, Or, Reply.Bytes, Told, Queue, reply_program}
+use Rattle.kept_promise.proofs.Lists.{some_is, nothing_there, same_or_not, within, of_replaced, else_replaced, set_count, false_and_true}
 use Rattle.kept_promise.proofs.Keys.{times, there_by}
 use Rattle.kept_promise.proofs.Taken.{times_map_append}
-use Rattle.kept_promise.proofs.Messages.{Job, job, stage_word, AllTolds, read_chunk, chunk_for, AnswerOf, IsAnswer, ReadTold, IsRead, IsFetch, IsReading, FetchOf, range_of}
-use Rattle.kept_promise.proofs.Facts.{HasXids, IsSession, IsKept}
+use Rattle.kept_promise.proofs.Messages.{Job, job, stage_word, AllTolds, read_chunk, chunk_for, AnswerOf, IsAnswer, IsRead, IsFetch, IsReading, FetchOf, range_of}
+use Rattle.kept_promise.proofs.Facts.{IsSession}
 use Rattle.kept_promise.proofs.Heard.{told_pending}
 use Rattle.kept_promise.proofs.Moves.{without_moves}
-use Rattle.kept_promise.proofs.Turns.{set_count}
 use Rattle.kept_promise.proofs.Steps.{Here, session_at, Quiet}
 use Rattle.kept_promise.proofs.ReadCalls.{read_found, read_kept, read_was, read_still}
 use Rattle.kept_promise.proofs.Chunks.{row_of, link_at, read_gives, chunks_are_named}
@@ -58,10 +36,7 @@ bytes_or book a b first second same = by (bytes_eq a b) refl
   where
     by : (t : Bool) → bytes_eq a b ≡ t → Or book (a ≡ b)
     by true e = inl ((bytes_eq-Decides a b).0 e)
-    by false e = inr (record { a = a; b = b; first = first; second = second; same = same; apart = λ s. both (bytes_eq a b) e ((bytes_eq-Decides a b).1 s) })
-      where
-        both : (t : Bool) → t ≡ false → t ≡ true → ⊥
-        both t u v = absurd cc
+    by false e = inr (record { a = a; b = b; first = first; second = second; same = same; apart = λ s. false_and_true (bytes_eq a b) e ((bytes_eq-Decides a b).1 s) })
 
 pub record Fits (c : Chunk) (bytes : List ℕ) : Type 0 where
   pub len : length bytes ≡ c.len

@@ -1,49 +1,26 @@
 -- A trace is accepted exactly where its run goes through and it keeps the clock rule.
-use Rattle.std.proofs.Common.{◌≡◌, ℕ, ◌+◌, List, [], ◌∷◌, ◌++◌, Option, Some, None, Bool, true, false, refl, sym, ap, subst, ◌∙◌}
-use Rattle.std.specs.Prelude.{Result, Ok, Err, IsOk, map, nat_le, nat_lt, length}
+use Rattle.std.proofs.Common.{◌≡◌, ℕ, ◌+◌, List, [], ◌∷◌, ◌++◌, Option, Some, None, Bool, true, false, refl, sym, ap, subst, ◌∙◌, Result, Ok, Err, map}
+use Rattle.std.specs.Prelude.{IsOk}
 use Rattle.clock_rule.specs.Clocks.{Clocked, read_at}
 use Rattle.clock_rule.specs.Keeping.{at_first, all_read}
 use Rattle.clock_rule.specs.declared.rule.ClockFault.{ClockFault}
 use Rattle.clock_rule.specs.declared.rule.Reading.{Reading}
 use Rattle.clock_rule.specs.declared.rule.Reading.TheVariants as reads
 use Rattle.clock_rule.proofs.Whole.{taken_whole}
-use Rattle.command_text.specs.Parts.{lines_of}
-use Rattle.command_text.specs.declared.content.Part.{Part}
-use Rattle.trace_text.specs.Grammar.{line_of}
-use Rattle.trace_text.specs.declared.line.Line.{Line}
 use Rattle.trace_text.specs.declared.line.Line.TheVariants as line
-use Rattle.trace_text.specs.declared.refusal.LineFault.{LineFault}
-use Rattle.trace_text.specs.declared.refusal.LineFault.TheVariants.{Grammar, Limit, Clock}
-use Rattle.trace_replay.specs.declared.fault.Refused.{Refused}
-use Rattle.trace_replay.specs.declared.link.Stage.{Stage}
-use Rattle.trace_replay.specs.declared.link.Stage.TheVariants as stage
+use Rattle.trace_replay.specs.declared.stage.Stage.{Stage}
+use Rattle.trace_replay.specs.declared.stage.Stage.TheVariants as stage
 use Rattle.trace_replay.specs.declared.timing.Timing.{Timing}
 use Rattle.trace_replay.specs.declared.timing.Timing.TheVariants as timing
-use Rattle.trace_replay.specs.declared.turn.Turn.{Turn}
 use Rattle.trace_replay.specs.declared.turn.Turn.TheVariants as turn
-use Rattle.trace_replay.specs.Names.{has_name}
-use Rattle.trace_replay.specs.Core.{Core, Seat, numbered}
-use Rattle.trace_replay.specs.World.{World, start}
-use Rattle.trace_replay.specs.Run.{line_most, sessions_most, is_there, asks_if, sized, named, joins_if, joins_within, event_asks, asks_at, asks, asks_within, asked, asked_by, turned, refused, ended, in_header, run_from, run}
-use Rattle.trace_replay.specs.Timed.{Timed, Times, no_times, down_timing, pass_timing, timing_of, owners_of, read_by, times_with, with_times, times_if, timed_by, timed_turn, timed_start, accepted_from, accepted}
-use Rattle.trace_replay.specs.Readings.{said, said_by, owners_by, timings_from, timings_of, KeepsClocks}
+use Rattle.trace_replay.specs.Timed.{Timed, Times, no_times, down_timing, pass_timing, timing_of, read_by, times_with, with_times, times_if, timed_by, timed_turn, timed_start, accepted_from}
+use Rattle.trace_replay.specs.Readings.{said, said_by, owners_by, timings_from, timings_of}
+use Rattle.trace_replay.specs.Run.{refused}
+use Rattle.kept_promise.proofs.Common.{nat_le, nat_lt, lines_of, Part, line_of, Line, LineFault, Grammar, Refused, Turn, has_name, Core, Seat, numbered, World, start, line_most, sessions_most, asks_if, sized, named, joins_if, joins_within, event_asks, asks_at, asks, asked, asked_by, turned, ended, in_header, run_from, run, owners_of, accepted, KeepsClocks}
 use Rattle.kept_promise.proofs.Statements.{ClocksKeepTheRule}
-use Rattle.kept_promise.proofs.Owners.{stage_after, owners_after, MayTurn, TurnedTo, turned_to}
-
-abbrev asking : Turn → Result Turn LineFault
-asking t = Ok t
-
-turn_is : (s t : Turn) → asking s ≡ asking t → s ≡ t
-turn_is s t e = cc
-
-refused_line : {A : Type 0} (f : LineFault) (t : Turn) → Err f ≡ asking t → A
-refused_line f t e = absurd cc
-
-abbrev whole : World → Result World Refused
-whole w = Ok w
-
-no_world : {A : Type 0} (r : Refused) (w : World) → Err r ≡ whole w → A
-no_world r w e = absurd cc
+use Rattle.kept_promise.proofs.Owners.{stage_after, owners_after, MayTurn, turned_to}
+use Rattle.kept_promise.proofs.RunsResults.{asking, turn_is, refused_line, no_world, ran_by}
+use Rattle.kept_promise.proofs.RunsAsked.{within}
 
 -- What holds of each world of a run, before the line of this number, which was read: the server has room for the session of each join that
 -- is asked for.
@@ -107,9 +84,7 @@ abbrev AreFrom : Stage → List Timing → Type 0
 AreFrom stage.Version xs = AreWhole xs
 AreFrom stage.Term xs = AreWhole xs
 AreFrom stage.Drift xs = AreBehindTerm xs
-AreFrom stage.Clients xs = AreReadings xs
-AreFrom stage.Files xs = AreReadings xs
-AreFrom stage.Events xs = AreReadings xs
+AreFrom _ xs = AreReadings xs
 
 -- a line in place leaves the stage from which the others go on, and the owners
 record GoesOn (os : List ℕ) (s : Stage) (l : Line) (t : Turn) : Type 0 where
@@ -157,9 +132,8 @@ event_on os s k (line.Pass n rounds at r) t here e = goes_if os _ s (line.Pass n
 event_on os s k l t here e = refused_line Grammar t e
 
 sized_on : (os : List ℕ) (long much : Bool) (name : List ℕ) (content : List Part) (t : Turn) → sized long much (turn.File name content) ≡ asking t → GoesOn os stage.Files (line.File name content) t
-sized_on os true much name content t e = refused_line _ t e
-sized_on os false true name content t e = refused_line _ t e
 sized_on os false false name content t e = goes os stage.Files (line.File name content) (turn.File name content) t e (record { from = λ xs h. h; owners = refl })
+sized_on os _ _ name content t e = refused_line _ t e
 
 named_on : (os : List ℕ) (b : Bool) (size : ℕ) (name : List ℕ) (content : List Part) (t : Turn) → named b size name content ≡ asking t → GoesOn os stage.Files (line.File name content) t
 named_on os true size name content t e = refused_line Grammar t e
@@ -179,13 +153,6 @@ any_line : (os : List ℕ) (w : World) (l : Line) (t : Turn) → asks w l ≡ as
 any_line os w line.Skipped t e = goes os w.stage line.Skipped turn.Skip t e (record { from = λ xs h. h; owners = refl })
 any_line os w l t e = at_stage os w w.stage l t e
 
-within : (b : Bool) (r : Result Turn LineFault) (t : Turn) → asks_within b r ≡ asking t → r ≡ asking t
-within true r t e = e
-within false (Err Grammar) t e = refused_line Grammar t e
-within false (Err (Limit w)) t e = refused_line _ t e
-within false (Err (Clock f)) t e = refused_line _ t e
-within false (Ok s) t e = refused_line _ t e
-
 goes_on : (w : World) (n : ℕ) (l : Line) (t : Turn) → asked w n l ≡ Ok t → GoesOn (owners_of w) w.stage l t
 goes_on w n l t e = any_line (owners_of w) w l t (within (nat_le n line_most) (asks w l) t e)
 
@@ -197,9 +164,6 @@ owners_next w n l t m e = (turned_to w t m).owners ∙ (goes_on w n l t e).owner
 
 abbrev accepted_by : Timed → ℕ → List (List ℕ) → Result (Turn × Times) LineFault → Result World Refused
 accepted_by v n ls r = elim r [ Err f ↦ Err (refused n f) | Ok t ↦ accepted_from (timed_turn v t) (n + 1) ls ]
-
-abbrev ran_by : World → ℕ → List (List ℕ) → Result Turn LineFault → Result World Refused
-ran_by w n ls r = elim r [ Err f ↦ Err (refused n f) | Ok t ↦ run_from (turned w t) (n + 1) ls ]
 
 ran : (v : Timed) (n : ℕ) (ls : List (List ℕ)) (w : World) → accepted_from v n ls ≡ Ok w → run_from v.world n ls ≡ Ok w
 ran v n [] w e = e
@@ -268,12 +232,9 @@ all_accepted Inv room v n (l ∷ ls) w holds e h = by_line (line_of l) refl (λ 
 
 -- a run goes through the header to its end
 at_end : (w : World) (n : ℕ) (s : Stage) (v : World) → ended w n (in_header s) ≡ Ok v → AreFrom s []
-at_end w n stage.Version v e = no_world _ v e
-at_end w n stage.Term v e = no_world _ v e
-at_end w n stage.Drift v e = no_world _ v e
-at_end w n stage.Clients v e = no_world _ v e
 at_end w n stage.Files v e = ([], refl)
 at_end w n stage.Events v e = ([], refl)
+at_end w n _ v e = no_world _ v e
 
 abbrev LaterOrdered : (Inv : ℕ → World → Type 0) (w : World) (n : ℕ) (ls : List (List ℕ)) (v : World) → Type 0
 LaterOrdered Inv w n ls v = (t : Turn) → Inv (n + 1) (turned w t) → run_from (turned w t) (n + 1) ls ≡ Ok v → AreFrom (turned w t).stage (timings_from (owners_of (turned w t)) ls)

@@ -1,20 +1,11 @@
 -- Steps in which no session turns: none changes, or a client's open files alone do.
-use Rattle.std.proofs.Common.{◌⊎◌, inl, inr, ◌≡◌, ℕ, zero, suc, ◌+◌, ◌<◌, ◌≤◌, List, [], ◌∷◌, ◌++◌, length, Option, Some, None, Bool, true, false, refl, sym, ap, ◌∙◌, subst, arith}
-use Rattle.std.specs.Prelude.{slice_get, IsSome}
+use Rattle.std.proofs.Common.{inl, inr, ◌≡◌, ℕ, ◌<◌, ◌≤◌, List, length, Option, Some, None, true, false, refl, sym, ap, ◌∙◌, subst, IsSome}
 use Rattle.server_core.specs.State as server
-use Rattle.server_core.specs.Temps.{Temp, key_of}
-use Rattle.server_core.specs.declared.change.Change.{Change}
 use Rattle.open_close.specs.State as client
-use Rattle.open_close.specs.declared.task.Local.{Local}
-use Rattle.register_model.specs.Register.{content_of}
-use Rattle.register_model.specs.declared.op.Op.{Op}
 use Rattle.register_model.specs.declared.op.Outcome.TheVariants as told
-use Rattle.trace_replay.specs.Core.{Core, Seat, Session, numbered}
-use Rattle.trace_replay.specs.Book.{Book}
-use Rattle.kept_promise.specs.Talk.{Queue}
+use Rattle.kept_promise.proofs.Common.{slice_get, Temp, key_of, Change, Local, content_of, Op, Core, Seat, Session, numbered, Book, Queue}
 use Rattle.kept_promise.proofs.Lists.{some_is, nothing_there, same_or_not}
 use Rattle.kept_promise.proofs.Messages.{Job, job, AllAsks, IsCommit, TempUnder, IsPending}
-use Rattle.kept_promise.proofs.Growth.{Grows}
 use Rattle.kept_promise.proofs.History.{Goes}
 use Rattle.kept_promise.proofs.Later.{SameView, Stays, session_later, seat_later}
 use Rattle.kept_promise.proofs.Turns.{Around, turned_core}

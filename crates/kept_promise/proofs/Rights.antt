@@ -1,17 +1,16 @@
 -- What holds of an operation, and of the journal beside the operations.
-use Rattle.std.proofs.Common.{◌≡◌, ℕ, ◌+◌, ◌<◌, ◌≤◌, List, length, Option, Some, None, Bool, true, false}
-use Rattle.std.specs.Prelude.{slice_get, not, is_some}
-use Rattle.sha1.specs.Sha1.{sha1}
-use Rattle.server_core.specs.declared.journal.Entry.{Entry}
-use Rattle.register_model.specs.Register.{changes, is_closed, is_lost, is_untold}
-use Rattle.register_model.specs.declared.op.Op.{Op}
+use Rattle.std.proofs.Common.{◌≡◌, ℕ, ◌<◌, ◌≤◌, length, Some, None, Bool, true, false}
 use Rattle.register_model.specs.declared.op.Outcome.{Outcome}
 use Rattle.register_model.specs.declared.op.Outcome.TheVariants as told
-use Rattle.register_model.specs.declared.op.Word.{Word}
 use Rattle.register_model.specs.declared.op.Word.TheVariants as words
-use Rattle.trace_replay.specs.Book.{Book, version_at}
-use Rattle.trace_replay.specs.Causes.{IsOpened, IsClosed, IsChanged, IsLost, IsOpenRefused, IsCloseRefused, IsEntered}
-use Rattle.trace_replay.specs.Faithful.{is_running, HasJournal}
+use Rattle.trace_replay.specs.Causes.{IsCloseRefused}
+use Rattle.kept_promise.proofs.Common.{slice_get, not, is_some, sha1, is_closed, is_lost, is_untold, Op, Word, Book, IsOpened, IsClosed, IsChanged, IsLost, IsOpenRefused, IsEntered, is_running, HasJournal}
+
+pub open_not_close : words.Open ≡ words.Close → ⊥
+open_not_close e = absurd cc
+
+pub close_not_open : words.Close ≡ words.Open → ⊥
+close_not_open e = absurd cc
 
 -- it goes to the server
 abbrev pub is_remote : Word → Bool

@@ -1,17 +1,13 @@
 -- Rounds of deliveries: where nothing is on its way a round does nothing, so that K rounds are K times the two deliveries.
-use Rattle.std.proofs.Common.{◌≡◌, ℕ, zero, suc, ◌+◌, List, [], ◌∷◌, ◌++◌, Option, Some, None, length, take, drop, refl, sym, ap, subst, ◌∙◌, arith, append-nil}
-use Rattle.std.specs.Prelude.{Bool, true, false, ◌&&◌, map, slice_get}
-use Rattle.std.proofs.lemmas.List.{take_all}
-use Rattle.rpc_record.specs.declared.records.Fed.{Fed}
-use Rattle.rpc_record.specs.declared.refusal.Refusal.{Refusal}
-use Rattle.rpc_record.specs.Records.{Unread, Parts, nothing_read, fed}
+use Rattle.std.proofs.Common.{◌≡◌, ℕ, zero, suc, List, [], ◌∷◌, ◌++◌, Option, Some, None, take, drop, refl, sym, ap, subst, ◌∙◌, arith, append-nil, Bool, true, false, map}
+use Rattle.trace_replay.specs.Core.{Loss.Made}
+use Rattle.trace_replay.specs.Delivery.{is_none}
+use Rattle.trace_replay.specs.Delivery.{down_all}
 use Rattle.server_core.specs.declared.event.Sent.{Sent}
-use Rattle.wire.specs.declared.message.Message.{Message}
-use Rattle.trace_replay.specs.Core.{Core, Session, Event, Event.Serves, Event.Hears, Turned, Loss, Loss.Nothing, Loss.Made, Loss.Down_of, Loss.Up_of, numbered, with_numbered, happens}
-use Rattle.trace_replay.specs.World.{World, Wire, new_wire, up_put, down_put, down_lost, up_lost, lost_by, routed, happened}
-use Rattle.trace_replay.specs.Delivery.{all_happened, up_some, down_some, is_none, is_still_at, is_still, up_length, down_length, up_all, down_all, round, passes}
-use Rattle.kept_promise.specs.Rounds.{rounds}
-use Rattle.kept_promise.proofs.Deliveries.{at_place, becomes, there_is, none_is, all_become, set_up, set_down, add_up, add_down, downs, downs_in, ups, ups_in, down_is, up_is, wired, up_events_of, down_events_of, up_none, down_none, end_twice}
+use Rattle.kept_promise.proofs.Common.{◌&&◌, slice_get, take_all, Fed, Refusal, Unread, Parts, nothing_read, fed, Message, Session, Event, Event.Serves, Event.Hears, CoreStep, Loss, Loss.Nothing, Loss.Down_of, Loss.Up_of, numbered, happens, World, Wire, new_wire, up_put, down_lost, up_lost, lost_by, routed, happened, all_happened, up_some, down_some, is_still_at, is_still, up_length, down_length, up_all, round, passes, rounds}
+use Rattle.kept_promise.proofs.Places.{at_place, becomes, there_is}
+use Rattle.kept_promise.proofs.Deliveries.{all_become, set_up, set_down, downs, downs_in, ups, ups_in, down_is, up_is, wired, up_events_of, down_events_of, up_none, down_none, end_twice}
+use Rattle.kept_promise.proofs.Lists.{both_true}
 
 -- ---- an end that holds no whole record
 
@@ -141,7 +137,7 @@ rests_lost ws (Up_of number) r = by (numbered ws number) refl
     by None e = r
     by (Some q) e = subst AreRested (sym (there_is no_up ws number q e)) (rests_become no_up (λ z k. (refl, k.1)) ws number r)
 
-rests_routed : (w : World) (t : Turned) → AreRested w.wires → AreRested (routed w t).wires
+rests_routed : (w : World) (t : CoreStep) → AreRested w.wires → AreRested (routed w t).wires
 rests_routed w t r =
     let lost : AreRested (lost_by w.wires t.loss) = rests_lost w.wires t.loss r in
     let up : AreRested (up_put t.core.sessions (lost_by w.wires t.loss) t.session t.up) = subst AreRested (sym (up_is t.core.sessions (lost_by w.wires t.loss) t.session t.up)) (rests_all (ups t.core.sessions t.session t.up) (ups_leave t.core.sessions t.session t.up) (lost_by w.wires t.loss) lost) in
@@ -224,14 +220,9 @@ down_idle w number count now q e r none =
     ∙ ap (λ (z : List ℕ). wired w (becomes (set_down z q.client_end) w.wires number)) d
     ∙ ap (wired w) (becomes_same (set_down q.down q.client_end) w.wires number q e refl)
 
-is_empty : (xs : List ℕ) → is_none xs ≡ true → xs ≡ []
+pub is_empty : (xs : List ℕ) → is_none xs ≡ true → xs ≡ []
 is_empty [] e = refl
 is_empty (x ∷ xs) e = absurd cc
-
-both_true : (a b : Bool) → (a && b) ≡ true → (a ≡ true) × (b ≡ true)
-both_true true true e = (refl, refl)
-both_true true false e = absurd cc
-both_true false b e = absurd cc
 
 round_idle : (w : World) (number server at : ℕ) → AreRested w.wires → is_still w number ≡ true → round w number server at ≡ w
 round_idle w number server at r still = by (numbered w.wires number) refl

@@ -1,17 +1,11 @@
 -- The wires carry the queues of messages, through what is lost and what is sent.
-use Rattle.std.proofs.Common.{◌⊎◌, inl, inr, ◌≡◌, ℕ, zero, suc, ◌+◌, List, [], ◌∷◌, ◌++◌, length, Option, Some, None, Bool, true, false, refl, sym, ap, ◌∙◌, subst, arith, append_assoc}
-use Rattle.std.specs.Prelude.{slice_get, map}
-use Rattle.std.specs.List.{flat_map}
-use Rattle.rpc_record.specs.Records.{Unread, nothing_read, marked, stream}
-use Rattle.wire.specs.Message.{message_spell}
-use Rattle.wire.specs.declared.message.Message.{Message}
+use Rattle.std.proofs.Common.{inl, inr, ◌≡◌, ℕ, zero, suc, List, [], ◌∷◌, ◌++◌, length, Option, Some, None, Bool, true, false, refl, sym, ap, ◌∙◌, subst, arith, append_assoc, map}
+use Rattle.trace_replay.specs.Core.{Loss.Made}
 use Rattle.server_core.specs.declared.event.Sent.{Sent}
-use Rattle.trace_replay.specs.Core.{Session, Loss, Loss.Nothing, Loss.Made, Loss.Down_of, Loss.Up_of, Turned, numbered, with_numbered}
-use Rattle.trace_replay.specs.World.{Wire, new_wire, bytes_of, unless, up_put_in, up_put, down_put_in, down_put, down_lost, up_lost, lost_by}
-use Rattle.kept_promise.specs.Talk.{Ask, Told, Queue, no_queue, Carries, ask_message, told_message}
-use Rattle.kept_promise.proofs.Lists.{some_is, nothing_there, same_or_not, of_appended}
+use Rattle.kept_promise.proofs.Common.{slice_get, marked, stream, message_spell, Message, Session, Loss, Loss.Nothing, Loss.Down_of, Loss.Up_of, numbered, with_numbered, Wire, new_wire, bytes_of, unless, up_put_in, up_put, down_put_in, down_put, down_lost, up_lost, lost_by, Ask, Told, Queue, no_queue, Carries, ask_message, told_message}
+use Rattle.kept_promise.proofs.Lists.{some_is, nothing_there, same_or_not, of_appended, count_more}
 use Rattle.kept_promise.proofs.Turns.{Around, around_with, also_numbered}
-use Rattle.kept_promise.proofs.Leading.{Sends, sent_message, ups_put_in, ups_put, downs_put_in, downs_put, downs_lost, ups_lost, queues_lost, queues_after, CarryAll, RoutesCarry}
+use Rattle.kept_promise.proofs.Leading.{sent_message, ups_put_in, ups_put, downs_put_in, downs_put, downs_lost, ups_lost, queues_lost, CarryAll, RoutesCarry}
 
 -- ---- messages in a row
 
@@ -122,12 +116,8 @@ past_end [] k x e f = nothing_there x f
 past_end (y ∷ xs) zero x e f = absurd (omega (arith, e))
 past_end (y ∷ xs) (suc k) x e f = past_end xs k x (omega (arith, e)) f
 
-count_new : {A : Type 0} (xs : List A) (x : A) → length (xs ++ x ∷ []) ≡ suc (length xs)
-count_new [] x = refl
-count_new (y ∷ xs) x = ap suc (count_new xs x)
-
 carry_new : (ws : List Wire) (qs : List Queue) → CarryAll ws qs → CarryAll (ws ++ new_wire ∷ []) (qs ++ no_queue ∷ [])
-carry_new ws qs c = (count_new ws new_wire ∙ ap suc c.0 ∙ sym (count_new qs no_queue), at)
+carry_new ws qs c = (count_more ws new_wire ∙ ap suc c.0 ∙ sym (count_more qs no_queue), at)
   where
     at : (n : ℕ) (q : Wire) (m : Queue) → numbered (ws ++ new_wire ∷ []) n ≡ Some q → numbered (qs ++ no_queue ∷ []) n ≡ Some m → Carries q m
     at zero q m f g = nothing_there q f

@@ -1,15 +1,6 @@
 -- The law over runs: what is kept by each event holds of what a whole run leaves, and the moments of the book are those of the run.
-use Rattle.std.proofs.Common.{◌≡◌, ℕ, ◌+◌, List, [], ◌∷◌, ◌++◌, Option, Some, None, Bool, true, false, refl, sym, ◌∙◌, subst, arith, append-nil, append_assoc}
-use Rattle.std.specs.Prelude.{Result, Ok, Err}
-use Rattle.command_text.specs.Parts.{lines_of}
-use Rattle.trace_text.specs.Grammar.{line_of}
-use Rattle.trace_text.specs.declared.line.Line.{Line}
-use Rattle.trace_text.specs.declared.refusal.LineFault.{LineFault}
-use Rattle.trace_replay.specs.declared.fault.Refused.{Refused}
-use Rattle.trace_replay.specs.declared.turn.Turn.{Turn}
-use Rattle.trace_replay.specs.World.{World, start}
-use Rattle.trace_replay.specs.Run.{asked, asked_by, turned, refused, in_header, ended, run_from, run}
-use Rattle.trace_replay.specs.Trail.{Moment, turn_moments, moments_from, moments}
+use Rattle.std.proofs.Common.{◌≡◌, ℕ, ◌+◌, List, [], ◌∷◌, ◌++◌, Option, Some, None, refl, sym, ◌∙◌, subst, arith, append-nil, append_assoc, Result, Ok, Err}
+use Rattle.kept_promise.proofs.Common.{lines_of, line_of, Line, LineFault, Turn, World, start, asked, asked_by, turned, in_header, run_from, run, Moment, turn_moments, moments_from, moments}
 use Rattle.kept_promise.proofs.Statements.{ClocksKeepTheRule}
 use Rattle.kept_promise.proofs.Fits.{FitLaws}
 use Rattle.kept_promise.proofs.Readings.{HasRoom, clocks_keep_the_rule}
@@ -18,6 +9,7 @@ use Rattle.kept_promise.proofs.RunsFirst.{no_tree}
 use Rattle.kept_promise.proofs.RunsEvents.{Fact}
 use Rattle.kept_promise.proofs.RunsLines.{line_fits, allowed, within_lines}
 use Rattle.kept_promise.proofs.RunsTurns.{IsFirst, Before, first_stands, may_turn, before_next}
+use Rattle.kept_promise.proofs.RunsResults.{no_world, ended_is, ran_by, moments_by}
 
 -- ---- the start
 
@@ -33,25 +25,6 @@ next_of : (P : Fact) → KeptLaws → FitLaws → Carried P → (n : ℕ) (all p
 next_of P laws fits carried n all past rest w bytes l t read is h split = before_next P laws fits carried n all past rest w t (within_lines w n l t is) (allowed w n l t (line_fits bytes l read) is) h split
 
 -- ---- all lines
-
-abbrev whole : World → Result World Refused
-whole w = Ok w
-
-no_world : {A : Type 0} (r : Refused) (v : World) → Err r ≡ whole v → A
-no_world r v e = absurd cc
-
-world_is : (w v : World) → whole w ≡ whole v → w ≡ v
-world_is w v e = cc
-
-ended_is : (w v : World) (n : ℕ) (b : Bool) → ended w n b ≡ Ok v → w ≡ v
-ended_is w v n true e = no_world _ v e
-ended_is w v n false e = world_is w v e
-
-abbrev ran_by : World → ℕ → List (List ℕ) → Result Turn LineFault → Result World Refused
-ran_by w n ls r = elim r [ Err f ↦ Err (refused n f) | Ok t ↦ run_from (turned w t) (n + 1) ls ]
-
-abbrev moments_by : World → ℕ → List (List ℕ) → Result Turn LineFault → List Moment
-moments_by w n ls r = elim r [ Err f ↦ [] | Ok t ↦ turn_moments w t ++ moments_from (turned w t) (n + 1) ls ]
 
 carried_lines : (P : Fact) → KeptLaws → FitLaws → Carried P → (n : ℕ) (all past : List Moment) (w v : World) (ls : List (List ℕ)) → run_from w n ls ≡ Ok v → all ≡ past ++ moments_from w n ls → Before P n all past w → Stands P all all v
 carried_lines P laws fits carried n all past w v [] e split h =

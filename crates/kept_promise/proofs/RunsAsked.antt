@@ -1,19 +1,11 @@
 -- What a line that is taken asks for, whatever the world is.
-use Rattle.std.proofs.Common.{◌≡◌, ℕ, Option, Some, None, Bool, true, false, List}
-use Rattle.std.specs.Prelude.{Result, Ok, Err, nat_lt, nat_le}
-use Rattle.command_text.specs.declared.content.Part.{Part}
-use Rattle.trace_text.specs.declared.line.Line.{Line}
+use Rattle.std.proofs.Common.{◌≡◌, ℕ, Option, Some, None, Bool, true, false, List, Result, Ok, Err}
 use Rattle.trace_text.specs.declared.line.Line.TheVariants as line
-use Rattle.trace_text.specs.declared.refusal.LineFault.{LineFault}
-use Rattle.trace_text.specs.declared.refusal.LineFault.TheVariants.{Grammar, Limit, Clock}
-use Rattle.trace_replay.specs.declared.link.Stage.{Stage}
-use Rattle.trace_replay.specs.declared.link.Stage.TheVariants as stage
-use Rattle.trace_replay.specs.declared.turn.Turn.{Turn}
+use Rattle.trace_replay.specs.declared.stage.Stage.{Stage}
+use Rattle.trace_replay.specs.declared.stage.Stage.TheVariants as stage
 use Rattle.trace_replay.specs.declared.turn.Turn.TheVariants as turn
-use Rattle.trace_replay.specs.Names.{has_name}
-use Rattle.trace_replay.specs.Core.{Core, Seat, numbered}
-use Rattle.trace_replay.specs.World.{World}
-use Rattle.trace_replay.specs.Run.{line_most, sessions_most, asks_if, sized, named, joins_if, joins_within, event_asks, asks_at, asks, asks_within, asked}
+use Rattle.kept_promise.proofs.Common.{nat_lt, nat_le, Part, Line, LineFault, Grammar, Turn, has_name, Core, Seat, numbered, World, line_most, sessions_most, asks_if, sized, named, joins_if, joins_within, event_asks, asks_at, asks, asks_within, asked}
+use Rattle.kept_promise.proofs.RunsResults.{asking, refused_line}
 
 abbrev pub turn_of : Line → Turn
 turn_of line.Skipped = turn.Skip
@@ -31,14 +23,8 @@ turn_of (line.Cut m r) = turn.Cut m
 turn_of (line.Hang n at) = turn.Hang n
 turn_of (line.Pass n rounds at r) = turn.Pass n rounds at r
 
-abbrev asking : Turn → Result Turn LineFault
-asking t = Ok t
-
 turn_is : (s t : Turn) → asking s ≡ asking t → t ≡ s
 turn_is s t e = cc
-
-refused_line : {A : Type 0} (f : LineFault) (t : Turn) → Err f ≡ asking t → A
-refused_line f t e = absurd cc
 
 goes_if : (b : Bool) (u t : Turn) → asks_if b u ≡ asking t → t ≡ u
 goes_if true u t e = turn_is u t e
@@ -65,9 +51,8 @@ event_turn k (line.Pass n rounds at r) t e = goes_if _ (turn.Pass n rounds at r)
 event_turn k l t e = refused_line Grammar t e
 
 sized_turn : (long much : Bool) (u t : Turn) → sized long much u ≡ asking t → t ≡ u
-sized_turn true much u t e = refused_line _ t e
-sized_turn false true u t e = refused_line _ t e
 sized_turn false false u t e = turn_is u t e
+sized_turn _ _ u t e = refused_line _ t e
 
 named_turn : (b : Bool) (size : ℕ) (name : List ℕ) (content : List Part) (t : Turn) → named b size name content ≡ asking t → t ≡ turn.File name content
 named_turn true size name content t e = refused_line Grammar t e
@@ -87,12 +72,10 @@ line_turn : (w : World) (l : Line) (t : Turn) → asks w l ≡ asking t → t �
 line_turn w line.Skipped t e = turn_is turn.Skip t e
 line_turn w l t e = stage_turn w w.stage l t e
 
-within : (b : Bool) (r : Result Turn LineFault) (t : Turn) → asks_within b r ≡ asking t → r ≡ asking t
+pub within : (b : Bool) (r : Result Turn LineFault) (t : Turn) → asks_within b r ≡ asking t → r ≡ asking t
 within true r t e = e
 within false (Err Grammar) t e = refused_line Grammar t e
-within false (Err (Limit w)) t e = refused_line _ t e
-within false (Err (Clock f)) t e = refused_line _ t e
-within false (Ok s) t e = refused_line _ t e
+within false _ t e = refused_line _ t e
 
 pub asked_turn : (w : World) (n : ℕ) (l : Line) (t : Turn) → asked w n l ≡ Ok t → t ≡ turn_of l
 asked_turn w n l t e = line_turn w l t (within (nat_le n line_most) (asks w l) t e)

@@ -1,16 +1,7 @@
 -- What a run carries, event by event: what the laws of events give before and after each, and what is asked of any further fact.
-use Rattle.std.proofs.Common.{◌≡◌, ℕ, ◌<◌, List, [], ◌∷◌, ◌++◌, length, Some, false}
-use Rattle.std.specs.Prelude.{replicate}
-use Rattle.wire.specs.Message.{message_spell}
+use Rattle.std.proofs.Common.{◌≡◌, ℕ, ◌<◌, List, [], ◌∷◌, ◌++◌, length, Some, false, replicate}
 use Rattle.server_core.specs.State as server
-use Rattle.server_core.specs.declared.file.File.{File}
-use Rattle.register_model.specs.declared.op.Opening.{Opening}
-use Rattle.trace_replay.specs.Commands.{file_of}
-use Rattle.trace_replay.specs.Core.{Core, Seat, new_seat, Session, Event, Event.Joins, Event.Does, Event.Serves, Event.Hears, Event.Settles, Event.Cuts, Event.Hangs, numbered, with_numbered, happens}
-use Rattle.trace_replay.specs.World.{World}
-use Rattle.trace_replay.specs.Trail.{Moment}
-use Rattle.trace_replay.specs.Book.{Book, book_of}
-use Rattle.kept_promise.specs.Talk.{Ask, Told, Queue, ask_message, told_message}
+use Rattle.kept_promise.proofs.Common.{message_spell, File, Opening, file_of, Core, Seat, new_seat, Session, Event, Event.Joins, Event.Does, Event.Serves, Event.Hears, Event.Settles, Event.Cuts, Event.Hangs, numbered, with_numbered, happens, World, Moment, Book, book_of, Ask, Told, Queue, ask_message, told_message}
 use Rattle.kept_promise.proofs.Facts.{IsKept}
 use Rattle.kept_promise.proofs.Rounds.{AreRested}
 use Rattle.kept_promise.proofs.Leading.{Sends, queues_after, IsNoted, CarryAll, KeptJoins, KeptHangs, KeptCuts, KeptSettles, KeptDoes, KeptServes, KeptHears}

@@ -1,17 +1,6 @@
 -- Bytes that come to an end, in whatever pieces: each record that they complete is that of the first call, or answer, on its way.
-use Rattle.std.proofs.Common.{◌≡◌, ℕ, zero, suc, ◌≤◌, List, [], ◌∷◌, ◌++◌, length, take, drop, Option, Some, None, Bool, true, false, refl, sym, ap, ◌∙◌, subst, arith, append-nil, append_assoc}
-use Rattle.std.proofs.lemmas.List.{take-append-drop}
-use Rattle.std.proofs.lemmas.List.Elements.{All-nil, All-cons}
-use Rattle.std.specs.Prelude.{All, map}
-use Rattle.rpc_record.specs.Records.{fed, stream}
-use Rattle.wire.specs.Message.{message_spell, MessageFits}
-use Rattle.wire.specs.declared.message.Message.{Message}
-use Rattle.trace_replay.specs.Core.{Event, Event.Serves, Event.Hears, Turned, numbered, with_numbered, happens}
-use Rattle.trace_replay.specs.World.{World, Wire, bytes_of, happened}
-use Rattle.trace_replay.specs.Delivery.{all_happened, up_taken, up_at, up_some, down_taken, down_at, down_some, up_length, down_length, up_all, round, is_still, passes}
-use Rattle.trace_replay.specs.Trail.{Moment, moments_of, up_moments_at, up_moments, down_moments_at, down_moments, round_moments, passes_moments}
-use Rattle.trace_replay.specs.Book.{book_of}
-use Rattle.kept_promise.specs.Talk.{Ask, Told, Queue, Carries, ask_message, told_message}
+use Rattle.std.proofs.Common.{◌≡◌, ℕ, zero, suc, ◌≤◌, List, [], ◌∷◌, ◌++◌, length, take, drop, Option, Some, None, Bool, true, false, refl, sym, ap, ◌∙◌, subst, arith, append-nil, append_assoc, map}
+use Rattle.kept_promise.proofs.Common.{take-append-drop, All-nil, All-cons, All, fed, stream, message_spell, MessageFits, Message, Event, Event.Serves, Event.Hears, CoreStep, numbered, with_numbered, happens, World, Wire, bytes_of, happened, all_happened, up_taken, up_at, up_some, down_taken, down_at, down_some, up_length, down_length, up_all, round, is_still, passes, Moment, moments_of, up_moments_at, up_moments, down_moments_at, down_moments, round_moments, passes_moments, book_of, Ask, Told, Queue, Carries, ask_message, told_message}
 use Rattle.kept_promise.proofs.Statements.{CallFits}
 use Rattle.kept_promise.proofs.Messages.{AllAsks, AllTolds}
 use Rattle.kept_promise.proofs.Facts.{IsKept}
@@ -23,7 +12,8 @@ use Rattle.kept_promise.proofs.Bytes.{streams_come}
 use Rattle.kept_promise.proofs.Deliveries.{serves_silent, hears_silent}
 use Rattle.kept_promise.proofs.Rounds.{AreRested, rests_up, rests_down}
 use Rattle.kept_promise.proofs.RunsCarried.{KeptLaws, moment, Carried, Stands}
-use Rattle.kept_promise.proofs.RunsQueues.{becomes, there_is, become_same, off_ups, off_downs, served_off, served_has, heard_off, heard_has, ups_next, downs_next}
+use Rattle.kept_promise.proofs.Places.{becomes, there_is, become_same}
+use Rattle.kept_promise.proofs.RunsQueues.{off_ups, off_downs, served_off, served_has, heard_off, heard_has, ups_next, downs_next}
 use Rattle.kept_promise.proofs.RunsEvents.{Fact, left_by}
 
 -- ---- records and messages
@@ -62,18 +52,18 @@ parted f (x ∷ xs) (r ∷ rs) left e =
     first : f x ∷ map f xs ≡ r ∷ (rs ++ left) → f x ≡ r
     first h = cc
 
-drop_front : {A : Type 0} (xs ys : List A) → drop (length xs) (xs ++ ys) ≡ ys
+pub drop_front : {A : Type 0} (xs ys : List A) → drop (length xs) (xs ++ ys) ≡ ys
 drop_front [] ys = refl
 drop_front (x ∷ xs) ys = drop_front xs ys
 
 pub fits_short : (m : Message) → MessageFits m → length (message_spell m) ≤ 131072
 fits_short m f = let l = f.1 in omega (arith, l)
 
-asks_short : FitLaws → (us : List Ask) → AllAsks (λ a. CallFits a.xid a.call) us → All (λ r. length r ≤ 131072) (map message_spell (map ask_message us))
+pub asks_short : FitLaws → (us : List Ask) → AllAsks (λ a. CallFits a.xid a.call) us → All (λ r. length r ≤ 131072) (map message_spell (map ask_message us))
 asks_short fits [] h = All-nil (λ r. length r ≤ 131072)
 asks_short fits (a ∷ us) h = All-cons (λ r. length r ≤ 131072) (ask_bytes a) (map message_spell (map ask_message us)) (fits_short (ask_message a) (fits.calls a.xid a.call h.0).0) (asks_short fits us h.1)
 
-tolds_short : (ts : List Told) → AllTolds (λ t. MessageFits (told_message t)) ts → All (λ r. length r ≤ 131072) (map message_spell (map told_message ts))
+pub tolds_short : (ts : List Told) → AllTolds (λ t. MessageFits (told_message t)) ts → All (λ r. length r ≤ 131072) (map message_spell (map told_message ts))
 tolds_short [] h = All-nil (λ r. length r ≤ 131072)
 tolds_short (t ∷ ts) h = All-cons (λ r. length r ≤ 131072) (told_bytes t) (map message_spell (map told_message ts)) (fits_short (told_message t) h.0) (tolds_short ts h.1)
 
@@ -129,7 +119,7 @@ served_all P l carried all past rest n now [] behind w qs q split kept carry hol
     none_more all past (λ (z : List Moment). Midway P all z w) (record { queues = qs; kept = kept; carry = subst (CarryAll w.wires) (become_same (off_ups 0) (λ z. refl) qs n) carry; more = holds })
 served_all P l carried all past rest n now (a ∷ us) behind w qs q split kept carry holds at is =
     let e : Event = Serves n now (ask_bytes a) in
-    let t : Turned = happens w.core e in
+    let t : CoreStep = happens w.core e in
     let m : Moment = moment w.core e in
     let ms : List Moment = moments_of (happened w e) (serve_events n now (map ask_bytes us)) in
     let mid : List Queue = with_numbered qs n (record q { ups = us ++ behind }) in
@@ -192,7 +182,7 @@ heard_all P l carried all past rest n now [] behind w qs q split kept carry hold
     none_more all past (λ (z : List Moment). Midway P all z w) (record { queues = qs; kept = kept; carry = subst (CarryAll w.wires) (become_same (off_downs 0) (λ z. refl) qs n) carry; more = holds })
 heard_all P l carried all past rest n now (t ∷ ts) behind w qs q split kept carry holds at is =
     let e : Event = Hears n now (told_bytes t) in
-    let u : Turned = happens w.core e in
+    let u : CoreStep = happens w.core e in
     let m : Moment = moment w.core e in
     let ms : List Moment = moments_of (happened w e) (hear_events n now (map told_bytes ts)) in
     let mid : List Queue = with_numbered qs n (record q { downs = ts ++ behind }) in

@@ -1,16 +1,8 @@
 -- One event of a run: what it leaves is kept, and the wires carry what is on its way.
 use Rattle.std.proofs.Common.{◌≡◌, ℕ, zero, List, [], ◌∷◌, ◌++◌, refl, sym, ap, ◌∙◌, subst, arith}
-use Rattle.std.proofs.lemmas.List.Elements.{Contains-append_left, Contains-append_right}
 use Rattle.std.proofs.lemmas.Grind.{flat_map-append}
-use Rattle.std.specs.Prelude.{Contains, flat_map}
-use Rattle.server_core.specs.declared.journal.Entry.{Entry}
-use Rattle.register_model.specs.declared.op.Op.{Op}
-use Rattle.register_model.specs.declared.op.Opening.{Opening}
-use Rattle.trace_replay.specs.Core.{Core, Seat, Event, Event.Joins, Event.Does, Event.Serves, Event.Hears, Event.Settles, Event.Cuts, Event.Hangs, Turned, with_numbered, happens}
-use Rattle.trace_replay.specs.World.{World, happened}
-use Rattle.trace_replay.specs.Trail.{Moment, hashed_in, hashed_of, hashed_by}
-use Rattle.trace_replay.specs.Book.{Book}
-use Rattle.kept_promise.specs.Talk.{Queue}
+use Rattle.trace_replay.specs.Trail.{hashed_in}
+use Rattle.kept_promise.proofs.Common.{Contains-append_left, Contains-append_right, Contains, flat_map, Entry, Op, Opening, Core, Seat, Event, Event.Joins, Event.Does, Event.Serves, Event.Hears, Event.Settles, Event.Cuts, Event.Hangs, CoreStep, with_numbered, happens, World, happened, Moment, hashed_of, hashed_by, Book, Queue}
 use Rattle.kept_promise.proofs.Lists.{some_is}
 use Rattle.kept_promise.proofs.Facts.{IsKept}
 use Rattle.kept_promise.proofs.Leading.{Sends, queues_after, IsNoted, Leads}
@@ -76,7 +68,7 @@ pub left_by : (P : Fact) → KeptLaws → Carried P → (all past rest : List Mo
 left_by P l carried all past rest opening k qs e mid split kept finds holds =
     let noted = noted_of all past rest opening k e split in
     let lead = leads_of l (book_at opening k all) k qs e mid kept finds noted in
-    let t : Turned = happens k e in
+    let t : CoreStep = happens k e in
     let same : lead.more ≡ book_at opening t.core all = same_book lead.more opening t.core all lead.opening lead.kept.ops lead.kept.steps lead.kept.journal lead.kept.entries lead.moments in
     let left = subst (λ (b : Book). IsKept b t.core (queues_after mid t lead.sends)) same lead.kept in
     record {

@@ -1,14 +1,8 @@
 -- The two ends before the first event: the files are those of the opening tree, and nothing happened.
-use Rattle.std.proofs.Common.{◌⊎◌, inl, inr, ◌≡◌, ℕ, zero, suc, ◌+◌, ◌<◌, ◌≤◌, List, [], ◌∷◌, ◌++◌, length, max, Option, Some, None, Bool, true, false, refl, sym, ap, ◌∙◌, subst, arith, eq-eqb, ne_eqb}
-use Rattle.std.specs.Prelude.{slice_get, replicate, find, option_map, cond, ◌==◌}
+use Rattle.std.proofs.Common.{◌⊎◌, inl, inr, ◌≡◌, ℕ, zero, suc, ◌+◌, ◌<◌, ◌≤◌, List, [], ◌∷◌, ◌++◌, length, max, Option, Some, None, Bool, true, false, refl, sym, ap, ◌∙◌, subst, arith, eq-eqb, ne_eqb, replicate}
 use Rattle.server_core.specs.State as server
-use Rattle.server_core.specs.declared.file.File.{File}
-use Rattle.register_model.specs.Register.{content_of}
-use Rattle.register_model.specs.declared.op.Opening.{Opening}
-use Rattle.trace_replay.specs.Core.{Seat, new_seat, numbered}
-use Rattle.trace_replay.specs.Trail.{Moment}
-use Rattle.trace_replay.specs.Book.{Book}
-use Rattle.kept_promise.proofs.Lists.{some_is, nothing_there, same_or_not}
+use Rattle.kept_promise.proofs.Common.{slice_get, find, option_map, cond, ◌==◌, File, content_of, Opening, Seat, new_seat, numbered, Moment, Book}
+use Rattle.kept_promise.proofs.Lists.{some_is, nothing_there, same_or_not, count_more}
 use Rattle.kept_promise.proofs.Shelf.{found_put, found_else}
 use Rattle.kept_promise.proofs.Facts.{FileIs, IsServer, IsSeat, IsKept}
 use Rattle.kept_promise.proofs.RunsCarried.{book_at, first_core}
@@ -64,10 +58,6 @@ content_else os o f none apart = content_more os o f ∙ ap (λ (z : Option (Lis
 content_stays : (os : List Opening) (o : Opening) (f : ℕ) (x : List ℕ) → content_of os f ≡ Some x → content_of (os ++ o ∷ []) f ≡ Some x
 content_stays os o f x is = content_more os o f ∙ ap (λ (z : Option (List ℕ)). or_else z (content_of (o ∷ []) f)) is
 
-count_more : {A : Type 0} (xs : List A) (x : A) → length (xs ++ x ∷ []) ≡ suc (length xs)
-count_more [] x = refl
-count_more (y ∷ ys) x = ap suc (count_more ys x)
-
 pub tree_more : (opening : List Opening) (files : List (ℕ × File)) (changes : ℕ) (o : Opening) → o.file ≡ length opening + 2 → length opening + 2 < 18446744073709551616 → length o.content ≤ 67108864 → IsTree opening files changes
     → IsTree (opening ++ o ∷ []) (server.with_file files (opening_file o)) (max changes 1)
 tree_more opening files changes o is few size t = record {
@@ -94,9 +84,8 @@ tree_more opening files changes o is few size t = record {
     below f le = content_else opening o f (t.below f (omega (arith, le))) (λ e. omega (arith, e, le, is))
 
     most_of : (c : ℕ) → c ≤ 1 → max c 1 ≡ 1
-    most_of zero le = refl
-    most_of (suc zero) le = refl
     most_of (suc (suc c)) le = absurd (omega (arith, le))
+    most_of _ le = refl
 
     most : max changes 1 ≤ 1
     most = let e = most_of changes t.most in omega (arith, e)

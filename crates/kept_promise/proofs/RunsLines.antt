@@ -1,29 +1,20 @@
 -- What a line that is taken asks for: it names what is there, within the limits, and its numbers are of 64 bits.
-use Rattle.std.proofs.Common.{◌≡◌, ℕ, ◌+◌, ◌^◌, ◌<◌, ◌≤◌, List, [], ◌∷◌, length, Option, Some, None, Bool, true, false, refl, ap, ◌∙◌, subst, arith}
-use Rattle.std.proofs.lemmas.Bool.Decides.{nat_tests}
-use Rattle.std.specs.Prelude.{Result, Ok, Err, nat_lt, nat_le, if◌then◌else◌, codes, bytes_eq, drop, take}
+use Rattle.std.proofs.Common.{◌≡◌, ℕ, ◌+◌, ◌^◌, ◌<◌, ◌≤◌, List, [], ◌∷◌, length, Option, Some, None, Bool, true, false, refl, ap, ◌∙◌, subst, arith, Result, Ok, Err, drop, take}
+use Rattle.std.specs.Prelude.{codes}
 use Rattle.command_text.specs.Commands.{command_of, open_of, write_of, trunc_of, read_of, close_of, abandon_of}
-use Rattle.command_text.specs.Content.{content_length}
 use Rattle.command_text.specs.Fields.{◌>>=◌, value_from, is_decimal, value_of, number_of, number_within, name_of, content_of, id_of}
 use Rattle.command_text.specs.Parts.{words_of}
-use Rattle.command_text.specs.declared.command.Command.{Command}
 use Rattle.command_text.specs.declared.command.Command.TheVariants as command
-use Rattle.command_text.specs.declared.content.Part.{Part}
 use Rattle.trace_text.specs.Fields.{reading_of, amount_of}
-use Rattle.trace_text.specs.Grammar.{version_of, term_of, drift_of, clients_of, file_of, join_of, do_of, up_of, down_of, pass_of, settle_of, cut_of, hang_of, event_from, line_from, said_by, is_skipped, line_of}
-use Rattle.trace_text.specs.declared.line.Line.{Line}
+use Rattle.trace_text.specs.Grammar.{version_of, term_of, drift_of, clients_of, file_of, join_of, do_of, up_of, down_of, pass_of, settle_of, cut_of, hang_of, event_from, line_from, said_by, is_skipped}
 use Rattle.trace_text.specs.declared.line.Line.TheVariants as line
-use Rattle.trace_text.specs.declared.refusal.LineFault.{LineFault}
-use Rattle.trace_text.specs.declared.refusal.LineFault.TheVariants.{Grammar, Limit, Clock}
-use Rattle.trace_replay.specs.declared.link.Stage.{Stage}
-use Rattle.trace_replay.specs.declared.link.Stage.TheVariants as stage
-use Rattle.trace_replay.specs.declared.turn.Turn.{Turn}
+use Rattle.trace_replay.specs.declared.stage.Stage.{Stage}
+use Rattle.trace_replay.specs.declared.stage.Stage.TheVariants as stage
 use Rattle.trace_replay.specs.declared.turn.Turn.TheVariants as turn
 use Rattle.trace_replay.specs.Commands as commands
-use Rattle.trace_replay.specs.Names.{has_name}
-use Rattle.trace_replay.specs.Core.{Seat, Session, numbered}
-use Rattle.trace_replay.specs.World.{World}
-use Rattle.trace_replay.specs.Run.{line_most, file_most, tree_most, sessions_most, is_there, asks_if, sized, named, joins_if, joins_within, event_asks, asks_at, asks, asks_within, asked}
+use Rattle.trace_replay.specs.Run.{file_most, tree_most, is_there}
+use Rattle.kept_promise.proofs.Common.{nat_tests, nat_lt, nat_le, if◌then◌else◌, bytes_eq, content_length, Command, Part, line_of, Line, LineFault, Grammar, Turn, has_name, Seat, Session, numbered, World, line_most, sessions_most, asks_if, sized, named, joins_if, joins_within, event_asks, asks_at, asks, asks_within, asked}
+use Rattle.kept_promise.proofs.RunsResults.{asking, turn_is, refused_line}
 
 -- ---- numbers of a text
 
@@ -68,41 +59,30 @@ abbrev pub IsSmall : Command → Type 0
 IsSmall d = commands.file_of d < 18446744073709551616
 
 open_small : (words : List (List ℕ)) → Gives IsSmall (open_of words)
-open_small [] = gives_none IsSmall
 open_small (place ∷ []) = gives_after (λ n. n < 18446744073709551616) IsSmall (id_of place) _ (id_small place) (λ n h. gives_some IsSmall (command.Open n) h)
-open_small (place ∷ w ∷ ws) = gives_none IsSmall
+open_small _ = gives_none IsSmall
 
 close_small : (words : List (List ℕ)) → Gives IsSmall (close_of words)
-close_small [] = gives_none IsSmall
 close_small (place ∷ []) = gives_after (λ n. n < 18446744073709551616) IsSmall (id_of place) _ (id_small place) (λ n h. gives_some IsSmall (command.Close n) h)
-close_small (place ∷ w ∷ ws) = gives_none IsSmall
+close_small _ = gives_none IsSmall
 
 abandon_small : (words : List (List ℕ)) → Gives IsSmall (abandon_of words)
-abandon_small [] = gives_none IsSmall
 abandon_small (place ∷ []) = gives_after (λ n. n < 18446744073709551616) IsSmall (id_of place) _ (id_small place) (λ n h. gives_some IsSmall (command.Abandon n) h)
-abandon_small (place ∷ w ∷ ws) = gives_none IsSmall
+abandon_small _ = gives_none IsSmall
 
 write_small : (words : List (List ℕ)) → Gives IsSmall (write_of words)
-write_small [] = gives_none IsSmall
-write_small (place ∷ []) = gives_none IsSmall
-write_small (place ∷ offset ∷ []) = gives_none IsSmall
 write_small (place ∷ offset ∷ content ∷ []) =
     gives_after (λ n. n < 18446744073709551616) IsSmall (id_of place) _ (id_small place) (λ f h. gives_then IsSmall (number_of offset) _ (λ o. gives_then IsSmall (content_of content) _ (λ c. gives_some IsSmall (command.Write f o c) h)))
-write_small (place ∷ offset ∷ content ∷ w ∷ ws) = gives_none IsSmall
+write_small _ = gives_none IsSmall
 
 trunc_small : (words : List (List ℕ)) → Gives IsSmall (trunc_of words)
-trunc_small [] = gives_none IsSmall
-trunc_small (place ∷ []) = gives_none IsSmall
 trunc_small (place ∷ size ∷ []) = gives_after (λ n. n < 18446744073709551616) IsSmall (id_of place) _ (id_small place) (λ f h. gives_then IsSmall (number_of size) _ (λ n. gives_some IsSmall (command.Trunc f n) h))
-trunc_small (place ∷ size ∷ w ∷ ws) = gives_none IsSmall
+trunc_small _ = gives_none IsSmall
 
 read_small : (words : List (List ℕ)) → Gives IsSmall (read_of words)
-read_small [] = gives_none IsSmall
-read_small (place ∷ []) = gives_none IsSmall
-read_small (place ∷ offset ∷ []) = gives_none IsSmall
 read_small (place ∷ offset ∷ count ∷ []) =
     gives_after (λ n. n < 18446744073709551616) IsSmall (id_of place) _ (id_small place) (λ f h. gives_then IsSmall (number_of offset) _ (λ o. gives_then IsSmall (number_of count) _ (λ n. gives_some IsSmall (command.Read f o n) h)))
-read_small (place ∷ offset ∷ count ∷ w ∷ ws) = gives_none IsSmall
+read_small _ = gives_none IsSmall
 
 command_small : (word : List ℕ) (words : List (List ℕ)) → Gives IsSmall (command_of word words)
 command_small word words =
@@ -120,84 +100,58 @@ LineFits (line.Do c r d) = IsSmall d
 LineFits l = Unit {0}
 
 do_fits : (words : List (List ℕ)) → Gives LineFits (do_of words)
-do_fits [] = gives_none LineFits
-do_fits (client ∷ []) = gives_none LineFits
-do_fits (client ∷ at ∷ []) = gives_none LineFits
 do_fits (client ∷ at ∷ word ∷ words) =
     gives_then LineFits (number_of client) _ (λ c. gives_then LineFits (reading_of at) _ (λ a. gives_after IsSmall LineFits (command_of word words) _ (command_small word words) (λ d h. gives_some LineFits (line.Do c a d) h)))
+do_fits _ = gives_none LineFits
 
 version_fits : (words : List (List ℕ)) → Gives LineFits (version_of words)
-version_fits [] = gives_none LineFits
 version_fits (v ∷ []) = gives_if LineFits (bytes_eq v (codes "1")) _ _ (gives_some LineFits line.Version tt) (gives_none LineFits)
-version_fits (v ∷ w ∷ ws) = gives_none LineFits
+version_fits _ = gives_none LineFits
 
 term_fits : (words : List (List ℕ)) → Gives LineFits (term_of words)
-term_fits [] = gives_none LineFits
 term_fits (v ∷ []) = gives_then LineFits (number_within 1 3600000 v) _ (λ n. gives_some LineFits (line.Term n) tt)
-term_fits (v ∷ w ∷ ws) = gives_none LineFits
+term_fits _ = gives_none LineFits
 
 drift_fits : (words : List (List ℕ)) → Gives LineFits (drift_of words)
-drift_fits [] = gives_none LineFits
 drift_fits (v ∷ []) = gives_then LineFits (number_within 0 3600000 v) _ (λ n. gives_some LineFits (line.Drift n) tt)
-drift_fits (v ∷ w ∷ ws) = gives_none LineFits
+drift_fits _ = gives_none LineFits
 
 clients_fits : (words : List (List ℕ)) → Gives LineFits (clients_of words)
-clients_fits [] = gives_none LineFits
 clients_fits (v ∷ []) = gives_then LineFits (number_within 1 16 v) _ (λ n. gives_some LineFits (line.Clients n) tt)
-clients_fits (v ∷ w ∷ ws) = gives_none LineFits
+clients_fits _ = gives_none LineFits
 
 file_fits : (words : List (List ℕ)) → Gives LineFits (file_of words)
-file_fits [] = gives_none LineFits
-file_fits (name ∷ []) = gives_none LineFits
 file_fits (name ∷ content ∷ []) = gives_then LineFits (name_of name) _ (λ n. gives_then LineFits (content_of content) _ (λ c. gives_some LineFits (line.File n c) tt))
-file_fits (name ∷ content ∷ w ∷ ws) = gives_none LineFits
+file_fits _ = gives_none LineFits
 
 join_fits : (words : List (List ℕ)) → Gives LineFits (join_of words)
-join_fits [] = gives_none LineFits
-join_fits (a ∷ []) = gives_none LineFits
-join_fits (a ∷ b ∷ []) = gives_none LineFits
 join_fits (a ∷ b ∷ c ∷ []) = gives_then LineFits (number_of a) _ (λ x. gives_then LineFits (reading_of b) _ (λ y. gives_then LineFits (reading_of c) _ (λ z. gives_some LineFits (line.Join x y z) tt)))
-join_fits (a ∷ b ∷ c ∷ w ∷ ws) = gives_none LineFits
+join_fits _ = gives_none LineFits
 
 up_fits : (words : List (List ℕ)) → Gives LineFits (up_of words)
-up_fits [] = gives_none LineFits
-up_fits (a ∷ []) = gives_none LineFits
-up_fits (a ∷ b ∷ []) = gives_none LineFits
 up_fits (a ∷ b ∷ c ∷ []) = gives_then LineFits (number_of a) _ (λ x. gives_then LineFits (amount_of b) _ (λ y. gives_then LineFits (reading_of c) _ (λ z. gives_some LineFits (line.Up x y z) tt)))
-up_fits (a ∷ b ∷ c ∷ w ∷ ws) = gives_none LineFits
+up_fits _ = gives_none LineFits
 
 down_fits : (words : List (List ℕ)) → Gives LineFits (down_of words)
-down_fits [] = gives_none LineFits
-down_fits (a ∷ []) = gives_none LineFits
-down_fits (a ∷ b ∷ []) = gives_none LineFits
 down_fits (a ∷ b ∷ c ∷ []) = gives_then LineFits (number_of a) _ (λ x. gives_then LineFits (amount_of b) _ (λ y. gives_then LineFits (reading_of c) _ (λ z. gives_some LineFits (line.Down x y z) tt)))
-down_fits (a ∷ b ∷ c ∷ w ∷ ws) = gives_none LineFits
+down_fits _ = gives_none LineFits
 
 pass_fits : (words : List (List ℕ)) → Gives LineFits (pass_of words)
-pass_fits [] = gives_none LineFits
-pass_fits (a ∷ []) = gives_none LineFits
-pass_fits (a ∷ b ∷ []) = gives_none LineFits
-pass_fits (a ∷ b ∷ c ∷ []) = gives_none LineFits
 pass_fits (a ∷ b ∷ c ∷ d ∷ []) =
     gives_then LineFits (number_of a) _ (λ x. gives_then LineFits (number_of b) _ (λ y. gives_then LineFits (reading_of c) _ (λ z. gives_then LineFits (reading_of d) _ (λ u. gives_some LineFits (line.Pass x y z u) tt))))
-pass_fits (a ∷ b ∷ c ∷ d ∷ w ∷ ws) = gives_none LineFits
+pass_fits _ = gives_none LineFits
 
 settle_fits : (words : List (List ℕ)) → Gives LineFits (settle_of words)
-settle_fits [] = gives_none LineFits
 settle_fits (a ∷ []) = gives_then LineFits (reading_of a) _ (λ x. gives_some LineFits (line.Settle x) tt)
-settle_fits (a ∷ w ∷ ws) = gives_none LineFits
+settle_fits _ = gives_none LineFits
 
 cut_fits : (words : List (List ℕ)) → Gives LineFits (cut_of words)
-cut_fits [] = gives_none LineFits
-cut_fits (a ∷ []) = gives_none LineFits
 cut_fits (a ∷ b ∷ []) = gives_then LineFits (number_of a) _ (λ x. gives_then LineFits (reading_of b) _ (λ y. gives_some LineFits (line.Cut x y) tt))
-cut_fits (a ∷ b ∷ w ∷ ws) = gives_none LineFits
+cut_fits _ = gives_none LineFits
 
 hang_fits : (words : List (List ℕ)) → Gives LineFits (hang_of words)
-hang_fits [] = gives_none LineFits
-hang_fits (a ∷ []) = gives_none LineFits
 hang_fits (a ∷ b ∷ []) = gives_then LineFits (number_of a) _ (λ x. gives_then LineFits (reading_of b) _ (λ y. gives_some LineFits (line.Hang x y) tt))
-hang_fits (a ∷ b ∷ w ∷ ws) = gives_none LineFits
+hang_fits _ = gives_none LineFits
 
 event_fits : (kind : List ℕ) (words : List (List ℕ)) → Gives LineFits (event_from kind words)
 event_fits kind words =
@@ -226,15 +180,6 @@ pub line_fits : (bytes : List ℕ) (l : Line) → line_of bytes ≡ Some l → L
 line_fits bytes = gives_if LineFits (is_skipped bytes) (Some line.Skipped) (said_by (words_of bytes)) (gives_some LineFits line.Skipped tt) (said_fits (words_of bytes))
 
 -- ---- a line that is taken
-
-abbrev asking : Turn → Result Turn LineFault
-asking t = Ok t
-
-turn_is : (s t : Turn) → asking s ≡ asking t → s ≡ t
-turn_is s t e = cc
-
-refused_line : {A : Type 0} (f : LineFault) (t : Turn) → Err f ≡ asking t → A
-refused_line f t e = absurd cc
 
 -- no event came yet
 abbrev pub is_early : Stage → Bool
@@ -295,9 +240,8 @@ named_on w s true size name content t at early e = refused_line Grammar t e
 named_on w s false size name content t at early e = by (nat_lt file_most (content_length content)) (nat_lt tree_most (size + content_length content)) refl e
   where
     by : (long much : Bool) → nat_lt file_most (content_length content) ≡ long → sized long much (turn.File name content) ≡ asking t → Allows w t
-    by true much is e = refused_line _ t e
-    by false true is e = refused_line _ t e
     by false false is e = goes w (turn.File name content) t e (ap is_early at ∙ early, grind (arith, nat_tests, is))
+    by _ _ is e = refused_line _ t e
 
 at_stage : (w : World) (s : Stage) (l : Line) (t : Turn) → w.stage ≡ s → LineFits l → asks_at w s l ≡ asking t → Allows w t
 at_stage w stage.Version line.Version t at fits e = goes w (turn.At stage.Term) t e (ap is_early at)
@@ -316,9 +260,7 @@ any_line w l t fits e = at_stage w w.stage l t refl fits e
 within : (b : Bool) (r : Result Turn LineFault) (t : Turn) → asks_within b r ≡ asking t → (r ≡ asking t) × (b ≡ true)
 within true r t e = (e, refl)
 within false (Err Grammar) t e = refused_line Grammar t e
-within false (Err (Limit w)) t e = refused_line _ t e
-within false (Err (Clock f)) t e = refused_line _ t e
-within false (Ok s) t e = refused_line _ t e
+within false _ t e = refused_line _ t e
 
 pub allowed : (w : World) (n : ℕ) (l : Line) (t : Turn) → LineFits l → asked w n l ≡ Ok t → Allows w t
 allowed w n l t fits e = any_line w l t fits (within (nat_le n line_most) (asks w l) t e).0

@@ -1,19 +1,7 @@
 -- What is on its way between the two ends of a run are whole messages, each of which its end reads.
-use Rattle.std.proofs.Common.{◌≡◌, ℕ, zero, suc, List, [], ◌∷◌, Some, Bool, true, false, refl, sym, ap, ◌∙◌, subst}
-use Rattle.std.proofs.lemmas.List.Elements.{All-nil, All-cons}
-use Rattle.std.specs.Prelude.{All, map, slice_get}
-use Rattle.wire.specs.Message.{MessageFits}
-use Rattle.wire.specs.Parse.{IsExpected}
-use Rattle.wire.specs.declared.message.Waiting.{Waiting}
-use Rattle.wire.specs.declared.message.Message.{Message}
-use Rattle.wire.specs.declared.message.Pending.{Pending}
-use Rattle.open_close.specs.State.{waiting_of, calls_of}
-use Rattle.trace_replay.specs.Core.{Session, server_waiting}
-use Rattle.trace_replay.specs.World.{World}
-use Rattle.trace_replay.specs.Trail.{Moment}
-use Rattle.trace_replay.specs.Book.{book_of}
+use Rattle.std.proofs.Common.{◌≡◌, ℕ, zero, suc, List, [], ◌∷◌, Some, Bool, true, false, refl, sym, ap, ◌∙◌, subst, map}
 use Rattle.trace_replay.specs.Traces.{IsRead, IsServed, IsAnswered, xid_of, HoldsMessages}
-use Rattle.kept_promise.specs.Talk.{Call, Call.Hash, Call.Read, Call.Make, Call.Name, Call.Send, Call.Commit, Ask, Told, Queue, call_message, ask_message, told_message}
+use Rattle.kept_promise.proofs.Common.{All-nil, All-cons, All, slice_get, MessageFits, IsExpected, Waiting, Message, Pending, waiting_of, calls_of, Session, server_waiting, World, Moment, book_of, Call, Call.Hash, Call.Read, Call.Make, Call.Name, Call.Send, Call.Commit, Ask, Told, Queue, call_message, ask_message, told_message}
 use Rattle.kept_promise.proofs.Statements.{CallFits}
 use Rattle.kept_promise.proofs.Messages.{AllAsks, AllTolds}
 use Rattle.kept_promise.proofs.Facts.{IsSession}

@@ -1,22 +1,11 @@
 -- What a run opens with is what the `file` lines say.
-use Rattle.std.proofs.Common.{◌≡◌, ℕ, zero, suc, ◌+◌, List, [], ◌∷◌, ◌++◌, length, Option, Some, None, Bool, true, false, refl, sym, ap, ◌∙◌, append-nil, append_assoc, length-append}
-use Rattle.std.specs.Prelude.{Result, Ok, Err}
-use Rattle.command_text.specs.Content.{content_bytes}
-use Rattle.command_text.specs.Parts.{lines_of}
-use Rattle.register_model.specs.declared.op.Opening.{Opening}
-use Rattle.trace_text.specs.Grammar.{line_of}
-use Rattle.trace_text.specs.declared.line.Line.{Line}
+use Rattle.std.proofs.Common.{◌≡◌, ℕ, zero, suc, ◌+◌, List, [], ◌∷◌, ◌++◌, length, Option, Some, None, Bool, true, false, refl, sym, ap, ◌∙◌, append-nil, append_assoc, length-append, Result, Ok, Err}
 use Rattle.trace_text.specs.declared.line.Line.TheVariants as line
-use Rattle.trace_text.specs.declared.refusal.LineFault.{LineFault}
-use Rattle.trace_replay.specs.declared.fault.Refused.{Refused}
-use Rattle.trace_replay.specs.declared.turn.Turn.{Turn}
 use Rattle.trace_replay.specs.declared.turn.Turn.TheVariants as turn
-use Rattle.trace_replay.specs.Core.{Event, numbered}
-use Rattle.trace_replay.specs.World.{World, Wire, start, happened}
-use Rattle.trace_replay.specs.Delivery.{all_happened, up_taken, up_events, up_at, down_taken, down_events, down_at, up_length, down_length, up_all, round, is_still, passes}
-use Rattle.trace_replay.specs.Run.{asked, asked_by, at_events, count_of, turned, refused, in_header, ended, run_from, run}
 use Rattle.trace_replay.specs.Trail.{opening_by, openings_from, openings_of}
+use Rattle.kept_promise.proofs.Common.{content_bytes, lines_of, Opening, line_of, Line, LineFault, Turn, Event, numbered, World, Wire, start, happened, all_happened, up_taken, up_events, up_at, down_taken, down_events, down_at, up_length, down_length, up_all, round, is_still, passes, asked, asked_by, at_events, count_of, turned, in_header, run_from, run}
 use Rattle.kept_promise.proofs.RunsAsked.{turn_of, asked_turn}
+use Rattle.kept_promise.proofs.RunsResults.{no_world, ended_is, ran_by}
 
 -- ---- no event changes what was opened with
 
@@ -55,18 +44,11 @@ no_more : (w v : World) → v.opening ≡ w.opening → v.opening ≡ w.opening 
 no_more w v e = e ∙ sym (append-nil w.opening)
 
 turn_adds : (w : World) (t : Turn) → (turned w t).opening ≡ w.opening ++ added (length w.opening) t
-turn_adds w turn.Skip = no_more w w refl
-turn_adds w (turn.At s) = no_more w w refl
-turn_adds w (turn.Clients m) = no_more w w refl
 turn_adds w (turn.File name content) = refl
-turn_adds w (turn.Join c) = no_more w w refl
-turn_adds w (turn.Do c now d) = no_more w w refl
-turn_adds w (turn.Settle now) = no_more w w refl
-turn_adds w (turn.Cut c) = no_more w w refl
-turn_adds w (turn.Hang n) = no_more w w refl
 turn_adds w (turn.Up n a now) = no_more w (turned w (turn.Up n a now)) (up_same (at_events w) n (count_of a (up_length (numbered w.wires n))) now (numbered w.wires n))
 turn_adds w (turn.Down n a now) = no_more w (turned w (turn.Down n a now)) (down_same (at_events w) n (count_of a (down_length (numbered w.wires n))) now (numbered w.wires n))
 turn_adds w (turn.Pass n k server at) = no_more w (turned w (turn.Pass n k server at)) (passes_same k (at_events w) n server at)
+turn_adds w _ = no_more w w refl
 
 line_adds : (c : ℕ) (l : Line) → added c (turn_of l) ≡ opening_by c (Some l)
 line_adds c line.Skipped = refl
@@ -85,22 +67,6 @@ line_adds c (line.Hang n at) = refl
 line_adds c (line.Pass n rounds at r) = refl
 
 -- ---- all lines
-
-abbrev whole : World → Result World Refused
-whole w = Ok w
-
-no_world : {A : Type 0} (r : Refused) (v : World) → Err r ≡ whole v → A
-no_world r v e = absurd cc
-
-world_is : (w v : World) → whole w ≡ whole v → w ≡ v
-world_is w v e = cc
-
-ended_is : (w v : World) (n : ℕ) (b : Bool) → ended w n b ≡ Ok v → w ≡ v
-ended_is w v n true e = no_world _ v e
-ended_is w v n false e = world_is w v e
-
-abbrev ran_by : World → ℕ → List (List ℕ) → Result Turn LineFault → Result World Refused
-ran_by w n ls r = elim r [ Err f ↦ Err (refused n f) | Ok t ↦ run_from (turned w t) (n + 1) ls ]
 
 abbrev behind : (count : ℕ) → (first : List Opening) → List (List ℕ) → List Opening
 behind count first ls = first ++ openings_from (count + length first) ls

@@ -1,74 +1,8 @@
 -- Queues without their first calls, or answers: to take them off goes before what an event sends as well as behind it.
-use Rattle.std.proofs.Common.{◌≡◌, ℕ, zero, suc, List, [], ◌∷◌, Option, Some, None, Bool, drop, refl, sym, ap, ◌∙◌, subst}
-use Rattle.std.specs.Prelude.{slice_get, slice_set, map}
-use Rattle.trace_replay.specs.Core.{Session, Loss, Loss.Nothing, Turned, numbered, with_numbered}
-use Rattle.trace_replay.specs.World.{unless}
-use Rattle.kept_promise.specs.Talk.{Ask, Told, Queue}
+use Rattle.std.proofs.Common.{◌≡◌, ℕ, zero, suc, List, [], ◌∷◌, Option, Some, None, Bool, drop, refl, sym, ap, ◌∙◌, subst, map}
+use Rattle.kept_promise.proofs.Common.{slice_get, slice_set, Session, Loss, Loss.Nothing, CoreStep, numbered, with_numbered, unless, Ask, Told, Queue}
+use Rattle.kept_promise.proofs.Places.{at_place, becomes, there_is, none_is, swap, become_has}
 use Rattle.kept_promise.proofs.Leading.{Sends, sent_message, ups_put_in, ups_put, downs_put_in, downs_put, queues_lost, queues_after}
-
--- ---- the queue at a number becomes another
-
-abbrev pub at_place : (Queue → Queue) → List Queue → ℕ → List Queue
-at_place f [] k = []
-at_place f (q ∷ qs) zero = f q ∷ qs
-at_place f (q ∷ qs) (suc k) = q ∷ at_place f qs k
-
-abbrev pub becomes : (Queue → Queue) → List Queue → (number : ℕ) → List Queue
-becomes f qs zero = qs
-becomes f qs (suc k) = at_place f qs k
-
-place_there : (f : Queue → Queue) (qs : List Queue) (k : ℕ) (q : Queue) → slice_get qs k ≡ Some q → slice_set qs k (f q) ≡ at_place f qs k
-place_there f [] k q e = absurd cc
-place_there f (p ∷ ps) zero q e = let same : q ≡ p = cc in ap (λ (z : Queue). f z ∷ ps) same
-place_there f (p ∷ ps) (suc k) q e = ap (λ (zs : List Queue). p ∷ zs) (place_there f ps k q e)
-
-place_none : (f : Queue → Queue) (qs : List Queue) (k : ℕ) → slice_get qs k ≡ None → at_place f qs k ≡ qs
-place_none f [] k e = refl
-place_none f (p ∷ ps) zero e = absurd cc
-place_none f (p ∷ ps) (suc k) e = ap (λ (zs : List Queue). p ∷ zs) (place_none f ps k e)
-
-pub there_is : (f : Queue → Queue) (qs : List Queue) (n : ℕ) (q : Queue) → numbered qs n ≡ Some q → with_numbered qs n (f q) ≡ becomes f qs n
-there_is f qs zero q e = refl
-there_is f qs (suc k) q e = place_there f qs k q e
-
-pub none_is : (f : Queue → Queue) (qs : List Queue) (n : ℕ) → numbered qs n ≡ None → becomes f qs n ≡ qs
-none_is f qs zero e = refl
-none_is f qs (suc k) e = place_none f qs k e
-
-place_swap : (f g : Queue → Queue) → ((q : Queue) → f (g q) ≡ g (f q)) → (qs : List Queue) (i k : ℕ) → at_place f (at_place g qs i) k ≡ at_place g (at_place f qs k) i
-place_swap f g h [] i k = refl
-place_swap f g h (q ∷ qs) zero zero = ap (λ (z : Queue). z ∷ qs) (h q)
-place_swap f g h (q ∷ qs) zero (suc k) = refl
-place_swap f g h (q ∷ qs) (suc i) zero = refl
-place_swap f g h (q ∷ qs) (suc i) (suc k) = ap (λ (zs : List Queue). q ∷ zs) (place_swap f g h qs i k)
-
-swap : (f g : Queue → Queue) → ((q : Queue) → f (g q) ≡ g (f q)) → (qs : List Queue) (i k : ℕ) → becomes f (becomes g qs i) k ≡ becomes g (becomes f qs k) i
-swap f g h qs zero zero = refl
-swap f g h qs zero (suc k) = refl
-swap f g h qs (suc i) zero = refl
-swap f g h qs (suc i) (suc k) = place_swap f g h qs i k
-
-place_same : (f : Queue → Queue) → ((q : Queue) → f q ≡ q) → (qs : List Queue) (k : ℕ) → at_place f qs k ≡ qs
-place_same f h [] k = refl
-place_same f h (q ∷ qs) zero = ap (λ (z : Queue). z ∷ qs) (h q)
-place_same f h (q ∷ qs) (suc k) = ap (λ (zs : List Queue). q ∷ zs) (place_same f h qs k)
-
-pub become_same : (f : Queue → Queue) → ((q : Queue) → f q ≡ q) → (qs : List Queue) (n : ℕ) → becomes f qs n ≡ qs
-become_same f h qs zero = refl
-become_same f h qs (suc k) = place_same f h qs k
-
--- what is there has what the change leaves it
-place_has : {A : Type 0} (has : Queue → A) (f : Queue → Queue) → ((q : Queue) → has (f q) ≡ has q) → (qs : List Queue) (i k : ℕ) (q : Queue) → slice_get qs k ≡ Some q → (p : Queue) × (slice_get (at_place f qs i) k ≡ Some p) × (has p ≡ has q)
-place_has has f h [] i k q e = absurd cc
-place_has has f h (p ∷ ps) zero zero q e = let same : p ≡ q = cc in (f p, refl, h p ∙ ap has same)
-place_has has f h (p ∷ ps) zero (suc k) q e = (q, e, refl)
-place_has has f h (p ∷ ps) (suc i) zero q e = (q, e, refl)
-place_has has f h (p ∷ ps) (suc i) (suc k) q e = place_has has f h ps i k q e
-
-pub become_has : {A : Type 0} (has : Queue → A) (f : Queue → Queue) → ((q : Queue) → has (f q) ≡ has q) → (qs : List Queue) (i n : ℕ) (q : Queue) → numbered qs n ≡ Some q → (p : Queue) × (numbered (becomes f qs i) n ≡ Some p) × (has p ≡ has q)
-become_has has f h qs zero n q e = (q, e, refl)
-become_has has f h qs (suc i) zero q e = absurd cc
-become_has has f h qs (suc i) (suc k) q e = place_has has f h qs i k q e
 
 -- ---- what is sent, as changes of queues
 
@@ -138,18 +72,18 @@ ups_have sessions qs (Some m) asks n q e = by (numbered sessions m)
 
 -- ---- an event of the server, which sends nothing up
 
-abbrev after_down : List Queue → (t : Turned) → Sends t → List Queue
+abbrev after_down : List Queue → (t : CoreStep) → Sends t → List Queue
 after_down qs t s = downs_put t.core.sessions qs s.tolds
 
-down_is : (qs : List Queue) (t : Turned) (s : Sends t) → t.loss ≡ Nothing → t.session ≡ None → queues_after qs t s ≡ after_down qs t s
+down_is : (qs : List Queue) (t : CoreStep) (s : Sends t) → t.loss ≡ Nothing → t.session ≡ None → queues_after qs t s ≡ after_down qs t s
 down_is qs t s loss session =
     ap (λ (l : Loss). downs_put t.core.sessions (ups_put t.core.sessions (queues_lost qs l) t.session s.asks) s.tolds) loss
     ∙ ap (λ (o : Option ℕ). downs_put t.core.sessions (ups_put t.core.sessions qs o s.asks) s.tolds) session
 
-pub served_off : (i n : ℕ) (qs : List Queue) (t : Turned) (s : Sends t) → t.loss ≡ Nothing → t.session ≡ None → queues_after (becomes (off_ups i) qs n) t s ≡ becomes (off_ups i) (queues_after qs t s) n
+pub served_off : (i n : ℕ) (qs : List Queue) (t : CoreStep) (s : Sends t) → t.loss ≡ Nothing → t.session ≡ None → queues_after (becomes (off_ups i) qs n) t s ≡ becomes (off_ups i) (queues_after qs t s) n
 served_off i n qs t s loss session = down_is (becomes (off_ups i) qs n) t s loss session ∙ downs_off i n t.core.sessions qs s.tolds ∙ ap (λ (zs : List Queue). becomes (off_ups i) zs n) (sym (down_is qs t s loss session))
 
-pub served_has : (qs : List Queue) (t : Turned) (s : Sends t) → t.loss ≡ Nothing → t.session ≡ None → (n : ℕ) (q : Queue) → numbered qs n ≡ Some q → (r : Queue) × (numbered (queues_after qs t s) n ≡ Some r) × (r.ups ≡ q.ups)
+pub served_has : (qs : List Queue) (t : CoreStep) (s : Sends t) → t.loss ≡ Nothing → t.session ≡ None → (n : ℕ) (q : Queue) → numbered qs n ≡ Some q → (r : Queue) × (numbered (queues_after qs t s) n ≡ Some r) × (r.ups ≡ q.ups)
 served_has qs t s loss session n q e = subst (λ (zs : List Queue). (r : Queue) × (numbered zs n ≡ Some r) × (r.ups ≡ q.ups)) (sym (down_is qs t s loss session)) (downs_have t.core.sessions qs s.tolds n q e)
 
 -- ---- an event of a client, which sends nothing down
@@ -161,15 +95,15 @@ no_told (p ∷ ps) e = absurd (by e)
     by : [] ≡ sent_message p ∷ map sent_message ps → ⊥
     by h = cc
 
-up_is : (qs : List Queue) (t : Turned) (s : Sends t) → t.loss ≡ Nothing → t.down ≡ [] → queues_after qs t s ≡ ups_put t.core.sessions qs t.session s.asks
+up_is : (qs : List Queue) (t : CoreStep) (s : Sends t) → t.loss ≡ Nothing → t.down ≡ [] → queues_after qs t s ≡ ups_put t.core.sessions qs t.session s.asks
 up_is qs t s loss none =
     ap (λ (l : Loss). downs_put t.core.sessions (ups_put t.core.sessions (queues_lost qs l) t.session s.asks) s.tolds) loss
     ∙ ap (λ (ps : List (ℕ × Told)). downs_put t.core.sessions (ups_put t.core.sessions qs t.session s.asks) ps) (no_told s.tolds (sym none ∙ s.down_is))
 
-pub heard_off : (i n : ℕ) (qs : List Queue) (t : Turned) (s : Sends t) → t.loss ≡ Nothing → t.down ≡ [] → queues_after (becomes (off_downs i) qs n) t s ≡ becomes (off_downs i) (queues_after qs t s) n
+pub heard_off : (i n : ℕ) (qs : List Queue) (t : CoreStep) (s : Sends t) → t.loss ≡ Nothing → t.down ≡ [] → queues_after (becomes (off_downs i) qs n) t s ≡ becomes (off_downs i) (queues_after qs t s) n
 heard_off i n qs t s loss none = up_is (becomes (off_downs i) qs n) t s loss none ∙ ups_off i n t.core.sessions qs t.session s.asks ∙ ap (λ (zs : List Queue). becomes (off_downs i) zs n) (sym (up_is qs t s loss none))
 
-pub heard_has : (qs : List Queue) (t : Turned) (s : Sends t) → t.loss ≡ Nothing → t.down ≡ [] → (n : ℕ) (q : Queue) → numbered qs n ≡ Some q → (r : Queue) × (numbered (queues_after qs t s) n ≡ Some r) × (r.downs ≡ q.downs)
+pub heard_has : (qs : List Queue) (t : CoreStep) (s : Sends t) → t.loss ≡ Nothing → t.down ≡ [] → (n : ℕ) (q : Queue) → numbered qs n ≡ Some q → (r : Queue) × (numbered (queues_after qs t s) n ≡ Some r) × (r.downs ≡ q.downs)
 heard_has qs t s loss none n q e = subst (λ (zs : List Queue). (r : Queue) × (numbered zs n ≡ Some r) × (r.downs ≡ q.downs)) (sym (up_is qs t s loss none)) (ups_have t.core.sessions qs t.session s.asks n q e)
 
 -- ---- to take more off

@@ -1,25 +1,12 @@
 -- One line of a run: what stands before it stands behind it, with its moments among those that are past.
-use Rattle.std.proofs.Common.{◌≡◌, ℕ, zero, suc, ◌+◌, ◌<◌, ◌≤◌, List, [], ◌∷◌, ◌++◌, length, max, Some, Bool, true, false, refl, sym, ap, ◌∙◌, subst, arith, append-nil}
-use Rattle.std.proofs.lemmas.Bool.Decides.{nat_tests}
-use Rattle.std.specs.Prelude.{map, nat_lt, ◌&&◌, replicate}
-use Rattle.command_text.specs.Content.{content_length, content_bytes}
-use Rattle.command_text.specs.declared.content.Part.{Part}
-use Rattle.command_text.proofs.Contents.{content_size}
+use Rattle.std.proofs.Common.{◌≡◌, ℕ, zero, suc, ◌+◌, ◌<◌, ◌≤◌, List, [], ◌∷◌, ◌++◌, length, max, Some, Bool, true, false, refl, sym, ap, ◌∙◌, subst, arith, append-nil, map, replicate}
 use Rattle.server_core.specs.State as server
-use Rattle.server_core.specs.Step.{has_room}
-use Rattle.server_core.specs.declared.file.File.{File}
-use Rattle.register_model.specs.declared.op.Opening.{Opening}
-use Rattle.trace_replay.specs.declared.link.Stage.{Stage}
-use Rattle.trace_replay.specs.declared.link.Stage.TheVariants as stage
-use Rattle.trace_replay.specs.declared.turn.Turn.{Turn}
+use Rattle.trace_replay.specs.declared.stage.Stage.{Stage}
+use Rattle.trace_replay.specs.declared.stage.Stage.TheVariants as stage
 use Rattle.trace_replay.specs.declared.turn.Turn.TheVariants as turn
-use Rattle.trace_replay.specs.Core.{Core, new_seat, Session, Event.Joins, Event.Does, Event.Settles, Event.Cuts, Event.Hangs, numbered}
-use Rattle.trace_replay.specs.World.{World, Wire}
-use Rattle.trace_replay.specs.Delivery.{up_length, down_length}
-use Rattle.trace_replay.specs.Run.{at_events, count_of, turned, with_file, with_clients}
-use Rattle.trace_replay.specs.Timed.{owners_of}
-use Rattle.trace_replay.specs.Trail.{Moment, turn_moments}
-use Rattle.kept_promise.proofs.Lists.{nothing_there}
+use Rattle.trace_replay.specs.Run.{with_file, with_clients}
+use Rattle.kept_promise.proofs.Common.{nat_tests, nat_lt, ◌&&◌, content_length, content_bytes, Part, content_size, File, Opening, Turn, Core, new_seat, Session, Event.Joins, Event.Does, Event.Settles, Event.Cuts, Event.Hangs, numbered, World, Wire, up_length, down_length, at_events, count_of, turned, owners_of, Moment, turn_moments}
+use Rattle.kept_promise.proofs.Lists.{nothing_there, count_more}
 use Rattle.kept_promise.proofs.Facts.{IsKept}
 use Rattle.kept_promise.proofs.Fits.{FitLaws}
 use Rattle.kept_promise.proofs.Leading.{CarryAll}
@@ -76,23 +63,9 @@ map_count : {A B : Type 0} (f : A → B) (xs : List A) → length (map f xs) ≡
 map_count f [] = refl
 map_count f (x ∷ xs) = ap suc (map_count f xs)
 
-count_more : {A : Type 0} (xs : List A) (x : A) → length (xs ++ x ∷ []) ≡ suc (length xs)
-count_more [] x = refl
-count_more (y ∷ ys) x = ap suc (count_more ys x)
-
 owners_count : (os : List ℕ) (t : Turn) → length (owners_after os true t) ≤ length os + 1
 owners_count os (turn.Join c) = let e = count_more os c in omega (arith, e)
-owners_count os turn.Skip = omega arith
-owners_count os (turn.At s) = omega arith
-owners_count os (turn.Clients n) = omega arith
-owners_count os (turn.File name content) = omega arith
-owners_count os (turn.Do c now d) = omega arith
-owners_count os (turn.Up n a now) = omega arith
-owners_count os (turn.Down n a now) = omega arith
-owners_count os (turn.Settle now) = omega arith
-owners_count os (turn.Cut c) = omega arith
-owners_count os (turn.Hang n) = omega arith
-owners_count os (turn.Pass n k server at) = omega arith
+owners_count os _ = omega arith
 
 few_turned : (n : ℕ) (w : World) (t : Turn) → MayTurn w t → length w.core.sessions < n → length (turned w t).core.sessions < n + 1
 few_turned n w t may few =
@@ -115,17 +88,7 @@ may_turn P n all past w (turn.Join c) h le f =
     let made = made_small P n all past w h le in
     let room = f.3 in
     ((f.0, f.1), both_true (nat_lt (length w.core.server.sessions) 64) (nat_lt w.core.server.sessions_made 4294967295) (grind (arith, nat_tests, room)) (grind (arith, nat_tests, made)))
-may_turn P n all past w turn.Skip h le f = tt
-may_turn P n all past w (turn.At s) h le f = tt
-may_turn P n all past w (turn.Clients m) h le f = tt
-may_turn P n all past w (turn.File name content) h le f = tt
-may_turn P n all past w (turn.Do c now d) h le f = tt
-may_turn P n all past w (turn.Up m a now) h le f = tt
-may_turn P n all past w (turn.Down m a now) h le f = tt
-may_turn P n all past w (turn.Settle now) h le f = tt
-may_turn P n all past w (turn.Cut c) h le f = tt
-may_turn P n all past w (turn.Hang m) h le f = tt
-may_turn P n all past w (turn.Pass m k server at) h le f = tt
+may_turn P n all past w _ h le f = tt
 
 -- ---- lines before the first event
 

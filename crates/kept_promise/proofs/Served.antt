@@ -1,28 +1,15 @@
 -- The server takes the first call on its way: all calls together.
-use Rattle.std.proofs.Common.{◌≡◌, ℕ, ◌+◌, List, [], ◌∷◌, Option, Some, None, Bool, true, false, refl, sym, ap, ◌∙◌, subst, max}
-use Rattle.std.specs.Prelude.{not, Result, Ok, Err}
-use Rattle.wire.specs.Message.{message_spell}
-use Rattle.wire.specs.Parse.{parse_of}
-use Rattle.wire.specs.declared.message.Message.{Message}
-use Rattle.wire.specs.declared.fault.WireFault.{WireFault}
-use Rattle.server_core.specs.Step.{stands, got_if, got}
-use Rattle.server_core.specs.Closing.{at, cond_fault}
-use Rattle.server_core.specs.Temps.{temp_at}
-use Rattle.xdr_codec.specs.declared.answer.Answer.TheVariants.{Failed}
-use Rattle.trace_replay.specs.Core.{Core, Session, Event.Serves, Turned, numbered, with_numbered, server_waiting, server_got, serves_if, serves, taken_with, quiet, happens}
-use Rattle.trace_replay.specs.Book.{Book}
-use Rattle.kept_promise.specs.Talk.{Call, Call.Hash, Call.Read, Call.Make, Call.Name, Call.Send, Call.Commit, Reply.Named, Ask, Queue, ask_message}
-use Rattle.kept_promise.proofs.Lists.{some_is, nothing_there}
+use Rattle.std.proofs.Common.{◌≡◌, ℕ, ◌+◌, List, [], ◌∷◌, Some, Bool, true, false, refl, sym, ap, ◌∙◌, subst}
+use Rattle.kept_promise.proofs.Common.{not, message_spell, Message, stands, got_if, at, cond_fault, temp_at, Failed, Core, Session, Event.Serves, CoreStep, numbered, with_numbered, serves_if, serves, taken_with, quiet, happens, Book, Call, Call.Hash, Call.Read, Call.Make, Call.Name, Call.Send, Call.Commit, Reply.Named, Ask, Queue, ask_message}
 use Rattle.kept_promise.proofs.Turns.{also_numbered}
 use Rattle.kept_promise.proofs.Fits.{FitLaws}
-use Rattle.kept_promise.proofs.Facts.{IsSession, IsKept}
 use Rattle.kept_promise.proofs.Serves.{parsed}
-use Rattle.kept_promise.proofs.Calls.{Given, session_in, first_fits, rest_of, served, serve_hash, serve_read, serve_plain, serve_make, serve_send, held_still, name_wanted}
+use Rattle.kept_promise.proofs.Calls.{Given, session_in, first_fits, rest_of, serve_hash, serve_read, serve_plain, serve_make, serve_send, held_still, name_wanted}
 use Rattle.kept_promise.proofs.Commits.{serve_commit}
-use Rattle.kept_promise.proofs.Leading.{IsNoted, Leads, KeptServes}
+use Rattle.kept_promise.proofs.Leading.{Leads, KeptServes}
 
 -- what the server does for a message, where its session stands or not
-abbrev got_by : Core → (n now : ℕ) → Session → Message → Bool → Turned
+abbrev got_by : Core → (n now : ℕ) → Session → Message → Bool → CoreStep
 got_by k n now x m b =
     let r = got_if k.server b n m now in
     record (quiet (record k { steps = k.steps + 1; server = r.0; sessions = with_numbered k.sessions n (record x { taken = taken_with x.taken m (k.steps + 1) }) })) { down = r.1.send }

@@ -1,44 +1,16 @@
 -- The server takes the first call on its way.
-use Rattle.std.proofs.Common.{◌⊎◌, inl, inr, ◌≡◌, ℕ, zero, suc, ◌+◌, ◌<◌, ◌≤◌, ◌^◌, List, [], ◌∷◌, ◌++◌, length, max, Option, Some, None, Bool, true, false, refl, sym, ap, ◌∙◌, subst, arith, eqb-true}
-use Rattle.std.specs.Prelude.{slice_get, map, not, cond, ◌==◌, IsSome, Result, Ok, Err, Contains}
-use Rattle.std.proofs.lemmas.List.Elements.{Contains-append_left, Contains-append_right, Contains-push}
+use Rattle.std.proofs.Common.{◌≡◌, ℕ, zero, suc, ◌+◌, ◌<◌, List, [], ◌∷◌, Some, None, false, refl, sym, ap, ◌∙◌, subst, map, Ok}
 use Rattle.std.proofs.lemmas.Nat.{from_be_bytes-to_be_bytes_8}
-use Rattle.chunk_cut.specs.Places.{chunk_bytes, end_of}
-use Rattle.chunk_cut.specs.declared.chunk.Chunk.{Chunk}
-use Rattle.xdr_codec.specs.Handle.{handle_bytes, file_of}
-use Rattle.xdr_codec.specs.declared.answer.Answer.{Answer}
-use Rattle.xdr_codec.specs.declared.answer.Answer.TheVariants.{Done, Failed}
-use Rattle.xdr_codec.specs.declared.attr.Attr.{Attr}
-use Rattle.xdr_codec.specs.declared.status.Status.{Status}
-use Rattle.xdr_codec.specs.declared.status.Status.TheVariants as status
-use Rattle.hash_calls.specs.declared.call.Hashes.{Hashes}
-use Rattle.hash_calls.specs.declared.call.HashRange.{HashRange}
-use Rattle.nfs3_calls.specs.declared.call.Piece.{Piece}
-use Rattle.nfs3_calls.specs.declared.call.Range.{Range}
-use Rattle.wire.specs.Message.{message_spell, MessageFits}
-use Rattle.wire.specs.Parse.{parse_of}
-use Rattle.wire.specs.declared.message.Message.{Message}
-use Rattle.wire.specs.declared.fault.WireFault.{WireFault}
-use Rattle.server_core.specs.State as server
-use Rattle.server_core.specs.Step.{stands, got_if}
-use Rattle.server_core.specs.Answers.{Node, root, file, file_node, node_named, node_of, told_chunks, hashes_of, hash_answer, piece_of, read_answer}
-use Rattle.server_core.specs.Temps.{Temp, temp_at, key_of}
-use Rattle.server_core.specs.Hashed.{bytes_told, server_hashed}
-use Rattle.server_core.specs.declared.file.File.{File}
-use Rattle.trace_replay.specs.Core.{Core, Seat, Session, Event, Event.Serves, Turned, Loss.Nothing, numbered, with_numbered, server_waiting, server_got, serves_if, serves, taken_with, happens}
-use Rattle.trace_replay.specs.World.{unless}
-use Rattle.trace_replay.specs.Trail.{hashed_of}
-use Rattle.trace_replay.specs.Book.{Book}
-use Rattle.kept_promise.specs.Talk.{Call, Call.Hash, Call.Read, Call.Make, Call.Name, Call.Send, Call.Commit, Reply, Reply.Hashed, Reply.Bytes, Reply.Made, Reply.Named, Reply.Stored, Reply.Changed, Ask, Told, Queue, ask_message, told_message}
+use Rattle.server_core.specs.Answers.{node_named}
+use Rattle.kept_promise.proofs.Common.{slice_get, Contains, Contains-append_left, Contains-append_right, Contains-push, handle_bytes, message_spell, MessageFits, parse_of, node_of, Temp, File, Core, Session, CoreStep, Loss.Nothing, numbered, with_numbered, server_waiting, Book, Reply, Ask, Told, Queue, ask_message, told_message}
 use Rattle.kept_promise.proofs.Statements.{CallFits, IsPlain}
 use Rattle.kept_promise.proofs.Lists.{some_is, nothing_there}
-use Rattle.kept_promise.proofs.Messages.{Job, job}
 use Rattle.kept_promise.proofs.History.{onward}
-use Rattle.kept_promise.proofs.Turns.{Around, around_with, turned_core, also_numbered}
+use Rattle.kept_promise.proofs.Turns.{Around, around_with, turned_core}
 use Rattle.kept_promise.proofs.Fits.{FitLaws}
 use Rattle.kept_promise.proofs.Takes.{took, put_down, Answers, kept_reply}
-use Rattle.kept_promise.proofs.Facts.{IsSession, IsKept}
-use Rattle.kept_promise.proofs.Leading.{Sends, IsNoted, Leads, sent_message, queues_after, downs_put_in}
+use Rattle.kept_promise.proofs.Facts.{IsKept}
+use Rattle.kept_promise.proofs.Leading.{Leads, sent_message, downs_put_in}
 
 -- ---- what is found under this file system's own handles
 
@@ -66,7 +38,7 @@ put_is qs sessions n q us y t is at =
 
 -- ---- an answer at once
 
-abbrev pub answered : Core → (n moment : ℕ) → Session → Ask → List (ℕ × Temp) → Reply → Turned
+abbrev pub answered : Core → (n moment : ℕ) → Session → Ask → List (ℕ × Temp) → Reply → CoreStep
 answered k n moment x a temps r = record {
   core = record k { steps = k.steps + 1; server = record k.server { moment = moment; temps = temps }; sessions = with_numbered k.sessions n (took x a.xid (k.steps + 1)) };
   loss = Nothing;

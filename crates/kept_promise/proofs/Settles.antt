@@ -1,34 +1,18 @@
 -- The first change that waits is made, and its session told.
-use Rattle.std.proofs.Common.{inl, inr, ◌≡◌, ℕ, suc, ◌+◌, ◌≤◌, List, [], ◌∷◌, ◌++◌, length, replicate, Option, Some, None, Bool, true, false, refl, sym, ap, ◌∙◌, subst, arith, eq-eqb, ne_eqb, append-nil}
-use Rattle.std.specs.Prelude.{slice_get, slice_set, map, cond, ◌==◌, IsSome}
-use Rattle.sha1.specs.Sha1.{sha1}
-use Rattle.xdr_codec.specs.declared.answer.Answer.TheVariants.{Done, Failed}
-use Rattle.wire.specs.Message.{MessageFits}
+use Rattle.std.proofs.Common.{inl, inr, ◌≡◌, ℕ, suc, ◌+◌, ◌≤◌, List, [], ◌∷◌, ◌++◌, length, replicate, Option, Some, None, Bool, true, false, refl, sym, ap, ◌∙◌, subst, arith, eq-eqb, ne_eqb, append-nil, map, IsSome}
 use Rattle.server_core.specs.State as server
-use Rattle.server_core.specs.Closing.{at, changed, entry_of, told_change, makes_change}
+use Rattle.server_core.specs.Closing.{changed, told_change}
 use Rattle.server_core.specs.Closing as closing
-use Rattle.server_core.specs.declared.change.Change.{Change}
 use Rattle.server_core.specs.declared.event.Told.TheVariants as told_
-use Rattle.server_core.specs.declared.event.ServerStep.{ServerStep}
-use Rattle.server_core.specs.declared.file.File.{File}
-use Rattle.server_core.specs.declared.journal.Entry.{Entry}
 use Rattle.open_close.specs.State as client
 use Rattle.hash_calls.specs.declared.message.LbProc.TheVariants as lb_proc
 use Rattle.wire.specs.declared.message.Program.TheVariants as program
-use Rattle.open_close.specs.declared.task.Fetch.{Fetch}
-use Rattle.open_close.specs.declared.task.Stage.{Stage}
 use Rattle.open_close.specs.declared.task.Stage.TheVariants as stage
-use Rattle.register_model.specs.Register.{Value, content_of}
-use Rattle.register_model.specs.declared.op.Op.{Op}
 use Rattle.register_model.specs.declared.op.Outcome.TheVariants as told
-use Rattle.trace_replay.specs.Core.{Core, Seat, Session, Turned, quiet, numbered, with_numbered, settled_ops, settled_by}
-use Rattle.trace_replay.specs.Ops.{pointed, pointed_at}
-use Rattle.trace_replay.specs.World.{unless}
-use Rattle.trace_replay.specs.Book.{Book, value_at, version_at}
-use Rattle.kept_promise.specs.Talk.{Call, Call.Hash, Call.Read, Call.Make, Call.Name, Call.Send, Call.Commit, Reply, Reply.Hashed, Reply.Bytes, Reply.Made, Reply.Named, Reply.Stored, Reply.Changed, Ask, Told, Queue, told_message, reply_program}
+use Rattle.kept_promise.proofs.Common.{slice_get, slice_set, cond, ◌==◌, sha1, Done, Failed, MessageFits, at, entry_of, makes_change, Change, ServerStep, File, Entry, Fetch, Stage, Value, content_of, Op, Core, Seat, Session, CoreStep, quiet, numbered, with_numbered, settled_ops, settled_by, pointed, pointed_at, unless, Book, value_at, version_at, Reply, Reply.Hashed, Reply.Bytes, Reply.Made, Reply.Named, Reply.Stored, Reply.Changed, Told, Queue, told_message, reply_program}
 use Rattle.kept_promise.proofs.Lists.{some_is, nothing_there, same_or_not, at_end, at_replaced, of_replaced}
 use Rattle.kept_promise.proofs.Keys.{times, times_append, times_head, own, on_way, key, change_key, ask_key, told_key}
-use Rattle.kept_promise.proofs.Messages.{Job, job, hash_offset, FetchOf, CommitTold, AllAsks, AllTolds, IsAnswer, AnswerOf, IsCommit, CommitOf, IsPending, CloseOf}
+use Rattle.kept_promise.proofs.Messages.{Job, job, hash_offset, FetchOf, CommitTold, AllTolds, IsAnswer, AnswerOf, IsPending, CloseOf}
 use Rattle.kept_promise.proofs.Rights.{IsSound, IsUnmade, IsMade}
 use Rattle.kept_promise.proofs.Marks.{marks}
 use Rattle.kept_promise.proofs.Growth.{Grows, value_alike, version_alike, made_later}
@@ -43,6 +27,7 @@ use Rattle.kept_promise.proofs.OrderSteps.{keys_once}
 use Rattle.kept_promise.proofs.Facts.{FileIs, IsTalk, IsKept, commits_in}
 use Rattle.kept_promise.proofs.Leading.{Leads, downs_put_in, downs_put, KeptSettles}
 use Rattle.kept_promise.proofs.Cuts.{leads_idle}
+use Rattle.kept_promise.proofs.Steps.{no_commits}
 
 -- ---- a change that waits, in front
 
@@ -51,19 +36,6 @@ own_first c cs = ap (λ b. cond b (c ∷ own c.session cs) (own c.session cs)) (
 
 own_other : (m : ℕ) (c : Change) (cs : List Change) → (m ≡ c.session → ⊥) → own m (c ∷ cs) ≡ own m cs
 own_other m c cs apart = ap (λ b. cond b (c ∷ own m cs) (own m cs)) (ne_eqb c.session m (λ e. apart (sym e)))
-
--- where no commit is on its way, none is a change's
-no_commits : (book : Book) (closes : Option ℕ) (b : Bool) (j : Option Job) (contents : ℕ → List ℕ) (us : List Ask) → commits_in us ≡ 0 → AllAsks (IsCommit book closes b j contents) us
-no_commits book closes b j contents [] e = tt
-no_commits book closes b j contents (a ∷ us) e = by a.call e (λ f. no_commits book closes b j contents us f)
-  where
-    by : (c : Call) → ◌≡◌ {A = ℕ} (elim c [ Commit temp file size ↦ suc (commits_in us) | _ ↦ commits_in us ]) 0 → (commits_in us ≡ 0 → AllAsks (IsCommit book closes b j contents) us) → CommitOf book closes b j contents a.xid c × AllAsks (IsCommit book closes b j contents) us
-    by (Commit temp file size) e later = absurd (omega (arith, e))
-    by (Hash f o) e later = (tt, later e)
-    by (Read f c) e later = (tt, later e)
-    by (Make t f) e later = (tt, later e)
-    by (Name t c) e later = (tt, later e)
-    by (Send t s bytes) e later = (tt, later e)
 
 -- ---- the tree
 
@@ -346,7 +318,7 @@ settled_now laws book k qs now c cs f x q j o kept waits there here unhung is pe
     ]
 
 -- what a settling leaves, by what the server did
-abbrev settled_by_step : Core → server.State × ServerStep → Turned
+abbrev settled_by_step : Core → server.State × ServerStep → CoreStep
 settled_by_step k r = record (quiet (record k { steps = k.steps + 1; server = r.0; ops = settled_by k r.1.entries r.1.told; entries = k.entries ++ replicate r.1.entries (k.steps + 1) })) { down = r.1.send }
 
 settled_core : (book more : Book) (k : Core) (r : server.State) (ops : List Op) (entries : List ℕ) → more.steps ≡ k.steps + 1 → more.ops ≡ ops → more.entries ≡ entries → turned_core more r k.seats k.sessions ≡ record { server = r; seats = k.seats; sessions = k.sessions; steps = k.steps + 1; ops = ops; entries = entries }

@@ -1,45 +1,15 @@
 -- Whose version an attempt has, and an open that ended: what is true of the version and of the first call of an attempt stays so.
 use Rattle.std.proofs.Common.{◌≡◌, ℕ, zero, suc, ◌-◌, List, [], length, Option, Some, None, Bool, true, false, refl, sym, ap, ◌∙◌, subst}
-use Rattle.std.specs.Prelude.{◌==◌, slice_get, nat_lt, if◌then◌else◌}
-use Rattle.chunk_cut.specs.declared.chunk.Chunk.{Chunk}
-use Rattle.command_text.specs.Content.{content_length, content_bytes}
-use Rattle.command_text.specs.declared.command.Command.{Command}
 use Rattle.command_text.specs.declared.command.Command.TheVariants as command
-use Rattle.command_text.specs.declared.content.Part.{Part}
-use Rattle.xdr_codec.specs.declared.answer.Answer.{Answer}
-use Rattle.xdr_codec.specs.declared.answer.Answer.TheVariants.{Done, Failed}
 use Rattle.xdr_codec.specs.declared.status.Status.TheVariants as status
-use Rattle.hash_calls.specs.declared.call.Hashes.{Hashes}
 use Rattle.hash_calls.specs.declared.message.Lb.TheVariants as lb
-use Rattle.nfs3_calls.specs.declared.call.Piece.{Piece}
 use Rattle.nfs3_calls.specs.declared.message.Nfs.TheVariants as nfs
-use Rattle.wire.specs.declared.message.Body.{Body}
 use Rattle.wire.specs.declared.message.Body.TheVariants as body
 use Rattle.wire.specs.declared.message.Message.TheVariants as message
-use Rattle.wire.specs.declared.message.Pending.{Pending}
-use Rattle.open_close.specs.Closing.{store_of, names_all, is_stored, store_at, answered}
-use Rattle.open_close.specs.Local.{local_most, written_size, written, truncated}
-use Rattle.open_close.specs.Opening.{calls_most, tries_most, fetch_of, with_hashes, listed, reads_from, reads_next, reads_more, reads_all, is_here, read_at, fault_in, other_version, with_bytes}
-use Rattle.open_close.specs.Shape.{Broken, broken_of}
-use Rattle.open_close.specs.State.{State, local_at, local_bytes, pending, calls_of, has_call}
-use Rattle.open_close.specs.Step.{is_open, may_ask, asks_hashes, opens_if, opens, on_local, too_big, done_with, edits, writes, truncates, reads, abandons, asks_temp, closes, command_step, idle, retries, reads_if, reads_on, lists_on, told_shape, told_version, told_hashes, misfits, told_bytes, told_chunk, told_piece, goes_if, goes_on, told_temp, sends_whole, told_named, told_whole, told_way, told_stored, took, drops, took_if, got_message}
-use Rattle.open_close.specs.Counting.{ends}
-use Rattle.open_close.specs.declared.calls.Reads.{Reads}
-use Rattle.open_close.specs.declared.step.BadPeer.{BadPeer}
-use Rattle.open_close.specs.declared.step.ClientStep.{ClientStep}
-use Rattle.open_close.specs.declared.step.Ended.{Ended}
-use Rattle.open_close.specs.declared.step.Outcome.{Outcome}
 use Rattle.open_close.specs.declared.step.Outcome.TheVariants as outcome
-use Rattle.open_close.specs.declared.task.Fetch.{Fetch}
-use Rattle.open_close.specs.declared.task.Local.{Local}
-use Rattle.open_close.specs.declared.task.ReadCall.{ReadCall}
-use Rattle.open_close.specs.declared.task.Stage.{Stage}
 use Rattle.open_close.specs.declared.task.Stage.TheVariants as stage
-use Rattle.open_close.specs.declared.task.Store.{Store}
-use Rattle.open_close.specs.declared.task.StoreCall.{StoreCall}
-use Rattle.open_close.specs.declared.task.Task.{Task}
-use Rattle.open_close.specs.declared.task.Way.{Way}
 use Rattle.open_close.specs.declared.task.Way.TheVariants as way
+use Rattle.kept_promise.proofs.Common.{◌==◌, slice_get, nat_lt, if◌then◌else◌, Chunk, content_length, content_bytes, Command, Part, Answer, Done, Failed, Hashes, Piece, Body, Pending, store_of, names_all, is_stored, store_at, answered, local_most, written_size, written, truncated, calls_most, tries_most, fetch_of, with_hashes, listed, reads_from, reads_next, reads_more, reads_all, is_here, read_at, fault_in, other_version, with_bytes, Broken, broken_of, State, local_at, local_bytes, pending, calls_of, has_call, is_open, may_ask, asks_hashes, opens_if, opens, on_local, too_big, done_with, edits, writes, truncates, reads, abandons, asks_temp, closes, command_step, idle, retries, reads_if, reads_on, lists_on, told_shape, told_version, told_hashes, misfits, told_bytes, told_chunk, told_piece, goes_if, goes_on, told_temp, sends_whole, told_named, told_whole, told_way, told_stored, took, drops, took_if, got_message, ends, Reads, BadPeer, ClientStep, Ended, Outcome, Fetch, Local, ReadCall, Stage, Store, StoreCall, Task, Way}
 
 -- ---- what is true of an attempt
 
@@ -204,9 +174,8 @@ good_answer Q R s fresh xid b dropped taken = by s.task refl (has_call (pending 
 -- ---- a command
 
 good_own : (Q : ℕ → ℕ → Type 0) (R : ℕ → Type 0) (s : State) (fresh : R s.next) (t : Option Task) (l : Option Local) (f : Local → State × ClientStep) → TaskGood Q R s.task → ((l : Local) → Good Q R (f l)) → Good Q R (on_local s t l f)
-good_own Q R s fresh (Some t) l f q h = (q, tt)
-good_own Q R s fresh None None f q h = (q, tt)
 good_own Q R s fresh None (Some l) f q h = h l
+good_own Q R s fresh _ _ f q h = (q, tt)
 
 good_edits : (Q : ℕ → ℕ → Type 0) (R : ℕ → Type 0) (s : State) (fresh : R s.next) (file : ℕ) (l : Local) (size : ℕ) (content : List ℕ) → TaskGood Q R s.task → Good Q R (edits s file l size content)
 good_edits Q R s fresh file l size content q = by (nat_lt local_most size)

@@ -1,16 +1,10 @@
 -- The temporary files of a server by their keys, which rise: what is found once one is put in, or taken out.
 use Rattle.std.proofs.Common.{inl, inr, ◌≡◌, ℕ, zero, suc, ◌<◌, ◌≤◌, List, [], ◌∷◌, length, Some, None, Bool, true, false, refl, sym, ap, ◌∙◌, subst, arith, eq-eqb, eqb-true, ne_eqb}
-use Rattle.std.proofs.lemmas.Bool.Decides.{nat_tests}
-use Rattle.std.specs.Prelude.{slice_get, cond, ◌==◌, nat_lt, not, filter}
-use Rattle.std.specs.BTreeMap.{insert_entry, is_at}
-use Rattle.std.specs.Map.{lookup, remove_entry, values_of}
-use Rattle.std.specs.Ordering.{nat_cmp, match_ordering, is_eq, MatchOrdering}
-use Rattle.std.specs.declared.cmp.Ordering.{Ordering}
-use Rattle.std.specs.declared.cmp.Ordering.TheVariants.{Less, Equal, Greater}
-use Rattle.std.proofs.lemmas.Map.Lookups.{exact_unsigned}
+use Rattle.std.specs.Map.{values_of}
+use Rattle.std.specs.Ordering.{MatchOrdering}
 use Rattle.std.specs.Cmp.{ranks}
-use Rattle.server_core.specs.Temps.{Temp, temp_at, with_temp, without_temp, key_of, temps_of}
-use Rattle.kept_promise.proofs.Lists.{some_is, nothing_there}
+use Rattle.kept_promise.proofs.Common.{nat_tests, slice_get, cond, ◌==◌, nat_lt, not, filter, insert_entry, is_at, lookup, remove_entry, nat_cmp, match_ordering, is_eq, Ordering, Less, Equal, Greater, exact_unsigned, Temp, temp_at, with_temp, without_temp, key_of, temps_of}
+use Rattle.kept_promise.proofs.Lists.{some_is, nothing_there, false_and_true}
 use Rattle.kept_promise.proofs.Shelves.{of_inserted, of_removed, keys_tell, keys_number}
 
 -- ---- keys that rise
@@ -21,7 +15,7 @@ Above b [] = Unit {0}
 Above b (e ∷ es) = (b ≤ e.0) × Above (suc e.0) es
 
 abbrev pub IsKeyed : List (ℕ × Temp) → Type 0
-IsKeyed temps = (i : ℕ) (e : ℕ × Temp) → slice_get temps i ≡ Some e → (e.0 ≡ key_of e.1.session e.1.number) × (e.1.number < 4294967296)
+IsKeyed temps = (i : ℕ) (e : ℕ × Temp) → slice_get temps i ≡ Some e → (e.0 ≡ key_of e.1.session e.1.fd) × (e.1.fd < 4294967296)
 
 -- temporary files stand by rising keys, each under its own
 abbrev pub IsShelf : List (ℕ × Temp) → Type 0
@@ -42,9 +36,8 @@ pub not_at : (q k : ℕ) → (q ≡ k → ⊥) → is_eq (nat_cmp q k) ≡ false
 not_at q k apart = by (nat_cmp q k) refl
   where
     by : (r : Ordering) → nat_cmp q k ≡ r → is_eq r ≡ false
-    by Less e = refl
     by Equal e = absurd (apart (exact_unsigned q k e))
-    by Greater e = refl
+    by _ e = refl
 
 -- ---- one is put in
 
@@ -81,11 +74,11 @@ above_put b (d ∷ es) k v le h = by (nat_cmp k d.0) refl (λ lt. above_put (suc
     by Equal e later = h
     by Greater e later = (h.0, later (greater_is k d.0 e))
 
-pub shelf_put : (temps : List (ℕ × Temp)) (t : Temp) → t.number < 4294967296 → IsShelf temps → IsShelf (with_temp temps t)
+pub shelf_put : (temps : List (ℕ × Temp)) (t : Temp) → t.fd < 4294967296 → IsShelf temps → IsShelf (with_temp temps t)
 shelf_put temps t small h = (
-  above_put 0 temps (key_of t.session t.number) t (omega arith) h.0,
-  λ i e at. elim (of_inserted temps (key_of t.session t.number) t i e at) [
-    | inl new ↦ (new.0 ∙ ap (λ (u : Temp). key_of u.session u.number) (sym new.1), subst (λ (u : Temp). u.number < 4294967296) (sym new.1) small)
+  above_put 0 temps (key_of t.session t.fd) t (omega arith) h.0,
+  λ i e at. elim (of_inserted temps (key_of t.session t.fd) t i e at) [
+    | inl new ↦ (new.0 ∙ ap (λ (u : Temp). key_of u.session u.fd) (sym new.1), subst (λ (u : Temp). u.fd < 4294967296) (sym new.1) small)
     | inr old ↦ h.1 old.0 e old.1
   ],
 )
@@ -114,8 +107,7 @@ gone_out b k (d ∷ es) h = by (nat_cmp k d.0) refl (gone_out (suc d.0) k es h.1
   where
     by : (r : Ordering) → nat_cmp k d.0 ≡ r → lookup (is_at (nat_cmp k)) (remove_entry (is_at (nat_cmp k)) es) ≡ None → lookup (is_at (nat_cmp k)) (cond (is_eq r) es (d ∷ remove_entry (is_at (nat_cmp k)) es)) ≡ None
     by Equal e later = none_below (suc d.0) k es (let s = exact_unsigned k d.0 e in omega (arith, s)) h.1
-    by Less e later = ap (λ (r : Ordering). cond (is_eq r) (Some d.1) (lookup (is_at (nat_cmp k)) (remove_entry (is_at (nat_cmp k)) es))) e ∙ later
-    by Greater e later = ap (λ (r : Ordering). cond (is_eq r) (Some d.1) (lookup (is_at (nat_cmp k)) (remove_entry (is_at (nat_cmp k)) es))) e ∙ later
+    by _ e later = ap (λ (r : Ordering). cond (is_eq r) (Some d.1) (lookup (is_at (nat_cmp k)) (remove_entry (is_at (nat_cmp k)) es))) e ∙ later
 
 pub else_out : {X : Type 0} (k q : ℕ) (es : List (ℕ × X)) → (q ≡ k → ⊥) → lookup (is_at (nat_cmp q)) (remove_entry (is_at (nat_cmp k)) es) ≡ lookup (is_at (nat_cmp q)) es
 else_out k q [] apart = refl
@@ -123,8 +115,7 @@ else_out k q (d ∷ es) apart = by (nat_cmp k d.0) refl (else_out k q es apart)
   where
     by : (r : Ordering) → nat_cmp k d.0 ≡ r → lookup (is_at (nat_cmp q)) (remove_entry (is_at (nat_cmp k)) es) ≡ lookup (is_at (nat_cmp q)) es → lookup (is_at (nat_cmp q)) (cond (is_eq r) es (d ∷ remove_entry (is_at (nat_cmp k)) es)) ≡ lookup (is_at (nat_cmp q)) (d ∷ es)
     by Equal e later = sym (ap (λ (b : Bool). cond b (Some d.1) (lookup (is_at (nat_cmp q)) es)) (not_at q d.0 (λ f. apart (f ∙ sym (exact_unsigned k d.0 e)))))
-    by Less e later = ap (λ l. cond (is_eq (nat_cmp q d.0)) (Some d.1) l) later
-    by Greater e later = ap (λ l. cond (is_eq (nat_cmp q d.0)) (Some d.1) l) later
+    by _ e later = ap (λ l. cond (is_eq (nat_cmp q d.0)) (Some d.1) l) later
 
 -- ---- those of a session go
 
@@ -161,7 +152,7 @@ else_left (d ∷ es) n o m apart lt h = by (d.1.session == n) refl (else_left es
         let k = h 0 d refl in
         let small = k.1 in
         let same : d.1.session ≡ n = eqb-true d.1.session n e in
-        let other : is_eq (nat_cmp (key_of o m) d.0) ≡ false = not_at (key_of o m) d.0 (λ f. apart (keys_tell o m d.1.session d.1.number lt small (f ∙ k.0) ∙ same)) in
+        let other : is_eq (nat_cmp (key_of o m) d.0) ≡ false = not_at (key_of o m) d.0 (λ f. apart (keys_tell o m d.1.session d.1.fd lt small (f ∙ k.0) ∙ same)) in
         later ∙ sym (ap (λ (b : Bool). cond b (Some d.1) (temp_at es o m)) other)
     by false e later = ap (λ l. cond (is_eq (nat_cmp (key_of o m) d.0)) (Some d.1) l) later
 
@@ -172,7 +163,7 @@ NoTemp temps n = (m : ℕ) → m < 4294967296 → temp_at temps n m ≡ None
 
 -- it has just this one
 abbrev pub OneTemp : List (ℕ × Temp) → (n m : ℕ) → Temp → Type 0
-OneTemp temps n m t = (m < 4294967296) × (t.session ≡ n) × (t.number ≡ m) × (temp_at temps n m ≡ Some t) × ((p : ℕ) → p < 4294967296 → (p ≡ m → ⊥) → temp_at temps n p ≡ None)
+OneTemp temps n m t = (m < 4294967296) × (t.session ≡ n) × (t.fd ≡ m) × (temp_at temps n m ≡ Some t) × ((p : ℕ) → p < 4294967296 → (p ≡ m → ⊥) → temp_at temps n p ≡ None)
 
 -- what stands is found under its key
 at_key : {X : Type 0} (b : ℕ) (es : List (ℕ × X)) (i : ℕ) (e : ℕ × X) → Above b es → slice_get es i ≡ Some e → (v : X) × (lookup (is_at (nat_cmp e.0)) es ≡ Some v)
@@ -195,30 +186,27 @@ none_counted temps n h none = counted_none temps n (λ i e at same. absurd_of i 
     absurd_of i e at same =
         let k = h.1 i e at in
         let f = at_key 0 temps i e h.0 at in
-        let key : e.0 ≡ key_of n e.1.number = k.0 ∙ ap (λ (z : ℕ). key_of z e.1.number) same in
-        nothing_there f.0 (sym (none e.1.number k.1) ∙ ap (λ (z : ℕ). lookup (is_at (nat_cmp z)) temps) (sym key) ∙ f.1)
+        let key : e.0 ≡ key_of n e.1.fd = k.0 ∙ ap (λ (z : ℕ). key_of z e.1.fd) same in
+        nothing_there f.0 (sym (none e.1.fd k.1) ∙ ap (λ (z : ℕ). lookup (is_at (nat_cmp z)) temps) (sym key) ∙ f.1)
 
 -- ---- of one session
 
-pub one_put : (temps : List (ℕ × Temp)) (n m : ℕ) (t : Temp) → m < 4294967296 → t.session ≡ n → t.number ≡ m → ((p : ℕ) → p < 4294967296 → (p ≡ m → ⊥) → temp_at temps n p ≡ None) → OneTemp (with_temp temps t) n m t
+pub one_put : (temps : List (ℕ × Temp)) (n m : ℕ) (t : Temp) → m < 4294967296 → t.session ≡ n → t.fd ≡ m → ((p : ℕ) → p < 4294967296 → (p ≡ m → ⊥) → temp_at temps n p ≡ None) → OneTemp (with_temp temps t) n m t
 one_put temps n m t small session number others =
-    let key : key_of t.session t.number ≡ key_of n m = ap (λ (z : ℕ). key_of z t.number) session ∙ ap (key_of n) number in
-    (small, session, number, ap (λ (z : ℕ). lookup (is_at (nat_cmp z)) (with_temp temps t)) (sym key) ∙ found_put temps (key_of t.session t.number) t, λ p lt apart. found_else temps (key_of t.session t.number) (key_of n p) t (λ e. apart (keys_number n p m (e ∙ key))) ∙ others p lt apart)
+    let key : key_of t.session t.fd ≡ key_of n m = ap (λ (z : ℕ). key_of z t.fd) session ∙ ap (key_of n) number in
+    (small, session, number, ap (λ (z : ℕ). lookup (is_at (nat_cmp z)) (with_temp temps t)) (sym key) ∙ found_put temps (key_of t.session t.fd) t, λ p lt apart. found_else temps (key_of t.session t.fd) (key_of n p) t (λ e. apart (keys_number n p m (e ∙ key))) ∙ others p lt apart)
 
 pub one_out : (temps : List (ℕ × Temp)) (n m : ℕ) (t : Temp) → IsShelf temps → OneTemp temps n m t → NoTemp (without_temp temps n m) n
 one_out temps n m t h one p lt = by (p == m) refl
   where
     by : (b : Bool) → (p == m) ≡ b → temp_at (without_temp temps n m) n p ≡ None
     by true e = ap (λ (z : ℕ). temp_at (without_temp temps n m) n z) (eqb-true p m e) ∙ gone_out 0 (key_of n m) temps h.0
-    by false e = else_out (key_of n m) (key_of n p) temps (λ f. not_both (p == m) e (eq-eqb p m (keys_number n p m f))) ∙ one.4 p lt (λ f. not_both (p == m) e (eq-eqb p m f))
-      where
-        not_both : (b : Bool) → b ≡ false → b ≡ true → ⊥
-        not_both b u v = absurd cc
+    by false e = else_out (key_of n m) (key_of n p) temps (λ f. false_and_true (p == m) e (eq-eqb p m (keys_number n p m f))) ∙ one.4 p lt (λ f. false_and_true (p == m) e (eq-eqb p m f))
 
 -- ---- of another
 
-pub other_put : (temps : List (ℕ × Temp)) (n m o p : ℕ) (t : Temp) → m < 4294967296 → p < 4294967296 → (o ≡ n → ⊥) → key_of t.session t.number ≡ key_of n m → temp_at (with_temp temps t) o p ≡ temp_at temps o p
-other_put temps n m o p t small lt apart key = found_else temps (key_of t.session t.number) (key_of o p) t (λ e. apart (keys_tell o p n m lt small (e ∙ key)))
+pub other_put : (temps : List (ℕ × Temp)) (n m o p : ℕ) (t : Temp) → m < 4294967296 → p < 4294967296 → (o ≡ n → ⊥) → key_of t.session t.fd ≡ key_of n m → temp_at (with_temp temps t) o p ≡ temp_at temps o p
+other_put temps n m o p t small lt apart key = found_else temps (key_of t.session t.fd) (key_of o p) t (λ e. apart (keys_tell o p n m lt small (e ∙ key)))
 
 pub other_out : (temps : List (ℕ × Temp)) (n m o p : ℕ) → m < 4294967296 → p < 4294967296 → (o ≡ n → ⊥) → temp_at (without_temp temps n m) o p ≡ temp_at temps o p
 other_out temps n m o p small lt apart = else_out (key_of n m) (key_of o p) temps (λ e. apart (keys_tell o p n m lt small e))

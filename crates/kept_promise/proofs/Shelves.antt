@@ -1,15 +1,7 @@
 -- Temporary files by place: what is put among them, and what is taken out; and their pieces, which are parts of a content.
-use Rattle.std.proofs.Common.{◌⊎◌, inl, inr, ◌≡◌, ℕ, zero, suc, ◌+◌, ◌-◌, ◌<◌, ◌≤◌, List, [], ◌∷◌, ◌++◌, length, take, drop, Option, Some, None, Bool, true, false, refl, sym, ap, ◌∙◌, subst, arith, eqb-true}
-use Rattle.std.proofs.lemmas.Bool.Decides.{nat_tests}
-use Rattle.std.specs.Prelude.{slice_get, cond, ◌==◌, option_map, if◌then◌else◌}
-use Rattle.std.specs.BTreeMap.{insert_entry, is_at}
-use Rattle.std.specs.Map.{lookup, remove_entry}
-use Rattle.std.specs.Ordering.{nat_cmp, match_ordering, is_eq}
-use Rattle.std.specs.declared.cmp.Ordering.{Ordering}
-use Rattle.std.specs.declared.cmp.Ordering.TheVariants.{Less, Equal, Greater}
-use Rattle.std.proofs.lemmas.List.{take-append-drop}
-use Rattle.std.proofs.lemmas.Map.Lookups.{exact_unsigned}
-use Rattle.server_core.specs.Temps.{Temp, temp_at, with_temp, without_temp, key_of, joined}
+use Rattle.std.proofs.Common.{◌⊎◌, inl, inr, ◌≡◌, ℕ, zero, suc, ◌+◌, ◌<◌, List, [], ◌∷◌, ◌++◌, length, take, drop, Option, Some, None, Bool, true, false, refl, sym, ap, ◌∙◌, subst, arith, eqb-true}
+use Rattle.temp_files.specs.Pieces.{joined}
+use Rattle.kept_promise.proofs.Common.{slice_get, cond, ◌==◌, option_map, insert_entry, is_at, lookup, remove_entry, nat_cmp, match_ordering, is_eq, Ordering, Less, Equal, Greater, take-append-drop, exact_unsigned, key_of}
 use Rattle.kept_promise.proofs.Lists.{some_is, nothing_there}
 use Rattle.kept_promise.proofs.Messages.{AreParts, IsPartOf}
 
@@ -44,9 +36,8 @@ of_lookup [] k v at = nothing_there v at
 of_lookup (d ∷ es) k v at = by (nat_cmp k d.0) refl at (of_lookup es k v)
   where
     by : (r : Ordering) → nat_cmp k d.0 ≡ r → cond (is_eq r) (Some d.1) (lookup (is_at (nat_cmp k)) es) ≡ Some v → (lookup (is_at (nat_cmp k)) es ≡ Some v → (i : ℕ) × (e : _) × (slice_get es i ≡ Some e) × (e.0 ≡ k) × (e.1 ≡ v)) → (i : ℕ) × (e : _) × (slice_get (d ∷ es) i ≡ Some e) × (e.0 ≡ k) × (e.1 ≡ v)
-    by Less p at later = let h = later at in (suc h.0, h.1, h.2, h.3, h.4)
     by Equal p at later = (zero, d, refl, sym (exact_unsigned k d.0 p), some_is d.1 v at)
-    by Greater p at later = let h = later at in (suc h.0, h.1, h.2, h.3, h.4)
+    by _ p at later = let h = later at in (suc h.0, h.1, h.2, h.3, h.4)
 
 -- a key tells the session, where numbers have 32 bits
 pub keys_tell : (n m o p : ℕ) → m < 4294967296 → p < 4294967296 → key_of n m ≡ key_of o p → n ≡ o
@@ -68,7 +59,7 @@ parts_put v (d ∷ ps) o b h p = by (nat_cmp o d.0) refl (parts_put v ps o b h.1
 
 -- ---- what they come to
 
-drop_next : (m n : ℕ) (v : List ℕ) → drop n (drop m v) ≡ drop (m + n) v
+pub drop_next : (m n : ℕ) (v : List ℕ) → drop n (drop m v) ≡ drop (m + n) v
 drop_next zero n v = let on : n ≡ zero + n = omega arith in ap (λ (k : ℕ). drop k v) on
 drop_next (suc m) zero [] = let on : suc m ≡ suc m + zero = omega arith in ap (λ (k : ℕ). drop k []) on
 drop_next (suc m) (suc n) [] = let on : suc (m + suc n) ≡ suc m + suc n = omega arith in ap (λ (k : ℕ). drop k []) on

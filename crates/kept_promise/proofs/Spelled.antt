@@ -1,33 +1,17 @@
 -- What the two ends say of a file within its bounds fits its record.
-use Rattle.std.proofs.Common.{◌≡◌, ℕ, zero, suc, ◌+◌, ◌/◌, ◌%◌, ◌<◌, ◌≤◌, ◌^◌, List, [], ◌∷◌, Option, Some, None, Bool, true, false, length, drop, take, min, map, refl, sym, ap, ◌∙◌, arith, subst, lit<, length-take}
-use Rattle.std.specs.Prelude.{All, slice_get, filter, cond}
-use Rattle.std.proofs.lemmas.List.Elements.{All-nil, All-cons, All-take, All-filter, All-map}
+use Rattle.std.proofs.Common.{◌≡◌, ℕ, suc, ◌+◌, ◌<◌, ◌≤◌, ◌^◌, List, [], ◌∷◌, Some, None, true, false, length, drop, min, map, refl, ap, ◌∙◌, arith, lit<, length-take}
+use Rattle.std.proofs.lemmas.List.Elements.{All-take, All-filter}
 use Rattle.sha1.specs.Sha1.{sha1, digest_bytes}
-use Rattle.chunk_cut.specs.Chunks.{chunks_of}
-use Rattle.chunk_cut.specs.Places.{chunk_bytes}
-use Rattle.chunk_cut.specs.declared.chunk.Chunk.{Chunk}
 use Rattle.xdr_codec.specs.Attr.{attr_form, kind_form, time_form}
 use Rattle.xdr_codec.specs.Xdr.{u32_form, u64_form, bool_form, bool_fits, fixed_form, count_form}
-use Rattle.xdr_codec.specs.Handle.{handle_bytes}
-use Rattle.xdr_codec.specs.declared.answer.Answer.{Answer}
-use Rattle.xdr_codec.specs.declared.answer.Answer.TheVariants.{Done, Failed}
 use Rattle.hash_calls.specs.Calls.{hashes_form, pair_form, new_temp_form, temp_piece_form, cond_piece_form, commit_form, committed_form}
 use Rattle.hash_calls.specs.Calls.{range_form as hash_range_form}
-use Rattle.hash_calls.specs.declared.call.Hashes.{Hashes}
-use Rattle.hash_calls.specs.declared.call.HashRange.{HashRange}
-use Rattle.hash_calls.specs.declared.call.Pair.{Pair}
 use Rattle.nfs3_calls.specs.Calls.{piece_form, range_form}
-use Rattle.nfs3_calls.specs.declared.call.Range.{Range}
-use Rattle.wire.specs.Message.{MessageFits}
-use Rattle.wire.specs.Parse.{IsExpected}
 use Rattle.wire.proofs.Sizes.{small_fits}
-use Rattle.server_core.specs.Answers.{meets, told_chunks, pair_of, is_end, hashes_of, piece_bytes, piece_of, attr_of, time_of}
-use Rattle.server_core.specs.declared.file.File.{File}
-use Rattle.trace_replay.specs.Core.{server_waiting}
-use Rattle.kept_promise.specs.Talk.{Call, Call.Hash, Call.Read, Call.Make, Call.Name, Call.Send, Call.Commit, Reply, Reply.Hashed, Reply.Bytes, Reply.Made, Reply.Named, Reply.Stored, Reply.Changed, Ask, Told, call_message, told_message}
+use Rattle.server_core.specs.Answers.{time_of}
+use Rattle.kept_promise.proofs.Common.{All, slice_get, filter, All-nil, All-cons, All-map, chunks_of, chunk_bytes, Chunk, handle_bytes, Done, Failed, HashRange, Range, MessageFits, IsExpected, meets, told_chunks, pair_of, is_end, hashes_of, piece_of, attr_of, File, server_waiting, Call, Call.Hash, Call.Read, Call.Make, Call.Name, Call.Send, Call.Commit, Reply, Reply.Hashed, Reply.Bytes, Reply.Made, Reply.Named, Reply.Stored, Reply.Changed, call_message, told_message}
 use Rattle.kept_promise.proofs.Statements.{CallFits, CallsFit, FileFits, HashAnswersFit, ReadAnswersFit, IsPlain, PlainAnswersFit, AreInRow}
-use Rattle.kept_promise.proofs.Lists.{some_is, nothing_there}
-use Rattle.kept_promise.proofs.Chunks.{chunks_in_row, chunks_are_named}
+use Rattle.kept_promise.proofs.Chunks.{chunks_in_row, chunks_are_named, len_map}
 
 handle_len : (name : ℕ) → length (handle_bytes name) ≡ 16
 handle_len name = refl
@@ -74,14 +58,10 @@ chunks_named x = by (chunks_of x) 0 (length x) (chunks_in_row x) (λ i c at. let
 pairs_fit : (x : List ℕ) (r : HashRange) → (length (map pair_of (told_chunks x r)) ≤ 1024) × All pair_form.Fits (map pair_of (told_chunks x r))
 unfolding pair_form fixed_form u32_form
 pairs_fit x r = (
-  let a = map_count (told_chunks x r) in let b = length-take 1024 (filter (meets r.offset r.count) (chunks_of x)) in omega (arith, a, b),
+  let a = len_map (told_chunks x r) in let b = length-take 1024 (filter (meets r.offset r.count) (chunks_of x)) in omega (arith, a, b),
   All-map pair_form.Fits pair_of (told_chunks x r) (λ i c lt. let h = told i c lt in let l = h.1 in (h.0, omega (arith, l))),
 )
   where
-    map_count : (cs : List Chunk) → length (map pair_of cs) ≡ length cs
-    map_count [] = refl
-    map_count (c ∷ cs) = ap suc (map_count cs)
-
     told : AllNamed (told_chunks x r)
     told = All-take (λ (c : Chunk). (length c.digest ≡ 20) × (c.len ≤ 65536)) 1024 (filter (meets r.offset r.count) (chunks_of x)) (All-filter (meets r.offset r.count) (λ (c : Chunk). (length c.digest ≡ 20) × (c.len ≤ 65536)) (chunks_of x) (chunks_named x))
 
@@ -135,9 +115,7 @@ plain_fits xid (Stored (Done u)) x plain = small_fits (told_message (record { xi
 plain_fits xid (Stored (Failed s u)) x plain = small_fits (told_message (record { xid = xid; reply = Stored (Failed s u) })) (x, (refl, refl)) tt
 plain_fits xid (Changed (Failed s u)) x plain = small_fits (told_message (record { xid = xid; reply = Changed (Failed s u) })) (x, (refl, refl)) tt
 plain_fits xid (Changed (Done c)) x plain = let v = plain.0 in let t = plain.1 in small_fits (told_message (record { xid = xid; reply = Changed (Done c) })) (x, (refl, (omega (arith, v), omega (arith, t)))) tt
-plain_fits xid (Bytes (Failed s (Some a))) x plain = absurd plain
-plain_fits xid (Hashed (Done h)) x plain = absurd plain
-plain_fits xid (Bytes (Done p)) x plain = absurd plain
+plain_fits xid _ x plain = absurd plain
 
 pub plain_answers_fit : PlainAnswersFit
 plain_answers_fit = λ xid r x plain. plain_fits xid r x plain

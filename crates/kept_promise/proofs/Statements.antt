@@ -1,30 +1,7 @@
 -- Statements that parts of the law show of chunk lists, of what fits a record, of deliveries, of streams and of the clocks, as types.
-use Rattle.std.specs.Prelude.{◌≡◌, ◌⊎◌, ℕ, zero, suc, ◌+◌, ◌*◌, ◌^◌, ◌<◌, ◌≤◌, List, [], ◌∷◌, ◌++◌, length, map, take, drop, min, replicate, nat_le, Option, Some, None, Result, Ok, Err, Bool, true, false, All, slice_get}
-use Rattle.std.specs.BTreeMap.{insert_entry}
-use Rattle.std.specs.Ordering.{nat_cmp}
-use Rattle.sha1.specs.Sha1.{sha1}
-use Rattle.rpc_record.specs.Records.{Unread, fed, stream}
-use Rattle.chunk_cut.specs.Chunks.{chunks_of}
-use Rattle.chunk_cut.specs.Places.{chunk_bytes, end_of}
-use Rattle.chunk_cut.specs.declared.chunk.Chunk.{Chunk}
-use Rattle.hash_calls.specs.declared.call.Hashes.{Hashes}
-use Rattle.xdr_codec.specs.declared.answer.Answer.{Answer}
-use Rattle.xdr_codec.specs.declared.answer.Answer.TheVariants.{Done, Failed}
-use Rattle.wire.specs.Message.{message_spell, MessageFits}
-use Rattle.wire.specs.Parse.{parse_of, IsExpected}
-use Rattle.server_core.specs.Answers.{told_chunks, pair_of, is_end, hashes_of, piece_of, piece_bytes}
-use Rattle.server_core.specs.Temps as temps
-use Rattle.server_core.specs.declared.file.File.{File}
-use Rattle.open_close.specs.Shape.{with_pairs, broken_of}
-use Rattle.open_close.specs.Opening.{slots_bytes}
-use Rattle.open_close.specs.declared.task.Fetch.{Fetch}
-use Rattle.trace_replay.specs.World.{World, bytes_of}
-use Rattle.trace_replay.specs.Core.{server_waiting}
-use Rattle.trace_replay.specs.Delivery.{up_some, down_some, round, passes}
-use Rattle.trace_replay.specs.Readings.{KeepsClocks}
-use Rattle.trace_replay.specs.Run.{run}
-use Rattle.trace_replay.specs.Timed.{accepted}
-use Rattle.kept_promise.specs.Talk.{Call, Call.Hash, Call.Read, Call.Make, Call.Name, Call.Send, Call.Commit, Reply, Reply.Hashed, Reply.Bytes, Reply.Made, Reply.Named, Reply.Stored, Reply.Changed, Ask, Told, Queue, call_message, ask_message, told_message, reply_body}
+use Rattle.std.proofs.Common.{◌≡◌, ℕ, suc, ◌+◌, ◌^◌, ◌<◌, ◌≤◌, List, [], ◌∷◌, ◌++◌, length, map, take, drop, Option, Some, None, Ok, Bool, true, false}
+use Rattle.temp_files.specs.Pieces as piece_rules
+use Rattle.kept_promise.proofs.Common.{nat_le, All, slice_get, insert_entry, nat_cmp, sha1, Unread, fed, stream, chunks_of, chunk_bytes, end_of, Chunk, Done, Failed, MessageFits, IsExpected, told_chunks, pair_of, is_end, hashes_of, piece_of, piece_bytes, File, with_pairs, broken_of, slots_bytes, Fetch, World, server_waiting, up_some, down_some, KeepsClocks, run, accepted, Call, Call.Hash, Call.Read, Call.Make, Call.Name, Call.Send, Call.Commit, Reply, Reply.Hashed, Reply.Bytes, Reply.Made, Reply.Named, Reply.Stored, Reply.Changed, call_message, told_message}
 
 -- ---- chunk lists
 
@@ -75,12 +52,12 @@ PiecesOf x has [] = []
 PiecesOf x has (c ∷ cs) = elim (has c) [ true ↦ (c.start, chunk_bytes x c) ∷ PiecesOf x has cs | false ↦ PiecesOf x has cs ]
 
 abbrev pub PiecesAreWhole : Type 0
-PiecesAreWhole = (x : List ℕ) → temps.joined 0 (length x) (PiecesOf x (λ c. true) (chunks_of x)) ≡ Some x
+PiecesAreWhole = (x : List ℕ) → piece_rules.joined 0 (length x) (PiecesOf x (λ c. true) (chunks_of x)) ≡ Some x
 
 -- a chunk that isn't there yet can be put in, and then is there; has j tells which are
 abbrev pub PieceGoesIn : Type 0
 PieceGoesIn = (x : List ℕ) (has more : Chunk → Bool) (j : ℕ) (c : Chunk) → length x ≤ 67108864 → slice_get (chunks_of x) j ≡ Some c → has c ≡ false → more c ≡ true → ((k : ℕ) (d : Chunk) → slice_get (chunks_of x) k ≡ Some d → (k ≡ j → ⊥) → more d ≡ has d)
-    → (temps.range_fault (PiecesOf x has (chunks_of x)) c.start c.len ≡ None) × (insert_entry nat_cmp (PiecesOf x has (chunks_of x)) c.start (chunk_bytes x c) ≡ PiecesOf x more (chunks_of x))
+    → (piece_rules.range_fault (PiecesOf x has (chunks_of x)) c.start c.len ≡ None) × (insert_entry nat_cmp (PiecesOf x has (chunks_of x)) c.start (chunk_bytes x c) ≡ PiecesOf x more (chunks_of x))
 
 -- ---- what fits a record
 

@@ -1,32 +1,13 @@
 -- A client takes an answer that its operation waits for: it goes on, or the operation ends. What each of both has to show.
-use Rattle.std.proofs.Common.{◌⊎◌, inl, inr, ◌≡◌, ℕ, suc, ◌+◌, ◌<◌, ◌≤◌, List, [], ◌∷◌, ◌++◌, length, Option, Some, None, Bool, true, false, refl, sym, ap, ◌∙◌, subst, arith}
-use Rattle.std.proofs.lemmas.Bool.Decides.{nat_tests}
-use Rattle.std.specs.Prelude.{slice_get, slice_set, map, nat_le, IsSome}
-use Rattle.chunk_cut.specs.declared.chunk.Chunk.{Chunk}
-use Rattle.xdr_codec.specs.declared.answer.Answer.{Answer}
-use Rattle.xdr_codec.specs.declared.answer.Answer.TheVariants.{Done, Failed}
-use Rattle.xdr_codec.specs.declared.attr.Attr.{Attr}
-use Rattle.nfs3_calls.specs.declared.call.Piece.{Piece}
-use Rattle.wire.specs.declared.message.Pending.{Pending}
-use Rattle.server_core.specs.declared.change.Change.{Change}
+use Rattle.std.proofs.Common.{◌⊎◌, inl, inr, ◌≡◌, ℕ, suc, ◌+◌, ◌<◌, ◌≤◌, List, [], ◌∷◌, ◌++◌, length, Option, Some, None, Bool, true, false, refl, sym, ap, ◌∙◌, subst, arith, map, IsSome}
 use Rattle.open_close.specs.State as client
-use Rattle.open_close.specs.declared.task.Fetch.{Fetch}
-use Rattle.open_close.specs.declared.task.Local.{Local}
-use Rattle.open_close.specs.declared.task.Stage.{Stage}
 use Rattle.open_close.specs.declared.task.Stage.TheVariants as stage
-use Rattle.register_model.specs.Register.{content_of}
-use Rattle.register_model.specs.declared.op.Op.{Op}
 use Rattle.register_model.specs.declared.op.Outcome.{Outcome}
 use Rattle.register_model.specs.declared.op.Outcome.TheVariants as told
-use Rattle.register_model.specs.declared.op.Traffic.{Traffic}
 use Rattle.register_model.specs.declared.op.Word.TheVariants as words
-use Rattle.trace_replay.specs.declared.link.Taken.{Taken}
-use Rattle.trace_replay.specs.Core.{Core, Seat, Session, numbered}
-use Rattle.trace_replay.specs.World.{unless}
-use Rattle.trace_replay.specs.Book.{Book}
-use Rattle.kept_promise.specs.Talk.{Call, Call.Hash, Call.Read, Call.Make, Call.Name, Call.Send, Call.Commit, Reply, Reply.Hashed, Reply.Bytes, Reply.Changed, Ask, Told, Queue, reply_program}
+use Rattle.kept_promise.proofs.Common.{nat_tests, slice_get, slice_set, nat_le, Chunk, Answer, Done, Failed, Attr, Piece, Pending, Change, Fetch, Local, Stage, content_of, Op, Traffic, TakenCall, Core, Seat, Session, numbered, unless, Book, Call, Call.Hash, Call.Read, Call.Commit, Reply, Reply.Hashed, Reply.Bytes, Reply.Changed, Ask, Told, Queue, reply_program}
 use Rattle.kept_promise.proofs.Statements.{CallFits}
-use Rattle.kept_promise.proofs.Lists.{some_is, nothing_there, same_or_not, of_replaced, at_replaced}
+use Rattle.kept_promise.proofs.Lists.{some_is, nothing_there, same_or_not, of_replaced, at_replaced, false_and_true}
 use Rattle.kept_promise.proofs.Keys.{times, times_append, own, on_way, ask_key, change_key, told_key, pending_key, found_by, there_by, key_xid}
 use Rattle.kept_promise.proofs.Messages.{Job, job, stage_word, AllAsks, AllTolds, Rising, hash_offset, read_chunk, CallOf, IsAsked, AnswerOf, IsAnswer, Trying, FetchOf, ReadTold, CommitOf, IsCommit, IsPiece, TempUnder, CloseOf}
 use Rattle.kept_promise.proofs.Rights.{Caused, IsRight, IsSound}
@@ -44,13 +25,11 @@ use Rattle.kept_promise.proofs.Heard.{Moves, rising_to, put_up, kept_heard}
 pub job_op : (book : Book) (k : Core) (qs : List Queue) (x : Session) (seat : Seat) (j : Job) → IsKept book k qs → numbered k.seats x.owner ≡ Some seat → job seat ≡ Some j → IsOf book x.owner j
 job_op book k qs x seat j kept was is = (kept.seats x.owner seat was).task j is
 
-remote_words : (s : Stage) → (stage_word s ≡ words.Open) ⊎ (stage_word s ≡ words.Close)
-remote_words (stage.Hashing tries x) = inl refl
-remote_words (stage.Listing x f) = inl refl
-remote_words (stage.Reading f) = inl refl
+pub remote_words : (s : Stage) → (stage_word s ≡ words.Open) ⊎ (stage_word s ≡ words.Close)
 remote_words (stage.Making x temp) = inr refl
 remote_words (stage.Storing st) = inr refl
 remote_words (stage.Committing x) = inr refl
+remote_words _ = inl refl
 
 -- it counts more
 abbrev pub counting : Op → Traffic → Op
@@ -104,11 +83,11 @@ call_anew next j s y (Read g d) again lt old = λ i p e w.
     by (stage.Committing z) at p w file = nothing_there p (sym (ap (λ (v : Stage). read_chunk v y) at) ∙ w)
 call_anew next j s y _ again lt old = tt
 
-read_on : (book : Book) (taken : List Taken) (j : Job) (s : Stage) (first : ℕ) (c : Chunk) (a : Answer Piece (Option Attr)) → ReadTold book taken j first c a → ReadTold book taken (on j s) first c a
+read_on : (book : Book) (taken : List TakenCall) (j : Job) (s : Stage) (first : ℕ) (c : Chunk) (a : Answer Piece (Option Attr)) → ReadTold book taken j first c a → ReadTold book taken (on j s) first c a
 read_on book taken j s first c (Failed u a) h = h
 read_on book taken j s first c (Done p) h = record { file = h.file; is = h.is; began = h.began; was = h.was; last = h.last; order = h.order; past = h.past; value = h.value; version_is = h.version_is }
 
-answer_anew : (book : Book) (taken : List Taken) (closing : Option ℕ) (next : ℕ) (j : Job) (s : Stage) (y : ℕ) (r : Reply) → Again next j s → y < next → AnswerOf book taken closing (Some j) y r → AnswerOf book taken closing (Some (on j s)) y r
+answer_anew : (book : Book) (taken : List TakenCall) (closing : Option ℕ) (next : ℕ) (j : Job) (s : Stage) (y : ℕ) (r : Reply) → Again next j s → y < next → AnswerOf book taken closing (Some j) y r → AnswerOf book taken closing (Some (on j s)) y r
 answer_anew book taken closing next j s y (Hashed a) again lt old = λ i p e w. absurd (again.hash y p lt (subst (λ (z : Job). hash_offset z.stage y ≡ Some p) (sym (some_is (on j s) i e)) w))
 answer_anew book taken closing next j s y (Changed a) again lt old = λ i e w. absurd (again.commit y lt (ap (λ (z : Job). z.stage) (some_is (on j s) i e) ∙ w))
 answer_anew book taken closing next j s y (Bytes a) again lt old = λ i f c e at w.
@@ -170,11 +149,7 @@ no_commits book closing cut job contents (a ∷ us) e = by a.call e (no_commits 
   where
     by : (c : Call) → commits_if c (commits_in us) ≡ 0 → (commits_in us ≡ 0 → AllAsks (IsCommit book closing cut job contents) us) → CommitOf book closing cut job contents a.xid c × AllAsks (IsCommit book closing cut job contents) us
     by (Commit temp file size) e later = absurd (omega (arith, e))
-    by (Hash f o) e later = (tt, later e)
-    by (Read f c) e later = (tt, later e)
-    by (Make m f) e later = (tt, later e)
-    by (Name m c) e later = (tt, later e)
-    by (Send m s b) e later = (tt, later e)
+    by _ e later = (tt, later e)
 
 -- the session, its client and its job
 pub record Here (book : Book) (k : Core) (qs : List Queue) (n : ℕ) (x : Session) (q : Queue) (t : Told) (ts : List Told) (j : Job) : Type 0 where
@@ -273,7 +248,7 @@ kept_goes book k qs n x q t ts j g s next forgotten asks tr seats after w around
       seat = record {
         session = seat_was.session;
         linked = seat_was.linked;
-        unlinked = λ f. absurd (not_both h.seat.client.linked f (h.here g.uncut).1);
+        unlinked = λ f. absurd (false_and_true h.seat.client.linked f (h.here g.uncut).1);
         matched = inr (on j s, refl);
         task = λ i f. subst (IsOf more x.owner) (some_is (on j s) i f) moved;
         trying = λ i m y f e. let same = some_is (on j s) i f in subst (λ (z : Job). Trying more z m) same (trying_later book more None None (on j s) m goes.grows (w.trying m y (ap (λ (z : Job). z.stage) same ∙ e)));
@@ -295,9 +270,6 @@ kept_goes book k qs n x q t ts j g s next forgotten asks tr seats after w around
             ]
       ];
     })
-  where
-    not_both : (b : Bool) → b ≡ false → b ≡ true → ⊥
-    not_both b u v = absurd cc
 
 -- ---- it ends
 
@@ -310,7 +282,7 @@ asked_none (a ∷ us) = (by a.call, asked_none us)
     by (Read g d) = λ j p e. nothing_there j e
     by _ = tt
 
-pub answers_none : (book : Book) (taken : List Taken) (closing : Option ℕ) (ts : List Told) → AllTolds (IsAnswer book taken closing None) ts
+pub answers_none : (book : Book) (taken : List TakenCall) (closing : Option ℕ) (ts : List Told) → AllTolds (IsAnswer book taken closing None) ts
 answers_none book taken closing [] = tt
 answers_none book taken closing (t ∷ ts) = (by t.reply, answers_none book taken closing ts)
   where
@@ -371,7 +343,7 @@ kept_stops book k qs n x q t ts j g r made opened forgotten seats after w around
       seat = record {
         session = seat_was.session;
         linked = seat_was.linked;
-        unlinked = λ f. absurd (not_both h.seat.client.linked f (h.here g.uncut).1);
+        unlinked = λ f. absurd (false_and_true h.seat.client.linked f (h.here g.uncut).1);
         matched = inl (refl, refl);
         task = λ i f. nothing_there i f;
         trying = λ i m y f. nothing_there i f;
@@ -393,6 +365,3 @@ kept_stops book k qs n x q t ts j g r made opened forgotten seats after w around
             ]
       ];
     })
-  where
-    not_both : (b : Bool) → b ≡ false → b ≡ true → ⊥
-    not_both b u v = absurd cc

@@ -1,24 +1,15 @@
 -- The steps of a run count on, by what each event is.
-use Rattle.std.proofs.Common.{◌≡◌, ℕ, ◌+◌, List, [], ◌∷◌, ◌++◌, Option, Some, None, Bool, true, false, refl, sym, ap, ◌∙◌, arith}
-use Rattle.register_model.specs.declared.op.Opening.{Opening}
-use Rattle.trace_replay.specs.Core.{Core, Seat, Session, Event, Event.Joins, Event.Does, Event.Serves, Event.Hears, Event.Settles, Event.Cuts, Event.Hangs, numbered, joins, joins_as, does, serves, serves_if, hears, hears_at, hears_if, is_newest, cuts, cuts_if, hangs, hangs_if, server_waiting, happens}
-use Rattle.trace_replay.specs.Trail.{Moment, moments, AreCounted, steps_by, step_if, is_heard, can_hang, owner_in}
-use Rattle.kept_promise.specs.Talk.{Queue}
+use Rattle.std.proofs.Common.{◌≡◌, ℕ, ◌+◌, List, [], ◌∷◌, ◌++◌, Option, Some, None, Bool, true, false, refl, sym, ap, ◌∙◌, arith, Result, Ok, Err}
+use Rattle.trace_replay.specs.Trail.{AreCounted, steps_by, step_if, is_heard, can_hang}
+use Rattle.server_core.specs.State as server
+use Rattle.server_core.specs.declared.event.Event.TheVariants as event
+use Rattle.server_core.specs.declared.event.Told.{Told}
+use Rattle.server_core.specs.declared.event.Told.TheVariants as told
+use Rattle.kept_promise.proofs.Common.{Opening, Core, Seat, Session, Event, Event.Joins, Event.Does, Event.Serves, Event.Hears, Event.Settles, Event.Cuts, Event.Hangs, numbered, joins, joins_as, does, serves, serves_if, hears, hears_at, hears_if, is_newest, cuts, cuts_if, hangs, hangs_if, server_waiting, happens, Moment, moments, owner_in, Queue, World, run, parse_of, WireFault, Message, not, server_step}
 use Rattle.kept_promise.proofs.Turns.{also_numbered}
 use Rattle.kept_promise.proofs.Fits.{FitLaws}
 use Rattle.kept_promise.proofs.RunsCarried.{KeptLaws, moment, Step, Carried}
 use Rattle.kept_promise.proofs.Runs.{carried_run}
-use Rattle.trace_replay.specs.World.{World}
-use Rattle.trace_replay.specs.Run.{run}
-use Rattle.wire.specs.Parse.{parse_of}
-use Rattle.wire.specs.declared.fault.WireFault.{WireFault}
-use Rattle.wire.specs.declared.message.Message.{Message}
-use Rattle.std.specs.Prelude.{Result, Ok, Err, not}
-use Rattle.server_core.specs.State as server
-use Rattle.server_core.specs.Step.{server_step}
-use Rattle.server_core.specs.declared.event.Event.TheVariants as event
-use Rattle.server_core.specs.declared.event.Told.{Told}
-use Rattle.server_core.specs.declared.event.Told.TheVariants as told
 
 -- ---- one event
 

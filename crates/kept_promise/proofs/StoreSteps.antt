@@ -1,50 +1,21 @@
 -- What a client sent of a close, step by step: by its COMMITTMP it named each chunk, and sent its bytes.
-use Rattle.std.proofs.Common.{◌⊎◌, inl, inr, ◌≡◌, ℕ, zero, suc, ◌+◌, ◌-◌, ◌≤◌, List, [], ◌∷◌, ◌++◌, length, Option, Some, None, Bool, true, false, refl, sym, ap, ◌∙◌, subst, arith, eqb-true}
-use Rattle.std.proofs.lemmas.List.Elements.{Contains-append_right, Contains-push}
-use Rattle.std.specs.Prelude.{◌==◌, ◌&&◌, slice_get, nat_lt, cond, not, map, Contains}
-use Rattle.chunk_cut.specs.Chunks.{chunks_of}
-use Rattle.chunk_cut.specs.Places.{chunk_bytes}
-use Rattle.chunk_cut.specs.declared.chunk.Chunk.{Chunk}
-use Rattle.xdr_codec.specs.declared.answer.Answer.{Answer}
-use Rattle.xdr_codec.specs.declared.answer.Answer.TheVariants.{Done, Failed}
+use Rattle.std.proofs.Common.{◌⊎◌, inl, inr, ◌≡◌, ℕ, zero, suc, ◌+◌, ◌-◌, ◌≤◌, List, [], ◌∷◌, ◌++◌, length, Option, Some, None, Bool, true, false, refl, sym, ap, ◌∙◌, subst, arith, eqb-true, map}
 use Rattle.xdr_codec.specs.declared.status.Status.TheVariants as status
-use Rattle.hash_calls.specs.declared.call.Hashes.{Hashes}
 use Rattle.hash_calls.specs.declared.message.Lb.TheVariants as lb
-use Rattle.nfs3_calls.specs.declared.call.Piece.{Piece}
 use Rattle.nfs3_calls.specs.declared.message.Nfs.TheVariants as nfs
-use Rattle.wire.specs.declared.message.Body.{Body}
 use Rattle.wire.specs.declared.message.Body.TheVariants as body
-use Rattle.wire.specs.declared.message.Message.{Message}
 use Rattle.wire.specs.declared.message.Message.TheVariants as message
-use Rattle.wire.specs.declared.message.Pending.{Pending}
-use Rattle.open_close.specs.Closing.{cond_call, commit_call, names_from, names_next, names_more, names_all, store_of, is_stored, store_at, without_store, answered}
-use Rattle.open_close.specs.Counting.{no_counts}
-use Rattle.open_close.specs.Opening.{calls_most, tries_most, is_none, read_call, fetch_of, with_hashes, listed, reads_from, reads_next, reads_more, reads_all, is_here, read_at, fault_in, other_version, with_bytes}
-use Rattle.open_close.specs.Shape.{Broken, broken_of}
-use Rattle.open_close.specs.State.{State, local_bytes, pending, pending_in, store_pending, calls_of, has_call}
-use Rattle.open_close.specs.Step.{idle, retries, reads_if, reads_on, lists_on, told_shape, told_version, told_hashes, misfits, told_bytes, told_chunk, told_piece, goes_if, goes_on, told_temp, sends_whole, told_named, told_whole, told_way, told_stored, took, drops, took_if, got_message}
-use Rattle.open_close.specs.declared.calls.Names.{Names}
-use Rattle.open_close.specs.declared.calls.Reads.{Reads}
-use Rattle.open_close.specs.declared.step.BadPeer.{BadPeer}
-use Rattle.open_close.specs.declared.step.ClientStep.{ClientStep}
-use Rattle.open_close.specs.declared.task.Fetch.{Fetch}
-use Rattle.open_close.specs.declared.task.ReadCall.{ReadCall}
-use Rattle.open_close.specs.declared.task.Stage.{Stage}
+use Rattle.open_close.specs.State.{pending_in}
 use Rattle.open_close.specs.declared.task.Stage.TheVariants as stage
-use Rattle.open_close.specs.declared.task.Store.{Store}
-use Rattle.open_close.specs.declared.task.StoreCall.{StoreCall}
-use Rattle.open_close.specs.declared.task.Task.{Task}
-use Rattle.open_close.specs.declared.task.Way.{Way}
 use Rattle.open_close.specs.declared.task.Way.TheVariants as way
-use Rattle.register_model.specs.declared.op.Traffic.{Traffic}
-use Rattle.trace_replay.specs.Ops.{no_traffic, counted}
-use Rattle.trace_replay.specs.Traffic.{close_traffic, is_commit}
+use Rattle.kept_promise.proofs.Common.{Contains-append_right, Contains-push, ◌==◌, slice_get, nat_lt, cond, not, Contains, chunks_of, chunk_bytes, Chunk, Answer, Done, Failed, Hashes, Piece, Body, Message, Pending, cond_call, commit_call, names_from, names_next, names_more, names_all, store_of, is_stored, store_at, without_store, answered, no_counts, calls_most, tries_most, is_none, read_call, fetch_of, with_hashes, listed, reads_from, reads_next, reads_more, reads_all, is_here, read_at, fault_in, other_version, with_bytes, Broken, broken_of, State, local_bytes, pending, store_pending, calls_of, has_call, idle, retries, reads_if, reads_on, lists_on, told_shape, told_version, told_hashes, misfits, told_bytes, told_chunk, told_piece, goes_if, goes_on, told_temp, sends_whole, told_named, told_whole, told_way, told_stored, took, drops, took_if, got_message, Names, Reads, BadPeer, ClientStep, Fetch, ReadCall, Stage, Store, StoreCall, Task, Way, Traffic, no_traffic, counted, close_traffic, is_commit}
 use Rattle.kept_promise.proofs.Statements.{AreInRow}
-use Rattle.kept_promise.proofs.Lists.{some_is, nothing_there}
+use Rattle.kept_promise.proofs.Lists.{some_is, nothing_there, both_true}
 use Rattle.kept_promise.proofs.Keys.{times}
 use Rattle.kept_promise.proofs.Facts.{names_in}
 use Rattle.kept_promise.proofs.Chunks.{chunks_in_row, chunks_are_named}
 use Rattle.kept_promise.proofs.Counted.{traffic_is}
+use Rattle.kept_promise.proofs.Tallies.{length_more}
 
 -- ---- bytes of chunks
 
@@ -59,9 +30,8 @@ named_bytes cs (u ∷ us) = elim u.way [ way.Named ↦ len_of (slice_get cs u.in
 
 -- and of the first so many
 abbrev pub bytes_to : ℕ → List Chunk → ℕ
-bytes_to zero cs = 0
-bytes_to (suc n) [] = 0
 bytes_to (suc n) (c ∷ cs) = c.len + bytes_to n cs
+bytes_to _ _ = 0
 
 bytes_next : (cs : List Chunk) (n : ℕ) (c : Chunk) → slice_get cs n ≡ Some c → bytes_to (suc n) cs ≡ bytes_to n cs + c.len
 bytes_next [] n c e = nothing_there c e
@@ -244,10 +214,6 @@ stores_piece t v s calls file xid f p (Some c) = stores_chunk t v s calls file x
 abbrev naming : Traffic → Names → Traffic
 naming t n = record t { cond = t.cond + length n.send }
 
-length_more : (ms : List Message) (m : Message) → length (ms ++ m ∷ []) ≡ length ms + 1
-length_more [] m = omega arith
-length_more (x ∷ ms) m = let l = length_more ms m in omega (arith, l)
-
 stored_next : (t : Traffic) (v : List ℕ) (n : Names) (o : Option Chunk) → slice_get n.store.chunks n.store.named ≡ o → IsStored (naming t n) v n.store → IsStored (naming t (names_next n o)) v (names_next n o).store
 stored_next t v n None e h = h
 stored_next t v n (Some c) e h =
@@ -281,7 +247,7 @@ names_commits (suc k) n h = names_commits k (names_next n (slice_get n.store.chu
 -- all of it, by the COMMITTMP
 stored_whole : (t : Traffic) (v : List ℕ) (st : Store) → IsStored t v st → is_stored st ≡ true → t ≡ close_traffic v
 stored_whole t v st h e =
-    let both = and_both (is_none st.under) (st.named == length st.chunks) e in
+    let both = both_true (is_none st.under) (st.named == length st.chunks) e in
     let none : st.under ≡ [] = none_is st.under both.0 in
     let all : st.named ≡ length st.chunks = eqb-true st.named (length st.chunks) both.1 in
     let count : length st.chunks ≡ length (chunks_of v) = ap length h.chunks in
@@ -294,10 +260,6 @@ stored_whole t v st h e =
     let k = bytes_all 0 (length v) (chunks_of v) (chunks_in_row v) in
     traffic_is t (close_traffic v) (omega (arith, a, all, count)) (omega (arith, b, c, all, count)) h.read (omega (arith, d, f, g, k))
   where
-    and_both : (a b : Bool) → (a && b) ≡ true → (a ≡ true) × (b ≡ true)
-    and_both true b e = (refl, e)
-    and_both false b e = absurd cc
-
     none_is : (us : List StoreCall) → is_none us ≡ true → us ≡ []
     none_is [] e = refl
     none_is (u ∷ us) e = absurd cc
@@ -394,14 +356,12 @@ Ready t v local xid st = Unit {0}
 
 stores_took : (t : Traffic) (v : List ℕ) (s : State) (calls : List Pending) (file : ℕ) (st : Stage) (xid : ℕ) (b : Body) → FailsName b → Ready t v (local_bytes s.opened file) xid st → Stores t v (took s calls file st xid b)
 stores_took t v s calls file (stage.Hashing tries asked) xid (body.Lb (lb.GetHashAnswer (Done h))) fails ready = stores_hashes t v s calls file xid (fetch_of tries xid h) (Done h)
-stores_took t v s calls file (stage.Hashing tries asked) xid (body.Lb (lb.GetHashAnswer (Failed e u))) fails ready = inr (tt, tt)
 stores_took t v s calls file (stage.Listing asked f) xid (body.Lb (lb.GetHashAnswer a)) fails ready = stores_hashes t v s calls file xid f a
-stores_took t v s calls file (stage.Reading f) xid (body.Nfs (nfs.ReadAnswer (Failed e a))) fails ready = inr (tt, tt)
 stores_took t v s calls file (stage.Reading f) xid (body.Nfs (nfs.ReadAnswer (Done piece))) fails ready = stores_piece t v s calls file xid f piece (read_at f.under xid)
 stores_took t v s calls file (stage.Making asked temp) xid (body.Lb (lb.MkTmpFileAnswer a)) fails ready = stores_temp t v s calls file xid temp (local_bytes s.opened file) a ready.0 ready.1
 stores_took t v s calls file (stage.Storing st) xid b fails ready = stores_under t v s calls file xid (local_bytes s.opened file) st b (store_at st.under xid) fails ready.0 refl ready.2 ready.1
 stores_took t v s calls file (stage.Committing asked) xid b fails ready = absurd ready
-stores_took t v s calls file p xid b fails ready = inr (tt, tt)
+stores_took t v s calls file _ xid _ fails ready = inr (tt, tt)
 
 ready_on : (t : Traffic) (v local : List ℕ) (xid : ℕ) (st : Stage) → Ready t v local xid st → StageOn t v st
 ready_on t v local xid (stage.Making x temp) h = h.0

@@ -1,18 +1,8 @@
 -- A call of a store that the operation under way waits for: its chunk, and that it is alone with its xid.
-use Rattle.std.proofs.Common.{◌≡◌, ℕ, ◌<◌, ◌≤◌, List, [], ◌∷◌, length, Some, false, refl, sym, ap, ◌∙◌, subst, arith}
-use Rattle.std.specs.Prelude.{slice_get, map}
-use Rattle.chunk_cut.specs.Chunks.{chunks_of}
-use Rattle.wire.specs.declared.message.Pending.{Pending}
+use Rattle.std.proofs.Common.{◌≡◌, ℕ, ◌<◌, ◌≤◌, List, [], ◌∷◌, length, Some, false, refl, sym, ap, ◌∙◌, subst, arith, map}
 use Rattle.server_core.specs.State as server
 use Rattle.open_close.specs.State as client
-use Rattle.open_close.specs.State.{store_pending}
-use Rattle.open_close.specs.declared.task.Stage.{Stage}
-use Rattle.open_close.specs.declared.task.Store.{Store}
-use Rattle.open_close.specs.declared.task.StoreCall.{StoreCall}
-use Rattle.open_close.specs.declared.task.Way.{Way}
-use Rattle.trace_replay.specs.Core.{Seat, Session}
-use Rattle.trace_replay.specs.Book.{Book}
-use Rattle.kept_promise.specs.Talk.{Queue}
+use Rattle.kept_promise.proofs.Common.{slice_get, chunks_of, Pending, store_pending, Stage, Store, StoreCall, Way, Seat, Session, Book, Queue}
 use Rattle.kept_promise.proofs.Keys.{times}
 use Rattle.kept_promise.proofs.OrderSteps.{place_once}
 use Rattle.kept_promise.proofs.Messages.{job, CloseOf}

@@ -1,57 +1,31 @@
 -- What events make of a close that sent its COMMITTMP: it had named and sent all of its content.
-use Rattle.std.proofs.Common.{◌⊎◌, inl, inr, ◌≡◌, ℕ, zero, ◌+◌, ◌<◌, ◌≤◌, List, [], ◌∷◌, ◌++◌, length, Option, Some, None, Result, Ok, Err, Bool, true, false, refl, sym, ap, ◌∙◌, subst, arith}
-use Rattle.std.proofs.lemmas.List.Elements.{Contains-append_right}
-use Rattle.std.specs.Prelude.{◌==◌, nat_lt, slice_get, slice_set, map, Contains, if◌then◌else◌}
-use Rattle.command_text.specs.Content.{content_length, content_bytes}
-use Rattle.command_text.specs.declared.command.Command.{Command}
+use Rattle.std.proofs.Common.{◌⊎◌, inl, inr, ◌≡◌, ℕ, zero, ◌+◌, ◌≤◌, List, [], ◌∷◌, ◌++◌, length, Option, Some, None, Result, Ok, Err, Bool, true, false, refl, sym, ap, ◌∙◌, subst, arith, map}
 use Rattle.command_text.specs.declared.command.Command.TheVariants as command
-use Rattle.command_text.specs.declared.content.Part.{Part}
-use Rattle.xdr_codec.specs.declared.answer.Answer.TheVariants.{Done, Failed}
-use Rattle.wire.specs.Parse.{parse_of}
-use Rattle.wire.specs.declared.fault.WireFault.{WireFault}
-use Rattle.wire.specs.declared.message.Message.{Message}
-use Rattle.wire.specs.declared.message.Pending.{Pending}
 use Rattle.server_core.specs.State as server
 use Rattle.server_core.specs.declared.event.Told.{Told as Announced}
 use Rattle.server_core.specs.declared.event.Told.TheVariants as announced
-use Rattle.open_close.specs.Counting.{no_counts, ends}
-use Rattle.open_close.specs.Local.{local_most, written_size, written, truncated}
 use Rattle.open_close.specs.State as client
-use Rattle.open_close.specs.State.{local_at, local_bytes}
-use Rattle.open_close.specs.Step.{is_open, may_ask, asks_hashes, opens_if, opens, on_local, too_big, done_with, edits, writes, truncates, reads, abandons, asks_temp, closes, command_step, got_step, ended_by, joined}
-use Rattle.open_close.specs.declared.step.ClientStep.{ClientStep}
-use Rattle.open_close.specs.declared.step.Ended.{Ended}
-use Rattle.open_close.specs.declared.step.Outcome.{Outcome}
 use Rattle.open_close.specs.declared.step.Outcome.TheVariants as outcome
-use Rattle.open_close.specs.declared.task.Local.{Local}
-use Rattle.open_close.specs.declared.task.Stage.{Stage}
 use Rattle.open_close.specs.declared.task.Stage.TheVariants as stage
-use Rattle.open_close.specs.declared.task.Task.{Task}
-use Rattle.register_model.specs.declared.op.Op.{Op}
 use Rattle.register_model.specs.declared.op.Word.TheVariants as words
-use Rattle.trace_replay.specs.declared.link.Taken.{Taken}
-use Rattle.trace_replay.specs.Commands.{word_of, file_of, value_at_begin}
-use Rattle.trace_replay.specs.Ops.{no_traffic, counted, begun, op_after, value_of, told_of, place_after, place_with}
-use Rattle.trace_replay.specs.Core.{Core, Seat, Session, Event, Event.Joins, Event.Does, Event.Serves, Event.Hears, Event.Settles, Event.Cuts, Event.Hangs, Turned, numbered, with_numbered, server_waiting, serves_if, serves, session_of, taken_of as session_taken, ops_after, ops_with, acted, does, joins_as, settles, cuts_if, hangs_if, hangs, happens}
-use Rattle.trace_replay.specs.Trail.{Moment, Said, all_said, owner_in, client_of, sent_of}
-use Rattle.trace_replay.specs.Traffic.{SentCommit, close_traffic}
-use Rattle.trace_replay.specs.Book.{Book}
-use Rattle.kept_promise.specs.Talk.{Reply, Reply.Hashed, Reply.Bytes, Reply.Made, Reply.Named, Reply.Stored, Reply.Changed, Queue, reply_body, told_message}
+use Rattle.trace_replay.specs.Core.{taken_of as session_taken}
+use Rattle.kept_promise.proofs.Common.{Contains-append_right, ◌==◌, nat_lt, slice_get, slice_set, Contains, if◌then◌else◌, content_length, content_bytes, Command, Part, Done, parse_of, WireFault, Message, Pending, no_counts, ends, local_most, written_size, written, truncated, local_at, local_bytes, is_open, may_ask, asks_hashes, opens_if, opens, on_local, too_big, done_with, edits, writes, truncates, reads, abandons, asks_temp, closes, command_step, got_step, ended_by, joined, ClientStep, Ended, Outcome, Local, Stage, Task, Op, TakenCall, no_traffic, counted, begun, op_after, value_of, told_of, place_after, place_with, Core, Seat, Session, Event, Event.Joins, Event.Does, Event.Serves, Event.Hears, Event.Settles, Event.Cuts, Event.Hangs, CoreStep, numbered, with_numbered, server_waiting, serves_if, serves, session_of, ops_after, ops_with, acted, does, joins_as, settles, cuts_if, hangs_if, hangs, happens, Moment, Said, all_said, owner_in, client_of, sent_of, SentCommit, close_traffic, Book, Reply, Reply.Named, Queue, reply_body, told_message}
 use Rattle.kept_promise.proofs.Lists.{some_is, nothing_there, at_end, within, kept_appended}
 use Rattle.kept_promise.proofs.Keys.{times}
 use Rattle.kept_promise.proofs.Messages.{Job, job, job_of, stage_word, CloseOf}
-use Rattle.kept_promise.proofs.Rights.{IsRight, Caused, IsSound}
+use Rattle.kept_promise.proofs.Rights.{IsRight, Caused, IsSound, close_not_open}
 use Rattle.kept_promise.proofs.Fits.{FitLaws}
 use Rattle.kept_promise.proofs.Taken.{times_map_append}
 use Rattle.kept_promise.proofs.Facts.{IsKept, IsSession, IsMatched}
 use Rattle.kept_promise.proofs.Counted.{first_or_rest, SaidBy, running_now, running_past}
 use Rattle.kept_promise.proofs.CountedRuns.{CountedAt, silent_command}
-use Rattle.kept_promise.proofs.Actors.{job_place, job_task, acts_alone, Heard, heard_acts}
+use Rattle.kept_promise.proofs.Actors.{job_task, acts_alone, Heard, heard_acts}
 use Rattle.kept_promise.proofs.QueuedCommits.{FailsNamed}
 use Rattle.kept_promise.proofs.Shapes.{busy_command}
 use Rattle.kept_promise.proofs.VersionRuns.{foreign_at, settled_are, own_op}
 use Rattle.kept_promise.proofs.StoreSteps.{StageOn, TaskOn, NoCommits, InCommit, IsCommitting, Stores, counted_none, FailsName, Ready, TaskReady, stores_answer, silent_answer}
 use Rattle.kept_promise.proofs.StoredRuns.{commit_none, commit_more, commit_alike, commit_kept, commit_early, JobStored, AreStored, stored_more, stored_seat, stored_pointed, Renewed, stored_acts, stored_begins}
+use Rattle.kept_promise.proofs.CommandOps.{made_by, made_later, made_silent, old_jobs, job_begins, job_stays}
 
 -- ---- a command
 
@@ -102,7 +76,7 @@ begins_command v s (command.Abandon file) now free = subst (λ (o : Option Task)
 
 -- ---- events of the server
 
-abbrev pub StoredBy : (past : List Moment) → Core → Event → Turned → Type 0
+abbrev pub StoredBy : (past : List Moment) → Core → Event → CoreStep → Type 0
 StoredBy past k e t = AreStored (sent_of past ++ all_said (k.steps + 1) (client_of k e) t.up) t.core.seats t.core.ops
 
 abbrev pub StoredAt : (past : List Moment) → Core → Type 0
@@ -140,21 +114,18 @@ stored_settles book past k qs now kept h = stored_more (sent_of past) k.seats (s
 -- ---- events of a client
 
 -- a close keeps its value
-value_kept : (more : Book) (o : Op) (c : client.State) (taken : List Taken) (step : ℕ) (acts : ClientStep) → o.word ≡ words.Close → IsRight more (op_after o c taken step acts) → (op_after o c taken step acts).value ≡ o.value
+value_kept : (more : Book) (o : Op) (c : client.State) (taken : List TakenCall) (step : ℕ) (acts : ClientStep) → o.word ≡ words.Close → IsRight more (op_after o c taken step acts) → (op_after o c taken step acts).value ≡ o.value
 value_kept more o c taken step acts close right = by acts.ended right
   where
-    apart : words.Close ≡ words.Open → ⊥
-    apart z = absurd cc
-
     ended : (u : Outcome) (e : Ended) → e.outcome ≡ u → IsRight more (op_after o c taken step (record acts { ended = Some e })) → value_of o.value c u ≡ o.value
-    ended (outcome.Opened file len digest) e is r = absurd (apart (sym close ∙ (subst (λ (z : Outcome). Caused more (op_after o c taken step (record acts { ended = Some e })) (told_of z)) is r.cause).0))
+    ended (outcome.Opened file len digest) e is r = absurd (close_not_open (sym close ∙ (subst (λ (z : Outcome). Caused more (op_after o c taken step (record acts { ended = Some e })) (told_of z)) is r.cause).0))
     ended u e is r = refl
 
     by : (e : Option Ended) → IsRight more (op_after o c taken step (record acts { ended = e })) → (op_after o c taken step (record acts { ended = e })).value ≡ o.value
     by None r = refl
     by (Some e) r = ended e.outcome e refl r
 
-pub traffic_after : (o : Op) (c : client.State) (taken : List Taken) (step : ℕ) (acts : ClientStep) → (op_after o c taken step acts).traffic ≡ counted o.traffic acts.counts
+pub traffic_after : (o : Op) (c : client.State) (taken : List TakenCall) (step : ℕ) (acts : ClientStep) → (op_after o c taken step acts).traffic ≡ counted o.traffic acts.counts
 traffic_after o c taken step acts = by acts.ended
   where
     by : (e : Option Ended) → (op_after o c taken step (record acts { ended = e })).traffic ≡ counted o.traffic acts.counts
@@ -162,7 +133,7 @@ traffic_after o c taken step acts = by acts.ended
     by (Some e) = refl
 
 -- behind its COMMITTMP nothing of it changes
-renews_silent : (sent : List Said) (n : ℕ) (more : Book) (o : Op) (c : client.State) (taken : List Taken) (acts : ClientStep) (i : ℕ) (j : Job) → o.word ≡ words.Close → o.end ≡ None → SaidBy n sent → IsRight more (op_after o c taken (n + 1) acts) → acts.counts ≡ no_counts → ((c.task ≡ None) ⊎ (c.task ≡ Some (record { file = j.file; stage = j.stage }))) → InCommit j.stage → SentCommit o sent → o.traffic ≡ close_traffic o.value
+renews_silent : (sent : List Said) (n : ℕ) (more : Book) (o : Op) (c : client.State) (taken : List TakenCall) (acts : ClientStep) (i : ℕ) (j : Job) → o.word ≡ words.Close → o.end ≡ None → SaidBy n sent → IsRight more (op_after o c taken (n + 1) acts) → acts.counts ≡ no_counts → ((c.task ≡ None) ⊎ (c.task ≡ Some (record { file = j.file; stage = j.stage }))) → InCommit j.stage → SentCommit o sent → o.traffic ≡ close_traffic o.value
     → Renewed (sent ++ all_said (n + 1) i []) c acts (op_after o c taken (n + 1) acts)
 renews_silent sent n more o c taken acts i j close none past right counts task committing sent_it traffic =
     let new : Op = op_after o c taken (n + 1) acts in
@@ -176,7 +147,7 @@ renews_silent sent n more o c taken acts i j close none past right counts task c
     )
 
 -- before it
-renews_stores : (sent : List Said) (n : ℕ) (o : Op) (c : client.State) (taken : List Taken) (acts : ClientStep) (i : ℕ) → o.client ≡ i → o.end ≡ None → o.begin ≤ n → SaidBy n sent → (SentCommit o sent → ⊥) → Stores o.traffic o.value (c, acts) → Renewed (sent ++ all_said (n + 1) i acts.send) c acts (op_after o c taken (n + 1) acts)
+renews_stores : (sent : List Said) (n : ℕ) (o : Op) (c : client.State) (taken : List TakenCall) (acts : ClientStep) (i : ℕ) → o.client ≡ i → o.end ≡ None → o.begin ≤ n → SaidBy n sent → (SentCommit o sent → ⊥) → Stores o.traffic o.value (c, acts) → Renewed (sent ++ all_said (n + 1) i acts.send) c acts (op_after o c taken (n + 1) acts)
 renews_stores sent n o c taken acts i client none begun past not_yet (inl (committing, running, commit, traffic)) =
     let new : Op = op_after o c taken (n + 1) acts in
     let s : Said = record { step = n + 1; client = i; message = commit.0 } in
@@ -222,21 +193,14 @@ committing_is st h = absurd h
 
 fails_name : (r : Reply) → FailsNamed r → FailsName (reply_body r)
 fails_name (Named (Done u)) h = h
-fails_name (Named (Failed e u)) h = tt
-fails_name (Hashed a) h = tt
-fails_name (Bytes a) h = tt
-fails_name (Made a) h = tt
-fails_name (Stored a) h = tt
-fails_name (Changed a) h = tt
+fails_name _ h = tt
 
 -- a stage before its COMMITTMP may take an answer
 ready_by : (book : Book) (closing : Option ℕ) (contents : ℕ → List ℕ) (next xid : ℕ) (j : Job) (o : Op) (local : List ℕ) → slice_get book.ops j.place ≡ Some o → (st : Stage) → StageOn o.traffic o.value st → CloseOf book closing contents next j local st → times xid (map (λ (p : Pending). p.xid) (client.pending_in st)) ≤ 1 → Ready o.traffic o.value local xid st
 ready_by book closing contents next xid j o local at (stage.Making x temp) on close once = (on, sym (ap (λ (z : Op). z.value) (some_is o close.0.op (sym at ∙ close.0.there)) ∙ close.0.value_is))
 ready_by book closing contents next xid j o local at (stage.Storing st) on close once = (on, sym (ap (λ (z : Op). z.value) (some_is o close.0.op (sym at ∙ close.0.there)) ∙ close.0.value_is), once)
 ready_by book closing contents next xid j o local at (stage.Committing x) on close once = on
-ready_by book closing contents next xid j o local at (stage.Hashing tries x) on close once = tt
-ready_by book closing contents next xid j o local at (stage.Listing x f) on close once = tt
-ready_by book closing contents next xid j o local at (stage.Reading f) on close once = tt
+ready_by book closing contents next xid j o local at _ on close once = tt
 
 pub stored_hears : FitLaws → (book more : Book) (past : List Moment) (k : Core) (qs after : List Queue) (n now : ℕ) (bytes : List ℕ) (mid : List Queue) → IsKept book k qs → (h : Heard k qs n now bytes mid) → IsKept more (happens k (Hears n now bytes)).core after → CountedAt past k → FailsNamed h.told.reply → StoredAt past k → StoredBy past k (Hears n now bytes) (happens k (Hears n now bytes))
 stored_hears laws book more past k qs after n now bytes mid kept h left counted_past fails before =
@@ -247,7 +211,7 @@ stored_hears laws book more past k qs after n now bytes mid kept h left counted_
     r : client.State × ClientStep
     r = got_step h.seat.client (Ok (told_message h.told)) now
 
-    taken : List Taken
+    taken : List TakenCall
     taken = session_taken (session_of k.sessions h.seat.session)
 
     turned : happens k (Hears n now bytes) ≡ acted k h.session.owner h.seat r.0 r.1
@@ -273,7 +237,7 @@ stored_hears laws book more past k qs after n now bytes mid kept h left counted_
         let own = (acts_alone book k qs h.session.owner h.seat kept h.owner).own p o e at in
         let task = job_task h.seat.place h.seat.client.task j w.1 in
         let there : slice_get more.ops p ≡ Some (op_after o r.0 taken (k.steps + 1) r.1) =
-        ap (λ (l : List Op). slice_get l p) (left.ops ∙ ap (λ (t : Turned). t.core.ops) turned ∙ ap (λ l. ops_with k.ops l r.0 taken (k.steps + 1) r.1) e ∙ ap (λ l. ops_after k.ops p l r.0 taken (k.steps + 1) r.1) at) ∙ Rattle.kept_promise.proofs.Lists.at_replaced k.ops p (op_after o r.0 taken (k.steps + 1) r.1) o at in
+        ap (λ (l : List Op). slice_get l p) (left.ops ∙ ap (λ (t : CoreStep). t.core.ops) turned ∙ ap (λ l. ops_with k.ops l r.0 taken (k.steps + 1) r.1) e ∙ ap (λ l. ops_after k.ops p l r.0 taken (k.steps + 1) r.1) at) ∙ Rattle.kept_promise.proofs.Lists.at_replaced k.ops p (op_after o r.0 taken (k.steps + 1) r.1) o at in
         let right = left.sound.rights p (op_after o r.0 taken (k.steps + 1) r.1) there in
         by j w.1 task word (before.jobs h.session.owner h.seat j o h.owner w.1 at_place) own.0 own.1 own.2 right (before.commits p o at) book_at_place
       where
@@ -304,7 +268,7 @@ stored_cuts book more past k qs after c seat kept here counted_past h true left 
     lost : Ended
     lost = record { outcome = outcome.Lost; rests_on = 0 }
 
-    taken : List Taken
+    taken : List TakenCall
     taken = session_taken (session_of k.sessions seat.session)
 
     gone : client.State
@@ -337,20 +301,10 @@ pub stored_does : (book : Book) (past : List Moment) (k : Core) (qs : List Queue
 stored_does book past k qs c now d seat kept here counted_past h = by (kept.seats c seat here).matched
   where
     new : client.State → ClientStep → Op
-    new s acts = op_after (begun c (word_of d) (file_of d) (value_at_begin seat.client (word_of d) (file_of d) (command_step seat.client d now).1.ended) (k.steps + 1)) s [] (k.steps + 1) acts
-
-    begins : (s : client.State) (acts : ClientStep) (e : Option Ended) → k.steps < (op_after (begun c (word_of d) (file_of d) (value_at_begin seat.client (word_of d) (file_of d) (command_step seat.client d now).1.ended) (k.steps + 1)) s [] (k.steps + 1) (record acts { ended = e })).begin
-    begins s acts None = omega arith
-    begins s acts (Some e) = omega arith
-
-    nothing : (s : client.State) (acts : ClientStep) → acts.counts ≡ no_counts → (op_after (begun c (word_of d) (file_of d) (value_at_begin seat.client (word_of d) (file_of d) (command_step seat.client d now).1.ended) (k.steps + 1)) s [] (k.steps + 1) acts).traffic ≡ no_traffic
-    nothing s acts e = traffic_after (begun c (word_of d) (file_of d) (value_at_begin seat.client (word_of d) (file_of d) (command_step seat.client d now).1.ended) (k.steps + 1)) s [] (k.steps + 1) acts ∙ ap (counted no_traffic) e ∙ counted_none no_traffic
-
-    old_jobs : (i : ℕ) (s : Seat) (j : Job) → numbered k.seats i ≡ Some s → job s ≡ Some j → j.place < length k.ops
-    old_jobs i s j at is = let of = (kept.seats i s at).task j is in within k.ops j.place of.op (ap (λ (l : List Op). slice_get l j.place) (sym kept.ops) ∙ of.there)
+    new s acts = made_by k c now d seat s acts
 
     grown : NoCommits (command_step seat.client d now).1.send → AreStored (sent_of past ++ all_said (k.steps + 1) c (command_step seat.client d now).1.send) k.seats (k.ops ++ new (command_step seat.client d now).0 (command_step seat.client d now).1 ∷ [])
-    grown quiet = stored_begins (sent_of past) k.seats k.ops k.steps c (new (command_step seat.client d now).0 (command_step seat.client d now).1) (command_step seat.client d now).1.send quiet (begins (command_step seat.client d now).0 (command_step seat.client d now).1 (command_step seat.client d now).1.ended) counted_past.sent_by old_jobs h
+    grown quiet = stored_begins (sent_of past) k.seats k.ops k.steps c (new (command_step seat.client d now).0 (command_step seat.client d now).1) (command_step seat.client d now).1.send quiet (made_later k c now d seat (command_step seat.client d now).0 (command_step seat.client d now).1 (command_step seat.client d now).1.ended) counted_past.sent_by (old_jobs book k qs kept) h
 
     by : IsMatched seat → StoredBy past k (Does c now d) (does k c now d (Some seat))
     by (inl (no_place, free)) =
@@ -358,30 +312,15 @@ stored_does book past k qs c now d seat kept here counted_past h = by (kept.seat
         let b = begins_command (new r.0 r.1).value seat.client d now free in
         stored_seat (sent_of past ++ all_said (k.steps + 1) c r.1.send) k.seats (k.ops ++ new r.0 r.1 ∷ []) c (record seat { client = r.0; place = place_with seat.place (length k.ops) r.1.ended }) (λ j o is at. first r.0 r.1 b (silent_command seat.client d now).1 j o (subst (λ l. job_of (place_with l (length k.ops) r.1.ended) r.0.task ≡ Some j) no_place is) at) (grown b.0)
       where
-        first : (s : client.State) (acts : ClientStep) → Begins (op_after (begun c (word_of d) (file_of d) (value_at_begin seat.client (word_of d) (file_of d) (command_step seat.client d now).1.ended) (k.steps + 1)) s [] (k.steps + 1) acts).value (s, acts) → acts.counts ≡ no_counts → (j : Job) (o : Op) → job_of (place_with None (length k.ops) acts.ended) s.task ≡ Some j → slice_get (k.ops ++ op_after (begun c (word_of d) (file_of d) (value_at_begin seat.client (word_of d) (file_of d) (command_step seat.client d now).1.ended) (k.steps + 1)) s [] (k.steps + 1) acts ∷ []) j.place ≡ Some o → JobStored (sent_of past ++ all_said (k.steps + 1) c acts.send) o j.stage
-        first s acts b counts j o is at = here_ acts.ended is
+        first : (s : client.State) (acts : ClientStep) → Begins (made_by k c now d seat s acts).value (s, acts) → acts.counts ≡ no_counts → (j : Job) (o : Op) → job_of (place_with None (length k.ops) acts.ended) s.task ≡ Some j → slice_get (k.ops ++ made_by k c now d seat s acts ∷ []) j.place ≡ Some o → JobStored (sent_of past ++ all_said (k.steps + 1) c acts.send) o j.stage
+        first s acts b counts j o is at =
+            let w = job_begins k.ops (new s acts) o s.task acts.ended j is at in
+            let on = subst (TaskOn no_traffic (new s acts).value) w.1 b.1 in
+            subst (λ (z : Op). JobStored (sent_of past ++ all_said (k.steps + 1) c acts.send) z j.stage) w.0 (inr (never, subst (λ z. StageOn z (new s acts).value j.stage) (sym (made_silent k c now d seat s acts counts acts.ended)) on))
           where
-            n : Op
-            n = op_after (begun c (word_of d) (file_of d) (value_at_begin seat.client (word_of d) (file_of d) (command_step seat.client d now).1.ended) (k.steps + 1)) s [] (k.steps + 1) acts
-
-            never : SentCommit n (sent_of past ++ all_said (k.steps + 1) c acts.send) → ⊥
-            never x = commit_early k.steps n (sent_of past) (begins s acts acts.ended) counted_past.sent_by (commit_none n (sent_of past) (k.steps + 1) c acts.send b.0 x)
-
-            here_ : (e : Option Ended) → job_of (place_with None (length k.ops) e) s.task ≡ Some j → JobStored (sent_of past ++ all_said (k.steps + 1) c acts.send) o j.stage
-            here_ (Some e) is = nothing_there j is
-            here_ None is =
-                let place : length k.ops ≡ j.place = some_is (length k.ops) j.place (job_place (Some (length k.ops)) s.task j is) in
-                let same : n ≡ o = some_is n o (sym (at_end k.ops n) ∙ ap (slice_get (k.ops ++ n ∷ [])) place ∙ at) in
-                let on : StageOn no_traffic n.value j.stage = subst (TaskOn no_traffic n.value) (job_task (Some (length k.ops)) s.task j is) b.1 in
-                subst (λ (z : Op). JobStored (sent_of past ++ all_said (k.steps + 1) c acts.send) z j.stage) same (inr (never, subst (λ z. StageOn z n.value j.stage) (sym (nothing s acts counts)) on))
+            never : SentCommit (new s acts) (sent_of past ++ all_said (k.steps + 1) c acts.send) → ⊥
+            never x = commit_early k.steps (new s acts) (sent_of past) (made_later k c now d seat s acts acts.ended) counted_past.sent_by (commit_none (new s acts) (sent_of past) (k.steps + 1) c acts.send b.0 x)
     by (inr (i, is)) =
         let r = command_step seat.client d now in
         let busy = busy_command seat.client d now (record { file = i.file; stage = i.stage }) (job_task seat.place seat.client.task i is) in
-        stored_seat (sent_of past ++ all_said (k.steps + 1) c r.1.send) k.seats (k.ops ++ new r.0 r.1 ∷ []) c (record seat { client = r.0; place = place_with seat.place (length k.ops) r.1.ended }) (λ j o e at. (grown (subst NoCommits (sym busy.0) tt)).jobs c seat j o here (same r.1.ended (ap (λ (z : client.State). job_of (place_with seat.place (length k.ops) r.1.ended) z.task) (sym busy.1) ∙ e)) at) (grown (subst NoCommits (sym busy.0) tt))
-      where
-        same : {j : Job} (e : Option Ended) → job_of (place_with seat.place (length k.ops) e) seat.client.task ≡ Some j → job seat ≡ Some j
-        same {j} e q = by_place seat.place (job_place seat.place seat.client.task i is) q
-          where
-            by_place : (l : Option ℕ) → l ≡ Some i.place → job_of (place_with l (length k.ops) e) seat.client.task ≡ Some j → job_of l seat.client.task ≡ Some j
-            by_place None w q = nothing_there i.place w
-            by_place (Some p) w q = q
+        stored_seat (sent_of past ++ all_said (k.steps + 1) c r.1.send) k.seats (k.ops ++ new r.0 r.1 ∷ []) c (record seat { client = r.0; place = place_with seat.place (length k.ops) r.1.ended }) (λ j o e at. (grown (subst NoCommits (sym busy.0) tt)).jobs c seat j o here (job_stays seat i (length k.ops) is j r.1.ended (ap (λ (z : client.State). job_of (place_with seat.place (length k.ops) r.1.ended) z.task) (sym busy.1) ∙ e)) at) (grown (subst NoCommits (sym busy.0) tt))

@@ -1,34 +1,14 @@
 -- A run carries that each COMMITTMP on its way, and each change that waits, is of a close that named and sent all of its content.
 use Rattle.std.proofs.Common.{◌⊎◌, inl, inr, ◌≡◌, ℕ, ◌+◌, ◌<◌, List, [], ◌∷◌, ◌++◌, length, Option, Some, None, Result, Ok, Err, Bool, true, false, refl, sym, ap, ◌∙◌, subst, arith}
-use Rattle.std.specs.Prelude.{slice_get, slice_set}
 use Rattle.server_core.specs.State as server
-use Rattle.server_core.specs.Step.{server_step}
-use Rattle.server_core.specs.declared.change.Change.{Change}
 use Rattle.server_core.specs.declared.event.Event.TheVariants as event
 use Rattle.server_core.specs.declared.event.Told.{Told as Announced}
 use Rattle.server_core.specs.declared.event.Told.TheVariants as announced
 use Rattle.open_close.specs.State as client
-use Rattle.open_close.specs.Step.{command_step, got_step, cut}
-use Rattle.open_close.specs.declared.step.ClientStep.{ClientStep}
-use Rattle.open_close.specs.declared.step.Ended.{Ended}
-use Rattle.open_close.specs.declared.step.Outcome.{Outcome}
 use Rattle.open_close.specs.declared.task.Stage.TheVariants as stage
-use Rattle.register_model.specs.Register.{changes}
-use Rattle.register_model.specs.declared.op.Op.{Op}
-use Rattle.register_model.specs.declared.op.Opening.{Opening}
-use Rattle.register_model.specs.declared.op.Word.{Word}
 use Rattle.register_model.specs.declared.op.Word.TheVariants as words
-use Rattle.trace_replay.specs.declared.link.Taken.{Taken}
-use Rattle.trace_replay.specs.Commands.{word_of, file_of, value_at_begin}
-use Rattle.trace_replay.specs.Ops.{has_point, point_if, begun, op_after}
-use Rattle.trace_replay.specs.Core.{Core, Seat, Session, Event, Event.Joins, Event.Does, Event.Serves, Event.Hears, Event.Settles, Event.Cuts, Event.Hangs, Turned, numbered, server_waiting, serves_if, serves, session_of, taken_of as session_taken, ops_after, ops_with, does, joins_as, joins, cuts_if, cuts, hangs_if, hangs, happens}
-use Rattle.trace_replay.specs.Trail.{Moment, sent_in, sent_of}
-use Rattle.trace_replay.specs.Traffic.{SentCommit}
-use Rattle.trace_replay.specs.Book.{Book}
-use Rattle.wire.specs.Parse.{parse_of}
-use Rattle.wire.specs.declared.fault.WireFault.{WireFault}
-use Rattle.wire.specs.declared.message.Message.{Message}
-use Rattle.kept_promise.specs.Talk.{Call, Call.Hash, Call.Read, Call.Make, Call.Name, Call.Send, Call.Commit, Ask, Queue}
+use Rattle.trace_replay.specs.Core.{taken_of as session_taken}
+use Rattle.kept_promise.proofs.Common.{slice_get, slice_set, server_step, Change, command_step, got_step, cut, ClientStep, Ended, Outcome, changes, Op, Opening, Word, TakenCall, word_of, file_of, value_at_begin, has_point, point_if, begun, op_after, Core, Seat, Session, Event, Event.Joins, Event.Does, Event.Serves, Event.Hears, Event.Settles, Event.Cuts, Event.Hangs, CoreStep, numbered, server_waiting, serves_if, serves, session_of, ops_after, ops_with, does, joins_as, joins, cuts_if, cuts, hangs_if, hangs, happens, Moment, sent_in, sent_of, SentCommit, Book, parse_of, WireFault, Message, Call, Call.Commit, Ask, Queue}
 use Rattle.kept_promise.proofs.Lists.{some_is, nothing_there, within, at_replaced, of_replaced, else_replaced, of_appended, kept_appended}
 use Rattle.kept_promise.proofs.Keys.{own}
 use Rattle.kept_promise.proofs.Messages.{job, AllAsks, AllTolds, IsCommit, CommitOf, IsPending}
@@ -44,8 +24,10 @@ use Rattle.kept_promise.proofs.VersionRuns.{Remembers, settled_are}
 use Rattle.kept_promise.proofs.Promised.{HaveStored}
 use Rattle.kept_promise.proofs.QueuedCommits.{FailsNamed, Fails, carried_fails}
 use Rattle.kept_promise.proofs.LeftCommits.{commits_left}
-use Rattle.kept_promise.proofs.StoredRuns.{AreStored, commit_more, commit_kept, ops_shape}
+use Rattle.kept_promise.proofs.StoredRuns.{AreStored, commit_more, commit_kept}
 use Rattle.kept_promise.proofs.StoredEvents.{StoredAt, StoredBy, stored_joins, stored_does, stored_serves, stored_hears, stored_settles, stored_cuts, stored_hangs}
+use Rattle.kept_promise.proofs.Rights.{open_not_close}
+use Rattle.kept_promise.proofs.JobFacts.{ops_shape}
 
 -- ---- any event
 
@@ -68,7 +50,7 @@ Follows k ops = (p : ℕ) (o : Op) → slice_get k.ops p ≡ Some o → (r : Op)
 follows_same : (k : Core) → Follows k k.ops
 follows_same k = λ p o at. (o, at, λ step c le. refl)
 
-follows_acts : (book : Book) (k : Core) (qs : List Queue) (i : ℕ) (seat : Seat) (c : client.State) (taken : List Taken) (acts : ClientStep) → IsKept book k qs → numbered k.seats i ≡ Some seat → Follows k (ops_with k.ops seat.place c taken (k.steps + 1) acts)
+follows_acts : (book : Book) (k : Core) (qs : List Queue) (i : ℕ) (seat : Seat) (c : client.State) (taken : List TakenCall) (acts : ClientStep) → IsKept book k qs → numbered k.seats i ≡ Some seat → Follows k (ops_with k.ops seat.place c taken (k.steps + 1) acts)
 follows_acts book k qs i seat c taken acts kept here = by seat.place refl
   where
     by : (l : Option ℕ) → seat.place ≡ l → Follows k (ops_with k.ops l c taken (k.steps + 1) acts)
@@ -103,7 +85,7 @@ follows_event laws all past rest opening k qs (Serves n now bytes) mid after s =
         parsed (Err e) = follows_same k
 follows_event laws all past rest opening k qs (Hears n now bytes) mid after s =
     let heard = heard_at (book_at opening k all) k qs n now bytes mid s.kept s.finds in
-    subst (λ (t : Turned). Follows k t.core.ops) (sym heard.hears_is) (follows_acts (book_at opening k all) k qs heard.session.owner heard.seat (got_step heard.seat.client (parse_of (client.waiting_of heard.seat.client) bytes) now).0 (session_taken (session_of k.sessions heard.seat.session)) (got_step heard.seat.client (parse_of (client.waiting_of heard.seat.client) bytes) now).1 s.kept heard.owner)
+    subst (λ (t : CoreStep). Follows k t.core.ops) (sym heard.hears_is) (follows_acts (book_at opening k all) k qs heard.session.owner heard.seat (got_step heard.seat.client (parse_of (client.waiting_of heard.seat.client) bytes) now).0 (session_taken (session_of k.sessions heard.seat.session)) (got_step heard.seat.client (parse_of (client.waiting_of heard.seat.client) bytes) now).1 s.kept heard.owner)
 follows_event laws all past rest opening k qs (Settles now) mid after s = elim (settled_are (book_at opening k all) k qs now s.kept) [
   | inl same ↦ subst (Follows k) (sym same) (follows_same k)
   | inr new ↦ subst (Follows k) (sym new.4) (λ p o at. elim (else_replaced k.ops new.0 (record new.1 { point = Some (k.steps + 1) }) p o at) [
@@ -144,11 +126,7 @@ on_its_way book seats k n x q h lt = by (own n k.server.waiting) refl
       where
         one : (c : Call) → CommitOf book x.closing x.cut (job h.seat) h.contents a.xid c → 0 < commits_in (record a { call = c } ∷ us) → (0 < commits_in us → (xid file : ℕ) × (v : List ℕ) × IsPending book x.closing x.cut (job h.seat) xid file v) → (xid file : ℕ) × (v : List ℕ) × IsPending book x.closing x.cut (job h.seat) xid file v
         one (Commit temp file size) all lt later = (a.xid, file, h.contents temp, all.0)
-        one (Hash file offset) all lt later = later lt
-        one (Read file c) all lt later = later lt
-        one (Make temp file) all lt later = later lt
-        one (Name temp c) all lt later = later lt
-        one (Send temp start bytes) all lt later = later lt
+        one _ all lt later = later lt
 
     by : (cs : List Change) → own n k.server.waiting ≡ cs → (xid file : ℕ) × (v : List ℕ) × IsPending book x.closing x.cut (job h.seat) xid file v
     by (c ∷ cs) e = (c.xid, c.file, c.content, h.pending 0 c (ap (λ (l : List Change). slice_get l 0) e))
@@ -180,28 +158,25 @@ came_same : (k : Core) → AllCame k k.ops
 came_same k = λ p r at. inl (r, at, λ step i le. refl, refl, λ w. refl)
 
 -- an end gives no close its point
-close_point : (o : Op) (c : client.State) (taken : List Taken) (step : ℕ) (acts : ClientStep) → (op_after o c taken step acts).word ≡ words.Close → (op_after o c taken step acts).point ≡ o.point
+close_point : (o : Op) (c : client.State) (taken : List TakenCall) (step : ℕ) (acts : ClientStep) → (op_after o c taken step acts).word ≡ words.Close → (op_after o c taken step acts).point ≡ o.point
 close_point o c taken step acts = by acts.ended
   where
     word : (w : Word) (u : Outcome) (x : ℕ) → w ≡ words.Close → point_if (has_point w u) taken x o.point ≡ o.point
-    word words.Open u x e = absurd (apart e)
-      where
-        apart : words.Open ≡ words.Close → ⊥
-        apart z = absurd cc
+    word words.Open u x e = absurd (open_not_close e)
     word _ u x e = refl
 
     by : (e : Option Ended) → (op_after o c taken step (record acts { ended = e })).word ≡ words.Close → (op_after o c taken step (record acts { ended = e })).point ≡ o.point
     by None w = refl
     by (Some e) w = word o.word e.outcome e.rests_on w
 
-same_word : (o : Op) (c : client.State) (taken : List Taken) (step : ℕ) (acts : ClientStep) → o.word ≡ (op_after o c taken step acts).word
+same_word : (o : Op) (c : client.State) (taken : List TakenCall) (step : ℕ) (acts : ClientStep) → o.word ≡ (op_after o c taken step acts).word
 same_word o c taken step acts = by acts.ended
   where
     by : (e : Option Ended) → o.word ≡ (op_after o c taken step (record acts { ended = e })).word
     by None = refl
     by (Some e) = refl
 
-came_acts : (book : Book) (k : Core) (qs : List Queue) (i : ℕ) (seat : Seat) (c : client.State) (taken : List Taken) (acts : ClientStep) → IsKept book k qs → numbered k.seats i ≡ Some seat → AllCame k (ops_with k.ops seat.place c taken (k.steps + 1) acts)
+came_acts : (book : Book) (k : Core) (qs : List Queue) (i : ℕ) (seat : Seat) (c : client.State) (taken : List TakenCall) (acts : ClientStep) → IsKept book k qs → numbered k.seats i ≡ Some seat → AllCame k (ops_with k.ops seat.place c taken (k.steps + 1) acts)
 came_acts book k qs i seat c taken acts kept here = λ p r at. elim (ops_shape k.ops seat.place c taken (k.steps + 1) acts p r at) [
   | inr old ↦ came_same k p r old.1
   | inl new ↦
@@ -241,7 +216,7 @@ came_event laws all past rest opening k qs (Serves n now bytes) mid after s = by
         parsed (Err e) = came_same k
 came_event laws all past rest opening k qs (Hears n now bytes) mid after s =
     let heard = heard_at (book_at opening k all) k qs n now bytes mid s.kept s.finds in
-    subst (λ (t : Turned). AllCame k t.core.ops) (sym heard.hears_is) (came_acts (book_at opening k all) k qs heard.session.owner heard.seat (got_step heard.seat.client (parse_of (client.waiting_of heard.seat.client) bytes) now).0 (session_taken (session_of k.sessions heard.seat.session)) (got_step heard.seat.client (parse_of (client.waiting_of heard.seat.client) bytes) now).1 s.kept heard.owner)
+    subst (λ (t : CoreStep). AllCame k t.core.ops) (sym heard.hears_is) (came_acts (book_at opening k all) k qs heard.session.owner heard.seat (got_step heard.seat.client (parse_of (client.waiting_of heard.seat.client) bytes) now).0 (session_taken (session_of k.sessions heard.seat.session)) (got_step heard.seat.client (parse_of (client.waiting_of heard.seat.client) bytes) now).1 s.kept heard.owner)
 came_event laws all past rest opening k qs (Settles now) mid after s = elim (settled_are (book_at opening k all) k qs now s.kept) [
   | inl same ↦ subst (AllCame k) (sym same) (came_same k)
   | inr new ↦ subst (AllCame k) (sym new.4) (λ p r at. elim (of_replaced k.ops new.0 (record new.1 { point = Some (k.steps + 1) }) p r at) [

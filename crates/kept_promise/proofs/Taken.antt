@@ -1,30 +1,17 @@
 -- Calls that were taken: what was told of them stays so when a further one is taken.
-use Rattle.std.proofs.Common.{◌⊎◌, inl, inr, ◌≡◌, ℕ, zero, suc, ◌+◌, ◌<◌, ◌≤◌, List, [], ◌∷◌, ◌++◌, length, Option, Some, None, Bool, true, false, refl, sym, ap, ◌∙◌, subst, arith, eq-eqb, ne_eqb}
-use Rattle.std.specs.Prelude.{slice_get, cond, ◌==◌, find, map}
+use Rattle.std.proofs.Common.{inl, inr, ◌≡◌, ℕ, suc, ◌+◌, ◌≤◌, List, [], ◌∷◌, ◌++◌, Option, Some, None, Bool, true, false, refl, ap, ◌∙◌, arith, eq-eqb, ne_eqb, map}
 use Rattle.std.specs.Option.{option_map}
-use Rattle.chunk_cut.specs.declared.chunk.Chunk.{Chunk}
-use Rattle.xdr_codec.specs.declared.answer.Answer.{Answer}
-use Rattle.xdr_codec.specs.declared.answer.Answer.TheVariants.{Done, Failed}
-use Rattle.xdr_codec.specs.declared.attr.Attr.{Attr}
-use Rattle.hash_calls.specs.declared.call.Hashes.{Hashes}
-use Rattle.nfs3_calls.specs.declared.call.Piece.{Piece}
-use Rattle.open_close.specs.declared.task.Fetch.{Fetch}
-use Rattle.open_close.specs.declared.task.Stage.{Stage}
 use Rattle.open_close.specs.declared.task.Stage.TheVariants as stage
-use Rattle.register_model.specs.Register.{Value}
-use Rattle.trace_replay.specs.declared.link.Taken.{Taken}
-use Rattle.trace_replay.specs.Ops.{taken_at}
-use Rattle.trace_replay.specs.Book.{Book}
-use Rattle.kept_promise.specs.Talk.{Call, Reply, Reply.Hashed, Reply.Bytes, Reply.Changed, Ask, Told, Queue}
-use Rattle.kept_promise.proofs.Lists.{some_is, nothing_there}
-use Rattle.kept_promise.proofs.Keys.{times, times_append, ask_key, told_key}
+use Rattle.kept_promise.proofs.Common.{cond, ◌==◌, find, Chunk, Answer, Done, Failed, Attr, Hashes, Piece, Fetch, Stage, Value, TakenCall, taken_at, Book, Reply, Reply.Hashed, Reply.Bytes, Reply.Changed, Ask, Told}
+use Rattle.kept_promise.proofs.Lists.{nothing_there}
+use Rattle.kept_promise.proofs.Keys.{times}
 use Rattle.kept_promise.proofs.Messages.{Job, AllAsks, AllTolds, AllUnder, Rising, IsTold, IsTried, HashTold, ReadTold, TriedBy, AnswerOf, IsAnswer, IsFetch, FetchOf, HasFetch}
 
 -- what was found is found
-abbrev pub Finds : List Taken → List Taken → Type 0
+abbrev pub Finds : List TakenCall → List TakenCall → Type 0
 Finds taken after = (x p : ℕ) → taken_at taken x ≡ Some p → taken_at after x ≡ Some p
 
-pub finds_more : (taken : List Taken) (t : Taken) → Finds taken (taken ++ t ∷ [])
+pub finds_more : (taken : List TakenCall) (t : TakenCall) → Finds taken (taken ++ t ∷ [])
 finds_more [] t x p e = nothing_there p e
 finds_more (u ∷ taken) t x p e = by (u.xid == x) e (finds_more taken t x p)
   where
@@ -33,56 +20,56 @@ finds_more (u ∷ taken) t x p e = by (u.xid == x) e (finds_more taken t x p)
     by false e later = later e
 
 -- the last one is found where none had its xid
-pub finds_last : (taken : List Taken) (floor : ℕ) (t : Taken) → AllUnder floor taken → floor ≤ t.xid → taken_at (taken ++ t ∷ []) t.xid ≡ Some t.step
+pub finds_last : (taken : List TakenCall) (floor : ℕ) (t : TakenCall) → AllUnder floor taken → floor ≤ t.xid → taken_at (taken ++ t ∷ []) t.xid ≡ Some t.step
 finds_last [] floor t u le = ap (λ b. option_map (λ z. z.step) (cond b (Some t) None)) (eq-eqb t.xid t.xid refl)
 finds_last (v ∷ taken) floor t u le =
     let lt = u.0 in
     ap (λ b. option_map (λ z. z.step) (cond b (Some v) (find (λ z. z.xid == t.xid) (taken ++ t ∷ [])))) (ne_eqb v.xid t.xid (λ e. omega (arith, lt, le, e))) ∙ finds_last taken floor t u.1 le
 
-pub under_more : (floor : ℕ) (taken : List Taken) (t : Taken) → AllUnder floor taken → floor ≤ t.xid → AllUnder (t.xid + 1) (taken ++ t ∷ [])
+pub under_more : (floor : ℕ) (taken : List TakenCall) (t : TakenCall) → AllUnder floor taken → floor ≤ t.xid → AllUnder (t.xid + 1) (taken ++ t ∷ [])
 under_more floor [] t u le = (omega arith, tt)
 under_more floor (v ∷ taken) t u le = let lt = u.0 in (omega (arith, lt, le), under_more floor taken t u.1 le)
 
 -- ---- facts
 
-told_found : (book : Book) (taken after : List Taken) (j : Job) (x : ℕ) (v : Value) (version : ℕ) → Finds taken after → IsTold book taken j x v version → IsTold book after j x v version
+told_found : (book : Book) (taken after : List TakenCall) (j : Job) (x : ℕ) (v : Value) (version : ℕ) → Finds taken after → IsTold book taken j x v version → IsTold book after j x v version
 told_found book taken after j x v version f h = record { moment = h.moment; was = f x h.moment h.was; past = h.past; value = h.value; version_is = h.version_is; op = h.op; there = h.there; after = h.after; apart = h.apart }
 
-tried_found : (book : Book) (taken after : List Taken) (j : Job) (x n : ℕ) → Finds taken after → IsTried book taken j x n → IsTried book after j x n
+tried_found : (book : Book) (taken after : List TakenCall) (j : Job) (x n : ℕ) → Finds taken after → IsTried book taken j x n → IsTried book after j x n
 tried_found book taken after j x n f h = record { moment = h.moment; was = f x h.moment h.was; past = h.past; op = h.op; there = h.there; count = h.count; tries_is = h.tries_is; tried = h.tried }
 
-hash_found : (book : Book) (taken after : List Taken) (j : Job) (x o : ℕ) (a : Answer Hashes Unit) → Finds taken after → HashTold book taken j x o a → HashTold book after j x o a
+hash_found : (book : Book) (taken after : List TakenCall) (j : Job) (x o : ℕ) (a : Answer Hashes Unit) → Finds taken after → HashTold book taken j x o a → HashTold book after j x o a
 hash_found book taken after j x o (Failed s u) f (inl h) = inl h
 hash_found book taken after j x o (Failed s u) f (inr h) = inr (h.0, h.1, (h.2.0, told_found book taken after j x None h.2.0 f h.2.1))
 hash_found book taken after j x o (Done a) f h = record { file = h.file; is = h.is; told = told_found book taken after j x (Some h.file.content) h.file.version f h.told; short = h.short; known = h.known; hashed = h.hashed }
 
-tried_by_found : (book : Book) (taken after : List Taken) (j : Job) (x : ℕ) (s : Stage) → Finds taken after → TriedBy book taken j x s → TriedBy book after j x s
+tried_by_found : (book : Book) (taken after : List TakenCall) (j : Job) (x : ℕ) (s : Stage) → Finds taken after → TriedBy book taken j x s → TriedBy book after j x s
 tried_by_found book taken after j x (stage.Hashing tries y) f h = tried_found book taken after j x tries f h
 tried_by_found book taken after j x (stage.Listing y g) f h = record { began = h.began; was = f g.first h.began h.was; last = h.last; is = f x h.last h.is; order = h.order }
 tried_by_found book taken after j x _ f h = tt
 
-read_found : (book : Book) (taken after : List Taken) (j : Job) (first : ℕ) (c : Chunk) (a : Answer Piece (Option Attr)) → Finds taken after → ReadTold book taken j first c a → ReadTold book after j first c a
+read_found : (book : Book) (taken after : List TakenCall) (j : Job) (first : ℕ) (c : Chunk) (a : Answer Piece (Option Attr)) → Finds taken after → ReadTold book taken j first c a → ReadTold book after j first c a
 read_found book taken after j first c (Failed s a) f h = h
 read_found book taken after j first c (Done p) f h = record { file = h.file; is = h.is; began = h.began; was = f first h.began h.was; last = h.last; order = h.order; past = h.past; value = h.value; version_is = h.version_is }
 
-answer_of_found : (book : Book) (taken after : List Taken) (closing : Option ℕ) (job : Option Job) (x : ℕ) (r : Reply) → Finds taken after → AnswerOf book taken closing job x r → AnswerOf book after closing job x r
+answer_of_found : (book : Book) (taken after : List TakenCall) (closing : Option ℕ) (job : Option Job) (x : ℕ) (r : Reply) → Finds taken after → AnswerOf book taken closing job x r → AnswerOf book after closing job x r
 answer_of_found book taken after closing job x (Hashed a) f h = λ j o e w. let r = h j o e w in (hash_found book taken after j x o a f r.0, tried_by_found book taken after j x j.stage f r.1)
 answer_of_found book taken after closing job x (Bytes a) f h = λ j g c e s w. read_found book taken after j g.first c a f (h j g c e s w)
 answer_of_found book taken after closing job x (Changed a) f h = h
 answer_of_found book taken after closing job x _ f h = tt
 
-pub answer_found : (book : Book) (taken after : List Taken) (closing : Option ℕ) (job : Option Job) (t : Told) → Finds taken after → IsAnswer book taken closing job t → IsAnswer book after closing job t
+pub answer_found : (book : Book) (taken after : List TakenCall) (closing : Option ℕ) (job : Option Job) (t : Told) → Finds taken after → IsAnswer book taken closing job t → IsAnswer book after closing job t
 answer_found book taken after closing job t f h = answer_of_found book taken after closing job t.xid t.reply f h
 
-abbrev fetch_found : (book : Book) (taken after : List Taken) (j : Job) (g : Fetch) → Finds taken after → IsFetch book taken j g → IsFetch book after j g
+abbrev fetch_found : (book : Book) (taken after : List TakenCall) (j : Job) (g : Fetch) → Finds taken after → IsFetch book taken j g → IsFetch book after j g
 fetch_found book taken after j g f h = record { content = h.content; told = told_found book taken after j g.first (Some h.content) g.version f h.told; tried = tried_found book taken after j g.first g.tries f h.tried; size = h.size; short = h.short; known = h.known; count = h.count; within = h.within; chunks = h.chunks; hashed = h.hashed }
 
-fetch_of_found : (book : Book) (taken after : List Taken) (j : Job) (s : Stage) → Finds taken after → FetchOf book taken j s → FetchOf book after j s
+fetch_of_found : (book : Book) (taken after : List TakenCall) (j : Job) (s : Stage) → Finds taken after → FetchOf book taken j s → FetchOf book after j s
 fetch_of_found book taken after j (stage.Listing x g) f h = (fetch_found book taken after j g f h.0, h.1, h.2)
 fetch_of_found book taken after j (stage.Reading g) f h = (fetch_found book taken after j g f h.0, h.1)
 fetch_of_found book taken after j _ f h = tt
 
-pub has_fetch_found : (book : Book) (taken after : List Taken) (job : Option Job) → Finds taken after → HasFetch book taken job → HasFetch book after job
+pub has_fetch_found : (book : Book) (taken after : List TakenCall) (job : Option Job) → Finds taken after → HasFetch book taken job → HasFetch book after job
 has_fetch_found book taken after job f h = λ j e. fetch_of_found book taken after j j.stage f (h j e)
 
 -- ---- lists of messages

@@ -1,34 +1,21 @@
 -- The server takes a call: the frame of all that it answers at once.
-use Rattle.std.proofs.Common.{◌⊎◌, inl, inr, ◌≡◌, ℕ, zero, suc, ◌+◌, ◌<◌, ◌≤◌, List, [], ◌∷◌, ◌++◌, length, Option, Some, None, Bool, true, false, refl, sym, ap, ◌∙◌, subst, arith}
-use Rattle.std.specs.Prelude.{slice_get, map, not, cond, ◌==◌, IsSome}
-use Rattle.wire.specs.Message.{MessageFits}
+use Rattle.std.proofs.Common.{inl, inr, ◌≡◌, ℕ, suc, ◌+◌, ◌<◌, ◌≤◌, List, [], ◌∷◌, ◌++◌, Option, Some, None, Bool, true, false, refl, sym, ap, ◌∙◌, subst, arith, map, IsSome}
 use Rattle.server_core.specs.State as server
-use Rattle.server_core.specs.Step.{stands}
-use Rattle.server_core.specs.Temps.{Temp, key_of}
-use Rattle.server_core.specs.declared.change.Change.{Change}
-use Rattle.server_core.specs.declared.file.File.{File}
 use Rattle.open_close.specs.State as client
-use Rattle.register_model.specs.Register.{content_of}
-use Rattle.register_model.specs.declared.op.Op.{Op}
-use Rattle.register_model.specs.declared.op.Outcome.TheVariants as told
-use Rattle.trace_replay.specs.declared.link.Taken.{Taken}
-use Rattle.trace_replay.specs.Core.{Core, Seat, Session, numbered, with_numbered}
-use Rattle.trace_replay.specs.World.{unless}
-use Rattle.trace_replay.specs.Book.{Book, value_at, version_at}
-use Rattle.kept_promise.specs.Talk.{Call, Call.Hash, Call.Read, Call.Make, Call.Name, Call.Send, Call.Commit, Reply, Ask, Told, Queue, told_message, call_program, reply_program}
+use Rattle.kept_promise.proofs.Common.{slice_get, MessageFits, Temp, key_of, Change, File, content_of, TakenCall, Core, Session, numbered, unless, Book, Call, Call.Hash, Call.Read, Call.Make, Call.Name, Call.Send, Call.Commit, Reply, Ask, Told, Queue, told_message, call_program, reply_program}
 use Rattle.kept_promise.proofs.Statements.{CallFits}
-use Rattle.kept_promise.proofs.Lists.{some_is, nothing_there, same_or_not}
-use Rattle.kept_promise.proofs.Keys.{times, times_append, own, on_way, key, code_of, change_key, ask_key, told_key, pending_key}
-use Rattle.kept_promise.proofs.Messages.{Job, job, AllAsks, AllTolds, Rising, IsAsked, AnswerOf, IsAnswer, IsCommit, CommitOf, IsPiece, PieceOf, TempUnder, AreParts, IsPending}
+use Rattle.kept_promise.proofs.Lists.{some_is, nothing_there, same_or_not, false_and_true}
+use Rattle.kept_promise.proofs.Keys.{times, times_append, own, on_way, key, change_key, ask_key, told_key}
+use Rattle.kept_promise.proofs.Messages.{job, AllAsks, AllTolds, Rising, IsAsked, AnswerOf, IsAnswer, IsCommit, IsPiece, TempUnder, AreParts}
 use Rattle.kept_promise.proofs.Growth.{value_alike, version_alike}
 use Rattle.kept_promise.proofs.History.{Still, onward, grows_same, goes_same, still_same}
-use Rattle.kept_promise.proofs.Later.{all_asks, all_tolds, answer_later, has_fetch_later, commit_later, close_later, pending_later, seat_later, SameView, Stays, Spares}
-use Rattle.kept_promise.proofs.Taken.{Finds, finds_more, under_more, answer_found, has_fetch_found, tolds_append, times_map_append}
-use Rattle.kept_promise.proofs.Turns.{Around, around_same, around_with, Turn, turned_core, kept_turn}
+use Rattle.kept_promise.proofs.Later.{all_asks, all_tolds, answer_later, has_fetch_later, commit_later, close_later, pending_later, seat_later, Stays, Spares}
+use Rattle.kept_promise.proofs.Taken.{finds_more, under_more, answer_found, has_fetch_found, tolds_append, times_map_append}
+use Rattle.kept_promise.proofs.Turns.{Around, around_same, turned_core, kept_turn}
 use Rattle.kept_promise.proofs.Shelf.{IsShelf}
 use Rattle.kept_promise.proofs.Orderly.{locals_of, Wanted, Held, Orderly}
 use Rattle.kept_promise.proofs.Ordered.{SameFound, orderly_answered}
-use Rattle.kept_promise.proofs.Facts.{FileIs, IsServer, IsBalanced, IsTalk, IsSession, IsSeat, IsKept, commits_in}
+use Rattle.kept_promise.proofs.Facts.{FileIs, IsServer, IsTalk, IsSession, IsKept, commits_in}
 
 -- ---- the tree, where no file changes
 
@@ -81,7 +68,7 @@ pub record Answers (book : Book) (k : Core) (n : ℕ) (x : Session) (q : Queue) 
   pub program : reply_program r ≡ call_program a.call
   pub fits : MessageFits (told_message (record { xid = a.xid; reply = r }))
   pub answer : x.cut ≡ false → AnswerOf (onward book 1 book.ops) (x.taken ++ record { xid = a.xid; step = book.steps + 1 } ∷ []) x.closing (job h.seat) a.xid r
-  pub pieces : (i m : ℕ) (e : ℕ × Temp) → m < 4294967296 → slice_get temps i ≡ Some e → e.0 ≡ key_of n m → AreParts (h.contents m) e.1.pieces × (key_of e.1.session e.1.number ≡ e.0)
+  pub pieces : (i m : ℕ) (e : ℕ × Temp) → m < 4294967296 → slice_get temps i ≡ Some e → e.0 ≡ key_of n m → AreParts (h.contents m) e.1.pieces × (key_of e.1.session e.1.fd ≡ e.0)
   pub below : x.cut ≡ false → (i m : ℕ) (e : ℕ × Temp) → m < 4294967296 → slice_get temps i ≡ Some e → e.0 ≡ key_of n m → m < h.seat.client.next_temp
   pub shelf : IsShelf temps
   pub found : (o : ℕ) → (o ≡ n → ⊥) → SameFound k.server.temps temps o
@@ -123,7 +110,7 @@ kept_reply book k qs n moment x q a us temps r sessions after kept at is e unhun
         owner = h.owner;
         here = h.here;
         shut = λ cut. cut_downs x.cut cut (h.shut cut);
-        lost = λ hung. absurd (not_both x.hung unhung hung);
+        lost = λ hung. absurd (false_and_true x.hung unhung hung);
         stands_is = h.stands_is;
         ups_fit = (ups_of (λ b. CallFits b.xid b.call) h.ups_fit).1;
         downs_fit = downs_of (λ u. MessageFits (told_message u)) x.cut q.downs t h.downs_fit shows.fits;
@@ -146,9 +133,6 @@ kept_reply book k qs n moment x q a us temps r sessions after kept at is e unhun
       home = λ i d f. let z = kept.home i d f in homes z.0 d.session z.1 z.2;
     }) kept.journal kept
   where
-    not_both : (b : Bool) → b ≡ false → b ≡ true → ⊥
-    not_both b u v = absurd cc
-
     cut_downs : (b : Bool) → b ≡ true → q.downs ≡ [] → unless b q.downs (record { xid = a.xid; reply = r } ∷ []) ≡ []
     cut_downs true u none = none
     cut_downs false u none = absurd cc
@@ -172,7 +156,7 @@ kept_reply book k qs n moment x q a us temps r sessions after kept at is e unhun
         let more = onward book 1 book.ops in
         let g = grows_same book 1 in
         let t : Told = record { xid = a.xid; reply = r } in
-        let z : Taken = record { xid = a.xid; step = book.steps + 1 } in
+        let z : TakenCall = record { xid = a.xid; step = book.steps + 1 } in
         let finds = finds_more x.taken z in
         let rising = subst (λ (l : List Ask). Rising talk.floor l h.seat.client.next) e talk.rising in
         let spares : Spares x.closing None = λ p u v. nothing_there p v in

@@ -1,46 +1,22 @@
 -- A client takes an answer that its operation waits for: by its stage, what comes of it.
-use Rattle.std.proofs.Common.{◌⊎◌, inl, inr, ◌≡◌, ℕ, zero, suc, ◌+◌, ◌<◌, ◌≤◌, List, [], ◌∷◌, ◌++◌, length, Option, Some, None, Bool, true, false, refl, sym, ap, ◌∙◌, subst, arith, eq-eqb}
-use Rattle.std.specs.Prelude.{slice_get, map, cond, ◌==◌, Contains}
-use Rattle.chunk_cut.specs.declared.chunk.Chunk.{Chunk}
-use Rattle.xdr_codec.specs.declared.answer.Answer.{Answer}
-use Rattle.xdr_codec.specs.declared.answer.Answer.TheVariants.{Done, Failed}
-use Rattle.xdr_codec.specs.declared.attr.Attr.{Attr}
-use Rattle.hash_calls.specs.declared.call.Committed.{Committed}
-use Rattle.nfs3_calls.specs.declared.call.Piece.{Piece}
-use Rattle.wire.specs.declared.message.Body.{Body}
-use Rattle.wire.specs.declared.message.Pending.{Pending}
+use Rattle.std.proofs.Common.{◌≡◌, ℕ, zero, suc, ◌<◌, ◌≤◌, List, [], ◌∷◌, length, Option, Some, true, refl, sym, ap, ◌∙◌, subst, arith, map}
 use Rattle.open_close.specs.State as client
-use Rattle.open_close.specs.State.{has_call, store_pending, read_pending}
-use Rattle.open_close.specs.Closing.{store_at, answered}
-use Rattle.open_close.specs.Opening.{read_at}
-use Rattle.open_close.specs.Step.{idle, took, told_way, told_stored}
-use Rattle.open_close.specs.declared.step.ClientStep.{ClientStep}
-use Rattle.open_close.specs.declared.task.Fetch.{Fetch}
-use Rattle.open_close.specs.declared.task.ReadCall.{ReadCall}
-use Rattle.open_close.specs.declared.task.Stage.{Stage}
 use Rattle.open_close.specs.declared.task.Stage.TheVariants as stage
-use Rattle.open_close.specs.declared.task.Store.{Store}
-use Rattle.open_close.specs.declared.task.StoreCall.{StoreCall}
-use Rattle.open_close.specs.declared.task.Way.{Way}
 use Rattle.open_close.specs.declared.task.Way.TheVariants as way
-use Rattle.trace_replay.specs.Core.{Core, Session}
-use Rattle.trace_replay.specs.Trail.{hashed_of}
-use Rattle.trace_replay.specs.Book.{Book}
-use Rattle.kept_promise.specs.Talk.{Reply, Reply.Hashed, Reply.Bytes, Reply.Made, Reply.Named, Reply.Stored, Reply.Changed, Told, Queue, reply_body, reply_program}
-use Rattle.kept_promise.proofs.Lists.{some_is, nothing_there}
+use Rattle.kept_promise.proofs.Common.{slice_get, Contains, Chunk, Answer, Done, Failed, Attr, Committed, Piece, Body, Pending, has_call, store_pending, read_pending, store_at, answered, read_at, idle, took, told_way, told_stored, Fetch, ReadCall, Stage, Store, StoreCall, Way, Core, Session, hashed_of, Book, Reply, Reply.Bytes, Reply.Changed, Told, Queue, reply_body, reply_program}
+use Rattle.kept_promise.proofs.Lists.{some_is, nothing_there, there_at}
 use Rattle.kept_promise.proofs.Keys.{times, code_of}
-use Rattle.kept_promise.proofs.Messages.{Job, job, AllTolds, IsAnswer, AnswerOf, FetchOf, IsFetch, IsReading, CloseOf, CommitTold, read_chunk, chunk_for}
+use Rattle.kept_promise.proofs.Messages.{Job, job, AllTolds, IsAnswer, AnswerOf, FetchOf, IsFetch, IsReading, CloseOf, read_chunk, chunk_for}
 use Rattle.kept_promise.proofs.Facts.{IsSession}
-use Rattle.kept_promise.proofs.Taken.{times_map_append}
 use Rattle.kept_promise.proofs.Heard.{told_pending}
 use Rattle.kept_promise.proofs.Moves.{told_there}
 use Rattle.kept_promise.proofs.Steps.{Here, session_at}
-use Rattle.kept_promise.proofs.CloseSteps.{seat_at, local_of, calls_are}
+use Rattle.kept_promise.proofs.CloseSteps.{local_of, calls_are}
 use Rattle.kept_promise.proofs.Comes.{client_at, Comes}
 use Rattle.kept_promise.proofs.OpenSteps.{comes_hashing, comes_listing}
-use Rattle.kept_promise.proofs.ReadSteps.{Reads_, comes_read}
+use Rattle.kept_promise.proofs.ReadSteps.{comes_read}
 use Rattle.kept_promise.proofs.CloseComes.{comes_made, comes_named, comes_stored, comes_failed, comes_closed}
-use Rattle.kept_promise.proofs.Answered.{own_call, one_call, called, store_here, read_here, hash_reply, made_reply, named_reply, stored_reply, changed_reply, read_reply}
+use Rattle.kept_promise.proofs.Answered.{own_call, one_call, store_here, read_here, hash_reply, made_reply, named_reply, stored_reply, changed_reply, read_reply}
 
 -- the call of the operation that it answers
 pub own_of : (book : Book) (k : Core) (qs : List Queue) (n : ℕ) (x : Session) (q : Queue) (t : Told) (ts : List Told) (j : Job) (g : Here book k qs n x q t ts j) → has_call (client.pending_in j.stage) t.xid ≡ true → (i : ℕ) × (slice_get (client.pending_in j.stage) i ≡ Some (told_pending t))
@@ -85,12 +61,7 @@ took_read book k qs n x q t ts j g f at noted r under a is = by a is
         let found = Rattle.kept_promise.proofs.ReadCalls.read_found f.under t.xid r under in
         let inside = fetch.1.inside found.0 r found.1 in
         let asked = fetch.1.asked in
-        there f.chunks r.index (omega (arith, inside, asked))
-      where
-        there : (cs : List Chunk) (i : ℕ) → i < length cs → (c : Chunk) × (slice_get cs i ≡ Some c)
-        there [] i lt = absurd (omega (arith, lt))
-        there (c ∷ cs) zero lt = (c, refl)
-        there (c ∷ cs) (suc i) lt = there cs i (omega (arith, lt))
+        there_at f.chunks r.index (omega (arith, inside, asked))
 
     by : (a : Answer Piece (Option Attr)) → t.reply ≡ Bytes a → Took book k qs n x q t ts j g (stage.Reading f) (reply_body (Bytes a))
     by (Done p) is = comes_read book k qs n x q t ts j g f p r chunk.0 (record { at = at; reply_is = is; under = under; chunk = chunk.1; noted = λ len. noted p r chunk.0 is under chunk.1 len })

@@ -1,47 +1,15 @@
 -- What a client counts of a step is what it sends in it, and the bytes of the READ that it takes.
 use Rattle.std.proofs.Common.{◌⊎◌, inl, inr, ◌≡◌, ℕ, zero, suc, ◌+◌, ◌-◌, List, [], ◌∷◌, ◌++◌, length, Option, Some, None, Result, Ok, Err, Bool, true, false, refl, sym, subst, arith}
-use Rattle.std.specs.Prelude.{◌==◌, slice_get, nat_lt}
-use Rattle.chunk_cut.specs.declared.chunk.Chunk.{Chunk}
-use Rattle.xdr_codec.specs.declared.answer.Answer.{Answer}
-use Rattle.xdr_codec.specs.declared.answer.Answer.TheVariants.{Done, Failed}
 use Rattle.xdr_codec.specs.declared.status.Status.TheVariants as status
-use Rattle.hash_calls.specs.declared.call.Hashes.{Hashes}
 use Rattle.hash_calls.specs.declared.message.Lb.TheVariants as lb
-use Rattle.nfs3_calls.specs.declared.call.Piece.{Piece}
 use Rattle.nfs3_calls.specs.declared.message.Nfs.TheVariants as nfs
-use Rattle.wire.specs.declared.message.Body.{Body}
 use Rattle.wire.specs.declared.message.Body.TheVariants as body
-use Rattle.wire.specs.declared.message.Message.{Message}
 use Rattle.wire.specs.declared.message.Message.TheVariants as message
-use Rattle.wire.specs.declared.message.Pending.{Pending}
-use Rattle.wire.specs.declared.message.RpcRefusal.{RpcRefusal}
 use Rattle.wire.specs.declared.message.RpcRefusal.TheVariants as refusal
-use Rattle.wire.specs.declared.fault.WireFault.{WireFault}
-use Rattle.open_close.specs.Closing.{cond_call, commit_call, names_from, names_next, names_more, names_all, store_of, is_stored, store_at, answered}
-use Rattle.open_close.specs.Opening.{calls_most, tries_most, read_call, fetch_of, with_hashes, listed, reads_from, reads_next, reads_more, reads_all, is_here, read_at, fault_in, other_version, with_bytes}
-use Rattle.open_close.specs.Shape.{Broken, broken_of}
-use Rattle.open_close.specs.State.{State, local_bytes, pending, calls_of, has_call}
-use Rattle.open_close.specs.Step.{tries_anew, idle, forgets, retries, reads_if, reads_on, lists_on, told_shape, told_version, told_hashes, told_first, misfits, told_bytes, told_chunk, told_piece, goes_if, goes_on, told_temp, sends_whole, told_named, told_whole, told_way, told_stored, denied, took, drops, took_if, denied_if, got_message, got_fault, got_step}
-use Rattle.open_close.specs.declared.calls.Names.{Names}
-use Rattle.open_close.specs.declared.calls.Reads.{Reads}
-use Rattle.open_close.specs.declared.step.BadPeer.{BadPeer}
-use Rattle.open_close.specs.declared.step.ClientStep.{ClientStep}
-use Rattle.open_close.specs.declared.step.Counts.{Counts}
-use Rattle.open_close.specs.declared.step.Ended.{Ended}
 use Rattle.open_close.specs.declared.step.Outcome.TheVariants as outcome
-use Rattle.open_close.specs.declared.task.Fetch.{Fetch}
-use Rattle.open_close.specs.declared.task.ReadCall.{ReadCall}
-use Rattle.open_close.specs.declared.task.Stage.{Stage}
 use Rattle.open_close.specs.declared.task.Stage.TheVariants as stage
-use Rattle.open_close.specs.declared.task.Store.{Store}
-use Rattle.open_close.specs.declared.task.StoreCall.{StoreCall}
-use Rattle.open_close.specs.declared.task.Task.{Task}
-use Rattle.open_close.specs.declared.task.Way.{Way}
 use Rattle.open_close.specs.declared.task.Way.TheVariants as way
-use Rattle.register_model.specs.declared.op.Traffic.{Traffic}
-use Rattle.trace_replay.specs.Ops.{no_traffic}
-use Rattle.trace_replay.specs.Trail.{wanted_if, wanted_by}
-use Rattle.trace_replay.specs.Traffic.{sent_traffic, taken_traffic, both}
+use Rattle.kept_promise.proofs.Common.{◌==◌, slice_get, nat_lt, Chunk, Answer, Done, Failed, Hashes, Piece, Body, Message, Pending, RpcRefusal, WireFault, cond_call, commit_call, names_from, names_next, names_more, names_all, store_of, is_stored, store_at, answered, calls_most, tries_most, read_call, fetch_of, with_hashes, listed, reads_from, reads_next, reads_more, reads_all, is_here, read_at, fault_in, other_version, with_bytes, Broken, broken_of, State, local_bytes, pending, calls_of, has_call, tries_anew, idle, forgets, retries, reads_if, reads_on, lists_on, told_shape, told_version, told_hashes, told_first, misfits, told_bytes, told_chunk, told_piece, goes_if, goes_on, told_temp, sends_whole, told_named, told_whole, told_way, told_stored, denied, took, drops, took_if, denied_if, got_message, got_fault, got_step, Names, Reads, BadPeer, ClientStep, Counts, Ended, Fetch, ReadCall, Stage, Store, StoreCall, Task, Way, Traffic, no_traffic, wanted_if, wanted_by, sent_traffic, taken_traffic, both}
 
 -- ---- sums
 
@@ -100,7 +68,7 @@ pub record AreNames (send : List Message) : Type 0 where
   pub read : (sent_sum send).read ≡ 0
   pub data_is : (sent_sum send).«data» ≡ 0
 
-length_more : (ms : List Message) (m : Message) → length (ms ++ m ∷ []) ≡ length ms + 1
+pub length_more : (ms : List Message) (m : Message) → length (ms ++ m ∷ []) ≡ length ms + 1
 length_more [] m = omega arith
 length_more (x ∷ ms) m = let l = length_more ms m in omega (arith, l)
 
@@ -298,8 +266,7 @@ tally_denied s None xid r own = tally_drops s None xid (has_call s.forgotten xid
 tally_message : (s : State) (m : Message) → Tallies (taken_sum (wanted_by s (Ok m))).«data» (got_message s s.task m)
 tally_message s (message.Answer xid b) = tally_answer s s.task xid b
 tally_message s (message.Refuse xid r) = tally_denied s s.task xid r (has_call (pending s.task) xid)
-tally_message s (message.Unfit xid r) = inl (record { cond = refl; tmp = refl; read = refl; data_is = refl })
-tally_message s (message.Call xid b) = inl (record { cond = refl; tmp = refl; read = refl; data_is = refl })
+tally_message s _ = inl (record { cond = refl; tmp = refl; read = refl; data_is = refl })
 
 -- whatever comes to a client
 pub tally_got : (s : State) (m : Result Message WireFault) (now : ℕ) → Tallies (taken_sum (wanted_by s m)).«data» (got_step s m now)

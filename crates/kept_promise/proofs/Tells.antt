@@ -1,43 +1,19 @@
 -- What the server tells of a file when it takes a GETHASH or a READ, and what other calls come to.
-use Rattle.std.proofs.Common.{◌⊎◌, inl, inr, ◌≡◌, ℕ, zero, suc, ◌+◌, ◌<◌, ◌≤◌, ◌^◌, List, [], ◌∷◌, ◌++◌, length, max, Option, Some, None, Bool, true, false, refl, sym, ap, ◌∙◌, subst, arith, eqb-true}
-use Rattle.std.specs.Prelude.{slice_get, map, not, cond, ◌==◌, IsSome, Result, Ok, Err, Contains}
-use Rattle.chunk_cut.specs.Places.{chunk_bytes, end_of}
-use Rattle.chunk_cut.specs.declared.chunk.Chunk.{Chunk}
-use Rattle.xdr_codec.specs.Handle.{handle_bytes}
-use Rattle.xdr_codec.specs.declared.answer.Answer.{Answer}
-use Rattle.xdr_codec.specs.declared.answer.Answer.TheVariants.{Done, Failed}
-use Rattle.xdr_codec.specs.declared.attr.Attr.{Attr}
-use Rattle.xdr_codec.specs.declared.status.Status.{Status}
+use Rattle.std.proofs.Common.{inl, inr, ◌≡◌, ℕ, ◌+◌, ◌<◌, List, [], ◌∷◌, ◌++◌, Option, Some, None, Bool, true, false, refl, sym, ap, ◌∙◌, subst, arith, eqb-true, map, IsSome, Result, Ok, Err}
 use Rattle.xdr_codec.specs.declared.status.Status.TheVariants as status
-use Rattle.hash_calls.specs.declared.call.HashRange.{HashRange}
-use Rattle.nfs3_calls.specs.declared.call.Range.{Range}
-use Rattle.wire.specs.Message.{message_spell, MessageFits}
-use Rattle.wire.specs.Parse.{parse_of}
-use Rattle.wire.specs.declared.message.Message.{Message}
-use Rattle.wire.specs.declared.fault.WireFault.{WireFault}
 use Rattle.server_core.specs.State as server
-use Rattle.server_core.specs.Answers.{Node, root, file, file_node, node_named, node_of, told_chunks, hashes_of, hash_answer, piece_of, read_answer}
-use Rattle.server_core.specs.Temps.{Temp, temp_at, key_of}
-use Rattle.server_core.specs.Hashed.{bytes_told, server_hashed}
-use Rattle.server_core.specs.declared.file.File.{File}
-use Rattle.open_close.specs.declared.task.Fetch.{Fetch}
-use Rattle.open_close.specs.declared.task.Stage.{Stage}
+use Rattle.server_core.specs.Answers.{file_node, hash_answer, read_answer}
+use Rattle.server_core.specs.Hashed.{bytes_told}
 use Rattle.open_close.specs.declared.task.Stage.TheVariants as stage
-use Rattle.register_model.specs.Register.{Value, content_of}
-use Rattle.trace_replay.specs.declared.link.Taken.{Taken}
-use Rattle.trace_replay.specs.Core.{Core, Seat, Session, Event.Serves, numbered, server_waiting}
-use Rattle.trace_replay.specs.Trail.{hashed_of, served_hashed}
-use Rattle.trace_replay.specs.Book.{Book, value_at, version_at}
-use Rattle.trace_replay.specs.Causes.{Tried}
-use Rattle.kept_promise.specs.Talk.{Call, Call.Hash, Call.Read, Call.Make, Call.Name, Call.Send, Call.Commit, Reply, Reply.Hashed, Reply.Bytes, Ask, Told, Queue, ask_message, told_message}
-use Rattle.kept_promise.proofs.Statements.{CallFits, FileFits, IsPlain}
-use Rattle.kept_promise.proofs.Lists.{some_is, nothing_there}
-use Rattle.kept_promise.proofs.Messages.{Job, job, AllAsks, AllUnder, Rising, CallOf, IsAsked, hash_offset, read_chunk, IsTold, IsTried, Trying, IsHashed, HashTold, IsRead, ReadTold, TriedBy, AnswerOf, IsFetch, IsReading, FetchOf, range_from}
+use Rattle.trace_replay.specs.Trail.{served_hashed}
+use Rattle.kept_promise.proofs.Common.{slice_get, ◌==◌, Contains, chunk_bytes, Chunk, handle_bytes, Failed, Status, HashRange, Range, message_spell, MessageFits, Node, root, file, node_of, told_chunks, hashes_of, piece_of, File, Fetch, Stage, Value, content_of, TakenCall, Core, Seat, Session, Event.Serves, numbered, hashed_of, Book, value_at, version_at, Call.Hash, Call.Read, Reply, Reply.Hashed, Reply.Bytes, Ask, Queue, ask_message, told_message}
+use Rattle.kept_promise.proofs.Statements.{CallFits}
+use Rattle.kept_promise.proofs.Messages.{Job, job, AllAsks, Rising, IsAsked, hash_offset, IsTold, IsHashed, HashTold, IsRead, ReadTold, TriedBy, AnswerOf, IsFetch, IsReading, FetchOf, range_from}
 use Rattle.kept_promise.proofs.Growth.{value_later, version_later, tried_later}
 use Rattle.kept_promise.proofs.History.{onward, grows_same}
-use Rattle.kept_promise.proofs.Taken.{finds_last, finds_more, under_more}
+use Rattle.kept_promise.proofs.Taken.{finds_last, finds_more}
 use Rattle.kept_promise.proofs.Fits.{FitLaws}
-use Rattle.kept_promise.proofs.Facts.{FileIs, IsServer, IsTalk, IsSession, IsSeat, IsOf, IsKept}
+use Rattle.kept_promise.proofs.Facts.{FileIs, IsServer, IsTalk, IsKept}
 use Rattle.kept_promise.proofs.Serves.{own_node, contains_at, map_at, parsed}
 use Rattle.kept_promise.proofs.Leading.{IsNoted}
 
@@ -67,7 +43,7 @@ not_some e = absurd cc
 
 -- ---- what was told in this step
 
-abbrev pub with_taken : Session → (xid step : ℕ) → List Taken
+abbrev pub with_taken : Session → (xid step : ℕ) → List TakenCall
 with_taken x xid step = x.taken ++ record { xid = xid; step = step } ∷ []
 
 told_now : (book : Book) (k : Core) (qs : List Queue) (n : ℕ) (x : Session) (q : Queue) (a : Ask) (us : List Ask) (c : Seat) (j : Job) (v : Value) (version : ℕ) → IsKept book k qs → numbered k.seats x.owner ≡ Some c → IsTalk book n k.server.waiting x q c → q.ups ≡ a ∷ us → job c ≡ Some j

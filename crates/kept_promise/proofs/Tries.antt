@@ -1,51 +1,17 @@
 -- An open begins each attempt by one GETHASH from the first byte on, and so has sent as many of them as its stage has tries.
 use Rattle.std.proofs.Common.{◌≡◌, ℕ, zero, suc, ◌+◌, ◌-◌, ◌≤◌, List, [], ◌∷◌, ◌++◌, length, Option, Some, None, Bool, true, false, refl, sym, ap, ◌∙◌, subst, arith}
-use Rattle.std.proofs.lemmas.Bool.Decides.{nat_tests}
-use Rattle.std.specs.Prelude.{slice_get, nat_lt, ◌==◌, ◌&&◌, not, if◌then◌else◌}
-use Rattle.chunk_cut.specs.Places.{end_from, end_of}
-use Rattle.chunk_cut.specs.declared.chunk.Chunk.{Chunk}
-use Rattle.command_text.specs.Content.{content_length, content_bytes}
-use Rattle.command_text.specs.declared.command.Command.{Command}
 use Rattle.command_text.specs.declared.command.Command.TheVariants as command
-use Rattle.command_text.specs.declared.content.Part.{Part}
-use Rattle.xdr_codec.specs.declared.answer.Answer.{Answer}
-use Rattle.xdr_codec.specs.declared.answer.Answer.TheVariants.{Done, Failed}
 use Rattle.xdr_codec.specs.declared.status.Status.TheVariants as status
-use Rattle.hash_calls.specs.declared.call.Hashes.{Hashes}
-use Rattle.hash_calls.specs.declared.call.Pair.{Pair}
 use Rattle.hash_calls.specs.declared.message.Lb.TheVariants as lb
-use Rattle.nfs3_calls.specs.declared.call.Piece.{Piece}
 use Rattle.nfs3_calls.specs.declared.message.Nfs.TheVariants as nfs
-use Rattle.wire.specs.declared.message.Body.{Body}
 use Rattle.wire.specs.declared.message.Body.TheVariants as body
-use Rattle.wire.specs.declared.message.Message.{Message}
 use Rattle.wire.specs.declared.message.Message.TheVariants as message
-use Rattle.wire.specs.declared.message.Pending.{Pending}
-use Rattle.open_close.specs.Closing.{names_from, names_next, names_more, names_all, store_of, is_stored, store_at, answered}
-use Rattle.open_close.specs.Counting.{ends}
-use Rattle.open_close.specs.Local.{local_most, written_size, written, truncated}
-use Rattle.open_close.specs.Opening.{calls_most, tries_most, fetch_of, with_hashes, listed, reads_from, reads_next, reads_more, reads_all, is_here, read_at, fault_in, other_version, with_bytes}
-use Rattle.open_close.specs.Shape.{Broken, or_else, broken_if, file_limit, pairs_most, broken_pair, broken_pairs, chunks_from, with_pairs, broken_sum, broken_of}
-use Rattle.open_close.specs.State.{State, local_at, local_bytes, pending, calls_of, has_call}
-use Rattle.open_close.specs.Step.{is_open, may_ask, asks_hashes, opens_if, opens, on_local, too_big, done_with, edits, writes, truncates, reads, abandons, asks_temp, closes, command_step, idle, retries, changes, reads_if, reads_on, lists_on, told_shape, told_version, told_hashes, told_first, misfits, told_bytes, told_chunk, told_piece, goes_if, goes_on, told_temp, sends_whole, told_named, told_whole, told_way, told_stored, took, drops, took_if, got_message}
-use Rattle.open_close.specs.declared.calls.Names.{Names}
-use Rattle.open_close.specs.declared.calls.Reads.{Reads}
-use Rattle.open_close.specs.declared.step.BadPeer.{BadPeer}
-use Rattle.open_close.specs.declared.step.ClientStep.{ClientStep}
-use Rattle.open_close.specs.declared.step.Ended.{Ended}
-use Rattle.open_close.specs.declared.step.Outcome.{Outcome}
+use Rattle.open_close.specs.Shape.{or_else, file_limit, pairs_most}
+use Rattle.open_close.specs.Step.{changes}
 use Rattle.open_close.specs.declared.step.Outcome.TheVariants as outcome
-use Rattle.open_close.specs.declared.task.Fetch.{Fetch}
-use Rattle.open_close.specs.declared.task.Local.{Local}
-use Rattle.open_close.specs.declared.task.ReadCall.{ReadCall}
-use Rattle.open_close.specs.declared.task.Stage.{Stage}
 use Rattle.open_close.specs.declared.task.Stage.TheVariants as stage
-use Rattle.open_close.specs.declared.task.Store.{Store}
-use Rattle.open_close.specs.declared.task.StoreCall.{StoreCall}
-use Rattle.open_close.specs.declared.task.Task.{Task}
-use Rattle.open_close.specs.declared.task.Way.{Way}
 use Rattle.open_close.specs.declared.task.Way.TheVariants as way
-use Rattle.trace_replay.specs.Traffic.{number_if, first_number}
+use Rattle.kept_promise.proofs.Common.{nat_tests, slice_get, nat_lt, ◌==◌, ◌&&◌, not, if◌then◌else◌, end_from, end_of, Chunk, content_length, content_bytes, Command, Part, Answer, Done, Failed, Hashes, Pair, Piece, Body, Message, Pending, names_from, names_next, names_more, names_all, store_of, is_stored, store_at, answered, ends, local_most, written_size, written, truncated, calls_most, tries_most, fetch_of, with_hashes, listed, reads_from, reads_next, reads_more, reads_all, is_here, read_at, fault_in, other_version, with_bytes, Broken, broken_if, broken_pair, broken_pairs, chunks_from, with_pairs, broken_sum, broken_of, State, local_at, local_bytes, pending, calls_of, has_call, is_open, may_ask, asks_hashes, opens_if, opens, on_local, too_big, done_with, edits, writes, truncates, reads, abandons, asks_temp, closes, command_step, idle, retries, reads_if, reads_on, lists_on, told_shape, told_version, told_hashes, told_first, misfits, told_bytes, told_chunk, told_piece, goes_if, goes_on, told_temp, sends_whole, told_named, told_whole, told_way, told_stored, took, drops, took_if, got_message, Names, Reads, BadPeer, ClientStep, Ended, Outcome, Fetch, Local, ReadCall, Stage, Store, StoreCall, Task, Way, number_if, first_number}
 use Rattle.kept_promise.proofs.Fetching.{tries_of}
 
 -- ---- sums
@@ -106,7 +72,7 @@ end_append : (at : ℕ) (cs ds : List Chunk) → end_from at (cs ++ ds) ≡ end_
 end_append at [] ds = refl
 end_append at (c ∷ cs) ds = end_append (c.start + c.len) cs ds
 
-behind : (f : Fetch) (h : Hashes) → broken_of f h ≡ None → h.eof ≡ false → (end_of (with_hashes f h).chunks == 0) ≡ false
+pub behind : (f : Fetch) (h : Hashes) → broken_of f h ≡ None → h.eof ≡ false → (end_of (with_hashes f h).chunks == 0) ≡ false
 behind f h e more =
     let a = (both_none (broken_if (nat_lt file_limit h.size) h.size file_limit) _ e).1 in
     let b = (both_none (broken_if (nat_lt pairs_most (length h.pairs)) (length h.pairs) pairs_most) _ a).1 in
@@ -242,13 +208,12 @@ closes_stored s calls file xid content st b (Some c) = closes_way s calls file x
 tries_took : (s : State) (calls : List Pending) (file : ℕ) (st : Stage) (xid : ℕ) (b : Body) → tries_of st ≤ tries_most → Tries (tries_of st) (took s calls file st xid b)
 tries_took s calls file (stage.Hashing tries asked) xid (body.Lb (lb.GetHashAnswer a)) le = tries_first s calls file xid tries a le
 tries_took s calls file (stage.Listing asked f) xid (body.Lb (lb.GetHashAnswer a)) le = tries_hashes s calls file xid f a le
-tries_took s calls file (stage.Reading f) xid (body.Nfs (nfs.ReadAnswer (Failed e a))) le = record { sent = 0; sent_is = refl; most = omega (arith, le); task = tt; end = tt }
 tries_took s calls file (stage.Reading f) xid (body.Nfs (nfs.ReadAnswer (Done piece))) le = tries_piece s calls file xid f piece (read_at f.under xid) le
 tries_took s calls file (stage.Making asked temp) xid (body.Lb (lb.MkTmpFileAnswer a)) le = closes_temp s calls file xid temp (local_bytes s.opened file) a
 tries_took s calls file (stage.Storing st) xid b le = closes_stored s calls file xid (local_bytes s.opened file) st b (store_at st.under xid)
 tries_took s calls file (stage.Committing asked) xid (body.Lb (lb.CommitTmpAnswer (Failed e u))) le = none_of _ refl tt tt
 tries_took s calls file (stage.Committing asked) xid (body.Lb (lb.CommitTmpAnswer (Done c))) le = none_of _ refl tt tt
-tries_took s calls file p xid b le = record { sent = 0; sent_is = refl; most = omega (arith, le); task = tt; end = tt }
+tries_took s calls file _ xid _ le = record { sent = 0; sent_is = refl; most = omega (arith, le); task = tt; end = tt }
 
 -- whatever answer comes to a client with an operation under way
 pub tries_by : (s : State) (t : Task) (xid : ℕ) (b : Body) → s.task ≡ Some t → tries_of t.stage ≤ tries_most → Tries (tries_of t.stage) (got_message s s.task (message.Answer xid b))

@@ -1,16 +1,10 @@
 -- One session turns, and its owner with it; everything else is carried here, once.
-use Rattle.std.proofs.Common.{◌⊎◌, inl, inr, ◌≡◌, ℕ, zero, suc, ◌+◌, ◌<◌, ◌≤◌, List, [], ◌∷◌, ◌++◌, length, Option, Some, None, Bool, true, false, refl, sym, ap, ◌∙◌, subst, arith}
-use Rattle.std.specs.Prelude.{slice_get, slice_set}
+use Rattle.std.proofs.Common.{◌≤◌, ◌⊎◌, inl, inr, ◌≡◌, ℕ, zero, suc, ◌<◌, List, [], ◌∷◌, length, Option, Some, None, false, refl, sym, ap, ◌∙◌, subst, arith}
 use Rattle.server_core.specs.State as server
-use Rattle.server_core.specs.declared.change.Change.{Change}
-use Rattle.register_model.specs.declared.op.Op.{Op}
 use Rattle.register_model.specs.declared.op.Outcome.TheVariants as told
-use Rattle.trace_replay.specs.Core.{Core, Seat, Session, numbered, with_numbered}
-use Rattle.trace_replay.specs.Book.{Book}
-use Rattle.kept_promise.specs.Talk.{Queue}
-use Rattle.kept_promise.proofs.Lists.{some_is, nothing_there, same_or_not, at_replaced, else_replaced, of_replaced, within}
+use Rattle.kept_promise.proofs.Common.{slice_get, slice_set, Change, Op, Core, Seat, Session, numbered, with_numbered, Book, Queue}
+use Rattle.kept_promise.proofs.Lists.{some_is, nothing_there, same_or_not, at_replaced, within, set_count, set_else}
 use Rattle.kept_promise.proofs.Messages.{Job, job}
-use Rattle.kept_promise.proofs.Growth.{Grows}
 use Rattle.kept_promise.proofs.History.{Goes}
 use Rattle.kept_promise.proofs.Later.{SameView, Stays, session_later, seat_later}
 use Rattle.kept_promise.proofs.Shelf.{IsShelf}
@@ -27,17 +21,9 @@ pub record Around {A : Type 0} (xs ys : List A) (n : ℕ) (y : A) : Type 0 where
 pub around_same : {A : Type 0} (xs : List A) (n : ℕ) (x : A) → numbered xs n ≡ Some x → Around xs xs n x
 around_same xs n x at = record { there = at; others = λ m apart. refl; count = refl }
 
-pub set_count : {A : Type 0} (xs : List A) (k : ℕ) (x : A) → length (slice_set xs k x) ≡ length xs
-set_count [] k x = refl
-set_count (y ∷ xs) zero x = refl
-set_count (y ∷ xs) (suc k) x = ap suc (set_count xs k x)
-
-set_else : {A : Type 0} (xs : List A) (k m : ℕ) (x : A) → (m ≡ k → ⊥) → slice_get (slice_set xs k x) m ≡ slice_get xs m
-set_else [] k m x apart = refl
-set_else (y ∷ xs) zero zero x apart = absurd (apart refl)
-set_else (y ∷ xs) zero (suc m) x apart = refl
-set_else (y ∷ xs) (suc k) zero x apart = refl
-set_else (y ∷ xs) (suc k) (suc m) x apart = set_else xs k m x (λ e. apart (ap suc e))
+pub numbered_within : {A : Type 0} (xs : List A) (n : ℕ) (x : A) → numbered xs n ≡ Some x → n ≤ length xs
+numbered_within xs zero x e = omega arith
+numbered_within xs (suc n) x e = let lt = within xs n x e in omega (arith, lt)
 
 pub around_with : {A : Type 0} (xs : List A) (n : ℕ) (x y : A) → numbered xs n ≡ Some x → Around xs (with_numbered xs n y) n y
 around_with xs zero x y at = nothing_there x at

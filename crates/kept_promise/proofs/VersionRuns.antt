@@ -1,53 +1,28 @@
 -- A run carries that each open gave the content of a version that came to its client.
 use Rattle.std.proofs.Common.{◌⊎◌, inl, inr, ◌≡◌, ℕ, ◌+◌, ◌<◌, ◌≤◌, List, [], ◌∷◌, ◌++◌, zero, suc, length, Option, Some, None, Result, Ok, Err, Bool, true, false, refl, sym, ap, ◌∙◌, subst, arith, append-nil, eqb-true, eq-eqb}
-use Rattle.std.proofs.lemmas.Bool.Decides.{nat_tests}
-use Rattle.std.proofs.lemmas.List.Elements.{Contains-append_left, Contains-append_right, Contains-append_cases, Contains-push}
-use Rattle.std.specs.Prelude.{◌==◌, ◌&&◌, ◌||◌, nat_lt, nat_le, slice_get, slice_set, cond, find, Contains}
-use Rattle.std.specs.Option.{option_map, option_map_or}
-use Rattle.command_text.specs.declared.command.Command.{Command}
-use Rattle.xdr_codec.specs.declared.answer.Answer.TheVariants.{Done}
-use Rattle.hash_calls.specs.declared.call.Hashes.{Hashes}
-use Rattle.wire.specs.Parse.{parse_of}
-use Rattle.wire.specs.declared.fault.WireFault.{WireFault}
-use Rattle.wire.specs.declared.message.Message.{Message}
+use Rattle.std.specs.Option.{option_map}
 use Rattle.wire.specs.declared.message.Message.TheVariants as message
-use Rattle.server_core.specs.Closing.{at as at_reading, makes_change}
+use Rattle.server_core.specs.Closing.{at as at_reading}
 use Rattle.server_core.specs.State as server
-use Rattle.server_core.specs.declared.change.Change.{Change}
-use Rattle.server_core.specs.declared.file.File.{File}
-use Rattle.server_core.specs.Step.{server_step}
 use Rattle.server_core.specs.declared.event.Event.TheVariants as event
 use Rattle.server_core.specs.declared.event.Told.{Told as Announced}
 use Rattle.server_core.specs.declared.event.Told.TheVariants as announced
 use Rattle.open_close.specs.State as client
-use Rattle.open_close.specs.State.{has_call, lb_pending, pending}
-use Rattle.open_close.specs.Step.{command_step, got_step, ended_by, joined}
-use Rattle.open_close.specs.declared.step.ClientStep.{ClientStep}
-use Rattle.open_close.specs.declared.step.Ended.{Ended}
-use Rattle.open_close.specs.declared.step.Outcome.{Outcome}
+use Rattle.open_close.specs.State.{lb_pending}
 use Rattle.open_close.specs.declared.step.Outcome.TheVariants as outcome
-use Rattle.open_close.specs.declared.task.Stage.{Stage}
 use Rattle.open_close.specs.declared.task.Stage.TheVariants as stage
-use Rattle.open_close.specs.declared.task.Task.{Task}
-use Rattle.register_model.specs.Register.{changes, changed_before}
-use Rattle.register_model.specs.declared.op.Op.{Op}
-use Rattle.register_model.specs.declared.op.Opening.{Opening}
 use Rattle.register_model.specs.declared.op.Outcome.{Outcome as History}
 use Rattle.register_model.specs.declared.op.Outcome.TheVariants as told
 use Rattle.register_model.specs.declared.op.Word.TheVariants as words
-use Rattle.trace_replay.specs.declared.link.Taken.{Taken}
-use Rattle.trace_replay.specs.Commands.{word_of, file_of, value_at_begin}
-use Rattle.trace_replay.specs.Ops.{told_of, has_point, point_if, op_after, begun, taken_at, place_after, place_with, taken_on, pointed, pointed_at}
-use Rattle.trace_replay.specs.Core.{Core, Seat, Session, Event, Event.Joins, Event.Does, Event.Serves, Event.Hears, Event.Settles, Event.Cuts, Event.Hangs, Turned, numbered, with_numbered, new_session, taken_with, commanded_session, commanded_sessions, cut_session, server_waiting, serves_if, serves, session_of, taken_of as session_taken, ops_after, ops_with, acted, does, joins_as, joins, settled_ops, settled_by, settles, cuts_if, cuts, hangs_if, hangs, happens}
-use Rattle.trace_replay.specs.Trail.{Moment, Said, all_said, owner_in, client_of, wanted_if, wanted_by, taken_by, taken_of}
-use Rattle.trace_replay.specs.Book.{Book, version_at}
-use Rattle.trace_replay.specs.Traffic.{until}
-use Rattle.trace_replay.specs.Faithful.{IsHashes, Carries, OpensVersion}
-use Rattle.kept_promise.specs.Talk.{Reply, Reply.Hashed, Reply.Bytes, Told, Queue, reply_body, told_message}
-use Rattle.kept_promise.proofs.Lists.{some_is, nothing_there, at_end, within, same_or_not, of_replaced, of_appended, kept_appended, at_replaced}
+use Rattle.trace_replay.specs.Ops.{taken_on}
+use Rattle.trace_replay.specs.Core.{taken_of as session_taken}
+use Rattle.trace_replay.specs.Trail.{taken_of}
+use Rattle.trace_replay.specs.Faithful.{Carries, OpensVersion}
+use Rattle.kept_promise.proofs.Common.{nat_tests, Contains-append_left, Contains-append_right, Contains-append_cases, Contains-push, ◌==◌, ◌&&◌, ◌||◌, nat_lt, nat_le, slice_get, slice_set, cond, find, Contains, option_map_or, Command, Done, Hashes, parse_of, WireFault, Message, makes_change, Change, File, server_step, has_call, pending, command_step, got_step, ended_by, joined, ClientStep, Ended, Outcome, Stage, Task, changes, changed_before, Op, Opening, TakenCall, word_of, told_of, has_point, point_if, op_after, begun, taken_at, place_after, place_with, pointed, pointed_at, Core, Seat, Session, Event, Event.Joins, Event.Does, Event.Serves, Event.Hears, Event.Settles, Event.Cuts, Event.Hangs, CoreStep, numbered, with_numbered, new_session, taken_with, commanded_session, commanded_sessions, cut_session, server_waiting, serves_if, serves, session_of, ops_after, ops_with, acted, does, joins_as, joins, settled_ops, settled_by, settles, cuts_if, cuts, hangs_if, hangs, happens, Moment, Said, all_said, owner_in, client_of, wanted_if, wanted_by, taken_by, Book, version_at, until, IsHashes, Reply, Reply.Hashed, Reply.Bytes, Told, Queue, reply_body, told_message}
+use Rattle.kept_promise.proofs.Lists.{some_is, nothing_there, at_end, same_or_not, of_replaced, of_appended, kept_appended, at_replaced, set_else, false_and_true}
 use Rattle.kept_promise.proofs.Marks.{unpointed}
 use Rattle.kept_promise.proofs.Messages.{Job, job, job_of, AllTolds, AllUnder, hash_offset, IsHashed, AnswerOf, IsAnswer}
-use Rattle.kept_promise.proofs.Rights.{IsRight, Caused, IsSound, IsUnmade}
+use Rattle.kept_promise.proofs.Rights.{IsRight, Caused, IsUnmade, close_not_open}
 use Rattle.kept_promise.proofs.Fits.{FitLaws}
 use Rattle.kept_promise.proofs.Keys.{own}
 use Rattle.kept_promise.proofs.Turns.{also_numbered, around_with}
@@ -56,16 +31,18 @@ use Rattle.kept_promise.proofs.Promised.{own_there}
 use Rattle.kept_promise.proofs.Facts.{IsKept, IsSession, IsMatched}
 use Rattle.kept_promise.proofs.RunsCarried.{book_at, moment, Step, Carried}
 use Rattle.kept_promise.proofs.Counted.{IsActor, first_or_rest, said_by, said_at, early, of_step, SaidBy, said_later, said_append, said_now, AlikeUpTo}
-use Rattle.kept_promise.proofs.StoredRuns.{ops_shape}
+use Rattle.kept_promise.proofs.JobFacts.{ops_shape, job_after}
 use Rattle.kept_promise.proofs.Actors.{acts_alone, job_place, job_task, placed, Heard, heard_at, heard_acts, heard_takes}
 use Rattle.kept_promise.proofs.CountedRuns.{CountedAt, carried_counts, taken_more}
 use Rattle.kept_promise.proofs.Shapes.{TaskGood, OutcomeGood, EndGood, Good, TookIn, TaskTook, good_answer, good_command, busy_command}
-use Rattle.kept_promise.proofs.Versions.{of_numbered, version_in, count_replaced, count_appended, after_alike, CameTo, Since, Attempt, Untold, takens, JobVersion, HaveVersions, Alike, alike_same, Extends, extends_same, came_alike, since_alike, job_alike, JobCame, versions_onward}
+use Rattle.kept_promise.proofs.Versions.{of_numbered, version_in, count_replaced, count_appended, CameTo, Since, Attempt, Untold, takens, JobVersion, HaveVersions, Alike, alike_same, Extends, extends_same, came_alike, since_alike, job_alike, JobCame, versions_onward}
+use Rattle.kept_promise.proofs.OpenedRuns.{versions_after}
+use Rattle.kept_promise.proofs.CommandOps.{made_by, made_later, made_pointless, last_right, old_jobs}
 
 abbrev pub VersionsAt : (past : List Moment) → Core → Type 0
 VersionsAt past k = HaveVersions (taken_of past) k.sessions k.seats k.ops
 
-abbrev pub VersionsBy : (past : List Moment) → Core → Event → Turned → Type 0
+abbrev pub VersionsBy : (past : List Moment) → Core → Event → CoreStep → Type 0
 VersionsBy past k e t = HaveVersions (taken_of past ++ all_said (k.steps + 1) (client_of k e) (taken_by k (client_of k e) e)) t.core.sessions t.core.seats t.core.ops
 
 -- nothing is said
@@ -73,13 +50,6 @@ unsaid : (said : List Said) (sessions : List Session) (seats : List Seat) (ops :
 unsaid said sessions seats ops h = subst (λ z. HaveVersions z sessions seats ops) (sym (append-nil said)) h
 
 -- ---- what was taken of a client's newest session
-
-else_set : {A : Type 0} (xs : List A) (k m : ℕ) (x : A) → (m ≡ k → ⊥) → slice_get (slice_set xs k x) m ≡ slice_get xs m
-else_set [] k m x apart = refl
-else_set (y ∷ xs) zero zero x apart = absurd (apart refl)
-else_set (y ∷ xs) zero (suc m) x apart = refl
-else_set (y ∷ xs) (suc k) zero x apart = refl
-else_set (y ∷ xs) (suc k) (suc m) x apart = else_set xs k m x (λ e. apart (ap suc e))
 
 takens_else : (n m : ℕ) (sessions : List Session) (y : Session) (session : Option ℕ) → (session ≡ Some m → ⊥) → Extends n (session_taken (session_of sessions session)) (session_taken (session_of (with_numbered sessions m y) session))
 takens_else n m sessions y None apart = extends_same n []
@@ -91,7 +61,7 @@ takens_else n m sessions y (Some l) apart = by m (λ e. apart (ap (λ z. Some z)
       where
         other : (xs : List Session) (m : ℕ) (y : Session) (l : ℕ) → (l ≡ suc m → ⊥) → numbered (slice_set xs m y) l ≡ numbered xs l
         other xs m y zero far = refl
-        other xs m y (suc l) far = else_set xs m l y (λ e. far (ap suc e))
+        other xs m y (suc l) far = set_else xs m l y (λ e. far (ap suc e))
 
 takens_with : (n m : ℕ) (sessions : List Session) (x y : Session) (session : Option ℕ) → numbered sessions m ≡ Some x → Extends n x.taken y.taken → Extends n (session_taken (session_of sessions session)) (session_taken (session_of (with_numbered sessions m y) session))
 takens_with n m sessions x y None at e = extends_same n []
@@ -111,28 +81,28 @@ takens_more n sessions y (Some l) there = by l (there l refl)
     by (suc l) (x, e) = subst (λ z. Extends n (session_taken z) (session_taken (slice_get (sessions ++ y ∷ []) l))) (sym e) (subst (λ z. Extends n x.taken (session_taken z)) (sym (kept_appended sessions y l x e)) (extends_same n x.taken))
 
 -- a call that is taken now
-taken_more_at : (n : ℕ) (taken : List Taken) (t : Taken) → n < t.step → Extends n taken (taken ++ t ∷ [])
+taken_more_at : (n : ℕ) (taken : List TakenCall) (t : TakenCall) → n < t.step → Extends n taken (taken ++ t ∷ [])
 taken_more_at n [] t lt = (λ y q e. nothing_there q e, λ y q e. by y q (t.xid == y) e)
   where
-    by : (y q : ℕ) (b : Bool) → option_map (λ (z : Taken). z.step) (cond b (Some t) None) ≡ Some q → (None ≡ Some q) ⊎ (n < q)
+    by : (y q : ℕ) (b : Bool) → option_map (λ (z : TakenCall). z.step) (cond b (Some t) None) ≡ Some q → (None ≡ Some q) ⊎ (n < q)
     by y q true e = inr (let same : t.step ≡ q = some_is t.step q e in omega (arith, lt, same))
     by y q false e = inl e
 taken_more_at n (u ∷ taken) t lt = (λ y q e. keeps y q (u.xid == y) e ((taken_more_at n taken t lt).0 y q), λ y q e. adds y q (u.xid == y) e ((taken_more_at n taken t lt).1 y q))
   where
-    keeps : (y q : ℕ) (b : Bool) → option_map (λ (z : Taken). z.step) (cond b (Some u) (find (λ (z : Taken). z.xid == y) taken)) ≡ Some q → (taken_at taken y ≡ Some q → taken_at (taken ++ t ∷ []) y ≡ Some q) → option_map (λ (z : Taken). z.step) (cond b (Some u) (find (λ (z : Taken). z.xid == y) (taken ++ t ∷ []))) ≡ Some q
+    keeps : (y q : ℕ) (b : Bool) → option_map (λ (z : TakenCall). z.step) (cond b (Some u) (find (λ (z : TakenCall). z.xid == y) taken)) ≡ Some q → (taken_at taken y ≡ Some q → taken_at (taken ++ t ∷ []) y ≡ Some q) → option_map (λ (z : TakenCall). z.step) (cond b (Some u) (find (λ (z : TakenCall). z.xid == y) (taken ++ t ∷ []))) ≡ Some q
     keeps y q true e later = e
     keeps y q false e later = later e
 
-    adds : (y q : ℕ) (b : Bool) → option_map (λ (z : Taken). z.step) (cond b (Some u) (find (λ (z : Taken). z.xid == y) (taken ++ t ∷ []))) ≡ Some q → (taken_at (taken ++ t ∷ []) y ≡ Some q → (taken_at taken y ≡ Some q) ⊎ (n < q)) → (option_map (λ (z : Taken). z.step) (cond b (Some u) (find (λ (z : Taken). z.xid == y) taken)) ≡ Some q) ⊎ (n < q)
+    adds : (y q : ℕ) (b : Bool) → option_map (λ (z : TakenCall). z.step) (cond b (Some u) (find (λ (z : TakenCall). z.xid == y) (taken ++ t ∷ []))) ≡ Some q → (taken_at (taken ++ t ∷ []) y ≡ Some q → (taken_at taken y ≡ Some q) ⊎ (n < q)) → (option_map (λ (z : TakenCall). z.step) (cond b (Some u) (find (λ (z : TakenCall). z.xid == y) taken)) ≡ Some q) ⊎ (n < q)
     adds y q true e later = inl e
     adds y q false e later = later e
 
 -- what has an xid from a floor on was not taken
-not_taken : (floor : ℕ) (taken : List Taken) (y q : ℕ) → AllUnder floor taken → floor ≤ y → taken_at taken y ≡ Some q → ⊥
+not_taken : (floor : ℕ) (taken : List TakenCall) (y q : ℕ) → AllUnder floor taken → floor ≤ y → taken_at taken y ≡ Some q → ⊥
 not_taken floor [] y q under le e = nothing_there q e
 not_taken floor (t ∷ taken) y q under le e = by (t.xid == y) refl e (not_taken floor taken y q under.1 le)
   where
-    by : (b : Bool) → (t.xid == y) ≡ b → option_map (λ (z : Taken). z.step) (cond b (Some t) (find (λ (z : Taken). z.xid == y) taken)) ≡ Some q → (taken_at taken y ≡ Some q → ⊥) → ⊥
+    by : (b : Bool) → (t.xid == y) ≡ b → option_map (λ (z : TakenCall). z.step) (cond b (Some t) (find (λ (z : TakenCall). z.xid == y) taken)) ≡ Some q → (taken_at taken y ≡ Some q → ⊥) → ⊥
     by true same e later = let lt = under.0 in grind (arith, nat_tests, same, lt, le)
     by false same e later = later e
 
@@ -170,9 +140,7 @@ versions_serves past k n now bytes (Some x) is counted h = by (parse_of server_w
   where
     called : (m : Message) → Extends k.steps x.taken (taken_with x.taken m (k.steps + 1))
     called (message.Call xid body) = taken_more_at k.steps x.taken (record { xid = xid; step = k.steps + 1 }) (omega arith)
-    called (message.Answer xid body) = extends_same k.steps x.taken
-    called (message.Refuse xid why) = extends_same k.steps x.taken
-    called (message.Unfit xid why) = extends_same k.steps x.taken
+    called _ = extends_same k.steps x.taken
 
     by : (m : Result Message WireFault) → VersionsBy past k (Serves n now bytes) (serves_if k n now x m)
     by (Err e) = unsaid (taken_of past) k.sessions k.seats k.ops h
@@ -220,11 +188,8 @@ settled_are book k qs now kept = by k.server.waiting refl
     by (c ∷ cs) e = made cs c e (server.file_at k.server.files c.file)
 
 -- a close has ended as no open
-close_not_opened : (book : Book) (o : Op) (len : ℕ) (digest : List ℕ) → IsRight book o → o.word ≡ words.Close → o.outcome ≡ told.Opened len digest → ⊥
-close_not_opened book o len digest r close e = apart (sym close ∙ (subst (Caused book o) e r.cause).0)
-  where
-    apart : words.Close ≡ words.Open → ⊥
-    apart z = absurd cc
+pub close_not_opened : (book : Book) (o : Op) (len : ℕ) (digest : List ℕ) → IsRight book o → o.word ≡ words.Close → o.outcome ≡ told.Opened len digest → ⊥
+close_not_opened book o len digest r close e = close_not_open (sym close ∙ (subst (Caused book o) e r.cause).0)
 
 versions_settles : (book : Book) (past : List Moment) (k : Core) (qs : List Queue) (now : ℕ) → IsKept book k qs → CountedAt past k → VersionsAt past k → VersionsBy past k (Settles now) (settles k now)
 versions_settles book past k qs now kept counted h = unsaid (taken_of past) k.sessions k.seats (settles k now).core.ops (by (settled_are book k qs now kept))
@@ -268,7 +233,7 @@ foreign_at book k qs i seat kept here m s j o there is at apart e =
     apart (sym of.client ∙ ap (λ (z : Op). z.client) same ∙ own.3)
 
 -- what was said by this step is still of it
-running_upto : (o : Op) (c : client.State) (taken : List Taken) (n : ℕ) (acts : ClientStep) → o.end ≡ None → AlikeUpTo (n + 1) o (op_after o c taken (n + 1) acts)
+running_upto : (o : Op) (c : client.State) (taken : List TakenCall) (n : ℕ) (acts : ClientStep) → o.end ≡ None → AlikeUpTo (n + 1) o (op_after o c taken (n + 1) acts)
 running_upto o c taken n acts none = λ step i le. by acts.ended step i le
   where
     by : (e : Option Ended) (step i : ℕ) → step ≤ n + 1 → of_step (op_after o c taken (n + 1) (record acts { ended = e })) step i ≡ of_step o step i
@@ -287,7 +252,7 @@ opened_by (outcome.Opened file l d) len digest e = (file, ap (λ (z : History). 
     opened_digest u = []
 opened_by u len digest e = absurd cc
 
-pub word_after : (o : Op) (c : client.State) (taken : List Taken) (step : ℕ) (acts : ClientStep) → (op_after o c taken step acts).word ≡ o.word
+pub word_after : (o : Op) (c : client.State) (taken : List TakenCall) (step : ℕ) (acts : ClientStep) → (op_after o c taken step acts).word ≡ o.word
 word_after o c taken step acts = by acts.ended
   where
     by : (l : Option Ended) → (op_after o c taken step (record acts { ended = l })).word ≡ o.word
@@ -310,15 +275,6 @@ open_now o n i mine none begun =
 
 -- ---- a client acts
 
--- versions stay
-acts_stay : (ops : List Op) (place : Option ℕ) (c : client.State) (taken : List Taken) (step : ℕ) (acts : ClientStep) (f q : ℕ) → version_in (ops_with ops place c taken step acts) f q ≡ version_in ops f q
-acts_stay ops None c taken step acts f q = refl
-acts_stay ops (Some l) c taken step acts f q = by (slice_get ops l) refl
-  where
-    by : (o : Option Op) → slice_get ops l ≡ o → version_in (ops_after ops l o c taken step acts) f q ≡ version_in ops f q
-    by None e = refl
-    by (Some o) e = ap (λ z. z + 1) (count_replaced f q ops l o (op_after o c taken step acts) e (after_alike f q o c taken step acts))
-
 -- what is said in a client's step is of no other operation
 alike_other : (said : List Said) (step i : ℕ) (ms : List Message) (o : Op) → of_step o step i ≡ false → Alike said (said ++ all_said step i ms) o o
 alike_other said step i ms o none = record {
@@ -331,10 +287,7 @@ alike_other said step i ms o none = record {
 }
   where
     apart : (s : Said) → (s.step ≡ step) × (s.client ≡ i) → of_step o s.step s.client ≡ true → ⊥
-    apart s (a, b) e = both (of_step o step i) none (sym (ap (λ z. of_step o z s.client) a ∙ ap (of_step o step) b) ∙ e)
-      where
-        both : (b : Bool) → b ≡ false → b ≡ true → ⊥
-        both b e d = absurd cc
+    apart s (a, b) e = false_and_true (of_step o step i) none (sym (ap (λ z. of_step o z s.client) a ∙ ap (of_step o step) b) ∙ e)
 
 -- an operation and what becomes of it in its client's step
 alike_after : (n : ℕ) (said : List Said) (o r : Op) → SaidBy n said → r.file ≡ o.file → AlikeUpTo n o r → Alike said said o r
@@ -344,7 +297,7 @@ alike_after n said o r past file same = record {
   back = λ s c e. (c, sym (same s.step s.client (said_by n said s past c)) ∙ e);
 }
 
-file_after : (o : Op) (c : client.State) (taken : List Taken) (step : ℕ) (acts : ClientStep) → (op_after o c taken step acts).file ≡ o.file
+file_after : (o : Op) (c : client.State) (taken : List TakenCall) (step : ℕ) (acts : ClientStep) → (op_after o c taken step acts).file ≡ o.file
 file_after o c taken step acts = by acts.ended
   where
     by : (e : Option Ended) → (op_after o c taken step (record acts { ended = e })).file ≡ o.file
@@ -360,7 +313,7 @@ versions_cuts book past k qs c seat kept here counted h true = unsaid (taken_of 
     lost : Ended
     lost = record { outcome = outcome.Lost; rests_on = 0 }
 
-    taken : List Taken
+    taken : List TakenCall
     taken = session_taken (session_of k.sessions seat.session)
 
     gone : client.State
@@ -392,7 +345,7 @@ versions_cuts book past k qs c seat kept here counted h true = unsaid (taken_of 
     not_opened (Some u) o run len digest z = absurd cc
 
     by : (t : Option Task) → HaveVersions (taken_of past) (cut_session k.sessions seat.session (session_of k.sessions seat.session)) (with_numbered k.seats c (gone_seat t)) (ops_with k.ops seat.place gone taken (k.steps + 1) (ended_by t lost))
-    by t = versions_onward k.steps (taken_of past) (taken_of past) k.sessions (cut_session k.sessions seat.session (session_of k.sessions seat.session)) k.seats (with_numbered k.seats c (gone_seat t)) k.ops (ops_with k.ops seat.place gone taken (k.steps + 1) (ended_by t lost)) counted.taken_by (λ f q le. acts_stay k.ops seat.place gone taken (k.steps + 1) (ended_by t lost) f q)
+    by t = versions_onward k.steps (taken_of past) (taken_of past) k.sessions (cut_session k.sessions seat.session (session_of k.sessions seat.session)) k.seats (with_numbered k.seats c (gone_seat t)) k.ops (ops_with k.ops seat.place gone taken (k.steps + 1) (ended_by t lost)) counted.taken_by (λ f q le. versions_after k.ops seat.place gone taken (k.steps + 1) (ended_by t lost) f q)
         (λ i z j r there is at. elim (of_numbered k.seats c (gone_seat t) i z there) [
           | inl mine ↦ nothing_there j (sym (no_job (place_after seat.place (ended_by t lost).ended)) ∙ ap job (sym mine.1) ∙ is)
           | inr other ↦ elim (ops_shape k.ops seat.place gone taken (k.steps + 1) (ended_by t lost) j.place r at) [
@@ -411,32 +364,14 @@ versions_does : (book more : Book) (past : List Moment) (k : Core) (qs after : L
 versions_does book more past k qs after c now d seat kept here left counted h =
     let r = command_step seat.client d now in
     unsaid (taken_of past) (later r.1) (with_numbered k.seats c (record seat { client = r.0; place = place_with seat.place (length k.ops) r.1.ended })) (k.ops ++ new r.0 r.1 ∷ [])
-    (grown r.0 r.1 (right r.0 r.1 left.ops left.sound) (own_job r.0 r.1 (kept.seats c seat here).matched (λ Q R fresh free. (good_command Q R seat.client fresh d now free).0) (λ t e. (busy_command seat.client d now t e).1)))
+    (grown r.0 r.1 (last_right more k.ops (new r.0 r.1) left.ops left.sound) (own_job r.0 r.1 (kept.seats c seat here).matched (λ Q R fresh free. (good_command Q R seat.client fresh d now free).0) (λ t e. (busy_command seat.client d now t e).1)))
   where
     new : client.State → ClientStep → Op
-    new s acts = op_after (begun c (word_of d) (file_of d) (value_at_begin seat.client (word_of d) (file_of d) (command_step seat.client d now).1.ended) (k.steps + 1)) s [] (k.steps + 1) acts
-
-    begins : (s : client.State) (acts : ClientStep) (e : Option Ended) → k.steps < (op_after (begun c (word_of d) (file_of d) (value_at_begin seat.client (word_of d) (file_of d) (command_step seat.client d now).1.ended) (k.steps + 1)) s [] (k.steps + 1) (record acts { ended = e })).begin
-    begins s acts None = omega arith
-    begins s acts (Some e) = omega arith
-
-    pointless : (s : client.State) (acts : ClientStep) (l : Option Ended) → (op_after (begun c (word_of d) (file_of d) (value_at_begin seat.client (word_of d) (file_of d) (command_step seat.client d now).1.ended) (k.steps + 1)) s [] (k.steps + 1) (record acts { ended = l })).point ≡ None
-    pointless s acts None = refl
-    pointless s acts (Some e) = by (has_point (word_of d) e.outcome)
-      where
-        by : (b : Bool) → point_if b [] e.rests_on None ≡ None
-        by true = refl
-        by false = refl
-
-    right : (s : client.State) (acts : ClientStep) → more.ops ≡ k.ops ++ op_after (begun c (word_of d) (file_of d) (value_at_begin seat.client (word_of d) (file_of d) (command_step seat.client d now).1.ended) (k.steps + 1)) s [] (k.steps + 1) acts ∷ [] → IsSound more → IsRight more (op_after (begun c (word_of d) (file_of d) (value_at_begin seat.client (word_of d) (file_of d) (command_step seat.client d now).1.ended) (k.steps + 1)) s [] (k.steps + 1) acts)
-    right s acts are sound = sound.rights (length k.ops) (new s acts) (ap (λ (l : List Op). slice_get l (length k.ops)) are ∙ at_end k.ops (new s acts))
+    new s acts = made_by k c now d seat s acts
 
     -- nothing was said of it before
-    fresh : (s : client.State) (acts : ClientStep) (taken : List Taken) (x : ℕ) → Untold (taken_of past) taken (op_after (begun c (word_of d) (file_of d) (value_at_begin seat.client (word_of d) (file_of d) (command_step seat.client d now).1.ended) (k.steps + 1)) s [] (k.steps + 1) acts) x
-    fresh s acts taken x = λ q was z there of lt is. both (of_step (new s acts) z.step z.client) (early (new s acts) z.step z.client (let le = said_by k.steps (taken_of past) z counted.taken_by there in let b = begins s acts acts.ended in omega (arith, le, b))) of
-      where
-        both : (b : Bool) → b ≡ false → b ≡ true → ⊥
-        both b e f = absurd cc
+    fresh : (s : client.State) (acts : ClientStep) (taken : List TakenCall) (x : ℕ) → Untold (taken_of past) taken (made_by k c now d seat s acts) x
+    fresh s acts taken x = λ q was z there of lt is. false_and_true (of_step (new s acts) z.step z.client) (early (new s acts) z.step z.client (let le = said_by k.steps (taken_of past) z counted.taken_by there in let b = made_later k c now d seat s acts acts.ended in omega (arith, le, b))) of
 
     later : ClientStep → List Session
     later acts = commanded_sessions k.sessions seat.session (session_of k.sessions seat.session) seat.place (length k.ops) (word_of d) acts
@@ -445,7 +380,7 @@ versions_does book more past k qs after c now d seat kept here left counted h =
     kept_taken : (acts : ClientStep) (i : ℕ) (z : Seat) → numbered k.seats i ≡ Some z → (i ≡ c → (p : ℕ) × (seat.place ≡ Some p)) → Extends k.steps (session_taken (session_of k.sessions z.session)) (session_taken (session_of (commanded_sessions k.sessions seat.session (session_of k.sessions seat.session) seat.place (length k.ops) (word_of d) acts) z.session))
     kept_taken acts i z there mine = newest seat.session (λ m e. (kept.seats c seat here).session m e)
       where
-        on : (l : Option ℕ) (t : List Taken) (p : ℕ) → l ≡ Some p → t ≡ taken_on l t
+        on : (l : Option ℕ) (t : List TakenCall) (p : ℕ) → l ≡ Some p → t ≡ taken_on l t
         on None t p e = nothing_there p e
         on (Some l) t p e = refl
 
@@ -459,31 +394,28 @@ versions_does book more past k qs after c now d seat kept here left counted h =
         newest None has = extends_same k.steps (session_taken (session_of k.sessions z.session))
         newest (Some m) has = let w = has m refl in subst (λ y. Extends k.steps (session_taken (session_of k.sessions z.session)) (session_taken (session_of (commanded_sessions k.sessions (Some m) y seat.place (length k.ops) (word_of d) acts) z.session))) (sym w.1) (at m w.0 w.1 w.2)
 
-    old_place : (i : ℕ) (z : Seat) (j : Job) → numbered k.seats i ≡ Some z → job z ≡ Some j → j.place < length k.ops
-    old_place i z j at is = let of = (kept.seats i z at).task j is in within k.ops j.place of.op (ap (λ (l : List Op). slice_get l j.place) (sym kept.ops) ∙ of.there)
-
-    old_op : (s : client.State) (acts : ClientStep) (i : ℕ) (z : Seat) (j : Job) (r : Op) → numbered k.seats i ≡ Some z → job z ≡ Some j → slice_get (k.ops ++ op_after (begun c (word_of d) (file_of d) (value_at_begin seat.client (word_of d) (file_of d) (command_step seat.client d now).1.ended) (k.steps + 1)) s [] (k.steps + 1) acts ∷ []) j.place ≡ Some r → slice_get k.ops j.place ≡ Some r
+    old_op : (s : client.State) (acts : ClientStep) (i : ℕ) (z : Seat) (j : Job) (r : Op) → numbered k.seats i ≡ Some z → job z ≡ Some j → slice_get (k.ops ++ made_by k c now d seat s acts ∷ []) j.place ≡ Some r → slice_get k.ops j.place ≡ Some r
     old_op s acts i z j r there is at = elim (of_appended k.ops (new s acts) j.place r at) [
       | inr old ↦ old
-      | inl last ↦ (let lt = old_place i z j there is in let e = last.0 in absurd (omega (arith, lt, e)))
+      | inl last ↦ (let lt = old_jobs book k qs kept i z j there is in let e = last.0 in absurd (omega (arith, lt, e)))
     ]
 
     OwnJob : (s : client.State) (acts : ClientStep) → Type 0
-    OwnJob s acts = (j : Job) (r : Op) → job_of (place_with seat.place (length k.ops) acts.ended) s.task ≡ Some j → slice_get (k.ops ++ op_after (begun c (word_of d) (file_of d) (value_at_begin seat.client (word_of d) (file_of d) (command_step seat.client d now).1.ended) (k.steps + 1)) s [] (k.steps + 1) acts ∷ []) j.place ≡ Some r
-        → JobCame k.steps (taken_of past) (taken_of past) k.sessions (commanded_sessions k.sessions seat.session (session_of k.sessions seat.session) seat.place (length k.ops) (word_of d) acts) k.seats k.ops (k.ops ++ op_after (begun c (word_of d) (file_of d) (value_at_begin seat.client (word_of d) (file_of d) (command_step seat.client d now).1.ended) (k.steps + 1)) s [] (k.steps + 1) acts ∷ []) c (record seat { client = s; place = place_with seat.place (length k.ops) acts.ended }) j r
+    OwnJob s acts = (j : Job) (r : Op) → job_of (place_with seat.place (length k.ops) acts.ended) s.task ≡ Some j → slice_get (k.ops ++ made_by k c now d seat s acts ∷ []) j.place ≡ Some r
+        → JobCame k.steps (taken_of past) (taken_of past) k.sessions (commanded_sessions k.sessions seat.session (session_of k.sessions seat.session) seat.place (length k.ops) (word_of d) acts) k.seats k.ops (k.ops ++ made_by k c now d seat s acts ∷ []) c (record seat { client = s; place = place_with seat.place (length k.ops) acts.ended }) j r
 
     own_job : (s : client.State) (acts : ClientStep) → IsMatched seat → ((Q : ℕ → ℕ → Type 0) (R : ℕ → Type 0) → R seat.client.next → TaskGood Q R seat.client.task → TaskGood Q R s.task) → ((t : Task) → seat.client.task ≡ Some t → s ≡ seat.client)
-        → (j : Job) (r : Op) → job_of (place_with seat.place (length k.ops) acts.ended) s.task ≡ Some j → slice_get (k.ops ++ op_after (begun c (word_of d) (file_of d) (value_at_begin seat.client (word_of d) (file_of d) (command_step seat.client d now).1.ended) (k.steps + 1)) s [] (k.steps + 1) acts ∷ []) j.place ≡ Some r
-        → JobCame k.steps (taken_of past) (taken_of past) k.sessions (commanded_sessions k.sessions seat.session (session_of k.sessions seat.session) seat.place (length k.ops) (word_of d) acts) k.seats k.ops (k.ops ++ op_after (begun c (word_of d) (file_of d) (value_at_begin seat.client (word_of d) (file_of d) (command_step seat.client d now).1.ended) (k.steps + 1)) s [] (k.steps + 1) acts ∷ []) c (record seat { client = s; place = place_with seat.place (length k.ops) acts.ended }) j r
+        → (j : Job) (r : Op) → job_of (place_with seat.place (length k.ops) acts.ended) s.task ≡ Some j → slice_get (k.ops ++ made_by k c now d seat s acts ∷ []) j.place ≡ Some r
+        → JobCame k.steps (taken_of past) (taken_of past) k.sessions (commanded_sessions k.sessions seat.session (session_of k.sessions seat.session) seat.place (length k.ops) (word_of d) acts) k.seats k.ops (k.ops ++ made_by k c now d seat s acts ∷ []) c (record seat { client = s; place = place_with seat.place (length k.ops) acts.ended }) j r
     own_job s acts (inl (no_place, free)) good busy j r is at = by acts.ended (subst (λ l. job_of (place_with l (length k.ops) acts.ended) s.task ≡ Some j) no_place is)
       where
-        taken : List Taken
+        taken : List TakenCall
         taken = session_taken (session_of (commanded_sessions k.sessions seat.session (session_of k.sessions seat.session) seat.place (length k.ops) (word_of d) acts) seat.session)
 
         all : List Op
-        all = k.ops ++ op_after (begun c (word_of d) (file_of d) (value_at_begin seat.client (word_of d) (file_of d) (command_step seat.client d now).1.ended) (k.steps + 1)) s [] (k.steps + 1) acts ∷ []
+        all = k.ops ++ made_by k c now d seat s acts ∷ []
 
-        by : (e : Option Ended) → job_of (place_with None (length k.ops) e) s.task ≡ Some j → JobCame k.steps (taken_of past) (taken_of past) k.sessions (commanded_sessions k.sessions seat.session (session_of k.sessions seat.session) seat.place (length k.ops) (word_of d) acts) k.seats k.ops (k.ops ++ op_after (begun c (word_of d) (file_of d) (value_at_begin seat.client (word_of d) (file_of d) (command_step seat.client d now).1.ended) (k.steps + 1)) s [] (k.steps + 1) acts ∷ []) c (record seat { client = s; place = place_with seat.place (length k.ops) acts.ended }) j r
+        by : (e : Option Ended) → job_of (place_with None (length k.ops) e) s.task ≡ Some j → JobCame k.steps (taken_of past) (taken_of past) k.sessions (commanded_sessions k.sessions seat.session (session_of k.sessions seat.session) seat.place (length k.ops) (word_of d) acts) k.seats k.ops (k.ops ++ made_by k c now d seat s acts ∷ []) c (record seat { client = s; place = place_with seat.place (length k.ops) acts.ended }) j r
         by (Some e) is = nothing_there j is
         by None is =
             let place : length k.ops ≡ j.place = some_is (length k.ops) j.place (job_place (Some (length k.ops)) s.task j is) in
@@ -500,18 +432,18 @@ versions_does book more past k qs after c now d seat kept here left counted h =
         by None w q = nothing_there i.place w
         by (Some p) w q = q
 
-    grown : (s : client.State) (acts : ClientStep) → IsRight more (op_after (begun c (word_of d) (file_of d) (value_at_begin seat.client (word_of d) (file_of d) (command_step seat.client d now).1.ended) (k.steps + 1)) s [] (k.steps + 1) acts)
-        → ((j : Job) (r : Op) → job_of (place_with seat.place (length k.ops) acts.ended) s.task ≡ Some j → slice_get (k.ops ++ op_after (begun c (word_of d) (file_of d) (value_at_begin seat.client (word_of d) (file_of d) (command_step seat.client d now).1.ended) (k.steps + 1)) s [] (k.steps + 1) acts ∷ []) j.place ≡ Some r
-        → JobCame k.steps (taken_of past) (taken_of past) k.sessions (commanded_sessions k.sessions seat.session (session_of k.sessions seat.session) seat.place (length k.ops) (word_of d) acts) k.seats k.ops (k.ops ++ op_after (begun c (word_of d) (file_of d) (value_at_begin seat.client (word_of d) (file_of d) (command_step seat.client d now).1.ended) (k.steps + 1)) s [] (k.steps + 1) acts ∷ []) c (record seat { client = s; place = place_with seat.place (length k.ops) acts.ended }) j r)
-        → HaveVersions (taken_of past) (commanded_sessions k.sessions seat.session (session_of k.sessions seat.session) seat.place (length k.ops) (word_of d) acts) (with_numbered k.seats c (record seat { client = s; place = place_with seat.place (length k.ops) acts.ended })) (k.ops ++ op_after (begun c (word_of d) (file_of d) (value_at_begin seat.client (word_of d) (file_of d) (command_step seat.client d now).1.ended) (k.steps + 1)) s [] (k.steps + 1) acts ∷ [])
-    grown s acts right_new mine = versions_onward k.steps (taken_of past) (taken_of past) k.sessions (later acts) k.seats (with_numbered k.seats c (record seat { client = s; place = place_with seat.place (length k.ops) acts.ended })) k.ops (k.ops ++ new s acts ∷ []) counted.taken_by (λ f q le. ap (λ z. z + 1) (count_appended f q k.ops (new s acts) (unpointed f q (new s acts) (pointless s acts acts.ended))))
+    grown : (s : client.State) (acts : ClientStep) → IsRight more (made_by k c now d seat s acts)
+        → ((j : Job) (r : Op) → job_of (place_with seat.place (length k.ops) acts.ended) s.task ≡ Some j → slice_get (k.ops ++ made_by k c now d seat s acts ∷ []) j.place ≡ Some r
+        → JobCame k.steps (taken_of past) (taken_of past) k.sessions (commanded_sessions k.sessions seat.session (session_of k.sessions seat.session) seat.place (length k.ops) (word_of d) acts) k.seats k.ops (k.ops ++ made_by k c now d seat s acts ∷ []) c (record seat { client = s; place = place_with seat.place (length k.ops) acts.ended }) j r)
+        → HaveVersions (taken_of past) (commanded_sessions k.sessions seat.session (session_of k.sessions seat.session) seat.place (length k.ops) (word_of d) acts) (with_numbered k.seats c (record seat { client = s; place = place_with seat.place (length k.ops) acts.ended })) (k.ops ++ made_by k c now d seat s acts ∷ [])
+    grown s acts right_new mine = versions_onward k.steps (taken_of past) (taken_of past) k.sessions (later acts) k.seats (with_numbered k.seats c (record seat { client = s; place = place_with seat.place (length k.ops) acts.ended })) k.ops (k.ops ++ new s acts ∷ []) counted.taken_by (λ f q le. ap (λ z. z + 1) (count_appended f q k.ops (new s acts) (unpointed f q (new s acts) (made_pointless k c now d seat s acts acts.ended))))
         (λ i z j r there is at. elim (of_numbered k.seats c (record seat { client = s; place = place_with seat.place (length k.ops) acts.ended }) i z there) [
           | inr other ↦ inl (z, r, other.1, is, old_op s acts i z j r other.1 is at, alike_same (taken_of past) r, kept_taken acts i z other.1 (λ e. absurd (other.0 e)))
           | inl own ↦ subst (λ n. JobCame k.steps (taken_of past) (taken_of past) k.sessions (later acts) k.seats k.ops (k.ops ++ new s acts ∷ []) n z j r) (sym own.0) (subst (λ y. JobCame k.steps (taken_of past) (taken_of past) k.sessions (later acts) k.seats k.ops (k.ops ++ new s acts ∷ []) c y j r) (sym own.1) (mine j r (ap job (sym own.1) ∙ is) at))
         ])
         (λ p len q digest r at e point. elim (of_appended k.ops (new s acts) p r at) [
           | inr old ↦ inl (r, old, alike_same (taken_of past) r, e, point)
-          | inl last ↦ nothing_there q (sym (pointless s acts acts.ended) ∙ ap (λ (z : Op). z.point) (sym last.1) ∙ point)
+          | inl last ↦ nothing_there q (sym (made_pointless k c now d seat s acts acts.ended) ∙ ap (λ (z : Op). z.point) (sym last.1) ∙ point)
         ]) h
 
 -- ---- an answer
@@ -534,7 +466,7 @@ alike_none said more o none = record {
 }
 
 -- what an attempt has when one more answer of it came
-attempt_more : (said : List Said) (ops : List Op) (taken : List Taken) (o : Op) (s : Said) (v x : ℕ) → (IsHashes s.message → Carries v s.message) → Attempt said ops taken o v x → Attempt (said ++ s ∷ []) ops taken o v x
+attempt_more : (said : List Said) (ops : List Op) (taken : List TakenCall) (o : Op) (s : Said) (v x : ℕ) → (IsHashes s.message → Carries v s.message) → Attempt said ops taken o v x → Attempt (said ++ s ∷ []) ops taken o v x
 attempt_more said ops taken o s v x carries (q, was, version, (z, there, of, lt, c), since) = (
   q,
   was,
@@ -546,7 +478,7 @@ attempt_more said ops taken o s v x carries (q, was, version, (z, there, of, lt,
   ],
 )
 
-took_in : (book : Book) (k : Core) (said : List Said) (i : ℕ) (taken : List Taken) (closing : Option ℕ) (t : Told) (j : Job) (o : Op) → book.ops ≡ k.ops → book.steps ≡ k.steps → o.file ≡ j.file → o.client ≡ i → o.end ≡ None → o.begin ≤ k.steps → has_call (client.pending_in j.stage) t.xid ≡ true → AnswerOf book taken closing (Some j) t.xid t.reply
+took_in : (book : Book) (k : Core) (said : List Said) (i : ℕ) (taken : List TakenCall) (closing : Option ℕ) (t : Told) (j : Job) (o : Op) → book.ops ≡ k.ops → book.steps ≡ k.steps → o.file ≡ j.file → o.client ≡ i → o.end ≡ None → o.begin ≤ k.steps → has_call (client.pending_in j.stage) t.xid ≡ true → AnswerOf book taken closing (Some j) t.xid t.reply
     → (st : Stage) → j.stage ≡ st → (r : Reply) → t.reply ≡ r → JobVersion said k.ops taken o st → TookIn (Attempt (said ++ record { step = k.steps + 1; client = i; message = told_message t } ∷ []) k.ops taken o) st t.xid (reply_body r)
 took_in book k said i taken closing t j o ops steps file mine none begun has answer (stage.Hashing tries y) at (Hashed (Done g)) is old =
     let own : (y == t.xid) ≡ true = or_none (y == t.xid) (ap (λ z. has_call (client.pending_in z) t.xid) (sym at) ∙ has) in
@@ -578,13 +510,13 @@ versions_hears laws book more past k qs after n now bytes mid kept h left counte
     subst (VersionsBy past k (Hears n now bytes)) (sym turned)
     (subst (λ i. HaveVersions (taken_of past ++ all_said (k.steps + 1) i (taken_by k i (Hears n now bytes))) k.sessions (with_numbered k.seats h.session.owner new) (ops_with k.ops h.seat.place r.0 taken (k.steps + 1) r.1)) (sym owner)
     (subst (λ l. HaveVersions (taken_of past ++ all_said (k.steps + 1) h.session.owner l) k.sessions (with_numbered k.seats h.session.owner new) (ops_with k.ops h.seat.place r.0 taken (k.steps + 1) r.1)) (sym (heard_takes laws book k qs n now bytes mid kept h))
-    (versions_onward k.steps (taken_of past) said k.sessions k.sessions k.seats (with_numbered k.seats h.session.owner new) k.ops (ops_with k.ops h.seat.place r.0 taken (k.steps + 1) r.1) counted.taken_by (λ f q le. acts_stay k.ops h.seat.place r.0 taken (k.steps + 1) r.1 f q)
+    (versions_onward k.steps (taken_of past) said k.sessions k.sessions k.seats (with_numbered k.seats h.session.owner new) k.ops (ops_with k.ops h.seat.place r.0 taken (k.steps + 1) r.1) counted.taken_by (λ f q le. versions_after k.ops h.seat.place r.0 taken (k.steps + 1) r.1 f q)
     (λ i z j o there is at. elim (of_numbered k.seats h.session.owner new i z there) [
       | inr other ↦ elim (ops_shape k.ops h.seat.place r.0 taken (k.steps + 1) r.1 j.place o at) [
         | inl mine ↦ absurd (foreign_at book k qs h.session.owner h.seat kept h.owner i z j mine.0 other.1 is mine.2 other.0 mine.1)
         | inr old ↦ inl (z, o, other.1, is, old.1, alike_other (taken_of past) (k.steps + 1) h.session.owner (wanted_by h.seat.client (Ok (told_message h.told))) o (actor.other j.place o old.1 old.0), extends_same k.steps (takens k.sessions z))
       ]
-      | inl own ↦ (let w = place_is h.seat.place r.1.ended j (ap job (sym own.1) ∙ is) in elim (ops_shape k.ops h.seat.place r.0 taken (k.steps + 1) r.1 j.place o at) [
+      | inl own ↦ (let w = job_after r.0 h.seat.place r.1.ended j (ap job (sym own.1) ∙ is) in elim (ops_shape k.ops h.seat.place r.0 taken (k.steps + 1) r.1 j.place o at) [
         | inl mine ↦ inr (subst (λ (y : Seat). JobVersion said (ops_with k.ops h.seat.place r.0 taken (k.steps + 1) r.1) (takens k.sessions y) o j.stage) (sym own.1) (subst (λ (y : Op). JobVersion said (ops_with k.ops h.seat.place r.0 taken (k.steps + 1) r.1) taken y j.stage) (sym mine.3) (own_job j.place mine.0 mine.1 mine.2 j w.2)))
         | inr old ↦ absurd (old.0 w.0)
       ])
@@ -597,7 +529,7 @@ versions_hears laws book more past k qs after n now bytes mid kept h left counte
     r : client.State × ClientStep
     r = got_step h.seat.client (Ok (told_message h.told)) now
 
-    taken : List Taken
+    taken : List TakenCall
     taken = session_taken (session_of k.sessions h.seat.session)
 
     new : Seat
@@ -627,10 +559,6 @@ versions_hears laws book more past k qs after n now bytes mid kept h left counte
     said_past : SaidBy (k.steps + 1) said
     said_past = said_append (k.steps + 1) (taken_of past) (all_said (k.steps + 1) h.session.owner (wanted_by h.seat.client (Ok (told_message h.told)))) (said_later k.steps (k.steps + 1) (taken_of past) (omega arith) counted.taken_by) (said_now (k.steps + 1) h.session.owner (wanted_by h.seat.client (Ok (told_message h.told))))
 
-    place_is : (l : Option ℕ) (e : Option Ended) (j : Job) → job_of (place_after l e) r.0.task ≡ Some j → (l ≡ Some j.place) × (e ≡ None) × (r.0.task ≡ Some (record { file = j.file; stage = j.stage }))
-    place_is l None j is = (job_place l r.0.task j is, refl, job_task l r.0.task j is)
-    place_is l (Some e) j is = nothing_there j is
-
     -- the operation as it was, after the answer
     good : (p : ℕ) (o : Op) → h.seat.place ≡ Some p → slice_get k.ops p ≡ Some o → Good (Attempt said k.ops taken o) (Untold said taken o) r
     good p o e at =
@@ -655,19 +583,19 @@ versions_hears laws book more past k qs after n now bytes mid kept h left counte
     alike p o e at = alike_after (k.steps + 1) said o (op_after o r.0 taken (k.steps + 1) r.1) said_past (file_after o r.0 taken (k.steps + 1) r.1) (running_upto o r.0 taken k.steps r.1 (actor.own p o e at).1)
 
     own_job : (p : ℕ) (o : Op) → h.seat.place ≡ Some p → slice_get k.ops p ≡ Some o → (j : Job) → r.0.task ≡ Some (record { file = j.file; stage = j.stage }) → JobVersion said (ops_with k.ops h.seat.place r.0 taken (k.steps + 1) r.1) taken (op_after o r.0 taken (k.steps + 1) r.1) j.stage
-    own_job p o e at j task = job_alike (k.steps + 1) said said k.ops (ops_with k.ops h.seat.place r.0 taken (k.steps + 1) r.1) taken taken o (op_after o r.0 taken (k.steps + 1) r.1) j.stage said_past (alike p o e at) (extends_same (k.steps + 1) taken) (λ f q le. acts_stay k.ops h.seat.place r.0 taken (k.steps + 1) r.1 f q) (subst (TaskGood (Attempt said k.ops taken o) (Untold said taken o)) task (good p o e at).0)
+    own_job p o e at j task = job_alike (k.steps + 1) said said k.ops (ops_with k.ops h.seat.place r.0 taken (k.steps + 1) r.1) taken taken o (op_after o r.0 taken (k.steps + 1) r.1) j.stage said_past (alike p o e at) (extends_same (k.steps + 1) taken) (λ f q le. versions_after k.ops h.seat.place r.0 taken (k.steps + 1) r.1 f q) (subst (TaskGood (Attempt said k.ops taken o) (Untold said taken o)) task (good p o e at).0)
 
     ended : (p : ℕ) (o : Op) → h.seat.place ≡ Some p → slice_get k.ops p ≡ Some o → (len q : ℕ) (digest : List ℕ) → (op_after o r.0 taken (k.steps + 1) r.1).outcome ≡ told.Opened len digest → (op_after o r.0 taken (k.steps + 1) r.1).point ≡ Some q
         → CameTo said (op_after o r.0 taken (k.steps + 1) r.1) q (version_in (ops_with k.ops h.seat.place r.0 taken (k.steps + 1) r.1) (op_after o r.0 taken (k.steps + 1) r.1).file q) × Since said (op_after o r.0 taken (k.steps + 1) r.1) q (version_in (ops_with k.ops h.seat.place r.0 taken (k.steps + 1) r.1) (op_after o r.0 taken (k.steps + 1) r.1).file q)
     ended p o e at len q digest opened point =
         let there : slice_get more.ops p ≡ Some (op_after o r.0 taken (k.steps + 1) r.1) =
-        ap (λ (l : List Op). slice_get l p) (left.ops ∙ ap (λ (t : Turned). t.core.ops) turned ∙ ap (λ l. ops_with k.ops l r.0 taken (k.steps + 1) r.1) e ∙ ap (λ l. ops_after k.ops p l r.0 taken (k.steps + 1) r.1) at) ∙ at_replaced k.ops p (op_after o r.0 taken (k.steps + 1) r.1) o at in
+        ap (λ (l : List Op). slice_get l p) (left.ops ∙ ap (λ (t : CoreStep). t.core.ops) turned ∙ ap (λ l. ops_with k.ops l r.0 taken (k.steps + 1) r.1) e ∙ ap (λ l. ops_after k.ops p l r.0 taken (k.steps + 1) r.1) at) ∙ at_replaced k.ops p (op_after o r.0 taken (k.steps + 1) r.1) o at in
         let right = left.sound.rights p (op_after o r.0 taken (k.steps + 1) r.1) there in
         let word : o.word ≡ words.Open = sym (word_after o r.0 taken (k.steps + 1) r.1) ∙ (subst (Caused more (op_after o r.0 taken (k.steps + 1) r.1)) opened right.cause).0 in
         let running = (own_op book k qs h.session.owner h.seat p o kept h.owner e at).4 in
         let a = by word running r.1.ended (good p o e at).1 opened point in
         let same = alike p o e at in
-        let version = ap (λ f. version_in (ops_with k.ops h.seat.place r.0 taken (k.steps + 1) r.1) f q) same.file ∙ acts_stay k.ops h.seat.place r.0 taken (k.steps + 1) r.1 o.file q ∙ a.1 in
+        let version = ap (λ f. version_in (ops_with k.ops h.seat.place r.0 taken (k.steps + 1) r.1) f q) same.file ∙ versions_after k.ops h.seat.place r.0 taken (k.steps + 1) r.1 o.file q ∙ a.1 in
         subst (λ v. CameTo said (op_after o r.0 taken (k.steps + 1) r.1) q v × Since said (op_after o r.0 taken (k.steps + 1) r.1) q v) (sym version) (came_alike said said o (op_after o r.0 taken (k.steps + 1) r.1) q a.0 same a.2, since_alike said said o (op_after o r.0 taken (k.steps + 1) r.1) q a.0 same a.3)
       where
         ends : (x : ℕ) (u : Outcome) (file : ℕ) → u ≡ outcome.Opened file len digest → OutcomeGood (Attempt said k.ops taken o) u x → (v : ℕ) × Attempt said k.ops taken o v x

@@ -1,24 +1,12 @@
 -- An open that ended gave the content of a version that an answer to a GETHASH of its carried, as a run goes on.
 use Rattle.std.proofs.Common.{◌⊎◌, inl, inr, ◌≡◌, ℕ, zero, suc, ◌+◌, ◌<◌, ◌≤◌, List, [], ◌∷◌, ◌++◌, length, Option, Some, None, Bool, true, false, refl, sym, ap, ◌∙◌, subst, arith}
-use Rattle.std.specs.Prelude.{◌==◌, ◌&&◌, nat_lt, slice_get, slice_set, filter, cond, Contains}
-use Rattle.std.specs.Option.{option_map_or}
 use Rattle.open_close.specs.State as client
-use Rattle.open_close.specs.declared.step.ClientStep.{ClientStep}
-use Rattle.open_close.specs.declared.step.Ended.{Ended}
-use Rattle.open_close.specs.declared.step.Outcome.{Outcome}
-use Rattle.open_close.specs.declared.task.Stage.{Stage}
 use Rattle.open_close.specs.declared.task.Stage.TheVariants as stage
-use Rattle.register_model.specs.Register.{changes, changed_before}
-use Rattle.register_model.specs.declared.op.Op.{Op}
 use Rattle.register_model.specs.declared.op.Outcome.TheVariants as told
-use Rattle.register_model.specs.declared.op.Word.{Word}
 use Rattle.register_model.specs.declared.op.Word.TheVariants as words
-use Rattle.trace_replay.specs.declared.link.Taken.{Taken}
-use Rattle.trace_replay.specs.Ops.{has_point, point_if, op_after, taken_at}
-use Rattle.trace_replay.specs.Core.{Seat, Session, numbered, with_numbered, session_of, taken_of as session_taken}
-use Rattle.trace_replay.specs.Trail.{Said}
-use Rattle.trace_replay.specs.Traffic.{is_of}
-use Rattle.trace_replay.specs.Faithful.{IsHashes, Carries}
+use Rattle.trace_replay.specs.Core.{taken_of as session_taken}
+use Rattle.trace_replay.specs.Faithful.{Carries}
+use Rattle.kept_promise.proofs.Common.{◌==◌, ◌&&◌, nat_lt, slice_get, slice_set, filter, cond, Contains, option_map_or, ClientStep, Ended, Outcome, Stage, changes, changed_before, Op, Word, TakenCall, has_point, point_if, op_after, taken_at, Seat, Session, numbered, with_numbered, session_of, Said, is_of, IsHashes}
 use Rattle.kept_promise.proofs.Lists.{some_is, nothing_there, of_replaced}
 use Rattle.kept_promise.proofs.Messages.{Job, job}
 use Rattle.kept_promise.proofs.Counted.{SaidBy, said_by}
@@ -27,10 +15,9 @@ use Rattle.kept_promise.proofs.Shapes.{StageGood}
 -- ---- lists
 
 pub of_numbered : {A : Type 0} (xs : List A) (n : ℕ) (x : A) (m : ℕ) (y : A) → numbered (with_numbered xs n x) m ≡ Some y → ((m ≡ n) × (y ≡ x)) ⊎ ((m ≡ n → ⊥) × (numbered xs m ≡ Some y))
-of_numbered xs zero x zero y e = nothing_there y e
 of_numbered xs zero x (suc m) y e = inr ((λ q. omega (arith, q)), e)
-of_numbered xs (suc n) x zero y e = nothing_there y e
 of_numbered xs (suc n) x (suc m) y e = elim (of_replaced xs n x m y e) [ inl h ↦ inl (ap suc h.0, h.1) | inr h ↦ inr ((λ q. h.0 (omega (arith, q))), h.1) ]
+of_numbered xs _ x zero y e = nothing_there y e
 
 -- ---- versions
 
@@ -60,7 +47,7 @@ count_appended f p [] o e = cons_count f p o [] ∙ ap (λ b. cond b 1 0) e
 count_appended f p (q ∷ ops) o e = cons_count f p q (ops ++ o ∷ []) ∙ ap (λ n. cond (changed_before f p q) (suc n) n) (count_appended f p ops o e) ∙ sym (cons_count f p q ops)
 
 -- what an operation's end leaves of whether it is a change
-pub after_alike : (f p : ℕ) (o : Op) (c : client.State) (taken : List Taken) (step : ℕ) (acts : ClientStep) → changed_before f p (op_after o c taken step acts) ≡ changed_before f p o
+pub after_alike : (f p : ℕ) (o : Op) (c : client.State) (taken : List TakenCall) (step : ℕ) (acts : ClientStep) → changed_before f p (op_after o c taken step acts) ≡ changed_before f p o
 after_alike f p o c taken step acts = by acts.ended
   where
     word : (w : Word) (u : Outcome) (x : ℕ) (t : Option ℕ) → ((changes w && (o.file == f)) && option_map_or (λ q. nat_lt q p) (point_if (has_point w u) taken x t) false) ≡ ((changes w && (o.file == f)) && option_map_or (λ q. nat_lt q p) t false)
@@ -82,18 +69,18 @@ abbrev pub Since : List Said → Op → (moment version : ℕ) → Type 0
 Since said o q v = (s : Said) → Contains said s → is_of o s ≡ true → q < s.step → IsHashes s.message → Carries v s.message
 
 -- an attempt: the moment at which its first call was taken, the version that the file had then, and what was told of it since
-abbrev pub Attempt : List Said → List Op → List Taken → Op → (version first : ℕ) → Type 0
+abbrev pub Attempt : List Said → List Op → List TakenCall → Op → (version first : ℕ) → Type 0
 Attempt said ops taken o v x = (q : ℕ) × (taken_at taken x ≡ Some q) × (version_in ops o.file q ≡ v) × CameTo said o q v × Since said o q v
 
 -- nothing was told yet since a first call was taken, if it was
-abbrev pub Untold : List Said → List Taken → Op → (first : ℕ) → Type 0
+abbrev pub Untold : List Said → List TakenCall → Op → (first : ℕ) → Type 0
 Untold said taken o x = (q : ℕ) → taken_at taken x ≡ Some q → (s : Said) → Contains said s → is_of o s ≡ true → q < s.step → IsHashes s.message → ⊥
 
 -- the calls that were taken of a client's newest session
-abbrev pub takens : List Session → Seat → List Taken
+abbrev pub takens : List Session → Seat → List TakenCall
 takens sessions seat = session_taken (session_of sessions seat.session)
 
-abbrev pub JobVersion : List Said → List Op → List Taken → Op → Stage → Type 0
+abbrev pub JobVersion : List Said → List Op → List TakenCall → Op → Stage → Type 0
 JobVersion said ops taken o s = StageGood (Attempt said ops taken o) (Untold said taken o) s
 
 pub record HaveVersions (said : List Said) (sessions : List Session) (seats : List Seat) (ops : List Op) : Type 0 where
@@ -114,10 +101,10 @@ pub alike_same : (said : List Said) (o : Op) → Alike said said o o
 alike_same said o = record { file = refl; forth = λ s c e. (c, e); back = λ s c e. (c, e) }
 
 -- what was taken is so still; what was not may be, after this step
-abbrev pub Extends : (n : ℕ) → List Taken → List Taken → Type 0
+abbrev pub Extends : (n : ℕ) → List TakenCall → List TakenCall → Type 0
 Extends n taken more = ((y q : ℕ) → taken_at taken y ≡ Some q → taken_at more y ≡ Some q) × ((y q : ℕ) → taken_at more y ≡ Some q → (taken_at taken y ≡ Some q) ⊎ (n < q))
 
-pub extends_same : (n : ℕ) (taken : List Taken) → Extends n taken taken
+pub extends_same : (n : ℕ) (taken : List TakenCall) → Extends n taken taken
 extends_same n taken = (λ y q e. e, λ y q e. inl e)
 
 pub came_alike : (said more : List Said) (o r : Op) (q v : ℕ) → Alike said more o r → CameTo said o q v → CameTo more r q v
@@ -130,7 +117,7 @@ since_alike said more o r q v a h = λ s there of lt is. let b = a.back s there 
 came_past : (n : ℕ) (said : List Said) (o : Op) (q v : ℕ) → SaidBy n said → CameTo said o q v → q ≤ n
 came_past n said o q v past (s, there, of, lt, c) = let le = said_by n said s past there in omega (arith, lt, le)
 
-pub job_alike : (n : ℕ) (said more : List Said) (ops after : List Op) (taken later : List Taken) (o r : Op) (s : Stage) → SaidBy n said → Alike said more o r → Extends n taken later → ((f q : ℕ) → q ≤ n → version_in after f q ≡ version_in ops f q) → JobVersion said ops taken o s → JobVersion more after later r s
+pub job_alike : (n : ℕ) (said more : List Said) (ops after : List Op) (taken later : List TakenCall) (o r : Op) (s : Stage) → SaidBy n said → Alike said more o r → Extends n taken later → ((f q : ℕ) → q ≤ n → version_in after f q ≡ version_in ops f q) → JobVersion said ops taken o s → JobVersion more after later r s
 job_alike n said more ops after taken later o r s past a e stays h = by s h
   where
     attempt : (v x : ℕ) → Attempt said ops taken o v x → Attempt more after later r v x
@@ -143,9 +130,7 @@ job_alike n said more ops after taken later o r s past a e stays h = by s h
     ]
     by (stage.Listing x f) h = attempt f.version f.first h
     by (stage.Reading f) h = attempt f.version f.first h
-    by (stage.Making x temp) h = tt
-    by (stage.Storing st) h = tt
-    by (stage.Committing x) h = tt
+    by _ h = tt
 
 -- a job was there before, or is shown
 abbrev pub JobCame : (n : ℕ) → (said more : List Said) → (sessions later : List Session) → (seats : List Seat) → (ops after : List Op) → (i : ℕ) → Seat → Job → Op → Type 0

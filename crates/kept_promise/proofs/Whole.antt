@@ -1,24 +1,13 @@
 -- One message on its way, taken in pieces.
-use Rattle.std.proofs.Common.{◌≡◌, ℕ, ◌<◌, ◌≤◌, List, [], ◌∷◌, ◌++◌, Option, Some, None, length, take, drop, refl, sym, ap, ◌∙◌, arith, append_assoc, length-append}
-use Rattle.std.specs.Prelude.{Result, Ok, map, Bool, true, false, ◌==◌}
-use Rattle.std.proofs.lemmas.List.{take_all, drop_all, take-append-drop, length-drop}
-use Rattle.std.proofs.lemmas.Bool.Decides.{nat_tests}
-use Rattle.rpc_record.specs.declared.records.Fed.{Fed}
-use Rattle.rpc_record.specs.declared.refusal.Refusal.{Refusal}
-use Rattle.rpc_record.specs.Records.{Unread, Begun, Parts, nothing_read, record_of, split, fed, marked}
+use Rattle.std.proofs.Common.{◌≡◌, ℕ, ◌<◌, ◌≤◌, List, [], ◌∷◌, ◌++◌, Option, Some, None, length, take, drop, refl, ap, ◌∙◌, arith, append_assoc, length-append, map, true}
+use Rattle.std.proofs.lemmas.List.{drop_all}
 use Rattle.rpc_record.proofs.Streaming.{marked_begun, marked_whole}
 use Rattle.rpc_record.proofs.Splitting.{split_begun, split_whole}
-use Rattle.wire.specs.Message.{message_spell, MessageFits}
-use Rattle.wire.specs.Parse.{IsExpected, parse_of}
-use Rattle.wire.specs.declared.message.Message.{Message}
-use Rattle.wire.specs.declared.message.Waiting.{Waiting}
-use Rattle.open_close.specs.State.{waiting_of}
-use Rattle.open_close.specs.Step.{got_step}
-use Rattle.trace_replay.specs.Core.{Core, Seat, Session, Event, Event.Serves, Event.Hears, Turned, numbered, with_numbered, server_waiting, server_got, serves, serves_if, hears, hears_at, hears_if, hears_by, is_newest, acted}
-use Rattle.trace_replay.specs.World.{World, Wire, bytes_of, routed}
-use Rattle.trace_replay.specs.Delivery.{all_happened, up_at, up_some, up_events, down_at, down_some, down_events}
+use Rattle.trace_replay.specs.Core.{server_got}
+use Rattle.kept_promise.specs.Whole.{Comes, client_got, UpsComeWhole, DownsComeWhole}
+use Rattle.kept_promise.proofs.Common.{take_all, take-append-drop, length-drop, nat_tests, Fed, Unread, Parts, nothing_read, record_of, fed, marked, message_spell, MessageFits, IsExpected, Message, waiting_of, got_step, Core, Seat, Session, Event.Serves, Event.Hears, numbered, server_waiting, serves, serves_if, hears, hears_at, hears_if, is_newest, acted, World, Wire, bytes_of, routed, all_happened, up_at, up_some, down_at, down_some, up_with, down_with}
 use Rattle.kept_promise.proofs.Fits.{FitLaws}
-use Rattle.kept_promise.specs.Whole.{Comes, up_with, down_with, client_got, IsUpTo, IsDownTo, UpsComeWhole, DownsComeWhole}
+use Rattle.kept_promise.proofs.Bytes.{fed_sound}
 
 -- ---- what an end makes of a piece
 
@@ -32,9 +21,6 @@ keeps rest = (record { rest = rest; spoilt = None }, record { records = []; spoi
 
 abbrev parted : Parts → Unread × Fed
 parted p = (record { rest = p.rest; spoilt = p.spoilt }, record { records = p.records; spoilt = p.spoilt })
-
-fed_sound : (end : Unread) (piece : List ℕ) → end.spoilt ≡ None → fed end piece ≡ parted (split (end.rest ++ piece))
-fed_sound end piece sound = ap (λ (s : Option Refusal). fed (record { rest = end.rest; spoilt = s }) piece) sound
 
 -- a part of one message that does not complete it
 fed_part : (end : Unread) (queue : List ℕ) (count : ℕ) (m : Message) → MessageFits m → Comes end queue m → count < length queue → fed end (take count queue) ≡ keeps (end.rest ++ take count queue)

@@ -1,9 +1,9 @@
 -- Messages that are on their way, in any number: those whose last bytes come are taken, one after the other.
-use Rattle.std.specs.Prelude.{◌≡◌, ℕ, ◌≤◌, List, ◌++◌, length, map, take, drop, All, Option, Some, None}
+use Rattle.std.specs.Prelude.{◌≡◌, ℕ, ◌≤◌, List, ◌++◌, length, map, take, drop, All, Some, None}
 use Rattle.rpc_record.specs.Records.{Unread, Begun, record_of}
 use Rattle.wire.specs.Message.{MessageFits, message_spell}
 use Rattle.wire.specs.declared.message.Message.{Message}
-use Rattle.trace_replay.specs.Core.{Event, Event.Serves, Event.Hears, numbered}
+use Rattle.trace_replay.specs.Core.{Event.Serves, Event.Hears, numbered}
 use Rattle.trace_replay.specs.World.{World, Wire, bytes_of}
 use Rattle.trace_replay.specs.Delivery.{all_happened, up_some, down_some}
 use Rattle.kept_promise.specs.Whole.{up_with, down_with}

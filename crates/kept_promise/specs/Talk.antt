@@ -1,10 +1,8 @@
 -- What clients of this project ask, and what the server answers: the messages that are on their way in a run.
-use Rattle.std.specs.Prelude.{◌≡◌, ℕ, zero, suc, ◌+◌, ◌*◌, List, [], ◌∷◌, ◌++◌, map, Option, Some, None, Bool, true, false, All}
-use Rattle.rpc_record.specs.Records.{Unread}
+use Rattle.std.specs.Prelude.{◌≡◌, ℕ, List, [], ◌++◌, map, Option, None}
 use Rattle.chunk_cut.specs.declared.chunk.Chunk.{Chunk}
 use Rattle.xdr_codec.specs.declared.answer.Answer.{Answer}
 use Rattle.xdr_codec.specs.declared.attr.Attr.{Attr}
-use Rattle.xdr_codec.specs.Handle.{handle_bytes}
 use Rattle.hash_calls.specs.declared.call.Committed.{Committed}
 use Rattle.hash_calls.specs.declared.call.Hashes.{Hashes}
 use Rattle.hash_calls.specs.declared.message.Lb.TheVariants as lb
@@ -20,8 +18,7 @@ use Rattle.wire.specs.declared.message.Program.{Program}
 use Rattle.wire.specs.declared.message.Program.TheVariants as program
 use Rattle.open_close.specs.Opening.{hash_call, read_call}
 use Rattle.open_close.specs.Closing.{make_call, cond_call, commit_call}
-use Rattle.trace_replay.specs.Core.{Session, numbered, with_numbered}
-use Rattle.trace_replay.specs.World.{Wire, bytes_of, unless}
+use Rattle.trace_replay.specs.World.{Wire, bytes_of}
 
 -- ---- calls and answers
 

@@ -6,7 +6,7 @@ use Rattle.wire.specs.Parse.{IsExpected}
 use Rattle.wire.specs.declared.message.Message.{Message}
 use Rattle.open_close.specs.State.{waiting_of}
 use Rattle.open_close.specs.Step.{got_step}
-use Rattle.trace_replay.specs.Core.{Core, Seat, Session, Turned, numbered, with_numbered, server_waiting, server_got, acted}
+use Rattle.trace_replay.specs.Core.{Core, Seat, Session, CoreStep, numbered, with_numbered, server_waiting, server_got, acted}
 use Rattle.trace_replay.specs.World.{World, Wire, bytes_of, routed}
 use Rattle.trace_replay.specs.Delivery.{up_some, down_some}
 
@@ -30,7 +30,7 @@ abbrev pub down_with : World → (number : ℕ) → Wire → (left : List ℕ) �
 down_with w number q left end = record w { wires = with_numbered w.wires number (record q { down = left; client_end = end }) }
 
 -- the client takes a message
-abbrev pub client_got : Core → (owner now : ℕ) → Seat → Message → Turned
+abbrev pub client_got : Core → (owner now : ℕ) → Seat → Message → CoreStep
 client_got k owner now seat m = let r = got_step seat.client (Ok m) now in acted k owner seat r.0 r.1
 
 -- and so it is on the way down

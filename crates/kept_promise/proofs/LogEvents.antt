@@ -1,0 +1,565 @@
+-- Each event of a run keeps what is true of operations by what was said for them, if each step of a client does.
+use Rattle.std.proofs.Common.{◌⊎◌, inl, inr, ◌≡◌, ℕ, ◌+◌, ◌<◌, ◌≤◌, List, [], ◌∷◌, ◌++◌, length, Option, Some, None, Result, Ok, Err, Bool, true, false, refl, sym, ap, ◌∙◌, subst, arith, append-nil, map}
+use Rattle.command_text.specs.declared.command.Command.TheVariants as command
+use Rattle.wire.specs.declared.message.Message.TheVariants as message
+use Rattle.server_core.specs.State as server
+use Rattle.server_core.specs.declared.event.Event.TheVariants as event
+use Rattle.server_core.specs.declared.event.Told.{Told as Announced}
+use Rattle.server_core.specs.declared.event.Told.TheVariants as announced
+use Rattle.open_close.specs.Closing.{make_call}
+use Rattle.open_close.specs.State as client
+use Rattle.open_close.specs.declared.step.BadPeer.TheVariants as bad
+use Rattle.open_close.specs.declared.step.Outcome.TheVariants as outcome
+use Rattle.open_close.specs.declared.task.Stage.TheVariants as stage
+use Rattle.register_model.specs.declared.op.Outcome.{Outcome as History}
+use Rattle.register_model.specs.declared.op.Outcome.TheVariants as told
+use Rattle.register_model.specs.declared.op.Word.TheVariants as words
+use Rattle.trace_replay.specs.Core.{taken_of as session_taken}
+use Rattle.kept_promise.proofs.Common.{Deal.Sent, ◌==◌, slice_get, slice_set, nat_lt, if◌then◌else◌, content_length, content_bytes, Command, Part, parse_of, WireFault, Body, Message, Pending, server_step, ends, local_most, written_size, written, truncated, hash_call, is_open, may_ask, asks_hashes, opens_if, opens, on_local, too_big, done_with, edits, writes, truncates, reads, abandons, asks_temp, closes, command_step, got_step, got_message, bad_peer, idle, took, took_if, drops, joined, ended_by, ClientStep, Ended, Outcome, Local, Stage, Task, Op, Opening, Word, TakenCall, word_of, file_of, value_at_begin, begun, has_point, point_if, op_after, told_of, value_of, place_after, place_with, Core, Seat, Session, Event, Event.Joins, Event.Does, Event.Serves, Event.Hears, Event.Settles, Event.Cuts, Event.Hangs, CoreStep, numbered, with_numbered, server_waiting, serves_if, serves, session_of, ops_after, ops_with, acted, does, joins_as, joins, settles, cuts_if, cuts, hangs_if, hangs, happens, Moment, owner_in, wanted_if, wanted_by, taken_by, is_in, Deal, deals_with, deals_in, deals_of, Book, Queue, reply_body, told_message}
+use Rattle.kept_promise.proofs.Lists.{some_is, nothing_there, at_end, at_replaced, of_appended, within}
+use Rattle.kept_promise.proofs.Keys.{times}
+use Rattle.kept_promise.proofs.Messages.{Job, job, job_of, stage_word, CloseOf, FetchOf, IsTrying}
+use Rattle.kept_promise.proofs.Rights.{IsRight, Caused}
+use Rattle.kept_promise.proofs.Fits.{FitLaws}
+use Rattle.kept_promise.proofs.Taken.{times_map_append}
+use Rattle.kept_promise.proofs.Facts.{IsKept, IsSession, IsMatched}
+use Rattle.kept_promise.proofs.RunsCarried.{book_at, moment, Step, Carried}
+use Rattle.kept_promise.proofs.Counted.{IsActor, running_now, running_past}
+use Rattle.kept_promise.proofs.CountedRuns.{no_fault_after}
+use Rattle.kept_promise.proofs.Actors.{job_place, job_task, acts_alone, Heard, heard_at, heard_acts, heard_takes}
+use Rattle.kept_promise.proofs.Shapes.{busy_command}
+use Rattle.kept_promise.proofs.Fetching.{IsApart}
+use Rattle.kept_promise.proofs.VersionRuns.{settled_are, own_op, foreign_at, word_after}
+use Rattle.kept_promise.proofs.OpenedRuns.{tried_from}
+use Rattle.kept_promise.proofs.OpenedEvents.{Taking, apart_in}
+use Rattle.kept_promise.proofs.Logs.{IsSilent, Going, Ending, HaveLogs, deals_silent, deals_apart, deals_own, deals_more, deals_same, deals_alike, deals_early, AreAsBefore, as_before, logs_quiet, Renewed, logs_acts, logs_begins}
+
+-- ---- what is asked
+
+-- no open got its content
+abbrev pub IsUnopened : History → Type 0
+IsUnopened u = (len : ℕ) (digest : List ℕ) → u ≡ told.Opened len digest → ⊥
+
+-- and none ended by versions that differ
+abbrev pub IsUnchanged : History → Type 0
+IsUnchanged u = (first last : ℕ) → u ≡ told.Changed first last → ⊥
+
+-- an operation keeps its file, and its value unless it is an open that got its content
+pub file_stays : (o : Op) (c : client.State) (taken : List TakenCall) (step : ℕ) (acts : ClientStep) → (op_after o c taken step acts).file ≡ o.file
+file_stays o c taken step acts = by acts.ended
+  where
+    by : (e : Option Ended) → (op_after o c taken step (record acts { ended = e })).file ≡ o.file
+    by None = refl
+    by (Some e) = refl
+
+pub value_stays : (o : Op) (c : client.State) (taken : List TakenCall) (step : ℕ) (acts : ClientStep) → IsUnopened (op_after o c taken step acts).outcome → (op_after o c taken step acts).value ≡ o.value
+value_stays o c taken step acts un = by acts.ended un
+  where
+    ended : (u : Outcome) → IsUnopened (told_of u) → value_of o.value c u ≡ o.value
+    ended (outcome.Opened file len digest) un = absurd (un len digest refl)
+    ended u un = refl
+
+    by : (e : Option Ended) → IsUnopened (op_after o c taken step (record acts { ended = e })).outcome → (op_after o c taken step (record acts { ended = e })).value ≡ o.value
+    by None un = refl
+    by (Some e) un = ended e.outcome un
+
+-- what is known as a client takes an answer that its operation waits for, which makes this of it
+pub record Answering (book more : Book) (taken : List TakenCall) (j : Job) (o : Op) (p : ℕ) (s : client.State) (x : ℕ) (r : client.State × ClientStep) : Type 0 where
+  pub taking : Taking book more taken j o p
+  pub apart : IsApart x j.stage
+  pub value : stage_word j.stage ≡ words.Close → o.value ≡ client.local_bytes s.opened j.file
+  pub ops : more.ops ≡ slice_set book.ops p (op_after o r.0 taken (book.steps + 1) r.1)
+  pub right : IsRight more (op_after o r.0 taken (book.steps + 1) r.1)
+  pub moments : more.moments ≡ book.moments
+
+-- what is true of the operation then, for which this was said
+pub record After (P : Going) (E : Ending) (log : List Deal) (r : client.State × ClientStep) (new : Op) : Type 0 where
+  pub stage : (u : Task) → r.1.ended ≡ None → r.0.task ≡ Some u → P log new.file new.value u.stage
+  pub each : E log new.word new.file new.value new.outcome
+
+pub record LogLaws (all : List Moment) (P : Going) (E : Ending) : Type 0 where
+  -- nothing was said for it
+  pub none : (w : Word) (file : ℕ) (v : List ℕ) (u : History) → IsUnopened u → IsUnchanged u → E [] w file v u
+  -- its first call was sent
+  pub opens : (x file : ℕ) (v : List ℕ) → P (Sent (hash_call x file 0) ∷ []) file v (stage.Hashing 1 x)
+  pub closes : (x temp file : ℕ) (v : List ℕ) → P (Sent (make_call x temp file) ∷ []) file v (stage.Making x temp)
+  -- what is true of one under way is so however it ends, but where an open gets its content
+  pub other : (log : List Deal) (file : ℕ) (v : List ℕ) (st : Stage) (u : History) → P log file v st → IsUnopened u → IsUnchanged u → E log (stage_word st) file v u
+  -- an answer came
+  pub heard : (book more : Book) (taken : List TakenCall) (j : Job) (o : Op) (p : ℕ) (s : client.State) (x : ℕ) (b : Body) → book.moments ≡ all → Answering book more taken j o p s x (took (idle s) (client.calls_of s) j.file j.stage x b)
+      → (log : List Deal) → P log o.file o.value j.stage → (let r = took (idle s) (client.calls_of s) j.file j.stage x b in After P E (log ++ deals_with (message.Answer x b ∷ []) r.1.send) r (op_after o r.0 taken (book.steps + 1) r.1))
+
+abbrev pub LogsAt : (P : Going) (E : Ending) (past : List Moment) → Core → Type 0
+LogsAt P E past k = HaveLogs P E past k.steps k.seats k.ops
+
+-- ---- events of the server
+
+same_seats : (seats : List Seat) (i : ℕ) (seat : Seat) (j : Job) → numbered seats i ≡ Some seat → job seat ≡ Some j → (old : Seat) × (numbered seats i ≡ Some old) × (job old ≡ Some j)
+same_seats seats i seat j here is = (seat, here, is)
+
+-- nothing is said, and operations and clients are as they were
+stays : (P : Going) (E : Ending) (past : List Moment) (k after : Core) (e : Event) → IsSilent (moment k e) → k.steps ≤ after.steps → after.seats ≡ k.seats → after.ops ≡ k.ops → LogsAt P E past k → LogsAt P E (past ++ moment k e ∷ []) after
+stays P E past k after e silent le seats ops h =
+    subst (λ (l : List Seat). HaveLogs P E (past ++ moment k e ∷ []) after.steps l after.ops) (sym seats)
+    (subst (λ (l : List Op). HaveLogs P E (past ++ moment k e ∷ []) after.steps k.seats l) (sym ops)
+    (logs_quiet P E past (moment k e) k.steps after.steps k.seats k.seats k.ops k.ops silent le (same_seats k.seats) (as_before k.ops) h))
+
+logs_joins : (P : Going) (E : Ending) (past : List Moment) (k : Core) (c : ℕ) (seat : Seat) → numbered k.seats c ≡ Some seat → LogsAt P E past k → LogsAt P E (past ++ moment k (Joins c) ∷ []) (joins k c (Some seat)).core
+logs_joins P E past k c seat here h = let r = server_step k.server event.Connect in by r.0 r.1.told
+  where
+    silent : IsSilent (moment k (Joins c))
+    silent = (refl, up (numbered k.seats c))
+      where
+        made : (z : Seat) (s : server.State) (o : Announced) → (joins_as k c z s o).up ≡ []
+        made z s (announced.Session n) = refl
+        made z s _ = refl
+
+        up : (o : Option Seat) → (joins k c o).up ≡ []
+        up None = refl
+        up (Some z) = let r = server_step k.server event.Connect in made z r.0 r.1.told
+
+    joining : (made : ℕ) (i : ℕ) (z : Seat) (j : Job) → numbered (with_numbered k.seats c (record seat { client = joined seat.client; session = Some made })) i ≡ Some z → job z ≡ Some j → (old : Seat) × (numbered k.seats i ≡ Some old) × (job old ≡ Some j)
+    joining made i z j there is = elim (Rattle.kept_promise.proofs.Versions.of_numbered k.seats c (record seat { client = joined seat.client; session = Some made }) i z there) [
+      | inl mine ↦ (seat, ap (numbered k.seats) mine.0 ∙ here, ap job (sym mine.1) ∙ is)
+      | inr other ↦ (z, other.1, is)
+    ]
+
+    by : (s : server.State) (o : Announced) → LogsAt P E (past ++ moment k (Joins c) ∷ []) (joins_as k c seat s o).core
+    by s (announced.Session made) = logs_quiet P E past (moment k (Joins c)) k.steps (k.steps + 2) k.seats (with_numbered k.seats c (record seat { client = joined seat.client; session = Some made })) k.ops k.ops silent (omega arith) (joining made) (as_before k.ops) h
+    by s _ = logs_quiet P E past (moment k (Joins c)) k.steps (k.steps + 2) k.seats k.seats k.ops k.ops silent (omega arith) (same_seats k.seats) (as_before k.ops) h
+
+serves_silent : (k : Core) (n now : ℕ) (bytes : List ℕ) (x : Option Session) → (let t = serves k n now bytes x in (t.up ≡ []) × (t.core.ops ≡ k.ops) × (t.core.seats ≡ k.seats) × (k.steps ≤ t.core.steps))
+serves_silent k n now bytes None = (refl, refl, refl, omega arith)
+serves_silent k n now bytes (Some x) = by (parse_of server_waiting bytes)
+  where
+    by : (m : Result Message WireFault) → (let t = serves_if k n now x m in (t.up ≡ []) × (t.core.ops ≡ k.ops) × (t.core.seats ≡ k.seats) × (k.steps ≤ t.core.steps))
+    by (Ok m) = (refl, refl, refl, omega arith)
+    by (Err e) = (refl, refl, refl, omega arith)
+
+hangs_silent : (k : Core) (n : ℕ) (x : Option Session) → (let t = hangs k n x in (t.up ≡ []) × (t.core.ops ≡ k.ops) × (t.core.seats ≡ k.seats) × (k.steps ≤ t.core.steps))
+hangs_silent k n None = (refl, refl, refl, omega arith)
+hangs_silent k n (Some x) = by x.hung
+  where
+    by : (b : Bool) → (let t = hangs_if k n x b in (t.up ≡ []) × (t.core.ops ≡ k.ops) × (t.core.seats ≡ k.seats) × (k.steps ≤ t.core.steps))
+    by true = (refl, refl, refl, omega arith)
+    by false = (refl, refl, refl, omega arith)
+
+logs_serves : (P : Going) (E : Ending) (past : List Moment) (k : Core) (n now : ℕ) (bytes : List ℕ) → LogsAt P E past k → LogsAt P E (past ++ moment k (Serves n now bytes) ∷ []) (happens k (Serves n now bytes)).core
+logs_serves P E past k n now bytes h = let s = serves_silent k n now bytes (numbered k.sessions n) in stays P E past k (happens k (Serves n now bytes)).core (Serves n now bytes) (refl, s.0) s.3 s.2 s.1 h
+
+logs_hangs : (P : Going) (E : Ending) (past : List Moment) (k : Core) (n : ℕ) → LogsAt P E past k → LogsAt P E (past ++ moment k (Hangs n) ∷ []) (happens k (Hangs n)).core
+logs_hangs P E past k n h = let s = hangs_silent k n (numbered k.sessions n) in stays P E past k (happens k (Hangs n)).core (Hangs n) (refl, s.0) s.3 s.2 s.1 h
+
+logs_settles : (P : Going) (E : Ending) (book : Book) (past : List Moment) (k : Core) (qs : List Queue) (now : ℕ) → IsKept book k qs → LogsAt P E past k → LogsAt P E (past ++ moment k (Settles now) ∷ []) (settles k now).core
+logs_settles P E book past k qs now kept h = logs_quiet P E past (moment k (Settles now)) k.steps (k.steps + 1) k.seats k.seats k.ops (settles k now).core.ops (refl, refl) (omega arith) (same_seats k.seats) (by (settled_are book k qs now kept)) h
+  where
+    by : Rattle.kept_promise.proofs.VersionRuns.Settled k (settles k now).core.ops → AreAsBefore k.ops (settles k now).core.ops
+    by (inl same) = subst (AreAsBefore k.ops) (sym same) (as_before k.ops)
+    by (inr s) = subst (AreAsBefore k.ops) (sym s.4) (λ p r at. elim (Rattle.kept_promise.proofs.Lists.of_replaced k.ops s.0 (record s.1 { point = Some (k.steps + 1) }) p r at) [
+      | inl made ↦ (s.1, Some (k.steps + 1), ap (slice_get k.ops) made.0 ∙ s.2, made.1)
+      | inr old ↦ (r, r.point, old.1, refl)
+    ])
+
+-- ---- a connection is lost
+
+logs_cuts : (P : Going) (E : Ending) (all : List Moment) → LogLaws all P E → (book : Book) (past : List Moment) (k : Core) (qs : List Queue) (c : ℕ) (seat : Seat) → IsKept book k qs → numbered k.seats c ≡ Some seat → LogsAt P E past k → LogsAt P E (past ++ moment k (Cuts c) ∷ []) (cuts k c (Some seat)).core
+logs_cuts P E all laws book past k qs c seat kept here h = by seat.client.linked
+  where
+    lost : Ended
+    lost = record { outcome = outcome.Lost; rests_on = 0 }
+
+    taken : List TakenCall
+    taken = session_taken (session_of k.sessions seat.session)
+
+    gone : client.State
+    gone = record seat.client { linked = false; task = None; forgotten = [] }
+
+    m : Moment
+    m = moment k (Cuts c)
+
+    silent : IsSilent (moment k (Cuts c))
+    silent = (refl, up (numbered k.seats c))
+      where
+        acts : (t : Option Task) → (ended_by t (record { outcome = outcome.Lost; rests_on = 0 })).send ≡ []
+        acts None = refl
+        acts (Some t) = refl
+
+        link : (z : Seat) (b : Bool) → (cuts_if k c z b).up ≡ []
+        link z true = acts z.client.task
+        link z false = refl
+
+        up : (o : Option Seat) → (cuts k c o).up ≡ []
+        up None = refl
+        up (Some z) = link z z.client.linked
+
+    log_is : (o r : Op) → Rattle.kept_promise.proofs.Counted.AlikeUpTo k.steps o r → deals_of r (past ++ moment k (Cuts c) ∷ []) ≡ deals_of o past
+    log_is o r same = deals_more r past (moment k (Cuts c)) ∙ ap (λ l. deals_of r past ++ l) (deals_silent r (moment k (Cuts c)) silent) ∙ append-nil (deals_of r past) ∙ deals_alike k.steps o r past same h.by
+
+    renewed : (t : Option Task) (p : ℕ) (o : Op) → seat.place ≡ Some p → slice_get k.ops p ≡ Some o → Renewed P E (past ++ moment k (Cuts c) ∷ []) gone (ended_by t lost) (op_after o gone taken (k.steps + 1) (ended_by t lost))
+    renewed None p o e at =
+        let actor = (acts_alone book k qs c seat kept here).own p o e at in
+        let new : Op = op_after o gone taken (k.steps + 1) (ended_by None lost) in
+        record { stage = λ u a is. nothing_there u is; each = subst (λ l. E l o.word o.file o.value o.outcome) (sym (log_is o new (running_past o gone taken k.steps (ended_by None lost) actor.1))) (h.each p o at) }
+    renewed (Some t) p o e at =
+        let actor = (acts_alone book k qs c seat kept here).own p o e at in
+        let new : Op = op_after o gone taken (k.steps + 1) (ended_by (Some t) lost) in
+        let w = own_op book k qs c seat p o kept here e at in
+        let j : Job = w.0 in
+        let of = (kept.seats c seat here).task j w.1 in
+        let book_at_place : slice_get book.ops j.place ≡ Some o = ap (λ (l : List Op). slice_get l j.place) kept.ops ∙ ap (slice_get k.ops) w.2 ∙ at in
+        let word : o.word ≡ stage_word j.stage = ap (λ (z : Op). z.word) (some_is o of.op (sym book_at_place ∙ of.there)) ∙ of.word in
+        let was = h.jobs c seat j o here w.1 (ap (slice_get k.ops) w.2 ∙ at) in
+        record {
+          stage = λ u a is. nothing_there u is;
+          each = subst (λ l. E l o.word o.file o.value told.Lost) (sym (log_is o new (running_past o gone taken k.steps (ended_by (Some t) lost) actor.1))) (subst (λ z. E (deals_of o past) z o.file o.value told.Lost) (sym word) (laws.other (deals_of o past) o.file o.value j.stage told.Lost was (λ len digest z. lost_not len digest z) (λ first last z. lost_not_changed first last z)));
+        }
+      where
+        lost_not : (len : ℕ) (digest : List ℕ) → told.Lost ≡ told.Opened len digest → ⊥
+        lost_not len digest z = absurd cc
+
+        lost_not_changed : (first last : ℕ) → told.Lost ≡ told.Changed first last → ⊥
+        lost_not_changed first last z = absurd cc
+
+    go : (t : Option Task) → HaveLogs P E (past ++ moment k (Cuts c) ∷ []) (k.steps + 1) (with_numbered k.seats c (record seat { client = gone; place = place_after seat.place (ended_by t lost).ended })) (ops_with k.ops seat.place gone taken (k.steps + 1) (ended_by t lost))
+    go t = logs_acts P E past (moment k (Cuts c)) k.steps k.seats k.ops c seat gone taken (ended_by t lost) refl (λ p o at apart. deals_silent o (moment k (Cuts c)) silent) (foreign_at book k qs c seat kept here) (renewed t) h
+
+    by : (b : Bool) → LogsAt P E (past ++ moment k (Cuts c) ∷ []) (cuts_if k c seat b).core
+    by false = stays P E past k (cuts_if k c seat false).core (Cuts c) silent (omega arith) refl refl h
+    by true = go seat.client.task
+
+-- ---- a command
+
+-- a client with nothing under way answers a command by itself, or its first call goes out
+abbrev Answers : client.State × ClientStep → Type 0
+Answers r = (r.1.send ≡ []) × ((e : Ended) × (r.1.ended ≡ Some e))
+
+abbrev Asks : Command → client.State × ClientStep → Type 0
+Asks d r = (r.1.ended ≡ None) × (
+    ((x : ℕ) × (r.1.send ≡ hash_call x (file_of d) 0 ∷ []) × (r.0.task ≡ Some (record { file = file_of d; stage = stage.Hashing 1 x })) × (word_of d ≡ words.Open))
+    ⊎ ((x : ℕ) × (temp : ℕ) × (r.1.send ≡ make_call x temp (file_of d) ∷ []) × (r.0.task ≡ Some (record { file = file_of d; stage = stage.Making x temp })) × (word_of d ≡ words.Close))
+    )
+
+begins_local : (s : client.State) (d : Command) (l : Option Local) (f : Local → client.State × ClientStep) → ((l : Local) → Answers (f l) ⊎ Asks d (f l)) → (let r = on_local s None l f in Answers r ⊎ Asks d r)
+begins_local s d None f h = inl (refl, (_, refl))
+begins_local s d (Some l) f h = h l
+
+begins_edits : (s : client.State) (file : ℕ) (l : Local) (size : ℕ) (content : List ℕ) → Answers (edits s file l size content)
+begins_edits s file l size content = by (nat_lt local_most size)
+  where
+    by : (b : Bool) → Answers (if b then too_big s size else done_with s file l content)
+    by true = (refl, (_, refl))
+    by false = (refl, (_, refl))
+
+begins_writes : (s : client.State) (file offset : ℕ) (content : List Part) (l : Local) → Answers (writes s file offset content l)
+begins_writes s file offset content l = by (content_length content == 0)
+  where
+    by : (b : Bool) → Answers (if b then (s, ends outcome.Done 0 0) else edits s file l (written_size (length l.bytes) offset (content_length content)) (written l.bytes offset (content_bytes content)))
+    by true = (refl, (_, refl))
+    by false = begins_edits s file l (written_size (length l.bytes) offset (content_length content)) (written l.bytes offset (content_bytes content))
+
+begins_opens : (s : client.State) (file : ℕ) → (let r = opens s file None in Answers r ⊎ Asks (command.Open file) r)
+begins_opens s file = by (is_open s.opened file)
+  where
+    asks : (b : Bool) → (let r = asks_hashes s file b in Answers r ⊎ Asks (command.Open file) r)
+    asks true = inr (refl, inl (s.next, refl, refl, refl))
+    asks false = inl (refl, (_, refl))
+
+    by : (b : Bool) → (let r = opens_if s file b in Answers r ⊎ Asks (command.Open file) r)
+    by true = inl (refl, (_, refl))
+    by false = asks (may_ask s)
+
+begins_closes : (s : client.State) (file : ℕ) (b : Bool) → (let r = asks_temp s file b in Answers r ⊎ Asks (command.Close file) r)
+begins_closes s file true = inr (refl, inr (s.next, s.next_temp, refl, refl, refl))
+begins_closes s file false = inl (refl, (_, refl))
+
+begins_free : (s : client.State) (d : Command) (now : ℕ) → s.task ≡ None → (let r = command_step s d now in Answers r ⊎ Asks d r)
+begins_free s (command.Open file) now free = subst (λ (o : Option Task). let r = opens s file o in Answers r ⊎ Asks (command.Open file) r) (sym free) (begins_opens s file)
+begins_free s (command.Write file offset content) now free = subst (λ (o : Option Task). let r = on_local s o (client.local_at s.opened file) (writes s file offset content) in Answers r ⊎ Asks (command.Write file offset content) r) (sym free) (begins_local s (command.Write file offset content) (client.local_at s.opened file) (writes s file offset content) (λ l. inl (begins_writes s file offset content l)))
+begins_free s (command.Trunc file size) now free = subst (λ (o : Option Task). let r = on_local s o (client.local_at s.opened file) (truncates s file size) in Answers r ⊎ Asks (command.Trunc file size) r) (sym free) (begins_local s (command.Trunc file size) (client.local_at s.opened file) (truncates s file size) (λ l. inl (begins_edits s file l size (truncated l.bytes size))))
+begins_free s (command.Read file offset count) now free = subst (λ (o : Option Task). let r = on_local s o (client.local_at s.opened file) (reads s offset count) in Answers r ⊎ Asks (command.Read file offset count) r) (sym free) (begins_local s (command.Read file offset count) (client.local_at s.opened file) (reads s offset count) (λ l. inl (refl, (_, refl))))
+begins_free s (command.Close file) now free = subst (λ (o : Option Task). let r = on_local s o (client.local_at s.opened file) (closes s file) in Answers r ⊎ Asks (command.Close file) r) (sym free) (begins_local s (command.Close file) (client.local_at s.opened file) (closes s file) (λ l. begins_closes s file (may_ask s)))
+begins_free s (command.Abandon file) now free = subst (λ (o : Option Task). let r = on_local s o (client.local_at s.opened file) (abandons s file) in Answers r ⊎ Asks (command.Abandon file) r) (sym free) (begins_local s (command.Abandon file) (client.local_at s.opened file) (abandons s file) (λ l. inl (refl, (_, refl))))
+
+-- what a command makes of an operation, whatever its client answers
+abbrev new_op : (c : ℕ) → Command → (value : List ℕ) → (step : ℕ) → client.State → ClientStep → Op
+new_op c d value step s acts = op_after (begun c (word_of d) (file_of d) value step) s [] step acts
+
+record IsNew (c : ℕ) (d : Command) (step : ℕ) (acts : ClientStep) (new : Op) : Type 0 where
+  client : new.client ≡ c
+  word : new.word ≡ word_of d
+  file : new.file ≡ file_of d
+  begin : new.begin ≡ step
+  point : new.point ≡ None
+  here : is_in new step c ≡ true
+  running : acts.ended ≡ None → new.outcome ≡ told.Running
+  over : (e : ℕ) → new.end ≡ Some e → e ≡ step
+
+is_new : (c : ℕ) (d : Command) (value : List ℕ) (step : ℕ) (s : client.State) (acts : ClientStep) → IsNew c d step acts (op_after (begun c (word_of d) (file_of d) value step) s [] step acts)
+is_new c d value step s acts = by acts.ended
+  where
+    pointless : (b : Bool) (x : ℕ) → point_if b [] x None ≡ None
+    pointless true x = refl
+    pointless false x = refl
+
+    here : (e : Option Ended) → is_in (op_after (begun c (word_of d) (file_of d) value step) s [] step (record acts { ended = e })) step c ≡ true
+    here None = grind (arith, Rattle.std.proofs.lemmas.Bool.Decides.nat_tests)
+    here (Some e) = grind (arith, Rattle.std.proofs.lemmas.Bool.Decides.nat_tests)
+
+    by : (e : Option Ended) → IsNew c d step (record acts { ended = e }) (op_after (begun c (word_of d) (file_of d) value step) s [] step (record acts { ended = e }))
+    by None = record { client = refl; word = refl; file = refl; begin = refl; point = refl; here = here None; running = λ z. refl; over = λ x z. nothing_there x z }
+    by (Some e) = record { client = refl; word = refl; file = refl; begin = refl; point = pointless (has_point (word_of d) e.outcome) e.rests_on; here = here (Some e); running = λ z. nothing_there e (sym z); over = λ x z. sym (some_is step x z) }
+
+logs_does : (P : Going) (E : Ending) (all : List Moment) → LogLaws all P E → (book more : Book) (past : List Moment) (k : Core) (qs after : List Queue) (c now : ℕ) (d : Command) (seat : Seat) → IsKept book k qs → numbered k.seats c ≡ Some seat → IsKept more (does k c now d (Some seat)).core after → LogsAt P E past k → LogsAt P E (past ++ moment k (Does c now d) ∷ []) (does k c now d (Some seat)).core
+logs_does P E all laws book more past k qs after c now d seat kept here left h =
+    logs_begins P E past (moment k (Does c now d)) k.steps k.seats k.ops c (record seat { client = r.0; place = place_with seat.place (length k.ops) r.1.ended }) new refl others within_all (mine (kept.seats c seat here).matched) (each (kept.seats c seat here).matched) h
+  where
+    r : client.State × ClientStep
+    r = command_step seat.client d now
+
+    value : List ℕ
+    value = value_at_begin seat.client (word_of d) (file_of d) (command_step seat.client d now).1.ended
+
+    new : Op
+    new = op_after (begun c (word_of d) (file_of d) (value_at_begin seat.client (word_of d) (file_of d) (command_step seat.client d now).1.ended) (k.steps + 1)) (command_step seat.client d now).0 [] (k.steps + 1) (command_step seat.client d now).1
+
+    is : IsNew c d (k.steps + 1) (command_step seat.client d now).1 (op_after (begun c (word_of d) (file_of d) (value_at_begin seat.client (word_of d) (file_of d) (command_step seat.client d now).1.ended) (k.steps + 1)) (command_step seat.client d now).0 [] (k.steps + 1) (command_step seat.client d now).1)
+    is = is_new c d (value_at_begin seat.client (word_of d) (file_of d) (command_step seat.client d now).1.ended) (k.steps + 1) (command_step seat.client d now).0 (command_step seat.client d now).1
+
+    sent : (happens k (Does c now d)).up ≡ (command_step seat.client d now).1.send
+    sent = ap (λ (o : Option Seat). (does k c now d o).up) here
+
+    -- with an operation under way nothing is sent
+    busy : (t : Task) → seat.client.task ≡ Some t → IsSilent (moment k (Does c now d))
+    busy t task = (refl, sent ∙ (busy_command seat.client d now t task).0)
+
+    others : (p : ℕ) (o : Op) → slice_get k.ops p ≡ Some o → deals_in o (moment k (Does c now d)) ≡ []
+    others p o at = by seat.place refl (kept.seats c seat here).matched
+      where
+        by : (l : Option ℕ) → seat.place ≡ l → IsMatched seat → deals_in o (moment k (Does c now d)) ≡ []
+        by None e m = deals_apart o (moment k (Does c now d)) ((acts_alone book k qs c seat kept here).other p o at (λ z. nothing_there p (sym e ∙ z)))
+        by (Some l) e (inl m) = nothing_there l (sym m.0 ∙ e)
+        by (Some l) e (inr m) = deals_silent o (moment k (Does c now d)) (busy (record { file = m.0.file; stage = m.0.stage }) (job_task seat.place seat.client.task m.0 m.1))
+
+    within_all : (a : ℕ) (s : Seat) (j : Job) → numbered k.seats a ≡ Some s → job s ≡ Some j → j.place < length k.ops
+    within_all a s j at is = let of = (kept.seats a s at).task j is in within k.ops j.place of.op (ap (λ (l : List Op). slice_get l j.place) (sym kept.ops) ∙ of.there)
+
+    -- what was said for it
+    log_is : deals_of (op_after (begun c (word_of d) (file_of d) (value_at_begin seat.client (word_of d) (file_of d) (command_step seat.client d now).1.ended) (k.steps + 1)) (command_step seat.client d now).0 [] (k.steps + 1) (command_step seat.client d now).1) (past ++ moment k (Does c now d) ∷ []) ≡ map Sent (command_step seat.client d now).1.send
+    log_is =
+        let o : Op = op_after (begun c (word_of d) (file_of d) (value_at_begin seat.client (word_of d) (file_of d) (command_step seat.client d now).1.ended) (k.steps + 1)) (command_step seat.client d now).0 [] (k.steps + 1) (command_step seat.client d now).1 in
+        let begin = is.begin in
+        deals_more o past (moment k (Does c now d))
+        ∙ ap (λ l. l ++ deals_in o (moment k (Does c now d))) (deals_early k.steps o past (omega (arith, begin)) h.by)
+        ∙ deals_own o (moment k (Does c now d)) is.here
+        ∙ ap (λ l. deals_with [] l) sent
+
+    never : (len : ℕ) (digest : List ℕ) → (op_after (begun c (word_of d) (file_of d) (value_at_begin seat.client (word_of d) (file_of d) (command_step seat.client d now).1.ended) (k.steps + 1)) (command_step seat.client d now).0 [] (k.steps + 1) (command_step seat.client d now).1).outcome ≡ told.Opened len digest → ⊥
+    never len digest e =
+        let o : Op = op_after (begun c (word_of d) (file_of d) (value_at_begin seat.client (word_of d) (file_of d) (command_step seat.client d now).1.ended) (k.steps + 1)) (command_step seat.client d now).0 [] (k.steps + 1) (command_step seat.client d now).1 in
+        let right : IsRight more o = left.sound.rights (length k.ops) o (ap (λ (l : List Op). slice_get l (length k.ops)) left.ops ∙ at_end k.ops o) in
+        let w = subst (Caused more o) e right.cause in
+        nothing_there w.1.point (sym is.point ∙ w.1.within.0)
+
+    -- nor was there time to try
+    unchanged : (first last : ℕ) → (op_after (begun c (word_of d) (file_of d) (value_at_begin seat.client (word_of d) (file_of d) (command_step seat.client d now).1.ended) (k.steps + 1)) (command_step seat.client d now).0 [] (k.steps + 1) (command_step seat.client d now).1).outcome ≡ told.Changed first last → ⊥
+    unchanged first last e =
+        let o : Op = op_after (begun c (word_of d) (file_of d) (value_at_begin seat.client (word_of d) (file_of d) (command_step seat.client d now).1.ended) (k.steps + 1)) (command_step seat.client d now).0 [] (k.steps + 1) (command_step seat.client d now).1 in
+        let right : IsRight more o = left.sound.rights (length k.ops) o (ap (λ (l : List Op). slice_get l (length k.ops)) left.ops ∙ at_end k.ops o) in
+        let w = (subst (Caused more o) e right.cause).1 in
+        let le = tried_from more o.file o.begin 3 w.first w.before in
+        let lt = w.order in
+        let past = w.past in
+        let end = is.over w.end w.end_is in
+        let begin = is.begin in
+        absurd (omega (arith, le, lt, past, end, begin))
+
+    nothing : (command_step seat.client d now).1.send ≡ [] → E (deals_of (op_after (begun c (word_of d) (file_of d) (value_at_begin seat.client (word_of d) (file_of d) (command_step seat.client d now).1.ended) (k.steps + 1)) (command_step seat.client d now).0 [] (k.steps + 1) (command_step seat.client d now).1) (past ++ moment k (Does c now d) ∷ [])) new.word new.file new.value new.outcome
+    nothing none = subst (λ l. E l new.word new.file new.value new.outcome) (sym (log_is ∙ ap (map Sent) none)) (laws.none new.word new.file new.value new.outcome never unchanged)
+
+    asked : (st : Stage) → P (map Sent (command_step seat.client d now).1.send) (file_of d) new.value st → stage_word st ≡ word_of d → E (deals_of (op_after (begun c (word_of d) (file_of d) (value_at_begin seat.client (word_of d) (file_of d) (command_step seat.client d now).1.ended) (k.steps + 1)) (command_step seat.client d now).0 [] (k.steps + 1) (command_step seat.client d now).1) (past ++ moment k (Does c now d) ∷ [])) new.word new.file new.value new.outcome
+    asked st p w =
+        subst (λ l. E l new.word new.file new.value new.outcome) (sym log_is)
+        (subst (λ z. E (map Sent (command_step seat.client d now).1.send) z new.file new.value new.outcome) (w ∙ sym is.word)
+        (subst (λ z. E (map Sent (command_step seat.client d now).1.send) (stage_word st) z new.value new.outcome) (sym is.file)
+        (laws.other (map Sent (command_step seat.client d now).1.send) (file_of d) new.value st new.outcome p never unchanged)))
+
+    each : IsMatched seat → E (deals_of (op_after (begun c (word_of d) (file_of d) (value_at_begin seat.client (word_of d) (file_of d) (command_step seat.client d now).1.ended) (k.steps + 1)) (command_step seat.client d now).0 [] (k.steps + 1) (command_step seat.client d now).1) (past ++ moment k (Does c now d) ∷ [])) new.word new.file new.value new.outcome
+    each (inr m) = nothing (busy_command seat.client d now (record { file = m.0.file; stage = m.0.stage }) (job_task seat.place seat.client.task m.0 m.1)).0
+    each (inl m) = by (begins_free seat.client d now m.1)
+      where
+        by : (let r = command_step seat.client d now in Answers r ⊎ Asks d r) → E (deals_of (op_after (begun c (word_of d) (file_of d) (value_at_begin seat.client (word_of d) (file_of d) (command_step seat.client d now).1.ended) (k.steps + 1)) (command_step seat.client d now).0 [] (k.steps + 1) (command_step seat.client d now).1) (past ++ moment k (Does c now d) ∷ [])) new.word new.file new.value new.outcome
+        by (inl a) = nothing a.0
+        by (inr (running, inl (x, send, task, word))) = asked (stage.Hashing 1 x) (subst (λ l. P (map Sent l) (file_of d) new.value (stage.Hashing 1 x)) (sym send) (laws.opens x (file_of d) new.value)) (sym word)
+        by (inr (running, inr (x, temp, send, task, word))) = asked (stage.Making x temp) (subst (λ l. P (map Sent l) (file_of d) new.value (stage.Making x temp)) (sym send) (laws.closes x temp (file_of d) new.value)) (sym word)
+
+    mine : IsMatched seat → (j : Job) (o : Op) → job_of (place_with seat.place (length k.ops) (command_step seat.client d now).1.ended) (command_step seat.client d now).0.task ≡ Some j → slice_get (k.ops ++ new ∷ []) j.place ≡ Some o → P (deals_of o (past ++ moment k (Does c now d) ∷ [])) o.file o.value j.stage
+    mine (inr m) j o is_job at =
+        let place = job_place seat.place seat.client.task m.0 m.1 in
+        let t : Task = record { file = m.0.file; stage = m.0.stage } in
+        let task = job_task seat.place seat.client.task m.0 m.1 in
+        let still : job seat ≡ Some j = was seat.place place (ap (λ (z : client.State). job_of (place_with seat.place (length k.ops) (command_step seat.client d now).1.ended) z.task) (sym (busy_command seat.client d now t task).1) ∙ is_job) in
+        elim (of_appended k.ops new j.place o at) [
+          | inl last ↦ (let lt = within_all c seat j here still in let e = last.0 in absurd (omega (arith, lt, e)))
+          | inr old ↦ subst (λ l. P l o.file o.value j.stage) (sym (deals_same o past (moment k (Does c now d)) (deals_silent o (moment k (Does c now d)) (busy t task)))) (h.jobs c seat j o here still old)
+        ]
+      where
+        was : (l : Option ℕ) → l ≡ Some m.0.place → job_of (place_with l (length k.ops) (command_step seat.client d now).1.ended) seat.client.task ≡ Some j → job_of l seat.client.task ≡ Some j
+        was None w q = nothing_there m.0.place w
+        was (Some p) w q = q
+    mine (inl m) j o is_job at = by (begins_free seat.client d now m.1)
+      where
+        none_with : (l : Option ℕ) (e : Option Ended) (x : Ended) → l ≡ None → e ≡ Some x → job_of (place_with l (length k.ops) e) (command_step seat.client d now).0.task ≡ Some j → ⊥
+        none_with None None x a b q = nothing_there x b
+        none_with None (Some y) x a b q = nothing_there j q
+        none_with (Some p) e x a b q = nothing_there p (sym a)
+
+        placed : (l : Option ℕ) (e : Option Ended) → l ≡ None → e ≡ None → job_of (place_with l (length k.ops) e) (command_step seat.client d now).0.task ≡ Some j → (length k.ops ≡ j.place) × ((command_step seat.client d now).0.task ≡ Some (record { file = j.file; stage = j.stage }))
+        placed None None a b q = (some_is (length k.ops) j.place (job_place (Some (length k.ops)) (command_step seat.client d now).0.task j q), job_task (Some (length k.ops)) (command_step seat.client d now).0.task j q)
+        placed None (Some y) a b q = nothing_there y (sym b)
+        placed (Some p) e a b q = nothing_there p (sym a)
+
+        shown : (st : Stage) → (command_step seat.client d now).1.ended ≡ None → (command_step seat.client d now).0.task ≡ Some (record { file = file_of d; stage = st }) → P (map Sent (command_step seat.client d now).1.send) (file_of d) new.value st → P (deals_of o (past ++ moment k (Does c now d) ∷ [])) o.file o.value j.stage
+        shown st running task p =
+            let w = placed seat.place (command_step seat.client d now).1.ended m.0 running is_job in
+            let same : new ≡ o = some_is new o (sym (at_end k.ops new) ∙ ap (slice_get (k.ops ++ new ∷ [])) w.0 ∙ at) in
+            let on : st ≡ j.stage = ap (λ (z : Task). z.stage) (some_is (record { file = file_of d; stage = st }) (record { file = j.file; stage = j.stage }) (sym task ∙ w.1)) in
+            subst (λ (z : Op). P (deals_of z (past ++ moment k (Does c now d) ∷ [])) z.file z.value j.stage) same
+            (subst (P (deals_of new (past ++ moment k (Does c now d) ∷ [])) new.file new.value) on
+            (subst (λ l. P l new.file new.value st) (sym log_is) (subst (λ f. P (map Sent (command_step seat.client d now).1.send) f new.value st) (sym is.file) p)))
+
+        by : (let r = command_step seat.client d now in Answers r ⊎ Asks d r) → P (deals_of o (past ++ moment k (Does c now d) ∷ [])) o.file o.value j.stage
+        by (inl a) = absurd (none_with seat.place (command_step seat.client d now).1.ended a.1.0 m.0 a.1.1 is_job)
+        by (inr (running, inl (x, send, task, word))) = shown (stage.Hashing 1 x) running task (subst (λ l. P (map Sent l) (file_of d) new.value (stage.Hashing 1 x)) (sym send) (laws.opens x (file_of d) new.value))
+        by (inr (running, inr (x, temp, send, task, word))) = shown (stage.Making x temp) running task (subst (λ l. P (map Sent l) (file_of d) new.value (stage.Making x temp)) (sym send) (laws.closes x temp (file_of d) new.value))
+
+-- ---- an answer
+
+-- what an answer comes to, of which these were taken
+abbrev Comes : (P : Going) (E : Ending) (more : Book) (ops : List Op) (p : ℕ) → Op → List TakenCall → (steps : ℕ) → List Deal → client.State × ClientStep → List Message → Type 0
+Comes P E more ops p o taken n log got ms = more.ops ≡ slice_set ops p (op_after o got.0 taken (n + 1) got.1) → IsRight more (op_after o got.0 taken (n + 1) got.1) → After P E (log ++ deals_with ms got.1.send) got (op_after o got.0 taken (n + 1) got.1)
+
+answered : (P : Going) (E : Ending) (all : List Moment) → LogLaws all P E → (book more : Book) (taken : List TakenCall) (j : Job) (o : Op) (p : ℕ) (c : client.State) (x : ℕ) (b : Body) (log : List Deal) → book.moments ≡ all → c.task ≡ Some (record { file = j.file; stage = j.stage }) → P log o.file o.value j.stage → E log o.word o.file o.value o.outcome
+    → ((got : client.State × ClientStep) → more.ops ≡ slice_set book.ops p (op_after o got.0 taken (book.steps + 1) got.1) → IsRight more (op_after o got.0 taken (book.steps + 1) got.1) → Answering book more taken j o p c x got)
+    → Comes P E more book.ops p o taken book.steps log (got_message c c.task (message.Answer x b)) (wanted_by c (Ok (message.Answer x b)))
+answered P E all laws book more taken j o p c x b log all_is task was each known =
+    subst (λ (t : Option Task). Comes P E more book.ops p o taken book.steps log (took_if c t x b (client.has_call (client.pending t) x)) (wanted_if (client.has_call (client.pending t) x) (message.Answer x b))) (sym task) (by (client.has_call (client.pending_in j.stage) x))
+  where
+    dropped : (forgotten : Bool) → Comes P E more book.ops p o taken book.steps log (drops c (Some (record { file = j.file; stage = j.stage })) x forgotten) []
+    dropped true ops right = record {
+      stage = λ u running is. subst (λ l. P l o.file o.value u.stage) (sym (append-nil log)) (subst (P log o.file o.value) (ap (λ (z : Task). z.stage) (some_is (record { file = j.file; stage = j.stage }) u (sym task ∙ is))) was);
+      each = subst (λ l. E l o.word o.file o.value o.outcome) (sym (append-nil log)) each;
+    }
+    dropped false ops right = let r = bad_peer c (bad.UnknownXid x) 0 in absurd (no_fault_after more o r.0 taken (book.steps + 1) r.1 right (bad.UnknownXid x, refl))
+
+    by : (own : Bool) → Comes P E more book.ops p o taken book.steps log (took_if c (Some (record { file = j.file; stage = j.stage })) x b own) (wanted_if own (message.Answer x b))
+    by true ops right = laws.heard book more taken j o p c x b all_is (known (took (idle c) (client.calls_of c) j.file j.stage x b) ops right) log was
+    by false ops right = dropped (client.has_call c.forgotten x) ops right
+
+logs_hears : (P : Going) (E : Ending) (all : List Moment) → LogLaws all P E → FitLaws → (opening : List Opening) (past : List Moment) (k : Core) (qs after : List Queue) (n now : ℕ) (bytes : List ℕ) (mid : List Queue) → IsKept (book_at opening k all) k qs → (h : Heard k qs n now bytes mid)
+    → IsKept (book_at opening (happens k (Hears n now bytes)).core all) (happens k (Hears n now bytes)).core after → LogsAt P E past k → LogsAt P E (past ++ moment k (Hears n now bytes) ∷ []) (happens k (Hears n now bytes)).core
+logs_hears P E all laws fits opening past k qs after n now bytes mid kept h left before =
+    subst (λ (t : CoreStep). LogsAt P E (past ++ moment k (Hears n now bytes) ∷ []) t.core) (sym turned)
+    (logs_acts P E past (moment k (Hears n now bytes)) k.steps k.seats k.ops h.session.owner h.seat r.0 taken r.1 refl
+    (λ p o at apart. deals_apart o (moment k (Hears n now bytes)) (ap (is_in o (k.steps + 1)) owner ∙ (acts_alone (book_at opening k all) k qs h.session.owner h.seat kept h.owner).other p o at apart))
+    (foreign_at (book_at opening k all) k qs h.session.owner h.seat kept h.owner) renewed before)
+  where
+    book : Book
+    book = book_at opening k all
+
+    more : Book
+    more = book_at opening (happens k (Hears n now bytes)).core all
+
+    r : client.State × ClientStep
+    r = got_step h.seat.client (Ok (told_message h.told)) now
+
+    taken : List TakenCall
+    taken = session_taken (session_of k.sessions h.seat.session)
+
+    turned : happens k (Hears n now bytes) ≡ acted k h.session.owner h.seat (got_step h.seat.client (Ok (told_message h.told)) now).0 (got_step h.seat.client (Ok (told_message h.told)) now).1
+    turned = heard_acts fits (book_at opening k all) k qs n now bytes mid kept h
+
+    owner : owner_in (numbered k.sessions n) ≡ h.session.owner
+    owner = ap owner_in h.at
+
+    taken_is : h.session.taken ≡ session_taken (session_of k.sessions h.seat.session)
+    taken_is = sym (ap (λ l. session_taken (session_of k.sessions l)) h.newest ∙ ap session_taken h.at)
+
+    s : IsSession (book_at opening k all) k.seats k.server n h.session h.queue
+    s = kept.sessions n h.session h.queue h.at h.queue_is
+
+    same_seat : s.seat ≡ h.seat
+    same_seat = some_is s.seat h.seat (sym s.owner ∙ h.owner)
+
+    renewed : (p : ℕ) (o : Op) → h.seat.place ≡ Some p → slice_get k.ops p ≡ Some o → Renewed P E (past ++ moment k (Hears n now bytes) ∷ []) (got_step h.seat.client (Ok (told_message h.told)) now).0 (got_step h.seat.client (Ok (told_message h.told)) now).1 (op_after o (got_step h.seat.client (Ok (told_message h.told)) now).0 (session_taken (session_of k.sessions h.seat.session)) (k.steps + 1) (got_step h.seat.client (Ok (told_message h.told)) now).1)
+    renewed p o e at =
+        let w = own_op book k qs h.session.owner h.seat p o kept h.owner e at in
+        let j : Job = w.0 in
+        let of = (kept.seats h.session.owner h.seat h.owner).task j w.1 in
+        let at_place : slice_get k.ops j.place ≡ Some o = ap (slice_get k.ops) w.2 ∙ at in
+        let word : o.word ≡ stage_word j.stage = ap (λ (z : Op). z.word) (some_is o of.op (sym at_place ∙ of.there)) ∙ of.word in
+        let task = job_task h.seat.place h.seat.client.task j w.1 in
+        let actor = (acts_alone book k qs h.session.owner h.seat kept h.owner).own p o e at in
+        let new : Op = op_after o r.0 taken (k.steps + 1) r.1 in
+        let ops_are : more.ops ≡ slice_set k.ops p new = ap (λ (t : CoreStep). t.core.ops) turned ∙ ap (λ l. ops_with k.ops l r.0 taken (k.steps + 1) r.1) e ∙ ap (λ l. ops_after k.ops p l r.0 taken (k.steps + 1) r.1) at in
+        let right = left.sound.rights p new (ap (λ (l : List Op). slice_get l p) ops_are ∙ at_replaced k.ops p new o at) in
+        let job_is : job s.seat ≡ Some j = ap job same_seat ∙ w.1 in
+        let talk = s.talk h.uncut in
+        let fetch = subst (λ z. FetchOf book z j j.stage) taken_is (talk.fetch j job_is) in
+        let trying = subst (IsTrying book) w.1 (kept.seats h.session.owner h.seat h.owner).trying in
+        let all_once = talk.balanced.once h.told.xid in
+        let split = times_map_append (λ (c : Pending). c.xid) h.told.xid (client.pending_in j.stage) s.seat.client.forgotten in
+        let task_there = ap (λ (z : Seat). z.client.task) same_seat ∙ task in
+        let calls = ap (λ (t : Option Task). times h.told.xid (map (λ (c : Pending). c.xid) (client.pending t ++ s.seat.client.forgotten))) task_there in
+        let apart = apart_in h.told.xid j.stage (omega (arith, all_once, split, calls)) in
+        let close = subst (λ (z : Seat). CloseOf book h.session.closing s.contents z.client.next_temp j (client.local_bytes z.client.opened j.file) j.stage) same_seat (s.closes h.uncut j job_is) in
+        let value = value_by book h.session.closing s.contents h.seat.client.next_temp j o (client.local_bytes h.seat.client.opened j.file) at_place j.stage close in
+        let log = log_is o new (running_past o r.0 taken k.steps r.1 actor.1) (running_now o r.0 taken k.steps h.session.owner r.1 actor.0 actor.1 actor.2) in
+        let a = answered P E all laws book more taken j o p h.seat.client h.told.xid (reply_body h.told.reply) (deals_of o past) refl task (before.jobs h.session.owner h.seat j o h.owner w.1 at_place) (before.each p o at) (λ got ops_got right_got. record {
+          taking = record { at = at_place; place = w.2; file = w.5; word = word; running = w.4; fetch = fetch; trying = trying; opening = refl };
+          apart = apart;
+          value = value;
+          ops = ops_got;
+          right = right_got;
+          moments = refl;
+        }) ops_are right in
+        record {
+          stage = λ u running is. subst (λ l. P l new.file new.value u.stage) (sym log) (a.stage u running is);
+          each = subst (λ l. E l new.word new.file new.value new.outcome) (sym log) a.each;
+        }
+      where
+        value_by : (book : Book) (closing : Option ℕ) (contents : ℕ → List ℕ) (m : ℕ) (j : Job) (o : Op) (v : List ℕ) → slice_get book.ops j.place ≡ Some o → (st : Stage) → CloseOf book closing contents m j v st → stage_word st ≡ words.Close → o.value ≡ v
+        value_by book closing contents m j o v at (stage.Making x temp) h is = ap (λ (z : Op). z.value) (some_is o h.0.op (sym at ∙ h.0.there)) ∙ h.0.value_is
+        value_by book closing contents m j o v at (stage.Storing st) h is = ap (λ (z : Op). z.value) (some_is o h.0.op (sym at ∙ h.0.there)) ∙ h.0.value_is
+        value_by book closing contents m j o v at (stage.Committing x) h is = ap (λ (z : Op). z.value) (some_is o h.0 (sym at ∙ h.1)) ∙ h.3
+        value_by book closing contents m j o v at (stage.Hashing tries x) h is = absurd cc
+        value_by book closing contents m j o v at (stage.Listing x f) h is = absurd cc
+        value_by book closing contents m j o v at (stage.Reading f) h is = absurd cc
+
+        log_is : (o new : Op) → Rattle.kept_promise.proofs.Counted.AlikeUpTo k.steps o new → is_in new (k.steps + 1) h.session.owner ≡ true → deals_of new (past ++ moment k (Hears n now bytes) ∷ []) ≡ deals_of o past ++ deals_with (wanted_by h.seat.client (Ok (told_message h.told))) (got_step h.seat.client (Ok (told_message h.told)) now).1.send
+        log_is o new same now_in =
+            deals_more new past (moment k (Hears n now bytes))
+            ∙ ap (λ l. l ++ deals_in new (moment k (Hears n now bytes))) (deals_alike k.steps o new past same before.by)
+            ∙ ap (λ l. deals_of o past ++ l) (
+            deals_own new (moment k (Hears n now bytes)) (ap (is_in new (k.steps + 1)) owner ∙ now_in)
+            ∙ ap (λ i. deals_with (taken_by k i (Hears n now bytes)) (happens k (Hears n now bytes)).up) owner
+            ∙ ap (λ l. deals_with l (happens k (Hears n now bytes)).up) (heard_takes fits (book_at opening k all) k qs n now bytes mid kept h)
+            ∙ ap (λ (t : CoreStep). deals_with (wanted_by h.seat.client (Ok (told_message h.told))) t.up) turned
+            )
+
+-- ---- any event
+
+logs_event : (P : Going) (E : Ending) (all : List Moment) → LogLaws all P E → FitLaws → (past rest : List Moment) (opening : List Opening) (k : Core) (qs : List Queue) (e : Event) (mid after : List Queue) → Step all past rest opening k qs e mid after → LogsAt P E past k → LogsAt P E (past ++ moment k e ∷ []) (happens k e).core
+logs_event P E all laws fits past rest opening k qs (Joins c) mid after s h = subst (λ (o : Option Seat). LogsAt P E (past ++ moment k (Joins c) ∷ []) (joins k c o).core) (sym s.finds.1) (logs_joins P E past k c s.finds.0 s.finds.1 h)
+logs_event P E all laws fits past rest opening k qs (Does c now d) mid after s h = subst (λ (o : Option Seat). IsKept (book_at opening (does k c now d o).core all) (does k c now d o).core after → LogsAt P E (past ++ moment k (Does c now d) ∷ []) (does k c now d o).core) (sym s.finds.1) (λ left. logs_does P E all laws (book_at opening k all) (book_at opening (does k c now d (Some s.finds.0)).core all) past k qs after c now d s.finds.0 s.kept s.finds.1 left h) s.left
+logs_event P E all laws fits past rest opening k qs (Serves n now bytes) mid after s h = logs_serves P E past k n now bytes h
+logs_event P E all laws fits past rest opening k qs (Hears n now bytes) mid after s h = logs_hears P E all laws fits opening past k qs after n now bytes mid s.kept (heard_at (book_at opening k all) k qs n now bytes mid s.kept s.finds) s.left h
+logs_event P E all laws fits past rest opening k qs (Settles now) mid after s h = logs_settles P E (book_at opening k all) past k qs now s.kept h
+logs_event P E all laws fits past rest opening k qs (Cuts c) mid after s h = subst (λ (o : Option Seat). LogsAt P E (past ++ moment k (Cuts c) ∷ []) (cuts k c o).core) (sym s.finds.1) (logs_cuts P E all laws (book_at opening k all) past k qs c s.finds.0 s.kept s.finds.1 h)
+logs_event P E all laws fits past rest opening k qs (Hangs n) mid after s h = logs_hangs P E past k n h
+
+-- whatever each step of a client keeps is carried
+pub carried_logs : (P : List Moment → Going) (E : List Moment → Ending) → ((all : List Moment) → LogLaws all (P all) (E all)) → FitLaws → Carried (λ all past opening k qs. LogsAt (P all) (E all) past k)
+carried_logs P E laws fits = record {
+  first = λ all opening files changes count kept. record { by = tt; jobs = λ i seat j o here is at. nothing_there o at; each = λ p o at. nothing_there o at };
+  steps = λ all past rest opening k qs e mid after s h. logs_event (P all) (E all) all (laws all) fits past rest opening k qs e mid after s h;
+}

@@ -1,0 +1,325 @@
+-- A run carries that each change of the journal was made at a moment at which the server was told to make one, that it was the first that waited then,
+-- and whose close it is; and that a settling makes the first that waits.
+use Rattle.std.proofs.Common.{inl, inr, ◌≡◌, ℕ, ◌+◌, List, [], ◌∷◌, ◌++◌, length, Option, Some, None, Result, Ok, Err, Bool, true, false, refl, sym, ap, ◌∙◌, subst, arith, append-nil, replicate, IsSome}
+use Rattle.wire.specs.declared.message.Body.TheVariants as body
+use Rattle.wire.specs.declared.message.Message.TheVariants as message
+use Rattle.hash_calls.specs.declared.message.Lb.TheVariants as lb
+use Rattle.nfs3_calls.specs.declared.message.Nfs.TheVariants as nfs
+use Rattle.server_core.specs.Closing.{at as at_reading, settles as server_settles, writes}
+use Rattle.server_core.specs.State as server
+use Rattle.server_core.specs.Step.{hangs_if as server_hangs_if}
+use Rattle.server_core.specs.declared.event.Event.TheVariants as event
+use Rattle.open_close.specs.State as client
+use Rattle.register_model.specs.declared.op.Word.TheVariants as words
+use Rattle.trace_replay.specs.Faithful.{IsSettled, SettlesFirst}
+use Rattle.kept_promise.proofs.Common.{Contains-append_left, Contains-append_right, Contains-push, Contains-push_cases, slice_get, slice_set, Contains, if◌then◌else◌, nat_lt, parse_of, WireFault, Body, Message, Status, Node, root, file, node_of, entry_of, makes_change, makes, makes_unless, room_fault, writes_unless, commits, commits_to, commits_whole, has_waiting, is_full, server_step, connect, has_room, called, got_if, stands, Temp, size_most, temp_at, without_temp, piece_fault, assembled, Change, ServerStep, File, Entry, ClientStep, Ended, Op, Opening, Value, content_of, TakenCall, has_point, op_after, Core, Seat, Session, Event, Event.Joins, Event.Does, Event.Serves, Event.Hears, Event.Settles, Event.Cuts, Event.Hangs, CoreStep, numbered, server_waiting, serves_if, serves, joins_as, joins, does, cuts_if, cuts, hangs_if, hangs, ops_with, settles, happens, Moment, step_of, Book, Queue}
+use Rattle.kept_promise.proofs.Lists.{some_is, nothing_there, at_end, at_replaced, kept_appended, of_appended, same_or_not, set_else}
+use Rattle.kept_promise.proofs.Turns.{also_numbered}
+use Rattle.kept_promise.proofs.Facts.{IsKept, FileIs}
+use Rattle.kept_promise.proofs.RunsCarried.{book_at, moment, Step, Carried}
+use Rattle.kept_promise.proofs.Actors.{heard_at}
+use Rattle.kept_promise.proofs.Promised.{own_there}
+
+-- ---- the journal stays but for a settling
+
+commits_journal : (s : server.State) (session xid size : ℕ) (t : Temp) (nd : Result Node Status) → (commits_to s session xid size t nd).0.journal ≡ s.journal
+commits_journal s session xid size t (Err e) = refl
+commits_journal s session xid size t (Ok root) = refl
+commits_journal s session xid size t (Ok (file f)) = by (nat_lt size_most size)
+  where
+    full : (content : List ℕ) (b : Bool) → (let r : server.State × ServerStep = if b then Rattle.server_core.specs.Closing.answers s session xid (lb.CommitTmpAnswer (Rattle.xdr_codec.specs.declared.answer.Answer.TheVariants.Failed Rattle.xdr_codec.specs.declared.status.Status.TheVariants.NoSpc tt)) else (record s { waiting = s.waiting ++ record { session = session; xid = xid; file = f.id; content = content } ∷ [] }, Rattle.server_core.specs.Closing.sends []) in r.0.journal ≡ s.journal)
+    full content true = refl
+    full content false = refl
+
+    whole : (o : Option (List ℕ)) → (commits_whole s session xid f.id o).0.journal ≡ s.journal
+    whole None = refl
+    whole (Some content) = waits (has_waiting s.waiting session) (is_full s (length content))
+      where
+        waits : (a b : Bool) → (let r : server.State × ServerStep = if a then Rattle.server_core.specs.Closing.answers s session xid (lb.CommitTmpAnswer (Rattle.xdr_codec.specs.declared.answer.Answer.TheVariants.Failed Rattle.xdr_codec.specs.declared.status.Status.TheVariants.Jukebox tt)) else if b then Rattle.server_core.specs.Closing.answers s session xid (lb.CommitTmpAnswer (Rattle.xdr_codec.specs.declared.answer.Answer.TheVariants.Failed Rattle.xdr_codec.specs.declared.status.Status.TheVariants.NoSpc tt)) else (record s { waiting = s.waiting ++ record { session = session; xid = xid; file = f.id; content = content } ∷ [] }, Rattle.server_core.specs.Closing.sends []) in r.0.journal ≡ s.journal)
+        waits true b = refl
+        waits false true = refl
+        waits false false = refl
+
+    by : (b : Bool) → (let r : server.State × ServerStep = if b then Rattle.server_core.specs.Closing.answers s session xid (lb.CommitTmpAnswer (Rattle.xdr_codec.specs.declared.answer.Answer.TheVariants.Failed Rattle.xdr_codec.specs.declared.status.Status.TheVariants.FBig tt)) else commits_whole s session xid f.id (assembled t size) in r.0.journal ≡ s.journal)
+    by true = refl
+    by false = whole (assembled t size)
+
+called_journal : (s : server.State) (session xid : ℕ) (b : Body) → (called s session xid b).0.journal ≡ s.journal
+called_journal s session xid (body.Lb lb.Null) = refl
+called_journal s session xid (body.Lb (lb.GetHash r)) = refl
+called_journal s session xid (body.Lb (lb.MkTmpFile a)) = by (node_of s.files a.handle)
+  where
+    room : (f : File) (o : Option Status) → (makes_unless s session xid a.fd f.id o).0.journal ≡ s.journal
+    room f (Some e) = refl
+    room f None = refl
+
+    by : (nd : Result Node Status) → (makes s session xid a.fd nd).0.journal ≡ s.journal
+    by (Err e) = refl
+    by (Ok root) = refl
+    by (Ok (file f)) = room f (room_fault s.temps session a.fd)
+called_journal s session xid (body.Lb (lb.TmpWrite a)) = by (temp_at s.temps session a.fd) (piece_fault (temp_at s.temps session a.fd) a.offset (length a.bytes))
+  where
+    by : (t : Option Temp) (o : Option Status) → (writes_unless s session xid a t o).0.journal ≡ s.journal
+    by (Some t) None = refl
+    by (Some t) (Some e) = refl
+    by None o = refl
+called_journal s session xid (body.Lb (lb.CondWrite a)) = refl
+called_journal s session xid (body.Lb (lb.CommitTmp a)) = by (temp_at s.temps session a.fd)
+  where
+    by : (t : Option Temp) → (commits s session xid a t).0.journal ≡ s.journal
+    by None = refl
+    by (Some t) = commits_journal (record s { temps = without_temp s.temps session a.fd }) session xid a.size t (node_of s.files a.handle)
+called_journal s session xid (body.Nfs nfs.Null) = refl
+called_journal s session xid (body.Nfs (nfs.Read r)) = refl
+called_journal s session xid b = refl
+
+got_journal : (s : server.State) (session : ℕ) (m : Message) (now : ℕ) → (server_step s (event.Got session m now)).0.journal ≡ s.journal
+got_journal s session m now = by (stands s session) m
+  where
+    by : (b : Bool) (m : Message) → (got_if s b session m now).0.journal ≡ s.journal
+    by true (message.Call xid b) = called_journal (at_reading s now) session xid b
+    by true (message.Unfit xid why) = refl
+    by true (message.Answer xid b) = refl
+    by true (message.Refuse xid why) = refl
+    by false m = refl
+
+-- ---- what becomes of operations that have a point
+
+-- a close with a point keeps it
+abbrev pub KeepsPoints : (before after : List Op) → Type 0
+KeepsPoints before after = (j p : ℕ) (o : Op) → slice_get before j ≡ Some o → o.word ≡ words.Close → o.point ≡ Some p → (r : Op) × (slice_get after j ≡ Some r) × (r.client ≡ o.client) × (r.word ≡ words.Close) × (r.point ≡ Some p)
+
+same_points : (ops : List Op) → KeepsPoints ops ops
+same_points ops j p o at word point = (o, at, refl, word, point)
+
+more_points : (ops : List Op) (new : Op) → KeepsPoints ops (ops ++ new ∷ [])
+more_points ops new j p o at word point = (o, kept_appended ops new j o at, refl, word, point)
+
+else_at : (ops : List Op) (k m : ℕ) (x : Op) → (m ≡ k → ⊥) → slice_get (slice_set ops k x) m ≡ slice_get ops m
+else_at ops k m x apart = set_else ops k m x apart
+
+acted_points : (ops : List Op) (place : Option ℕ) (c : client.State) (taken : List TakenCall) (step : ℕ) (acts : ClientStep) → KeepsPoints ops (ops_with ops place c taken step acts)
+acted_points ops None c taken step acts = same_points ops
+acted_points ops (Some l) c taken step acts = by (slice_get ops l) refl
+  where
+    closed : (o : Op) (p : ℕ) → o.word ≡ words.Close → o.point ≡ Some p → (e : Option Ended) → (let r = op_after o c taken step (record acts { ended = e }) in (r.client ≡ o.client) × (r.word ≡ words.Close) × (r.point ≡ Some p))
+    closed o p word point None = (refl, word, point)
+    closed o p word point (Some e) = (refl, word, ap (λ w. Rattle.trace_replay.specs.Ops.point_if (has_point w e.outcome) taken e.rests_on o.point) word ∙ point)
+
+    by : (q : Option Op) → slice_get ops l ≡ q → KeepsPoints ops (Rattle.trace_replay.specs.Core.ops_after ops l q c taken step acts)
+    by None e = same_points ops
+    by (Some q) e = λ j p o at word point. elim (same_or_not j l) [
+      | inr apart ↦ (o, else_at ops l j (op_after q c taken step acts) apart ∙ at, refl, word, point)
+      | inl same ↦
+          let mine : q ≡ o = some_is q o (sym e ∙ ap (slice_get ops) (sym same) ∙ at) in
+          let there : slice_get (slice_set ops l (op_after q c taken step acts)) j ≡ Some (op_after o c taken step acts) = ap (slice_get (slice_set ops l (op_after q c taken step acts))) same ∙ at_replaced ops l (op_after q c taken step acts) q e ∙ ap (λ (z : Op). Some (op_after z c taken step acts)) mine in
+          let w = closed o p word point acts.ended in
+          (op_after o c taken step acts, there, w.0, w.1, w.2)
+    ]
+
+-- ---- an event of which no change comes
+
+abbrev Quietly : Core → CoreStep → Type 0
+Quietly k t = (t.core.entries ≡ k.entries) × (t.core.server.journal ≡ k.server.journal) × KeepsPoints k.ops t.core.ops
+
+quiet_event : (all past rest : List Moment) (opening : List Opening) (k : Core) (qs : List Queue) (e : Event) (mid after : List Queue) → Step all past rest opening k qs e mid after → ((now : ℕ) → e ≡ Settles now → ⊥) → Quietly k (happens k e)
+quiet_event all past rest opening k qs (Joins c) mid after s none = subst (λ (o : Option Seat). Quietly k (joins k c o)) (sym s.finds.1) (by s.finds.0 (has_room k.server))
+  where
+    by : (seat : Seat) (b : Bool) → (let r = connect k.server b in Quietly k (joins_as k c seat r.0 r.1.told))
+    by seat true = (refl, refl, same_points k.ops)
+    by seat false = (refl, refl, same_points k.ops)
+quiet_event all past rest opening k qs (Does c now d) mid after s none = subst (λ (o : Option Seat). Quietly k (does k c now d o)) (sym s.finds.1) (refl, refl, more_points k.ops _)
+quiet_event all past rest opening k qs (Serves n now bytes) mid after s none = by (numbered k.sessions n)
+  where
+    by : (x : Option Session) → Quietly k (serves k n now bytes x)
+    by None = (refl, refl, same_points k.ops)
+    by (Some x) = parsed (parse_of server_waiting bytes)
+      where
+        parsed : (m : Result Message WireFault) → Quietly k (serves_if k n now x m)
+        parsed (Ok m) = (refl, got_journal k.server n m now, same_points k.ops)
+        parsed (Err e) = (refl, refl, same_points k.ops)
+quiet_event all past rest opening k qs (Hears n now bytes) mid after s none =
+    let h = heard_at (book_at opening k all) k qs n now bytes mid s.kept s.finds in
+    subst (λ (t : CoreStep). Quietly k t) (sym h.hears_is) (refl, refl, acted_points k.ops h.seat.place _ _ (k.steps + 1) _)
+quiet_event all past rest opening k qs (Settles now) mid after s none = absurd (none now refl)
+quiet_event all past rest opening k qs (Cuts c) mid after s none = subst (λ (o : Option Seat). Quietly k (cuts k c o)) (sym s.finds.1) (by s.finds.0.client.linked)
+  where
+    by : (b : Bool) → Quietly k (cuts_if k c s.finds.0 b)
+    by true = (refl, refl, acted_points k.ops s.finds.0.place _ _ (k.steps + 1) _)
+    by false = (refl, refl, same_points k.ops)
+quiet_event all past rest opening k qs (Hangs n) mid after s none = by (numbered k.sessions n)
+  where
+    gone : (b : Bool) → (server_hangs_if k.server b n).0.journal ≡ k.server.journal
+    gone true = refl
+    gone false = refl
+
+    by : (x : Option Session) → Quietly k (hangs k n x)
+    by None = (refl, refl, same_points k.ops)
+    by (Some x) = hung x.hung
+      where
+        hung : (b : Bool) → Quietly k (hangs_if k n x b)
+        hung true = (refl, refl, same_points k.ops)
+        hung false = (refl, gone (stands k.server n), same_points k.ops)
+
+-- ---- what is carried
+
+pub record AreMade (opening : List Opening) (past : List Moment) (k : Core) : Type 0 where
+  pub settled : (i p : ℕ) → slice_get k.entries i ≡ Some p → IsSettled (book_at opening k past) i p
+  pub first : SettlesFirst (book_at opening k past)
+
+-- it stays in a book that has grown
+settled_later : (before after : Book) (i p : ℕ) → ((m : Moment) → Contains before.moments m → Contains after.moments m) → ((e : Entry) → slice_get before.journal i ≡ Some e → slice_get after.journal i ≡ Some e) → KeepsPoints before.ops after.ops → IsSettled before i p → IsSettled after i p
+settled_later before after i p moments journal points s =
+    let r = points s.place p s.op s.op_is s.word_is s.point_is in
+    record {
+      moment = s.moment;
+      there = moments s.moment s.there;
+      now = s.now;
+      event_is = s.event_is;
+      step_is = s.step_is;
+      number_is = s.number_is;
+      change = s.change;
+      first = s.first;
+      entry = s.entry;
+      entry_is = journal s.entry s.entry_is;
+      kind_is = s.kind_is;
+      file_is = s.file_is;
+      session_is = s.session_is;
+      session = s.session;
+      on = s.on;
+      place = s.place;
+      op = r.0;
+      op_is = r.1;
+      word_is = r.3;
+      point_is = r.4;
+      owner = s.owner ∙ sym r.2;
+      closing = s.closing;
+    }
+
+made_quietly : (opening : List Opening) (past : List Moment) (k : Core) (e : Event) → ((now : ℕ) → e ≡ Settles now → ⊥) → Quietly k (happens k e) → AreMade opening past k → AreMade opening (past ++ moment k e ∷ []) (happens k e).core
+made_quietly opening past k e none q h = record {
+  settled = λ i p at. settled_later (book_at opening k past) (book_at opening (happens k e).core (past ++ moment k e ∷ [])) i p (λ m there. Contains-append_left past (moment k e ∷ []) m there) (λ x was. ap (λ (l : List Entry). slice_get l i) q.1 ∙ was) q.2 (h.settled i p (ap (λ (l : List ℕ). slice_get l i) (sym q.0) ∙ at));
+  first = λ m now c there is at. elim (Contains-push_cases past (moment k e) m there) [
+    | inl old ↦ ap (λ (l : List ℕ). slice_get l (length m.before.server.journal)) q.0 ∙ h.first m now c old is at
+    | inr new ↦ absurd (none now (ap (λ (z : Moment). z.event) new ∙ is))
+  ];
+}
+
+-- ---- a change is made, or none waits
+
+-- what a settling leaves, by what the server did
+abbrev left_by : Core → server.State × ServerStep → Core
+left_by k r = record k { steps = k.steps + 1; server = r.0; ops = Rattle.trace_replay.specs.Core.settled_by k r.1.entries r.1.told; entries = k.entries ++ replicate r.1.entries (k.steps + 1) }
+
+-- a close that had no point gets one
+pointed_points : (ops : List Op) (place step : ℕ) (o : Op) → slice_get ops place ≡ Some o → o.point ≡ None → KeepsPoints ops (slice_set ops place (record o { point = Some step }))
+pointed_points ops place step o there none j p r at word point = elim (same_or_not j place) [
+  | inr apart ↦ (r, else_at ops place j (record o { point = Some step }) apart ∙ at, refl, word, point)
+  | inl same ↦ nothing_there p (sym none ∙ ap (λ (z : Op). z.point) (some_is o r (sym there ∙ ap (slice_get ops) (sym same) ∙ at)) ∙ point)
+]
+
+made_settling : (all past rest : List Moment) (opening : List Opening) (k : Core) (qs : List Queue) (now : ℕ) (mid after : List Queue) → Step all past rest opening k qs (Settles now) mid after → AreMade opening past k → AreMade opening (past ++ moment k (Settles now) ∷ []) (settles k now).core
+made_settling all past rest opening k qs now mid after s h = by k.server.waiting refl
+  where
+    kept : IsKept (book_at opening k all) k qs
+    kept = s.kept
+
+    more : (m : Moment) → Contains past m → Contains (past ++ moment k (Settles now) ∷ []) m
+    more m there = Contains-append_left past (moment k (Settles now) ∷ []) m there
+
+    here : Contains (past ++ moment k (Settles now) ∷ []) (moment k (Settles now))
+    here = Contains-append_right past (moment k (Settles now) ∷ []) (moment k (Settles now)) (Contains-push [] (moment k (Settles now)))
+
+    count : length k.entries ≡ length k.server.journal
+    count = s.kept.sound.journal.count
+
+    still : (w : List Change) → k.server.waiting ≡ w → w ≡ [] → AreMade opening (past ++ moment k (Settles now) ∷ []) (left_by k (server_settles k.server now []))
+    still w e none = record {
+      settled = λ i p at. settled_later (book_at opening k past) (book_at opening (left_by k (server_settles k.server now [])) (past ++ moment k (Settles now) ∷ [])) i p more (λ x was. was) (same_points k.ops) (h.settled i p (ap (λ (l : List ℕ). slice_get l i) (sym (append-nil k.entries)) ∙ at));
+      first = λ m n c there is at. ap (λ (l : List ℕ). slice_get l (length m.before.server.journal)) (append-nil k.entries) ∙ (elim (Contains-push_cases past (moment k (Settles now)) m there) [
+        | inl old ↦ h.first m n c old is at
+        | inr new ↦ nothing_there c (ap (λ (l : List Change). slice_get l 0) (sym (e ∙ none)) ∙ ap (λ (z : Moment). slice_get z.before.server.waiting 0) new ∙ at)
+      ]);
+    }
+
+    made : (c : Change) (cs : List Change) (f : File) → k.server.waiting ≡ c ∷ cs → server.file_at k.server.files c.file ≡ Some f → AreMade opening (past ++ moment k (Settles now) ∷ []) (left_by k (makes_change (at_reading (record k.server { waiting = cs }) now) c (Some f)))
+    made c cs f e there =
+        let first : slice_get k.server.waiting 0 ≡ Some c = ap (λ (l : List Change). slice_get l 0) e in
+        let home = kept.home 0 c first in
+        let q = also_numbered k.sessions qs c.session home.0 kept.made.1 home.1 in
+        let mine = own_there k.server.waiting 0 c first in
+        let x = kept.sessions c.session home.0 q.0 home.1 q.1 in
+        let pending = x.pending mine.0 c mine.1 in
+        let old = x.old pending.place pending.known in
+        let op : Op = record pending.op { point = Some (k.steps + 1) } in
+        let made_op : slice_get (slice_set k.ops pending.place op) pending.place ≡ Some op = at_replaced k.ops pending.place op pending.op pending.there in
+        let ops_are : (left_by k (makes_change (at_reading (record k.server { waiting = cs }) now) c (Some f))).ops ≡ slice_set k.ops pending.place op =
+        ap (Rattle.trace_replay.specs.Core.settled_ops k.ops 1 (k.steps + 1)) home.1 ∙ ap (λ l. Rattle.trace_replay.specs.Ops.pointed_at k.ops l (k.steps + 1)) pending.known ∙ ap (Rattle.trace_replay.specs.Ops.pointed k.ops pending.place (k.steps + 1)) pending.there in
+        let held = subst (FileIs (book_at opening k all) c.file) there (kept.server.held c.file) in
+        let points : KeepsPoints k.ops (left_by k (makes_change (at_reading (record k.server { waiting = cs }) now) c (Some f))).ops = subst (KeepsPoints k.ops) (sym ops_are) (pointed_points k.ops pending.place (k.steps + 1) pending.op pending.there pending.unmade.1) in
+        record {
+          settled = λ i p at. elim (of_appended k.entries (k.steps + 1) i p at) [
+            | inr was ↦ settled_later (book_at opening k past) (book_at opening (left_by k (makes_change (at_reading (record k.server { waiting = cs }) now) c (Some f))) (past ++ moment k (Settles now) ∷ [])) i p more (λ y had. kept_appended k.server.journal (entry_of c f) i y had) points (h.settled i p was)
+            | inl last ↦ record {
+              moment = moment k (Settles now);
+              there = here;
+              now = now;
+              event_is = refl;
+              step_is = sym last.1;
+              number_is = sym count ∙ sym last.0;
+              change = c;
+              first = first;
+              entry = entry_of c f;
+              entry_is = ap (slice_get (k.server.journal ++ entry_of c f ∷ [])) (last.0 ∙ count) ∙ at_end k.server.journal (entry_of c f);
+              kind_is = refl;
+              file_is = held.0;
+              session_is = refl;
+              session = home.0;
+              on = home.1;
+              place = pending.place;
+              op = op;
+              op_is = ap (λ (l : List Op). slice_get l pending.place) ops_are ∙ made_op;
+              word_is = pending.unmade.0;
+              point_is = ap (λ n. Some n) (sym last.1);
+              owner = sym old.2 ∙ ap (λ (z : Op). z.client) (some_is old.0 pending.op (sym old.1 ∙ pending.there));
+              closing = pending.known;
+            }
+          ];
+          first = λ m n d in_ is at. elim (Contains-push_cases past (moment k (Settles now)) m in_) [
+            | inl was ↦ kept_appended k.entries (k.steps + 1) (length m.before.server.journal) (step_of m) (h.first m n d was is at)
+            | inr new ↦ subst (λ (z : Moment). slice_get (k.entries ++ (k.steps + 1) ∷ []) (length z.before.server.journal) ≡ Some (step_of z)) new (ap (slice_get (k.entries ++ (k.steps + 1) ∷ [])) (sym count) ∙ at_end k.entries (k.steps + 1))
+          ];
+        }
+
+    found : (c : Change) (cs : List Change) → k.server.waiting ≡ c ∷ cs → (g : Option File) → server.file_at k.server.files c.file ≡ g → AreMade opening (past ++ moment k (Settles now) ∷ []) (left_by k (makes_change (at_reading (record k.server { waiting = cs }) now) c g))
+    found c cs e (Some f) there = made c cs f e there
+    found c cs e None there =
+        let known = kept.server.targets 0 c (ap (λ (l : List Change). slice_get l 0) e) in
+        let gone : FileIs (book_at opening k all) c.file None = subst (FileIs (book_at opening k all) c.file) there (kept.server.held c.file) in
+        absurd (not_there (content_of opening c.file) gone.0 known)
+      where
+        not_there : (v : Value) → v ≡ None → IsSome v → ⊥
+        not_there None e h = absurd cc
+        not_there (Some x) e h = nothing_there x (sym e)
+
+    by : (w : List Change) → k.server.waiting ≡ w → AreMade opening (past ++ moment k (Settles now) ∷ []) (left_by k (server_settles k.server now w))
+    by [] e = still [] e refl
+    by (c ∷ cs) e = found c cs e (server.file_at k.server.files c.file) refl
+
+settled_event : (all past rest : List Moment) (opening : List Opening) (k : Core) (qs : List Queue) (e : Event) (mid after : List Queue) → Step all past rest opening k qs e mid after → AreMade opening past k → AreMade opening (past ++ moment k e ∷ []) (happens k e).core
+settled_event all past rest opening k qs (Settles now) mid after s h = made_settling all past rest opening k qs now mid after s h
+settled_event all past rest opening k qs (Joins c) mid after s h = made_quietly opening past k (Joins c) (λ n z. absurd cc) (quiet_event all past rest opening k qs (Joins c) mid after s (λ n z. absurd cc)) h
+settled_event all past rest opening k qs (Does c now d) mid after s h = made_quietly opening past k (Does c now d) (λ n z. absurd cc) (quiet_event all past rest opening k qs (Does c now d) mid after s (λ n z. absurd cc)) h
+settled_event all past rest opening k qs (Serves n now bytes) mid after s h = made_quietly opening past k (Serves n now bytes) (λ n z. absurd cc) (quiet_event all past rest opening k qs (Serves n now bytes) mid after s (λ n z. absurd cc)) h
+settled_event all past rest opening k qs (Hears n now bytes) mid after s h = made_quietly opening past k (Hears n now bytes) (λ n z. absurd cc) (quiet_event all past rest opening k qs (Hears n now bytes) mid after s (λ n z. absurd cc)) h
+settled_event all past rest opening k qs (Cuts c) mid after s h = made_quietly opening past k (Cuts c) (λ n z. absurd cc) (quiet_event all past rest opening k qs (Cuts c) mid after s (λ n z. absurd cc)) h
+settled_event all past rest opening k qs (Hangs n) mid after s h = made_quietly opening past k (Hangs n) (λ n z. absurd cc) (quiet_event all past rest opening k qs (Hangs n) mid after s (λ n z. absurd cc)) h
+
+abbrev pub AllSettled : (all past : List Moment) → List Opening → Core → List Queue → Type 0
+AllSettled all past opening k qs = AreMade opening past k
+
+pub carried_settled : Carried AllSettled
+carried_settled = record {
+  first = λ all opening files changes count kept. record { settled = λ i p at. nothing_there p at; first = λ m now c there is at. (let lt = there.1 in absurd (omega (arith, lt))) };
+  steps = λ all past rest opening k qs e mid after s h. settled_event all past rest opening k qs e mid after s h;
+}

@@ -1,0 +1,235 @@
+-- The number of a client's next call is one more than the calls that it sent on its connection.
+use Rattle.std.proofs.Common.{◌≡◌, ℕ, zero, suc, ◌+◌, ◌-◌, List, [], ◌∷◌, ◌++◌, length, Option, Some, None, Result, Ok, Err, Bool, true, false, refl, sym, ap, ◌∙◌, arith, eq-eqb, ne_eqb}
+use Rattle.command_text.specs.declared.command.Command.TheVariants as command
+use Rattle.xdr_codec.specs.declared.status.Status.TheVariants as status
+use Rattle.hash_calls.specs.declared.message.Lb.TheVariants as lb
+use Rattle.nfs3_calls.specs.declared.message.Nfs.TheVariants as nfs
+use Rattle.wire.specs.declared.message.Body.TheVariants as body
+use Rattle.wire.specs.declared.message.Message.TheVariants as message
+use Rattle.wire.specs.declared.message.RpcRefusal.TheVariants as refusal
+use Rattle.open_close.specs.State as client
+use Rattle.open_close.specs.declared.step.Outcome.TheVariants as outcome
+use Rattle.open_close.specs.declared.task.Stage.TheVariants as stage
+use Rattle.open_close.specs.declared.task.Way.TheVariants as way
+use Rattle.trace_replay.specs.Trail.{call_number}
+use Rattle.kept_promise.proofs.Common.{slice_get, ◌==◌, nat_lt, if◌then◌else◌, Chunk, content_length, content_bytes, Command, Answer, Done, Failed, Hashes, Piece, Body, Message, Pending, RpcRefusal, WireFault, names_from, names_next, names_more, names_all, is_stored, store_of, store_at, answered, local_most, written_size, written, truncated, calls_most, fetch_of, with_hashes, listed, reads_from, reads_next, reads_more, reads_all, is_here, read_at, fault_in, other_version, with_bytes, Broken, broken_of, is_open, may_ask, asks_hashes, opens_if, opens, on_local, too_big, done_with, edits, writes, truncates, reads, abandons, asks_temp, closes, command_step, idle, reads_if, reads_on, lists_on, told_shape, told_version, told_hashes, told_first, retries, misfits, told_bytes, told_chunk, told_piece, goes_if, goes_on, told_temp, sends_whole, told_named, told_whole, told_way, told_stored, denied, took, drops, took_if, denied_if, got_fault, got_step, ends, Names, Reads, BadPeer, ClientStep, Fetch, Local, ReadCall, Stage, Store, StoreCall, Task, Way, Moment, calls_among, sent_if, calls_by, calls_from}
+
+-- ---- a client's step
+
+-- its next number goes on by the calls that it sends
+abbrev pub Numbers : client.State → client.State × ClientStep → Type 0
+Numbers s r = r.0.next ≡ s.next + calls_among r.1.send
+
+among_more : (ms : List Message) (m : Message) → calls_among (ms ++ m ∷ []) ≡ calls_among ms + call_number m
+among_more [] m = omega arith
+among_more (x ∷ ms) m = let h = among_more ms m in omega (arith, h)
+
+reads_number : (k file : ℕ) (r : Reads) → (reads_more k file r).next + calls_among r.send ≡ r.next + calls_among (reads_more k file r).send
+reads_number zero file r = refl
+reads_number (suc k) file r = by (slice_get r.fetch.chunks r.fetch.asked) (λ q. reads_number k file q)
+  where
+    by : (o : Option Chunk) → ((q : Reads) → (reads_more k file q).next + calls_among q.send ≡ q.next + calls_among (reads_more k file q).send) → (reads_more k file (reads_next file r o)).next + calls_among r.send ≡ r.next + calls_among (reads_more k file (reads_next file r o)).send
+    by None go = go r
+    by (Some c) go =
+        let h = go (reads_next file r (Some c)) in
+        let m = among_more r.send (Rattle.open_close.specs.Opening.read_call r.next file c) in
+        omega (arith, h, m)
+
+names_number : (k : ℕ) (n : Names) → (names_more k n).next + calls_among n.send ≡ n.next + calls_among (names_more k n).send
+names_number zero n = refl
+names_number (suc k) n = by (slice_get n.store.chunks n.store.named) (λ q. names_number k q)
+  where
+    by : (o : Option Chunk) → ((q : Names) → (names_more k q).next + calls_among q.send ≡ q.next + calls_among (names_more k q).send) → (names_more k (names_next n o)).next + calls_among n.send ≡ n.next + calls_among (names_more k (names_next n o)).send
+    by None go = go n
+    by (Some c) go =
+        let h = go (names_next n (Some c)) in
+        let m = among_more n.send (Rattle.open_close.specs.Closing.cond_call n.next n.store.temp c) in
+        omega (arith, h, m)
+
+reads_on_number : (s : client.State) (calls : List Pending) (file xid : ℕ) (f : Fetch) (bytes : ℕ) → Numbers s (reads_on s calls file xid f bytes)
+reads_on_number s calls file xid f bytes = by (is_here (reads_all file f s.next).fetch)
+  where
+    by : (b : Bool) → Numbers s (reads_if s calls file xid (reads_all file f s.next) bytes b)
+    by true = omega arith
+    by false = let h = reads_number (calls_most - length f.under) file (reads_from f s.next) in omega (arith, h)
+
+lists_number : (s : client.State) (calls : List Pending) (file xid : ℕ) (f : Fetch) (eof : Bool) → Numbers s (lists_on s calls file xid f eof)
+lists_number s calls file xid f true = reads_on_number s calls file xid (listed f) 0
+lists_number s calls file xid f false = refl
+
+retries_number : (s : client.State) (calls : List Pending) (file xid : ℕ) (b : Bool) (f : Fetch) (version bytes : ℕ) → Numbers s (retries s calls file xid b f version bytes)
+retries_number s calls file xid true f version bytes = refl
+retries_number s calls file xid false f version bytes = omega arith
+
+shape_number : (s : client.State) (calls : List Pending) (file xid : ℕ) (f : Fetch) (h : Hashes) (b : Broken) → Numbers s (told_shape s calls file xid f h b)
+shape_number s calls file xid f h None = lists_number s calls file xid (with_hashes f h) h.eof
+shape_number s calls file xid f h (Some b) = omega arith
+
+hashes_number : (s : client.State) (calls : List Pending) (file xid : ℕ) (f : Fetch) (a : Answer Hashes Unit) → Numbers s (told_hashes s calls file xid f a)
+hashes_number s calls file xid f (Failed t u) = omega arith
+hashes_number s calls file xid f (Done h) = by (h.version == f.version)
+  where
+    by : (same : Bool) → Numbers s (told_version s calls file xid f h same)
+    by true = shape_number s calls file xid f h (broken_of f h)
+    by false = retries_number s calls file xid (nat_lt f.tries Rattle.open_close.specs.Opening.tries_most) f h.version 0
+
+first_numbers : (s : client.State) (calls : List Pending) (file xid tries : ℕ) (a : Answer Hashes Unit) → Numbers s (told_first s calls file xid tries a)
+first_numbers s calls file xid tries (Failed t u) = omega arith
+first_numbers s calls file xid tries (Done h) = hashes_number s calls file xid (fetch_of tries xid h) (Done h)
+
+misfits_number : (s : client.State) (calls : List Pending) (file xid : ℕ) (f : Fetch) (b : BadPeer) (bytes : ℕ) (o : Option ℕ) → Numbers s (misfits s calls file xid f b bytes o)
+misfits_number s calls file xid f b bytes (Some version) = retries_number s calls file xid (nat_lt f.tries Rattle.open_close.specs.Opening.tries_most) f version bytes
+misfits_number s calls file xid f b bytes None = omega arith
+
+bytes_number : (s : client.State) (calls : List Pending) (file xid : ℕ) (f : Fetch) (c : ReadCall) (piece : Piece) (o : Option BadPeer) → Numbers s (told_bytes s calls file xid f c piece o)
+bytes_number s calls file xid f c piece None = reads_on_number s calls file xid (with_bytes f c piece.bytes) (length piece.bytes)
+bytes_number s calls file xid f c piece (Some b) = misfits_number s calls file xid f b (length piece.bytes) (other_version f.version piece.attr)
+
+chunk_number : (s : client.State) (calls : List Pending) (file xid : ℕ) (f : Fetch) (c : ReadCall) (piece : Piece) (o : Option Chunk) → Numbers s (told_chunk s calls file xid f c piece o)
+chunk_number s calls file xid f c piece None = omega arith
+chunk_number s calls file xid f c piece (Some k) = bytes_number s calls file xid f c piece (fault_in k piece.bytes (length piece.bytes == k.len))
+
+piece_number : (s : client.State) (calls : List Pending) (file xid : ℕ) (f : Fetch) (piece : Piece) (o : Option ReadCall) → Numbers s (told_piece s calls file xid f piece o)
+piece_number s calls file xid f piece None = omega arith
+piece_number s calls file xid f piece (Some c) = chunk_number s calls file xid f c piece (slice_get f.chunks c.index)
+
+goes_number : (s : client.State) (file : ℕ) (content : List ℕ) (st : Store) → Numbers s (goes_on s file content st)
+goes_number s file content st = by (is_stored (names_all st s.next).store)
+  where
+    by : (b : Bool) → Numbers s (goes_if s file content (names_all st s.next) b)
+    by true =
+        let n : Names = names_all st s.next in
+        let h = names_number (calls_most - length st.under) (names_from st s.next) in
+        let m = among_more n.send (Rattle.open_close.specs.Closing.commit_call n.next n.store.temp file (length content)) in
+        omega (arith, h, m)
+    by false = let h = names_number (calls_most - length st.under) (names_from st s.next) in omega (arith, h)
+
+temp_number : (s : client.State) (calls : List Pending) (file xid temp : ℕ) (content : List ℕ) (a : Answer Unit Unit) → Numbers s (told_temp s calls file xid temp content a)
+temp_number s calls file xid temp content (Failed t u) = omega arith
+temp_number s calls file xid temp content (Done u) = goes_number s file content (store_of temp content)
+
+sends_number : (s : client.State) (file xid : ℕ) (content : List ℕ) (st : Store) (c : StoreCall) (o : Option Chunk) → Numbers s (sends_whole s file xid content st c o)
+sends_number s file xid content st c None = omega arith
+sends_number s file xid content st c (Some k) = refl
+
+named_number : (s : client.State) (calls : List Pending) (file xid : ℕ) (content : List ℕ) (st : Store) (c : StoreCall) (a : Answer Unit Unit) → Numbers s (told_named s calls file xid content st c a)
+named_number s calls file xid content st c (Done u) = goes_number s file content st
+named_number s calls file xid content st c (Failed status.HashNotFound u) = sends_number s file xid content st c (slice_get st.chunks c.index)
+named_number s calls file xid content st c (Failed t u) = omega arith
+
+whole_number : (s : client.State) (calls : List Pending) (file xid : ℕ) (content : List ℕ) (st : Store) (a : Answer Unit Unit) → Numbers s (told_whole s calls file xid content st a)
+whole_number s calls file xid content st (Failed t u) = omega arith
+whole_number s calls file xid content st (Done u) = goes_number s file content st
+
+way_number : (s : client.State) (calls : List Pending) (file xid : ℕ) (content : List ℕ) (st : Store) (c : StoreCall) (w : Way) (b : Body) → Numbers s (told_way s calls file xid content st c w b)
+way_number s calls file xid content st c way.Named (body.Lb (lb.CondWriteAnswer a)) = named_number s calls file xid content st c a
+way_number s calls file xid content st c way.Whole (body.Lb (lb.TmpWriteAnswer a)) = whole_number s calls file xid content st a
+way_number s calls file xid content st c w b = omega arith
+
+stored_number : (s : client.State) (calls : List Pending) (file xid : ℕ) (content : List ℕ) (st : Store) (b : Body) (o : Option StoreCall) → Numbers s (told_stored s calls file xid content st b o)
+stored_number s calls file xid content st b None = omega arith
+stored_number s calls file xid content st b (Some c) = way_number s calls file xid content (answered st xid) c c.way b
+
+took_number : (s : client.State) (calls : List Pending) (file : ℕ) (t : Stage) (xid : ℕ) (b : Body) → Numbers s (took s calls file t xid b)
+took_number s calls file (stage.Hashing tries asked) xid (body.Lb (lb.GetHashAnswer a)) = first_numbers s calls file xid tries a
+took_number s calls file (stage.Listing asked f) xid (body.Lb (lb.GetHashAnswer a)) = hashes_number s calls file xid f a
+took_number s calls file (stage.Reading f) xid (body.Nfs (nfs.ReadAnswer (Failed t a))) = omega arith
+took_number s calls file (stage.Reading f) xid (body.Nfs (nfs.ReadAnswer (Done piece))) = piece_number s calls file xid f piece (read_at f.under xid)
+took_number s calls file (stage.Making asked temp) xid (body.Lb (lb.MkTmpFileAnswer a)) = temp_number s calls file xid temp (client.local_bytes s.opened file) a
+took_number s calls file (stage.Storing st) xid b = stored_number s calls file xid (client.local_bytes s.opened file) st b (store_at st.under xid)
+took_number s calls file (stage.Committing asked) xid (body.Lb (lb.CommitTmpAnswer (Failed t u))) = omega arith
+took_number s calls file (stage.Committing asked) xid (body.Lb (lb.CommitTmpAnswer (Done c))) = omega arith
+took_number s calls file p xid b = omega arith
+
+drops_number : (s : client.State) (o : Option Task) (xid : ℕ) (b : Bool) → Numbers s (drops s o xid b)
+drops_number s o xid true = omega arith
+drops_number s (Some t) xid false = omega arith
+drops_number s None xid false = omega arith
+
+took_if_number : (s : client.State) (o : Option Task) (xid : ℕ) (b : Body) (own : Bool) → Numbers s (took_if s o xid b own)
+took_if_number s (Some t) xid b true = took_number (idle s) (client.calls_of s) t.file t.stage xid b
+took_if_number s (Some t) xid b false = drops_number s (Some t) xid (client.has_call s.forgotten xid)
+took_if_number s None xid b own = drops_number s None xid (client.has_call s.forgotten xid)
+
+denied_number : (s : client.State) (o : Option Task) (xid : ℕ) (r : RpcRefusal) (own : Bool) → Numbers s (denied_if s o xid r own)
+denied_number s (Some t) xid r true = by r
+  where
+    by : (r : RpcRefusal) → Numbers s (denied (idle s) (client.calls_of s) xid r)
+    by refusal.SystemErr = omega arith
+    by _ = omega arith
+denied_number s (Some t) xid r false = drops_number s (Some t) xid (client.has_call s.forgotten xid)
+denied_number s None xid r own = drops_number s None xid (client.has_call s.forgotten xid)
+
+-- whatever comes
+pub got_number : (s : client.State) (m : Result Message WireFault) (now : ℕ) → Numbers s (got_step s m now)
+got_number s (Err e) now = by s.task
+  where
+    by : (o : Option Task) → Numbers s (got_fault s o e)
+    by (Some t) = omega arith
+    by None = omega arith
+got_number s (Ok (message.Answer xid b)) now = took_if_number s s.task xid b (client.has_call (client.pending s.task) xid)
+got_number s (Ok (message.Refuse xid r)) now = denied_number s s.task xid r (client.has_call (client.pending s.task) xid)
+got_number s (Ok (message.Unfit xid r)) now = omega arith
+got_number s (Ok (message.Call xid b)) now = omega arith
+
+-- ---- a command
+
+local_number : (s : client.State) (t : Option Task) (l : Option Local) (f : Local → client.State × ClientStep) → ((l : Local) → Numbers s (f l)) → Numbers s (on_local s t l f)
+local_number s (Some t) l f h = omega arith
+local_number s None None f h = omega arith
+local_number s None (Some l) f h = h l
+
+edits_number : (s : client.State) (file : ℕ) (l : Local) (size : ℕ) (content : List ℕ) → Numbers s (edits s file l size content)
+edits_number s file l size content = by (nat_lt local_most size)
+  where
+    by : (b : Bool) → Numbers s (if b then too_big s size else done_with s file l content)
+    by true = omega arith
+    by false = omega arith
+
+opens_number : (s : client.State) (file : ℕ) (t : Option Task) → Numbers s (opens s file t)
+opens_number s file (Some t) = omega arith
+opens_number s file None = by (is_open s.opened file)
+  where
+    asks : (b : Bool) → Numbers s (asks_hashes s file b)
+    asks true = refl
+    asks false = omega arith
+
+    by : (b : Bool) → Numbers s (opens_if s file b)
+    by true = omega arith
+    by false = asks (may_ask s)
+
+pub command_number : (s : client.State) (d : Command) (now : ℕ) → Numbers s (command_step s d now)
+command_number s (command.Open file) now = opens_number s file s.task
+command_number s (command.Write file offset content) now = local_number s s.task (client.local_at s.opened file) (writes s file offset content) (λ l. by l (content_length content == 0))
+  where
+    by : (l : Local) (b : Bool) → Numbers s (if b then (s, ends outcome.Done 0 0) else edits s file l (written_size (length l.bytes) offset (content_length content)) (written l.bytes offset (content_bytes content)))
+    by l true = omega arith
+    by l false = edits_number s file l (written_size (length l.bytes) offset (content_length content)) (written l.bytes offset (content_bytes content))
+command_number s (command.Trunc file size) now = local_number s s.task (client.local_at s.opened file) (truncates s file size) (λ l. edits_number s file l size (truncated l.bytes size))
+command_number s (command.Read file offset count) now = local_number s s.task (client.local_at s.opened file) (reads s offset count) (λ l. omega arith)
+command_number s (command.Close file) now = local_number s s.task (client.local_at s.opened file) (closes s file) (λ l. by (may_ask s))
+  where
+    by : (b : Bool) → Numbers s (asks_temp s file b)
+    by true = refl
+    by false = omega arith
+command_number s (command.Abandon file) now = local_number s s.task (client.local_at s.opened file) (abandons s file) (λ l. omega arith)
+
+-- ---- calls that were sent
+
+pub calls_more : (c was : ℕ) (past : List Moment) (m : Moment) → calls_from c was (past ++ m ∷ []) ≡ calls_by c (calls_from c was past) m
+calls_more c was [] m = refl
+calls_more c was (z ∷ past) m = calls_more c (calls_by c was z) past m
+
+-- none by one who sends none, or another
+pub no_calls : (z c was : ℕ) (ms : List Message) → ms ≡ [] → was + sent_if (c == z) ms ≡ was
+no_calls z c was ms none = ap (λ l. was + sent_if (c == z) l) none ∙ by (c == z)
+  where
+    by : (b : Bool) → was + sent_if b [] ≡ was
+    by true = omega arith
+    by false = omega arith
+
+pub other_calls : (z c was : ℕ) (ms : List Message) → (z ≡ c → ⊥) → was + sent_if (c == z) ms ≡ was
+other_calls z c was ms apart = ap (λ b. was + sent_if b ms) (ne_eqb c z (λ e. apart (sym e))) ∙ omega arith
+
+pub own_calls : (z c was : ℕ) (ms : List Message) → z ≡ c → was + sent_if (c == z) ms ≡ was + calls_among ms
+own_calls z c was ms same = ap (λ b. was + sent_if b ms) (eq-eqb c z (sym same))
