@@ -1,0 +1,10 @@
+pub mod Words
+pub mod Ticks
+pub mod Seats
+pub mod Spelled
+pub mod Steps
+pub mod Blocks
+pub mod Opening
+pub mod Clean
+pub mod Accepted
+pub mod Parts
