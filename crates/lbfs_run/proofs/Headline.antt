@@ -1,37 +1,77 @@
--- What a run with the word `replay` that ends with status 0 was of, and what it wrote.
-use Rattle.std.proofs.Common.{◌≡◌, ℕ, List, [], ◌∷◌, Bool, true, false, Option, Some, Result, Ok, Err, codes, length, nat_lt, refl, subst, arith}
+-- What a run that replays a trace and ends with status 0 was of, and what it wrote.
+use Rattle.std.proofs.Common.{◌≡◌, ℕ, ◌≤◌, List, [], ◌∷◌, Bool, true, false, Option, Some, None, Result, Ok, Err, codes, length, nat_lt, refl, sym, ap, ◌∙◌, subst, arith}
 use Rattle.std.specs.Io.KnownBytes.{Appends}
 use Rattle.trace_replay.specs.declared.fault.Refused.{Refused}
 use Rattle.trace_replay.specs.World.{World}
 use Rattle.trace_replay.specs.Timed.{accepted}
 use Rattle.trace_replay.specs.Traces.{IsKeptPromise}
-use Rattle.lbfs_run.specs.Output.{code_of, told, output_of, replay_output, unless_long, most_bytes}
-use Rattle.lbfs_run.specs.Ends.{IsAnswered, IsReplayed}
+use Rattle.trace_generator.specs.Lines.{generated_text}
+use Rattle.lbfs_run.specs.declared.output.Status.{Status}
+use Rattle.lbfs_run.specs.declared.words.View.{View}
+use Rattle.lbfs_run.specs.declared.words.View.TheVariants.{History}
+use Rattle.lbfs_run.specs.declared.words.InputCommand.TheVariants as input
+use Rattle.lbfs_run.specs.declared.words.SeedCommand.{SeedCommand}
+use Rattle.lbfs_run.specs.declared.words.SeedCommand.TheVariants as seeded
+use Rattle.lbfs_run.specs.declared.words.Command.{Command}
+use Rattle.lbfs_run.specs.declared.words.Command.TheVariants.{OfInput, OfSeed}
+use Rattle.lbfs_run.specs.Words.{command_of}
+use Rattle.lbfs_run.specs.Output.{code_of, told, output_for, output_of, replay_output, seed_output, unless_long, most_bytes}
+use Rattle.lbfs_run.specs.Ends.{IsAnswered, IsAnsweredFrom, IsReplayed, IsRun}
+use Rattle.lbfs_run.proofs.Bounds.{blocks_fit}
 
 abbrev pub KeepsPromises : Type 0
 KeepsPromises = (input : List ℕ) (w : World) → accepted input ≡ Ok w → IsKeptPromise input w
 
+abbrev pub AreAccepted : Type 0
+AreAccepted = (seed blocks : ℕ) → blocks ≤ 5000 → (w : World) × (accepted (generated_text seed blocks) ≡ Ok w)
+
 no_success : {A : Type 0} → ◌≡◌ {A = ℕ} 0 5 → A
 no_success e = absurd (omega (arith, e))
 
-told_whole : (input : List ℕ) (held held' : Option (List ℕ)) (ran : Result World Refused) → KeepsPromises → accepted input ≡ ran
-    → 0 ≡ code_of (told ran).0 → Appends held held' (told ran).1 → IsReplayed held held' input
-told_whole input held held' (Ok w) kept e zero given = (w, e, given, kept input w e)
-told_whole input held held' (Err n) kept e zero given = no_success zero
+told_whole : (view : View) (trace : List ℕ) (held held' : Option (List ℕ)) (ran : Result World Refused) → KeepsPromises → accepted trace ≡ ran
+    → 0 ≡ code_of (told view ran).0 → Appends held held' (told view ran).1 → IsRun view held held' trace
+told_whole view trace held held' (Ok w) kept e zero given = (w, e, given, kept trace w e)
+told_whole view trace held held' (Err n) kept e zero given = no_success zero
 
-within : (input : List ℕ) (held held' : Option (List ℕ)) (long : Bool) → KeepsPromises → 0 ≡ code_of (unless_long long (replay_output input)).0
-    → Appends held held' (unless_long long (replay_output input)).1 → IsReplayed held held' input
-within input held held' true kept zero given = no_success zero
-within input held held' false kept zero given = told_whole input held held' (accepted input) kept refl zero given
+within : (view : View) (trace : List ℕ) (held held' : Option (List ℕ)) (long : Bool) → KeepsPromises → 0 ≡ code_of (unless_long long (replay_output view trace)).0
+    → Appends held held' (unless_long long (replay_output view trace)).1 → IsRun view held held' trace
+within view trace held held' true kept zero given = no_success zero
+within view trace held held' false kept zero given = told_whole view trace held held' (accepted trace) kept refl zero given
 
--- what is answered for one input
-abbrev Answered : List (List ℕ) → Option (List ℕ) → Option (List ℕ) → ℕ → List ℕ → Type 0
-Answered words held held' code input = (code ≡ code_of (output_of words input).0) × Appends held held' (output_of words input).1
+-- what is answered for one input, by one command
+abbrev Answered : Option Command → Option (List ℕ) → Option (List ℕ) → ℕ → List ℕ → Type 0
+Answered command held held' code bytes = (code ≡ code_of (output_for command bytes).0) × Appends held held' (output_for command bytes).1
 
-pub replayed : (words : List (List ℕ)) (left held held' : Option (List ℕ)) (code : ℕ) (input : List ℕ) → KeepsPromises
-    → IsAnswered words left held held' code → words ≡ codes "replay" ∷ [] → code ≡ 0 → left ≡ Some input → IsReplayed held held' input
-replayed words left held held' code input kept answered replay zero told =
-    let given = answered input told in
-    let named = subst (λ (ws : List (List ℕ)). Answered ws held held' code input) replay given in
-    let a = subst (λ (c : ℕ). Answered (codes "replay" ∷ []) held held' c input) zero named in
-    within input held held' (nat_lt most_bytes (length input)) kept a.0 a.1
+pub replayed : (words : List (List ℕ)) (left held held' : Option (List ℕ)) (code : ℕ) (view : View) (trace : List ℕ) → KeepsPromises
+    → IsAnswered words left held held' code → command_of words ≡ Some (OfInput (input.Replay view)) → code ≡ 0 → left ≡ Some trace → IsRun view held held' trace
+replayed words left held held' code view trace kept answered asks zero told =
+    let given = answered trace told in
+    let named = subst (λ (c : Option Command). Answered c held held' code trace) asks given in
+    let a = subst (λ (c : ℕ). Answered (Some (OfInput (input.Replay view))) held held' c trace) zero named in
+    within view trace held held' (nat_lt most_bytes (length trace)) kept a.0 a.1
+
+-- the word `replay` alone
+pub headline : (words : List (List ℕ)) (left held held' : Option (List ℕ)) (code : ℕ) (trace : List ℕ) → KeepsPromises
+    → IsAnswered words left held held' code → words ≡ codes "replay" ∷ [] → code ≡ 0 → left ≡ Some trace → IsReplayed held held' trace
+headline words left held held' code trace kept answered replay zero told = replayed words left held held' code History trace kept answered (ap command_of replay) zero told
+
+pub generated : (words : List (List ℕ)) (left left' held held' : Option (List ℕ)) (code : ℕ) (view : View) (seed blocks : ℕ) → KeepsPromises
+    → IsAnsweredFrom words left left' held held' code → command_of words ≡ Some (OfSeed seed blocks (seeded.Replay view)) → code ≡ 0 → IsRun view held held' (generated_text seed blocks)
+generated words left left' held held' code view seed blocks kept answered asks zero =
+    let named = subst (λ (c : Option Command). Answered c held held' code answered.0) asks (answered.3, answered.4) in
+    let a = subst (λ (c : ℕ). Answered (Some (OfSeed seed blocks (seeded.Replay view))) held held' c answered.0) zero named in
+    told_whole view (generated_text seed blocks) held held' (accepted (generated_text seed blocks)) kept refl a.0 a.1
+
+-- ---- a generated trace is not refused
+
+never : {A : Type 0} (seed blocks : ℕ) (command : SeedCommand) → ((w : World) × (accepted (generated_text seed blocks) ≡ Ok w)) → ◌≡◌ {A = ℕ} 5 (code_of (seed_output seed blocks command).0) → A
+never seed blocks seeded.Write is e = absurd (omega (arith, e))
+never seed blocks (seeded.Replay view) is e =
+    let done : ◌≡◌ {A = ℕ} 5 0 = e ∙ ap (λ (r : Result World Refused). code_of (told view r).0) is.1 in
+    absurd (omega (arith, done))
+
+pub unrefused : (words : List (List ℕ)) (left left' held held' : Option (List ℕ)) (code seed blocks : ℕ) (command : SeedCommand) → AreAccepted
+    → IsAnsweredFrom words left left' held held' code → command_of words ≡ Some (OfSeed seed blocks command) → code ≡ 5 → ⊥
+unrefused words left left' held held' code seed blocks command all answered asks five =
+    let named = subst (λ (c : Option Command). Answered c held held' code answered.0) asks (answered.3, answered.4) in
+    never seed blocks command (all seed blocks (blocks_fit words seed blocks command asks)) (sym five ∙ named.0)

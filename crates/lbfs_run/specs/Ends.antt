@@ -1,6 +1,6 @@
 -- What each end of a run says of the bytes that were read and written. What is left in a source and what a sink holds
 -- are known only where they tell, as those in memory do: of a stream of the system these say nothing of its bytes.
-use Rattle.std.specs.Prelude.{◌≡◌, ℕ, List, [], ◌∷◌, Option, Some, Ok, codes}
+use Rattle.std.specs.Prelude.{◌≡◌, ℕ, List, Option, Some, Ok, true}
 use Rattle.std.specs.Io.KnownBytes.{Appends, Consumes, IsAtEnd}
 use Rattle.lb_base.specs.Known.{AppendsPart, AppendsPrefix}
 use Rattle.register_model.specs.Text.{history_text}
@@ -8,7 +8,9 @@ use Rattle.trace_replay.specs.World.{World}
 use Rattle.trace_replay.specs.World.{history_of}
 use Rattle.trace_replay.specs.Timed.{accepted}
 use Rattle.trace_replay.specs.Traces.{IsKeptPromise}
-use Rattle.lbfs_run.specs.Output.{output_of, code_of}
+use Rattle.lbfs_run.specs.declared.words.View.{View}
+use Rattle.lbfs_run.specs.Words.{command_of, reads}
+use Rattle.lbfs_run.specs.Output.{output_of, code_of, view_text}
 
 -- where the source tells, the status and the bytes written are those that the words and the input call for
 abbrev pub IsAnswered : List (List ℕ) → Option (List ℕ) → Option (List ℕ) → Option (List ℕ) → ℕ → Type 0
@@ -16,10 +18,10 @@ IsAnswered words left held held' code =
     (input : List ℕ) → left ≡ Some input → (code ≡ code_of (output_of words input).0) × Appends held held' (output_of words input).1
 
 -- whatever the source tells, bytes were taken from it that call for the status and for the bytes written; with status
--- 0 they were all
+-- 0 they were all, where the words have the input read
 abbrev pub IsAnsweredFrom : List (List ℕ) → Option (List ℕ) → Option (List ℕ) → Option (List ℕ) → Option (List ℕ) → ℕ → Type 0
 IsAnsweredFrom words left left' held held' code =
-    (input : List ℕ) × Consumes left left' input × (code ≡ 0 → IsAtEnd left') × (code ≡ code_of (output_of words input).0) × Appends held held' (output_of words input).1
+    (input : List ℕ) × Consumes left left' input × (code ≡ 0 → reads (command_of words) ≡ true → IsAtEnd left') × (code ≡ code_of (output_of words input).0) × Appends held held' (output_of words input).1
 
 -- where the source tells, what was written is a front of the bytes that they call for
 abbrev pub IsBegun : List (List ℕ) → Option (List ℕ) → Option (List ℕ) → Option (List ℕ) → Type 0
@@ -41,3 +43,7 @@ IsBrokenFrom words left left' held held' = (input : List ℕ) × Consumes left l
 -- and that history keeps its promise.
 abbrev pub IsReplayed : Option (List ℕ) → Option (List ℕ) → List ℕ → Type 0
 IsReplayed held held' input = (w : World) × (accepted input ≡ Ok w) × Appends held held' (history_text (history_of w)) × IsKeptPromise input w
+
+-- The same of a trace, whether it was read or made, and of its history or summary.
+abbrev pub IsRun : View → Option (List ℕ) → Option (List ℕ) → (trace : List ℕ) → Type 0
+IsRun view held held' trace = (w : World) × (accepted trace ≡ Ok w) × Appends held held' (view_text view w) × IsKeptPromise trace w

@@ -5,16 +5,23 @@ use Rattle.hex.specs.Hex.{encode_lower}
 use Rattle.chunk_cut.specs.Chunks.{chunks_of}
 use Rattle.chunk_cut.specs.declared.chunk.Chunk.{Chunk}
 use Rattle.record_show.specs.Show.{shown}
-use Rattle.register_model.specs.Text.{history_text}
+use Rattle.register_model.specs.Text.{history_text, summary_text}
 use Rattle.trace_text.specs.Refusals.{refusal_of}
 use Rattle.trace_text.specs.declared.refusal.Refusal.TheVariants as refusal
 use Rattle.trace_replay.specs.declared.fault.Refused.{Refused}
 use Rattle.trace_replay.specs.World.{World}
 use Rattle.trace_replay.specs.World.{history_of}
 use Rattle.trace_replay.specs.Timed.{accepted}
+use Rattle.trace_generator.specs.Lines.{generated_text}
 use Rattle.lbfs_run.specs.Words.{command_of}
+use Rattle.lbfs_run.specs.declared.words.View.{View}
+use Rattle.lbfs_run.specs.declared.words.View.TheVariants.{History, Summary}
+use Rattle.lbfs_run.specs.declared.words.InputCommand.{InputCommand}
+use Rattle.lbfs_run.specs.declared.words.InputCommand.TheVariants as input
+use Rattle.lbfs_run.specs.declared.words.SeedCommand.{SeedCommand}
+use Rattle.lbfs_run.specs.declared.words.SeedCommand.TheVariants as seeded
 use Rattle.lbfs_run.specs.declared.words.Command.{Command}
-use Rattle.lbfs_run.specs.declared.words.Command.TheVariants as command
+use Rattle.lbfs_run.specs.declared.words.Command.TheVariants.{OfInput, OfSeed}
 use Rattle.lbfs_run.specs.declared.output.Status.{Status}
 use Rattle.lbfs_run.specs.declared.output.Status.TheVariants as status
 
@@ -39,18 +46,28 @@ chunk_line chunk = codes "chunk " ++ decimal chunk.start ++ codes " " ++ decimal
 abbrev pub cut_text : List ℕ → List ℕ
 cut_text content = flat_map chunk_line (chunks_of content) ++ codes "chunks " ++ decimal (length (chunks_of content)) ++ codes " bytes " ++ decimal (length content) ++ codes "\n"
 
--- the history of the world that a trace comes to, or the first line that is refused
-abbrev pub told : Result World Refused → Status × List ℕ
-told (Ok w) = (status.Done, history_text (history_of w))
-told (Err r) = (status.Refused, refusal_of (refusal.Line r.line r.fault))
+-- how a run is told: its history, or the counts of that and of the server's journal
+abbrev pub view_text : View → World → List ℕ
+view_text History w = history_text (history_of w)
+view_text Summary w = summary_text (history_of w) (length w.core.server.journal)
 
-abbrev pub replay_output : List ℕ → Status × List ℕ
-replay_output input = told (accepted input)
+-- the world that a trace comes to, or the first line that is refused
+abbrev pub told : View → Result World Refused → Status × List ℕ
+told view (Ok w) = (status.Done, view_text view w)
+told view (Err r) = (status.Refused, refusal_of (refusal.Line r.line r.fault))
 
-abbrev pub command_output : Command → List ℕ → Status × List ℕ
-command_output command.Replay input = replay_output input
-command_output command.Cut input = (status.Done, cut_text input)
-command_output command.Show input = (status.Done, shown input)
+abbrev pub replay_output : View → (trace : List ℕ) → Status × List ℕ
+replay_output view trace = told view (accepted trace)
+
+abbrev pub input_output : InputCommand → (input : List ℕ) → Status × List ℕ
+input_output (input.Replay view) bytes = replay_output view bytes
+input_output input.Cut bytes = (status.Done, cut_text bytes)
+input_output input.Show bytes = (status.Done, shown bytes)
+
+-- a trace of so many blocks that is made from a seed
+abbrev pub seed_output : (seed blocks : ℕ) → SeedCommand → Status × List ℕ
+seed_output seed blocks seeded.Write = (status.Done, generated_text seed blocks)
+seed_output seed blocks (seeded.Replay view) = replay_output view (generated_text seed blocks)
 
 -- the most bytes that an input may have
 abbrev pub most_bytes : ℕ
@@ -62,9 +79,10 @@ unless_long true output = (status.Refused, refusal_of refusal.LimitBytes)
 unless_long false output = output
 
 abbrev pub output_for : Option Command → List ℕ → Status × List ℕ
-output_for None input = (status.BadWords, refusal_of refusal.Words)
-output_for (Some c) input = unless_long (nat_lt most_bytes (length input)) (command_output c input)
+output_for None bytes = (status.BadWords, refusal_of refusal.Words)
+output_for (Some (OfInput c)) bytes = unless_long (nat_lt most_bytes (length bytes)) (input_output c bytes)
+output_for (Some (OfSeed seed blocks c)) bytes = seed_output seed blocks c
 
 -- what the program writes for its words and its input, and how it ends, where nothing fails and memory lasts
 abbrev pub output_of : List (List ℕ) → List ℕ → Status × List ℕ
-output_of words input = output_for (command_of words) input
+output_of words bytes = output_for (command_of words) bytes

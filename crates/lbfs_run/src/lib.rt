@@ -8,6 +8,7 @@
 #![tactic(auto)]
 
 mod chunk_lines;
+pub mod options;
 pub mod output;
 pub mod run;
 pub mod words;
