@@ -1,7 +1,7 @@
 //! What a server refuses at the edge of what it holds: it takes no memory to refuse that, and so the
 //! refusal isn't answered as want of memory.
 
-ghost use Rattle.std.specs.Prelude.{◌≡◌, ◌≤◌, IfOk, length};
+ghost use Rattle.std.specs.Prelude.{◌≡◌, ◌≤◌, [], IfOk, length};
 
 use hash_calls::call::{Commit, NewTemp, TempPiece};
 use hash_calls::message::Lb;
@@ -75,18 +75,24 @@ fn called(alloc: Global, server: &mut Server, call: Lb) -> End {
     end
 }
 
+/// How many connections in a row were told the next number, of 64, and how two more ended.
+fn connections(alloc: Global, server: &mut Server) -> (u32, End, End) {
+    let mut told = 0u32;
+    for session in 1..65u32 {
+        if connected(alloc, server) == End::Quiet(Told::Session(session)) {
+            told = told.wrapping_add(1);
+        }
+    }
+    (told, connected(alloc, server), connected(alloc, server))
+}
+
 // 64 sessions stand at once, and the 65th connection is told so.
 #[test]
 fn the_65th_connection_is_full(rt: HostRuntime) -> Result<(), Fail> {
     let mut server = Server::new(rt.alloc());
-    for session in 1..65u32 {
-        assert_eq!(rt;
-            connected(rt.alloc(), &mut server),
-            End::Quiet(Told::Session(session))
-        );
-    }
-    assert_eq!(rt; connected(rt.alloc(), &mut server), End::Quiet(Told::Full));
-    assert_eq!(rt; connected(rt.alloc(), &mut server), End::Quiet(Told::Full));
+    let ends = connections(rt.alloc(), &mut server);
+    drop(server);
+    assert_eq!(rt; ends, (64, End::Quiet(Told::Full), End::Quiet(Told::Full)));
     Ok(())
 }
 
@@ -97,18 +103,19 @@ fn zeros(alloc: Global, count: usize) -> Result<Bytes, AllocError>
     Ok(Items::from_vec(vec![in alloc; 0u8; count]?))
 }
 
-/// A server of 16 files of 67,108,864 bytes: all that a tree may have. The session 1 stands.
-fn full_server(alloc: Global) -> Result<Server, AllocError> {
-    let mut server = Server::new(alloc);
+/// 16 files of 67,108,864 bytes: all that a tree may have.
+fn fill(alloc: Global, server: &mut Server) -> Result<(), AllocError>
+    requires { server.old.waiting ≡ [] }
+{
     for id in 2..18u64 {
+        let content = Chunked::new(alloc, zeros(alloc, 67_108_864)?)?;
         server.add_file(File {
             id,
             version: 1,
-            content: Chunked::new(alloc, zeros(alloc, 67_108_864)?)?,
+            content,
         })?;
     }
-    drop(server.step(alloc, Event::Connect));
-    Ok(server)
+    Ok(())
 }
 
 /// Makes the temporary file 1 for the file 2.
@@ -139,21 +146,40 @@ fn committed(alloc: Global, server: &mut Server, size: u64) -> Result<End, Alloc
     Ok(called(alloc, server, Lb::CommitTmp(commit)))
 }
 
+/// How the session 1's calls end, one behind the other: a change of one byte, and one of no bytes.
+fn changes(alloc: Global, server: &mut Server) -> Result<[End; 5], AllocError> {
+    drop(server.step(alloc, Event::Connect));
+    Ok([
+        made(alloc, server)?,
+        written(alloc, server, b"a")?,
+        committed(alloc, server, 1)?,
+        made(alloc, server)?,
+        committed(alloc, server, 0)?,
+    ])
+}
+
+/// The same at a server whose tree is full. All that holds messages is let go here, by one call.
+fn full_tree_ends(alloc: Global) -> Result<[End; 5], AllocError> {
+    let mut server = Server::new(alloc);
+    let ends = match fill(alloc, &mut server) {
+        Ok(()) => changes(alloc, &mut server),
+        Err(error) => Err(error),
+    };
+    drop(server);
+    ends
+}
+
 // A change of one byte has no place beside a whole tree, and one of no bytes has.
 #[test]
 fn a_full_tree_is_told(rt: HostRuntime) -> Result<(), Fail> {
-    let alloc = rt.alloc();
-    let mut server = full_server(alloc)?;
-    assert_eq!(rt; made(alloc, &mut server)?, End::Done);
-    assert_eq!(rt; written(alloc, &mut server, b"a")?, End::Done);
-    assert_eq!(rt;
-        committed(alloc, &mut server, 1)?,
-        End::Failed(Status::NoSpc)
-    );
-    assert_eq!(rt; made(alloc, &mut server)?, End::Done);
-    assert_eq!(rt;
-        committed(alloc, &mut server, 0)?,
-        End::Quiet(Told::Nothing)
-    );
+    let ends = full_tree_ends(rt.alloc())?;
+    let wanted = [
+        End::Done,
+        End::Done,
+        End::Failed(Status::NoSpc),
+        End::Done,
+        End::Quiet(Told::Nothing),
+    ];
+    assert_eq!(rt; ends, wanted);
     Ok(())
 }
