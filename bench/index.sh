@@ -14,19 +14,22 @@ cd "$(dirname "$0")/.."
 rounds=${1:-9}
 . bench/made
 copy_for index_bench "chunk_index lru" chunk_index
+words_of index_bench
 cat >"$work/crates/index_bench/src/main.rt" <<'EOF'
 //! Puts and finds 65,536 places through the index and through `lru` alone, and prints the
 //! microseconds of each.
 #![tactic(auto)]
 
+mod words;
+
 use chunk_index::index::Index;
 use chunk_index::place::Place;
 use lru::LruCache;
 use std::alloc::{AllocError, Global};
+use std::io;
 use std::num::NonZeroUsize;
 use std::rt::Runtime;
 use std::time::Instant;
-use std::{env, io};
 
 /// How many places.
 const PLACES: usize = 65_536;
@@ -146,19 +149,9 @@ fn alone(rt: &impl Runtime, alloc: Global, most: NonZeroUsize, digests: &[[u8; 2
     Ok((filled.as_micros(), searched.as_micros()))
 }
 
-/// The rounds.
-fn rounds(words: &[String]) -> Option<usize> {
-    let [rounds] = words else {
-        return None;
-    };
-    rounds.parse().ok()
-}
-
 fn main(rt: HostRuntime) -> io::Result<()> {
     let alloc = rt.alloc();
-    let words: Vec<String> = env::args(&rt)?.skip(1).collect(alloc)?;
-    let Some(rounds) = rounds(&words) else {
-        println!(rt; "a number is wanted")?;
+    let Some(rounds) = words::rounds(&rt)? else {
         return Ok(());
     };
     let digests = digests(alloc)?;

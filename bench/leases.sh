@@ -15,15 +15,18 @@ cd "$(dirname "$0")/.."
 rounds=${1:-9}
 . bench/made
 copy_for lease_bench "lease_table" lb_base clock_rule lease_table
+words_of lease_bench
 cat >"$work/crates/lease_bench/src/main.rt" <<'EOF'
 //! Grants leases in tables of several sizes, and prints the microseconds of a thousand of each kind.
 #![tactic(auto)]
 
+mod words;
+
 use lease_table::table::Leases;
 use std::alloc::{AllocError, Global};
+use std::io;
 use std::rt::Runtime;
 use std::time::Instant;
-use std::{env, io};
 
 /// How many sessions have leases.
 const SESSIONS: u32 = 64;
@@ -106,19 +109,9 @@ fn timed(rt: &impl Runtime, leases: &mut Leases, files: u64) -> io::Result<(u128
     Ok((granted.as_micros(), dropped.as_micros(), turned.as_micros()))
 }
 
-/// The rounds.
-fn rounds(words: &[String]) -> Option<usize> {
-    let [rounds] = words else {
-        return None;
-    };
-    rounds.parse().ok()
-}
-
 fn main(rt: HostRuntime) -> io::Result<()> {
     let alloc = rt.alloc();
-    let words: Vec<String> = env::args(&rt)?.skip(1).collect(alloc)?;
-    let Some(rounds) = rounds(&words) else {
-        println!(rt; "a number is wanted")?;
+    let Some(rounds) = words::rounds(&rt)? else {
         return Ok(());
     };
     let mut small = filled(alloc, 64)?;
