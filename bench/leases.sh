@@ -1,9 +1,9 @@
 #!/usr/bin/env bash
 # Measures what a new lease costs in `lease_table`: each of 64 sessions has leases on 64 files, on 2,048
 # or on 4,096; in each table 256 leases on further files are granted, to sessions and on files as a
-# generator of numbers picks them, and dropped again; then as often one before all others, which moves
-# them all. The program that does it is made in a copy outside the repository (bench/made). The script
-# reports the medians and judges nothing.
+# generator of numbers picks them, and dropped again; then as often one before all others. The program
+# that does it is made in a copy outside the repository (bench/made). The script reports the medians and
+# judges nothing.
 #
 #   bench/leases.sh [ROUNDS]     9 rounds, where not said otherwise
 #
@@ -14,7 +14,7 @@ cd "$(dirname "$0")/.."
 
 rounds=${1:-9}
 . bench/made
-copy_for lease_bench "lease_table" lb_base clock_rule lease_table
+copy_for lease_bench "lease_table reserved_map" lb_base clock_rule reserved_map lease_table
 words_of lease_bench
 cat >"$work/crates/lease_bench/src/main.rt" <<'EOF'
 //! Grants leases in tables of several sizes, and prints the microseconds of a thousand of each kind.

@@ -87,7 +87,8 @@ pub fn ask<P: Drop>(
 }
 
 /// Makes room for so many leases beside those that the changes have their places for. The one error
-/// is want of memory, as which a count past the type's end counts too.
+/// is want of memory, as which a count past the type's end counts too; it never comes where there is
+/// room.
 pub fn reserve<P>(
     leases: &mut Leases,
     waits: &Vec<Change<P>>,
@@ -95,10 +96,14 @@ pub fn reserve<P>(
 ) -> Result<(), AllocError>
     requires bounded { AreBounded waits.now.items leases.old.room }
     ensures ok { OnOk result (length waits.now.items + count ≤ leases.new.room) }
+    ensures sure { length waits.now.items + count ≤ leases.old.room → IsOk result }
     ensures leases { leases.new.leases ≡ leases.old.leases }
     ensures room { leases.old.room ≤ leases.new.room }
     ensures bounded { AreBounded waits.now.items leases.new.room }
 {
+    if count <= leases.room() - waits.len() {
+        return Ok(());
+    }
     let wanted = waits.len().checked_add(count).ok_or(AllocError)?;
     leases.reserve(wanted)
 }

@@ -78,13 +78,13 @@ impl<P: Drop> Waits<P> {
     }
 
     /// Takes out the change that is made next at this reading of the server's clock, if there is
-    /// one. A lease has its place then. It takes no memory.
+    /// one. A further lease has its place then. It takes no memory.
     pub fn settle(&mut self, now: u64) -> Option<Change<P>>
         ensures ready { result ≡ ready self.old.leases now self.old.waits }
         ensures waits { self.new.waits ≡ without_made self.old.waits result }
         ensures leases { self.new.leases ≡ self.old.leases }
         ensures spare { self.old.spare ≤ self.new.spare }
-        ensures room { OnSome result (0 < self.new.spare) }
+        ensures room { OnSome result (self.old.spare < self.new.spare) }
     {
         let at = ready::place_of_ready(&self.waits, &self.leases, now);
         asking::take_out(&mut self.waits, at)
@@ -97,6 +97,7 @@ impl<P: Drop> Waits<P> {
         ensures waits { self.new.waits ≡ without self.old.waits session }
         ensures leases { self.new.leases ≡ self.old.leases }
         ensures spare { self.old.spare ≤ self.new.spare }
+        ensures room { OnSome result (self.old.spare < self.new.spare) }
     {
         let at = ready::place_of(&self.waits, session);
         asking::take_out(&mut self.waits, at)
@@ -124,12 +125,14 @@ impl<P: Drop> Waits<P> {
         (sizes::entries_of(&self.waits), sizes::bytes_of(&self.waits))
     }
 
-    /// Makes room for so many leases, beside the one that each change has its place for. The one
-    /// error is want of memory; no lease changes.
+    /// Makes room for so many leases, beside the one that each change has its place for. A change
+    /// that comes takes one of these places. The one error is want of memory, which never comes where
+    /// there is room; no lease changes.
     pub fn reserve(&mut self, count: usize) -> Result<(), AllocError>
         ensures ok { OnOk result (count ≤ self.new.spare) }
         ensures leases { self.new.leases ≡ self.old.leases }
         ensures spare { self.old.spare ≤ self.new.spare }
+        ensures sure { count ≤ self.old.spare → IsOk result }
         ensures waits { self.new.waits ≡ self.old.waits }
     {
         asking::reserve(&mut self.leases, &self.waits, count)
@@ -181,7 +184,7 @@ impl<P: Drop> Waits<P> {
     }
 
     /// Forgets the leases that have ended at this reading of the server's clock. It takes no
-    /// memory. All leases are looked at, so it is for the time when there are many.
+    /// memory.
     pub fn forget_ended(&mut self, now: u64)
         ensures leases { self.new.leases ≡ without_ended self.old.leases now }
         ensures spare { self.old.spare ≤ self.new.spare }

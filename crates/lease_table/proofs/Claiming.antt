@@ -8,8 +8,8 @@ use Rattle.clock_rule.specs.Keeping.{KeepRule}
 use Rattle.lease_table.specs.declared.lease.Lease.{Lease}
 use Rattle.lease_table.specs.Leases.{lease_at, grant, marked, without_recalled, remembers, is_blocked, blocks, is_wanted_back}
 use Rattle.lease_table.specs.Order.{AreOrdered}
-use Rattle.lease_table.specs.Machine.{Machine, Note, Up, Up.Ask, Up.Commit, Up.Reply, Down, Down.Answered, Down.Recall, Event, Event.Open, Event.Store, Event.Read, Event.Take, Event.Arrive, Event.Change, Event.Settle, Event.Drop, Event.Cut, Event.Hang, Event.Restart, client, event_at, fresh, is_free, is_none, asks_if, opens_by, stores_if, note_if, note_of, reads_one, unless, answers, takes_one, is_wanted, recalls_if, changes, settles_if, happens, start}
-use Rattle.lease_table.specs.Claims.{recalls_of, replies_of, Among, AllBelow, AreApart, calls, commits, answers_in, one_if, IsUnread, IsGuarded, IsSafe, IsKnown, IsClaim, IsNote, IsPromise, IsAlone, IsKept, IsNoted, IsTimed, IsLater}
+use Rattle.lease_table.specs.Machine.{Machine, Note, Up, Up.Ask, Up.Commit, Up.Reply, Down, Down.Answered, Down.Recall, Event, Event.Open, Event.Fetch, Event.Store, Event.Read, Event.Take, Event.Arrive, Event.Change, Event.Settle, Event.Refuse, Event.Drop, Event.Cut, Event.Hang, Event.Restart, event_at, fresh, is_free, is_none, asks_if, opens_by, stores_if, note_if, note_of, reads_one, unless, answers, takes_one, is_wanted, recalls_if, changes, settles_if, refuses_if, happens, start}
+use Rattle.lease_table.specs.Claims.{recalls_of, replies_of, Among, AllBelow, AreApart, calls, commits, answers_in, one_if, IsUnread, IsGuarded, IsSafe, IsKnown, IsClaim, IsNote, IsPromise, IsAlone, IsKept, IsNew, AllAnswers, AreNumbered, AllRight, IsNoted, IsTimed, IsLater}
 use Rattle.lease_table.proofs.Lists.{if_passes, some_is}
 use Rattle.lease_table.proofs.Held.{grant_ordered, marked_ordered, recalled_ordered, at_grant, at_mark, at_recalled, not_blocking, first, second}
 use Rattle.lease_table.proofs.Messages.{recalls-append, recalls_answered, replies-append, replies_ask, replies_commit, calls-append, commits-append, commits_are_calls, answers-append, all_answers, answers_recalled, none_answered, only_answer, apart_answers, not_below, below_more, below_last, among_last, among_either, apart_last}
@@ -61,7 +61,7 @@ module _ (m : Machine) (new : Clocked) (later : IsLater m.clocks new) where
 unspent : (m : Machine) (seen : ℕ) (n : Note) (b : List ℕ) → IsNoted m seen → nat_lt seen n.until ≡ true → IsNote m (Some n) b → n.version ≡ m.version
 unspent m seen n b keeps early h =
     let c = h.3 in
-    let near : KeepRule m.clocks.term m.clocks.drift (record { client = client; reading = h.0; server = c.0 }) (event_at m seen) = All-contains (λ q. KeepRule m.clocks.term m.clocks.drift q (event_at m seen)) m.clocks.notes _ keeps.1 c.1.0 in
+    let near : KeepRule m.clocks.term m.clocks.drift (record { client = m.client; reading = h.0; server = c.0 }) (event_at m seen) = All-contains (λ q. KeepRule m.clocks.term m.clocks.drift q (event_at m seen)) m.clocks.notes _ keeps.1 c.1.0 in
     let under : seen < n.until = grind (arith, nat_tests, early) in
     let went : m.clocks.server - c.0 ≤ (seen - h.0) + m.clocks.drift = near.apart refl (omega (arith, h.1, h.2, under)) in
     by c.2 (omega (arith, h.1, h.2, under, near.client refl, near.server, went))
@@ -500,6 +500,29 @@ kept_settles m grants true e k =
     one : calls m.ups + 1 + answers_in m.downs ≤ 1
     one = omega (arith, k.single.single, one_is)
 
+kept_refuses : (m : Machine) (b : Bool) → m.waits ≡ b → IsKept m → IsKept (refuses_if b m)
+kept_refuses m false e k = k
+kept_refuses m true e k =
+    kept_answers n false (omega (arith, one)) (λ c s. absurd (omega (arith, k.single.idle c s, one_is)))
+    (record {
+      ordered = k.ordered;
+      note = note_alone m n m.note (commits m.ups) (recalls_of m.downs) (subst (λ w. IsAlone m.note (commits m.ups + one_if w)) e k.single.alone) k.note;
+      answers = none_answered _ m.downs (omega (arith, one));
+      sent = k.sent;
+      numbered = k.numbered;
+      single = record { single = omega (arith, one); idle = λ c s. omega (arith, one); alone = alone_zero m.note _ (omega (arith, one, commits_are_calls m.ups)) };
+      opens = k.opens;
+    })
+  where
+    n : Machine
+    n = record m { waits = false }
+
+    one_is : one_if m.waits ≡ 1
+    one_is = ap one_if e
+
+    one : calls m.ups + 1 + answers_in m.downs ≤ 1
+    one = omega (arith, k.single.single, one_is)
+
 -- ---- the connection is lost
 
 abbrev cut_off : Machine → Machine
@@ -589,12 +612,14 @@ kept_restarted m grace k = record {
 
 pub kept_happens : (m : Machine) (e : Event) → IsTimed m e → IsKept m → IsKept (happens m e)
 kept_happens m (Open seen) keeps k = kept_opens m seen keeps k m.note refl
+kept_happens m (Fetch seen) keeps k = kept_asks m seen (is_free m) refl (known_now m seen keeps) k
 kept_happens m (Store seen) keeps k = kept_stores m seen (is_free m) refl (known_now m seen keeps) k
 kept_happens m (Read seen) keeps k = kept_reads_unless m m.cut refl k
 kept_happens m (Take at grants) keeps k = kept_takes_unless m grants m.hung refl k
 kept_happens m (Arrive by at) keeps k = kept_recalls_if m by (lease_at m.leases m.session m.file) (not m.hung && is_wanted (lease_at m.leases m.session m.file) by m.file m.clocks.server) refl refl k
 kept_happens m (Change by at) keeps k = kept_changes m by (by == m.session || (is_blocked m.leases by m.file m.clocks.server || nat_lt m.clocks.server m.quiet)) refl k
 kept_happens m (Settle at grants) keeps k = kept_settles m grants (m.waits && not (nat_lt m.clocks.server m.quiet)) refl k
+kept_happens m (Refuse at) keeps k = kept_refuses m m.waits refl k
 kept_happens m Drop keeps k = record {
   ordered = k.ordered;
   note = tt;
@@ -608,13 +633,19 @@ kept_happens m (Cut seen) keeps k = kept_cut m k
 kept_happens m (Hang at) keeps k = kept_hung m k
 kept_happens m (Restart at grace) keeps k = kept_restarted m grace k
 
-pub kept_start : (session file term drift : ℕ) → IsKept (start session file term drift)
-kept_start session file term drift = record {
-  ordered = λ i j d before last. absurd (omega arith);
-  note = tt;
-  answers = tt;
-  sent = λ s e. absurd cc;
-  numbered = record { apart = tt; below = tt; replies = tt };
-  single = record { single = omega arith; idle = λ c s. refl; alone = tt };
-  opens = tt;
+pub kept_new : (m : Machine) → IsNew m → IsKept m
+kept_new m n = record {
+  ordered = n.ordered;
+  note = subst (λ (o : Option Note). IsNote m o (recalls_of m.downs)) (sym n.note) tt;
+  answers = subst (λ (ds : List Down). AllAnswers (λ version term es. IsPromise m version term (recalls_of es)) ds) (sym n.downs) tt;
+  sent = λ s e. absurd (nothing s (sym n.sent ∙ e));
+  numbered = subst (λ (ds : List Down). AreNumbered m.next (recalls_of ds) (replies_of m.ups)) (sym n.downs) (subst (λ (us : List Up). AreNumbered m.next [] (replies_of us)) (sym n.ups) (record { apart = tt; below = tt; replies = tt }));
+  single = rw (n.ups, n.downs, n.waits, n.note) (record { single = omega arith; idle = λ c s. refl; alone = tt });
+  opens = subst AllRight (sym n.opens) tt;
 }
+  where
+    nothing : (s : ℕ) → None ≡ Some s → ⊥
+    nothing s e = absurd cc
+
+pub kept_start : (client session file term drift : ℕ) → IsKept (start client session file term drift)
+kept_start client session file term drift = kept_new (start client session file term drift) (record { ordered = λ i j d less last. absurd (omega arith); ups = refl; downs = refl; waits = refl; sent = refl; note = refl; opens = refl })

@@ -7,8 +7,7 @@ use Rattle.lease_table.specs.declared.lease.Lease.{Lease}
 use Rattle.lease_table.specs.Leases.{is_on, remembers, blocks, is_blocked, lease_at, lease_of, grant, mark, marked, without_recalled}
 use Rattle.lease_table.specs.Order.{ComesBefore, AreOrdered}
 use Rattle.lease_table.proofs.Lists.{if_passes, find_filtered, some_is}
-use Rattle.lease_table.proofs.Keeping.{with_ordered, at_granted, one_at}
-use Rattle.lease_table.proofs.Marking.{found_on}
+use Rattle.lease_table.proofs.Keeping.{with_ordered, at_granted, one_at, found_on}
 
 pub grant_ordered : (leases : List Lease) → AreOrdered leases → (s f ends : ℕ) → AreOrdered (grant leases s f ends)
 grant_ordered leases ordered s f ends = with_ordered leases ordered (lease_of s f ends)

@@ -1,18 +1,16 @@
--- What is listed of recalls goes with the leases, whatever is done to them.
-use Rattle.std.proofs.Common.{◌≡◌, ℕ, List, [], ◌∷◌, ◌++◌, Option, Some, None, Bool, true, false, refl, sym, ap, ◌∙◌, arith}
+-- Which lease is found where, as leases are granted and dropped.
+use Rattle.std.proofs.Common.{◌≡◌, ℕ, List, [], ◌∷◌, ◌++◌, Option, Some, None, Bool, true, false, refl, sym, ap, subst, ◌∙◌, arith}
 use Rattle.std.specs.Prelude.{not, cond, filter, All, ◌&&◌, ◌==◌}
 use Rattle.std.specs.List.{AllByRecursion}
 use Rattle.std.proofs.lemmas.Bool.Decides.{nat_tests}
 use Rattle.std.proofs.lemmas.List.Elements.{All-head, All-tail}
-use Rattle.std.proofs.lemmas.List.Kept.{AllPairs-filter}
 use Rattle.clock_rule.proofs.Keeping.{pairs_head, pairs_tail}
 use Rattle.lease_table.specs.declared.lease.Lease.{Lease}
-use Rattle.lease_table.specs.declared.recalls.Recalled.{Recalled}
-use Rattle.lease_table.specs.Leases.{is_on, is_before, is_behind, is_recall, lease_at, with_lease, without_lease}
-use Rattle.lease_table.specs.Order.{ComesBefore, AreOrdered, recall_of, is_this, precedes, follows, Precedes, AreListed, is_listed, AreKept, unlisted, listed_with}
-use Rattle.lease_table.proofs.Lists.{find_kept, find_none_kept, any_kept, any_none_kept, unique, put_ordered, find_put_new, find_put_other, any_put_new, any_put_other}
+use Rattle.lease_table.specs.Leases.{is_on, is_before, is_behind, lease_at, with_lease, without_lease}
+use Rattle.lease_table.specs.Order.{ComesBefore, AreOrdered}
+use Rattle.lease_table.proofs.Lists.{find_kept, find_none_kept, unique, put_ordered, find_put_new, find_put_other, some_is}
 use Rattle.lease_table.proofs.Ordered.{split}
-use Rattle.lease_table.proofs.Places.{lease_probe, recall_probe}
+use Rattle.lease_table.proofs.Places.{lease_probe}
 
 -- two sessions and two files are the same
 abbrev pub is_same : (session file other_session other_file : ℕ) → Bool
@@ -70,67 +68,11 @@ all_found (l ∷ ls) ordered = (rw (itself l) refl, later ls (pairs_head ComesBe
         let other : is_on l m.session m.file ≡ false = grind (arith, nat_tests, before) in
         (rw other h.0, later ms (All-tail (ComesBefore l) m ms a) h.1)
 
--- ---- recalls
-
-pub any_unlisted : (recalls : List Recalled) (s : ℕ) (o : Option ℕ) (f t x g : ℕ) → is_listed (unlisted recalls s o f) t x g ≡ cond (is_same s f t g && is_recall o x) false (is_listed recalls t x g)
-any_unlisted recalls s None f t x g = by (is_same s f t g)
+-- what is found is what was looked for
+pub found_on : (leases : List Lease) (s f : ℕ) (l : Lease) → lease_at leases s f ≡ Some l → is_on l s f ≡ true
+found_on [] s f l e = absurd cc
+found_on (m ∷ ms) s f l e = by (is_on m s f) refl (found_on ms s f l) e
   where
-    by : (b : Bool) → is_listed recalls t x g ≡ cond (b && false) false (is_listed recalls t x g)
-    by true = refl
-    by false = refl
-any_unlisted recalls s (Some y) f t x g = by (is_same s f t g && (y == x)) refl
-  where
-    by : (b : Bool) → (is_same s f t g && (y == x)) ≡ b → is_listed (unlisted recalls s (Some y) f) t x g ≡ cond b false (is_listed recalls t x g)
-    by true e = any_none_kept (λ r. is_this r t x g) (λ r. not (is_this r s y f)) (λ r h. grind (arith, nat_tests, e, h)) recalls
-    by false e = any_kept (λ r. is_this r t x g) (λ r. not (is_this r s y f)) (λ r h. grind (arith, nat_tests, e, h)) recalls
-
-pub unlisted_listed : (recalls : List Recalled) (s : ℕ) (o : Option ℕ) (f : ℕ) → AreListed recalls → AreListed (unlisted recalls s o f)
-unlisted_listed recalls s None f listed = listed
-unlisted_listed recalls s (Some x) f listed = AllPairs-filter Precedes (λ r. not (is_this r s x f)) recalls listed
-
-module _ (recalls : List Recalled) (listed : AreListed recalls) (new : Recalled) where
-  pub with_listed : AreListed (listed_with recalls new)
-  with_listed =
-      put_ordered Precedes new (λ r. precedes r new.session new.xid new.file) (λ r. follows r new.session new.xid new.file)
-      (λ y h. h) (λ y h. grind (arith, nat_tests, h)) (λ a b h k. grind (arith, nat_tests, h, k)) recalls listed
-
-  pub any_listed_with : (t x g : ℕ) → is_listed (listed_with recalls new) t x g ≡ cond (is_this new t x g) true (is_listed recalls t x g)
-  any_listed_with t x g = by (is_this new t x g) refl
-    where
-      left : filter (λ r. not (is_this r new.session new.xid new.file)) recalls ≡ filter (λ r. precedes r new.session new.xid new.file) recalls ++ filter (λ r. follows r new.session new.xid new.file) recalls
-      left = (split Precedes _ _ _ (recall_probe new.session new.xid new.file) recalls listed).left
-
-      by : (b : Bool) → is_this new t x g ≡ b → is_listed (listed_with recalls new) t x g ≡ cond b true (is_listed recalls t x g)
-      by true e =
-          any_put_new (λ r. precedes r new.session new.xid new.file) (λ r. is_this r new.session new.xid new.file) (λ r. follows r new.session new.xid new.file) (λ r. is_this r t x g) new recalls left e
-      by false e =
-          any_put_other (λ r. precedes r new.session new.xid new.file) (λ r. is_this r new.session new.xid new.file) (λ r. follows r new.session new.xid new.file) (λ r. is_this r t x g) new recalls left e (λ y h. grind (arith, nat_tests, e, h))
-
--- ---- both
-
-itself_not : (b : Bool) → cond b false b ≡ false
-itself_not true = refl
-itself_not false = refl
-
-module _ (leases : List Lease) (recalls : List Recalled) (kept : AreKept leases recalls) where
-  pub kept_dropped : (s f : ℕ) → AreKept (without_lease leases s f) (unlisted recalls s (recall_of (lease_at leases s f)) f)
-  kept_dropped s f = record {
-    ordered = AllPairs-filter ComesBefore (λ l. not (is_on l s f)) leases kept.ordered;
-    listed = unlisted_listed recalls s (recall_of (lease_at leases s f)) f kept.listed;
-    same = λ t x g. any_unlisted recalls s (recall_of (lease_at leases s f)) f t x g ∙ by t x g (is_same s f t g) refl ∙ ap (λ o. is_recall (recall_of o) x) (sym (at_dropped leases s f t g));
-  }
-    where
-      by : (t x g : ℕ) (b : Bool) → is_same s f t g ≡ b → cond (b && is_recall (recall_of (lease_at leases s f)) x) false (is_listed recalls t x g) ≡ is_recall (recall_of (cond b None (lease_at leases t g))) x
-      by t x g true e = rw (same_session s f t g e, same_file s f t g e, kept.same s x f) (itself_not (is_recall (recall_of (lease_at leases s f)) x))
-      by t x g false e = kept.same t x g
-
-  pub kept_granted : (s f ends : ℕ) → AreKept (with_lease leases (record { session = s; file = f; ends = ends; recall = None })) (unlisted recalls s (recall_of (lease_at leases s f)) f)
-  kept_granted s f ends = record {
-    ordered = with_ordered leases kept.ordered (record { session = s; file = f; ends = ends; recall = None });
-    listed = unlisted_listed recalls s (recall_of (lease_at leases s f)) f kept.listed;
-    same = λ t x g. any_unlisted recalls s (recall_of (lease_at leases s f)) f t x g ∙ by t x g (is_same s f t g) refl ∙ ap (λ o. is_recall (recall_of o) x) (sym (at_granted leases kept.ordered (record { session = s; file = f; ends = ends; recall = None }) t g));
-  }
-    where
-      by : (t x g : ℕ) (b : Bool) → is_same s f t g ≡ b → cond (b && is_recall (recall_of (lease_at leases s f)) x) false (is_listed recalls t x g) ≡ is_recall (recall_of (cond b (Some (record { session = s; file = f; ends = ends; recall = None })) (lease_at leases t g))) x
-      by t x g true e = rw (same_session s f t g e, same_file s f t g e, kept.same s x f) (itself_not (is_recall (recall_of (lease_at leases s f)) x))
-      by t x g false e = kept.same t x g
+    by : (b : Bool) → is_on m s f ≡ b → (lease_at ms s f ≡ Some l → is_on l s f ≡ true) → cond b (Some m) (lease_at ms s f) ≡ Some l → is_on l s f ≡ true
+    by true h later e = subst (λ (n : Lease). is_on n s f ≡ true) (some_is m l e) h
+    by false h later e = later e

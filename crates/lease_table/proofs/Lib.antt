@@ -2,13 +2,11 @@ pub mod Ordered
 pub mod Places
 pub mod Lists
 pub mod Keeping
-pub mod Marking
-pub mod Spots
-pub mod Named
-pub mod Doing
-pub mod OnFile
 pub mod Held
 pub mod Messages
 pub mod Claiming
 pub mod Beside
 pub mod Running
+pub mod UnderKeys
+pub mod Listed
+pub mod Leased

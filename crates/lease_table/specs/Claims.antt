@@ -11,7 +11,7 @@ use Rattle.clock_rule.specs.Keeping.{KeepRule, KeepsRule, NeverFall, servers, ev
 use Rattle.lease_table.specs.declared.lease.Lease.{Lease}
 use Rattle.lease_table.specs.Leases.{lease_at}
 use Rattle.lease_table.specs.Order.{AreOrdered}
-use Rattle.lease_table.specs.Machine.{Machine, Note, Up, Up.Ask, Up.Commit, Up.Reply, Down, Down.Answered, Down.Recall, Event, Event.Open, Event.Store, Event.Read, Event.Take, Event.Arrive, Event.Change, Event.Settle, Event.Drop, Event.Cut, Event.Hang, Event.Restart, client, event_at, reading_of}
+use Rattle.lease_table.specs.Machine.{Machine, Note, Up, Up.Ask, Up.Commit, Up.Reply, Down, Down.Answered, Down.Recall, Event, Event.Open, Event.Fetch, Event.Store, Event.Read, Event.Take, Event.Arrive, Event.Change, Event.Settle, Event.Refuse, Event.Drop, Event.Cut, Event.Hang, Event.Restart, event_at, reading_of}
 
 -- ---- clocks
 
@@ -19,14 +19,14 @@ abbrev pub with_reading : Option Reading → List Reading → List Reading
 with_reading None rs = rs
 with_reading (Some r) rs = r ∷ rs
 
-abbrev pub readings_of : List Event → List Reading
-readings_of [] = []
-readings_of (e ∷ es) = with_reading (reading_of e) (readings_of es)
+abbrev pub readings_of : (client : ℕ) → List Event → List Reading
+readings_of client [] = []
+readings_of client (e ∷ es) = with_reading (reading_of client e) (readings_of client es)
 
 -- the readings of a run keep the clock rule
-pub record KeepsClocks (term drift : ℕ) (es : List Event) : Type 0 where
-  pub server : NeverFall (servers (readings_of es))
-  pub rule : KeepsRule term drift (events 0 (readings_of es))
+pub record KeepsClocks (client term drift : ℕ) (es : List Event) : Type 0 where
+  pub server : NeverFall (servers (readings_of client es))
+  pub rule : KeepsRule term drift (events 0 (readings_of client es))
 
 -- an event of the client is noted, and keeps the rule with all that are
 abbrev pub IsNoted : Machine → (seen : ℕ) → Type 0
@@ -34,6 +34,7 @@ IsNoted m seen = Contains m.clocks.notes (event_at m seen) × All (λ n. KeepRul
 
 abbrev pub IsTimed : Machine → Event → Type 0
 IsTimed m (Open seen) = IsNoted m seen
+IsTimed m (Fetch seen) = IsNoted m seen
 IsTimed m (Store seen) = IsNoted m seen
 IsTimed m (Read seen) = IsNoted m seen
 IsTimed m (Cut seen) = IsNoted m seen
@@ -41,6 +42,7 @@ IsTimed m (Take at grants) = Unit {0}
 IsTimed m (Arrive by at) = Unit {0}
 IsTimed m (Change by at) = Unit {0}
 IsTimed m (Settle at grants) = Unit {0}
+IsTimed m (Refuse at) = Unit {0}
 IsTimed m Drop = Unit {0}
 IsTimed m (Hang at) = Unit {0}
 IsTimed m (Restart at grace) = Unit {0}
@@ -126,7 +128,7 @@ IsSafe m version limit behind =
 
 -- a reading of the client was noted beside this one of the server
 abbrev pub IsKnown : Machine → (sent base : ℕ) → Type 0
-IsKnown m sent base = Contains m.clocks.notes (record { client = client; reading = sent; server = base }) × (base ≤ m.clocks.server)
+IsKnown m sent base = Contains m.clocks.notes (record { client = m.client; reading = sent; server = base }) × (base ≤ m.clocks.server)
 
 -- the client may take the version for the present one, by a call sent at this reading, where RECALLs with these xids are yet to be read
 abbrev pub IsClaim : Machine → (version sent : ℕ) → (behind : List ℕ) → Type 0
@@ -171,3 +173,13 @@ pub record IsKept (m : Machine) : Type 0 where
   pub numbered : AreNumbered m.next (recalls_of m.downs) (replies_of m.ups)
   pub single : AreSingle m.ups m.downs m.waits m.cut m.sent m.note
   pub opens : AllRight m.opens
+
+-- nothing was said on the session yet
+pub record IsNew (m : Machine) : Type 0 where
+  pub ordered : AreOrdered m.leases
+  pub ups : m.ups ≡ []
+  pub downs : m.downs ≡ []
+  pub waits : m.waits ≡ false
+  pub sent : m.sent ≡ None
+  pub note : m.note ≡ None
+  pub opens : m.opens ≡ []

@@ -32,6 +32,8 @@ pub record Note : Type 0 where
   pub until : ℕ
 
 pub record Machine : Type 0 where
+  -- the client, by its number among the clocks
+  pub client : ℕ
   pub session : ℕ
   pub file : ℕ
   -- for how long a lease is granted, and by how much the two clocks may drift apart in that time; the server's last reading; and the client's events so far, each with its reading and the server's last
@@ -60,6 +62,8 @@ pub record Machine : Type 0 where
 pub data Event : Type 0 where
   -- the client opens the file: by its note, or it asks the server
   Open : (seen : ℕ) → Event
+  -- it asks the server, though it may have a note: of that version it keeps no content, or one answer doesn't tell all
+  Fetch : (seen : ℕ) → Event
   -- it sends its COMMITTMP
   Store : (seen : ℕ) → Event
   -- it reads an answer, or a RECALL
@@ -72,6 +76,8 @@ pub data Event : Type 0 where
   Change : (by at : ℕ) → Event
   -- this session's COMMITTMP is made
   Settle : (at : ℕ) → (grants : Bool) → Event
+  -- this session's COMMITTMP that waits is refused: no change is made
+  Refuse : (at : ℕ) → Event
   -- the note is dropped: by the cache, or by what comes on a later session
   Drop : Event
   Cut : (seen : ℕ) → Event
@@ -81,13 +87,9 @@ pub data Event : Type 0 where
 
 -- ---- the client
 
--- there is only one
-abbrev pub client : ℕ
-client = 1
-
 -- an event of the client
 abbrev pub event_at : Machine → (seen : ℕ) → Noted
-event_at m seen = event_of m.clocks client seen
+event_at m seen = event_of m.clocks m.client seen
 
 -- the version that the client may take for the file's
 abbrev pub fresh : Option Note → (seen : ℕ) → Option ℕ
@@ -164,34 +166,42 @@ abbrev pub settles_if : Bool → Bool → Machine → Machine
 settles_if true grants m = answers grants (record m { waits = false; version = m.version + 1 })
 settles_if false grants m = m
 
+abbrev pub refuses_if : Bool → Machine → Machine
+refuses_if true m = answers false (record m { waits = false })
+refuses_if false m = m
+
 -- ---- events
 
 abbrev pub happens : Machine → Event → Machine
 happens m (Open seen) = opens_by (fresh m.note seen) m seen
+happens m (Fetch seen) = asks_if (is_free m) m seen
 happens m (Store seen) = stores_if (is_free m) m seen
 happens m (Read seen) = unless m.cut m (reads_one m m.downs)
 happens m (Take at grants) = unless m.hung m (takes_one grants m m.ups)
 happens m (Arrive by at) = recalls_if (not m.hung && is_wanted (lease_at m.leases m.session m.file) by m.file m.clocks.server) m
 happens m (Change by at) = unless (by == m.session || (is_blocked m.leases by m.file m.clocks.server || nat_lt m.clocks.server m.quiet)) m (changes m)
 happens m (Settle at grants) = settles_if (m.waits && not (nat_lt m.clocks.server m.quiet)) grants m
+happens m (Refuse at) = refuses_if m.waits m
 happens m Drop = record m { note = None }
 happens m (Cut seen) = record m { cut = true; downs = []; sent = None }
 happens m (Hang at) = record m { hung = true; ups = []; waits = false }
 happens m (Restart at grace) = record m { hung = true; ups = []; waits = false; leases = []; quiet = (m.clocks.server + m.clocks.term) + grace }
 
 -- what is read of the clocks at an event
-abbrev pub reading_of : Event → Option Reading
-reading_of (Open seen) = Some (reads.Client client seen)
-reading_of (Store seen) = Some (reads.Client client seen)
-reading_of (Read seen) = Some (reads.Client client seen)
-reading_of (Take at grants) = Some (reads.Server at)
-reading_of (Arrive by at) = Some (reads.Server at)
-reading_of (Change by at) = Some (reads.Server at)
-reading_of (Settle at grants) = Some (reads.Server at)
-reading_of Drop = None
-reading_of (Cut seen) = Some (reads.Client client seen)
-reading_of (Hang at) = Some (reads.Server at)
-reading_of (Restart at grace) = Some (reads.Server at)
+abbrev pub reading_of : (client : ℕ) → Event → Option Reading
+reading_of client (Open seen) = Some (reads.Client client seen)
+reading_of client (Fetch seen) = Some (reads.Client client seen)
+reading_of client (Store seen) = Some (reads.Client client seen)
+reading_of client (Read seen) = Some (reads.Client client seen)
+reading_of client (Take at grants) = Some (reads.Server at)
+reading_of client (Arrive by at) = Some (reads.Server at)
+reading_of client (Change by at) = Some (reads.Server at)
+reading_of client (Settle at grants) = Some (reads.Server at)
+reading_of client (Refuse at) = Some (reads.Server at)
+reading_of client Drop = None
+reading_of client (Cut seen) = Some (reads.Client client seen)
+reading_of client (Hang at) = Some (reads.Server at)
+reading_of client (Restart at grace) = Some (reads.Server at)
 
 abbrev pub after_reading : Clocked → Option Reading → Clocked
 after_reading clocks None = clocks
@@ -199,7 +209,7 @@ after_reading clocks (Some r) = and_reading clocks r
 
 -- time passes before an event
 abbrev pub timed : Machine → Event → Machine
-timed m e = record m { clocks = after_reading m.clocks (reading_of e) }
+timed m e = record m { clocks = after_reading m.clocks (reading_of m.client e) }
 
 abbrev pub step : Machine → Event → Machine
 step m e = happens (timed m e) e
@@ -208,8 +218,9 @@ abbrev pub run : Machine → List Event → Machine
 run m [] = m
 run m (e ∷ es) = run (step m e) es
 
-abbrev pub start : (session file term drift : ℕ) → Machine
-start session file term drift = record {
+abbrev pub start : (client session file term drift : ℕ) → Machine
+start client session file term drift = record {
+  client = client;
   session = session;
   file = file;
   clocks = at_first term drift;

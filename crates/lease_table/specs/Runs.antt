@@ -4,12 +4,12 @@
 use Rattle.std.specs.Prelude.{◌≡◌, ℕ, List, [], ◌∷◌, Some, None, Bool, true, false, is_ok, refl}
 use Rattle.clock_rule.specs.Keeping.{at_first, all_read}
 use Rattle.lease_table.specs.Leases.{without_lease}
-use Rattle.lease_table.specs.Machine.{Machine, Up, Up.Reply, Down, Down.Answered, Event, Event.Open, Event.Store, Event.Read, Event.Take, Event.Arrive, Event.Change, Event.Settle, Event.Hang, Event.Restart, unless, takes_one, reads_one, note_of, is_free, stores_if, happens, timed, start}
+use Rattle.lease_table.specs.Machine.{Machine, Up, Up.Reply, Down, Down.Answered, Event, Event.Open, Event.Fetch, Event.Store, Event.Read, Event.Take, Event.Arrive, Event.Change, Event.Settle, Event.Refuse, Event.Cut, Event.Hang, Event.Restart, unless, takes_one, reads_one, note_of, is_free, stores_if, happens, timed, start}
 use Rattle.lease_table.specs.Claims.{readings_of}
 
 -- the term is 1000 and the drift 100
 abbrev keeps : List Event → Bool
-keeps es = is_ok (all_read (at_first 1000 100) (readings_of es))
+keeps es = is_ok (all_read (at_first 1000 100) (readings_of 1 es))
 
 abbrev run_by : (Machine → Event → Machine) → Machine → List Event → Machine
 run_by event m [] = m
@@ -17,7 +17,7 @@ run_by event m (e ∷ es) = run_by event (event (timed m e) e) es
 
 -- what was opened by the note, the last first: the version, and the one that the file had
 abbrev opens : (Machine → Event → Machine) → List Event → List (ℕ × ℕ)
-opens event es = (run_by event (start 1 2 1000 100) es).opens
+opens event es = (run_by event (start 1 1 2 1000 100) es).opens
 
 -- ---- an open by the note
 
@@ -33,7 +33,7 @@ by_the_note_keeps = refl
 opened_by_the_note : opens happens by_the_note ≡ (1, 1) ∷ []
 opened_by_the_note = refl
 
-changed_after : (run_by happens (start 1 2 1000 100) by_the_note).version ≡ 2
+changed_after : (run_by happens (start 1 1 2 1000 100) by_the_note).version ≡ 2
 changed_after = refl
 
 -- ---- an answer to a RECALL that comes late
@@ -166,3 +166,25 @@ no_grace m e = happens m e
 
 no_grace_is_wrong : opens no_grace begins_again ≡ (1, 2) ∷ []
 no_grace_is_wrong = refl
+
+-- ---- a call while the note lasts
+
+abbrev further_call : List Event
+further_call = Open 0 ∷ Take 0 true ∷ Read 0 ∷ Fetch 0 ∷ Take 0 false ∷ Read 0 ∷ Open 10 ∷ Fetch 10 ∷ Cut 20 ∷ Open 30 ∷ []
+
+further_call_keeps : keeps further_call ≡ true
+further_call_keeps = refl
+
+further_call_is_right : opens happens further_call ≡ (1, 1) ∷ (1, 1) ∷ []
+further_call_is_right = refl
+
+-- ---- a COMMITTMP that is refused
+
+abbrev refused_change : List Event
+refused_change = Open 0 ∷ Take 0 true ∷ Read 0 ∷ Store 0 ∷ Take 0 true ∷ Refuse 0 ∷ Read 0 ∷ Open 0 ∷ Take 0 true ∷ Read 0 ∷ Open 0 ∷ []
+
+refused_change_keeps : keeps refused_change ≡ true
+refused_change_keeps = refl
+
+refused_change_is_right : opens happens refused_change ≡ (1, 1) ∷ []
+refused_change_is_right = refl

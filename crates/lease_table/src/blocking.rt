@@ -1,58 +1,73 @@
 //! Which leases hold up a change of a file (`is_blocked` and `others` in `specs/Leases.antt`). Only
 //! the leases on the file are looked at.
 
-ghost use Rattle.std.specs.Prelude.{◌≡◌, ◌==◌, IfOk, filter, map};
+ghost use Rattle.std.specs.Prelude.{◌≡◌, ◌<◌, ◌||◌, ◌&&◌, IfOk, filter, map, All};
+ghost use Rattle.std.specs.BTreeMap.Range.{range_contains};
+ghost use Rattle.std.specs.List.{list_any};
+ghost use Rattle.std.specs.Map.{keys_of};
+ghost use Rattle.std.specs.declared.ops.Bound.TheVariants.{Included};
 ghost use Rattle.lease_table.specs.Leases.{is_blocked, others, blocks, is_wanted_back};
-ghost use Rattle.lease_table.specs.Order.{AreOrdered};
+ghost use Rattle.lease_table.specs.Kept.{FitsKey, by_two, lease_from, leases_of};
 
-use crate::lease::Lease;
-use crate::order::on_file;
+use crate::keyed::{Held, Keyed};
 use lb_base::items::Items;
+use reserved_map::range::is_within;
 use std::alloc::{AllocError, Global};
+use std::collections::btree_map::Range;
 
 /// Whether a lease on the file holds up a change of it that the session asked for.
-fn blocks(lease: &Lease, file: u64, session: u32, now: u64) -> bool
-    ensures { result ≡ blocks lease.now session file now }
+fn blocks(key: &(u64, u32), held: &Held, file: u64, session: u32, now: u64) -> bool
+    ensures { result ≡ blocks (lease_from (key.now, held.now)) session file now }
 {
-    lease.file == file && (session == 0 || lease.session != session) && now < lease.ends
+    key.0 == file && (session == 0 || key.1 != session) && now < held.ends
 }
 
 /// Whether a lease on the file is to be asked for back.
-fn is_wanted_back(lease: &Lease, file: u64, session: u32, now: u64) -> bool
-    ensures { result ≡ is_wanted_back lease.now session file now }
+fn is_wanted_back(key: &(u64, u32), held: &Held, file: u64, session: u32, now: u64) -> bool
+    ensures { result ≡ is_wanted_back (lease_from (key.now, held.now)) session file now }
 {
-    blocks(lease, file, session, now) && lease.recall.is_none()
+    blocks(key, held, file, session, now) && held.recall.is_none()
 }
 
 /// Whether one of these leases holds up a change of the file.
-fn any_blocks(leases: &[Lease], file: u64, session: u32, now: u64) -> bool
-    ensures { result ≡ is_blocked leases.now session file now }
+fn any_blocks(mut leases: Range<'_, (u64, u32), Held>, file: u64, session: u32, now: u64) -> bool
+    ensures { result ≡ list_any (λ e. blocks (lease_from e) session file now) leases.entry }
 {
-    leases.iter().any(|lease| blocks(lease, file, session, now))
+    leases.any(|(key, held)| blocks(key, held, file, session, now))
+}
+
+/// Whether one of these leases that stands on the file holds up a change of it.
+fn any_spared_blocks(leases: &[((u64, u32), Held)], file: u64, session: u32, now: u64) -> bool
+    ensures { result ≡ list_any (λ e. range_contains by_two (Included (file, 0)) (Included (file, 4294967295)) e.0 && blocks (lease_from e) session file now) leases.now }
+{
+    leases.iter().any(|(key, held)| {
+        is_within(key, &(file, 0), &(file, u32::MAX)) && blocks(key, held, file, session, now)
+    })
 }
 
 /// Whether a lease holds up a change of the file.
-pub fn blocked(leases: &Vec<Lease>, file: u64, session: u32, now: u64) -> bool
-    requires { AreOrdered leases.now.items }
-    ensures { result ≡ is_blocked leases.now.items session file now }
+pub fn blocked(leases: &Keyed, file: u64, session: u32, now: u64) -> bool
+    requires { All FitsKey (keys_of leases.now.entries) }
+    ensures { result ≡ is_blocked (leases_of leases.now.entries) session file now }
 {
-    any_blocks(on_file(leases, file), file, session, now)
+    let (held, spared) = leases.parts((file, 0), (file, u32::MAX));
+    any_spared_blocks(spared, file, session, now) || any_blocks(held, file, session, now)
 }
 
 /// The sessions of those of these leases that are to be asked for back.
 fn wanted_back(
     alloc: Global,
-    leases: &[Lease],
+    leases: &[((u64, u32), Held)],
     file: u64,
     session: u32,
     now: u64,
 ) -> Result<Items<u32>, AllocError>
-    ensures { IfOk result (λ sessions. sessions ≡ others leases.now session file now) }
+    ensures { IfOk result (λ sessions. sessions ≡ others (leases_of leases.now) session file now) }
 {
     let mut sessions = Vec::new(alloc);
-    for lease in leases {
-        if is_wanted_back(lease, file, session, now) {
-            sessions.push(lease.session)?;
+    for (key, held) in leases {
+        if is_wanted_back(key, held, file, session, now) {
+            sessions.push(key.1)?;
         }
     }
     Ok(Items::from_vec(sessions))
@@ -61,13 +76,14 @@ fn wanted_back(
 /// The sessions whose leases are to be asked for back.
 pub fn others(
     alloc: Global,
-    leases: &Vec<Lease>,
+    leases: &Keyed,
     file: u64,
     session: u32,
     now: u64,
 ) -> Result<Items<u32>, AllocError>
-    requires { AreOrdered leases.now.items }
-    ensures { IfOk result (λ sessions. sessions ≡ others leases.now.items session file now) }
+    requires { All FitsKey (keys_of leases.now.entries) }
+    ensures { IfOk result (λ sessions. sessions ≡ others (leases_of leases.now.entries) session file now) }
 {
-    wanted_back(alloc, on_file(leases, file), file, session, now)
+    let here = leases.between(alloc, (file, 0), (file, u32::MAX))?;
+    wanted_back(alloc, &here, file, session, now)
 }

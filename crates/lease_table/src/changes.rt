@@ -1,156 +1,243 @@
-//! What is done to the leases (`specs/Leases.antt`), and to the recalls that they remember
-//! (`specs/Order.antt`).
+//! What is done to the leases (`specs/Leases.antt`), and to what stands beside them
+//! (`specs/Kept.antt`).
 
-ghost use Rattle.std.specs.Prelude.{◌≡◌, ◌+◌, ◌<◌, ◌≤◌, vec_len, vec_capacity, filter, nat_lt, is_some, IsSome, ◌⊎◌, true, false, if◌then◌else◌, OnOk, OnErr, IsOk};
-ghost use Rattle.lease_table.specs.Leases.{lease_at, with_lease, lease_of, without_lease, marked, without_recalled, without_ended};
-ghost use Rattle.lease_table.specs.Order.{AreKept, AreOrdered, still_listed};
+ghost use Rattle.std.specs.Prelude.{◌≡◌, ◌+◌, ◌-◌, ◌<◌, ◌≤◌, length, is_some, IsSome, ◌⊎◌, true, false, if◌then◌else◌, OnOk, OnErr, IsOk, Option, Some, None};
+ghost use Rattle.std.specs.BTreeMap.{insert_entry};
+ghost use Rattle.lease_table.specs.Leases.{lease_at, with_lease, grant, lease_of, without_lease, marked, without_recalled, without_ended};
+ghost use Rattle.lease_table.specs.Kept.{AreKept, by_two, held_at, leases_of};
 
-use crate::lease::Lease;
-use crate::order::{find, place_of, put_at};
-use crate::recalls::{Recalled, file_of, list, unlist};
+use crate::keyed::{Ends, Held, Keyed, Recalls, list, one_ended, one_recalled, unlist};
 use std::alloc::AllocError;
 
-/// Makes room for so many further leases. The one error is want of memory.
+/// Makes room for so many further leases, and for what may stand beside each. The one error is want
+/// of memory.
 pub fn reserve(
-    leases: &mut Vec<Lease>,
-    recalls: &mut Vec<Recalled>,
+    leases: &mut Keyed,
+    recalls: &mut Recalls,
+    ends: &mut Ends,
     count: usize,
 ) -> Result<(), AllocError>
-    requires kept { AreKept leases.old.items recalls.old.items }
-    requires room { vec_len leases.old ≤ vec_capacity recalls.old }
-    ensures ok { OnOk result ((vec_len leases.new + count ≤ vec_capacity leases.new) × (vec_len leases.new + count ≤ vec_capacity recalls.new)) }
-    ensures leases { leases.new.items ≡ leases.old.items }
-    ensures recalls { recalls.new.items ≡ recalls.old.items }
-    ensures capacity { vec_capacity leases.old ≤ vec_capacity leases.new }
-    ensures recalls_capacity { vec_capacity recalls.old ≤ vec_capacity recalls.new }
-    ensures sure { vec_len leases.old + count ≤ vec_capacity leases.old → vec_len leases.old + count ≤ vec_capacity recalls.old → IsOk result }
+    ensures ok { OnOk result (leases.new.taken + count ≤ leases.new.places) }
+    ensures ok_recalls { OnOk result (length leases.new.entries + count ≤ recalls.new.places) }
+    ensures ok_ends { OnOk result (length leases.new.entries + count ≤ ends.new.places) }
+    ensures leases { leases.new.entries ≡ leases.old.entries }
+    ensures recalls { recalls.new.entries ≡ recalls.old.entries }
+    ensures ends { ends.new.entries ≡ ends.old.entries }
+    ensures taken { leases.new.taken ≡ leases.old.taken }
+    ensures places { leases.old.places ≤ leases.new.places }
+    ensures recalls_places { recalls.old.places ≤ recalls.new.places }
+    ensures ends_places { ends.old.places ≤ ends.new.places }
+    ensures sure { count ≤ leases.old.places - leases.old.taken → length leases.old.entries + count ≤ recalls.old.places → length leases.old.entries + count ≤ ends.old.places → IsOk result }
 {
+    let all = leases.len();
     leases.reserve(count)?;
-    let wanted = leases.len() + count - recalls.len();
-    recalls.reserve(wanted)
+    recalls.reserve_beyond(all, count)?;
+    ends.reserve_beyond(all, count)
 }
 
 /// Whether a session has a lease on a file.
-pub fn has(leases: &Vec<Lease>, session: u32, file: u64) -> bool
-    requires { AreOrdered leases.now.items }
-    ensures { result ≡ is_some (lease_at leases.now.items session file) }
+pub fn has(leases: &Keyed, session: u32, file: u64) -> bool
+    ensures { result ≡ is_some (lease_at (leases_of leases.now.entries) session file) }
 {
-    place_of(leases, session, file).stands
+    leases.get((file, session)).is_some()
 }
 
-/// Grants a lease, which takes the place of the one that the session has on the file, or a new one.
-pub fn grant(
-    leases: &mut Vec<Lease>,
-    recalls: &mut Vec<Recalled>,
+/// Puts in a lease, where the session has none on the file.
+fn add(
+    leases: &mut Keyed,
+    recalls: &mut Recalls,
+    ends: &mut Ends,
     session: u32,
     file: u64,
-    ends: u64,
+    held: Held,
 )
-    requires kept { AreKept leases.old.items recalls.old.items }
-    requires room { IsSome (lease_at leases.old.items session file) ⊎ (vec_len leases.old < vec_capacity leases.old) }
-    ensures leases { leases.new.items ≡ with_lease leases.old.items (lease_of session file ends) }
-    ensures kept { AreKept leases.new.items recalls.new.items }
-    ensures len { vec_len leases.new ≤ vec_len leases.old + 1 }
-    ensures same_len { IsSome (lease_at leases.old.items session file) → vec_len leases.new ≡ vec_len leases.old }
-    ensures capacity { vec_capacity leases.new ≡ vec_capacity leases.old }
-    ensures recalls_capacity { vec_capacity recalls.new ≡ vec_capacity recalls.old }
+    requires kept { AreKept leases.old.entries recalls.old.entries ends.old.entries }
+    requires new { held_at leases.old.entries session file ≡ None }
+    requires room { leases.old.taken < leases.old.places }
+    requires recalls_room { length leases.old.entries < recalls.old.places }
+    requires ends_room { length leases.old.entries < ends.old.places }
+    ensures leases { leases.new.entries ≡ insert_entry by_two leases.old.entries (file, session) held }
+    ensures kept { AreKept leases.new.entries recalls.new.entries ends.new.entries }
+    ensures len { length leases.new.entries ≡ length leases.old.entries + 1 }
+    ensures taken { leases.new.taken ≤ leases.old.taken + 1 }
+    ensures places { leases.old.places ≤ leases.new.places }
+    ensures recalls_places { recalls.old.places ≤ recalls.new.places }
+    ensures ends_places { ends.old.places ≤ ends.new.places }
 {
-    let place = place_of(leases, session, file);
-    let lease = Lease {
-        session,
-        file,
-        ends,
-        recall: None,
-    };
-    if place.stands {
-        unlist(recalls, session, leases[place.at].recall, file);
-        leases[place.at] = lease;
-    } else {
-        put_at(leases, place.at, lease);
-    }
+    list(recalls, ends, session, file, held);
+    leases.put((file, session), held);
 }
 
-/// Grants a lease, where there is room or room is made. The one error is want of memory.
-pub fn grant_if(
-    leases: &mut Vec<Lease>,
-    recalls: &mut Vec<Recalled>,
+/// Puts another lease in place of the one that the session has on the file.
+fn replace(
+    leases: &mut Keyed,
+    recalls: &mut Recalls,
+    ends: &mut Ends,
     session: u32,
     file: u64,
-    ends: u64,
-) -> Result<(), AllocError>
-    requires kept { AreKept leases.old.items recalls.old.items }
-    requires room { vec_len leases.old ≤ vec_capacity recalls.old }
-    ensures ok { OnOk result (leases.new.items ≡ with_lease leases.old.items (lease_of session file ends)) }
-    ensures err { OnErr result (leases.new.items ≡ leases.old.items) }
-    ensures kept { AreKept leases.new.items recalls.new.items }
-    ensures room { vec_len leases.new ≤ vec_capacity recalls.new }
-    ensures len { vec_len leases.new ≤ vec_len leases.old + 1 }
-    ensures capacity { vec_capacity leases.old ≤ vec_capacity leases.new }
-    ensures recalls_capacity { vec_capacity recalls.old ≤ vec_capacity recalls.new }
-    ensures same_len { IsSome (lease_at leases.old.items session file) → vec_len leases.new ≡ vec_len leases.old }
-    ensures sure_there { IsSome (lease_at leases.old.items session file) → IsOk result }
-    ensures sure { vec_len leases.old < vec_capacity leases.old → vec_len leases.old < vec_capacity recalls.old → IsOk result }
+    old: Held,
+    held: Held,
+)
+    requires kept { AreKept leases.old.entries recalls.old.entries ends.old.entries }
+    requires there { held_at leases.old.entries session file ≡ Some old }
+    requires recalls_room { length leases.old.entries ≤ recalls.old.places }
+    requires ends_room { length leases.old.entries ≤ ends.old.places }
+    ensures leases { leases.new.entries ≡ insert_entry by_two leases.old.entries (file, session) held }
+    ensures kept { AreKept leases.new.entries recalls.new.entries ends.new.entries }
+    ensures len { length leases.new.entries ≡ length leases.old.entries }
+    ensures taken { leases.new.taken ≤ leases.old.taken }
+    ensures places { leases.old.places ≤ leases.new.places }
+    ensures recalls_places { recalls.old.places ≤ recalls.new.places }
+    ensures ends_places { ends.old.places ≤ ends.new.places }
 {
-    if !place_of(leases, session, file).stands {
-        reserve(leases, recalls, 1)?;
-    }
-    grant(leases, recalls, session, file, ends);
+    unlist(recalls, ends, session, file, old);
+    list(recalls, ends, session, file, held);
+    leases.put((file, session), held);
+}
+
+/// Puts in a lease, where the session has none on the file, if there is room or room is made. The
+/// one error is want of memory.
+fn add_if_room(
+    leases: &mut Keyed,
+    recalls: &mut Recalls,
+    ends: &mut Ends,
+    session: u32,
+    file: u64,
+    held: Held,
+) -> Result<(), AllocError>
+    requires kept { AreKept leases.old.entries recalls.old.entries ends.old.entries }
+    requires new { held_at leases.old.entries session file ≡ None }
+    ensures ok { OnOk result (leases.new.entries ≡ insert_entry by_two leases.old.entries (file, session) held) }
+    ensures err { OnErr result (leases.new.entries ≡ leases.old.entries) }
+    ensures kept { AreKept leases.new.entries recalls.new.entries ends.new.entries }
+    ensures recalls_room { length leases.old.entries ≤ recalls.old.places → length leases.new.entries ≤ recalls.new.places }
+    ensures ends_room { length leases.old.entries ≤ ends.old.places → length leases.new.entries ≤ ends.new.places }
+    ensures len { length leases.new.entries ≤ length leases.old.entries + 1 }
+    ensures taken { leases.new.taken ≤ leases.old.taken + 1 }
+    ensures err_taken { OnErr result (leases.new.taken ≡ leases.old.taken) }
+    ensures places { leases.old.places ≤ leases.new.places }
+    ensures recalls_places { recalls.old.places ≤ recalls.new.places }
+    ensures ends_places { ends.old.places ≤ ends.new.places }
+    ensures sure { leases.old.taken < leases.old.places → length leases.old.entries < recalls.old.places → length leases.old.entries < ends.old.places → IsOk result }
+{
+    reserve(leases, recalls, ends, 1)?;
+    add(leases, recalls, ends, session, file, held);
     Ok(())
 }
 
-/// The session has no lease on the file any more.
-pub fn drop_one(leases: &mut Vec<Lease>, recalls: &mut Vec<Recalled>, session: u32, file: u64)
-    requires { AreKept leases.old.items recalls.old.items }
-    ensures leases { leases.new.items ≡ without_lease leases.old.items session file }
-    ensures kept { AreKept leases.new.items recalls.new.items }
-    ensures len { vec_len leases.new ≤ vec_len leases.old }
-    ensures less { IsSome (lease_at leases.old.items session file) → vec_len leases.new < vec_len leases.old }
-    ensures capacity { vec_capacity leases.new ≡ vec_capacity leases.old }
-    ensures recalls_capacity { vec_capacity recalls.new ≡ vec_capacity recalls.old }
+/// Grants a lease, where there is room or room is made. The one error is want of memory.
+pub fn grant(
+    leases: &mut Keyed,
+    recalls: &mut Recalls,
+    ends: &mut Ends,
+    session: u32,
+    file: u64,
+    until: u64,
+) -> Result<(), AllocError>
+    requires kept { AreKept leases.old.entries recalls.old.entries ends.old.entries }
+    requires recalls_room { length leases.old.entries ≤ recalls.old.places }
+    requires ends_room { length leases.old.entries ≤ ends.old.places }
+    ensures ok { OnOk result (leases_of leases.new.entries ≡ grant (leases_of leases.old.entries) session file until) }
+    ensures err { OnErr result (leases.new.entries ≡ leases.old.entries) }
+    ensures kept { AreKept leases.new.entries recalls.new.entries ends.new.entries }
+    ensures recalls_room { length leases.new.entries ≤ recalls.new.places }
+    ensures ends_room { length leases.new.entries ≤ ends.new.places }
+    ensures len { length leases.new.entries ≤ length leases.old.entries + 1 }
+    ensures taken { leases.new.taken ≤ leases.old.taken + 1 }
+    ensures err_taken { OnErr result (leases.new.taken ≡ leases.old.taken) }
+    ensures places { leases.old.places ≤ leases.new.places }
+    ensures recalls_places { recalls.old.places ≤ recalls.new.places }
+    ensures ends_places { ends.old.places ≤ ends.new.places }
+    ensures same_len { IsSome (held_at leases.old.entries session file) → length leases.new.entries ≡ length leases.old.entries }
+    ensures same_taken { IsSome (held_at leases.old.entries session file) → leases.new.taken ≤ leases.old.taken }
+    ensures sure_there { IsSome (held_at leases.old.entries session file) → IsOk result }
+    ensures sure { leases.old.taken < leases.old.places → length leases.old.entries < recalls.old.places → length leases.old.entries < ends.old.places → IsOk result }
 {
-    let place = place_of(leases, session, file);
-    if place.stands {
-        let lease = leases.remove(place.at);
-        unlist(recalls, session, lease.recall, file);
+    let held = Held {
+        ends: until,
+        recall: None,
+    };
+    match leases.get((file, session)) {
+        Some(old) => {
+            replace(leases, recalls, ends, session, file, old, held);
+            Ok(())
+        }
+        None => add_if_room(leases, recalls, ends, session, file, held),
+    }
+}
+
+/// The session has no lease on the file any more.
+pub fn drop_one(leases: &mut Keyed, recalls: &mut Recalls, ends: &mut Ends, session: u32, file: u64)
+    requires { AreKept leases.old.entries recalls.old.entries ends.old.entries }
+    ensures leases { leases_of leases.new.entries ≡ without_lease (leases_of leases.old.entries) session file }
+    ensures kept { AreKept leases.new.entries recalls.new.entries ends.new.entries }
+    ensures len { length leases.new.entries ≤ length leases.old.entries }
+    ensures less { IsSome (held_at leases.old.entries session file) → length leases.new.entries < length leases.old.entries }
+    ensures taken { leases.new.taken ≤ leases.old.taken }
+    ensures places { leases.new.places ≡ leases.old.places }
+    ensures recalls_places { recalls.new.places ≡ recalls.old.places }
+    ensures ends_places { ends.new.places ≡ ends.old.places }
+{
+    match leases.remove((file, session)) {
+        Some(held) => unlist(recalls, ends, session, file, held),
+        None => {}
     }
 }
 
 /// The lease that a session has on a file remembers a RECALL.
-pub fn mark(leases: &mut Vec<Lease>, recalls: &mut Vec<Recalled>, session: u32, file: u64, xid: u32)
-    requires kept { AreKept leases.old.items recalls.old.items }
-    requires room { vec_len leases.old ≤ vec_capacity recalls.old }
-    ensures leases { leases.new.items ≡ marked leases.old.items session file xid }
-    ensures kept { AreKept leases.new.items recalls.new.items }
-    ensures len { vec_len leases.new ≡ vec_len leases.old }
-    ensures capacity { vec_capacity leases.new ≡ vec_capacity leases.old }
-    ensures recalls_capacity { vec_capacity recalls.new ≡ vec_capacity recalls.old }
+pub fn mark(
+    leases: &mut Keyed,
+    recalls: &mut Recalls,
+    ends: &mut Ends,
+    session: u32,
+    file: u64,
+    xid: u32,
+)
+    requires kept { AreKept leases.old.entries recalls.old.entries ends.old.entries }
+    requires recalls_room { length leases.old.entries ≤ recalls.old.places }
+    requires ends_room { length leases.old.entries ≤ ends.old.places }
+    ensures leases { leases_of leases.new.entries ≡ marked (leases_of leases.old.entries) session file xid }
+    ensures kept { AreKept leases.new.entries recalls.new.entries ends.new.entries }
+    ensures len { length leases.new.entries ≡ length leases.old.entries }
+    ensures taken { leases.new.taken ≤ leases.old.taken }
+    ensures places { leases.old.places ≤ leases.new.places }
+    ensures recalls_places { recalls.old.places ≤ recalls.new.places }
+    ensures ends_places { ends.old.places ≤ ends.new.places }
 {
-    let place = place_of(leases, session, file);
-    if place.stands {
-        let lease = leases[place.at];
-        unlist(recalls, session, lease.recall, file);
-        list(recalls, Recalled { session, xid, file });
-        leases[place.at] = Lease {
-            recall: Some(xid),
-            ..lease
-        };
+    match leases.get((file, session)) {
+        Some(old) => {
+            let held = Held {
+                ends: old.ends,
+                recall: Some(xid),
+            };
+            replace(leases, recalls, ends, session, file, old, held);
+        }
+        None => {}
     }
 }
 
 /// A session gives up one lease for which it was asked by the RECALL with this xid. Whether it had
 /// one.
-fn give_up_one(leases: &mut Vec<Lease>, recalls: &mut Vec<Recalled>, session: u32, xid: u32) -> bool
-    requires { AreKept leases.old.items recalls.old.items }
-    ensures same { without_recalled leases.new.items session xid ≡ without_recalled leases.old.items session xid }
-    ensures none { result ≡ false → without_recalled leases.new.items session xid ≡ leases.new.items }
-    ensures kept { AreKept leases.new.items recalls.new.items }
-    ensures less { vec_len leases.new + (if result then 1 else 0) ≤ vec_len leases.old }
-    ensures capacity { vec_capacity leases.new ≡ vec_capacity leases.old }
-    ensures recalls_capacity { vec_capacity recalls.new ≡ vec_capacity recalls.old }
+fn give_up_one(
+    leases: &mut Keyed,
+    recalls: &mut Recalls,
+    ends: &mut Ends,
+    session: u32,
+    xid: u32,
+) -> bool
+    requires { AreKept leases.old.entries recalls.old.entries ends.old.entries }
+    ensures same { without_recalled (leases_of leases.new.entries) session xid ≡ without_recalled (leases_of leases.old.entries) session xid }
+    ensures none { result ≡ false → without_recalled (leases_of leases.new.entries) session xid ≡ leases_of leases.new.entries }
+    ensures kept { AreKept leases.new.entries recalls.new.entries ends.new.entries }
+    ensures less { length leases.new.entries + (if result then 1 else 0) ≤ length leases.old.entries }
+    ensures taken { leases.new.taken ≤ leases.old.taken }
+    ensures places { leases.new.places ≡ leases.old.places }
+    ensures recalls_places { recalls.new.places ≡ recalls.old.places }
+    ensures ends_places { ends.new.places ≡ ends.old.places }
 {
-    match file_of(recalls, session, xid) {
+    match one_recalled(recalls, session, xid) {
         Some(file) => {
-            drop_one(leases, recalls, session, file);
+            drop_one(leases, recalls, ends, session, file);
             true
         }
         None => false,
@@ -158,44 +245,50 @@ fn give_up_one(leases: &mut Vec<Lease>, recalls: &mut Vec<Recalled>, session: u3
 }
 
 /// A session gives up what it was asked for by the RECALL with this xid.
-pub fn give_up(leases: &mut Vec<Lease>, recalls: &mut Vec<Recalled>, session: u32, xid: u32)
-    requires { AreKept leases.old.items recalls.old.items }
-    ensures leases { leases.new.items ≡ without_recalled leases.old.items session xid }
-    ensures kept { AreKept leases.new.items recalls.new.items }
-    ensures len { vec_len leases.new ≤ vec_len leases.old }
-    ensures capacity { vec_capacity leases.new ≡ vec_capacity leases.old }
-    ensures recalls_capacity { vec_capacity recalls.new ≡ vec_capacity recalls.old }
+pub fn give_up(leases: &mut Keyed, recalls: &mut Recalls, ends: &mut Ends, session: u32, xid: u32)
+    requires { AreKept leases.old.entries recalls.old.entries ends.old.entries }
+    ensures leases { leases_of leases.new.entries ≡ without_recalled (leases_of leases.old.entries) session xid }
+    ensures kept { AreKept leases.new.entries recalls.new.entries ends.new.entries }
+    ensures len { length leases.new.entries ≤ length leases.old.entries }
+    ensures taken { leases.new.taken ≤ leases.old.taken }
+    ensures places { leases.new.places ≡ leases.old.places }
+    ensures recalls_places { recalls.new.places ≡ recalls.old.places }
+    ensures ends_places { ends.new.places ≡ ends.old.places }
 {
-    'answers: while give_up_one(leases, recalls, session, xid) {}
+    'answers: while give_up_one(leases, recalls, ends, session, xid) {}
 }
 
-/// Leaves the recalls whose leases are there.
-fn unlist_gone(leases: &Vec<Lease>, recalls: &mut Vec<Recalled>)
-    requires { AreOrdered leases.now.items }
-    ensures items { recalls.new.items ≡ still_listed leases.now.items recalls.old.items }
-    ensures capacity { vec_capacity recalls.new ≡ vec_capacity recalls.old }
+/// Forgets one lease that has ended. Whether there was one.
+fn forget_one(leases: &mut Keyed, recalls: &mut Recalls, ends: &mut Ends, now: u64) -> bool
+    requires { AreKept leases.old.entries recalls.old.entries ends.old.entries }
+    ensures same { without_ended (leases_of leases.new.entries) now ≡ without_ended (leases_of leases.old.entries) now }
+    ensures none { result ≡ false → without_ended (leases_of leases.new.entries) now ≡ leases_of leases.new.entries }
+    ensures kept { AreKept leases.new.entries recalls.new.entries ends.new.entries }
+    ensures less { length leases.new.entries + (if result then 1 else 0) ≤ length leases.old.entries }
+    ensures taken { leases.new.taken ≤ leases.old.taken }
+    ensures places { leases.new.places ≡ leases.old.places }
+    ensures recalls_places { recalls.new.places ≡ recalls.old.places }
+    ensures ends_places { ends.new.places ≡ ends.old.places }
 {
-    recalls.retain(|recall| find(leases, recall.session, recall.file).is_some());
+    match one_ended(ends, now) {
+        Some((file, session)) => {
+            drop_one(leases, recalls, ends, session, file);
+            true
+        }
+        None => false,
+    }
 }
 
-/// Leaves the leases that have not ended.
-fn leave_standing(leases: &mut Vec<Lease>, now: u64)
-    ensures items { leases.new.items ≡ without_ended leases.old.items now }
-    ensures len { vec_len leases.new ≤ vec_len leases.old }
-    ensures capacity { vec_capacity leases.new ≡ vec_capacity leases.old }
+/// Forgets the leases that have ended.
+pub fn forget_ended(leases: &mut Keyed, recalls: &mut Recalls, ends: &mut Ends, now: u64)
+    requires { AreKept leases.old.entries recalls.old.entries ends.old.entries }
+    ensures leases { leases_of leases.new.entries ≡ without_ended (leases_of leases.old.entries) now }
+    ensures kept { AreKept leases.new.entries recalls.new.entries ends.new.entries }
+    ensures len { length leases.new.entries ≤ length leases.old.entries }
+    ensures taken { leases.new.taken ≤ leases.old.taken }
+    ensures places { leases.new.places ≡ leases.old.places }
+    ensures recalls_places { recalls.new.places ≡ recalls.old.places }
+    ensures ends_places { ends.new.places ≡ ends.old.places }
 {
-    leases.retain(|lease| now < lease.ends);
-}
-
-/// Forgets the leases that have ended. All of them are looked at.
-pub fn forget_ended(leases: &mut Vec<Lease>, recalls: &mut Vec<Recalled>, now: u64)
-    requires { AreKept leases.old.items recalls.old.items }
-    ensures leases { leases.new.items ≡ without_ended leases.old.items now }
-    ensures kept { AreKept leases.new.items recalls.new.items }
-    ensures len { vec_len leases.new ≤ vec_len leases.old }
-    ensures capacity { vec_capacity leases.new ≡ vec_capacity leases.old }
-    ensures recalls_capacity { vec_capacity recalls.new ≡ vec_capacity recalls.old }
-{
-    leave_standing(leases, now);
-    unlist_gone(leases, recalls);
+    'endings: while forget_one(leases, recalls, ends, now) {}
 }

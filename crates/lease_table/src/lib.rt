@@ -6,8 +6,7 @@
 
 mod blocking;
 mod changes;
+mod keyed;
 pub mod laws;
 pub mod lease;
-mod order;
-mod recalls;
 pub mod table;

@@ -3,10 +3,10 @@
 ghost use Rattle.std.specs.Prelude.{◌≡◌, ◌+◌, ◌<◌, ◌≤◌, ◌^◌, [], OnOk, OnErr, IfOk, IsOk, IsSome, is_some, ◌⊎◌, length, vec_len, vec_capacity};
 ghost use Rattle.lease_table.specs.Leases.{grant, without_lease, marked, without_recalled, without_ended, is_blocked, others, lease_at};
 
-use crate::lease::Lease;
-use crate::recalls::Recalled;
+use crate::keyed::{Ends, Keyed, Recalls};
 use crate::{blocking, changes};
 use lb_base::items::Items;
+use reserved_map::map::ReservedMap;
 use std::alloc::{AllocError, Global};
 use std::marker::Model;
 
@@ -14,21 +14,23 @@ use std::marker::Model;
 /// list of them, and how many more have their place already.
 #[derive(Drop)]
 pub struct Leases {
-    leases: Vec<Lease>,
-    /// The recalls that they remember.
-    recalls: Vec<Recalled>,
+    leases: Keyed,
+    /// The RECALLs that they remember. Each lease has a place here.
+    recalls: Recalls,
+    /// When they end. Each lease has a place here too.
+    ends: Ends,
 }
 
 impl Model for Leases {
-    ghost use Rattle.std.specs.Prelude.{◌-◌, ◌≤◌, min, vec_len, vec_capacity};
+    ghost use Rattle.std.specs.Prelude.{◌-◌, ◌≤◌, length, min};
     ghost use Rattle.lease_table.specs.Leases.{Table};
-    ghost use Rattle.lease_table.specs.Order.{AreKept};
+    ghost use Rattle.lease_table.specs.Kept.{AreKept, leases_of};
 
     ghost Value = { Table };
 
-    ghost view = { λ t. record { leases = t.leases.items; room = min (vec_capacity t.leases) (vec_capacity t.recalls) - vec_len t.leases } };
+    ghost view = { λ t. record { leases = leases_of t.leases.entries; room = min (t.leases.places - t.leases.taken) (min t.recalls.places t.ends.places - length t.leases.entries) } };
 
-    ghost invariant = { λ t. AreKept t.leases.items t.recalls.items × (vec_len t.leases ≤ vec_capacity t.recalls) };
+    ghost invariant = { λ t. AreKept t.leases.entries t.recalls.entries t.ends.entries × (length t.leases.entries ≤ t.recalls.places) × (length t.leases.entries ≤ t.ends.places) };
 }
 
 impl Leases {
@@ -37,9 +39,18 @@ impl Leases {
         ensures { result.leases ≡ [] }
     {
         Leases {
-            leases: Vec::new(alloc),
-            recalls: Vec::new(alloc),
+            leases: ReservedMap::new(alloc),
+            recalls: ReservedMap::new(alloc),
+            ends: ReservedMap::new(alloc),
         }
+    }
+
+    /// How many more leases have their place already.
+    pub fn room(&self) -> usize
+        ensures { result ≡ self.now.room }
+    {
+        let beside = self.recalls.places().min(self.ends.places());
+        self.leases.free().min(beside - self.leases.len())
     }
 
     /// Makes room for so many further leases. The one error is want of memory; no lease changes.
@@ -49,7 +60,7 @@ impl Leases {
         ensures room { self.old.room ≤ self.new.room }
         ensures sure { count ≤ self.old.room → IsOk result }
     {
-        changes::reserve(&mut self.leases, &mut self.recalls, count)
+        changes::reserve(&mut self.leases, &mut self.recalls, &mut self.ends, count)
     }
 
     /// Grants a lease on a file to a session, in place of the one that it has on it, from this
@@ -66,7 +77,14 @@ impl Leases {
         ensures sure { IsSome (lease_at self.old.leases session file) ⊎ (0 < self.old.room) → IsOk result }
     {
         let ends = now + u64::from(term);
-        changes::grant_if(&mut self.leases, &mut self.recalls, session, file, ends)
+        changes::grant(
+            &mut self.leases,
+            &mut self.recalls,
+            &mut self.ends,
+            session,
+            file,
+            ends,
+        )
     }
 
     /// Whether the session has a lease on the file, recalled or not, and ended or not. It takes no
@@ -82,7 +100,13 @@ impl Leases {
         ensures leases { self.new.leases ≡ without_lease self.old.leases session file }
         ensures room { self.old.room ≤ self.new.room }
     {
-        changes::drop_one(&mut self.leases, &mut self.recalls, session, file);
+        changes::drop_one(
+            &mut self.leases,
+            &mut self.recalls,
+            &mut self.ends,
+            session,
+            file,
+        );
     }
 
     /// The session's lease on the file remembers the xid of the RECALL that asks for it, if it is
@@ -91,7 +115,14 @@ impl Leases {
         ensures leases { self.new.leases ≡ marked self.old.leases session file xid }
         ensures room { self.old.room ≤ self.new.room }
     {
-        changes::mark(&mut self.leases, &mut self.recalls, session, file, xid);
+        changes::mark(
+            &mut self.leases,
+            &mut self.recalls,
+            &mut self.ends,
+            session,
+            file,
+            xid,
+        );
     }
 
     /// The session answered the RECALL with this xid: the lease that remembers it is no more, and
@@ -100,7 +131,13 @@ impl Leases {
         ensures leases { self.new.leases ≡ without_recalled self.old.leases session xid }
         ensures room { self.old.room ≤ self.new.room }
     {
-        changes::give_up(&mut self.leases, &mut self.recalls, session, xid);
+        changes::give_up(
+            &mut self.leases,
+            &mut self.recalls,
+            &mut self.ends,
+            session,
+            xid,
+        );
     }
 
     /// The sessions, in their order, whose leases on the file are to be asked for back where this
@@ -129,11 +166,11 @@ impl Leases {
     }
 
     /// Forgets the leases that have ended at this reading of the server's clock. It takes no
-    /// memory. All leases are looked at, so it is for the time when there are many.
+    /// memory.
     pub fn forget_ended(&mut self, now: u64)
         ensures leases { self.new.leases ≡ without_ended self.old.leases now }
         ensures room { self.old.room ≤ self.new.room }
     {
-        changes::forget_ended(&mut self.leases, &mut self.recalls, now);
+        changes::forget_ended(&mut self.leases, &mut self.recalls, &mut self.ends, now);
     }
 }

@@ -1,9 +1,9 @@
 use Rattle.lease_table.proofs.Beside.{kept_elsewhere, kept_forgotten}
-use Rattle.lease_table.proofs.Claiming.{kept_start, kept_later, kept_happens, open_is_right}
+use Rattle.lease_table.proofs.Claiming.{kept_new, kept_later, kept_happens, open_is_right}
 use Rattle.lease_table.proofs.laws.leases_are_safe.Goals as goal
 
 pub returns-clause-start : goal.returns-clause-start
-returns-clause-start c = kept_start
+returns-clause-start c = kept_new
 
 pub returns-clause-time : goal.returns-clause-time
 returns-clause-time c = kept_later

@@ -1,0 +1,5 @@
+pub mod Entries
+pub mod Merged
+pub mod Whole
+pub mod Between
+pub mod Placing
