@@ -84,6 +84,16 @@ module _ {X : Type 0} where
       by true p h = none_above es k (subst (λ n. AllByRecursion (λ y. nat_cmp n y ≡ Less) (keys_of es)) (sym (tells_apart exact_unsigned k e.0 p)) (sorted_head nat_cmp e.0 (keys_of es) s))
       by false p h = lookup_tail (is_at (nat_cmp k)) e (remove_entry (is_at (nat_cmp k)) es) p ∙ h
 
+  -- whatever value was written there
+  pub removed_anew : (test : ℕ → Bool) (es : List (ℕ × X)) (w : X) → remove_entry test (set_value test es w) ≡ remove_entry test es
+  removed_anew test [] w = refl
+  removed_anew test (e ∷ es) w = by (test e.0) refl (removed_anew test es w)
+    where
+      by : (b : Bool) → test e.0 ≡ b → remove_entry test (set_value test es w) ≡ remove_entry test es
+          → remove_entry test (cond b ((e.0, w) ∷ es) (e ∷ set_value test es w)) ≡ cond b es (e ∷ remove_entry test es)
+      by true p h = ap (λ c. cond c es ((e.0, w) ∷ remove_entry test es)) p
+      by false p h = ap (λ c. cond c (set_value test es w) (e ∷ remove_entry test (set_value test es w))) p ∙ ap (λ l. e ∷ l) h
+
   pub removed_another : (es : List (ℕ × X)) (k q : ℕ) → (q ≡ k → ⊥) → lookup (is_at (nat_cmp q)) (remove_entry (is_at (nat_cmp k)) es) ≡ lookup (is_at (nat_cmp q)) es
   removed_another [] k q apart = refl
   removed_another (e ∷ es) k q apart = by (is_at (nat_cmp k) e.0) refl (removed_another es k q apart)

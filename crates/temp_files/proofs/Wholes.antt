@@ -1,5 +1,5 @@
 -- What a temporary file comes to, which may not be there.
-use Rattle.std.proofs.Common.{◌≡◌, sym, ap, ℕ, List, Option, Some, None, true≢false}
+use Rattle.std.proofs.Common.{◌≡◌, ap, ℕ, List, Option, Some, None, true≢false}
 use Rattle.std.specs.Prelude.{is_some}
 use Rattle.temp_files.specs.Covered.{ComesTo}
 use Rattle.temp_files.specs.Pieces.{StandApart}

@@ -6,5 +6,6 @@
 #![tactic(auto)]
 
 pub mod fault;
+pub mod pieces;
 pub mod temp;
 pub mod temps;

@@ -1,7 +1,7 @@
 //! The temporary files of all sessions. `specs/Temps.antt` says what each call makes of them, and why
 //! it is refused.
 
-ghost use Rattle.std.specs.Prelude.{◌≡◌, ◌≤◌, [], IfOk, OnOk, OnErr, IsErrOf, is_some, length, None, Some, true, vec_capacity};
+ghost use Rattle.std.specs.Prelude.{◌≡◌, ◌≤◌, [], IfOk, OnOk, OnErr, IsErrOf, is_some, length, None, Some, true};
 ghost use Rattle.std.specs.BTreeMap.Range.{entries_between};
 ghost use Rattle.std.specs.declared.ops.Bound.TheVariants.{Included};
 ghost use Rattle.std.specs.List.{All};
@@ -13,7 +13,8 @@ ghost use Rattle.temp_files.specs.Pieces.{StandApart};
 ghost use Rattle.temp_files.specs.Temps.{key_of, temp_at, with_temp, without_temp, without_session, temps_of, temps_most, empty_temp, room_fault, piece_fault, with_more, size_fault, whole_of, pieces_of, IsTempKeyed, Tells};
 
 use crate::fault::TempErr;
-use crate::temp::{SIZE_MOST, Temp};
+use crate::pieces::SIZE_MOST;
+use crate::temp::Temp;
 use lb_base::items::Bytes;
 use std::alloc::{AllocError, Global};
 use std::collections::BTreeMap;
@@ -121,19 +122,43 @@ fn covers(temps: &Keyed, session: u32, fd: u32, size: u64) -> Result<bool, TempE
     }
 }
 
-/// Takes out a temporary file whose pieces cover 0 to the size, and gives their bytes, in memory that
-/// is there for them.
-fn take_whole(temps: &mut Keyed, session: u32, fd: u32, size: u64, room: Vec<u8>) -> Bytes
-    requires whole { is_some (whole_of (temp_at temps.old.entries session fd) size) ≡ true }
-    requires none { room.items ≡ [] }
-    requires fits { size ≤ vec_capacity room }
-    ensures exact { Some result ≡ whole_of (temp_at temps.old.entries session fd) size }
-    ensures ended { temps.new.entries ≡ without_temp temps.old.entries session fd }
+/// Takes all pieces out of a temporary file whose pieces cover 0 to the size, and gives their bytes.
+/// The one error is want of memory, and all then stays as it was.
+fn take_pieces(
+    alloc: Global,
+    temps: &mut Keyed,
+    session: u32,
+    fd: u32,
+    size: u64,
+) -> Result<Bytes, AllocError>
+    requires { is_some (whole_of (temp_at temps.old.entries session fd) size) ≡ true }
+    ensures exact { IfOk result (λ bytes. Some bytes ≡ whole_of (temp_at temps.old.entries session fd) size) }
+    ensures others { without_temp temps.new.entries session fd ≡ without_temp temps.old.entries session fd }
+    ensures err { OnErr result (temps.new.entries ≡ temps.old.entries) }
 {
-    match temps.remove(&key_of(session, fd)) {
-        Some(temp) => temp.into_bytes(room),
+    match temps.get_mut(&key_of(session, fd)) {
+        Some(temp) => temp.take(alloc, size as usize),
         None => unreachable!(),
     }
+}
+
+/// Takes out a temporary file whose pieces cover 0 to the size, and gives their bytes. The one error
+/// is want of memory, and all then stays as it was.
+fn take_whole(
+    alloc: Global,
+    temps: &mut Keyed,
+    session: u32,
+    fd: u32,
+    size: u64,
+) -> Result<Bytes, AllocError>
+    requires { is_some (whole_of (temp_at temps.old.entries session fd) size) ≡ true }
+    ensures exact { IfOk result (λ bytes. Some bytes ≡ whole_of (temp_at temps.old.entries session fd) size) }
+    ensures ended { OnOk result (temps.new.entries ≡ without_temp temps.old.entries session fd) }
+    ensures err { OnErr result (temps.new.entries ≡ temps.old.entries) }
+{
+    let bytes = take_pieces(alloc, temps, session, fd, size)?;
+    temps.remove(&key_of(session, fd));
+    Ok(bytes)
 }
 
 /// Takes out a temporary file, and gives its whole content where there is one.
@@ -157,8 +182,7 @@ fn take(
         temps.remove(&key_of(session, fd));
         return Ok(None);
     }
-    let room = Vec::with_capacity(alloc, size as usize)?;
-    let whole = take_whole(temps, session, fd, size, room);
+    let whole = take_whole(alloc, temps, session, fd, size)?;
     Ok(Some(whole))
 }
 
@@ -240,8 +264,8 @@ impl Temps {
 
     /// Ends a temporary file, and gives its whole content, where its pieces cover 0 to the size once
     /// each and nothing beyond, and else none: `BadFd` where there is no such file, `FBig` where the
-    /// size is beyond 67,108,864 bytes. Memory for the content is taken first, and then each piece let
-    /// go as its bytes are moved. All stays as it was where the call is refused.
+    /// size is beyond 67,108,864 bytes. Memory that the content lacks is taken first, and then each
+    /// piece let go as its bytes are moved. All stays as it was where the call is refused.
     pub fn take(&mut self, session: u32, fd: u32, size: u64) -> Result<Option<Bytes>, TempErr>
         ensures told { Tells result (size_fault (temp_at self.old session fd) size) }
         ensures exact { IfOk result (λ whole. whole ≡ whole_of (temp_at self.old session fd) size) }

@@ -12,7 +12,7 @@ pub returns-then-not-covers-clause-keyed : goal.returns-then-not-covers-clause-k
 returns-then-not-covers-clause-keyed c = rw c.remove.ensures.entries (All-removed IsTempKeyed _ _ c.requires)
 
 pub returns-clause-covered : goal.returns-clause-covered
-returns-clause-covered c = comes (temp_at c.args.temps.now.entries c.args.session c.args.fd) c.args.size _ c.in_ok-covers.ensures.told c.covers.ensures.apart c.take_whole-whole.ensures.exact
+returns-clause-covered c = comes (temp_at c.args.temps.now.entries c.args.session c.args.fd) c.args.size _ c.in_ok-covers.ensures.told c.covers.ensures.apart c.in_ok-whole.ensures.exact
 
 pub returns-clause-keyed : goal.returns-clause-keyed
-returns-clause-keyed c = rw c.take_whole-whole.ensures.ended (All-removed IsTempKeyed _ _ c.requires)
+returns-clause-keyed c = rw c.in_ok-whole.ensures.ended (All-removed IsTempKeyed _ _ c.requires)

@@ -1,6 +1,6 @@
 use Rattle.std.proofs.Common.{arith}
 use Rattle.temp_files.proofs.Joins.{within_most}
-use Rattle.temp_files.proofs.temp.cover.Goals as goal
+use Rattle.temp_files.proofs.pieces.cover.Goals as goal
 
 pub overflow_add-end : goal.overflow_add-end
 overflow_add-end c =

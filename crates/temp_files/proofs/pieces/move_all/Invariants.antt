@@ -1,6 +1,6 @@
 use Rattle.std.specs.Prelude.{◌≡◌, ◌+◌, ◌≤◌, ◌++◌, length, vec_capacity}
 use Rattle.temp_files.specs.Pieces.{all_bytes}
-use Rattle.temp_files.proofs.temp.move_all.Given as goal
+use Rattle.temp_files.proofs.pieces.move_all.Given as goal
 
 -- the bytes so far before those that are left, for which there is room
 abbrev pub invariant-loop-at : goal.invariant-loop-at

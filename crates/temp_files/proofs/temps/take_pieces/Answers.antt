@@ -1,0 +1,43 @@
+use Rattle.std.proofs.Common.{◌≡◌, ℕ, List, Option, Some, ◌∙◌, sym, ap, subst, true}
+use Rattle.std.specs.Prelude.{is_some}
+use Rattle.std.specs.BTreeMap.{is_at}
+use Rattle.std.specs.Map.{lookup, set_value}
+use Rattle.std.specs.Ordering.{nat_cmp}
+use Rattle.std.proofs.lemmas.Map.Steps.{set_value_same}
+use Rattle.std.proofs.lemmas.Result.{on_err_weaker, IfOk-weaker}
+use Rattle.temp_files.specs.Pieces.{all_bytes}
+use Rattle.temp_files.specs.Temps.{Temp, key_of, temp_at, whole_of, assembled, without_temp}
+use Rattle.temp_files.proofs.Entries.{removed_anew}
+use Rattle.temp_files.proofs.Joins.{whole_is, whole_length}
+use Rattle.temp_files.proofs.temps.take_pieces.Goals as goal
+
+pub take-requires : goal.take-requires
+take-requires c =
+    let temps = c.args.temps.now.entries in
+    let t = c.in-Some.temp.now in
+    let at : temp_at temps c.args.session c.args.fd ≡ Some t = subst (λ (k : ℕ). lookup (is_at (nat_cmp k)) temps ≡ Some t) c.key_of.ensures (sym c.in-Some.ensures.value) in
+    whole_length c.args.size t.pieces (ap (λ (o : Option Temp). is_some (whole_of o c.args.size)) (sym at) ∙ c.requires)
+
+pub returns-clause-exact : goal.returns-clause-exact
+returns-clause-exact c =
+    let temps = c.args.temps.now.entries in
+    let t = c.in-Some.temp.now in
+    let at : temp_at temps c.args.session c.args.fd ≡ Some t = subst (λ (k : ℕ). lookup (is_at (nat_cmp k)) temps ≡ Some t) c.key_of.ensures (sym c.in-Some.ensures.value) in
+    let whole : is_some (assembled t c.args.size) ≡ true = ap (λ (o : Option Temp). is_some (whole_of o c.args.size)) (sym at) ∙ c.requires in
+    IfOk-weaker c.take.result (λ (bytes : List ℕ). bytes ≡ all_bytes t.pieces) (λ (bytes : List ℕ). Some bytes ≡ whole_of (temp_at temps c.args.session c.args.fd) c.args.size)
+    (λ (bytes : List ℕ) is. ap (λ (b : List ℕ). Some b) is ∙ whole_is c.args.size t.pieces whole ∙ ap (λ (o : Option Temp). whole_of o c.args.size) (sym at)) c.take.ensures.ok
+
+pub returns-clause-others : goal.returns-clause-others
+returns-clause-others c =
+    let temps = c.args.temps.now.entries in
+    let w = c.take.new.self in
+    let written : (c.get_mut.follows.lender w).entries ≡ set_value (is_at (nat_cmp (key_of c.args.session c.args.fd))) temps w =
+    subst (λ (k : ℕ). (c.get_mut.follows.lender w).entries ≡ set_value (is_at (nat_cmp k)) temps w) c.key_of.ensures (c.get_mut.follows.holds w).0 in
+    ap (λ (es : List (ℕ × Temp)). without_temp es c.args.session c.args.fd) written ∙ removed_anew (is_at (nat_cmp (key_of c.args.session c.args.fd))) temps w
+
+pub returns-clause-err : goal.returns-clause-err
+returns-clause-err c =
+    let temps = c.args.temps.now.entries in
+    let w = c.take.new.self in
+    let at : lookup (is_at (nat_cmp c.key_of.result)) temps ≡ Some c.in-Some.temp.now = sym c.in-Some.ensures.value in
+    on_err_weaker c.take.result (λ is. (c.get_mut.follows.holds w).0 ∙ set_value_same (is_at (nat_cmp c.key_of.result)) temps w (at ∙ ap (λ (x : Temp). Some x) (sym is))) c.take.ensures.err
