@@ -91,6 +91,14 @@ impl Index {
         self.pairs.get(&key_of(digest)).copied()
     }
 
+    /// The place of a chunk that may have this digest; no pair moves. It takes no memory.
+    pub fn peek(&self, digest: &[u8]) -> Option<Place>
+        requires { 8 ≤ length digest.now }
+        ensures { result ≡ place_of self.now.pairs (key_of digest.now) }
+    {
+        self.pairs.peek(&key_of(digest)).copied()
+    }
+
     /// Drops all pairs. It takes no memory.
     pub fn clear(&mut self)
         ensures { self.new ≡ cleared self.old }

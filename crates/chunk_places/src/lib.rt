@@ -1,0 +1,52 @@
+//! Where the chunks of files stand in an index: the places that enter it, in order. `specs/Places.antt`
+//! says which.
+#![tactic(auto)]
+
+ghost use Rattle.std.specs.Prelude.{◌≡◌, IfOk, true, false};
+ghost use Rattle.chunk_places.specs.Places.{no_index, with_chunk, indexed, LeavesOut};
+
+use chunk_cut::chunk::Chunk;
+use chunk_index::index::Index;
+use chunk_index::place::Place;
+use limits::INDEX_MOST;
+use std::alloc::{AllocError, Global};
+use std::num::NonZeroUsize;
+
+/// An index with no pairs. The one error is want of memory.
+pub fn empty(alloc: Global) -> Result<Index, AllocError>
+    ensures { IfOk result (λ index. index ≡ no_index) }
+{
+    match NonZeroUsize::new(INDEX_MOST) {
+        Some(most) => Index::new(alloc, most),
+        None => unreachable!(),
+    }
+}
+
+/// Puts the place of a chunk under the key of its digest, and says whether memory was wanting: the
+/// index then stays as it was.
+fn is_left_out(index: &mut Index, file: u64, chunk: &Chunk) -> bool
+    ensures put { result ≡ false → index.new ≡ with_chunk index.old file chunk.now }
+    ensures same { result ≡ true → index.new ≡ index.old }
+{
+    let place = Place {
+        file,
+        offset: chunk.start,
+        count: chunk.len,
+    };
+    index.put(&chunk.digest, place).is_err()
+}
+
+/// Puts the places of chunks of a file, one after the other. A place for which memory is wanting is
+/// left out; says whether one was.
+pub fn enter(index: &mut Index, file: u64, chunks: &[Chunk]) -> bool
+    ensures all { result ≡ false → index.new ≡ indexed index.old file chunks.now }
+    ensures lacks { LeavesOut index.old file chunks.now index.new }
+{
+    let mut left_out = false;
+    for chunk in chunks {
+        if is_left_out(index, file, chunk) {
+            left_out = true;
+        }
+    }
+    left_out
+}
