@@ -1,5 +1,5 @@
 -- A content that is held in pieces, cut piece by piece.
-use Rattle.std.proofs.Common.{◌≡◌, refl, sym, ap, ◌∙◌, subst, ℕ, ◌+◌, ◌<◌, ◌^◌, List, [], ◌++◌, length, Option, append_assoc, length-append, arith}
+use Rattle.std.proofs.Common.{◌≡◌, refl, sym, ap, ◌∙◌, ℕ, ◌+◌, ◌<◌, ◌^◌, List, [], ◌++◌, length, Option, append_assoc, length-append, arith}
 use Rattle.std.proofs.lemmas.List.{append-nil}
 use Rattle.chunk_cut.specs.Chunks.{complete, rest, listed, chunks_of}
 use Rattle.chunk_cut.specs.Cutting.{IsFed, fed}

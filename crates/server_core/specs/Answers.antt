@@ -15,6 +15,7 @@ use Rattle.xdr_codec.specs.declared.answer.Answer.TheVariants.{Done, Failed}
 use Rattle.hash_calls.specs.declared.call.HashRange.{HashRange}
 use Rattle.hash_calls.specs.declared.call.Hashes.{Hashes}
 use Rattle.hash_calls.specs.declared.call.Pair.{Pair}
+use Rattle.hash_calls.specs.declared.call.Leased.{Leased}
 use Rattle.nfs3_calls.specs.declared.call.Range.{Range}
 use Rattle.nfs3_calls.specs.declared.call.Piece.{Piece}
 use Rattle.server_core.specs.declared.file.File.{File}
@@ -95,6 +96,22 @@ abbrev pub hash_answer : Result Node Status → HashRange → Answer Hashes Unit
 hash_answer (Err s) r = Failed s tt
 hash_answer (Ok root) r = Failed status.IsDir tt
 hash_answer (Ok (file f)) r = Done (hashes_of f r)
+
+-- the file that the call is about and those of its chunks that are told, where any are
+abbrev pub chunks_told : Result Node Status → HashRange → Option (ℕ × List Chunk)
+chunks_told (Ok (file f)) r = Some (f.id, told_chunks f.content r)
+chunks_told n r = None
+
+-- ---- GETLEASE
+
+-- No lease is granted.
+abbrev pub leased_of : File → Leased
+leased_of f = record { attr = attr_of f; version = f.version; term = 0 }
+
+abbrev pub lease_answer : Result Node Status → Answer Leased Unit
+lease_answer (Err s) = Failed s tt
+lease_answer (Ok root) = Failed status.IsDir tt
+lease_answer (Ok (file f)) = Done (leased_of f)
 
 -- ---- READ (RFC 1813 section 3.3.6)
 

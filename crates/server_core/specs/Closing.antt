@@ -1,8 +1,11 @@
 -- What the server does for the calls of a close: MKTMPFILE, TMPWRITE, CONDWRITE and COMMITTMP, and how a change is made.
-use Rattle.std.specs.Prelude.{ℕ, ◌+◌, List, [], ◌∷◌, ◌++◌, length, Option, Some, None, Result, Ok, Err, Bool, false, ◌||◌, ◌==◌, unwrap_or, max, nat_lt, if◌then◌else◌}
+use Rattle.std.specs.Prelude.{ℕ, ◌+◌, List, [], ◌∷◌, ◌++◌, length, Option, Some, None, Result, Ok, Err, Bool, false, ◌||◌, ◌==◌, max, nat_lt, if◌then◌else◌}
 use Rattle.limits.specs.declared.TheConstants.{PIECE_MOST, TREE_MOST, CHANGES_MOST}
 use Rattle.std.specs.List.{list_any}
 use Rattle.sha1.specs.Sha1.{sha1}
+use Rattle.chunk_cut.specs.Chunks.{chunks_of}
+use Rattle.chunk_index.specs.Index.{key_of, place_of, found}
+use Rattle.chunk_index.specs.declared.place.Place.{Place}
 use Rattle.xdr_codec.specs.declared.status.Status.{Status}
 use Rattle.xdr_codec.specs.declared.status.Status.TheVariants as status
 use Rattle.xdr_codec.specs.declared.answer.Answer.{Answer}
@@ -25,6 +28,8 @@ use Rattle.server_core.specs.declared.file.File.{File}
 use Rattle.server_core.specs.declared.journal.Entry.{Entry}
 use Rattle.server_core.specs.declared.journal.EntryKind.TheVariants as entry
 use Rattle.server_core.specs.Answers.{Node, root, file, node_of}
+use Rattle.chunk_places.specs.Places.{indexed}
+use Rattle.server_core.specs.Indexing.{wanted_bytes, with_digest}
 use Rattle.server_core.specs.State.{State, Change, file_at, with_file, bytes_held}
 
 -- ---- limits
@@ -82,14 +87,36 @@ writes s session xid a t = writes_unless s session xid a t (piece_fault t a.offs
 
 -- ---- CONDWRITE
 
--- The server has no index of chunks, so no bytes are known by their digest.
-abbrev pub cond_fault : CondPiece → Option Temp → Status
+-- why it can't be done, before any bytes are looked for
+abbrev pub cond_fault : CondPiece → Option Temp → Option Status
 cond_fault a t =
-    if a.count == 0 || nat_lt cond_most a.count then status.Inval
-    else unwrap_or (piece_fault t a.offset a.count) status.HashNotFound
+    if a.count == 0 || nat_lt cond_most a.count then Some status.Inval
+    else piece_fault t a.offset a.count
 
+-- the bytes that a place has for it, which are compared with its digest
+abbrev pub bytes_found : List (ℕ × File) → CondPiece → Option Place → Option (List ℕ)
+bytes_found files a None = None
+bytes_found files a (Some p) = wanted_bytes (file_at files p.file) p a.count
+
+-- the bytes that are known by its digest
+abbrev pub bytes_known : List (ℕ × File) → CondPiece → Option Place → Option (List ℕ)
+bytes_known files a p = with_digest a.digest (bytes_found files a p)
+
+abbrev pub names_bytes : State → (session xid : ℕ) → CondPiece → Option Temp → Option (List ℕ) → State × ServerStep
+names_bytes s session xid a (Some t) (Some bytes) = answers (record s { temps = with_temp s.temps (with_piece t a.offset bytes) }) session xid (lb.CondWriteAnswer (Done tt))
+names_bytes s session xid a t bytes = answers s session xid (lb.CondWriteAnswer (Failed status.HashNotFound tt))
+
+-- A look-up brings its pair to the front, also where nothing is known by the digest.
+abbrev pub looked_up : State → CondPiece → State
+looked_up s a = record s { index = found s.index (key_of a.digest) }
+
+abbrev pub names_unless : State → (session xid : ℕ) → CondPiece → Option Temp → Option Status → State × ServerStep
+names_unless s session xid a t (Some e) = answers s session xid (lb.CondWriteAnswer (Failed e tt))
+names_unless s session xid a t None = names_bytes (looked_up s a) session xid a t (bytes_known s.files a (place_of s.index.pairs (key_of a.digest)))
+
+-- bytes that are known by their digest are put into a temporary file, as a piece
 abbrev pub names : State → (session xid : ℕ) → CondPiece → Option Temp → State × ServerStep
-names s session xid a t = answers s session xid (lb.CondWriteAnswer (Failed (cond_fault a t) tt))
+names s session xid a t = names_unless s session xid a t (cond_fault a t)
 
 -- ---- COMMITTMP
 
@@ -135,10 +162,10 @@ changed f content = record f { version = f.version + 1; content = content }
 abbrev pub entry_of : Change → File → Entry
 entry_of c f = record { file = f.id; version = f.version + 1; kind = entry.Commit; len = length c.content; sha1 = sha1 c.content; session = c.session }
 
--- a change of a file, which may be gone
+-- A change of a file, which may be gone. The places of its chunks enter the index.
 abbrev pub makes_change : State → Change → Option File → State × ServerStep
 makes_change s c None = (s, told_change c 0 (Failed status.Stale tt))
-makes_change s c (Some f) = (record s { files = with_file s.files (changed f c.content); changes = s.changes + 1; journal = s.journal ++ entry_of c f ∷ [] }, told_change c 1 (Done (record { version = f.version + 1; term = 0 })))
+makes_change s c (Some f) = (record s { files = with_file s.files (changed f c.content); changes = s.changes + 1; journal = s.journal ++ entry_of c f ∷ []; index = indexed s.index f.id (chunks_of c.content) }, told_change c 1 (Done (record { version = f.version + 1; term = 0 })))
 
 -- The change that came first is made: no lease stands, so nothing blocks it. Where none waits nothing changes.
 abbrev pub settles : State → ℕ → List Change → State × ServerStep

@@ -1,3 +1,4 @@
+pub mod Indexing
 pub mod State
 pub mod Chunks
 pub mod Answers
@@ -6,4 +7,5 @@ pub mod Asking
 pub mod Step
 pub mod View
 pub mod Rows
+pub mod IndexRows
 pub mod Hashed

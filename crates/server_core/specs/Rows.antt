@@ -3,6 +3,7 @@ use Rattle.std.specs.Prelude.{◌≡◌, ℕ, List, [], ◌∷◌, ◌++◌, map
 use Rattle.sha1.specs.Sha1.{sha1}
 use Rattle.chunk_cut.specs.Search.{next_end, closed_ends}
 use Rattle.rabin_window.specs.Fingerprint.{fp}
+use Rattle.chunk_places.specs.Places.{no_index, with_chunk}
 use Rattle.xdr_codec.specs.Handle.{handle_bytes}
 use Rattle.xdr_codec.specs.declared.status.Status.TheVariants as status
 use Rattle.xdr_codec.specs.declared.answer.Answer.TheVariants.{Done, Failed}
@@ -117,7 +118,8 @@ too_many = refl
 changed : steps tree (makes 1 1 ∷ calls 2 (lb.CondWrite (record { fd = 1; offset = 0; count = 1; digest = sha1 (codes "x") })) ∷ writes 3 0 (codes "x") ∷ commits 4 1 1 ∷ event.Settle 7 ∷ event.Settle 8 ∷ []) ≡ (made 1 ∷ answers 2 (lb.CondWriteAnswer (Failed status.HashNotFound tt)) ∷ answers 3 (lb.TmpWriteAnswer (Done tt)) ∷ sends [] ∷ record (answers 4 (lb.CommitTmpAnswer (Done (record { version = 2; term = 0 })))) { told = told.Settled 1 4; entries = 1 } ∷ record (sends []) { told = told.NotReady } ∷ [])
 changed = refl
 
-changed_state : (after tree (makes 1 1 ∷ writes 3 0 (codes "x") ∷ commits 4 1 1 ∷ event.Settle 7 ∷ event.Settle 8 ∷ [])) ≡ record tree { files = (2, record { id = 2; version = 2; content = codes "x" }) ∷ (3, record { id = 3; version = 1; content = [] }) ∷ []; changes = 2; journal = record { file = 2; version = 2; kind = entry.Commit; len = 1; sha1 = sha1 (codes "x"); session = 1 } ∷ []; moment = 7 }
+changed_state : (after tree (makes 1 1 ∷ writes 3 0 (codes "x") ∷ commits 4 1 1 ∷ event.Settle 7 ∷ event.Settle 8 ∷ [])) ≡ record tree { files = (2, record { id = 2; version = 2; content = codes "x" }) ∷ (3, record { id = 3; version = 1; content = [] }) ∷ []; changes = 2; journal = record { file = 2; version = 2; kind = entry.Commit; len = 1; sha1 = sha1 (codes "x"); session = 1 } ∷ []; index = with_chunk no_index 2 (record { start = 0; len = 1; digest = sha1 (codes "x") }); moment = 7 }
+unfolding closed_ends next_end fp
 changed_state = refl
 
 -- a session that hangs takes its temporary files and its change with it, and another's stay

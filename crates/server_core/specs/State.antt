@@ -6,7 +6,9 @@ use Rattle.std.specs.Ordering.{nat_cmp}
 pub use Rattle.server_core.specs.declared.change.Change.{Change}
 use Rattle.server_core.specs.declared.file.File.{File}
 use Rattle.server_core.specs.declared.journal.Entry.{Entry}
+use Rattle.chunk_index.specs.Index.{Indexed}
 use Rattle.temp_files.specs.Temps.{Temps}
+use Rattle.chunk_places.specs.Places.{no_index}
 
 pub record State : Type 0 where
   -- the files of the root, each with its id, by rising id
@@ -17,6 +19,8 @@ pub record State : Type 0 where
   pub journal : List Entry
   -- the temporary files, each with its key, by rising key
   pub temps : Temps
+  -- where the bytes of a digest may be found
+  pub index : Indexed
   -- the changes that wait, the one that came first before the others
   pub waiting : List Change
   -- the sessions that stand
@@ -28,7 +32,7 @@ pub record State : Type 0 where
 
 -- a server with no file and no session
 abbrev pub empty : State
-empty = record { files = []; changes = 0; journal = []; temps = []; waiting = []; sessions = []; sessions_made = 0; moment = 0 }
+empty = record { files = []; changes = 0; journal = []; temps = []; index = no_index; waiting = []; sessions = []; sessions_made = 0; moment = 0 }
 
 -- the file with the id
 abbrev pub file_at : List (ℕ × File) → ℕ → Option File

@@ -1,8 +1,9 @@
 -- One event of the server.
-use Rattle.std.specs.Prelude.{◌≡◌, ℕ, ◌+◌, ◌<◌, ◌≤◌, ◌^◌, [], ◌∷◌, ◌++◌, length, max, None, Result, Ok, Bool, true, false, ◌&&◌, ◌==◌, nat_lt, filter, not}
+use Rattle.std.specs.Prelude.{◌≡◌, ◌⊎◌, ℕ, ◌+◌, ◌<◌, ◌≤◌, ◌^◌, [], ◌∷◌, ◌++◌, List, length, max, Option, Some, None, IsSome, Result, Ok, Bool, true, false, ◌&&◌, ◌==◌, nat_lt, filter, not}
 use Rattle.limits.specs.declared.TheConstants.{SESSIONS_MOST, SESSIONS_EVER_MOST, FILE_MOST}
 use Rattle.std.specs.List.{list_any}
 use Rattle.xdr_codec.specs.declared.status.Status.{Status}
+use Rattle.hash_calls.specs.declared.call.HashRange.{HashRange}
 use Rattle.hash_calls.specs.declared.message.Lb.TheVariants as lb
 use Rattle.nfs3_calls.specs.declared.message.Nfs.TheVariants as nfs
 use Rattle.wire.specs.declared.message.Body.{Body}
@@ -10,27 +11,42 @@ use Rattle.wire.specs.declared.message.Body.TheVariants as body
 use Rattle.wire.specs.declared.message.Message.{Message}
 use Rattle.wire.specs.declared.message.Message.TheVariants as message
 use Rattle.wire.specs.declared.message.RpcRefusal.TheVariants as refusal
+use Rattle.chunk_cut.specs.Chunks.{chunks_of}
+use Rattle.chunk_cut.specs.declared.chunk.Chunk.{Chunk}
+use Rattle.chunk_index.specs.Index.{Indexed, key_of, place_of, put, cleared}
+use Rattle.chunk_index.specs.declared.place.Place.{Place}
 use Rattle.temp_files.specs.Temps.{temp_at, without_session, room_fault, piece_fault}
 use Rattle.server_core.specs.declared.event.Event.{Event}
 use Rattle.server_core.specs.declared.event.Event.TheVariants as event
 use Rattle.server_core.specs.declared.event.ServerStep.{ServerStep}
 use Rattle.server_core.specs.declared.event.Told.TheVariants as told
 use Rattle.server_core.specs.declared.file.File.{File}
-use Rattle.server_core.specs.State.{State, with_file}
-use Rattle.server_core.specs.Answers.{Node, file, node_of, hash_answer, read_answer}
+use Rattle.server_core.specs.State.{State, Change, file_at, with_file}
+use Rattle.server_core.specs.Answers.{Node, file, node_of, lease_answer, hash_answer, chunks_told, read_answer}
 use Rattle.server_core.specs.Asking.{CanWait}
-use Rattle.server_core.specs.Closing.{sends, to, at, makes, writes, names, commits, settles}
+use Rattle.server_core.specs.Closing.{sends, to, at, makes, writes, names, cond_fault, bytes_known, looked_up, commits, settles}
+use Rattle.chunk_places.specs.Places.{indexed, LeavesOut}
 
 -- ---- a message
 
 abbrev pub says : State → (session xid : ℕ) → Body → State × ServerStep
 says s session xid b = (s, to session (message.Answer xid b))
 
+-- the places of chunks of a file that are told enter the index
+abbrev pub with_told : Indexed → Option (ℕ × List Chunk) → Indexed
+with_told index None = index
+with_told index (Some e) = indexed index e.0 e.1
+
+-- what a GETHASH is told; it changes the index alone
+abbrev pub tells_hashes : State → (session xid : ℕ) → HashRange → Result Node Status → State × ServerStep
+tells_hashes s session xid r n = says (record s { index = with_told s.index (chunks_told n r) }) session xid (body.Lb (lb.GetHashAnswer (hash_answer n r)))
+
 -- What a call of a session does. One of these programs that the server doesn't do yet is refused, as a procedure that it doesn't have
 -- (RFC 5531 section 9).
 abbrev pub called : State → (session xid : ℕ) → Body → State × ServerStep
 called s session xid (body.Lb lb.Null) = says s session xid (body.Lb lb.NullAnswer)
-called s session xid (body.Lb (lb.GetHash r)) = says s session xid (body.Lb (lb.GetHashAnswer (hash_answer (node_of s.files r.handle) r)))
+called s session xid (body.Lb (lb.GetLease handle)) = says s session xid (body.Lb (lb.GetLeaseAnswer (lease_answer (node_of s.files handle))))
+called s session xid (body.Lb (lb.GetHash r)) = tells_hashes s session xid r (node_of s.files r.handle)
 called s session xid (body.Lb (lb.MkTmpFile a)) = makes s session xid a.fd (node_of s.files a.handle)
 called s session xid (body.Lb (lb.TmpWrite a)) = writes s session xid a (temp_at s.temps session a.fd)
 called s session xid (body.Lb (lb.CondWrite a)) = names s session xid a (temp_at s.temps session a.fd)
@@ -86,6 +102,20 @@ server_step s (event.Hang session) = hangs_if s (stands s session) session
 abbrev pub opens_with : State → File → State
 opens_with s f = record s { files = with_file s.files f; changes = max s.changes f.version }
 
+-- ---- the index alone
+
+-- the state with another index
+abbrev pub with_index : State → Indexed → State
+with_index s index = record s { index = index }
+
+-- a place is put under a key
+abbrev pub forges : State → (key : ℕ) → Place → State
+forges s key p = with_index s (put s.index key p)
+
+-- all pairs are dropped
+abbrev pub clears_index : State → State
+clears_index s = with_index s (cleared s.index)
+
 -- ---- what is wanted of an event, and want of memory
 
 -- the readings that an event may have
@@ -95,8 +125,14 @@ IsTimed (event.Got session m now) = now < 2 ^ 63
 IsTimed (event.Settle now) = now < 2 ^ 63
 IsTimed (event.Hang session) = Unit {0}
 
--- what a step leaves that met want of memory: all as it was, but for the moment of its reading
+-- what a call leaves that met want of memory: a CONDWRITE has looked its digest up by then
+abbrev pub missed_call : State → Body → State
+missed_call s (body.Lb (lb.CondWrite a)) = looked_up s a
+missed_call s b = s
+
+-- what a step leaves that met want of memory and did nothing: all as it was, but for the moment of its reading, and a look-up
 abbrev pub missed_at : State → Event → State
+missed_at s (event.Got session (message.Call xid b) now) = missed_call (at s now) b
 missed_at s (event.Got session m now) = at s now
 missed_at s e = s
 
@@ -105,6 +141,33 @@ abbrev pub missed_step : Event → ServerStep
 missed_step (event.Got session (message.Call xid b) now) = record (to session (message.Refuse xid refusal.SystemErr)) { missed = true }
 missed_step event.Connect = record (sends []) { told = told.Memory; missed = true }
 missed_step e = record (sends []) { missed = true }
+
+-- the file and those of its chunks whose places an event puts into the index, where it puts any
+abbrev pub change_entered : Change → Option File → Option (ℕ × List Chunk)
+change_entered c None = None
+change_entered c (Some f) = Some (f.id, chunks_of c.content)
+
+abbrev pub chunks_of_change : State → List Change → Option (ℕ × List Chunk)
+chunks_of_change s [] = None
+chunks_of_change s (c ∷ cs) = change_entered c (file_at s.files c.file)
+
+abbrev pub chunks_if : Bool → Option (ℕ × List Chunk) → Option (ℕ × List Chunk)
+chunks_if true e = e
+chunks_if false e = None
+
+abbrev pub chunks_called : State → Body → Option (ℕ × List Chunk)
+chunks_called s (body.Lb (lb.GetHash r)) = chunks_told (node_of s.files r.handle) r
+chunks_called s b = None
+
+abbrev pub chunks_entered : State → Event → Option (ℕ × List Chunk)
+chunks_entered s (event.Got session (message.Call xid b) now) = chunks_if (stands s session) (chunks_called s b)
+chunks_entered s (event.Settle now) = chunks_of_change s s.waiting
+chunks_entered s e = None
+
+-- an index that lacks some of the places that it was to gain
+abbrev pub MayLack : Indexed → Option (ℕ × List Chunk) → Indexed → Type 0
+MayLack index None new = ⊥
+MayLack index (Some e) new = LeavesOut index e.0 e.1 new
 
 -- a handle names a file
 abbrev pub IsFile : Result Node Status → Type 0
@@ -117,16 +180,32 @@ abbrev pub TakesMemory : State → (session : ℕ) → Body → Type 0
 TakesMemory s session (body.Lb (lb.GetHash r)) = IsFile (node_of s.files r.handle)
 TakesMemory s session (body.Lb (lb.MkTmpFile a)) = IsFile (node_of s.files a.handle) × (room_fault s.temps session a.fd ≡ None)
 TakesMemory s session (body.Lb (lb.TmpWrite a)) = piece_fault (temp_at s.temps session a.fd) a.offset (length a.bytes) ≡ None
+TakesMemory s session (body.Lb (lb.CondWrite a)) = (cond_fault a (temp_at s.temps session a.fd) ≡ None) × IsSome (bytes_known s.files a (place_of s.index.pairs (key_of a.digest)))
 TakesMemory s session (body.Lb (lb.CommitTmp a)) = CanWait s session a (temp_at s.temps session a.fd)
 TakesMemory s session (body.Nfs (nfs.Read r)) = IsFile (node_of s.files r.handle)
 TakesMemory s session _ = ⊥
 
--- Want of memory may be met where a connection can be made, and at a call of a session that stands, if it takes memory. Where a change is made
--- nothing is wanted, since what it takes was taken when it came; nor is anything where a connection is lost.
+-- A step may do nothing for want of memory where a connection is to be made, and at a call of a session that stands, if it takes memory. A change
+-- is always made, since what it takes was taken when it came; nor is anything wanted where a connection is lost.
 abbrev pub MayMiss : State → Event → Type 0
 MayMiss s event.Connect = has_room s ≡ true
 MayMiss s (event.Got session (message.Call xid b) now) = (stands s session ≡ true) × TakesMemory (at s now) session b
 MayMiss s e = ⊥
+
+-- What is done but for places for which memory was wanting, which are left out of the index.
+abbrev pub Lacks : Indexed → Option (ℕ × List Chunk) → State × ServerStep → State → ServerStep → Type 0
+Lacks index entered done new step = (left : Indexed) × MayLack index entered left × (new ≡ with_index done.0 left) × (step ≡ record done.1 { missed = true })
+
+-- what a call does that met want of memory: it is refused, or done but for places that are left out of the index
+abbrev pub MissesCall : State → (session xid : ℕ) → Body → State → ServerStep → Type 0
+MissesCall s session xid b new step =
+    (TakesMemory s session b × (new ≡ missed_call s b) × (step ≡ record (to session (message.Refuse xid refusal.SystemErr)) { missed = true }))
+    ⊎ Lacks s.index (chunks_called s b) (called s session xid b) new step
+
+-- what an event does that met want of memory: nothing, or all but that places are left out of the index
+pub data Misses (s : State) (e : Event) (new : State) (step : ServerStep) : Type 0 where
+  nothing : MayMiss s e → new ≡ missed_at s e → step ≡ missed_step e → Misses s e new step
+  lacks : Lacks s.index (chunks_entered s e) (server_step s e) new step → Misses s e new step
 
 -- a file within its limits
 pub record IsFileBounded (f : File) : Type 0 where

@@ -10,7 +10,7 @@ use Rattle.server_core.specs.State.{State, Change, bytes_held}
 use Rattle.server_core.specs.Step.{IsFileBounded}
 
 abbrev pub state_of : ServerState → State
-state_of s = record { files = s.files.entries; changes = s.changes; journal = s.journal.items; temps = s.temps; waiting = s.waiting.items; sessions = s.sessions.items; sessions_made = s.sessions_made; moment = s.moment }
+state_of s = record { files = s.files.entries; changes = s.changes; journal = s.journal.items; temps = s.temps; index = s.index; waiting = s.waiting.items; sessions = s.sessions.items; sessions_made = s.sessions_made; moment = s.moment }
 
 -- a content that waits is within the limit of a file
 abbrev pub IsChangeBounded : Change → Type 0

@@ -6,11 +6,12 @@ ghost use Rattle.std.specs.List.{All};
 ghost use Rattle.std.specs.Map.{values_of};
 ghost use Rattle.std.specs.Option.{option_copied};
 ghost use Rattle.server_core.specs.State.{file_at};
-ghost use Rattle.server_core.specs.Answers.{node_of, time_of, attr_of, piece_bytes, piece_of, read_answer};
+ghost use Rattle.server_core.specs.Answers.{node_of, time_of, attr_of, piece_bytes, piece_of, read_answer, lease_answer};
 ghost use Rattle.server_core.specs.Asking.{target_in};
 ghost use Rattle.server_core.specs.Step.{IsFileBounded, IsFile};
 
 use crate::file::File;
+use hash_calls::call::Leased;
 use lb_base::items::Bytes;
 use limits::PIECE_MOST;
 use nfs3_calls::call::{Piece, Range};
@@ -133,4 +134,25 @@ pub fn read_answer(
     };
     let piece = piece_of(alloc, file, range)?;
     Ok(Answer::Done(piece))
+}
+
+/// What a GETLEASE is answered: no lease is granted. It takes no memory.
+pub fn lease_answer(files: &BTreeMap<u64, File>, handle: &Handle) -> Answer<Leased, ()>
+    requires { All IsFileBounded (values_of files.now.entries) }
+    ensures { result ≡ lease_answer (node_of files.now.entries handle.now) }
+{
+    let Some(id) = handle.file_of() else {
+        return Answer::Failed(Status::BadHandle, ());
+    };
+    if id == ROOT {
+        return Answer::Failed(Status::IsDir, ());
+    }
+    let Some(file) = find_file(files, id) else {
+        return Answer::Failed(Status::Stale, ());
+    };
+    Answer::Done(Leased {
+        attr: attr_of(file),
+        version: file.version,
+        term: 0,
+    })
 }

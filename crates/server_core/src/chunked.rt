@@ -1,7 +1,7 @@
 //! Contents of files, each with its chunks. `specs/Chunks.antt` of `chunk_cut` says which chunks a
 //! content has.
 
-ghost use Rattle.std.specs.Prelude.{◌≡◌, ◌<◌, ◌^◌, length, IfOk};
+ghost use Rattle.std.specs.Prelude.{◌≡◌, ◌<◌, ◌^◌, ◌++◌, length, IfOk};
 ghost use Rattle.chunk_cut.specs.Chunks.{chunks_of};
 ghost use Rattle.temp_files.specs.Pieces.{all_bytes};
 
@@ -70,14 +70,18 @@ impl Chunked {
     }
 }
 
-/// The chunks of a content that is held in pieces, one behind the other. The one error is want of
-/// memory.
-pub fn cut_pieces(alloc: Global, pieces: &BTreeMap<u64, Bytes>) -> Result<Items<Chunk>, AllocError>
-    requires { length (all_bytes pieces.now.entries) < 2 ^ 64 }
-    ensures { IfOk result (λ chunks. chunks ≡ chunks_of (all_bytes pieces.now.entries)) }
+/// The chunks of a content that is held in parts: its first bytes, and pieces, one behind the other.
+/// The one error is want of memory.
+pub fn cut_pieces(
+    alloc: Global,
+    front: &[u8],
+    pieces: &BTreeMap<u64, Bytes>,
+) -> Result<Items<Chunk>, AllocError>
+    requires { length (front.now ++ all_bytes pieces.now.entries) < 2 ^ 64 }
+    ensures { IfOk result (λ chunks. chunks ≡ chunks_of (front.now ++ all_bytes pieces.now.entries)) }
 {
     let mut cutter = Cutter::new();
-    let mut chunks = Items::new(alloc);
+    let mut chunks = cutter.feed(alloc, front)?;
     for (_at, bytes) in pieces.iter() {
         let ended = cutter.feed(alloc, bytes.as_slice())?;
         chunks.extend_from_slice(ended.as_slice())?;

@@ -8,19 +8,19 @@ ghost use Rattle.wire.specs.declared.message.Body.TheVariants as body;
 ghost use Rattle.wire.specs.declared.message.Message.TheVariants as message;
 ghost use Rattle.xdr_codec.specs.declared.answer.Answer.TheVariants.{Failed};
 ghost use Rattle.temp_files.specs.Pieces.{size_most};
-ghost use Rattle.temp_files.specs.Temps.{temp_at, without_temp, room_fault, piece_fault, whole_of, status_of};
+ghost use Rattle.temp_files.specs.Temps.{temp_at, with_more, without_temp, room_fault, piece_fault, whole_of, status_of};
 ghost use Rattle.server_core.specs.Answers.{node_of};
 ghost use Rattle.server_core.specs.Asking.{target_in, commit_target, CanWait, admits};
-ghost use Rattle.server_core.specs.Closing.{to, makes, writes, names, commits, cond_fault, has_waiting, is_full};
-ghost use Rattle.server_core.specs.Step.{IsFile};
+ghost use Rattle.server_core.specs.Closing.{to, makes, writes, names, looked_up, commits, cond_fault, has_waiting, is_full};
+ghost use Rattle.server_core.specs.Step.{IsFile, TakesMemory};
 ghost use Rattle.server_core.specs.View.{state_of, IsBounded, HasRoom};
 
-use crate::answers;
 use crate::change::Change;
 use crate::chunked::{self, Chunked};
 use crate::event::ServerStep;
 use crate::state::ServerState;
 use crate::steps::{answer, nothing};
+use crate::{answers, indexing};
 use hash_calls::call::{Commit, CondPiece, NewTemp, TempPiece};
 use hash_calls::message::Lb;
 use lb_base::items::Bytes;
@@ -45,17 +45,17 @@ fn status_of(refusal: TempErr) -> Result<Status, AllocError>
     }
 }
 
-/// Why a CONDWRITE can't be done. This server knows no bytes by their digest.
-fn cond_fault(temps: &Temps, session: u32, piece: &CondPiece) -> Status
+/// Why a CONDWRITE can't be done, before any bytes are looked for. It takes no memory.
+fn cond_fault(temps: &Temps, session: u32, piece: &CondPiece) -> Option<Status>
     ensures { result ≡ cond_fault piece.now (temp_at temps.now session piece.now.fd) }
 {
     if piece.count == 0 || piece.count > PIECE_MOST {
-        return Status::Inval;
+        return Some(Status::Inval);
     }
     let count = u64::from(piece.count);
     match temps.check(session, piece.fd, piece.offset, count) {
-        Ok(()) => Status::HashNotFound,
-        Err(refusal) => refusal.status().unwrap_or(Status::HashNotFound),
+        Ok(()) => None,
+        Err(refusal) => refusal.status(),
     }
 }
 
@@ -88,6 +88,13 @@ fn wrote(alloc: Global, session: u32, xid: u32, told: Answer<(), ()>) -> ServerS
     answer(alloc, session, xid, Body::Lb(Lb::TmpWriteAnswer(told)))
 }
 
+/// The answer to a CONDWRITE.
+fn named(alloc: Global, session: u32, xid: u32, told: Answer<(), ()>) -> ServerStep
+    ensures { result ≡ to session (message.Answer xid (body.Lb (lb.CondWriteAnswer told))) }
+{
+    answer(alloc, session, xid, Body::Lb(Lb::CondWriteAnswer(told)))
+}
+
 /// The content that a temporary file comes to, with its chunks. The temporary file ends. Its chunks are
 /// cut while it stands, so that memory is there for all before its first piece is let go. The one
 /// error is want of memory, and all then stays as it was.
@@ -106,10 +113,31 @@ fn take_content(
     let Some(temp) = temps.find(session, commit.fd) else {
         unreachable!()
     };
-    let chunks = chunked::cut_pieces(alloc, temp.pieces())?;
+    let (front, pieces) = temp.parts();
+    let chunks = chunked::cut_pieces(alloc, front, pieces)?;
     match temps.take(session, commit.fd, commit.size) {
         Ok(Some(bytes)) => Ok(Chunked::with_chunks(bytes, chunks)),
         Ok(None) => unreachable!(),
+        Err(_) => Err(AllocError),
+    }
+}
+
+/// Puts a copy of bytes that are known by their digest into a temporary file where they may be. The
+/// one error is want of memory, and all then stays as it was.
+fn put_known(
+    alloc: Global,
+    temps: &mut Temps,
+    session: u32,
+    piece: &CondPiece,
+    bytes: &[u8],
+) -> Result<(), AllocError>
+    requires { piece_fault (temp_at temps.old session piece.now.fd) piece.now.offset (length bytes.now) ≡ None }
+    ensures ok { OnOk result (temps.new ≡ with_more temps.old (temp_at temps.old session piece.now.fd) piece.now.offset bytes.now) }
+    ensures err { OnErr result (temps.new ≡ temps.old) }
+{
+    let copied = Bytes::copy_of(alloc, bytes)?;
+    match temps.put(session, piece.fd, piece.offset, copied) {
+        Ok(()) => Ok(()),
         Err(_) => Err(AllocError),
     }
 }
@@ -168,14 +196,53 @@ impl ServerState {
         }
     }
 
-    /// A CONDWRITE, which is never done here. It takes no memory.
-    pub fn cond_write(&self, alloc: Global, session: u32, xid: u32, piece: &CondPiece) -> ServerStep
-        ensures ok { names (state_of self.now) session xid piece.now (temp_at (state_of self.now).temps session piece.now.fd) ≡ (state_of self.now, result) }
-        ensures done { result.missed ≡ false }
+    /// A CONDWRITE. An `Err` changes nothing but that the digest was looked up.
+    pub fn cond_write(
+        &mut self,
+        alloc: Global,
+        session: u32,
+        xid: u32,
+        piece: &CondPiece,
+    ) -> Result<ServerStep, AllocError>
+        requires { IsBounded self.old }
+        ensures ok { IfOk result (λ o. names (state_of self.old) session xid piece.now (temp_at (state_of self.old).temps session piece.now.fd) ≡ (state_of self.new, o)) }
+        ensures done { IfOk result (λ o. o.missed ≡ false) }
+        ensures err { OnErr result (state_of self.new ≡ looked_up (state_of self.old) piece.now) }
+        ensures takes { OnErr result (TakesMemory (state_of self.old) session (body.Lb (lb.CondWrite piece.now))) }
+        ensures bounded { IsBounded self.new }
     {
-        let status = cond_fault(&self.temps, session, piece);
-        let body = Body::Lb(Lb::CondWriteAnswer(Answer::Failed(status, ())));
-        answer(alloc, session, xid, body)
+        match cond_fault(&self.temps, session, piece) {
+            Some(status) => Ok(named(alloc, session, xid, Answer::Failed(status, ()))),
+            None => self.write_known(alloc, session, xid, piece),
+        }
+    }
+
+    /// A CONDWRITE that has no fault. An `Err` changes nothing but that the digest was looked up.
+    fn write_known(
+        &mut self,
+        alloc: Global,
+        session: u32,
+        xid: u32,
+        piece: &CondPiece,
+    ) -> Result<ServerStep, AllocError>
+        requires bounded { IsBounded self.old }
+        requires fits { cond_fault piece.now (temp_at (state_of self.old).temps session piece.now.fd) ≡ None }
+        ensures ok { IfOk result (λ o. names (state_of self.old) session xid piece.now (temp_at (state_of self.old).temps session piece.now.fd) ≡ (state_of self.new, o)) }
+        ensures done { IfOk result (λ o. o.missed ≡ false) }
+        ensures err { OnErr result (state_of self.new ≡ looked_up (state_of self.old) piece.now) }
+        ensures takes { OnErr result (TakesMemory (state_of self.old) session (body.Lb (lb.CondWrite piece.now))) }
+        ensures bounded { IsBounded self.new }
+    {
+        match indexing::look_up(&mut self.index, &self.files, piece) {
+            Some(bytes) => {
+                put_known(alloc, &mut self.temps, session, piece, bytes)?;
+                Ok(named(alloc, session, xid, Answer::Done(())))
+            }
+            None => {
+                let status = Status::HashNotFound;
+                Ok(named(alloc, session, xid, Answer::Failed(status, ())))
+            }
+        }
     }
 
     /// A COMMITTMP. Whether it can be done is found first, and memory taken only where it can. An

@@ -58,6 +58,6 @@ pub struct ServerStep {
     /// How many entries it adds to the journal.
     pub entries: u32,
     /// Whether memory ran out. A call is then answered SYSTEM_ERR, a connection is told so, and
-    /// nothing else is done.
+    /// nothing else is done; or all is done but that places are missing in the index of chunks.
     pub missed: bool,
 }

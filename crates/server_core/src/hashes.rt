@@ -1,19 +1,20 @@
 //! What a GETHASH is told: the chunks of a file that meet a range. `specs/Answers.antt` says which.
 
-ghost use Rattle.std.specs.Prelude.{◌≡◌, ◌+◌, ◌≤◌, length, take, drop, map, filter, nat_lt, nat_le, IfOk, OnErr};
+ghost use Rattle.std.specs.Prelude.{◌≡◌, ◌+◌, ◌≤◌, length, take, drop, map, filter, nat_lt, nat_le, IfOk, OnErr, true, false};
 ghost use Rattle.std.specs.List.{All};
 ghost use Rattle.std.specs.List.Sorted.{IsNonDecreasingBy};
 ghost use Rattle.std.specs.Map.{values_of};
 ghost use Rattle.chunk_cut.specs.Places.{end_of};
 ghost use Rattle.temp_files.specs.Pieces.{size_most};
-ghost use Rattle.server_core.specs.Answers.{node_of, told_chunks, pair_of, hashes_of, hash_answer};
+ghost use Rattle.server_core.specs.Answers.{node_of, told_chunks, chunks_told, pair_of, hashes_of, hash_answer};
 ghost use Rattle.server_core.specs.Chunks.{ends_behind, begins_before, IsWithin};
-ghost use Rattle.server_core.specs.Step.{IsFileBounded, IsFile};
+ghost use Rattle.server_core.specs.Step.{IsFileBounded, IsFile, with_told, MayLack};
 
 use crate::answers::{self, ROOT};
 use crate::chunked::Chunked;
 use crate::file::File;
 use chunk_cut::chunk::Chunk;
+use chunk_index::index::Index;
 use hash_calls::call::{HashRange, Hashes, Pair};
 use lb_base::items::Items;
 use limits::PAIRS_MOST;
@@ -126,4 +127,23 @@ pub fn hash_answer(
     };
     let hashes = hashes_of(alloc, file, range)?;
     Ok(Answer::Done(hashes))
+}
+
+/// Puts the chunks that a GETHASH is told into the index. A place for which memory is wanting is
+/// left out; says whether one was.
+pub fn enter_told(index: &mut Index, files: &BTreeMap<u64, File>, range: &HashRange) -> bool
+    requires { All IsFileBounded (values_of files.now.entries) }
+    ensures all { result ≡ false → index.new ≡ with_told index.old (chunks_told (node_of files.now.entries range.now.handle) range.now) }
+    ensures lacks { result ≡ true → MayLack index.old (chunks_told (node_of files.now.entries range.now.handle) range.now) index.new }
+{
+    let Some(id) = range.handle.file_of() else {
+        return false;
+    };
+    if id == ROOT {
+        return false;
+    }
+    let Some(file) = answers::find_file(files, id) else {
+        return false;
+    };
+    chunk_places::enter(index, file.id, told_chunks(&file.content, range))
 }

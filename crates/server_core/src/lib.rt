@@ -12,6 +12,7 @@ pub mod event;
 pub mod file;
 mod hanging;
 mod hashes;
+mod indexing;
 pub mod journal;
 pub mod server;
 mod settling;

@@ -1,12 +1,13 @@
 //! How a change that waits is made. `settles` in `specs/Closing.antt` says it.
 
-ghost use Rattle.std.specs.Prelude.{◌≡◌, ◌+◌, ◌<◌, ◌≤◌, ◌∷◌, ◌++◌, [], length, false, Some, vec_capacity};
+ghost use Rattle.std.specs.Prelude.{◌≡◌, ◌+◌, ◌<◌, ◌≤◌, ◌∷◌, ◌++◌, [], length, false, true, Some, vec_capacity};
 ghost use Rattle.std.specs.List.{All};
 ghost use Rattle.std.specs.Map.{values_of};
 ghost use Rattle.sha1.specs.Sha1.{sha1};
 ghost use Rattle.server_core.specs.declared.journal.EntryKind.TheVariants as entry;
 ghost use Rattle.server_core.specs.Closing.{settles, makes_change, told_change};
 ghost use Rattle.server_core.specs.State.{file_at, bytes_held};
+ghost use Rattle.server_core.specs.Step.{Lacks, chunks_of_change, change_entered};
 ghost use Rattle.server_core.specs.View.{state_of, IsBounded, IsSettling};
 
 use crate::change::Change;
@@ -59,11 +60,12 @@ fn tell_change(
 }
 
 impl ServerState {
-    /// The change that came first is made, if one waits. It takes no memory.
+    /// The change that came first is made, if one waits. Places of its chunks for which memory is
+    /// wanting are left out of the index, and nothing else.
     pub fn settle(&mut self, alloc: Global, now: u64) -> ServerStep
         requires { IsBounded self.old }
-        ensures exact { settles (state_of self.old) now (state_of self.old).waiting ≡ (state_of self.new, result) }
-        ensures done { result.missed ≡ false }
+        ensures exact { result.missed ≡ false → settles (state_of self.old) now (state_of self.old).waiting ≡ (state_of self.new, result) }
+        ensures lacks { result.missed ≡ true → Lacks (state_of self.old).index (chunks_of_change (state_of self.old) (state_of self.old).waiting) (settles (state_of self.old) now (state_of self.old).waiting) (state_of self.new) result }
         ensures bounded { IsBounded self.new }
     {
         if self.waiting.is_empty() {
@@ -77,8 +79,8 @@ impl ServerState {
     /// A change that has left the queue is made, if its file is still there.
     fn make_change(&mut self, alloc: Global, change: Change) -> ServerStep
         requires { IsSettling self.old change }
-        ensures exact { makes_change (state_of self.old) change (file_at (state_of self.old).files change.file) ≡ (state_of self.new, result) }
-        ensures done { result.missed ≡ false }
+        ensures exact { result.missed ≡ false → makes_change (state_of self.old) change (file_at (state_of self.old).files change.file) ≡ (state_of self.new, result) }
+        ensures lacks { result.missed ≡ true → Lacks (state_of self.old).index (change_entered change (file_at (state_of self.old).files change.file)) (makes_change (state_of self.old) change (file_at (state_of self.old).files change.file)) (state_of self.new) result }
         ensures bounded { IsBounded self.new }
     {
         let Some(file) = self.files.get(&change.file) else {
@@ -88,7 +90,8 @@ impl ServerState {
         let id = file.id;
         let version = file.version + 1;
         self.journal.push_reserved(entry_of(&change, id, version));
-        let step = tell_change(
+        let left_out = chunk_places::enter(&mut self.index, id, change.content.chunks());
+        let mut step = tell_change(
             alloc,
             &change,
             1,
@@ -101,6 +104,7 @@ impl ServerState {
         };
         self.bytes_held -= tree::replace(&mut self.files, file);
         self.changes += 1;
+        step.missed = left_out;
         step
     }
 }

@@ -10,7 +10,8 @@ ghost use Rattle.wire.specs.declared.message.Body.TheVariants as body;
 ghost use Rattle.wire.specs.declared.message.Message.TheVariants as message;
 ghost use Rattle.wire.specs.declared.message.RpcRefusal.TheVariants as refusal;
 ghost use Rattle.server_core.specs.Closing.{at, sends, to};
-ghost use Rattle.server_core.specs.Step.{server_step, called, got, got_if, stands, connect, has_room, opens_with, IsFileBounded, IsTimed, missed_at, missed_step, TakesMemory, MayMiss};
+ghost use Rattle.server_core.specs.Answers.{node_of, chunks_told};
+ghost use Rattle.server_core.specs.Step.{server_step, called, got, got_if, stands, connect, has_room, opens_with, tells_hashes, chunks_called, IsFileBounded, IsTimed, missed_call, TakesMemory, Lacks, MissesCall, Misses};
 ghost use Rattle.server_core.specs.View.{state_of, IsBounded};
 ghost use Rattle.server_core.specs.declared.event.Event.TheVariants as event;
 ghost use Rattle.server_core.specs.declared.event.Told.TheVariants as told;
@@ -22,6 +23,7 @@ use crate::journal::Entry;
 use crate::steps::{self, answer, refuse};
 use crate::tree::{self, Files};
 use crate::{answers, hashes};
+use chunk_index::index::Index;
 use hash_calls::call::HashRange;
 use hash_calls::message::Lb;
 use limits::{SESSIONS_EVER_MOST, SESSIONS_MOST};
@@ -30,6 +32,7 @@ use nfs3_calls::message::Nfs;
 use std::alloc::{AllocError, Global};
 use temp_files::temps::Temps;
 use wire::message::{Body, Message, RpcRefusal};
+use xdr_codec::handle::Handle;
 
 /// A server's fields.
 #[derive(Drop)]
@@ -42,6 +45,8 @@ pub struct ServerState {
     pub journal: Vec<Entry>,
     /// The temporary files of all sessions.
     pub temps: Temps,
+    /// Where the bytes of a digest may be found.
+    pub index: Index,
     /// The changes that wait, in the order of their arrival.
     pub waiting: Vec<Change>,
     /// The bytes of all contents together, and of the changes that wait.
@@ -87,9 +92,7 @@ impl ServerState {
         requires bounded { IsBounded self.old }
         requires timed { IsTimed event }
         ensures exact { result.missed ≡ false → server_step (state_of self.old) event ≡ (state_of self.new, result) }
-        ensures missed { result.missed ≡ true → state_of self.new ≡ missed_at (state_of self.old) event }
-        ensures said { result.missed ≡ true → result ≡ missed_step event }
-        ensures sure { result.missed ≡ true → MayMiss (state_of self.old) event }
+        ensures missed { result.missed ≡ true → Misses (state_of self.old) event (state_of self.new) result }
         ensures bounded { IsBounded self.new }
     {
         match event {
@@ -134,9 +137,7 @@ impl ServerState {
     fn got(&mut self, alloc: Global, session: u32, message: &mut Message, now: u64) -> ServerStep
         requires { IsBounded self.old }
         ensures exact { result.missed ≡ false → got_if (state_of self.old) (stands (state_of self.old) session) session message.old now ≡ (state_of self.new, result) }
-        ensures missed { result.missed ≡ true → state_of self.new ≡ at (state_of self.old) now }
-        ensures said { result.missed ≡ true → result ≡ missed_step (event.Got session message.old now) }
-        ensures sure { result.missed ≡ true → MayMiss (state_of self.old) (event.Got session message.old now) }
+        ensures missed { result.missed ≡ true → Misses (state_of self.old) (event.Got session message.old now) (state_of self.new) result }
         ensures bounded { IsBounded self.new }
     {
         if !stands(&self.sessions, session) {
@@ -151,13 +152,11 @@ impl ServerState {
     }
 
     /// A call of a session that stands. Where memory is wanting it is refused, and all stays as it
-    /// was.
+    /// was, but for a look-up; or places are left out of the index.
     fn call(&mut self, alloc: Global, session: u32, xid: u32, body: &mut Body) -> ServerStep
         requires { IsBounded self.old }
         ensures exact { result.missed ≡ false → called (state_of self.old) session xid body.old ≡ (state_of self.new, result) }
-        ensures missed { result.missed ≡ true → state_of self.new ≡ state_of self.old }
-        ensures said { result.missed ≡ true → result ≡ record (to session (message.Refuse xid refusal.SystemErr)) { missed = true } }
-        ensures sure { result.missed ≡ true → TakesMemory (state_of self.old) session body.old }
+        ensures missed { result.missed ≡ true → MissesCall (state_of self.old) session xid body.old (state_of self.new) result }
         ensures bounded { IsBounded self.new }
     {
         match self.try_call(alloc, session, xid, body) {
@@ -166,7 +165,8 @@ impl ServerState {
         }
     }
 
-    /// A call of a session that stands. An `Err` changes nothing.
+    /// A call of a session that stands. An `Err` changes nothing, but for a
+    /// look-up.
     fn try_call(
         &mut self,
         alloc: Global,
@@ -175,9 +175,9 @@ impl ServerState {
         body: &mut Body,
     ) -> Result<ServerStep, AllocError>
         requires { IsBounded self.old }
-        ensures ok { IfOk result (λ o. called (state_of self.old) session xid body.old ≡ (state_of self.new, o)) }
-        ensures done { IfOk result (λ o. o.missed ≡ false) }
-        ensures err { OnErr result (state_of self.new ≡ state_of self.old) }
+        ensures ok { IfOk result (λ o. o.missed ≡ false → called (state_of self.old) session xid body.old ≡ (state_of self.new, o)) }
+        ensures lacks { IfOk result (λ o. o.missed ≡ true → Lacks (state_of self.old).index (chunks_called (state_of self.old) body.old) (called (state_of self.old) session xid body.old) (state_of self.new) o) }
+        ensures err { OnErr result (state_of self.new ≡ missed_call (state_of self.old) body.old) }
         ensures takes { OnErr result (TakesMemory (state_of self.old) session body.old) }
         ensures bounded { IsBounded self.new }
     {
@@ -188,7 +188,7 @@ impl ServerState {
         }
     }
 
-    /// A call of LBFS. An `Err` changes nothing.
+    /// A call of LBFS. An `Err` changes nothing, but for a look-up.
     fn call_lbfs(
         &mut self,
         alloc: Global,
@@ -197,38 +197,54 @@ impl ServerState {
         call: &mut Lb,
     ) -> Result<ServerStep, AllocError>
         requires { IsBounded self.old }
-        ensures ok { IfOk result (λ o. called (state_of self.old) session xid (body.Lb call.old) ≡ (state_of self.new, o)) }
-        ensures done { IfOk result (λ o. o.missed ≡ false) }
-        ensures err { OnErr result (state_of self.new ≡ state_of self.old) }
+        ensures ok { IfOk result (λ o. o.missed ≡ false → called (state_of self.old) session xid (body.Lb call.old) ≡ (state_of self.new, o)) }
+        ensures lacks { IfOk result (λ o. o.missed ≡ true → Lacks (state_of self.old).index (chunks_called (state_of self.old) (body.Lb call.old)) (called (state_of self.old) session xid (body.Lb call.old)) (state_of self.new) o) }
+        ensures err { OnErr result (state_of self.new ≡ missed_call (state_of self.old) (body.Lb call.old)) }
         ensures takes { OnErr result (TakesMemory (state_of self.old) session (body.Lb call.old)) }
         ensures bounded { IsBounded self.new }
     {
         match call {
             Lb::Null => Ok(answer(alloc, session, xid, Body::Lb(Lb::NullAnswer))),
+            Lb::GetLease(handle) => Ok(self.tell_lease(alloc, session, xid, handle)),
             Lb::GetHash(range) => self.tell_hashes(alloc, session, xid, range),
             Lb::MkTmpFile(new) => self.make_temp(alloc, session, xid, new),
             Lb::TmpWrite(piece) => self.write_temp(alloc, session, xid, piece),
-            Lb::CondWrite(piece) => Ok(self.cond_write(alloc, session, xid, piece)),
+            Lb::CondWrite(piece) => self.cond_write(alloc, session, xid, piece),
             Lb::CommitTmp(commit) => self.commit(alloc, session, xid, commit),
             _ => Ok(refuse(alloc, session, xid, RpcRefusal::ProcUnavail)),
         }
     }
 
-    /// A GETHASH.
+    /// A GETLEASE.
+    fn tell_lease(&self, alloc: Global, session: u32, xid: u32, handle: &Handle) -> ServerStep
+        requires { IsBounded self.now }
+        ensures ok { called (state_of self.now) session xid (body.Lb (lb.GetLease handle.now)) ≡ (state_of self.now, result) }
+        ensures done { result.missed ≡ false }
+    {
+        let told = answers::lease_answer(&self.files, handle);
+        answer(alloc, session, xid, Body::Lb(Lb::GetLeaseAnswer(told)))
+    }
+
+    /// A GETHASH. An `Err` changes nothing.
     fn tell_hashes(
-        &self,
+        &mut self,
         alloc: Global,
         session: u32,
         xid: u32,
         range: &HashRange,
     ) -> Result<ServerStep, AllocError>
-        requires { IsBounded self.now }
-        ensures ok { IfOk result (λ o. called (state_of self.now) session xid (body.Lb (lb.GetHash range.now)) ≡ (state_of self.now, o)) }
-        ensures done { IfOk result (λ o. o.missed ≡ false) }
-        ensures takes { OnErr result (TakesMemory (state_of self.now) session (body.Lb (lb.GetHash range.now))) }
+        requires { IsBounded self.old }
+        ensures ok { IfOk result (λ o. o.missed ≡ false → tells_hashes (state_of self.old) session xid range.now (node_of (state_of self.old).files range.now.handle) ≡ (state_of self.new, o)) }
+        ensures lacks { IfOk result (λ o. o.missed ≡ true → Lacks (state_of self.old).index (chunks_told (node_of (state_of self.old).files range.now.handle) range.now) (tells_hashes (state_of self.old) session xid range.now (node_of (state_of self.old).files range.now.handle)) (state_of self.new) o) }
+        ensures err { OnErr result (state_of self.new ≡ state_of self.old) }
+        ensures takes { OnErr result (TakesMemory (state_of self.old) session (body.Lb (lb.GetHash range.now))) }
+        ensures bounded { IsBounded self.new }
     {
         let told = hashes::hash_answer(alloc, &self.files, range)?;
-        Ok(answer(alloc, session, xid, Body::Lb(Lb::GetHashAnswer(told))))
+        let left_out = hashes::enter_told(&mut self.index, &self.files, range);
+        let mut step = answer(alloc, session, xid, Body::Lb(Lb::GetHashAnswer(told)));
+        step.missed = left_out;
+        Ok(step)
     }
 
     /// A call of NFS, none of which changes anything here.

@@ -2,7 +2,7 @@ use Rattle.std.proofs.Common.{◌≡◌, Option, Some, List, ℕ, ◌∙◌, sym
 use Rattle.std.specs.Prelude.{is_some}
 use Rattle.std.specs.Option.{option_copied}
 use Rattle.chunk_cut.specs.Chunks.{chunks_of}
-use Rattle.temp_files.specs.Pieces.{Piece, all_bytes}
+use Rattle.temp_files.specs.Pieces.{all_bytes}
 use Rattle.temp_files.specs.Temps.{Temp, temp_at, whole_of, assembled}
 use Rattle.temp_files.proofs.Joins.{whole_length}
 use Rattle.server_core.proofs.Closes.{whole_bytes}
@@ -14,7 +14,7 @@ cut_pieces-requires c =
     let size = c.args.commit.now.size in
     let at : temp_at c.args.temps.now c.args.session c.args.commit.now.fd ≡ Some t = sym c.find.ensures ∙ ap option_copied c.in-Some.is in
     let whole : is_some (assembled t size) ≡ true = ap (λ (o : Option Temp). is_some (whole_of o size)) (sym at) ∙ c.requires.whole in
-    omega (arith, whole_length size t.pieces whole, ap (λ (ps : List Piece). length (all_bytes ps)) c.pieces.ensures, c.requires.size)
+    omega (arith, whole_length size t.pieces whole, ap length c.parts.ensures, c.requires.size)
 
 pub with_chunks-requires : goal.with_chunks-requires
 with_chunks-requires c =
@@ -22,4 +22,4 @@ with_chunks-requires c =
     let size = c.args.commit.now.size in
     let at : temp_at c.args.temps.now c.args.session c.args.commit.now.fd ≡ Some t = sym c.find.ensures ∙ ap option_copied c.in-Some.is in
     let bytes : c.in-Ok-Some.bytes ≡ all_bytes t.pieces = whole_bytes t size c.in-Ok-Some.bytes (sym c.in-Ok-Some.field-0-is ∙ c.in-Ok-Some.ensures.exact ∙ ap (λ (o : Option Temp). whole_of o size) at) in
-    c.in_ok-chunks.ensures ∙ ap (λ (ps : List Piece). chunks_of (all_bytes ps)) c.pieces.ensures ∙ ap (λ (b : List ℕ). chunks_of b) (sym bytes)
+    c.in_ok-chunks.ensures ∙ ap (λ (b : List ℕ). chunks_of b) (sym c.parts.ensures ∙ sym bytes)

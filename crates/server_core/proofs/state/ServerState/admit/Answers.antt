@@ -1,5 +1,5 @@
-use Rattle.std.proofs.Common.{◌≡◌, ◌≤◌, Some, List, ℕ, [], ◌∷◌, ◌++◌, ◌∙◌, ap, sym, subst, length, false, arith}
-use Rattle.temp_files.specs.Temps.{Temps, temp_at, without_temp, whole_of}
+use Rattle.std.proofs.Common.{◌≡◌, List, ℕ, [], ◌∷◌, ◌++◌, ◌∙◌, ap, sym, length, arith}
+use Rattle.temp_files.specs.Temps.{Temps, temp_at, whole_of}
 use Rattle.temp_files.proofs.Entries.{some_same}
 use Rattle.server_core.specs.Asking.{admits}
 use Rattle.server_core.specs.Closing.{is_full}

@@ -1,4 +1,4 @@
-use Rattle.std.proofs.Common.{◌≡◌, Some, ◌∙◌, ap, sym, subst, true, Option}
+use Rattle.std.proofs.Common.{◌≡◌, Some, ◌∙◌, ap, sym, Option}
 use Rattle.std.specs.Prelude.{is_some}
 use Rattle.std.specs.Option.{option_copied}
 use Rattle.temp_files.specs.Temps.{Temp, temp_at, whole_of, assembled}

@@ -1,18 +1,22 @@
-use Rattle.std.proofs.Common.{◌≡◌, ℕ, ◌+◌, ◌≤◌, List, [], ◌∷◌, length, Option, Some, refl, ap, sym, subst, arith, length-append}
+use Rattle.std.proofs.Common.{◌≡◌, ℕ, ◌+◌, ◌≤◌, List, [], ◌∷◌, ◌++◌, length, Option, Some, refl, ap, sym, ◌∙◌, subst, arith, length-append}
 use Rattle.std.specs.BTreeMap.{is_at}
 use Rattle.std.specs.List.{All}
 use Rattle.std.specs.Map.{values_of}
 use Rattle.std.specs.Option.{IsSome, IfSome}
 use Rattle.std.specs.Ordering.{nat_cmp}
 use Rattle.std.proofs.lemmas.Map.Views.{IfSome-lookup_from_All}
+use Rattle.chunk_cut.specs.declared.chunk.Chunk.{Chunk}
+use Rattle.chunk_places.specs.Places.{indexed, LeavesOut}
 use Rattle.server_core.specs.declared.file.File.{File}
+use Rattle.server_core.specs.declared.journal.Entry.{Entry}
 use Rattle.server_core.specs.Closing.{changed}
 use Rattle.server_core.specs.State.{file_at, with_file}
 use Rattle.server_core.specs.Step.{IsFileBounded}
-use Rattle.server_core.specs.View.{IsFileKeyed, IsVersioned}
+use Rattle.server_core.specs.View.{state_of, IsFileKeyed, IsVersioned}
 use Rattle.temp_files.proofs.Entries.{All-at}
 use Rattle.server_core.proofs.Files.{All-with_file}
 use Rattle.server_core.proofs.Making.{versions_more}
+use Rattle.server_core.proofs.Missing.{made_all, made_some}
 use Rattle.server_core.proofs.state.ServerState.make_change.Goals as goal
 
 pub replace-requires-clause-there : goal.replace-requires-clause-there
@@ -42,3 +46,19 @@ returns-clause-bounded c =
       bytes_held = omega (arith, c.replace.ensures.size, c.requires.bytes_held);
       room = omega (arith, c.requires.room, ap length c.push_reserved.ensures.items, length-append c.args.self.now.journal.items (c.entry_of.result ∷ []), c.push_reserved.ensures.capacity);
     }
+
+pub returns-clause-exact : goal.returns-clause-exact
+returns-clause-exact c none =
+    let s = state_of c.args.self.now in
+    let f = c.in-Some.file.now in
+    made_all s c.args.change f c.replace.new.files.entries c.push_reserved.new.self.items c.enter-left_out.new.index c.enter-left_out.result c.tell_change-step.result
+    (sym c.in-Some.ensures.value) c.replace.ensures.replaced (c.push_reserved.ensures.items ∙ ap (λ (e : Entry). s.journal ++ e ∷ []) c.entry_of.ensures)
+    (c.enter-left_out.ensures.all none ∙ ap (λ (cs : List Chunk). indexed s.index f.id cs) c.chunks.ensures) c.tell_change-step.ensures none
+
+pub returns-clause-lacks : goal.returns-clause-lacks
+returns-clause-lacks c some =
+    let s = state_of c.args.self.now in
+    let f = c.in-Some.file.now in
+    made_some s c.args.change f c.replace.new.files.entries c.push_reserved.new.self.items c.enter-left_out.new.index c.enter-left_out.result c.tell_change-step.result
+    (sym c.in-Some.ensures.value) c.replace.ensures.replaced (c.push_reserved.ensures.items ∙ ap (λ (e : Entry). s.journal ++ e ∷ []) c.entry_of.ensures)
+    (subst (λ (cs : List Chunk). LeavesOut s.index f.id cs c.enter-left_out.new.index) c.chunks.ensures c.enter-left_out.ensures.lacks) c.tell_change-step.ensures some
