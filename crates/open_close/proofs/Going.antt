@@ -1,11 +1,22 @@
--- A close goes on with all calls that may be under way, whatever their number is.
+-- A close, or a fetch, goes on with all calls that may be under way, whatever their number is.
 use Rattle.std.proofs.Common.{◌≡◌, ℕ, List, Bool, sym, ap, ◌∙◌}
 use Rattle.open_close.specs.Closing.{Names, names_all, is_stored}
 use Rattle.open_close.specs.State.{State}
-use Rattle.open_close.specs.Step.{goes_if, goes_on}
+use Rattle.open_close.specs.Caching.{found_all}
+use Rattle.open_close.specs.Opening.{Reads, reads_all, is_here, looked_up}
+use Rattle.open_close.specs.Step.{goes_if, goes_on, reads_if, reads_on}
+use Rattle.open_close.specs.declared.task.Fetch.{Fetch}
+use Rattle.wire.specs.declared.message.Pending.{Pending}
 use Rattle.open_close.specs.declared.step.ClientStep.{ClientStep}
 use Rattle.open_close.specs.declared.task.Store.{Store}
 
 -- with these calls, where all chunks are stored with them or aren't
 pub goes_named : (s : State) (file : ℕ) (content : List ℕ) (st : Store) (n : Names) (b : Bool) → n ≡ names_all st s.next → is_stored n.store ≡ b → goes_on s file content st ≡ goes_if s file content n b
 goes_named s file content st n b e f = sym (ap (λ (m : Names). goes_if s file content m (is_stored m.store)) e) ∙ ap (goes_if s file content n) f
+
+-- a fetch with these READs, where all chunks are here with them or aren't
+pub reads_named : (s : State) (calls : List Pending) (file xid : ℕ) (f : Fetch) (bytes : ℕ) (r : Reads) (b : Bool) → r ≡ reads_all s.cache s.index file f s.next → is_here r.fetch ≡ b
+    → reads_on s calls file xid f bytes ≡ reads_if (record s { index = found_all s.index (looked_up f r) }) calls file xid r bytes b
+reads_named s calls file xid f bytes r b e h =
+    sym (ap (λ (m : Reads). reads_if (record s { index = found_all s.index (looked_up f m) }) calls file xid m bytes (is_here m.fetch)) e)
+    ∙ ap (reads_if (record s { index = found_all s.index (looked_up f r) }) calls file xid r bytes) h

@@ -1,8 +1,10 @@
 pub mod Bounds
+pub mod Comings
 pub mod Cuts
 pub mod Edits
 pub mod Ends
 mod Going
+pub mod Keeping
 pub mod Locals
 pub mod Pending
 pub mod Pieces

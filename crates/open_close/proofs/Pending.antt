@@ -7,7 +7,10 @@ use Rattle.std.proofs.lemmas.List.Elements.{filter-append}
 use Rattle.wire.specs.declared.message.Pending.{Pending}
 use Rattle.open_close.specs.declared.state.ClientState.{ClientState}
 use Rattle.open_close.specs.State.{pending, has_call, without_call}
-use Rattle.open_close.specs.View.{IsHeld, IsSound}
+use Rattle.std.specs.List.{All}
+use Rattle.chunk_index.specs.Index.{Indexed}
+use Rattle.client_cache.specs.Cache.{Entries}
+use Rattle.open_close.specs.View.{TaskIsThere, IsKeptBounded, IsHeld, IsSound}
 
 pub drop_front : (xs ys : List Pending) (n : ℕ) → n ≡ length xs → drop n (xs ++ ys) ≡ ys
 drop_front xs ys n e = ap (λ k. drop k (xs ++ ys)) e ∙ drop-append_seam xs ys
@@ -42,6 +45,25 @@ others_stay own calls n xid e is other =
 pub held_of : (s : ClientState) → IsSound s → s.task ≡ None → IsHeld s
 held_of s h e = record { base = h.base; task = e }
 
+-- another index, or another cache, is held as well
+pub held_index : (s : ClientState) (index : Indexed) → IsHeld s → IsHeld (record s { index = index })
+held_index s index h = let b = h.base in record { base = record { side = b.side; own = b.own; next = b.next; temps = b.temps; ids = b.ids; locals = b.locals; kept = b.kept }; task = h.task }
+
+pub held_cache : (s : ClientState) (cache : Entries) → IsHeld s → All IsKeptBounded cache → IsHeld (record s { cache = cache })
+held_cache s cache h kept = let b = h.base in record { base = record { side = b.side; own = b.own; next = b.next; temps = b.temps; ids = b.ids; locals = b.locals; kept = kept }; task = h.task }
+
+-- and so is another cache sound, where the file under way has its entry
+pub sound_cache : (s : ClientState) (cache : Entries) → IsSound s → All IsKeptBounded cache → TaskIsThere cache s.task → IsSound (record s { cache = cache })
+sound_cache s cache h kept there =
+    let b = h.base in
+    record { base = record { side = b.side; own = b.own; next = b.next; temps = b.temps; ids = b.ids; locals = b.locals; kept = kept }; calls = h.calls; own = h.own; xids = h.xids; within = h.within; there = there }
+
+-- nor does another index matter
+pub sound_index : (s : ClientState) (index : Indexed) → IsSound s → IsSound (record s { index = index })
+sound_index s index h =
+    let b = h.base in
+    record { base = record { side = b.side; own = b.own; next = b.next; temps = b.temps; ids = b.ids; locals = b.locals; kept = b.kept }; calls = h.calls; own = h.own; xids = h.xids; within = h.within; there = h.there }
+
 -- ---- an answer to a call that is forgotten is dropped
 
 -- the calls of the operation under way, and those that are still forgotten
@@ -59,9 +81,10 @@ dropped_sound s calls xid h other e =
     let n : length calls ≡ length (pending s.task ++ without_call (drop s.own s.waiting.calls) xid) = ap length is in
     let fits = front_fits (pending s.task) (without_call (drop s.own s.waiting.calls) xid) s.own h.own in
     record {
-      base = record { side = h.base.side; own = (let le : s.own ≤ length calls = omega (arith, n, fits) in le); next = h.base.next; temps = h.base.temps; ids = h.base.ids; locals = h.base.locals };
+      base = record { side = h.base.side; own = (let le : s.own ≤ length calls = omega (arith, n, fits) in le); next = h.base.next; temps = h.base.temps; ids = h.base.ids; locals = h.base.locals; kept = h.base.kept };
       calls = is ∙ ap (λ cs. pending s.task ++ cs) (sym rest);
       own = h.own;
       xids = h.xids;
       within = h.within;
+      there = h.there;
     }

@@ -1,6 +1,6 @@
 -- The calls that may still go out, through what a step sends.
-use Rattle.std.proofs.Common.{◌≡◌, refl, sym, ap, ℕ, suc, ◌+◌, ◌-◌, ◌<◌, ◌≤◌, ◌^◌, ◌==◌, List, [], ◌∷◌, ◌++◌, length, Bool, true, false, not, arith}
-use Rattle.std.specs.Prelude.{Option, Some, None, cond, slice_get}
+use Rattle.std.proofs.Common.{◌≡◌, refl, sym, ap, ◌∙◌, ℕ, suc, ◌+◌, ◌-◌, ◌<◌, ◌≤◌, ◌^◌, ◌==◌, List, [], ◌∷◌, ◌++◌, length, Bool, true, false, not, arith}
+use Rattle.std.specs.Prelude.{Option, Some, None, cond, nat_lt, slice_get, slice_set}
 use Rattle.std.proofs.lemmas.List.{length-append}
 use Rattle.std.proofs.lemmas.Option.{slice_get_within}
 use Rattle.wire.specs.declared.message.Message.{Message}
@@ -10,36 +10,87 @@ use Rattle.open_close.specs.declared.task.Store.{Store}
 use Rattle.open_close.specs.declared.task.StoreCall.{StoreCall}
 use Rattle.open_close.specs.declared.task.Way.TheVariants as way
 use Rattle.open_close.specs.Closing.{Names, names_next, names_more, store_at, without_store, answered, with_whole, cond_call}
-use Rattle.open_close.specs.Opening.{Reads, reads_next, reads_more, read_call}
-use Rattle.open_close.specs.View.{IsStore, IsSendingReads, IsSendingNames, HasXids, calls_after, calls_after_all, store_left}
+use Rattle.chunk_index.specs.Index.{Indexed}
+use Rattle.client_cache.specs.Cache.{Entries}
+use Rattle.open_close.specs.Caching.{from_index}
+use Rattle.open_close.specs.Opening.{calls_most, Reads, reads_from, reads_chunk, reads_next, reads_more, read_call}
+use Rattle.open_close.specs.declared.task.Fetch.{Fetch}
+use Rattle.open_close.specs.declared.task.ReadCall.{ReadCall}
+use Rattle.open_close.proofs.Keeping.{kept_length}
+use Rattle.open_close.proofs.Slots.{set_fits}
+use Rattle.open_close.specs.View.{FitsIn, IsReading, IsStore, IsSendingReads, IsSendingNames, HasXids, calls_after, calls_after_all, store_left}
 
 -- ---- one more READ
 
 pushed : (ms : List Message) (m : Message) → length (ms ++ m ∷ []) ≡ length ms + 1
 pushed ms m = length-append ms (m ∷ [])
 
-pub reads_kept : (file asked next : ℕ) (r : Reads) → IsSendingReads asked next r → IsSendingReads asked next (reads_next file r (slice_get r.fetch.chunks r.fetch.asked))
-reads_kept file asked next r h = by (slice_get r.fetch.chunks r.fetch.asked) refl
+-- before any
+pub sending_first : (f : Fetch) (next : ℕ) → IsReading f → HasXids next (stage.Reading f) → IsSendingReads f next (reads_from f next)
+sending_first f next within xids = record {
+  within = within;
+  xids = xids;
+  rises = (let le : next ≤ next = omega arith in le);
+  counted = (let e : length f.under ≡ length f.under + 0 = omega arith in e);
+  further = (let le : f.asked ≤ f.asked = omega arith in le);
+  chunks = refl;
+}
+
+pub reads_kept : (cache : Entries) (index : Indexed) (file : ℕ) (f : Fetch) (next : ℕ) (r : Reads) → IsSendingReads f next r → IsSendingReads f next (reads_next cache index file r (slice_get r.fetch.chunks r.fetch.asked))
+reads_kept cache index file f next r h = by (slice_get r.fetch.chunks r.fetch.asked) refl
   where
-    by : (o : Option Chunk) → slice_get r.fetch.chunks r.fetch.asked ≡ o → IsSendingReads asked next (reads_next file r o)
+    by : (o : Option Chunk) → slice_get r.fetch.chunks r.fetch.asked ≡ o → IsSendingReads f next (reads_next cache index file r o)
     by None e = h
-    by (Some c) e =
-        let k = h.within.0 in
-        let lt = slice_get_within r.fetch.chunks r.fetch.asked c e in
-        record {
-          within = (record { sum = k.sum; size = k.size; limit = k.limit; few = k.few; lens = k.lens; tries = k.tries }, h.within.1, let le : r.fetch.asked + 1 ≤ length r.fetch.chunks = omega (arith, lt) in le);
+    by (Some c) e = chunk (from_index cache index c) refl
+      where
+        lt : r.fetch.asked < length r.fetch.chunks
+        lt = slice_get_within r.fetch.chunks r.fetch.asked c e
+
+        within : (slots : List (Option (List ℕ))) (under : List ReadCall) → FitsIn slots r.fetch.chunks → IsReading (record r.fetch { asked = r.fetch.asked + 1; under = under; slots = slots })
+        within slots under fits =
+            let k = h.within.0 in
+            (record { sum = k.sum; size = k.size; limit = k.limit; few = k.few; lens = k.lens; tries = k.tries }, fits, let le : r.fetch.asked + 1 ≤ length r.fetch.chunks = omega (arith, lt) in le)
+
+        chunk : (o : Option (List ℕ)) → from_index cache index c ≡ o → IsSendingReads f next (reads_chunk file r c o)
+        chunk (Some b) at = record {
+          within = within (slice_set r.fetch.slots r.fetch.asked (Some b)) r.fetch.under (set_fits r.fetch.slots r.fetch.chunks r.fetch.asked c b h.within.1 e (kept_length cache index c b at));
+          xids = (let x = h.xids in omega (arith, x, lt));
+          rises = h.rises;
+          counted = h.counted;
+          further = (let x = h.further in omega (arith, x));
+          chunks = h.chunks;
+        }
+        chunk None at = record {
+          within = within r.fetch.slots (r.fetch.under ++ record { xid = r.next; index = r.fetch.asked } ∷ []) h.within.1;
           xids = (let x = h.xids in omega (arith, x, lt));
           rises = (let x = h.rises in omega (arith, x));
-          counted = (let x = h.counted in let p = pushed r.send (read_call r.next file c) in omega (arith, x, p));
+          counted = (let x = h.counted in let p = pushed r.send (read_call r.next file c) in let q = length-append r.fetch.under (record { xid = r.next; index = r.fetch.asked } ∷ []) in omega (arith, x, p, q));
+          further = (let x = h.further in omega (arith, x));
+          chunks = h.chunks;
         }
 
--- where there is room for one, its xid has room
-pub read_xid : (asked next : ℕ) (r : Reads) → IsSendingReads asked next r → r.next + 1 < 2 ^ 32
-read_xid asked next r h = let x = h.xids in omega (arith, x)
+-- a chunk that is there, with what the index gives of it
+pub next_is : (cache : Entries) (index : Indexed) (file : ℕ) (r : Reads) (o : Option Chunk) (c : Chunk) (kept : Option (List ℕ)) → o ≡ Some c → kept ≡ from_index cache index c → reads_chunk file r c kept ≡ reads_next cache index file r o
+next_is cache index file r o c kept e h = ap (reads_chunk file r c) h ∙ ap (reads_next cache index file r) (sym e)
 
--- so many READs, after one of them
-pub reads_step : (file : ℕ) (r : Reads) (k i : ℕ) → i < k → reads_more (k - (i + 1)) file (reads_next file r (slice_get r.fetch.chunks r.fetch.asked)) ≡ reads_more (k - i) file r
-reads_step file r k i lt = let e : k - i ≡ suc (k - (i + 1)) = omega (arith, lt) in ap (λ n. reads_more n file r) (sym e)
+-- where there is room for one, its xid has room
+pub read_xid : (f : Fetch) (next : ℕ) (r : Reads) → IsSendingReads f next r → r.next + 1 < 2 ^ 32
+read_xid f next r h = let x = h.xids in omega (arith, x)
+
+-- so many chunks, after one of them
+pub reads_step : (cache : Entries) (index : Indexed) (file : ℕ) (r : Reads) (k i : ℕ) → i < k → nat_lt (length r.fetch.under) calls_most ≡ true
+    → reads_more (k - (i + 1)) cache index file (reads_next cache index file r (slice_get r.fetch.chunks r.fetch.asked)) ≡ reads_more (k - i) cache index file r
+reads_step cache index file r k i lt room =
+    let e : k - i ≡ suc (k - (i + 1)) = omega (arith, lt) in
+    let goes : (b : Bool) → Reads = λ b. cond b (reads_more (k - (i + 1)) cache index file (reads_next cache index file r (slice_get r.fetch.chunks r.fetch.asked))) r in
+    ap goes (sym room) ∙ ap (λ n. reads_more n cache index file r) (sym e)
+
+-- and none where no more may be under way
+pub reads_full : (cache : Entries) (index : Indexed) (file : ℕ) (r : Reads) (k i : ℕ) → i < k → nat_lt (length r.fetch.under) calls_most ≡ false → r ≡ reads_more (k - i) cache index file r
+reads_full cache index file r k i lt full =
+    let e : k - i ≡ suc (k - (i + 1)) = omega (arith, lt) in
+    let goes : (b : Bool) → Reads = λ b. cond b (reads_more (k - (i + 1)) cache index file (reads_next cache index file r (slice_get r.fetch.chunks r.fetch.asked))) r in
+    ap goes (sym full) ∙ ap (λ n. reads_more n cache index file r) (sym e)
 
 -- ---- one more CONDWRITE
 

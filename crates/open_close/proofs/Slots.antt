@@ -55,7 +55,7 @@ slot_there f i c h e =
 none_some : {c : Chunk} → None ≡ Some c → ⊥
 none_some e = cc
 
-set_fits : (slots : List (Option (List ℕ))) (cs : List Chunk) (i : ℕ) (c : Chunk) (b : List ℕ) → FitsIn slots cs → slice_get cs i ≡ Some c → length b ≡ c.len → FitsIn (slice_set slots i (Some b)) cs
+pub set_fits : (slots : List (Option (List ℕ))) (cs : List Chunk) (i : ℕ) (c : Chunk) (b : List ℕ) → FitsIn slots cs → slice_get cs i ≡ Some c → length b ≡ c.len → FitsIn (slice_set slots i (Some b)) cs
 set_fits [] [] i c b h e l = absurd (none_some e)
 set_fits [] (d ∷ cs) i c b h e l = absurd h
 set_fits (None ∷ slots) [] i c b h e l = absurd h

@@ -13,6 +13,7 @@ use Rattle.open_close.specs.declared.task.ReadCall.{ReadCall}
 use Rattle.open_close.specs.declared.task.Stage.{Stage}
 use Rattle.open_close.specs.declared.task.Stage.TheVariants as stage
 use Rattle.open_close.specs.declared.task.Task.{Task}
+use Rattle.open_close.specs.Looking.{reading, looked_by}
 use Rattle.open_close.specs.Opening.{read_at}
 use Rattle.open_close.specs.State.{State, local_bytes, pending, has_call}
 use Rattle.open_close.specs.Step.{got_step}
@@ -56,7 +57,7 @@ abbrev pub task_named : State → Option Task → List Message → List (List �
 task_named s None ms = []
 task_named s (Some t) ms = named (local_bytes s.opened t.file) ms
 
--- what came was compared, and what goes out is named
+-- what came was compared, then what was found by the index, and what goes out is named
 abbrev pub client_hashed : State → Result Message WireFault → (now : ℕ) → List (List ℕ)
-client_hashed s (Ok m) now = message_compared s.task m ++ task_named s s.task (got_step s (Ok m) now).1.send
+client_hashed s (Ok m) now = message_compared s.task m ++ looked_by s (reading s.task m) ++ task_named s s.task (got_step s (Ok m) now).1.send
 client_hashed s (Err e) now = []

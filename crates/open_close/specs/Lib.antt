@@ -1,6 +1,8 @@
+pub mod Caching
 pub mod State
 pub mod Shape
 pub mod Local
+pub mod Looking
 pub mod Counting
 pub mod Opening
 pub mod Closing

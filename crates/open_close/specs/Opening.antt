@@ -1,5 +1,5 @@
 -- An attempt to fetch a file: GETHASHes until its last chunk is told, then a READ for each chunk.
-use Rattle.std.specs.Prelude.{ℕ, zero, suc, ◌+◌, ◌-◌, ◌*◌, List, [], ◌∷◌, ◌++◌, length, filter, find, not, replicate, slice_get, slice_set, Option, Some, None, Bool, true, false, ◌&&◌, ◌==◌, bytes_eq, if◌then◌else◌}
+use Rattle.std.specs.Prelude.{ℕ, zero, suc, ◌+◌, ◌-◌, ◌*◌, List, [], ◌∷◌, ◌++◌, length, filter, find, not, replicate, slice_get, slice_set, take, drop, nat_lt, Option, Some, None, Bool, true, false, ◌&&◌, ◌==◌, bytes_eq, if◌then◌else◌}
 use Rattle.limits.specs.declared.TheConstants.{ATTEMPTS_MOST}
 use Rattle.sha1.specs.Sha1.{sha1}
 use Rattle.chunk_cut.specs.declared.chunk.Chunk.{Chunk}
@@ -17,6 +17,9 @@ use Rattle.open_close.specs.declared.step.BadPeer.{BadPeer}
 use Rattle.open_close.specs.declared.step.BadPeer.TheVariants as bad
 use Rattle.open_close.specs.declared.task.Fetch.{Fetch}
 use Rattle.open_close.specs.declared.task.ReadCall.{ReadCall}
+use Rattle.chunk_index.specs.Index.{Indexed}
+use Rattle.client_cache.specs.Cache.{Entries}
+use Rattle.open_close.specs.Caching.{from_index}
 use Rattle.open_close.specs.Shape.{with_pairs}
 
 -- The most calls of one operation that are under way at once. It stays shut in a proof that doesn't ask to unfold it, so that none looks at so
@@ -33,6 +36,10 @@ is_none [] = true
 is_none (x ∷ xs) = false
 
 -- ---- the calls
+
+-- for the version of a file whose content is kept
+abbrev pub lease_call : (xid file : ℕ) → Message
+lease_call xid file = message.Call xid (body.Lb (lb.GetLease (handle_bytes file)))
 
 -- for the chunks from a place on
 abbrev pub hash_call : (xid file offset : ℕ) → Message
@@ -59,23 +66,32 @@ listed f = record f { slots = replicate (length f.chunks) None }
 abbrev pub reads_from : Fetch → ℕ → Reads
 reads_from f next = record { fetch = f; next = next; send = [] }
 
--- the chunk is asked for, if it is there
-abbrev pub reads_next : (file : ℕ) → Reads → Option Chunk → Reads
-reads_next file r None = r
-reads_next file r (Some c) = record {
+-- the chunk's bytes are taken from what is kept, or it is asked for
+abbrev pub reads_chunk : (file : ℕ) → Reads → Chunk → (kept : Option (List ℕ)) → Reads
+reads_chunk file r c (Some bytes) = record r { fetch = record r.fetch { asked = r.fetch.asked + 1; slots = slice_set r.fetch.slots r.fetch.asked (Some bytes) } }
+reads_chunk file r c None = record r {
   fetch = record r.fetch { asked = r.fetch.asked + 1; under = r.fetch.under ++ record { xid = r.next; index = r.fetch.asked } ∷ [] };
   next = r.next + 1;
   send = r.send ++ read_call r.next file c ∷ [];
 }
 
--- so many chunks, or as many as there are
-abbrev pub reads_more : ℕ → (file : ℕ) → Reads → Reads
-reads_more zero file r = r
-reads_more (suc k) file r = reads_more k file (reads_next file r (slice_get r.fetch.chunks r.fetch.asked))
+-- the chunk is looked up, if it is there
+abbrev pub reads_next : Entries → Indexed → (file : ℕ) → Reads → Option Chunk → Reads
+reads_next cache index file r None = r
+reads_next cache index file r (Some c) = reads_chunk file r c (from_index cache index c)
 
--- all READs that may be under way beside those that are
-abbrev pub reads_all : (file : ℕ) → Fetch → (next : ℕ) → Reads
-reads_all file f next = reads_more (calls_most - length f.under) file (reads_from f next)
+-- so many chunks, while fewer calls are under way than may be
+abbrev pub reads_more : ℕ → Entries → Indexed → (file : ℕ) → Reads → Reads
+reads_more zero cache index file r = r
+reads_more (suc k) cache index file r = if nat_lt (length r.fetch.under) calls_most then reads_more k cache index file (reads_next cache index file r (slice_get r.fetch.chunks r.fetch.asked)) else r
+
+-- all chunks that are left, or as many as may be asked for
+abbrev pub reads_all : Entries → Indexed → (file : ℕ) → Fetch → (next : ℕ) → Reads
+reads_all cache index file f next = reads_more (length f.chunks - f.asked) cache index file (reads_from f next)
+
+-- the chunks that were looked up by then, one after the other
+abbrev pub looked_up : Fetch → Reads → List Chunk
+looked_up f r = take (r.fetch.asked - f.asked) (drop f.asked r.fetch.chunks)
 
 -- all chunks are here
 abbrev pub is_here : Fetch → Bool

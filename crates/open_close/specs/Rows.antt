@@ -23,9 +23,13 @@ use Rattle.open_close.specs.declared.task.Fetch.{Fetch}
 use Rattle.open_close.specs.declared.task.Stage.TheVariants as stage
 use Rattle.open_close.specs.Closing.{make_call, cond_call, temp_call, commit_call}
 use Rattle.open_close.specs.Counting.{no_counts, sends, nothing_done, sends_one, sends_reads, ends}
-use Rattle.open_close.specs.Opening.{calls_most, hash_call, read_call}
+use Rattle.chunk_index.specs.Index.{key_of}
+use Rattle.chunk_index.specs.declared.place.Place.{Place}
+use Rattle.client_cache.specs.Cache.{fronted, nothing}
+use Rattle.chunk_places.specs.Places.{no_index}
+use Rattle.open_close.specs.Opening.{calls_most, lease_call, hash_call, read_call}
 use Rattle.open_close.specs.Shape.{with_pairs}
-use Rattle.open_close.specs.State.{State, start, read_pending}
+use Rattle.open_close.specs.State.{State, start, read_pending, evicted, forged, index_cleared}
 use Rattle.open_close.specs.Step.{command_step, got_step, joined, cut}
 
 -- ---- a run
@@ -34,11 +38,17 @@ data Event : Type 0 where
   Does : Command → Event
   Gets : Message → Event
   Cut : Event
+  Evicts : (file : ℕ) → Event
+  Forges : (key : ℕ) → Place → Event
+  Clears : Event
 
 abbrev step : State → Event → State × ClientStep
 step s (Does c) = command_step s c 0
 step s (Gets m) = got_step s (Ok m) 0
 step s Cut = cut s
+step s (Evicts file) = (evicted s file, nothing_done)
+step s (Forges key place) = (forged s key place, nothing_done)
+step s Clears = (index_cleared s, nothing_done)
 
 abbrev after : State → List Event → State
 after s [] = s
@@ -178,3 +188,74 @@ empty = refl
 -- a lost connection ends the close, and the file stays open; xids and numbers of temporary files begin anew
 lost : steps opened (Does (command.Close 2) ∷ Cut ∷ Does (command.Close 2) ∷ Does (command.Abandon 2) ∷ []) ≡ (sends_one (make_call 1 1 2) 0 ∷ ends outcome.Lost 0 0 ∷ ends outcome.NoLink 0 0 ∷ ends outcome.Done 0 0 ∷ [])
 lost = refl
+
+-- ---- what is kept
+
+-- the server tells that a file has this version
+abbrev leased_are : (xid version : ℕ) → Event
+leased_are xid version = Gets (message.Answer xid (body.Lb (lb.GetLeaseAnswer (Done (record { attr = attr_in version; version = version; term = 0 })))))
+
+-- file 2 with "a" in it was opened and left again
+abbrev fetched : List Event
+fetched = Does (command.Open 2) ∷ hashes_are 1 1 1 (pair_of (codes "a") 1 ∷ []) true ∷ bytes_are 2 1 (codes "a") ∷ Does (command.Abandon 2) ∷ []
+
+abbrev seen : State
+seen = after (joined start) fetched
+
+abbrev opens_as : (file xid : ℕ) → ClientStep
+opens_as file xid = ends (outcome.Opened file 1 (sha1 (codes "a"))) xid 0
+
+-- a content that is kept is opened again in its version; one of another version, or that was dropped meanwhile, is fetched
+kept_again : steps seen (Does (command.Open 2) ∷ leased_are 3 1 ∷ []) ≡ (sends_one (lease_call 3 2) 0 ∷ opens_as 2 3 ∷ [])
+unfolding calls_most fronted key_of sha1 digest_bytes hash_after compress rounds schedule first_words
+kept_again = refl
+
+other_version : steps seen (Does (command.Open 2) ∷ leased_are 3 2 ∷ []) ≡ (sends_one (lease_call 3 2) 0 ∷ sends_one (hash_call 4 2 0) 0 ∷ [])
+unfolding calls_most fronted key_of sha1 digest_bytes hash_after compress rounds schedule first_words
+other_version = refl
+
+dropped_meanwhile : steps seen (Does (command.Open 2) ∷ Evicts 2 ∷ leased_are 3 1 ∷ []) ≡ (sends_one (lease_call 3 2) 0 ∷ nothing_done ∷ sends_one (hash_call 4 2 0) 0 ∷ [])
+unfolding calls_most fronted key_of sha1 digest_bytes hash_after compress rounds schedule first_words
+dropped_meanwhile = refl
+
+not_kept : steps seen (Evicts 2 ∷ Does (command.Open 2) ∷ []) ≡ (nothing_done ∷ sends_one (hash_call 3 2 0) 0 ∷ [])
+unfolding calls_most fronted key_of sha1 digest_bytes hash_after compress rounds schedule first_words
+not_kept = refl
+
+-- another file's chunk is taken from what is kept, and no READ goes out
+abbrev opens_other : List Event
+opens_other = Does (command.Open 3) ∷ hashes_are 3 1 1 (pair_of (codes "a") 1 ∷ []) true ∷ []
+
+abbrev reads_it : List ClientStep
+reads_it = sends_one (hash_call 3 3 0) 0 ∷ sends_reads (read_call 4 3 (chunk_of 0 (codes "a") 1) ∷ []) 0 ∷ []
+
+from_kept : steps seen opens_other ≡ (sends_one (hash_call 3 3 0) 0 ∷ opens_as 3 3 ∷ [])
+unfolding calls_most fronted key_of sha1 digest_bytes hash_after compress rounds schedule first_words
+from_kept = refl
+
+-- but not where its content isn't kept, nor where the index has no place or says another
+from_none : (steps seen (Evicts 2 ∷ opens_other) ∷ steps seen (Clears ∷ opens_other) ∷ steps seen (Forges (key_of (sha1 (codes "a"))) (record { file = 2; offset = 5; count = 1 }) ∷ opens_other) ∷ []) ≡ ((nothing_done ∷ reads_it) ∷ (nothing_done ∷ reads_it) ∷ (nothing_done ∷ reads_it) ∷ [])
+unfolding calls_most fronted key_of sha1 digest_bytes hash_after compress rounds schedule first_words
+from_none = refl
+
+-- equal chunks of one fetch are each read, since their places enter behind it
+equal_chunks : steps (joined start) (Does (command.Open 2) ∷ hashes_are 1 1 4096 (pair_of (codes "a") 2048 ∷ pair_of (codes "a") 2048 ∷ []) true ∷ []) ≡ (sends_one (hash_call 1 2 0) 0 ∷ sends_reads (read_call 2 2 (chunk_of 0 (codes "a") 2048) ∷ read_call 3 2 (chunk_of 2048 (codes "a") 2048) ∷ []) 0 ∷ [])
+unfolding calls_most fronted key_of sha1 digest_bytes hash_after compress rounds schedule first_words
+equal_chunks = refl
+
+-- a content that was stored is kept in the version that it got, and no places of it enter the index
+abbrev storing : List Event
+storing = Does (command.Close 2) ∷ made 1 ∷ Gets (message.Answer 2 (body.Lb (lb.CondWriteAnswer (Done tt)))) ∷ committed 3 2 ∷ []
+
+stored_again : steps (after opened storing) (Does (command.Open 2) ∷ leased_are 4 2 ∷ []) ≡ (sends_one (lease_call 4 2) 0 ∷ ends (outcome.Opened 2 2 (sha1 (codes "ab"))) 4 0 ∷ [])
+unfolding calls_most fronted closed_ends next_end
+stored_again = refl
+
+no_places : (after opened storing).index ≡ no_index
+unfolding calls_most fronted closed_ends next_end
+no_places = refl
+
+-- a refused close leaves what was kept
+refused_close : (after opened (Does (command.Close 2) ∷ made 1 ∷ Gets (message.Answer 2 (body.Lb (lb.CondWriteAnswer (Done tt)))) ∷ Gets (message.Answer 3 (body.Lb (lb.CommitTmpAnswer (Failed status.Stale tt)))) ∷ [])).cache ≡ (2, nothing) ∷ []
+unfolding calls_most fronted closed_ends next_end
+refused_close = refl

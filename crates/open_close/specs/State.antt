@@ -12,6 +12,10 @@ use Rattle.wire.specs.declared.message.Pending.{Pending}
 use Rattle.wire.specs.declared.message.Program.TheVariants as program
 use Rattle.wire.specs.declared.message.Waiting.{Waiting}
 use Rattle.wire.specs.declared.message.Side.TheVariants as side
+use Rattle.chunk_index.specs.Index.{Indexed, put, cleared}
+use Rattle.chunk_index.specs.declared.place.Place.{Place}
+use Rattle.client_cache.specs.Cache.{Entries, without_content}
+use Rattle.chunk_places.specs.Places.{no_index}
 use Rattle.open_close.specs.declared.task.Local.{Local}
 use Rattle.open_close.specs.declared.task.Task.{Task}
 use Rattle.open_close.specs.declared.task.ReadCall.{ReadCall}
@@ -34,9 +38,27 @@ pub record State : Type 0 where
   pub task : Option Task
   -- the calls of ended operations and attempts on this connection that have no answer yet
   pub forgotten : List Pending
+  -- what is kept of files
+  pub cache : Entries
+  -- where the bytes of chunks may be found among what is kept
+  pub index : Indexed
 
 abbrev pub start : State
-start = record { linked = false; next = 1; next_temp = 1; opened = []; task = None; forgotten = [] }
+start = record { linked = false; next = 1; next_temp = 1; opened = []; task = None; forgotten = []; cache = []; index = no_index }
+
+-- ---- what is kept
+
+-- whoever knows the client may drop a content,
+abbrev pub evicted : State → (file : ℕ) → State
+evicted s file = record s { cache = without_content s.cache file }
+
+-- put any place under any key,
+abbrev pub forged : State → (key : ℕ) → Place → State
+forged s key place = record s { index = put s.index key place }
+
+-- and drop all places
+abbrev pub index_cleared : State → State
+index_cleared s = record s { index = cleared s.index }
 
 -- ---- open files
 
@@ -76,6 +98,7 @@ abbrev pub lb_pending : LbProc → (xid : ℕ) → List Pending
 lb_pending p xid = record { xid = xid; program = program.Lb p } ∷ []
 
 abbrev pub pending_in : Stage → List Pending
+pending_in (stage.Asking xid) = lb_pending lb_proc.GetLease xid
 pending_in (stage.Hashing tries xid) = lb_pending lb_proc.GetHash xid
 pending_in (stage.Listing xid f) = lb_pending lb_proc.GetHash xid
 pending_in (stage.Reading f) = map read_pending f.under

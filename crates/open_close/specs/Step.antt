@@ -12,6 +12,7 @@ use Rattle.xdr_codec.specs.declared.answer.Answer.TheVariants.{Done, Failed}
 use Rattle.xdr_codec.specs.declared.status.Status.{Status}
 use Rattle.xdr_codec.specs.declared.status.Status.TheVariants as status
 use Rattle.hash_calls.specs.declared.call.Hashes.{Hashes}
+use Rattle.hash_calls.specs.declared.call.Leased.{Leased}
 use Rattle.hash_calls.specs.declared.message.Lb.TheVariants as lb
 use Rattle.nfs3_calls.specs.declared.call.Piece.{Piece}
 use Rattle.nfs3_calls.specs.declared.message.Nfs.TheVariants as nfs
@@ -40,9 +41,14 @@ use Rattle.open_close.specs.declared.task.Task.{Task}
 use Rattle.open_close.specs.declared.task.Way.{Way}
 use Rattle.open_close.specs.declared.task.Way.TheVariants as way
 use Rattle.open_close.specs.Closing.{make_call, temp_call, commit_call, Names, store_of, names_all, is_stored, store_at, answered, with_whole}
-use Rattle.open_close.specs.Counting.{no_counts, sends, nothing_done, sends_one, sends_reads, ends}
+use Rattle.open_close.specs.Counting.{misses, by_memory, no_counts, sends, nothing_done, sends_one, sends_reads, ends}
 use Rattle.open_close.specs.Local.{local_most, written_size, written, truncated, part_of}
-use Rattle.open_close.specs.Opening.{tries_most, hash_call, fetch_of, with_hashes, listed, Reads, reads_all, is_here, slots_bytes, read_at, fault_in, other_version, with_bytes}
+use Rattle.chunk_index.specs.Index.{Indexed}
+use Rattle.client_cache.specs.Cache.{reserved, content_of, with_content}
+use Rattle.client_cache.specs.declared.kept.Content.{Content}
+use Rattle.chunk_places.specs.Places.{indexed, LeavesOut}
+use Rattle.open_close.specs.Caching.{content_in, found_all}
+use Rattle.open_close.specs.Opening.{tries_most, lease_call, hash_call, fetch_of, with_hashes, listed, Reads, reads_all, looked_up, is_here, slots_bytes, read_at, fault_in, other_version, with_bytes}
 use Rattle.open_close.specs.Shape.{Broken, broken_of}
 use Rattle.open_close.specs.State.{State, local_at, with_local, without_local, local_bytes, pending, calls_of, has_call, without_call}
 
@@ -62,13 +68,19 @@ may_ask s = elim s.linked [ true ↦ has_xids s.next | false ↦ false ]
 abbrev pub tries_anew : State → (file tries bytes : ℕ) → State × ClientStep
 tries_anew s file tries bytes = (record s { next = s.next + 1; task = Some (record { file = file; stage = stage.Hashing tries s.next }) }, sends_one (hash_call s.next file 0) bytes)
 
-abbrev pub asks_hashes : State → ℕ → Bool → State × ClientStep
-asks_hashes s file true = tries_anew s file 1 0
-asks_hashes s file false = (s, ends outcome.NoLink 0 0)
+-- a content that is kept is asked for by its version, and else the file by its chunks
+abbrev pub asks_kept : State → (file : ℕ) → (kept : Option Content) → State × ClientStep
+asks_kept s file None = tries_anew s file 1 0
+asks_kept s file (Some c) = (record s { next = s.next + 1; task = Some (record { file = file; stage = stage.Asking s.next }) }, sends_one (lease_call s.next file) 0)
+
+-- the file's entry comes first in the cache, and is there for what the answers bring
+abbrev pub asks_file : State → (file : ℕ) → (may_ask : Bool) → State × ClientStep
+asks_file s file true = asks_kept (record s { cache = reserved s.cache file }) file (content_of s.cache file)
+asks_file s file false = (s, ends outcome.NoLink 0 0)
 
 abbrev pub opens_if : State → ℕ → Bool → State × ClientStep
 opens_if s file true = (s, ends outcome.AlreadyOpen 0 0)
-opens_if s file false = asks_hashes s file (may_ask s)
+opens_if s file false = asks_file s file (may_ask s)
 
 abbrev pub opens : State → ℕ → Option Task → State × ClientStep
 opens s file (Some t) = (s, ends outcome.Busy 0 0)
@@ -141,10 +153,11 @@ unknown s xid = bad_peer s (bad.UnknownXid xid) 0
 abbrev pub refused : State → (calls : List Pending) → (xid : ℕ) → Status → State × ClientStep
 refused s calls xid status = (forgets s calls xid, ends (outcome.Refused status) xid 0)
 
+-- the file is open; its content is kept, and its chunks' places enter the index
 abbrev pub opened_with : State → (calls : List Pending) → (file xid : ℕ) → Fetch → (bytes : ℕ) → State × ClientStep
 opened_with s calls file xid f bytes =
     let content : List ℕ = slots_bytes f.slots in
-    (record (forgets s calls xid) { opened = with_local s.opened file (record { version = f.version; bytes = content }) }, ends (outcome.Opened file (length content) (sha1 content)) f.first bytes)
+    (record (forgets s calls xid) { opened = with_local s.opened file (record { version = f.version; bytes = content }); cache = with_content s.cache file f.version content; index = indexed s.index file f.chunks }, ends (outcome.Opened file (length content) (sha1 content)) f.first bytes)
 
 -- an attempt ends by another version than its own, and the next begins, or there is none
 abbrev pub retries : State → (calls : List Pending) → (file xid : ℕ) → (may_try : Bool) → Fetch → (version bytes : ℕ) → State × ClientStep
@@ -163,8 +176,8 @@ reads_if s calls file xid r bytes false = (record s { next = r.next; task = Some
 
 abbrev pub reads_on : State → (calls : List Pending) → (file xid : ℕ) → Fetch → (bytes : ℕ) → State × ClientStep
 reads_on s calls file xid f bytes =
-    let r : Reads = reads_all file f s.next in
-    reads_if s calls file xid r bytes (is_here r.fetch)
+    let r : Reads = reads_all s.cache s.index file f s.next in
+    reads_if (record s { index = found_all s.index (looked_up f r) }) calls file xid r bytes (is_here r.fetch)
 
 -- the further chunks are asked for, from the end of the last one on, or all are told
 abbrev pub lists_on : State → (calls : List Pending) → (file xid : ℕ) → Fetch → (eof : Bool) → State × ClientStep
@@ -188,6 +201,18 @@ abbrev pub told_first : State → (calls : List Pending) → (file xid tries : �
 told_first s calls file xid tries (Failed status u) = refused s calls xid status
 told_first s calls file xid tries (Done h) = told_hashes s calls file xid (fetch_of tries xid h) (Done h)
 
+-- ---- a content that is kept
+
+-- one that is kept in the file's version is opened again, and else the file is fetched
+abbrev pub uses_kept : State → (calls : List Pending) → (file xid version : ℕ) → (kept : Option (List ℕ)) → State × ClientStep
+uses_kept s calls file xid version (Some bytes) = (record (forgets s calls xid) { opened = with_local s.opened file (record { version = version; bytes = bytes }) }, ends (outcome.Opened file (length bytes) (sha1 bytes)) xid 0)
+uses_kept s calls file xid version None = tries_anew (forgets s calls xid) file 1 0
+
+-- what was asked for may have been dropped meanwhile
+abbrev pub told_lease : State → (calls : List Pending) → (file xid : ℕ) → Answer Leased Unit → State × ClientStep
+told_lease s calls file xid (Failed status u) = refused s calls xid status
+told_lease s calls file xid (Done l) = uses_kept s calls file xid l.version (content_in l.version (content_of s.cache file))
+
 -- ---- their bytes
 
 -- bytes that don't fit end the attempt where another version shows; else they are the peer's fault
@@ -210,9 +235,9 @@ told_piece s calls file xid f piece (Some c) = told_chunk s calls file xid f c p
 
 -- ---- the chunks of a close
 
--- CONDWRITEs go out, or COMMITTMP where all chunks are stored
+-- CONDWRITEs go out, or COMMITTMP where all chunks are stored: the file then has an entry in the cache for the content that it gets
 abbrev pub goes_if : State → (file : ℕ) → (content : List ℕ) → Names → (is_stored : Bool) → State × ClientStep
-goes_if s file content n true = (record s { next = n.next + 1; task = Some (record { file = file; stage = stage.Committing n.next }) }, sends (n.send ++ commit_call n.next n.store.temp file (length content) ∷ []) (record no_counts { cond_writes = length n.send }))
+goes_if s file content n true = (record s { next = n.next + 1; cache = reserved s.cache file; task = Some (record { file = file; stage = stage.Committing n.next }) }, sends (n.send ++ commit_call n.next n.store.temp file (length content) ∷ []) (record no_counts { cond_writes = length n.send }))
 goes_if s file content n false = (record s { next = n.next; task = Some (record { file = file; stage = stage.Storing n.store }) }, sends n.send (record no_counts { cond_writes = length n.send }))
 
 abbrev pub goes_on : State → (file : ℕ) → (content : List ℕ) → Store → State × ClientStep
@@ -249,9 +274,9 @@ abbrev pub told_stored : State → (calls : List Pending) → (file xid : ℕ) �
 told_stored s calls file xid content st b None = unknown s xid
 told_stored s calls file xid content st b (Some c) = told_way s calls file xid content (answered st xid) c c.way b
 
--- the file has its new content, and is no longer open
+-- the file has its new content, which is kept, and is no longer open
 abbrev pub closed : State → (calls : List Pending) → (file xid version : ℕ) → (content : List ℕ) → State × ClientStep
-closed s calls file xid version content = (record (forgets s calls xid) { opened = without_local s.opened file }, ends (outcome.Closed file version (length content) (sha1 content)) xid 0)
+closed s calls file xid version content = (record (forgets s calls xid) { opened = without_local s.opened file; cache = with_content s.cache file version content }, ends (outcome.Closed file version (length content) (sha1 content)) xid 0)
 
 -- ---- a message
 
@@ -272,6 +297,7 @@ denied s calls xid r = bad_peer s (bad.Denied (refusal_code r)) 0
 
 -- an answer to a call of the operation under way
 abbrev pub took : State → (calls : List Pending) → (file : ℕ) → Stage → (xid : ℕ) → Body → State × ClientStep
+took s calls file (stage.Asking asked) xid (body.Lb (lb.GetLeaseAnswer a)) = told_lease s calls file xid a
 took s calls file (stage.Hashing tries asked) xid (body.Lb (lb.GetHashAnswer a)) = told_first s calls file xid tries a
 took s calls file (stage.Listing asked f) xid (body.Lb (lb.GetHashAnswer a)) = told_hashes s calls file xid f a
 took s calls file (stage.Reading f) xid (body.Nfs (nfs.ReadAnswer (Failed status a))) = refused s calls xid status
@@ -363,6 +389,10 @@ MayMissCommand s (command.Read file offset count) = ⊥
 MayMissCommand s (command.Close file) = MayMissOn s.task (local_at s.opened file) (λ l. may_ask s ≡ true)
 MayMissCommand s (command.Abandon file) = ⊥
 
+-- the operation under way has ended, and this is the index of chunks
+abbrev pub with_index : State → Indexed → State
+with_index s index = record s { index = index }
+
 -- what is left where memory ran out at what came: the operation under way has ended by it
 abbrev pub missed_at : State → Result Message WireFault → State
 missed_at s (Ok (message.Answer xid b)) = forgets s (calls_of s) xid
@@ -381,3 +411,23 @@ IsCommitting (Some t) = InCommit t.stage
 abbrev pub MayMiss : State → Result Message WireFault → Type 0
 MayMiss s (Ok (message.Answer xid b)) = (has_call (pending s.task) xid ≡ true) × (IsCommitting s.task → ⊥)
 MayMiss s m = ⊥
+
+-- what was to come, but for places of the fetched chunks that are wanting in the index, which the step says
+pub record Lacks (old : Indexed) (comes : State × ClientStep) (new : State) (step : ClientStep) : Type 0 where
+  pub looked : List Chunk
+  pub file : ℕ
+  pub chunks : List Chunk
+  pub gains : comes.0.index ≡ indexed (found_all old looked) file chunks
+  pub lacks : LeavesOut (found_all old looked) file chunks new.index
+  pub rest : new ≡ with_index comes.0 new.index
+  pub said : step ≡ record comes.1 { missed = true }
+
+-- what was to come, or what lacks such places
+pub record Comes (old : Indexed) (comes : State × ClientStep) (new : State) (step : ClientStep) : Type 0 where
+  pub exact : step.missed ≡ false → comes ≡ (new, step)
+  pub lacks : step.missed ≡ true → Lacks old comes new step
+
+-- Where memory ran out the operation ended by that, or nothing is wanting but places in the index.
+pub data Misses (s : State) (m : Result Message WireFault) (now : ℕ) (new : State) (step : ClientStep) : Type 0 where
+  ended : MayMiss s m → new ≡ missed_at s m → step ≡ misses (Some by_memory) → Misses s m now new step
+  lacks : Lacks s.index (got_step s m now) new step → Misses s m now new step

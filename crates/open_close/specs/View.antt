@@ -1,9 +1,12 @@
 -- The client's fields as a state, and what always holds of them.
-use Rattle.std.specs.Prelude.{◌≡◌, ℕ, ◌+◌, ◌-◌, ◌*◌, ◌<◌, ◌≤◌, ◌^◌, List, [], ◌∷◌, ◌++◌, length, drop, Option, Some, None}
+use Rattle.std.specs.Prelude.{◌≡◌, ℕ, ◌+◌, ◌-◌, ◌*◌, ◌<◌, ◌≤◌, ◌^◌, List, [], ◌∷◌, ◌++◌, length, drop, Option, Some, None, IsSome}
 use Rattle.std.specs.List.{All}
 use Rattle.std.specs.Map.{values_of}
 use Rattle.chunk_cut.specs.Places.{end_of}
 use Rattle.chunk_cut.specs.declared.chunk.Chunk.{Chunk}
+use Rattle.client_cache.specs.Cache.{Entries, kept_of}
+use Rattle.client_cache.specs.declared.kept.Content.{Content}
+use Rattle.client_cache.specs.declared.kept.Kept.{Kept}
 use Rattle.wire.specs.declared.message.Pending.{Pending}
 use Rattle.wire.specs.declared.message.Side.TheVariants as side
 use Rattle.open_close.specs.declared.calls.Names.{Names}
@@ -23,7 +26,7 @@ use Rattle.open_close.specs.Shape.{file_limit, chunk_least, chunk_most}
 use Rattle.open_close.specs.State.{State, IsRising, pending}
 
 abbrev pub state_of : ClientState → State
-state_of s = record { linked = s.linked; next = s.next; next_temp = s.next_temp; opened = s.opened.entries; task = s.task; forgotten = drop s.own s.waiting.calls }
+state_of s = record { linked = s.linked; next = s.next; next_temp = s.next_temp; opened = s.opened.entries; task = s.task; forgotten = drop s.own s.waiting.calls; cache = s.cache; index = s.index }
 
 -- the state, and all calls that wait
 abbrev pub whole_of : ClientState → State × List Pending
@@ -102,6 +105,7 @@ abbrev pub store_left : Store → ℕ
 store_left st = 2 * (length st.chunks - st.named) + calls_after_all st.under + 1
 
 abbrev pub calls_left : Stage → ℕ
+calls_left (stage.Asking xid) = 1 + attempt_most + later_left 1
 calls_left (stage.Hashing tries xid) = attempt_most + later_left tries
 calls_left (stage.Listing xid f) = attempt_most - length f.chunks + later_left f.tries
 calls_left (stage.Reading f) = length f.chunks - f.asked + 1 + later_left f.tries
@@ -117,23 +121,50 @@ abbrev pub TaskHasXids : ℕ → Option Task → Type 0
 TaskHasXids next None = Unit {0}
 TaskHasXids next (Some t) = HasXids next t.stage
 
--- what holds while READs, or CONDWRITEs, go out: so many chunks were asked for, and this was the next xid, before
-pub record IsSendingReads (asked next : ℕ) (r : Reads) : Type 0 where
+-- what holds while READs go out of an attempt, before which this was the next xid
+pub record IsSendingReads (f : Fetch) (next : ℕ) (r : Reads) : Type 0 where
   pub within : IsReading r.fetch
   pub xids : HasXids r.next (stage.Reading r.fetch)
   pub rises : next ≤ r.next
-  pub counted : r.fetch.asked ≡ asked + length r.send
+  pub counted : length r.fetch.under ≡ length f.under + length r.send
+  pub further : f.asked ≤ r.fetch.asked
+  pub chunks : r.fetch.chunks ≡ f.chunks
 
+-- what holds while CONDWRITEs go out: so many chunks were named, and this was the next xid, before
 pub record IsSendingNames (named next : ℕ) (n : Names) : Type 0 where
   pub within : IsStore n.store
   pub xids : HasXids n.next (stage.Storing n.store)
   pub rises : next ≤ n.next
   pub counted : n.store.named ≡ named + length n.send
 
+-- ---- what is kept
+
+-- a file has an entry in the cache, for what an answer brings
+abbrev pub IsThere : Entries → (file : ℕ) → Type 0
+IsThere cache file = IsSome (kept_of cache file)
+
+-- where an operation may end with a content that is kept
+abbrev pub StageIsThere : Entries → (file : ℕ) → Stage → Type 0
+StageIsThere cache file (stage.Making xid temp) = Unit {0}
+StageIsThere cache file (stage.Storing st) = Unit {0}
+StageIsThere cache file p = IsThere cache file
+
+abbrev pub TaskIsThere : Entries → Option Task → Type 0
+TaskIsThere cache None = Unit {0}
+TaskIsThere cache (Some t) = StageIsThere cache t.file t.stage
+
 -- ---- the whole
 
 abbrev pub IsLocalBounded : Local → Type 0
 IsLocalBounded l = length l.bytes ≤ file_limit
+
+-- what is kept of a file is within the limit of a file
+abbrev pub IsContentBounded : Option Content → Type 0
+IsContentBounded None = Unit {0}
+IsContentBounded (Some c) = length c.bytes ≤ file_limit
+
+abbrev pub IsKeptBounded : ℕ × Kept → Type 0
+IsKeptBounded e = IsContentBounded e.1.content
 
 pub record IsBase (s : ClientState) : Type 0 where
   pub side : s.waiting.side ≡ side.Client
@@ -143,6 +174,7 @@ pub record IsBase (s : ClientState) : Type 0 where
   pub temps : (0 < s.next_temp) × (s.next_temp ≤ s.next)
   pub ids : IsRising s.opened.entries
   pub locals : All IsLocalBounded (values_of s.opened.entries)
+  pub kept : All IsKeptBounded s.cache
 
 -- while an answer is looked at the operation under way is taken out, and its calls stand as they stood
 pub record IsHeld (s : ClientState) : Type 0 where
@@ -155,3 +187,4 @@ pub record IsSound (s : ClientState) : Type 0 where
   pub own : s.own ≡ length (pending s.task)
   pub xids : TaskHasXids s.next s.task
   pub within : TaskIsWithin s.task
+  pub there : TaskIsThere s.cache s.task

@@ -1,18 +1,20 @@
 //! The calls for chunks that go out in a step, and those that their answers are of: READs by
 //! `specs/Opening.antt`, those of a close by `specs/Closing.antt`.
 
-ghost use Rattle.std.specs.Prelude.{◌≡◌, ◌+◌, ◌-◌, ◌<◌, ◌==◌, ◌∷◌, [], ◌++◌, length, find, slice_get, IfOk, OnOk};
+ghost use Rattle.std.specs.Prelude.{◌≡◌, ◌+◌, ◌-◌, ◌<◌, ◌==◌, ◌∷◌, [], ◌++◌, length, find, slice_get, nat_lt, None, IfOk, OnOk};
 ghost use Rattle.std.specs.List.{All};
 ghost use Rattle.std.specs.Option.{option_copied};
 ghost use Rattle.open_close.specs.Closing.{commit_call, names_next, names_all, is_stored, store_at, without_store};
-ghost use Rattle.open_close.specs.Opening.{calls_most, reads_next, reads_all, is_here, read_at, without_read};
+ghost use Rattle.open_close.specs.Opening.{calls_most, reads_chunk, reads_next, reads_all, is_here, read_at, without_read};
 ghost use Rattle.open_close.specs.View.{IsChunkBounded, IsReading, IsStore, IsSendingReads, IsSendingNames, HasXids};
 ghost use Rattle.open_close.specs.declared.task.Stage.TheVariants as stage;
 
-use crate::messages;
 use crate::task::{Fetch, ReadCall, Store, StoreCall, Way};
+use crate::{caching, fetch, messages};
 use chunk_cut::chunk::Chunk;
-use lb_base::items::Items;
+use chunk_index::index::Index;
+use client_cache::cache::Cache;
+use lb_base::items::{Bytes, Items};
 use send_list::SendList;
 use std::alloc::{AllocError, Global};
 use wire::message::Message;
@@ -51,19 +53,22 @@ pub fn chunk_at(chunks: &[Chunk], index: usize) -> Option<Chunk>
     chunks.get(index).copied()
 }
 
-/// The next chunk is asked for, if there is one.
-#[tactic(auto, using(crate::proofs::Bounds::chunk_bounded))]
-fn read_next(alloc: Global, file: u64, reads: &mut Reads) -> Result<(), AllocError>
+/// The chunk is asked for, at the place where it stands.
+fn ask_chunk(
+    alloc: Global,
+    file: u64,
+    reads: &mut Reads,
+    index: usize,
+    chunk: &Chunk,
+) -> Result<(), AllocError>
     requires xid { reads.old.next + 1 < 4294967296 }
-    requires lens { All IsChunkBounded reads.old.fetch.chunks }
-    ensures { OnOk result (reads.new ≡ reads_next file reads.old (slice_get reads.old.fetch.chunks reads.old.fetch.asked)) }
+    requires len { chunk.now.len < 4294967296 }
+    requires index { index ≡ reads.old.fetch.asked }
+    requires more { index + 1 < 18446744073709551616 }
+    ensures { OnOk result (reads.new ≡ reads_chunk file reads.old chunk.now None) }
 {
-    let index = reads.fetch.asked;
-    let Some(chunk) = chunk_at(reads.fetch.chunks.as_slice(), index) else {
-        return Ok(());
-    };
     let xid = reads.next;
-    let call = messages::read_call(alloc, xid, file, &chunk)?;
+    let call = messages::read_call(alloc, xid, file, chunk)?;
     reads.send.push(call)?;
     reads.fetch.under.push(ReadCall { xid, index })?;
     reads.fetch.asked = index + 1;
@@ -71,21 +76,86 @@ fn read_next(alloc: Global, file: u64, reads: &mut Reads) -> Result<(), AllocErr
     Ok(())
 }
 
-/// All READs that may be under way beside those that are.
-pub fn read_all(alloc: Global, file: u64, fetch: Fetch, next: u32) -> Result<Reads, AllocError>
+/// The chunk's bytes are taken, where they are kept, or it is asked for, at the place where it stands.
+fn take_chunk(
+    alloc: Global,
+    file: u64,
+    reads: &mut Reads,
+    place: usize,
+    chunk: &Chunk,
+    kept: Option<Bytes>,
+) -> Result<(), AllocError>
+    requires xid { reads.old.next + 1 < 4294967296 }
+    requires len { chunk.now.len < 4294967296 }
+    requires place { place ≡ reads.old.fetch.asked }
+    requires slot { place < length reads.old.fetch.slots }
+    requires more { place + 1 < 18446744073709551616 }
+    ensures { OnOk result (reads.new ≡ reads_chunk file reads.old chunk.now kept) }
+{
+    match kept {
+        Some(bytes) => {
+            fetch::fill_slot(alloc, &mut reads.fetch, place, bytes);
+            reads.fetch.asked = place + 1;
+            Ok(())
+        }
+        None => ask_chunk(alloc, file, reads, place, chunk),
+    }
+}
+
+/// The next chunk is looked up, if there is one, and where it isn't kept it is asked for.
+#[tactic(auto, using(crate::proofs::Bounds::chunk_bounded, crate::proofs::Slots::slot_there))]
+fn read_next(
+    alloc: Global,
+    cache: &Cache,
+    index: &Index,
+    file: u64,
+    reads: &mut Reads,
+) -> Result<(), AllocError>
+    requires xid { reads.old.next + 1 < 4294967296 }
+    requires within { IsReading reads.old.fetch }
+    ensures { OnOk result (reads.new ≡ reads_next cache.now index.now file reads.old (slice_get reads.old.fetch.chunks reads.old.fetch.asked)) }
+{
+    let place = reads.fetch.asked;
+    let Some(chunk) = chunk_at(reads.fetch.chunks.as_slice(), place) else {
+        return Ok(());
+    };
+    let kept = caching::from_index(alloc, cache, index, &chunk)?;
+    take_chunk(alloc, file, reads, place, &chunk, kept)
+}
+
+/// Whether one more call may be under way.
+#[tactic(auto, unfolding(crate::specs::Opening::calls_most))]
+fn has_room(under: &[ReadCall]) -> bool
+    ensures { result ≡ nat_lt (length under.now) calls_most }
+{
+    under.len() < CALLS_MOST
+}
+
+/// The chunks that are left are taken from what is kept, or asked for, while calls may be under way.
+pub fn read_all(
+    alloc: Global,
+    cache: &Cache,
+    index: &Index,
+    file: u64,
+    fetch: Fetch,
+    next: u32,
+) -> Result<Reads, AllocError>
     requires within { IsReading fetch }
     requires xids { HasXids next (stage.Reading fetch) }
-    ensures all { IfOk result (λ r. r ≡ reads_all file fetch next) }
-    ensures kept { IfOk result (λ r. IsSendingReads fetch.asked next r) }
+    ensures all { IfOk result (λ r. r ≡ reads_all cache.now index.now file fetch next) }
+    ensures sending { IfOk result (λ r. IsSendingReads fetch next r) }
 {
-    let room = room_beside(fetch.under.len());
+    let left = fetch.chunks.len() - fetch.asked;
     let mut reads = Reads {
         fetch,
         next,
         send: SendList::none(alloc),
     };
-    for _i in 0..room {
-        match read_next(alloc, file, &mut reads) {
+    for _i in 0..left {
+        if !has_room(reads.fetch.under.as_slice()) {
+            return Ok(reads);
+        }
+        match read_next(alloc, cache, index, file, &mut reads) {
             Ok(()) => {}
             Err(error) => {
                 drop(reads);

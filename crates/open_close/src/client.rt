@@ -1,18 +1,21 @@
 //! The client. `specs/State.antt` says what it is, and `specs/Step.antt` what it does.
 
-ghost use Rattle.std.specs.Prelude.{◌≡◌, false, true, option_map, Some};
+ghost use Rattle.std.specs.Prelude.{◌≡◌, false, true, option_map, Some, IfOk, OnOk, OnErr};
 ghost use Rattle.std.specs.Option.{option_copied};
-ghost use Rattle.open_close.specs.State.{start, waiting_of, local_at};
+ghost use Rattle.open_close.specs.State.{start, evicted, forged, index_cleared, waiting_of, local_at};
 ghost use Rattle.open_close.specs.Counting.{misses, by_memory};
-ghost use Rattle.open_close.specs.Step.{command_step, got_step, cut, joined, missed_at, MayMiss, MayMissCommand};
+ghost use Rattle.open_close.specs.Step.{command_step, got_step, cut, joined, Misses, MayMissCommand};
 
 use crate::parts;
 use crate::state::ClientState;
 use crate::step::{ClientStep, Ended, Outcome};
+use chunk_index::index::Key;
+use chunk_index::place::Place;
+use client_cache::cache::Cache;
 use command_text::command::Command;
 use lb_base::items::Items;
 use send_list::SendList;
-use std::alloc::Global;
+use std::alloc::{AllocError, Global};
 use std::collections::BTreeMap;
 use std::marker::Model;
 use wire::fault::WireFault;
@@ -52,11 +55,13 @@ fn missed(alloc: Global) -> ClientStep
 }
 
 impl Client {
-    /// A client with no connection and no file. It takes no memory.
-    pub fn new(alloc: Global) -> Client
-        ensures { result ≡ start }
+    /// A client with no connection and no file. The one error is want of memory.
+    pub fn new(alloc: Global) -> Result<Client, AllocError>
+        ensures { IfOk result (λ c. c ≡ start) }
     {
-        Client {
+        let cache = Cache::new(alloc)?;
+        let index = chunk_places::empty(alloc)?;
+        Ok(Client {
             state: ClientState {
                 linked: false,
                 next: 1,
@@ -68,8 +73,10 @@ impl Client {
                     calls: Items::new(alloc),
                 },
                 own: 0,
+                cache,
+                index,
             },
-        }
+        })
     }
 
     /// A command, at a reading of the client's clock in milliseconds. Only one that sends a call or
@@ -89,7 +96,7 @@ impl Client {
     /// What comes from the other end, at a reading of the client's clock in milliseconds: a message, or
     /// why a record is none. Only an answer to a call of the operation under way may run out of memory,
     /// and none once COMMITTMP was sent: the operation then ends by that, its other calls are forgotten,
-    /// and all else is as before.
+    /// and all else is as before; or a fetch ended well, and the index lacks places of its chunks.
     pub fn got(
         &mut self,
         alloc: Global,
@@ -97,14 +104,35 @@ impl Client {
         now: u64,
     ) -> ClientStep
         ensures exact { result.missed ≡ false → got_step self.old message now ≡ (self.new, result) }
-        ensures missed { result.missed ≡ true → self.new ≡ missed_at self.old message }
-        ensures silent { result.missed ≡ true → result ≡ misses (Some by_memory) }
-        ensures sure { result.missed ≡ true → MayMiss self.old message }
+        ensures missed { result.missed ≡ true → Misses self.old message now self.new result }
     {
         match self.state.got(alloc, message, now) {
             Ok(step) => step,
             Err(_) => missed(alloc),
         }
+    }
+
+    /// The content that is kept of a file is dropped, if one is. It takes no memory.
+    pub fn evict(&mut self, file: u64)
+        ensures { self.new ≡ evicted self.old file }
+    {
+        self.state.evict(file);
+    }
+
+    /// Any place stands in the index under any key: nobody trusts it. The one error is want of memory,
+    /// and changes nothing.
+    pub fn forge(&mut self, key: Key, place: Place) -> Result<(), AllocError>
+        ensures ok { OnOk result (self.new ≡ forged self.old key place) }
+        ensures err { OnErr result (self.new ≡ self.old) }
+    {
+        self.state.forge(key, place)
+    }
+
+    /// All places are dropped from the index. It takes no memory.
+    pub fn clear_index(&mut self)
+        ensures { self.new ≡ index_cleared self.old }
+    {
+        self.state.clear_index();
     }
 
     /// What may come: answers to the calls that wait, those of ended operations and attempts too.

@@ -2,22 +2,22 @@
 //! is then committed. `specs/Closing.antt` and `specs/Step.antt` say how.
 
 ghost use Rattle.std.specs.Prelude.{◌≡◌, ◌+◌, ◌<◌, ◌≤◌, length, None, Some, slice_get, IfOk, OnOk, OnErr, false, true};
+ghost use Rattle.client_cache.specs.Cache.{reserved};
 ghost use Rattle.open_close.specs.Closing.{store_of, answered, is_stored, store_at};
 ghost use Rattle.open_close.specs.State.{local_at, local_bytes};
 ghost use Rattle.open_close.specs.Step.{on_local, closes, may_ask, MayMissOn, asks_temp, goes_if, goes_on, told_temp, sends_whole, told_named, told_whole, told_way, told_stored, closed, took};
-ghost use Rattle.open_close.specs.View.{state_of, whole_of, calls_after, store_left, IsStore, IsHeld, IsSound, IsSendingNames, HasXids, IsWithin};
+ghost use Rattle.open_close.specs.View.{state_of, whole_of, calls_after, store_left, IsStore, IsHeld, IsSound, IsThere, StageIsThere, IsSendingNames, HasXids, IsWithin};
 ghost use Rattle.open_close.specs.declared.task.Stage.TheVariants as stage;
 ghost use Rattle.open_close.specs.declared.task.Way.TheVariants as way;
 
 use crate::calls::{self, Names};
 use crate::state::ClientState;
-use crate::step::{ClientStep, Counts, Outcome};
+use crate::step::{ClientStep, Outcome};
 use crate::task::{Stage, Store, StoreCall, Way};
 use crate::{messages, parts, stores};
 use chunk_cut::chunk::Chunk;
 use hash_calls::message::Lb;
 use send_list::SendList;
-use sha1::Sha1;
 use std::alloc::{AllocError, Global};
 use wire::message::Body;
 use xdr_codec::answer::Answer;
@@ -84,12 +84,39 @@ impl ClientState {
         requires rises { self.old.next ≤ next }
         requires xids { HasXids next stage }
         requires within { IsWithin stage }
+        requires there { StageIsThere self.old.cache file stage }
         ensures ok { IfOk result (λ a. (a ≡ step) × (state_of self.new ≡ record (state_of self.old) { next = next; task = Some (record { file = file; stage = stage }) })) }
         ensures err { OnErr result (whole_of self.new ≡ whole_of self.old) }
         ensures sound { OnOk result (IsSound self.new) }
         ensures held { OnErr result (IsHeld self.new) }
     {
         match self.wait(alloc, file, stage, next) {
+            Ok(()) => Ok(step),
+            Err(error) => {
+                drop(step);
+                Err(error)
+            }
+        }
+    }
+
+    /// COMMITTMP goes out with this xid, and the file has an entry in the cache for the content that it
+    /// gets. An `Err` changes nothing.
+    fn wait_commit(
+        &mut self,
+        alloc: Global,
+        file: u64,
+        xid: u32,
+        step: ClientStep,
+    ) -> Result<ClientStep, AllocError>
+        requires held { IsHeld self.old }
+        requires rises { self.old.next ≤ xid }
+        requires xid { xid + 1 < 4294967296 }
+        ensures ok { IfOk result (λ a. (a ≡ step) × (state_of self.new ≡ record (state_of self.old) { next = xid + 1; task = Some (record { file = file; stage = stage.Committing xid }); cache = reserved self.old.cache file })) }
+        ensures err { OnErr result (whole_of self.new ≡ whole_of self.old) }
+        ensures sound { OnOk result (IsSound self.new) }
+        ensures held { OnErr result (IsHeld self.new) }
+    {
+        match self.wait_there(alloc, file, Stage::Committing(xid), xid + 1) {
             Ok(()) => Ok(step),
             Err(error) => {
                 drop(step);
@@ -128,7 +155,7 @@ impl ClientState {
         match calls::send_commit(alloc, next, temp, file, size, &mut send) {
             Ok(()) => {
                 let step = parts::sends(send, stores::names_counted(count));
-                self.send_and_wait(alloc, file, Stage::Committing(next), next + 1, step)
+                self.wait_commit(alloc, file, next, step)
             }
             Err(error) => {
                 drop(send);
@@ -430,30 +457,25 @@ impl ClientState {
         }
     }
 
-    /// The file has its new content, and is no longer open. It takes no memory.
+    /// The file has its new content, which is kept, and is no longer open. It takes no memory.
     fn closed(&mut self, alloc: Global, file: u64, xid: u32, version: u64) -> ClientStep
-        requires { IsHeld self.old }
+        requires held { IsHeld self.old }
+        requires there { IsThere self.old.cache file }
         ensures ok { closed (state_of self.old) self.old.waiting.calls file xid version (local_bytes self.old.opened.entries file) ≡ (state_of self.new, result) }
         ensures done { result.missed ≡ false }
         ensures sound { IsSound self.new }
     {
-        let content = parts::local_bytes(&self.opened, file);
-        let len = content.len() as u64;
-        let sha1 = Sha1::digest(content);
-        self.shut(file);
+        let content = self.take_local(alloc, file);
+        let step = parts::closed(alloc, file, version, content.as_slice(), xid);
+        self.cache.keep(file, version, content);
         self.forget(alloc, xid);
-        let outcome = Outcome::Closed {
-            file,
-            version,
-            len,
-            sha1,
-        };
-        parts::ends(alloc, outcome, xid, 0)
+        step
     }
 
     /// An answer while COMMITTMP is under way. It takes no memory.
     pub fn took_commit(&mut self, alloc: Global, file: u64, xid: u32, body: Body) -> ClientStep
-        requires { IsHeld self.old }
+        requires held { IsHeld self.old }
+        requires there { IsThere self.old.cache file }
         ensures ok { took (state_of self.old) self.old.waiting.calls file (stage.Committing 0) xid body ≡ (state_of self.new, result) }
         ensures done { result.missed ≡ false }
         ensures sound { IsSound self.new }

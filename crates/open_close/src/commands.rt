@@ -49,6 +49,8 @@ impl ClientState {
         ensures waiting { self.new.waiting ≡ self.old.waiting }
         ensures own { self.new.own ≡ self.old.own }
         ensures next { self.new.next ≡ self.old.next }
+        ensures cache { self.new.cache ≡ self.old.cache }
+        ensures index { self.new.index ≡ self.old.index }
         ensures base { IsBase self.new }
     {
         let old = self.opened.insert(file, Local { version, bytes })?;

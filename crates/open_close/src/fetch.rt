@@ -1,6 +1,6 @@
 //! What a fetch has of a file. `specs/Opening.antt` says how it grows.
 
-ghost use Rattle.std.specs.Prelude.{◌≡◌, ◌<◌, ◌≤◌, ◌++◌, length, replicate, None, IfOk};
+ghost use Rattle.std.specs.Prelude.{◌≡◌, ◌<◌, ◌≤◌, ◌++◌, length, replicate, slice_set, None, Some, IfOk};
 ghost use Rattle.limits.specs.declared.TheConstants.{FILE_MOST, PAIRS_MOST};
 ghost use Rattle.open_close.specs.Opening.{fetch_of, with_hashes, listed, slots_bytes, with_bytes};
 ghost use Rattle.open_close.specs.Shape.{broken_of};
@@ -12,6 +12,7 @@ use crate::{calls, shape};
 use hash_calls::call::Hashes;
 use lb_base::items::{Bytes, Items};
 use std::alloc::{AllocError, Global};
+use std::mem;
 
 /// An attempt whose first GETHASH had this xid, before its answer's chunks are listed. It takes no
 /// memory.
@@ -59,14 +60,31 @@ pub fn listed(alloc: Global, mut fetch: Fetch) -> Result<Fetch, AllocError>
     Ok(fetch)
 }
 
+/// A slot has these bytes. It takes no memory.
+fn filled(slots: Items<Option<Bytes>>, place: usize, bytes: Bytes) -> Items<Option<Bytes>>
+    requires { place < length slots }
+    ensures { result ≡ slice_set slots place (Some bytes) }
+{
+    let mut slots = slots.into_vec();
+    slots[place] = Some(bytes);
+    Items::from_vec(slots)
+}
+
+/// The bytes of the chunk at this place are here. It takes no memory.
+pub fn fill_slot(alloc: Global, fetch: &mut Fetch, place: usize, bytes: Bytes)
+    requires { place < length fetch.old.slots }
+    ensures { fetch.new ≡ record fetch.old { slots = slice_set fetch.old.slots place (Some bytes) } }
+{
+    let slots = mem::replace(&mut fetch.slots, Items::new(alloc));
+    fetch.slots = filled(slots, place, bytes);
+}
+
 /// The bytes have come that a READ asked for. It takes no memory.
 pub fn with_bytes(mut fetch: Fetch, call: ReadCall, bytes: Bytes) -> Fetch
     requires { call.index < length fetch.slots }
     ensures { result ≡ with_bytes fetch call bytes }
 {
-    let mut slots = fetch.slots.into_vec();
-    slots[call.index] = Some(bytes);
-    fetch.slots = Items::from_vec(slots);
+    fetch.slots = filled(fetch.slots, call.index, bytes);
     fetch.under = calls::without_read(fetch.under, call.xid);
     fetch
 }

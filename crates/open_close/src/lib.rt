@@ -6,11 +6,13 @@
 //! file is fetched, and `specs/Closing.antt` how it is stored.
 #![tactic(auto)]
 
+mod caching;
 mod calls;
 pub mod client;
 mod closing;
 mod commands;
 mod fetch;
+mod kept;
 mod local;
 mod messages;
 mod opening;

@@ -2,7 +2,7 @@
 
 ghost use Rattle.std.specs.Prelude.{◌≡◌, ◌<◌, IfOk};
 ghost use Rattle.open_close.specs.Closing.{make_call, cond_call, temp_call, commit_call};
-ghost use Rattle.open_close.specs.Opening.{hash_call, read_call};
+ghost use Rattle.open_close.specs.Opening.{lease_call, hash_call, read_call};
 
 use crate::local;
 use chunk_cut::chunk::Chunk;
@@ -14,6 +14,14 @@ use nfs3_calls::message::Nfs;
 use std::alloc::{AllocError, Global};
 use wire::message::{Body, Message};
 use xdr_codec::handle::Handle;
+
+/// The call for the version of a file.
+pub fn lease_call(alloc: Global, xid: u32, file: u64) -> Result<Message, AllocError>
+    ensures { IfOk result (λ m. m ≡ lease_call xid file) }
+{
+    let handle = Handle::of_file(alloc, file)?;
+    Ok(Message::Call(xid, Body::Lb(Lb::GetLease(handle))))
+}
 
 /// The call for the chunks of a file from a place on.
 pub fn hash_call(alloc: Global, xid: u32, file: u64, offset: u64) -> Result<Message, AllocError>

@@ -1,27 +1,29 @@
 //! The commands that open a file: its chunks are asked for, piece by piece, and then their bytes.
 //! `specs/Opening.antt` and `specs/Step.antt` say how.
 
-ghost use Rattle.std.specs.Prelude.{◌≡◌, ◌+◌, ◌<◌, ◌≤◌, ◌==◌, length, None, Some, slice_get, nat_lt, IfOk, OnOk, OnErr, false, true};
+ghost use Rattle.std.specs.Prelude.{◌≡◌, ◌+◌, ◌-◌, ◌<◌, ◌≤◌, ◌==◌, length, take, drop, None, Some, slice_get, nat_lt, is_some, IfOk, OnOk, OnErr, false, true};
+ghost use Rattle.open_close.specs.Counting.{sends_one};
+ghost use Rattle.client_cache.specs.Cache.{reserved, content_of};
+ghost use Rattle.open_close.specs.Caching.{found_all};
 ghost use Rattle.open_close.specs.Opening.{is_here, read_at, fault_in, with_bytes, other_version, fetch_of, with_hashes, listed, tries_most};
 ghost use Rattle.open_close.specs.Shape.{broken_of};
-ghost use Rattle.open_close.specs.Step.{opens, MayMissOpen, forgets, tries_anew, opened_with, retries, changes, reads_if, reads_on, lists_on, told_shape, told_version, told_hashes, told_first, misfits, told_bytes, told_chunk, told_piece, took};
-ghost use Rattle.open_close.specs.View.{state_of, whole_of, later_left, IsListing, IsReading, IsFetch, IsHeld, IsSound, IsSendingReads, HasXids, IsWithin};
+ghost use Rattle.open_close.specs.Step.{opens, asks_file, MayMissOpen, Comes, forgets, tries_anew, opened_with, retries, changes, reads_if, reads_on, lists_on, told_shape, told_version, told_hashes, told_first, misfits, told_bytes, told_chunk, told_piece, took};
+ghost use Rattle.open_close.specs.View.{state_of, whole_of, later_left, IsListing, IsReading, IsFetch, IsHeld, IsSound, IsThere, IsSendingReads, HasXids, IsWithin};
 ghost use Rattle.open_close.specs.declared.task.Stage.TheVariants as stage;
 
 use crate::calls::{self, Reads};
 use crate::state::ClientState;
 use crate::step::{BadPeer, ClientStep, Outcome};
-use crate::task::{Fetch, Local, ReadCall, Stage};
-use crate::{fetch, messages, parts, shape};
+use crate::task::{Fetch, ReadCall, Stage};
+use crate::{caching, fetch, messages, parts, shape};
 use chunk_cut::chunk::Chunk;
 use hash_calls::call::Hashes;
 use hash_calls::message::Lb;
 use lb_base::items::Bytes;
 use nfs3_calls::call::Piece;
 use nfs3_calls::message::Nfs;
-use sha1::Sha1;
 use std::alloc::{AllocError, Global};
-use wire::message::Body;
+use wire::message::{Body, Message};
 use xdr_codec::answer::Answer;
 use xdr_codec::attr::Attr;
 
@@ -48,7 +50,25 @@ impl ClientState {
         if !self.may_ask() {
             return Ok(parts::ends(alloc, Outcome::NoLink, 0, 0));
         }
-        self.ask_hashes(alloc, file)
+        self.ask_file(alloc, file)
+    }
+
+    /// The file is asked for: by its version where a content is kept, else by its chunks. An `Err`
+    /// changes nothing.
+    fn ask_file(&mut self, alloc: Global, file: u64) -> Result<ClientStep, AllocError>
+        requires sound { IsSound self.old }
+        requires idle { self.old.task ≡ None }
+        requires xids { self.old.next < 4293967297 }
+        ensures ok { IfOk result (λ a. asks_file (state_of self.old) file true ≡ (state_of self.new, a)) }
+        ensures done { IfOk result (λ a. a.missed ≡ false) }
+        ensures err { OnErr result (state_of self.new ≡ state_of self.old) }
+        ensures sound { IsSound self.new }
+    {
+        if caching::is_kept(&self.cache, file) {
+            self.ask_version(alloc, file)
+        } else {
+            self.ask_hashes(alloc, file)
+        }
     }
 
     /// The first attempt begins. An `Err` changes nothing.
@@ -56,14 +76,37 @@ impl ClientState {
         requires sound { IsSound self.old }
         requires idle { self.old.task ≡ None }
         requires xids { self.old.next < 4293967297 }
-        ensures ok { IfOk result (λ a. tries_anew (state_of self.old) file 1 0 ≡ (state_of self.new, a)) }
+        requires kept { is_some (content_of self.old.cache file) ≡ false }
+        ensures ok { IfOk result (λ a. asks_file (state_of self.old) file true ≡ (state_of self.new, a)) }
         ensures done { IfOk result (λ a. a.missed ≡ false) }
         ensures err { OnErr result (state_of self.new ≡ state_of self.old) }
         ensures sound { IsSound self.new }
     {
         let xid = self.next;
         let call = messages::hash_call(alloc, xid, file, 0)?;
-        match self.wait(alloc, file, Stage::Hashing { tries: 1, xid }, xid + 1) {
+        self.begin(alloc, file, Stage::Hashing { tries: 1, xid }, call)
+    }
+
+    /// An open begins with this call: the file has an entry in the cache, at its front. An `Err`
+    /// changes nothing.
+    #[tactic(auto, using(crate::proofs::Pending::held_of))]
+    pub fn begin(
+        &mut self,
+        alloc: Global,
+        file: u64,
+        stage: Stage,
+        call: Message,
+    ) -> Result<ClientStep, AllocError>
+        requires sound { IsSound self.old }
+        requires idle { self.old.task ≡ None }
+        requires xids { HasXids (self.old.next + 1) stage }
+        requires within { IsWithin stage }
+        ensures ok { IfOk result (λ a. (a ≡ sends_one call 0) × (state_of self.new ≡ record (state_of self.old) { next = self.old.next + 1; task = Some (record { file = file; stage = stage }); cache = reserved self.old.cache file })) }
+        ensures done { IfOk result (λ a. a.missed ≡ false) }
+        ensures err { OnErr result (state_of self.new ≡ state_of self.old) }
+        ensures sound { IsSound self.new }
+    {
+        match self.wait_there(alloc, file, stage, self.next + 1) {
             Ok(()) => Ok(parts::sends_one(alloc, call, 0)),
             Err(error) => {
                 drop(call);
@@ -72,35 +115,37 @@ impl ClientState {
         }
     }
 
-    /// The file is whole and open. An `Err` changes nothing.
-    #[tactic(auto, using(crate::proofs::Bounds::locals_with, crate::proofs::Slots::slots_small))]
+    /// The file is whole and open, its content is kept, and its chunks' places enter the index, but
+    /// those for which memory is wanting; chunks from a place on were looked up. An `Err` changes
+    /// nothing.
     fn opened_with(
         &mut self,
         alloc: Global,
         file: u64,
-        fetch: Fetch,
+        fetch: &Fetch,
+        from: usize,
         xid: u32,
         bytes: u64,
     ) -> Result<ClientStep, AllocError>
         requires held { IsHeld self.old }
-        requires within { IsReading fetch }
-        ensures ok { IfOk result (λ a. opened_with (state_of self.old) self.old.waiting.calls file xid fetch bytes ≡ (state_of self.new, a)) }
-        ensures done { IfOk result (λ a. a.missed ≡ false) }
+        requires there { IsThere self.old.cache file }
+        requires within { IsReading fetch.now }
+        requires from { from ≤ fetch.now.asked }
+        ensures ok { IfOk result (λ a. Comes self.old.index (opened_with (record (state_of self.old) { index = found_all self.old.index (take (fetch.now.asked - from) (drop from fetch.now.chunks)) }) self.old.waiting.calls file xid fetch.now bytes) (state_of self.new) a) }
         ensures err { OnErr result (whole_of self.new ≡ whole_of self.old) }
         ensures sound { OnOk result (IsSound self.new) }
         ensures held { OnErr result (IsHeld self.new) }
     {
         let content = fetch::slots_bytes(alloc, fetch.slots.as_slice(), fetch.size)?;
-        let len = content.len() as u64;
-        let sha1 = Sha1::digest(content.as_slice());
-        self.put(file, fetch.version, content)?;
+        let version = fetch.version;
+        let step = self.keep_open(alloc, file, version, content, fetch.first, bytes)?;
+        let missed = caching::enter_fetched(&mut self.index, file, fetch, from);
         self.forget(alloc, xid);
-        let outcome = Outcome::Opened { file, len, sha1 };
-        Ok(parts::ends(alloc, outcome, fetch.first, bytes))
+        Ok(ClientStep { missed, ..step })
     }
 
     /// The next attempt begins. An `Err` changes nothing.
-    fn retry(
+    pub fn retry(
         &mut self,
         alloc: Global,
         file: u64,
@@ -109,6 +154,7 @@ impl ClientState {
         bytes: u64,
     ) -> Result<ClientStep, AllocError>
         requires held { IsHeld self.old }
+        requires there { IsThere self.old.cache file }
         requires tries { tries < tries_most }
         requires xids { self.old.next + 1 + later_left tries < 4294967296 }
         ensures ok { IfOk result (λ a. tries_anew (forgets (state_of self.old) self.old.waiting.calls xid) file (tries + 1) bytes ≡ (state_of self.new, a)) }
@@ -139,6 +185,7 @@ impl ClientState {
         bytes: u64,
     ) -> Result<ClientStep, AllocError>
         requires held { IsHeld self.old }
+        requires there { IsThere self.old.cache file }
         requires tries { fetch.now.tries ≤ tries_most }
         requires xids { self.old.next + 1 + later_left fetch.now.tries < 4294967296 }
         ensures ok { IfOk result (λ a. changes (state_of self.old) self.old.waiting.calls file xid fetch.now version bytes ≡ (state_of self.new, a)) }
@@ -158,35 +205,47 @@ impl ClientState {
         Ok(parts::ends(alloc, outcome, 0, bytes))
     }
 
-    /// READs go out, and their answers are waited for. An `Err` changes nothing.
+    /// READs go out, so many, and their answers are waited for; chunks from a place on were looked up.
+    /// An `Err` changes nothing.
     fn wait_reads(
         &mut self,
         alloc: Global,
         file: u64,
         reads: Reads,
-        asked: usize,
+        from: usize,
+        count: u64,
         bytes: u64,
     ) -> Result<ClientStep, AllocError>
         requires held { IsHeld self.old }
-        requires sending { IsSendingReads asked self.old.next reads }
-        ensures ok { IfOk result (λ a. reads_if (state_of self.old) self.old.waiting.calls file 0 reads bytes false ≡ (state_of self.new, a)) }
+        requires there { IsThere self.old.cache file }
+        requires within { IsReading reads.fetch }
+        requires xids { HasXids reads.next (stage.Reading reads.fetch) }
+        requires rises { self.old.next ≤ reads.next }
+        requires from { from ≤ reads.fetch.asked }
+        requires count { count ≡ length reads.send }
+        ensures ok { IfOk result (λ a. reads_if (record (state_of self.old) { index = found_all self.old.index (take (reads.fetch.asked - from) (drop from reads.fetch.chunks)) }) self.old.waiting.calls file 0 reads bytes false ≡ (state_of self.new, a)) }
         ensures done { IfOk result (λ a. a.missed ≡ false) }
         ensures err { OnErr result (whole_of self.new ≡ whole_of self.old) }
         ensures sound { OnOk result (IsSound self.new) }
         ensures held { OnErr result (IsHeld self.new) }
     {
         let Reads { fetch, next, send } = reads;
-        let count = (fetch.asked - asked) as u64;
-        match self.wait(alloc, file, Stage::Reading(fetch), next) {
-            Ok(()) => Ok(parts::sends_reads(send, count, bytes)),
+        match self.list_reads(alloc, fetch.under.as_slice()) {
+            Ok((calls, own)) => {
+                caching::find_asked(&mut self.index, &fetch, from);
+                self.set_waiting(calls, own, file, Stage::Reading(fetch), next);
+                Ok(parts::sends_reads(send, count, bytes))
+            }
             Err(error) => {
+                drop(fetch);
                 drop(send);
                 Err(error)
             }
         }
     }
 
-    /// All READs that may be under way go out, or all chunks are here. An `Err` changes nothing.
+    /// The chunks that are left are taken from what is kept, or READs go out for them, or all are here.
+    /// An `Err` changes nothing.
     fn read_on(
         &mut self,
         alloc: Global,
@@ -196,32 +255,31 @@ impl ClientState {
         bytes: u64,
     ) -> Result<ClientStep, AllocError>
         requires held { IsHeld self.old }
+        requires there { IsThere self.old.cache file }
         requires within { IsReading fetch }
         requires xids { HasXids self.old.next (stage.Reading fetch) }
-        ensures ok { IfOk result (λ a. reads_on (state_of self.old) self.old.waiting.calls file xid fetch bytes ≡ (state_of self.new, a)) }
-        ensures done { IfOk result (λ a. a.missed ≡ false) }
+        ensures ok { IfOk result (λ a. Comes self.old.index (reads_on (state_of self.old) self.old.waiting.calls file xid fetch bytes) (state_of self.new) a) }
         ensures err { OnErr result (whole_of self.new ≡ whole_of self.old) }
         ensures sound { OnOk result (IsSound self.new) }
         ensures held { OnErr result (IsHeld self.new) }
     {
-        let asked = fetch.asked;
-        let reads = calls::read_all(alloc, file, fetch, self.next)?;
+        let from = fetch.asked;
+        let under = fetch.under.len();
+        let reads = calls::read_all(alloc, &self.cache, &self.index, file, fetch, self.next)?;
         if calls::is_here(&reads.fetch) {
-            let Reads {
-                fetch,
-                next: _,
-                send,
-            } = reads;
-            drop(send);
-            self.opened_with(alloc, file, fetch, xid, bytes)
+            let done = self.opened_with(alloc, file, &reads.fetch, from, xid, bytes);
+            drop(reads);
+            done
         } else {
-            self.wait_reads(alloc, file, reads, asked, bytes)
+            let count = (reads.fetch.under.len() - under) as u64;
+            self.wait_reads(alloc, file, reads, from, count, bytes)
         }
     }
 
     /// The further chunks are asked for. An `Err` changes nothing.
     fn list_on(&mut self, alloc: Global, file: u64, fetch: Fetch) -> Result<ClientStep, AllocError>
         requires held { IsHeld self.old }
+        requires there { IsThere self.old.cache file }
         requires within { IsListing fetch }
         requires xids { HasXids (self.old.next + 1) (stage.Listing 0 fetch) }
         ensures ok { IfOk result (λ a. lists_on (state_of self.old) self.old.waiting.calls file 0 fetch false ≡ (state_of self.new, a)) }
@@ -252,11 +310,11 @@ impl ClientState {
         xid: u32,
     ) -> Result<ClientStep, AllocError>
         requires held { IsHeld self.old }
+        requires there { IsThere self.old.cache file }
         requires within { IsFetch fetch }
         requires fresh { fetch.asked ≡ 0 }
         requires xids { HasXids self.old.next (stage.Reading fetch) }
-        ensures ok { IfOk result (λ a. reads_on (state_of self.old) self.old.waiting.calls file xid (listed fetch) 0 ≡ (state_of self.new, a)) }
-        ensures done { IfOk result (λ a. a.missed ≡ false) }
+        ensures ok { IfOk result (λ a. Comes self.old.index (reads_on (state_of self.old) self.old.waiting.calls file xid (listed fetch) 0) (state_of self.new) a) }
         ensures err { OnErr result (whole_of self.new ≡ whole_of self.old) }
         ensures sound { OnOk result (IsSound self.new) }
         ensures held { OnErr result (IsHeld self.new) }
@@ -276,11 +334,11 @@ impl ClientState {
         xid: u32,
     ) -> Result<ClientStep, AllocError>
         requires held { IsHeld self.old }
+        requires there { IsThere self.old.cache file }
         requires within { IsListing fetch }
         requires can { broken_of fetch hashes.now ≡ None }
         requires xids { HasXids self.old.next (stage.Listing 0 fetch) }
-        ensures ok { IfOk result (λ a. lists_on (state_of self.old) self.old.waiting.calls file xid (with_hashes fetch hashes.now) hashes.now.eof ≡ (state_of self.new, a)) }
-        ensures done { IfOk result (λ a. a.missed ≡ false) }
+        ensures ok { IfOk result (λ a. Comes self.old.index (lists_on (state_of self.old) self.old.waiting.calls file xid (with_hashes fetch hashes.now) hashes.now.eof) (state_of self.new) a) }
         ensures err { OnErr result (whole_of self.new ≡ whole_of self.old) }
         ensures sound { OnOk result (IsSound self.new) }
         ensures held { OnErr result (IsHeld self.new) }
@@ -303,10 +361,10 @@ impl ClientState {
         xid: u32,
     ) -> Result<ClientStep, AllocError>
         requires held { IsHeld self.old }
+        requires there { IsThere self.old.cache file }
         requires within { IsListing fetch }
         requires xids { HasXids self.old.next (stage.Listing 0 fetch) }
-        ensures ok { IfOk result (λ a. told_shape (state_of self.old) self.old.waiting.calls file xid fetch hashes.now (broken_of fetch hashes.now) ≡ (state_of self.new, a)) }
-        ensures done { IfOk result (λ a. a.missed ≡ false) }
+        ensures ok { IfOk result (λ a. Comes self.old.index (told_shape (state_of self.old) self.old.waiting.calls file xid fetch hashes.now (broken_of fetch hashes.now)) (state_of self.new) a) }
         ensures err { OnErr result (whole_of self.new ≡ whole_of self.old) }
         ensures sound { OnOk result (IsSound self.new) }
         ensures held { OnErr result (IsHeld self.new) }
@@ -328,10 +386,10 @@ impl ClientState {
         xid: u32,
     ) -> Result<ClientStep, AllocError>
         requires held { IsHeld self.old }
+        requires there { IsThere self.old.cache file }
         requires within { IsListing fetch }
         requires xids { HasXids self.old.next (stage.Listing 0 fetch) }
-        ensures ok { IfOk result (λ a. told_version (state_of self.old) self.old.waiting.calls file xid fetch hashes.now (hashes.now.version == fetch.version) ≡ (state_of self.new, a)) }
-        ensures done { IfOk result (λ a. a.missed ≡ false) }
+        ensures ok { IfOk result (λ a. Comes self.old.index (told_version (state_of self.old) self.old.waiting.calls file xid fetch hashes.now (hashes.now.version == fetch.version)) (state_of self.new) a) }
         ensures err { OnErr result (whole_of self.new ≡ whole_of self.old) }
         ensures sound { OnOk result (IsSound self.new) }
         ensures held { OnErr result (IsHeld self.new) }
@@ -356,6 +414,7 @@ impl ClientState {
         attr: &Option<Attr>,
     ) -> Result<ClientStep, AllocError>
         requires held { IsHeld self.old }
+        requires there { IsThere self.old.cache file }
         requires tries { fetch.now.tries ≤ tries_most }
         requires xids { self.old.next + 1 + later_left fetch.now.tries < 4294967296 }
         ensures ok { IfOk result (λ a. misfits (state_of self.old) self.old.waiting.calls file xid fetch.now fault (length bytes.now) (other_version fetch.now.version attr.now) ≡ (state_of self.new, a)) }
@@ -384,12 +443,12 @@ impl ClientState {
         bytes: Bytes,
     ) -> Result<ClientStep, AllocError>
         requires held { IsHeld self.old }
+        requires there { IsThere self.old.cache file }
         requires within { IsReading fetch }
         requires xids { HasXids self.old.next (stage.Reading fetch) }
         requires chunk { slice_get fetch.chunks call.index ≡ Some chunk.now }
         requires fits { length bytes ≡ chunk.now.len }
-        ensures ok { IfOk result (λ a. reads_on (state_of self.old) self.old.waiting.calls file xid (with_bytes fetch call bytes) (length bytes) ≡ (state_of self.new, a)) }
-        ensures done { IfOk result (λ a. a.missed ≡ false) }
+        ensures ok { IfOk result (λ a. Comes self.old.index (reads_on (state_of self.old) self.old.waiting.calls file xid (with_bytes fetch call bytes) (length bytes)) (state_of self.new) a) }
         ensures err { OnErr result (whole_of self.new ≡ whole_of self.old) }
         ensures sound { OnOk result (IsSound self.new) }
         ensures held { OnErr result (IsHeld self.new) }
@@ -407,13 +466,15 @@ impl ClientState {
         fetch: Fetch,
         xid: u32,
         call: ReadCall,
+        chunk: &Chunk,
         piece: Piece,
     ) -> Result<ClientStep, AllocError>
         requires held { IsHeld self.old }
+        requires there { IsThere self.old.cache file }
         requires within { IsReading fetch }
         requires xids { HasXids self.old.next (stage.Reading fetch) }
-        ensures ok { IfOk result (λ a. told_chunk (state_of self.old) self.old.waiting.calls file xid fetch call piece (slice_get fetch.chunks call.index) ≡ (state_of self.new, a)) }
-        ensures done { IfOk result (λ a. a.missed ≡ false) }
+        requires chunk { slice_get fetch.chunks call.index ≡ Some chunk.now }
+        ensures ok { IfOk result (λ a. Comes self.old.index (told_bytes (state_of self.old) self.old.waiting.calls file xid fetch call piece (fault_in chunk.now piece.bytes (length piece.bytes == chunk.now.len))) (state_of self.new) a) }
         ensures err { OnErr result (whole_of self.new ≡ whole_of self.old) }
         ensures sound { OnOk result (IsSound self.new) }
         ensures held { OnErr result (IsHeld self.new) }
@@ -424,12 +485,35 @@ impl ClientState {
             eof: _,
             bytes,
         } = piece;
-        let Some(chunk) = calls::chunk_at(fetch.chunks.as_slice(), call.index) else {
-            return Ok(self.unknown(alloc, xid));
-        };
-        match parts::fault_in(&chunk, bytes.as_slice()) {
+        match parts::fault_in(chunk, bytes.as_slice()) {
             Some(fault) => self.misfit(alloc, file, &fetch, xid, fault, &bytes, &attr),
-            None => self.keep(alloc, file, fetch, xid, call, &chunk, bytes),
+            None => self.keep(alloc, file, fetch, xid, call, chunk, bytes),
+        }
+    }
+
+    /// The bytes of a chunk have come, if there is one at the place that was read. An `Err` changes
+    /// nothing.
+    fn told_read(
+        &mut self,
+        alloc: Global,
+        file: u64,
+        fetch: Fetch,
+        xid: u32,
+        call: ReadCall,
+        piece: Piece,
+    ) -> Result<ClientStep, AllocError>
+        requires held { IsHeld self.old }
+        requires there { IsThere self.old.cache file }
+        requires within { IsReading fetch }
+        requires xids { HasXids self.old.next (stage.Reading fetch) }
+        ensures ok { IfOk result (λ a. Comes self.old.index (told_chunk (state_of self.old) self.old.waiting.calls file xid fetch call piece (slice_get fetch.chunks call.index)) (state_of self.new) a) }
+        ensures err { OnErr result (whole_of self.new ≡ whole_of self.old) }
+        ensures sound { OnOk result (IsSound self.new) }
+        ensures held { OnErr result (IsHeld self.new) }
+    {
+        match calls::chunk_at(fetch.chunks.as_slice(), call.index) {
+            Some(chunk) => self.told_bytes(alloc, file, fetch, xid, call, &chunk, piece),
+            None => Ok(self.unknown(alloc, xid)),
         }
     }
 
@@ -443,16 +527,16 @@ impl ClientState {
         piece: Piece,
     ) -> Result<ClientStep, AllocError>
         requires held { IsHeld self.old }
+        requires there { IsThere self.old.cache file }
         requires within { IsReading fetch }
         requires xids { HasXids self.old.next (stage.Reading fetch) }
-        ensures ok { IfOk result (λ a. told_piece (state_of self.old) self.old.waiting.calls file xid fetch piece (read_at fetch.under xid) ≡ (state_of self.new, a)) }
-        ensures done { IfOk result (λ a. a.missed ≡ false) }
+        ensures ok { IfOk result (λ a. Comes self.old.index (told_piece (state_of self.old) self.old.waiting.calls file xid fetch piece (read_at fetch.under xid)) (state_of self.new) a) }
         ensures err { OnErr result (whole_of self.new ≡ whole_of self.old) }
         ensures sound { OnOk result (IsSound self.new) }
         ensures held { OnErr result (IsHeld self.new) }
     {
         match calls::read_at(fetch.under.as_slice(), xid) {
-            Some(call) => self.told_bytes(alloc, file, fetch, xid, call, piece),
+            Some(call) => self.told_read(alloc, file, fetch, xid, call, piece),
             None => Ok(self.unknown(alloc, xid)),
         }
     }
@@ -468,10 +552,10 @@ impl ClientState {
         body: Body,
     ) -> Result<ClientStep, AllocError>
         requires held { IsHeld self.old }
+        requires there { IsThere self.old.cache file }
         requires tries { tries ≤ tries_most }
         requires xids { HasXids self.old.next (stage.Hashing tries 0) }
-        ensures ok { IfOk result (λ a. took (state_of self.old) self.old.waiting.calls file (stage.Hashing tries 0) xid body ≡ (state_of self.new, a)) }
-        ensures done { IfOk result (λ a. a.missed ≡ false) }
+        ensures ok { IfOk result (λ a. Comes self.old.index (took (state_of self.old) self.old.waiting.calls file (stage.Hashing tries 0) xid body) (state_of self.new) a) }
         ensures err { OnErr result (whole_of self.new ≡ whole_of self.old) }
         ensures sound { OnOk result (IsSound self.new) }
         ensures held { OnErr result (IsHeld self.new) }
@@ -501,10 +585,10 @@ impl ClientState {
         body: Body,
     ) -> Result<ClientStep, AllocError>
         requires held { IsHeld self.old }
+        requires there { IsThere self.old.cache file }
         requires within { IsListing fetch }
         requires xids { HasXids self.old.next (stage.Listing 0 fetch) }
-        ensures ok { IfOk result (λ a. took (state_of self.old) self.old.waiting.calls file (stage.Listing 0 fetch) xid body ≡ (state_of self.new, a)) }
-        ensures done { IfOk result (λ a. a.missed ≡ false) }
+        ensures ok { IfOk result (λ a. Comes self.old.index (took (state_of self.old) self.old.waiting.calls file (stage.Listing 0 fetch) xid body) (state_of self.new) a) }
         ensures err { OnErr result (whole_of self.new ≡ whole_of self.old) }
         ensures sound { OnOk result (IsSound self.new) }
         ensures held { OnErr result (IsHeld self.new) }
@@ -531,10 +615,10 @@ impl ClientState {
         body: Body,
     ) -> Result<ClientStep, AllocError>
         requires held { IsHeld self.old }
+        requires there { IsThere self.old.cache file }
         requires within { IsReading fetch }
         requires xids { HasXids self.old.next (stage.Reading fetch) }
-        ensures ok { IfOk result (λ a. took (state_of self.old) self.old.waiting.calls file (stage.Reading fetch) xid body ≡ (state_of self.new, a)) }
-        ensures done { IfOk result (λ a. a.missed ≡ false) }
+        ensures ok { IfOk result (λ a. Comes self.old.index (took (state_of self.old) self.old.waiting.calls file (stage.Reading fetch) xid body) (state_of self.new) a) }
         ensures err { OnErr result (whole_of self.new ≡ whole_of self.old) }
         ensures sound { OnOk result (IsSound self.new) }
         ensures held { OnErr result (IsHeld self.new) }

@@ -13,6 +13,7 @@ ghost use Rattle.open_close.specs.Opening.{fault_in, fault_in_digest, shown_vers
 ghost use Rattle.open_close.specs.State.{local_at, local_bytes};
 ghost use Rattle.open_close.specs.Step.{is_open, refusal_code, fault_of};
 ghost use Rattle.open_close.specs.View.{IsLocalBounded};
+ghost use Rattle.open_close.specs.declared.step.Outcome.TheVariants as outcome;
 
 use crate::step::{BadPeer, ClientStep, Counts, Ended, Outcome};
 use crate::task::Local;
@@ -94,6 +95,20 @@ pub fn ends(alloc: Global, outcome: Outcome, rests_on: u32, bytes: u64) -> Clien
         },
         missed: false,
     }
+}
+
+/// A close ends: the file has this content in this version, by the call with this xid. It takes no
+/// memory.
+pub fn closed(alloc: Global, file: u64, version: u64, content: &[u8], xid: u32) -> ClientStep
+    ensures { result ≡ ends (outcome.Closed file version (length content.now) (sha1 content.now)) xid 0 }
+{
+    let outcome = Outcome::Closed {
+        file,
+        version,
+        len: content.len() as u64,
+        sha1: Sha1::digest(content),
+    };
+    ends(alloc, outcome, xid, 0)
 }
 
 /// Whether the file is open.

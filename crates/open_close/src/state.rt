@@ -1,16 +1,20 @@
 //! The client's fields, and how they change where an operation goes on or ends. `specs/View.antt`
 //! says which state they are, and what always holds of them.
 
-ghost use Rattle.std.specs.Prelude.{◌≡◌, ◌+◌, ◌<◌, ◌≤◌, ◌++◌, [], length, None, Some, IfOk, OnOk, OnErr, false, true};
-ghost use Rattle.open_close.specs.State.{State, pending, pending_in, has_call, without_local};
+ghost use Rattle.std.specs.Prelude.{◌≡◌, ◌+◌, ◌<◌, ◌≤◌, ◌++◌, [], length, map, None, Some, IfOk, OnOk, OnErr, false, true};
+ghost use Rattle.client_cache.specs.Cache.{reserved};
+ghost use Rattle.open_close.specs.State.{State, evicted, forged, index_cleared, read_pending, pending, pending_in, has_call, without_local, local_bytes};
 ghost use Rattle.open_close.specs.Step.{bad_peer, refused, denied, drops, unawaited, unknown, cut, cut_off, joined, forgets, idle, may_ask};
-ghost use Rattle.open_close.specs.View.{state_of, whole_of, IsBase, IsHeld, IsSound, HasXids, IsWithin};
+ghost use Rattle.open_close.specs.View.{state_of, whole_of, IsBase, IsHeld, IsSound, IsThere, StageIsThere, HasXids, IsWithin};
 ghost use Rattle.open_close.specs.declared.task.Stage.TheVariants as stage;
 
 use crate::step::{BadPeer, ClientStep, Outcome};
-use crate::task::{Local, Stage, Task};
+use crate::task::{Local, ReadCall, Stage, Task};
 use crate::{parts, waiting};
-use lb_base::items::Items;
+use chunk_index::index::{Index, Key};
+use chunk_index::place::Place;
+use client_cache::cache::Cache;
+use lb_base::items::{Bytes, Items};
 use std::alloc::{AllocError, Global};
 use std::collections::BTreeMap;
 use std::mem;
@@ -38,6 +42,10 @@ pub struct ClientState {
     pub waiting: Waiting,
     /// How many of them are of the operation under way.
     pub own: usize,
+    /// What is kept of files.
+    pub cache: Cache,
+    /// Where the bytes of chunks may be found among what is kept.
+    pub index: Index,
 }
 
 /// The calls of a stage, and behind them those of ended operations and attempts.
@@ -80,8 +88,52 @@ impl ClientState {
         &self.waiting.calls.as_slice()[self.own..]
     }
 
-    /// The operation under way has come this far, and this is the next xid. An `Err` changes nothing.
+    /// These READs, and behind them the calls of ended operations and attempts, and how many are
+    /// READs of these.
+    pub fn list_reads(
+        &self,
+        alloc: Global,
+        under: &[ReadCall],
+    ) -> Result<(Items<Pending>, usize), AllocError>
+        requires { IsBase self.now }
+        ensures calls { IfOk result (λ p. p.0 ≡ map read_pending under.now ++ (state_of self.now).forgotten) }
+        ensures own { IfOk result (λ p. p.1 ≡ length (map read_pending under.now)) }
+    {
+        let mut calls = waiting::reads_pending(alloc, under)?;
+        let own = calls.len();
+        calls.extend_from_slice(self.forgotten())?;
+        Ok((Items::from_vec(calls), own))
+    }
+
+    /// The operation under way has come this far, this is the next xid, and these calls wait, of which
+    /// so many are its own. It takes no memory.
     #[tactic(auto, using(crate::proofs::Pending::drop_front, crate::proofs::Pending::front_fits))]
+    pub fn set_waiting(
+        &mut self,
+        calls: Items<Pending>,
+        own: usize,
+        file: u64,
+        stage: Stage,
+        next: u32,
+    )
+        requires held { IsHeld self.old }
+        requires rises { self.old.next ≤ next }
+        requires xids { HasXids next stage }
+        requires within { IsWithin stage }
+        requires there { StageIsThere self.old.cache file stage }
+        requires calls { calls ≡ pending_in stage ++ (state_of self.old).forgotten }
+        requires own { own ≡ length (pending_in stage) }
+        ensures rest { state_of self.new ≡ record (state_of self.old) { next = next; task = Some (record { file = file; stage = stage }) } }
+        ensures sound { IsSound self.new }
+    {
+        self.waiting.calls = calls;
+        self.own = own;
+        self.next = next;
+        let old = self.task.replace(Task { file, stage });
+        drop(old);
+    }
+
+    /// The operation under way has come this far, and this is the next xid. An `Err` changes nothing.
     pub fn wait(
         &mut self,
         alloc: Global,
@@ -93,18 +145,45 @@ impl ClientState {
         requires rises { self.old.next ≤ next }
         requires xids { HasXids next stage }
         requires within { IsWithin stage }
+        requires there { StageIsThere self.old.cache file stage }
         ensures ok { OnOk result (state_of self.new ≡ record (state_of self.old) { next = next; task = Some (record { file = file; stage = stage }) }) }
         ensures err { OnErr result (whole_of self.new ≡ whole_of self.old) }
         ensures sound { OnOk result (IsSound self.new) }
         ensures held { OnErr result (IsHeld self.new) }
     {
         let (calls, own) = with_forgotten(alloc, &stage, self.forgotten())?;
-        self.waiting.calls = calls;
-        self.own = own;
-        self.next = next;
-        let old = self.task.replace(Task { file, stage });
-        drop(old);
+        self.set_waiting(calls, own, file, stage, next);
         Ok(())
+    }
+
+    /// The same, and the file's entry in the cache is there and goes first. An `Err` changes nothing.
+    pub fn wait_there(
+        &mut self,
+        alloc: Global,
+        file: u64,
+        stage: Stage,
+        next: u32,
+    ) -> Result<(), AllocError>
+        requires held { IsHeld self.old }
+        requires rises { self.old.next ≤ next }
+        requires xids { HasXids next stage }
+        requires within { IsWithin stage }
+        ensures ok { OnOk result (state_of self.new ≡ record (state_of self.old) { next = next; task = Some (record { file = file; stage = stage }); cache = reserved self.old.cache file }) }
+        ensures err { OnErr result (whole_of self.new ≡ whole_of self.old) }
+        ensures sound { OnOk result (IsSound self.new) }
+        ensures held { OnErr result (IsHeld self.new) }
+    {
+        let (calls, own) = with_forgotten(alloc, &stage, self.forgotten())?;
+        match self.cache.reserve(file) {
+            Ok(()) => {
+                self.set_waiting(calls, own, file, stage, next);
+                Ok(())
+            }
+            Err(error) => {
+                drop(stage);
+                Err(error)
+            }
+        }
     }
 
     /// An attempt has ended by the answer with this xid, and the next is under way with the GETHASH of
@@ -119,6 +198,7 @@ impl ClientState {
         requires held { IsHeld self.old }
         requires xids { HasXids (self.old.next + 1) (stage.Hashing tries self.old.next) }
         requires within { IsWithin (stage.Hashing tries self.old.next) }
+        requires there { IsThere self.old.cache file }
         ensures ok { OnOk result (state_of self.new ≡ record (forgets (state_of self.old) self.old.waiting.calls xid) { next = self.old.next + 1; task = Some (record { file = file; stage = stage.Hashing tries self.old.next }) }) }
         ensures err { OnErr result (whole_of self.new ≡ whole_of self.old) }
         ensures sound { OnOk result (IsSound self.new) }
@@ -159,6 +239,57 @@ impl ClientState {
     {
         let local = self.opened.remove(&file);
         drop(local);
+    }
+
+    /// The file is no longer open, and this was its local content; nothing where it wasn't open. It
+    /// takes no memory.
+    #[tactic(auto, using(crate::proofs::Bounds::locals_without, crate::proofs::Locals::remove_is_without))]
+    pub fn take_local(&mut self, alloc: Global, file: u64) -> Bytes
+        requires { IsBase self.old }
+        ensures bytes { result ≡ local_bytes self.old.opened.entries file }
+        ensures rest { state_of self.new ≡ record (state_of self.old) { opened = without_local self.old.opened.entries file } }
+        ensures task { self.new.task ≡ self.old.task }
+        ensures waiting { self.new.waiting ≡ self.old.waiting }
+        ensures own { self.new.own ≡ self.old.own }
+        ensures cache { self.new.cache ≡ self.old.cache }
+        ensures base { IsBase self.new }
+    {
+        match self.opened.remove(&file) {
+            Some(local) => local.bytes,
+            None => Items::new(alloc),
+        }
+    }
+
+    /// The content that is kept of a file is dropped, if one is. It takes no memory.
+    pub fn evict(&mut self, file: u64)
+        requires { IsSound self.old }
+        ensures rest { state_of self.new ≡ evicted (state_of self.old) file }
+        ensures sound { IsSound self.new }
+    {
+        self.cache.evict(file);
+    }
+
+    /// Any place stands in the index under any key. The one error is want of memory, and changes
+    /// nothing.
+    pub fn forge(&mut self, key: Key, place: Place) -> Result<(), AllocError>
+        requires { IsSound self.old }
+        ensures ok { OnOk result (state_of self.new ≡ forged (state_of self.old) key place) }
+        ensures err { OnErr result (state_of self.new ≡ state_of self.old) }
+        ensures sound { IsSound self.new }
+    {
+        match self.index.forge(key, place) {
+            Ok(()) => Ok(()),
+            Err(_) => Err(AllocError),
+        }
+    }
+
+    /// All places are dropped from the index. It takes no memory.
+    pub fn clear_index(&mut self)
+        requires { IsSound self.old }
+        ensures rest { state_of self.new ≡ index_cleared (state_of self.old) }
+        ensures sound { IsSound self.new }
+    {
+        self.index.clear();
     }
 
     /// The connection is no longer used, and nothing waits.

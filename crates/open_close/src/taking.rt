@@ -2,8 +2,8 @@
 
 ghost use Rattle.std.specs.Prelude.{◌≡◌, None, Some, Ok, IfOk, OnOk, OnErr, false, true};
 ghost use Rattle.open_close.specs.State.{pending, has_call};
-ghost use Rattle.open_close.specs.Step.{command_step, forgets, took, took_if, denied_if, got_message, got_fault, got_step, missed_at, MayMiss, MayMissCommand, InCommit, IsCommitting};
-ghost use Rattle.open_close.specs.View.{state_of, whole_of, IsHeld, IsSound, HasXids, IsWithin};
+ghost use Rattle.open_close.specs.Step.{command_step, forgets, took, took_if, denied_if, got_message, got_fault, got_step, missed_at, Comes, MayMiss, MayMissCommand, InCommit, IsCommitting};
+ghost use Rattle.open_close.specs.View.{state_of, whole_of, IsHeld, IsSound, StageIsThere, HasXids, IsWithin};
 ghost use Rattle.wire.specs.declared.message.Message.TheVariants as message;
 
 use crate::state::ClientState;
@@ -64,8 +64,8 @@ impl ClientState {
         requires held { IsHeld self.old }
         requires xids { HasXids self.old.next task.stage }
         requires within { IsWithin task.stage }
-        ensures ok { IfOk result (λ a. took (state_of self.old) self.old.waiting.calls task.file task.stage xid body ≡ (state_of self.new, a)) }
-        ensures done { IfOk result (λ a. a.missed ≡ false) }
+        requires there { StageIsThere self.old.cache task.file task.stage }
+        ensures ok { IfOk result (λ a. Comes self.old.index (took (state_of self.old) self.old.waiting.calls task.file task.stage xid body) (state_of self.new) a) }
         ensures err { OnErr result (whole_of self.new ≡ whole_of self.old) }
         ensures calm { OnErr result (InCommit task.stage → ⊥) }
         ensures sound { OnOk result (IsSound self.new) }
@@ -73,6 +73,7 @@ impl ClientState {
     {
         let Task { file, stage } = task;
         match stage {
+            Stage::Asking(_) => self.took_lease(alloc, file, xid, body),
             Stage::Hashing { tries, xid: _ } => self.took_first(alloc, file, tries, xid, body),
             Stage::Listing { xid: _, fetch } => self.took_piece(alloc, file, fetch, xid, body),
             Stage::Reading(fetch) => self.took_bytes(alloc, file, fetch, xid, body),
@@ -94,8 +95,8 @@ impl ClientState {
         requires held { IsHeld self.old }
         requires xids { HasXids self.old.next task.stage }
         requires within { IsWithin task.stage }
-        ensures ok { IfOk result (λ a. took (state_of self.old) self.old.waiting.calls task.file task.stage xid body ≡ (state_of self.new, a)) }
-        ensures done { IfOk result (λ a. a.missed ≡ false) }
+        requires there { StageIsThere self.old.cache task.file task.stage }
+        ensures ok { IfOk result (λ a. Comes self.old.index (took (state_of self.old) self.old.waiting.calls task.file task.stage xid body) (state_of self.new) a) }
         ensures err { OnErr result (state_of self.new ≡ forgets (state_of self.old) self.old.waiting.calls xid) }
         ensures calm { OnErr result (InCommit task.stage → ⊥) }
         ensures sound { IsSound self.new }
@@ -113,8 +114,7 @@ impl ClientState {
     /// COMMITTMP was sent.
     fn answered(&mut self, alloc: Global, xid: u32, body: Body) -> Result<ClientStep, AllocError>
         requires { IsSound self.old }
-        ensures ok { IfOk result (λ a. got_message (state_of self.old) self.old.task (message.Answer xid body) ≡ (state_of self.new, a)) }
-        ensures done { IfOk result (λ a. a.missed ≡ false) }
+        ensures ok { IfOk result (λ a. Comes self.old.index (got_message (state_of self.old) self.old.task (message.Answer xid body)) (state_of self.new) a) }
         ensures err { OnErr result (state_of self.new ≡ missed_at (state_of self.old) (Ok (message.Answer xid body))) }
         ensures sure { OnErr result (MayMiss (state_of self.old) (Ok (message.Answer xid body))) }
         ensures sound { IsSound self.new }
@@ -169,8 +169,7 @@ impl ClientState {
     /// come once COMMITTMP was sent.
     fn got_message(&mut self, alloc: Global, message: Message) -> Result<ClientStep, AllocError>
         requires { IsSound self.old }
-        ensures ok { IfOk result (λ a. got_message (state_of self.old) self.old.task message ≡ (state_of self.new, a)) }
-        ensures done { IfOk result (λ a. a.missed ≡ false) }
+        ensures ok { IfOk result (λ a. Comes self.old.index (got_message (state_of self.old) self.old.task message) (state_of self.new) a) }
         ensures err { OnErr result (state_of self.new ≡ missed_at (state_of self.old) (Ok message)) }
         ensures sure { OnErr result (MayMiss (state_of self.old) (Ok message)) }
         ensures sound { IsSound self.new }
@@ -198,8 +197,7 @@ impl ClientState {
         _now: u64,
     ) -> Result<ClientStep, AllocError>
         requires { IsSound self.old }
-        ensures ok { IfOk result (λ a. got_step (state_of self.old) message _now ≡ (state_of self.new, a)) }
-        ensures done { IfOk result (λ a. a.missed ≡ false) }
+        ensures ok { IfOk result (λ a. Comes self.old.index (got_step (state_of self.old) message _now) (state_of self.new) a) }
         ensures err { OnErr result (state_of self.new ≡ missed_at (state_of self.old) message) }
         ensures sure { OnErr result (MayMiss (state_of self.old) message) }
         ensures sound { IsSound self.new }

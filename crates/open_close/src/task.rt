@@ -75,6 +75,8 @@ pub struct Store {
 /// How far an operation has come.
 #[derive(Drop)]
 pub enum Stage {
+    /// An open: a GETLEASE is under way with this xid, for the version of a content that is kept.
+    Asking(u32),
     /// An open: the first GETHASH of an attempt is under way.
     Hashing {
         /// Which attempt it is, 1 to 4.

@@ -37,7 +37,7 @@ fn store_pending(call: &StoreCall) -> Pending
 }
 
 /// READs, as ones that wait.
-fn reads_pending(alloc: Global, under: &[ReadCall]) -> Result<Vec<Pending>, AllocError>
+pub fn reads_pending(alloc: Global, under: &[ReadCall]) -> Result<Vec<Pending>, AllocError>
     ensures { IfOk result (λ ps. ps.items ≡ map read_pending under.now) }
 {
     let mut calls = Vec::new(alloc);
@@ -75,6 +75,7 @@ pub fn pending_in(alloc: Global, stage: &Stage) -> Result<Vec<Pending>, AllocErr
     ensures { IfOk result (λ ps. ps.items ≡ pending_in stage.now) }
 {
     match stage {
+        Stage::Asking(xid) => lb_pending(alloc, LbProc::GetLease, *xid),
         Stage::Hashing { tries: _, xid } => lb_pending(alloc, LbProc::GetHash, *xid),
         Stage::Listing { xid, fetch: _ } => lb_pending(alloc, LbProc::GetHash, *xid),
         Stage::Reading(fetch) => reads_pending(alloc, fetch.under.as_slice()),

@@ -3,9 +3,9 @@ use Rattle.open_close.specs.Opening.{reads_more, reads_all}
 use Rattle.open_close.specs.View.{IsSendingReads}
 use Rattle.open_close.proofs.calls.read_all.Given as goal
 
--- the READs that are left lead to the same end
+-- the chunks that are left lead to the same end
 abbrev pub invariant-loop-i : goal.invariant-loop-i
 invariant-loop-i l = record {
-  same : reads_more (l.room - l._i) l.file l.reads ≡ reads_all l.file l.fn.fetch l.fn.next;
-  kept : IsSendingReads l.fn.fetch.asked l.fn.next l.reads;
+  same : reads_more (l.left - l._i) l.cache l.index l.file l.reads ≡ reads_all l.cache l.index l.file l.fn.fetch l.fn.next;
+  sending : IsSendingReads l.fn.fetch l.fn.next l.reads;
 }

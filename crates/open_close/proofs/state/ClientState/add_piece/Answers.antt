@@ -1,7 +1,12 @@
-use Rattle.std.proofs.Common.{◌+◌, sym, ap, subst, ◌∙◌}
+use Rattle.std.proofs.Common.{◌≡◌, ◌+◌, sym, ap, subst, ◌∙◌, Bool, false, IfOk}
+use Rattle.open_close.specs.Opening.{with_hashes}
+use Rattle.open_close.specs.State.{State}
+use Rattle.open_close.specs.Step.{lists_on}
+use Rattle.open_close.specs.declared.step.ClientStep.{ClientStep}
+use Rattle.open_close.proofs.Comings.{comes_ok}
 use Rattle.open_close.specs.declared.task.Fetch.{Fetch}
 use Rattle.open_close.specs.declared.task.Stage.TheVariants as stage
-use Rattle.open_close.specs.View.{IsFetch, IsListing, HasXids}
+use Rattle.open_close.specs.View.{state_of, IsFetch, IsListing, HasXids}
 use Rattle.open_close.proofs.Pieces.{goes_on, is_whole, more_xids, read_xids}
 use Rattle.open_close.proofs.state.ClientState.add_piece.Goals as goal
 
@@ -19,3 +24,15 @@ list_on-requires-clause-within c = subst IsListing (sym c.in_ok-fetch.ensures) (
 
 pub list_on-requires-clause-xids : goal.list_on-requires-clause-xids
 list_on-requires-clause-xids c = subst (λ (f : Fetch). HasXids (c.args.self.now.next + 1) (stage.Listing 0 f)) (sym c.in_ok-fetch.ensures) (more_xids c.args.fetch c.args.hashes.now c.args.self.now.next c.requires.within c.requires.can c.if-hashes.false c.requires.xids)
+
+pub returns-else-hashes-clause-ok : goal.returns-else-hashes-clause-ok
+returns-else-hashes-clause-ok c =
+    let s = c.args.self.now in
+    let f = c.args.fetch in
+    let h = c.args.hashes.now in
+    let lists : Fetch → Bool → State × ClientStep = λ g eof. lists_on (state_of s) s.waiting.calls c.args.file c.args.xid g eof in
+    let one : IfOk c.list_on.result (λ (a : ClientStep). lists (with_hashes f h) false ≡ (state_of c.list_on.new.self, a)) =
+    subst (λ (g : Fetch). IfOk c.list_on.result (λ (a : ClientStep). lists g false ≡ (state_of c.list_on.new.self, a))) c.in_ok-fetch.ensures c.list_on.ensures.ok in
+    let so : IfOk c.list_on.result (λ (a : ClientStep). lists (with_hashes f h) h.eof ≡ (state_of c.list_on.new.self, a)) =
+    subst (λ (b : Bool). IfOk c.list_on.result (λ (a : ClientStep). lists (with_hashes f h) b ≡ (state_of c.list_on.new.self, a))) (sym c.if-hashes.false) one in
+    comes_ok c.list_on.result s.index (lists (with_hashes f h) h.eof) (state_of c.list_on.new.self) so c.list_on.ensures.done

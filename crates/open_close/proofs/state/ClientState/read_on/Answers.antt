@@ -1,0 +1,21 @@
+use Rattle.std.proofs.Common.{◌≡◌, sym, subst, ◌∙◌, true, false, IfOk}
+use Rattle.open_close.specs.State.{State}
+use Rattle.open_close.specs.Step.{Comes, reads_on}
+use Rattle.open_close.specs.View.{state_of}
+use Rattle.open_close.specs.declared.step.ClientStep.{ClientStep}
+use Rattle.open_close.proofs.Comings.{comes_ok}
+use Rattle.open_close.proofs.Going.{reads_named}
+use Rattle.open_close.proofs.state.ClientState.read_on.Goals as goal
+
+pub returns-then-is_here-clause-ok : goal.returns-then-is_here-clause-ok
+returns-then-is_here-clause-ok c =
+    let s = c.args.self.now in
+    subst (λ (v : State × ClientStep). IfOk c.opened_with-done.result (λ (a : ClientStep). Comes s.index v (state_of c.opened_with-done.new.self) a)) (sym (reads_named (state_of s) s.waiting.calls c.args.file c.args.xid c.args.fetch c.args.bytes c.in_ok-reads.reads true c.in_ok-reads.ensures.all (sym c.is_here.ensures ∙ c.if-is_here.true))) c.opened_with-done.ensures.ok
+
+pub returns-else-is_here-clause-ok : goal.returns-else-is_here-clause-ok
+returns-else-is_here-clause-ok c =
+    let s = c.args.self.now in
+    let calls = s.waiting.calls in
+    let so : IfOk c.wait_reads.result (λ (a : ClientStep). reads_on (state_of s) calls c.args.file c.args.xid c.args.fetch c.args.bytes ≡ (state_of c.wait_reads.new.self, a)) =
+    subst (λ (v : State × ClientStep). IfOk c.wait_reads.result (λ (a : ClientStep). v ≡ (state_of c.wait_reads.new.self, a))) (sym (reads_named (state_of s) calls c.args.file c.args.xid c.args.fetch c.args.bytes c.in_ok-reads.reads false c.in_ok-reads.ensures.all (sym c.is_here.ensures ∙ c.if-is_here.false))) c.wait_reads.ensures.ok in
+    comes_ok c.wait_reads.result s.index (reads_on (state_of s) calls c.args.file c.args.xid c.args.fetch c.args.bytes) (state_of c.wait_reads.new.self) so c.wait_reads.ensures.done

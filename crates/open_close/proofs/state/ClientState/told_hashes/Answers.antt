@@ -1,0 +1,19 @@
+use Rattle.std.proofs.Common.{◌≡◌, ◌==◌, Bool, false, subst, sym, IfOk, arith}
+use Rattle.std.proofs.lemmas.Bool.Decides.{nat_tests}
+use Rattle.open_close.specs.State.{State}
+use Rattle.open_close.specs.Step.{told_version}
+use Rattle.open_close.specs.View.{state_of}
+use Rattle.open_close.specs.declared.step.ClientStep.{ClientStep}
+use Rattle.open_close.proofs.Comings.{comes_ok}
+use Rattle.open_close.proofs.state.ClientState.told_hashes.Goals as goal
+
+pub returns-else-hashes-fetch-clause-ok : goal.returns-else-hashes-fetch-clause-ok
+returns-else-hashes-fetch-clause-ok c =
+    let s = c.args.self.now in
+    let f = c.args.fetch in
+    let h = c.args.hashes.now in
+    let told : Bool → State × ClientStep = λ b. told_version (state_of s) s.waiting.calls c.args.file c.args.xid f h b in
+    let other : (h.version == f.version) ≡ false = grind (arith, nat_tests) in
+    let so : IfOk c.change.result (λ (a : ClientStep). told (h.version == f.version) ≡ (state_of c.change.new.self, a)) =
+    subst (λ (b : Bool). IfOk c.change.result (λ (a : ClientStep). told b ≡ (state_of c.change.new.self, a))) (sym other) c.change.ensures.ok in
+    comes_ok c.change.result s.index (told (h.version == f.version)) (state_of c.change.new.self) so c.change.ensures.done

@@ -1,0 +1,32 @@
+-- Which bytes a chunk of a fetch finds by a client's index, among what is kept of files.
+use Rattle.std.specs.Prelude.{ℕ, List, [], ◌∷◌, Option, Some, None, ◌==◌, bytes_eq, if◌then◌else◌}
+use Rattle.sha1.specs.Sha1.{sha1}
+use Rattle.chunk_cut.specs.declared.chunk.Chunk.{Chunk}
+use Rattle.chunk_index.specs.Index.{Indexed, key_of, found, place_of}
+use Rattle.chunk_index.specs.declared.place.Place.{Place}
+use Rattle.client_cache.specs.Cache.{Entries, bytes_at}
+use Rattle.client_cache.specs.declared.kept.Content.{Content}
+
+-- a content that is kept in this version
+abbrev pub content_in : (version : ℕ) → Option Content → Option (List ℕ)
+content_in version None = None
+content_in version (Some c) = if c.version == version then Some c.bytes else None
+
+-- the bytes of a place that has as many as the chunk, where its file's content is kept and has the range
+abbrev pub bytes_there : Entries → Chunk → Option Place → Option (List ℕ)
+bytes_there cache c None = None
+bytes_there cache c (Some p) = if p.count == c.len then bytes_at cache p else None
+
+-- bytes that were found, where they have the digest
+abbrev pub with_digest : (digest : List ℕ) → Option (List ℕ) → Option (List ℕ)
+with_digest digest None = None
+with_digest digest (Some bytes) = if bytes_eq (sha1 bytes) digest then Some bytes else None
+
+-- a look-up brings a chunk's pair to the front, one after the other
+abbrev pub found_all : Indexed → List Chunk → Indexed
+found_all index [] = index
+found_all index (c ∷ cs) = found_all (found index (key_of c.digest)) cs
+
+-- the bytes of a chunk that the index gives
+abbrev pub from_index : Entries → Indexed → Chunk → Option (List ℕ)
+from_index cache index c = with_digest c.digest (bytes_there cache c (place_of index.pairs (key_of c.digest)))
