@@ -5,15 +5,15 @@ use Rattle.std.proofs.lemmas.Bool.Decides.{nat_tests}
 use Rattle.command_text.specs.Commands.{open_of, write_of, trunc_of, read_of, close_of, abandon_of, command_of}
 use Rattle.command_text.specs.Fields.{◌>>=◌, value_from, value_of, is_decimal, number_of, number_within, name_of, content_of, id_of}
 use Rattle.command_text.specs.Reading.{Gives}
-use Rattle.trace_text.specs.Fields.{reading_of, amount_of}
-use Rattle.trace_text.specs.Grammar.{version_of, term_of, drift_of, clients_of, file_of, join_of, do_of, up_of, down_of, pass_of, settle_of, cut_of, hang_of, event_from, line_from, said_by, is_skipped, line_of}
+use Rattle.trace_text.specs.Fields.{reading_of, amount_of, who_of, key_of}
+use Rattle.trace_text.specs.Grammar.{version_of, term_of, drift_of, clients_of, file_of, join_of, do_of, up_of, down_of, pass_of, settle_of, cut_of, hang_of, forge_of, clear_of, evict_of, event_from, line_from, said_by, is_skipped, line_of}
 use Rattle.command_text.specs.Parts.{words_of}
 use Rattle.trace_text.specs.Reading.{IsTimely}
 use Rattle.command_text.specs.declared.line_err.LineErr.{LineErr}
 use Rattle.command_text.specs.declared.command.Command.{Command}
 use Rattle.command_text.specs.declared.command.Command.TheVariants.{Open, Write, Trunc, Read, Close, Abandon}
 use Rattle.trace_text.specs.declared.line.Line.{Line}
-use Rattle.trace_text.specs.declared.line.Line.TheVariants.{Version, Term, Drift, Clients, File, Join, Do, Up, Down, Pass, Settle, Cut, Hang, Skipped}
+use Rattle.trace_text.specs.declared.line.Line.TheVariants.{Version, Term, Drift, Clients, File, Join, Do, Up, Down, Pass, Settle, Cut, Hang, Forge, Clear, Evict, Skipped}
 
 -- the numbers in a command have at most 64 bits
 abbrev pub IsSmall : Command → Type 0
@@ -199,11 +199,33 @@ of_hang (v ∷ []) = tt
 of_hang (v ∷ w ∷ []) = of_then (λ a. Unit {0}) IsFit (number_of v) _ (of_any (number_of v)) (λ n h. of_then (λ a. Unit {0}) IsFit (reading_of w) (λ s. Some (Hang n s)) (of_any (reading_of w)) (λ s i. tt))
 of_hang (v ∷ w ∷ x ∷ ws) = tt
 
+of_forge : (ws : List (List ℕ)) → Of IsFit (forge_of ws)
+of_forge [] = tt
+of_forge (u ∷ []) = tt
+of_forge (u ∷ v ∷ []) = tt
+of_forge (u ∷ v ∷ w ∷ []) = tt
+of_forge (u ∷ v ∷ w ∷ x ∷ []) = tt
+of_forge (u ∷ v ∷ w ∷ x ∷ y ∷ []) = of_then (λ a. Unit {0}) IsFit (who_of u) _ (of_any (who_of u)) (λ a h. of_then (λ a. Unit {0}) IsFit (key_of v) _ (of_any (key_of v)) (λ k i. of_then (λ a. Unit {0}) IsFit (number_of w) _ (of_any (number_of w))
+    (λ f j. of_then (λ a. Unit {0}) IsFit (number_of x) _ (of_any (number_of x)) (λ o l. of_then (λ a. Unit {0}) IsFit (number_of y) (λ n. Some (Forge a k f o n)) (of_any (number_of y)) (λ n m. tt)))))
+of_forge (u ∷ v ∷ w ∷ x ∷ y ∷ z ∷ ws) = tt
+
+of_clear : (ws : List (List ℕ)) → Of IsFit (clear_of ws)
+of_clear [] = tt
+of_clear (v ∷ []) = of_then (λ a. Unit {0}) IsFit (who_of v) (λ a. Some (Clear a)) (of_any (who_of v)) (λ a h. tt)
+of_clear (v ∷ w ∷ ws) = tt
+
+of_evict : (ws : List (List ℕ)) → Of IsFit (evict_of ws)
+of_evict [] = tt
+of_evict (v ∷ []) = tt
+of_evict (v ∷ w ∷ []) = of_then (λ a. Unit {0}) IsFit (number_of v) _ (of_any (number_of v)) (λ c h. of_then (λ a. Unit {0}) IsFit (number_of w) (λ f. Some (Evict c f)) (of_any (number_of w)) (λ f i. tt))
+of_evict (v ∷ w ∷ x ∷ ws) = tt
+
 of_event : (kind : List ℕ) (ws : List (List ℕ)) → Of IsFit (event_from kind ws)
 of_event kind ws =
     of_either IsFit (bytes_eq kind (codes "join")) _ _ (of_join ws) (of_either IsFit (bytes_eq kind (codes "do")) _ _ (of_do ws) (of_either IsFit (bytes_eq kind (codes "up")) _ _ (of_up ws)
     (of_either IsFit (bytes_eq kind (codes "down")) _ _ (of_down ws) (of_either IsFit (bytes_eq kind (codes "pass")) _ _ (of_pass ws) (of_either IsFit (bytes_eq kind (codes "settle")) _ _ (of_settle ws)
-    (of_either IsFit (bytes_eq kind (codes "cut")) _ _ (of_cut ws) (of_either IsFit (bytes_eq kind (codes "hang")) (hang_of ws) None (of_hang ws) tt)))))))
+    (of_either IsFit (bytes_eq kind (codes "cut")) _ _ (of_cut ws) (of_either IsFit (bytes_eq kind (codes "hang")) _ _ (of_hang ws)
+    (of_either IsFit (bytes_eq kind (codes "forge")) _ _ (of_forge ws) (of_either IsFit (bytes_eq kind (codes "clear")) _ _ (of_clear ws) (of_either IsFit (bytes_eq kind (codes "evict")) (evict_of ws) None (of_evict ws) tt))))))))))
 
 of_kind : (kind : List ℕ) (ws : List (List ℕ)) → Of IsFit (line_from kind ws)
 of_kind kind ws =

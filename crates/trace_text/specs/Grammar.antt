@@ -5,8 +5,8 @@ use Rattle.command_text.specs.Commands.{command_of}
 use Rattle.command_text.specs.declared.command.Command.{Command}
 use Rattle.command_text.specs.Fields.{◌>>=◌, number_of, number_within, name_of, content_of}
 use Rattle.trace_text.specs.declared.line.Line.{Line}
-use Rattle.trace_text.specs.declared.line.Line.TheVariants.{Version, Term, Drift, Clients, File, Join, Do, Up, Down, Pass, Settle, Cut, Hang, Skipped}
-use Rattle.trace_text.specs.Fields.{reading_of, amount_of}
+use Rattle.trace_text.specs.declared.line.Line.TheVariants.{Version, Term, Drift, Clients, File, Join, Do, Up, Down, Pass, Settle, Cut, Hang, Forge, Clear, Evict, Skipped}
+use Rattle.trace_text.specs.Fields.{reading_of, amount_of, who_of, key_of}
 use Rattle.command_text.specs.Parts.{words_of}
 
 -- lbfs-trace 1
@@ -83,6 +83,22 @@ abbrev pub hang_of : List (List ℕ) → Option Line
 hang_of (session ∷ server ∷ []) = number_of session >>= λ n. reading_of server >>= λ s. Some (Hang n s)
 hang_of words = None
 
+-- forge WHO KEY FILE OFFSET COUNT
+abbrev pub forge_of : List (List ℕ) → Option Line
+forge_of (who ∷ key ∷ file ∷ offset ∷ count ∷ []) =
+    who_of who >>= λ w. key_of key >>= λ k. number_of file >>= λ f. number_of offset >>= λ o. number_of count >>= λ n. Some (Forge w k f o n)
+forge_of words = None
+
+-- clear WHO
+abbrev pub clear_of : List (List ℕ) → Option Line
+clear_of (who ∷ []) = who_of who >>= λ w. Some (Clear w)
+clear_of words = None
+
+-- evict C FILE
+abbrev pub evict_of : List (List ℕ) → Option Line
+evict_of (client ∷ file ∷ []) = number_of client >>= λ c. number_of file >>= λ f. Some (Evict c f)
+evict_of words = None
+
 -- an event that begins with this word
 abbrev pub event_from : List ℕ → List (List ℕ) → Option Line
 event_from kind words =
@@ -94,6 +110,9 @@ event_from kind words =
     else if bytes_eq kind (codes "settle") then settle_of words
     else if bytes_eq kind (codes "cut") then cut_of words
     else if bytes_eq kind (codes "hang") then hang_of words
+    else if bytes_eq kind (codes "forge") then forge_of words
+    else if bytes_eq kind (codes "clear") then clear_of words
+    else if bytes_eq kind (codes "evict") then evict_of words
     else None
 
 -- what a line says that begins with this word

@@ -4,9 +4,10 @@ use Rattle.std.specs.Fmt.{digits}
 use Rattle.clock_rule.specs.declared.rule.ClockFault.TheVariants as clock
 use Rattle.command_text.specs.declared.content.Part.TheVariants.{Bytes, Zeros}
 use Rattle.trace_text.specs.declared.line.Amount.TheVariants as amount
+use Rattle.trace_text.specs.declared.line.Who.TheVariants as who
 use Rattle.command_text.specs.declared.command.Command.TheVariants.{Open, Write, Trunc, Read, Close, Abandon}
 use Rattle.trace_text.specs.declared.line.Line.{Line}
-use Rattle.trace_text.specs.declared.line.Line.TheVariants.{Version, Term, Drift, Clients, File, Join, Do, Up, Down, Pass, Settle, Cut, Hang, Skipped}
+use Rattle.trace_text.specs.declared.line.Line.TheVariants.{Version, Term, Drift, Clients, File, Join, Do, Up, Down, Pass, Settle, Cut, Hang, Forge, Clear, Evict, Skipped}
 use Rattle.trace_text.specs.declared.refusal.Limit.TheVariants.{Lines, Tree, Sessions}
 use Rattle.trace_text.specs.declared.refusal.Limit.TheVariants.{File as OfFile}
 use Rattle.trace_text.specs.declared.refusal.LineFault.TheVariants.{Grammar, Limit, Clock}
@@ -38,6 +39,10 @@ commands_at_edges = refl
 -- each event, and its edges
 events : said (codes "up 1 2 3" ∷ codes "up 1 all 3" ∷ codes "down 1 2 3" ∷ codes "down 1 all 3" ∷ codes "settle 1" ∷ codes "cut 1 2" ∷ codes "hang 1 2" ∷ codes "up 0 0 0" ∷ codes "up 18446744073709551615 18446744073709551615 9223372036854775807" ∷ codes "down 18446744073709551615 all 9223372036854775807" ∷ codes "down 0 0 0" ∷ codes "settle 0" ∷ codes "settle 9223372036854775807" ∷ codes "cut 18446744073709551615 9223372036854775807" ∷ codes "hang 18446744073709551615 9223372036854775807" ∷ []) ≡ (Some (Up 1 (amount.Bytes 2) 3) ∷ Some (Up 1 amount.All 3) ∷ Some (Down 1 (amount.Bytes 2) 3) ∷ Some (Down 1 amount.All 3) ∷ Some (Settle 1) ∷ Some (Cut 1 2) ∷ Some (Hang 1 2) ∷ Some (Up 0 (amount.Bytes 0) 0) ∷ Some (Up 18446744073709551615 (amount.Bytes 18446744073709551615) 9223372036854775807) ∷ Some (Down 18446744073709551615 amount.All 9223372036854775807) ∷ Some (Down 0 (amount.Bytes 0) 0) ∷ Some (Settle 0) ∷ Some (Settle 9223372036854775807) ∷ Some (Cut 18446744073709551615 9223372036854775807) ∷ Some (Hang 18446744073709551615 9223372036854775807) ∷ [])
 events = refl
+
+-- what changes an index or a cache, and its edges
+indexes : said (codes "forge server 86f7e437faa5a7fc 2 0 3" ∷ codes "forge 16 0000000000000000 0 0 0" ∷ codes "forge 0 ffffffffffffffff 18446744073709551615 18446744073709551615 18446744073709551615" ∷ codes "forge server 0123456789abcdef 1 2 3" ∷ codes "clear server" ∷ codes "clear 1" ∷ codes "evict 1 2" ∷ codes "evict 18446744073709551615 0" ∷ []) ≡ (Some (Forge who.Server 9725492849409370108 2 0 3) ∷ Some (Forge (who.Client 16) 0 0 0 0) ∷ Some (Forge (who.Client 0) 18446744073709551615 18446744073709551615 18446744073709551615 18446744073709551615) ∷ Some (Forge who.Server 81985529216486895 1 2 3) ∷ Some (Clear who.Server) ∷ Some (Clear (who.Client 1)) ∷ Some (Evict 1 2) ∷ Some (Evict 18446744073709551615 0) ∷ [])
+indexes = refl
 
 -- no line of the grammar
 refused : said (codes "terms 1" ∷ codes "Term 1" ∷ codes "term" ∷ codes "term " ∷ codes "term  1" ∷ codes "term 1 " ∷ codes " term 1" ∷ codes "term\t1" ∷ codes "term 1\r" ∷ codes "term 1 1" ∷ []) ≡ replicate 10 None
@@ -83,6 +88,15 @@ refused_cut = refl
 
 refused_hang : said (codes "hang" ∷ codes "hang 1" ∷ codes "hang 1 2 3" ∷ codes "hang  1 2" ∷ codes "hang 01 2" ∷ codes "hang 1 02" ∷ codes "hang -1 2" ∷ codes "hang 1\t2" ∷ codes "hang all 2" ∷ codes "Hang 1 2" ∷ codes "hang 18446744073709551616 2" ∷ codes "hang 1 9223372036854775808" ∷ []) ≡ replicate 12 None
 refused_hang = refl
+
+refused_forge : said (codes "forge" ∷ codes "forge server 86f7e437faa5a7fc 2 0" ∷ codes "forge server 86f7e437faa5a7fc 2 0 3 4" ∷ codes "forge server  86f7e437faa5a7fc 2 0 3" ∷ codes "forge Server 86f7e437faa5a7fc 2 0 3" ∷ codes "forge servers 86f7e437faa5a7fc 2 0 3" ∷ codes "forge all 86f7e437faa5a7fc 2 0 3" ∷ codes "forge #1 86f7e437faa5a7fc 2 0 3" ∷ codes "forge 01 86f7e437faa5a7fc 2 0 3" ∷ codes "forge server 86f7e437faa5a7f 2 0 3" ∷ codes "forge server 086f7e437faa5a7fc 2 0 3" ∷ codes "forge server 86F7E437FAA5A7FC 2 0 3" ∷ codes "forge server 86f7e437faa5a7fg 2 0 3" ∷ codes "forge server 86f7e437faa5a7f` 2 0 3" ∷ codes "forge server 86f7e437faa5a7f: 2 0 3" ∷ codes "forge server x:86f7e437faa5a7 2 0 3" ∷ codes "forge server 86f7e437faa5a7fc #2 0 3" ∷ codes "forge server 86f7e437faa5a7fc 2 00 3" ∷ codes "forge server 86f7e437faa5a7fc 2 0 all" ∷ codes "forge server 86f7e437faa5a7fc 2 0 18446744073709551616" ∷ codes "forge 18446744073709551616 86f7e437faa5a7fc 2 0 3" ∷ codes "Forge server 86f7e437faa5a7fc 2 0 3" ∷ []) ≡ replicate 22 None
+refused_forge = refl
+
+refused_clear : said (codes "clear" ∷ codes "clear " ∷ codes "clear server 1" ∷ codes "clear  server" ∷ codes "clear 01" ∷ codes "clear #1" ∷ codes "clear all" ∷ codes "clear\tserver" ∷ codes "Clear server" ∷ codes "clear 18446744073709551616" ∷ []) ≡ replicate 10 None
+refused_clear = refl
+
+refused_evict : said (codes "evict" ∷ codes "evict 1" ∷ codes "evict 1 2 3" ∷ codes "evict  1 2" ∷ codes "evict 01 2" ∷ codes "evict 1 02" ∷ codes "evict 1 #2" ∷ codes "evict server 2" ∷ codes "evict 1\t2" ∷ codes "Evict 1 2" ∷ codes "evict 18446744073709551616 2" ∷ codes "evict 1 18446744073709551616" ∷ []) ≡ replicate 12 None
+refused_evict = refl
 
 -- a byte above 127 is no letter
 above : line_of (codes "file " ++ (195 ∷ 169 ∷ codes " -")) ≡ None

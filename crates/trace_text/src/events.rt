@@ -3,7 +3,7 @@
 ghost use Rattle.std.specs.Prelude.{◌≡◌, false, None, bytes_eq, codes, MatchOption};
 ghost use Rattle.command_text.specs.Commands.{command_of};
 ghost use Rattle.command_text.specs.Reading.{Gives};
-ghost use Rattle.trace_text.specs.Grammar.{join_of, do_with, do_of, up_of, down_of, pass_of, settle_of, cut_of, hang_of, event_from};
+ghost use Rattle.trace_text.specs.Grammar.{join_of, do_with, do_of, up_of, down_of, pass_of, settle_of, cut_of, hang_of, forge_of, clear_of, evict_of, event_from};
 
 use crate::fields;
 use crate::line::Line;
@@ -134,6 +134,47 @@ fn hang(words: &mut Words) -> Option<Line>
     })
 }
 
+/// `forge WHO KEY FILE OFFSET COUNT`.
+fn forge(words: &mut Words) -> Option<Line>
+    ensures { result ≡ forge_of words.old }
+{
+    let who = words.next()?;
+    let key = words.next()?;
+    let file = words.next()?;
+    let offset = words.next()?;
+    let count = words.next()?;
+    words.end()?;
+    Some(Line::Forge {
+        who: fields::who(who)?,
+        key: fields::key(key)?,
+        file: number(file)?,
+        offset: number(offset)?,
+        count: number(count)?,
+    })
+}
+
+/// `clear WHO`.
+fn clear(words: &mut Words) -> Option<Line>
+    ensures { result ≡ clear_of words.old }
+{
+    let who = words.next()?;
+    words.end()?;
+    Some(Line::Clear(fields::who(who)?))
+}
+
+/// `evict C FILE`.
+fn evict(words: &mut Words) -> Option<Line>
+    ensures { result ≡ evict_of words.old }
+{
+    let client = words.next()?;
+    let file = words.next()?;
+    words.end()?;
+    Some(Line::Evict {
+        client: number(client)?,
+        file: number(file)?,
+    })
+}
+
 /// An event other than a command that begins with this word.
 pub(crate) fn event(kind: &[u8], words: &mut Words) -> Option<Line>
     requires { bytes_eq kind.now (codes "do") ≡ false }
@@ -153,6 +194,12 @@ pub(crate) fn event(kind: &[u8], words: &mut Words) -> Option<Line>
         cut(words)
     } else if kind == b"hang".as_slice() {
         hang(words)
+    } else if kind == b"forge".as_slice() {
+        forge(words)
+    } else if kind == b"clear".as_slice() {
+        clear(words)
+    } else if kind == b"evict".as_slice() {
+        evict(words)
     } else {
         None
     }

@@ -1,9 +1,11 @@
 //! What the words of a line stand for, beyond what they stand for in commands: `specs/Fields.antt`.
 
-ghost use Rattle.std.specs.Prelude.{◌≡◌};
-ghost use Rattle.trace_text.specs.Fields.{reading_of, amount_of};
+ghost use Rattle.std.specs.Prelude.{◌≡◌, ◌+◌, ◌*◌, ◌≤◌, ◌^◌, true, MatchOption};
+ghost use Rattle.std.specs.List.{list_all};
+ghost use Rattle.command_text.specs.Fields.{is_lower_digit};
+ghost use Rattle.trace_text.specs.Fields.{reading_of, amount_of, who_of, digit_of, hex_of, is_key, key_of};
 
-use crate::line::Amount;
+use crate::line::{Amount, Who};
 use command_text::fields::{number, number_within};
 
 /// The last reading of a clock, in milliseconds.
@@ -25,4 +27,70 @@ pub(crate) fn amount(word: &[u8]) -> Option<Amount>
     } else {
         Some(Amount::Bytes(number(word)?))
     }
+}
+
+/// Whose index: `server`, or a client's number.
+pub(crate) fn who(word: &[u8]) -> Option<Who>
+    ensures { result ≡ who_of word.now }
+{
+    if word == b"server".as_slice() {
+        Some(Who::Server)
+    } else {
+        Some(Who::Client(number(word)?))
+    }
+}
+
+/// Whether these are lower-case hex digits alone.
+fn are_lower_digits(text: &[u8]) -> bool
+    ensures { result ≡ list_all is_lower_digit text.now }
+{
+    text.iter().all(|b| matches!(*b, b'0'..=b'9' | b'a'..=b'f'))
+}
+
+/// Whether these are the sixteen digits of a key.
+fn is_key(word: &[u8]) -> bool
+    ensures { result ≡ is_key word.now }
+{
+    word.len() == 16 && are_lower_digits(word)
+}
+
+/// What a hex digit stands for.
+fn digit_of(digit: u8) -> u8
+    requires { is_lower_digit digit ≡ true }
+    ensures { result ≡ digit_of digit }
+{
+    if digit <= b'9' {
+        digit - b'0'
+    } else {
+        digit - (b'a' - 10)
+    }
+}
+
+/// A number with one more hex digit, if it has at most 64 bits.
+fn with_digit(number: u64, digit: u8) -> Option<u64>
+    requires { is_lower_digit digit ≡ true }
+    ensures { MatchOption result (2 ^ 64 ≤ 16 * number + digit_of digit) (λ n. n ≡ 16 * number + digit_of digit) }
+{
+    number
+        .checked_mul(16)?
+        .checked_add(u64::from(digit_of(digit)))
+}
+
+/// The number that hex digits stand for, if it has at most 64 bits.
+fn hex(digits: &[u8]) -> Option<u64>
+    requires { list_all is_lower_digit digits.now ≡ true }
+    ensures { result ≡ hex_of digits.now }
+{
+    let mut value = 0u64;
+    for digit in digits {
+        value = with_digit(value, *digit)?;
+    }
+    Some(value)
+}
+
+/// A key of an index.
+pub(crate) fn key(word: &[u8]) -> Option<u64>
+    ensures { result ≡ key_of word.now }
+{
+    if is_key(word) { hex(word) } else { None }
 }

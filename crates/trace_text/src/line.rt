@@ -22,6 +22,15 @@ pub enum Amount {
     Bytes(u64),
 }
 
+/// Whose index a line is about.
+#[derive(Clone, Copy, Debug, PartialEq, Eq)]
+pub enum Who {
+    /// `server`.
+    Server,
+    /// The client of this number.
+    Client(u64),
+}
+
 /// A line of a trace. Terms, drifts and readings are in milliseconds. A reading is 0 to 2^63 - 1:
 /// `at` is one of the client's clock, `server` one of the server's. Clients, sessions and rounds are
 /// any numbers of 64 bits: whether there is such a client or session is the business of the world.
@@ -85,6 +94,22 @@ pub enum Line {
     Hang {
         session: u64,
         server: u64,
+    },
+    /// `forge WHO KEY FILE OFFSET COUNT`: the index gets this place for the key, whatever stands there:
+    /// a range of a file by its id, where it begins and its length in bytes. No step.
+    Forge {
+        who: Who,
+        key: u64,
+        file: u64,
+        offset: u64,
+        count: u64,
+    },
+    /// `clear WHO`: the index has no place any more. No step.
+    Clear(Who),
+    /// `evict C FILE`: the client drops the content that it keeps of the file with this id. No step.
+    Evict {
+        client: u64,
+        file: u64,
     },
     /// An empty line, or one that begins with `#`, whatever bytes follow: it says nothing.
     Skipped,
