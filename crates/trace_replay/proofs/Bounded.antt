@@ -11,6 +11,7 @@ use Rattle.trace_text.specs.declared.refusal.LineFault.{LineFault}
 use Rattle.trace_text.specs.declared.refusal.LineFault.TheVariants.{Grammar}
 use Rattle.trace_replay.specs.declared.stage.Stage.{Stage}
 use Rattle.trace_replay.specs.declared.stage.Stage.TheVariants as stage
+use Rattle.trace_replay.specs.declared.adjusting.Adjustment.TheVariants as adjustment
 use Rattle.trace_replay.specs.declared.turn.Turn.{Turn}
 use Rattle.trace_replay.specs.declared.turn.Turn.TheVariants as turn
 use Rattle.trace_replay.specs.Core.{Core, Seat, numbered}
@@ -48,6 +49,9 @@ event k (line.Settle s) t h e = taken (turn.Settle s) t h e
 event k (line.Cut c r) t h e = when _ (turn.Cut c) t tt e
 event k (line.Hang n s) t h e = when _ (turn.Hang n) t tt e
 event k (line.Pass n m s r) t h e = when _ (turn.Pass n m s r) t h e
+event k (line.Forge w key file offset count) t h e = when _ (turn.Adjust (adjustment.Forge w key (record { file = file; offset = offset; count = count }))) t tt e
+event k (line.Clear w) t h e = when _ (turn.Adjust (adjustment.Clear w)) t tt e
+event k (line.Evict c file) t h e = when _ (turn.Adjust (adjustment.Evict c file)) t tt e
 event k l t h e = refused_line Grammar t e
 
 of_size : (long much : Bool) (name : List ℕ) (content : List Part) (t : Turn) → nat_lt file_most (content_length content) ≡ long → sized long much (turn.File name content) ≡ asking t → IsTurnBounded t

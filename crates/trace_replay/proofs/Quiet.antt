@@ -8,6 +8,7 @@ use Rattle.trace_text.specs.declared.refusal.LineFault.TheVariants.{Grammar, Lim
 use Rattle.server_core.specs.declared.change.Change.{Change}
 use Rattle.trace_replay.specs.declared.stage.Stage.{Stage}
 use Rattle.trace_replay.specs.declared.stage.Stage.TheVariants as stage
+use Rattle.trace_replay.specs.declared.adjusting.Adjustment.TheVariants as adjustment
 use Rattle.trace_replay.specs.declared.turn.Turn.{Turn}
 use Rattle.trace_replay.specs.declared.turn.Turn.TheVariants as turn
 use Rattle.trace_replay.specs.Core.{Seat, Event, numbered}
@@ -61,6 +62,9 @@ event w (line.Settle s) t e = taken w (turn.Settle s) t tt e
 event w (line.Cut c r) t e = when w _ (turn.Cut c) t tt e
 event w (line.Hang n s) t e = when w _ (turn.Hang n) t tt e
 event w (line.Pass n k s r) t e = when w _ (turn.Pass n k s r) t tt e
+event w (line.Forge u key file offset count) t e = when w _ (turn.Adjust (adjustment.Forge u key (record { file = file; offset = offset; count = count }))) t tt e
+event w (line.Clear u) t e = when w _ (turn.Adjust (adjustment.Clear u)) t tt e
+event w (line.Evict c file) t e = when w _ (turn.Adjust (adjustment.Evict c file)) t tt e
 event w l t e = refused_line Grammar t e
 
 at_stage : (w : World) (s : Stage) (l : Line) (t : Turn) → IsQuietAt s w.core.server.waiting → asks_at w s l ≡ asking t → IsTurnQuiet w t
@@ -142,3 +146,4 @@ turned_quiet w (turn.Settle now) h e = tt
 turned_quiet w (turn.Cut c) h e = tt
 turned_quiet w (turn.Hang n) h e = tt
 turned_quiet w (turn.Pass n k server at) h e = in_events _ _ (stage_passes k (at_events w) n server at)
+turned_quiet w (turn.Adjust a) h e = tt

@@ -51,3 +51,12 @@ pub record Collides (hashed : List (List ℕ)) : Type 0 where
 -- what rests on digests
 abbrev pub Or : Book → Type 0 → Type 0
 Or book P = P ⊎ Collides (hashed_of book.moments)
+
+-- ---- contents and versions
+
+-- a file had this content in this version, at a moment that is past
+pub record HadContent (book : Book) (file version : ℕ) (content : List ℕ) : Type 0 where
+  pub moment : ℕ
+  pub past : moment ≤ book.steps
+  pub version_is : version_at book file moment ≡ version
+  pub value_is : Or book (value_at book file moment ≡ Some content)

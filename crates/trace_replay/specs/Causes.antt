@@ -125,7 +125,7 @@ pub record IsEntered (book : Book) (file point version len : ℕ) (digest : List
   pub file_is : entry.file ≡ file
   pub version_is : entry.version ≡ version
   pub len_is : entry.len ≡ len
-  pub digest_is : entry.sha1 ≡ digest
+  pub digest_is : Or book (entry.sha1 ≡ digest)
 
 -- a close replaced its file by its value
 pub record IsClosed (book : Book) (file : ℕ) (o : Op) (version len : ℕ) (digest : List ℕ) : Type 0 where
@@ -165,7 +165,7 @@ pub record IsLost (book : Book) (o : Op) : Type 0 where
 -- An open was refused by the server: of the root, which is a directory, by 21 (NFS3ERR_ISDIR of RFC 1813), and of a file that is not in
 -- the tree by 70 (NFS3ERR_STALE), with a point.
 abbrev pub IsOpenRefused : Book → (file : ℕ) → Op → (status : ℕ) → Type 0
-IsOpenRefused book file o status = ((status ≡ 21) × (file ≡ 1)) ⊎ ((status ≡ 70) × (content_of book.opening file ≡ Absent) × ((p : ℕ) × Within o p × (value_at book file p ≡ Absent)))
+IsOpenRefused book file o status = ((status ≡ 21) × (file ≡ 1)) ⊎ ((status ≡ 70) × (file ≡ 1 → ⊥) × (content_of book.opening file ≡ Absent) × ((p : ℕ) × Within o p × (value_at book file p ≡ Absent)))
 
 -- A close was refused by the server for want of room, by 28 (NFS3ERR_NOSPC of RFC 1813): when its COMMITTMP was taken, within it, one
 -- more change, or its bytes beside those of the tree, had no place. It takes no effect. No close is refused for anything else.

@@ -9,7 +9,7 @@ use Rattle.wire.specs.declared.message.Side.TheVariants as side
 use Rattle.wire.specs.declared.message.Waiting.{Waiting}
 use Rattle.command_text.specs.declared.command.Command.{Command}
 use Rattle.server_core.specs.State as server
-use Rattle.server_core.specs.Step.{server_step}
+use Rattle.server_core.specs.Step.{server_step, forges, clears_index}
 use Rattle.server_core.specs.declared.event.Event.TheVariants as event
 use Rattle.server_core.specs.declared.event.Sent.{Sent}
 use Rattle.server_core.specs.declared.event.ServerStep.{ServerStep}
@@ -20,6 +20,9 @@ use Rattle.open_close.specs.Step.{command_step, got_step, joined, cut}
 use Rattle.open_close.specs.declared.step.ClientStep.{ClientStep}
 use Rattle.register_model.specs.declared.op.Op.{Op}
 use Rattle.register_model.specs.declared.op.Word.{Word}
+use Rattle.trace_text.specs.declared.line.Who.TheVariants as who
+use Rattle.trace_replay.specs.declared.adjusting.Adjustment.{Adjustment}
+use Rattle.trace_replay.specs.declared.adjusting.Adjustment.TheVariants as adjustment
 use Rattle.trace_replay.specs.declared.taken_call.TakenCall.{TakenCall}
 use Rattle.trace_replay.specs.Commands.{word_of, file_of, value_at_begin}
 use Rattle.trace_replay.specs.Ops.{begun, op_after, place_after, place_with, taken_on, closing_with, pointed_at}
@@ -306,3 +309,18 @@ happens k (Hears number now bytes) = hears k number now bytes (numbered k.sessio
 happens k (Settles now) = settles k now
 happens k (Cuts number) = cuts k number (numbered k.seats number)
 happens k (Hangs number) = hangs k number (numbered k.sessions number)
+
+-- ---- an index or a cache alone
+
+-- a client, if there is one of this number, is changed so
+abbrev pub with_client : Core → (number : ℕ) → (client.State → client.State) → Option Seat → Core
+with_client k number change None = k
+with_client k number change (Some seat) = record k { seats = with_numbered k.seats number (record seat { client = change seat.client }) }
+
+-- No step of an end, and nothing is sent.
+abbrev pub adjusted : Core → Adjustment → Core
+adjusted k (adjustment.Forge who.Server key place) = record k { server = forges k.server key place }
+adjusted k (adjustment.Forge (who.Client c) key place) = with_client k c (λ s. client.forged s key place) (numbered k.seats c)
+adjusted k (adjustment.Clear who.Server) = record k { server = clears_index k.server }
+adjusted k (adjustment.Clear (who.Client c)) = with_client k c client.index_cleared (numbered k.seats c)
+adjusted k (adjustment.Evict c file) = with_client k c (λ s. client.evicted s file) (numbered k.seats c)

@@ -1,7 +1,6 @@
 -- When the history of a run is faithful to its trace.
-use Rattle.std.specs.Prelude.{◌≡◌, ℕ, ◌+◌, ◌*◌, ◌<◌, ◌≤◌, List, [], ◌∷◌, length, take, ◌⊎◌, Bool, true, false, not, Option, Some, None, is_some, Contains, slice_get, filter, map}
+use Rattle.std.specs.Prelude.{◌≡◌, ℕ, ◌+◌, ◌*◌, ◌<◌, ◌≤◌, List, length, ◌⊎◌, Bool, true, false, not, Option, Some, None, is_some, Contains, slice_get, map}
 use Rattle.sha1.specs.Sha1.{sha1}
-use Rattle.chunk_cut.specs.Chunks.{chunks_of}
 use Rattle.command_text.specs.Parts.{lines_of}
 use Rattle.command_text.specs.declared.command.Command.{Command}
 use Rattle.command_text.specs.declared.command.Command.TheVariants as command
@@ -23,9 +22,9 @@ use Rattle.trace_replay.specs.Ops.{no_traffic}
 use Rattle.trace_replay.specs.Commands.{word_of, file_of}
 use Rattle.trace_replay.specs.Core.{Session, Event.Settles, Event.Cuts, numbered}
 use Rattle.trace_replay.specs.Trail.{Deed, Moment, Said, AreCounted, told_of, events_of, deeds_of, told_in, openings_of, commands_of, step_of, sent_of, taken_of}
-use Rattle.trace_replay.specs.Traffic.{is_of, traffic_of, open_traffic, close_traffic, CountsOwn, SentCommit, AttemptsEnd, AttemptsMet, deals_of, AreOwn, NamesChunks, last_fetch, fetch_of}
-use Rattle.trace_replay.specs.Book.{Book, Or, value_at, version_at}
-use Rattle.trace_replay.specs.Causes.{HasCause, can_ask, Within, is_busy, local_before, own_answer}
+use Rattle.trace_replay.specs.Traffic.{is_of, traffic_of, read_traffic, stored_traffic, SavesAll, GotBy, CountsOwn, SentCommit, AttemptsEnd, AttemptsMet, deals_of, IsFor, AreOwn, NamesChunks, last_fetch}
+use Rattle.trace_replay.specs.Book.{Book, Or, version_at}
+use Rattle.trace_replay.specs.Causes.{HasCause, can_ask, is_busy, local_before, own_answer}
 
 -- ---- an operation
 
@@ -64,23 +63,25 @@ CutsEnd book = (m : Moment) (c k : ℕ) (o : Op) → Contains book.moments m →
 
 -- ---- versions
 
--- the answer to a GETHASH that carries this version
+-- the answer to a GETHASH, or to a GETLEASE, that carries this version
 abbrev pub Carries : (version : ℕ) → Message → Type 0
 Carries version (message.Answer xid (body.Lb (lb.GetHashAnswer (Done h)))) = h.version ≡ version
+Carries version (message.Answer xid (body.Lb (lb.GetLeaseAnswer (Done l)))) = l.version ≡ version
 Carries version m = ⊥
 
--- an answer to a GETHASH
-abbrev pub IsHashes : Message → Type 0
-IsHashes (message.Answer xid (body.Lb (lb.GetHashAnswer a))) = Unit {0}
-IsHashes m = ⊥
+-- an answer to one of these
+abbrev pub TellsVersion : Message → Type 0
+TellsVersion (message.Answer xid (body.Lb (lb.GetHashAnswer a))) = Unit {0}
+TellsVersion (message.Answer xid (body.Lb (lb.GetLeaseAnswer a))) = Unit {0}
+TellsVersion m = ⊥
 
--- Each answer to a GETHASH that an open took after its point, and there is one, carried the version that its file had there, with the content
+-- Each answer to a GETHASH or a GETLEASE that an open took after its point, and there is one, carried the version that its file had there, with the content
 -- that the open gave.
 pub record OpensOne (book : Book) (o : Op) : Type 0 where
   pub point : ℕ
   pub point_is : o.point ≡ Some point
   pub some : (s : Said) × Contains (taken_of book.moments) s × (is_of o s ≡ true) × (point < s.step) × Carries (version_at book o.file point) s.message
-  pub all : (s : Said) → Contains (taken_of book.moments) s → is_of o s ≡ true → point < s.step → IsHashes s.message → Carries (version_at book o.file point) s.message
+  pub all : (s : Said) → Contains (taken_of book.moments) s → is_of o s ≡ true → point < s.step → TellsVersion s.message → Carries (version_at book o.file point) s.message
 
 abbrev pub OpensVersion : Book → Op → Outcome → Type 0
 OpensVersion book o (told.Opened len digest) = OpensOne book o
@@ -88,12 +89,12 @@ OpensVersion book o outcome = Unit {0}
 
 -- ---- what an open counts
 
--- An open that got its content read each chunk of it, and counted its bytes; just that, where its file had one version from its begin to
--- its end. Attempts on other versions come on top.
+-- An open that got its content counted the READs of its last attempt, and the bytes that they brought; just that, where its file had one version from
+-- its begin to its end. Attempts on other versions come on top.
 pub record OpenedBy (book : Book) (o : Op) : Type 0 where
-  pub reads : length (chunks_of o.value) ≤ o.traffic.read
-  pub bytes : length o.value ≤ o.traffic.«data»
-  pub once : (e : ℕ) → o.end ≡ Some e → version_at book o.file o.begin ≡ version_at book o.file (e + 1) → o.traffic ≡ open_traffic o.value
+  pub reads : length (last_fetch (deals_of o book.moments)).reads ≤ o.traffic.read
+  pub bytes : (last_fetch (deals_of o book.moments)).bytes ≤ o.traffic.«data»
+  pub once : (e : ℕ) → o.end ≡ Some e → version_at book o.file o.begin ≡ version_at book o.file (e + 1) → o.traffic ≡ read_traffic (last_fetch (deals_of o book.moments))
 
 -- ---- the journal
 
@@ -104,15 +105,15 @@ pub record HasJournal (book : Book) : Type 0 where
   pub rising : (i j p q : ℕ) → i < j → slice_get book.entries i ≡ Some p → slice_get book.entries j ≡ Some q → p < q
   -- each was made at the point of a close, of its file, with its value, in the version after that of the file before
   pub made : (i p : ℕ) (e : Entry) → slice_get book.entries i ≡ Some p → slice_get book.journal i ≡ Some e
-      → (k : ℕ) × (o : Op) × (slice_get book.ops k ≡ Some o) × (changes o.word ≡ true) × (o.point ≡ Some p) × (o.file ≡ e.file) × (length o.value ≡ e.len) × (sha1 o.value ≡ e.sha1) × (e.version ≡ version_at book e.file p + 1)
+      → (k : ℕ) × (o : Op) × (slice_get book.ops k ≡ Some o) × (changes o.word ≡ true) × (o.point ≡ Some p) × (o.file ≡ e.file) × (length o.value ≡ e.len) × Or book (sha1 o.value ≡ e.sha1) × (e.version ≡ version_at book e.file p + 1)
   -- and each operation that has a point as a change made one
   pub only : (k p : ℕ) (o : Op) → slice_get book.ops k ≡ Some o → changes o.word ≡ true → o.point ≡ Some p → (i : ℕ) × (slice_get book.entries i ≡ Some p)
   -- which no other operation made: none has the same point
   pub once : (k m p : ℕ) (o q : Op) → slice_get book.ops k ≡ Some o → slice_get book.ops m ≡ Some q → changes o.word ≡ true → o.point ≡ Some p → q.point ≡ Some p → k ≡ m
 
 -- The change of this number was made in this step: at a moment at which the server was told to make one, with so many before it. It is the
--- one that waited first, and the journal's entry tells it; it is that of a close of the client whose session asked for it, and the last close
--- that had sent calls there.
+-- one that waited first, and the journal's entry tells it; it is that of a close of the client whose session asked for it, of the close's value,
+-- and the last close that had sent calls there.
 pub record IsSettled (book : Book) (number step : ℕ) : Type 0 where
   pub moment : Moment
   pub there : Contains book.moments moment
@@ -134,6 +135,7 @@ pub record IsSettled (book : Book) (number step : ℕ) : Type 0 where
   pub op_is : slice_get book.ops place ≡ Some op
   pub word_is : op.word ≡ word.Close
   pub point_is : op.point ≡ Some step
+  pub value_is : Or book (op.value ≡ change.content)
   pub owner : session.owner ≡ op.client
   pub closing : session.closing ≡ Some place
 
@@ -169,15 +171,19 @@ pub record IsFaithful (input : List ℕ) (book : Book) : Type 0 where
   pub attempts : (k : ℕ) (o : Op) → slice_get book.ops k ≡ Some o → AttemptsEnd (sent_of book.moments) o
   -- and no open gave one up but where it had met another version
   pub met : (k : ℕ) (o : Op) → slice_get book.ops k ≡ Some o → o.word ≡ word.Open → AttemptsMet o (deals_of o book.moments)
-  -- what is sent for an operation are its own calls
+  -- nothing is sent or taken but for an operation, and what is sent for one are its own calls
+  pub owned : (m : Moment) → Contains book.moments m → IsFor book.ops m
   pub calls : (k : ℕ) (o : Op) → slice_get book.ops k ≡ Some o → AreOwn o.word o.file o.value (deals_of o book.moments)
   -- what a client answers by itself counts nothing
   pub silent : (k : ℕ) (o : Op) → slice_get book.ops k ≡ Some o → o.end ≡ Some o.begin → o.traffic ≡ no_traffic
-  pub opened : (k len : ℕ) (digest : List ℕ) (o : Op) → slice_get book.ops k ≡ Some o → o.outcome ≡ told.Opened len digest → Or book (OpenedBy book o)
-  -- since its last attempt began an open that got its content read each chunk of it, in order, and each once, and that is what came
-  pub fetched : (k len : ℕ) (digest : List ℕ) (o : Op) → slice_get book.ops k ≡ Some o → o.outcome ≡ told.Opened len digest → Or book (last_fetch (deals_of o book.moments) ≡ fetch_of o.value)
+  pub opened : (k len : ℕ) (digest : List ℕ) (o : Op) → slice_get book.ops k ≡ Some o → o.outcome ≡ told.Opened len digest → OpenedBy book o
+  -- An open that got its content had it kept, and sent no READ, or reached each chunk of it since its last attempt began, in order, and each once: by a
+  -- READ, or by the index.
+  pub fetched : (k len : ℕ) (digest : List ℕ) (o : Op) → slice_get book.ops k ≡ Some o → o.outcome ≡ told.Opened len digest → Or book (GotBy o (deals_of o book.moments))
   -- a close, whatever comes of it, has named the first chunks of its value, in order, and sent the bytes of those that the server didn't know
   pub named : (k : ℕ) (o : Op) → slice_get book.ops k ≡ Some o → o.word ≡ word.Close → NamesChunks o.value (deals_of o book.moments)
-  pub stored : (k : ℕ) (o : Op) → slice_get book.ops k ≡ Some o → SentCommit o (sent_of book.moments) → o.traffic ≡ close_traffic o.value
+  pub stored : (k : ℕ) (o : Op) → slice_get book.ops k ≡ Some o → SentCommit o (sent_of book.moments) → o.traffic ≡ stored_traffic o.value (deals_of o book.moments)
+  -- one whose chunks the server all knew sent no byte of its value
+  pub saved : (k : ℕ) (o : Op) → slice_get book.ops k ≡ Some o → o.word ≡ word.Close → SavesAll o (deals_of o book.moments)
   -- and each that replaced its file had sent it
   pub made : (k p : ℕ) (o : Op) → slice_get book.ops k ≡ Some o → changes o.word ≡ true → o.point ≡ Some p → SentCommit o (sent_of book.moments)

@@ -8,6 +8,8 @@ use Rattle.trace_text.specs.Grammar.{line_of}
 use Rattle.trace_text.specs.declared.line.Amount.{Amount}
 use Rattle.trace_text.specs.declared.line.Amount.TheVariants as amount
 use Rattle.trace_text.specs.declared.line.Line.{Line}
+use Rattle.trace_text.specs.declared.line.Who.{Who}
+use Rattle.trace_text.specs.declared.line.Who.TheVariants as who
 use Rattle.trace_text.specs.declared.line.Line.TheVariants as line
 use Rattle.trace_text.specs.declared.refusal.Limit.TheVariants as limit
 use Rattle.trace_text.specs.declared.refusal.LineFault.{LineFault}
@@ -16,11 +18,12 @@ use Rattle.server_core.specs.Step.{opens_with}
 use Rattle.trace_replay.specs.declared.fault.Refused.{Refused}
 use Rattle.trace_replay.specs.declared.stage.Stage.{Stage}
 use Rattle.trace_replay.specs.declared.stage.Stage.TheVariants as stage
+use Rattle.trace_replay.specs.declared.adjusting.Adjustment.TheVariants as adjustment
 use Rattle.trace_replay.specs.declared.turn.Turn.{Turn}
 use Rattle.trace_replay.specs.declared.turn.Turn.TheVariants as turn
 use Rattle.trace_replay.specs.Names.{has_name, with_name}
 use Rattle.trace_replay.specs.Core.{Core, Seat, new_seat, Event, Event.Joins, Event.Does, Event.Settles, Event.Cuts, Event.Hangs, numbered}
-use Rattle.trace_replay.specs.World.{World, Wire, start, happened}
+use Rattle.trace_replay.specs.World.{World, Wire, start, happened, adjusts}
 use Rattle.trace_replay.specs.Delivery.{up_some, down_some, up_length, down_length, passes}
 
 -- ---- limits
@@ -87,6 +90,18 @@ abbrev pub is_there : {A : Type 0} → Option A → Bool
 is_there None = false
 is_there (Some x) = true
 
+-- there is such an index: the server's, or that of a client who is there
+abbrev pub has_index : Core → Who → Bool
+has_index k who.Server = true
+has_index k (who.Client c) = is_there (numbered k.seats c)
+
+-- an index or a cache is changed that is there
+abbrev pub adjust_asks : Core → Line → Result Turn LineFault
+adjust_asks k (line.Forge w key file offset count) = asks_if (has_index k w) (turn.Adjust (adjustment.Forge w key (record { file = file; offset = offset; count = count })))
+adjust_asks k (line.Clear w) = asks_if (has_index k w) (turn.Adjust (adjustment.Clear w))
+adjust_asks k (line.Evict c file) = asks_if (is_there (numbered k.seats c)) (turn.Adjust (adjustment.Evict c file))
+adjust_asks k _ = Err Grammar
+
 -- An event names a client and a session that are there.
 abbrev pub event_asks : Core → Line → Result Turn LineFault
 event_asks k (line.Join c r s) = joins_if (length k.server.sessions) c (numbered k.seats c)
@@ -97,7 +112,7 @@ event_asks k (line.Settle s) = Ok (turn.Settle s)
 event_asks k (line.Cut c r) = asks_if (is_there (numbered k.seats c)) (turn.Cut c)
 event_asks k (line.Hang n s) = asks_if (is_there (numbered k.sessions n)) (turn.Hang n)
 event_asks k (line.Pass n rounds s r) = asks_if (is_there (numbered k.sessions n)) (turn.Pass n rounds s r)
-event_asks k _ = Err Grammar
+event_asks k l = adjust_asks k l
 
 -- First comes the header, then the files, and then the events.
 abbrev pub asks_at : World → Stage → Line → Result Turn LineFault
@@ -149,6 +164,7 @@ turned w (turn.Settle now) = happened (at_events w) (Settles now)
 turned w (turn.Cut c) = happened (at_events w) (Cuts c)
 turned w (turn.Hang n) = happened (at_events w) (Hangs n)
 turned w (turn.Pass n k server at) = passes k (at_events w) n server at
+turned w (turn.Adjust a) = adjusts (at_events w) a
 
 -- ---- lines
 

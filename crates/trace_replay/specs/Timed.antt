@@ -55,6 +55,9 @@ timing_of owners line.Skipped = timing.Nothing
 timing_of owners line.Version = timing.Nothing
 timing_of owners (line.Clients count) = timing.Nothing
 timing_of owners (line.File name content) = timing.Nothing
+timing_of owners (line.Forge who key file offset count) = timing.Nothing
+timing_of owners (line.Clear who) = timing.Nothing
+timing_of owners (line.Evict c file) = timing.Nothing
 
 abbrev pub owners_of : World → List ℕ
 owners_of w = map (λ x. x.owner) w.core.sessions

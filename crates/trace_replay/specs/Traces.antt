@@ -1,5 +1,5 @@
 -- What the replay of a trace answers, and what is promised of its history.
-use Rattle.std.specs.Prelude.{true, false, ◌≡◌, ℕ, ◌+◌, ◌⊎◌, List, ◌++◌, All, Result, Ok, Err, Option, Some, None, slice_get, option_map}
+use Rattle.std.specs.Prelude.{true, false, ◌≡◌, ℕ, ◌+◌, ◌⊎◌, List, ◌++◌, length, All, Result, Ok, Err, Option, Some, None, slice_get}
 use Rattle.rpc_record.specs.Records.{Unread}
 use Rattle.wire.specs.Message.{MessageFits, message_spell}
 use Rattle.wire.specs.Parse.{parse_of}
@@ -11,11 +11,14 @@ use Rattle.wire.specs.declared.message.Message.TheVariants as message
 use Rattle.wire.specs.declared.message.Message.{Message}
 use Rattle.wire.specs.declared.message.Waiting.{Waiting}
 use Rattle.open_close.specs.State.{waiting_of, calls_of, has_call}
-use Rattle.register_model.specs.Register.{History, IsLegal}
+use Rattle.client_cache.specs.Cache.{content_of}
+use Rattle.client_cache.specs.declared.kept.Content.{Content}
+use Rattle.register_model.specs.Register.{History, IsLegal, Value}
 use Rattle.register_model.specs.declared.op.Op.{Op}
 use Rattle.register_model.specs.declared.op.Outcome.TheVariants as told
 use Rattle.register_model.specs.declared.op.Word.TheVariants as word
 use Rattle.server_core.specs.State.{file_at}
+use Rattle.server_core.specs.declared.file.File.{File}
 use Rattle.server_core.specs.declared.change.Change.{Change}
 use Rattle.trace_replay.specs.declared.fault.Refused.{Refused}
 use Rattle.trace_replay.specs.declared.fault.TraceErr.{TraceErr}
@@ -23,8 +26,8 @@ use Rattle.trace_replay.specs.declared.fault.TraceErr.TheVariants as errors
 use Rattle.trace_replay.specs.Core.{Seat, Session, numbered, server_waiting}
 use Rattle.trace_replay.specs.World.{World, Wire, bytes_of, history_of}
 use Rattle.trace_replay.specs.Trail.{moments, hashed}
-use Rattle.trace_replay.specs.Traffic.{close_traffic}
-use Rattle.trace_replay.specs.Book.{Book, AreApart, book_of, value_at, version_at}
+use Rattle.trace_replay.specs.Traffic.{deals_of, stored_traffic}
+use Rattle.trace_replay.specs.Book.{Book, AreApart, HadContent, Or, book_of, value_at, version_at}
 use Rattle.trace_replay.specs.Faithful.{IsFaithful}
 use Rattle.trace_replay.specs.Complete.{IsComplete}
 
@@ -40,7 +43,7 @@ Gives (Err e) ran = Fails e ran
 -- A change that waits has the content that its close is to store: the one of the value of a close that is still running, or was lost, which
 -- had sent all of its traffic. It came on a session of the close's client that the server did not see lost, and it is of the last close that
 -- sent calls there.
-pub record HoldsValue (w : World) (c : Change) : Type 0 where
+pub record HoldsValue (book : Book) (w : World) (c : Change) : Type 0 where
   pub place : ℕ
   pub op : Op
   pub there : slice_get w.core.ops place ≡ Some op
@@ -48,8 +51,9 @@ pub record HoldsValue (w : World) (c : Change) : Type 0 where
   pub file_is : op.file ≡ c.file
   pub untold : (op.outcome ≡ told.Running) ⊎ (op.outcome ≡ told.Lost)
   pub pointless : op.point ≡ None
-  pub value_is : op.value ≡ c.content
-  pub traffic_is : op.traffic ≡ close_traffic op.value
+  pub size_is : length op.value ≡ length c.content
+  pub value_is : Or book (op.value ≡ c.content)
+  pub traffic_is : op.traffic ≡ stored_traffic op.value (deals_of op book.moments)
   pub session : Session
   pub session_is : numbered w.core.sessions c.session ≡ Some session
   pub stands : session.hung ≡ false
@@ -57,13 +61,22 @@ pub record HoldsValue (w : World) (c : Change) : Type 0 where
   pub closing : session.closing ≡ Some place
 
 -- so has each, and no two are of one session
-pub record HoldsValues (w : World) : Type 0 where
-  pub values : (i : ℕ) (c : Change) → slice_get w.core.server.waiting i ≡ Some c → HoldsValue w c
+pub record HoldsValues (book : Book) (w : World) : Type 0 where
+  pub values : (i : ℕ) (c : Change) → slice_get w.core.server.waiting i ≡ Some c → HoldsValue book w c
   pub single : (i j : ℕ) (c d : Change) → slice_get w.core.server.waiting i ≡ Some c → slice_get w.core.server.waiting j ≡ Some d → c.session ≡ d.session → i ≡ j
 
--- the server's tree has of each file what the history says that it is, and the version
+-- the server's tree has of each file what the history says that it is, if it is there, and the version
+abbrev pub HoldsFile : Book → World → (file : ℕ) → Option File → Value → Type 0
+HoldsFile book w file None None = Unit {0}
+HoldsFile book w file (Some f) (Some content) = Or book (f.content ≡ content) × (f.version ≡ version_at book file (w.core.steps + 1))
+HoldsFile book w file f v = ⊥
+
 abbrev pub HoldsFiles : Book → World → Type 0
-HoldsFiles book w = (file : ℕ) → (option_map (λ f. f.content) (file_at w.core.server.files file) ≡ value_at book file (w.core.steps + 1)) × (option_map (λ f. f.version) (file_at w.core.server.files file) ≡ option_map (λ x. version_at book file (w.core.steps + 1)) (value_at book file (w.core.steps + 1)))
+HoldsFiles book w = (file : ℕ) → HoldsFile book w file (file_at w.core.server.files file) (value_at book file (w.core.steps + 1))
+
+-- each content that a client keeps of a file is what the file had in that version
+abbrev pub HoldsContents : Book → World → Type 0
+HoldsContents book w = (c file : ℕ) (seat : Seat) (kept : Content) → numbered w.core.seats c ≡ Some seat → content_of seat.client.cache file ≡ Some kept → HadContent book file kept.version kept.bytes
 
 -- a message fits a record, and an end with these calls waiting reads it as itself
 abbrev pub IsRead : Waiting → Message → Type 0
@@ -71,6 +84,7 @@ IsRead waiting m = MessageFits m × (parse_of waiting (message_spell m) ≡ Ok m
 
 -- a call that the server does
 abbrev pub IsServed : Message → Type 0
+IsServed (message.Call xid (body.Lb (lb.GetLease handle))) = Unit {0}
 IsServed (message.Call xid (body.Lb (lb.GetHash a))) = Unit {0}
 IsServed (message.Call xid (body.Lb (lb.MkTmpFile a))) = Unit {0}
 IsServed (message.Call xid (body.Lb (lb.TmpWrite a))) = Unit {0}
@@ -124,6 +138,7 @@ pub record IsKeptPromise (input : List ℕ) (w : World) : Type 0 where
   pub faithful : IsFaithful input (book_of w (moments input))
   pub legal : AreApart (hashed input) → IsLegal (history_of w)
   pub complete : IsComplete (book_of w (moments input)) w
-  pub waiting : HoldsValues w
+  pub waiting : HoldsValues (book_of w (moments input)) w
   pub tree : HoldsFiles (book_of w (moments input)) w
+  pub contents : HoldsContents (book_of w (moments input)) w
   pub messages : HoldsMessages w

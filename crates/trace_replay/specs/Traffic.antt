@@ -1,5 +1,5 @@
 -- What an operation sent and received, by the messages of the run.
-use Rattle.std.specs.Prelude.{◌≡◌, ℕ, ◌+◌, ◌<◌, ◌≤◌, List, [], ◌∷◌, ◌++◌, length, map, take, option_map, slice_get, Option, Some, None, Bool, true, false, not, ◌&&◌, ◌==◌, nat_lt, nat_le, Contains}
+use Rattle.std.specs.Prelude.{◌≡◌, ◌⊎◌, ℕ, ◌+◌, ◌≤◌, List, [], ◌∷◌, ◌++◌, length, map, take, option_map, slice_get, Option, Some, None, Bool, true, false, not, ◌&&◌, ◌==◌, nat_le, Contains}
 use Rattle.xdr_codec.specs.declared.answer.Answer.TheVariants.{Done, Failed}
 use Rattle.chunk_cut.specs.Chunks.{chunks_of}
 use Rattle.chunk_cut.specs.Places.{chunk_bytes}
@@ -20,7 +20,7 @@ use Rattle.register_model.specs.declared.op.Word.{Word}
 use Rattle.register_model.specs.declared.op.Word.TheVariants as word
 use Rattle.trace_replay.specs.Ops.{no_traffic}
 use Rattle.trace_replay.specs.Core.{happens}
-use Rattle.trace_replay.specs.Trail.{Moment, Said, step_of, client_of, taken_by}
+use Rattle.trace_replay.specs.Trail.{Moment, Said, place_of, step_of, client_of, taken_by, given_by}
 
 abbrev pub until : (end : Option ℕ) → (step : ℕ) → Bool
 until None step = true
@@ -68,14 +68,6 @@ traffic_of o sent taken = both (sent_for o sent) (taken_for o taken)
 
 -- ---- what it comes to
 
--- a close named each chunk by a CONDWRITE, which the server's empty index did not know, and sent its bytes by a TMPWRITE
-abbrev pub close_traffic : (value : List ℕ) → Traffic
-close_traffic value = record no_traffic { cond = length (chunks_of value); tmp = length (chunks_of value); «data» = length value }
-
--- an open read each chunk of its content once
-abbrev pub open_traffic : (value : List ℕ) → Traffic
-open_traffic value = record no_traffic { read = length (chunks_of value); «data» = length value }
-
 -- what an operation with this word may count: an open sends no CONDWRITE and no TMPWRITE, a close no READ, and all others nothing
 abbrev pub CountsOwn : Word → Traffic → Type 0
 CountsOwn word.Open t = (t.cond ≡ 0) × (t.tmp ≡ 0)
@@ -113,26 +105,31 @@ pub record AttemptsEnd (sent : List Said) (o : Op) : Type 0 where
 
 -- ---- what was said for an operation, in order
 
--- a message that its client took, or sent
+-- a message that its client took, a chunk whose bytes it then found by its index, or a message that it sent
 pub data Deal : Type 0 where
   Took : Message → Deal
+  Found : (place : ℕ × ℕ) → Deal
   Sent : Message → Deal
 
--- what a client took in a step, and sent then
-abbrev pub deals_with : (taken sent : List Message) → List Deal
-deals_with taken sent = map Took taken ++ map Sent sent
+-- what a client took in a step, found then, and sent
+abbrev pub deals_with : (taken : List Message) → (found : List (ℕ × ℕ)) → (sent : List Message) → List Deal
+deals_with taken found sent = map Took taken ++ map Found found ++ map Sent sent
 
-abbrev pub deals_if : Bool → (taken sent : List Message) → List Deal
-deals_if true taken sent = deals_with taken sent
-deals_if false taken sent = []
+abbrev pub deals_if : Bool → (taken : List Message) → (found : List (ℕ × ℕ)) → (sent : List Message) → List Deal
+deals_if true taken found sent = deals_with taken found sent
+deals_if false taken found sent = []
 
 -- at a moment, and at all of them
 abbrev pub deals_in : Op → Moment → List Deal
-deals_in o m = let c : ℕ = client_of m.before m.event in deals_if (is_in o (step_of m) c) (taken_by m.before c m.event) (happens m.before m.event).up
+deals_in o m = let c : ℕ = client_of m.before m.event in deals_if (is_in o (step_of m) c) (taken_by m.before c m.event) (given_by m.before c m.event) (happens m.before m.event).up
 
 abbrev pub deals_of : Op → List Moment → List Deal
 deals_of o [] = []
 deals_of o (m ∷ ms) = deals_in o m ++ deals_of o ms
+
+-- what a client took, found by its index or sent at a moment was for one of these operations, which it had under way in that step
+abbrev pub IsFor : List Op → Moment → Type 0
+IsFor ops m = let c : ℕ = client_of m.before m.event in (deals_with (taken_by m.before c m.event) (given_by m.before c m.event) (happens m.before m.event).up ≡ []) ⊎ ((k : ℕ) × (o : Op) × (slice_get ops k ≡ Some o) × (is_in o (step_of m) c ≡ true))
 
 -- ---- what a close named and sent
 
@@ -162,21 +159,42 @@ abbrev pub whole_in : List Deal → ℕ
 whole_in [] = 0
 whole_in (d ∷ ds) = whole_number d + whole_in ds
 
--- A close named the first chunks of its value, in order, each once, and sent the bytes of one for each answer that one isn't known.
+-- how many MKTMPFILEs were sent, and how many COMMITTMPs
+abbrev pub made_number : Deal → ℕ
+made_number (Sent (message.Call xid (body.Lb (lb.MkTmpFile a)))) = 1
+made_number d = 0
+
+abbrev pub made_in : List Deal → ℕ
+made_in [] = 0
+made_in (d ∷ ds) = made_number d + made_in ds
+
+abbrev pub commit_number : Deal → ℕ
+commit_number (Sent (message.Call xid (body.Lb (lb.CommitTmp a)))) = 1
+commit_number d = 0
+
+abbrev pub commits_in : List Deal → ℕ
+commits_in [] = 0
+commits_in (d ∷ ds) = commit_number d + commits_in ds
+
+-- A close named the first chunks of its value, in order, each once, and sent the bytes of one for each answer that one isn't known; it asked for
+-- one temporary file at most, and had its file replaced by one once at most.
 pub record NamesChunks (value : List ℕ) (deals : List Deal) : Type 0 where
   pub count : ℕ
   pub named : named_in deals ≡ take count (chunks_of value)
   pub whole : whole_in deals ≡ unknown_in deals
+  pub makes : made_in deals ≤ 1
+  pub commits : commits_in deals ≤ 1
 
 -- ---- what the last attempt of an open read
 
--- the READs that were sent, each by its place and length, and how many bytes came
+-- the chunks that were asked for by a READ, those that the index gave, each by its place and length, and how many bytes came
 pub record LastFetch : Type 0 where
   pub reads : List (ℕ × ℕ)
+  pub found : List (ℕ × ℕ)
   pub bytes : ℕ
 
 abbrev pub no_fetch : LastFetch
-no_fetch = record { reads = []; bytes = 0 }
+no_fetch = record { reads = []; found = []; bytes = 0 }
 
 -- a GETHASH from the file's first byte on begins a new attempt
 abbrev pub fetch_if : (begins : Bool) → LastFetch → LastFetch
@@ -186,6 +204,7 @@ fetch_if false f = f
 abbrev pub fetch_with : LastFetch → Deal → LastFetch
 fetch_with f (Sent (message.Call xid (body.Lb (lb.GetHash a)))) = fetch_if (a.offset == 0) f
 fetch_with f (Sent (message.Call xid (body.Nfs (nfs.Read r)))) = record f { reads = f.reads ++ (r.offset, r.count) ∷ [] }
+fetch_with f (Found place) = record f { found = f.found ++ place ∷ [] }
 fetch_with f (Took (message.Answer xid (body.Nfs (nfs.ReadAnswer (Done piece))))) = record f { bytes = f.bytes + length piece.bytes }
 fetch_with f d = f
 
@@ -196,12 +215,32 @@ fetch_from f (d ∷ ds) = fetch_from (fetch_with f d) ds
 abbrev pub last_fetch : List Deal → LastFetch
 last_fetch ds = fetch_from no_fetch ds
 
-abbrev pub place_of : Chunk → ℕ × ℕ
-place_of c = (c.start, c.len)
+abbrev pub is_same : Bool → Bool → Bool
+is_same true b = b
+is_same false b = not b
 
--- each chunk of a content was read, in order, and each once, and its bytes came
-abbrev pub fetch_of : (content : List ℕ) → LastFetch
-fetch_of content = record { reads = map place_of (chunks_of content); bytes = length content }
+-- those chunks of which this is so
+abbrev pub chosen_if : Bool → Chunk → List (ℕ × ℕ)
+chosen_if true c = place_of c ∷ []
+chosen_if false c = []
+
+abbrev pub chosen : (which : Bool) → List Bool → List Chunk → List (ℕ × ℕ)
+chosen which [] cs = []
+chosen which (b ∷ bs) [] = []
+chosen which (b ∷ bs) (c ∷ cs) = chosen_if (is_same b which) c ++ chosen which bs cs
+
+abbrev pub lengths_of : List (ℕ × ℕ) → ℕ
+lengths_of [] = 0
+lengths_of (p ∷ ps) = p.1 + lengths_of ps
+
+-- Each chunk of a content was reached once, and in order: a READ went out for it exactly where the index didn't give its bytes, and what came are the
+-- bytes of those.
+pub record ReachesAll (content : List ℕ) (f : LastFetch) : Type 0 where
+  pub given : List Bool
+  pub count : length given ≡ length (chunks_of content)
+  pub found : f.found ≡ chosen true given (chunks_of content)
+  pub reads : f.reads ≡ chosen false given (chunks_of content)
+  pub bytes : f.bytes ≡ lengths_of f.reads
 
 -- ---- attempts that met another version
 
@@ -276,6 +315,7 @@ pub record AttemptsMet (o : Op) (deals : List Deal) : Type 0 where
 
 -- an open asks for chunks and bytes of its file
 abbrev pub IsFetchCall : (file : ℕ) → Message → Type 0
+IsFetchCall file (message.Call xid (body.Lb (lb.GetLease handle))) = handle ≡ handle_bytes file
 IsFetchCall file (message.Call xid (body.Lb (lb.GetHash a))) = a.handle ≡ handle_bytes file
 IsFetchCall file (message.Call xid (body.Nfs (nfs.Read r))) = r.handle ≡ handle_bytes file
 IsFetchCall file m = ⊥
@@ -297,4 +337,32 @@ IsOwnCall w file value m = ⊥
 abbrev pub AreOwn : Word → (file : ℕ) (value : List ℕ) → List Deal → Type 0
 AreOwn w file value [] = Unit {0}
 AreOwn w file value (Took m ∷ ds) = AreOwn w file value ds
+AreOwn w file value (Found place ∷ ds) = AreOwn w file value ds
 AreOwn w file value (Sent m ∷ ds) = IsOwnCall w file value m × AreOwn w file value ds
+
+-- ---- what it comes to
+
+-- how many bytes TMPWRITEs carried
+abbrev pub bytes_number : Deal → ℕ
+bytes_number (Sent (message.Call xid (body.Lb (lb.TmpWrite a)))) = length a.bytes
+bytes_number d = 0
+
+abbrev pub bytes_in : List Deal → ℕ
+bytes_in [] = 0
+bytes_in (d ∷ ds) = bytes_number d + bytes_in ds
+
+-- A close that sent its COMMITTMP named each chunk of its value by a CONDWRITE, and sent the bytes of those that the server didn't know.
+abbrev pub stored_traffic : (value : List ℕ) → List Deal → Traffic
+stored_traffic value deals = record no_traffic { cond = length (chunks_of value); tmp = unknown_in deals; «data» = bytes_in deals }
+
+-- an open that read just this
+abbrev pub read_traffic : LastFetch → Traffic
+read_traffic f = record no_traffic { read = length f.reads; «data» = f.bytes }
+
+-- An open that got its content by what its client kept sent no READ, and took no byte of it; else its last attempt reached each chunk of it once.
+abbrev pub GotBy : Op → List Deal → Type 0
+GotBy o deals = (((attempts_in deals).last ≡ None) × (o.traffic ≡ no_traffic)) ⊎ ReachesAll o.value (last_fetch deals)
+
+-- and a close whose chunks the server all knew sent no byte of its value
+abbrev pub SavesAll : Op → List Deal → Type 0
+SavesAll o deals = unknown_in deals ≡ 0 → (o.traffic.tmp ≡ 0) × (o.traffic.«data» ≡ 0)

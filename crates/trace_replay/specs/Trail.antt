@@ -1,5 +1,5 @@
 -- A run step by step: what happened at each moment, and what was told, sent, taken and hashed then.
-use Rattle.std.specs.Prelude.{◌≡◌, ℕ, zero, suc, ◌+◌, List, [], ◌∷◌, ◌++◌, length, Option, Some, None, Result, Ok, Err, Bool, true, false, not, ◌==◌, flat_map}
+use Rattle.std.specs.Prelude.{◌≡◌, ℕ, zero, suc, ◌+◌, List, [], ◌∷◌, ◌++◌, length, Option, Some, None, Result, Ok, Err, Bool, true, false, not, ◌==◌, flat_map, is_some}
 use Rattle.command_text.specs.Content.{content_bytes}
 use Rattle.command_text.specs.declared.command.Command.{Command}
 use Rattle.command_text.specs.Parts.{lines_of}
@@ -11,7 +11,14 @@ use Rattle.wire.specs.declared.message.Message.{Message}
 use Rattle.wire.specs.declared.message.Message.TheVariants as message
 use Rattle.wire.specs.declared.fault.WireFault.{WireFault}
 use Rattle.open_close.specs.State.{State, waiting_of, pending, has_call}
+use Rattle.chunk_cut.specs.declared.chunk.Chunk.{Chunk}
+use Rattle.chunk_index.specs.Index.{Indexed}
+use Rattle.client_cache.specs.Cache.{Entries}
+use Rattle.open_close.specs.Caching.{from_index}
 use Rattle.open_close.specs.Hashed.{client_hashed}
+use Rattle.open_close.specs.Looking.{reading}
+use Rattle.open_close.specs.Opening.{reads_all, looked_up}
+use Rattle.open_close.specs.declared.task.Fetch.{Fetch}
 use Rattle.server_core.specs.Hashed.{server_hashed}
 use Rattle.register_model.specs.declared.op.Opening.{Opening}
 use Rattle.trace_replay.specs.declared.turn.Turn.{Turn}
@@ -241,11 +248,48 @@ taken_in m = let c = client_of m.before m.event in all_said (step_of m) c (taken
 abbrev pub taken_of : List Moment → List Said
 taken_of ms = flat_map taken_in ms
 
+-- ---- what clients find by their indexes
+
+-- a chunk by its place in its file, and its length
+abbrev pub place_of : Chunk → ℕ × ℕ
+place_of c = (c.start, c.len)
+
+abbrev pub given_if : Bool → Chunk → List (ℕ × ℕ)
+given_if true c = place_of c ∷ []
+given_if false c = []
+
+-- those of these chunks whose bytes an index gives
+abbrev pub given_of : Entries → Indexed → List Chunk → List (ℕ × ℕ)
+given_of cache index [] = []
+given_of cache index (c ∷ cs) = given_if (is_some (from_index cache index c)) c ++ given_of cache index cs
+
+-- of those that are looked up in an attempt as it goes on
+abbrev pub given_in : State → Option (ℕ × Fetch) → List (ℕ × ℕ)
+given_in s None = []
+given_in s (Some p) = given_of s.cache s.index (looked_up p.1 (reads_all s.cache s.index p.0 p.1 s.next))
+
+abbrev pub given_by_message : State → Result Message WireFault → List (ℕ × ℕ)
+given_by_message s (Ok m) = given_in s (reading s.task m)
+given_by_message s (Err e) = []
+
+abbrev pub given_by_record : State → List ℕ → (is_newest : Bool) → List (ℕ × ℕ)
+given_by_record s bytes true = given_by_message s (parse_of (waiting_of s) bytes)
+given_by_record s bytes false = []
+
+abbrev pub given_from : (number : ℕ) → List ℕ → Option Seat → List (ℕ × ℕ)
+given_from number bytes None = []
+given_from number bytes (Some seat) = given_by_record seat.client bytes (is_newest seat.session number)
+
+-- the chunks whose bytes a client finds at an event, in order
+abbrev pub given_by : Core → (owner : ℕ) → Event → List (ℕ × ℕ)
+given_by k owner (Hears number now bytes) = given_from number bytes (numbered k.seats owner)
+given_by k owner e = []
+
 -- ---- digests
 
-abbrev pub served_hashed : Core → Result Message WireFault → List (List ℕ)
-served_hashed k (Ok m) = server_hashed k.server.files m
-served_hashed k (Err e) = []
+abbrev pub served_hashed : Core → (session : ℕ) → Result Message WireFault → List (List ℕ)
+served_hashed k session (Ok m) = server_hashed k.server session m
+served_hashed k session (Err e) = []
 
 abbrev pub heard_hashed : Option Seat → (now : ℕ) → List ℕ → List (List ℕ)
 heard_hashed None now bytes = []
@@ -253,7 +297,7 @@ heard_hashed (Some seat) now bytes = client_hashed seat.client (parse_of (waitin
 
 -- the byte lists whose digests are sent or compared then, as names of chunks
 abbrev pub hashed_by : Core → Event → List (List ℕ)
-hashed_by k (Serves number now bytes) = served_hashed k (parse_of server_waiting bytes)
+hashed_by k (Serves number now bytes) = served_hashed k number (parse_of server_waiting bytes)
 hashed_by k (Hears number now bytes) = heard_hashed (numbered k.seats (owner_in (numbered k.sessions number))) now bytes
 hashed_by k e = []
 

@@ -7,9 +7,10 @@ use Rattle.server_core.specs.State as server
 use Rattle.server_core.specs.declared.event.Sent.{Sent}
 use Rattle.register_model.specs.Register.{History}
 use Rattle.register_model.specs.declared.op.Opening.{Opening}
+use Rattle.trace_replay.specs.declared.adjusting.Adjustment.{Adjustment}
 use Rattle.trace_replay.specs.declared.stage.Stage.{Stage}
 use Rattle.trace_replay.specs.declared.stage.Stage.TheVariants as stage
-use Rattle.trace_replay.specs.Core.{Core, Session, CoreStep, Event, Loss, Loss.Nothing, Loss.Made, Loss.Down_of, Loss.Up_of, numbered, with_numbered, happens}
+use Rattle.trace_replay.specs.Core.{Core, Session, CoreStep, Event, Loss, Loss.Nothing, Loss.Made, Loss.Down_of, Loss.Up_of, numbered, with_numbered, happens, adjusted}
 
 -- the bytes of a session on their way up and down, and what each end has of a record that is not whole
 pub record Wire : Type 0 where
@@ -97,3 +98,7 @@ routed w t = record w { core = t.core; wires = down_put t.core.sessions (up_put 
 
 abbrev pub happened : World → Event → World
 happened w e = routed w (happens w.core e)
+
+-- what changes an index or a cache alone leaves the bytes on their way as they are
+abbrev pub adjusts : World → Adjustment → World
+adjusts w a = record w { core = adjusted w.core a }

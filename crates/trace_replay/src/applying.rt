@@ -111,6 +111,7 @@ impl WorldState {
             Turn::Settle(now) => self.settles(alloc, now),
             Turn::Cut(client) => self.cuts(alloc, client),
             Turn::Hang(session) => self.hangs(alloc, session),
+            Turn::Adjust(adjustment) => self.adjusts(adjustment),
             Turn::Pass {
                 session,
                 rounds,

@@ -7,6 +7,7 @@
 //! them, and `specs/Run.antt` and `specs/Timed.antt` what a trace comes to.
 #![tactic(auto)]
 
+pub mod adjusting;
 mod applying;
 mod commanding;
 mod commands;

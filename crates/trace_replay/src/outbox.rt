@@ -13,8 +13,8 @@ use std::alloc::{AllocError, Global};
 use wire::message::Message;
 use wire::spell::spell_marked;
 
-/// A message's record of one fragment. Neither end sends more than a record may have, so there it is
-/// want of memory.
+/// A message's record of one fragment. Neither end sends more than a record may have, so the one
+/// error that can come is want of memory.
 fn record_of(alloc: Global, message: &Message) -> Result<Bytes, AllocError>
     ensures { IfOk result (λ bytes. bytes ≡ marked (message_spell message.now)) }
 {

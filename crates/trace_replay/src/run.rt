@@ -30,7 +30,7 @@ fn bad_line(line: u64) -> TraceErr
 
 /// Runs the lines of a text, of which the first has this number, and gives the number of the line
 /// behind them. `Refused`: the first line that is outside the grammar, out of place, past a limit, or
-/// against the clock rule.
+/// against the clock rule. After an error the world is of no further use.
 pub fn run_lines(alloc: Global, world: &mut World, first: u64, text: &[u8]) -> Result<u64, TraceErr>
     requires { first < 2 ^ 63 }
     ensures { AreApplied result (applied_from world.old first (lines_of text.now)) world.new }
@@ -56,7 +56,7 @@ pub fn run_lines(alloc: Global, world: &mut World, first: u64, text: &[u8]) -> R
 pub fn run(alloc: Global, input: &[u8]) -> Result<World, TraceErr>
     ensures { ComesTo result (accepted input.now) }
 {
-    let mut world = World::new(alloc);
+    let mut world = World::new(alloc)?;
     let next = run_lines(alloc, &mut world, 1, input)?;
     if world.in_header() {
         return Err(bad_line(next));

@@ -1,15 +1,16 @@
 //! A client of the trace, with what is kept of it beside its own state. `Seat` in `specs/Core.antt`
 //! says what that is.
 
-ghost use Rattle.std.specs.Prelude.{◌≡◌, Some, IfOk};
+ghost use Rattle.std.specs.Prelude.{◌≡◌, Some, IfOk, OnOk};
 ghost use Rattle.wire.specs.Parse.{parse_of};
-ghost use Rattle.open_close.specs.State.{waiting_of};
+ghost use Rattle.open_close.specs.State.{waiting_of, forged, index_cleared, evicted};
 ghost use Rattle.open_close.specs.Step.{command_step, got_step, joined, cut};
 ghost use Rattle.trace_replay.specs.Core.{new_seat};
 ghost use Rattle.trace_replay.specs.Ops.{place_after, place_with};
 
 use crate::parsing::parse_record;
 use crate::places::{place_after, place_with};
+use chunk_index::place::Place;
 use command_text::command::Command;
 use open_close::client::Client;
 use open_close::step::ClientStep;
@@ -35,15 +36,16 @@ impl Model for Seat {
 }
 
 impl Seat {
-    /// A client that has not joined. It takes no memory.
-    pub fn new(alloc: Global) -> Seat
-        ensures { result ≡ new_seat }
+    /// A client that has not joined. The one error is want of memory.
+    pub fn new(alloc: Global) -> Result<Seat, AllocError>
+        ensures { IfOk result (λ seat. seat ≡ new_seat) }
     {
-        Seat {
-            client: Client::new(alloc),
+        let client = Client::new(alloc)?;
+        Ok(Seat {
+            client,
             session: None,
             place: None,
-        }
+        })
     }
 
     /// The client.
@@ -115,6 +117,27 @@ impl Seat {
         }
         self.place = place_after(self.place, &acts.ended);
         Ok(acts)
+    }
+
+    /// The client's index gets this place for the key. The one error is want of memory.
+    pub fn forge(&mut self, key: u64, place: Place) -> Result<(), AllocError>
+        ensures { OnOk result (self.new ≡ record self.old { client = forged self.old.client key place }) }
+    {
+        self.client.forge(key, place)
+    }
+
+    /// The client's index has no place any more.
+    pub fn clear_index(&mut self)
+        ensures { self.new ≡ record self.old { client = index_cleared self.old.client } }
+    {
+        self.client.clear_index();
+    }
+
+    /// The client drops the content that it keeps of this file.
+    pub fn evict(&mut self, file: u64)
+        ensures { self.new ≡ record self.old { client = evicted self.old.client file } }
+    {
+        self.client.evict(file);
     }
 
     /// The client sees its connection lost.

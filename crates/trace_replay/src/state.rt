@@ -1,12 +1,13 @@
 //! The world's fields, and events in it: a step of the ends, and what it sends put on its way.
 //! `specs/World.antt` says what an event makes of a world.
 
-ghost use Rattle.std.specs.Prelude.{◌≡◌, ◌<◌, ◌^◌, OnOk};
+ghost use Rattle.std.specs.Prelude.{◌≡◌, ◌<◌, ◌^◌, IfOk, OnOk};
 ghost use Rattle.trace_replay.specs.Core.{Event.Joins, Event.Does, Event.Serves, Event.Hears, Event.Settles, Event.Cuts, Event.Hangs};
-ghost use Rattle.trace_replay.specs.World.{start, routed, happened};
+ghost use Rattle.trace_replay.specs.World.{start, routed, happened, adjusts};
 ghost use Rattle.trace_replay.specs.View.{core_of, core_step_of};
 ghost use Rattle.trace_replay.specs.WorldView.{world_of};
 
+use crate::adjusting::{Adjustment, adjust};
 use crate::core_step::CoreStep;
 use crate::names::Names;
 use crate::opening::OpeningFile;
@@ -34,18 +35,19 @@ pub struct WorldState {
 }
 
 impl WorldState {
-    /// The world before the first line. It takes no memory.
-    pub fn new(alloc: Global) -> WorldState
-        ensures { world_of result ≡ start }
+    /// The world before the first line. The one error is want of memory.
+    pub fn new(alloc: Global) -> Result<WorldState, AllocError>
+        ensures { IfOk result (λ world. world_of world ≡ start) }
     {
-        WorldState {
+        let core = Core::new(alloc)?;
+        Ok(WorldState {
             stage: Stage::Version,
             names: Names::new(alloc),
             opening: Vec::new(alloc),
             size: 0,
-            core: Core::new(alloc),
+            core,
             wires: Vec::new(alloc),
-        }
+        })
     }
 
     /// What an event dropped is gone, and what it sent is on its way.
@@ -126,6 +128,13 @@ impl WorldState {
         let done = self.routes(alloc, &step);
         drop(step);
         done
+    }
+
+    /// An index or a cache is changed, and nothing else.
+    pub fn adjusts(&mut self, adjustment: Adjustment) -> Result<(), AllocError>
+        ensures { OnOk result (world_of self.new ≡ adjusts (world_of self.old) adjustment) }
+    {
+        adjust(&mut self.core, adjustment)
     }
 
     /// A client sees its connection lost.

@@ -100,6 +100,7 @@ pub fn timing_of(sessions: &Vec<Session>, line: &Line) -> Timing
         Line::Cut { client, at } => of_client(*client, *at),
         Line::Hang { server, .. } => Timing::Reads(Reading::Server(*server)),
         Line::Skipped | Line::Version | Line::Clients(_) | Line::File { .. } => Timing::Nothing,
+        Line::Forge { .. } | Line::Clear(_) | Line::Evict { .. } => Timing::Nothing,
     }
 }
 

@@ -5,24 +5,27 @@ ghost use Rattle.trace_text.specs.Reading.{IsTimely};
 ghost use Rattle.trace_replay.specs.Names.{has_name};
 ghost use Rattle.trace_replay.specs.Core.{numbered};
 ghost use Rattle.trace_replay.specs.World.{World};
-ghost use Rattle.trace_replay.specs.Run.{is_there, asks_if, named, joins_within, joins_if, event_asks, asks_at, asks, asks_within, asked, in_header};
+ghost use Rattle.trace_replay.specs.Run.{is_there, has_index, asks_if, named, joins_within, joins_if, adjust_asks, event_asks, asks_at, asks, asks_within, asked, in_header};
 ghost use Rattle.trace_replay.specs.Turns.{IsTurnBounded, stage_after};
 ghost use Rattle.trace_replay.specs.View.{core_of};
 ghost use Rattle.trace_replay.specs.WorldView.{world_of};
 ghost use Rattle.trace_replay.specs.declared.stage.Stage.TheVariants as stage;
+ghost use Rattle.trace_replay.specs.declared.adjusting.Adjustment.TheVariants as adjustment;
 ghost use Rattle.trace_replay.specs.declared.turn.Turn.TheVariants as turn;
 
+use crate::adjusting::Adjustment;
 use crate::names::Names;
 use crate::numbered::place_of;
 use crate::seat::Seat;
 use crate::stage::Stage;
 use crate::state::WorldState;
 use crate::world_core::Core;
+use chunk_index::place::Place;
 use command_text::command::Command;
 use command_text::content::{Content, length_within};
 use lb_base::items::Bytes;
 use limits::{FILE_MOST, LINES_MOST, SESSIONS_MOST, TREE_MOST};
-use trace_text::line::{Amount, Line};
+use trace_text::line::{Amount, Line, Who};
 use trace_text::refusal::{Limit, LineFault};
 
 /// What a line in place asks of the world. Clients and sessions are numbered from 1; `now` is a
@@ -73,6 +76,8 @@ pub enum Turn {
         server: u64,
         at: u64,
     },
+    /// An index or a cache is changed, and nothing else.
+    Adjust(Adjustment),
 }
 
 /// Which lines may come after a turn.
@@ -240,6 +245,64 @@ fn pass_asks(
     asks_if(has_session(core, session), turn)
 }
 
+/// Whether there is such an index: the server's, or that of a client who is there.
+fn has_index(core: &Core, who: Who) -> bool
+    ensures { result ≡ has_index (core_of core.now) who }
+{
+    match who {
+        Who::Server => true,
+        Who::Client(client) => has_client(core, client),
+    }
+}
+
+/// An index that is there gets a place for a key.
+fn forge_asks(core: &Core, who: Who, key: u64, place: Place) -> Result<Turn, LineFault>
+    ensures { result ≡ asks_if (has_index (core_of core.now) who) (turn.Adjust (adjustment.Forge who key place)) }
+{
+    let turn = Turn::Adjust(Adjustment::Forge { who, key, place });
+    asks_if(has_index(core, who), turn)
+}
+
+/// An index that is there has no place any more.
+fn clear_asks(core: &Core, who: Who) -> Result<Turn, LineFault>
+    ensures { result ≡ asks_if (has_index (core_of core.now) who) (turn.Adjust (adjustment.Clear who)) }
+{
+    asks_if(has_index(core, who), Turn::Adjust(Adjustment::Clear(who)))
+}
+
+/// A client that is there drops a content that it keeps.
+fn evict_asks(core: &Core, client: u64, file: u64) -> Result<Turn, LineFault>
+    ensures { result ≡ asks_if (is_there (numbered (core_of core.now).seats client)) (turn.Adjust (adjustment.Evict client file)) }
+{
+    let turn = Turn::Adjust(Adjustment::Evict { client, file });
+    asks_if(has_client(core, client), turn)
+}
+
+/// What a line asks for that changes an index or a cache alone.
+fn adjust_asks(core: &Core, line: Line) -> Result<Turn, LineFault>
+    ensures { result ≡ adjust_asks (core_of core.now) line }
+{
+    match line {
+        Line::Forge {
+            who,
+            key,
+            file,
+            offset,
+            count,
+        } => {
+            let place = Place {
+                file,
+                offset,
+                count,
+            };
+            forge_asks(core, who, key, place)
+        }
+        Line::Clear(who) => clear_asks(core, who),
+        Line::Evict { client, file } => evict_asks(core, client, file),
+        _ => Err(LineFault::Grammar),
+    }
+}
+
 /// What an event asks for, which names a client and a session that are there.
 fn event_asks(core: &Core, line: Line) -> Result<Turn, LineFault>
     ensures { result ≡ event_asks (core_of core.now) line }
@@ -270,7 +333,7 @@ fn event_asks(core: &Core, line: Line) -> Result<Turn, LineFault>
             server,
             at,
         } => pass_asks(core, session, rounds, server, at),
-        _ => Err(LineFault::Grammar),
+        line => adjust_asks(core, line),
     }
 }
 

@@ -50,14 +50,15 @@ fn refused(line: u64, fault: LineFault) -> TraceErr
 }
 
 impl World {
-    /// The world before the first line. It takes no memory.
-    pub fn new(alloc: Global) -> World
-        ensures { result ≡ timed_start }
+    /// The world before the first line. The one error is want of memory.
+    pub fn new(alloc: Global) -> Result<World, AllocError>
+        ensures { IfOk result (λ world. world ≡ timed_start) }
     {
-        World {
-            state: WorldState::new(alloc),
+        let state = WorldState::new(alloc)?;
+        Ok(World {
+            state,
             times: Times::new(alloc),
-        }
+        })
     }
 
     /// Does what the line of this number says, whose readings have at most 63 bits, as those of

@@ -45,24 +45,25 @@ fn seat_more(alloc: Global, seats: &mut Vec<Seat>, count: u64) -> Result<(), All
     ensures { OnOk result (seats.new.items ≡ seats.old.items ++ replicate count new_seat) }
 {
     for _i in 0..count {
-        seats.push(Seat::new(alloc))?;
+        seats.push(Seat::new(alloc)?)?;
     }
     Ok(())
 }
 
 impl Core {
-    /// No file, no client and no session. It takes no memory.
-    pub fn new(alloc: Global) -> Core
-        ensures { core_of result ≡ record { server = empty; seats = []; sessions = []; steps = 0; ops = []; entries = [] } }
+    /// No file, no client and no session. The one error is want of memory.
+    pub fn new(alloc: Global) -> Result<Core, AllocError>
+        ensures { IfOk result (λ core. core_of core ≡ record { server = empty; seats = []; sessions = []; steps = 0; ops = []; entries = [] }) }
     {
-        Core {
-            server: Server::new(alloc),
+        let server = Server::new(alloc)?;
+        Ok(Core {
+            server,
             seats: Vec::new(alloc),
             sessions: Vec::new(alloc),
             steps: 0,
             ops: Vec::new(alloc),
             entries: Vec::new(alloc),
-        }
+        })
     }
 
     /// A file that the tree opens with, while no change waits. The one error is want of memory, and
