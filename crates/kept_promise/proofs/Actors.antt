@@ -3,7 +3,8 @@ use Rattle.std.proofs.Common.{inl, inr, ◌≡◌, ℕ, ◌+◌, List, [], ◌�
 use Rattle.open_close.specs.State as client
 use Rattle.register_model.specs.declared.op.Outcome.{Outcome}
 use Rattle.register_model.specs.declared.op.Outcome.TheVariants as told
-use Rattle.kept_promise.proofs.Common.{nat_tests, ◌==◌, ◌&&◌, nat_le, slice_get, is_some, not, MessageFits, message_spell, parse_of, WireFault, Message, got_step, Task, Op, Core, Seat, Session, Event.Hears, is_newest, acted, hears, hears_at, hears_if, numbered, happens, wanted_by, taken_if, taken_from, taken_by, until, Book, is_running, Told, Queue, told_message}
+use Rattle.trace_replay.specs.Trail.{given_by_message, given_by_record, given_from}
+use Rattle.kept_promise.proofs.Common.{nat_tests, ◌==◌, ◌&&◌, nat_le, slice_get, is_some, not, MessageFits, message_spell, parse_of, WireFault, Message, got_step, Task, Op, Core, Seat, Session, Event.Hears, is_newest, acted, hears, hears_at, hears_if, numbered, happens, wanted_by, taken_if, taken_from, taken_by, given_by, until, Book, is_running, Told, Queue, told_message}
 use Rattle.kept_promise.proofs.Lists.{some_is, nothing_there, same_or_not}
 use Rattle.kept_promise.proofs.Messages.{Job, job, job_of, AllTolds}
 use Rattle.kept_promise.proofs.Fits.{FitLaws}
@@ -150,3 +151,7 @@ heard_acts laws book k qs n now bytes mid kept h = h.hears_is ∙ ap (λ (r : Re
 -- and taken where the operation under way waits for it
 pub heard_takes : FitLaws → (book : Book) (k : Core) (qs : List Queue) (n now : ℕ) (bytes : List ℕ) (mid : List Queue) → IsKept book k qs → (h : Heard k qs n now bytes mid) → taken_by k h.session.owner (Hears n now bytes) ≡ wanted_by h.seat.client (Ok (told_message h.told))
 heard_takes laws book k qs n now bytes mid kept h = ap (taken_from n bytes) h.owner ∙ ap (taken_if h.seat.client bytes) (newest_is h.seat.session n h.newest) ∙ ap (wanted_by h.seat.client) (heard_reads laws book k qs n now bytes mid kept h)
+
+-- and which chunks its index gives it then
+pub heard_gives : FitLaws → (book : Book) (k : Core) (qs : List Queue) (n now : ℕ) (bytes : List ℕ) (mid : List Queue) → IsKept book k qs → (h : Heard k qs n now bytes mid) → given_by k h.session.owner (Hears n now bytes) ≡ given_by_message h.seat.client (Ok (told_message h.told))
+heard_gives laws book k qs n now bytes mid kept h = ap (given_from n bytes) h.owner ∙ ap (given_by_record h.seat.client bytes) (newest_is h.seat.session n h.newest) ∙ ap (given_by_message h.seat.client) (heard_reads laws book k qs n now bytes mid kept h)

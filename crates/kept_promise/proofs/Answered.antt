@@ -1,6 +1,7 @@
 -- A client takes an answer to a call of its operation under way: which call it is, and what comes of it.
 use Rattle.std.proofs.Common.{◌≡◌, ℕ, zero, suc, ◌≤◌, List, [], ◌∷◌, ◌++◌, Option, Some, Bool, true, false, refl, sym, ap, ◌∙◌, subst, arith, eqb-true, eq-eqb, map}
-use Rattle.kept_promise.proofs.Common.{slice_get, cond, ◌==◌, ◌||◌, Answer, Attr, Committed, Hashes, Piece, waiting, Pending, Program, has_call, store_pending, read_pending, store_at, read_at, ReadCall, StoreCall, Reply, Reply.Hashed, Reply.Bytes, Reply.Made, Reply.Named, Reply.Stored, Reply.Changed, Told, reply_program}
+use Rattle.hash_calls.specs.declared.call.Leased.{Leased}
+use Rattle.kept_promise.proofs.Common.{slice_get, cond, ◌==◌, ◌||◌, Answer, Attr, Committed, Hashes, Piece, waiting, Pending, Program, has_call, store_pending, read_pending, store_at, read_at, ReadCall, StoreCall, Reply, Reply.Versioned, Reply.Hashed, Reply.Bytes, Reply.Made, Reply.Named, Reply.Stored, Reply.Changed, Told, reply_program}
 use Rattle.kept_promise.proofs.Lists.{some_is, nothing_there, in_front, false_and_true}
 use Rattle.kept_promise.proofs.Keys.{times, code_of}
 use Rattle.kept_promise.proofs.Heard.{told_pending}
@@ -49,6 +50,10 @@ read_here (u ∷ us) i t e = by (u.xid == t.xid) refl i e (λ k. read_here us k 
     by false same (suc i) e later = later i e
 
 -- ---- an answer to a procedure is of its kind
+
+pub lease_reply : (r : Reply) → 7 ≡ code_of (reply_program r) → (a : Answer Leased Unit) × (r ≡ Versioned a)
+lease_reply (Versioned a) e = (a, refl)
+lease_reply _ e = absurd (omega (arith, e))
 
 pub hash_reply : (r : Reply) → 1 ≡ code_of (reply_program r) → (a : Answer Hashes Unit) × (r ≡ Hashed a)
 hash_reply (Hashed a) e = (a, refl)

@@ -1,14 +1,16 @@
 -- What a client's step for a command says: its own answer, and what it leaves of the local content, or that it asks the server.
 use Rattle.std.proofs.Common.{◌≡◌, ℕ, zero, suc, ◌+◌, ◌≤◌, List, [], ◌∷◌, length, Option, Some, None, Bool, true, false, refl, sym, ap, ◌∙◌, subst, arith}
 use Rattle.command_text.specs.declared.command.Command.TheVariants as command
+use Rattle.client_cache.specs.Cache.{reserved, content_of}
+use Rattle.client_cache.specs.declared.kept.Content.{Content}
 use Rattle.open_close.specs.State as client
 use Rattle.open_close.specs.declared.step.Outcome.TheVariants as outcome
 use Rattle.register_model.specs.declared.op.Outcome.{Outcome as Told}
 use Rattle.register_model.specs.declared.op.Outcome.TheVariants as told
 use Rattle.trace_replay.specs.Causes.{free_answer}
-use Rattle.kept_promise.proofs.Common.{nat_tests, ◌==◌, nat_lt, is_some, option_map, if◌then◌else◌, sha1, content_length, content_bytes, Part, Command, content_size, ends, local_most, written_size, written, truncated, part_of, calls_most, may_ask, asks_hashes, opens_if, opens, on_local, done_with, too_big, edits, writes, truncates, reads, abandons, asks_temp, closes, command_step, ClientStep, Outcome, Local, Task, local_at_itself, local_at_another, without_at_itself, without_at_another, file_of, told_of, value_of, leaves, own_answer, unless_asks, write_outcome, sized_outcome}
+use Rattle.kept_promise.proofs.Common.{nat_tests, ◌==◌, nat_lt, is_some, option_map, if◌then◌else◌, sha1, content_length, content_bytes, Part, Command, content_size, ends, local_most, written_size, written, truncated, part_of, calls_most, may_ask, asks_file, asks_kept, opens_if, opens, on_local, done_with, too_big, edits, writes, truncates, reads, abandons, asks_temp, closes, command_step, ClientStep, Outcome, Local, Task, local_at_itself, local_at_another, without_at_itself, without_at_another, file_of, told_of, value_of, leaves, own_answer, unless_asks, write_outcome, sized_outcome}
 use Rattle.kept_promise.proofs.Does.{own_ended}
-use Rattle.kept_promise.proofs.Naming.{some_call}
+use Rattle.kept_promise.proofs.StepCases.{some_call}
 use Rattle.kept_promise.proofs.Deeds.{local_of}
 
 -- ---- what is said
@@ -135,8 +137,12 @@ opened_answer s file free = subst (λ (t : Option Task). IsAnswered s (command.O
     by (Some l) = (stays s, so s (command.Open file) outcome.AlreadyOpen told.AlreadyOpen refl (λ v. refl) (λ v l. refl))
     by None = ask (may_ask s)
       where
-        ask : (b : Bool) → (let r = asks_hashes s file b in Stays s r.0 × AnswersBy s (command.Open file) r (unless_asks b))
-        ask true = ((let o = some_call in omega (arith, o), refl), (refl, refl, tt))
+        kept : (o : Option Content) → (let r = asks_kept (record s { cache = reserved s.cache file }) file o in Stays s r.0 × AnswersBy s (command.Open file) r None)
+        kept None = ((let o = some_call in omega (arith, o), refl), (refl, refl, tt))
+        kept (Some c) = ((let o = some_call in omega (arith, o), refl), (refl, refl, tt))
+
+        ask : (b : Bool) → (let r = asks_file s file b in Stays s r.0 × AnswersBy s (command.Open file) r (unless_asks b))
+        ask true = kept (content_of s.cache file)
         ask false = (stays s, so s (command.Open file) outcome.NoLink told.NoLink refl (λ v. refl) (λ v l. refl))
 
 closed_answer : (s : client.State) (file : ℕ) (l : Local) → local_of s file ≡ Some l.bytes → (let r = closes s file l in Stays s r.0 × AnswersBy s (command.Close file) r (unless_asks (may_ask s)))

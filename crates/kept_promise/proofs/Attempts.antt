@@ -6,6 +6,7 @@ use Rattle.kept_promise.proofs.Lists.{some_is, nothing_there, take_whole, of_bot
 use Rattle.kept_promise.proofs.Marks.{marks, same_version}
 use Rattle.kept_promise.proofs.Growth.{seen_in, value_seen, version_seen, or_both, or_map}
 use Rattle.kept_promise.proofs.Messages.{Job, IsTold, IsTried, Trying, IsHashed, IsFetch, range_from}
+use Rattle.kept_promise.proofs.Rights.{IsSound}
 use Rattle.kept_promise.proofs.Chunks.{Row, row_of, tells_next, tells_end, pairs_tell, nothing_broken, slots_are_whole}
 use Rattle.kept_promise.proofs.CloseSteps.{chunks_few}
 
@@ -57,8 +58,12 @@ one_content book f p q a b at is same = by (nat_le p q) refl
 
 pub fetch_first : (book : Book) (taken : List TakenCall) (j : Job) (x tries : ℕ) (h : Hashes) → IsHashed book taken j x 0 h → IsTried book taken j x tries → IsFetch book taken j (fetch_of tries x h)
 fetch_first book taken j x tries h is tried = record {
-  content = is.file.content;
-  told = subst (λ v. IsTold book taken j x (Some is.file.content) v) (sym (ap (λ (z : Hashes). z.version) is.is)) is.told;
+  file = is.file;
+  held = is.held;
+  version = sym (ap (λ (z : Hashes). z.version) is.is);
+  value = is.value;
+  told = subst (λ v. IsTold book taken j x (Some is.value) v) (sym (ap (λ (z : Hashes). z.version) is.is)) is.told;
+  value_is = is.value_is;
   tried = tried;
   size = ap (λ (z : Hashes). z.size) is.is;
   short = is.short;
@@ -72,23 +77,23 @@ fetch_first book taken j x tries h is tried = record {
 pub record Next (book : Book) (taken : List TakenCall) (j : Job) (f : Fetch) (h : Hashes) : Type 0 where
   pub broken : broken_of f h ≡ None
   pub fetch : IsFetch book taken j (with_hashes f h)
-  pub whole : h.eof ≡ true → (with_hashes f h).chunks ≡ chunks_of fetch.content
+  pub whole : h.eof ≡ true → (with_hashes f h).chunks ≡ chunks_of fetch.file.content
   pub more : h.eof ≡ false → length f.chunks < length (with_hashes f h).chunks
 
-pub fetch_next : (book : Book) (taken : List TakenCall) (j : Job) (x : ℕ) (f : Fetch) (h : Hashes) → IsFetch book taken j f → IsHashed book taken j x (end_of f.chunks) h → h.version ≡ f.version → Next book taken j f h
-fetch_next book taken j x f h fact is same = by (nat_le (length (chunks_of fact.content)) (fact.count + 1024)) refl
+pub fetch_next : (book : Book) (taken : List TakenCall) (j : Job) (x : ℕ) (f : Fetch) (h : Hashes) → IsSound book → IsFetch book taken j f → IsHashed book taken j x (end_of f.chunks) h → h.version ≡ f.version → Next book taken j f h
+fetch_next book taken j x f h sound fact is same = by (nat_le (length (chunks_of fact.file.content)) (fact.count + 1024)) refl
   where
     v : List ℕ
-    v = fact.content
+    v = fact.file.content
 
     i : ℕ
     i = fact.count
 
     cs : List Chunk
-    cs = chunks_of fact.content
+    cs = chunks_of fact.file.content
 
     one : is.file.content ≡ v
-    one = one_content book j.file is.told.moment fact.told.moment is.file.content v is.told.value fact.told.value (is.told.version_is ∙ sym (ap (λ (z : Hashes). z.version) is.is) ∙ same ∙ sym fact.told.version_is)
+    one = sound.alike j.file is.file fact.file is.held fact.held (sym (ap (λ (z : Hashes). z.version) is.is) ∙ same ∙ sym fact.version)
 
     offset : end_of f.chunks ≡ end_of (take i cs)
     offset = ap end_of fact.chunks
@@ -117,7 +122,7 @@ fetch_next book taken j x f h fact is same = by (nat_le (length (chunks_of fact.
     by : (b : Bool) → nat_le (length cs) (i + 1024) ≡ b → Next book taken j f h
     by true le = record {
       broken = breaks;
-      fetch = record { content = v; told = fact.told; tried = fact.tried; size = fact.size; short = fact.short; known = fact.known; count = length cs; within = omega arith; chunks = chunks_is ∙ take_past (i + 1024) cs (grind (arith, nat_tests, le)) ∙ sym (take_whole cs); hashed = hashes };
+      fetch = record { file = fact.file; held = fact.held; version = fact.version; value = fact.value; told = fact.told; value_is = fact.value_is; tried = fact.tried; size = fact.size; short = fact.short; known = fact.known; count = length cs; within = omega arith; chunks = chunks_is ∙ take_past (i + 1024) cs (grind (arith, nat_tests, le)) ∙ sym (take_whole cs); hashed = hashes };
       whole = λ e. chunks_is ∙ take_past (i + 1024) cs (grind (arith, nat_tests, le));
       more = λ e. absurd (not_both (nat_le (length cs) (i + 1024)) le (sym eof_is ∙ e));
     }
@@ -128,7 +133,7 @@ fetch_next book taken j x f h fact is same = by (nat_le (length (chunks_of fact.
         let le : i + 1024 ≤ length cs = grind (arith, nat_tests, gt) in
         record {
           broken = breaks;
-          fetch = record { content = v; told = fact.told; tried = fact.tried; size = fact.size; short = fact.short; known = fact.known; count = i + 1024; within = le; chunks = chunks_is; hashed = hashes };
+          fetch = record { file = fact.file; held = fact.held; version = fact.version; value = fact.value; told = fact.told; value_is = fact.value_is; tried = fact.tried; size = fact.size; short = fact.short; known = fact.known; count = i + 1024; within = le; chunks = chunks_is; hashed = hashes };
           whole = λ e. absurd (not_both (nat_le (length cs) (i + 1024)) (sym eof_is ∙ e) gt);
           more = λ e. let a = ap length fact.chunks ∙ take_count i cs fact.within in let b = ap length chunks_is ∙ take_count (i + 1024) cs le in omega (arith, a, b);
         }
@@ -137,7 +142,7 @@ fetch_next book taken j x f h fact is same = by (nat_le (length (chunks_of fact.
         not_both b e d = absurd cc
 
 pub fetch_few : (book : Book) (taken : List TakenCall) (j : Job) (f : Fetch) → IsFetch book taken j f → length f.chunks ≤ 32769
-fetch_few book taken j f h = let a = ap length h.chunks ∙ take_count h.count (chunks_of h.content) h.within in let b = h.within in let c = chunks_few h.content h.short in omega (arith, a, b, c)
+fetch_few book taken j f h = let a = ap length h.chunks ∙ take_count h.count (chunks_of h.file.content) h.within in let b = h.within in let c = chunks_few h.file.content h.short in omega (arith, a, b, c)
 
 -- ---- all have come
 

@@ -4,19 +4,19 @@ use Rattle.open_close.specs.State as client
 use Rattle.open_close.specs.declared.task.Stage.TheVariants as stage
 use Rattle.register_model.specs.declared.op.Outcome.TheVariants as told
 use Rattle.register_model.specs.declared.op.Word.TheVariants as words
-use Rattle.kept_promise.proofs.Common.{nat_tests, slice_get, cond, ◌==◌, Pending, Temp, key_of, Change, Stage, content_of, Op, TakenCall, Core, Seat, Session, numbered, unless, Book, Call, Call.Hash, Call.Read, Call.Send, Call.Commit, Reply, Reply.Hashed, Reply.Bytes, Reply.Changed, Ask, Queue}
+use Rattle.kept_promise.proofs.Common.{nat_tests, slice_get, cond, ◌==◌, Pending, Temp, key_of, Change, Stage, content_of, Op, TakenCall, Core, Entries, Seat, Session, numbered, unless, hashed_of, Book, Call, Call.Lease, Call.Hash, Call.Read, Call.Name, Call.Send, Call.Commit, Reply, Reply.Versioned, Reply.Hashed, Reply.Bytes, Reply.Changed, Ask, Queue}
 use Rattle.kept_promise.proofs.Statements.{CallFits}
 use Rattle.kept_promise.proofs.Lists.{some_is, nothing_there, same_or_not, at_end, of_appended, false_and_true}
 use Rattle.kept_promise.proofs.Keys.{times, times_append, own, on_way, ask_key, change_key, told_key, pending_key, IsOurs, call_ours}
-use Rattle.kept_promise.proofs.Messages.{Job, job, stage_word, AllAsks, Rising, hash_offset, read_chunk, CallOf, IsAsked, AnswerOf, IsAnswer, FetchOf, IsCommit, CommitOf, IsPending, IsPiece, PieceOf, TempUnder, AreParts, CloseOf, Trying}
+use Rattle.kept_promise.proofs.Messages.{Job, job, stage_word, AllAsks, Rising, hash_offset, read_chunk, CallOf, IsAsked, AnswerOf, IsAnswer, FetchOf, IsCommit, CommitOf, IsPending, IsNamed, IsPiece, PieceOf, TempUnder, AreParts, CloseOf, Trying}
 use Rattle.kept_promise.proofs.Rights.{IsRight}
 use Rattle.kept_promise.proofs.History.{onward, goes_appended, still_appended}
-use Rattle.kept_promise.proofs.Later.{all_asks, all_tolds, same_view}
+use Rattle.kept_promise.proofs.Later.{all_asks, all_tolds, same_view, cached_later}
 use Rattle.kept_promise.proofs.Turns.{Around, turned_core, kept_turn}
 use Rattle.kept_promise.proofs.Taken.{rising_append, times_map_append}
 use Rattle.kept_promise.proofs.Orderly.{locals_of, InPlace}
 use Rattle.kept_promise.proofs.Ordered.{BeginsWith, orderly_clear, orderly_begun, place_more}
-use Rattle.kept_promise.proofs.Facts.{IsBalanced, IsTalk, IsOf, IsSeat, HasXids, IsKept, commits_in}
+use Rattle.kept_promise.proofs.Facts.{IsBalanced, IsTalk, IsOf, IsSeat, Cached, HasXids, IsKept, commits_in}
 use Rattle.kept_promise.proofs.Takes.{server_still}
 use Rattle.kept_promise.proofs.Heard.{ask_pending}
 use Rattle.kept_promise.proofs.Steps.{no_commits, asks_below, tolds_below}
@@ -47,14 +47,17 @@ pub record First (next : ℕ) (s : Stage) (a : Ask) : Type 0 where
   pub hash : (y o : ℕ) → y < next → hash_offset s y ≡ Some o → ⊥
   pub read : (y : ℕ) → read_chunk s y ≡ None
   pub commit : (y : ℕ) → s ≡ stage.Committing y → ⊥
+  pub lease : (y : ℕ) → y < next → s ≡ stage.Asking y → ⊥
   pub none : commits_in (a ∷ []) ≡ 0
 
 call_first : (next : ℕ) (j : Job) (s : Stage) (a : Ask) → First next s a → j.stage ≡ s → (y : ℕ) (c : Call) → y < next → CallOf (Some j) y c
+call_first next j s a f is y (Lease g) lt = λ i e w. absurd (f.lease y lt (sym is ∙ ap (λ (z : Job). z.stage) (some_is j i e) ∙ w))
 call_first next j s a f is y (Hash g o) lt = λ i p e w. absurd (f.hash y p lt (ap (λ (z : Stage). hash_offset z y) (sym is) ∙ ap (λ (z : Job). hash_offset z.stage y) (some_is j i e) ∙ w))
 call_first next j s a f is y (Read g d) lt = λ i p e w. nothing_there p (sym (f.read y) ∙ ap (λ (z : Stage). read_chunk z y) (sym is) ∙ ap (λ (z : Job). read_chunk z.stage y) (some_is j i e) ∙ w)
 call_first next j s a f is y _ lt = tt
 
 answer_first : (book : Book) (taken : List TakenCall) (closing : Option ℕ) (next : ℕ) (j : Job) (s : Stage) (a : Ask) → First next s a → j.stage ≡ s → (y : ℕ) (r : Reply) → y < next → AnswerOf book taken closing (Some j) y r
+answer_first book taken closing next j s a f is y (Versioned h) lt = λ i e w. absurd (f.lease y lt (sym is ∙ ap (λ (z : Job). z.stage) (some_is j i e) ∙ w))
 answer_first book taken closing next j s a f is y (Hashed h) lt = λ i p e w. absurd (f.hash y p lt (ap (λ (z : Stage). hash_offset z y) (sym is) ∙ ap (λ (z : Job). hash_offset z.stage y) (some_is j i e) ∙ w))
 answer_first book taken closing next j s a f is y (Bytes h) lt = λ i g c e at w. nothing_there c (sym (f.read y) ∙ ap (λ (z : Stage). read_chunk z y) (sym is) ∙ ap (λ (z : Job). read_chunk z.stage y) (some_is j i e) ∙ w)
 answer_first book taken closing next j s a f is y (Changed h) lt = λ i e w. absurd (f.commit y (sym is ∙ ap (λ (z : Job). z.stage) (some_is j i e) ∙ w))
@@ -134,22 +137,24 @@ content_else f n v m apart = ap (λ b. cond b v (f m)) (ne_eqb m n apart)
 pub content_at : (f : ℕ → List ℕ) (n : ℕ) (v : List ℕ) → with_content f n v n ≡ v
 content_at f n v = ap (λ b. cond b v (f n)) (eq-eqb n n refl)
 
-piece_else : (f : ℕ → List ℕ) (n : ℕ) (v : List ℕ) (a : Ask) → TempUnder n a.call → IsPiece f a → IsPiece (with_content f n v) a
-piece_else f n v a lt h = by a.call lt h
+piece_else : (hashed : List (List ℕ)) (f : ℕ → List ℕ) (n : ℕ) (v : List ℕ) (a : Ask) → TempUnder n a.call → IsPiece hashed f a → IsPiece hashed (with_content f n v) a
+piece_else hashed f n v a lt h = by a.call lt h
   where
-    by : (c : Call) → TempUnder n c → PieceOf f c → PieceOf (with_content f n v) c
+    by : (c : Call) → TempUnder n c → PieceOf hashed f c → PieceOf hashed (with_content f n v) c
+    by (Name m c) lt h = subst (λ (l : List ℕ). IsNamed hashed l c) (sym (content_else f n v m (λ e. omega (arith, lt, e)))) h
     by (Send m s b) lt h = subst (λ (l : List ℕ). b ≡ Rattle.std.specs.Prelude.take (length b) (Rattle.std.specs.Prelude.drop s l)) (sym (content_else f n v m (λ e. omega (arith, lt, e)))) h
     by _ lt h = tt
 
-pieces_else : (f : ℕ → List ℕ) (n : ℕ) (v : List ℕ) (us : List Ask) → AllAsks (λ a. TempUnder n a.call) us → AllAsks (IsPiece f) us → AllAsks (IsPiece (with_content f n v)) us
-pieces_else f n v [] lt h = tt
-pieces_else f n v (a ∷ us) lt h = (piece_else f n v a lt.0 h.0, pieces_else f n v us lt.1 h.1)
+pieces_else : (hashed : List (List ℕ)) (f : ℕ → List ℕ) (n : ℕ) (v : List ℕ) (us : List Ask) → AllAsks (λ a. TempUnder n a.call) us → AllAsks (IsPiece hashed f) us → AllAsks (IsPiece hashed (with_content f n v)) us
+pieces_else hashed f n v [] lt h = tt
+pieces_else hashed f n v (a ∷ us) lt h = (piece_else hashed f n v a lt.0 h.0, pieces_else hashed f n v us lt.1 h.1)
 
 under_more : (n m : ℕ) → n ≤ m → (us : List Ask) → AllAsks (λ a. TempUnder n a.call) us → AllAsks (λ a. TempUnder m a.call) us
 under_more n m le [] h = tt
 under_more n m le (a ∷ us) h = (by a.call h.0, under_more n m le us h.1)
   where
     by : (c : Call) → TempUnder n c → TempUnder m c
+    by (Lease g) lt = tt
     by (Hash g o) lt = tt
     by (Read g c) lt = tt
     by _ lt = omega (arith, lt, le)
@@ -167,11 +172,11 @@ pub record Free (book : Book) (k : Core) (qs : List Queue) (c n : ℕ) (x : Sess
   pub task : seat.client.task ≡ None
   pub free : job seat ≡ None
 
-abbrev pub begun_client : client.State → (temp file : ℕ) → Stage → client.State
-begun_client s temp file g = record s { next = s.next + 1; next_temp = temp; task = Some (record { file = file; stage = g }) }
+abbrev pub begun_client : client.State → (cache : Entries) → (temp file : ℕ) → Stage → client.State
+begun_client s cache temp file g = record s { cache = cache; next = s.next + 1; next_temp = temp; task = Some (record { file = file; stage = g }) }
 
 -- what an operation shows that begins
-pub record Starts (book : Book) (k : Core) (qs : List Queue) (c n : ℕ) (x : Session) (q : Queue) (seat : Seat) (new : Op) (temp file : ℕ) (s : Stage) (a : Ask) (closing : Option ℕ) (value : List ℕ) : Type 0 where
+pub record Starts (book : Book) (k : Core) (qs : List Queue) (c n : ℕ) (x : Session) (q : Queue) (seat : Seat) (new : Op) (cache : Entries) (temp file : ℕ) (s : Stage) (a : Ask) (closing : Option ℕ) (value : List ℕ) : Type 0 where
   pub first : First seat.client.next s a
   pub of_client : new.client ≡ c
   pub word : new.word ≡ stage_word s
@@ -182,7 +187,8 @@ pub record Starts (book : Book) (k : Core) (qs : List Queue) (c n : ℕ) (x : Se
   pub asked : IsAsked (Some (record { place = length book.ops; file = file; stage = s })) a
   pub fits : CallFits a.xid a.call
   pub under : TempUnder temp a.call
-  pub piece : (f : ℕ → List ℕ) → IsPiece f a
+  pub piece : (f : ℕ → List ℕ) → IsPiece (hashed_of book.moments) f a
+  pub cached : Cached book cache
   pub temps : seat.client.next_temp ≤ temp
   pub short : length value ≤ 67108864
   pub fetch : (taken : List TakenCall) (j : Job) → FetchOf (onward book 1 (book.ops ++ new ∷ [])) taken j s
@@ -195,14 +201,14 @@ pub record Starts (book : Book) (k : Core) (qs : List Queue) (c n : ℕ) (x : Se
   pub begins : BeginsWith s a
   pub tree : stage_word s ≡ words.Close → IsSome (content_of book.opening file)
 
-pub kept_begins : (book : Book) (k : Core) (qs : List Queue) (c n : ℕ) (x : Session) (q : Queue) (seat : Seat) (new : Op) (temp file : ℕ) (s : Stage) (a : Ask) (closing : Option ℕ) (value : List ℕ) (seats : List Seat) (sessions : List Session) (after : List Queue) → Free book k qs c n x q seat → Starts book k qs c n x q seat new temp file s a closing value
-    → Around k.seats seats c (record { client = begun_client seat.client temp file s; session = seat.session; place = Some (length book.ops) }) → Around k.sessions sessions n (record x { closing = closing }) → Around qs after n (record { ups = unless x.hung q.ups (a ∷ []); downs = q.downs })
+pub kept_begins : (book : Book) (k : Core) (qs : List Queue) (c n : ℕ) (x : Session) (q : Queue) (seat : Seat) (new : Op) (cache : Entries) (temp file : ℕ) (s : Stage) (a : Ask) (closing : Option ℕ) (value : List ℕ) (seats : List Seat) (sessions : List Session) (after : List Queue) → Free book k qs c n x q seat → Starts book k qs c n x q seat new cache temp file s a closing value
+    → Around k.seats seats c (record { client = begun_client seat.client cache temp file s; session = seat.session; place = Some (length book.ops) }) → Around k.sessions sessions n (record x { closing = closing }) → Around qs after n (record { ups = unless x.hung q.ups (a ∷ []); downs = q.downs })
     → (let more = onward book 1 (book.ops ++ new ∷ []) in IsKept more (turned_core more k.server seats sessions) after)
-kept_begins book k qs c n x q seat new temp file s a closing value seats sessions after g w seat_around session_around queue_around =
+kept_begins book k qs c n x q seat new cache temp file s a closing value seats sessions after g w seat_around session_around queue_around =
     let h = g.kept.sessions n x q g.at g.is in
     let more = onward book 1 (book.ops ++ new ∷ []) in
     let j : Job = record { place = length book.ops; file = file; stage = s } in
-    let d : Seat = record { client = begun_client seat.client temp file s; session = seat.session; place = Some (length book.ops) } in
+    let d : Seat = record { client = begun_client seat.client cache temp file s; session = seat.session; place = Some (length book.ops) } in
     let y : Session = record x { closing = closing } in
     let ups = unless x.hung q.ups (a ∷ []) in
     let seat_is : h.seat ≡ seat = some_is h.seat seat (sym h.owner ∙ ap (numbered k.seats) g.owner ∙ g.here) in
@@ -225,7 +231,7 @@ kept_begins book k qs c n x q seat new temp file s a closing value seats session
       seat_around = subst (λ (z : ℕ). Around k.seats seats z d) (sym g.owner) seat_around;
       owner = refl;
       goes = goes;
-      server = server_still book more k.server k.server.moment k.server.temps (still_appended book new w.pointless g.kept.sound) refl g.kept.server;
+      server = server_still book more None None k.server k.server.moment k.server.temps k.server.index goes.grows (still_appended book new w.pointless g.kept.sound) g.kept.server;
       sessions_made = refl;
       view = λ m apart. same_view m k.server;
       elsewhere = inr g.newest;
@@ -254,8 +260,8 @@ kept_begins book k qs c n x q seat new temp file s a closing value seats session
         contents = contents;
         lengths = λ m. short_by (m == seat.client.next_temp) m h.lengths;
         commits = no_commits more closing x.cut (Some j) contents ups (unless_commits x.hung q.ups a none_up w.first.none);
-        pieces = place_more (IsPiece contents) x.hung q.ups a (pieces_else h.contents seat.client.next_temp value q.ups below.0 h.pieces) (w.piece contents);
-        temps = λ i m e lt b key. let t = h.temps i m e lt b key in let less = below.1 i m e lt b key in (subst (λ l. AreParts l e.1.pieces) (sym (content_else h.contents seat.client.next_temp value m (λ same. omega (arith, same, less)))) t.0, t.1);
+        pieces = place_more (IsPiece (hashed_of book.moments) contents) x.hung q.ups a (pieces_else (hashed_of book.moments) h.contents seat.client.next_temp value q.ups below.0 h.pieces) (w.piece contents);
+        temps = λ i m e lt b key. let t = h.temps i m e lt b key in let less = below.1 i m e lt b key in (subst (λ l. AreParts (hashed_of book.moments) l e.1.pieces) (sym (content_else h.contents seat.client.next_temp value m (λ same. omega (arith, same, less)))) t.0, t.1);
         temps_below = λ u. (place_more (λ v. TempUnder temp v.call) x.hung q.ups a (under_more seat.client.next_temp temp w.temps q.ups below.0) w.under, λ i m e lt b key. let less = below.1 i m e lt b key in let le = w.temps in omega (arith, less, le));
         closes = λ u i e. subst (λ (z : Job). CloseOf more closing contents temp z (client.local_bytes seat.client.opened z.file) z.stage) (some_is j i e) (w.closes contents (content_at h.contents seat.client.next_temp value));
         pending = λ i z f. nothing_there z (ap (λ (l : List Change). slice_get l i) (sym none_waits) ∙ f);
@@ -276,6 +282,7 @@ kept_begins book k qs c n x q seat new temp file s a closing value seats session
         xids = λ i e. subst (λ (z : Job). HasXids (seat.client.next + 1) z.stage) (some_is j i e) w.xids;
         next = w.bounded;
         opened = seat_was.opened;
+        kept = cached_later book more None None cache goes.grows w.cached;
       });
       running = λ p o at run. elim (of_appended book.ops new p o at) [
         | inl last ↦ (d, j, ap (λ (z : Op). numbered seats z.client) last.1 ∙ ap (numbered seats) w.of_client ∙ seat_around.there, refl, sym last.0)

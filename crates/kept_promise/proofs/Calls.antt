@@ -2,10 +2,12 @@
 use Rattle.std.proofs.Common.{inl, inr, ◌≡◌, ℕ, zero, suc, ◌+◌, ◌<◌, ◌≤◌, List, [], ◌∷◌, ◌++◌, length, max, Option, Some, None, Bool, false, refl, sym, ap, ◌∙◌, subst, arith, IsSome, Result, Ok, Err}
 use Rattle.xdr_codec.specs.declared.status.Status.TheVariants as status
 use Rattle.server_core.specs.State as server
+use Rattle.server_core.specs.Answers.{chunks_told}
 use Rattle.server_core.specs.Closing.{done_unless}
+use Rattle.server_core.specs.Step.{with_told}
 use Rattle.temp_files.specs.Temps.{with_piece}
 use Rattle.open_close.specs.declared.task.Way.TheVariants as way
-use Rattle.kept_promise.proofs.Common.{slice_get, Chunk, handle_bytes, Done, Failed, Status, message_spell, MessageFits, Node, root, file, node_of, at, makes, makes_unless, writes_unless, cond_fault, room_fault, Temp, temp_at, with_temp, key_of, piece_fault, range_fault, insert_entry, nat_cmp, ServerStep, File, Core, Session, Event.Serves, CoreStep, Loss.Nothing, numbered, with_numbered, content_of, Book, Call.Hash, Call.Read, Call.Make, Call.Name, Call.Send, Reply, Reply.Made, Reply.Named, Reply.Stored, Ask, Queue, ask_message, told_message, call_program, reply_program}
+use Rattle.kept_promise.proofs.Common.{slice_get, Chunk, handle_bytes, Done, Failed, Status, message_spell, MessageFits, Node, root, file, node_of, at, makes, makes_unless, writes_unless, room_fault, Temp, temp_at, with_temp, key_of, piece_fault, range_fault, insert_entry, nat_cmp, ServerStep, Indexed, File, Core, Session, Event.Serves, CoreStep, Loss.Nothing, numbered, with_numbered, unless, content_of, hashed_of, Book, Call.Lease, Call.Hash, Call.Read, Call.Make, Call.Send, Reply, Reply.Made, Reply.Stored, Ask, Told, Queue, ask_message, told_message, call_program, reply_program}
 use Rattle.kept_promise.proofs.Statements.{CallFits, IsPlain}
 use Rattle.kept_promise.proofs.Lists.{some_is, nothing_there}
 use Rattle.kept_promise.proofs.Messages.{Job, job, stage_word, AllAsks, Rising, AreParts, IsPiece, TempUnder, AnswerOf}
@@ -14,19 +16,23 @@ use Rattle.kept_promise.proofs.Fits.{FitLaws}
 use Rattle.kept_promise.proofs.Takes.{took, Answers}
 use Rattle.kept_promise.proofs.Facts.{IsSession, IsKept}
 use Rattle.kept_promise.proofs.Serves.{answered, leads_answer}
-use Rattle.kept_promise.proofs.Tells.{hash_reply, hash_reply_fits, hash_told, read_reply, read_reply_fits, read_told}
+use Rattle.kept_promise.proofs.Tells.{hash_range, lease_reply, lease_reply_fits, lease_told, hash_reply, hash_reply_fits, hash_told, read_reply, read_reply_fits, read_told}
 use Rattle.kept_promise.proofs.Shelves.{of_inserted, of_lookup, keys_tell, keys_number, parts_put}
 use Rattle.kept_promise.proofs.Shelf.{IsShelf, NoTemp, shelf_put, one_put, other_put}
 use Rattle.kept_promise.proofs.Orderly.{locals_of, InPlace, Wanted, Holds, HeldIn, Held, Orderly}
-use Rattle.kept_promise.proofs.Ordered.{IsQuietCall, held_rest, held_first, place_first}
+use Rattle.kept_promise.proofs.Ordered.{IsQuietCall, TellsNone, held_told, held_rest, held_first, place_first}
 use Rattle.kept_promise.proofs.Chunks.{chunks_are_named}
 use Rattle.kept_promise.proofs.Stored.{in_store}
-use Rattle.kept_promise.proofs.Fills.{file_there, room_there, name_unknown, holds_taken}
+use Rattle.kept_promise.proofs.Fills.{file_there, room_there, holds_taken}
 use Rattle.kept_promise.proofs.Leading.{IsNoted, Leads}
+
+-- the answers on their way once one was told
+abbrev pub downs_then : Session → Queue → Ask → Reply → List Told
+downs_then x q a r = unless x.cut q.downs (record { xid = a.xid; reply = r } ∷ [])
 
 -- ---- what is answered with no change of the temporary files
 
-pub same_temps : (book : Book) (k : Core) (n : ℕ) (x : Session) (q : Queue) (a : Ask) (r : Reply) (h : IsSession book k.seats k.server n x q) → IsShelf k.server.temps → (x.cut ≡ false → Wanted (onward book 1 book.ops) (job h.seat) a.xid r) → (x.cut ≡ false → (us : List Ask) → q.ups ≡ a ∷ us → Held k.server.temps n us (locals_of h.seat.client) (job h.seat)) → reply_program r ≡ call_program a.call → MessageFits (told_message (record { xid = a.xid; reply = r }))
+pub same_temps : (book : Book) (k : Core) (n : ℕ) (x : Session) (q : Queue) (a : Ask) (r : Reply) (h : IsSession book k.seats k.server n x q) → IsShelf k.server.temps → (x.cut ≡ false → Wanted (onward book 1 book.ops) (job h.seat) a.xid r) → (x.cut ≡ false → (us : List Ask) → q.ups ≡ a ∷ us → Held k.server.temps n us (downs_then x q a r) (locals_of h.seat.client) (job h.seat)) → reply_program r ≡ call_program a.call → MessageFits (told_message (record { xid = a.xid; reply = r }))
     → (x.cut ≡ false → AnswerOf (onward book 1 book.ops) (x.taken ++ record { xid = a.xid; step = book.steps + 1 } ∷ []) x.closing (job h.seat) a.xid r) → Answers book k n x q a k.server.temps r h
 same_temps book k n x q a r h shelf wanted held program fits answer = record {
   shelf = shelf;
@@ -43,9 +49,9 @@ same_temps book k n x q a r h shelf wanted held program fits answer = record {
 
 -- ---- what is answered with one put in
 
-pub put_temp : (book : Book) (k : Core) (n : ℕ) (x : Session) (q : Queue) (a : Ask) (r : Reply) (m : ℕ) (t : Temp) (h : IsSession book k.seats k.server n x q) → IsShelf k.server.temps → t.fd < 4294967296 → (x.cut ≡ false → Wanted (onward book 1 book.ops) (job h.seat) a.xid r) → (x.cut ≡ false → (us : List Ask) → q.ups ≡ a ∷ us → Held (with_temp k.server.temps t) n us (locals_of h.seat.client) (job h.seat)) → reply_program r ≡ call_program a.call → MessageFits (told_message (record { xid = a.xid; reply = r }))
+pub put_temp : (book : Book) (k : Core) (n : ℕ) (x : Session) (q : Queue) (a : Ask) (r : Reply) (m : ℕ) (t : Temp) (h : IsSession book k.seats k.server n x q) → IsShelf k.server.temps → t.fd < 4294967296 → (x.cut ≡ false → Wanted (onward book 1 book.ops) (job h.seat) a.xid r) → (x.cut ≡ false → (us : List Ask) → q.ups ≡ a ∷ us → Held (with_temp k.server.temps t) n us (downs_then x q a r) (locals_of h.seat.client) (job h.seat)) → reply_program r ≡ call_program a.call → MessageFits (told_message (record { xid = a.xid; reply = r }))
     → (x.cut ≡ false → AnswerOf (onward book 1 book.ops) (x.taken ++ record { xid = a.xid; step = book.steps + 1 } ∷ []) x.closing (job h.seat) a.xid r)
-    → m < 4294967296 → key_of t.session t.fd ≡ key_of n m → AreParts (h.contents m) t.pieces → (x.cut ≡ false → m < h.seat.client.next_temp) → Answers book k n x q a (with_temp k.server.temps t) r h
+    → m < 4294967296 → key_of t.session t.fd ≡ key_of n m → AreParts (hashed_of book.moments) (h.contents m) t.pieces → (x.cut ≡ false → m < h.seat.client.next_temp) → Answers book k n x q a (with_temp k.server.temps t) r h
 put_temp book k n x q a r m t h shelf number wanted held program fits answer small keyed parts under = record {
   shelf = shelf_put k.server.temps t number shelf;
   found = λ o apart p lt. other_put k.server.temps n m o p t small lt apart keyed;
@@ -57,7 +63,7 @@ put_temp book k n x q a r m t h shelf number wanted held program fits answer sma
   pieces = λ i p e lt is key. elim (of_inserted k.server.temps (key_of t.session t.fd) t i e is) [
     | inl new ↦
         let same : m ≡ p = keys_number n m p (sym keyed ∙ sym new.0 ∙ key) in
-        (subst (λ (z : ℕ). AreParts (h.contents z) e.1.pieces) same (subst (λ (u : Temp). AreParts (h.contents m) u.pieces) (sym new.1) parts), ap (λ (u : Temp). key_of u.session u.fd) new.1 ∙ sym new.0)
+        (subst (λ (z : ℕ). AreParts (hashed_of book.moments) (h.contents z) e.1.pieces) same (subst (λ (u : Temp). AreParts (hashed_of book.moments) (h.contents m) u.pieces) (sym new.1) parts), ap (λ (u : Temp). key_of u.session u.fd) new.1 ∙ sym new.0)
     | inr old ↦ h.temps old.0 p e lt old.1 key
   ];
   below = λ uncut i p e lt is key. elim (of_inserted k.server.temps (key_of t.session t.fd) t i e is) [
@@ -101,18 +107,19 @@ first_fits book k qs n now x q a us g = (subst (AllAsks (λ b. CallFits b.xid b.
 abbrev pub rest_of : List Queue → (n : ℕ) → Queue → List Ask → List Queue
 rest_of qs n q us = with_numbered qs n (record q { ups = us })
 
-pub leads_by : (book : Book) (k : Core) (qs : List Queue) (n now : ℕ) (x : Session) (q : Queue) (a : Ask) (us : List Ask) (temps : List (ℕ × Temp)) (r : Reply) → (g : Given book k qs n now x q a us) → Answers book k n x q a temps r (session_in book k qs n now x q a us g) → Leads book (rest_of qs n q us) (answered k n (max k.server.moment now) x a temps r)
-leads_by book k qs n now x q a us temps r g shows = leads_answer book k qs n (max k.server.moment now) x q a us temps r g.kept g.at g.is g.first g.unhung shows
+pub leads_by : (book : Book) (k : Core) (qs : List Queue) (n now : ℕ) (x : Session) (q : Queue) (a : Ask) (us : List Ask) (temps : List (ℕ × Temp)) (index : Indexed) (r : Reply) → (g : Given book k qs n now x q a us) → Answers book k n x q a temps r (session_in book k qs n now x q a us g) → Leads book (rest_of qs n q us) (answered k n (max k.server.moment now) x a temps index r)
+leads_by book k qs n now x q a us temps index r g shows = leads_answer book k qs n (max k.server.moment now) x q a us temps index r g.kept g.at g.is g.first g.unhung shows
 
 -- what is held of a session once a call was taken that leaves it as it was
-pub held_still : (book : Book) (k : Core) (qs : List Queue) (n now : ℕ) (x : Session) (q : Queue) (a : Ask) (us : List Ask) → (g : Given book k qs n now x q a us) → IsQuietCall a.call → x.cut ≡ false → (vs : List Ask) → q.ups ≡ a ∷ vs
-    → Held k.server.temps n vs (locals_of (session_in book k qs n now x q a us g).seat.client) (job (session_in book k qs n now x q a us g).seat)
-held_still book k qs n now x q a us g quiet uncut vs e =
+pub held_still : (book : Book) (k : Core) (qs : List Queue) (n now : ℕ) (x : Session) (q : Queue) (a : Ask) (us : List Ask) → (g : Given book k qs n now x q a us) → (r : Reply) → TellsNone r → IsQuietCall a.call → x.cut ≡ false → (vs : List Ask) → q.ups ≡ a ∷ vs
+    → Held k.server.temps n vs (downs_then x q a r) (locals_of (session_in book k qs n now x q a us g).seat.client) (job (session_in book k qs n now x q a us g).seat)
+held_still book k qs n now x q a us g r none quiet uncut vs e =
     let h = session_in book k qs n now x q a us g in
-    held_rest k.server.temps n a vs (locals_of h.seat.client) (job h.seat) quiet (held_first book n k.server.temps q a vs h.seat e (subst (λ (b : Bool). Orderly book n k.server.temps b q h.seat) g.unhung (h.orderly uncut)))
+    let rest = held_rest k.server.temps n a vs q.downs (locals_of h.seat.client) (job h.seat) quiet (held_first book n k.server.temps q a vs h.seat e (subst (λ (b : Bool). Orderly book n k.server.temps b q h.seat) g.unhung (h.orderly uncut))) in
+    held_told k.server.temps n vs q.downs (record { xid = a.xid; reply = r }) x.cut (locals_of h.seat.client) (job h.seat) none rest
 
 -- what is held of a session whose first call is this, and that the call is in order
-pub held_at : (book : Book) (k : Core) (qs : List Queue) (n now : ℕ) (x : Session) (q : Queue) (a : Ask) (us : List Ask) → (g : Given book k qs n now x q a us) → x.cut ≡ false → Held k.server.temps n (a ∷ us) (locals_of (session_in book k qs n now x q a us g).seat.client) (job (session_in book k qs n now x q a us g).seat)
+pub held_at : (book : Book) (k : Core) (qs : List Queue) (n now : ℕ) (x : Session) (q : Queue) (a : Ask) (us : List Ask) → (g : Given book k qs n now x q a us) → x.cut ≡ false → Held k.server.temps n (a ∷ us) q.downs (locals_of (session_in book k qs n now x q a us g).seat.client) (job (session_in book k qs n now x q a us g).seat)
 held_at book k qs n now x q a us g uncut =
     let h = session_in book k qs n now x q a us g in
     held_first book n k.server.temps q a us h.seat g.first (subst (λ (b : Bool). Orderly book n k.server.temps b q h.seat) g.unhung (h.orderly uncut))
@@ -139,24 +146,38 @@ hash_wanted book o xid files f p = tt
 read_wanted : (book : Book) (o : Option Job) (xid : ℕ) (files : List (ℕ × File)) (f : ℕ) (d : Chunk) → Wanted book o xid (read_reply files f d)
 read_wanted book o xid files f d = tt
 
-pub serve_hash : FitLaws → (book : Book) (k : Core) (qs : List Queue) (n now : ℕ) (x : Session) (q : Queue) (xid f o : ℕ) (us : List Ask) → Given book k qs n now x q (record { xid = xid; call = Hash f o }) us → Leads book (rest_of qs n q us) (answered k n (max k.server.moment now) x (record { xid = xid; call = Hash f o }) k.server.temps (hash_reply k.server.files f o))
+-- what a GETHASH leaves of the index
+abbrev pub hash_index : server.State → (f o : ℕ) → Indexed
+hash_index s f o = with_told s.index (chunks_told (node_of s.files (handle_bytes f)) (hash_range f o))
+
+pub serve_hash : FitLaws → (book : Book) (k : Core) (qs : List Queue) (n now : ℕ) (x : Session) (q : Queue) (xid f o : ℕ) (us : List Ask) → Given book k qs n now x q (record { xid = xid; call = Hash f o }) us → Leads book (rest_of qs n q us) (answered k n (max k.server.moment now) x (record { xid = xid; call = Hash f o }) k.server.temps (hash_index k.server f o) (hash_reply k.server.files f o))
 serve_hash laws book k qs n now x q xid f o us g =
     let a : Ask = record { xid = xid; call = Hash f o } in
     let h = session_in book k qs n now x q a us g in
     let fits = first_fits book k qs n now x q a us g in
-    leads_by book k qs n now x q a us k.server.temps (hash_reply k.server.files f o) g (same_temps book k n x q a (hash_reply k.server.files f o) h g.kept.shelf (λ uncut. hash_wanted (onward book 1 book.ops) (job h.seat) xid k.server.files f o) (λ uncut vs e. held_still book k qs n now x q a us g tt uncut vs e) refl (hash_reply_fits laws book k.server xid f o g.kept.server fits.0 fits.1) (λ uncut. hash_told laws book k qs n now x q xid f o us h.seat g.kept h.owner (h.talk uncut) g.first fits g.noted))
+    leads_by book k qs n now x q a us k.server.temps (hash_index k.server f o) (hash_reply k.server.files f o) g (same_temps book k n x q a (hash_reply k.server.files f o) h g.kept.shelf (λ uncut. hash_wanted (onward book 1 book.ops) (job h.seat) xid k.server.files f o) (λ uncut vs e. held_still book k qs n now x q a us g (hash_reply k.server.files f o) tt tt uncut vs e) refl (hash_reply_fits laws book k.server xid f o g.kept.server fits.0 fits.1) (λ uncut. hash_told laws book k qs n now x q xid f o us h.seat g.kept h.owner (h.talk uncut) g.first fits g.noted))
 
-pub serve_read : FitLaws → (book : Book) (k : Core) (qs : List Queue) (n now : ℕ) (x : Session) (q : Queue) (xid f : ℕ) (d : Chunk) (us : List Ask) → Given book k qs n now x q (record { xid = xid; call = Read f d }) us → Leads book (rest_of qs n q us) (answered k n (max k.server.moment now) x (record { xid = xid; call = Read f d }) k.server.temps (read_reply k.server.files f d))
+pub serve_read : FitLaws → (book : Book) (k : Core) (qs : List Queue) (n now : ℕ) (x : Session) (q : Queue) (xid f : ℕ) (d : Chunk) (us : List Ask) → Given book k qs n now x q (record { xid = xid; call = Read f d }) us → Leads book (rest_of qs n q us) (answered k n (max k.server.moment now) x (record { xid = xid; call = Read f d }) k.server.temps k.server.index (read_reply k.server.files f d))
 serve_read laws book k qs n now x q xid f d us g =
     let a : Ask = record { xid = xid; call = Read f d } in
     let h = session_in book k qs n now x q a us g in
     let fits = first_fits book k qs n now x q a us g in
-    leads_by book k qs n now x q a us k.server.temps (read_reply k.server.files f d) g (same_temps book k n x q a (read_reply k.server.files f d) h g.kept.shelf (λ uncut. read_wanted (onward book 1 book.ops) (job h.seat) xid k.server.files f d) (λ uncut vs e. held_still book k qs n now x q a us g tt uncut vs e) refl (read_reply_fits laws book k.server xid f d g.kept.server fits.0 fits.1) (λ uncut. read_told book k qs n x q xid f d us h.seat g.kept h.owner (h.talk uncut) g.first fits.1))
+    leads_by book k qs n now x q a us k.server.temps k.server.index (read_reply k.server.files f d) g (same_temps book k n x q a (read_reply k.server.files f d) h g.kept.shelf (λ uncut. read_wanted (onward book 1 book.ops) (job h.seat) xid k.server.files f d) (λ uncut vs e. held_still book k qs n now x q a us g (read_reply k.server.files f d) tt tt uncut vs e) refl (read_reply_fits laws book k.server xid f d g.kept.server fits.0 fits.1) (λ uncut. read_told book k qs n now x q xid f d us h.seat g.kept h.owner (h.talk uncut) g.first fits.1 g.noted))
+
+lease_wanted : (book : Book) (o : Option Job) (xid : ℕ) (files : List (ℕ × File)) (f : ℕ) → Wanted book o xid (lease_reply files f)
+lease_wanted book o xid files f = tt
+
+pub serve_lease : FitLaws → (book : Book) (k : Core) (qs : List Queue) (n now : ℕ) (x : Session) (q : Queue) (xid f : ℕ) (us : List Ask) → Given book k qs n now x q (record { xid = xid; call = Lease f }) us → Leads book (rest_of qs n q us) (answered k n (max k.server.moment now) x (record { xid = xid; call = Lease f }) k.server.temps k.server.index (lease_reply k.server.files f))
+serve_lease laws book k qs n now x q xid f us g =
+    let a : Ask = record { xid = xid; call = Lease f } in
+    let h = session_in book k qs n now x q a us g in
+    let fits = first_fits book k qs n now x q a us g in
+    leads_by book k qs n now x q a us k.server.temps k.server.index (lease_reply k.server.files f) g (same_temps book k n x q a (lease_reply k.server.files f) h g.kept.shelf (λ uncut. lease_wanted (onward book 1 book.ops) (job h.seat) xid k.server.files f) (λ uncut vs e. held_still book k qs n now x q a us g (lease_reply k.server.files f) tt tt uncut vs e) refl (lease_reply_fits laws book k.server xid f g.kept.server fits.0 fits.1) (λ uncut. lease_told book k qs n x q xid f us h.seat g.kept h.owner (h.talk uncut) g.first fits.1))
 
 -- an answer that has nothing to tell
-pub serve_plain : FitLaws → (book : Book) (k : Core) (qs : List Queue) (n now : ℕ) (x : Session) (q : Queue) (a : Ask) (us : List Ask) (r : Reply) → (g : Given book k qs n now x q a us) → (x.cut ≡ false → Wanted (onward book 1 book.ops) (job (session_in book k qs n now x q a us g).seat) a.xid r) → (x.cut ≡ false → (vs : List Ask) → q.ups ≡ a ∷ vs → Held k.server.temps n vs (locals_of (session_in book k qs n now x q a us g).seat.client) (job (session_in book k qs n now x q a us g).seat))
-    → reply_program r ≡ call_program a.call → IsPlain r → a.xid < 4294967296 → (x.cut ≡ false → AnswerOf (onward book 1 book.ops) (x.taken ++ record { xid = a.xid; step = book.steps + 1 } ∷ []) x.closing (job (session_in book k qs n now x q a us g).seat) a.xid r) → Leads book (rest_of qs n q us) (answered k n (max k.server.moment now) x a k.server.temps r)
-serve_plain laws book k qs n now x q a us r g wanted held program plain lt answer = leads_by book k qs n now x q a us k.server.temps r g (same_temps book k n x q a r (session_in book k qs n now x q a us g) g.kept.shelf wanted held program (laws.plain a.xid r lt plain) answer)
+pub serve_plain : FitLaws → (book : Book) (k : Core) (qs : List Queue) (n now : ℕ) (x : Session) (q : Queue) (a : Ask) (us : List Ask) (index : Indexed) (r : Reply) → (g : Given book k qs n now x q a us) → (x.cut ≡ false → Wanted (onward book 1 book.ops) (job (session_in book k qs n now x q a us g).seat) a.xid r) → (x.cut ≡ false → (vs : List Ask) → q.ups ≡ a ∷ vs → Held k.server.temps n vs (downs_then x q a r) (locals_of (session_in book k qs n now x q a us g).seat.client) (job (session_in book k qs n now x q a us g).seat))
+    → reply_program r ≡ call_program a.call → IsPlain r → a.xid < 4294967296 → (x.cut ≡ false → AnswerOf (onward book 1 book.ops) (x.taken ++ record { xid = a.xid; step = book.steps + 1 } ∷ []) x.closing (job (session_in book k qs n now x q a us g).seat) a.xid r) → Leads book (rest_of qs n q us) (answered k n (max k.server.moment now) x a k.server.temps index r)
+serve_plain laws book k qs n now x q a us index r g wanted held program plain lt answer = leads_by book k qs n now x q a us k.server.temps index r g (same_temps book k n x q a r (session_in book k qs n now x q a us g) g.kept.shelf wanted held program (laws.plain a.xid r lt plain) answer)
 
 pub serve_make : FitLaws → (book : Book) (k : Core) (qs : List Queue) (n now : ℕ) (x : Session) (q : Queue) (xid m f : ℕ) (us : List Ask) → Given book k qs n now x q (record { xid = xid; call = Make m f }) us → Leads book (rest_of qs n q us) (served k n x xid (makes (at k.server now) n xid m (node_of k.server.files (handle_bytes f))))
 serve_make laws book k qs n now x q xid m f us g = by (node_of k.server.files (handle_bytes f)) refl
@@ -170,12 +191,15 @@ serve_make laws book k qs n now x q xid m f us g = by (node_of k.server.files (h
     fits : CallFits xid (Make m f)
     fits = first_fits book k qs n now x q a us g
 
+    ts : List Told
+    ts = downs_then x q a (Made (Done tt))
+
     -- where its client is there, the file is in the tree, and the session has no temporary file
     none : x.cut ≡ false → NoTemp k.server.temps n
     none uncut =
         let p = place_at book k qs n now x q a us g uncut in
-        let held = subst (Held k.server.temps n (a ∷ us) (locals_of h.seat.client)) p.1 (held_at book k qs n now x q a us g uncut) in
-        (subst (HeldIn k.server.temps n (a ∷ us) (locals_of h.seat.client p.0.file)) p.2 held).0 (0, m, f, refl)
+        let held = subst (Held k.server.temps n (a ∷ us) q.downs (locals_of h.seat.client)) p.1 (held_at book k qs n now x q a us g uncut) in
+        (subst (HeldIn k.server.temps n (a ∷ us) q.downs (locals_of h.seat.client p.0.file)) p.2 held).0 (0, m, f, refl)
 
     node : x.cut ≡ false → (z : File) × (server.file_at k.server.files f ≡ Some z) × (node_of k.server.files (handle_bytes f) ≡ Ok (file z))
     node uncut =
@@ -183,19 +207,19 @@ serve_make laws book k qs n now x q xid m f us g = by (node_of k.server.files (h
         file_there book k.server f g.kept.server (subst (λ (z : ℕ). IsSome (content_of book.opening z)) p.3 ((h.orderly uncut).tree p.0 p.1 (ap stage_word p.2))) fits.2
 
     -- so it is not refused
-    refuses : (e : Status) → (x.cut ≡ false → ⊥) → Leads book (rest_of qs n q us) (answered k n (max k.server.moment now) x a k.server.temps (Made (Failed e tt)))
-    refuses e never = serve_plain laws book k qs n now x q a us (Made (Failed e tt)) g (λ uncut. absurd (never uncut)) (λ uncut. absurd (never uncut)) refl tt fits.0 (λ uncut. tt)
+    refuses : (e : Status) → (x.cut ≡ false → ⊥) → Leads book (rest_of qs n q us) (answered k n (max k.server.moment now) x a k.server.temps k.server.index (Made (Failed e tt)))
+    refuses e never = serve_plain laws book k qs n now x q a us k.server.index (Made (Failed e tt)) g (λ uncut. absurd (never uncut)) (λ uncut. absurd (never uncut)) refl tt fits.0 (λ uncut. tt)
 
     made : x.cut ≡ false → Wanted (onward book 1 book.ops) (job h.seat) xid (Made (Done tt))
     made uncut = let p = place_at book k qs n now x q a us g uncut in ((p.0, m, p.1, p.2), refl)
 
-    held : (t : Temp) → t.session ≡ n → t.fd ≡ m → t.pieces ≡ [] → x.cut ≡ false → (vs : List Ask) → q.ups ≡ a ∷ vs → Held (with_temp k.server.temps t) n vs (locals_of h.seat.client) (job h.seat)
+    held : (t : Temp) → t.session ≡ n → t.fd ≡ m → t.pieces ≡ [] → x.cut ≡ false → (vs : List Ask) → q.ups ≡ a ∷ vs → Held (with_temp k.server.temps t) n vs ts (locals_of h.seat.client) (job h.seat)
     held t session number empty uncut vs e =
         let p = place_at book k qs n now x q a us g uncut in
         let same : us ≡ vs = tails (sym g.first ∙ e) in
-        subst (λ (l : List Ask). Held (with_temp k.server.temps t) n l (locals_of h.seat.client) (job h.seat)) same
-        (subst (Held (with_temp k.server.temps t) n us (locals_of h.seat.client)) (sym p.1)
-        (subst (HeldIn (with_temp k.server.temps t) n us (locals_of h.seat.client p.0.file)) (sym p.2)
+        subst (λ (l : List Ask). Held (with_temp k.server.temps t) n l ts (locals_of h.seat.client) (job h.seat)) same
+        (subst (Held (with_temp k.server.temps t) n us ts (locals_of h.seat.client)) (sym p.1)
+        (subst (HeldIn (with_temp k.server.temps t) n us ts (locals_of h.seat.client p.0.file)) (sym p.2)
         (λ u. absurd (rest_above book k qs n now x q a us g uncut u.0 (record { xid = xid; call = Make u.1 u.2 }) u.3 refl), λ u. (t, one_put k.server.temps n m t fits.1 session number (λ o lt apart. none uncut o lt), empty))))
       where
         tails : {b c : Ask} {us vs : List Ask} → b ∷ us ≡ c ∷ vs → us ≡ vs
@@ -205,7 +229,7 @@ serve_make laws book k qs n now x q xid m f us g = by (node_of k.server.files (h
     faults (Some e) t is = refuses e (λ uncut. nothing_there e (sym (room_there k.server.temps n m fits.1 g.kept.shelf (none uncut)) ∙ is))
     faults None t is =
         let w : Temp = record { session = n; fd = m; target = t; pieces = [] } in
-        leads_by book k qs n now x q a us (with_temp k.server.temps w) (Made (Done tt)) g (put_temp book k n x q a (Made (Done tt)) m w h g.kept.shelf fits.1 made (held w refl refl refl) refl (laws.plain xid (Made (Done tt)) fits.0 tt) (λ uncut. tt) fits.1 refl tt (λ uncut. (subst (AllAsks (λ b. TempUnder h.seat.client.next_temp b.call)) g.first (h.temps_below uncut).0).0))
+        leads_by book k qs n now x q a us (with_temp k.server.temps w) k.server.index (Made (Done tt)) g (put_temp book k n x q a (Made (Done tt)) m w h g.kept.shelf fits.1 made (held w refl refl refl) refl (laws.plain xid (Made (Done tt)) fits.0 tt) (λ uncut. tt) fits.1 refl tt (λ uncut. (subst (AllAsks (λ b. TempUnder h.seat.client.next_temp b.call)) g.first (h.temps_below uncut).0).0))
 
     by : (nd : Result Node Status) → node_of k.server.files (handle_bytes f) ≡ nd → Leads book (rest_of qs n q us) (served k n x xid (makes (at k.server now) n xid m nd))
     by (Err e) is = refuses e (λ uncut. not_err e (node uncut).0 (sym is ∙ (node uncut).2))
@@ -232,27 +256,27 @@ serve_send laws book k qs n now x q xid m start bytes us g = by (temp_at k.serve
     fits = first_fits book k qs n now x q a us g
 
     -- where its client is there, the bytes of a chunk are put into the one temporary file, which had not held them
-    goes : x.cut ≡ false → (t : Temp) × (temp_at k.server.temps n m ≡ Some t) × (piece_fault (temp_at k.server.temps n m) start (length bytes) ≡ None) × (t.session ≡ n) × (t.fd ≡ m) × Held (with_temp k.server.temps (with_piece t start bytes)) n us (locals_of h.seat.client) (job h.seat)
+    goes : x.cut ≡ false → (t : Temp) × (temp_at k.server.temps n m ≡ Some t) × (piece_fault (temp_at k.server.temps n m) start (length bytes) ≡ None) × (t.session ≡ n) × (t.fd ≡ m) × Held (with_temp k.server.temps (with_piece t start bytes)) n us q.downs (locals_of h.seat.client) (job h.seat)
     goes uncut =
         let p = place_at book k qs n now x q a us g uncut in
         let s = p.0 in
         let v = locals_of h.seat.client s.of.file in
-        let held = subst (HeldIn k.server.temps n (a ∷ us) v) s.at (subst (Held k.server.temps n (a ∷ us) (locals_of h.seat.client)) s.is (held_at book k qs n now x q a us g uncut)) in
+        let held = subst (HeldIn k.server.temps n (a ∷ us) q.downs v) s.at (subst (Held k.server.temps n (a ∷ us) q.downs (locals_of h.seat.client)) s.is (held_at book k qs n now x q a us g uncut)) in
         let is = in_store book k.seats k.server n x q h uncut xid way.Whole s in
         let t = held.0 in
         let one = held.1 in
         let chunk = p.2 in
         let c = chunk.0 in
         let at_chunk = ap (λ (l : List Chunk). slice_get l s.call.index) (sym is.chunks) ∙ chunk.1 in
-        let taken = holds_taken v xid m start bytes us s.store t.pieces is.place s.call c is.short is.there is.same is.inside s.way at_chunk is.unique (λ u. rest_above book k qs n now x q a us g uncut u.0 (record { xid = xid; call = Send u.1 u.2 u.3 }) u.4 refl) held.2 in
+        let taken = holds_taken v xid m start bytes us q.downs s.store t.pieces is.place s.call c is.short is.there is.same is.inside s.way at_chunk is.unique (λ u. rest_above book k qs n now x q a us g uncut u.0 (record { xid = xid; call = Send u.1 u.2 u.3 }) u.4 refl) held.2 in
         let found : temp_at k.server.temps n m ≡ Some t = ap (λ (z : ℕ). temp_at k.server.temps n z) (sym p.1) ∙ one.3 in
         let count : length bytes ≡ c.len = ap (λ (l : List ℕ). length l) chunk.3 ∙ (chunks_are_named v s.call.index c at_chunk).1 in
         let none : piece_fault (temp_at k.server.temps n m) start (length bytes) ≡ None = ap (λ (o : Option Temp). piece_fault o start (length bytes)) found ∙ ap (λ (z : ℕ). range_fault t.pieces z (length bytes)) chunk.2 ∙ ap (range_fault t.pieces c.start) count ∙ taken.0 in
-        let filled : Holds v us s.store (insert_entry nat_cmp t.pieces start bytes) = subst (λ (z : ℕ). Holds v us s.store (insert_entry nat_cmp t.pieces z bytes)) (sym chunk.2) (subst (λ (l : List ℕ). Holds v us s.store (insert_entry nat_cmp t.pieces c.start l)) (sym chunk.3) taken.1) in
-        (t, found, none, one.1, one.2 ∙ p.1, subst (Held (with_temp k.server.temps (with_piece t start bytes)) n us (locals_of h.seat.client)) (sym s.is) (subst (HeldIn (with_temp k.server.temps (with_piece t start bytes)) n us v) (sym s.at) (with_piece t start bytes, one_put k.server.temps n s.store.temp (with_piece t start bytes) one.0 one.1 one.2 one.4, filled)))
+        let filled : Holds v us q.downs s.store (insert_entry nat_cmp t.pieces start bytes) = subst (λ (z : ℕ). Holds v us q.downs s.store (insert_entry nat_cmp t.pieces z bytes)) (sym chunk.2) (subst (λ (l : List ℕ). Holds v us q.downs s.store (insert_entry nat_cmp t.pieces c.start l)) (sym chunk.3) taken.1) in
+        (t, found, none, one.1, one.2 ∙ p.1, subst (Held (with_temp k.server.temps (with_piece t start bytes)) n us q.downs (locals_of h.seat.client)) (sym s.is) (subst (HeldIn (with_temp k.server.temps (with_piece t start bytes)) n us q.downs v) (sym s.at) (with_piece t start bytes, one_put k.server.temps n s.store.temp (with_piece t start bytes) one.0 one.1 one.2 one.4, filled)))
 
-    plain : (o : Option Status) → (x.cut ≡ false → ⊥) → Leads book (rest_of qs n q us) (answered k n (max k.server.moment now) x a k.server.temps (Stored (done_unless o)))
-    plain o never = serve_plain laws book k qs n now x q a us (Stored (done_unless o)) g (λ uncut. absurd (never uncut)) (λ uncut. absurd (never uncut)) refl tt fits.0 (λ uncut. tt)
+    plain : (o : Option Status) → (x.cut ≡ false → ⊥) → Leads book (rest_of qs n q us) (answered k n (max k.server.moment now) x a k.server.temps k.server.index (Stored (done_unless o)))
+    plain o never = serve_plain laws book k qs n now x q a us k.server.index (Stored (done_unless o)) g (λ uncut. absurd (never uncut)) (λ uncut. absurd (never uncut)) refl tt fits.0 (λ uncut. tt)
 
     by : (t : Option Temp) (o : Option Status) → temp_at k.server.temps n m ≡ t → piece_fault (temp_at k.server.temps n m) start (length bytes) ≡ o → Leads book (rest_of qs n q us) (served k n x xid (writes_unless (at k.server now) n xid (record { fd = m; offset = start; bytes = bytes }) t o))
     by None o found fault = plain o (λ uncut. let w = goes uncut in nothing_there w.0 (sym found ∙ w.1))
@@ -260,32 +284,17 @@ serve_send laws book k qs n now x q xid m start bytes us g = by (temp_at k.serve
     by (Some t) None found fault =
         let e = of_lookup k.server.temps (key_of n m) t found in
         let held = h.temps e.0 m e.1 fits.1 e.2 e.3 in
-        let parts : AreParts (h.contents m) t.pieces = subst (λ (u : Temp). AreParts (h.contents m) u.pieces) e.4 held.0 in
+        let parts : AreParts (hashed_of book.moments) (h.contents m) t.pieces = subst (λ (u : Temp). AreParts (hashed_of book.moments) (h.contents m) u.pieces) e.4 held.0 in
         let keyed : key_of t.session t.fd ≡ key_of n m = ap (λ (u : Temp). key_of u.session u.fd) (sym e.4) ∙ held.1 ∙ e.3 in
         let small : t.fd < 4294967296 = subst (λ (u : Temp). u.fd < 4294967296) e.4 (g.kept.shelf.1 e.0 e.1 e.2).1 in
-        leads_by book k qs n now x q a us (with_temp k.server.temps (with_piece t start bytes)) (Stored (Done tt)) g (put_temp book k n x q a (Stored (Done tt)) m (with_piece t start bytes) h g.kept.shelf small (λ uncut. ((place_at book k qs n now x q a us g uncut).0, refl)) (λ uncut vs e2. after uncut vs e2 t found) refl (laws.plain xid (Stored (Done tt)) fits.0 tt) (λ uncut. tt) fits.1 keyed (parts_put (h.contents m) t.pieces start bytes parts (subst (AllAsks (IsPiece h.contents)) g.first h.pieces).0) (λ uncut. (subst (AllAsks (λ b. TempUnder h.seat.client.next_temp b.call)) g.first (h.temps_below uncut).0).0))
+        leads_by book k qs n now x q a us (with_temp k.server.temps (with_piece t start bytes)) k.server.index (Stored (Done tt)) g (put_temp book k n x q a (Stored (Done tt)) m (with_piece t start bytes) h g.kept.shelf small (λ uncut. ((place_at book k qs n now x q a us g uncut).0, refl)) (λ uncut vs e2. after uncut vs e2 t found) refl (laws.plain xid (Stored (Done tt)) fits.0 tt) (λ uncut. tt) fits.1 keyed (parts_put (hashed_of book.moments) (h.contents m) t.pieces start bytes parts (inl (subst (AllAsks (IsPiece (hashed_of book.moments) h.contents)) g.first h.pieces).0)) (λ uncut. (subst (AllAsks (λ b. TempUnder h.seat.client.next_temp b.call)) g.first (h.temps_below uncut).0).0))
       where
         tails : {b c : Ask} {us vs : List Ask} → b ∷ us ≡ c ∷ vs → us ≡ vs
         tails e = cc
 
-        after : x.cut ≡ false → (vs : List Ask) → q.ups ≡ a ∷ vs → (t : Temp) → temp_at k.server.temps n m ≡ Some t → Held (with_temp k.server.temps (with_piece t start bytes)) n vs (locals_of h.seat.client) (job h.seat)
+        after : x.cut ≡ false → (vs : List Ask) → q.ups ≡ a ∷ vs → (t : Temp) → temp_at k.server.temps n m ≡ Some t → Held (with_temp k.server.temps (with_piece t start bytes)) n vs (downs_then x q a (Stored (Done tt))) (locals_of h.seat.client) (job h.seat)
         after uncut vs e t found =
             let w = goes uncut in
             let same : us ≡ vs = tails (sym g.first ∙ e) in
-            subst (λ (l : List Ask). Held (with_temp k.server.temps (with_piece t start bytes)) n l (locals_of h.seat.client) (job h.seat)) same (subst (λ (z : Temp). Held (with_temp k.server.temps (with_piece z start bytes)) n us (locals_of h.seat.client) (job h.seat)) (some_is w.0 t (sym w.1 ∙ found)) w.5)
-
--- the answer to a name that is in order
-pub name_wanted : (book : Book) (k : Core) (qs : List Queue) (n now : ℕ) (x : Session) (q : Queue) (xid m : ℕ) (d : Chunk) (us : List Ask) → (g : Given book k qs n now x q (record { xid = xid; call = Name m d }) us) → x.cut ≡ false
-    → Wanted (onward book 1 book.ops) (job (session_in book k qs n now x q (record { xid = xid; call = Name m d }) us g).seat) xid (Named (Failed (cond_fault (record { fd = m; offset = d.start; count = d.len; digest = d.digest }) (temp_at k.server.temps n m)) tt))
-name_wanted book k qs n now x q xid m d us g uncut =
-    let a : Ask = record { xid = xid; call = Name m d } in
-    let h = session_in book k qs n now x q a us g in
-    let p = place_at book k qs n now x q a us g uncut in
-    let s = p.0 in
-    let v = locals_of h.seat.client s.of.file in
-    let held = subst (HeldIn k.server.temps n (a ∷ us) v) s.at (subst (Held k.server.temps n (a ∷ us) (locals_of h.seat.client)) s.is (held_at book k qs n now x q a us g uncut)) in
-    let is = in_store book k.seats k.server n x q h uncut xid way.Named s in
-    let chunk = ap (λ (l : List Chunk). slice_get l s.call.index) (sym is.chunks) ∙ p.2 in
-    let none = held.2.by_name is.place s.call d is.there s.way chunk in
-    let found : temp_at k.server.temps n m ≡ Some held.0 = ap (λ (z : ℕ). temp_at k.server.temps n z) (sym p.1) ∙ held.1.3 in
-    (s, ap (λ (o : Option Temp). Failed (cond_fault (record { fd = m; offset = d.start; count = d.len; digest = d.digest }) o) tt) found ∙ ap (λ (e : Status). Failed e tt) (name_unknown v held.2.has s.call.index d held.0 m is.short chunk none held.2.pieces_is))
+            held_told (with_temp k.server.temps (with_piece t start bytes)) n vs q.downs (record { xid = xid; reply = Stored (Done tt) }) x.cut (locals_of h.seat.client) (job h.seat) tt
+            (subst (λ (l : List Ask). Held (with_temp k.server.temps (with_piece t start bytes)) n l q.downs (locals_of h.seat.client) (job h.seat)) same (subst (λ (z : Temp). Held (with_temp k.server.temps (with_piece z start bytes)) n us q.downs (locals_of h.seat.client) (job h.seat)) (some_is w.0 t (sym w.1 ∙ found)) w.5))

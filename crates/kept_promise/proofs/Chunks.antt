@@ -103,7 +103,7 @@ link_at x s (d ∷ ds) (suc j) c r e =
     let le : d.start + d.len ≤ l.0 = l.2 in
     (l.0, l.1, omega arith)
 
-bytes_count : (x : List ℕ) (s n : ℕ) → s + n ≤ length x → length (take n (drop s x)) ≡ n
+pub bytes_count : (x : List ℕ) (s n : ℕ) → s + n ≤ length x → length (take n (drop s x)) ≡ n
 bytes_count x s n le = let d : length (drop s x) ≡ length x - s = length-drop s x in simp (length-take, d) (omega arith)
 
 pub chunks_are_named : ChunksAreNamed

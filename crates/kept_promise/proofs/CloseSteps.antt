@@ -3,25 +3,27 @@ use Rattle.std.proofs.Common.{◌⊎◌, inl, inr, ◌≡◌, ℕ, zero, suc, �
 use Rattle.sha1.specs.Sha1.{sha1, digest_bytes}
 use Rattle.hash_calls.specs.declared.message.LbProc.TheVariants as lb_proc
 use Rattle.wire.specs.declared.message.Program.TheVariants as program
+use Rattle.open_close.specs.Hashed.{named_by as part_of_named, named as parts_named}
 use Rattle.open_close.specs.State as client
 use Rattle.open_close.specs.declared.task.Stage.TheVariants as stage
 use Rattle.open_close.specs.declared.task.Way.TheVariants as way
 use Rattle.register_model.specs.declared.op.Word.TheVariants as words
-use Rattle.kept_promise.proofs.Common.{nat_tests, slice_get, not, cond, ◌==◌, ◌&&◌, nat_le, chunks_of, chunk_bytes, Chunk, Pending, Program, Temp, store_pending, without_call, names_from, names_all, store_of, is_stored, store_at, without_store, answered, with_whole, commit_call, temp_call, calls_most, is_none, Names, Stage, Store, StoreCall, Task, Way, Op, content_of, Core, Seat, Session, Book, unless, Call, Call.Name, Call.Send, Call.Commit, Ask, Told, Queue, ask_message, reply_program}
-use Rattle.kept_promise.proofs.Statements.{CallFits, AreInRow, PiecesOf}
+use Rattle.kept_promise.proofs.Common.{nat_tests, slice_get, not, cond, ◌==◌, ◌&&◌, nat_le, chunks_of, chunk_bytes, Chunk, Pending, Program, Temp, store_pending, without_call, names_from, names_all, store_of, is_stored, store_at, without_store, answered, with_whole, commit_call, temp_call, calls_most, is_none, Names, Stage, Store, StoreCall, Task, Way, Op, content_of, Contains, Contains-append_left, Contains-append_right, Contains-push, Message, call_message, hashed_of, Core, Seat, Session, Book, unless, Call, Call.Name, Call.Send, Call.Commit, Ask, Told, Queue, ask_message, reply_program}
+use Rattle.kept_promise.proofs.Statements.{CallFits, AreInRow, PiecesOf, SameShape}
 use Rattle.kept_promise.proofs.Lists.{some_is, nothing_there, of_appended, at_end, there_at, false_and_true}
 use Rattle.kept_promise.proofs.Keys.{times, times_append, there_by}
-use Rattle.kept_promise.proofs.Messages.{Job, job, stage_word, AllAsks, AllTolds, Rising, IsAsked, IsCommit, IsPiece, TempUnder, IsOwed, IsStoring, CloseOf}
+use Rattle.kept_promise.proofs.Messages.{Job, job, stage_word, AllAsks, AllTolds, IsAsked, IsCommit, IsNamed, PieceOf, IsPiece, TempUnder, IsOwed, IsStoring, CloseOf}
 use Rattle.kept_promise.proofs.Chunks.{chunks_in_row, chunks_are_long, chunks_are_named}
 use Rattle.kept_promise.proofs.Facts.{IsSession, HasXids, commits_in, names_in}
 use Rattle.kept_promise.proofs.Taken.{asks_append, rising_append, times_map_append}
 use Rattle.kept_promise.proofs.Heard.{ask_pending, told_pending, asks_unless}
 use Rattle.kept_promise.proofs.Moves.{without_moves}
-use Rattle.kept_promise.proofs.Naming.{some_call, Ran, names_run, named_rising, named_bound, named_all, named_count, named_inside, named_times, named_note, named_commits}
-use Rattle.kept_promise.proofs.Steps.{Again, Here, session_at, Quiet, on, job_op, GoesOn, GoesInOrder}
+use Rattle.kept_promise.proofs.StepCases.{some_call}
+use Rattle.kept_promise.proofs.Naming.{Ran, names_run, named_rising, named_bound, named_all, named_count, named_inside, named_times, named_note, named_commits}
+use Rattle.kept_promise.proofs.Steps.{tolds_below, Again, Here, session_at, Quiet, on, job_op, GoesOn, GoesInOrder}
 use Rattle.kept_promise.proofs.Later.{all_asks, all_tolds}
 use Rattle.kept_promise.proofs.Shelf.{OneTemp}
-use Rattle.kept_promise.proofs.Orderly.{IsStore, locals_of, InPlace, IsInPlace, IsWanted, UpCommit, Holds, HeldIn}
+use Rattle.kept_promise.proofs.Orderly.{IsStore, locals_of, InPlace, IsInPlace, IsWanted, UpCommit, DownKnown, known_reply, Holds, HeldIn}
 use Rattle.kept_promise.proofs.Ordered.{IsFetching, IsFetched, AllFetching, AllFetched, fetching_place, fetched_wanted}
 use Rattle.kept_promise.proofs.OrderSteps.{WaitsFor, all_asks_at, ask_in, others_fetch, up_apart, down_apart, told_in, all_tolds_at}
 use Rattle.kept_promise.proofs.Filling.{holds_named, holds_all, was_under}
@@ -86,7 +88,7 @@ pub record Ready (book : Book) (k : Core) (qs : List Queue) (n : ℕ) (x : Sessi
 
 -- and what its temporary file holds, where the server has the connection
 abbrev pub Filled : (book : Book) (k : Core) (qs : List Queue) (n : ℕ) (x : Session) (q : Queue) (t : Told) (ts : List Told) (j : Job) (g : Here book k qs n x q t ts j) (us : List Ask) (st : Store) → Type 0
-Filled book k qs n x q t ts j g us st = x.hung ≡ false → (w : Temp) × OneTemp k.server.temps n st.temp w × Holds (local_of g) us st w.pieces
+Filled book k qs n x q t ts j g us st = x.hung ≡ false → (w : Temp) × OneTemp k.server.temps n st.temp w × Holds (local_of g) us ts st w.pieces
 
 -- the calls and answers that were on their way are of the store that it goes on to
 stays_in_order : (book : Book) (k : Core) (qs : List Queue) (n : ℕ) (x : Session) (q : Queue) (t : Told) (ts : List Told) (j : Job) (g : Here book k qs n x q t ts j) (st more : Store) → Ready book k qs n x q t ts j g st → more.temp ≡ st.temp → more.chunks ≡ st.chunks → ((y : ℕ) (u : StoreCall) → store_at st.under y ≡ Some u → store_at more.under y ≡ Some u)
@@ -104,10 +106,10 @@ known_on book j i s known e = subst (λ (z : Job). IsSome (content_of book.openi
 
 -- no stage of a close waits for a GETHASH or a READ, and a commit's xid is new
 again_storing : (next : ℕ) (j : Job) (st : Store) → Again next j (stage.Storing st)
-again_storing next j st = record { hash = λ y o lt e. nothing_there o e; commit = λ y lt e. absurd cc; read = λ y c f lt e. absurd cc }
+again_storing next j st = record { lease = λ y lt e. absurd cc; hash = λ y o lt e. nothing_there o e; commit = λ y lt e. absurd cc; read = λ y c f lt e. absurd cc }
 
 again_committing : (next : ℕ) (j : Job) (y : ℕ) → next ≤ y → Again next j (stage.Committing y)
-again_committing next j y le = record { hash = λ z o lt e. nothing_there o e; commit = λ z lt e. let same : y ≡ z = ap xid_of e in omega (arith, le, lt, same); read = λ z c f lt e. absurd cc }
+again_committing next j y le = record { lease = λ z lt e. absurd cc; hash = λ z o lt e. nothing_there o e; commit = λ z lt e. let same : y ≡ z = ap xid_of e in omega (arith, le, lt, same); read = λ z c f lt e. absurd cc }
   where
     xid_of : Stage → ℕ
     xid_of (stage.Committing y) = y
@@ -165,6 +167,38 @@ naming st next = (run_of st next).asks
 pub naming_sent : (st : Store) (next : ℕ) → (named st next).send ≡ map ask_message (naming st next)
 naming_sent st next = (run_of st next).send_is
 
+-- ---- chunks that are named are noted
+
+-- what these messages name of the content is hashed
+abbrev pub NamesNoted : {book : Book} {k : Core} {qs : List Queue} {n : ℕ} {x : Session} {q : Queue} {t : Told} {ts : List Told} {j : Job} → Here book k qs n x q t ts j → List Message → Type 0
+NamesNoted {book} {k} {qs} {n} {x} {q} {t} {ts} {j} g ms = (b : List ℕ) → Contains (parts_named (local_of g) ms) b → Contains (hashed_of book.moments) b
+
+part_named : (v : List ℕ) (us : List Ask) (m temp : ℕ) (a : Ask) (c : Chunk) → slice_get us m ≡ Some a → a.call ≡ Name temp c → Contains (parts_named v (map ask_message us)) (chunk_bytes v c)
+part_named v [] m temp a c at e = nothing_there a at
+part_named v (u ∷ us) (suc m) temp a c at e = Contains-append_right (part_of_named v (ask_message u)) (parts_named v (map ask_message us)) (chunk_bytes v c) (part_named v us m temp a c at e)
+part_named v (u ∷ us) zero temp a c at e = subst (λ (d : Call). Contains (part_of_named v (call_message u.xid d) ++ parts_named v (map ask_message us)) (chunk_bytes v c)) (sym (ap (λ (z : Ask). z.call) (some_is u a at) ∙ e)) (Contains-append_left (chunk_bytes v c ∷ []) (parts_named v (map ask_message us)) (chunk_bytes v c) (Contains-push [] (chunk_bytes v c)))
+
+-- so each CONDWRITE is of a part that was hashed
+names_pieces : (book : Book) (k : Core) (qs : List Queue) (n : ℕ) (x : Session) (q : Queue) (t : Told) (ts : List Told) (j : Job) (g : Here book k qs n x q t ts j) (st : Store) → Ready book k qs n x q t ts j g st → NamesNoted g (named st (seat_at g).client.next).send → AllAsks (IsPiece (hashed_of book.moments) (contents_at g)) (naming st (seat_at g).client.next)
+names_pieces book k qs n x q t ts j g st w noted = all_asks_at (IsPiece (hashed_of book.moments) (contents_at g)) r.asks one
+  where
+    r : Ran (names_from st (seat_at g).client.next) (calls_most - length st.under) (named st (seat_at g).client.next)
+    r = run_of st (seat_at g).client.next
+
+    one : (m : ℕ) (a : Ask) → slice_get r.asks m ≡ Some a → IsPiece (hashed_of book.moments) (contents_at g) a
+    one m a at =
+        let h = name_noted st.temp st.chunks (seat_at g).client.next st.named r.notes r.asks (named st (seat_at g).client.next).next m a r.named at in
+        let call : a.call ≡ Name st.temp h.1 = ap (λ (z : Ask). z.call) h.5 in
+        let is = chunks_are_named (local_of g) h.0.index h.1 (ap (λ (l : List Chunk). slice_get l h.0.index) (sym w.storing.chunks) ∙ h.4) in
+        let own : IsNamed (hashed_of book.moments) (local_of g) h.1 = record { digest = is.0; len = is.1; there = noted (chunk_bytes (local_of g) h.1) (subst (λ (l : List Message). Contains (parts_named (local_of g) l) (chunk_bytes (local_of g) h.1)) (sym (naming_sent st (seat_at g).client.next)) (part_named (local_of g) r.asks m st.temp a h.1 at call)) } in
+        subst (PieceOf (hashed_of book.moments) (contents_at g)) (sym call) (subst (λ (l : List ℕ). IsNamed (hashed_of book.moments) l h.1) (sym w.content) own)
+
+-- the answers that are on their way are to calls that were sent
+known_below : (book : Book) (k : Core) (qs : List Queue) (n : ℕ) (x : Session) (q : Queue) (t : Told) (ts : List Told) (j : Job) (g : Here book k qs n x q t ts j) (z : ℕ) → DownKnown ts z → z < (seat_at g).client.next
+known_below book k qs n x q t ts j g z d =
+    let h = session_at book k qs n x q t ts j g in
+    told_in (λ u. u.xid < h.seat.client.next) ts d.0 (record { xid = z; reply = known_reply }) (subst (AllTolds (λ u. u.xid < h.seat.client.next)) g.first (tolds_below n k.server.waiting q x.hung h.seat.client.next (client.calls_of h.seat.client) (h.talk g.uncut).balanced)).1 d.1
+
 -- where nothing is under way all chunks were named, since one more would have been
 idle_is_stored : (n : Names) (st : Store) (notes : List StoreCall) → n.store ≡ record st { named = st.named + length notes; under = st.under ++ notes } → (length st.under < calls_most → (c : Chunk) → slice_get st.chunks st.named ≡ Some c → 0 < length notes) → st.named + length notes ≤ length st.chunks → is_stored n.store ≡ false → 0 < length n.store.under
 idle_is_stored n st notes is some le off = by st.under notes refl refl
@@ -200,8 +234,8 @@ idle_is_stored n st notes is some le off = by st.under notes refl refl
 
 pub goes_storing : (book : Book) (k : Core) (qs : List Queue) (n : ℕ) (x : Session) (q : Queue) (t : Told) (ts : List Told) (j : Job) (g : Here book k qs n x q t ts j) (st : Store) → Ready book k qs n x q t ts j g st
     → (let c = (seat_at g).client in
-    Filled book k qs n x q t ts j g q.ups st → is_stored (named st c.next).store ≡ false → GoesOn book k qs n x q t ts j g (stage.Storing (named st c.next).store) (named st c.next).next c.forgotten (naming st c.next))
-goes_storing book k qs n x q t ts j g st w filled off =
+    Filled book k qs n x q t ts j g q.ups st → NamesNoted g (named st c.next).send → is_stored (named st c.next).store ≡ false → GoesOn book k qs n x q t ts j g (stage.Storing (named st c.next).store) (named st c.next).next c.forgotten (naming st c.next))
+goes_storing book k qs n x q t ts j g st w filled noted off =
     let h = session_at book k qs n x q t ts j g in
     let c = h.seat.client in
     let r = run_of st c.next in
@@ -234,7 +268,7 @@ goes_storing book k qs n x q t ts j g st w filled off =
       asked = named_all (IsAsked (Some (on j (stage.Storing more.store)))) st.temp st.chunks c.next st.named r.notes r.asks more.next (λ z i d at le lt. tt) r.named;
       fits = named_all (λ a. CallFits a.xid a.call) st.temp st.chunks c.next st.named r.notes r.asks more.next (λ z i d at le lt. naming_fits (local_of g) st.temp z i d short (omega (arith, temp_less, next_ok, all_ok)) (omega (arith, lt, one, two, three, room, inside, few, most)) (ap (λ (l : List Chunk). slice_get l i) (sym w.storing.chunks) ∙ at)) r.named;
       commits = named_all (IsCommit book x.closing x.cut (Some (on j (stage.Storing more.store))) h.contents) st.temp st.chunks c.next st.named r.notes r.asks more.next (λ z i d at le lt. tt) r.named;
-      pieces = named_all (IsPiece h.contents) st.temp st.chunks c.next st.named r.notes r.asks more.next (λ z i d at le lt. tt) r.named;
+      pieces = names_pieces book k qs n x q t ts j g st w noted;
       under = named_all (λ a. TempUnder c.next_temp a.call) st.temp st.chunks c.next st.named r.notes r.asks more.next (λ z i d at le lt. w.temp) r.named;
       few = let z = named_commits st.temp st.chunks c.next st.named r.notes r.asks more.next r.named in omega (arith, z);
       fetch = tt;
@@ -243,10 +277,10 @@ goes_storing book k qs n x q t ts j g st w filled off =
       trying = λ m y e. absurd cc;
       xids = subst (λ (z : Store). HasXids more.next (stage.Storing z)) (sym r.store_is) (omega (arith, one, two, three, room));
       bounded = omega (arith, one, two, three, room, inside, few, most);
-      orderly = subst (λ (z : Store). GoesInOrder book k qs n x q t ts j g (stage.Storing z) more.next c.forgotten r.asks) (sym r.store_is) (record {
+      orderly = subst (λ (z : Store). GoesInOrder book k qs n x q t ts j g (stage.Storing z) more.next c.forgotten r.asks) (sym r.store_is) (λ cache index. record {
         asks = asks_unless (IsInPlace (Some (on j (stage.Storing after))) (locals_of c)) x.hung q.ups r.asks stays.0 (all_asks_at (IsInPlace (Some (on j (stage.Storing after))) (locals_of c)) r.asks (λ i a at. names_in_place a (name_noted st.temp st.chunks c.next st.named r.notes r.asks more.next i a r.named at)));
         tolds = stays.1;
-        holds = λ up. subst (λ (b : Bool). HeldIn k.server.temps n (unless b q.ups r.asks) (local_of g) (stage.Storing after)) (sym up) (let f = filled up in (f.0, f.1, holds_named (local_of g) q.ups r.asks st f.0.pieces c.next more.next r.notes r.named w.storing.inside f.2));
+        holds = λ up. subst (λ (b : Bool). HeldIn k.server.temps n (unless b q.ups r.asks) ts (local_of g) (stage.Storing after)) (sym up) (let f = filled up in (f.0, f.1, holds_named (local_of g) q.ups r.asks ts st f.0.pieces c.next more.next r.notes r.named w.storing.inside (known_below book k qs n x q t ts j g) f.2));
         tree = λ i e z. known_on book j i (stage.Storing after) w.known e;
       });
     }
@@ -301,25 +335,17 @@ commits_more [] a e = by a.call
   where
     by : (c : Call) → commits_if c 0 ≤ 1
     by (Commit temp file size) = omega arith
-    by (Call.Hash f o) = omega arith
-    by (Call.Read f c) = omega arith
-    by (Call.Make m f) = omega arith
-    by (Call.Name m c) = omega arith
-    by (Call.Send m s b) = omega arith
+    by c = omega arith
 commits_more (u ∷ us) a e = by u.call e (commits_more us a)
   where
     by : (c : Call) → commits_if c (commits_in us) ≡ 0 → (commits_in us ≡ 0 → commits_in (us ++ a ∷ []) ≤ 1) → commits_if c (commits_in (us ++ a ∷ [])) ≤ 1
     by (Commit temp file size) e later = absurd (omega (arith, e))
-    by (Call.Hash f o) e later = later e
-    by (Call.Read f c) e later = later e
-    by (Call.Make m f) e later = later e
-    by (Call.Name m c) e later = later e
-    by (Call.Send m s b) e later = later e
+    by c e later = later e
 
 pub goes_committing : (book : Book) (k : Core) (qs : List Queue) (n : ℕ) (x : Session) (q : Queue) (t : Told) (ts : List Told) (j : Job) (g : Here book k qs n x q t ts j) (st : Store) → j.file < 18446744073709551616 → Ready book k qs n x q t ts j g st
     → (let c = (seat_at g).client in
-    Filled book k qs n x q t ts j g q.ups st → is_stored (named st c.next).store ≡ true → GoesOn book k qs n x q t ts j g (stage.Committing (named st c.next).next) ((named st c.next).next + 1) c.forgotten (committing st c.next j.file (length (local_of g))))
-goes_committing book k qs n x q t ts j g st fits_file w filled on_ =
+    Filled book k qs n x q t ts j g q.ups st → NamesNoted g (named st c.next).send → is_stored (named st c.next).store ≡ true → GoesOn book k qs n x q t ts j g (stage.Committing (named st c.next).next) ((named st c.next).next + 1) c.forgotten (committing st c.next j.file (length (local_of g))))
+goes_committing book k qs n x q t ts j g st fits_file w filled noted on_ =
     let h = session_at book k qs n x q t ts j g in
     let c = h.seat.client in
     let r = run_of st c.next in
@@ -368,14 +394,15 @@ goes_committing book k qs n x q t ts j g st fits_file w filled on_ =
             there = w.owed.there;
             unmade = w.owed.unmade;
             file_is = ap (λ (z : Op). z.file) same_op ∙ of.file;
-            value_is = w.owed.value_is ∙ sym w.content ∙ ap h.contents (sym same_temp);
+            size_is = ap (λ (l : List ℕ). length l) (w.owed.value_is ∙ sym w.content ∙ ap h.contents (sym same_temp));
+            value_is = inl (w.owed.value_is ∙ sym w.content ∙ ap h.contents (sym same_temp));
             waited = λ u. refl;
           },
           ap (λ (l : List ℕ). length l) (sym w.content) ∙ ap (λ m. length (h.contents m)) (sym same_temp),
         ),
         tt,
       );
-      pieces = asks_append (IsPiece h.contents) r.asks (a ∷ []) (named_all (IsPiece h.contents) st.temp st.chunks c.next st.named r.notes r.asks more.next (λ z i d at le lt. tt) r.named) (tt, tt);
+      pieces = asks_append (IsPiece (hashed_of book.moments) h.contents) r.asks (a ∷ []) (names_pieces book k qs n x q t ts j g st w noted) (tt, tt);
       under = asks_append (λ b. TempUnder c.next_temp b.call) r.asks (a ∷ []) (named_all (λ b. TempUnder c.next_temp b.call) st.temp st.chunks c.next st.named r.notes r.asks more.next (λ z i d at le lt. w.temp) r.named) (subst (λ (m : ℕ). m < c.next_temp) (sym same_temp) w.temp, tt);
       few = commits_more r.asks a (named_commits st.temp st.chunks c.next st.named r.notes r.asks more.next r.named);
       fetch = tt;
@@ -384,10 +411,10 @@ goes_committing book k qs n x q t ts j g st fits_file w filled on_ =
       trying = λ m y e. absurd cc;
       xids = bound;
       bounded = bound;
-      orderly = record {
+      orderly = λ cache index. record {
         asks = asks_unless (IsInPlace (Some (on j s)) (locals_of c)) x.hung q.ups (r.asks ++ a ∷ []) (fetching_place (Some (on j s)) (locals_of c) q.ups (idle_ups idle.0)) (asks_append (IsInPlace (Some (on j s)) (locals_of c)) r.asks (a ∷ []) (subst (AllAsks (IsInPlace (Some (on j s)) (locals_of c))) (sym (no_asks st.temp st.chunks c.next st.named r.notes r.asks more.next idle.1 r.named)) tt) ((on j s, refl, refl, refl, refl), tt));
         tolds = fetched_wanted book (Some (on j s)) ts (idle_downs idle.0);
-        holds = λ up. subst (λ (b : Bool). HeldIn k.server.temps n (unless b q.ups (r.asks ++ a ∷ [])) (local_of g) s) (sym up) (λ u. full (filled up) idle.0 idle.1 u, λ gone. absurd (gone (length (q.ups ++ r.asks), more.store.temp, j.file, length (local_of g), ap (λ (l : List Ask). slice_get l (length (q.ups ++ r.asks))) (sym (append_assoc q.ups r.asks (a ∷ []))) ∙ at_end (q.ups ++ r.asks) a)));
+        holds = λ up. subst (λ (b : Bool). HeldIn k.server.temps n (unless b q.ups (r.asks ++ a ∷ [])) ts (local_of g) s) (sym up) (λ u. full (filled up) idle.0 idle.1 u, λ gone. absurd (gone (length (q.ups ++ r.asks), more.store.temp, j.file, length (local_of g), ap (λ (l : List Ask). slice_get l (length (q.ups ++ r.asks))) (sym (append_assoc q.ups r.asks (a ∷ []))) ∙ at_end (q.ups ++ r.asks) a)));
         tree = λ i e z. known_on book j i s w.known e;
       };
     }
@@ -402,7 +429,7 @@ goes_committing book k qs n x q t ts j g st fits_file w filled on_ =
     no_commit us h i y m f size at = ask_in (λ b. IsFetching b.call) us i (record { xid = y; call = Commit m f size }) h at
 
     -- the temporary file holds all
-    full : (f : (z : Temp) × OneTemp k.server.temps n st.temp z × Holds (local_of g) q.ups st z.pieces) → st.under ≡ [] → (run_of st (seat_at g).client.next).notes ≡ [] → (u : UpCommit (q.ups ++ committing st (seat_at g).client.next j.file (length (local_of g))) (named st (seat_at g).client.next).next) → (z : Temp) × OneTemp k.server.temps n u.1 z × (z.pieces ≡ PiecesOf (local_of g) (λ c. true) (chunks_of (local_of g)))
+    full : (f : (z : Temp) × OneTemp k.server.temps n st.temp z × Holds (local_of g) q.ups ts st z.pieces) → st.under ≡ [] → (run_of st (seat_at g).client.next).notes ≡ [] → (u : UpCommit (q.ups ++ committing st (seat_at g).client.next j.file (length (local_of g))) (named st (seat_at g).client.next).next) → (z : Temp) × OneTemp k.server.temps n u.1 z × SameShape z.pieces (PiecesOf (local_of g) (λ c. true) (chunks_of (local_of g)))
     full f none ended u =
         let r = run_of st (seat_at g).client.next in
         let same_temp : (named st (seat_at g).client.next).store.temp ≡ st.temp = ap (λ (z : Store). z.temp) r.store_is in
@@ -411,7 +438,7 @@ goes_committing book k qs n x q t ts j g st fits_file w filled on_ =
         elim (of_appended q.ups (record { xid = (named st (seat_at g).client.next).next; call = Commit (named st (seat_at g).client.next).store.temp j.file (length (local_of g)) }) u.0 _ at) [
           | inl last ↦
               let m : u.1 ≡ st.temp = commit_temp (ap (λ (z : Ask). z.call) last.1) ∙ same_temp in
-              (f.0, subst (λ (z : ℕ). OneTemp k.server.temps n z f.0) (sym m) f.1, holds_all (local_of g) q.ups st f.0.pieces none (all_named none ended) f.2)
+              (f.0, subst (λ (z : ℕ). OneTemp k.server.temps n z f.0) (sym m) f.1, holds_all (local_of g) q.ups ts st f.0.pieces none (all_named none ended) f.2)
           | inr old ↦ absurd (no_commit q.ups (idle_ups none) u.0 _ u.1 u.2 u.3 old)
         ]
       where
@@ -485,10 +512,10 @@ goes_whole book k qs n x q t ts j g st u d w inside at filled room =
       trying = λ m y e. absurd cc;
       xids = omega (arith, names, room);
       bounded = omega (arith, room, named_le, few, most);
-      orderly = record {
+      orderly = λ cache index. record {
         asks = asks_unless (IsInPlace (Some (on j s)) (locals_of c)) x.hung q.ups (a ∷ []) stays.0 ((sent, refl, (d, at, refl, refl)), tt);
         tolds = stays.1;
-        holds = λ up. subst (λ (b : Bool). HeldIn k.server.temps n (unless b q.ups (a ∷ [])) (local_of g) s) (sym up) (filled up);
+        holds = λ up. subst (λ (b : Bool). HeldIn k.server.temps n (unless b q.ups (a ∷ [])) ts (local_of g) s) (sym up) (filled up);
         tree = λ i e z. known_on book j i s w.known e;
       };
     }
@@ -565,7 +592,7 @@ without_is (u ∷ us) x = by (u.xid == x) (without_is us x)
     by true e = e
     by false e = ap (λ l. store_pending u ∷ l) e
 
-pending_there : (us : List StoreCall) (i : ℕ) (u : StoreCall) → slice_get us i ≡ Some u → slice_get (map store_pending us) i ≡ Some (store_pending u)
+pub pending_there : (us : List StoreCall) (i : ℕ) (u : StoreCall) → slice_get us i ≡ Some u → slice_get (map store_pending us) i ≡ Some (store_pending u)
 pending_there [] i u e = nothing_there u e
 pending_there (v ∷ vs) zero u e = ap (λ (z : StoreCall). Some (store_pending z)) (some_is v u e)
 pending_there (v ∷ vs) (suc i) u e = pending_there vs i u e

@@ -6,13 +6,13 @@ use Rattle.open_close.specs.declared.step.Outcome.TheVariants as outcome
 use Rattle.register_model.specs.declared.op.Outcome.{Outcome}
 use Rattle.register_model.specs.declared.op.Outcome.TheVariants as told
 use Rattle.register_model.specs.declared.op.Word.TheVariants as words
-use Rattle.kept_promise.proofs.Common.{refused, slice_get, slice_set, not, Pending, Status, Failed, no_counts, idle, ClientStep, Ended, Local, Stage, content_of, Op, Traffic, Word, Core, Session, has_point, point_if, counted, ended_op, Book, value_at, IsOpenRefused, is_running, Ask, Told, Queue, ask_message}
+use Rattle.kept_promise.proofs.Common.{refused, slice_get, slice_set, not, Pending, Status, Entries, Indexed, no_counts, idle, ClientStep, Ended, Local, Stage, content_of, Op, Traffic, Word, Core, Session, has_point, point_if, counted, ended_op, Book, value_at, IsOpenRefused, is_running, Ask, Told, Queue, ask_message}
 use Rattle.kept_promise.proofs.Lists.{some_is, nothing_there, false_and_true}
-use Rattle.kept_promise.proofs.Messages.{Job, stage_word, IsTold, HashTold}
+use Rattle.kept_promise.proofs.Messages.{Job, stage_word, IsTold, RefusedTold}
 use Rattle.kept_promise.proofs.Rights.{is_remote, Caused, RefusedBy, open_not_close}
 use Rattle.kept_promise.proofs.Growth.{Grows, value_later}
 use Rattle.kept_promise.proofs.History.{onward, Becomes, grows_becomes}
-use Rattle.kept_promise.proofs.Facts.{IsSession, IsOf}
+use Rattle.kept_promise.proofs.Facts.{Cached, IsSession, IsOf}
 use Rattle.kept_promise.proofs.Steps.{Here, session_at, Quiet, job_op, GoesOn, Stops, gone_on, stopped, counting}
 use Rattle.kept_promise.proofs.CloseEnds.{forgets}
 
@@ -26,9 +26,12 @@ pub record GoesTo (book : Book) (k : Core) (qs : List Queue) (n : ℕ) (x : Sess
   pub to : Stage
   pub next : ℕ
   pub forgotten : List Pending
+  pub cache : Entries
+  pub index : Indexed
   pub asks : List Ask
   pub shows : GoesOn book k qs n x q t ts j g to next forgotten asks
-  pub state_is : c ≡ gone_on (client_at book k qs n x q t ts j g) j.file next to forgotten
+  pub cached : Cached book cache
+  pub state_is : c ≡ gone_on (client_at book k qs n x q t ts j g) j.file next to forgotten cache index
   pub send_is : acts.send ≡ map ask_message asks
   pub ended_is : acts.ended ≡ None
 
@@ -38,8 +41,11 @@ pub record EndsIn (book : Book) (k : Core) (qs : List Queue) (n : ℕ) (x : Sess
   pub made : Option ℕ
   pub opened : List (ℕ × Local)
   pub forgotten : List Pending
+  pub cache : Entries
+  pub index : Indexed
   pub shows : Stops book k qs n x q t ts j g op made opened forgotten
-  pub state_is : c ≡ stopped (client_at book k qs n x q t ts j g) opened forgotten
+  pub cached : Cached book cache ⊎ Cached (onward book 1 (slice_set book.ops j.place op)) cache
+  pub state_is : c ≡ stopped (client_at book k qs n x q t ts j g) opened forgotten cache index
   pub send_is : acts.send ≡ []
   pub ended_is : acts.ended ≡ Some ended
   pub op_is : ended_op (counting (op_at book k qs n x q t ts j g) (counted (op_at book k qs n x q t ts j g).traffic acts.counts)) c x.taken (book.steps + 1) ended ≡ op
@@ -139,15 +145,18 @@ told_point book k qs n x q t ts j g y v version is m e =
 abbrev refused_at : client.State → (xid : ℕ) → Status → client.State × ClientStep
 refused_at c xid s = refused (idle c) (client.calls_of c) xid s
 
-pub comes_refused : (book : Book) (k : Core) (qs : List Queue) (n : ℕ) (x : Session) (q : Queue) (t : Told) (ts : List Told) (j : Job) (g : Here book k qs n x q t ts j) (offset : ℕ) (s : Status) → stage_word j.stage ≡ words.Open → Quiet k n q → HashTold book x.taken j t.xid offset (Failed s tt)
+pub comes_refused : (book : Book) (k : Core) (qs : List Queue) (n : ℕ) (x : Session) (q : Queue) (t : Told) (ts : List Told) (j : Job) (g : Here book k qs n x q t ts j) (s : Status) → stage_word j.stage ≡ words.Open → Quiet k n q → RefusedTold book x.taken j t.xid s
     → Comes book k qs n x q t ts j g (refused_at (client_at book k qs n x q t ts j g) t.xid s)
-comes_refused book k qs n x q t ts j g offset s word quiet (inl dir) = subst (λ z. Comes book k qs n x q t ts j g (refused_at (client_at book k qs n x q t ts j g) t.xid z)) (sym dir.0) (inr (record {
+comes_refused book k qs n x q t ts j g s word quiet (inl dir) = subst (λ z. Comes book k qs n x q t ts j g (refused_at (client_at book k qs n x q t ts j g) t.xid z)) (sym dir.0) (inr (record {
   op = r;
   ended = record { outcome = outcome.Refused status.IsDir; rests_on = t.xid };
   made = None;
   opened = c.opened;
   forgotten = client.without_call (client.calls_of c) t.xid;
+  cache = c.cache;
+  index = c.index;
   shows = stops_open book k qs n x q t ts j g tr of.op.point (told.Refused 21) of.op.value c.opened quiet word refl (λ m e. inl e) (λ more grows steps. by more of.op.word w (inl (refl, of.file ∙ dir.1))) (g.kept.seats x.owner h.seat h.owner).opened;
+  cached = inl (g.kept.seats x.owner h.seat h.owner).kept;
   state_is = refl;
   send_is = refl;
   ended_is = refl;
@@ -175,17 +184,21 @@ comes_refused book k qs n x q t ts j g offset s word quiet (inl dir) = subst (λ
     by : (more : Book) (v : Word) → v ≡ words.Open → IsOpenRefused more of.op.file r 21 → RefusedBy more r v 21
     by more words.Open e i = i
     by more _ e i = absurd cc
-comes_refused book k qs n x q t ts j g offset s word quiet (inr stale) = subst (λ z. Comes book k qs n x q t ts j g (refused_at (client_at book k qs n x q t ts j g) t.xid z)) (sym stale.0) (inr (record {
+comes_refused book k qs n x q t ts j g s word quiet (inr stale) = subst (λ z. Comes book k qs n x q t ts j g (refused_at (client_at book k qs n x q t ts j g) t.xid z)) (sym stale.0.0) (inr (record {
   op = r;
   ended = record { outcome = outcome.Refused status.Stale; rests_on = t.xid };
   made = None;
   opened = c.opened;
   forgotten = client.without_call (client.calls_of c) t.xid;
+  cache = c.cache;
+  index = c.index;
   shows = stops_open book k qs n x q t ts j g tr (Some m) (told.Refused 70) of.op.value c.opened quiet word refl (told_point book k qs n x q t ts j g t.xid None stale.2.0 stale.2.1) (λ more grows steps. by more of.op.word w (inr (
     refl,
+    λ one. stale.0.1 (sym of.file ∙ one),
     ap (content_of more.opening) of.file ∙ ap (λ l. content_of l j.file) grows.opening ∙ stale.1,
     (m, (refl, after, (book.steps + 1, refl, omega (arith, past))), ap (λ f. value_at more f m) of.file ∙ value_later book more None (Some j.place) j.file m grows (omega (arith, past)) ∙ stale.2.1.value),
   ))) (g.kept.seats x.owner h.seat h.owner).opened;
+  cached = inl (g.kept.seats x.owner h.seat h.owner).kept;
   state_is = refl;
   send_is = refl;
   ended_is = refl;

@@ -89,6 +89,9 @@ line_tells (line.Settle at) = refl
 line_tells (line.Cut m r) = refl
 line_tells (line.Hang n at) = refl
 line_tells (line.Pass n rounds at r) = refl
+line_tells (line.Forge w key file offset count) = refl
+line_tells (line.Clear w) = refl
+line_tells (line.Evict m file) = refl
 
 -- ---- of all lines
 
@@ -147,6 +150,9 @@ lines_told (l ∷ ls) = by (line_of l) ∙ ap (λ (z : List Told). command_by (l
     by_line (line.Cut m r) = refl
     by_line (line.Hang n at) = refl
     by_line (line.Pass n rounds at r) = refl
+    by_line (line.Forge w key file offset count) = refl
+    by_line (line.Clear w) = refl
+    by_line (line.Evict m file) = refl
 
     by : (o : Option Line) → flat_map commanded (event_by o ++ events_of ls) ≡ command_by o ++ flat_map commanded (events_of ls)
     by None = refl

@@ -1,12 +1,13 @@
 -- Each command, and what its client makes of it.
 use Rattle.std.proofs.Common.{inl, inr, ◌≡◌, ℕ, zero, suc, ◌+◌, ◌<◌, ◌≤◌, List, [], ◌∷◌, ◌++◌, length, Option, Some, None, Bool, true, false, refl, sym, ap, ◌∙◌, subst, arith, eq-eqb, ne_eqb, IsSome}
 use Rattle.command_text.specs.declared.command.Command.TheVariants as command
+use Rattle.client_cache.specs.Cache.{reserved, content_of as kept_of}
 use Rattle.open_close.specs.State as client
 use Rattle.open_close.specs.declared.step.Outcome.TheVariants as outcome
 use Rattle.open_close.specs.declared.task.Stage.TheVariants as stage
 use Rattle.open_close.proofs.Edits.{written_length, truncated_length}
 use Rattle.register_model.specs.declared.op.Word.TheVariants as words
-use Rattle.kept_promise.proofs.Common.{nat_tests, cond, ◌==◌, nat_lt, if◌then◌else◌, sha1, content_length, content_bytes, Part, Command, content_size, ends, local_most, written_size, written, truncated, part_of, is_open, has_xids, may_ask, tries_anew, asks_hashes, opens_if, opens, on_local, done_with, edits, writes, truncates, reads, abandons, asks_temp, closes, command_step, ClientStep, Outcome, Local, Stage, Task, local_at_itself, local_at_another, without_at_itself, without_at_another, content_of, Op, Word, Core, Seat, Session, Loss.Nothing, CoreStep, numbered, with_numbered, session_of, commanded_sessions, does, word_of, file_of, value_at_begin, begun, op_after, place_with, unless, Book, Call.Hash, Call.Make, Ask, Queue, ask_message}
+use Rattle.kept_promise.proofs.Common.{nat_tests, cond, ◌==◌, nat_lt, if◌then◌else◌, sha1, content_length, content_bytes, Part, Command, content_size, ends, local_most, written_size, written, truncated, part_of, is_open, has_xids, may_ask, tries_anew, asks_file, asks_kept, opens_if, opens, on_local, done_with, edits, writes, truncates, reads, abandons, asks_temp, closes, command_step, ClientStep, Outcome, Local, Stage, Task, local_at_itself, local_at_another, without_at_itself, without_at_another, content_of, Op, Word, Core, Seat, Session, Loss.Nothing, CoreStep, numbered, with_numbered, session_of, commanded_sessions, does, word_of, file_of, value_at_begin, begun, op_after, place_with, unless, Book, Entries, Content, Call.Lease, Call.Hash, Call.Make, Ask, Queue, ask_message}
 use Rattle.kept_promise.proofs.Lists.{some_is, nothing_there, same_or_not, at_end}
 use Rattle.kept_promise.proofs.Messages.{Job, job, job_of}
 use Rattle.kept_promise.proofs.Rights.{IsRight}
@@ -16,6 +17,7 @@ use Rattle.kept_promise.proofs.Facts.{IsMatched, IsKept}
 use Rattle.kept_promise.proofs.Leading.{Leads, KeptDoes, ups_put_in, ups_put}
 use Rattle.kept_promise.proofs.Hangs.{leads_quiet}
 use Rattle.kept_promise.proofs.Cuts.{cut_core}
+use Rattle.kept_promise.proofs.Caches.{cached_reserved}
 use Rattle.kept_promise.proofs.Begins.{First, Free, Starts, begun_client, kept_begins}
 use Rattle.kept_promise.proofs.Does.{cleared, kept_cleared, leads_free, leads_busy, IsOwn}
 use Rattle.kept_promise.proofs.Hashings.{file_small}
@@ -137,11 +139,18 @@ hash_first next file = record {
   hash = λ y o lt e. nothing_there o (sym (ap (λ b. cond b (Some 0) None) (ne_eqb next y (λ s. omega (arith, lt, s)))) ∙ e);
   read = λ y. refl;
   commit = λ y e. absurd cc;
+  lease = λ y lt e. absurd cc;
   none = refl;
 }
 
+asking_is : (x y : ℕ) → stage.Asking x ≡ stage.Asking y → x ≡ y
+asking_is x y e = cc
+
+lease_first : (next file : ℕ) → First next (stage.Asking next) (record { xid = next; call = Lease file })
+lease_first next file = record { xid = refl; pending = refl; hash = λ y o lt e. nothing_there o e; read = λ y. refl; commit = λ y e. absurd cc; lease = λ y lt e. (let same = asking_is next y e in omega (arith, lt, same)); none = refl }
+
 make_first : (next temp file : ℕ) → First next (stage.Making next temp) (record { xid = next; call = Make temp file })
-make_first next temp file = record { xid = refl; pending = refl; hash = λ y o lt e. nothing_there o e; read = λ y. refl; commit = λ y e. absurd cc; none = refl }
+make_first next temp file = record { xid = refl; pending = refl; hash = λ y o lt e. nothing_there o e; read = λ y. refl; commit = λ y e. absurd cc; lease = λ y lt e. absurd cc; none = refl }
 
 begun_right : (more : Book) (c : ℕ) (w : Word) (file : ℕ) (value : List ℕ) (step : ℕ) → Rattle.kept_promise.proofs.Rights.is_remote w ≡ true → more.steps ≡ step → IsRight more (begun c w file value step)
 begun_right more c w file value step remote now = record {
@@ -155,11 +164,11 @@ begun_right more c w file value step remote now = record {
 }
 
 -- it begins: the queue, the session and the seat are as its step leaves them
-leads_begins : (book : Book) (k : Core) (qs : List Queue) (c : ℕ) (seat : Seat) (w : Word) (file : ℕ) (value : List ℕ) (temp : ℕ) (s : Stage) (a : Ask) (acts : ClientStep) → (g : Idle book k qs c seat) → (l : Linked book k qs c seat)
+leads_begins : (book : Book) (k : Core) (qs : List Queue) (c : ℕ) (seat : Seat) (w : Word) (file : ℕ) (value : List ℕ) (cache : Entries) (temp : ℕ) (s : Stage) (a : Ask) (acts : ClientStep) → (g : Idle book k qs c seat) → (l : Linked book k qs c seat)
     → acts.send ≡ ask_message a ∷ [] → acts.ended ≡ None → Rattle.trace_replay.specs.Ops.counted (record { cond = 0; tmp = 0; read = 0; «data» = 0 }) acts.counts ≡ record { cond = 0; tmp = 0; read = 0; «data» = 0 }
-    → ((closing : Option ℕ) → closing ≡ Rattle.trace_replay.specs.Ops.closing_with l.session.closing (length book.ops) w None → Starts book (record k { sessions = with_numbered k.sessions l.number (cleared l.session) }) qs c l.number (cleared l.session) l.queue seat (begun c w file value (k.steps + 1)) temp file s a closing value)
-    → Answers book k qs c seat w file value (begun_client seat.client temp file s, acts)
-leads_begins book k qs c seat w file value temp s a acts g l send ended counts starts =
+    → ((closing : Option ℕ) → closing ≡ Rattle.trace_replay.specs.Ops.closing_with l.session.closing (length book.ops) w None → Starts book (record k { sessions = with_numbered k.sessions l.number (cleared l.session) }) qs c l.number (cleared l.session) l.queue seat (begun c w file value (k.steps + 1)) cache temp file s a closing value)
+    → Answers book k qs c seat w file value (begun_client seat.client cache temp file s, acts)
+leads_begins book k qs c seat w file value cache temp s a acts g l send ended counts starts =
     let n = l.number in
     let x = l.session in
     let q = l.queue in
@@ -170,7 +179,7 @@ leads_begins book k qs c seat w file value temp s a acts g l send ended counts s
     let kept = kept_cleared book k qs n x seat g.kept f.at (ap (numbered k.seats) f.owner ∙ g.here) g.free in
     let ready : Free book free_k qs c n (cleared x) q seat = record { kept = kept; here = g.here; at = (around_with k.sessions n x (cleared x) f.at).there; is = f.is; owner = f.owner; newest = f.newest; uncut = f.uncut; linked = f.linked; task = f.task; free = f.free } in
     let closing = Rattle.trace_replay.specs.Ops.closing_with x.closing (length book.ops) w None in
-    let d : Seat = record { client = begun_client seat.client temp file s; session = seat.session; place = Some (length book.ops) } in
+    let d : Seat = record { client = begun_client seat.client cache temp file s; session = seat.session; place = Some (length book.ops) } in
     let y : Session = record x { taken = []; closing = closing } in
     let seats = with_numbered k.seats c d in
     let sessions = with_numbered k.sessions n y in
@@ -178,9 +187,9 @@ leads_begins book k qs c seat w file value temp s a acts g l send ended counts s
     let after = with_numbered qs n (record { ups = ups; downs = q.downs }) in
     let first = around_with k.sessions n x (cleared x) f.at in
     let last = around_with k.sessions n x y f.at in
-    let now = kept_begins book free_k qs c n (cleared x) q seat new temp file s a closing value seats sessions after ready (starts closing refl) (around_with k.seats c seat d g.here) (record { there = last.there; others = λ m apart. last.others m apart ∙ sym (first.others m apart); count = last.count ∙ sym first.count }) (around_with qs n q (record { ups = ups; downs = q.downs }) f.is) in
+    let now = kept_begins book free_k qs c n (cleared x) q seat new cache temp file s a closing value seats sessions after ready (starts closing refl) (around_with k.seats c seat d g.here) (record { there = last.there; others = λ m apart. last.others m apart ∙ sym (first.others m apart); count = last.count ∙ sym first.count }) (around_with qs n q (record { ups = ups; downs = q.downs }) f.is) in
     let place : length book.ops ≡ length k.ops = ap (λ (z : List Op). length z) g.kept.ops in
-    let op_is : op_after new (begun_client seat.client temp file s) [] (k.steps + 1) acts ≡ new = op_same acts.ended ended in
+    let op_is : op_after new (begun_client seat.client cache temp file s) [] (k.steps + 1) acts ≡ new = op_same acts.ended ended in
     let core = cut_core book more k k.server seats sessions (k.ops ++ new ∷ []) (ap (λ z. z + 1) g.kept.steps) (ap (λ (z : List Op). z ++ new ∷ []) g.kept.ops) g.kept.entries in
     let one = subst (λ (z : Core). IsKept more z after) core now in
     record {
@@ -191,14 +200,14 @@ leads_begins book k qs c seat w file value temp s a acts g l send ended counts s
       kept = shape more acts.ended ended op_is place one;
     }
   where
-    op_same : (e : Option Rattle.open_close.specs.declared.step.Ended.Ended) → e ≡ None → Rattle.trace_replay.specs.Ops.op_ended (record (begun c w file value (k.steps + 1)) { traffic = Rattle.trace_replay.specs.Ops.counted (record { cond = 0; tmp = 0; read = 0; «data» = 0 }) acts.counts }) (begun_client seat.client temp file s) [] (k.steps + 1) e ≡ begun c w file value (k.steps + 1)
+    op_same : (e : Option Rattle.open_close.specs.declared.step.Ended.Ended) → e ≡ None → Rattle.trace_replay.specs.Ops.op_ended (record (begun c w file value (k.steps + 1)) { traffic = Rattle.trace_replay.specs.Ops.counted (record { cond = 0; tmp = 0; read = 0; «data» = 0 }) acts.counts }) (begun_client seat.client cache temp file s) [] (k.steps + 1) e ≡ begun c w file value (k.steps + 1)
     op_same None e = ap (λ t. record (begun c w file value (k.steps + 1)) { traffic = t }) counts
     op_same (Some e) is = absurd cc
 
     -- the sessions, the seats, the operations and the queues, as the step says them
-    shape : (more : Book) (e : Option Rattle.open_close.specs.declared.step.Ended.Ended) → acts.ended ≡ None → op_after (begun c w file value (k.steps + 1)) (begun_client seat.client temp file s) [] (k.steps + 1) acts ≡ begun c w file value (k.steps + 1) → length book.ops ≡ length k.ops
-        → IsKept more (record { server = k.server; seats = with_numbered k.seats c (record { client = begun_client seat.client temp file s; session = seat.session; place = Some (length book.ops) }); sessions = with_numbered k.sessions l.number (record l.session { taken = []; closing = Rattle.trace_replay.specs.Ops.closing_with l.session.closing (length book.ops) w None }); steps = k.steps + 1; ops = k.ops ++ begun c w file value (k.steps + 1) ∷ []; entries = k.entries }) (with_numbered qs l.number (record { ups = unless l.session.hung l.queue.ups (a ∷ []); downs = l.queue.downs }))
-        → IsKept more (commanded_as k c seat None seat.session (session_of k.sessions seat.session) w file value (begun_client seat.client temp file s) acts).core (ups_put (commanded_sessions k.sessions seat.session (session_of k.sessions seat.session) None (length k.ops) w acts) qs seat.session (a ∷ []))
+    shape : (more : Book) (e : Option Rattle.open_close.specs.declared.step.Ended.Ended) → acts.ended ≡ None → op_after (begun c w file value (k.steps + 1)) (begun_client seat.client cache temp file s) [] (k.steps + 1) acts ≡ begun c w file value (k.steps + 1) → length book.ops ≡ length k.ops
+        → IsKept more (record { server = k.server; seats = with_numbered k.seats c (record { client = begun_client seat.client cache temp file s; session = seat.session; place = Some (length book.ops) }); sessions = with_numbered k.sessions l.number (record l.session { taken = []; closing = Rattle.trace_replay.specs.Ops.closing_with l.session.closing (length book.ops) w None }); steps = k.steps + 1; ops = k.ops ++ begun c w file value (k.steps + 1) ∷ []; entries = k.entries }) (with_numbered qs l.number (record { ups = unless l.session.hung l.queue.ups (a ∷ []); downs = l.queue.downs }))
+        → IsKept more (commanded_as k c seat None seat.session (session_of k.sessions seat.session) w file value (begun_client seat.client cache temp file s) acts).core (ups_put (commanded_sessions k.sessions seat.session (session_of k.sessions seat.session) None (length k.ops) w acts) qs seat.session (a ∷ []))
     shape more e ended op_is place h =
         let f = l.free in
         let found : session_of k.sessions seat.session ≡ Some l.session = ap (session_of k.sessions) f.newest ∙ f.at in
@@ -209,21 +218,21 @@ leads_begins book k qs c seat w file value temp s a acts g l send ended counts s
         let at = (around_with k.sessions l.number l.session y f.at).there in
         let queues_is : ups_put sessions qs seat.session (a ∷ []) ≡ with_numbered qs l.number (record { ups = unless l.session.hung l.queue.ups (a ∷ []); downs = l.queue.downs }) =
         ap (λ (z : Option ℕ). ups_put sessions qs z (a ∷ [])) f.newest ∙ ap (λ (z : Option Session). ups_put_in qs l.number (a ∷ []) z (numbered qs l.number)) at ∙ ap (λ (z : Option Queue). ups_put_in qs l.number (a ∷ []) (Some y) z) f.is in
-        let one = subst (λ (p : ℕ). IsKept more (record { server = k.server; seats = with_numbered k.seats c (record { client = begun_client seat.client temp file s; session = seat.session; place = Some p }); sessions = with_numbered k.sessions l.number (record l.session { taken = []; closing = Rattle.trace_replay.specs.Ops.closing_with l.session.closing p w None }); steps = k.steps + 1; ops = k.ops ++ begun c w file value (k.steps + 1) ∷ []; entries = k.entries }) (with_numbered qs l.number (record { ups = unless l.session.hung l.queue.ups (a ∷ []); downs = l.queue.downs }))) place h in
-        let two = subst (λ (z : List Queue). IsKept more (record { server = k.server; seats = with_numbered k.seats c (record { client = begun_client seat.client temp file s; session = seat.session; place = Some (length k.ops) }); sessions = sessions; steps = k.steps + 1; ops = k.ops ++ begun c w file value (k.steps + 1) ∷ []; entries = k.entries }) z) (sym queues_is) one in
-        let three = subst (λ (z : Op). IsKept more (record { server = k.server; seats = with_numbered k.seats c (record { client = begun_client seat.client temp file s; session = seat.session; place = Some (length k.ops) }); sessions = sessions; steps = k.steps + 1; ops = k.ops ++ z ∷ []; entries = k.entries }) (ups_put sessions qs seat.session (a ∷ []))) (sym op_is) two in
-        let four = subst (λ (z : Option Rattle.open_close.specs.declared.step.Ended.Ended). IsKept more (record { server = k.server; seats = with_numbered k.seats c (record { client = begun_client seat.client temp file s; session = seat.session; place = place_with None (length k.ops) z }); sessions = sessions; steps = k.steps + 1; ops = k.ops ++ op_after (begun c w file value (k.steps + 1)) (begun_client seat.client temp file s) [] (k.steps + 1) acts ∷ []; entries = k.entries }) (ups_put sessions qs seat.session (a ∷ []))) (sym ended) three in
-        subst (λ (z : List Session). IsKept more (record { server = k.server; seats = with_numbered k.seats c (record { client = begun_client seat.client temp file s; session = seat.session; place = place_with None (length k.ops) acts.ended }); sessions = z; steps = k.steps + 1; ops = k.ops ++ op_after (begun c w file value (k.steps + 1)) (begun_client seat.client temp file s) [] (k.steps + 1) acts ∷ []; entries = k.entries }) (ups_put z qs seat.session (a ∷ []))) (sym sessions_is) four
+        let one = subst (λ (p : ℕ). IsKept more (record { server = k.server; seats = with_numbered k.seats c (record { client = begun_client seat.client cache temp file s; session = seat.session; place = Some p }); sessions = with_numbered k.sessions l.number (record l.session { taken = []; closing = Rattle.trace_replay.specs.Ops.closing_with l.session.closing p w None }); steps = k.steps + 1; ops = k.ops ++ begun c w file value (k.steps + 1) ∷ []; entries = k.entries }) (with_numbered qs l.number (record { ups = unless l.session.hung l.queue.ups (a ∷ []); downs = l.queue.downs }))) place h in
+        let two = subst (λ (z : List Queue). IsKept more (record { server = k.server; seats = with_numbered k.seats c (record { client = begun_client seat.client cache temp file s; session = seat.session; place = Some (length k.ops) }); sessions = sessions; steps = k.steps + 1; ops = k.ops ++ begun c w file value (k.steps + 1) ∷ []; entries = k.entries }) z) (sym queues_is) one in
+        let three = subst (λ (z : Op). IsKept more (record { server = k.server; seats = with_numbered k.seats c (record { client = begun_client seat.client cache temp file s; session = seat.session; place = Some (length k.ops) }); sessions = sessions; steps = k.steps + 1; ops = k.ops ++ z ∷ []; entries = k.entries }) (ups_put sessions qs seat.session (a ∷ []))) (sym op_is) two in
+        let four = subst (λ (z : Option Rattle.open_close.specs.declared.step.Ended.Ended). IsKept more (record { server = k.server; seats = with_numbered k.seats c (record { client = begun_client seat.client cache temp file s; session = seat.session; place = place_with None (length k.ops) z }); sessions = sessions; steps = k.steps + 1; ops = k.ops ++ op_after (begun c w file value (k.steps + 1)) (begun_client seat.client cache temp file s) [] (k.steps + 1) acts ∷ []; entries = k.entries }) (ups_put sessions qs seat.session (a ∷ []))) (sym ended) three in
+        subst (λ (z : List Session). IsKept more (record { server = k.server; seats = with_numbered k.seats c (record { client = begun_client seat.client cache temp file s; session = seat.session; place = place_with None (length k.ops) acts.ended }); sessions = z; steps = k.steps + 1; ops = k.ops ++ op_after (begun c w file value (k.steps + 1)) (begun_client seat.client cache temp file s) [] (k.steps + 1) acts ∷ []; entries = k.entries }) (ups_put z qs seat.session (a ∷ []))) (sym sessions_is) four
 
 -- ---- an open
 
-open_begins : (book : Book) (k : Core) (qs : List Queue) (c : ℕ) (seat : Seat) (file : ℕ) → file < 18446744073709551616 → (g : Idle book k qs c seat) → Linked book k qs c seat → seat.client.next < 4293967297 → Answers book k qs c seat words.Open file [] (tries_anew seat.client file 1 0)
+open_begins : (book : Book) (k : Core) (qs : List Queue) (c : ℕ) (seat : Seat) (file : ℕ) → file < 18446744073709551616 → (g : Idle book k qs c seat) → Linked book k qs c seat → seat.client.next < 4293967297 → Answers book k qs c seat words.Open file [] (tries_anew (record seat.client { cache = reserved seat.client.cache file }) file 1 0)
 open_begins book k qs c seat file fits g l room =
     let s = seat.client in
     let a : Ask = record { xid = s.next; call = Hash file 0 } in
     let was = (g.kept.seats c seat g.here).next in
     let steps = g.kept.steps in
-    leads_begins book k qs c seat words.Open file [] s.next_temp (stage.Hashing 1 s.next) a (tries_anew s file 1 0).1 g l refl refl refl (λ closing is. record {
+    leads_begins book k qs c seat words.Open file [] (reserved s.cache file) s.next_temp (stage.Hashing 1 s.next) a (tries_anew (record s { cache = reserved s.cache file }) file 1 0).1 g l refl refl refl (λ closing is. record {
       first = hash_first s.next file;
       of_client = refl;
       word = refl;
@@ -235,6 +244,7 @@ open_begins book k qs c seat file fits g l room =
       fits = (omega (arith, room), fits, omega arith);
       under = tt;
       piece = λ f. tt;
+      cached = cached_reserved book s.cache file (g.kept.seats c seat g.here).kept;
       temps = omega arith;
       short = omega arith;
       fetch = λ taken j. tt;
@@ -261,6 +271,40 @@ open_begins book k qs c seat file fits g l room =
         tries_of (stage.Hashing n z) = n
         tries_of s = 0
 
+-- of a file whose content is kept
+lease_begins : (book : Book) (k : Core) (qs : List Queue) (c : ℕ) (seat : Seat) (file : ℕ) (v : Content) → file < 18446744073709551616 → (g : Idle book k qs c seat) → Linked book k qs c seat → seat.client.next < 4293967297
+    → Answers book k qs c seat words.Open file [] (asks_kept (record seat.client { cache = reserved seat.client.cache file }) file (Some v))
+lease_begins book k qs c seat file v fits g l room =
+    let s = seat.client in
+    let a : Ask = record { xid = s.next; call = Lease file } in
+    let was = (g.kept.seats c seat g.here).next in
+    let steps = g.kept.steps in
+    leads_begins book k qs c seat words.Open file [] (reserved s.cache file) s.next_temp (stage.Asking s.next) a (asks_kept (record s { cache = reserved s.cache file }) file (Some v)).1 g l refl refl refl (λ closing is. record {
+      first = lease_first s.next file;
+      of_client = refl;
+      word = refl;
+      of_file = refl;
+      running = refl;
+      pointless = refl;
+      right = begun_right (onward book 1 (book.ops ++ begun c words.Open file [] (k.steps + 1) ∷ [])) c words.Open file [] (k.steps + 1) refl (ap (λ z. z + 1) steps);
+      asked = λ i e w. ap (λ (z : Job). z.file) (sym (some_is (record { place = length book.ops; file = file; stage = stage.Asking s.next }) i e));
+      fits = (omega (arith, room), fits);
+      under = tt;
+      piece = λ f. tt;
+      cached = cached_reserved book s.cache file (g.kept.seats c seat g.here).kept;
+      temps = omega arith;
+      short = omega arith;
+      fetch = λ taken j. tt;
+      closes = λ contents e. tt;
+      trying = λ m y e. absurd cc;
+      xids = omega (arith, room);
+      bounded = (omega (arith, room), let le = was.1 in omega (arith, le));
+      closing_is = inl is;
+      place = λ d e. tt;
+      begins = tt;
+      tree = λ e. absurd cc;
+    })
+
 may : (s : client.State) → may_ask s ≡ true → (s.linked ≡ true) × (s.next < 4293967297)
 may s e = by s.linked refl e
   where
@@ -271,8 +315,12 @@ may s e = by s.linked refl e
 opened_new : (book : Book) (k : Core) (qs : List Queue) (c : ℕ) (seat : Seat) (file : ℕ) → file < 18446744073709551616 → Idle book k qs c seat → Answers book k qs c seat words.Open file [] (opens seat.client file seat.client.task)
 opened_new book k qs c seat file fits g = subst (λ (t : Option Task). Answers book k qs c seat words.Open file [] (opens seat.client file t)) (sym g.task) (by (is_open seat.client.opened file))
   where
-    ask : (b : Bool) → may_ask seat.client ≡ b → Answers book k qs c seat words.Open file [] (asks_hashes seat.client file b)
-    ask true e = let m = may seat.client e in open_begins book k qs c seat file fits g (linked book k qs c seat g m.0) m.1
+    asked : (o : Option Content) → (seat.client.linked ≡ true) × (seat.client.next < 4293967297) → Answers book k qs c seat words.Open file [] (asks_kept (record seat.client { cache = reserved seat.client.cache file }) file o)
+    asked None m = open_begins book k qs c seat file fits g (linked book k qs c seat g m.0) m.1
+    asked (Some v) m = lease_begins book k qs c seat file v fits g (linked book k qs c seat g m.0) m.1
+
+    ask : (b : Bool) → may_ask seat.client ≡ b → Answers book k qs c seat words.Open file [] (asks_file seat.client file b)
+    ask true e = asked (kept_of seat.client.cache file) (may seat.client e)
     ask false e = own_same book k qs c seat words.Open file [] outcome.NoLink tt g
 
     by : (b : Bool) → Answers book k qs c seat words.Open file [] (opens_if seat.client file b)
@@ -292,7 +340,7 @@ close_begins book k qs c seat file v g l at room =
     let value = client.local_bytes s.opened file in
     let new = begun c words.Close file value (k.steps + 1) in
     let bytes : value ≡ v.bytes = ap (λ (o : Option Local). Rattle.std.specs.Prelude.unwrap_or (Rattle.std.specs.Prelude.option_map (λ z. z.bytes) o) []) at in
-    leads_begins book k qs c seat words.Close file value (s.next_temp + 1) (stage.Making s.next s.next_temp) a (asks_temp s file true).1 g l refl refl refl (λ closing is. record {
+    leads_begins book k qs c seat words.Close file value s.cache (s.next_temp + 1) (stage.Making s.next s.next_temp) a (asks_temp s file true).1 g l refl refl refl (λ closing is. record {
       first = make_first s.next s.next_temp file;
       of_client = refl;
       word = refl;
@@ -304,6 +352,7 @@ close_begins book k qs c seat file v g l at room =
       fits = (omega (arith, room), omega (arith, room, le), file_small book k qs file g.kept known.0);
       under = omega arith;
       piece = λ f. tt;
+      cached = (g.kept.seats c seat g.here).kept;
       temps = omega arith;
       short = let k1 = known.1 in let b = ap (λ (z : List ℕ). length z) bytes in omega (arith, k1, b);
       fetch = λ taken j. tt;

@@ -7,11 +7,12 @@ use Rattle.server_core.specs.Closing.{answers, sends, changes_most}
 use Rattle.temp_files.specs.Pieces.{joined}
 use Rattle.open_close.specs.State as client
 use Rattle.open_close.specs.declared.task.Stage.TheVariants as stage
-use Rattle.kept_promise.proofs.Common.{nat_tests, slice_get, cond, ◌==◌, ◌||◌, nat_lt, if◌then◌else◌, handle_bytes, Failed, Status, message_spell, Node, root, file, node_of, at, commits, commits_to, commits_whole, has_waiting, is_full, size_most, Temp, temp_at, without_temp, key_of, assembled, Change, File, content_of, TakenCall, Op, Core, Session, Event.Serves, numbered, with_numbered, owner_in, Book, Call.Commit, Reply.Changed, Ask, Queue, ask_message}
+use Rattle.kept_promise.proofs.Common.{nat_tests, slice_get, cond, ◌==◌, ◌||◌, nat_lt, if◌then◌else◌, handle_bytes, chunks_of, Failed, Status, message_spell, Node, root, file, node_of, at, commits, commits_to, commits_whole, has_waiting, is_full, size_most, Temp, temp_at, without_temp, key_of, assembled, Change, File, content_of, TakenCall, Op, Core, Session, Event.Serves, numbered, with_numbered, owner_in, hashed_of, Book, Or, Call.Commit, Reply.Changed, Ask, Queue, ask_message}
 use Rattle.kept_promise.proofs.Statements.{CallFits}
 use Rattle.kept_promise.proofs.Lists.{some_is, nothing_there, same_or_not, of_appended, count_more, false_and_true}
 use Rattle.kept_promise.proofs.Keys.{times, times_append, own, on_way, change_key, ask_key, told_key}
 use Rattle.kept_promise.proofs.Messages.{Job, job, stage_word, AllAsks, Rising, IsAsked, IsAnswer, AnswerOf, IsCommit, IsPiece, IsPending, TempUnder, AreParts}
+use Rattle.kept_promise.proofs.Growth.{or_both}
 use Rattle.kept_promise.proofs.History.{onward, grows_same, goes_same, still_same}
 use Rattle.kept_promise.proofs.Later.{all_asks, all_tolds, answer_later, has_fetch_later, commit_later, close_later, pending_later, seat_later, Stays, Spares}
 use Rattle.kept_promise.proofs.Taken.{finds_more, under_more, answer_found, has_fetch_found, times_map_append}
@@ -19,14 +20,15 @@ use Rattle.kept_promise.proofs.Turns.{Around, around_same, around_with, turned_c
 use Rattle.kept_promise.proofs.Fits.{FitLaws}
 use Rattle.kept_promise.proofs.Shelf.{IsShelf, shelf_out, one_out, other_out}
 use Rattle.kept_promise.proofs.Orderly.{locals_of, Wanted, HeldIn, Held}
-use Rattle.kept_promise.proofs.Ordered.{SameFound, orderly_taken}
+use Rattle.kept_promise.proofs.Ordered.{SameFound, held_told, orderly_taken}
 use Rattle.kept_promise.proofs.Chunks.{pieces_are_whole}
+use Rattle.kept_promise.proofs.Statements.{PiecesOf}
 use Rattle.kept_promise.proofs.Fills.{file_there}
 use Rattle.kept_promise.proofs.Facts.{FileIs, IsSession, IsKept, commits_in}
 use Rattle.kept_promise.proofs.Takes.{took, file_still}
 use Rattle.kept_promise.proofs.Serves.{answered, parsed}
 use Rattle.kept_promise.proofs.Tells.{Found, is_root, is_gone, is_file, looked}
-use Rattle.kept_promise.proofs.Shelves.{of_removed, of_lookup, joined_is}
+use Rattle.kept_promise.proofs.Shelves.{of_removed, of_lookup, joined_alike, joined_is}
 use Rattle.kept_promise.proofs.Calls.{Given, session_in, first_fits, rest_of, leads_by, served, held_at, place_at, rest_above}
 use Rattle.kept_promise.proofs.Leading.{Leads}
 
@@ -47,13 +49,13 @@ tails e = cc
 -- with the temporary file gone, or with all as they were
 refused_with : FitLaws → (book : Book) (k : Core) (qs : List Queue) (n now : ℕ) (x : Session) (q : Queue) (xid m f size : ℕ) (us : List Ask) (s : Status) (temps : List (ℕ × Temp)) → (g : Given book k qs n now x q (record { xid = xid; call = Commit m f size }) us) → ((i : ℕ) (e : ℕ × Temp) → slice_get temps i ≡ Some e → (j : ℕ) × (slice_get k.server.temps j ≡ Some e))
     → IsShelf temps → ((o : ℕ) → (o ≡ n → ⊥) → SameFound k.server.temps temps o) → (x.cut ≡ false → Wanted (onward book 1 book.ops) (job (session_in book k qs n now x q (record { xid = xid; call = Commit m f size }) us g).seat) xid (Changed (Failed s tt)))
-    → (x.cut ≡ false → Held temps n us (locals_of (session_in book k qs n now x q (record { xid = xid; call = Commit m f size }) us g).seat.client) (job (session_in book k qs n now x q (record { xid = xid; call = Commit m f size }) us g).seat))
-    → Leads book (rest_of qs n q us) (answered k n (max k.server.moment now) x (record { xid = xid; call = Commit m f size }) temps (Changed (Failed s tt)))
+    → (x.cut ≡ false → Held temps n us q.downs (locals_of (session_in book k qs n now x q (record { xid = xid; call = Commit m f size }) us g).seat.client) (job (session_in book k qs n now x q (record { xid = xid; call = Commit m f size }) us g).seat))
+    → Leads book (rest_of qs n q us) (answered k n (max k.server.moment now) x (record { xid = xid; call = Commit m f size }) temps k.server.index (Changed (Failed s tt)))
 refused_with laws book k qs n now x q xid m f size us s temps g were shelf found wanted held =
     let a : Ask = record { xid = xid; call = Commit m f size } in
     let h = session_in book k qs n now x q a us g in
     let fits = first_fits book k qs n now x q a us g in
-    leads_by book k qs n now x q a us temps (Changed (Failed s tt)) g (record {
+    leads_by book k qs n now x q a us temps k.server.index (Changed (Failed s tt)) g (record {
       program = refl;
       fits = laws.plain xid (Changed (Failed s tt)) fits.0 tt;
       answer = λ uncut. refusal_told book k qs n now x q xid m f size us s g uncut;
@@ -63,10 +65,18 @@ refused_with laws book k qs n now x q xid m f size us s temps g were shelf found
       shelf = shelf;
       found = found;
       wanted = wanted;
-      held = λ uncut vs e. subst (λ (l : List Ask). Held temps n l (locals_of h.seat.client) (job h.seat)) (tails (sym g.first ∙ e)) (held uncut);
+      held = λ uncut vs e. held_told temps n vs q.downs (record { xid = xid; reply = Changed (Failed s tt) }) x.cut (locals_of h.seat.client) (job h.seat) tt (subst (λ (l : List Ask). Held temps n l q.downs (locals_of h.seat.client) (job h.seat)) (tails (sym g.first ∙ e)) (held uncut));
     })
 
 -- ---- its change waits
+
+-- bytes are a content, but for those that were known by their digest
+abbrev SameBytes : Book → (content bytes : List ℕ) → Type 0
+SameBytes book content bytes = (length content ≡ length bytes) × Or book (bytes ≡ content)
+
+-- a change has what its temporary file comes to
+pending_with : (book : Book) (closing : Option ℕ) (cut : Bool) (o : Option Job) (x f : ℕ) (v bytes : List ℕ) → SameBytes book v bytes → IsPending book closing cut o x f v → IsPending book closing cut o x f bytes
+pending_with book closing cut o x f v bytes same p = record { place = p.place; known = p.known; op = p.op; there = p.there; unmade = p.unmade; file_is = p.file_is; size_is = p.size_is ∙ same.0; value_is = or_both book _ _ _ (λ a b. a ∙ sym b) p.value_is same.1; waited = p.waited }
 
 pub own_more : (m : ℕ) (ws : List Change) (c : Change) → own m (ws ++ c ∷ []) ≡ own m ws ++ own m (c ∷ [])
 own_more m [] c = refl
@@ -102,9 +112,9 @@ way_waits n y w c q a us e here same =
 
 kept_waits : (book : Book) (k : Core) (qs : List Queue) (n now : ℕ) (x : Session) (q : Queue) (xid m f size : ℕ) (us : List Ask) (temps : List (ℕ × Temp)) (content : List ℕ) (sessions : List Session) (after : List Queue) → (g : Given book k qs n now x q (record { xid = xid; call = Commit m f size }) us)
     → ((i : ℕ) (e : ℕ × Temp) → slice_get temps i ≡ Some e → (j : ℕ) × (slice_get k.server.temps j ≡ Some e))
-    → content ≡ (session_in book k qs n now x q (record { xid = xid; call = Commit m f size }) us g).contents m
+    → SameBytes book ((session_in book k qs n now x q (record { xid = xid; call = Commit m f size }) us g).contents m) content
     → k.server.changes + length k.server.waiting + 1 ≤ 4294967295 → IsSome (content_of book.opening f) → IsShelf temps → ((o : ℕ) → (o ≡ n → ⊥) → SameFound k.server.temps temps o)
-    → (x.cut ≡ false → Held temps n us (locals_of (session_in book k qs n now x q (record { xid = xid; call = Commit m f size }) us g).seat.client) (job (session_in book k qs n now x q (record { xid = xid; call = Commit m f size }) us g).seat))
+    → (x.cut ≡ false → Held temps n us q.downs (locals_of (session_in book k qs n now x q (record { xid = xid; call = Commit m f size }) us g).seat.client) (job (session_in book k qs n now x q (record { xid = xid; call = Commit m f size }) us g).seat))
     → Around k.sessions sessions n (took x xid (book.steps + 1)) → Around qs after n (record q { ups = us })
     → IsKept (onward book 1 book.ops) (turned_core (onward book 1 book.ops) (record k.server { moment = max k.server.moment now; temps = temps; waiting = k.server.waiting ++ record { session = n; xid = xid; file = f; content = content } ∷ [] }) k.seats sessions) after
 kept_waits book k qs n now x q xid m f size us temps content sessions after g were same_content room known shelf found held around queues =
@@ -129,11 +139,11 @@ kept_waits book k qs n now x q xid m f size us temps content sessions after g we
       owner = refl;
       goes = goes_same book 1 kept.sound;
       server = record {
-        held = λ i. file_still book more i (server.file_at k.server.files i) (still_same book 1 kept.sound) refl (kept.server.held i);
+        held = λ i. file_still book more None None i (server.file_at k.server.files i) grows (still_same book 1 kept.sound) (kept.server.held i);
         versions = kept.server.versions;
         changes = let e = count_more k.server.waiting d in omega (arith, e, room);
         lengths = λ i u at. elim (of_appended k.server.waiting d i u at) [
-          | inl new ↦ subst (λ (z : Change). length z.content ≤ 67108864) (sym new.1) (subst (λ (z : List ℕ). length z ≤ 67108864) (sym same_content) (h.lengths m))
+          | inl new ↦ subst (λ (z : Change). length z.content ≤ 67108864) (sym new.1) (subst (λ (z : ℕ). z ≤ 67108864) same_content.0 (h.lengths m))
           | inr old ↦ kept.server.lengths i u old
         ];
         targets = λ i u at. elim (of_appended k.server.waiting d i u at) [
@@ -184,12 +194,12 @@ kept_waits book k qs n now x q xid m f size us temps content sessions after g we
         contents = h.contents;
         lengths = h.lengths;
         commits = (subst (AllAsks (IsCommit more x.closing x.cut (job c) h.contents)) g.first (all_asks (IsCommit book x.closing x.cut (job c) h.contents) (IsCommit more x.closing x.cut (job c) h.contents) (λ b w. commit_later book more None None x.closing x.cut (job c) (job c) h.contents b grows spares (λ u. refl) w) q.ups h.commits)).1;
-        pieces = (subst (AllAsks (IsPiece h.contents)) g.first h.pieces).1;
+        pieces = (subst (AllAsks (IsPiece (hashed_of book.moments) h.contents)) g.first h.pieces).1;
         temps = λ i o e lt is key. let w = were i e is in h.temps w.0 o e lt w.1 key;
         temps_below = λ uncut. ((subst (AllAsks (λ b. TempUnder c.client.next_temp b.call)) g.first (h.temps_below uncut).0).1, λ i o e lt is key. let w = were i e is in (h.temps_below uncut).1 w.0 o e lt w.1 key);
         closes = λ uncut j u. close_later book more None None x.closing h.contents c.client.next_temp j (client.local_bytes c.client.opened j.file) j.stage grows spares (h.closes uncut j u);
         pending = λ i u at. elim (of_appended (own n k.server.waiting) d i u (ap (λ (l : List Change). slice_get l i) (sym (own_here n k.server.waiting d refl)) ∙ at)) [
-          | inl new ↦ subst (λ (z : Change). IsPending more x.closing x.cut (job c) z.xid z.file z.content) (sym new.1) (subst (IsPending more x.closing x.cut (job c) xid f) (sym same_content) (pending_later book more None None x.closing x.cut (job c) (job c) xid f (h.contents m) grows spares (λ z. refl) first))
+          | inl new ↦ subst (λ (z : Change). IsPending more x.closing x.cut (job c) z.xid z.file z.content) (sym new.1) (pending_with more x.closing x.cut (job c) xid f (h.contents m) content same_content (pending_later book more None None x.closing x.cut (job c) (job c) xid f (h.contents m) grows spares (λ z. refl) first))
           | inr old ↦ pending_later book more None None x.closing x.cut (job c) (job c) u.xid u.file u.content grows spares (λ z. refl) (h.pending i u old)
         ];
         single =
@@ -223,9 +233,9 @@ kept_waits book k qs n now x q xid m f size us temps content sessions after g we
 
 leads_waits : (book : Book) (k : Core) (qs : List Queue) (n now : ℕ) (x : Session) (q : Queue) (xid m f size : ℕ) (us : List Ask) (temps : List (ℕ × Temp)) (content : List ℕ) → (g : Given book k qs n now x q (record { xid = xid; call = Commit m f size }) us)
     → ((i : ℕ) (e : ℕ × Temp) → slice_get temps i ≡ Some e → (j : ℕ) × (slice_get k.server.temps j ≡ Some e))
-    → content ≡ (session_in book k qs n now x q (record { xid = xid; call = Commit m f size }) us g).contents m
+    → SameBytes book ((session_in book k qs n now x q (record { xid = xid; call = Commit m f size }) us g).contents m) content
     → k.server.changes + length k.server.waiting + 1 ≤ 4294967295 → IsSome (content_of book.opening f) → IsShelf temps → ((o : ℕ) → (o ≡ n → ⊥) → SameFound k.server.temps temps o)
-    → (x.cut ≡ false → Held temps n us (locals_of (session_in book k qs n now x q (record { xid = xid; call = Commit m f size }) us g).seat.client) (job (session_in book k qs n now x q (record { xid = xid; call = Commit m f size }) us g).seat))
+    → (x.cut ≡ false → Held temps n us q.downs (locals_of (session_in book k qs n now x q (record { xid = xid; call = Commit m f size }) us g).seat.client) (job (session_in book k qs n now x q (record { xid = xid; call = Commit m f size }) us g).seat))
     → Leads book (rest_of qs n q us) (served k n x xid (record (at k.server now) { temps = temps; waiting = k.server.waiting ++ record { session = n; xid = xid; file = f; content = content } ∷ [] }, sends []))
 leads_waits book k qs n now x q xid m f size us temps content g were same room known shelf found held =
     let y = took x xid (book.steps + 1) in
@@ -266,7 +276,7 @@ pub record IsReady (book : Book) (k : Core) (qs : List Queue) (n now : ℕ) (x :
   pub node : node_of k.server.files (handle_bytes f) ≡ Ok (Rattle.server_core.specs.Answers.file file)
   pub small : nat_lt size_most size ≡ false
   pub alone : has_waiting k.server.waiting n ≡ false
-  pub left : Held (without_temp k.server.temps n m) n us (locals_of (session_in book k qs n now x q (record { xid = xid; call = Commit m f size }) us g).seat.client) (job (session_in book k qs n now x q (record { xid = xid; call = Commit m f size }) us g).seat)
+  pub left : Held (without_temp k.server.temps n m) n us q.downs (locals_of (session_in book k qs n now x q (record { xid = xid; call = Commit m f size }) us g).seat.client) (job (session_in book k qs n now x q (record { xid = xid; call = Commit m f size }) us g).seat)
 
 none_waits : (n : ℕ) (ws : List Change) → length (own n ws) ≡ 0 → has_waiting ws n ≡ false
 none_waits n [] e = refl
@@ -282,30 +292,31 @@ is_ready book k qs n now x q xid m f size us g uncut =
     let h = session_in book k qs n now x q a us g in
     let p = place_at book k qs n now x q a us g uncut in
     let v = locals_of h.seat.client p.0.file in
-    let held = subst (HeldIn k.server.temps n (a ∷ us) v) p.2 (subst (Held k.server.temps n (a ∷ us) (locals_of h.seat.client)) p.1 (held_at book k qs n now x q a us g uncut)) in
+    let held = subst (HeldIn k.server.temps n (a ∷ us) q.downs v) p.2 (subst (Held k.server.temps n (a ∷ us) q.downs (locals_of h.seat.client)) p.1 (held_at book k qs n now x q a us g uncut)) in
     let t = held.0 (0, m, f, size, refl) in
     let sized_is : size ≡ length (h.contents m) = (subst (AllAsks (IsCommit book x.closing x.cut (job h.seat) h.contents)) g.first h.commits).0.1 in
     let short = h.lengths m in
     let there = file_there book k.server f g.kept.server (subst (λ (z : ℕ). IsSome (content_of book.opening z)) p.3 ((h.orderly uncut).tree p.0 p.1 (ap stage_word p.2))) (first_fits book k qs n now x q a us g).2 in
     let single = h.single in
     let first = ap commits_in g.first in
+    let joins = joined_alike t.0.pieces (PiecesOf v (λ c. true) (chunks_of v)) 0 (length v) v t.2 (pieces_are_whole v) in
     record {
       job_ = p.0;
       is = p.1;
       stage_is = p.2;
       temp = t.0;
       found = t.1.3;
-      content = v;
-      whole = ap (λ (z : ℕ). joined 0 z t.0.pieces) p.4 ∙ ap (joined 0 (length v)) t.2 ∙ pieces_are_whole v;
+      content = joins.0;
+      whole = ap (λ (z : ℕ). joined 0 z t.0.pieces) p.4 ∙ joins.1;
       file = there.0;
       node = there.2;
       small = (let le : size ≤ 67108864 = omega (arith, sized_is, short) in grind (arith, nat_tests, le));
       alone = none_waits n k.server.waiting (omega (arith, single, first));
-      left = subst (Held (without_temp k.server.temps n m) n us (locals_of h.seat.client)) (sym p.1) (subst (HeldIn (without_temp k.server.temps n m) n us v) (sym p.2) (λ u. absurd (rest_above book k qs n now x q a us g uncut u.0 (record { xid = xid; call = Commit u.1 u.2 u.3 }) u.4 refl), λ u. one_out k.server.temps n m t.0 g.kept.shelf t.1));
+      left = subst (Held (without_temp k.server.temps n m) n us q.downs (locals_of h.seat.client)) (sym p.1) (subst (HeldIn (without_temp k.server.temps n m) n us q.downs v) (sym p.2) (λ u. absurd (rest_above book k qs n now x q a us g uncut u.0 (record { xid = xid; call = Commit u.1 u.2 u.3 }) u.4 refl), λ u. one_out k.server.temps n m t.0 g.kept.shelf t.1));
     }
 
 -- it is refused for want of room
-no_room : FitLaws → (book : Book) (k : Core) (qs : List Queue) (n now : ℕ) (x : Session) (q : Queue) (xid m f size : ℕ) (us : List Ask) → (g : Given book k qs n now x q (record { xid = xid; call = Commit m f size }) us) → (content : List ℕ) → x.cut ≡ false → content ≡ (session_in book k qs n now x q (record { xid = xid; call = Commit m f size }) us g).contents m → is_full k.server (length content) ≡ true
+no_room : FitLaws → (book : Book) (k : Core) (qs : List Queue) (n now : ℕ) (x : Session) (q : Queue) (xid m f size : ℕ) (us : List Ask) → (g : Given book k qs n now x q (record { xid = xid; call = Commit m f size }) us) → (content : List ℕ) → x.cut ≡ false → SameBytes book ((session_in book k qs n now x q (record { xid = xid; call = Commit m f size }) us g).contents m) content → is_full k.server (length content) ≡ true
     → Wanted (onward book 1 book.ops) (job (session_in book k qs n now x q (record { xid = xid; call = Commit m f size }) us g).seat) xid (Changed (Failed status.NoSpc tt))
 no_room laws book k qs n now x q xid m f size us g content uncut is full =
     let a : Ask = record { xid = xid; call = Commit m f size } in
@@ -315,7 +326,7 @@ no_room laws book k qs n now x q xid m f size us g content uncut is full =
     let c = (subst (AllAsks (IsCommit book x.closing x.cut (job h.seat) h.contents)) g.first h.commits).0.0 in
     let place : c.place ≡ p.0.place = ap (λ (z : Job). z.place) (some_is _ p.0 (sym (c.waited uncut) ∙ p.1)) in
     let same : c.op ≡ of.op = some_is c.op of.op (sym c.there ∙ ap (slice_get book.ops) place ∙ of.there) in
-    let value : content ≡ of.op.value = is ∙ sym c.value_is ∙ ap (λ (z : Op). z.value) same in
+    let value : length (h.contents m) ≡ length of.op.value = sym c.size_is ∙ ap (λ (z : Op). length z.value) same in
     let steps = g.kept.steps in
     let begun = (g.kept.sound.rights p.0.place of.op of.there).begun in (
       (
@@ -336,10 +347,10 @@ no_room laws book k qs n now x q xid m f size us g content uncut is full =
           xid = xid;
           call = record { fd = m; handle = handle_bytes f; size = size };
           parsed = parsed laws a (first_fits book k qs n now x q a us g);
-          size = (subst (AllAsks (IsCommit book x.closing x.cut (job h.seat) h.contents)) g.first h.commits).0.1 ∙ ap (λ (l : List ℕ). length l) (sym c.value_is ∙ ap (λ (z : Op). z.value) same);
+          size = (subst (AllAsks (IsCommit book x.closing x.cut (job h.seat) h.contents)) g.first h.commits).0.1 ∙ value;
           after = omega (arith, begun, steps);
           before = omega (arith, steps);
-          full = subst (λ (l : List ℕ). is_full k.server (length l) ≡ true) value full;
+          full = subst (λ (z : ℕ). is_full k.server z ≡ true) (sym is.0 ∙ value) full;
         },
       ),
       refl,
@@ -364,19 +375,19 @@ serve_commit laws book k qs n now x q xid m f size us g = by (temp_at k.server.t
     others : (o : ℕ) → (o ≡ n → ⊥) → SameFound k.server.temps left o
     others o apart p lt = other_out k.server.temps n m o p (first_fits book k qs n now x q a us g).1 lt apart
 
-    fails : (s : Status) → (x.cut ≡ false → ⊥) → Leads book (rest_of qs n q us) (answered k n (max k.server.moment now) x a k.server.temps (Changed (Failed s tt)))
+    fails : (s : Status) → (x.cut ≡ false → ⊥) → Leads book (rest_of qs n q us) (answered k n (max k.server.moment now) x a k.server.temps k.server.index (Changed (Failed s tt)))
     fails s never = refused_with laws book k qs n now x q xid m f size us s k.server.temps g (λ i e is. (i, is)) g.kept.shelf (λ o apart p lt. refl) (λ uncut. absurd (never uncut)) (λ uncut. absurd (never uncut))
 
-    ends : (s : Status) → (x.cut ≡ false → Wanted (onward book 1 book.ops) (job h.seat) xid (Changed (Failed s tt))) → Leads book (rest_of qs n q us) (answered k n (max k.server.moment now) x a left (Changed (Failed s tt)))
+    ends : (s : Status) → (x.cut ≡ false → Wanted (onward book 1 book.ops) (job h.seat) xid (Changed (Failed s tt))) → Leads book (rest_of qs n q us) (answered k n (max k.server.moment now) x a left k.server.index (Changed (Failed s tt)))
     ends s wanted = refused_with laws book k qs n now x q xid m f size us s left g (λ i e is. of_removed _ k.server.temps i e is) (shelf_out k.server.temps n m g.kept.shelf) others wanted (λ uncut. (ready uncut).left)
 
-    has_room : (id : ℕ) (content : List ℕ) (w full : Bool) → has_waiting k.server.waiting n ≡ w → is_full (record (at k.server now) { temps = left }) (length content) ≡ full → id ≡ f → IsSome (content_of book.opening f) → content ≡ h.contents m
+    has_room : (id : ℕ) (content : List ℕ) (w full : Bool) → has_waiting k.server.waiting n ≡ w → is_full (record (at k.server now) { temps = left }) (length content) ≡ full → id ≡ f → IsSome (content_of book.opening f) → SameBytes book (h.contents m) content
         → Leads book (rest_of qs n q us) (served k n x xid (if w then answers (record (at k.server now) { temps = left }) n xid (lb.CommitTmpAnswer (Failed status.Jukebox tt)) else if full then answers (record (at k.server now) { temps = left }) n xid (lb.CommitTmpAnswer (Failed status.NoSpc tt)) else (record (at k.server now) { temps = left; waiting = k.server.waiting ++ record { session = n; xid = xid; file = id; content = content } ∷ [] }, sends [])))
     has_room id content true full waits e same known is = ends status.Jukebox (λ uncut. absurd (false_and_true (has_waiting k.server.waiting n) (ready uncut).alone waits))
     has_room id content false true waits e same known is = ends status.NoSpc (λ uncut. no_room laws book k qs n now x q xid m f size us g content uncut is e)
     has_room id content false false waits e same known is = subst (λ (i : ℕ). Leads book (rest_of qs n q us) (served k n x xid (record (at k.server now) { temps = left; waiting = k.server.waiting ++ record { session = n; xid = xid; file = i; content = content } ∷ [] }, sends []))) (sym same) (leads_waits book k qs n now x q xid m f size us left content g (λ i u w. of_removed _ k.server.temps i u w) is (let le = not_full changes_most (k.server.changes + length k.server.waiting + 1) _ _ e in le) known (shelf_out k.server.temps n m g.kept.shelf) others (λ uncut. (ready uncut).left))
 
-    whole : (id : ℕ) (t : Temp) (o : Option (List ℕ)) → temp_at k.server.temps n m ≡ Some t → assembled t size ≡ o → id ≡ f → IsSome (content_of book.opening f) → ((c : List ℕ) → o ≡ Some c → c ≡ h.contents m) → Leads book (rest_of qs n q us) (served k n x xid (commits_whole (record (at k.server now) { temps = left }) n xid id o))
+    whole : (id : ℕ) (t : Temp) (o : Option (List ℕ)) → temp_at k.server.temps n m ≡ Some t → assembled t size ≡ o → id ≡ f → IsSome (content_of book.opening f) → ((c : List ℕ) → o ≡ Some c → SameBytes book (h.contents m) c) → Leads book (rest_of qs n q us) (served k n x xid (commits_whole (record (at k.server now) { temps = left }) n xid id o))
     whole id t None found none same known is = ends status.Inval (λ uncut. let r = ready uncut in nothing_there r.content (sym none ∙ ap (λ (z : Temp). assembled z size) (some_is t r.temp (sym found ∙ r.found)) ∙ r.whole))
     whole id t (Some c) found some same known is = has_room id c (has_waiting k.server.waiting n) (is_full (record (at k.server now) { temps = left }) (length c)) refl refl same known (is c refl)
 
@@ -386,9 +397,9 @@ serve_commit laws book k qs n now x q xid m f size us g = by (temp_at k.server.t
         let fits = first_fits book k qs n now x q a us g in
         let e = of_lookup k.server.temps (key_of n m) t found in
         let held = h.temps e.0 m e.1 fits.1 e.2 e.3 in
-        let parts : AreParts (h.contents m) t.pieces = subst (λ (u : Temp). AreParts (h.contents m) u.pieces) e.4 held.0 in
+        let parts : AreParts (hashed_of book.moments) (h.contents m) t.pieces = subst (λ (u : Temp). AreParts (hashed_of book.moments) (h.contents m) u.pieces) e.4 held.0 in
         let sized_is : size ≡ length (h.contents m) = (subst (AllAsks (IsCommit book x.closing x.cut (job h.seat) h.contents)) g.first h.commits).0.1 in
-        whole id t (assembled t size) found refl same known (λ c is. joined_is (h.contents m) t.pieces c parts (ap (λ (z : ℕ). joined 0 z t.pieces) (sym sized_is) ∙ is))
+        whole id t (assembled t size) found refl same known (λ c is. joined_is (hashed_of book.moments) (h.contents m) t.pieces c parts (ap (λ (z : ℕ). joined 0 z t.pieces) (sym sized_is) ∙ is))
 
     nodes : (t : Temp) → temp_at k.server.temps n m ≡ Some t → Found k.server.files f → Leads book (rest_of qs n q us) (served k n x xid (commits_to (record (at k.server now) { temps = left }) n xid size t (node_of k.server.files (handle_bytes f))))
     nodes t found (is_root one e) = subst (λ (nd : Result Node Status). Leads book (rest_of qs n q us) (served k n x xid (commits_to (record (at k.server now) { temps = left }) n xid size t nd))) (sym e) (ends status.IsDir (λ uncut. absurd (not_root (ready uncut).file (sym e ∙ (ready uncut).node))))

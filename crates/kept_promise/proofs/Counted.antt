@@ -148,6 +148,8 @@ pub record AreCounted (sent taken : List Said) (step : ℕ) (ops : List Op) : Ty
   pub sent_by : SaidBy step sent
   pub taken_by : SaidBy step taken
   pub counts : (p : ℕ) (o : Op) → slice_get ops p ≡ Some o → o.traffic ≡ traffic_of o sent taken
+  -- one that ended with its begin counts nothing
+  pub silent : (p : ℕ) (o : Op) → slice_get ops p ≡ Some o → o.end ≡ Some o.begin → o.traffic ≡ no_traffic
 
 -- an operation that a client's messages are not for counts as before
 elsewhere : (o : Op) (ss rs : List Said) (step c : ℕ) (ms ts : List Message) → of_step o step c ≡ false → traffic_of o (ss ++ all_said step c ms) (rs ++ all_said step c ts) ≡ traffic_of o ss rs
@@ -170,7 +172,7 @@ here_counted o ss rs step c ms ts n e h =
 
 pub counted_quiet : (ss rs : List Said) (m n : ℕ) (ops : List Op) → m ≤ n → AreCounted ss rs m ops → AreCounted (ss ++ []) (rs ++ []) n ops
 counted_quiet ss rs m n ops le h =
-    subst (λ z. AreCounted z (rs ++ []) n ops) (sym (append-nil ss)) (subst (λ z. AreCounted ss z n ops) (sym (append-nil rs)) (record { sent_by = said_later m n ss le h.sent_by; taken_by = said_later m n rs le h.taken_by; counts = h.counts }))
+    subst (λ z. AreCounted z (rs ++ []) n ops) (sym (append-nil ss)) (subst (λ z. AreCounted ss z n ops) (sym (append-nil rs)) (record { sent_by = said_later m n ss le h.sent_by; taken_by = said_later m n rs le h.taken_by; counts = h.counts; silent = h.silent }))
 
 -- an operation gets its point
 pub counted_pointed : (ss rs : List Said) (n step : ℕ) (ops : List Op) (place : Option ℕ) → AreCounted ss rs n ops → AreCounted ss rs n (pointed_at ops place step)
@@ -185,6 +187,10 @@ counted_pointed ss rs n step ops (Some place) h = by (slice_get ops place) refl
       counts = λ p o at. elim (of_replaced ops place (record q { point = Some step }) p o at) [
         | inl new ↦ subst (λ (z : Op). z.traffic ≡ traffic_of z ss rs) (sym new.1) (h.counts place q e ∙ same q)
         | inr old ↦ h.counts p o old.1
+      ];
+      silent = λ p o at. elim (of_replaced ops place (record q { point = Some step }) p o at) [
+        | inl new ↦ subst (λ (z : Op). z.end ≡ Some z.begin → z.traffic ≡ no_traffic) (sym new.1) (h.silent place q e)
+        | inr old ↦ h.silent p o old.1
       ];
     }
       where
@@ -227,6 +233,7 @@ counted_acts ss rs n i ops place c taken acts ms ts actor tally h = record {
   sent_by = said_append (n + 1) ss (all_said (n + 1) i ms) (said_later n (n + 1) ss (omega arith) h.sent_by) (said_now (n + 1) i ms);
   taken_by = said_append (n + 1) rs (all_said (n + 1) i ts) (said_later n (n + 1) rs (omega arith) h.taken_by) (said_now (n + 1) i ts);
   counts = λ p o at. by place refl p o at;
+  silent = ends place refl;
 }
   where
     more : (o : Op) → Traffic
@@ -245,6 +252,22 @@ counted_acts ss rs n i ops place c taken acts ms ts actor tally h = record {
         traffic_after : (e : Option Ended) → (op_after q c taken (n + 1) (record acts { ended = e })).traffic ≡ counted q.traffic acts.counts
         traffic_after None = refl
         traffic_after (Some e) = refl
+
+    -- one that ended in this step began before it
+    ends : (l : Option ℕ) → place ≡ l → (p : ℕ) (o : Op) → slice_get (ops_with ops l c taken (n + 1) acts) p ≡ Some o → o.end ≡ Some o.begin → o.traffic ≡ no_traffic
+    ends None e = h.silent
+    ends (Some l) e = there (slice_get ops l) refl
+      where
+        there : (q : Option Op) → slice_get ops l ≡ q → (p : ℕ) (o : Op) → slice_get (ops_after ops l q c taken (n + 1) acts) p ≡ Some o → o.end ≡ Some o.begin → o.traffic ≡ no_traffic
+        there None was = h.silent
+        there (Some q) was = λ p o at. elim (of_replaced ops l (op_after q c taken (n + 1) acts) p o at) [
+          | inl now ↦ subst (λ (z : Op). z.end ≡ Some z.begin → z.traffic ≡ no_traffic) (sym now.1) (over acts.ended (actor.own l q e was))
+          | inr old ↦ h.silent p o old.1
+        ]
+          where
+            over : (d : Option Ended) → ((q.client ≡ i) × (q.end ≡ None) × (q.begin ≤ n)) → (op_after q c taken (n + 1) (record acts { ended = d })).end ≡ Some (op_after q c taken (n + 1) (record acts { ended = d })).begin → (op_after q c taken (n + 1) (record acts { ended = d })).traffic ≡ no_traffic
+            over None w is = nothing_there q.begin (sym w.1 ∙ is)
+            over (Some d) w is = let le = w.2 in let same = some_is (n + 1) q.begin is in absurd (omega (arith, le, same))
 
     by : (l : Option ℕ) → place ≡ l → (p : ℕ) (o : Op) → slice_get (ops_with ops l c taken (n + 1) acts) p ≡ Some o → o.traffic ≡ more o
     by None e p o at = else_ p o at (λ q. nothing_there p (sym e ∙ q))
@@ -267,6 +290,10 @@ counted_begins ss rs n i ops new ms lt none silent h = record {
   counts = λ p o at. elim (of_appended ops new p o at) [
     | inl is ↦ subst (λ (z : Op). z.traffic ≡ traffic_of z (ss ++ all_said (n + 1) i ms) (rs ++ [])) (sym is.1) (none ∙ sym (more new ∙ ap (λ z. both z (taken_for new rs)) (sent_before n new ss lt h.sent_by) ∙ ap (both no_traffic) (taken_before n new rs lt h.taken_by)))
     | inr old ↦ h.counts p o old ∙ sym (more o)
+  ];
+  silent = λ p o at. elim (of_appended ops new p o at) [
+    | inl is ↦ subst (λ (z : Op). z.end ≡ Some z.begin → z.traffic ≡ no_traffic) (sym is.1) (λ end. none)
+    | inr old ↦ h.silent p o old
   ];
 }
   where

@@ -1,7 +1,6 @@
 -- A run carries that each operation counts what its client sent and took for it.
-use Rattle.std.proofs.Common.{inl, inr, ◌≡◌, ℕ, suc, ◌+◌, List, [], ◌∷◌, ◌++◌, length, Option, Some, None, Result, Ok, Err, Bool, true, false, refl, sym, ap, ◌∙◌, subst, arith}
+use Rattle.std.proofs.Common.{inl, inr, ◌≡◌, ℕ, suc, ◌+◌, List, [], ◌∷◌, ◌++◌, Option, Some, None, Result, Ok, Err, Bool, true, false, refl, sym, ap, ◌∙◌, subst, arith}
 use Rattle.std.proofs.lemmas.List.{flat_map_more}
-use Rattle.command_text.specs.declared.command.Command.TheVariants as command
 use Rattle.server_core.specs.State as server
 use Rattle.server_core.specs.declared.event.Event.TheVariants as event
 use Rattle.server_core.specs.declared.event.Told.{Told}
@@ -10,12 +9,13 @@ use Rattle.open_close.specs.State as client
 use Rattle.open_close.specs.declared.step.Outcome.TheVariants as outcome
 use Rattle.trace_replay.specs.Core.{taken_of as session_taken}
 use Rattle.trace_replay.specs.Trail.{taken_in, taken_of}
-use Rattle.kept_promise.proofs.Common.{◌==◌, slice_get, nat_lt, if◌then◌else◌, content_length, content_bytes, Command, Part, parse_of, Message, WireFault, server_step, no_counts, ends, local_most, written_size, written, truncated, local_at, is_open, may_ask, asks_hashes, opens_if, opens, on_local, too_big, done_with, edits, writes, truncates, reads, abandons, asks_temp, closes, command_step, got_step, ended_by, cut, BadPeer, ClientStep, Ended, Outcome, Local, Task, Op, Opening, TakenCall, no_traffic, counted, op_after, ended_op, told_of, Core, Seat, Session, Event, Event.Joins, Event.Does, Event.Serves, Event.Hears, Event.Settles, Event.Cuts, Event.Hangs, CoreStep, numbered, server_waiting, serves_if, serves, session_of, ops_after, ops_with, does, joins_as, joins, settled_ops, settled_by, settles, cuts_if, cuts, hangs_if, hangs, happens, Moment, all_said, owner_in, client_of, sent_in, sent_of, wanted_by, taken_if, taken_from, taken_by, Book, Queue}
+use Rattle.kept_promise.proofs.Common.{slice_get, Command, parse_of, Message, WireFault, server_step, no_counts, command_step, got_step, ended_by, cut, BadPeer, ClientStep, Ended, Outcome, Task, Op, Opening, TakenCall, no_traffic, counted, op_after, ended_op, told_of, Core, Seat, Session, Event, Event.Joins, Event.Does, Event.Serves, Event.Hears, Event.Settles, Event.Cuts, Event.Hangs, CoreStep, numbered, server_waiting, serves_if, serves, session_of, ops_after, ops_with, does, joins_as, joins, settled_ops, settled_by, settles, cuts_if, cuts, hangs_if, hangs, happens, Moment, all_said, owner_in, client_of, sent_in, sent_of, wanted_by, taken_if, taken_from, taken_by, Book, Queue}
 use Rattle.kept_promise.proofs.Lists.{nothing_there, at_replaced}
 use Rattle.kept_promise.proofs.Rights.{IsRight, Caused}
 use Rattle.kept_promise.proofs.Facts.{IsKept}
 use Rattle.kept_promise.proofs.RunsCarried.{book_at, moment, Step, Carried}
-use Rattle.kept_promise.proofs.Tallies.{sent_sum, taken_sum, Tallied, IsFault, Tallies, tally_got}
+use Rattle.kept_promise.proofs.Tallies.{sent_sum, taken_sum, Tallied, Tallies, tally_got}
+use Rattle.kept_promise.proofs.StepCases.{IsFault, command_cases}
 use Rattle.kept_promise.proofs.Counted.{AreCounted, counted_quiet, counted_pointed, counted_acts, counted_begins}
 use Rattle.kept_promise.proofs.Actors.{acts_alone, Heard, heard_at, newest_is}
 use Rattle.kept_promise.proofs.CommandOps.{made_by, made_later, made_silent}
@@ -25,51 +25,8 @@ use Rattle.kept_promise.proofs.CommandOps.{made_by, made_later, made_silent}
 abbrev pub IsSilent : client.State × ClientStep → Type 0
 IsSilent r = (sent_sum r.1.send ≡ no_traffic) × (r.1.counts ≡ no_counts)
 
-silent_ends : (s : client.State) (o : Outcome) → IsSilent (s, ends o 0 0)
-silent_ends s o = (refl, refl)
-
-silent_opens : (s : client.State) (file : ℕ) (t : Option Task) → IsSilent (opens s file t)
-silent_opens s file (Some t) = silent_ends s outcome.Busy
-silent_opens s file None = by (is_open s.opened file)
-  where
-    asks : (b : Bool) → IsSilent (asks_hashes s file b)
-    asks true = (refl, refl)
-    asks false = silent_ends s outcome.NoLink
-
-    by : (b : Bool) → IsSilent (opens_if s file b)
-    by true = silent_ends s outcome.AlreadyOpen
-    by false = asks (may_ask s)
-
-silent_local : (s : client.State) (t : Option Task) (l : Option Local) (f : Local → client.State × ClientStep) → ((l : Local) → IsSilent (f l)) → IsSilent (on_local s t l f)
-silent_local s (Some t) l f h = silent_ends s outcome.Busy
-silent_local s None None f h = silent_ends s outcome.NotOpen
-silent_local s None (Some l) f h = h l
-
-pub silent_edits : (s : client.State) (file : ℕ) (l : Local) (size : ℕ) (content : List ℕ) → IsSilent (edits s file l size content)
-silent_edits s file l size content = by (nat_lt local_most size)
-  where
-    by : (b : Bool) → IsSilent (if b then too_big s size else done_with s file l content)
-    by true = (refl, refl)
-    by false = (refl, refl)
-
-silent_writes : (s : client.State) (file offset : ℕ) (content : List Part) (l : Local) → IsSilent (writes s file offset content l)
-silent_writes s file offset content l = by (content_length content == 0)
-  where
-    by : (b : Bool) → IsSilent (if b then (s, ends outcome.Done 0 0) else edits s file l (written_size (length l.bytes) offset (content_length content)) (written l.bytes offset (content_bytes content)))
-    by true = (refl, refl)
-    by false = silent_edits s file l (written_size (length l.bytes) offset (content_length content)) (written l.bytes offset (content_bytes content))
-
-silent_closes : (s : client.State) (file : ℕ) (b : Bool) → IsSilent (asks_temp s file b)
-silent_closes s file true = (refl, refl)
-silent_closes s file false = (refl, refl)
-
 pub silent_command : (s : client.State) (d : Command) (now : ℕ) → IsSilent (command_step s d now)
-silent_command s (command.Open file) now = silent_opens s file s.task
-silent_command s (command.Write file offset content) now = silent_local s s.task (local_at s.opened file) (writes s file offset content) (silent_writes s file offset content)
-silent_command s (command.Trunc file size) now = silent_local s s.task (local_at s.opened file) (truncates s file size) (λ l. silent_edits s file l size (truncated l.bytes size))
-silent_command s (command.Read file offset count) now = silent_local s s.task (local_at s.opened file) (reads s offset count) (λ l. (refl, refl))
-silent_command s (command.Close file) now = silent_local s s.task (local_at s.opened file) (closes s file) (λ l. silent_closes s file (may_ask s))
-silent_command s (command.Abandon file) now = silent_local s s.task (local_at s.opened file) (abandons s file) (λ l. (refl, refl))
+silent_command s d now = command_cases IsSilent s d now (record { busy = λ t is. (refl, refl); answers = λ free opened o plain. (refl, refl); fetches = λ file is free. (refl, refl); asks = λ file c is free at. (refl, refl); closes = λ file l is free at. (refl, refl) })
 
 -- ---- one more moment
 
@@ -205,9 +162,10 @@ Counts all past opening k qs = CountedAt past k
 
 pub carried_counts : Carried Counts
 carried_counts = record {
-  first = λ all opening files changes count kept. record { sent_by = tt; taken_by = tt; counts = λ p o at. nothing_there o at };
+  first = λ all opening files changes count kept. record { sent_by = tt; taken_by = tt; counts = λ p o at. nothing_there o at; silent = λ p o at. nothing_there o at };
   steps = λ all past rest opening k qs e mid after s h.
       let t = happens k e in
       subst (λ z. AreCounted z (taken_of (past ++ moment k e ∷ [])) t.core.steps t.core.ops) (sent_more past (moment k e))
       (subst (λ z. AreCounted (sent_of past ++ sent_in (moment k e)) z t.core.steps t.core.ops) (taken_more past (moment k e)) (counted_event all past rest opening k qs e mid after s h));
+  adjusts = λ all past opening k qs index seats same h. h;
 }

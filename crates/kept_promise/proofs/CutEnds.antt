@@ -10,7 +10,7 @@ use Rattle.kept_promise.proofs.Facts.{IsKept}
 use Rattle.kept_promise.proofs.RunsCarried.{book_at, moment, Step, Carried}
 use Rattle.kept_promise.proofs.Deeds.{also_there, Moved, AllMoved}
 use Rattle.kept_promise.proofs.Doing.{without_end}
-use Rattle.kept_promise.proofs.Following.{IsFollowed, OpsAfter, goes, followed_first}
+use Rattle.kept_promise.proofs.Following.{IsFollowed, OpsAfter, goes, followed_first, followed_adjusted}
 
 -- ---- what is carried
 
@@ -124,6 +124,7 @@ carried_follow = record {
     cuts = record { late = λ m there. let lt = there.1 in absurd (omega (arith, lt)); cuts = λ m c i o there is at. nothing_there o at };
   };
   steps = λ all past rest opening k qs e mid after s h. record { followed = (goes all past rest opening k qs e mid after s h.followed).followed; cuts = cuts_go all past rest opening k qs e mid after s h.followed h.cuts };
+  adjusts = λ all past opening k qs index seats same h. record { followed = followed_adjusted past k index seats same h.followed; cuts = record { late = h.cuts.late; cuts = h.cuts.cuts } };
 }
 
 -- of a whole run

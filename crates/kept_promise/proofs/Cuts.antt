@@ -6,12 +6,12 @@ use Rattle.open_close.specs.declared.step.Outcome.TheVariants as outcome
 use Rattle.register_model.specs.declared.op.Outcome.TheVariants as told
 use Rattle.register_model.specs.declared.op.Word.TheVariants as words
 use Rattle.trace_replay.specs.Core.{idles, loss_down}
-use Rattle.kept_promise.proofs.Common.{slice_get, slice_set, cut, ended_by, nothing_done, ClientStep, Ended, Task, content_of, Op, Word, TakenCall, Core, Seat, Session, Event.Cuts, CoreStep, taken_of, session_of, ops_after, ops_with, cut_session, cuts_if, cuts, numbered, with_numbered, has_point, point_if, op_after, place_after, unless, Book, Ask, Queue, Call, Call.Commit}
+use Rattle.kept_promise.proofs.Common.{slice_get, slice_set, cut, ended_by, nothing_done, ClientStep, Ended, Task, content_of, Op, Word, TakenCall, Core, Seat, Session, Event.Cuts, CoreStep, taken_of, session_of, ops_after, ops_with, cut_session, cuts_if, cuts, numbered, with_numbered, has_point, point_if, op_after, place_after, unless, hashed_of, Book, Ask, Queue, Call, Call.Commit}
 use Rattle.kept_promise.proofs.Lists.{some_is, nothing_there, same_or_not, of_replaced}
 use Rattle.kept_promise.proofs.Messages.{Job, job, job_of, IsCommit, CommitOf, IsPending}
 use Rattle.kept_promise.proofs.Rights.{is_remote, IsRight}
-use Rattle.kept_promise.proofs.History.{Goes, Still, Becomes, onward, goes_same, still_same, goes_becomes, still_becomes}
-use Rattle.kept_promise.proofs.Later.{all_asks, commit_later, pending_later, same_view, Spares}
+use Rattle.kept_promise.proofs.History.{Goes, Still, Becomes, onward, grows_same, goes_same, still_same, goes_becomes, still_becomes}
+use Rattle.kept_promise.proofs.Later.{all_asks, commit_later, pending_later, pieces_later, parts_later, cached_later, same_view, Spares}
 use Rattle.kept_promise.proofs.Turns.{Around, around_with, also_numbered, turned_core, kept_turn}
 use Rattle.kept_promise.proofs.Rests.{kept_rest}
 use Rattle.kept_promise.proofs.Facts.{IsSeat, IsMatched, IsKept}
@@ -23,7 +23,7 @@ use Rattle.kept_promise.proofs.Steps.{remote_words}
 -- ---- a change on its way is that of a close which nobody waits for any more
 
 cut_pending : (book : Book) (closing : Option ℕ) (b : Bool) (j r : Option Job) (x f : ℕ) (v : List ℕ) → IsPending book closing b j x f v → IsPending book closing true r x f v
-cut_pending book closing b j r x f v p = record { place = p.place; known = p.known; op = p.op; there = p.there; unmade = p.unmade; file_is = p.file_is; value_is = p.value_is; waited = λ e. absurd cc }
+cut_pending book closing b j r x f v p = record { place = p.place; known = p.known; op = p.op; there = p.there; unmade = p.unmade; file_is = p.file_is; size_is = p.size_is; value_is = p.value_is; waited = λ e. absurd cc }
 
 cut_commit : (book : Book) (closing : Option ℕ) (b : Bool) (j r : Option Job) (contents : ℕ → List ℕ) (x : ℕ) (c : Call) → CommitOf book closing b j contents x c → CommitOf book closing true r contents x c
 cut_commit book closing b j r contents x (Commit temp file size) h = (cut_pending book closing b j r x file (contents temp) h.0, h.1)
@@ -62,7 +62,7 @@ cut_kept book more k qs c n x q seat ended after kept here at is owner newest go
       seat_around = subst (λ (z : ℕ). Around k.seats seats z d) (sym owner) seated;
       owner = refl;
       goes = goes;
-      server = record { held = λ f. file_still book more f (server.file_at k.server.files f) still opening (kept.server.held f); versions = kept.server.versions; changes = kept.server.changes; lengths = kept.server.lengths; targets = λ i z e. subst (λ l. IsSome (content_of l z.file)) (sym opening) (kept.server.targets i z e); xids = kept.server.xids };
+      server = record { held = λ f. file_still book more None ended f (server.file_at k.server.files f) g still (kept.server.held f); versions = kept.server.versions; changes = kept.server.changes; lengths = kept.server.lengths; targets = λ i z e. subst (λ l. IsSome (content_of l z.file)) (sym opening) (kept.server.targets i z e); xids = kept.server.xids };
       sessions_made = refl;
       view = λ m apart. same_view m k.server;
       elsewhere = inr newest;
@@ -82,8 +82,8 @@ cut_kept book more k qs c n x q seat ended after kept here at is owner newest go
         contents = h.contents;
         lengths = h.lengths;
         commits = all_asks (IsCommit book x.closing x.cut (job h.seat) h.contents) (IsCommit more x.closing true (job d) h.contents) (λ a m. commit_later book more None ended x.closing true (job d) (job d) h.contents a g spares (λ e. refl) (cut_commit book x.closing x.cut (job h.seat) (job d) h.contents a.xid a.call m)) q.ups h.commits;
-        pieces = h.pieces;
-        temps = h.temps;
+        pieces = pieces_later (hashed_of book.moments) (hashed_of more.moments) h.contents q.ups g.hashed h.pieces;
+        temps = λ i m e lt f key. let o = h.temps i m e lt f key in (parts_later (hashed_of book.moments) (hashed_of more.moments) (h.contents m) e.1.pieces g.hashed o.0, o.1);
         temps_below = λ e. absurd cc;
         closes = λ e. absurd cc;
         pending = λ i z f. pending_later book more None ended x.closing true (job d) (job d) z.xid z.file z.content g spares (λ e. refl) (cut_pending book x.closing x.cut (job h.seat) (job d) z.xid z.file z.content (h.pending i z f));
@@ -101,6 +101,7 @@ cut_kept book more k qs c n x q seat ended after kept here at is owner newest go
         xids = λ j e. nothing_there j e;
         next = was.next;
         opened = λ f l e. let o = was.opened f l e in (subst (λ z. IsSome (content_of z f)) (sym opening) o.0, o.1);
+        kept = cached_later book more None ended seat.client.cache g was.kept;
       });
       running = running;
       shelf = kept.shelf;
@@ -178,7 +179,7 @@ idle_kept : (book : Book) (k : Core) (qs : List Queue) → IsKept book k qs → 
 idle_kept book k qs kept =
     subst (λ (z : Core). IsKept (onward book 1 book.ops) z qs) (core_is book k qs k.server k.seats k.sessions kept)
     (kept_rest book (onward book 1 book.ops) k qs k.server (goes_same book 1 kept.sound)
-    (record { held = λ f. file_still book (onward book 1 book.ops) f (server.file_at k.server.files f) (still_same book 1 kept.sound) refl (kept.server.held f); versions = kept.server.versions; changes = kept.server.changes; lengths = kept.server.lengths; targets = kept.server.targets; xids = kept.server.xids })
+    (record { held = λ f. file_still book (onward book 1 book.ops) None None f (server.file_at k.server.files f) (grows_same book 1) (still_same book 1 kept.sound) (kept.server.held f); versions = kept.server.versions; changes = kept.server.changes; lengths = kept.server.lengths; targets = kept.server.targets; xids = kept.server.xids })
     refl (λ m. same_view m k.server) kept.home kept.running kept.journal kept.shelf kept)
 
 pub leads_idle : (book : Book) (k : Core) (qs : List Queue) → IsKept book k qs → Leads book qs (idles k)

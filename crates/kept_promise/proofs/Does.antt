@@ -89,6 +89,7 @@ kept_cleared book k qs n x seat h at here free = record {
     xids = s.xids;
     next = s.next;
     opened = s.opened;
+    kept = s.kept;
   };
   running = h.running;
   closings = λ a b p u v f g c d. let one = was a u f in let two = was b v g in h.closings a b p one.0 two.0 one.1 two.1 (one.2 ∙ c) (two.2 ∙ d);
@@ -247,7 +248,7 @@ own_appended book k qs c w file value s o own kept =
     let more = onward book 1 (book.ops ++ new ∷ []) in
     let none = own_pointless k c w file value s o own in
     let goes = goes_appended book new none (own_right more (k.steps + 1) c w file value s o own (ap (λ z. z + 1) kept.steps)) kept.sound in
-    kept_rest book more k qs k.server goes (server_still book more k.server k.server.moment k.server.temps (still_appended book new none kept.sound) refl kept.server) refl (λ m. same_view m k.server) kept.home
+    kept_rest book more k qs k.server goes (server_still book more None None k.server k.server.moment k.server.temps k.server.index goes.grows (still_appended book new none kept.sound) kept.server) refl (λ m. same_view m k.server) kept.home
     (λ p q at run. elim (of_appended book.ops new p q at) [
       | inl last ↦ absurd (not_running o own (ap (λ (z : Op). z.outcome) (sym last.1) ∙ run))
       | inr was ↦ kept.running p q was run

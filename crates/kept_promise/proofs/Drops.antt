@@ -1,16 +1,17 @@
 -- A client takes an answer to a call that it has forgotten: it is dropped, and what is under way stays as it is.
-use Rattle.std.proofs.Common.{inl, inr, ◌≡◌, ℕ, zero, suc, ◌+◌, ◌≤◌, List, [], ◌∷◌, ◌++◌, Option, Some, None, Bool, true, false, refl, sym, ap, ◌∙◌, subst, arith, eq-eqb, map}
+use Rattle.std.proofs.Common.{inl, inr, ◌≡◌, ℕ, zero, suc, ◌+◌, ◌<◌, ◌≤◌, List, [], ◌∷◌, ◌++◌, Option, Some, None, Bool, true, false, refl, sym, ap, ◌∙◌, subst, arith, eq-eqb, map}
 use Rattle.open_close.specs.State as client
 use Rattle.register_model.specs.declared.op.Outcome.TheVariants as told
-use Rattle.kept_promise.proofs.Common.{slice_get, slice_set, ◌==◌, ◌||◌, Pending, has_call, without_call, no_counts, nothing_done, Op, Core, Seat, Session, numbered, ops_with, ops_after, acted, counted, Book, Told, Queue}
+use Rattle.kept_promise.proofs.Common.{slice_get, slice_set, ◌==◌, ◌||◌, Pending, has_call, without_call, no_counts, nothing_done, store_pending, Stage, Op, Core, Seat, Session, numbered, ops_with, ops_after, acted, counted, Book, Told, Queue}
 use Rattle.kept_promise.proofs.Lists.{some_is, nothing_there, same_or_not, of_replaced, false_and_true}
-use Rattle.kept_promise.proofs.Keys.{times}
+use Rattle.kept_promise.proofs.Keys.{times, there_by}
 use Rattle.kept_promise.proofs.Messages.{Job, job, AllTolds, IsAnswer, IsCommit}
 use Rattle.kept_promise.proofs.History.{Goes, Still, onward, goes_same, still_same, still_becomes}
 use Rattle.kept_promise.proofs.Later.{all_asks, all_tolds, answer_later, commit_later, pending_later, close_later, has_fetch_later, seat_later, Spares}
 use Rattle.kept_promise.proofs.Taken.{times_map_append}
 use Rattle.kept_promise.proofs.Turns.{Around, turned_core}
-use Rattle.kept_promise.proofs.OrderSteps.{orderly_dropped}
+use Rattle.kept_promise.proofs.OrderSteps.{IsElse, orderly_dropped}
+use Rattle.kept_promise.proofs.CloseSteps.{calls_are, pending_there}
 use Rattle.kept_promise.proofs.Facts.{IsSession, IsSeat, IsKept}
 use Rattle.kept_promise.proofs.Heard.{told_pending, Moves, put_up, kept_heard}
 use Rattle.kept_promise.proofs.Moves.{told_there, without_moves}
@@ -58,6 +59,18 @@ moves_drops mine forgotten i t at once = λ f y.
     let after = times_map_append f y mine (without_call forgotten t.xid) in
     omega (arith, gone, before, after)
 
+-- so no call of the store under way has its xid
+nothing_under : (book : Book) (k : Core) (n : ℕ) (x : Session) (q : Queue) (t : Told) → (h : IsSession book k.seats k.server n x q) → x.cut ≡ false → (i : ℕ) → slice_get h.seat.client.forgotten i ≡ Some (told_pending t) → IsElse (job h.seat) t.xid
+nothing_under book k n x q t h uncut i there j st m u is at under same =
+    let c = h.seat.client in
+    let once = (h.talk uncut).balanced.once t.xid in
+    let calls = ap (λ l. times t.xid (map (λ (p : Pending). p.xid) l)) (calls_are h.seat j is) in
+    let split = times_map_append (λ (p : Pending). p.xid) t.xid (client.pending_in j.stage) c.forgotten in
+    let stored = ap (λ (z : Stage). times t.xid (map (λ (p : Pending). p.xid) (client.pending_in z))) at in
+    let one = subst (λ (y : ℕ). 0 < times y (map (λ (p : Pending). p.xid) (map store_pending st.under))) same (there_by (λ (p : Pending). p.xid) (map store_pending st.under) m (store_pending u) (pending_there st.under m u under)) in
+    let two = there_by (λ (p : Pending). p.xid) c.forgotten i (told_pending t) there in
+    omega (arith, once, calls, split, stored, one, two)
+
 -- ---- what is kept
 
 -- nothing that a client has under way is another
@@ -97,7 +110,7 @@ kept_dropped book ops k qs n x q t ts seats after kept at is first uncut i there
       busy = talk.busy;
       closes = λ j f. close_later book more None None x.closing h.contents h.seat.client.next_temp j (client.local_bytes h.seat.client.opened j.file) j.stage goes.grows spares (h.closes uncut j f);
       seat = seat;
-      orderly = (let o = orderly_dropped book more None None n k.server.temps x.hung q t ts h.seat goes.grows first (h.orderly uncut) in record { asks = o.asks; tolds = o.tolds; holds = o.holds; tree = o.tree });
+      orderly = (let o = orderly_dropped book more None None n k.server.temps x.hung q t ts h.seat goes.grows first (nothing_under book k n x q t h uncut i there) (h.orderly uncut) in record { asks = o.asks; tolds = o.tolds; holds = o.holds; tree = o.tree });
       running = running;
     })
 
@@ -113,6 +126,7 @@ seat_dropped book sessions i seat xid linked h = record {
   xids = h.xids;
   next = h.next;
   opened = h.opened;
+  kept = h.kept;
 }
 
 -- another client's running operation is its job still

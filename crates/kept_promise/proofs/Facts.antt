@@ -1,11 +1,13 @@
 -- What holds in each world of a run: of each session with its owner, of each client, and of all together.
 use Rattle.std.proofs.Common.{◌≡◌, ℕ, suc, ◌+◌, ◌*◌, ◌<◌, ◌≤◌, List, [], ◌∷◌, ◌⊎◌, Option, Some, None, Bool, true, false, length, map, IsSome}
+use Rattle.client_cache.specs.Cache.{Entries, content_of as kept_of}
+use Rattle.client_cache.specs.declared.kept.Content.{Content}
 use Rattle.server_core.specs.State as server
 use Rattle.open_close.specs.State as client
 use Rattle.open_close.specs.declared.task.Stage.TheVariants as stage
 use Rattle.open_close.specs.declared.task.Way.TheVariants as way
 use Rattle.register_model.specs.declared.op.Outcome.TheVariants as told
-use Rattle.kept_promise.proofs.Common.{slice_get, not, MessageFits, Pending, stands, Temp, key_of, Change, File, Local, Stage, StoreCall, content_of, Op, Core, Seat, Session, numbered, Book, value_at, version_at, Call.Commit, Ask, Queue, told_message}
+use Rattle.kept_promise.proofs.Common.{slice_get, not, MessageFits, Pending, stands, Temp, key_of, Change, File, Local, Stage, StoreCall, content_of, Op, Core, Seat, Session, numbered, hashed_of, Book, HadContent, Or, value_at, version_at, Call.Commit, Ask, Queue, told_message}
 use Rattle.kept_promise.proofs.Statements.{CallFits}
 use Rattle.kept_promise.proofs.Keys.{times, own, on_way, pending_key, IsOurs}
 use Rattle.kept_promise.proofs.Messages.{Job, job, stage_word, AllAsks, AllTolds, AllUnder, Rising, IsAsked, IsAnswer, IsTrying, HasFetch, IsCommit, IsPiece, IsPending, TempUnder, AreParts, CloseOf}
@@ -21,6 +23,7 @@ names_in (c ∷ cs) = elim c.way [ way.Named ↦ suc (names_in cs) | way.Whole �
 
 -- each call that an operation may still send has an xid
 abbrev pub HasXids : (next : ℕ) → Stage → Type 0
+HasXids next (stage.Asking x) = next + 380001 ≤ 4294967296
 HasXids next (stage.Hashing tries x) = (spare : ℕ) × (tries + spare ≡ 4) × (next + 100000 * spare + 80000 ≤ 4294967296)
 HasXids next (stage.Listing x f) = (spare : ℕ) × (f.tries + spare ≡ 4) × (next + 100000 * spare + 80000 ≤ 4294967296 + length f.chunks)
 HasXids next (stage.Reading f) = (spare : ℕ) × (f.tries + spare ≡ 4) × (next + 100000 * spare + 40000 ≤ 4294967296 + f.asked)
@@ -69,8 +72,8 @@ pub record IsSession (book : Book) (seats : List Seat) (s : server.State) (n : �
   pub contents : ℕ → List ℕ
   pub lengths : (m : ℕ) → length (contents m) ≤ 67108864
   pub commits : AllAsks (IsCommit book x.closing x.cut (job seat) contents) q.ups
-  pub pieces : AllAsks (IsPiece contents) q.ups
-  pub temps : (i m : ℕ) (e : ℕ × Temp) → m < 4294967296 → slice_get s.temps i ≡ Some e → e.0 ≡ key_of n m → AreParts (contents m) e.1.pieces × (key_of e.1.session e.1.fd ≡ e.0)
+  pub pieces : AllAsks (IsPiece (hashed_of book.moments) contents) q.ups
+  pub temps : (i m : ℕ) (e : ℕ × Temp) → m < 4294967296 → slice_get s.temps i ≡ Some e → e.0 ≡ key_of n m → AreParts (hashed_of book.moments) (contents m) e.1.pieces × (key_of e.1.session e.1.fd ≡ e.0)
   pub temps_below : x.cut ≡ false → AllAsks (λ a. TempUnder seat.client.next_temp a.call) q.ups × ((i m : ℕ) (e : ℕ × Temp) → m < 4294967296 → slice_get s.temps i ≡ Some e → e.0 ≡ key_of n m → m < seat.client.next_temp)
   pub closes : x.cut ≡ false → (j : Job) → job seat ≡ Some j → CloseOf book x.closing contents seat.client.next_temp j (client.local_bytes seat.client.opened j.file) j.stage
   pub pending : (i : ℕ) (c : Change) → slice_get (own n s.waiting) i ≡ Some c → IsPending book x.closing x.cut (job seat) c.xid c.file c.content
@@ -89,6 +92,10 @@ pub record IsOf (book : Book) (i : ℕ) (j : Job) : Type 0 where
   pub file : op.file ≡ j.file
   pub running : op.outcome ≡ told.Running
 
+-- each content that is kept is what its file had in its version
+abbrev pub Cached : Book → Entries → Type 0
+Cached book cache = (f : ℕ) (c : Content) → kept_of cache f ≡ Some c → HadContent book f c.version c.bytes × (length c.bytes ≤ 67108864)
+
 -- an operation is under way where a task is
 abbrev pub IsMatched : Seat → Type 0
 IsMatched seat = ((seat.place ≡ None) × (seat.client.task ≡ None)) ⊎ ((j : Job) × (job seat ≡ Some j))
@@ -104,13 +111,21 @@ pub record IsSeat (book : Book) (sessions : List Session) (i : ℕ) (seat : Seat
   pub next : (seat.client.next ≤ 4294967296) × (seat.client.next_temp ≤ seat.client.next)
   -- what is open is a file of the tree, and within the limit
   pub opened : (f : ℕ) (l : Local) → client.local_at seat.client.opened f ≡ Some l → IsSome (content_of book.opening f) × (length l.bytes ≤ 67108864)
+  pub kept : Cached book seat.client.cache
 
 -- ---- the server
+
+-- a content is what the history says of a file, bytes that were known by their digest apart
+pub record IsValue (book : Book) (f : ℕ) (content : List ℕ) : Type 0 where
+  pub value : List ℕ
+  pub is : value_at book f (book.steps + 1) ≡ Some value
+  pub size : length value ≡ length content
+  pub same : Or book (value ≡ content)
 
 -- what the tree has of a file is what the history says
 abbrev pub FileIs : Book → (file : ℕ) → Option File → Type 0
 FileIs book f None = (content_of book.opening f ≡ None) × (value_at book f (book.steps + 1) ≡ None)
-FileIs book f (Some g) = (g.id ≡ f) × (1 < f) × (f < 18446744073709551616) × IsSome (content_of book.opening f) × (value_at book f (book.steps + 1) ≡ Some g.content) × (version_at book f (book.steps + 1) ≡ g.version) × (length g.content ≤ 67108864)
+FileIs book f (Some g) = (g.id ≡ f) × (1 < f) × (f < 18446744073709551616) × IsSome (content_of book.opening f) × IsValue book f g.content × (version_at book f (book.steps + 1) ≡ g.version) × (length g.content ≤ 67108864)
 
 pub record IsServer (book : Book) (s : server.State) : Type 0 where
   pub held : (f : ℕ) → FileIs book f (server.file_at s.files f)

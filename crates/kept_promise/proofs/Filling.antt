@@ -1,12 +1,13 @@
 -- A client fills a temporary file: what is held as its store goes on.
 use Rattle.std.proofs.Common.{◌⊎◌, inl, inr, ◌≡◌, ℕ, zero, suc, ◌+◌, ◌<◌, ◌≤◌, List, [], ◌∷◌, ◌++◌, length, Some, Bool, true, false, refl, sym, ap, ◌∙◌, subst, arith, eq-eqb, eqb-true}
 use Rattle.open_close.specs.declared.task.Way.TheVariants as way
-use Rattle.kept_promise.proofs.Common.{nat_tests, slice_get, cond, ◌==◌, not, nat_lt, chunks_of, Chunk, store_of, without_store, answered, with_whole, Store, StoreCall, Call.Name, Call.Send, Ask}
-use Rattle.kept_promise.proofs.Statements.{PiecesOf}
+use Rattle.kept_promise.proofs.Common.{nat_tests, slice_get, cond, ◌==◌, not, nat_lt, chunks_of, Chunk, store_of, without_store, answered, with_whole, Store, StoreCall, Call.Name, Call.Send, Ask, Told}
+use Rattle.kept_promise.proofs.Statements.{PiecesOf, SameShape}
 use Rattle.kept_promise.proofs.Lists.{some_is, nothing_there, same_or_not, of_appended, at_end, false_and_true}
 use Rattle.kept_promise.proofs.Chunks.{pieces_agree}
 use Rattle.kept_promise.proofs.Naming.{Named}
-use Rattle.kept_promise.proofs.Orderly.{UpSend, Holds}
+use Rattle.kept_promise.proofs.Orderly.{UpSend, known_reply, DownKnown, Holds}
+use Rattle.kept_promise.proofs.Ordered.{TellsNone}
 
 -- ---- nothing is held at first
 
@@ -14,13 +15,14 @@ none_of : (v : List ℕ) (cs : List Chunk) → [] ≡ PiecesOf v (λ c. false) c
 none_of v [] = refl
 none_of v (c ∷ cs) = none_of v cs
 
-pub holds_first : (v : List ℕ) (us : List Ask) (temp : ℕ) → Holds v us (store_of temp v) []
-holds_first v us temp = record {
+pub holds_first : (v : List ℕ) (us : List Ask) (ts : List Told) (temp : ℕ) → Holds v us ts (store_of temp v) []
+holds_first v us ts temp = record {
   has = λ c. false;
-  pieces_is = none_of v (chunks_of v);
+  pieces_is = subst (SameShape []) (none_of v (chunks_of v)) tt;
   later = λ i c at le. refl;
   done = λ i c at lt free. absurd (omega (arith, lt));
   by_name = λ k u c at. nothing_there u at;
+  known = λ k u c at. nothing_there u at;
   up = λ k u c at. nothing_there u at;
   taken = λ k u c at. nothing_there u at;
   apart = λ k m u w at. nothing_there u at;
@@ -57,8 +59,8 @@ free_still st x i p u apart alone other free k w at e = elim (same_or_not w.xid 
 
 -- ---- bytes were stored
 
-pub holds_answered : (v : List ℕ) (us : List Ask) (st : Store) (ps : List (ℕ × List ℕ)) (x p : ℕ) (u : StoreCall) → slice_get st.under p ≡ Some u → u.xid ≡ x → u.way ≡ way.Whole → ((k : ℕ) (w : StoreCall) → slice_get st.under k ≡ Some w → w.xid ≡ x → w ≡ u) → (UpSend us x → ⊥) → Holds v us st ps → Holds v us (answered st x) ps
-holds_answered v us st ps x p u there same whole alone gone h = record {
+pub holds_answered : (v : List ℕ) (us : List Ask) (ts : List Told) (st : Store) (ps : List (ℕ × List ℕ)) (x p : ℕ) (u : StoreCall) → slice_get st.under p ≡ Some u → u.xid ≡ x → u.way ≡ way.Whole → ((k : ℕ) (w : StoreCall) → slice_get st.under k ≡ Some w → w.xid ≡ x → w ≡ u) → (UpSend us x → ⊥) → Holds v us ts st ps → Holds v us ts (answered st x) ps
+holds_answered v us ts st ps x p u there same whole alone gone h = record {
   has = h.has;
   pieces_is = h.pieces_is;
   later = h.later;
@@ -67,10 +69,53 @@ holds_answered v us st ps x p u there same whole alone gone h = record {
     | inr other ↦ h.done i c at lt (free_still st x i p u h.apart alone other free)
   ];
   by_name = λ k w c at. let f = was_under st.under x k w at in h.by_name f.0 w c f.1;
+  known = λ k w c at. let f = was_under st.under x k w at in h.known f.0 w c f.1;
   up = λ k w c at. let f = was_under st.under x k w at in h.up f.0 w c f.1;
   taken = λ k w c at. let f = was_under st.under x k w at in h.taken f.0 w c f.1;
   apart = λ k m y w a b. let f = was_under st.under x k y a in let g = was_under st.under x m w b in h.apart f.0 g.0 y w f.1 g.1;
 }
+
+-- ---- an answer is heard
+
+-- one that tells of nothing that is known
+known_behind : (t : Told) (ts : List Told) (y : ℕ) → TellsNone t.reply → DownKnown (t ∷ ts) y → DownKnown ts y
+known_behind t ts y none (zero, e) = absurd (subst (λ (u : Told). TellsNone u.reply) (some_is t _ e) none)
+known_behind t ts y none (suc i, e) = (i, e)
+
+pub holds_heard : (v : List ℕ) (us : List Ask) (t : Told) (ts : List Told) (st : Store) (ps : List (ℕ × List ℕ)) → TellsNone t.reply → Holds v us (t ∷ ts) st ps → Holds v us ts st ps
+holds_heard v us t ts st ps none h = record {
+  has = h.has;
+  pieces_is = h.pieces_is;
+  later = h.later;
+  done = h.done;
+  by_name = λ k u c at w unknown. h.by_name k u c at w (λ z. unknown (known_behind t ts u.xid none z));
+  known = λ k u c at w z. h.known k u c at w (suc z.0, z.1);
+  up = h.up;
+  taken = h.taken;
+  apart = h.apart;
+}
+
+-- one that a chunk is known, whose name is no longer under way then
+pub holds_known_heard : (v : List ℕ) (us : List Ask) (ts : List Told) (st : Store) (ps : List (ℕ × List ℕ)) (x p : ℕ) (u : StoreCall) → slice_get st.under p ≡ Some u → u.xid ≡ x → u.way ≡ way.Named → ((k : ℕ) (w : StoreCall) → slice_get st.under k ≡ Some w → w.xid ≡ x → w ≡ u)
+    → Holds v us (record { xid = x; reply = known_reply } ∷ ts) st ps → Holds v us ts (answered st x) ps
+holds_known_heard v us ts st ps x p u there same named alone h = record {
+  has = h.has;
+  pieces_is = h.pieces_is;
+  later = h.later;
+  done = λ i c at lt free. elim (same_or_not i u.index) [
+    | inl e ↦ h.known p u c there named (0, ap (λ (z : ℕ). Some (record { xid = z; reply = known_reply })) (sym same)) (ap (slice_get (chunks_of v)) (sym e) ∙ at)
+    | inr other ↦ h.done i c at lt (free_still st x i p u h.apart alone other free)
+  ];
+  by_name = λ k w c at by_name unknown. let f = was_under st.under x k w at in h.by_name f.0 w c f.1 by_name (λ z. unknown (behind w f.2 z));
+  known = λ k w c at by_name z. let f = was_under st.under x k w at in h.known f.0 w c f.1 by_name (suc z.0, z.1);
+  up = λ k w c at. let f = was_under st.under x k w at in h.up f.0 w c f.1;
+  taken = λ k w c at. let f = was_under st.under x k w at in h.taken f.0 w c f.1;
+  apart = λ k m y w a b. let f = was_under st.under x k y a in let g = was_under st.under x m w b in h.apart f.0 g.0 y w f.1 g.1;
+}
+  where
+    behind : (w : StoreCall) → (w.xid ≡ x → ⊥) → DownKnown (record { xid = x; reply = known_reply } ∷ ts) w.xid → DownKnown ts w.xid
+    behind w other (zero, e) = absurd (other (sym (ap (λ (z : Told). z.xid) (some_is (record { xid = x; reply = known_reply }) _ e))))
+    behind w other (suc i, e) = (i, e)
 
 -- ---- lists of calls on their way, and more
 
@@ -103,9 +148,9 @@ call_front [] ys k y e = nothing_there y e
 call_front (x ∷ xs) ys zero y e = e
 call_front (x ∷ xs) ys (suc k) y e = call_front xs ys k y e
 
-pub holds_whole : (v : List ℕ) (us : List Ask) (st : Store) (ps : List (ℕ × List ℕ)) (x p next m s : ℕ) (b : List ℕ) (u : StoreCall) → slice_get st.under p ≡ Some u → u.xid ≡ x → u.way ≡ way.Named → ((k : ℕ) (w : StoreCall) → slice_get st.under k ≡ Some w → w.xid ≡ x → w ≡ u) → ((k : ℕ) (w : StoreCall) → slice_get st.under k ≡ Some w → w.xid < next)
-    → Holds v us st ps → Holds v (us ++ record { xid = next; call = Send m s b } ∷ []) (with_whole (answered st x) u next) ps
-holds_whole v us st ps x p next m s b u there same named alone below h = record {
+pub holds_whole : (v : List ℕ) (us : List Ask) (ts : List Told) (st : Store) (ps : List (ℕ × List ℕ)) (x p next m s : ℕ) (b : List ℕ) (u : StoreCall) → slice_get st.under p ≡ Some u → u.xid ≡ x → u.way ≡ way.Named → ((k : ℕ) (w : StoreCall) → slice_get st.under k ≡ Some w → w.xid ≡ x → w ≡ u) → ((k : ℕ) (w : StoreCall) → slice_get st.under k ≡ Some w → w.xid < next)
+    → (DownKnown ts x → ⊥) → Holds v us ts st ps → Holds v (us ++ record { xid = next; call = Send m s b } ∷ []) ts (with_whole (answered st x) u next) ps
+holds_whole v us ts st ps x p next m s b u there same named alone below unknown h = record {
   has = h.has;
   pieces_is = h.pieces_is;
   later = h.later;
@@ -114,8 +159,12 @@ holds_whole v us st ps x p next m s b u there same named alone below h = record 
     | inl new ↦ absurd (not_named (ap (λ (z : StoreCall). z.way) (sym new.1) ∙ by_name))
     | inr old ↦ let f = was_under st.under x k w old in h.by_name f.0 w c f.1 by_name
   ];
+  known = λ k w c at by_name. elim (of_appended left note k w at) [
+    | inl new ↦ absurd (not_named (ap (λ (z : StoreCall). z.way) (sym new.1) ∙ by_name))
+    | inr old ↦ let f = was_under st.under x k w old in h.known f.0 w c f.1 by_name
+  ];
   up = λ k w c at sent. elim (of_appended left note k w at) [
-    | inl new ↦ λ ch. h.by_name p u c there named (ap (λ (z : StoreCall). slice_get (chunks_of v) z.index) (sym new.1) ∙ ch)
+    | inl new ↦ λ ch. h.by_name p u c there named (λ z. unknown (subst (DownKnown ts) same z)) (ap (λ (z : StoreCall). slice_get (chunks_of v) z.index) (sym new.1) ∙ ch)
     | inr old ↦ λ ch. let f = was_under st.under x k w old in elim (send_two us more w.xid sent) [
       | inl was ↦ h.up f.0 w c f.1 was ch
       | inr now ↦ let lt = below f.0 w f.1 in absurd (only w.xid lt now)
@@ -185,15 +234,19 @@ note_there [] k lt = absurd (omega (arith, lt))
 note_there (u ∷ us) zero lt = (u, refl)
 note_there (u ∷ us) (suc k) lt = note_there us k (omega (arith, lt))
 
-pub holds_named : (v : List ℕ) (us asks : List Ask) (st : Store) (ps : List (ℕ × List ℕ)) (next y : ℕ) (notes : List StoreCall) → Named st.temp st.chunks next st.named notes asks y → ((k : ℕ) (w : StoreCall) → slice_get st.under k ≡ Some w → w.index < st.named)
-    → Holds v us st ps → Holds v (us ++ asks) (record st { named = st.named + length notes; under = st.under ++ notes }) ps
-holds_named v us asks st ps next y notes s inside h = record {
+pub holds_named : (v : List ℕ) (us asks : List Ask) (ts : List Told) (st : Store) (ps : List (ℕ × List ℕ)) (next y : ℕ) (notes : List StoreCall) → Named st.temp st.chunks next st.named notes asks y → ((k : ℕ) (w : StoreCall) → slice_get st.under k ≡ Some w → w.index < st.named) → ((z : ℕ) → DownKnown ts z → z < next)
+    → Holds v us ts st ps → Holds v (us ++ asks) ts (record st { named = st.named + length notes; under = st.under ++ notes }) ps
+holds_named v us asks ts st ps next y notes s inside below h = record {
   has = h.has;
   pieces_is = h.pieces_is;
   later = λ i c at le. h.later i c at (omega (arith, le));
   done = λ i c at lt free. done i c at lt free (nat_lt i st.named) refl;
-  by_name = λ k w c at by_name ch. elim (of_calls st.under notes k w at) [
-    | inl old ↦ h.by_name old.0 w c old.1 by_name ch
+  known = λ k w c at by_name z ch. elim (of_calls st.under notes k w at) [
+    | inl old ↦ h.known old.0 w c old.1 by_name z ch
+    | inr new ↦ let lt = below w.xid z in let i = ap (λ (q : StoreCall). q.xid) (note_is st.temp st.chunks next st.named notes asks y new.0 w s new.1) in absurd (omega (arith, lt, i))
+  ];
+  by_name = λ k w c at by_name unknown ch. elim (of_calls st.under notes k w at) [
+    | inl old ↦ h.by_name old.0 w c old.1 by_name unknown ch
     | inr new ↦ fresh new.0 w c new.1 ch
   ];
   up = λ k w c at sent ch. elim (of_calls st.under notes k w at) [
@@ -253,5 +306,5 @@ holds_named v us asks st ps next y notes s inside h = record {
 
 -- ---- all are stored
 
-pub holds_all : (v : List ℕ) (us : List Ask) (st : Store) (ps : List (ℕ × List ℕ)) → st.under ≡ [] → length (chunks_of v) ≤ st.named → Holds v us st ps → ps ≡ PiecesOf v (λ c. true) (chunks_of v)
-holds_all v us st ps none all h = h.pieces_is ∙ sym (pieces_agree v h.has (λ c. true) (chunks_of v) (λ k d at. sym (h.done k d at (let w = Rattle.kept_promise.proofs.Lists.within (chunks_of v) k d at in omega (arith, w, all)) (λ i u f. nothing_there u (ap (λ (l : List StoreCall). slice_get l i) (sym none) ∙ f)))))
+pub holds_all : (v : List ℕ) (us : List Ask) (ts : List Told) (st : Store) (ps : List (ℕ × List ℕ)) → st.under ≡ [] → length (chunks_of v) ≤ st.named → Holds v us ts st ps → SameShape ps (PiecesOf v (λ c. true) (chunks_of v))
+holds_all v us ts st ps none all h = subst (SameShape ps) (sym (pieces_agree v h.has (λ c. true) (chunks_of v) (λ k d at. sym (h.done k d at (let w = Rattle.kept_promise.proofs.Lists.within (chunks_of v) k d at in omega (arith, w, all)) (λ i u f. nothing_there u (ap (λ (l : List StoreCall). slice_get l i) (sym none) ∙ f)))))) h.pieces_is

@@ -1,15 +1,17 @@
 -- A temporary file fills with the chunks of its close: what the server finds of a call that is in order, and what is held once it is taken.
-use Rattle.std.proofs.Common.{◌⊎◌, inl, inr, ◌≡◌, ℕ, zero, suc, ◌+◌, ◌<◌, ◌≤◌, List, [], ◌∷◌, length, Option, Some, None, Bool, true, false, refl, sym, ap, ◌∙◌, subst, arith, eq-eqb, ne_eqb, IsSome, Ok}
+use Rattle.std.proofs.Common.{◌⊎◌, inl, inr, ◌≡◌, ℕ, zero, suc, ◌+◌, ◌<◌, ◌≤◌, List, [], ◌∷◌, ◌++◌, length, Option, Some, None, Bool, true, false, refl, sym, ap, ◌∙◌, subst, arith, eq-eqb, ne_eqb, IsSome, Ok}
 use Rattle.xdr_codec.specs.declared.status.Status.TheVariants as status
 use Rattle.server_core.specs.State as server
 use Rattle.server_core.specs.Closing.{cond_most}
 use Rattle.open_close.specs.declared.task.Way.TheVariants as way
-use Rattle.kept_promise.proofs.Common.{nat_tests, slice_get, ◌==◌, ◌||◌, nat_lt, nat_le, is_some, if◌then◌else◌, unwrap_or, insert_entry, nat_cmp, handle_bytes, Status, chunks_of, chunk_bytes, Chunk, file, node_of, cond_fault, room_fault, Temp, temp_at, temps_of, range_fault, File, Store, StoreCall, content_of, Book, Call.Send, Ask}
-use Rattle.kept_promise.proofs.Statements.{PiecesOf, AreInRow}
-use Rattle.kept_promise.proofs.Lists.{some_is, nothing_there, same_or_not}
-use Rattle.kept_promise.proofs.Chunks.{chunks_in_row, piece_goes_in}
+use Rattle.kept_promise.proofs.Common.{nat_tests, slice_get, ◌==◌, ◌||◌, nat_lt, nat_le, is_some, if◌then◌else◌, insert_entry, nat_cmp, handle_bytes, chunks_of, chunk_bytes, Chunk, file, node_of, cond_fault, room_fault, Temp, temp_at, temps_of, range_fault, File, Store, StoreCall, content_of, Book, Call.Name, Call.Send, Ask, Told}
+use Rattle.kept_promise.proofs.Statements.{PiecesOf, SameShape, AreInRow}
+use Rattle.kept_promise.proofs.Lists.{some_is, nothing_there, same_or_not, of_appended, at_end}
+use Rattle.kept_promise.proofs.Chunks.{chunks_in_row, chunks_are_named, piece_goes_in}
 use Rattle.kept_promise.proofs.Shelf.{IsShelf, NoTemp, none_counted}
-use Rattle.kept_promise.proofs.Orderly.{UpSend, Holds}
+use Rattle.kept_promise.proofs.Shelves.{fault_alike, put_alike}
+use Rattle.kept_promise.proofs.Orderly.{UpSend, known_reply, DownKnown, Holds}
+use Rattle.kept_promise.proofs.Ordered.{known_more}
 use Rattle.kept_promise.proofs.Facts.{FileIs, IsServer}
 use Rattle.kept_promise.proofs.Tells.{Found, is_root, is_gone, is_file, looked, not_some}
 
@@ -75,34 +77,35 @@ chunk_else v has i k c d a b apart = ap (λ t. t || has d) (ne_eqb d.start c.sta
 pub chunk_goes : (v : List ℕ) (has : Chunk → Bool) (i : ℕ) (c : Chunk) → length v ≤ 67108864 → slice_get (chunks_of v) i ≡ Some c → has c ≡ false → (range_fault (PiecesOf v has (chunks_of v)) c.start c.len ≡ None) × (insert_entry nat_cmp (PiecesOf v has (chunks_of v)) c.start (chunk_bytes v c) ≡ PiecesOf v (with_chunk has c) (chunks_of v))
 chunk_goes v has i c short at none = piece_goes_in v has (with_chunk has c) i c short at none (chunk_here has c) (λ k d b apart. chunk_else v has i k c d at b apart)
 
--- a chunk that is not held is not known
-pub name_unknown : (v : List ℕ) (has : Chunk → Bool) (i : ℕ) (c : Chunk) (t : Temp) (m : ℕ) → length v ≤ 67108864 → slice_get (chunks_of v) i ≡ Some c → has c ≡ false → t.pieces ≡ PiecesOf v has (chunks_of v) → cond_fault (record { fd = m; offset = c.start; count = c.len; digest = c.digest }) (Some t) ≡ status.HashNotFound
-name_unknown v has i c t m short at none is =
+-- the name of a chunk that is not held is not refused
+pub name_free : (v : List ℕ) (has : Chunk → Bool) (i : ℕ) (c : Chunk) (t : Temp) (m : ℕ) → length v ≤ 67108864 → slice_get (chunks_of v) i ≡ Some c → has c ≡ false → SameShape t.pieces (PiecesOf v has (chunks_of v)) → cond_fault (record { fd = m; offset = c.start; count = c.len; digest = c.digest }) (Some t) ≡ None
+name_free v has i c t m short at none is =
     let s = chunk_sizes v i c at in
     let pos = s.0 in
     let most = s.1 in
     let a : (c.len == 0) ≡ false = ne_eqb c.len 0 (λ e. omega (arith, e, pos)) in
     let b : nat_lt 65536 c.len ≡ false = grind (arith, nat_tests, most) in
-    let d : range_fault t.pieces c.start c.len ≡ None = ap (λ (ps : List (ℕ × List ℕ)). range_fault ps c.start c.len) is ∙ (chunk_goes v has i c short at none).0 in
+    let d : range_fault t.pieces c.start c.len ≡ None = fault_alike t.pieces (PiecesOf v has (chunks_of v)) c.start c.len is ∙ (chunk_goes v has i c short at none).0 in
     let q : ((c.len == 0) || nat_lt cond_most c.len) ≡ false = rw (a, b) refl in
-    ap (λ (z : Bool). if z then status.Inval else unwrap_or (range_fault t.pieces c.start c.len) status.HashNotFound) q ∙ ap (λ (o : Option Status). unwrap_or o status.HashNotFound) d
+    ap (λ (z : Bool). if z then Some status.Inval else range_fault t.pieces c.start c.len) q ∙ d
 
 -- ---- what is held once its bytes were taken
 
-pub holds_taken : (v : List ℕ) (xid m s : ℕ) (b : List ℕ) (us : List Ask) (st : Store) (ps : List (ℕ × List ℕ)) (k : ℕ) (u : StoreCall) (c : Chunk) → length v ≤ 67108864 → slice_get st.under k ≡ Some u → u.xid ≡ xid → u.index < st.named → u.way ≡ way.Whole → slice_get (chunks_of v) u.index ≡ Some c
+pub holds_taken : (v : List ℕ) (xid m s : ℕ) (b : List ℕ) (us : List Ask) (ts : List Told) (st : Store) (ps : List (ℕ × List ℕ)) (k : ℕ) (u : StoreCall) (c : Chunk) → length v ≤ 67108864 → slice_get st.under k ≡ Some u → u.xid ≡ xid → u.index < st.named → u.way ≡ way.Whole → slice_get (chunks_of v) u.index ≡ Some c
     → ((i : ℕ) (w : StoreCall) → slice_get st.under i ≡ Some w → w.xid ≡ xid → i ≡ k)
-    → (UpSend us xid → ⊥) → Holds v (record { xid = xid; call = Send m s b } ∷ us) st ps → (range_fault ps c.start c.len ≡ None) × Holds v us st (insert_entry nat_cmp ps c.start (chunk_bytes v c))
-holds_taken v xid m s b us st ps k u c short at same inside whole chunk unique none h =
+    → (UpSend us xid → ⊥) → Holds v (record { xid = xid; call = Send m s b } ∷ us) ts st ps → (range_fault ps c.start c.len ≡ None) × Holds v us ts st (insert_entry nat_cmp ps c.start (chunk_bytes v c))
+holds_taken v xid m s b us ts st ps k u c short at same inside whole chunk unique none h =
     let a : Ask = record { xid = xid; call = Send m s b } in
     let up : UpSend (a ∷ us) u.xid = (0, m, s, b, ap (λ (z : ℕ). Some (record { xid = z; call = Send m s b })) (sym same)) in
     let goes = chunk_goes v h.has u.index c short chunk (h.up k u c at up chunk) in (
-      ap (λ (l : List (ℕ × List ℕ)). range_fault l c.start c.len) h.pieces_is ∙ goes.0,
+      fault_alike ps (PiecesOf v h.has (chunks_of v)) c.start c.len h.pieces_is ∙ goes.0,
       record {
         has = with_chunk h.has c;
-        pieces_is = ap (λ (l : List (ℕ × List ℕ)). insert_entry nat_cmp l c.start (chunk_bytes v c)) h.pieces_is ∙ goes.1;
+        pieces_is = subst (SameShape (insert_entry nat_cmp ps c.start (chunk_bytes v c))) goes.1 (put_alike ps (PiecesOf v h.has (chunks_of v)) c.start (chunk_bytes v c) (chunk_bytes v c) refl h.pieces_is);
         later = λ i d is le. chunk_else v h.has u.index i c d chunk is (λ e. omega (arith, e, le, inside)) ∙ h.later i d is le;
         done = λ i d is lt free. chunk_else v h.has u.index i c d chunk is (λ e. free k u at (sym e)) ∙ h.done i d is lt free;
-        by_name = λ i w d is by_name ch. chunk_else v h.has u.index w.index c d chunk ch (λ e. ways u w (h.apart i k w u is at e) whole by_name) ∙ h.by_name i w d is by_name ch;
+        by_name = λ i w d is by_name unknown ch. chunk_else v h.has u.index w.index c d chunk ch (λ e. ways u w (h.apart i k w u is at e) whole by_name) ∙ h.by_name i w d is by_name unknown ch;
+        known = λ i w d is by_name z ch. chunk_else v h.has u.index w.index c d chunk ch (λ e. ways u w (h.apart i k w u is at e) whole by_name) ∙ h.known i w d is by_name z ch;
         up = λ i w d is sent ch. chunk_else v h.has u.index w.index c d chunk ch (λ e. none (subst (λ (z : ℕ). UpSend us z) (ap (λ (z : StoreCall). z.xid) (h.apart i k w u is at e) ∙ same) sent)) ∙ h.up i w d is (suc sent.0, sent.1, sent.2, sent.3, sent.4) ch;
         taken = λ i w d is by_way gone ch. by i w d is by_way gone ch (same_or_not w.index u.index);
         apart = h.apart;
@@ -128,3 +131,52 @@ holds_taken v xid m s b us st ps k u c short at same inside whole chunk unique n
             let x : xid ≡ w.xid = ap (λ (z : Ask). z.xid) (some_is (record { xid = xid; call = Send m s b }) _ e) in
             apart (ap (λ (z : StoreCall). z.index) (some_same i k w u is at (unique i w is (sym x))))
         still i w is apart gone (suc n, m2, s2, b2, e) = gone (n, m2, s2, b2, e)
+
+-- ---- what is held once its bytes were known
+
+pub holds_known : (v : List ℕ) (xid m : ℕ) (bytes : List ℕ) (us : List Ask) (ts : List Told) (st : Store) (ps : List (ℕ × List ℕ)) (k : ℕ) (u : StoreCall) (c : Chunk) → length v ≤ 67108864 → slice_get st.under k ≡ Some u → u.xid ≡ xid → u.index < st.named → u.way ≡ way.Named → slice_get (chunks_of v) u.index ≡ Some c
+    → ((i : ℕ) (w : StoreCall) → slice_get st.under i ≡ Some w → w.xid ≡ xid → i ≡ k) → length bytes ≡ c.len
+    → (UpSend us xid → ⊥) → (DownKnown ts xid → ⊥) → Holds v (record { xid = xid; call = Name m c } ∷ us) ts st ps → Holds v us (ts ++ record { xid = xid; reply = known_reply } ∷ []) st (insert_entry nat_cmp ps c.start bytes)
+holds_known v xid m bytes us ts st ps k u c short at same inside named chunk unique count none unknown h = record {
+  has = with_chunk h.has c;
+  pieces_is = subst (SameShape (insert_entry nat_cmp ps c.start bytes)) goes.1 (put_alike ps (PiecesOf v h.has (chunks_of v)) c.start bytes (chunk_bytes v c) (count ∙ sym (chunks_are_named v u.index c chunk).1) h.pieces_is);
+  later = λ i d is le. chunk_else v h.has u.index i c d chunk is (λ e. omega (arith, e, le, inside)) ∙ h.later i d is le;
+  done = λ i d is lt free. chunk_else v h.has u.index i c d chunk is (λ e. free k u at (sym e)) ∙ h.done i d is lt free;
+  by_name = λ i w d is by_name z ch. chunk_else v h.has u.index w.index c d chunk ch (λ e. z (subst (λ (x : ℕ). DownKnown (ts ++ t ∷ []) x) (sym (xid_of i w is e)) (length ts, at_end ts t))) ∙ h.by_name i w d is by_name (λ y. z (known_more ts (t ∷ []) w.xid y)) ch;
+  known = λ i w d is by_name z ch. elim (same_or_not w.index u.index) [
+    | inl e ↦ ap (with_chunk h.has c) (some_is d c (sym ch ∙ ap (slice_get (chunks_of v)) e ∙ chunk)) ∙ chunk_here h.has c
+    | inr apart ↦ chunk_else v h.has u.index w.index c d chunk ch apart ∙ h.known i w d is by_name (before i w is apart z) ch
+  ];
+  up = λ i w d is sent ch. chunk_else v h.has u.index w.index c d chunk ch (λ e. none (subst (λ (z : ℕ). UpSend us z) (xid_of i w is e) sent)) ∙ h.up i w d is (suc sent.0, sent.1, sent.2, sent.3, sent.4) ch;
+  taken = λ i w d is by_way gone ch. chunk_else v h.has u.index w.index c d chunk ch (λ e. ways (h.apart i k w u is at e) by_way) ∙ h.taken i w d is by_way (λ sent. still w gone sent) ch;
+  apart = h.apart;
+}
+  where
+    t : Told
+    t = record { xid = xid; reply = known_reply }
+
+    goes : (range_fault (PiecesOf v h.has (chunks_of v)) c.start c.len ≡ None) × (insert_entry nat_cmp (PiecesOf v h.has (chunks_of v)) c.start (chunk_bytes v c) ≡ PiecesOf v (with_chunk h.has c) (chunks_of v))
+    goes = chunk_goes v h.has u.index c short chunk (h.by_name k u c at named (λ z. unknown (subst (λ (x : ℕ). DownKnown ts x) same z)) chunk)
+
+    xid_of : (i : ℕ) (w : StoreCall) → slice_get st.under i ≡ Some w → w.index ≡ u.index → w.xid ≡ xid
+    xid_of i w is e = ap (λ (z : StoreCall). z.xid) (h.apart i k w u is at e) ∙ same
+
+    -- another name was known before
+    before : (i : ℕ) (w : StoreCall) → slice_get st.under i ≡ Some w → (w.index ≡ u.index → ⊥) → DownKnown (ts ++ t ∷ []) w.xid → DownKnown ts w.xid
+    before i w is apart z = elim (of_appended ts t z.0 (record { xid = w.xid; reply = known_reply }) z.1) [
+      | inl last ↦ absurd (apart (ap (λ (y : StoreCall). y.index) (some_is w u (sym is ∙ ap (slice_get st.under) (unique i w is (ap (λ (y : Told). y.xid) last.1)) ∙ at))))
+      | inr was ↦ (z.0, was)
+    ]
+
+    ways : {w : StoreCall} → w ≡ u → w.way ≡ way.Whole → ⊥
+    ways e f = not_named (sym f ∙ ap (λ (z : StoreCall). z.way) e ∙ named)
+      where
+        not_named : way.Whole ≡ way.Named → ⊥
+        not_named e = absurd cc
+
+    still : (w : StoreCall) → (UpSend us w.xid → ⊥) → UpSend (record { xid = xid; call = Name m c } ∷ us) w.xid → ⊥
+    still w gone (zero, m2, s2, b2, e) = not_sent (ap (λ (z : Ask). z.call) (some_is (record { xid = xid; call = Name m c }) _ e))
+      where
+        not_sent : Name m c ≡ Send m2 s2 b2 → ⊥
+        not_sent e = absurd cc
+    still w gone (suc n, m2, s2, b2, e) = gone (n, m2, s2, b2, e)

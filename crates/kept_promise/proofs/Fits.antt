@@ -2,11 +2,12 @@
 use Rattle.std.proofs.Common.{◌≡◌, Ok}
 use Rattle.wire.specs.Message.{IsSpelled}
 use Rattle.kept_promise.proofs.Common.{message_spell, parse_of, IsExpected, Message, Waiting}
-use Rattle.kept_promise.proofs.Statements.{CallsFit, HashAnswersFit, ReadAnswersFit, PlainAnswersFit}
+use Rattle.kept_promise.proofs.Statements.{CallsFit, HashAnswersFit, LeaseAnswersFit, ReadAnswersFit, PlainAnswersFit}
 
 pub record FitLaws : Type 0 where
   pub calls : CallsFit
   pub hashes : HashAnswersFit
+  pub leases : LeaseAnswersFit
   pub reads : ReadAnswersFit
   pub plain : PlainAnswersFit
   pub again : (w : Waiting) (m : Message) → IsSpelled m → IsExpected w m → parse_of w (message_spell m) ≡ Ok m

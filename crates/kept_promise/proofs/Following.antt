@@ -7,12 +7,13 @@ use Rattle.open_close.specs.declared.step.Outcome.TheVariants as outcome
 use Rattle.register_model.specs.declared.op.Word.TheVariants as words
 use Rattle.trace_replay.specs.Core.{hears_by}
 use Rattle.open_close.specs.Opening.{calls_most}
-use Rattle.kept_promise.proofs.Common.{nat_tests, slice_get, slice_set, ◌==◌, nat_lt, Command, parse_of, Message, WireFault, connect, has_room, Change, ServerStep, File, command_step, got_step, joined, cut, ended_by, ClientStep, Ended, Task, Op, Opening, word_of, file_of, value_at_begin, Core, Seat, new_seat, Session, Event, Event.Joins, Event.Does, Event.Serves, Event.Hears, Event.Settles, Event.Cuts, Event.Hangs, CoreStep, numbered, with_numbered, server_waiting, serves_if, serves, acted, is_newest, hears_if, hears_at, hears, does, joins_as, joins, settled_ops, settled_by, cuts_if, cuts, hangs_if, hangs, happens, pointed, pointed_at, place_with, Moment, Deed, deed_by, deeds_of, joined_by, joined_from, owner_in, client_of, calls_among, sent_if, calls_by, calls_from, Book, Queue}
+use Rattle.kept_promise.proofs.Common.{nat_tests, Indexed, slice_get, slice_set, ◌==◌, nat_lt, Command, parse_of, Message, WireFault, connect, has_room, Change, ServerStep, File, command_step, got_step, joined, cut, ended_by, ClientStep, Ended, Task, Op, Opening, word_of, file_of, value_at_begin, Core, Seat, new_seat, Session, Event, Event.Joins, Event.Does, Event.Serves, Event.Hears, Event.Settles, Event.Cuts, Event.Hangs, CoreStep, numbered, with_numbered, server_waiting, serves_if, serves, acted, is_newest, hears_if, hears_at, hears, does, joins_as, joins, settled_ops, settled_by, cuts_if, cuts, hangs_if, hangs, happens, pointed, pointed_at, place_with, Moment, Deed, deed_by, deeds_of, joined_by, joined_from, owner_in, client_of, calls_among, sent_if, calls_by, calls_from, Book, Queue}
 use Rattle.kept_promise.proofs.Lists.{some_is, nothing_there, same_or_not, of_appended}
 use Rattle.kept_promise.proofs.Keys.{own}
 use Rattle.kept_promise.proofs.Rights.{IsUnmade}
 use Rattle.kept_promise.proofs.Turns.{around_with, also_numbered}
 use Rattle.kept_promise.proofs.Facts.{IsKept}
+use Rattle.kept_promise.proofs.Adjusts.{SameSeats, adjusted_core}
 use Rattle.kept_promise.proofs.RunsCarried.{book_at, first_core, moment, Step, Carried}
 use Rattle.kept_promise.proofs.Leaving.{Leaves, step_left, step_idle}
 use Rattle.kept_promise.proofs.Numbering.{got_number, command_number, calls_more, no_calls, other_calls, own_calls}
@@ -449,8 +450,19 @@ goes all past rest opening k qs (Cuts c) mid after s h = by (numbered k.seats c)
     by (Some seat) e left = goes_cuts past opening all k qs after c seat s.kept h (s.finds.1 ∙ sym e) seat.client.linked refl left
 goes all past rest opening k qs (Hangs n) mid after s h = goes_hangs past k n h
 
+-- it looks at no index, and at nothing that is kept
+pub followed_adjusted : (past : List Moment) (k : Core) (index : Indexed) (seats : List Seat) → SameSeats k.seats seats → IsFollowed past k → IsFollowed past (adjusted_core k index seats)
+followed_adjusted past k index seats same h = record {
+  deeds = record { count = h.deeds.count; rising = h.deeds.rising; each = h.deeds.each; locals = λ c e at f. let w = same.was c e at in ap (λ (z : Seat). local_of z.client f) w.4 ∙ h.deeds.locals c w.0 w.3 f };
+  joined = λ c e at. let w = same.was c e at in ap (λ (z : Seat). z.client.linked) w.4 ∙ h.joined c w.0 w.3;
+  next = λ c e at. let w = same.was c e at in subst (λ (z : Seat). z.client.next ≤ calls_most * k.steps + 1) (sym w.4) (h.next c w.0 w.3);
+  calls = λ c e at. let w = same.was c e at in ap (λ (z : Seat). z.client.next) w.4 ∙ h.calls c w.0 w.3;
+  few = h.few;
+}
+
 pub carried_deeds : Carried (λ all past opening k qs. IsFollowed past k)
 carried_deeds = record {
   first = λ all opening files changes count kept. followed_first files changes count;
   steps = λ all past rest opening k qs e mid after s h. (goes all past rest opening k qs e mid after s h).followed;
+  adjusts = λ all past opening k qs index seats same h. followed_adjusted past k index seats same h;
 }

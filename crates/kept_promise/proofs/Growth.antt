@@ -1,11 +1,13 @@
 -- How a history grows in a step, and what stays true of operations then.
-use Rattle.std.proofs.Common.{IsSome, ◌⊎◌, inl, inr, ◌≡◌, ℕ, zero, suc, ◌+◌, ◌<◌, ◌≤◌, List, length, Option, Some, refl, sym, ap, ◌∙◌, subst, arith}
+use Rattle.std.proofs.Common.{IsSome, ◌⊎◌, inl, inr, ◌≡◌, ℕ, zero, suc, ◌+◌, ◌<◌, ◌≤◌, List, length, Option, Some, Bool, true, false, refl, sym, ap, ◌∙◌, subst, arith}
+use Rattle.std.proofs.lemmas.Slice.Eq.{bytes_eq-Decides}
 use Rattle.register_model.specs.declared.op.Outcome.{Outcome}
 use Rattle.register_model.specs.declared.op.Outcome.TheVariants as told
 use Rattle.register_model.specs.declared.op.Word.TheVariants as words
-use Rattle.kept_promise.proofs.Common.{slice_get, Contains, sha1, Entry, Value, content_of, Op, Opening, Word, Moment, hashed_of, Book, Or, Collides, history, value_at, version_at, Tried, IsEntered}
+use Rattle.kept_promise.proofs.Common.{slice_get, bytes_eq, Contains, sha1, Entry, File, Value, content_of, Op, Opening, Word, Moment, hashed_of, Book, Or, Collides, history, value_at, version_at, Tried, IsEntered}
+use Rattle.kept_promise.proofs.Lists.{false_and_true}
 use Rattle.kept_promise.proofs.Marks.{Mark, marks, latest_mark, left_by, value_is, count_is}
-use Rattle.kept_promise.proofs.Rights.{Caused, RefusedBy, IsRight, IsUnmade, IsMade}
+use Rattle.kept_promise.proofs.Rights.{Caused, RefusedBy, IsRight, IsUnmade, IsMade, IsHeld}
 
 -- what becomes of an operation; at most one is made, and at most one ends
 pub record Follows (book : Book) (made ended : Option ℕ) (k : ℕ) (o r : Op) : Type 0 where
@@ -77,10 +79,22 @@ or_both book P Q R f (inl p) (inl q) = inl (f p q)
 or_both book P Q R f (inl p) (inr c) = inr c
 or_both book P Q R f (inr c) q = inr c
 
+-- two that were hashed and share a digest are the same, or collide
+pub bytes_or : (book : Book) (a b : List ℕ) → Contains (hashed_of book.moments) a → Contains (hashed_of book.moments) b → sha1 a ≡ sha1 b → Or book (a ≡ b)
+bytes_or book a b first second same = by (bytes_eq a b) refl
+  where
+    by : (t : Bool) → bytes_eq a b ≡ t → Or book (a ≡ b)
+    by true e = inl ((bytes_eq-Decides a b).0 e)
+    by false e = inr (record { a = a; b = b; first = first; second = second; same = same; apart = λ s. false_and_true (bytes_eq a b) e ((bytes_eq-Decides a b).1 s) })
+
+-- what the server had
+pub held_later : (book more : Book) (made ended : Option ℕ) (f : ℕ) (d : File) → Grows book more made ended → IsHeld book.moments f d → IsHeld more.moments f d
+held_later book more made ended f d g h = record { at = h.at; there = g.happened h.at h.there; held = h.held }
+
 -- ---- an operation
 
 pub entered_later : (book more : Book) (made ended : Option ℕ) (f p v len : ℕ) (digest : List ℕ) → Grows book more made ended → IsEntered book f p v len digest → IsEntered more f p v len digest
-entered_later book more made ended f p v len digest g h = record { place = h.place; entry = h.entry; step_is = g.steps_kept h.place p h.step_is; entry_is = g.journal_kept h.place h.entry h.entry_is; file_is = h.file_is; version_is = h.version_is; len_is = h.len_is; digest_is = h.digest_is }
+entered_later book more made ended f p v len digest g h = record { place = h.place; entry = h.entry; step_is = g.steps_kept h.place p h.step_is; entry_is = g.journal_kept h.place h.entry h.entry_is; file_is = h.file_is; version_is = h.version_is; len_is = h.len_is; digest_is = or_later book more made ended _ _ g (λ e. e) h.digest_is }
 
 -- attempts stay so where versions do
 pub tried_moves : (book more : Book) (f b n p limit : ℕ) → ((q : ℕ) → q ≤ limit → version_at more f q ≡ version_at book f q) → p ≤ limit → Tried book f b n p → Tried more f b n p
@@ -99,7 +113,7 @@ tried_wider book f b (suc n) p q le h = let at = h.4 in (h.0, h.1, h.2, h.3, ome
 
 refused_later : (book more : Book) (made ended : Option ℕ) (o : Op) (w : Word) (s : ℕ) → Grows book more made ended → ((p : ℕ) → o.point ≡ Some p → p ≤ book.steps) → RefusedBy book o w s → RefusedBy more o w s
 refused_later book more made ended o words.Open s g past (inl h) = inl h
-refused_later book more made ended o words.Open s g past (inr h) = inr (h.0, ap (λ (l : List Opening). content_of l o.file) g.opening ∙ h.1, (h.2.0, h.2.1, value_later book more made ended o.file h.2.0 g (let le = past h.2.0 h.2.1.0 in omega (arith, le)) ∙ h.2.2))
+refused_later book more made ended o words.Open s g past (inr h) = inr (h.0, h.1, ap (λ (l : List Opening). content_of l o.file) g.opening ∙ h.2, (h.3.0, h.3.1, value_later book more made ended o.file h.3.0 g (let le = past h.3.0 h.3.1.0 in omega (arith, le)) ∙ h.3.2))
 refused_later book more made ended o words.Close s g past h = record { status_is = h.status_is; pointless = h.pointless; end = h.end; end_is = h.end_is; moment = h.moment; there = g.happened h.moment h.there; session = h.session; now = h.now; bytes = h.bytes; event_is = h.event_is; owner = h.owner; xid = h.xid; call = h.call; parsed = h.parsed; size = h.size; after = h.after; before = h.before; full = h.full }
 refused_later book more made ended o _ s g past h = h
 
@@ -161,6 +175,7 @@ made_later book more made ended place v g h =
     let r = g.each place h.0 h.2 in
     let le = h.5 in
     let n = g.passes in
+    let q = h.7.1 in
     let same : r.0.value ≡ h.0.value = r.2.value h.3 in (
       r.0,
       h.1,
@@ -169,4 +184,5 @@ made_later book more made ended place v g h =
       r.2.point h.3 h.1 h.4,
       omega (arith, le, n),
       subst (λ (x : List ℕ). IsEntered more r.0.file h.1 v (length x) (sha1 x)) (sym same) (subst (λ (f : ℕ). IsEntered more f h.1 v (length h.0.value) (sha1 h.0.value)) (sym r.2.file) (entered_later book more made ended h.0.file h.1 v (length h.0.value) (sha1 h.0.value) g h.6)),
+      (h.7.0, omega (arith, q, n), ap (λ (f : ℕ). version_at more f h.7.0) r.2.file ∙ version_later book more made ended h.0.file h.7.0 g h.7.1 ∙ h.7.2, ap (λ (f : ℕ). value_at more f h.7.0) r.2.file ∙ value_later book more made ended h.0.file h.7.0 g h.7.1 ∙ h.7.3 ∙ ap (λ (x : List ℕ). Some x) (sym same)),
     )

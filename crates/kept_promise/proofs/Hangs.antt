@@ -159,7 +159,7 @@ hung_now book k qs n x q kept at is unhung =
       seat_around = around_same k.seats x.owner c h.owner;
       owner = refl;
       goes = goes_same book 1 kept.sound;
-      server = server_hung book k.server n kept.server (λ f. file_still book more f (server.file_at k.server.files f) (still_same book 1 kept.sound) refl (kept.server.held f));
+      server = server_hung book k.server n kept.server (λ f. file_still book more None None f (server.file_at k.server.files f) g (still_same book 1 kept.sound) (kept.server.held f));
       sessions_made = refl;
       view = λ o apart. record { stands_is = stands_else o n apart k.server.sessions; waiting = own_else o n apart k.server.waiting; temps = λ i m e lt f g. was_there (λ z. not (z.1.session == n)) k.server.temps i e f; found = λ m lt. else_left k.server.temps n o m apart lt kept.shelf.1 };
       elsewhere = inl refl;

@@ -47,16 +47,17 @@ hash_ask xid file offset = record { xid = xid; call = Hash file offset }
 
 -- a GETHASH goes out
 pub goes_hash : (book : Book) (k : Core) (qs : List Queue) (n : ℕ) (x : Session) (q : Queue) (t : Told) (ts : List Told) (j : Job) (g : Here book k qs n x q t ts j) (s : Stage) (offset : ℕ) (forgotten : List Pending) → (let c = client_at book k qs n x q t ts j g in
-    Quiet k n q → stage_word s ≡ stage_word j.stage → ((y : ℕ) → hash_offset s y ≡ cond (c.next == y) (Some offset) None) → ((y : ℕ) → s ≡ stage.Committing y → ⊥) → ((f : Fetch) → s ≡ stage.Reading f → ⊥) → client.pending_in s ≡ client.lb_pending lb_proc.GetHash c.next
+    Quiet k n q → stage_word s ≡ stage_word j.stage → ((y : ℕ) → hash_offset s y ≡ cond (c.next == y) (Some offset) None) → ((y : ℕ) → s ≡ stage.Committing y → ⊥) → ((y : ℕ) → s ≡ stage.Asking y → ⊥) → ((f : Fetch) → s ≡ stage.Reading f → ⊥) → client.pending_in s ≡ client.lb_pending lb_proc.GetHash c.next
     → Moves (client.calls_of c) (client.pending_in s ++ forgotten) t (hash_ask c.next j.file offset ∷ []) → j.file < 18446744073709551616 → offset ≤ 67108864 → FetchOf book x.taken (on j s) s
     → CloseOf book x.closing (session_at book k qs n x q t ts j g).contents c.next_temp (on j s) (client.local_bytes c.opened j.file) s
     → ((m y : ℕ) → s ≡ stage.Hashing m y → Trying book (on j s) m) → HasXids (c.next + 1) s → c.next + 1 ≤ 4294967296 → stage_word j.stage ≡ words.Open → GoesOn book k qs n x q t ts j g s (c.next + 1) forgotten (hash_ask c.next j.file offset ∷ []))
-goes_hash book k qs n x q t ts j g s offset forgotten quiet word waits uncommitting unreading pends moves small le fetch closes trying xids bound opens =
+goes_hash book k qs n x q t ts j g s offset forgotten quiet word waits uncommitting unasking unreading pends moves small le fetch closes trying xids bound opens =
     let c = client_at book k qs n x q t ts j g in
     record {
       quiet = quiet;
       word = word;
       again = record {
+        lease = λ y lt e. unasking y e;
         hash = λ y o lt e. apart_call c.next y offset o lt (sym (waits y) ∙ e);
         commit = λ y lt e. uncommitting y e;
         read = λ y d f lt e at. absurd (unreading f e);
@@ -156,9 +157,12 @@ comes_changed book k qs n x q t ts j g f last version bytes fact word quiet lt l
       to = s;
       next = c.next + 1;
       forgotten = forgotten;
+      cache = c.cache;
+      index = c.index;
       asks = hash_ask c.next j.file 0 ∷ [];
-      shows = goes_hash book k qs n x q t ts j g s 0 forgotten quiet (sym word) (λ y. refl) (λ y e. absurd cc) (λ f e. absurd cc) refl moves small (omega arith) tt tt
+      shows = goes_hash book k qs n x q t ts j g s 0 forgotten quiet (sym word) (λ y. refl) (λ y e. absurd cc) (λ y e. absurd cc) (λ f e. absurd cc) refl moves small (omega arith) tt tt
           (λ m y e. subst (λ v. Trying book (on j s) v) (ap tries_of e) (tried_again book x.taken j s f last fact lt le (λ same. apart (sym is ∙ same)))) (xids (grind (arith, nat_tests, less))) (let b = left.2 in let z = left.0 in omega (arith, b)) word;
+      cached = (g.kept.seats x.owner h.seat h.owner).kept;
       state_is = refl;
       send_is = refl;
       ended_is = refl;
@@ -169,6 +173,8 @@ comes_changed book k qs n x q t ts j g f last version bytes fact word quiet lt l
       made = None;
       opened = c.opened;
       forgotten = forgotten;
+      cache = c.cache;
+      index = c.index;
       shows = stops_open book k qs n x q t ts j g tr of.op.point (told.Changed f.version version) of.op.value c.opened quiet word refl (λ m e. inl e) (λ more grows steps. (
         w,
         record {
@@ -184,6 +190,7 @@ comes_changed book k qs n x q t ts j g f last version bytes fact word quiet lt l
           apart = λ e. apart (sym e);
         },
       )) (g.kept.seats x.owner h.seat h.owner).opened;
+      cached = inl (g.kept.seats x.owner h.seat h.owner).kept;
       state_is = refl;
       send_is = refl;
       ended_is = refl;

@@ -2,7 +2,7 @@
 use Rattle.std.proofs.Common.{inl, inr, ◌≡◌, ℕ, zero, suc, ◌+◌, ◌<◌, ◌≤◌, List, [], ◌∷◌, ◌++◌, length, Option, Some, Bool, true, false, refl, sym, ap, ◌∙◌, subst, arith, eqb-true, ne_eqb, map}
 use Rattle.open_close.specs.State as client
 use Rattle.register_model.specs.declared.op.Outcome.TheVariants as told
-use Rattle.kept_promise.proofs.Common.{nat_tests, slice_get, cond, ◌==◌, nat_le, MessageFits, Pending, Change, Op, Core, Seat, Session, numbered, unless, Book, Call, Call.Commit, Ask, Told, Queue, told_message, call_program, reply_program}
+use Rattle.kept_promise.proofs.Common.{nat_tests, slice_get, cond, ◌==◌, nat_le, MessageFits, Pending, Change, Op, Core, Seat, Session, numbered, unless, hashed_of, Book, Call, Call.Commit, Ask, Told, Queue, told_message, call_program, reply_program}
 use Rattle.kept_promise.proofs.Statements.{CallFits}
 use Rattle.kept_promise.proofs.Keys.{times, times_append, own, on_way, change_key, ask_key, told_key, pending_key, IsOurs, call_ours, found_by, there_by, key_code}
 use Rattle.kept_promise.proofs.Messages.{Job, job, job_of, AllAsks, AllTolds, Rising, IsAsked, IsAnswer, HasFetch, IsCommit, IsPiece, IsPending, TempUnder, CloseOf}
@@ -67,7 +67,7 @@ pub record Hearing (book : Book) (ops : List Op) (k : Core) (n : ℕ) (x : Sessi
   pub asked : AllAsks (IsAsked (job_of place c.task)) asks
   pub fits : AllAsks (λ a. CallFits a.xid a.call) asks
   pub commits : AllAsks (IsCommit (onward book 1 ops) x.closing x.cut (job_of place c.task) h.contents) asks
-  pub pieces : AllAsks (IsPiece h.contents) asks
+  pub pieces : AllAsks (IsPiece (hashed_of book.moments) h.contents) asks
   pub under : AllAsks (λ a. TempUnder c.next_temp a.call) asks
   pub few : commits_in q.ups + commits_in asks + length (own n k.server.waiting) ≤ 1
   -- the client
@@ -180,7 +180,7 @@ kept_heard book ops k qs n x q t ts c place asks made ended seats after kept at 
       seat_around = around;
       owner = refl;
       goes = shows.goes;
-      server = server_still book more k.server k.server.moment k.server.temps shows.still refl kept.server;
+      server = server_still book more made ended k.server k.server.moment k.server.temps k.server.index shows.goes.grows shows.still kept.server;
       sessions_made = refl;
       view = λ m apart. same_view m k.server;
       elsewhere = inr (h.here uncut).0;
@@ -211,7 +211,7 @@ kept_heard book ops k qs n x q t ts c place asks made ended seats after kept at 
         contents = h.contents;
         lengths = h.lengths;
         commits = asks_unless (IsCommit more x.closing x.cut (job_of place c.task) h.contents) x.hung q.ups asks shows.old_commits shows.commits;
-        pieces = asks_unless (IsPiece h.contents) x.hung q.ups asks h.pieces shows.pieces;
+        pieces = asks_unless (IsPiece (hashed_of book.moments) h.contents) x.hung q.ups asks h.pieces shows.pieces;
         temps = h.temps;
         temps_below = λ u. let f = h.temps_below uncut in (asks_unless (λ a. TempUnder c.next_temp a.call) x.hung q.ups asks (subst (λ (z : ℕ). AllAsks (λ a. TempUnder z a.call) q.ups) (sym shows.numbers) f.0) shows.under, λ i m w lt b key. subst (λ (z : ℕ). m < z) (sym shows.numbers) (f.1 i m w lt b key));
         closes = λ u j f. shows.closes j f;

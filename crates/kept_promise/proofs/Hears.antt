@@ -1,10 +1,11 @@
 -- A client hears the first answer on its way: it is read as itself, and is either waited for or forgotten.
 use Rattle.std.proofs.Common.{inl, inr, ◌≡◌, ℕ, List, [], ◌∷◌, ◌++◌, length, Option, Some, None, Bool, true, false, refl, sym, ap, ◌∙◌, subst, arith, eq-eqb, map, Result, Ok}
 use Rattle.open_close.specs.State as client
-use Rattle.open_close.specs.Hashed.{client_hashed, message_compared, answer_compared, took_compared, compared_at, compared, compared_if, task_named}
+use Rattle.open_close.specs.Hashed.{client_hashed, message_compared, answer_compared, took_compared, compared_at, compared, compared_if, task_named, named as parts_named}
+use Rattle.open_close.specs.Looking.{reading_by, with_file, reading_if, reading, looked_by}
 use Rattle.open_close.specs.declared.task.Stage.TheVariants as stage
 use Rattle.trace_replay.specs.Trail.{heard_hashed}
-use Rattle.kept_promise.proofs.Common.{Contains-append_left, Contains-push, slice_get, Contains, Chunk, Done, Piece, MessageFits, message_spell, parse_of, Message, Pending, WireFault, has_call, got_step, took_if, drops, took, idle, ClientStep, Fetch, ReadCall, Stage, Task, read_at, Core, Seat, Session, Event.Hears, CoreStep, numbered, is_newest, hears_if, hears_at, hears, acted, happens, owner_in, hashed_by, Book, Reply, Reply.Bytes, Told, Queue, reply_body, told_message}
+use Rattle.kept_promise.proofs.Common.{Contains-append_left, Contains-append_right, Contains-push, looked_up, slice_get, Contains, Chunk, Done, Piece, MessageFits, message_spell, parse_of, Message, Pending, WireFault, has_call, got_step, took_if, drops, took, idle, ClientStep, Fetch, ReadCall, Stage, Task, read_at, Core, Seat, Session, Event.Hears, CoreStep, numbered, is_newest, hears_if, hears_at, hears, acted, happens, owner_in, hashed_by, hashed_of, Book, Reply, Reply.Bytes, Told, Queue, reply_body, told_message}
 use Rattle.kept_promise.proofs.Lists.{some_is, nothing_there, false_and_true}
 use Rattle.kept_promise.proofs.Keys.{times}
 use Rattle.kept_promise.proofs.Messages.{Job, AllTolds}
@@ -16,6 +17,8 @@ use Rattle.kept_promise.proofs.Heard.{told_pending}
 use Rattle.kept_promise.proofs.Moves.{expected}
 use Rattle.kept_promise.proofs.Steps.{Here, session_at}
 use Rattle.kept_promise.proofs.CloseSteps.{task_is, calls_are}
+use Rattle.kept_promise.proofs.Caches.{found_noted}
+use Rattle.kept_promise.proofs.Listings.{Looked, reads_at}
 use Rattle.kept_promise.proofs.Takings.{Noted, own_of, comes_taken}
 use Rattle.kept_promise.proofs.Acted.{rest_down, leads_comes}
 use Rattle.kept_promise.proofs.Drops.{has_there, forgotten_there, leads_drops}
@@ -44,7 +47,8 @@ hashed_is k n now x seat t at owner read =
 bytes_hashed : (s : client.State) (now : ℕ) (t : Told) (file : ℕ) (f : Fetch) (p : Piece) (r : ReadCall) (c : Chunk) → s.task ≡ Some (record { file = file; stage = stage.Reading f }) → has_call (client.pending_in (stage.Reading f)) t.xid ≡ true → t.reply ≡ Bytes (Done p) → read_at f.under t.xid ≡ Some r → slice_get f.chunks r.index ≡ Some c → length p.bytes ≡ c.len
     → Contains (client_hashed s (Ok (told_message t)) now) p.bytes
 bytes_hashed s now t file f p r c task own reply under chunk len =
-    let later = task_named s s.task (got_step s (Ok (told_message t)) now).1.send in
+    let found = looked_by s (reading s.task (told_message t)) in
+    let named : List (List ℕ) = task_named s s.task (got_step s (Ok (told_message t)) now).1.send in
     let one : message_compared s.task (told_message t) ≡ p.bytes ∷ [] =
     ap (λ (o : Option Task). message_compared o (told_message t)) task
     ∙ ap (answer_compared (record { file = file; stage = stage.Reading f }) t.xid (reply_body t.reply)) own
@@ -52,7 +56,25 @@ bytes_hashed s now t file f p r c task own reply under chunk len =
     ∙ ap (λ (o : Option ReadCall). compared_at f.chunks o p.bytes) under
     ∙ ap (λ (o : Option Chunk). compared o p.bytes) chunk
     ∙ ap (λ (b : Bool). compared_if b p.bytes) (eq-eqb (length p.bytes) c.len len) in
-    subst (λ (l : List (List ℕ)). Contains (l ++ later) p.bytes) (sym one) (Contains-append_left (p.bytes ∷ []) later p.bytes (Contains-push [] p.bytes))
+    subst (λ (l : List (List ℕ)). Contains ((l ++ found) ++ named) p.bytes) (sym one) (Contains-append_left ((p.bytes ∷ []) ++ found) named p.bytes (Contains-append_left (p.bytes ∷ []) found p.bytes (Contains-push [] p.bytes)))
+
+-- what an answer to a call of the operation under way makes
+heard_step : (s : client.State) (now : ℕ) (t : Told) (file : ℕ) (st : Stage) → s.task ≡ Some (record { file = file; stage = st }) → has_call (client.pending_in st) t.xid ≡ true → got_step s (Ok (told_message t)) now ≡ took (idle s) (client.calls_of s) file st t.xid (reply_body t.reply)
+heard_step s now t file st task own = ap (λ (o : Option Task). took_if s o t.xid (reply_body t.reply) (has_call (client.pending o) t.xid)) task ∙ ap (took_if s (Some (record { file = file; stage = st })) t.xid (reply_body t.reply)) own
+
+-- what is found by the index is hashed, and what is named
+found_hashed : (s : client.State) (now : ℕ) (t : Told) (file : ℕ) (st : Stage) (u : Fetch) → s.task ≡ Some (record { file = file; stage = st }) → has_call (client.pending_in st) t.xid ≡ true → reading_by st t.xid (reply_body t.reply) ≡ Some u → Looked (client_hashed s (Ok (told_message t)) now) s file u
+found_hashed s now t file st u task own is i d b at there =
+    let seen : reading s.task (told_message t) ≡ Some (file, u) = ap (λ (o : Option Task). reading o (told_message t)) task ∙ ap (reading_if (record { file = file; stage = st }) t.xid (reply_body t.reply)) own ∙ ap (with_file file) is in
+    let found = subst (λ (o : Option (ℕ × Fetch)). Contains (looked_by s o) b) (sym seen) (found_noted s.cache s.index (looked_up u (reads_at s file u)) i d b at there) in
+    let named : List (List ℕ) = task_named s s.task (got_step s (Ok (told_message t)) now).1.send in
+    Contains-append_left (message_compared s.task (told_message t) ++ looked_by s (reading s.task (told_message t))) named b (Contains-append_right (message_compared s.task (told_message t)) (looked_by s (reading s.task (told_message t))) b found)
+
+named_hashed : (s : client.State) (now : ℕ) (t : Told) (file : ℕ) (st : Stage) → s.task ≡ Some (record { file = file; stage = st }) → has_call (client.pending_in st) t.xid ≡ true → (b : List ℕ) → Contains (parts_named (client.local_bytes s.opened file) (took (idle s) (client.calls_of s) file st t.xid (reply_body t.reply)).1.send) b → Contains (client_hashed s (Ok (told_message t)) now) b
+named_hashed s now t file st task own b h =
+    let sent = subst (λ (r : client.State × ClientStep). Contains (parts_named (client.local_bytes s.opened file) r.1.send) b) (sym (heard_step s now t file st task own)) h in
+    let named = subst (λ (o : Option Task). Contains (task_named s o (got_step s (Ok (told_message t)) now).1.send) b) (sym task) sent in
+    Contains-append_right (message_compared s.task (told_message t) ++ looked_by s (reading s.task (told_message t))) (task_named s s.task (got_step s (Ok (told_message t)) now).1.send) b named
 
 notes : (book : Book) (k : Core) (n now : ℕ) (x : Session) (seat : Seat) (t : Told) (file : ℕ) (f : Fetch) → IsNoted book k (Hears n now (bytes_of t)) → numbered k.sessions n ≡ Some x → numbered k.seats x.owner ≡ Some seat → parse_of (client.waiting_of seat.client) (bytes_of t) ≡ Ok (told_message t)
     → seat.client.task ≡ Some (record { file = file; stage = stage.Reading f }) → has_call (client.pending_in (stage.Reading f)) t.xid ≡ true → Noted book t f
@@ -78,7 +100,12 @@ waited book k qs n now x q t ts j g noted read task own =
     let calls = ap (λ (l : List Pending). times t.xid (map (λ (c : Pending). c.xid) l)) (calls_are h.seat j g.job_is) in
     leads_comes book k qs n x q t ts j g (took (idle h.seat.client) (client.calls_of h.seat.client) j.file j.stage t.xid (reply_body t.reply))
     (comes_taken book k qs n x q t ts j g j.stage refl mine.0 mine.1 (omega (arith, all, split, calls))
-    (λ f is. notes book k n now x h.seat t j.file f noted g.at h.owner read (task ∙ ap (λ (s : Stage). Some (record { file = j.file; stage = s })) is) (subst (λ (s : Stage). has_call (client.pending_in s) t.xid ≡ true) is own)))
+    (λ f is. notes book k n now x h.seat t j.file f noted g.at h.owner read (task ∙ ap (λ (s : Stage). Some (record { file = j.file; stage = s })) is) (subst (λ (s : Stage). has_call (client.pending_in s) t.xid ≡ true) is own))
+    (λ u is i d b at there. noted_is b (found_hashed h.seat.client now t j.file j.stage u task own is i d b at there))
+    (λ b at. noted_is b (named_hashed h.seat.client now t j.file j.stage task own b at)))
+  where
+    noted_is : (b : List ℕ) → Contains (client_hashed (session_at book k qs n x q t ts j g).seat.client (Ok (told_message t)) now) b → Contains (hashed_of book.moments) b
+    noted_is b at = noted.hashed b (subst (λ (l : List (List ℕ)). Contains l b) (sym (hashed_is k n now x (session_at book k qs n x q t ts j g).seat t g.at (session_at book k qs n x q t ts j g).owner read)) at)
 
 takes : (book : Book) (k : Core) (qs : List Queue) (n now : ℕ) (x : Session) (q : Queue) (t : Told) (ts : List Told) → (kept : IsKept book k qs) → (at : numbered k.sessions n ≡ Some x) → (is : numbered qs n ≡ Some q) → q.downs ≡ t ∷ ts → x.cut ≡ false → IsNoted book k (Hears n now (bytes_of t))
     → parse_of (client.waiting_of (kept.sessions n x q at is).seat.client) (bytes_of t) ≡ Ok (told_message t)

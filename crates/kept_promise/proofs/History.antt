@@ -3,11 +3,11 @@ use Rattle.std.proofs.Common.{◌⊎◌, inl, inr, ◌≡◌, ℕ, suc, ◌+◌,
 use Rattle.register_model.specs.declared.op.Outcome.{Outcome}
 use Rattle.register_model.specs.declared.op.Outcome.TheVariants as told
 use Rattle.register_model.specs.declared.op.Word.TheVariants as words
-use Rattle.kept_promise.proofs.Common.{slice_get, slice_set, not, is_some, sha1, Entry, changes, changed_before, value_from, is_lost, is_untold, content_of, Op, Word, Book, value_at, version_at, is_running, HasJournal}
+use Rattle.kept_promise.proofs.Common.{slice_get, slice_set, not, is_some, sha1, Entry, changes, changed_before, value_from, is_lost, is_untold, content_of, Op, Word, Book, Or, value_at, version_at, is_running, HasJournal}
 use Rattle.kept_promise.proofs.Lists.{some_is, nothing_there, at_end, within, of_appended, kept_appended, of_replaced, at_replaced, else_replaced, count_more, true_and_false}
 use Rattle.kept_promise.proofs.Marks.{marks, mark_of, left_by, ArePast, unpointed, unchanging, made_before, marks_appended, marks_neither, marks_same, marks_before, marks_elsewhere, marks_later, marks_made, all_below, inserted_count, inserted_latest}
 use Rattle.kept_promise.proofs.Rights.{is_remote, Caused, IsRight, IsSound, IsUnmade}
-use Rattle.kept_promise.proofs.Growth.{Follows, follows_same, Grows, value_seen, version_seen, version_later, right_later}
+use Rattle.kept_promise.proofs.Growth.{Follows, follows_same, Grows, or_later, value_seen, version_seen, version_later, right_later}
 
 -- so many steps later, with these operations
 abbrev pub onward : Book → (steps : ℕ) → List Op → Book
@@ -60,7 +60,7 @@ journal_grown book n ops made ended g was closes sound = record {
       let r = g.each m.0 o m.2 in
       let same : r.0.value ≡ o.value = r.2.value w in
       let le = (sound.past i p at).1 in
-      (m.0, r.0, r.1, ap changes r.2.word ∙ m.3, r.2.point w p m.4, r.2.file ∙ m.5, ap length same ∙ m.6, ap sha1 same ∙ m.7, m.8 ∙ ap (λ v. v + 1) (sym (version_later book (onward book n ops) made ended e.file p g (omega (arith, le)))));
+      (m.0, r.0, r.1, ap changes r.2.word ∙ m.3, r.2.point w p m.4, r.2.file ∙ m.5, ap length same ∙ m.6, or_later book (onward book n ops) made ended _ _ g (λ q. ap sha1 same ∙ q) m.7, m.8 ∙ ap (λ v. v + 1) (sym (version_later book (onward book n ops) made ended e.file p g (omega (arith, le)))));
   only = λ k p o at c e. elim (was k o p at e) [
     | inl s ↦ sound.journal.only k p s.0 s.1 (ap changes s.2 ∙ c) s.3
     | inr n ↦ absurd (true_and_false (changes o.word) c n.0)
@@ -97,6 +97,7 @@ goes_same book n sound = record {
     rights = λ k o at. right_later book (onward book n book.ops) None None o (grows_same book n) (sound.rights k o at);
     journal = journal_grown book n book.ops None None (grows_same book n) (λ k q p at e. inl (q, at, refl, e)) (closes_alone book sound) sound;
     past = λ i p at. past_grown book n i p sound at;
+    alike = sound.alike;
   };
 }
 
@@ -121,6 +122,7 @@ goes_appended book new none right sound = record {
       | inr old ↦ inl (q, old, refl, e)
     ]) (closes_alone book sound) sound;
     past = λ i p at. past_grown book 1 i p sound at;
+    alike = sound.alike;
   };
 }
 
@@ -167,6 +169,7 @@ goes_becomes book n made ended j o r at b right sound = record {
     ];
     journal = journal_grown book n (slice_set book.ops j r) made ended (grows_becomes book n made ended j o r at b) was (closes_alone book sound) sound;
     past = λ i p is. past_grown book n i p sound is;
+    alike = sound.alike;
   };
 }
   where
@@ -191,7 +194,7 @@ made_op book o = record o { point = Some (book.steps + 1) }
 pub record IsEntryOf (book : Book) (o : Op) (e : Entry) : Type 0 where
   pub file : o.file ≡ e.file
   pub len : length o.value ≡ e.len
-  pub digest : sha1 o.value ≡ e.sha1
+  pub digest : Or book (sha1 o.value ≡ e.sha1)
   pub version : e.version ≡ version_at book e.file (book.steps + 1) + 1
 
 pub follows_made : (book : Book) (j : ℕ) (o : Op) → IsUnmade o → Follows book (Some j) None j o (made_op book o)
@@ -266,7 +269,7 @@ goes_made book e j o tells at u sound = record {
               ap (λ n. Some n) (sym now),
               tells.file ∙ ap (λ (z : Entry). z.file) (sym same),
               tells.len ∙ ap (λ (z : Entry). z.len) (sym same),
-              tells.digest ∙ ap (λ (z : Entry). z.sha1) (sym same),
+              or_later book more (Some j) None _ _ grows (λ q. q ∙ ap (λ (z : Entry). z.sha1) (sym same)) tells.digest,
               ap (λ (z : Entry). z.version) same ∙ tells.version ∙ ap (λ n. n + 1) (sym (ap (λ (z : Entry). version_at more z.file p) same ∙ ap (version_at more e.file) now ∙ version_later book more (Some j) None e.file (book.steps + 1) grows (omega arith))),
             )
         | inr old ↦
@@ -275,7 +278,7 @@ goes_made book e j o tells at u sound = record {
             let r = grows.each m.0 m.1 m.2 in
             let same : r.0.value ≡ m.1.value = r.2.value w in
             let le = (sound.past i p old).1 in
-            (m.0, r.0, r.1, ap changes r.2.word ∙ m.3, r.2.point w p m.4, r.2.file ∙ m.5, ap length same ∙ m.6, ap sha1 same ∙ m.7, m.8 ∙ ap (λ v. v + 1) (sym (version_later book more (Some j) None d.file p grows (omega (arith, le)))))
+            (m.0, r.0, r.1, ap changes r.2.word ∙ m.3, r.2.point w p m.4, r.2.file ∙ m.5, ap length same ∙ m.6, or_later book more (Some j) None _ _ grows (λ q. ap sha1 same ∙ q) m.7, m.8 ∙ ap (λ v. v + 1) (sym (version_later book more (Some j) None d.file p grows (omega (arith, le)))))
       ];
       only = λ k p q is c t. elim (of_replaced book.ops j new k q is) [
         | inl here ↦ (length book.entries, at_end book.entries (book.steps + 1) ∙ ap (λ (z : Op). z.point) (sym here.1) ∙ t)
@@ -299,6 +302,7 @@ goes_made book e j o tells at u sound = record {
       ];
     };
     past = λ i p a. elim (of_appended book.entries (book.steps + 1) i p a) [ inl last ↦ let is = last.1 in (omega (arith, is), omega (arith, is)) | inr old ↦ past_grown book 1 i p sound old ];
+    alike = sound.alike;
   };
 }
   where

@@ -4,6 +4,7 @@ use Rattle.open_close.specs.State as client
 use Rattle.kept_promise.proofs.Common.{slice_get, slice_set, ClientStep, Ended, Stage, Task, Op, TakenCall, Seat, numbered, with_numbered, ops_after, ops_with, op_after, place_after}
 use Rattle.kept_promise.proofs.Lists.{some_is, nothing_there, of_replaced, of_appended}
 use Rattle.kept_promise.proofs.Messages.{Job, job, job_of}
+use Rattle.kept_promise.proofs.Adjusts.{SameSeats}
 use Rattle.kept_promise.proofs.Actors.{job_place, job_task}
 use Rattle.kept_promise.proofs.Versions.{of_numbered}
 
@@ -19,6 +20,10 @@ jobs_seat P seats ops c new own h = λ i seat j o here is at. elim (of_numbered 
   | inr other ↦ h i seat j o other.1 is at
   | inl same ↦ own j o (ap job (sym same.1) ∙ is) at
 ]
+
+-- other indexes, or other contents that are kept
+pub jobs_kept : (P : Op → Stage → Type 0) (seats after : List Seat) (ops : List Op) → SameSeats seats after → AllJobs P seats ops → AllJobs P after ops
+jobs_kept P seats after ops same h = λ i seat j o here is at. let w = same.was i seat here in h i w.0 j o w.3 (ap job (sym w.4) ∙ is) at
 
 -- ---- one operation gets another form
 

@@ -8,7 +8,7 @@ use Rattle.kept_promise.proofs.Lists.{some_is, nothing_there, same_or_not, at_en
 use Rattle.kept_promise.proofs.Keys.{times, own, on_way, change_key, pending_key}
 use Rattle.kept_promise.proofs.Messages.{Job, job, job_of}
 use Rattle.kept_promise.proofs.History.{onward, grows_same, goes_same, still_same}
-use Rattle.kept_promise.proofs.Later.{session_later, seat_later, SameView}
+use Rattle.kept_promise.proofs.Later.{session_later, seat_later, cached_later, SameView}
 use Rattle.kept_promise.proofs.Turns.{around_with, turned_core, numbered_within}
 use Rattle.kept_promise.proofs.Shelves.{of_lookup}
 use Rattle.kept_promise.proofs.Ordered.{orderly_new}
@@ -122,7 +122,7 @@ joined_now book k qs c n seat kept number at unlinked =
       journal = kept.journal;
       entries = refl;
       sound = (goes_same book 2 kept.sound).sound;
-      server = record { held = λ f. file_still book more f (server.file_at s.files f) (still_same book 2 kept.sound) refl (kept.server.held f); versions = kept.server.versions; changes = kept.server.changes; lengths = kept.server.lengths; targets = kept.server.targets; xids = kept.server.xids };
+      server = record { held = λ f. file_still book more None None f (server.file_at s.files f) g (still_same book 2 kept.sound) (kept.server.held f); versions = kept.server.versions; changes = kept.server.changes; lengths = kept.server.lengths; targets = kept.server.targets; xids = kept.server.xids };
       made = (let a = count_more k.sessions (new_session c) in omega (arith, a, made), count_more qs no_queue ∙ ap suc kept.made.1 ∙ sym (count_more k.sessions (new_session c)));
       sessions = λ m z p f h. elim (of_new k.sessions (new_session c) m z f) [
         | inl new ↦ elim (of_new qs no_queue m p h) [
@@ -223,6 +223,7 @@ joined_now book k qs c n seat kept number at unlinked =
           xids = λ j e. nothing_there j (sym jobs ∙ e);
           next = (omega arith, omega arith);
           opened = was.opened;
+          kept = cached_later book (onward book 2 book.ops) None None seat.client.cache (grows_same book 2) was.kept;
         }
 
 core_joined : (book : Book) (k : Core) (qs : List Queue) (r : server.State) (seats : List Seat) (sessions : List Session) → IsKept book k qs → turned_core (onward book 2 book.ops) r seats sessions ≡ record { server = r; seats = seats; sessions = sessions; steps = k.steps + 2; ops = k.ops; entries = k.entries }

@@ -15,6 +15,7 @@ code_of (program.Lb lb_proc.CondWrite) = 3
 code_of (program.Lb lb_proc.TmpWrite) = 4
 code_of (program.Lb lb_proc.CommitTmp) = 5
 code_of (program.Nfs nfs_proc.Read) = 6
+code_of (program.Lb lb_proc.GetLease) = 7
 code_of _ = 0
 
 abbrev pub key : (xid : ℕ) → Program → ℕ
@@ -85,6 +86,7 @@ abbrev pub IsOurs : Program → Type 0
 IsOurs p = 0 < code_of p
 
 pub call_ours : (c : Call) → IsOurs (call_program c)
+call_ours (Call.Lease f) = omega arith
 call_ours (Call.Hash f o) = omega arith
 call_ours (Call.Read f c) = omega arith
 call_ours (Call.Make t f) = omega arith
@@ -92,7 +94,8 @@ call_ours (Call.Name t c) = omega arith
 call_ours (Call.Send t s b) = omega arith
 call_ours (Call.Commit t f n) = omega arith
 
-code_small : (p : Program) → code_of p < 7
+code_small : (p : Program) → code_of p < 8
+code_small (program.Lb lb_proc.GetLease) = omega arith
 code_small (program.Lb lb_proc.GetHash) = omega arith
 code_small (program.Lb lb_proc.MkTmpFile) = omega arith
 code_small (program.Lb lb_proc.CondWrite) = omega arith

@@ -1,16 +1,18 @@
 -- Facts of messages, sessions and clients stay true while the history grows.
-use Rattle.std.proofs.Common.{inl, inr, ◌≡◌, ℕ, ◌+◌, ◌<◌, ◌≤◌, List, [], ◌∷◌, ◌++◌, length, Option, Some, None, Bool, true, false, refl, sym, ap, ◌∙◌, subst, arith, map, IsSome}
+use Rattle.std.proofs.Common.{◌⊎◌, inl, inr, ◌≡◌, ℕ, ◌+◌, ◌<◌, ◌≤◌, List, [], ◌∷◌, ◌++◌, length, Option, Some, None, Bool, true, false, refl, sym, ap, ◌∙◌, subst, arith, map, IsSome}
+use Rattle.client_cache.specs.Cache.{Entries}
+use Rattle.hash_calls.specs.declared.call.Leased.{Leased}
 use Rattle.server_core.specs.State as server
 use Rattle.open_close.specs.State as client
 use Rattle.open_close.specs.declared.task.Stage.TheVariants as stage
-use Rattle.kept_promise.proofs.Common.{slice_get, Chunk, Answer, Done, Failed, Committed, Hashes, Piece, Attr, Pending, stands, Temp, key_of, Change, Fetch, Stage, Value, content_of, Op, Opening, TakenCall, Seat, Session, numbered, Book, Tried, Call, Call.Commit, Reply, Reply.Hashed, Reply.Bytes, Reply.Changed, Ask, Told, Queue}
+use Rattle.kept_promise.proofs.Common.{slice_get, Contains, Status, Chunk, Answer, Done, Failed, Committed, Hashes, Piece, Attr, Pending, stands, Temp, key_of, Change, Fetch, Stage, Value, content_of, Op, Opening, TakenCall, Seat, Session, numbered, hashed_of, Book, Collides, Tried, Call, Call.Name, Call.Send, Call.Commit, Reply, Reply.Versioned, Reply.Hashed, Reply.Bytes, Reply.Changed, Ask, Told, Queue}
 use Rattle.kept_promise.proofs.Keys.{times, own, on_way, change_key, ask_key, told_key, pending_key}
 use Rattle.kept_promise.proofs.Lists.{some_is}
-use Rattle.kept_promise.proofs.Messages.{Job, job, AllAsks, AllTolds, IsTold, IsTried, Trying, HashTold, ReadTold, CommitTold, TriedBy, AnswerOf, IsAnswer, IsFetch, IsReading, FetchOf, HasFetch, IsPending, CommitOf, IsCommit, IsOwed, CloseOf, TempUnder}
-use Rattle.kept_promise.proofs.Growth.{Grows, value_later, version_later, or_later, tried_later, tried_wider, made_later}
+use Rattle.kept_promise.proofs.Messages.{Job, job, AllAsks, AllTolds, IsTold, IsTried, Trying, RefusedTold, HashTold, LeaseTold, PieceOf, IsPiece, IsPartOf, AreParts, ReadTold, CommitTold, TriedBy, AnswerOf, IsAnswer, IsFetch, IsReading, FetchOf, HasFetch, IsPending, CommitOf, IsCommit, IsOwed, CloseOf, TempUnder}
+use Rattle.kept_promise.proofs.Growth.{Grows, value_later, version_later, or_later, held_later, tried_later, tried_wider, made_later}
 use Rattle.kept_promise.proofs.Orderly.{Orderly}
 use Rattle.kept_promise.proofs.Ordered.{SameFound, orderly_later}
-use Rattle.kept_promise.proofs.Facts.{commits_in, IsBalanced, IsTalk, IsSession, IsOf, IsSeat}
+use Rattle.kept_promise.proofs.Facts.{commits_in, Cached, IsBalanced, IsTalk, IsSession, IsOf, IsSeat}
 
 pub all_asks : (P Q : Ask → Type 0) → ((a : Ask) → P a → Q a) → (us : List Ask) → AllAsks P us → AllAsks Q us
 all_asks P Q f [] h = tt
@@ -52,17 +54,34 @@ trying_later book more made ended j n g h =
     let p = g.passes in
     record { op = r.0; there = r.1; count = h.count; tries_is = h.tries_is; tried = subst (λ (b : ℕ). Tried more j.file b h.count (more.steps + 1)) (sym r.2.begin) (tried_wider more j.file h.op.begin h.count (book.steps + 1) (more.steps + 1) (omega (arith, p)) (tried_later book more made ended j.file h.op.begin h.count (book.steps + 1) g (omega arith) h.tried)) }
 
+refused_told_later : (book more : Book) (made ended : Option ℕ) (taken : List TakenCall) (j : Job) (x : ℕ) (s : Status) → Grows book more made ended → RefusedTold book taken j x s → RefusedTold more taken j x s
+refused_told_later book more made ended taken j x s g (inl h) = inl h
+refused_told_later book more made ended taken j x s g (inr h) = inr (h.0, ap (λ (l : List Opening). content_of l j.file) g.opening ∙ h.1, (h.2.0, told_later book more made ended taken j x None h.2.0 g h.2.1))
+
 hash_later : (book more : Book) (made ended : Option ℕ) (taken : List TakenCall) (j : Job) (x o : ℕ) (a : Answer Hashes Unit) → Grows book more made ended → HashTold book taken j x o a → HashTold more taken j x o a
-hash_later book more made ended taken j x o (Failed s u) g (inl h) = inl h
-hash_later book more made ended taken j x o (Failed s u) g (inr h) = inr (h.0, ap (λ (l : List Opening). content_of l j.file) g.opening ∙ h.1, (h.2.0, told_later book more made ended taken j x None h.2.0 g h.2.1))
-hash_later book more made ended taken j x o (Done a) g h = record { file = h.file; is = h.is; told = told_later book more made ended taken j x (Some h.file.content) h.file.version g h.told; short = h.short; known = subst (λ (l : List Opening). IsSome (content_of l j.file)) (sym g.opening) h.known; hashed = λ i c e. g.hashed _ (h.hashed i c e) }
+hash_later book more made ended taken j x o (Failed s u) g h = refused_told_later book more made ended taken j x s g h
+hash_later book more made ended taken j x o (Done a) g h = record {
+  file = h.file;
+  is = h.is;
+  held = held_later book more made ended j.file h.file g h.held;
+  value = h.value;
+  told = told_later book more made ended taken j x (Some h.value) h.file.version g h.told;
+  value_is = or_later book more made ended _ _ g (λ e. e) h.value_is;
+  short = h.short;
+  known = subst (λ (l : List Opening). IsSome (content_of l j.file)) (sym g.opening) h.known;
+  hashed = λ i c e. g.hashed _ (h.hashed i c e);
+}
+
+lease_later : (book more : Book) (made ended : Option ℕ) (taken : List TakenCall) (j : Job) (x : ℕ) (a : Answer Leased Unit) → Grows book more made ended → LeaseTold book taken j x a → LeaseTold more taken j x a
+lease_later book more made ended taken j x (Failed s u) g h = refused_told_later book more made ended taken j x s g h
+lease_later book more made ended taken j x (Done a) g h = record { value = h.value; told = told_later book more made ended taken j x (Some h.value) a.version g h.told; known = subst (λ (l : List Opening). IsSome (content_of l j.file)) (sym g.opening) h.known }
 
 read_later : (book more : Book) (made ended : Option ℕ) (taken : List TakenCall) (j : Job) (first : ℕ) (c : Chunk) (a : Answer Piece (Option Attr)) → Grows book more made ended → ReadTold book taken j first c a → ReadTold more taken j first c a
 read_later book more made ended taken j first c (Failed s a) g h = h
 read_later book more made ended taken j first c (Done p) g h =
     let le = h.past in
     let n = g.passes in
-    record { file = h.file; is = h.is; began = h.began; was = h.was; last = h.last; order = h.order; past = omega (arith, le, n); value = value_later book more made ended j.file h.last g (omega (arith, le)) ∙ h.value; version_is = version_later book more made ended j.file h.last g (omega (arith, le)) ∙ h.version_is }
+    record { file = h.file; is = h.is; held = held_later book more made ended j.file h.file g h.held; began = h.began; was = h.was; last = h.last; order = h.order; past = omega (arith, le, n); version_is = version_later book more made ended j.file h.last g (omega (arith, le)) ∙ h.version_is }
 
 -- a close that the session remembers is not the one that is made, or decided, unless the session is that one's
 abbrev pub Spares : (closing made : Option ℕ) → Type 0
@@ -78,6 +97,7 @@ tried_by_later book more made ended taken j x (stage.Listing y f) g h = h
 tried_by_later book more made ended taken j x _ g h = tt
 
 answer_of_later : (book more : Book) (made ended : Option ℕ) (taken : List TakenCall) (closing : Option ℕ) (job : Option Job) (x : ℕ) (r : Reply) → Grows book more made ended → Spares closing made → AnswerOf book taken closing job x r → AnswerOf more taken closing job x r
+answer_of_later book more made ended taken closing job x (Versioned a) g spares h = λ j e s. lease_later book more made ended taken j x a g (h j e s)
 answer_of_later book more made ended taken closing job x (Hashed a) g spares h = λ j o e w. let r = h j o e w in (hash_later book more made ended taken j x o a g r.0, tried_by_later book more made ended taken j x j.stage g r.1)
 answer_of_later book more made ended taken closing job x (Bytes a) g spares h = λ j f c e s w. read_later book more made ended taken j f.first c a g (h j f c e s w)
 answer_of_later book more made ended taken closing job x (Changed a) g spares h = λ j e s. commit_told_later book more made ended closing j a g spares (h j e s)
@@ -87,14 +107,14 @@ pub answer_later : (book more : Book) (made ended : Option ℕ) (taken : List Ta
 answer_later book more made ended taken closing job t g spares h = answer_of_later book more made ended taken closing job t.xid t.reply g spares h
 
 abbrev pub fetch_later : (book more : Book) (made ended : Option ℕ) (taken : List TakenCall) (j : Job) (f : Fetch) → Grows book more made ended → IsFetch book taken j f → IsFetch more taken j f
-fetch_later book more made ended taken j f g h = record { content = h.content; told = told_later book more made ended taken j f.first (Some h.content) f.version g h.told; tried = is_tried_later book more made ended taken j f.first f.tries g h.tried; size = h.size; short = h.short; known = subst (λ (l : List Opening). IsSome (content_of l j.file)) (sym g.opening) h.known; count = h.count; within = h.within; chunks = h.chunks; hashed = λ i c e. g.hashed _ (h.hashed i c e) }
+fetch_later book more made ended taken j f g h = record { file = h.file; held = held_later book more made ended j.file h.file g h.held; version = h.version; value = h.value; told = told_later book more made ended taken j f.first (Some h.value) f.version g h.told; value_is = or_later book more made ended _ _ g (λ e. e) h.value_is; tried = is_tried_later book more made ended taken j f.first f.tries g h.tried; size = h.size; short = h.short; known = subst (λ (l : List Opening). IsSome (content_of l j.file)) (sym g.opening) h.known; count = h.count; within = h.within; chunks = h.chunks; hashed = λ i c e. g.hashed _ (h.hashed i c e) }
 
 pub reading_later : (book more : Book) (made ended : Option ℕ) (x : List ℕ) (f : Fetch) → Grows book more made ended → IsReading book x f → IsReading more x f
 reading_later book more made ended x f g h = record { whole = h.whole; slots = h.slots; came = λ i b c e w. let p = h.came i b c e w in (or_later book more made ended _ _ g (λ p. p) p.0, p.1); asked = h.asked; inside = h.inside; filled = h.filled }
 
 pub fetch_of_later : (book more : Book) (made ended : Option ℕ) (taken : List TakenCall) (j : Job) (s : Stage) → Grows book more made ended → FetchOf book taken j s → FetchOf more taken j s
 fetch_of_later book more made ended taken j (stage.Listing x f) g h = (fetch_later book more made ended taken j f g h.0, h.1, h.2)
-fetch_of_later book more made ended taken j (stage.Reading f) g h = (fetch_later book more made ended taken j f g h.0, reading_later book more made ended h.0.content f g h.1)
+fetch_of_later book more made ended taken j (stage.Reading f) g h = (fetch_later book more made ended taken j f g h.0, reading_later book more made ended h.0.file.content f g h.1)
 fetch_of_later book more made ended taken j _ g h = tt
 
 pub has_fetch_later : (book more : Book) (made ended : Option ℕ) (taken : List TakenCall) (job : Option Job) → Grows book more made ended → HasFetch book taken job → HasFetch more taken job
@@ -105,7 +125,7 @@ has_fetch_later book more made ended taken job g h = λ j e. fetch_of_later book
 pub pending_later : (book more : Book) (made ended closing : Option ℕ) (cut : Bool) (job after : Option Job) (x f : ℕ) (v : List ℕ) → Grows book more made ended → Spares closing made → (cut ≡ false → after ≡ job) → IsPending book closing cut job x f v → IsPending more closing cut after x f v
 pending_later book more made ended closing cut job after x f v g spares same h =
     let r = g.each h.place h.op h.there in
-    record { place = h.place; known = h.known; op = r.0; there = r.1; unmade = r.2.unmade (spares h.place h.known) h.unmade; file_is = r.2.file ∙ h.file_is; value_is = r.2.value h.unmade.0 ∙ h.value_is; waited = λ at. same at ∙ h.waited at }
+    record { place = h.place; known = h.known; op = r.0; there = r.1; unmade = r.2.unmade (spares h.place h.known) h.unmade; file_is = r.2.file ∙ h.file_is; size_is = ap (λ (l : List ℕ). length l) (r.2.value h.unmade.0) ∙ h.size_is; value_is = or_later book more made ended _ _ g (λ e. r.2.value h.unmade.0 ∙ e) h.value_is; waited = λ at. same at ∙ h.waited at }
 
 pub commit_later : (book more : Book) (made ended closing : Option ℕ) (cut : Bool) (job after : Option Job) (contents : ℕ → List ℕ) (a : Ask) → Grows book more made ended → Spares closing made → (cut ≡ false → after ≡ job) → IsCommit book closing cut job contents a → IsCommit more closing cut after contents a
 commit_later book more made ended closing cut job after contents a g spares same h = by a.call h
@@ -124,6 +144,28 @@ close_later book more made ended closing contents n j v (stage.Making x temp) g 
 close_later book more made ended closing contents n j v (stage.Storing st) g spares h = (owed_later book more made ended closing j v g spares h.0, h.1, h.2, h.3)
 close_later book more made ended closing contents n j v (stage.Committing x) g spares h = let r = g.each j.place h.0 h.1 in (r.0, r.1, r.2.word ∙ h.2, r.2.value h.2 ∙ h.3)
 close_later book more made ended closing contents n j v _ g spares h = tt
+
+-- ---- pieces
+
+-- from one list of hashed bytes to a longer one
+abbrev Adds : (hashed after : List (List ℕ)) → Type 0
+Adds hashed after = (b : List ℕ) → Contains hashed b → Contains after b
+
+piece_of_later : (hashed after : List (List ℕ)) (contents : ℕ → List ℕ) (c : Call) → Adds hashed after → PieceOf hashed contents c → PieceOf after contents c
+piece_of_later hashed after contents (Name temp c) adds h = record { digest = h.digest; len = h.len; there = adds _ h.there }
+piece_of_later hashed after contents (Send temp s b) adds h = h
+piece_of_later hashed after contents _ adds h = tt
+
+pub pieces_later : (hashed after : List (List ℕ)) (contents : ℕ → List ℕ) (us : List Ask) → Adds hashed after → AllAsks (IsPiece hashed contents) us → AllAsks (IsPiece after contents) us
+pieces_later hashed after contents us adds h = all_asks (IsPiece hashed contents) (IsPiece after contents) (λ a p. piece_of_later hashed after contents a.call adds p) us h
+
+pub parts_later : (hashed after : List (List ℕ)) (v : List ℕ) (ps : List (ℕ × List ℕ)) → Adds hashed after → AreParts hashed v ps → AreParts after v ps
+parts_later hashed after v [] adds h = tt
+parts_later hashed after v (p ∷ ps) adds h = (by h.0, parts_later hashed after v ps adds h.1)
+  where
+    by : IsPartOf v p.0 p.1 ⊎ Collides hashed → IsPartOf v p.0 p.1 ⊎ Collides after
+    by (inl e) = inl e
+    by (inr c) = inr (record { a = c.a; b = c.b; first = adds c.a c.first; second = adds c.b c.second; same = c.same; apart = c.apart })
 
 -- ---- sessions
 
@@ -182,8 +224,8 @@ session_later book more made ended seats others s r n x q c d g was is same spar
       contents = h.contents;
       lengths = h.lengths;
       commits = all_asks (IsCommit book x.closing x.cut (job h.seat) h.contents) (IsCommit more x.closing x.cut (job d) h.contents) (λ a m. commit_later book more made ended x.closing x.cut (job h.seat) (job d) h.contents a g spares jobs m) q.ups h.commits;
-      pieces = h.pieces;
-      temps = λ i m u lt at k. let w = view.temps i m u lt at k in h.temps w.0 m u lt w.1 k;
+      pieces = pieces_later (hashed_of book.moments) (hashed_of more.moments) h.contents q.ups g.hashed h.pieces;
+      temps = λ i m u lt at k. let w = view.temps i m u lt at k in let o = h.temps w.0 m u lt w.1 k in (parts_later (hashed_of book.moments) (hashed_of more.moments) (h.contents m) u.1.pieces g.hashed o.0, o.1);
       temps_below = λ at. let f = h.temps_below at in subst (λ (z : Seat). AllAsks (λ a. TempUnder z.client.next_temp a.call) q.ups × ((i m : ℕ) (u : ℕ × Temp) → m < 4294967296 → slice_get r.temps i ≡ Some u → u.0 ≡ key_of n m → m < z.client.next_temp)) (sym (there at)) (f.0, λ i m u lt is k. let w = view.temps i m u lt is k in f.1 w.0 m u lt w.1 k);
       closes = λ at j q. subst (λ (z : Seat). CloseOf more x.closing h.contents z.client.next_temp j (client.local_bytes z.client.opened j.file) j.stage) (sym (there at)) (close_later book more made ended x.closing h.contents h.seat.client.next_temp j (client.local_bytes h.seat.client.opened j.file) j.stage g spares (h.closes at j (sym (jobs at) ∙ q)));
       pending = λ i c at. pending_later book more made ended x.closing x.cut (job h.seat) (job d) c.xid c.file c.content g spares jobs (h.pending i c (ap (λ (l : List Change). slice_get l i) (sym view.waiting) ∙ at));
@@ -203,6 +245,20 @@ of_later book more made ended i j g apart h =
     let r = g.each j.place h.op h.there in
     record { op = r.0; there = r.1; client = r.2.client ∙ h.client; word = r.2.word ∙ h.word; file = r.2.file ∙ h.file; running = r.2.running (λ e. apart j.place h.op e h.there h.client) h.running }
 
+pub cached_later : (book more : Book) (made ended : Option ℕ) (cache : Entries) → Grows book more made ended → Cached book cache → Cached more cache
+cached_later book more made ended cache g h = λ f c e.
+    let o = h f c e in
+    let le = o.0.past in
+    let n = g.passes in (
+      record {
+        moment = o.0.moment;
+        past = omega (arith, le, n);
+        version_is = version_later book more made ended f o.0.moment g (omega (arith, le)) ∙ o.0.version_is;
+        value_is = or_later book more made ended _ _ g (λ v. value_later book more made ended f o.0.moment g (omega (arith, le)) ∙ v) o.0.value_is;
+      },
+      o.1,
+    )
+
 pub seat_later : (book more : Book) (made ended : Option ℕ) (sessions after : List Session) (i : ℕ) (c : Seat) → Grows book more made ended → Stays sessions after i → ((p : ℕ) (o : Op) → ended ≡ Some p → slice_get book.ops p ≡ Some o → o.client ≡ i → ⊥) → IsSeat book sessions i c → IsSeat more after i c
 seat_later book more made ended sessions after i c g stays apart h = record {
   session = λ n e. let x = h.session n e in let y = stays n x.0 x.1 in (y.0, y.1, y.2 ∙ x.2);
@@ -214,4 +270,5 @@ seat_later book more made ended sessions after i c g stays apart h = record {
   xids = h.xids;
   next = h.next;
   opened = λ f l e. let o = h.opened f l e in (subst (λ (z : List Opening). IsSome (content_of z f)) (sym g.opening) o.0, o.1);
+  kept = cached_later book more made ended c.client.cache g h.kept;
 }

@@ -1,18 +1,24 @@
 -- What an answer leaves of a client's open files, and how far the xids of its calls go on.
-use Rattle.std.proofs.Common.{◌≡◌, ℕ, zero, suc, ◌+◌, ◌-◌, ◌≤◌, List, [], ◌∷◌, length, Option, Some, None, Bool, true, false, refl, sym, subst, arith, Result, Ok, Err}
+use Rattle.std.proofs.Common.{◌≡◌, ℕ, zero, suc, ◌+◌, ◌-◌, ◌<◌, ◌≤◌, List, [], ◌∷◌, length, Option, Some, None, Bool, true, false, refl, sym, subst, arith, Result, Ok, Err}
 use Rattle.std.proofs.lemmas.List.{length-append}
 use Rattle.xdr_codec.specs.declared.status.Status.TheVariants as status
+use Rattle.hash_calls.specs.declared.call.Leased.{Leased}
 use Rattle.hash_calls.specs.declared.message.Lb.TheVariants as lb
 use Rattle.nfs3_calls.specs.declared.message.Nfs.TheVariants as nfs
 use Rattle.wire.specs.declared.message.Body.TheVariants as body
 use Rattle.wire.specs.declared.message.Message.TheVariants as message
 use Rattle.wire.specs.declared.message.RpcRefusal.TheVariants as refusal
+use Rattle.chunk_index.specs.Index.{Indexed}
+use Rattle.client_cache.specs.Cache.{Entries, content_of}
+use Rattle.open_close.specs.Caching.{content_in, from_index, found_all}
+use Rattle.open_close.specs.Opening.{reads_chunk, looked_up}
+use Rattle.open_close.specs.Step.{uses_kept, told_lease}
 use Rattle.open_close.specs.State as client
 use Rattle.open_close.specs.declared.step.Outcome.TheVariants as outcome
 use Rattle.open_close.specs.declared.task.Stage.TheVariants as stage
 use Rattle.open_close.specs.declared.task.Way.TheVariants as way
-use Rattle.kept_promise.proofs.Common.{slice_get, ◌==◌, ◌&&◌, Chunk, Answer, Done, Failed, Status, Hashes, Piece, Body, Message, Pending, RpcRefusal, WireFault, names_from, names_next, names_more, names_all, is_stored, store_of, store_at, answered, calls_most, is_none, fetch_of, with_hashes, listed, reads_from, reads_next, reads_more, reads_all, is_here, read_at, fault_in, other_version, with_bytes, Broken, broken_of, idle, refused, bad_peer, reads_if, reads_on, lists_on, told_shape, told_version, told_hashes, told_first, retries, misfits, told_bytes, told_chunk, told_piece, goes_if, goes_on, told_temp, sends_whole, told_named, told_whole, told_way, told_stored, denied, took, drops, took_if, denied_if, got_message, got_fault, got_step, Names, Reads, BadPeer, ClientStep, Ended, Outcome, Fetch, Local, ReadCall, Stage, Store, StoreCall, Task, Way}
-use Rattle.kept_promise.proofs.Naming.{some_call}
+use Rattle.kept_promise.proofs.Common.{nat_tests, slice_get, nat_lt, if◌then◌else◌, ◌==◌, ◌&&◌, Chunk, Answer, Done, Failed, Status, Hashes, Piece, Body, Message, Pending, RpcRefusal, WireFault, names_from, names_next, names_more, names_all, is_stored, store_of, store_at, answered, calls_most, is_none, fetch_of, with_hashes, listed, reads_from, reads_next, reads_more, reads_all, is_here, read_at, fault_in, other_version, with_bytes, Broken, broken_of, idle, refused, bad_peer, reads_if, reads_on, lists_on, told_shape, told_version, told_hashes, told_first, retries, misfits, told_bytes, told_chunk, told_piece, goes_if, goes_on, told_temp, sends_whole, told_named, told_whole, told_way, told_stored, denied, took, drops, took_if, denied_if, got_message, got_fault, got_step, Names, Reads, BadPeer, ClientStep, Ended, Outcome, Fetch, Local, ReadCall, Stage, Store, StoreCall, Task, Way}
+use Rattle.kept_promise.proofs.StepCases.{some_call}
 
 -- ---- what is said
 
@@ -43,17 +49,28 @@ less_by : (a b : ℕ) → a - b ≤ a
 less_by (suc a) (suc b) = let h = less_by a b in omega (arith, h)
 less_by _ _ = omega arith
 
-reads_next_most : (file : ℕ) (r : Reads) (o : Option Chunk) → (reads_next file r o).next ≤ r.next + 1
-reads_next_most file r None = omega arith
-reads_next_most file r (Some c) = omega arith
+reads_more_most : (k : ℕ) (cache : Entries) (index : Indexed) (file : ℕ) (r : Reads) (most : ℕ) → calls_most ≤ length r.fetch.under + most → (reads_more k cache index file r).next ≤ r.next + most
+reads_more_most zero cache index file r most le = omega arith
+reads_more_most (suc k) cache index file r most le = by (nat_lt (length r.fetch.under) calls_most) refl (λ q n. reads_more_most k cache index file q n)
+  where
+    chunk : (c : Chunk) (o : Option (List ℕ)) → length r.fetch.under < calls_most → ((q : Reads) (n : ℕ) → calls_most ≤ length q.fetch.under + n → (reads_more k cache index file q).next ≤ q.next + n) → (reads_more k cache index file (reads_chunk file r c o)).next ≤ r.next + most
+    chunk c (Some bytes) less go = go (reads_chunk file r c (Some bytes)) most le
+    chunk c None less go = one most le
+      where
+        one : (n : ℕ) → calls_most ≤ length r.fetch.under + n → (reads_more k cache index file (reads_chunk file r c None)).next ≤ r.next + n
+        one zero full = absurd (omega (arith, less, full))
+        one (suc n) room =
+            let l = length-append r.fetch.under (record { xid = r.next; index = r.fetch.asked } ∷ []) in
+            let h = go (reads_chunk file r c None) n (omega (arith, room, l)) in
+            omega (arith, h)
 
-reads_more_most : (k file : ℕ) (r : Reads) → (reads_more k file r).next ≤ r.next + k
-reads_more_most zero file r = omega arith
-reads_more_most (suc k) file r =
-    let n = reads_next file r (slice_get r.fetch.chunks r.fetch.asked) in
-    let a = reads_next_most file r (slice_get r.fetch.chunks r.fetch.asked) in
-    let b = reads_more_most k file n in
-    omega (arith, a, b)
+    next : (o : Option Chunk) → length r.fetch.under < calls_most → ((q : Reads) (n : ℕ) → calls_most ≤ length q.fetch.under + n → (reads_more k cache index file q).next ≤ q.next + n) → (reads_more k cache index file (reads_next cache index file r o)).next ≤ r.next + most
+    next None less go = go r most le
+    next (Some c) less go = chunk c (from_index cache index c) less go
+
+    by : (b : Bool) → nat_lt (length r.fetch.under) calls_most ≡ b → ((q : Reads) (n : ℕ) → calls_most ≤ length q.fetch.under + n → (reads_more k cache index file q).next ≤ q.next + n) → (if b then reads_more k cache index file (reads_next cache index file r (slice_get r.fetch.chunks r.fetch.asked)) else r).next ≤ r.next + most
+    by true lt go = next (slice_get r.fetch.chunks r.fetch.asked) (grind (arith, nat_tests, lt)) go
+    by false lt go = omega arith
 
 names_next_most : (n : Names) (o : Option Chunk) → ((names_next n o).next ≤ n.next + 1) × ((names_next n o).next + length n.store.under ≡ n.next + length (names_next n o).store.under)
 names_next_most n None = (omega arith, refl)
@@ -71,8 +88,8 @@ names_more_most (suc k) n =
     let b1 = b.1 in
     (omega (arith, a0, b0), omega (arith, a1, b1))
 
-reads_most : (file : ℕ) (f : Fetch) (next : ℕ) → (reads_all file f next).next ≤ next + calls_most
-reads_most file f next = let a = reads_more_most (calls_most - length f.under) file (reads_from f next) in let b = less_by calls_most (length f.under) in omega (arith, a, b)
+reads_most : (cache : Entries) (index : Indexed) (file : ℕ) (f : Fetch) (next : ℕ) → (reads_all cache index file f next).next ≤ next + calls_most
+reads_most cache index file f next = reads_more_most (length f.chunks - f.asked) cache index file (reads_from f next) calls_most (omega arith)
 
 names_most : (st : Store) (next : ℕ) → (names_all st next).next ≤ next + calls_most
 names_most st next = let a = (names_more_most (calls_most - length st.under) (names_from st next)).0 in let b = less_by calls_most (length st.under) in omega (arith, a, b)
@@ -98,7 +115,7 @@ reads_if_left s calls file xid r bytes true le = (omega arith, (refl, (_, refl))
 reads_if_left s calls file xid r bytes false le = (le, refl)
 
 reads_on_left : (s : client.State) (calls : List Pending) (file xid : ℕ) (f : Fetch) (bytes : ℕ) → IsLeft s file (reads_on s calls file xid f bytes)
-reads_on_left s calls file xid f bytes = let r = reads_all file f s.next in reads_if_left s calls file xid r bytes (is_here r.fetch) (reads_most file f s.next)
+reads_on_left s calls file xid f bytes = let r = reads_all s.cache s.index file f s.next in reads_if_left (record s { index = found_all s.index (looked_up f r) }) calls file xid r bytes (is_here r.fetch) (reads_most s.cache s.index file f s.next)
 
 lists_on_left : (s : client.State) (calls : List Pending) (file xid : ℕ) (f : Fetch) (eof : Bool) → IsLeft s file (lists_on s calls file xid f eof)
 lists_on_left s calls file xid f true = reads_on_left s calls file xid (listed f) 0
@@ -123,6 +140,14 @@ told_hashes_left s calls file xid f (Done h) = told_version_left s calls file xi
 told_first_left : (s : client.State) (calls : List Pending) (file xid tries : ℕ) (a : Answer Hashes Unit) → IsLeft s file (told_first s calls file xid tries a)
 told_first_left s calls file xid tries (Failed t u) = refused_left s calls file xid t
 told_first_left s calls file xid tries (Done h) = told_hashes_left s calls file xid (fetch_of tries xid h) (Done h)
+
+uses_kept_left : (s : client.State) (calls : List Pending) (file xid version : ℕ) (o : Option (List ℕ)) → IsLeft s file (uses_kept s calls file xid version o)
+uses_kept_left s calls file xid version (Some bytes) = (omega arith, (refl, (_, refl)))
+uses_kept_left s calls file xid version None = (let o = some_call in omega (arith, o), refl)
+
+told_lease_left : (s : client.State) (calls : List Pending) (file xid : ℕ) (a : Answer Leased Unit) → IsLeft s file (told_lease s calls file xid a)
+told_lease_left s calls file xid (Failed t u) = refused_left s calls file xid t
+told_lease_left s calls file xid (Done l) = uses_kept_left s calls file xid l.version (content_in l.version (content_of s.cache file))
 
 misfits_left : (s : client.State) (calls : List Pending) (file xid : ℕ) (f : Fetch) (b : BadPeer) (bytes : ℕ) (o : Option ℕ) → IsLeft s file (misfits s calls file xid f b bytes o)
 misfits_left s calls file xid f b bytes (Some version) = retries_left s calls file xid _ f version bytes
@@ -178,6 +203,7 @@ told_stored_left s calls file xid content st b (Some c) = told_way_left s calls 
 -- ---- any answer
 
 took_left : (s : client.State) (calls : List Pending) (file : ℕ) (t : Stage) (xid : ℕ) (b : Body) → IsLeft s file (took s calls file t xid b)
+took_left s calls file (stage.Asking asked) xid (body.Lb (lb.GetLeaseAnswer a)) = told_lease_left s calls file xid a
 took_left s calls file (stage.Hashing tries asked) xid (body.Lb (lb.GetHashAnswer a)) = told_first_left s calls file xid tries a
 took_left s calls file (stage.Listing asked f) xid (body.Lb (lb.GetHashAnswer a)) = told_hashes_left s calls file xid f a
 took_left s calls file (stage.Reading f) xid (body.Nfs (nfs.ReadAnswer (Failed t a))) = refused_left s calls file xid t

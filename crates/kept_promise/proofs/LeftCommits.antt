@@ -1,34 +1,97 @@
 -- A session that its client left gets no new COMMITTMP, and remembers the close that it did.
-use Rattle.std.proofs.Common.{◌⊎◌, inl, inr, ◌≡◌, ℕ, zero, suc, ◌+◌, ◌<◌, ◌≤◌, List, [], ◌∷◌, ◌++◌, length, Option, Some, None, Bool, true, false, refl, sym, ap, ◌∙◌, subst, arith, append-nil, eq-eqb, ne_eqb, map, Result, Ok, Err}
+use Rattle.std.proofs.Common.{◌⊎◌, inl, inr, ◌≡◌, ℕ, zero, suc, ◌+◌, ◌≤◌, List, [], ◌∷◌, ◌++◌, length, Option, Some, None, Bool, true, false, refl, sym, ap, ◌∙◌, subst, arith, append-nil, map, Result, Ok, Err}
 use Rattle.std.proofs.lemmas.List.{length-append}
 use Rattle.command_text.specs.declared.command.Command.TheVariants as command
 use Rattle.xdr_codec.specs.declared.status.Status.TheVariants as status
 use Rattle.hash_calls.specs.declared.call.Commit.{Commit as Commits}
+use Rattle.hash_calls.specs.declared.call.CondPiece.{CondPiece}
 use Rattle.hash_calls.specs.declared.message.Lb.TheVariants as lb
 use Rattle.nfs3_calls.specs.declared.message.Nfs.TheVariants as nfs
 use Rattle.wire.specs.declared.message.Body.TheVariants as body
 use Rattle.wire.specs.declared.message.Message.TheVariants as message
+use Rattle.chunk_index.specs.Index.{key_of, place_of}
 use Rattle.server_core.specs.State as server
 use Rattle.server_core.specs.Closing as closing
-use Rattle.server_core.specs.Closing.{writes}
 use Rattle.server_core.specs.Step as stepping
 use Rattle.open_close.specs.State as client
 use Rattle.open_close.specs.Step.{writes as writes_local}
 use Rattle.open_close.specs.declared.step.Outcome.TheVariants as outcome
 use Rattle.register_model.specs.declared.op.Word.TheVariants as words
-use Rattle.kept_promise.proofs.Common.{not, cond, filter, ◌==◌, nat_lt, if◌then◌else◌, content_length, content_bytes, Command, Failed, Status, TempPiece, parse_of, Body, Message, Node, root, file, node_of, makes_unless, makes, writes_unless, has_waiting, is_full, commits_whole, commits_to, commits, makes_change, room_fault, Temp, temp_at, assembled, called, got_if, stands, connect, has_room, size_most, Change, File, ends, local_most, written_size, written, truncated, is_open, may_ask, asks_hashes, opens_if, opens, on_local, done_with, too_big, edits, truncates, reads, abandons, asks_temp, closes, command_step, ended_by, ClientStep, Ended, Local, Task, Opening, Word, word_of, Core, Seat, Session, Event, Event.Joins, Event.Does, Event.Serves, Event.Hears, Event.Settles, Event.Cuts, Event.Hangs, CoreStep, numbered, with_numbered, server_waiting, session_of, serves_if, serves, is_newest, hears_if, hears_at, hears, commanded_session, commanded_sessions, does, joins_as, joins, settles, cut_session, cuts_if, cuts, hangs_if, hangs, happens, closing_with, Moment, unless, Call, Call.Commit, Ask, Told, Queue, ask_message}
+use Rattle.kept_promise.proofs.Common.{not, cond, filter, ◌==◌, nat_lt, if◌then◌else◌, content_length, content_bytes, Command, Failed, Status, TempPiece, parse_of, Body, Message, Node, root, file, node_of, makes_unless, makes, writes_unless, has_waiting, is_full, commits_whole, commits_to, commits, makes_change, room_fault, Temp, temp_at, assembled, called, got_if, stands, connect, has_room, size_most, Change, File, ends, local_most, written_size, written, truncated, is_open, may_ask, asks_file, opens_if, opens, on_local, done_with, too_big, edits, truncates, reads, abandons, asks_temp, closes, command_step, ended_by, ClientStep, Ended, Local, Task, Opening, Word, word_of, Core, Seat, Session, Event, Event.Joins, Event.Does, Event.Serves, Event.Hears, Event.Settles, Event.Cuts, Event.Hangs, CoreStep, numbered, with_numbered, server_waiting, session_of, serves_if, serves, is_newest, hears_if, hears_at, hears, commanded_session, commanded_sessions, does, joins_as, joins, settles, cut_session, cuts_if, cuts, hangs_if, hangs, happens, closing_with, Moment, unless, Call, Call.Commit, Ask, Told, Queue, ask_message, Loss, Loss.Nothing, Loss.Down_of, Loss.Up_of, no_queue, names, names_unless, names_bytes, bytes_known, cond_fault}
+use Rattle.trace_replay.specs.Core.{Loss.Made}
 use Rattle.kept_promise.proofs.Statements.{CallFits}
-use Rattle.kept_promise.proofs.Lists.{some_is, nothing_there, same_or_not, set_count, true_and_false}
+use Rattle.kept_promise.proofs.Lists.{some_is, nothing_there, same_or_not, set_count, of_appended, of_replaced, true_and_false}
 use Rattle.kept_promise.proofs.Keys.{own}
 use Rattle.kept_promise.proofs.Messages.{AllAsks}
 use Rattle.kept_promise.proofs.Fits.{FitLaws}
 use Rattle.kept_promise.proofs.Turns.{also_numbered, numbered_within}
 use Rattle.kept_promise.proofs.Facts.{IsKept, commits_in}
-use Rattle.kept_promise.proofs.Leading.{Sends, ups_put, queues_lost, queues_after}
+use Rattle.kept_promise.proofs.Leading.{Sends, ups_put_in, ups_put, downs_put_in, downs_put, downs_lost, ups_lost, queues_lost, queues_after}
 use Rattle.kept_promise.proofs.RunsCarried.{book_at, Finds, Step}
-use Rattle.kept_promise.proofs.QueuedCommits.{QueuesHave, AllOf, of_with, of_more, have_with, have_ups, have_downs, have_lost}
 use Rattle.kept_promise.proofs.Commits.{own_more, own_there}
 use Rattle.kept_promise.proofs.Takes.{commits_tail}
+
+-- ---- the queues after an event
+
+-- each queue has this
+abbrev QueuesHave : (ℕ → Queue → Type 0) → List Queue → Type 0
+QueuesHave P qs = (n : ℕ) (q : Queue) → numbered qs n ≡ Some q → P n q
+
+-- what stands at a number of a list with another there is that one, or was there
+of_with : {A : Type 0} (xs : List A) (m n : ℕ) (y z : A) → numbered (with_numbered xs m y) n ≡ Some z → ((n ≡ m) × (z ≡ y)) ⊎ (numbered xs n ≡ Some z)
+of_with xs zero n y z e = inr e
+of_with xs (suc m) zero y z e = nothing_there z e
+of_with xs (suc m) (suc n) y z e = elim (of_replaced xs m y n z e) [ inl h ↦ inl (ap suc h.0, h.1) | inr h ↦ inr h.1 ]
+
+-- and of one with one more
+of_more : {A : Type 0} (xs : List A) (n : ℕ) (y z : A) → numbered (xs ++ y ∷ []) n ≡ Some z → ((n ≡ suc (length xs)) × (z ≡ y)) ⊎ (numbered xs n ≡ Some z)
+of_more xs zero y z e = nothing_there z e
+of_more xs (suc n) y z e = elim (of_appended xs y n z e) [ inl h ↦ inl (ap suc h.0, h.1) | inr h ↦ inr h ]
+
+have_with : (P : ℕ → Queue → Type 0) (qs : List Queue) (m : ℕ) (r : Queue) → QueuesHave P qs → P m r → QueuesHave P (with_numbered qs m r)
+have_with P qs m r h p n q e = elim (of_with qs m n r q e) [
+  | inl at ↦ subst (λ (z : ℕ). P z q) (sym at.0) (subst (P m) (sym at.1) p)
+  | inr was ↦ h n q was
+]
+
+have_ups : (P : ℕ → Queue → Type 0) (sessions : List Session) (qs : List Queue) (o : Option ℕ) (asks : List Ask) → QueuesHave P qs
+    → ((n : ℕ) (x : Session) (q : Queue) → o ≡ Some n → numbered sessions n ≡ Some x → numbered qs n ≡ Some q → P n q → P n (record q { ups = unless x.hung q.ups asks })) → QueuesHave P (ups_put sessions qs o asks)
+have_ups P sessions qs None asks h put = h
+have_ups P sessions qs (Some m) asks h put = by (numbered sessions m) (numbered qs m) refl refl
+  where
+    by : (x : Option Session) (q : Option Queue) → numbered sessions m ≡ x → numbered qs m ≡ q → QueuesHave P (ups_put_in qs m asks x q)
+    by (Some x) (Some q) e f = have_with P qs m (record q { ups = unless x.hung q.ups asks }) h (put m x q refl e f (h m q f))
+    by _ _ e f = h
+
+abbrev AllOf : {A : Type 0} → (A → Type 0) → List A → Type 0
+AllOf P [] = Unit {0}
+AllOf P (x ∷ xs) = P x × AllOf P xs
+
+have_downs : (P : ℕ → Queue → Type 0) (Q : Told → Type 0) (sessions : List Session) (ps : List (ℕ × Told)) (qs : List Queue) → AllOf (λ p. Q p.1) ps → QueuesHave P qs
+    → ((n : ℕ) (t : Told) (q : Queue) (lost : Bool) → Q t → P n q → P n (record q { downs = unless lost q.downs (t ∷ []) })) → QueuesHave P (downs_put sessions qs ps)
+have_downs P Q sessions [] qs all h put = h
+have_downs P Q sessions (p ∷ ps) qs all h put = have_downs P Q sessions ps (downs_put_in qs p (numbered sessions p.0) (numbered qs p.0)) all.1 (by (numbered sessions p.0) (numbered qs p.0) refl) put
+  where
+    by : (x : Option Session) (q : Option Queue) → numbered qs p.0 ≡ q → QueuesHave P (downs_put_in qs p x q)
+    by (Some x) (Some q) f = have_with P qs p.0 (record q { downs = unless x.cut q.downs (p.1 ∷ []) }) h (put p.0 p.1 q x.cut all.0 (h p.0 q f))
+    by _ _ f = h
+
+have_lost : (P : ℕ → Queue → Type 0) (qs : List Queue) (loss : Loss) → QueuesHave P qs → P (suc (length qs)) no_queue → ((n : ℕ) (q : Queue) → P n q → P n (record q { downs = [] })) → ((n : ℕ) (q : Queue) → P n q → P n (record q { ups = [] })) → QueuesHave P (queues_lost qs loss)
+have_lost P qs Nothing h new down up = h
+have_lost P qs Made h new down up = λ n q e. elim (of_more qs n no_queue q e) [
+  | inl at ↦ subst (λ (z : ℕ). P z q) (sym at.0) (subst (P (suc (length qs))) (sym at.1) new)
+  | inr was ↦ h n q was
+]
+have_lost P qs (Down_of m) h new down up = by (numbered qs m) refl
+  where
+    by : (q : Option Queue) → numbered qs m ≡ q → QueuesHave P (downs_lost qs m q)
+    by None e = h
+    by (Some q) e = have_with P qs m (record q { downs = [] }) h (down m q (h m q e))
+have_lost P qs (Up_of m) h new down up = by (numbered qs m) refl
+  where
+    by : (q : Option Queue) → numbered qs m ≡ q → QueuesHave P (ups_lost qs m q)
+    by None e = h
+    by (Some q) e = have_with P qs m (record q { ups = [] }) h (up m q (h m q e))
 
 -- ---- a client that isn't joined sends nothing, and answers at once
 
@@ -65,7 +128,7 @@ command_silent s (command.Open f) now off = by_task s.task
   where
     by_open : (b : Bool) → IsSilent (opens_if s f b)
     by_open true = silent s outcome.AlreadyOpen
-    by_open false = subst (λ (b : Bool). IsSilent (asks_hashes s f b)) (sym (not_joined s off)) (silent s outcome.NoLink)
+    by_open false = subst (λ (b : Bool). IsSilent (asks_file s f b)) (sym (not_joined s off)) (silent s outcome.NoLink)
 
     by_task : (t : Option Task) → IsSilent (opens s f t)
     by_task (Some t) = silent s outcome.Busy
@@ -141,13 +204,25 @@ writes_wait s n xid a None None = refl
 writes_wait s n xid a (Some t) (Some e) = refl
 writes_wait s n xid a None (Some e) = refl
 
+named_waits : (s : server.State) (n xid : ℕ) (a : CondPiece) (t : Option Temp) → (names s n xid a t).0.waiting ≡ s.waiting
+named_waits s n xid a t = by t (cond_fault a t)
+  where
+    taken : (s : server.State) (t : Option Temp) (o : Option (List ℕ)) → (names_bytes s n xid a t o).0.waiting ≡ s.waiting
+    taken s (Some t) (Some bytes) = refl
+    taken s (Some t) None = refl
+    taken s None o = refl
+
+    by : (t : Option Temp) (o : Option Status) → (names_unless s n xid a t o).0.waiting ≡ s.waiting
+    by t (Some e) = refl
+    by t None = taken (closing.looked_up s a) t (bytes_known s.files a (place_of s.index.pairs (key_of a.digest)))
+
 called_waits : (s : server.State) (n xid : ℕ) (b : Body) → Waits s.waiting n (IsCommitCall (message.Call xid b)) (called s n xid b).0.waiting
 called_waits s n xid (body.Lb (lb.CommitTmp a)) = commits_wait s n xid a (temp_at s.temps n a.fd)
 called_waits s n xid (body.Lb (lb.MkTmpFile a)) = inl (makes_wait s n xid a.fd (node_of s.files a.handle))
 called_waits s n xid (body.Lb (lb.TmpWrite a)) = inl (writes_wait s n xid a (temp_at s.temps n a.fd) _)
 called_waits s n xid (body.Lb lb.Null) = inl refl
 called_waits s n xid (body.Lb (lb.GetHash r)) = inl refl
-called_waits s n xid (body.Lb (lb.CondWrite a)) = inl refl
+called_waits s n xid (body.Lb (lb.CondWrite a)) = inl (named_waits s n xid a (temp_at s.temps n a.fd))
 called_waits s n xid (body.Nfs nfs.Null) = inl refl
 called_waits s n xid (body.Nfs (nfs.Read r)) = inl refl
 called_waits s n xid (body.Lb b) = inl refl

@@ -1,12 +1,12 @@
 -- Each event of a run keeps what is true of operations by what was said for them, if each step of a client does.
 use Rattle.std.proofs.Common.{◌⊎◌, inl, inr, ◌≡◌, ℕ, ◌+◌, ◌<◌, ◌≤◌, List, [], ◌∷◌, ◌++◌, length, Option, Some, None, Result, Ok, Err, Bool, true, false, refl, sym, ap, ◌∙◌, subst, arith, append-nil, map}
-use Rattle.command_text.specs.declared.command.Command.TheVariants as command
 use Rattle.wire.specs.declared.message.Message.TheVariants as message
 use Rattle.server_core.specs.State as server
 use Rattle.server_core.specs.declared.event.Event.TheVariants as event
 use Rattle.server_core.specs.declared.event.Told.{Told as Announced}
 use Rattle.server_core.specs.declared.event.Told.TheVariants as announced
 use Rattle.open_close.specs.Closing.{make_call}
+use Rattle.open_close.specs.Looking.{reading_by, with_file, reading_if, reading}
 use Rattle.open_close.specs.State as client
 use Rattle.open_close.specs.declared.step.BadPeer.TheVariants as bad
 use Rattle.open_close.specs.declared.step.Outcome.TheVariants as outcome
@@ -15,24 +15,24 @@ use Rattle.register_model.specs.declared.op.Outcome.{Outcome as History}
 use Rattle.register_model.specs.declared.op.Outcome.TheVariants as told
 use Rattle.register_model.specs.declared.op.Word.TheVariants as words
 use Rattle.trace_replay.specs.Core.{taken_of as session_taken}
-use Rattle.kept_promise.proofs.Common.{Deal.Sent, ◌==◌, slice_get, slice_set, nat_lt, if◌then◌else◌, content_length, content_bytes, Command, Part, parse_of, WireFault, Body, Message, Pending, server_step, ends, local_most, written_size, written, truncated, hash_call, is_open, may_ask, asks_hashes, opens_if, opens, on_local, too_big, done_with, edits, writes, truncates, reads, abandons, asks_temp, closes, command_step, got_step, got_message, bad_peer, idle, took, took_if, drops, joined, ended_by, ClientStep, Ended, Outcome, Local, Stage, Task, Op, Opening, Word, TakenCall, word_of, file_of, value_at_begin, begun, has_point, point_if, op_after, told_of, value_of, place_after, place_with, Core, Seat, Session, Event, Event.Joins, Event.Does, Event.Serves, Event.Hears, Event.Settles, Event.Cuts, Event.Hangs, CoreStep, numbered, with_numbered, server_waiting, serves_if, serves, session_of, ops_after, ops_with, acted, does, joins_as, joins, settles, cuts_if, cuts, hangs_if, hangs, happens, Moment, owner_in, wanted_if, wanted_by, taken_by, is_in, Deal, deals_with, deals_in, deals_of, Book, Queue, reply_body, told_message}
+use Rattle.trace_replay.specs.Trail.{given_in, given_by_message}
+use Rattle.kept_promise.proofs.Common.{Deal.Sent, slice_get, slice_set, Command, parse_of, WireFault, Body, Message, Pending, server_step, lease_call, hash_call, asks_kept, asks_temp, command_step, got_step, got_message, bad_peer, idle, took, took_if, drops, joined, ended_by, ClientStep, Ended, Outcome, Fetch, Stage, Task, Op, Opening, Word, TakenCall, word_of, file_of, value_at_begin, begun, has_point, point_if, op_after, told_of, value_of, place_after, place_with, Core, Seat, Session, Event, Event.Joins, Event.Does, Event.Serves, Event.Hears, Event.Settles, Event.Cuts, Event.Hangs, CoreStep, numbered, with_numbered, server_waiting, serves_if, serves, session_of, ops_after, ops_with, acted, does, joins_as, joins, settles, cuts_if, cuts, hangs_if, hangs, happens, Moment, owner_in, wanted_if, wanted_by, taken_by, given_by, is_in, Deal, deals_with, deals_in, deals_of, Book, Queue, reply_body, told_message}
 use Rattle.kept_promise.proofs.Lists.{some_is, nothing_there, at_end, at_replaced, of_appended, within}
 use Rattle.kept_promise.proofs.Keys.{times}
-use Rattle.kept_promise.proofs.Messages.{Job, job, job_of, stage_word, CloseOf, FetchOf, IsTrying}
+use Rattle.kept_promise.proofs.Messages.{Job, job, job_of, stage_word, AllTolds, AnswerOf, IsAnswer, CloseOf, FetchOf, IsTrying}
 use Rattle.kept_promise.proofs.Rights.{IsRight, Caused}
 use Rattle.kept_promise.proofs.Fits.{FitLaws}
 use Rattle.kept_promise.proofs.Taken.{times_map_append}
 use Rattle.kept_promise.proofs.Facts.{IsKept, IsSession, IsMatched}
 use Rattle.kept_promise.proofs.RunsCarried.{book_at, moment, Step, Carried}
-use Rattle.kept_promise.proofs.Counted.{IsActor, running_now, running_past}
+use Rattle.kept_promise.proofs.Counted.{running_now, running_past}
 use Rattle.kept_promise.proofs.CountedRuns.{no_fault_after}
-use Rattle.kept_promise.proofs.Actors.{job_place, job_task, acts_alone, Heard, heard_at, heard_acts, heard_takes}
+use Rattle.kept_promise.proofs.Actors.{job_place, job_task, acts_alone, Heard, heard_at, heard_acts, heard_takes, heard_gives}
+use Rattle.kept_promise.proofs.StepCases.{FetchNow, fronts, command_cases, given_idle}
 use Rattle.kept_promise.proofs.Shapes.{busy_command}
-use Rattle.kept_promise.proofs.Fetching.{IsApart}
-use Rattle.kept_promise.proofs.VersionRuns.{settled_are, own_op, foreign_at, word_after}
-use Rattle.kept_promise.proofs.OpenedRuns.{tried_from}
-use Rattle.kept_promise.proofs.OpenedEvents.{Taking, apart_in}
-use Rattle.kept_promise.proofs.Logs.{IsSilent, Going, Ending, HaveLogs, deals_silent, deals_apart, deals_own, deals_more, deals_same, deals_alike, deals_early, AreAsBefore, as_before, logs_quiet, Renewed, logs_acts, logs_begins}
+use Rattle.kept_promise.proofs.VersionRuns.{settled_are, own_op, foreign_at}
+use Rattle.kept_promise.proofs.Taking.{IsApart, tried_from, Taking, apart_in, IsWhole, fetched_now}
+use Rattle.kept_promise.proofs.Logs.{IsSilent, Going, Ending, HaveLogs, logs_kept, deals_silent, deals_apart, deals_own, deals_more, deals_same, deals_alike, deals_early, AreAsBefore, as_before, logs_quiet, Renewed, logs_acts, logs_begins}
 
 -- ---- what is asked
 
@@ -64,9 +64,10 @@ value_stays o c taken step acts un = by acts.ended un
     by (Some e) un = ended e.outcome un
 
 -- what is known as a client takes an answer that its operation waits for, which makes this of it
-pub record Answering (book more : Book) (taken : List TakenCall) (j : Job) (o : Op) (p : ℕ) (s : client.State) (x : ℕ) (r : client.State × ClientStep) : Type 0 where
+pub record Answering (book more : Book) (taken : List TakenCall) (j : Job) (o : Op) (p : ℕ) (s : client.State) (x : ℕ) (b : Body) (r : client.State × ClientStep) : Type 0 where
   pub taking : Taking book more taken j o p
   pub apart : IsApart x j.stage
+  pub fetched : (f : Fetch) (bytes : ℕ) → FetchNow j.stage x b f bytes → IsWhole book taken j f
   pub value : stage_word j.stage ≡ words.Close → o.value ≡ client.local_bytes s.opened j.file
   pub ops : more.ops ≡ slice_set book.ops p (op_after o r.0 taken (book.steps + 1) r.1)
   pub right : IsRight more (op_after o r.0 taken (book.steps + 1) r.1)
@@ -77,17 +78,26 @@ pub record After (P : Going) (E : Ending) (log : List Deal) (r : client.State ×
   pub stage : (u : Task) → r.1.ended ≡ None → r.0.task ≡ Some u → P log new.file new.value u.stage
   pub each : E log new.word new.file new.value new.outcome
 
+-- the places of the chunks that the index gives then
+abbrev pub found_in : client.State → (file : ℕ) → Stage → (xid : ℕ) → Body → List (ℕ × ℕ)
+found_in s file st x b = given_in (idle s) (with_file file (reading_by st x b))
+
+-- an answer came, by the index these chunks were given, and this was done
+abbrev pub Answered : Going → Ending → Book → List TakenCall → Op → (log : List Deal) → (xid : ℕ) → Body → (found : List (ℕ × ℕ)) → client.State × ClientStep → Type 0
+Answered P E book taken o log x b found r = After P E (log ++ deals_with (message.Answer x b ∷ []) found r.1.send) r (op_after o r.0 taken (book.steps + 1) r.1)
+
 pub record LogLaws (all : List Moment) (P : Going) (E : Ending) : Type 0 where
   -- nothing was said for it
   pub none : (w : Word) (file : ℕ) (v : List ℕ) (u : History) → IsUnopened u → IsUnchanged u → E [] w file v u
   -- its first call was sent
+  pub asks : (x file : ℕ) (v : List ℕ) → P (Sent (lease_call x file) ∷ []) file v (stage.Asking x)
   pub opens : (x file : ℕ) (v : List ℕ) → P (Sent (hash_call x file 0) ∷ []) file v (stage.Hashing 1 x)
   pub closes : (x temp file : ℕ) (v : List ℕ) → P (Sent (make_call x temp file) ∷ []) file v (stage.Making x temp)
   -- what is true of one under way is so however it ends, but where an open gets its content
   pub other : (log : List Deal) (file : ℕ) (v : List ℕ) (st : Stage) (u : History) → P log file v st → IsUnopened u → IsUnchanged u → E log (stage_word st) file v u
   -- an answer came
-  pub heard : (book more : Book) (taken : List TakenCall) (j : Job) (o : Op) (p : ℕ) (s : client.State) (x : ℕ) (b : Body) → book.moments ≡ all → Answering book more taken j o p s x (took (idle s) (client.calls_of s) j.file j.stage x b)
-      → (log : List Deal) → P log o.file o.value j.stage → (let r = took (idle s) (client.calls_of s) j.file j.stage x b in After P E (log ++ deals_with (message.Answer x b ∷ []) r.1.send) r (op_after o r.0 taken (book.steps + 1) r.1))
+  pub heard : (book more : Book) (taken : List TakenCall) (j : Job) (o : Op) (p : ℕ) (s : client.State) (x : ℕ) (b : Body) → book.moments ≡ all → Answering book more taken j o p s x b (took (idle s) (client.calls_of s) j.file j.stage x b)
+      → (log : List Deal) → P log o.file o.value j.stage → Answered P E book taken o log x b (found_in s j.file j.stage x b) (took (idle s) (client.calls_of s) j.file j.stage x b)
 
 abbrev pub LogsAt : (P : Going) (E : Ending) (past : List Moment) → Core → Type 0
 LogsAt P E past k = HaveLogs P E past k.steps k.seats k.ops
@@ -104,19 +114,22 @@ stays P E past k after e silent le seats ops h =
     (subst (λ (l : List Op). HaveLogs P E (past ++ moment k e ∷ []) after.steps k.seats l) (sym ops)
     (logs_quiet P E past (moment k e) k.steps after.steps k.seats k.seats k.ops k.ops silent le (same_seats k.seats) (as_before k.ops) h))
 
+pub joins_silent : (k : Core) (c : ℕ) → IsSilent (moment k (Joins c))
+joins_silent k c = (refl, refl, up (numbered k.seats c))
+  where
+    made : (z : Seat) (s : server.State) (o : Announced) → (joins_as k c z s o).up ≡ []
+    made z s (announced.Session n) = refl
+    made z s _ = refl
+
+    up : (o : Option Seat) → (joins k c o).up ≡ []
+    up None = refl
+    up (Some z) = let r = server_step k.server event.Connect in made z r.0 r.1.told
+
 logs_joins : (P : Going) (E : Ending) (past : List Moment) (k : Core) (c : ℕ) (seat : Seat) → numbered k.seats c ≡ Some seat → LogsAt P E past k → LogsAt P E (past ++ moment k (Joins c) ∷ []) (joins k c (Some seat)).core
 logs_joins P E past k c seat here h = let r = server_step k.server event.Connect in by r.0 r.1.told
   where
     silent : IsSilent (moment k (Joins c))
-    silent = (refl, up (numbered k.seats c))
-      where
-        made : (z : Seat) (s : server.State) (o : Announced) → (joins_as k c z s o).up ≡ []
-        made z s (announced.Session n) = refl
-        made z s _ = refl
-
-        up : (o : Option Seat) → (joins k c o).up ≡ []
-        up None = refl
-        up (Some z) = let r = server_step k.server event.Connect in made z r.0 r.1.told
+    silent = joins_silent k c
 
     joining : (made : ℕ) (i : ℕ) (z : Seat) (j : Job) → numbered (with_numbered k.seats c (record seat { client = joined seat.client; session = Some made })) i ≡ Some z → job z ≡ Some j → (old : Seat) × (numbered k.seats i ≡ Some old) × (job old ≡ Some j)
     joining made i z j there is = elim (Rattle.kept_promise.proofs.Versions.of_numbered k.seats c (record seat { client = joined seat.client; session = Some made }) i z there) [
@@ -128,7 +141,7 @@ logs_joins P E past k c seat here h = let r = server_step k.server event.Connect
     by s (announced.Session made) = logs_quiet P E past (moment k (Joins c)) k.steps (k.steps + 2) k.seats (with_numbered k.seats c (record seat { client = joined seat.client; session = Some made })) k.ops k.ops silent (omega arith) (joining made) (as_before k.ops) h
     by s _ = logs_quiet P E past (moment k (Joins c)) k.steps (k.steps + 2) k.seats k.seats k.ops k.ops silent (omega arith) (same_seats k.seats) (as_before k.ops) h
 
-serves_silent : (k : Core) (n now : ℕ) (bytes : List ℕ) (x : Option Session) → (let t = serves k n now bytes x in (t.up ≡ []) × (t.core.ops ≡ k.ops) × (t.core.seats ≡ k.seats) × (k.steps ≤ t.core.steps))
+pub serves_silent : (k : Core) (n now : ℕ) (bytes : List ℕ) (x : Option Session) → (let t = serves k n now bytes x in (t.up ≡ []) × (t.core.ops ≡ k.ops) × (t.core.seats ≡ k.seats) × (k.steps ≤ t.core.steps))
 serves_silent k n now bytes None = (refl, refl, refl, omega arith)
 serves_silent k n now bytes (Some x) = by (parse_of server_waiting bytes)
   where
@@ -136,7 +149,7 @@ serves_silent k n now bytes (Some x) = by (parse_of server_waiting bytes)
     by (Ok m) = (refl, refl, refl, omega arith)
     by (Err e) = (refl, refl, refl, omega arith)
 
-hangs_silent : (k : Core) (n : ℕ) (x : Option Session) → (let t = hangs k n x in (t.up ≡ []) × (t.core.ops ≡ k.ops) × (t.core.seats ≡ k.seats) × (k.steps ≤ t.core.steps))
+pub hangs_silent : (k : Core) (n : ℕ) (x : Option Session) → (let t = hangs k n x in (t.up ≡ []) × (t.core.ops ≡ k.ops) × (t.core.seats ≡ k.seats) × (k.steps ≤ t.core.steps))
 hangs_silent k n None = (refl, refl, refl, omega arith)
 hangs_silent k n (Some x) = by x.hung
   where
@@ -145,13 +158,13 @@ hangs_silent k n (Some x) = by x.hung
     by false = (refl, refl, refl, omega arith)
 
 logs_serves : (P : Going) (E : Ending) (past : List Moment) (k : Core) (n now : ℕ) (bytes : List ℕ) → LogsAt P E past k → LogsAt P E (past ++ moment k (Serves n now bytes) ∷ []) (happens k (Serves n now bytes)).core
-logs_serves P E past k n now bytes h = let s = serves_silent k n now bytes (numbered k.sessions n) in stays P E past k (happens k (Serves n now bytes)).core (Serves n now bytes) (refl, s.0) s.3 s.2 s.1 h
+logs_serves P E past k n now bytes h = let s = serves_silent k n now bytes (numbered k.sessions n) in stays P E past k (happens k (Serves n now bytes)).core (Serves n now bytes) (refl, refl, s.0) s.3 s.2 s.1 h
 
 logs_hangs : (P : Going) (E : Ending) (past : List Moment) (k : Core) (n : ℕ) → LogsAt P E past k → LogsAt P E (past ++ moment k (Hangs n) ∷ []) (happens k (Hangs n)).core
-logs_hangs P E past k n h = let s = hangs_silent k n (numbered k.sessions n) in stays P E past k (happens k (Hangs n)).core (Hangs n) (refl, s.0) s.3 s.2 s.1 h
+logs_hangs P E past k n h = let s = hangs_silent k n (numbered k.sessions n) in stays P E past k (happens k (Hangs n)).core (Hangs n) (refl, refl, s.0) s.3 s.2 s.1 h
 
 logs_settles : (P : Going) (E : Ending) (book : Book) (past : List Moment) (k : Core) (qs : List Queue) (now : ℕ) → IsKept book k qs → LogsAt P E past k → LogsAt P E (past ++ moment k (Settles now) ∷ []) (settles k now).core
-logs_settles P E book past k qs now kept h = logs_quiet P E past (moment k (Settles now)) k.steps (k.steps + 1) k.seats k.seats k.ops (settles k now).core.ops (refl, refl) (omega arith) (same_seats k.seats) (by (settled_are book k qs now kept)) h
+logs_settles P E book past k qs now kept h = logs_quiet P E past (moment k (Settles now)) k.steps (k.steps + 1) k.seats k.seats k.ops (settles k now).core.ops (refl, refl, refl) (omega arith) (same_seats k.seats) (by (settled_are book k qs now kept)) h
   where
     by : Rattle.kept_promise.proofs.VersionRuns.Settled k (settles k now).core.ops → AreAsBefore k.ops (settles k now).core.ops
     by (inl same) = subst (AreAsBefore k.ops) (sym same) (as_before k.ops)
@@ -161,6 +174,21 @@ logs_settles P E book past k qs now kept h = logs_quiet P E past (moment k (Sett
     ])
 
 -- ---- a connection is lost
+
+pub cuts_silent : (k : Core) (c : ℕ) → IsSilent (moment k (Cuts c))
+cuts_silent k c = (refl, refl, up (numbered k.seats c))
+  where
+    acts : (t : Option Task) → (ended_by t (record { outcome = outcome.Lost; rests_on = 0 })).send ≡ []
+    acts None = refl
+    acts (Some t) = refl
+
+    link : (z : Seat) (b : Bool) → (cuts_if k c z b).up ≡ []
+    link z true = acts z.client.task
+    link z false = refl
+
+    up : (o : Option Seat) → (cuts k c o).up ≡ []
+    up None = refl
+    up (Some z) = link z z.client.linked
 
 logs_cuts : (P : Going) (E : Ending) (all : List Moment) → LogLaws all P E → (book : Book) (past : List Moment) (k : Core) (qs : List Queue) (c : ℕ) (seat : Seat) → IsKept book k qs → numbered k.seats c ≡ Some seat → LogsAt P E past k → LogsAt P E (past ++ moment k (Cuts c) ∷ []) (cuts k c (Some seat)).core
 logs_cuts P E all laws book past k qs c seat kept here h = by seat.client.linked
@@ -178,19 +206,7 @@ logs_cuts P E all laws book past k qs c seat kept here h = by seat.client.linked
     m = moment k (Cuts c)
 
     silent : IsSilent (moment k (Cuts c))
-    silent = (refl, up (numbered k.seats c))
-      where
-        acts : (t : Option Task) → (ended_by t (record { outcome = outcome.Lost; rests_on = 0 })).send ≡ []
-        acts None = refl
-        acts (Some t) = refl
-
-        link : (z : Seat) (b : Bool) → (cuts_if k c z b).up ≡ []
-        link z true = acts z.client.task
-        link z false = refl
-
-        up : (o : Option Seat) → (cuts k c o).up ≡ []
-        up None = refl
-        up (Some z) = link z z.client.linked
+    silent = cuts_silent k c
 
     log_is : (o r : Op) → Rattle.kept_promise.proofs.Counted.AlikeUpTo k.steps o r → deals_of r (past ++ moment k (Cuts c) ∷ []) ≡ deals_of o past
     log_is o r same = deals_more r past (moment k (Cuts c)) ∙ ap (λ l. deals_of r past ++ l) (deals_silent r (moment k (Cuts c)) silent) ∙ append-nil (deals_of r past) ∙ deals_alike k.steps o r past same h.by
@@ -233,68 +249,46 @@ logs_cuts P E all laws book past k qs c seat kept here h = by seat.client.linked
 abbrev Answers : client.State × ClientStep → Type 0
 Answers r = (r.1.send ≡ []) × ((e : Ended) × (r.1.ended ≡ Some e))
 
+-- the first call of an open, or of a close
+abbrev IsFirst : (file : ℕ) → Message → Stage → Type 0
+IsFirst file m (stage.Asking x) = m ≡ lease_call x file
+IsFirst file m (stage.Hashing tries x) = (tries ≡ 1) × (m ≡ hash_call x file 0)
+IsFirst file m (stage.Making x temp) = m ≡ make_call x temp file
+IsFirst file m st = ⊥
+
 abbrev Asks : Command → client.State × ClientStep → Type 0
-Asks d r = (r.1.ended ≡ None) × (
-    ((x : ℕ) × (r.1.send ≡ hash_call x (file_of d) 0 ∷ []) × (r.0.task ≡ Some (record { file = file_of d; stage = stage.Hashing 1 x })) × (word_of d ≡ words.Open))
-    ⊎ ((x : ℕ) × (temp : ℕ) × (r.1.send ≡ make_call x temp (file_of d) ∷ []) × (r.0.task ≡ Some (record { file = file_of d; stage = stage.Making x temp })) × (word_of d ≡ words.Close))
-    )
-
-begins_local : (s : client.State) (d : Command) (l : Option Local) (f : Local → client.State × ClientStep) → ((l : Local) → Answers (f l) ⊎ Asks d (f l)) → (let r = on_local s None l f in Answers r ⊎ Asks d r)
-begins_local s d None f h = inl (refl, (_, refl))
-begins_local s d (Some l) f h = h l
-
-begins_edits : (s : client.State) (file : ℕ) (l : Local) (size : ℕ) (content : List ℕ) → Answers (edits s file l size content)
-begins_edits s file l size content = by (nat_lt local_most size)
-  where
-    by : (b : Bool) → Answers (if b then too_big s size else done_with s file l content)
-    by true = (refl, (_, refl))
-    by false = (refl, (_, refl))
-
-begins_writes : (s : client.State) (file offset : ℕ) (content : List Part) (l : Local) → Answers (writes s file offset content l)
-begins_writes s file offset content l = by (content_length content == 0)
-  where
-    by : (b : Bool) → Answers (if b then (s, ends outcome.Done 0 0) else edits s file l (written_size (length l.bytes) offset (content_length content)) (written l.bytes offset (content_bytes content)))
-    by true = (refl, (_, refl))
-    by false = begins_edits s file l (written_size (length l.bytes) offset (content_length content)) (written l.bytes offset (content_bytes content))
-
-begins_opens : (s : client.State) (file : ℕ) → (let r = opens s file None in Answers r ⊎ Asks (command.Open file) r)
-begins_opens s file = by (is_open s.opened file)
-  where
-    asks : (b : Bool) → (let r = asks_hashes s file b in Answers r ⊎ Asks (command.Open file) r)
-    asks true = inr (refl, inl (s.next, refl, refl, refl))
-    asks false = inl (refl, (_, refl))
-
-    by : (b : Bool) → (let r = opens_if s file b in Answers r ⊎ Asks (command.Open file) r)
-    by true = inl (refl, (_, refl))
-    by false = asks (may_ask s)
-
-begins_closes : (s : client.State) (file : ℕ) (b : Bool) → (let r = asks_temp s file b in Answers r ⊎ Asks (command.Close file) r)
-begins_closes s file true = inr (refl, inr (s.next, s.next_temp, refl, refl, refl))
-begins_closes s file false = inl (refl, (_, refl))
+Asks d r = (m : Message) × (st : Stage) × (r.1.ended ≡ None) × (r.1.send ≡ m ∷ []) × (r.0.task ≡ Some (record { file = file_of d; stage = st })) × (stage_word st ≡ word_of d) × IsFirst (file_of d) m st
 
 begins_free : (s : client.State) (d : Command) (now : ℕ) → s.task ≡ None → (let r = command_step s d now in Answers r ⊎ Asks d r)
-begins_free s (command.Open file) now free = subst (λ (o : Option Task). let r = opens s file o in Answers r ⊎ Asks (command.Open file) r) (sym free) (begins_opens s file)
-begins_free s (command.Write file offset content) now free = subst (λ (o : Option Task). let r = on_local s o (client.local_at s.opened file) (writes s file offset content) in Answers r ⊎ Asks (command.Write file offset content) r) (sym free) (begins_local s (command.Write file offset content) (client.local_at s.opened file) (writes s file offset content) (λ l. inl (begins_writes s file offset content l)))
-begins_free s (command.Trunc file size) now free = subst (λ (o : Option Task). let r = on_local s o (client.local_at s.opened file) (truncates s file size) in Answers r ⊎ Asks (command.Trunc file size) r) (sym free) (begins_local s (command.Trunc file size) (client.local_at s.opened file) (truncates s file size) (λ l. inl (begins_edits s file l size (truncated l.bytes size))))
-begins_free s (command.Read file offset count) now free = subst (λ (o : Option Task). let r = on_local s o (client.local_at s.opened file) (reads s offset count) in Answers r ⊎ Asks (command.Read file offset count) r) (sym free) (begins_local s (command.Read file offset count) (client.local_at s.opened file) (reads s offset count) (λ l. inl (refl, (_, refl))))
-begins_free s (command.Close file) now free = subst (λ (o : Option Task). let r = on_local s o (client.local_at s.opened file) (closes s file) in Answers r ⊎ Asks (command.Close file) r) (sym free) (begins_local s (command.Close file) (client.local_at s.opened file) (closes s file) (λ l. begins_closes s file (may_ask s)))
-begins_free s (command.Abandon file) now free = subst (λ (o : Option Task). let r = on_local s o (client.local_at s.opened file) (abandons s file) in Answers r ⊎ Asks (command.Abandon file) r) (sym free) (begins_local s (command.Abandon file) (client.local_at s.opened file) (abandons s file) (λ l. inl (refl, (_, refl))))
+begins_free s d now free = command_cases (λ r. Answers r ⊎ Asks d r) s d now (record {
+  busy = λ t is. nothing_there t (sym free ∙ is);
+  answers = λ un opened o plain. inl (refl, (_, refl));
+  fetches = λ file is un. subst (λ (c : Command). let r = asks_kept (fronts s file) file None in Answers r ⊎ Asks c r) (sym is) (inr (hash_call s.next file 0, stage.Hashing 1 s.next, refl, refl, refl, refl, (refl, refl)));
+  asks = λ file kept is un at. subst (λ (c : Command). let r = asks_kept (fronts s file) file (Some kept) in Answers r ⊎ Asks c r) (sym is) (inr (lease_call s.next file, stage.Asking s.next, refl, refl, refl, refl, refl));
+  closes = λ file l is un at. subst (λ (c : Command). let r = asks_temp s file true in Answers r ⊎ Asks c r) (sym is) (inr (make_call s.next s.next_temp file, stage.Making s.next s.next_temp, refl, refl, refl, refl, refl));
+})
+
+first_said : (P : Going) (E : Ending) (all : List Moment) → LogLaws all P E → (file : ℕ) (v : List ℕ) (m : Message) (st : Stage) → IsFirst file m st → P (Sent m ∷ []) file v st
+first_said P E all laws file v m (stage.Asking x) is = subst (λ (z : Message). P (Sent z ∷ []) file v (stage.Asking x)) (sym is) (laws.asks x file v)
+first_said P E all laws file v m (stage.Hashing tries x) (one, is) = subst (λ (z : Message). P (Sent z ∷ []) file v (stage.Hashing tries x)) (sym is) (subst (λ (n : ℕ). P (Sent (hash_call x file 0) ∷ []) file v (stage.Hashing n x)) (sym one) (laws.opens x file v))
+first_said P E all laws file v m (stage.Making x temp) is = subst (λ (z : Message). P (Sent z ∷ []) file v (stage.Making x temp)) (sym is) (laws.closes x temp file v)
+first_said P E all laws file v m st is = absurd is
 
 -- what a command makes of an operation, whatever its client answers
-abbrev new_op : (c : ℕ) → Command → (value : List ℕ) → (step : ℕ) → client.State → ClientStep → Op
+abbrev pub new_op : (c : ℕ) → Command → (value : List ℕ) → (step : ℕ) → client.State → ClientStep → Op
 new_op c d value step s acts = op_after (begun c (word_of d) (file_of d) value step) s [] step acts
 
-record IsNew (c : ℕ) (d : Command) (step : ℕ) (acts : ClientStep) (new : Op) : Type 0 where
-  client : new.client ≡ c
-  word : new.word ≡ word_of d
-  file : new.file ≡ file_of d
-  begin : new.begin ≡ step
-  point : new.point ≡ None
-  here : is_in new step c ≡ true
-  running : acts.ended ≡ None → new.outcome ≡ told.Running
-  over : (e : ℕ) → new.end ≡ Some e → e ≡ step
+pub record IsNew (c : ℕ) (d : Command) (step : ℕ) (acts : ClientStep) (new : Op) : Type 0 where
+  pub client : new.client ≡ c
+  pub word : new.word ≡ word_of d
+  pub file : new.file ≡ file_of d
+  pub begin : new.begin ≡ step
+  pub point : new.point ≡ None
+  pub here : is_in new step c ≡ true
+  pub running : acts.ended ≡ None → new.outcome ≡ told.Running
+  pub over : (e : ℕ) → new.end ≡ Some e → e ≡ step
 
-is_new : (c : ℕ) (d : Command) (value : List ℕ) (step : ℕ) (s : client.State) (acts : ClientStep) → IsNew c d step acts (op_after (begun c (word_of d) (file_of d) value step) s [] step acts)
+pub is_new : (c : ℕ) (d : Command) (value : List ℕ) (step : ℕ) (s : client.State) (acts : ClientStep) → IsNew c d step acts (op_after (begun c (word_of d) (file_of d) value step) s [] step acts)
 is_new c d value step s acts = by acts.ended
   where
     pointless : (b : Bool) (x : ℕ) → point_if b [] x None ≡ None
@@ -330,7 +324,7 @@ logs_does P E all laws book more past k qs after c now d seat kept here left h =
 
     -- with an operation under way nothing is sent
     busy : (t : Task) → seat.client.task ≡ Some t → IsSilent (moment k (Does c now d))
-    busy t task = (refl, sent ∙ (busy_command seat.client d now t task).0)
+    busy t task = (refl, refl, sent ∙ (busy_command seat.client d now t task).0)
 
     others : (p : ℕ) (o : Op) → slice_get k.ops p ≡ Some o → deals_in o (moment k (Does c now d)) ≡ []
     others p o at = by seat.place refl (kept.seats c seat here).matched
@@ -351,7 +345,7 @@ logs_does P E all laws book more past k qs after c now d seat kept here left h =
         deals_more o past (moment k (Does c now d))
         ∙ ap (λ l. l ++ deals_in o (moment k (Does c now d))) (deals_early k.steps o past (omega (arith, begin)) h.by)
         ∙ deals_own o (moment k (Does c now d)) is.here
-        ∙ ap (λ l. deals_with [] l) sent
+        ∙ ap (λ l. deals_with [] [] l) sent
 
     never : (len : ℕ) (digest : List ℕ) → (op_after (begun c (word_of d) (file_of d) (value_at_begin seat.client (word_of d) (file_of d) (command_step seat.client d now).1.ended) (k.steps + 1)) (command_step seat.client d now).0 [] (k.steps + 1) (command_step seat.client d now).1).outcome ≡ told.Opened len digest → ⊥
     never len digest e =
@@ -389,8 +383,7 @@ logs_does P E all laws book more past k qs after c now d seat kept here left h =
       where
         by : (let r = command_step seat.client d now in Answers r ⊎ Asks d r) → E (deals_of (op_after (begun c (word_of d) (file_of d) (value_at_begin seat.client (word_of d) (file_of d) (command_step seat.client d now).1.ended) (k.steps + 1)) (command_step seat.client d now).0 [] (k.steps + 1) (command_step seat.client d now).1) (past ++ moment k (Does c now d) ∷ [])) new.word new.file new.value new.outcome
         by (inl a) = nothing a.0
-        by (inr (running, inl (x, send, task, word))) = asked (stage.Hashing 1 x) (subst (λ l. P (map Sent l) (file_of d) new.value (stage.Hashing 1 x)) (sym send) (laws.opens x (file_of d) new.value)) (sym word)
-        by (inr (running, inr (x, temp, send, task, word))) = asked (stage.Making x temp) (subst (λ l. P (map Sent l) (file_of d) new.value (stage.Making x temp)) (sym send) (laws.closes x temp (file_of d) new.value)) (sym word)
+        by (inr (m, st, running, send, task, word, first)) = asked st (subst (λ l. P (map Sent l) (file_of d) new.value st) (sym send) (first_said P E all laws (file_of d) new.value m st first)) word
 
     mine : IsMatched seat → (j : Job) (o : Op) → job_of (place_with seat.place (length k.ops) (command_step seat.client d now).1.ended) (command_step seat.client d now).0.task ≡ Some j → slice_get (k.ops ++ new ∷ []) j.place ≡ Some o → P (deals_of o (past ++ moment k (Does c now d) ∷ [])) o.file o.value j.stage
     mine (inr m) j o is_job at =
@@ -429,31 +422,32 @@ logs_does P E all laws book more past k qs after c now d seat kept here left h =
 
         by : (let r = command_step seat.client d now in Answers r ⊎ Asks d r) → P (deals_of o (past ++ moment k (Does c now d) ∷ [])) o.file o.value j.stage
         by (inl a) = absurd (none_with seat.place (command_step seat.client d now).1.ended a.1.0 m.0 a.1.1 is_job)
-        by (inr (running, inl (x, send, task, word))) = shown (stage.Hashing 1 x) running task (subst (λ l. P (map Sent l) (file_of d) new.value (stage.Hashing 1 x)) (sym send) (laws.opens x (file_of d) new.value))
-        by (inr (running, inr (x, temp, send, task, word))) = shown (stage.Making x temp) running task (subst (λ l. P (map Sent l) (file_of d) new.value (stage.Making x temp)) (sym send) (laws.closes x temp (file_of d) new.value))
+        by (inr (f, st, running, send, task, word, first)) = shown st running task (subst (λ l. P (map Sent l) (file_of d) new.value st) (sym send) (first_said P E all laws (file_of d) new.value f st first))
 
 -- ---- an answer
 
 -- what an answer comes to, of which these were taken
-abbrev Comes : (P : Going) (E : Ending) (more : Book) (ops : List Op) (p : ℕ) → Op → List TakenCall → (steps : ℕ) → List Deal → client.State × ClientStep → List Message → Type 0
-Comes P E more ops p o taken n log got ms = more.ops ≡ slice_set ops p (op_after o got.0 taken (n + 1) got.1) → IsRight more (op_after o got.0 taken (n + 1) got.1) → After P E (log ++ deals_with ms got.1.send) got (op_after o got.0 taken (n + 1) got.1)
+abbrev Comes : (P : Going) (E : Ending) (more : Book) (ops : List Op) (p : ℕ) → Op → List TakenCall → (steps : ℕ) → List Deal → client.State × ClientStep → List Message → (found : List (ℕ × ℕ)) → Type 0
+Comes P E more ops p o taken n log got ms found = more.ops ≡ slice_set ops p (op_after o got.0 taken (n + 1) got.1) → IsRight more (op_after o got.0 taken (n + 1) got.1) → After P E (log ++ deals_with ms found got.1.send) got (op_after o got.0 taken (n + 1) got.1)
 
 answered : (P : Going) (E : Ending) (all : List Moment) → LogLaws all P E → (book more : Book) (taken : List TakenCall) (j : Job) (o : Op) (p : ℕ) (c : client.State) (x : ℕ) (b : Body) (log : List Deal) → book.moments ≡ all → c.task ≡ Some (record { file = j.file; stage = j.stage }) → P log o.file o.value j.stage → E log o.word o.file o.value o.outcome
-    → ((got : client.State × ClientStep) → more.ops ≡ slice_set book.ops p (op_after o got.0 taken (book.steps + 1) got.1) → IsRight more (op_after o got.0 taken (book.steps + 1) got.1) → Answering book more taken j o p c x got)
-    → Comes P E more book.ops p o taken book.steps log (got_message c c.task (message.Answer x b)) (wanted_by c (Ok (message.Answer x b)))
+    → ((got : client.State × ClientStep) → client.has_call (client.pending_in j.stage) x ≡ true → more.ops ≡ slice_set book.ops p (op_after o got.0 taken (book.steps + 1) got.1) → IsRight more (op_after o got.0 taken (book.steps + 1) got.1) → Answering book more taken j o p c x b got)
+    → Comes P E more book.ops p o taken book.steps log (got_message c c.task (message.Answer x b)) (wanted_by c (Ok (message.Answer x b))) (given_by_message c (Ok (message.Answer x b)))
 answered P E all laws book more taken j o p c x b log all_is task was each known =
-    subst (λ (t : Option Task). Comes P E more book.ops p o taken book.steps log (took_if c t x b (client.has_call (client.pending t) x)) (wanted_if (client.has_call (client.pending t) x) (message.Answer x b))) (sym task) (by (client.has_call (client.pending_in j.stage) x))
+    subst (λ (t : Option Task). Comes P E more book.ops p o taken book.steps log (took_if c t x b (client.has_call (client.pending t) x)) (wanted_if (client.has_call (client.pending t) x) (message.Answer x b)) (given_in c (reading t (message.Answer x b)))) (sym task) (by (client.has_call (client.pending_in j.stage) x) refl)
   where
-    dropped : (forgotten : Bool) → Comes P E more book.ops p o taken book.steps log (drops c (Some (record { file = j.file; stage = j.stage })) x forgotten) []
+    dropped : (forgotten : Bool) → Comes P E more book.ops p o taken book.steps log (drops c (Some (record { file = j.file; stage = j.stage })) x forgotten) [] []
     dropped true ops right = record {
       stage = λ u running is. subst (λ l. P l o.file o.value u.stage) (sym (append-nil log)) (subst (P log o.file o.value) (ap (λ (z : Task). z.stage) (some_is (record { file = j.file; stage = j.stage }) u (sym task ∙ is))) was);
       each = subst (λ l. E l o.word o.file o.value o.outcome) (sym (append-nil log)) each;
     }
     dropped false ops right = let r = bad_peer c (bad.UnknownXid x) 0 in absurd (no_fault_after more o r.0 taken (book.steps + 1) r.1 right (bad.UnknownXid x, refl))
 
-    by : (own : Bool) → Comes P E more book.ops p o taken book.steps log (took_if c (Some (record { file = j.file; stage = j.stage })) x b own) (wanted_if own (message.Answer x b))
-    by true ops right = laws.heard book more taken j o p c x b all_is (known (took (idle c) (client.calls_of c) j.file j.stage x b) ops right) log was
-    by false ops right = dropped (client.has_call c.forgotten x) ops right
+    by : (own : Bool) → client.has_call (client.pending_in j.stage) x ≡ own → Comes P E more book.ops p o taken book.steps log (took_if c (Some (record { file = j.file; stage = j.stage })) x b own) (wanted_if own (message.Answer x b)) (given_in c (reading_if (record { file = j.file; stage = j.stage }) x b own))
+    by true own ops right =
+        let got = took (idle c) (client.calls_of c) j.file j.stage x b in
+        subst (λ (l : List (ℕ × ℕ)). Answered P E book taken o log x b l got) (given_idle c (with_file j.file (reading_by j.stage x b))) (laws.heard book more taken j o p c x b all_is (known got own ops right) log was)
+    by false own ops right = dropped (client.has_call c.forgotten x) ops right
 
 logs_hears : (P : Going) (E : Ending) (all : List Moment) → LogLaws all P E → FitLaws → (opening : List Opening) (past : List Moment) (k : Core) (qs after : List Queue) (n now : ℕ) (bytes : List ℕ) (mid : List Queue) → IsKept (book_at opening k all) k qs → (h : Heard k qs n now bytes mid)
     → IsKept (book_at opening (happens k (Hears n now bytes)).core all) (happens k (Hears n now bytes)).core after → LogsAt P E past k → LogsAt P E (past ++ moment k (Hears n now bytes) ∷ []) (happens k (Hears n now bytes)).core
@@ -505,6 +499,7 @@ logs_hears P E all laws fits opening past k qs after n now bytes mid kept h left
         let job_is : job s.seat ≡ Some j = ap job same_seat ∙ w.1 in
         let talk = s.talk h.uncut in
         let fetch = subst (λ z. FetchOf book z j j.stage) taken_is (talk.fetch j job_is) in
+        let answer = subst (λ z. AnswerOf book z h.session.closing (Some j) h.told.xid h.told.reply) taken_is (subst (λ z. AnswerOf book h.session.taken h.session.closing z h.told.xid h.told.reply) job_is (subst (AllTolds (IsAnswer book h.session.taken h.session.closing (job s.seat))) h.first talk.answers).0) in
         let trying = subst (IsTrying book) w.1 (kept.seats h.session.owner h.seat h.owner).trying in
         let all_once = talk.balanced.once h.told.xid in
         let split = times_map_append (λ (c : Pending). c.xid) h.told.xid (client.pending_in j.stage) s.seat.client.forgotten in
@@ -514,9 +509,10 @@ logs_hears P E all laws fits opening past k qs after n now bytes mid kept h left
         let close = subst (λ (z : Seat). CloseOf book h.session.closing s.contents z.client.next_temp j (client.local_bytes z.client.opened j.file) j.stage) same_seat (s.closes h.uncut j job_is) in
         let value = value_by book h.session.closing s.contents h.seat.client.next_temp j o (client.local_bytes h.seat.client.opened j.file) at_place j.stage close in
         let log = log_is o new (running_past o r.0 taken k.steps r.1 actor.1) (running_now o r.0 taken k.steps h.session.owner r.1 actor.0 actor.1 actor.2) in
-        let a = answered P E all laws book more taken j o p h.seat.client h.told.xid (reply_body h.told.reply) (deals_of o past) refl task (before.jobs h.session.owner h.seat j o h.owner w.1 at_place) (before.each p o at) (λ got ops_got right_got. record {
+        let a = answered P E all laws book more taken j o p h.seat.client h.told.xid (reply_body h.told.reply) (deals_of o past) refl task (before.jobs h.session.owner h.seat j o h.owner w.1 at_place) (before.each p o at) (λ got mine ops_got right_got. record {
           taking = record { at = at_place; place = w.2; file = w.5; word = word; running = w.4; fetch = fetch; trying = trying; opening = refl };
           apart = apart;
+          fetched = fetched_now book taken h.session.closing j h.told.xid h.told.reply kept.sound fetch answer mine;
           value = value;
           ops = ops_got;
           right = right_got;
@@ -531,19 +527,21 @@ logs_hears P E all laws fits opening past k qs after n now bytes mid kept h left
         value_by book closing contents m j o v at (stage.Making x temp) h is = ap (λ (z : Op). z.value) (some_is o h.0.op (sym at ∙ h.0.there)) ∙ h.0.value_is
         value_by book closing contents m j o v at (stage.Storing st) h is = ap (λ (z : Op). z.value) (some_is o h.0.op (sym at ∙ h.0.there)) ∙ h.0.value_is
         value_by book closing contents m j o v at (stage.Committing x) h is = ap (λ (z : Op). z.value) (some_is o h.0 (sym at ∙ h.1)) ∙ h.3
+        value_by book closing contents m j o v at (stage.Asking x) h is = absurd cc
         value_by book closing contents m j o v at (stage.Hashing tries x) h is = absurd cc
         value_by book closing contents m j o v at (stage.Listing x f) h is = absurd cc
         value_by book closing contents m j o v at (stage.Reading f) h is = absurd cc
 
-        log_is : (o new : Op) → Rattle.kept_promise.proofs.Counted.AlikeUpTo k.steps o new → is_in new (k.steps + 1) h.session.owner ≡ true → deals_of new (past ++ moment k (Hears n now bytes) ∷ []) ≡ deals_of o past ++ deals_with (wanted_by h.seat.client (Ok (told_message h.told))) (got_step h.seat.client (Ok (told_message h.told)) now).1.send
+        log_is : (o new : Op) → Rattle.kept_promise.proofs.Counted.AlikeUpTo k.steps o new → is_in new (k.steps + 1) h.session.owner ≡ true → deals_of new (past ++ moment k (Hears n now bytes) ∷ []) ≡ deals_of o past ++ deals_with (wanted_by h.seat.client (Ok (told_message h.told))) (given_by_message h.seat.client (Ok (told_message h.told))) (got_step h.seat.client (Ok (told_message h.told)) now).1.send
         log_is o new same now_in =
             deals_more new past (moment k (Hears n now bytes))
             ∙ ap (λ l. l ++ deals_in new (moment k (Hears n now bytes))) (deals_alike k.steps o new past same before.by)
             ∙ ap (λ l. deals_of o past ++ l) (
             deals_own new (moment k (Hears n now bytes)) (ap (is_in new (k.steps + 1)) owner ∙ now_in)
-            ∙ ap (λ i. deals_with (taken_by k i (Hears n now bytes)) (happens k (Hears n now bytes)).up) owner
-            ∙ ap (λ l. deals_with l (happens k (Hears n now bytes)).up) (heard_takes fits (book_at opening k all) k qs n now bytes mid kept h)
-            ∙ ap (λ (t : CoreStep). deals_with (wanted_by h.seat.client (Ok (told_message h.told))) t.up) turned
+            ∙ ap (λ i. deals_with (taken_by k i (Hears n now bytes)) (given_by k i (Hears n now bytes)) (happens k (Hears n now bytes)).up) owner
+            ∙ ap (λ l. deals_with l (given_by k h.session.owner (Hears n now bytes)) (happens k (Hears n now bytes)).up) (heard_takes fits (book_at opening k all) k qs n now bytes mid kept h)
+            ∙ ap (λ l. deals_with (wanted_by h.seat.client (Ok (told_message h.told))) l (happens k (Hears n now bytes)).up) (heard_gives fits (book_at opening k all) k qs n now bytes mid kept h)
+            ∙ ap (λ (t : CoreStep). deals_with (wanted_by h.seat.client (Ok (told_message h.told))) (given_by_message h.seat.client (Ok (told_message h.told))) t.up) turned
             )
 
 -- ---- any event
@@ -562,4 +560,5 @@ pub carried_logs : (P : List Moment → Going) (E : List Moment → Ending) → 
 carried_logs P E laws fits = record {
   first = λ all opening files changes count kept. record { by = tt; jobs = λ i seat j o here is at. nothing_there o at; each = λ p o at. nothing_there o at };
   steps = λ all past rest opening k qs e mid after s h. logs_event (P all) (E all) all (laws all) fits past rest opening k qs e mid after s h;
+  adjusts = λ all past opening k qs index seats same h. logs_kept (P all) (E all) past k.steps k.seats seats k.ops same h;
 }

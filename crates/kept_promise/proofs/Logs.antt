@@ -3,16 +3,17 @@ use Rattle.std.proofs.Common.{◌⊎◌, inl, inr, ◌≡◌, ℕ, ◌+◌, ◌<
 use Rattle.open_close.specs.State as client
 use Rattle.register_model.specs.declared.op.Outcome.{Outcome}
 use Rattle.trace_replay.specs.Traffic.{deals_if}
-use Rattle.kept_promise.proofs.Common.{slice_get, Message, ClientStep, Stage, Task, Op, Word, TakenCall, op_after, place_after, Seat, numbered, with_numbered, ops_with, happens, Moment, step_of, client_of, taken_by, is_in, Deal, deals_with, deals_in, deals_of}
+use Rattle.kept_promise.proofs.Common.{slice_get, Message, ClientStep, Stage, Task, Op, Word, TakenCall, op_after, place_after, Seat, numbered, with_numbered, ops_with, happens, Moment, step_of, client_of, taken_by, given_by, is_in, Deal, deals_with, deals_in, deals_of}
 use Rattle.kept_promise.proofs.Messages.{Job, job}
+use Rattle.kept_promise.proofs.Adjusts.{SameSeats}
 use Rattle.kept_promise.proofs.Counted.{AlikeUpTo, early}
-use Rattle.kept_promise.proofs.JobFacts.{jobs_seat, jobs_more, ops_more, jobs_act, ops_act}
+use Rattle.kept_promise.proofs.JobFacts.{jobs_kept, jobs_seat, jobs_more, ops_more, jobs_act, ops_act}
 
 -- ---- what is past
 
 -- nothing is said at a moment
 abbrev pub IsSilent : Moment → Type 0
-IsSilent m = (taken_by m.before (client_of m.before m.event) m.event ≡ []) × ((happens m.before m.event).up ≡ [])
+IsSilent m = (taken_by m.before (client_of m.before m.event) m.event ≡ []) × (given_by m.before (client_of m.before m.event) m.event ≡ []) × ((happens m.before m.event).up ≡ [])
 
 -- whatever was said was so by this step
 abbrev pub ArePast : (step : ℕ) → List Moment → Type 0
@@ -25,22 +26,23 @@ past_more n k (z ∷ ms) m le now h = (elim h.0 [ inl a ↦ inl (omega (arith, a
 
 -- ---- what was said for an operation
 
-silent_if : (b : Bool) → deals_if b [] [] ≡ []
+silent_if : (b : Bool) → deals_if b [] [] [] ≡ []
 silent_if true = refl
 silent_if false = refl
 
 pub deals_silent : (o : Op) (m : Moment) → IsSilent m → deals_in o m ≡ []
 deals_silent o m s =
     let c : ℕ = client_of m.before m.event in
-    ap (λ (l : List Message). deals_if (is_in o (step_of m) c) l (happens m.before m.event).up) s.0
-    ∙ ap (λ (l : List Message). deals_if (is_in o (step_of m) c) [] l) s.1
+    ap (λ (l : List Message). deals_if (is_in o (step_of m) c) l (given_by m.before c m.event) (happens m.before m.event).up) s.0
+    ∙ ap (λ (l : List (ℕ × ℕ)). deals_if (is_in o (step_of m) c) [] l (happens m.before m.event).up) s.1
+    ∙ ap (λ (l : List Message). deals_if (is_in o (step_of m) c) [] [] l) s.2
     ∙ silent_if (is_in o (step_of m) c)
 
 pub deals_apart : (o : Op) (m : Moment) → is_in o (step_of m) (client_of m.before m.event) ≡ false → deals_in o m ≡ []
-deals_apart o m e = ap (λ (b : Bool). deals_if b (taken_by m.before (client_of m.before m.event) m.event) (happens m.before m.event).up) e
+deals_apart o m e = ap (λ (b : Bool). deals_if b (taken_by m.before (client_of m.before m.event) m.event) (given_by m.before (client_of m.before m.event) m.event) (happens m.before m.event).up) e
 
-pub deals_own : (o : Op) (m : Moment) → is_in o (step_of m) (client_of m.before m.event) ≡ true → deals_in o m ≡ deals_with (taken_by m.before (client_of m.before m.event) m.event) (happens m.before m.event).up
-deals_own o m e = ap (λ (b : Bool). deals_if b (taken_by m.before (client_of m.before m.event) m.event) (happens m.before m.event).up) e
+pub deals_own : (o : Op) (m : Moment) → is_in o (step_of m) (client_of m.before m.event) ≡ true → deals_in o m ≡ deals_with (taken_by m.before (client_of m.before m.event) m.event) (given_by m.before (client_of m.before m.event) m.event) (happens m.before m.event).up
+deals_own o m e = ap (λ (b : Bool). deals_if b (taken_by m.before (client_of m.before m.event) m.event) (given_by m.before (client_of m.before m.event) m.event) (happens m.before m.event).up) e
 
 appended : {A : Type 0} (xs ys zs : List A) → (xs ++ ys) ++ zs ≡ xs ++ (ys ++ zs)
 appended [] ys zs = refl
@@ -64,7 +66,7 @@ deals_alike n o r (m ∷ past) same h = ap (λ l. l ++ deals_of r past) here ∙
   where
     here : deals_in r m ≡ deals_in o m
     here = elim h.0 [
-      | inl le ↦ ap (λ (b : Bool). deals_if b (taken_by m.before (client_of m.before m.event) m.event) (happens m.before m.event).up) (same (step_of m) (client_of m.before m.event) le)
+      | inl le ↦ ap (λ (b : Bool). deals_if b (taken_by m.before (client_of m.before m.event) m.event) (given_by m.before (client_of m.before m.event) m.event) (happens m.before m.event).up) (same (step_of m) (client_of m.before m.event) le)
       | inr s ↦ deals_silent r m s ∙ sym (deals_silent o m s)
     ]
 
@@ -95,6 +97,10 @@ pub record HaveLogs (P : Going) (E : Ending) (past : List Moment) (step : ℕ) (
   pub by : ArePast step past
   pub jobs : (i : ℕ) (seat : Seat) (j : Job) (o : Op) → numbered seats i ≡ Some seat → job seat ≡ Some j → slice_get ops j.place ≡ Some o → P (deals_of o past) o.file o.value j.stage
   pub each : (p : ℕ) (o : Op) → slice_get ops p ≡ Some o → E (deals_of o past) o.word o.file o.value o.outcome
+
+-- clients have other indexes, or other contents
+pub logs_kept : (P : Going) (E : Ending) (past : List Moment) (step : ℕ) (seats after : List Seat) (ops : List Op) → SameSeats seats after → HaveLogs P E past step seats ops → HaveLogs P E past step after ops
+logs_kept P E past step seats after ops same h = record { by = h.by; jobs = jobs_kept (Goes P past) seats after ops same h.jobs; each = h.each }
 
 -- ---- nothing is said
 

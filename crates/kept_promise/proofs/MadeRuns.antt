@@ -5,20 +5,25 @@ use Rattle.wire.specs.declared.message.Body.TheVariants as body
 use Rattle.wire.specs.declared.message.Message.TheVariants as message
 use Rattle.hash_calls.specs.declared.message.Lb.TheVariants as lb
 use Rattle.nfs3_calls.specs.declared.message.Nfs.TheVariants as nfs
-use Rattle.server_core.specs.Closing.{at as at_reading, settles as server_settles, writes}
+use Rattle.server_core.specs.Closing.{at as at_reading, settles as server_settles, looked_up, names_bytes, names_unless, bytes_known, cond_fault}
+use Rattle.chunk_index.specs.Index.{key_of as digest_key, place_of}
 use Rattle.server_core.specs.State as server
 use Rattle.server_core.specs.Step.{hangs_if as server_hangs_if}
 use Rattle.server_core.specs.declared.event.Event.TheVariants as event
 use Rattle.open_close.specs.State as client
 use Rattle.register_model.specs.declared.op.Word.TheVariants as words
 use Rattle.trace_replay.specs.Faithful.{IsSettled, SettlesFirst}
-use Rattle.kept_promise.proofs.Common.{Contains-append_left, Contains-append_right, Contains-push, Contains-push_cases, slice_get, slice_set, Contains, if◌then◌else◌, nat_lt, parse_of, WireFault, Body, Message, Status, Node, root, file, node_of, entry_of, makes_change, makes, makes_unless, room_fault, writes_unless, commits, commits_to, commits_whole, has_waiting, is_full, server_step, connect, has_room, called, got_if, stands, Temp, size_most, temp_at, without_temp, piece_fault, assembled, Change, ServerStep, File, Entry, ClientStep, Ended, Op, Opening, Value, content_of, TakenCall, has_point, op_after, Core, Seat, Session, Event, Event.Joins, Event.Does, Event.Serves, Event.Hears, Event.Settles, Event.Cuts, Event.Hangs, CoreStep, numbered, server_waiting, serves_if, serves, joins_as, joins, does, cuts_if, cuts, hangs_if, hangs, ops_with, settles, happens, Moment, step_of, Book, Queue}
+use Rattle.kept_promise.proofs.Common.{Contains-push_cases, slice_get, slice_set, Contains, if◌then◌else◌, nat_lt, parse_of, WireFault, Body, Message, Status, Node, root, file, node_of, entry_of, makes_change, makes, makes_unless, room_fault, writes_unless, commits, commits_to, commits_whole, has_waiting, is_full, server_step, connect, has_room, called, got_if, stands, Temp, size_most, temp_at, without_temp, piece_fault, assembled, Change, ServerStep, File, Entry, ClientStep, Ended, Op, Opening, Value, content_of, TakenCall, has_point, op_after, Core, Seat, Session, Event, Event.Joins, Event.Does, Event.Serves, Event.Hears, Event.Settles, Event.Cuts, Event.Hangs, CoreStep, numbered, server_waiting, serves_if, serves, joins_as, joins, does, cuts_if, cuts, hangs_if, hangs, ops_with, settles, happens, Moment, step_of, Book, Queue}
 use Rattle.kept_promise.proofs.Lists.{some_is, nothing_there, at_end, at_replaced, kept_appended, of_appended, same_or_not, set_else}
 use Rattle.kept_promise.proofs.Turns.{also_numbered}
 use Rattle.kept_promise.proofs.Facts.{IsKept, FileIs}
 use Rattle.kept_promise.proofs.RunsCarried.{book_at, moment, Step, Carried}
 use Rattle.kept_promise.proofs.Actors.{heard_at}
 use Rattle.kept_promise.proofs.Promised.{own_there}
+use Rattle.kept_promise.proofs.Rights.{IsRight}
+use Rattle.kept_promise.proofs.VersionRuns.{close_not_opened}
+use Rattle.kept_promise.proofs.LogEvents.{value_stays}
+use Rattle.kept_promise.proofs.Growth.{or_map}
 
 -- ---- the journal stays but for a settling
 
@@ -63,7 +68,16 @@ called_journal s session xid (body.Lb (lb.TmpWrite a)) = by (temp_at s.temps ses
     by (Some t) None = refl
     by (Some t) (Some e) = refl
     by None o = refl
-called_journal s session xid (body.Lb (lb.CondWrite a)) = refl
+called_journal s session xid (body.Lb (lb.CondWrite a)) = by (temp_at s.temps session a.fd) (cond_fault a (temp_at s.temps session a.fd))
+  where
+    known : (t : Option Temp) (b : Option (List ℕ)) → (names_bytes (looked_up s a) session xid a t b).0.journal ≡ s.journal
+    known (Some t) (Some bytes) = refl
+    known (Some t) None = refl
+    known None b = refl
+
+    by : (t : Option Temp) (o : Option Status) → (names_unless s session xid a t o).0.journal ≡ s.journal
+    by t (Some e) = refl
+    by t None = known t (bytes_known s.files a (place_of s.index.pairs (digest_key a.digest)))
 called_journal s session xid (body.Lb (lb.CommitTmp a)) = by (temp_at s.temps session a.fd)
   where
     by : (t : Option Temp) → (commits s session xid a t).0.journal ≡ s.journal
@@ -85,42 +99,48 @@ got_journal s session m now = by (stands s session) m
 
 -- ---- what becomes of operations that have a point
 
--- a close with a point keeps it
+-- a close with a point keeps it, and its value
 abbrev pub KeepsPoints : (before after : List Op) → Type 0
-KeepsPoints before after = (j p : ℕ) (o : Op) → slice_get before j ≡ Some o → o.word ≡ words.Close → o.point ≡ Some p → (r : Op) × (slice_get after j ≡ Some r) × (r.client ≡ o.client) × (r.word ≡ words.Close) × (r.point ≡ Some p)
+KeepsPoints before after = (j p : ℕ) (o : Op) → slice_get before j ≡ Some o → o.word ≡ words.Close → o.point ≡ Some p → (r : Op) × (slice_get after j ≡ Some r) × (r.client ≡ o.client) × (r.word ≡ words.Close) × (r.point ≡ Some p) × (r.value ≡ o.value)
 
 same_points : (ops : List Op) → KeepsPoints ops ops
-same_points ops j p o at word point = (o, at, refl, word, point)
+same_points ops j p o at word point = (o, at, refl, word, point, refl)
 
 more_points : (ops : List Op) (new : Op) → KeepsPoints ops (ops ++ new ∷ [])
-more_points ops new j p o at word point = (o, kept_appended ops new j o at, refl, word, point)
+more_points ops new j p o at word point = (o, kept_appended ops new j o at, refl, word, point, refl)
 
 else_at : (ops : List Op) (k m : ℕ) (x : Op) → (m ≡ k → ⊥) → slice_get (slice_set ops k x) m ≡ slice_get ops m
 else_at ops k m x apart = set_else ops k m x apart
 
-acted_points : (ops : List Op) (place : Option ℕ) (c : client.State) (taken : List TakenCall) (step : ℕ) (acts : ClientStep) → KeepsPoints ops (ops_with ops place c taken step acts)
-acted_points ops None c taken step acts = same_points ops
-acted_points ops (Some l) c taken step acts = by (slice_get ops l) refl
+-- no close gets a content, so that its value stays
+acted_points : (more : Book) (ops : List Op) (place : Option ℕ) (c : client.State) (taken : List TakenCall) (step : ℕ) (acts : ClientStep) → ((j : ℕ) (r : Op) → slice_get (ops_with ops place c taken step acts) j ≡ Some r → IsRight more r) → KeepsPoints ops (ops_with ops place c taken step acts)
+acted_points more ops None c taken step acts rights = same_points ops
+acted_points more ops (Some l) c taken step acts rights = by (slice_get ops l) refl rights
   where
     closed : (o : Op) (p : ℕ) → o.word ≡ words.Close → o.point ≡ Some p → (e : Option Ended) → (let r = op_after o c taken step (record acts { ended = e }) in (r.client ≡ o.client) × (r.word ≡ words.Close) × (r.point ≡ Some p))
     closed o p word point None = (refl, word, point)
     closed o p word point (Some e) = (refl, word, ap (λ w. Rattle.trace_replay.specs.Ops.point_if (has_point w e.outcome) taken e.rests_on o.point) word ∙ point)
 
-    by : (q : Option Op) → slice_get ops l ≡ q → KeepsPoints ops (Rattle.trace_replay.specs.Core.ops_after ops l q c taken step acts)
-    by None e = same_points ops
-    by (Some q) e = λ j p o at word point. elim (same_or_not j l) [
-      | inr apart ↦ (o, else_at ops l j (op_after q c taken step acts) apart ∙ at, refl, word, point)
+    by : (q : Option Op) → slice_get ops l ≡ q → ((j : ℕ) (r : Op) → slice_get (Rattle.trace_replay.specs.Core.ops_after ops l q c taken step acts) j ≡ Some r → IsRight more r) → KeepsPoints ops (Rattle.trace_replay.specs.Core.ops_after ops l q c taken step acts)
+    by None e rights = same_points ops
+    by (Some q) e rights = λ j p o at word point. elim (same_or_not j l) [
+      | inr apart ↦ (o, else_at ops l j (op_after q c taken step acts) apart ∙ at, refl, word, point, refl)
       | inl same ↦
           let mine : q ≡ o = some_is q o (sym e ∙ ap (slice_get ops) (sym same) ∙ at) in
           let there : slice_get (slice_set ops l (op_after q c taken step acts)) j ≡ Some (op_after o c taken step acts) = ap (slice_get (slice_set ops l (op_after q c taken step acts))) same ∙ at_replaced ops l (op_after q c taken step acts) q e ∙ ap (λ (z : Op). Some (op_after z c taken step acts)) mine in
           let w = closed o p word point acts.ended in
-          (op_after o c taken step acts, there, w.0, w.1, w.2)
+          let value = value_stays o c taken step acts (λ len digest z. close_not_opened more (op_after o c taken step acts) len digest (rights j (op_after o c taken step acts) there) w.1 z) in
+          (op_after o c taken step acts, there, w.0, w.1, w.2, value)
     ]
 
 -- ---- an event of which no change comes
 
 abbrev Quietly : Core → CoreStep → Type 0
 Quietly k t = (t.core.entries ≡ k.entries) × (t.core.server.journal ≡ k.server.journal) × KeepsPoints k.ops t.core.ops
+
+-- operations are right by the book of what a step leaves
+left_rights : (all : List Moment) (opening : List Opening) (k : Core) (qs : List Queue) → IsKept (book_at opening k all) k qs → (j : ℕ) (r : Op) → slice_get k.ops j ≡ Some r → IsRight (book_at opening k all) r
+left_rights all opening k qs kept j r at = kept.sound.rights j r at
 
 quiet_event : (all past rest : List Moment) (opening : List Opening) (k : Core) (qs : List Queue) (e : Event) (mid after : List Queue) → Step all past rest opening k qs e mid after → ((now : ℕ) → e ≡ Settles now → ⊥) → Quietly k (happens k e)
 quiet_event all past rest opening k qs (Joins c) mid after s none = subst (λ (o : Option Seat). Quietly k (joins k c o)) (sym s.finds.1) (by s.finds.0 (has_room k.server))
@@ -140,13 +160,14 @@ quiet_event all past rest opening k qs (Serves n now bytes) mid after s none = b
         parsed (Err e) = (refl, refl, same_points k.ops)
 quiet_event all past rest opening k qs (Hears n now bytes) mid after s none =
     let h = heard_at (book_at opening k all) k qs n now bytes mid s.kept s.finds in
-    subst (λ (t : CoreStep). Quietly k t) (sym h.hears_is) (refl, refl, acted_points k.ops h.seat.place _ _ (k.steps + 1) _)
+    let rights = subst (λ (t : CoreStep). (j : ℕ) (r : Op) → slice_get t.core.ops j ≡ Some r → IsRight (book_at opening (happens k (Hears n now bytes)).core all) r) h.hears_is (left_rights all opening (happens k (Hears n now bytes)).core after s.left) in
+    subst (λ (t : CoreStep). Quietly k t) (sym h.hears_is) (refl, refl, acted_points (book_at opening (happens k (Hears n now bytes)).core all) k.ops h.seat.place _ _ (k.steps + 1) _ rights)
 quiet_event all past rest opening k qs (Settles now) mid after s none = absurd (none now refl)
-quiet_event all past rest opening k qs (Cuts c) mid after s none = subst (λ (o : Option Seat). Quietly k (cuts k c o)) (sym s.finds.1) (by s.finds.0.client.linked)
+quiet_event all past rest opening k qs (Cuts c) mid after s none = subst (λ (o : Option Seat). Quietly k (cuts k c o)) (sym s.finds.1) (by s.finds.0.client.linked (subst (λ (o : Option Seat). (j : ℕ) (r : Op) → slice_get (cuts k c o).core.ops j ≡ Some r → IsRight (book_at opening (happens k (Cuts c)).core all) r) s.finds.1 (left_rights all opening (happens k (Cuts c)).core after s.left)))
   where
-    by : (b : Bool) → Quietly k (cuts_if k c s.finds.0 b)
-    by true = (refl, refl, acted_points k.ops s.finds.0.place _ _ (k.steps + 1) _)
-    by false = (refl, refl, same_points k.ops)
+    by : (b : Bool) → ((j : ℕ) (r : Op) → slice_get (cuts_if k c s.finds.0 b).core.ops j ≡ Some r → IsRight (book_at opening (happens k (Cuts c)).core all) r) → Quietly k (cuts_if k c s.finds.0 b)
+    by true rights = (refl, refl, acted_points (book_at opening (happens k (Cuts c)).core all) k.ops s.finds.0.place _ _ (k.steps + 1) _ rights)
+    by false rights = (refl, refl, same_points k.ops)
 quiet_event all past rest opening k qs (Hangs n) mid after s none = by (numbered k.sessions n)
   where
     gone : (b : Bool) → (server_hangs_if k.server b n).0.journal ≡ k.server.journal
@@ -163,17 +184,17 @@ quiet_event all past rest opening k qs (Hangs n) mid after s none = by (numbered
 
 -- ---- what is carried
 
-pub record AreMade (opening : List Opening) (past : List Moment) (k : Core) : Type 0 where
-  pub settled : (i p : ℕ) → slice_get k.entries i ≡ Some p → IsSettled (book_at opening k past) i p
+pub record AreMade (opening : List Opening) (all past : List Moment) (k : Core) : Type 0 where
+  pub settled : (i p : ℕ) → slice_get k.entries i ≡ Some p → IsSettled (book_at opening k all) i p
   pub first : SettlesFirst (book_at opening k past)
 
--- it stays in a book that has grown
-settled_later : (before after : Book) (i p : ℕ) → ((m : Moment) → Contains before.moments m → Contains after.moments m) → ((e : Entry) → slice_get before.journal i ≡ Some e → slice_get after.journal i ≡ Some e) → KeepsPoints before.ops after.ops → IsSettled before i p → IsSettled after i p
-settled_later before after i p moments journal points s =
+-- it stays once a journal has grown
+settled_later : (opening : List Opening) (all : List Moment) (k l : Core) (i p : ℕ) → ((e : Entry) → slice_get k.server.journal i ≡ Some e → slice_get l.server.journal i ≡ Some e) → KeepsPoints k.ops l.ops → IsSettled (book_at opening k all) i p → IsSettled (book_at opening l all) i p
+settled_later opening all k l i p journal points s =
     let r = points s.place p s.op s.op_is s.word_is s.point_is in
     record {
       moment = s.moment;
-      there = moments s.moment s.there;
+      there = s.there;
       now = s.now;
       event_is = s.event_is;
       step_is = s.step_is;
@@ -192,13 +213,14 @@ settled_later before after i p moments journal points s =
       op_is = r.1;
       word_is = r.3;
       point_is = r.4;
+      value_is = or_map (book_at opening l all) _ _ (λ e. r.5 ∙ e) s.value_is;
       owner = s.owner ∙ sym r.2;
       closing = s.closing;
     }
 
-made_quietly : (opening : List Opening) (past : List Moment) (k : Core) (e : Event) → ((now : ℕ) → e ≡ Settles now → ⊥) → Quietly k (happens k e) → AreMade opening past k → AreMade opening (past ++ moment k e ∷ []) (happens k e).core
-made_quietly opening past k e none q h = record {
-  settled = λ i p at. settled_later (book_at opening k past) (book_at opening (happens k e).core (past ++ moment k e ∷ [])) i p (λ m there. Contains-append_left past (moment k e ∷ []) m there) (λ x was. ap (λ (l : List Entry). slice_get l i) q.1 ∙ was) q.2 (h.settled i p (ap (λ (l : List ℕ). slice_get l i) (sym q.0) ∙ at));
+made_quietly : (opening : List Opening) (all past : List Moment) (k : Core) (e : Event) → ((now : ℕ) → e ≡ Settles now → ⊥) → Quietly k (happens k e) → AreMade opening all past k → AreMade opening all (past ++ moment k e ∷ []) (happens k e).core
+made_quietly opening all past k e none q h = record {
+  settled = λ i p at. settled_later opening all k (happens k e).core i p (λ x was. ap (λ (l : List Entry). slice_get l i) q.1 ∙ was) q.2 (h.settled i p (ap (λ (l : List ℕ). slice_get l i) (sym q.0) ∙ at));
   first = λ m now c there is at. elim (Contains-push_cases past (moment k e) m there) [
     | inl old ↦ ap (λ (l : List ℕ). slice_get l (length m.before.server.journal)) q.0 ∙ h.first m now c old is at
     | inr new ↦ absurd (none now (ap (λ (z : Moment). z.event) new ∙ is))
@@ -214,35 +236,32 @@ left_by k r = record k { steps = k.steps + 1; server = r.0; ops = Rattle.trace_r
 -- a close that had no point gets one
 pointed_points : (ops : List Op) (place step : ℕ) (o : Op) → slice_get ops place ≡ Some o → o.point ≡ None → KeepsPoints ops (slice_set ops place (record o { point = Some step }))
 pointed_points ops place step o there none j p r at word point = elim (same_or_not j place) [
-  | inr apart ↦ (r, else_at ops place j (record o { point = Some step }) apart ∙ at, refl, word, point)
+  | inr apart ↦ (r, else_at ops place j (record o { point = Some step }) apart ∙ at, refl, word, point, refl)
   | inl same ↦ nothing_there p (sym none ∙ ap (λ (z : Op). z.point) (some_is o r (sym there ∙ ap (slice_get ops) (sym same) ∙ at)) ∙ point)
 ]
 
-made_settling : (all past rest : List Moment) (opening : List Opening) (k : Core) (qs : List Queue) (now : ℕ) (mid after : List Queue) → Step all past rest opening k qs (Settles now) mid after → AreMade opening past k → AreMade opening (past ++ moment k (Settles now) ∷ []) (settles k now).core
+made_settling : (all past rest : List Moment) (opening : List Opening) (k : Core) (qs : List Queue) (now : ℕ) (mid after : List Queue) → Step all past rest opening k qs (Settles now) mid after → AreMade opening all past k → AreMade opening all (past ++ moment k (Settles now) ∷ []) (settles k now).core
 made_settling all past rest opening k qs now mid after s h = by k.server.waiting refl
   where
     kept : IsKept (book_at opening k all) k qs
     kept = s.kept
 
-    more : (m : Moment) → Contains past m → Contains (past ++ moment k (Settles now) ∷ []) m
-    more m there = Contains-append_left past (moment k (Settles now) ∷ []) m there
-
-    here : Contains (past ++ moment k (Settles now) ∷ []) (moment k (Settles now))
-    here = Contains-append_right past (moment k (Settles now) ∷ []) (moment k (Settles now)) (Contains-push [] (moment k (Settles now)))
+    here : Contains all (moment k (Settles now))
+    here = s.noted.there
 
     count : length k.entries ≡ length k.server.journal
     count = s.kept.sound.journal.count
 
-    still : (w : List Change) → k.server.waiting ≡ w → w ≡ [] → AreMade opening (past ++ moment k (Settles now) ∷ []) (left_by k (server_settles k.server now []))
+    still : (w : List Change) → k.server.waiting ≡ w → w ≡ [] → AreMade opening all (past ++ moment k (Settles now) ∷ []) (left_by k (server_settles k.server now []))
     still w e none = record {
-      settled = λ i p at. settled_later (book_at opening k past) (book_at opening (left_by k (server_settles k.server now [])) (past ++ moment k (Settles now) ∷ [])) i p more (λ x was. was) (same_points k.ops) (h.settled i p (ap (λ (l : List ℕ). slice_get l i) (sym (append-nil k.entries)) ∙ at));
+      settled = λ i p at. settled_later opening all k (left_by k (server_settles k.server now [])) i p (λ x was. was) (same_points k.ops) (h.settled i p (ap (λ (l : List ℕ). slice_get l i) (sym (append-nil k.entries)) ∙ at));
       first = λ m n c there is at. ap (λ (l : List ℕ). slice_get l (length m.before.server.journal)) (append-nil k.entries) ∙ (elim (Contains-push_cases past (moment k (Settles now)) m there) [
         | inl old ↦ h.first m n c old is at
         | inr new ↦ nothing_there c (ap (λ (l : List Change). slice_get l 0) (sym (e ∙ none)) ∙ ap (λ (z : Moment). slice_get z.before.server.waiting 0) new ∙ at)
       ]);
     }
 
-    made : (c : Change) (cs : List Change) (f : File) → k.server.waiting ≡ c ∷ cs → server.file_at k.server.files c.file ≡ Some f → AreMade opening (past ++ moment k (Settles now) ∷ []) (left_by k (makes_change (at_reading (record k.server { waiting = cs }) now) c (Some f)))
+    made : (c : Change) (cs : List Change) (f : File) → k.server.waiting ≡ c ∷ cs → server.file_at k.server.files c.file ≡ Some f → AreMade opening all (past ++ moment k (Settles now) ∷ []) (left_by k (makes_change (at_reading (record k.server { waiting = cs }) now) c (Some f)))
     made c cs f e there =
         let first : slice_get k.server.waiting 0 ≡ Some c = ap (λ (l : List Change). slice_get l 0) e in
         let home = kept.home 0 c first in
@@ -259,7 +278,7 @@ made_settling all past rest opening k qs now mid after s h = by k.server.waiting
         let points : KeepsPoints k.ops (left_by k (makes_change (at_reading (record k.server { waiting = cs }) now) c (Some f))).ops = subst (KeepsPoints k.ops) (sym ops_are) (pointed_points k.ops pending.place (k.steps + 1) pending.op pending.there pending.unmade.1) in
         record {
           settled = λ i p at. elim (of_appended k.entries (k.steps + 1) i p at) [
-            | inr was ↦ settled_later (book_at opening k past) (book_at opening (left_by k (makes_change (at_reading (record k.server { waiting = cs }) now) c (Some f))) (past ++ moment k (Settles now) ∷ [])) i p more (λ y had. kept_appended k.server.journal (entry_of c f) i y had) points (h.settled i p was)
+            | inr was ↦ settled_later opening all k (left_by k (makes_change (at_reading (record k.server { waiting = cs }) now) c (Some f))) i p (λ y had. kept_appended k.server.journal (entry_of c f) i y had) points (h.settled i p was)
             | inl last ↦ record {
               moment = moment k (Settles now);
               there = here;
@@ -281,6 +300,7 @@ made_settling all past rest opening k qs now mid after s h = by k.server.waiting
               op_is = ap (λ (l : List Op). slice_get l pending.place) ops_are ∙ made_op;
               word_is = pending.unmade.0;
               point_is = ap (λ n. Some n) (sym last.1);
+              value_is = pending.value_is;
               owner = sym old.2 ∙ ap (λ (z : Op). z.client) (some_is old.0 pending.op (sym old.1 ∙ pending.there));
               closing = pending.known;
             }
@@ -291,7 +311,7 @@ made_settling all past rest opening k qs now mid after s h = by k.server.waiting
           ];
         }
 
-    found : (c : Change) (cs : List Change) → k.server.waiting ≡ c ∷ cs → (g : Option File) → server.file_at k.server.files c.file ≡ g → AreMade opening (past ++ moment k (Settles now) ∷ []) (left_by k (makes_change (at_reading (record k.server { waiting = cs }) now) c g))
+    found : (c : Change) (cs : List Change) → k.server.waiting ≡ c ∷ cs → (g : Option File) → server.file_at k.server.files c.file ≡ g → AreMade opening all (past ++ moment k (Settles now) ∷ []) (left_by k (makes_change (at_reading (record k.server { waiting = cs }) now) c g))
     found c cs e (Some f) there = made c cs f e there
     found c cs e None there =
         let known = kept.server.targets 0 c (ap (λ (l : List Change). slice_get l 0) e) in
@@ -302,24 +322,25 @@ made_settling all past rest opening k qs now mid after s h = by k.server.waiting
         not_there None e h = absurd cc
         not_there (Some x) e h = nothing_there x (sym e)
 
-    by : (w : List Change) → k.server.waiting ≡ w → AreMade opening (past ++ moment k (Settles now) ∷ []) (left_by k (server_settles k.server now w))
+    by : (w : List Change) → k.server.waiting ≡ w → AreMade opening all (past ++ moment k (Settles now) ∷ []) (left_by k (server_settles k.server now w))
     by [] e = still [] e refl
     by (c ∷ cs) e = found c cs e (server.file_at k.server.files c.file) refl
 
-settled_event : (all past rest : List Moment) (opening : List Opening) (k : Core) (qs : List Queue) (e : Event) (mid after : List Queue) → Step all past rest opening k qs e mid after → AreMade opening past k → AreMade opening (past ++ moment k e ∷ []) (happens k e).core
+settled_event : (all past rest : List Moment) (opening : List Opening) (k : Core) (qs : List Queue) (e : Event) (mid after : List Queue) → Step all past rest opening k qs e mid after → AreMade opening all past k → AreMade opening all (past ++ moment k e ∷ []) (happens k e).core
 settled_event all past rest opening k qs (Settles now) mid after s h = made_settling all past rest opening k qs now mid after s h
-settled_event all past rest opening k qs (Joins c) mid after s h = made_quietly opening past k (Joins c) (λ n z. absurd cc) (quiet_event all past rest opening k qs (Joins c) mid after s (λ n z. absurd cc)) h
-settled_event all past rest opening k qs (Does c now d) mid after s h = made_quietly opening past k (Does c now d) (λ n z. absurd cc) (quiet_event all past rest opening k qs (Does c now d) mid after s (λ n z. absurd cc)) h
-settled_event all past rest opening k qs (Serves n now bytes) mid after s h = made_quietly opening past k (Serves n now bytes) (λ n z. absurd cc) (quiet_event all past rest opening k qs (Serves n now bytes) mid after s (λ n z. absurd cc)) h
-settled_event all past rest opening k qs (Hears n now bytes) mid after s h = made_quietly opening past k (Hears n now bytes) (λ n z. absurd cc) (quiet_event all past rest opening k qs (Hears n now bytes) mid after s (λ n z. absurd cc)) h
-settled_event all past rest opening k qs (Cuts c) mid after s h = made_quietly opening past k (Cuts c) (λ n z. absurd cc) (quiet_event all past rest opening k qs (Cuts c) mid after s (λ n z. absurd cc)) h
-settled_event all past rest opening k qs (Hangs n) mid after s h = made_quietly opening past k (Hangs n) (λ n z. absurd cc) (quiet_event all past rest opening k qs (Hangs n) mid after s (λ n z. absurd cc)) h
+settled_event all past rest opening k qs (Joins c) mid after s h = made_quietly opening all past k (Joins c) (λ n z. absurd cc) (quiet_event all past rest opening k qs (Joins c) mid after s (λ n z. absurd cc)) h
+settled_event all past rest opening k qs (Does c now d) mid after s h = made_quietly opening all past k (Does c now d) (λ n z. absurd cc) (quiet_event all past rest opening k qs (Does c now d) mid after s (λ n z. absurd cc)) h
+settled_event all past rest opening k qs (Serves n now bytes) mid after s h = made_quietly opening all past k (Serves n now bytes) (λ n z. absurd cc) (quiet_event all past rest opening k qs (Serves n now bytes) mid after s (λ n z. absurd cc)) h
+settled_event all past rest opening k qs (Hears n now bytes) mid after s h = made_quietly opening all past k (Hears n now bytes) (λ n z. absurd cc) (quiet_event all past rest opening k qs (Hears n now bytes) mid after s (λ n z. absurd cc)) h
+settled_event all past rest opening k qs (Cuts c) mid after s h = made_quietly opening all past k (Cuts c) (λ n z. absurd cc) (quiet_event all past rest opening k qs (Cuts c) mid after s (λ n z. absurd cc)) h
+settled_event all past rest opening k qs (Hangs n) mid after s h = made_quietly opening all past k (Hangs n) (λ n z. absurd cc) (quiet_event all past rest opening k qs (Hangs n) mid after s (λ n z. absurd cc)) h
 
 abbrev pub AllSettled : (all past : List Moment) → List Opening → Core → List Queue → Type 0
-AllSettled all past opening k qs = AreMade opening past k
+AllSettled all past opening k qs = AreMade opening all past k
 
 pub carried_settled : Carried AllSettled
 carried_settled = record {
   first = λ all opening files changes count kept. record { settled = λ i p at. nothing_there p at; first = λ m now c there is at. (let lt = there.1 in absurd (omega (arith, lt))) };
   steps = λ all past rest opening k qs e mid after s h. settled_event all past rest opening k qs e mid after s h;
+  adjusts = λ all past opening k qs index seats same h. record { settled = h.settled; first = h.first };
 }

@@ -1,10 +1,11 @@
 -- What holds of a call and of an answer on its way, if its owner waits for it.
 use Rattle.std.proofs.Common.{◌≡◌, ℕ, suc, ◌+◌, ◌<◌, ◌≤◌, List, [], ◌∷◌, ◌⊎◌, Option, Some, None, Bool, false, length, take, drop, IsSome}
+use Rattle.hash_calls.specs.declared.call.Leased.{Leased}
 use Rattle.xdr_codec.specs.declared.status.Status.TheVariants as status
 use Rattle.open_close.specs.declared.task.Stage.TheVariants as stage
 use Rattle.register_model.specs.declared.op.Word.TheVariants as words
-use Rattle.kept_promise.proofs.Common.{slice_get, cond, ◌==◌, Contains, chunk_bytes, end_of, chunks_of, Chunk, Answer, Done, Failed, Attr, Committed, Hashes, HashRange, Piece, Range, hashes_of, piece_of, told_chunks, File, read_at, Fetch, ReadCall, Stage, Store, StoreCall, Task, Value, content_of, Op, Word, TakenCall, Seat, taken_at, hashed_of, Book, Or, value_at, version_at, Tried, Call, Call.Hash, Call.Read, Call.Make, Call.Name, Call.Send, Call.Commit, Reply, Reply.Hashed, Reply.Bytes, Reply.Changed, Ask, Told}
-use Rattle.kept_promise.proofs.Rights.{IsUnmade, IsMade}
+use Rattle.kept_promise.proofs.Common.{slice_get, cond, Status, Collides, ◌==◌, Contains, chunk_bytes, end_of, chunks_of, Chunk, Answer, Done, Failed, Attr, Committed, Hashes, HashRange, Piece, Range, hashes_of, piece_of, told_chunks, File, read_at, Fetch, ReadCall, Stage, Store, StoreCall, Task, Value, content_of, Op, Word, TakenCall, Seat, taken_at, hashed_of, sha1, Book, Or, value_at, version_at, Tried, Call, Call.Lease, Call.Hash, Call.Read, Call.Make, Call.Name, Call.Send, Call.Commit, Reply, Reply.Versioned, Reply.Hashed, Reply.Bytes, Reply.Changed, Ask, Told}
+use Rattle.kept_promise.proofs.Rights.{IsHeld, IsUnmade, IsMade}
 
 -- ---- the operation under way
 
@@ -64,6 +65,7 @@ read_chunk _ y = None
 
 -- a call that the owner waits for asks for what its task wants
 abbrev pub CallOf : Option Job → (xid : ℕ) → Call → Type 0
+CallOf job x (Lease g) = (j : Job) → job ≡ Some j → j.stage ≡ stage.Asking x → j.file ≡ g
 CallOf job x (Hash g offset) = (j : Job) (o : ℕ) → job ≡ Some j → hash_offset j.stage x ≡ Some o → (j.file ≡ g) × (o ≡ offset)
 CallOf job x (Read g c) = (j : Job) (k : Chunk) → job ≡ Some j → read_chunk j.stage x ≡ Some k → (j.file ≡ g) × (k ≡ c)
 CallOf job x c = Unit {0}
@@ -114,29 +116,47 @@ range_from offset = record { handle = []; offset = offset; count = 4294967295 }
 abbrev pub range_of : Chunk → Range
 range_of c = record { handle = []; offset = c.start; count = c.len }
 
--- the chunks that are told of a file are those of its content, which were hashed
+-- The chunks that are told of a file are those of the content that the server had, which were hashed. That is the file's value then, bytes that were
+-- known by their digest apart.
 pub record IsHashed (book : Book) (taken : List TakenCall) (j : Job) (xid offset : ℕ) (h : Hashes) : Type 0 where
   pub file : File
   pub is : h ≡ hashes_of file (range_from offset)
-  pub told : IsTold book taken j xid (Some file.content) file.version
+  pub held : IsHeld book.moments j.file file
+  pub value : List ℕ
+  pub told : IsTold book taken j xid (Some value) file.version
+  pub value_is : Or book (value ≡ file.content)
   pub short : length file.content ≤ 67108864
   pub known : IsSome (content_of book.opening j.file)
   pub hashed : (i : ℕ) (c : Chunk) → slice_get (told_chunks file.content (range_from offset)) i ≡ Some c → Contains (hashed_of book.moments) (chunk_bytes file.content c)
 
+-- the root is a directory, and any other file that is refused wasn't there then
+abbrev pub RefusedTold : Book → List TakenCall → Job → (xid : ℕ) → Status → Type 0
+RefusedTold book taken j xid s = ((s ≡ status.IsDir) × (j.file ≡ 1)) ⊎ (((s ≡ status.Stale) × (j.file ≡ 1 → ⊥)) × (content_of book.opening j.file ≡ None) × ((version : ℕ) × IsTold book taken j xid None version))
+
 abbrev pub HashTold : Book → List TakenCall → Job → (xid offset : ℕ) → Answer Hashes Unit → Type 0
-HashTold book taken j xid offset (Failed s u) = ((s ≡ status.IsDir) × (j.file ≡ 1)) ⊎ ((s ≡ status.Stale) × (content_of book.opening j.file ≡ None) × ((version : ℕ) × IsTold book taken j xid None version))
+HashTold book taken j xid offset (Failed s u) = RefusedTold book taken j xid s
 HashTold book taken j xid offset (Done h) = IsHashed book taken j xid offset h
 
--- a READ was taken after the attempt's first GETHASH, and this is what the file had then
+-- a version that was told is the file's then
+pub record IsLeased (book : Book) (taken : List TakenCall) (j : Job) (xid : ℕ) (l : Leased) : Type 0 where
+  pub value : List ℕ
+  pub told : IsTold book taken j xid (Some value) l.version
+  pub known : IsSome (content_of book.opening j.file)
+
+abbrev pub LeaseTold : Book → List TakenCall → Job → (xid : ℕ) → Answer Leased Unit → Type 0
+LeaseTold book taken j xid (Failed s u) = RefusedTold book taken j xid s
+LeaseTold book taken j xid (Done l) = IsLeased book taken j xid l
+
+-- a READ was taken after the attempt's first GETHASH, and this is what the server had of the file then
 pub record IsRead (book : Book) (taken : List TakenCall) (j : Job) (first : ℕ) (c : Chunk) (p : Piece) : Type 0 where
   pub file : File
   pub is : p ≡ piece_of file (range_of c)
+  pub held : IsHeld book.moments j.file file
   pub began : ℕ
   pub was : taken_at taken first ≡ Some began
   pub last : ℕ
   pub order : began < last
   pub past : last ≤ book.steps
-  pub value : value_at book j.file last ≡ Some file.content
   pub version_is : version_at book j.file last ≡ file.version
 
 abbrev pub ReadTold : Book → List TakenCall → Job → (first : ℕ) → Chunk → Answer Piece (Option Attr) → Type 0
@@ -162,6 +182,7 @@ TriedBy book taken j x _ = Unit {0}
 
 -- an answer that the owner waits for is true
 abbrev pub AnswerOf : Book → List TakenCall → (closing : Option ℕ) → Option Job → (xid : ℕ) → Reply → Type 0
+AnswerOf book taken closing job x (Versioned a) = (j : Job) → job ≡ Some j → j.stage ≡ stage.Asking x → LeaseTold book taken j x a
 AnswerOf book taken closing job x (Hashed a) = (j : Job) (o : ℕ) → job ≡ Some j → hash_offset j.stage x ≡ Some o → HashTold book taken j x o a × TriedBy book taken j x j.stage
 AnswerOf book taken closing job x (Bytes a) = (j : Job) (f : Fetch) (c : Chunk) → job ≡ Some j → j.stage ≡ stage.Reading f → read_chunk j.stage x ≡ Some c → ReadTold book taken j f.first c a
 AnswerOf book taken closing job x (Changed a) = (j : Job) → job ≡ Some j → j.stage ≡ stage.Committing x → CommitTold book closing j a
@@ -172,18 +193,22 @@ IsAnswer book taken closing job t = AnswerOf book taken closing job t.xid t.repl
 
 -- ---- a fetch
 
--- an attempt has the first chunks of a content that its file had, in its version, when its first GETHASH was taken
+-- an attempt has the first chunks of the content that the server had of its file, in its version, when its first GETHASH was taken
 pub record IsFetch (book : Book) (taken : List TakenCall) (j : Job) (f : Fetch) : Type 0 where
-  pub content : List ℕ
-  pub told : IsTold book taken j f.first (Some content) f.version
+  pub file : File
+  pub held : IsHeld book.moments j.file file
+  pub version : file.version ≡ f.version
+  pub value : List ℕ
+  pub told : IsTold book taken j f.first (Some value) f.version
+  pub value_is : Or book (value ≡ file.content)
   pub tried : IsTried book taken j f.first f.tries
-  pub size : f.size ≡ length content
-  pub short : length content ≤ 67108864
+  pub size : f.size ≡ length file.content
+  pub short : length file.content ≤ 67108864
   pub known : IsSome (content_of book.opening j.file)
   pub count : ℕ
-  pub within : count ≤ length (chunks_of content)
-  pub chunks : f.chunks ≡ take count (chunks_of content)
-  pub hashed : (i : ℕ) (c : Chunk) → slice_get f.chunks i ≡ Some c → Contains (hashed_of book.moments) (chunk_bytes content c)
+  pub within : count ≤ length (chunks_of file.content)
+  pub chunks : f.chunks ≡ take count (chunks_of file.content)
+  pub hashed : (i : ℕ) (c : Chunk) → slice_get f.chunks i ≡ Some c → Contains (hashed_of book.moments) (chunk_bytes file.content c)
 
 -- all chunks are told; what has come of each is its bytes, and each that was asked for has come or is under way
 pub record IsReading (book : Book) (content : List ℕ) (f : Fetch) : Type 0 where
@@ -196,7 +221,7 @@ pub record IsReading (book : Book) (content : List ℕ) (f : Fetch) : Type 0 whe
 
 abbrev pub FetchOf : Book → List TakenCall → Job → Stage → Type 0
 FetchOf book taken j (stage.Listing x f) = IsFetch book taken j f × (f.asked ≡ 0) × (f.under ≡ [])
-FetchOf book taken j (stage.Reading f) = (h : IsFetch book taken j f) × IsReading book h.content f
+FetchOf book taken j (stage.Reading f) = (h : IsFetch book taken j f) × IsReading book h.file.content f
 FetchOf book taken j _ = Unit {0}
 
 abbrev pub HasFetch : Book → List TakenCall → Option Job → Type 0
@@ -204,7 +229,8 @@ HasFetch book taken job = (j : Job) → job ≡ Some j → FetchOf book taken j 
 
 -- ---- a change on its way
 
--- a change is on its way, as a call or as one that waits: it is that of the close which the session remembers
+-- a change is on its way, as a call or as one that waits: it is that of the close which the session remembers, with its value, bytes that were known by
+-- their digest apart
 pub record IsPending (book : Book) (closing : Option ℕ) (cut : Bool) (job : Option Job) (xid file : ℕ) (content : List ℕ) : Type 0 where
   pub place : ℕ
   pub known : closing ≡ Some place
@@ -212,7 +238,8 @@ pub record IsPending (book : Book) (closing : Option ℕ) (cut : Bool) (job : Op
   pub there : slice_get book.ops place ≡ Some op
   pub unmade : IsUnmade op
   pub file_is : op.file ≡ file
-  pub value_is : op.value ≡ content
+  pub size_is : length op.value ≡ length content
+  pub value_is : Or book (op.value ≡ content)
   -- as long as the owner is at this session, it waits for it
   pub waited : cut ≡ false → job ≡ Some (record { place = place; file = file; stage = stage.Committing xid })
 
@@ -230,13 +257,20 @@ IsCommit book closing cut job contents a = CommitOf book closing cut job content
 abbrev pub IsPartOf : (content : List ℕ) → (start : ℕ) → (bytes : List ℕ) → Type 0
 IsPartOf content start bytes = bytes ≡ take (length bytes) (drop start content)
 
--- what is sent for a temporary file is a part of what it is to be
-abbrev pub PieceOf : (contents : ℕ → List ℕ) → Call → Type 0
-PieceOf contents (Send temp start bytes) = IsPartOf (contents temp) start bytes
-PieceOf contents c = Unit {0}
+-- a chunk is named as it is in a content, and its bytes were hashed
+pub record IsNamed (hashed : List (List ℕ)) (content : List ℕ) (c : Chunk) : Type 0 where
+  pub digest : c.digest ≡ sha1 (chunk_bytes content c)
+  pub len : length (chunk_bytes content c) ≡ c.len
+  pub there : Contains hashed (chunk_bytes content c)
 
-abbrev pub IsPiece : (contents : ℕ → List ℕ) → Ask → Type 0
-IsPiece contents a = PieceOf contents a.call
+-- what is named or sent for a temporary file is a part of what it is to be
+abbrev pub PieceOf : (hashed : List (List ℕ)) → (contents : ℕ → List ℕ) → Call → Type 0
+PieceOf hashed contents (Name temp c) = IsNamed hashed (contents temp) c
+PieceOf hashed contents (Send temp start bytes) = IsPartOf (contents temp) start bytes
+PieceOf hashed contents c = Unit {0}
+
+abbrev pub IsPiece : (hashed : List (List ℕ)) → (contents : ℕ → List ℕ) → Ask → Type 0
+IsPiece hashed contents a = PieceOf hashed contents a.call
 
 abbrev pub TempUnder : ℕ → Call → Type 0
 TempUnder n (Make temp file) = temp < n
@@ -245,10 +279,10 @@ TempUnder n (Send temp start bytes) = temp < n
 TempUnder n (Commit temp file size) = temp < n
 TempUnder n c = Unit {0}
 
--- the pieces of a temporary file are those of a content
-abbrev pub AreParts : (content : List ℕ) → List (ℕ × List ℕ) → Type 0
-AreParts content [] = Unit {0}
-AreParts content (p ∷ ps) = IsPartOf content p.0 p.1 × AreParts content ps
+-- the pieces of a temporary file are those of a content, bytes that were known by their digest apart
+abbrev pub AreParts : (hashed : List (List ℕ)) → (content : List ℕ) → List (ℕ × List ℕ) → Type 0
+AreParts hashed content [] = Unit {0}
+AreParts hashed content (p ∷ ps) = (IsPartOf content p.0 p.1 ⊎ Collides hashed) × AreParts hashed content ps
 
 -- a close that has not yet sent its commit
 pub record IsOwed (book : Book) (closing : Option ℕ) (j : Job) (content : List ℕ) : Type 0 where

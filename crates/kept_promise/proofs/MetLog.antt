@@ -1,5 +1,5 @@
 -- A run carries that an open gives an attempt up just where an answer showed another version, and that one which ended by that gave up as many as there may be.
-use Rattle.std.proofs.Common.{◌⊎◌, inl, inr, ◌≡◌, ℕ, zero, suc, ◌+◌, ◌-◌, ◌<◌, ◌≤◌, List, [], ◌∷◌, ◌++◌, length, Option, Some, None, Bool, true, false, refl, sym, ap, ◌∙◌, subst, arith, map}
+use Rattle.std.proofs.Common.{inl, inr, ◌≡◌, ℕ, ◌+◌, ◌-◌, ◌≤◌, List, [], ◌∷◌, ◌++◌, length, Option, Some, None, Bool, true, false, refl, sym, ap, ◌∙◌, subst, arith, map}
 use Rattle.std.proofs.lemmas.List.{length-append}
 use Rattle.hash_calls.specs.declared.message.Lb.TheVariants as lb
 use Rattle.nfs3_calls.specs.declared.message.Nfs.TheVariants as nfs
@@ -11,16 +11,18 @@ use Rattle.open_close.specs.declared.task.Stage.TheVariants as stage
 use Rattle.register_model.specs.declared.op.Outcome.{Outcome as History}
 use Rattle.register_model.specs.declared.op.Outcome.TheVariants as told
 use Rattle.register_model.specs.declared.op.Word.TheVariants as words
-use Rattle.trace_replay.specs.Traffic.{Attempt, new_attempt, Attempts, no_attempt, other_if, told_if, shown_if, given_up, begun_anew, begun_if, attempts_with, attempts_from, attempts_in, HasMet, AllMet, AttemptsMet}
-use Rattle.kept_promise.proofs.Common.{nat_tests, ◌==◌, nat_lt, option_map, slice_get, Done, Attr, Hashes, Piece, Body, Message, Pending, end_of, names_all, is_stored, calls_most, tries_most, hash_call, read_call, fetch_of, with_hashes, listed, reads_from, reads_next, reads_more, reads_all, is_here, with_bytes, other_version, shown_version, idle, tries_anew, reads_if, reads_on, goes_if, took, Reads, ClientStep, Ended, Outcome, Fetch, Stage, Store, Task, Chunk, Op, Word, TakenCall, op_after, told_of, Moment, Deal, Deal.Took, Deal.Sent, deals_with, deals_of, Book}
+use Rattle.trace_replay.specs.Traffic.{Attempt, new_attempt, Attempts, no_attempt, other_if, told_if, shown_if, given_up, begun_anew, begun_if, attempts_with, attempts_from, attempts_in, HasMet, AllMet, AttemptsMet, AttemptsEnd}
+use Rattle.trace_replay.specs.Trail.{sent_of}
+use Rattle.kept_promise.proofs.Common.{nat_tests, ◌==◌, nat_lt, option_map, Done, Attr, Hashes, Piece, Body, Message, Pending, end_of, tries_most, hash_call, read_call, with_hashes, reads_from, reads_chunk, other_version, shown_version, idle, took, Reads, ClientStep, Ended, Outcome, Fetch, Stage, Task, Chunk, Op, Word, TakenCall, op_after, told_of, Moment, Deal, Deal.Took, Deal.Found, Deal.Sent, deals_with, deals_of, Book}
 use Rattle.kept_promise.proofs.Lists.{some_is, nothing_there}
 use Rattle.kept_promise.proofs.Messages.{Job, stage_word}
 use Rattle.kept_promise.proofs.Rights.{IsRight, Caused}
 use Rattle.kept_promise.proofs.VersionRuns.{word_after}
-use Rattle.kept_promise.proofs.TookCases.{JustEnds, FetchIn, GaveUp, IsChangedBy, Cases, took_cases}
+use Rattle.kept_promise.proofs.StepCases.{reads_keep, FetchIn, FetchNow, FetchNow.all_told, FetchNow.one_came, GaveUp, IsChangedBy, reads_of, open_and_close, OfOpens, of_opens, took_cases}
 use Rattle.kept_promise.proofs.Logs.{Going, Ending}
-use Rattle.kept_promise.proofs.LogEvents.{IsUnopened, IsUnchanged, Answering, After, LogLaws}
-use Rattle.kept_promise.proofs.ClosesLog.{sent_more}
+use Rattle.kept_promise.proofs.LogSums.{sent_more, begins_in, attempts_log}
+use Rattle.kept_promise.proofs.LogEvents.{IsUnchanged, Answering, Answered, found_in, LogLaws}
+use Rattle.kept_promise.proofs.OwnLog.{OpOwn, none_begin}
 
 -- ---- what is carried
 
@@ -32,15 +34,20 @@ Tries t n a = (t.last ≡ Some a) × (length t.failed + 1 ≡ n) × AllMet t.fai
 abbrev pub Told : Attempts → (tries version : ℕ) → Type 0
 Told t n v = (m : Option ℕ) × Tries t n (record { told = Some v; met = m })
 
+-- each that was given up had met another version, and there are not too many
+abbrev pub Fine : Attempts → Type 0
+Fine t = AllMet t.failed × (length t.failed + length (given_up t.last) ≤ tries_most)
+
 abbrev pub MeetsBy : Going
+MeetsBy log file v (stage.Asking x) = attempts_in log ≡ no_attempt
 MeetsBy log file v (stage.Hashing tries x) = Tries (attempts_in log) tries new_attempt
 MeetsBy log file v (stage.Listing x f) = Told (attempts_in log) f.tries f.version
 MeetsBy log file v (stage.Reading f) = Told (attempts_in log) f.tries f.version
 MeetsBy log file v st = Unit {0}
 
 abbrev pub Met : List Deal → History → Type 0
-Met log (told.Changed first last) = AllMet (attempts_in log).failed × (length (attempts_in log).failed + 1 ≡ tries_most) × ((a : Attempt) × ((attempts_in log).last ≡ Some a) × HasMet first last a)
-Met log u = AllMet (attempts_in log).failed
+Met log (told.Changed first last) = Fine (attempts_in log) × (length (attempts_in log).failed + 1 ≡ tries_most) × ((a : Attempt) × ((attempts_in log).last ≡ Some a) × HasMet first last a)
+Met log u = Fine (attempts_in log)
 
 abbrev pub OpenMet : Ending
 OpenMet log words.Open file v u = Met log u
@@ -52,30 +59,38 @@ attempts_join : (t : Attempts) (a b : List Deal) → attempts_from t (a ++ b) �
 attempts_join t [] b = refl
 attempts_join t (d ∷ a) b = attempts_join (attempts_with t d) a b
 
--- READs begin no attempt
-reads_quiet : (t : Attempts) (k file : ℕ) (r : Reads) → attempts_from t (map Sent r.send) ≡ t → attempts_from t (map Sent (reads_more k file r).send) ≡ t
-reads_quiet t zero file r h = h
-reads_quiet t (suc k) file r h = reads_quiet t k file (reads_next file r (slice_get r.fetch.chunks r.fetch.asked)) (by (slice_get r.fetch.chunks r.fetch.asked))
-  where
-    by : (o : Option Chunk) → attempts_from t (map Sent (reads_next file r o).send) ≡ t
-    by None = h
-    by (Some c) = ap (attempts_from t) (sent_more r.send (read_call r.next file c)) ∙ attempts_join t (map Sent r.send) (Sent (read_call r.next file c) ∷ []) ∙ h
+attempts_found : (t : Attempts) (ps : List (ℕ × ℕ)) → attempts_from t (map Found ps) ≡ t
+attempts_found t [] = refl
+attempts_found t (p ∷ ps) = attempts_found t ps
 
-same_fetch : (k file : ℕ) (r : Reads) → ((reads_more k file r).fetch.tries ≡ r.fetch.tries) × ((reads_more k file r).fetch.version ≡ r.fetch.version)
-same_fetch zero file r = (refl, refl)
-same_fetch (suc k) file r = by (slice_get r.fetch.chunks r.fetch.asked) (λ q. same_fetch k file q)
+-- READs begin no attempt, and go on with theirs
+record Quiet (t : Attempts) (f : Fetch) (r : Reads) : Type 0 where
+  none : attempts_from t (map Sent r.send) ≡ t
+  tries : r.fetch.tries ≡ f.tries
+  version : r.fetch.version ≡ f.version
+
+reads_quiet : (t : Attempts) (s : client.State) (file : ℕ) (f : Fetch) → Quiet t f (reads_of s file f)
+reads_quiet t s file f = reads_keep (Quiet t f) s.cache s.index file (λ r c o h at found. by r c h o) (length f.chunks - f.asked) (reads_from f s.next) (record { none = refl; tries = refl; version = refl })
   where
-    by : (o : Option Chunk) → ((q : Reads) → ((reads_more k file q).fetch.tries ≡ q.fetch.tries) × ((reads_more k file q).fetch.version ≡ q.fetch.version)) → ((reads_more k file (reads_next file r o)).fetch.tries ≡ r.fetch.tries) × ((reads_more k file (reads_next file r o)).fetch.version ≡ r.fetch.version)
-    by None go = go r
-    by (Some c) go = go (reads_next file r (Some c))
+    by : (r : Reads) (c : Chunk) → Quiet t f r → (o : Option (List ℕ)) → Quiet t f (reads_chunk file r c o)
+    by r c h None = record { none = ap (attempts_from t) (sent_more r.send (read_call r.next file c)) ∙ attempts_join t (map Sent r.send) (Sent (read_call r.next file c) ∷ []) ∙ h.none; tries = h.tries; version = h.version }
+    by r c h (Some bytes) = record { none = h.none; tries = h.tries; version = h.version }
 
 -- ---- an answer
 
 -- an answer gives no attempt up
-took_failed : (t : Attempts) (x : ℕ) (b : Body) → (attempts_with t (Took (message.Answer x b))).failed ≡ t.failed
-took_failed t x (body.Lb (lb.GetHashAnswer (Done h))) = refl
-took_failed t x (body.Nfs (nfs.ReadAnswer (Done p))) = refl
-took_failed t x b = refl
+took_fine : (t : Attempts) (x : ℕ) (b : Body) → Fine t → Fine (attempts_with t (Took (message.Answer x b)))
+took_fine t x (body.Lb (lb.GetHashAnswer (Done h))) (all, few) = (all, by t.last few)
+  where
+    by : (l : Option Attempt) → length t.failed + length (given_up l) ≤ tries_most → length t.failed + length (given_up (option_map (λ (z : Attempt). told_if z.told h.version) l)) ≤ tries_most
+    by None le = le
+    by (Some a) le = le
+took_fine t x (body.Nfs (nfs.ReadAnswer (Done p))) (all, few) = (all, by t.last few)
+  where
+    by : (l : Option Attempt) → length t.failed + length (given_up l) ≤ tries_most → length t.failed + length (given_up (option_map (λ (z : Attempt). shown_if z.told p.attr) l)) ≤ tries_most
+    by None le = le
+    by (Some a) le = le
+took_fine t x b h = h
 
 -- what an answer to a GETHASH makes of the attempt
 hash_told : (t : Attempts) (x n : ℕ) (a : Attempt) (h : Hashes) → Tries t n a → Tries (attempts_with t (Took (message.Answer x (body.Lb (lb.GetHashAnswer (Done h)))))) n (told_if a.told h.version)
@@ -124,78 +139,32 @@ gave_up log file v st x b f version p (inr (piece, is, at, shows)) =
         by true s e = nothing_there w e
         by false s e = λ same. (let q = some_is (shown_version a) w e in grind (arith, nat_tests, s, same, q))
 
-all_met : (log : List Deal) (file : ℕ) (v : List ℕ) (st : Stage) → MeetsBy log file v st → stage_word st ≡ words.Open → AllMet (attempts_in log).failed
-all_met log file v (stage.Hashing tries x) p w = p.2
-all_met log file v (stage.Listing x f) p w = p.1.2
-all_met log file v (stage.Reading f) p w = p.1.2
-all_met log file v (stage.Making x temp) p w = absurd cc
-all_met log file v (stage.Storing st) p w = absurd cc
-all_met log file v (stage.Committing x) p w = absurd cc
+tries_fine : (t : Attempts) (n : ℕ) (a : Attempt) → Tries t n a → Fine t
+tries_fine t n a (last, count, all, most) = (all, (let e = ap (λ (o : Option Attempt). length (given_up o)) last in omega (arith, e, count, most)))
+
+all_met : (log : List Deal) (file : ℕ) (v : List ℕ) (st : Stage) → MeetsBy log file v st → stage_word st ≡ words.Open → Fine (attempts_in log)
+all_met log file v (stage.Asking x) p w = subst Fine (sym p) (tt, omega arith)
+all_met log file v (stage.Hashing tries x) p w = tries_fine (attempts_in log) tries new_attempt p
+all_met log file v (stage.Listing x f) p w = tries_fine (attempts_in log) f.tries _ p.1
+all_met log file v (stage.Reading f) p w = tries_fine (attempts_in log) f.tries _ p.1
+all_met log file v st p w = absurd cc
 
 -- what a step leaves of an open
-abbrev Meets : (log : List Deal) (x : ℕ) → Body → Stage → client.State × ClientStep → Type 0
-Meets log x b st r =
-    ((file : ℕ) (v : List ℕ) (u : Task) → r.1.ended ≡ None → r.0.task ≡ Some u → MeetsBy (log ++ deals_with (message.Answer x b ∷ []) r.1.send) file v u.stage)
-    × ((first last : ℕ) → IsChangedBy first last r → Met (log ++ deals_with (message.Answer x b ∷ []) r.1.send) (told.Changed first last))
-    × (stage_word st ≡ words.Open → AllMet (attempts_in (log ++ deals_with (message.Answer x b ∷ []) r.1.send)).failed)
+abbrev Meets : (log : List Deal) (x : ℕ) → Body → Stage → List (ℕ × ℕ) → client.State × ClientStep → Type 0
+Meets log x b st found r =
+    ((file : ℕ) (v : List ℕ) (u : Task) → r.1.ended ≡ None → r.0.task ≡ Some u → MeetsBy (log ++ deals_with (message.Answer x b ∷ []) found r.1.send) file v u.stage)
+    × ((first last : ℕ) → IsChangedBy first last r → Met (log ++ deals_with (message.Answer x b ∷ []) found r.1.send) (told.Changed first last))
+    × (stage_word st ≡ words.Open → Fine (attempts_in (log ++ deals_with (message.Answer x b ∷ []) found r.1.send)))
 
--- the log with an answer and what was sent
-joined_log : (log : List Deal) (x : ℕ) (b : Body) (ms : List Message) → attempts_in (log ++ deals_with (message.Answer x b ∷ []) ms) ≡ attempts_from (attempts_with (attempts_in log) (Took (message.Answer x b))) (map Sent ms)
-joined_log log x b ms = attempts_join no_attempt log (deals_with (message.Answer x b ∷ []) ms)
+-- the log with an answer, what was found and what was sent
+joined_log : (log : List Deal) (x : ℕ) (b : Body) (found : List (ℕ × ℕ)) (ms : List Message) → attempts_in (log ++ deals_with (message.Answer x b ∷ []) found ms) ≡ attempts_from (attempts_with (attempts_in log) (Took (message.Answer x b))) (map Sent ms)
+joined_log log x b found ms =
+    let t = attempts_with (attempts_in log) (Took (message.Answer x b)) in
+    attempts_join no_attempt log (deals_with (message.Answer x b ∷ []) found ms) ∙ attempts_join t (map Found found) (map Sent ms) ∙ ap (λ (z : Attempts). attempts_from z (map Sent ms)) (attempts_found t found)
 
 -- what is sent is no GETHASH of a first byte
-quiet_met : (log : List Deal) (file : ℕ) (v : List ℕ) (st : Stage) (x : ℕ) (b : Body) (ms : List Message) → MeetsBy log file v st → attempts_from (attempts_with (attempts_in log) (Took (message.Answer x b))) (map Sent ms) ≡ attempts_with (attempts_in log) (Took (message.Answer x b)) → stage_word st ≡ words.Open → AllMet (attempts_in (log ++ deals_with (message.Answer x b ∷ []) ms)).failed
-quiet_met log file v st x b ms p none open_ = subst AllMet (sym (ap (λ (t : Attempts). t.failed) (joined_log log x b ms ∙ none) ∙ took_failed (attempts_in log) x b)) (all_met log file v st p open_)
-
--- READs go out, or all is here
-reads_meet : (log : List Deal) (file : ℕ) (v : List ℕ) (st : Stage) (x : ℕ) (b : Body) (s : client.State) (calls : List Pending) (own xid : ℕ) (f : Fetch) (bytes : ℕ) → MeetsBy log file v st → Told (attempts_with (attempts_in log) (Took (message.Answer x b))) f.tries f.version → Meets log x b st (reads_on s calls own xid f bytes)
-reads_meet log file v st x b s calls own xid f bytes p h = by (is_here (reads_all own f s.next).fetch)
-  where
-    after : Attempts
-    after = attempts_with (attempts_in log) (Took (message.Answer x b))
-
-    quiet : attempts_from (attempts_with (attempts_in log) (Took (message.Answer x b))) (map Sent (reads_all own f s.next).send) ≡ attempts_with (attempts_in log) (Took (message.Answer x b))
-    quiet = reads_quiet (attempts_with (attempts_in log) (Took (message.Answer x b))) (calls_most - length f.under) own (reads_from f s.next) refl
-
-    same : ((reads_all own f s.next).fetch.tries ≡ f.tries) × ((reads_all own f s.next).fetch.version ≡ f.version)
-    same = same_fetch (calls_most - length f.under) own (reads_from f s.next)
-
-    on : Told (attempts_in (log ++ deals_with (message.Answer x b ∷ []) (reads_all own f s.next).send)) (reads_all own f s.next).fetch.tries (reads_all own f s.next).fetch.version
-    on = subst (λ (t : Attempts). Told t (reads_all own f s.next).fetch.tries (reads_all own f s.next).fetch.version) (sym (joined_log log x b (reads_all own f s.next).send ∙ quiet)) (subst (λ n. Told after n (reads_all own f s.next).fetch.version) (sym same.0) (subst (Told after f.tries) (sym same.1) h))
-
-    opened_not : (file len : ℕ) (digest : List ℕ) (first last : ℕ) → outcome.Opened file len digest ≡ outcome.Changed first last → ⊥
-    opened_not file len digest first last z = absurd cc
-
-    by : (t : Bool) → Meets log x b st (reads_if s calls own xid (reads_all own f s.next) bytes t)
-    by true = (
-      λ g w u running. nothing_there _ (sym running),
-      λ first last (e, is, c). absurd (opened_not own _ _ first last (ap (λ (z : Ended). z.outcome) (some_is _ e is) ∙ c)),
-      λ open_. quiet_met log file v st x b [] p refl open_,
-    )
-    by false = (
-      λ g w u running is. subst (λ (z : Task). MeetsBy (log ++ deals_with (message.Answer x b ∷ []) (reads_all own f s.next).send) g w z.stage) (some_is _ u is) on,
-      λ first last (e, is, c). nothing_there e is,
-      λ open_. quiet_met log file v st x b (reads_all own f s.next).send p quiet open_,
-    )
-
--- a close gives no attempt up
-stores_meet : (log : List Deal) (x : ℕ) (b : Body) (st : Stage) (r : client.State × ClientStep) → (stage_word st ≡ words.Open → ⊥) → r.1.ended ≡ None → ((u : Task) → r.0.task ≡ Some u → stage_word u.stage ≡ words.Close) → Meets log x b st r
-stores_meet log x b st r close running after = (λ file v u none is. by file v u.stage (after u is), λ first last (e, is, c). nothing_there e (sym running ∙ is), λ open_. absurd (close open_))
-  where
-    by : (file : ℕ) (v : List ℕ) (t : Stage) → stage_word t ≡ words.Close → MeetsBy (log ++ deals_with (message.Answer x b ∷ []) r.1.send) file v t
-    by file v (stage.Making y temp) e = tt
-    by file v (stage.Storing w) e = tt
-    by file v (stage.Committing y) e = tt
-    by file v (stage.Hashing tries y) e = absurd cc
-    by file v (stage.Listing y f) e = absurd cc
-    by file v (stage.Reading f) e = absurd cc
-
-close_not_open : words.Close ≡ words.Open → ⊥
-close_not_open e = absurd cc
-
-store_closes : (st : Stage) (x : ℕ) (content : List ℕ) (w : Store) → Rattle.kept_promise.proofs.TookCases.StoreIn st x content w → stage_word st ≡ words.Open → ⊥
-store_closes st x content w (inl (y, temp, is, e)) open_ = close_not_open (sym (ap stage_word is) ∙ open_)
-store_closes st x content w (inr (old, is, e)) open_ = close_not_open (sym (ap stage_word is) ∙ open_)
+quiet_met : (log : List Deal) (file : ℕ) (v : List ℕ) (st : Stage) (x : ℕ) (b : Body) (found : List (ℕ × ℕ)) (ms : List Message) → MeetsBy log file v st → attempts_from (attempts_with (attempts_in log) (Took (message.Answer x b))) (map Sent ms) ≡ attempts_with (attempts_in log) (Took (message.Answer x b)) → stage_word st ≡ words.Open → Fine (attempts_in (log ++ deals_with (message.Answer x b ∷ []) found ms))
+quiet_met log file v st x b found ms p none open_ = subst Fine (sym (joined_log log x b found ms ∙ none)) (took_fine (attempts_in log) x b (all_met log file v st p open_))
 
 met_append : (earlier : List Attempt) (a : Attempt) → AllMet earlier → (told : ℕ) × (met : ℕ) × HasMet told met a → AllMet (earlier ++ a ∷ [])
 met_append [] a h one = (one, tt)
@@ -214,47 +183,90 @@ given_more t n version met (last, count, all, most) apart few =
       few,
     )
 
-meets_cases : (log : List Deal) (s : client.State) (calls : List Pending) (file : ℕ) (v : List ℕ) (st : Stage) (x : ℕ) (b : Body) → MeetsBy log file v st → Cases (Meets log x b st) s calls file st x b
+told_now : (log : List Deal) (file : ℕ) (v : List ℕ) (st : Stage) (x : ℕ) (b : Body) (f : Fetch) (bytes : ℕ) → MeetsBy log file v st → FetchNow st x b f bytes → Told (attempts_with (attempts_in log) (Took (message.Answer x b))) f.tries f.version
+told_now log file v st x b f bytes p (all_told g h is eof at same f_is none) = subst (λ (z : Fetch). Told (attempts_with (attempts_in log) (Took (message.Answer x b))) z.tries z.version) (sym f_is) (told_in log file v st x b h g p is at)
+told_now log file v st x b f bytes p (one_came g c k piece is at found chunk fits f_is len) =
+    let was : Told (attempts_in log) g.tries g.version = subst (MeetsBy log file v) at p in
+    subst (λ (z : Fetch). Told (attempts_with (attempts_in log) (Took (message.Answer x b))) z.tries z.version) (sym f_is)
+    (subst (λ (d : Body). Told (attempts_with (attempts_in log) (Took (message.Answer x d))) g.tries g.version) (sym is) (other_version g.version piece.attr, read_told (attempts_in log) x g.tries (record { told = Some g.version; met = was.0 }) piece was.1))
+
+none_close : (log : List Deal) (file : ℕ) (v : List ℕ) (t : Stage) → stage_word t ≡ words.Close → MeetsBy log file v t
+none_close log file v (stage.Making y temp) e = tt
+none_close log file v (stage.Storing w) e = tt
+none_close log file v (stage.Committing y) e = tt
+none_close log file v t e = absurd cc
+
+opened_not : (file len : ℕ) (digest : List ℕ) (first last : ℕ) → outcome.Opened file len digest ≡ outcome.Changed first last → ⊥
+opened_not file len digest first last z = absurd cc
+
+meets_cases : (log : List Deal) (s : client.State) (calls : List Pending) (file : ℕ) (v : List ℕ) (st : Stage) (x : ℕ) (b : Body) → MeetsBy log file v st → OfOpens (Meets log x b st) s calls file st x b
 meets_cases log s calls file v st x b p = record {
-  ends = λ r e unchanged. (
+  closes = λ close r goes unopened unchanged. (
+    λ g w u running is. none_close (log ++ deals_with (message.Answer x b ∷ []) [] r.1.send) g w u.stage (goes u running is),
+    λ first last is. absurd (unchanged first last is),
+    λ open_. absurd (open_and_close (stage_word st) open_ close),
+  );
+  ends = λ open_ r e unchanged. (
     λ g w u running. nothing_there e.ended (sym running ∙ e.ended_is),
     λ first last is. absurd (unchanged first last is),
-    λ open_. subst (λ (ms : List Message). AllMet (attempts_in (log ++ deals_with (message.Answer x b ∷ []) ms)).failed) (sym e.sent) (quiet_met log file v st x b [] p refl open_),
+    λ w. subst (λ (ms : List Message). Fine (attempts_in (log ++ deals_with (message.Answer x b ∷ []) [] ms))) (sym e.sent) (quiet_met log file v st x b [] [] p refl w),
   );
-  anew = λ c f version bytes open_ next gave few.
+  uses = λ y l bytes at is kept. (
+    λ g w u running. nothing_there _ (sym running),
+    λ first last (e, ended, c). absurd (opened_not file _ _ first last (ap (λ (z : Ended). z.outcome) (some_is _ e ended) ∙ c)),
+    λ w. quiet_met log file v st x b [] [] p refl w,
+  );
+  fetches = λ y l at is.
+      let was : attempts_in log ≡ no_attempt = subst (MeetsBy log file v) at p in
+      let now : Tries (attempts_in (log ++ deals_with (message.Answer x b ∷ []) [] (hash_call s.next file 0 ∷ []))) 1 new_attempt = subst (λ (t : Attempts). Tries t 1 new_attempt) (sym (joined_log log x b [] (hash_call s.next file 0 ∷ []) ∙ ap (λ (c : Body). begun_anew (attempts_with (attempts_in log) (Took (message.Answer x c)))) is ∙ ap begun_anew was)) (refl, refl, tt, omega arith) in (
+        λ h w u running task. subst (λ (z : Task). MeetsBy (log ++ deals_with (message.Answer x b ∷ []) [] (hash_call s.next file 0 ∷ [])) h w z.stage) (some_is _ u task) now,
+        λ first last (e, ended, z). nothing_there e ended,
+        λ w. tries_fine (attempts_in (log ++ deals_with (message.Answer x b ∷ []) [] (hash_call s.next file 0 ∷ []))) 1 new_attempt now,
+      );
+  anew = λ f version bytes open_ gave few came.
       let g = gave_up log file v st x b f version p gave in
-      let now : Tries (attempts_in (log ++ deals_with (message.Answer x b ∷ []) (hash_call c.next file 0 ∷ []))) (f.tries + 1) new_attempt = subst (λ (t : Attempts). Tries t (f.tries + 1) new_attempt) (sym (joined_log log x b (hash_call c.next file 0 ∷ []))) (given_more (attempts_with (attempts_in log) (Took (message.Answer x b))) f.tries f.version version g.0 g.1 (below f.tries few)) in (
-        λ h w u running is. subst (λ (z : Task). MeetsBy (log ++ deals_with (message.Answer x b ∷ []) (hash_call c.next file 0 ∷ [])) h w z.stage) (some_is _ u is) now,
+      let now : Tries (attempts_in (log ++ deals_with (message.Answer x b ∷ []) [] (hash_call s.next file 0 ∷ []))) (f.tries + 1) new_attempt = subst (λ (t : Attempts). Tries t (f.tries + 1) new_attempt) (sym (joined_log log x b [] (hash_call s.next file 0 ∷ []))) (given_more (attempts_with (attempts_in log) (Took (message.Answer x b))) f.tries f.version version g.0 g.1 (below f.tries few)) in (
+        λ h w u running is. subst (λ (z : Task). MeetsBy (log ++ deals_with (message.Answer x b ∷ []) [] (hash_call s.next file 0 ∷ [])) h w z.stage) (some_is _ u is) now,
         λ first last (e, is, z). nothing_there e is,
-        λ w. now.2,
+        λ w. tries_fine (attempts_in (log ++ deals_with (message.Answer x b ∷ []) [] (hash_call s.next file 0 ∷ []))) (f.tries + 1) new_attempt now,
       );
   changed = λ r f version e open_ gave many is.
       let g = gave_up log file v st x b f version p gave in
       let all : f.tries ≡ tries_most = at_most f.tries many g.0.3 in
       let count = g.0.1 in
-      let now : attempts_in (log ++ deals_with (message.Answer x b ∷ []) r.1.send) ≡ attempts_with (attempts_in log) (Took (message.Answer x b)) = ap (λ (ms : List Message). attempts_in (log ++ deals_with (message.Answer x b ∷ []) ms)) e.sent ∙ joined_log log x b [] in (
+      let now : attempts_in (log ++ deals_with (message.Answer x b ∷ []) [] r.1.send) ≡ attempts_with (attempts_in log) (Took (message.Answer x b)) = ap (λ (ms : List Message). attempts_in (log ++ deals_with (message.Answer x b ∷ []) [] ms)) e.sent ∙ joined_log log x b [] [] in
+      let fine = tries_fine (attempts_with (attempts_in log) (Took (message.Answer x b))) f.tries (record { told = Some f.version; met = Some version }) g.0 in (
         λ h w u running. nothing_there e.ended (sym running ∙ e.ended_is),
         λ first last (y, at, c).
             let told_is : outcome.Changed f.version version ≡ outcome.Changed first last = sym is.2 ∙ ap (λ (z : Ended). z.outcome) (some_is is.0 y (sym is.1 ∙ at)) ∙ c in
-            subst (λ (t : Attempts). AllMet t.failed × (length t.failed + 1 ≡ tries_most) × ((a : Attempt) × (t.last ≡ Some a) × HasMet first last a)) (sym now)
-            (g.0.2, count ∙ all, (record { told = Some f.version; met = Some version }, g.0.0, (ap (λ n. Some n) (ap first_of told_is), ap (λ n. Some n) (ap last_of told_is), λ same. g.1 (ap first_of told_is ∙ same ∙ sym (ap last_of told_is))))),
-        λ w. subst (λ (t : Attempts). AllMet t.failed) (sym now) g.0.2,
+            subst (λ (t : Attempts). Fine t × (length t.failed + 1 ≡ tries_most) × ((a : Attempt) × (t.last ≡ Some a) × HasMet first last a)) (sym now)
+            (fine, count ∙ all, (record { told = Some f.version; met = Some version }, g.0.0, (ap (λ n. Some n) (ap first_of told_is), ap (λ n. Some n) (ap last_of told_is), λ same. g.1 (ap first_of told_is ∙ same ∙ sym (ap last_of told_is))))),
+        λ w. subst Fine (sym now) fine,
       );
-  lists = λ f h is at far.
+  lists = λ f h is at same far.
       let told = told_in log file v st x b h f p is at in
       let m : Message = hash_call s.next file (end_of (with_hashes f h).chunks) in
       let quiet : attempts_from (attempts_with (attempts_in log) (Took (message.Answer x b))) (map Sent (m ∷ [])) ≡ attempts_with (attempts_in log) (Took (message.Answer x b)) = ap (λ t. begun_if t (attempts_with (attempts_in log) (Took (message.Answer x b)))) far in
-      let now : Told (attempts_in (log ++ deals_with (message.Answer x b ∷ []) (m ∷ []))) f.tries f.version = subst (λ (t : Attempts). Told t f.tries f.version) (sym (joined_log log x b (m ∷ []) ∙ quiet)) told in (
-        λ g w u running task. subst (λ (z : Task). MeetsBy (log ++ deals_with (message.Answer x b ∷ []) (m ∷ [])) g w z.stage) (some_is _ u task) now,
+      let now : Told (attempts_in (log ++ deals_with (message.Answer x b ∷ []) [] (m ∷ []))) f.tries f.version = subst (λ (t : Attempts). Told t f.tries f.version) (sym (joined_log log x b [] (m ∷ []) ∙ quiet)) told in (
+        λ g w u running task. subst (λ (z : Task). MeetsBy (log ++ deals_with (message.Answer x b ∷ []) [] (m ∷ [])) g w z.stage) (some_is _ u task) now,
         λ first last (e, ended, c). nothing_there e ended,
-        λ open_. quiet_met log file v st x b (m ∷ []) p quiet open_,
+        λ open_. quiet_met log file v st x b [] (m ∷ []) p quiet open_,
       );
-  first = λ f h is at. reads_meet log file v st x b s calls file x (listed (with_hashes f h)) 0 p (told_in log file v st x b h f p is at);
-  next = λ f c k piece is at found chunk fits.
-      let was : Told (attempts_in log) f.tries f.version = subst (MeetsBy log file v) at p in
-      reads_meet log file v st x b s calls file x (with_bytes f c piece.bytes) (length piece.bytes) p (subst (λ (d : Body). Told (attempts_with (attempts_in log) (Took (message.Answer x d))) f.tries f.version) (sym is) (other_version f.version piece.attr, read_told (attempts_in log) x f.tries (record { told = Some f.version; met = was.0 }) piece was.1));
-  stores = λ w at known. stored w at (is_stored (names_all w s.next).store);
-  whole = λ old c k at unknown found chunk. stores_meet log x b st (Rattle.open_close.specs.Step.sends_whole s file x (client.local_bytes s.opened file) (Rattle.open_close.specs.Closing.answered old x) c (Some k)) (λ open_. close_not_open (sym (ap stage_word at) ∙ open_)) refl (λ u is. subst (λ (z : Task). stage_word z.stage ≡ words.Close) (some_is _ u is) refl);
+  reads = λ f bytes now here.
+      let t = attempts_with (attempts_in log) (Took (message.Answer x b)) in
+      let r = reads_of s file f in
+      let q = reads_quiet t s file f in
+      let fs = Rattle.kept_promise.proofs.StepCases.given s file f in
+      let on : Told (attempts_in (log ++ deals_with (message.Answer x b ∷ []) fs r.send)) r.fetch.tries r.fetch.version = subst (λ (z : Attempts). Told z r.fetch.tries r.fetch.version) (sym (joined_log log x b fs r.send ∙ q.none)) (subst (λ n. Told t n r.fetch.version) (sym q.tries) (subst (Told t f.tries) (sym q.version) (told_now log file v st x b f bytes p now))) in (
+        λ g w u running is. subst (λ (z : Task). MeetsBy (log ++ deals_with (message.Answer x b ∷ []) fs r.send) g w z.stage) (some_is _ u is) on,
+        λ first last (e, is, c). nothing_there e is,
+        λ open_. quiet_met log file v st x b fs r.send p q.none open_,
+      );
+  opens = λ f bytes now here. (
+    λ g w u running. nothing_there _ (sym running),
+    λ first last (e, is, c). absurd (opened_not file _ _ first last (ap (λ (z : Ended). z.outcome) (some_is _ e is) ∙ c)),
+    λ open_. quiet_met log file v st x b (Rattle.kept_promise.proofs.StepCases.given s file f) [] p refl open_,
+  );
 }
   where
     below : (n : ℕ) → nat_lt n tries_most ≡ true → n + 1 ≤ tries_most
@@ -271,10 +283,6 @@ meets_cases log s calls file v st x b p = record {
     last_of (outcome.Changed first last) = last
     last_of o = 0
 
-    stored : (w : Store) → Rattle.kept_promise.proofs.TookCases.StoreIn st x (client.local_bytes s.opened file) w → (t : Bool) → Meets log x b st (goes_if s file (client.local_bytes s.opened file) (names_all w s.next) t)
-    stored w at true = stores_meet log x b st (goes_if s file (client.local_bytes s.opened file) (names_all w s.next) true) (store_closes st x (client.local_bytes s.opened file) w at) refl (λ u is. subst (λ (z : Task). stage_word z.stage ≡ words.Close) (some_is _ u is) refl)
-    stored w at false = stores_meet log x b st (goes_if s file (client.local_bytes s.opened file) (names_all w s.next) false) (store_closes st x (client.local_bytes s.opened file) w at) refl (λ u is. subst (λ (z : Task). stage_word z.stage ≡ words.Close) (some_is _ u is) refl)
-
 -- an outcome of the history is that of a step
 changed_by : (u : Outcome) (first last : ℕ) → told_of u ≡ told.Changed first last → u ≡ outcome.Changed first last
 changed_by (outcome.Changed a b) first last e = ap (λ (z : History). outcome.Changed (first_in z) (last_in z)) e
@@ -288,8 +296,8 @@ changed_by (outcome.Changed a b) first last e = ap (λ (z : History). outcome.Ch
     last_in u = 0
 changed_by u first last e = absurd cc
 
-meets_heard : (book more : Book) (taken : List TakenCall) (j : Job) (o : Op) (p : ℕ) (s : client.State) (x : ℕ) (b : Body) → Answering book more taken j o p s x (took (idle s) (client.calls_of s) j.file j.stage x b) → (log : List Deal) → MeetsBy log o.file o.value j.stage
-    → (let r = took (idle s) (client.calls_of s) j.file j.stage x b in After MeetsBy OpenMet (log ++ deals_with (message.Answer x b ∷ []) r.1.send) r (op_after o r.0 taken (book.steps + 1) r.1))
+meets_heard : (book more : Book) (taken : List TakenCall) (j : Job) (o : Op) (p : ℕ) (s : client.State) (x : ℕ) (b : Body) → Answering book more taken j o p s x b (took (idle s) (client.calls_of s) j.file j.stage x b) → (log : List Deal) → MeetsBy log o.file o.value j.stage
+    → Answered MeetsBy OpenMet book taken o log x b (found_in s j.file j.stage x b) (took (idle s) (client.calls_of s) j.file j.stage x b)
 meets_heard book more taken j o p s x b a log h = record {
   stage = λ u running is. left.0 (op_after o r.0 taken (book.steps + 1) r.1).file (op_after o r.0 taken (book.steps + 1) r.1).value u running is;
   each = by (op_after o r.0 taken (book.steps + 1) r.1).word refl;
@@ -298,8 +306,11 @@ meets_heard book more taken j o p s x b a log h = record {
     r : client.State × ClientStep
     r = took (idle s) (client.calls_of s) j.file j.stage x b
 
-    left : Meets log x b j.stage (took (idle s) (client.calls_of s) j.file j.stage x b)
-    left = took_cases (Meets log x b j.stage) (idle s) (client.calls_of s) j.file j.stage x b (meets_cases log (idle s) (client.calls_of s) j.file o.value j.stage x b (subst (λ f. MeetsBy log f o.value j.stage) a.taking.file h))
+    log2 : List Deal
+    log2 = log ++ deals_with (message.Answer x b ∷ []) (found_in s j.file j.stage x b) (took (idle s) (client.calls_of s) j.file j.stage x b).1.send
+
+    left : Meets log x b j.stage (found_in s j.file j.stage x b) (took (idle s) (client.calls_of s) j.file j.stage x b)
+    left = took_cases (Meets log x b j.stage) (idle s) (client.calls_of s) j.file j.stage x b (of_opens (Meets log x b j.stage) (idle s) (client.calls_of s) j.file j.stage x b (meets_cases log (idle s) (client.calls_of s) j.file o.value j.stage x b (subst (λ f. MeetsBy log f o.value j.stage) a.taking.file h)))
 
     running_not : (first last : ℕ) → told.Running ≡ told.Changed first last → ⊥
     running_not first last z = absurd cc
@@ -308,47 +319,108 @@ meets_heard book more taken j o p s x b a log h = record {
     ended None first last is = absurd (running_not first last (sym a.taking.running ∙ is))
     ended (Some e) first last is = (e, refl, changed_by e.outcome first last is)
 
-    met : stage_word j.stage ≡ words.Open → (u : History) → (op_after o r.0 taken (book.steps + 1) r.1).outcome ≡ u → Met (log ++ deals_with (message.Answer x b ∷ []) r.1.send) u
+    met : stage_word j.stage ≡ words.Open → (u : History) → (op_after o r.0 taken (book.steps + 1) r.1).outcome ≡ u → Met log2 u
     met open_ (told.Changed first last) is = left.1 first last (ended r.1.ended first last is)
     met open_ u is = left.2 open_
 
-    by : (w : Word) → (op_after o r.0 taken (book.steps + 1) r.1).word ≡ w → OpenMet (log ++ deals_with (message.Answer x b ∷ []) r.1.send) w (op_after o r.0 taken (book.steps + 1) r.1).file (op_after o r.0 taken (book.steps + 1) r.1).value (op_after o r.0 taken (book.steps + 1) r.1).outcome
+    by : (w : Word) → (op_after o r.0 taken (book.steps + 1) r.1).word ≡ w → OpenMet log2 w (op_after o r.0 taken (book.steps + 1) r.1).file (op_after o r.0 taken (book.steps + 1) r.1).value (op_after o r.0 taken (book.steps + 1) r.1).outcome
     by words.Open e = met (sym a.taking.word ∙ sym (word_after o r.0 taken (book.steps + 1) r.1) ∙ e) (op_after o r.0 taken (book.steps + 1) r.1).outcome refl
     by w e = tt
 
 pub meets_laws : (all : List Moment) → LogLaws all MeetsBy OpenMet
 meets_laws all = record {
   none = λ w file v u un same. none w file v u same;
+  asks = λ x file v. refl;
   opens = λ x file v. (refl, refl, tt, (let le : 1 ≤ tries_most = omega arith in le));
   closes = λ x temp file v. tt;
   other = λ log file v st u p un same. other log file v st u p same;
   heard = λ book more taken j o p s x b all_is a log h. meets_heard book more taken j o p s x b a log h;
 }
   where
-    plain : (log : List Deal) (u : History) → AllMet (attempts_in log).failed → IsUnchanged u → Met log u
+    plain : (log : List Deal) (u : History) → Fine (attempts_in log) → IsUnchanged u → Met log u
     plain log (told.Changed first last) h same = absurd (same first last refl)
     plain log u h same = h
 
     none : (w : Word) (file : ℕ) (v : List ℕ) (u : History) → IsUnchanged u → OpenMet [] w file v u
-    none words.Open file v u same = plain [] u tt same
+    none words.Open file v u same = plain [] u (tt, omega arith) same
     none w file v u same = tt
 
     other : (log : List Deal) (file : ℕ) (v : List ℕ) (st : Stage) (u : History) → MeetsBy log file v st → IsUnchanged u → OpenMet log (stage_word st) file v u
-    other log file v (stage.Hashing tries x) u p same = plain log u p.2 same
-    other log file v (stage.Listing x f) u p same = plain log u p.1.2 same
-    other log file v (stage.Reading f) u p same = plain log u p.1.2 same
     other log file v (stage.Making x temp) u p same = tt
     other log file v (stage.Storing st) u p same = tt
     other log file v (stage.Committing x) u p same = tt
+    other log file v (stage.Asking x) u p same = plain log u (all_met log file v (stage.Asking x) p refl) same
+    other log file v (stage.Hashing tries x) u p same = plain log u (all_met log file v (stage.Hashing tries x) p refl) same
+    other log file v (stage.Listing x f) u p same = plain log u (all_met log file v (stage.Listing x f) p refl) same
+    other log file v (stage.Reading f) u p same = plain log u (all_met log file v (stage.Reading f) p refl) same
 
 -- ---- what it makes of the promise
 
 pub attempts_met : (past : List Moment) (o : Op) → o.word ≡ words.Open → OpenMet (deals_of o past) o.word o.file o.value o.outcome → AttemptsMet o (deals_of o past)
-attempts_met past o open_ h = record { each = each o.outcome met; changed = λ first last is. let w = subst (Met (deals_of o past)) is met in (w.1, w.2) }
+attempts_met past o open_ h = record { each = (fine_of (deals_of o past) o.outcome met).0; changed = λ first last is. let w = subst (Met (deals_of o past)) is met in (w.1, w.2) }
   where
     met : Met (deals_of o past) o.outcome
     met = subst (λ w. OpenMet (deals_of o past) w o.file o.value o.outcome) open_ h
 
-    each : (u : History) → Met (deals_of o past) u → AllMet (attempts_in (deals_of o past)).failed
-    each (told.Changed first last) h = h.0
-    each u h = h
+    fine_of : (log : List Deal) (u : History) → Met log u → Fine (attempts_in log)
+    fine_of log (told.Changed first last) h = h.0
+    fine_of log u h = h
+
+-- how many began
+abbrev pub count_of : Attempts → ℕ
+count_of t = length t.failed + length (given_up t.last)
+
+pub begun_count : (log : List Deal) (t : Attempts) → count_of (attempts_from t log) ≡ count_of t + begins_in log
+begun_count [] t = omega arith
+begun_count (d ∷ log) t = let h = begun_count log (attempts_with t d) in let e = one d in omega (arith, h, e)
+  where
+    same : (g : Attempt → Attempt) (l : Option Attempt) → length (given_up (option_map g l)) ≡ length (given_up l)
+    same g None = refl
+    same g (Some a) = refl
+
+    anew : (b : Bool) → count_of (begun_if b t) ≡ count_of t + Rattle.kept_promise.proofs.Common.number_if b 1
+    anew true = let l = length-append t.failed (given_up t.last) in omega (arith, l)
+    anew false = omega arith
+
+    one : (d : Deal) → count_of (attempts_with t d) ≡ count_of t + (begins_in (d ∷ []))
+    one (Sent (message.Call xid (body.Lb (lb.GetHash a)))) = let h = anew (a.offset == 0) in omega (arith, h)
+    one (Took (message.Answer xid (body.Lb (lb.GetHashAnswer (Done h))))) = let e = same (λ (z : Attempt). told_if z.told h.version) t.last in omega (arith, e)
+    one (Took (message.Answer xid (body.Nfs (nfs.ReadAnswer (Done p))))) = let e = same (λ (z : Attempt). shown_if z.told p.attr) t.last in omega (arith, e)
+    one d = omega arith
+
+-- where none began, none is under way
+pub none_begun : (log : List Deal) → begins_in log ≡ 0 → (attempts_in log).last ≡ None
+none_begun log none = let c = begun_count log no_attempt in by (attempts_in log).last (omega (arith, c, none))
+  where
+    by : (l : Option Attempt) → length (given_up l) ≡ 0 → l ≡ None
+    by None e = refl
+    by (Some a) e = absurd (omega (arith, e))
+
+abbrev IsShut : Word → Type 0
+IsShut words.Open = ⊥
+IsShut w = Unit {0}
+
+pub attempts_end : (book : Book) (past : List Moment) (o : Op) → IsRight book o → OpenMet (deals_of o past) o.word o.file o.value o.outcome → OpOwn (deals_of o past) o.word o.file o.value o.outcome → AttemptsEnd (sent_of past) o
+attempts_end book past o right met own = by o.word refl
+  where
+    by : (w : Word) → o.word ≡ w → AttemptsEnd (sent_of past) o
+    by words.Open open_ =
+        let m = attempts_met past o open_ met in
+        let n = attempts_log o past in
+        let c = begun_count (deals_of o past) no_attempt in
+        let few = (fine o.outcome (subst (λ w. OpenMet (deals_of o past) w o.file o.value o.outcome) open_ met)).1 in
+        record {
+          most = omega (arith, n, c, few);
+          all = λ first last is. (let w = m.changed first last is in let k = w.0 in let e = ap (λ (l : Option Attempt). length (given_up l)) w.1.1 in omega (arith, n, c, k, e));
+        }
+      where
+        fine : (u : History) → Met (deals_of o past) u → Fine (attempts_in (deals_of o past))
+        fine (told.Changed first last) h = h.0
+        fine u h = h
+    by w other =
+        let n = attempts_log o past in
+        let z = none_begin past o (λ open_. not_open w tt (sym other ∙ open_)) own in
+        record { most = omega (arith, n, z); all = λ first last is. absurd (not_open w tt (sym other ∙ (subst (Caused book o) is right.cause).0)) }
+      where
+        not_open : (w : Word) → IsShut w → w ≡ words.Open → ⊥
+        not_open w h e = subst IsShut e h

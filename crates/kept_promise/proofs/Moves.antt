@@ -5,7 +5,7 @@ use Rattle.wire.specs.declared.message.Program.TheVariants as program
 use Rattle.hash_calls.specs.declared.message.LbProc.TheVariants as lb_proc
 use Rattle.nfs3_calls.specs.declared.message.NfsProc.TheVariants as nfs_proc
 use Rattle.open_close.specs.State as client
-use Rattle.kept_promise.proofs.Common.{slice_get, not, cond, ◌==◌, IsExpected, waiting, Pending, Program, Change, without_call, Reply, Reply.Hashed, Reply.Bytes, Reply.Made, Reply.Named, Reply.Stored, Reply.Changed, Ask, Told, Queue, reply_program, reply_body, told_message}
+use Rattle.kept_promise.proofs.Common.{slice_get, not, cond, ◌==◌, IsExpected, waiting, Pending, Program, Change, without_call, Reply, Reply.Versioned, Reply.Hashed, Reply.Bytes, Reply.Made, Reply.Named, Reply.Stored, Reply.Changed, Ask, Told, Queue, reply_program, reply_body, told_message}
 use Rattle.kept_promise.proofs.Lists.{some_is, nothing_there}
 use Rattle.kept_promise.proofs.Keys.{times, times_append, code_of, pending_key, told_key, ask_key, change_key, own, found_by, there_by, key_xid, key_code}
 use Rattle.kept_promise.proofs.Taken.{times_map_append}
@@ -18,43 +18,14 @@ reply_ours : (r : Reply) → (c : Program) → 0 < code_of c → code_of c ≡ c
 reply_ours r c lt e = by c r lt e
   where
     by : (c : Program) (r : Reply) → 0 < code_of c → code_of c ≡ code_of (reply_program r) → c ≡ reply_program r
+    by (program.Lb lb_proc.GetLease) (Versioned a) lt e = refl
     by (program.Lb lb_proc.GetHash) (Hashed a) lt e = refl
-    by (program.Lb lb_proc.GetHash) (Bytes a) lt e = absurd (omega (arith, e))
-    by (program.Lb lb_proc.GetHash) (Made a) lt e = absurd (omega (arith, e))
-    by (program.Lb lb_proc.GetHash) (Named a) lt e = absurd (omega (arith, e))
-    by (program.Lb lb_proc.GetHash) (Stored a) lt e = absurd (omega (arith, e))
-    by (program.Lb lb_proc.GetHash) (Changed a) lt e = absurd (omega (arith, e))
     by (program.Lb lb_proc.MkTmpFile) (Made a) lt e = refl
-    by (program.Lb lb_proc.MkTmpFile) (Hashed a) lt e = absurd (omega (arith, e))
-    by (program.Lb lb_proc.MkTmpFile) (Bytes a) lt e = absurd (omega (arith, e))
-    by (program.Lb lb_proc.MkTmpFile) (Named a) lt e = absurd (omega (arith, e))
-    by (program.Lb lb_proc.MkTmpFile) (Stored a) lt e = absurd (omega (arith, e))
-    by (program.Lb lb_proc.MkTmpFile) (Changed a) lt e = absurd (omega (arith, e))
     by (program.Lb lb_proc.CondWrite) (Named a) lt e = refl
-    by (program.Lb lb_proc.CondWrite) (Hashed a) lt e = absurd (omega (arith, e))
-    by (program.Lb lb_proc.CondWrite) (Bytes a) lt e = absurd (omega (arith, e))
-    by (program.Lb lb_proc.CondWrite) (Made a) lt e = absurd (omega (arith, e))
-    by (program.Lb lb_proc.CondWrite) (Stored a) lt e = absurd (omega (arith, e))
-    by (program.Lb lb_proc.CondWrite) (Changed a) lt e = absurd (omega (arith, e))
     by (program.Lb lb_proc.TmpWrite) (Stored a) lt e = refl
-    by (program.Lb lb_proc.TmpWrite) (Hashed a) lt e = absurd (omega (arith, e))
-    by (program.Lb lb_proc.TmpWrite) (Bytes a) lt e = absurd (omega (arith, e))
-    by (program.Lb lb_proc.TmpWrite) (Made a) lt e = absurd (omega (arith, e))
-    by (program.Lb lb_proc.TmpWrite) (Named a) lt e = absurd (omega (arith, e))
-    by (program.Lb lb_proc.TmpWrite) (Changed a) lt e = absurd (omega (arith, e))
     by (program.Lb lb_proc.CommitTmp) (Changed a) lt e = refl
-    by (program.Lb lb_proc.CommitTmp) (Hashed a) lt e = absurd (omega (arith, e))
-    by (program.Lb lb_proc.CommitTmp) (Bytes a) lt e = absurd (omega (arith, e))
-    by (program.Lb lb_proc.CommitTmp) (Made a) lt e = absurd (omega (arith, e))
-    by (program.Lb lb_proc.CommitTmp) (Named a) lt e = absurd (omega (arith, e))
-    by (program.Lb lb_proc.CommitTmp) (Stored a) lt e = absurd (omega (arith, e))
     by (program.Nfs nfs_proc.Read) (Bytes a) lt e = refl
-    by (program.Nfs nfs_proc.Read) (Hashed a) lt e = absurd (omega (arith, e))
-    by (program.Nfs nfs_proc.Read) (Made a) lt e = absurd (omega (arith, e))
-    by (program.Nfs nfs_proc.Read) (Named a) lt e = absurd (omega (arith, e))
-    by (program.Nfs nfs_proc.Read) (Stored a) lt e = absurd (omega (arith, e))
-    by (program.Nfs nfs_proc.Read) (Changed a) lt e = absurd (omega (arith, e))
-    by _ r lt e = absurd (omega (arith, lt))
+    by c r lt e = absurd (omega (arith, lt, e))
 
 -- an answer on its way is to a call that waits, of the same procedure
 pub told_there : (n : ℕ) (w : List Change) (q : Queue) (hung : Bool) (next : ℕ) (calls : List Pending) (i : ℕ) (t : Told) → IsBalanced n w q hung next calls → slice_get q.downs i ≡ Some t → (k : ℕ) × (slice_get calls k ≡ Some (told_pending t))
@@ -83,11 +54,7 @@ waits_under (c ∷ cs) (suc k) p at once = by (c.xid == p.xid) refl once (waits_
 
 body_program : (r : Reply) → program_of (reply_body r) ≡ reply_program r
 body_program (Hashed a) = refl
-body_program (Bytes a) = refl
-body_program (Made a) = refl
-body_program (Named a) = refl
-body_program (Stored a) = refl
-body_program (Changed a) = refl
+body_program r = refl
 
 pub expected : (n : ℕ) (w : List Change) (q : Queue) (hung : Bool) (c : client.State) (i : ℕ) (t : Told) → IsBalanced n w q hung c.next (client.calls_of c) → slice_get q.downs i ≡ Some t → IsExpected (client.waiting_of c) (told_message t)
 expected n w q hung c i t h at =

@@ -1,18 +1,12 @@
 -- CONDWRITEs that go out, in chunk order.
 use Rattle.std.proofs.Common.{◌≡◌, ℕ, zero, suc, ◌+◌, ◌<◌, ◌≤◌, List, [], ◌∷◌, ◌++◌, length, Option, Some, None, refl, sym, ap, ◌∙◌, subst, arith, append_assoc, append-nil, map}
 use Rattle.open_close.specs.declared.task.Way.TheVariants as way
-use Rattle.open_close.specs.Opening.{calls_most}
 use Rattle.kept_promise.proofs.Common.{slice_get, cond, ◌==◌, Chunk, Pending, store_pending, Names, names_next, names_more, Store, StoreCall, Call.Name, Ask, ask_message}
 use Rattle.kept_promise.proofs.Lists.{some_is, nothing_there, within}
 use Rattle.kept_promise.proofs.Keys.{times}
 use Rattle.kept_promise.proofs.Messages.{AllAsks, Rising}
 use Rattle.kept_promise.proofs.Facts.{commits_in, names_in}
 use Rattle.kept_promise.proofs.Heard.{ask_pending}
-
--- where no call is under way one may be
-pub some_call : 0 < calls_most
-unfolding calls_most
-some_call = omega arith
 
 -- these notes and calls: for the chunks from an index on, with xids from this one up to that
 abbrev pub Named : (temp : ℕ) → List Chunk → (xid index : ℕ) → List StoreCall → List Ask → (next : ℕ) → Type 0

@@ -2,17 +2,24 @@
 use Rattle.std.proofs.Common.{◌≡◌, ℕ, zero, suc, ◌+◌, ◌-◌, List, [], ◌∷◌, ◌++◌, length, Option, Some, None, Result, Ok, Err, Bool, true, false, refl, sym, ap, ◌∙◌, arith, eq-eqb, ne_eqb}
 use Rattle.command_text.specs.declared.command.Command.TheVariants as command
 use Rattle.xdr_codec.specs.declared.status.Status.TheVariants as status
+use Rattle.hash_calls.specs.declared.call.Leased.{Leased}
 use Rattle.hash_calls.specs.declared.message.Lb.TheVariants as lb
 use Rattle.nfs3_calls.specs.declared.message.Nfs.TheVariants as nfs
 use Rattle.wire.specs.declared.message.Body.TheVariants as body
 use Rattle.wire.specs.declared.message.Message.TheVariants as message
 use Rattle.wire.specs.declared.message.RpcRefusal.TheVariants as refusal
+use Rattle.chunk_index.specs.Index.{Indexed}
+use Rattle.client_cache.specs.Cache.{Entries, reserved, content_of}
+use Rattle.client_cache.specs.declared.kept.Content.{Content}
+use Rattle.open_close.specs.Caching.{content_in, found_all}
+use Rattle.open_close.specs.Opening.{reads_chunk, looked_up}
 use Rattle.open_close.specs.State as client
 use Rattle.open_close.specs.declared.step.Outcome.TheVariants as outcome
 use Rattle.open_close.specs.declared.task.Stage.TheVariants as stage
 use Rattle.open_close.specs.declared.task.Way.TheVariants as way
 use Rattle.trace_replay.specs.Trail.{call_number}
-use Rattle.kept_promise.proofs.Common.{slice_get, ◌==◌, nat_lt, if◌then◌else◌, Chunk, content_length, content_bytes, Command, Answer, Done, Failed, Hashes, Piece, Body, Message, Pending, RpcRefusal, WireFault, names_from, names_next, names_more, names_all, is_stored, store_of, store_at, answered, local_most, written_size, written, truncated, calls_most, fetch_of, with_hashes, listed, reads_from, reads_next, reads_more, reads_all, is_here, read_at, fault_in, other_version, with_bytes, Broken, broken_of, is_open, may_ask, asks_hashes, opens_if, opens, on_local, too_big, done_with, edits, writes, truncates, reads, abandons, asks_temp, closes, command_step, idle, reads_if, reads_on, lists_on, told_shape, told_version, told_hashes, told_first, retries, misfits, told_bytes, told_chunk, told_piece, goes_if, goes_on, told_temp, sends_whole, told_named, told_whole, told_way, told_stored, denied, took, drops, took_if, denied_if, got_fault, got_step, ends, Names, Reads, BadPeer, ClientStep, Fetch, Local, ReadCall, Stage, Store, StoreCall, Task, Way, Moment, calls_among, sent_if, calls_by, calls_from}
+use Rattle.kept_promise.proofs.Common.{slice_get, ◌==◌, nat_lt, if◌then◌else◌, Chunk, content_length, content_bytes, Command, Answer, Done, Failed, Hashes, Piece, Body, Message, Pending, RpcRefusal, WireFault, names_from, names_next, names_more, names_all, is_stored, store_of, store_at, answered, local_most, written_size, written, truncated, calls_most, fetch_of, with_hashes, listed, reads_from, reads_more, reads_all, is_here, read_at, fault_in, other_version, with_bytes, Broken, broken_of, is_open, may_ask, asks_file, asks_kept, uses_kept, told_lease, opens_if, opens, on_local, too_big, done_with, edits, writes, truncates, reads, abandons, asks_temp, closes, command_step, idle, reads_if, reads_on, lists_on, told_shape, told_version, told_hashes, told_first, retries, misfits, told_bytes, told_chunk, told_piece, goes_if, goes_on, told_temp, sends_whole, told_named, told_whole, told_way, told_stored, denied, took, drops, took_if, denied_if, got_fault, got_step, ends, Names, Reads, BadPeer, ClientStep, Fetch, Local, ReadCall, Stage, Store, StoreCall, Task, Way, Moment, calls_among, sent_if, calls_by, calls_from}
+use Rattle.kept_promise.proofs.StepCases.{reads_keep}
 
 -- ---- a client's step
 
@@ -24,16 +31,16 @@ among_more : (ms : List Message) (m : Message) → calls_among (ms ++ m ∷ []) 
 among_more [] m = omega arith
 among_more (x ∷ ms) m = let h = among_more ms m in omega (arith, h)
 
-reads_number : (k file : ℕ) (r : Reads) → (reads_more k file r).next + calls_among r.send ≡ r.next + calls_among (reads_more k file r).send
-reads_number zero file r = refl
-reads_number (suc k) file r = by (slice_get r.fetch.chunks r.fetch.asked) (λ q. reads_number k file q)
+-- so many READs went out as numbers were used
+abbrev Asks : (next : ℕ) → Reads → Type 0
+Asks next r = r.next ≡ next + calls_among r.send
+
+reads_number : (cache : Entries) (index : Indexed) (k file next : ℕ) (r : Reads) → Asks next r → Asks next (reads_more k cache index file r)
+reads_number cache index k file next r h = reads_keep (Asks next) cache index file (λ q c o g at is. one q c o g) k r h
   where
-    by : (o : Option Chunk) → ((q : Reads) → (reads_more k file q).next + calls_among q.send ≡ q.next + calls_among (reads_more k file q).send) → (reads_more k file (reads_next file r o)).next + calls_among r.send ≡ r.next + calls_among (reads_more k file (reads_next file r o)).send
-    by None go = go r
-    by (Some c) go =
-        let h = go (reads_next file r (Some c)) in
-        let m = among_more r.send (Rattle.open_close.specs.Opening.read_call r.next file c) in
-        omega (arith, h, m)
+    one : (q : Reads) (c : Chunk) (o : Option (List ℕ)) → Asks next q → Asks next (reads_chunk file q c o)
+    one q c (Some bytes) g = g
+    one q c None g = let m = among_more q.send (Rattle.open_close.specs.Opening.read_call q.next file c) in omega (arith, g, m)
 
 names_number : (k : ℕ) (n : Names) → (names_more k n).next + calls_among n.send ≡ n.next + calls_among (names_more k n).send
 names_number zero n = refl
@@ -47,11 +54,14 @@ names_number (suc k) n = by (slice_get n.store.chunks n.store.named) (λ q. name
         omega (arith, h, m)
 
 reads_on_number : (s : client.State) (calls : List Pending) (file xid : ℕ) (f : Fetch) (bytes : ℕ) → Numbers s (reads_on s calls file xid f bytes)
-reads_on_number s calls file xid f bytes = by (is_here (reads_all file f s.next).fetch)
+reads_on_number s calls file xid f bytes = by (is_here r.fetch)
   where
-    by : (b : Bool) → Numbers s (reads_if s calls file xid (reads_all file f s.next) bytes b)
+    r : Reads
+    r = reads_all s.cache s.index file f s.next
+
+    by : (b : Bool) → Numbers s (reads_if (record s { index = found_all s.index (looked_up f r) }) calls file xid r bytes b)
     by true = omega arith
-    by false = let h = reads_number (calls_most - length f.under) file (reads_from f s.next) in omega (arith, h)
+    by false = reads_number s.cache s.index (length f.chunks - f.asked) file s.next (reads_from f s.next) (omega arith)
 
 lists_number : (s : client.State) (calls : List Pending) (file xid : ℕ) (f : Fetch) (eof : Bool) → Numbers s (lists_on s calls file xid f eof)
 lists_number s calls file xid f true = reads_on_number s calls file xid (listed f) 0
@@ -76,6 +86,14 @@ hashes_number s calls file xid f (Done h) = by (h.version == f.version)
 first_numbers : (s : client.State) (calls : List Pending) (file xid tries : ℕ) (a : Answer Hashes Unit) → Numbers s (told_first s calls file xid tries a)
 first_numbers s calls file xid tries (Failed t u) = omega arith
 first_numbers s calls file xid tries (Done h) = hashes_number s calls file xid (fetch_of tries xid h) (Done h)
+
+kept_number : (s : client.State) (calls : List Pending) (file xid version : ℕ) (o : Option (List ℕ)) → Numbers s (uses_kept s calls file xid version o)
+kept_number s calls file xid version (Some bytes) = omega arith
+kept_number s calls file xid version None = refl
+
+lease_number : (s : client.State) (calls : List Pending) (file xid : ℕ) (a : Answer Leased Unit) → Numbers s (told_lease s calls file xid a)
+lease_number s calls file xid (Failed t u) = omega arith
+lease_number s calls file xid (Done l) = kept_number s calls file xid l.version (content_in l.version (content_of s.cache file))
 
 misfits_number : (s : client.State) (calls : List Pending) (file xid : ℕ) (f : Fetch) (b : BadPeer) (bytes : ℕ) (o : Option ℕ) → Numbers s (misfits s calls file xid f b bytes o)
 misfits_number s calls file xid f b bytes (Some version) = retries_number s calls file xid (nat_lt f.tries Rattle.open_close.specs.Opening.tries_most) f version bytes
@@ -131,6 +149,7 @@ stored_number s calls file xid content st b None = omega arith
 stored_number s calls file xid content st b (Some c) = way_number s calls file xid content (answered st xid) c c.way b
 
 took_number : (s : client.State) (calls : List Pending) (file : ℕ) (t : Stage) (xid : ℕ) (b : Body) → Numbers s (took s calls file t xid b)
+took_number s calls file (stage.Asking asked) xid (body.Lb (lb.GetLeaseAnswer a)) = lease_number s calls file xid a
 took_number s calls file (stage.Hashing tries asked) xid (body.Lb (lb.GetHashAnswer a)) = first_numbers s calls file xid tries a
 took_number s calls file (stage.Listing asked f) xid (body.Lb (lb.GetHashAnswer a)) = hashes_number s calls file xid f a
 took_number s calls file (stage.Reading f) xid (body.Nfs (nfs.ReadAnswer (Failed t a))) = omega arith
@@ -190,8 +209,12 @@ opens_number : (s : client.State) (file : ℕ) (t : Option Task) → Numbers s (
 opens_number s file (Some t) = omega arith
 opens_number s file None = by (is_open s.opened file)
   where
-    asks : (b : Bool) → Numbers s (asks_hashes s file b)
-    asks true = refl
+    kept : (o : Option Content) → Numbers s (asks_kept (record s { cache = reserved s.cache file }) file o)
+    kept None = refl
+    kept (Some c) = refl
+
+    asks : (b : Bool) → Numbers s (asks_file s file b)
+    asks true = kept (content_of s.cache file)
     asks false = omega arith
 
     by : (b : Bool) → Numbers s (opens_if s file b)

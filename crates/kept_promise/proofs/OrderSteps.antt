@@ -1,13 +1,13 @@
 -- A client takes an answer: what else is on its way is to other calls, and stays in order as its operation goes on or ends.
-use Rattle.std.proofs.Common.{eqb-true, ◌⊎◌, inl, inr, ◌≡◌, ℕ, zero, suc, ◌<◌, ◌≤◌, List, [], ◌∷◌, ◌++◌, Option, Some, Bool, true, false, refl, sym, ap, ◌∙◌, subst, arith, eq-eqb, append-nil, map, IsSome}
+use Rattle.std.proofs.Common.{eqb-true, ◌⊎◌, inl, inr, ◌≡◌, ℕ, zero, suc, ◌<◌, ◌≤◌, List, [], ◌∷◌, ◌++◌, Option, Some, None, Bool, true, false, refl, sym, ap, ◌∙◌, subst, arith, eq-eqb, append-nil, map, IsSome}
 use Rattle.open_close.specs.declared.task.Stage.TheVariants as stage
 use Rattle.register_model.specs.declared.op.Word.TheVariants as words
-use Rattle.kept_promise.proofs.Common.{slice_get, cond, ◌==◌, Pending, Program, Temp, Change, Failed, Stage, content_of, Seat, unless, Book, Call, Call.Make, Call.Name, Call.Send, Call.Commit, Reply, Reply.Made, Reply.Named, Reply.Stored, Reply.Changed, Ask, Told, Queue, call_program, reply_program}
+use Rattle.kept_promise.proofs.Common.{slice_get, cond, ◌==◌, Pending, Program, Temp, Change, Failed, Stage, Store, StoreCall, content_of, Seat, unless, Book, Call, Call.Make, Call.Name, Call.Send, Call.Commit, Reply, Reply.Made, Reply.Named, Reply.Stored, Reply.Changed, Ask, Told, Queue, call_program, reply_program}
 use Rattle.kept_promise.proofs.Lists.{some_is, nothing_there}
 use Rattle.kept_promise.proofs.Keys.{times, times_append, key, own, on_way, ask_key, told_key, change_key, pending_key, found_by, there_by, key_xid}
 use Rattle.kept_promise.proofs.Messages.{Job, job, stage_word, AllAsks, AllTolds}
 use Rattle.kept_promise.proofs.Growth.{Grows}
-use Rattle.kept_promise.proofs.Orderly.{locals_of, InPlace, IsInPlace, Wanted, IsWanted, HeldIn, Held, Orderly}
+use Rattle.kept_promise.proofs.Orderly.{locals_of, InPlace, IsInPlace, Wanted, IsWanted, DownKnown, Holds, HeldIn, Held, Orderly}
 use Rattle.kept_promise.proofs.Ordered.{IsFetching, IsFetched, AllFetching, AllFetched, fetching_place, fetched_wanted, CloseFree, free_held, held_free, all_wanted_later}
 use Rattle.kept_promise.proofs.Facts.{IsBalanced}
 use Rattle.kept_promise.proofs.Rights.{open_not_close}
@@ -179,16 +179,46 @@ pub clear_orderly : (book : Book) (n : ℕ) (temps : List (ℕ × Temp)) (hung :
 clear_orderly book n temps hung us asks ts d free ups downs none more = record {
   asks = fetching_place (job d) (locals_of d.client) (unless hung us asks) (asks_with hung us asks ups more);
   tolds = fetched_wanted book (job d) ts downs;
-  holds = λ up. held_free temps n (unless hung us asks) (locals_of d.client) (job d) free (none up);
+  holds = λ up. held_free temps n (unless hung us asks) ts (locals_of d.client) (job d) free (none up);
   tree = λ j e w. absurd (free j e w);
 }
 
--- an answer is dropped, and the operation under way stays as it is
-pub orderly_dropped : (book more : Book) (made ended : Option ℕ) (n : ℕ) (temps : List (ℕ × Temp)) (hung : Bool) (q : Queue) (t : Told) (ts : List Told) (seat : Seat) → Grows book more made ended → q.downs ≡ t ∷ ts → Orderly book n temps hung q seat → Orderly more n temps hung (record { ups = unless hung q.ups []; downs = ts }) seat
-orderly_dropped book more made ended n temps hung q t ts seat g first h = record {
+-- an answer to none of the calls under way is dropped
+known_else : (t : Told) (ts : List Told) (y : ℕ) → (y ≡ t.xid → ⊥) → DownKnown (t ∷ ts) y → DownKnown ts y
+known_else t ts y apart (zero, e) = absurd (apart (sym (ap (λ (z : Told). z.xid) (some_is t _ e))))
+known_else t ts y apart (suc i, e) = (i, e)
+
+holds_dropped : (v : List ℕ) (us : List Ask) (t : Told) (ts : List Told) (st : Store) (ps : List (ℕ × List ℕ)) → ((k : ℕ) (u : StoreCall) → slice_get st.under k ≡ Some u → u.xid ≡ t.xid → ⊥) → Holds v us (t ∷ ts) st ps → Holds v us ts st ps
+holds_dropped v us t ts st ps none h = record {
+  has = h.has;
+  pieces_is = h.pieces_is;
+  later = h.later;
+  done = h.done;
+  by_name = λ k u c at w unknown. h.by_name k u c at w (λ z. unknown (known_else t ts u.xid (none k u at) z));
+  known = λ k u c at w z. h.known k u c at w (suc z.0, z.1);
+  up = h.up;
+  taken = h.taken;
+  apart = h.apart;
+}
+
+-- no call of the store under way has this xid
+abbrev pub IsElse : Option Job → (xid : ℕ) → Type 0
+IsElse job x = (j : Job) (st : Store) (k : ℕ) (u : StoreCall) → job ≡ Some j → j.stage ≡ stage.Storing st → slice_get st.under k ≡ Some u → u.xid ≡ x → ⊥
+
+held_dropped : (temps : List (ℕ × Temp)) (n : ℕ) (us : List Ask) (t : Told) (ts : List Told) (v : ℕ → List ℕ) (job : Option Job) → IsElse job t.xid → Held temps n us (t ∷ ts) v job → Held temps n us ts v job
+held_dropped temps n us t ts v None none h = h
+held_dropped temps n us t ts v (Some j) none h = by j.stage refl h
+  where
+    by : (s : Stage) → j.stage ≡ s → HeldIn temps n us (t ∷ ts) (v j.file) s → HeldIn temps n us ts (v j.file) s
+    by (stage.Storing st) at h = (h.0, h.1, holds_dropped (v j.file) us t ts st h.0.pieces (λ k u there. none j st k u refl at there) h.2)
+    by _ at h = h
+
+-- and the operation under way stays as it is
+pub orderly_dropped : (book more : Book) (made ended : Option ℕ) (n : ℕ) (temps : List (ℕ × Temp)) (hung : Bool) (q : Queue) (t : Told) (ts : List Told) (seat : Seat) → Grows book more made ended → q.downs ≡ t ∷ ts → IsElse (job seat) t.xid → Orderly book n temps hung q seat → Orderly more n temps hung (record { ups = unless hung q.ups []; downs = ts }) seat
+orderly_dropped book more made ended n temps hung q t ts seat g first none h = record {
   asks = subst (AllAsks (IsInPlace (job seat) (locals_of seat.client))) (sym (ups_same hung q.ups)) h.asks;
   tolds = (subst (AllTolds (IsWanted more (job seat))) first (all_wanted_later book more made ended (job seat) q.downs g h.tolds)).1;
-  holds = λ up. subst (λ (l : List Ask). Held temps n l (locals_of seat.client) (job seat)) (sym (ups_same hung q.ups)) (h.holds up);
+  holds = λ up. subst (λ (l : List Ask). Held temps n l ts (locals_of seat.client) (job seat)) (sym (ups_same hung q.ups)) (held_dropped temps n q.ups t ts (locals_of seat.client) (job seat) none (subst (λ (l : List Told). Held temps n q.ups l (locals_of seat.client) (job seat)) first (h.holds up)));
   tree = λ j e w. subst (λ l. IsSome (content_of l j.file)) (sym g.opening) (h.tree j e w);
 }
 
@@ -215,11 +245,11 @@ pub orderly_ends : (book more : Book) (n : ℕ) (temps : List (ℕ × Temp)) (w 
     → Orderly more n temps hung (record { ups = unless hung q.ups asks; downs = ts }) d
 orderly_ends book more n temps w q hung next calls t ts seat d j asks b first is over h free fetch =
     let o = others_fetch book n temps w q hung next calls t ts seat j b first is (ends_wait j t.xid over) h in
-    clear_orderly more n temps hung q.ups asks ts d free o.0 o.1 (λ up. none over (subst (Held temps n q.ups (locals_of seat.client)) is (h.holds up))) fetch
+    clear_orderly more n temps hung q.ups asks ts d free o.0 o.1 (λ up. none over (subst (Held temps n q.ups q.downs (locals_of seat.client)) is (h.holds up))) fetch
   where
-    none : EndsAt j t.xid → Held temps n q.ups (locals_of seat.client) (Some j) → Rattle.kept_promise.proofs.Shelf.NoTemp temps n
-    none (inl e) held = free_held temps n q.ups (locals_of seat.client) (Some j) (open_free j e) held
-    none (inr e) held = (subst (HeldIn temps n q.ups (locals_of seat.client j.file)) e held).1 (λ u. up_apart n w q hung next calls t ts u.0 (record { xid = t.xid; call = Commit u.1 u.2 u.3 }) b first u.4 refl)
+    none : EndsAt j t.xid → Held temps n q.ups q.downs (locals_of seat.client) (Some j) → Rattle.kept_promise.proofs.Shelf.NoTemp temps n
+    none (inl e) held = free_held temps n q.ups q.downs (locals_of seat.client) (Some j) (open_free j e) held
+    none (inr e) held = (subst (HeldIn temps n q.ups q.downs (locals_of seat.client j.file)) e held).1 (λ u. up_apart n w q hung next calls t ts u.0 (record { xid = t.xid; call = Commit u.1 u.2 u.3 }) b first u.4 refl)
 
 pub free_on : (seat : Seat) (j : Job) → job seat ≡ Some j → stage_word j.stage ≡ words.Open → CloseFree (job seat)
 free_on seat j is e = subst CloseFree (sym is) (open_free j e)

@@ -1,17 +1,18 @@
 -- Calls and answers of closes stay in order: as a run grows, where none is of the operation under way, and as the first call is taken.
-use Rattle.std.proofs.Common.{◌≡◌, ℕ, zero, suc, ◌<◌, ◌≤◌, List, [], ◌∷◌, Option, Some, None, Bool, true, false, length, refl, sym, ap, ◌∙◌, subst, arith, IsSome}
+use Rattle.std.proofs.Common.{inl, inr, ◌≡◌, ℕ, zero, suc, ◌<◌, ◌≤◌, List, [], ◌∷◌, ◌++◌, Option, Some, None, Bool, true, false, length, refl, sym, ap, ◌∙◌, subst, arith, IsSome}
 use Rattle.open_close.specs.declared.task.Stage.TheVariants as stage
 use Rattle.register_model.specs.declared.op.Word.TheVariants as words
-use Rattle.kept_promise.proofs.Common.{Done, Failed, Temp, temp_at, is_full, Stage, Store, content_of, Opening, Op, Seat, unless, Book, step_of, Call, Call.Hash, Call.Read, Call.Make, Call.Name, Call.Send, Call.Commit, Reply, Reply.Hashed, Reply.Bytes, Reply.Made, Reply.Named, Reply.Stored, Reply.Changed, Ask, Told, Queue}
-use Rattle.kept_promise.proofs.Lists.{some_is, nothing_there, at_end}
+use Rattle.kept_promise.proofs.Common.{Done, Failed, Temp, temp_at, is_full, Stage, Store, content_of, Opening, Op, Seat, unless, Book, step_of, Call, Call.Lease, Call.Hash, Call.Read, Call.Make, Call.Name, Call.Send, Call.Commit, Reply, Reply.Versioned, Reply.Hashed, Reply.Bytes, Reply.Made, Reply.Named, Reply.Stored, Reply.Changed, Ask, Told, Queue}
+use Rattle.kept_promise.proofs.Lists.{some_is, nothing_there, at_end, of_appended, in_front}
 use Rattle.kept_promise.proofs.Messages.{Job, job, stage_word, AllAsks, AllTolds}
 use Rattle.kept_promise.proofs.Growth.{Grows}
 use Rattle.kept_promise.proofs.Shelf.{NoTemp, OneTemp}
-use Rattle.kept_promise.proofs.Orderly.{locals_of, InPlace, IsInPlace, NoRoom, Wanted, IsWanted, UpMake, UpSend, UpCommit, Holds, HeldIn, Held, Orderly}
+use Rattle.kept_promise.proofs.Orderly.{locals_of, InPlace, IsInPlace, NoRoom, Wanted, IsWanted, UpMake, UpSend, UpCommit, known_reply, DownKnown, Holds, HeldIn, Held, Orderly}
 
 -- ---- calls and answers of opens
 
 abbrev pub IsFetching : Call → Type 0
+IsFetching (Lease f) = Unit {0}
 IsFetching (Hash f o) = Unit {0}
 IsFetching (Read f c) = Unit {0}
 IsFetching _ = ⊥
@@ -35,6 +36,7 @@ fetching_place job v [] h = tt
 fetching_place job v (a ∷ us) h = (by a.call h.0, fetching_place job v us h.1)
   where
     by : (c : Call) → IsFetching c → InPlace job v a.xid c
+    by (Lease f) h = tt
     by (Hash f o) h = tt
     by (Read f c) h = tt
     by _ h = absurd h
@@ -44,6 +46,7 @@ fetched_wanted book job [] h = tt
 fetched_wanted book job (t ∷ ts) h = (by t.reply h.0, fetched_wanted book job ts h.1)
   where
     by : (r : Reply) → IsFetched r → Wanted book job t.xid r
+    by (Versioned a) h = tt
     by (Hashed a) h = tt
     by (Bytes a) h = tt
     by (Changed (Done c)) h = tt
@@ -79,21 +82,21 @@ pub none_free : (job : Option Job) → job ≡ None → CloseFree job
 none_free job e j f w = nothing_there j (sym e ∙ f)
 
 -- where no close is under way there is no temporary file
-pub free_held : (temps : List (ℕ × Temp)) (n : ℕ) (us : List Ask) (v : ℕ → List ℕ) (job : Option Job) → CloseFree job → Held temps n us v job → NoTemp temps n
-free_held temps n us v None free h = h
-free_held temps n us v (Some j) free h = by j.stage (free j refl) h
+pub free_held : (temps : List (ℕ × Temp)) (n : ℕ) (us : List Ask) (ts : List Told) (v : ℕ → List ℕ) (job : Option Job) → CloseFree job → Held temps n us ts v job → NoTemp temps n
+free_held temps n us ts v None free h = h
+free_held temps n us ts v (Some j) free h = by j.stage (free j refl) h
   where
-    by : (s : Stage) → (stage_word s ≡ words.Close → ⊥) → HeldIn temps n us (v j.file) s → NoTemp temps n
+    by : (s : Stage) → (stage_word s ≡ words.Close → ⊥) → HeldIn temps n us ts (v j.file) s → NoTemp temps n
     by (stage.Making x m) free h = absurd (free refl)
     by (stage.Storing st) free h = absurd (free refl)
     by (stage.Committing x) free h = absurd (free refl)
     by _ free h = h
 
-pub held_free : (temps : List (ℕ × Temp)) (n : ℕ) (us : List Ask) (v : ℕ → List ℕ) (job : Option Job) → CloseFree job → NoTemp temps n → Held temps n us v job
-held_free temps n us v None free h = h
-held_free temps n us v (Some j) free h = by j.stage (free j refl)
+pub held_free : (temps : List (ℕ × Temp)) (n : ℕ) (us : List Ask) (ts : List Told) (v : ℕ → List ℕ) (job : Option Job) → CloseFree job → NoTemp temps n → Held temps n us ts v job
+held_free temps n us ts v None free h = h
+held_free temps n us ts v (Some j) free h = by j.stage (free j refl)
   where
-    by : (s : Stage) → (stage_word s ≡ words.Close → ⊥) → HeldIn temps n us (v j.file) s
+    by : (s : Stage) → (stage_word s ≡ words.Close → ⊥) → HeldIn temps n us ts (v j.file) s
     by (stage.Making x m) free = absurd (free refl)
     by (stage.Storing st) free = absurd (free refl)
     by (stage.Committing x) free = absurd (free refl)
@@ -143,11 +146,11 @@ none_found temps after n same h m lt = same m lt ∙ h m lt
 one_found : (temps after : List (ℕ × Temp)) (n m : ℕ) (t : Temp) → SameFound temps after n → OneTemp temps n m t → OneTemp after n m t
 one_found temps after n m t same h = (h.0, h.1, h.2, same m h.0 ∙ h.3, λ p lt apart. same p lt ∙ h.4 p lt apart)
 
-pub held_found : (temps after : List (ℕ × Temp)) (n : ℕ) (us : List Ask) (v : ℕ → List ℕ) (job : Option Job) → SameFound temps after n → Held temps n us v job → Held after n us v job
-held_found temps after n us v None same h = none_found temps after n same h
-held_found temps after n us v (Some j) same h = by j.stage h
+pub held_found : (temps after : List (ℕ × Temp)) (n : ℕ) (us : List Ask) (ts : List Told) (v : ℕ → List ℕ) (job : Option Job) → SameFound temps after n → Held temps n us ts v job → Held after n us ts v job
+held_found temps after n us ts v None same h = none_found temps after n same h
+held_found temps after n us ts v (Some j) same h = by j.stage h
   where
-    by : (s : Stage) → HeldIn temps n us (v j.file) s → HeldIn after n us (v j.file) s
+    by : (s : Stage) → HeldIn temps n us ts (v j.file) s → HeldIn after n us ts (v j.file) s
     by (stage.Making x m) h = (λ u. none_found temps after n same (h.0 u), λ u. let w = h.1 u in (w.0, one_found temps after n m w.0 same w.1, w.2))
     by (stage.Storing st) h = (h.0, one_found temps after n st.temp h.0 same h.1, h.2)
     by (stage.Committing x) h = (λ u. let w = h.0 u in (w.0, one_found temps after n u.1 w.0 same w.1, w.2), λ u. none_found temps after n same (h.1 u))
@@ -160,7 +163,7 @@ pub orderly_later : (book more : Book) (made ended : Option ℕ) (n : ℕ) (temp
 orderly_later book more made ended n temps after hung q seat g same h = record {
   asks = h.asks;
   tolds = all_wanted_later book more made ended (job seat) q.downs g h.tolds;
-  holds = λ up. held_found temps after n q.ups (locals_of seat.client) (job seat) same (h.holds up);
+  holds = λ up. held_found temps after n q.ups q.downs (locals_of seat.client) (job seat) same (h.holds up);
   tree = tree_later book.opening more.opening seat g.opening h.tree;
 }
 
@@ -169,7 +172,7 @@ pub orderly_free : (book : Book) (n : ℕ) (temps : List (ℕ × Temp)) (hung : 
 orderly_free book n temps hung q c d was is h = record {
   asks = fetching_place (job d) (locals_of d.client) q.ups (free_asks (job c) (locals_of c.client) q.ups was h.asks);
   tolds = fetched_wanted book (job d) q.downs (free_tolds book (job c) q.downs was h.tolds);
-  holds = λ up. held_free temps n q.ups (locals_of d.client) (job d) is (free_held temps n q.ups (locals_of c.client) (job c) was (h.holds up));
+  holds = λ up. held_free temps n q.ups q.downs (locals_of d.client) (job d) is (free_held temps n q.ups q.downs (locals_of c.client) (job c) was (h.holds up));
   tree = λ j e w. absurd (is j e w);
 }
 
@@ -187,7 +190,7 @@ pub orderly_new : (book : Book) (n : ℕ) (temps : List (ℕ × Temp)) (seat : S
 orderly_new book n temps seat free none = record {
   asks = tt;
   tolds = tt;
-  holds = λ up. held_free temps n [] (locals_of seat.client) (job seat) (none_free (job seat) free) none;
+  holds = λ up. held_free temps n [] [] (locals_of seat.client) (job seat) (none_free (job seat) free) none;
   tree = λ j e w. nothing_there j (sym free ∙ e);
 }
 
@@ -197,8 +200,46 @@ told_more book job true ts t w h = h
 told_more book job false [] t w h = (w, tt)
 told_more book job false (u ∷ ts) t w h = (h.0, told_more book job false ts t w h.1)
 
-pub orderly_told : (book : Book) (n : ℕ) (temps : List (ℕ × Temp)) (hung cut : Bool) (q : Queue) (t : Told) (seat : Seat) → IsWanted book (job seat) t → Orderly book n temps hung q seat → Orderly book n temps hung (record q { downs = unless cut q.downs (t ∷ []) }) seat
-orderly_told book n temps hung cut q t seat w h = record { asks = h.asks; tolds = told_more book (job seat) cut q.downs t w h.tolds; holds = h.holds; tree = h.tree }
+-- nothing is told of as known
+abbrev pub TellsNone : Reply → Type 0
+TellsNone (Named (Done u)) = ⊥
+TellsNone _ = Unit {0}
+
+known_before : (ts : List Told) (t : Told) (x : ℕ) → TellsNone t.reply → DownKnown (ts ++ t ∷ []) x → DownKnown ts x
+known_before ts t x none k = elim (of_appended ts t k.0 (record { xid = x; reply = known_reply }) k.1) [
+  | inl last ↦ absurd (subst (λ (u : Told). TellsNone u.reply) (sym last.1) none)
+  | inr was ↦ (k.0, was)
+]
+
+pub known_more : (ts more : List Told) (x : ℕ) → DownKnown ts x → DownKnown (ts ++ more) x
+known_more ts more x k = (k.0, in_front ts more k.0 (record { xid = x; reply = known_reply }) k.1)
+
+pub holds_told : (v : List ℕ) (us : List Ask) (ts : List Told) (st : Store) (ps : List (ℕ × List ℕ)) (t : Told) → TellsNone t.reply → Holds v us ts st ps → Holds v us (ts ++ t ∷ []) st ps
+holds_told v us ts st ps t none h = record {
+  has = h.has;
+  pieces_is = h.pieces_is;
+  later = h.later;
+  done = h.done;
+  by_name = λ k u c at w unknown. h.by_name k u c at w (λ d. unknown (known_more ts (t ∷ []) u.xid d));
+  known = λ k u c at w d. h.known k u c at w (known_before ts t u.xid none d);
+  up = h.up;
+  taken = h.taken;
+  apart = h.apart;
+}
+
+pub held_told : (temps : List (ℕ × Temp)) (n : ℕ) (us : List Ask) (ts : List Told) (t : Told) (cut : Bool) (v : ℕ → List ℕ) (job : Option Job) → TellsNone t.reply → Held temps n us ts v job → Held temps n us (unless cut ts (t ∷ [])) v job
+held_told temps n us ts t true v job none h = h
+held_told temps n us ts t false v None none h = h
+held_told temps n us ts t false v (Some j) none h = by j.stage h
+  where
+    by : (s : Stage) → HeldIn temps n us ts (v j.file) s → HeldIn temps n us (ts ++ t ∷ []) (v j.file) s
+    by (stage.Making x m) h = h
+    by (stage.Storing st) h = (h.0, h.1, holds_told (v j.file) us ts st h.0.pieces t none h.2)
+    by (stage.Committing x) h = h
+    by _ h = h
+
+pub orderly_told : (book : Book) (n : ℕ) (temps : List (ℕ × Temp)) (hung cut : Bool) (q : Queue) (t : Told) (seat : Seat) → TellsNone t.reply → IsWanted book (job seat) t → Orderly book n temps hung q seat → Orderly book n temps hung (record q { downs = unless cut q.downs (t ∷ []) }) seat
+orderly_told book n temps hung cut q t seat none w h = record { asks = h.asks; tolds = told_more book (job seat) cut q.downs t w h.tolds; holds = λ up. held_told temps n q.ups q.downs t cut (locals_of seat.client) (job seat) none (h.holds up); tree = h.tree }
 
 -- ---- the first call is taken
 
@@ -230,30 +271,31 @@ commit_rest a us x plain (zero, m, f, s, e) = absurd (subst (λ (b : Ask). IsQui
 commit_rest a us x plain (suc i, m, f, s, e) = (i, m, f, s, e)
 
 -- no bytes are among them
-holds_rest : (v : List ℕ) (a : Ask) (us : List Ask) (st : Store) (ps : List (ℕ × List ℕ)) → IsQuietCall a.call → Holds v (a ∷ us) st ps → Holds v us st ps
-holds_rest v a us st ps plain h = record {
+holds_rest : (v : List ℕ) (a : Ask) (us : List Ask) (ts : List Told) (st : Store) (ps : List (ℕ × List ℕ)) → IsQuietCall a.call → Holds v (a ∷ us) ts st ps → Holds v us ts st ps
+holds_rest v a us ts st ps plain h = record {
   has = h.has;
   pieces_is = h.pieces_is;
   later = h.later;
   done = h.done;
   by_name = h.by_name;
+  known = h.known;
   up = λ k u c at w. h.up k u c at (send_up a us u.xid w);
   taken = λ k u c at by_way none. h.taken k u c at by_way (λ w. none (send_rest a us u.xid plain w));
   apart = h.apart;
 }
 
-pub held_rest : (temps : List (ℕ × Temp)) (n : ℕ) (a : Ask) (us : List Ask) (v : ℕ → List ℕ) (job : Option Job) → IsQuietCall a.call → Held temps n (a ∷ us) v job → Held temps n us v job
-held_rest temps n a us v None plain h = h
-held_rest temps n a us v (Some j) plain h = by j.stage h
+pub held_rest : (temps : List (ℕ × Temp)) (n : ℕ) (a : Ask) (us : List Ask) (ts : List Told) (v : ℕ → List ℕ) (job : Option Job) → IsQuietCall a.call → Held temps n (a ∷ us) ts v job → Held temps n us ts v job
+held_rest temps n a us ts v None plain h = h
+held_rest temps n a us ts v (Some j) plain h = by j.stage h
   where
-    by : (s : Stage) → HeldIn temps n (a ∷ us) (v j.file) s → HeldIn temps n us (v j.file) s
+    by : (s : Stage) → HeldIn temps n (a ∷ us) ts (v j.file) s → HeldIn temps n us ts (v j.file) s
     by (stage.Making x m) h = (λ u. h.0 (make_up a us x u), λ none. h.1 (λ u. none (make_rest a us x plain u)))
-    by (stage.Storing st) h = (h.0, h.1, holds_rest (v j.file) a us st h.0.pieces plain h.2)
+    by (stage.Storing st) h = (h.0, h.1, holds_rest (v j.file) a us ts st h.0.pieces plain h.2)
     by (stage.Committing x) h = (λ u. h.0 (commit_up a us x u), λ none. h.1 (λ u. none (commit_rest a us x plain u)))
     by _ h = h
 
 -- with an answer to it
-pub orderly_answered : (book more : Book) (made ended : Option ℕ) (n : ℕ) (temps after : List (ℕ × Temp)) (cut : Bool) (q : Queue) (a : Ask) (us : List Ask) (t : Told) (seat : Seat) → Grows book more made ended → q.ups ≡ a ∷ us → IsWanted more (job seat) t → Held after n us (locals_of seat.client) (job seat) → Orderly book n temps false q seat
+pub orderly_answered : (book more : Book) (made ended : Option ℕ) (n : ℕ) (temps after : List (ℕ × Temp)) (cut : Bool) (q : Queue) (a : Ask) (us : List Ask) (t : Told) (seat : Seat) → Grows book more made ended → q.ups ≡ a ∷ us → IsWanted more (job seat) t → Held after n us (unless cut q.downs (t ∷ [])) (locals_of seat.client) (job seat) → Orderly book n temps false q seat
     → Orderly more n after false (record { ups = us; downs = unless cut q.downs (t ∷ []) }) seat
 orderly_answered book more made ended n temps after cut q a us t seat g first w held h = record {
   asks = (subst (AllAsks (IsInPlace (job seat) (locals_of seat.client))) first h.asks).1;
@@ -263,7 +305,7 @@ orderly_answered book more made ended n temps after cut q a us t seat g first w 
 }
 
 -- with none
-pub orderly_taken : (book more : Book) (made ended : Option ℕ) (n : ℕ) (temps after : List (ℕ × Temp)) (hung : Bool) (q : Queue) (a : Ask) (us : List Ask) (seat : Seat) → Grows book more made ended → q.ups ≡ a ∷ us → Held after n us (locals_of seat.client) (job seat) → Orderly book n temps hung q seat → Orderly more n after hung (record q { ups = us }) seat
+pub orderly_taken : (book more : Book) (made ended : Option ℕ) (n : ℕ) (temps after : List (ℕ × Temp)) (hung : Bool) (q : Queue) (a : Ask) (us : List Ask) (seat : Seat) → Grows book more made ended → q.ups ≡ a ∷ us → Held after n us q.downs (locals_of seat.client) (job seat) → Orderly book n temps hung q seat → Orderly more n after hung (record q { ups = us }) seat
 orderly_taken book more made ended n temps after hung q a us seat g first held h = record {
   asks = (subst (AllAsks (IsInPlace (job seat) (locals_of seat.client))) first h.asks).1;
   tolds = all_wanted_later book more made ended (job seat) q.downs g h.tolds;
@@ -271,8 +313,8 @@ orderly_taken book more made ended n temps after hung q a us seat g first held h
   tree = tree_later book.opening more.opening seat g.opening h.tree;
 }
 
-pub held_first : (book : Book) (n : ℕ) (temps : List (ℕ × Temp)) (q : Queue) (a : Ask) (us : List Ask) (seat : Seat) → q.ups ≡ a ∷ us → Orderly book n temps false q seat → Held temps n (a ∷ us) (locals_of seat.client) (job seat)
-held_first book n temps q a us seat first h = subst (λ (l : List Ask). Held temps n l (locals_of seat.client) (job seat)) first (h.holds refl)
+pub held_first : (book : Book) (n : ℕ) (temps : List (ℕ × Temp)) (q : Queue) (a : Ask) (us : List Ask) (seat : Seat) → q.ups ≡ a ∷ us → Orderly book n temps false q seat → Held temps n (a ∷ us) q.downs (locals_of seat.client) (job seat)
+held_first book n temps q a us seat first h = subst (λ (l : List Ask). Held temps n l q.downs (locals_of seat.client) (job seat)) first (h.holds refl)
 
 pub place_first : (book : Book) (n : ℕ) (temps : List (ℕ × Temp)) (hung : Bool) (q : Queue) (a : Ask) (us : List Ask) (seat : Seat) → q.ups ≡ a ∷ us → Orderly book n temps hung q seat → InPlace (job seat) (locals_of seat.client) a.xid a.call
 place_first book n temps hung q a us seat first h = (subst (AllAsks (IsInPlace (job seat) (locals_of seat.client))) first h.asks).0
@@ -281,6 +323,7 @@ place_first book n temps hung q a us seat first h = (subst (AllAsks (IsInPlace (
 
 -- its first stage, and the call that goes out
 abbrev pub BeginsWith : Stage → Ask → Type 0
+BeginsWith (stage.Asking x) a = Unit {0}
 BeginsWith (stage.Hashing t x) a = Unit {0}
 BeginsWith (stage.Making x m) a = (f : ℕ) × (a ≡ record { xid = x; call = Make m f })
 BeginsWith s a = ⊥
@@ -295,7 +338,7 @@ pub orderly_clear : (book : Book) (n : ℕ) (temps : List (ℕ × Temp)) (hung :
 orderly_clear book n temps hung q seat free h = record {
   ups = free_asks (job seat) (locals_of seat.client) q.ups (none_free (job seat) free) h.asks;
   downs = free_tolds book (job seat) q.downs (none_free (job seat) free) h.tolds;
-  none = λ up. free_held temps n q.ups (locals_of seat.client) (job seat) (none_free (job seat) free) (h.holds up);
+  none = λ up. free_held temps n q.ups q.downs (locals_of seat.client) (job seat) (none_free (job seat) free) (h.holds up);
 }
 
 pub place_more : (P : Ask → Type 0) (hung : Bool) (us : List Ask) (a : Ask) → AllAsks P us → P a → AllAsks P (unless hung us (a ∷ []))
@@ -308,11 +351,12 @@ pub orderly_begun : (book : Book) (n : ℕ) (temps : List (ℕ × Temp)) (hung :
 orderly_begun book n temps hung q a d j is place begins tree clear = record {
   asks = place_more (IsInPlace (job d) (locals_of d.client)) hung q.ups a (fetching_place (job d) (locals_of d.client) q.ups clear.ups) place;
   tolds = fetched_wanted book (job d) q.downs clear.downs;
-  holds = λ up. subst (λ (o : Option Job). Held temps n (unless hung q.ups (a ∷ [])) (locals_of d.client) o) (sym is) (by j.stage begins hung up (clear.none up));
+  holds = λ up. subst (λ (o : Option Job). Held temps n (unless hung q.ups (a ∷ [])) q.downs (locals_of d.client) o) (sym is) (by j.stage begins hung up (clear.none up));
   tree = λ i e w. let same = some_is j i (sym is ∙ e) in subst (λ (z : Job). IsSome (content_of book.opening z.file)) same (tree (ap (λ (z : Job). stage_word z.stage) same ∙ w));
 }
   where
-    by : (s : Stage) → BeginsWith s a → (b : Bool) → b ≡ false → NoTemp temps n → HeldIn temps n (unless b q.ups (a ∷ [])) (locals_of d.client j.file) s
+    by : (s : Stage) → BeginsWith s a → (b : Bool) → b ≡ false → NoTemp temps n → HeldIn temps n (unless b q.ups (a ∷ [])) q.downs (locals_of d.client j.file) s
+    by (stage.Asking x) begins b up none = none
     by (stage.Hashing t x) begins b up none = none
     by (stage.Making x m) begins false up none = (λ u. none, λ u. absurd (u (length q.ups, m, begins.0, at_end q.ups a ∙ ap (λ (z : Ask). Some z) begins.1)))
     by (stage.Making x m) begins true up none = absurd cc

@@ -1,6 +1,6 @@
 -- The calls of a close and their answers are in order: each is of the operation under way, and the session's temporary file holds just
 -- what the server took.
-use Rattle.std.proofs.Common.{◌≡◌, ℕ, ◌<◌, ◌≤◌, List, [], Option, Some, None, Bool, true, false, length, Ok, IsSome}
+use Rattle.std.proofs.Common.{◌≡◌, ◌⊎◌, ℕ, ◌<◌, ◌≤◌, List, [], Option, Some, None, Bool, true, false, length, Ok, IsSome}
 use Rattle.xdr_codec.specs.declared.status.Status.TheVariants as status
 use Rattle.hash_calls.specs.declared.call.Commit.{Commit as Commit_call}
 use Rattle.hash_calls.specs.declared.message.Lb.TheVariants as lb
@@ -11,7 +11,7 @@ use Rattle.open_close.specs.declared.task.Stage.TheVariants as stage
 use Rattle.open_close.specs.declared.task.Way.TheVariants as way
 use Rattle.register_model.specs.declared.op.Word.TheVariants as words
 use Rattle.kept_promise.proofs.Common.{slice_get, Contains, chunks_of, chunk_bytes, Chunk, Done, Failed, parse_of, is_full, Temp, store_at, Stage, Store, StoreCall, Way, content_of, Op, Seat, Event.Serves, numbered, server_waiting, Moment, step_of, owner_in, Book, Call, Call.Make, Call.Name, Call.Send, Call.Commit, Reply, Reply.Made, Reply.Named, Reply.Stored, Reply.Changed, Ask, Told, Queue}
-use Rattle.kept_promise.proofs.Statements.{PiecesOf}
+use Rattle.kept_promise.proofs.Statements.{PiecesOf, SameShape}
 use Rattle.kept_promise.proofs.Messages.{Job, job, stage_word, AllAsks, AllTolds}
 use Rattle.kept_promise.proofs.Shelf.{NoTemp, OneTemp}
 
@@ -66,7 +66,7 @@ pub record NoRoom (book : Book) (o : Op) : Type 0 where
 -- an answer to a call of a close is one that the operation under way waits for, and it is no refusal but of a commit for want of room
 abbrev pub Wanted : Book → Option Job → (xid : ℕ) → Reply → Type 0
 Wanted book job x (Made a) = ((j : Job) × (m : ℕ) × (job ≡ Some j) × (j.stage ≡ stage.Making x m)) × (a ≡ Done tt)
-Wanted book job x (Named a) = IsStore job x way.Named × (a ≡ Failed status.HashNotFound tt)
+Wanted book job x (Named a) = IsStore job x way.Named × ((a ≡ Done tt) ⊎ (a ≡ Failed status.HashNotFound tt))
 Wanted book job x (Stored a) = IsStore job x way.Whole × (a ≡ Done tt)
 Wanted book job x (Changed (Failed s u)) = ((j : Job) × (o : Op) × (job ≡ Some j) × (j.stage ≡ stage.Committing x) × (slice_get book.ops j.place ≡ Some o) × (o.word ≡ words.Close) × NoRoom book o) × (s ≡ status.NoSpc)
 Wanted book job x r = Unit {0}
@@ -85,34 +85,42 @@ UpSend us x = (i m s : ℕ) × (b : List ℕ) × (slice_get us i ≡ Some (recor
 abbrev pub UpCommit : List Ask → (xid : ℕ) → Type 0
 UpCommit us x = (i m f size : ℕ) × (slice_get us i ≡ Some (record { xid = x; call = Commit m f size }))
 
--- the pieces are those of the chunks whose bytes the server took: all that were named, but those whose name is under way, or whose bytes
--- are on their way up
-pub record Holds (v : List ℕ) (us : List Ask) (st : Store) (pieces : List (ℕ × List ℕ)) : Type 0 where
+-- the answer that the server knew the chunk of a name, and that it is on its way down
+abbrev pub known_reply : Reply
+known_reply = Named (Done tt)
+
+abbrev pub DownKnown : List Told → (xid : ℕ) → Type 0
+DownKnown ts x = (i : ℕ) × (slice_get ts i ≡ Some (record { xid = x; reply = known_reply }))
+
+-- The pieces have the places and lengths of the chunks whose bytes the server took, or knew: all that were named, but those whose name is under way and
+-- not known yet, or whose bytes are on their way up.
+pub record Holds (v : List ℕ) (us : List Ask) (ts : List Told) (st : Store) (pieces : List (ℕ × List ℕ)) : Type 0 where
   pub has : Chunk → Bool
-  pub pieces_is : pieces ≡ PiecesOf v has (chunks_of v)
+  pub pieces_is : SameShape pieces (PiecesOf v has (chunks_of v))
   pub later : (i : ℕ) (c : Chunk) → slice_get (chunks_of v) i ≡ Some c → st.named ≤ i → has c ≡ false
   pub done : (i : ℕ) (c : Chunk) → slice_get (chunks_of v) i ≡ Some c → i < st.named → ((k : ℕ) (u : StoreCall) → slice_get st.under k ≡ Some u → u.index ≡ i → ⊥) → has c ≡ true
-  pub by_name : (k : ℕ) (u : StoreCall) (c : Chunk) → slice_get st.under k ≡ Some u → u.way ≡ way.Named → slice_get (chunks_of v) u.index ≡ Some c → has c ≡ false
+  pub by_name : (k : ℕ) (u : StoreCall) (c : Chunk) → slice_get st.under k ≡ Some u → u.way ≡ way.Named → (DownKnown ts u.xid → ⊥) → slice_get (chunks_of v) u.index ≡ Some c → has c ≡ false
+  pub known : (k : ℕ) (u : StoreCall) (c : Chunk) → slice_get st.under k ≡ Some u → u.way ≡ way.Named → DownKnown ts u.xid → slice_get (chunks_of v) u.index ≡ Some c → has c ≡ true
   pub up : (k : ℕ) (u : StoreCall) (c : Chunk) → slice_get st.under k ≡ Some u → UpSend us u.xid → slice_get (chunks_of v) u.index ≡ Some c → has c ≡ false
   pub taken : (k : ℕ) (u : StoreCall) (c : Chunk) → slice_get st.under k ≡ Some u → u.way ≡ way.Whole → (UpSend us u.xid → ⊥) → slice_get (chunks_of v) u.index ≡ Some c → has c ≡ true
   -- each chunk is under way once
   pub apart : (k m : ℕ) (u w : StoreCall) → slice_get st.under k ≡ Some u → slice_get st.under m ≡ Some w → u.index ≡ w.index → u ≡ w
 
-abbrev pub HeldIn : List (ℕ × Temp) → (n : ℕ) → List Ask → (v : List ℕ) → Stage → Type 0
-HeldIn temps n us v (stage.Making x m) = (UpMake us x → NoTemp temps n) × ((UpMake us x → ⊥) → (t : Temp) × OneTemp temps n m t × (t.pieces ≡ []))
-HeldIn temps n us v (stage.Storing st) = (t : Temp) × OneTemp temps n st.temp t × Holds v us st t.pieces
-HeldIn temps n us v (stage.Committing x) = ((u : UpCommit us x) → (t : Temp) × OneTemp temps n u.1 t × (t.pieces ≡ PiecesOf v (λ c. true) (chunks_of v))) × ((UpCommit us x → ⊥) → NoTemp temps n)
-HeldIn temps n us v s = NoTemp temps n
+abbrev pub HeldIn : List (ℕ × Temp) → (n : ℕ) → List Ask → List Told → (v : List ℕ) → Stage → Type 0
+HeldIn temps n us ts v (stage.Making x m) = (UpMake us x → NoTemp temps n) × ((UpMake us x → ⊥) → (t : Temp) × OneTemp temps n m t × (t.pieces ≡ []))
+HeldIn temps n us ts v (stage.Storing st) = (t : Temp) × OneTemp temps n st.temp t × Holds v us ts st t.pieces
+HeldIn temps n us ts v (stage.Committing x) = ((u : UpCommit us x) → (t : Temp) × OneTemp temps n u.1 t × SameShape t.pieces (PiecesOf v (λ c. true) (chunks_of v))) × ((UpCommit us x → ⊥) → NoTemp temps n)
+HeldIn temps n us ts v s = NoTemp temps n
 
-abbrev pub Held : List (ℕ × Temp) → (n : ℕ) → List Ask → (ℕ → List ℕ) → Option Job → Type 0
-Held temps n us v None = NoTemp temps n
-Held temps n us v (Some j) = HeldIn temps n us (v j.file) j.stage
+abbrev pub Held : List (ℕ × Temp) → (n : ℕ) → List Ask → List Told → (ℕ → List ℕ) → Option Job → Type 0
+Held temps n us ts v None = NoTemp temps n
+Held temps n us ts v (Some j) = HeldIn temps n us ts (v j.file) j.stage
 
 -- ---- all of it
 
 pub record Orderly (book : Book) (n : ℕ) (temps : List (ℕ × Temp)) (hung : Bool) (q : Queue) (seat : Seat) : Type 0 where
   pub asks : AllAsks (IsInPlace (job seat) (locals_of seat.client)) q.ups
   pub tolds : AllTolds (IsWanted book (job seat)) q.downs
-  pub holds : hung ≡ false → Held temps n q.ups (locals_of seat.client) (job seat)
+  pub holds : hung ≡ false → Held temps n q.ups q.downs (locals_of seat.client) (job seat)
   -- a close is of a file of the tree
   pub tree : (j : Job) → job seat ≡ Some j → stage_word j.stage ≡ words.Close → IsSome (content_of book.opening j.file)

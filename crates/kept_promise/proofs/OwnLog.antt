@@ -1,19 +1,23 @@
--- A run carries that an operation sends its own calls alone: an open asks for chunks and bytes of its file, a close stores its value and commits it to its file.
-use Rattle.std.proofs.Common.{◌⊎◌, inl, inr, ◌≡◌, ℕ, zero, suc, ◌+◌, ◌-◌, List, [], ◌∷◌, ◌++◌, length, Option, Some, None, Bool, true, false, refl, sym, ap, ◌∙◌, subst, append-nil, map}
+-- A run carries that an operation sends its own calls alone: an open asks for chunks and bytes of its file, a close stores its value and commits it to its file,
+-- and for any other nothing is said.
+use Rattle.std.proofs.Common.{inl, inr, ◌≡◌, ℕ, ◌+◌, ◌-◌, List, [], ◌∷◌, ◌++◌, length, Option, Some, None, true, false, refl, sym, ap, ◌∙◌, subst, arith, map}
+use Rattle.hash_calls.specs.declared.message.Lb.TheVariants as lb
+use Rattle.nfs3_calls.specs.declared.message.Nfs.TheVariants as nfs
+use Rattle.wire.specs.declared.message.Body.TheVariants as body
 use Rattle.wire.specs.declared.message.Message.TheVariants as message
 use Rattle.open_close.specs.State as client
 use Rattle.open_close.specs.declared.task.Stage.TheVariants as stage
-use Rattle.register_model.specs.declared.op.Outcome.{Outcome as History}
 use Rattle.register_model.specs.declared.op.Word.TheVariants as words
-use Rattle.trace_replay.specs.Traffic.{IsOwnCall, AreOwn}
-use Rattle.kept_promise.proofs.Common.{slice_get, chunks_of, Chunk, Body, Message, Pending, cond_call, commit_call, names_from, names_next, names_more, names_all, is_stored, calls_most, read_call, reads_from, reads_next, reads_more, reads_all, is_here, idle, reads_if, reads_on, goes_if, goes_on, took, Names, Reads, ClientStep, Fetch, Stage, Store, Task, Op, Word, TakenCall, op_after, Moment, Deal, Deal.Took, Deal.Sent, deals_with, Book}
+use Rattle.trace_replay.specs.Traffic.{IsFetchCall, IsStoreCall, AreOwn, named_in, whole_in}
+use Rattle.kept_promise.proofs.Common.{slice_get, chunks_of, Chunk, Body, Message, Pending, cond_call, commit_call, names_from, names_all, calls_most, read_call, reads_from, reads_chunk, with_hashes, idle, forgets, tries_anew, lists_on, reads_if, goes_if, sends_whole, took, Reads, ClientStep, Ended, Fetch, Stage, Store, Task, Op, Word, TakenCall, op_after, no_traffic, Moment, Deal, Deal.Took, Deal.Found, Deal.Sent, deals_with, deals_of, CountsOwn, first_number, Book}
 use Rattle.kept_promise.proofs.Lists.{some_is, nothing_there}
 use Rattle.kept_promise.proofs.Messages.{Job, stage_word}
+use Rattle.kept_promise.proofs.Counted.{traffic_is}
 use Rattle.kept_promise.proofs.VersionRuns.{close_not_opened, word_after}
-use Rattle.kept_promise.proofs.TookCases.{JustEnds, FetchIn, StoreIn, Cases, took_cases}
+use Rattle.kept_promise.proofs.StepCases.{reads_keep, names_keep, JustEnds, StoreIn, reads_of, looked, in_open, now_open, either_word, Cases, took_cases}
 use Rattle.kept_promise.proofs.Logs.{Going, Ending}
-use Rattle.kept_promise.proofs.LogEvents.{Answering, After, LogLaws, value_stays, file_stays}
-use Rattle.kept_promise.proofs.ClosesLog.{sent_more}
+use Rattle.kept_promise.proofs.LogSums.{sent_more, asked_in, read_number, begins_in, IsSum}
+use Rattle.kept_promise.proofs.LogEvents.{Answering, Answered, found_in, LogLaws, value_stays, file_stays}
 
 -- ---- what is carried
 
@@ -25,39 +29,45 @@ StageChunks st v = Unit {0}
 abbrev pub OwnBy : Going
 OwnBy log file v st = AreOwn (stage_word st) file v log × StageChunks st v
 
+-- for any other nothing was said
+abbrev IsBare : Word → List Deal → Type 0
+IsBare words.Open log = Unit {0}
+IsBare words.Close log = Unit {0}
+IsBare w log = log ≡ []
+
 abbrev pub OpOwn : Ending
-OpOwn log w file v u = AreOwn w file v log
+OpOwn log w file v u = AreOwn w file v log × IsBare w log
 
 -- ---- logs joined
 
 own_join : (w : Word) (file : ℕ) (v : List ℕ) (a b : List Deal) → AreOwn w file v a → AreOwn w file v b → AreOwn w file v (a ++ b)
 own_join w file v [] b h k = k
 own_join w file v (Took m ∷ a) b h k = own_join w file v a b h k
+own_join w file v (Found z ∷ a) b h k = own_join w file v a b h k
 own_join w file v (Sent m ∷ a) b h k = (h.0, own_join w file v a b h.1 k)
 
 -- an open's calls don't depend on a value
 open_own : (file : ℕ) (v x : List ℕ) (log : List Deal) → AreOwn words.Open file v log → AreOwn words.Open file x log
 open_own file v x [] h = tt
 open_own file v x (Took m ∷ log) h = open_own file v x log h
+open_own file v x (Found z ∷ log) h = open_own file v x log h
 open_own file v x (Sent m ∷ log) h = (h.0, open_own file v x log h.1)
+
+own_found : (w : Word) (file : ℕ) (v : List ℕ) (ps : List (ℕ × ℕ)) → AreOwn w file v (map Found ps)
+own_found w file v [] = tt
+own_found w file v (z ∷ ps) = own_found w file v ps
 
 -- ---- what goes out
 
-reads_own : (file : ℕ) (v : List ℕ) (k : ℕ) (r : Reads) → AreOwn words.Open file v (map Sent r.send) → AreOwn words.Open file v (map Sent (reads_more k file r).send)
-reads_own file v zero r h = h
-reads_own file v (suc k) r h = reads_own file v k (reads_next file r (slice_get r.fetch.chunks r.fetch.asked)) (by (slice_get r.fetch.chunks r.fetch.asked))
+reads_own : (s : client.State) (file : ℕ) (v : List ℕ) (f : Fetch) → AreOwn words.Open file v (map Sent (reads_of s file f).send)
+reads_own s file v f = reads_keep (λ r. AreOwn words.Open file v (map Sent r.send)) s.cache s.index file (λ r c o h at found. by r c h o) (length f.chunks - f.asked) (reads_from f s.next) tt
   where
-    by : (o : Option Chunk) → AreOwn words.Open file v (map Sent (reads_next file r o).send)
-    by None = h
-    by (Some c) = subst (AreOwn words.Open file v) (sym (sent_more r.send (read_call r.next file c))) (own_join words.Open file v (map Sent r.send) (Sent (read_call r.next file c) ∷ []) h (refl, tt))
+    by : (r : Reads) (c : Chunk) → AreOwn words.Open file v (map Sent r.send) → (o : Option (List ℕ)) → AreOwn words.Open file v (map Sent (reads_chunk file r c o).send)
+    by r c h None = subst (AreOwn words.Open file v) (sym (sent_more r.send (read_call r.next file c))) (own_join words.Open file v (map Sent r.send) (Sent (read_call r.next file c) ∷ []) h (refl, tt))
+    by r c h (Some bytes) = h
 
-names_own : (file : ℕ) (v : List ℕ) (k : ℕ) (n : Names) → AreOwn words.Close file v (map Sent n.send) → AreOwn words.Close file v (map Sent (names_more k n).send) × ((names_more k n).store.chunks ≡ n.store.chunks)
-names_own file v zero n h = (h, refl)
-names_own file v (suc k) n h = by (slice_get n.store.chunks n.store.named) (λ q g. names_own file v k q g)
-  where
-    by : (o : Option Chunk) → ((q : Names) → AreOwn words.Close file v (map Sent q.send) → AreOwn words.Close file v (map Sent (names_more k q).send) × ((names_more k q).store.chunks ≡ q.store.chunks)) → AreOwn words.Close file v (map Sent (names_more k (names_next n o)).send) × ((names_more k (names_next n o)).store.chunks ≡ n.store.chunks)
-    by None go = go n h
-    by (Some c) go = go (names_next n (Some c)) (subst (AreOwn words.Close file v) (sym (sent_more n.send (cond_call n.next n.store.temp c))) (own_join words.Close file v (map Sent n.send) (Sent (cond_call n.next n.store.temp c) ∷ []) h (tt, tt)))
+names_own : (file : ℕ) (v : List ℕ) (w : Store) (next : ℕ) → AreOwn words.Close file v (map Sent (names_all w next).send) × ((names_all w next).store.chunks ≡ w.chunks)
+names_own file v w next = names_keep (λ n. AreOwn words.Close file v (map Sent n.send) × (n.store.chunks ≡ w.chunks)) (λ n c h at. (subst (AreOwn words.Close file v) (sym (sent_more n.send (cond_call n.next n.store.temp c))) (own_join words.Close file v (map Sent n.send) (Sent (cond_call n.next n.store.temp c) ∷ []) h.0 (tt, tt)), h.1)) (calls_most - length w.under) (names_from w next) (tt, refl)
 
 -- ---- an answer
 
@@ -65,121 +75,167 @@ names_own file v (suc k) n h = by (slice_get n.store.chunks n.store.named) (λ q
 abbrev Sends : (w : Word) (file : ℕ) (v : List ℕ) → client.State × ClientStep → Type 0
 Sends w file v r = ((u : Task) → r.1.ended ≡ None → r.0.task ≡ Some u → (stage_word u.stage ≡ w) × StageChunks u.stage v) × AreOwn w file v (map Sent r.1.send)
 
-open_not_close : words.Open ≡ words.Close → ⊥
-open_not_close e = absurd cc
-
-open_chunks : (st : Stage) (v : List ℕ) → stage_word st ≡ words.Open → StageChunks st v
-open_chunks (stage.Hashing tries x) v e = tt
-open_chunks (stage.Listing x f) v e = tt
-open_chunks (stage.Reading f) v e = tt
-open_chunks (stage.Making x temp) v e = absurd cc
-open_chunks (stage.Storing w) v e = absurd cc
-open_chunks (stage.Committing x) v e = absurd cc
-
-reads_send : (s : client.State) (calls : List Pending) (file xid : ℕ) (f : Fetch) (bytes : ℕ) (v : List ℕ) → Sends words.Open file v (reads_on s calls file xid f bytes)
-reads_send s calls file xid f bytes v = by (is_here (reads_all file f s.next).fetch)
-  where
-    by : (t : Bool) → Sends words.Open file v (reads_if s calls file xid (reads_all file f s.next) bytes t)
-    by true = (λ u running. nothing_there _ (sym running), tt)
-    by false = (λ u running is. subst (λ (z : Task). (stage_word z.stage ≡ words.Open) × StageChunks z.stage v) (some_is _ u is) (refl, tt), reads_own file v (calls_most - length f.under) (reads_from f s.next) tt)
-
-names_send : (s : client.State) (file : ℕ) (content v : List ℕ) (w : Store) → v ≡ content → w.chunks ≡ chunks_of v → Sends words.Close file v (goes_on s file content w)
-names_send s file content v w same whole = by (is_stored (names_all w s.next).store)
-  where
-    own : AreOwn words.Close file v (map Sent (names_all w s.next).send) × ((names_all w s.next).store.chunks ≡ w.chunks)
-    own = names_own file v (calls_most - length w.under) (names_from w s.next) tt
-
-    commit : Message
-    commit = commit_call (names_all w s.next).next (names_all w s.next).store.temp file (length content)
-
-    by : (t : Bool) → Sends words.Close file v (goes_if s file content (names_all w s.next) t)
-    by true = (
-      λ u running is. subst (λ (z : Task). (stage_word z.stage ≡ words.Close) × StageChunks z.stage v) (some_is _ u is) (refl, tt),
-      subst (AreOwn words.Close file v) (sym (sent_more (names_all w s.next).send commit)) (own_join words.Close file v (map Sent (names_all w s.next).send) (Sent commit ∷ []) own.0 ((refl, ap length (sym same)), tt)),
-    )
-    by false = (λ u running is. subst (λ (z : Task). (stage_word z.stage ≡ words.Close) × StageChunks z.stage v) (some_is _ u is) (refl, own.1 ∙ whole), own.0)
-
 store_is : (st : Stage) (x : ℕ) (v content : List ℕ) (w : Store) → StoreIn st x content w → StageChunks st v → (stage_word st ≡ words.Close → v ≡ content) → (stage_word st ≡ words.Close) × (v ≡ content) × (w.chunks ≡ chunks_of v)
 store_is st x v content w (inl (y, temp, is, e)) h same = let close = ap stage_word is in let v_is = same close in (close, v_is, ap (λ (z : Store). z.chunks) e ∙ ap chunks_of (sym v_is))
 store_is st x v content w (inr (old, is, e)) h same = let close = ap stage_word is in (close, same close, ap (λ (z : Store). z.chunks) e ∙ subst (λ (t : Stage). StageChunks t v) is h)
 
-fetch_open : (st : Stage) (x : ℕ) (h : Rattle.hash_calls.specs.declared.call.Hashes.Hashes) (f : Fetch) → FetchIn st x h f → stage_word st ≡ words.Open
-fetch_open st x h f (inl (tries, y, is, e)) = ap stage_word is
-fetch_open st x h f (inr (y, is)) = ap stage_word is
-
-sends_cases : (s : client.State) (calls : List Pending) (file : ℕ) (v : List ℕ) (st : Stage) (x : ℕ) (b : Body) → StageChunks st v → (stage_word st ≡ words.Close → v ≡ client.local_bytes s.opened file) → Cases (Sends (stage_word st) file v) s calls file st x b
+sends_cases : (s : client.State) (calls : List Pending) (file : ℕ) (v : List ℕ) (st : Stage) (x : ℕ) (b : Body) → StageChunks st v → (stage_word st ≡ words.Close → v ≡ client.local_bytes s.opened file) → Cases (λ found r. Sends (stage_word st) file v r) s calls file st x b
 sends_cases s calls file v st x b h same = record {
-  ends = λ r e unchanged. ended r e;
+  ends = λ r e unchanged came. ended r e;
   changed = λ r f version e open_ gave last is. ended r e;
-  anew = λ c f version bytes open_ next gave few. subst (λ w. Sends w file v (Rattle.open_close.specs.Step.tries_anew c file (f.tries + 1) bytes)) (sym open_) ((λ u running is. subst (λ (z : Task). (stage_word z.stage ≡ words.Open) × StageChunks z.stage v) (some_is _ u is) (refl, tt)), (refl, tt));
-  lists = λ f g is at far. subst (λ w. Sends w file v (Rattle.open_close.specs.Step.lists_on s calls file x (Rattle.open_close.specs.Opening.with_hashes f g) false)) (sym (fetch_open st x g f at)) ((λ u running task. subst (λ (z : Task). (stage_word z.stage ≡ words.Open) × StageChunks z.stage v) (some_is _ u task) (refl, tt)), (refl, tt));
-  first = λ f g is at. subst (λ w. Sends w file v (reads_on s calls file x (Rattle.open_close.specs.Opening.listed (Rattle.open_close.specs.Opening.with_hashes f g)) 0)) (sym (fetch_open st x g f at)) (reads_send s calls file x (Rattle.open_close.specs.Opening.listed (Rattle.open_close.specs.Opening.with_hashes f g)) 0 v);
-  next = λ f c k p is at found chunk fits. subst (λ w. Sends w file v (reads_on s calls file x (Rattle.open_close.specs.Opening.with_bytes f c p.bytes) (length p.bytes))) (sym (ap stage_word at)) (reads_send s calls file x (Rattle.open_close.specs.Opening.with_bytes f c p.bytes) (length p.bytes) v);
-  stores = λ w at known. (let k = store_is st x v (client.local_bytes s.opened file) w at h same in subst (λ z. Sends z file v (goes_on s file (client.local_bytes s.opened file) w)) (sym k.0) (names_send s file (client.local_bytes s.opened file) v w k.1 k.2));
-  whole = λ old c k at unknown found chunk.
+  uses = λ y l bytes at is kept. ((λ u running. nothing_there _ (sym running)), tt);
+  fetches = λ y l at is. opening (ap stage_word at) (tries_anew (forgets s calls x) file 1 0) ((λ u running task. subst (λ (z : Task). (stage_word z.stage ≡ words.Open) × StageChunks z.stage v) (some_is _ u task) (refl, tt)), (refl, tt));
+  anew = λ f version bytes open_ gave few came. opening open_ (tries_anew (forgets s calls x) file (f.tries + 1) bytes) ((λ u running task. subst (λ (z : Task). (stage_word z.stage ≡ words.Open) × StageChunks z.stage v) (some_is _ u task) (refl, tt)), (refl, tt));
+  lists = λ f g is at told far. opening (in_open st x g f at) (lists_on s calls file x (with_hashes f g) false) ((λ u running task. subst (λ (z : Task). (stage_word z.stage ≡ words.Open) × StageChunks z.stage v) (some_is _ u task) (refl, tt)), (refl, tt));
+  reads = λ f bytes now here. opening (now_open st x b f bytes now) (reads_if (looked s file f) calls file x (reads_of s file f) bytes false) ((λ u running task. subst (λ (z : Task). (stage_word z.stage ≡ words.Open) × StageChunks z.stage v) (some_is _ u task) (refl, tt)), reads_own s file v f);
+  opens = λ f bytes now here. ((λ u running. nothing_there _ (sym running)), tt);
+  names = λ w at known none is.
+      let k = store_is st x v (client.local_bytes s.opened file) w at h same in
+      let own = names_own file v w s.next in
+      closing k.0 (goes_if s file (client.local_bytes s.opened file) (names_all w s.next) false) ((λ u running task. subst (λ (z : Task). (stage_word z.stage ≡ words.Close) × StageChunks z.stage v) (some_is _ u task) (refl, own.1 ∙ k.2)), own.0);
+  commits = λ w at known none is.
+      let k = store_is st x v (client.local_bytes s.opened file) w at h same in
+      let own = names_own file v w s.next in
+      let n = names_all w s.next in
+      let commit : Message = commit_call n.next n.store.temp file (length (client.local_bytes s.opened file)) in
+      closing k.0 (goes_if s file (client.local_bytes s.opened file) (names_all w s.next) true) (
+        (λ u running task. subst (λ (z : Task). (stage_word z.stage ≡ words.Close) × StageChunks z.stage v) (some_is _ u task) (refl, tt)),
+        subst (AreOwn words.Close file v) (sym (sent_more n.send commit)) (own_join words.Close file v (map Sent n.send) (Sent commit ∷ []) own.0 ((refl, ap length (sym k.1)), tt)),
+      );
+  whole = λ old c k at unknown none found chunk.
       let close = ap stage_word at in
       let content = same close in
       let chunks : old.chunks ≡ chunks_of v = subst (λ (t : Stage). StageChunks t v) at h in
-      subst (λ z. Sends z file v (Rattle.open_close.specs.Step.sends_whole s file x (client.local_bytes s.opened file) (Rattle.open_close.specs.Closing.answered old x) c (Some k))) (sym close) (
-        (λ u running is. subst (λ (z : Task). (stage_word z.stage ≡ words.Close) × StageChunks z.stage v) (some_is _ u is) (refl, chunks)),
+      closing close (sends_whole s file x (client.local_bytes s.opened file) (Rattle.open_close.specs.Closing.answered old x) c (Some k)) (
+        (λ u running task. subst (λ (z : Task). (stage_word z.stage ≡ words.Close) × StageChunks z.stage v) (some_is _ u task) (refl, chunks)),
         ((c.index, k, ap (λ (l : List Chunk). slice_get l c.index) (sym chunks) ∙ chunk, refl, ap (λ z. Rattle.chunk_cut.specs.Places.chunk_bytes z k) (sym content)), tt),
       );
 }
   where
-    ended : (r : client.State × ClientStep) → JustEnds b r → Sends (stage_word st) file v r
-    ended r e = (λ u running. nothing_there e.ended (sym running ∙ e.ended_is), subst (λ (ms : List Message). AreOwn (stage_word st) file v (map Sent ms)) (sym e.sent) tt)
+    ended : (r : client.State × ClientStep) → JustEnds x b r → Sends (stage_word st) file v r
+    ended r e = ((λ u running. nothing_there e.ended (sym running ∙ e.ended_is)), subst (λ (ms : List Message). AreOwn (stage_word st) file v (map Sent ms)) (sym e.sent) tt)
 
--- an operation under way is an open or a close
-abbrev IsOther : Word → Type 0
-IsOther words.Open = ⊥
-IsOther words.Close = ⊥
-IsOther w = Unit {0}
+    opening : stage_word st ≡ words.Open → (r : client.State × ClientStep) → Sends words.Open file v r → Sends (stage_word st) file v r
+    opening is r k = subst (λ w. Sends w file v r) (sym is) k
 
-asks_or_stores : (st : Stage) → IsOther (stage_word st) → ⊥
-asks_or_stores (stage.Hashing tries x) h = h
-asks_or_stores (stage.Listing x f) h = h
-asks_or_stores (stage.Reading f) h = h
-asks_or_stores (stage.Making x temp) h = h
-asks_or_stores (stage.Storing w) h = h
-asks_or_stores (stage.Committing x) h = h
+    closing : stage_word st ≡ words.Close → (r : client.State × ClientStep) → Sends words.Close file v r → Sends (stage_word st) file v r
+    closing is r k = subst (λ w. Sends w file v r) (sym is) k
 
-own_heard : (book more : Book) (taken : List TakenCall) (j : Job) (o : Op) (p : ℕ) (s : client.State) (x : ℕ) (b : Body) → Answering book more taken j o p s x (took (idle s) (client.calls_of s) j.file j.stage x b) → (log : List Deal) → OwnBy log o.file o.value j.stage
-    → (let r = took (idle s) (client.calls_of s) j.file j.stage x b in After OwnBy OpOwn (log ++ deals_with (message.Answer x b ∷ []) r.1.send) r (op_after o r.0 taken (book.steps + 1) r.1))
+own_heard : (book more : Book) (taken : List TakenCall) (j : Job) (o : Op) (p : ℕ) (s : client.State) (x : ℕ) (b : Body) → Answering book more taken j o p s x b (took (idle s) (client.calls_of s) j.file j.stage x b) → (log : List Deal) → OwnBy log o.file o.value j.stage
+    → Answered OwnBy OpOwn book taken o log x b (found_in s j.file j.stage x b) (took (idle s) (client.calls_of s) j.file j.stage x b)
 own_heard book more taken j o p s x b a log h = record {
   stage = λ u running is.
       let w = sends.0 u running is in (
-        subst (λ z. AreOwn z (op_after o r.0 taken (book.steps + 1) r.1).file (op_after o r.0 taken (book.steps + 1) r.1).value (log ++ deals_with (message.Answer x b ∷ []) r.1.send)) (a.taking.word ∙ sym w.0) each,
+        subst (λ z. AreOwn z new.file new.value log2) (a.taking.word ∙ sym w.0) each,
         subst (StageChunks u.stage) (sym (running_value r.1.ended running)) w.1,
       );
-  each = subst (λ z. AreOwn z (op_after o r.0 taken (book.steps + 1) r.1).file (op_after o r.0 taken (book.steps + 1) r.1).value (log ++ deals_with (message.Answer x b ∷ []) r.1.send)) (sym (word_after o r.0 taken (book.steps + 1) r.1)) each;
+  each = (
+    subst (λ z. AreOwn z (op_after o r.0 taken (book.steps + 1) r.1).file (op_after o r.0 taken (book.steps + 1) r.1).value log2) (sym (word_after o r.0 taken (book.steps + 1) r.1)) each,
+    subst (λ z. IsBare z log2) (sym (word_after o r.0 taken (book.steps + 1) r.1 ∙ a.taking.word)) (bare j.stage log2),
+  );
 }
   where
     r : client.State × ClientStep
     r = took (idle s) (client.calls_of s) j.file j.stage x b
 
-    sends : Sends (stage_word j.stage) j.file o.value (took (idle s) (client.calls_of s) j.file j.stage x b)
-    sends = took_cases (Sends (stage_word j.stage) j.file o.value) (idle s) (client.calls_of s) j.file j.stage x b (sends_cases (idle s) (client.calls_of s) j.file o.value j.stage x b h.1 a.value)
+    new : Op
+    new = op_after o (took (idle s) (client.calls_of s) j.file j.stage x b).0 taken (book.steps + 1) (took (idle s) (client.calls_of s) j.file j.stage x b).1
 
-    running_value : (e : Option Rattle.open_close.specs.declared.step.Ended.Ended) → e ≡ None → (op_after o r.0 taken (book.steps + 1) (record r.1 { ended = e })).value ≡ o.value
+    log2 : List Deal
+    log2 = log ++ deals_with (message.Answer x b ∷ []) (found_in s j.file j.stage x b) (took (idle s) (client.calls_of s) j.file j.stage x b).1.send
+
+    sends : Sends (stage_word j.stage) j.file o.value (took (idle s) (client.calls_of s) j.file j.stage x b)
+    sends = took_cases (λ found r. Sends (stage_word j.stage) j.file o.value r) (idle s) (client.calls_of s) j.file j.stage x b (sends_cases (idle s) (client.calls_of s) j.file o.value j.stage x b h.1 a.value)
+
+    running_value : (e : Option Ended) → e ≡ None → (op_after o r.0 taken (book.steps + 1) (record r.1 { ended = e })).value ≡ o.value
     running_value None is = refl
     running_value (Some e) is = nothing_there e (sym is)
 
-    all : AreOwn (stage_word j.stage) o.file o.value (log ++ deals_with (message.Answer x b ∷ []) (took (idle s) (client.calls_of s) j.file j.stage x b).1.send)
-    all = own_join (stage_word j.stage) o.file o.value log (Took (message.Answer x b) ∷ map Sent r.1.send) h.0 (subst (λ f. AreOwn (stage_word j.stage) f o.value (map Sent r.1.send)) (sym a.taking.file) sends.1)
+    all : AreOwn o.word o.file o.value log2
+    all = subst (λ w. AreOwn w o.file o.value log2) (sym a.taking.word) (own_join (stage_word j.stage) o.file o.value log (Took (message.Answer x b) ∷ (map Found (found_in s j.file j.stage x b) ++ map Sent r.1.send)) h.0
+        (own_join (stage_word j.stage) o.file o.value (map Found (found_in s j.file j.stage x b)) (map Sent r.1.send) (own_found (stage_word j.stage) o.file o.value (found_in s j.file j.stage x b)) (subst (λ f. AreOwn (stage_word j.stage) f o.value (map Sent r.1.send)) (sym a.taking.file) sends.1)))
 
-    by : (w : Word) → o.word ≡ w → AreOwn w o.file o.value (log ++ deals_with (message.Answer x b ∷ []) (took (idle s) (client.calls_of s) j.file j.stage x b).1.send) → AreOwn w o.file (op_after o (took (idle s) (client.calls_of s) j.file j.stage x b).0 taken (book.steps + 1) (took (idle s) (client.calls_of s) j.file j.stage x b).1).value (log ++ deals_with (message.Answer x b ∷ []) (took (idle s) (client.calls_of s) j.file j.stage x b).1.send)
-    by words.Open e h = open_own o.file o.value (op_after o r.0 taken (book.steps + 1) r.1).value (log ++ deals_with (message.Answer x b ∷ []) r.1.send) h
-    by words.Close e h = subst (λ v. AreOwn words.Close o.file v (log ++ deals_with (message.Answer x b ∷ []) r.1.send)) (sym (value_stays o r.0 taken (book.steps + 1) r.1 (λ len digest z. close_not_opened more (op_after o r.0 taken (book.steps + 1) r.1) len digest a.right (word_after o r.0 taken (book.steps + 1) r.1 ∙ e) z))) h
-    by w e h = absurd (asks_or_stores j.stage (subst IsOther (sym e ∙ a.taking.word) tt))
+    each : AreOwn o.word (op_after o r.0 taken (book.steps + 1) r.1).file (op_after o r.0 taken (book.steps + 1) r.1).value log2
+    each = subst (λ f. AreOwn o.word f (op_after o r.0 taken (book.steps + 1) r.1).value log2) (sym (file_stays o r.0 taken (book.steps + 1) r.1)) (elim (either_word j.stage) [
+      | inl open_ ↦ (let w : o.word ≡ words.Open = a.taking.word ∙ open_ in subst (λ z. AreOwn z o.file (op_after o r.0 taken (book.steps + 1) r.1).value log2) (sym w) (open_own o.file o.value (op_after o r.0 taken (book.steps + 1) r.1).value log2 (subst (λ z. AreOwn z o.file o.value log2) w all)))
+      | inr close ↦ (let w : o.word ≡ words.Close = a.taking.word ∙ close in subst (λ v. AreOwn o.word o.file v log2) (sym (value_stays o r.0 taken (book.steps + 1) r.1 (λ len digest z. close_not_opened more (op_after o r.0 taken (book.steps + 1) r.1) len digest a.right (word_after o r.0 taken (book.steps + 1) r.1 ∙ w) z))) all)
+    ])
 
-    each : AreOwn o.word (op_after o (took (idle s) (client.calls_of s) j.file j.stage x b).0 taken (book.steps + 1) (took (idle s) (client.calls_of s) j.file j.stage x b).1).file (op_after o (took (idle s) (client.calls_of s) j.file j.stage x b).0 taken (book.steps + 1) (took (idle s) (client.calls_of s) j.file j.stage x b).1).value (log ++ deals_with (message.Answer x b ∷ []) (took (idle s) (client.calls_of s) j.file j.stage x b).1.send)
-    each = subst (λ f. AreOwn o.word f (op_after o r.0 taken (book.steps + 1) r.1).value (log ++ deals_with (message.Answer x b ∷ []) r.1.send)) (sym (file_stays o r.0 taken (book.steps + 1) r.1)) (by o.word refl (subst (λ w. AreOwn w o.file o.value (log ++ deals_with (message.Answer x b ∷ []) r.1.send)) (sym a.taking.word) all))
+    bare : (st : Stage) (l : List Deal) → IsBare (stage_word st) l
+    bare st l = elim (either_word st) [ inl open_ ↦ subst (λ w. IsBare w l) (sym open_) tt | inr close ↦ subst (λ w. IsBare w l) (sym close) tt ]
 
 pub own_laws : (all : List Moment) → LogLaws all OwnBy OpOwn
 own_laws all = record {
-  none = λ w file v u un same. tt;
+  none = λ w file v u un same. (tt, none w);
+  asks = λ x file v. ((refl, tt), tt);
   opens = λ x file v. ((refl, tt), tt);
   closes = λ x temp file v. ((refl, tt), tt);
-  other = λ log file v st u p un same. p.0;
+  other = λ log file v st u p un same. (p.0, other st log);
   heard = λ book more taken j o p s x b all_is a log h. own_heard book more taken j o p s x b a log h;
 }
+  where
+    none : (w : Word) → IsBare w []
+    none words.Open = tt
+    none words.Close = tt
+    none w = refl
+
+    other : (st : Stage) (l : List Deal) → IsBare (stage_word st) l
+    other st l = elim (either_word st) [ inl open_ ↦ subst (λ w. IsBare w l) (sym open_) tt | inr close ↦ subst (λ w. IsBare w l) (sym close) tt ]
+
+-- ---- what it makes of the promise
+
+-- no open stores anything, and no close reads
+pub open_stores : (file : ℕ) (v : List ℕ) (log : List Deal) → AreOwn words.Open file v log → (length (named_in log) ≡ 0) × (whole_in log ≡ 0)
+open_stores file v [] h = (refl, refl)
+open_stores file v (Took m ∷ log) h = let l = open_stores file v log h in let a = l.0 in let b = l.1 in (omega (arith, a), omega (arith, b))
+open_stores file v (Found z ∷ log) h = let l = open_stores file v log h in let a = l.0 in let b = l.1 in (omega (arith, a), omega (arith, b))
+open_stores file v (Sent m ∷ log) h = let l = open_stores file v log h.1 in by m h.0 l.0 l.1
+  where
+    by : (m : Message) → IsFetchCall file m → length (named_in log) ≡ 0 → whole_in log ≡ 0 → (length (named_in (Sent m ∷ log)) ≡ 0) × (whole_in (Sent m ∷ log) ≡ 0)
+    by (message.Call xid (body.Lb (lb.GetLease handle))) own a b = (omega (arith, a), omega (arith, b))
+    by (message.Call xid (body.Lb (lb.GetHash z))) own a b = (omega (arith, a), omega (arith, b))
+    by (message.Call xid (body.Nfs (nfs.Read z))) own a b = (omega (arith, a), omega (arith, b))
+    by m own a b = absurd own
+
+pub close_asks : (file : ℕ) (v : List ℕ) (log : List Deal) → AreOwn words.Close file v log → asked_in log ≡ 0
+close_asks file v [] h = refl
+close_asks file v (Took m ∷ log) h = let l = close_asks file v log h in omega (arith, l)
+close_asks file v (Found z ∷ log) h = let l = close_asks file v log h in omega (arith, l)
+close_asks file v (Sent m ∷ log) h = let l = close_asks file v log h.1 in let e = by m h.0 in omega (arith, l, e)
+  where
+    by : (m : Message) → IsStoreCall file v m → read_number m ≡ 0
+    by (message.Call xid (body.Lb (lb.MkTmpFile z))) own = refl
+    by (message.Call xid (body.Lb (lb.CondWrite z))) own = refl
+    by (message.Call xid (body.Lb (lb.TmpWrite z))) own = refl
+    by (message.Call xid (body.Lb (lb.CommitTmp z))) own = refl
+    by m own = absurd own
+
+-- and neither begins an attempt but an open
+pub none_begin : (past : List Moment) (o : Op) → (o.word ≡ words.Open → ⊥) → OpOwn (deals_of o past) o.word o.file o.value o.outcome → begins_in (deals_of o past) ≡ 0
+none_begin past o other h = by o.word refl h
+  where
+    close : (log : List Deal) → AreOwn words.Close o.file o.value log → begins_in log ≡ 0
+    close [] h = refl
+    close (Took m ∷ log) h = let l = close log h in omega (arith, l)
+    close (Found z ∷ log) h = let l = close log h in omega (arith, l)
+    close (Sent m ∷ log) h = let l = close log h.1 in let e = one m h.0 in omega (arith, l, e)
+      where
+        one : (m : Message) → IsStoreCall o.file o.value m → first_number m ≡ 0
+        one (message.Call xid (body.Lb (lb.MkTmpFile z))) own = refl
+        one (message.Call xid (body.Lb (lb.CondWrite z))) own = refl
+        one (message.Call xid (body.Lb (lb.TmpWrite z))) own = refl
+        one (message.Call xid (body.Lb (lb.CommitTmp z))) own = refl
+        one m own = absurd own
+
+    by : (w : Word) → o.word ≡ w → OpOwn (deals_of o past) w o.file o.value o.outcome → begins_in (deals_of o past) ≡ 0
+    by words.Open e h = absurd (other e)
+    by words.Close e h = close (deals_of o past) h.0
+    by w e h = ap begins_in h.1
+
+pub own_counts : (past : List Moment) (o : Op) → OpOwn (deals_of o past) o.word o.file o.value o.outcome → IsSum o.traffic (deals_of o past) → CountsOwn o.word o.traffic
+own_counts past o h s = by o.word h
+  where
+    by : (w : Word) → OpOwn (deals_of o past) w o.file o.value o.outcome → CountsOwn w o.traffic
+    by words.Open h = let n = open_stores o.file o.value (deals_of o past) h.0 in (s.cond ∙ n.0, s.tmp ∙ n.1)
+    by words.Close h = s.read ∙ close_asks o.file o.value (deals_of o past) h.0
+    by w h = let z = subst (IsSum o.traffic) h.1 s in traffic_is o.traffic no_traffic z.cond z.tmp z.read z.data_is

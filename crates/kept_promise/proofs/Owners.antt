@@ -1,5 +1,11 @@
 -- What the owners of the sessions are, and the stage, once a line was run.
 use Rattle.std.proofs.Common.{◌≡◌, ℕ, zero, suc, List, [], ◌∷◌, ◌++◌, length, Option, Some, None, Bool, true, false, refl, sym, ap, ◌∙◌, Result, Ok, Err, map, take}
+use Rattle.trace_text.specs.declared.line.Who.TheVariants as who
+use Rattle.open_close.specs.State as client
+use Rattle.trace_replay.specs.Core.{with_client, adjusted}
+use Rattle.trace_replay.specs.World.{adjusts}
+use Rattle.trace_replay.specs.declared.adjusting.Adjustment.{Adjustment}
+use Rattle.trace_replay.specs.declared.adjusting.Adjustment.TheVariants as adjustment
 use Rattle.trace_replay.specs.declared.stage.Stage.{Stage}
 use Rattle.trace_replay.specs.declared.stage.Stage.TheVariants as stage
 use Rattle.trace_replay.specs.declared.turn.Turn.TheVariants as turn
@@ -143,6 +149,22 @@ passes_same (suc k) w n server at = by (is_still w n) (passes_same k (round w n 
     by true later = same w
     by false later = and_then w (round w n server at) _ (round_same w n server at) later
 
+-- ---- an index or a cache alone
+
+client_sessions : (k : Core) (number : ℕ) (change : client.State → client.State) (o : Option Seat) → (with_client k number change o).sessions ≡ k.sessions
+client_sessions k number change None = refl
+client_sessions k number change (Some seat) = refl
+
+adjusted_sessions : (k : Core) (a : Adjustment) → (adjusted k a).sessions ≡ k.sessions
+adjusted_sessions k (adjustment.Forge who.Server key place) = refl
+adjusted_sessions k (adjustment.Forge (who.Client c) key place) = client_sessions k c (λ s. client.forged s key place) (numbered k.seats c)
+adjusted_sessions k (adjustment.Clear who.Server) = refl
+adjusted_sessions k (adjustment.Clear (who.Client c)) = client_sessions k c client.index_cleared (numbered k.seats c)
+adjusted_sessions k (adjustment.Evict c file) = client_sessions k c (λ s. client.evicted s file) (numbered k.seats c)
+
+adjusts_same : (w : World) (a : Adjustment) → Same w (adjusts w a)
+adjusts_same w a = record { stage = refl; owners = ap (λ (xs : List Session). owners xs) (adjusted_sessions w.core a) }
+
 -- ---- a turn
 
 abbrev pub stage_after : Stage → Turn → Stage
@@ -184,4 +206,5 @@ turned_to w (turn.Settle now) m = by_same w _ (turn.Settle now) refl refl (happe
 turned_to w (turn.Cut c) m = by_same w _ (turn.Cut c) refl refl (happened_same (at_events w) (Cuts c) tt)
 turned_to w (turn.Hang n) m = by_same w _ (turn.Hang n) refl refl (happened_same (at_events w) (Hangs n) tt)
 turned_to w (turn.Pass n k server at) m = by_same w _ (turn.Pass n k server at) refl refl (passes_same k (at_events w) n server at)
+turned_to w (turn.Adjust a) m = by_same w _ (turn.Adjust a) refl refl (adjusts_same (at_events w) a)
 turned_to w _ m = record { stage = refl; owners = refl }

@@ -1,7 +1,9 @@
 -- The promise, of every trace that is accepted.
-use Rattle.std.proofs.Common.{◌≡◌, ℕ, suc, List, refl, sym, Ok}
+use Rattle.std.proofs.Common.{◌≡◌, ℕ, suc, List, Some, refl, sym, subst, Ok}
+use Rattle.register_model.specs.declared.op.Outcome.TheVariants as told
+use Rattle.register_model.specs.declared.op.Word.TheVariants as words
 use Rattle.trace_replay.specs.Traces.{IsKeptPromise}
-use Rattle.kept_promise.proofs.Common.{World, passes, run, accepted, Moment, deeds_of, moments, hashed_of, book_of, rounds}
+use Rattle.kept_promise.proofs.Common.{World, Op, slice_get, passes, run, accepted, Moment, deeds_of, moments, hashed_of, book_of, rounds}
 use Rattle.kept_promise.proofs.Statements.{ClocksKeepTheRule}
 use Rattle.kept_promise.proofs.Turns.{also_numbered}
 use Rattle.kept_promise.proofs.Rounds.{passes_are_rounds}
@@ -15,19 +17,22 @@ use Rattle.kept_promise.proofs.Commanded.{events_said, commands_said}
 use Rattle.kept_promise.proofs.StepsCount.{steps_counted}
 use Rattle.kept_promise.proofs.Done.{deeds_counted, deeds_done}
 use Rattle.kept_promise.proofs.CutEnds.{AreFollowed, carried_follow, cuts_end}
-use Rattle.kept_promise.proofs.StoredWhole.{Stored, carried_stored, have_stored, made_sent}
+use Rattle.kept_promise.proofs.StoredWhole.{Stored, carried_stored, has_stored, have_stored, made_sent}
+use Rattle.kept_promise.proofs.AtOnce.{AtOnce, carried_at_once}
 use Rattle.kept_promise.proofs.VersionRuns.{Versions, carried_versions, opens_version}
-use Rattle.kept_promise.proofs.OpenedEvents.{ReadsOf, carried_reads, opened_counts}
 use Rattle.kept_promise.proofs.MadeRuns.{AllSettled, carried_settled}
-use Rattle.kept_promise.proofs.TriesRuns.{TriesOf, carried_tries}
+use Rattle.kept_promise.proofs.OwnedRuns.{AllOwned, carried_owned, is_for}
+use Rattle.kept_promise.proofs.LogSums.{counts_log}
 use Rattle.kept_promise.proofs.LogEvents.{LogsAt, carried_logs}
-use Rattle.kept_promise.proofs.OpensLog.{OpensBy, OpenRead, opens_laws, opens_read}
-use Rattle.kept_promise.proofs.ClosesLog.{ClosesBy, CloseNamed, closes_laws, names_chunks}
-use Rattle.kept_promise.proofs.MetLog.{MeetsBy, OpenMet, meets_laws, attempts_met}
-use Rattle.kept_promise.proofs.OwnLog.{OwnBy, OpOwn, own_laws}
+use Rattle.kept_promise.proofs.OpenedOnce.{IsMet, carried_once, opened_once}
+use Rattle.kept_promise.proofs.Rights.{Caused}
+use Rattle.kept_promise.proofs.OpensLog.{OpensBy, OpenRead, opens_laws, got_by}
+use Rattle.kept_promise.proofs.ClosesLog.{names_chunks, saves_all}
+use Rattle.kept_promise.proofs.MetLog.{attempts_met, attempts_end}
+use Rattle.kept_promise.proofs.OwnLog.{OwnBy, OpOwn, own_laws, own_counts}
 use Rattle.kept_promise.proofs.Completed.{completes}
 use Rattle.kept_promise.proofs.EndedWell.{ends_well}
-use Rattle.kept_promise.proofs.Promised.{AreWords, no_fault, legal_kept, holds_files, holds_values}
+use Rattle.kept_promise.proofs.Promised.{AreWords, no_fault, legal_kept, holds_files, holds_contents, holds_values}
 
 -- ---- facts that are carried together
 
@@ -35,45 +40,36 @@ pub carried_both : (P Q : Fact) → Carried P → Carried Q → Carried (λ all 
 carried_both P Q p q = record {
   first = λ all opening files changes count kept. (p.first all opening files changes count kept, q.first all opening files changes count kept);
   steps = λ all past rest opening k qs e mid after s h. (p.steps all past rest opening k qs e mid after s h.0, q.steps all past rest opening k qs e mid after s h.1);
+  adjusts = λ all past opening k qs index seats same h. (p.adjusts all past opening k qs index seats same h.0, q.adjusts all past opening k qs index seats same h.1);
 }
 
 abbrev Follows : Fact
 Follows all past opening k qs = AreFollowed past k
 
--- of the attempts of opens, and of the steps of changes
-abbrev Attempts : Fact
-Attempts all past opening k qs = TriesOf all past opening k qs × AllSettled all past opening k qs
+-- of the steps of changes, and of whose the messages are
+abbrev Changes : Fact
+Changes all past opening k qs = AllSettled all past opening k qs × AllOwned all past opening k qs
 
--- of their READs too
-abbrev Read : Fact
-Read all past opening k qs = ReadsOf all past opening k qs × Attempts all past opening k qs
-
--- of versions too
-abbrev Fetched : Fact
-Fetched all past opening k qs = Versions all past opening k qs × Read all past opening k qs
-
--- by what was said for operations, in order: what opens read since their last attempt began, and what closes named
+-- by what was said for operations, in order: what opens read since their last attempt began, why they gave one up, and that all calls are their own
 abbrev Logs : Fact
-Logs all past opening k qs = LogsAt OpensBy (OpenRead (hashed_of all)) past k × (LogsAt ClosesBy CloseNamed past k × (LogsAt MeetsBy OpenMet past k × LogsAt OwnBy OpOwn past k))
+Logs all past opening k qs = LogsAt OpensBy (OpenRead (hashed_of all)) past k × (IsMet all past opening k qs × LogsAt OwnBy OpOwn past k)
 
--- what is told of the commands and their operations, and of what these count
-abbrev Counted : Fact
-Counted all past opening k qs = Stored all past opening k qs × (Fetched all past opening k qs × Logs all past opening k qs)
-
+-- what is told of the commands and their operations, of what these count and store, of versions, and of the rest
 abbrev Told : Fact
-Told all past opening k qs = Follows all past opening k qs × Counted all past opening k qs
+Told all past opening k qs = Follows all past opening k qs × (Stored all past opening k qs × (Versions all past opening k qs × (AtOnce all past opening k qs × (Changes all past opening k qs × Logs all past opening k qs))))
 
 logs_carried : Carried Logs
-logs_carried = carried_both (λ all past opening k qs. LogsAt OpensBy (OpenRead (hashed_of all)) past k) (λ all past opening k qs. LogsAt ClosesBy CloseNamed past k × (LogsAt MeetsBy OpenMet past k × LogsAt OwnBy OpOwn past k))
+logs_carried = carried_both (λ all past opening k qs. LogsAt OpensBy (OpenRead (hashed_of all)) past k) (λ all past opening k qs. IsMet all past opening k qs × LogsAt OwnBy OpOwn past k)
     (carried_logs (λ all. OpensBy) (λ all. OpenRead (hashed_of all)) opens_laws fit_laws)
-    (carried_both (λ all past opening k qs. LogsAt ClosesBy CloseNamed past k) (λ all past opening k qs. LogsAt MeetsBy OpenMet past k × LogsAt OwnBy OpOwn past k) (carried_logs (λ all. ClosesBy) (λ all. CloseNamed) closes_laws fit_laws)
-    (carried_both (λ all past opening k qs. LogsAt MeetsBy OpenMet past k) (λ all past opening k qs. LogsAt OwnBy OpOwn past k) (carried_logs (λ all. MeetsBy) (λ all. OpenMet) meets_laws fit_laws) (carried_logs (λ all. OwnBy) (λ all. OpOwn) own_laws fit_laws)))
-
-fetched_carried : Carried Fetched
-fetched_carried = carried_both Versions Read (carried_versions fit_laws) (carried_both ReadsOf Attempts (carried_reads fit_laws) (carried_both TriesOf AllSettled (carried_tries fit_laws) carried_settled))
+    (carried_both IsMet (λ all past opening k qs. LogsAt OwnBy OpOwn past k) (carried_once fit_laws) (carried_logs (λ all. OwnBy) (λ all. OpOwn) own_laws fit_laws))
 
 told_carried : Carried Told
-told_carried = carried_both Follows Counted carried_follow (carried_both Stored (λ all past opening k qs. Fetched all past opening k qs × Logs all past opening k qs) (carried_stored fit_laws) (carried_both Fetched Logs fetched_carried logs_carried))
+told_carried =
+    carried_both Follows (λ all past opening k qs. Stored all past opening k qs × (Versions all past opening k qs × (AtOnce all past opening k qs × (Changes all past opening k qs × Logs all past opening k qs)))) carried_follow
+    (carried_both Stored (λ all past opening k qs. Versions all past opening k qs × (AtOnce all past opening k qs × (Changes all past opening k qs × Logs all past opening k qs))) (carried_stored fit_laws)
+    (carried_both Versions (λ all past opening k qs. AtOnce all past opening k qs × (Changes all past opening k qs × Logs all past opening k qs)) (carried_versions fit_laws)
+    (carried_both AtOnce (λ all past opening k qs. Changes all past opening k qs × Logs all past opening k qs) carried_at_once
+    (carried_both Changes Logs (carried_both AllSettled AllOwned carried_settled (carried_owned fit_laws)) logs_carried))))
 
 -- ---- the promise of what a run leaves
 
@@ -85,6 +81,11 @@ are_words w all h = λ i o at.
 promise_of : (input : List ℕ) (w : World) → run input ≡ Ok w → Stands Told (moments input) (moments input) w → IsKeptPromise input w
 promise_of input w ran h =
     let all : List Moment = moments input in
+    let stored : Stored all all w.opening w.core h.queues = h.more.1.0 in
+    let versions : Versions all all w.opening w.core h.queues = h.more.1.1.0 in
+    let once : AtOnce all all w.opening w.core h.queues = h.more.1.1.1.0 in
+    let changes : Changes all all w.opening w.core h.queues = h.more.1.1.1.1.0 in
+    let logs : Logs all all w.opening w.core h.queues = h.more.1.1.1.1.1 in
     record {
       faithful = record {
         opening = opening_said input w ran;
@@ -95,21 +96,23 @@ promise_of input w ran h =
         done = deeds_done w all h.queues h.kept h.more.0.followed;
         cuts = cuts_end w all h.more.0.cuts;
         journal = h.kept.sound.journal;
-        settled = h.more.1.1.0.1.1.1.settled;
-        settles = h.more.1.1.0.1.1.1.first;
-        versions = opens_version (book_of w all) w.core h.queues h.kept h.more.1.1.0.0.1;
+        settled = changes.0.settled;
+        settles = changes.0.first;
+        versions = opens_version (book_of w all) w.core h.queues h.kept versions.1;
         no_fault = no_fault (book_of w all) h.kept.sound;
-        traffic = h.more.1.0.counted.counts;
-        own = h.more.1.1.0.1.0.own;
-        attempts = h.more.1.1.0.1.1.0.ends;
-        met = λ k o at open_. attempts_met all o open_ (h.more.1.1.1.1.1.0.each k o at);
-        calls = λ k o at. h.more.1.1.1.1.1.1.each k o at;
-        silent = h.more.1.1.0.1.0.silent;
-        opened = opened_counts (book_of w all) w.core h.queues h.kept h.more.1.1.0.1.0;
-        fetched = λ k len digest o at is. opens_read (book_of w all) o len digest is (h.more.1.1.1.0.each k o at);
-        named = λ k o at close. names_chunks all o close (h.more.1.1.1.1.0.each k o at);
-        stored = h.more.1.0.stored.commits;
-        made = made_sent (book_of w all) all w.opening w.core h.queues h.kept h.more.1.0;
+        traffic = stored.counted.counts;
+        own = λ k o at. own_counts all o (logs.1.1.each k o at) (counts_log o all (stored.counted.counts k o at));
+        attempts = λ k o at. attempts_end (book_of w all) all o (h.kept.sound.rights k o at) (logs.1.0.met.each k o at) (logs.1.1.each k o at);
+        met = λ k o at open_. attempts_met all o open_ (logs.1.0.met.each k o at);
+        owned = λ m there. is_for w.core.ops m (changes.1.each m there);
+        calls = λ k o at. (logs.1.1.each k o at).0;
+        silent = once;
+        opened = λ k len digest o at is. opened_once (book_of w all) o len digest is (open_word k o len digest at is) (counts_log o all (stored.counted.counts k o at)) (logs.1.1.each k o at) (logs.0.each k o at) (logs.1.0.once k len digest o at is);
+        fetched = λ k len digest o at is. got_by (book_of w all) o len digest is (open_word k o len digest at is) (logs.1.1.each k o at) (logs.0.each k o at) (counts_log o all (stored.counted.counts k o at));
+        named = λ k o at close. names_chunks all o close (stored.closes.each k o at);
+        stored = λ k o at sent. has_stored all o (stored.counted.counts k o at) (stored.closes.each k o at) (logs.1.1.each k o at) sent;
+        saved = λ k o at close. saves_all all o close (stored.closes.each k o at) (stored.counted.counts k o at);
+        made = made_sent (book_of w all) all w.opening w.core h.queues h.kept stored;
       };
       legal = legal_kept (book_of w all) w.core h.queues h.kept (are_words w all h);
       complete = record {
@@ -117,10 +120,15 @@ promise_of input w ran h =
         well = λ k d o was at alone asks free uncut.
             ends_well (book_of w all) d o _ (deeds_done w all h.queues h.kept h.more.0.followed k d o was at) (completes fit_laws w all h.queues h.kept h.carry h.rested k o at alone) asks free uncut;
       };
-      waiting = holds_values (book_of w all) w h.queues h.kept (have_stored (book_of w all) all all w.opening w.core h.queues h.kept h.more.1.0);
+      waiting = holds_values (book_of w all) w h.queues h.kept (have_stored (book_of w all) all all w.opening w.core h.queues h.kept stored (λ p o at. logs.1.1.each p o at));
       tree = holds_files (book_of w all) w h.queues refl h.kept;
+      contents = holds_contents (book_of w all) w h.queues h.kept;
       messages = holds_messages Told fit_laws all all w h;
     }
+  where
+    -- it is an open
+    open_word : (k : ℕ) (o : Op) (len : ℕ) (digest : List ℕ) → slice_get w.core.ops k ≡ Some o → o.outcome ≡ told.Opened len digest → o.word ≡ words.Open
+    open_word k o len digest at is = (subst (Caused (book_of w (moments input)) o) is (h.kept.sound.rights k o at).cause).0
 
 -- ---- the laws
 

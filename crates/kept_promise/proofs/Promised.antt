@@ -9,13 +9,14 @@ use Rattle.register_model.specs.declared.op.Outcome.{Outcome}
 use Rattle.register_model.specs.declared.op.Outcome.TheVariants as told
 use Rattle.register_model.specs.declared.op.Word.TheVariants as words
 use Rattle.trace_replay.specs.Book.{AreApart}
-use Rattle.trace_replay.specs.Traces.{HoldsValues, HoldsFiles}
-use Rattle.kept_promise.proofs.Common.{nat_tests, ◌==◌, ◌&&◌, ◌||◌, nat_lt, All, slice_get, cond, option_map, option_map_or, Command, Change, File, Value, changes, changed_before, value_from, content_of, is_closed, is_untold, Op, Word, word_of, Core, Session, numbered, World, hashed_of, close_traffic, Book, Or, history, value_at, version_at, IsOpenRefused, Queue}
+use Rattle.trace_replay.specs.Traces.{HoldsValues, HoldsFile, HoldsFiles, HoldsContents}
+use Rattle.kept_promise.proofs.Common.{nat_tests, ◌==◌, ◌&&◌, ◌||◌, nat_lt, All, slice_get, cond, option_map_or, Command, Change, File, Value, changes, changed_before, value_from, content_of, is_closed, is_untold, Op, Word, word_of, Core, Session, numbered, World, hashed_of, stored_traffic, deals_of, Moment, Book, Or, history, value_at, version_at, IsOpenRefused, Queue}
 use Rattle.kept_promise.proofs.Lists.{some_is, nothing_there, within}
 use Rattle.kept_promise.proofs.Marks.{Mark, marks, mark_of, marks_cons, with_mark, latest_mark, later_mark, left_by, value_is, made_before}
 use Rattle.kept_promise.proofs.Keys.{own}
 use Rattle.kept_promise.proofs.Rights.{Caused, RefusedBy, IsRight, IsSound}
 use Rattle.kept_promise.proofs.History.{closes_alone}
+use Rattle.kept_promise.proofs.Growth.{or_map}
 use Rattle.kept_promise.proofs.Facts.{FileIs, IsServer, IsKept}
 use Rattle.kept_promise.proofs.Turns.{also_numbered}
 
@@ -60,7 +61,7 @@ finds_gone book o r = λ is_open stale. by o.outcome r.cause stale is_open
   where
     gone : (status : ℕ) → IsOpenRefused book o.file o status → (status == 70) ≡ true → (p : ℕ) × (o.point ≡ Some p) × (value_at book o.file p ≡ Absent)
     gone status (inl h) e = let is = h.0 in absurd (grind (arith, nat_tests, is, e))
-    gone status (inr h) e = (h.2.0, h.2.1.0, h.2.2)
+    gone status (inr h) e = (h.3.0, h.3.1.0, h.3.2)
 
     by : (u : Outcome) → Caused book o u → is_stale u ≡ true → o.word ≡ words.Open → (p : ℕ) × (o.point ≡ Some p) × (value_at book o.file p ≡ Absent)
     by (told.Refused status) h e is_open = gone status (subst (λ (w : Word). RefusedBy book o w status) is_open h) e
@@ -212,14 +213,16 @@ legal_kept book k qs kept are apart = record {
 pub holds_files : (book : Book) (w : World) (qs : List Queue) → book.steps ≡ w.core.steps → IsKept book w.core qs → HoldsFiles book w
 holds_files book w qs now kept = λ file. by file (server.file_at w.core.server.files file) ((kept.server).held file)
   where
-    by : (file : ℕ) (g : Option File) → FileIs book file g → (option_map (λ f. f.content) g ≡ value_at book file (w.core.steps + 1)) × (option_map (λ f. f.version) g ≡ option_map (λ x. version_at book file (w.core.steps + 1)) (value_at book file (w.core.steps + 1)))
-    by file None h =
-        let v : value_at book file (w.core.steps + 1) ≡ None = ap (λ n. value_at book file (n + 1)) (sym now) ∙ h.1 in
-        (sym v, sym (ap (λ z. option_map (λ x. version_at book file (w.core.steps + 1)) z) v))
+    by : (file : ℕ) (g : Option File) → FileIs book file g → HoldsFile book w file g (value_at book file (w.core.steps + 1))
+    by file None h = subst (HoldsFile book w file None) (sym (ap (λ n. value_at book file (n + 1)) (sym now) ∙ h.1)) tt
     by file (Some g) h =
-        let v : value_at book file (w.core.steps + 1) ≡ Some g.content = ap (λ n. value_at book file (n + 1)) (sym now) ∙ h.4 in
+        let v : value_at book file (w.core.steps + 1) ≡ Some h.4.value = ap (λ n. value_at book file (n + 1)) (sym now) ∙ h.4.is in
         let u : version_at book file (w.core.steps + 1) ≡ g.version = ap (λ n. version_at book file (n + 1)) (sym now) ∙ h.5 in
-        (sym v, ap (λ n. Some n) (sym u) ∙ sym (ap (λ z. option_map (λ x. version_at book file (w.core.steps + 1)) z) v))
+        subst (HoldsFile book w file (Some g)) (sym v) (or_map book _ _ (λ e. sym e) h.4.same, sym u)
+
+-- and what clients keep
+pub holds_contents : (book : Book) (w : World) (qs : List Queue) → IsKept book w.core qs → HoldsContents book w
+holds_contents book w qs kept = λ c file seat content at is. ((kept.seats c seat at).kept file content is).0
 
 -- a change that waits is among those of its session
 pub own_there : (cs : List Change) (i : ℕ) (c : Change) → slice_get cs i ≡ Some c → (j : ℕ) × (slice_get (own c.session cs) j ≡ Some c)
@@ -239,8 +242,8 @@ untold_is told.Lost e = inr refl
 untold_is u e = absurd cc
 
 -- the close that a session with a change that waits remembers had sent all
-abbrev pub HaveStored : Core → Type 0
-HaveStored k = (n p i : ℕ) (x : Session) (o : Op) (c : Change) → numbered k.sessions n ≡ Some x → x.closing ≡ Some p → slice_get k.ops p ≡ Some o → slice_get (own n k.server.waiting) i ≡ Some c → o.traffic ≡ close_traffic o.value
+abbrev pub HaveStored : List Moment → Core → Type 0
+HaveStored all k = (n p i : ℕ) (x : Session) (o : Op) (c : Change) → numbered k.sessions n ≡ Some x → x.closing ≡ Some p → slice_get k.ops p ≡ Some o → slice_get (own n k.server.waiting) i ≡ Some c → o.traffic ≡ stored_traffic o.value (deals_of o all)
 
 two_own : (n : ℕ) (ws : List Change) (i j : ℕ) (c d : Change) → slice_get ws i ≡ Some c → slice_get ws j ≡ Some d → c.session ≡ n → d.session ≡ n → length (own n ws) ≤ 1 → i ≡ j
 two_own n [] i j c d a b e f le = nothing_there c a
@@ -265,7 +268,7 @@ two_own n (w ∷ ws) (suc i) (suc j) c d a b e f le = ap suc (two_own n ws i j c
     less true le = omega (arith, le)
     less false le = le
 
-pub holds_values : (book : Book) (w : World) (qs : List Queue) → IsKept book w.core qs → HaveStored w.core → HoldsValues w
+pub holds_values : (book : Book) (w : World) (qs : List Queue) → IsKept book w.core qs → HaveStored book.moments w.core → HoldsValues book w
 holds_values book w qs kept stored = record {
   values = λ i c at.
       let home = kept.home i c at in
@@ -283,6 +286,7 @@ holds_values book w qs kept stored = record {
         file_is = pending.file_is;
         untold = untold_is pending.op.outcome pending.unmade.2;
         pointless = pending.unmade.1;
+        size_is = pending.size_is;
         value_is = pending.value_is;
         traffic_is = stored c.session pending.place there.0 home.0 pending.op c home.1 pending.known at_ there.1;
         session = home.0;

@@ -1,107 +1,137 @@
 -- READs that go out, in chunk order.
 use Rattle.std.proofs.Common.{◌⊎◌, inl, inr, ◌≡◌, ℕ, zero, suc, ◌+◌, ◌<◌, ◌≤◌, List, [], ◌∷◌, ◌++◌, length, Option, Some, None, Bool, true, false, refl, sym, ap, ◌∙◌, subst, arith, eqb-true, ne_eqb, append_assoc, append-nil, map}
-use Rattle.kept_promise.proofs.Common.{nat_tests, slice_get, cond, ◌==◌, not, Chunk, Pending, read_pending, Reads, reads_next, reads_more, read_at, without_read, Fetch, ReadCall, Call.Read, Ask, ask_message}
-use Rattle.kept_promise.proofs.Lists.{some_is, nothing_there, within}
+use Rattle.kept_promise.proofs.Common.{nat_tests, slice_get, slice_set, cond, ◌==◌, not, Entries, Indexed, Chunk, Pending, read_pending, Reads, reads_chunk, reads_more, read_at, without_read, Fetch, ReadCall, Call.Read, Ask, ask_message}
+use Rattle.kept_promise.proofs.Lists.{some_is, nothing_there, count_more, of_appended}
 use Rattle.kept_promise.proofs.Keys.{times}
 use Rattle.kept_promise.proofs.Messages.{AllAsks, Rising}
 use Rattle.kept_promise.proofs.Facts.{commits_in}
 use Rattle.kept_promise.proofs.Heard.{ask_pending}
+use Rattle.kept_promise.proofs.StepCases.{reads_keep}
 
--- these notes and calls: for the chunks from an index on, with xids from this one up to that
-abbrev pub Sent : (file : ℕ) → List Chunk → (xid index : ℕ) → List ReadCall → List Ask → (next : ℕ) → Type 0
-Sent file chunks x i [] [] y = x ≡ y
-Sent file chunks x i (u ∷ us) (a ∷ b) y = (u ≡ record { xid = x; index = i }) × ((c : Chunk) × (slice_get chunks i ≡ Some c) × (a ≡ record { xid = x; call = Read file c })) × Sent file chunks (x + 1) (i + 1) us b y
-Sent file chunks x i us b y = ⊥
+-- these notes and calls: each for a chunk, with xids from this one up to that
+abbrev pub Sent : (file : ℕ) → List Chunk → (xid : ℕ) → List ReadCall → List Ask → (next : ℕ) → Type 0
+Sent file chunks x [] [] y = x ≡ y
+Sent file chunks x (u ∷ us) (a ∷ b) y = (u.xid ≡ x) × ((c : Chunk) × (slice_get chunks u.index ≡ Some c) × (a ≡ record { xid = x; call = Read file c })) × Sent file chunks (x + 1) us b y
+Sent file chunks x us b y = ⊥
+
+sent_more : (file : ℕ) (chunks : List Chunk) (x : ℕ) (us : List ReadCall) (b : List Ask) (y i : ℕ) (c : Chunk) → slice_get chunks i ≡ Some c → Sent file chunks x us b y → Sent file chunks x (us ++ record { xid = y; index = i } ∷ []) (b ++ record { xid = y; call = Read file c } ∷ []) (y + 1)
+sent_more file chunks x [] [] y i c at s = (sym s, (c, at, ap (λ (z : ℕ). record { xid = z; call = Read file c }) (sym s)), ap (λ z. z + 1) s)
+sent_more file chunks x (u ∷ us) (a ∷ b) y i c at s = (s.0, s.1, sent_more file chunks (x + 1) us b y i c at s.2)
+sent_more file chunks x _ _ y i c at s = absurd s
+
+messages_more : (b : List Ask) (a : Ask) → map ask_message (b ++ a ∷ []) ≡ map ask_message b ++ ask_message a ∷ []
+messages_more [] a = refl
+messages_more (d ∷ b) a = ap (λ l. ask_message d ∷ l) (messages_more b a)
 
 -- what READs make of an attempt
-pub record Ran (file : ℕ) (start : Reads) (most : ℕ) (r : Reads) : Type 0 where
+pub record Ran (file : ℕ) (start r : Reads) : Type 0 where
   pub notes : List ReadCall
   pub asks : List Ask
-  pub sent : Sent file start.fetch.chunks start.next start.fetch.asked notes asks r.next
-  pub fetch_is : r.fetch ≡ record start.fetch { asked = start.fetch.asked + length notes; under = start.fetch.under ++ notes }
+  pub sent : Sent file start.fetch.chunks start.next notes asks r.next
+  pub fetch_is : r.fetch ≡ record start.fetch { asked = r.fetch.asked; slots = r.fetch.slots; under = start.fetch.under ++ notes }
+  pub further : start.fetch.asked + length notes ≤ r.fetch.asked
+  pub indexes : (k : ℕ) (u : ReadCall) → slice_get notes k ≡ Some u → (start.fetch.asked ≤ u.index) × (u.index < r.fetch.asked)
   pub send_is : r.send ≡ start.send ++ map ask_message asks
-  -- some are sent where some may be, and a chunk is left
-  pub some : 0 < most → (c : Chunk) → slice_get start.fetch.chunks start.fetch.asked ≡ Some c → 0 < length notes
 
-pub reads_run : (most file : ℕ) (r : Reads) → Ran file r most (reads_more most file r)
-reads_run zero file r = record {
+pub reads_run : (cache : Entries) (index : Indexed) (file k : ℕ) (start : Reads) → Ran file start (reads_more k cache index file start)
+reads_run cache index file k start = reads_keep (Ran file start) cache index file more k start (record {
   notes = [];
   asks = [];
   sent = refl;
-  fetch_is = fetch_same r.fetch;
-  send_is = sym (append-nil r.send);
-  some = λ lt. absurd (omega (arith, lt));
-}
+  fetch_is = ap (λ (l : List ReadCall). record start.fetch { under = l }) (sym (append-nil start.fetch.under));
+  further = omega arith;
+  indexes = λ m u at. nothing_there u at;
+  send_is = sym (append-nil start.send);
+})
   where
-    fetch_same : (f : Fetch) → f ≡ record f { asked = f.asked + 0; under = f.under ++ [] }
-    fetch_same f = let a : f.asked ≡ f.asked + 0 = omega arith in ap (λ n. record f { asked = n }) a ∙ ap (λ l. record f { asked = f.asked + 0; under = l }) (sym (append-nil f.under))
-reads_run (suc most) file r = by (slice_get r.fetch.chunks r.fetch.asked) refl (reads_run most file)
-  where
-    by : (o : Option Chunk) → slice_get r.fetch.chunks r.fetch.asked ≡ o → ((r : Reads) → Ran file r most (reads_more most file r)) → Ran file r (suc most) (reads_more most file (reads_next file r o))
-    by None e later = let h = later r in record { notes = h.notes; asks = h.asks; sent = h.sent; fetch_is = h.fetch_is; send_is = h.send_is; some = λ lt c at. nothing_there c (sym e ∙ at) }
-    by (Some c) e later =
+    more : (r : Reads) (c : Chunk) (o : Option (List ℕ)) → Ran file start r → slice_get r.fetch.chunks r.fetch.asked ≡ Some c → Rattle.open_close.specs.Caching.from_index cache index c ≡ o → Ran file start (reads_chunk file r c o)
+    more r c (Some bytes) h at found =
+        let le = h.further in
+        record {
+          notes = h.notes;
+          asks = h.asks;
+          sent = h.sent;
+          fetch_is = ap (λ (z : Fetch). record z { asked = r.fetch.asked + 1; slots = slice_set r.fetch.slots r.fetch.asked (Some bytes) }) h.fetch_is;
+          further = omega (arith, le);
+          indexes = λ m u there. let i = h.indexes m u there in let lt = i.1 in (i.0, omega (arith, lt));
+          send_is = h.send_is;
+        }
+    more r c None h at found =
         let u : ReadCall = record { xid = r.next; index = r.fetch.asked } in
         let a : Ask = record { xid = r.next; call = Read file c } in
-        let one : Reads = reads_next file r (Some c) in
-        let h = later one in
+        let chunk : slice_get start.fetch.chunks r.fetch.asked ≡ Some c = ap (λ (z : Fetch). slice_get z.chunks r.fetch.asked) (sym h.fetch_is) ∙ at in
+        let le = h.further in
+        let n = count_more h.notes u in
         record {
-          notes = u ∷ h.notes;
-          asks = a ∷ h.asks;
-          sent = (refl, (c, e, refl), h.sent);
-          fetch_is = h.fetch_is ∙ (let n : r.fetch.asked + 1 + length h.notes ≡ r.fetch.asked + suc (length h.notes) = omega arith in ap (λ z. record r.fetch { asked = z; under = (r.fetch.under ++ u ∷ []) ++ h.notes }) n) ∙ ap (λ l. record r.fetch { asked = r.fetch.asked + suc (length h.notes); under = l }) (append_assoc r.fetch.under (u ∷ []) h.notes);
-          send_is = h.send_is ∙ append_assoc r.send (ask_message a ∷ []) (map ask_message h.asks);
-          some = λ lt d at. omega arith;
+          notes = h.notes ++ u ∷ [];
+          asks = h.asks ++ a ∷ [];
+          sent = sent_more file start.fetch.chunks start.next h.notes h.asks r.next r.fetch.asked c chunk h.sent;
+          fetch_is = ap (λ (z : Fetch). record z { asked = r.fetch.asked + 1; slots = r.fetch.slots; under = r.fetch.under ++ u ∷ [] }) h.fetch_is
+              ∙ ap (λ (l : List ReadCall). record start.fetch { asked = r.fetch.asked + 1; slots = r.fetch.slots; under = l }) (ap (λ (z : Fetch). z.under ++ u ∷ []) h.fetch_is ∙ append_assoc start.fetch.under h.notes (u ∷ []));
+          further = omega (arith, le, n);
+          indexes = λ m v there. elim (of_appended h.notes u m v there) [
+            | inl new ↦ let e = ap (λ (z : ReadCall). z.index) new.1 in (omega (arith, e, le), omega (arith, e))
+            | inr old ↦ let i = h.indexes m v old in let lt = i.1 in (i.0, omega (arith, lt))
+          ];
+          send_is = ap (λ l. l ++ ask_message a ∷ []) h.send_is ∙ append_assoc start.send (map ask_message h.asks) (ask_message a ∷ []) ∙ ap (λ l. start.send ++ l) (sym (messages_more h.asks a));
         }
 
 -- ---- what they are
 
-pub sent_rising : (file : ℕ) (chunks : List Chunk) (x i : ℕ) (us : List ReadCall) (b : List Ask) (y : ℕ) → Sent file chunks x i us b y → Rising x b y
-sent_rising file chunks x i [] [] y s = omega (arith, s)
-sent_rising file chunks x i (u ∷ us) (a ∷ b) y s = let e : a.xid ≡ x = ap (λ (z : Ask). z.xid) s.1.2 in (omega (arith, e), subst (λ (z : ℕ). Rising (z + 1) b y) (sym e) (sent_rising file chunks (x + 1) (i + 1) us b y s.2))
-sent_rising file chunks x i _ _ y s = absurd s
+pub sent_rising : (file : ℕ) (chunks : List Chunk) (x : ℕ) (us : List ReadCall) (b : List Ask) (y : ℕ) → Sent file chunks x us b y → Rising x b y
+sent_rising file chunks x [] [] y s = omega (arith, s)
+sent_rising file chunks x (u ∷ us) (a ∷ b) y s = let e : a.xid ≡ x = ap (λ (z : Ask). z.xid) s.1.2 in (omega (arith, e), subst (λ (z : ℕ). Rising (z + 1) b y) (sym e) (sent_rising file chunks (x + 1) us b y s.2))
+sent_rising file chunks x _ _ y s = absurd s
 
-pub sent_bound : (file : ℕ) (chunks : List Chunk) (x i : ℕ) (us : List ReadCall) (b : List Ask) (y : ℕ) → Sent file chunks x i us b y → x ≤ y
-sent_bound file chunks x i [] [] y s = omega (arith, s)
-sent_bound file chunks x i (u ∷ us) (a ∷ b) y s = let le = sent_bound file chunks (x + 1) (i + 1) us b y s.2 in omega (arith, le)
-sent_bound file chunks x i _ _ y s = absurd s
+pub sent_bound : (file : ℕ) (chunks : List Chunk) (x : ℕ) (us : List ReadCall) (b : List Ask) (y : ℕ) → Sent file chunks x us b y → x ≤ y
+sent_bound file chunks x [] [] y s = omega (arith, s)
+sent_bound file chunks x (u ∷ us) (a ∷ b) y s = let le = sent_bound file chunks (x + 1) us b y s.2 in omega (arith, le)
+sent_bound file chunks x _ _ y s = absurd s
 
-pub sent_all : (P : Ask → Type 0) (file : ℕ) (chunks : List Chunk) (x i : ℕ) (us : List ReadCall) (b : List Ask) (y : ℕ) → ((z k : ℕ) (c : Chunk) → slice_get chunks k ≡ Some c → x ≤ z → z < y → x + k ≡ z + i → P (record { xid = z; call = Read file c })) → Sent file chunks x i us b y → AllAsks P b
-sent_all P file chunks x i [] [] y f s = tt
-sent_all P file chunks x i (u ∷ us) (a ∷ b) y f s =
-    let lt = sent_bound file chunks (x + 1) (i + 1) us b y s.2 in
-    (subst P (sym s.1.2) (f x i s.1.0 s.1.1 (omega arith) (omega (arith, lt)) refl), sent_all P file chunks (x + 1) (i + 1) us b y (λ z k c at le less same. f z k c at (omega (arith, le)) less (omega (arith, same))) s.2)
-sent_all P file chunks x i _ _ y f s = absurd s
+pub sent_all : (P : Ask → Type 0) (file : ℕ) (chunks : List Chunk) (x : ℕ) (us : List ReadCall) (b : List Ask) (y : ℕ) → ((k : ℕ) (u : ReadCall) (c : Chunk) → slice_get us k ≡ Some u → slice_get chunks u.index ≡ Some c → x ≤ u.xid → u.xid < y → P (record { xid = u.xid; call = Read file c })) → Sent file chunks x us b y → AllAsks P b
+sent_all P file chunks x [] [] y f s = tt
+sent_all P file chunks x (u ∷ us) (a ∷ b) y f s =
+    let lt = sent_bound file chunks (x + 1) us b y s.2 in
+    let e = s.0 in (
+      subst P (sym s.1.2) (subst (λ (z : ℕ). P (record { xid = z; call = Read file s.1.0 })) s.0 (f 0 u s.1.0 refl s.1.1 (omega (arith, e)) (omega (arith, lt, e)))),
+      sent_all P file chunks (x + 1) us b y (λ k v c at chunk le less. f (suc k) v c at chunk (omega (arith, le)) less) s.2,
+    )
+sent_all P file chunks x _ _ y f s = absurd s
 
-pub sent_count : (file : ℕ) (chunks : List Chunk) (x i : ℕ) (us : List ReadCall) (b : List Ask) (y : ℕ) → Sent file chunks x i us b y → x + length us ≡ y
-sent_count file chunks x i [] [] y s = omega (arith, s)
-sent_count file chunks x i (u ∷ us) (a ∷ b) y s = let e = sent_count file chunks (x + 1) (i + 1) us b y s.2 in omega (arith, e)
-sent_count file chunks x i _ _ y s = absurd s
+pub sent_count : (file : ℕ) (chunks : List Chunk) (x : ℕ) (us : List ReadCall) (b : List Ask) (y : ℕ) → Sent file chunks x us b y → x + length us ≡ y
+sent_count file chunks x [] [] y s = omega (arith, s)
+sent_count file chunks x (u ∷ us) (a ∷ b) y s = let e = sent_count file chunks (x + 1) us b y s.2 in omega (arith, e)
+sent_count file chunks x _ _ y s = absurd s
 
--- the index of the last is that of a chunk
-pub sent_inside : (file : ℕ) (chunks : List Chunk) (x i : ℕ) (us : List ReadCall) (b : List Ask) (y : ℕ) → i ≤ length chunks → Sent file chunks x i us b y → i + length us ≤ length chunks
-sent_inside file chunks x i [] [] y le s = omega (arith, le)
-sent_inside file chunks x i (u ∷ us) (a ∷ b) y le s = let lt = within chunks i s.1.0 s.1.1 in let e = sent_inside file chunks (x + 1) (i + 1) us b y (omega (arith, lt)) s.2 in omega (arith, e)
-sent_inside file chunks x i _ _ y le s = absurd s
-
-pub sent_times : (f : Pending → ℕ) (z : ℕ) (file : ℕ) (chunks : List Chunk) (x i : ℕ) (us : List ReadCall) (b : List Ask) (y : ℕ) → Sent file chunks x i us b y → times z (map f (map read_pending us)) ≡ times z (map (λ a. f (ask_pending a)) b)
-sent_times f z file chunks x i [] [] y s = refl
-sent_times f z file chunks x i (u ∷ us) (a ∷ b) y s =
-    let later = sent_times f z file chunks (x + 1) (i + 1) us b y s.2 in
-    let head : f (read_pending u) ≡ f (ask_pending a) = ap (λ (v : ReadCall). f (read_pending v)) s.0 ∙ ap (λ (v : Ask). f (ask_pending v)) (sym s.1.2) in
+pub sent_times : (f : Pending → ℕ) (z : ℕ) (file : ℕ) (chunks : List Chunk) (x : ℕ) (us : List ReadCall) (b : List Ask) (y : ℕ) → Sent file chunks x us b y → times z (map f (map read_pending us)) ≡ times z (map (λ a. f (ask_pending a)) b)
+sent_times f z file chunks x [] [] y s = refl
+sent_times f z file chunks x (u ∷ us) (a ∷ b) y s =
+    let later = sent_times f z file chunks (x + 1) us b y s.2 in
+    let head : f (read_pending u) ≡ f (ask_pending a) = ap (λ (v : ℕ). f (read_pending (record { xid = v; index = u.index }))) s.0 ∙ ap (λ (v : Ask). f (ask_pending v)) (sym s.1.2) in
     ap (λ n. cond (n == z) (suc (times z (map f (map read_pending us)))) (times z (map f (map read_pending us)))) head ∙ ap (λ n. cond (f (ask_pending a) == z) (suc n) n) later
-sent_times f z file chunks x i _ _ y s = absurd s
+sent_times f z file chunks x _ _ y s = absurd s
 
--- each note is of an index from there on, and each such index has its note
-pub sent_note : (file : ℕ) (chunks : List Chunk) (x i : ℕ) (us : List ReadCall) (b : List Ask) (y k : ℕ) (u : ReadCall) → Sent file chunks x i us b y → slice_get us k ≡ Some u → (u.index ≡ i + k) × (u.xid ≡ x + k)
-sent_note file chunks x i [] [] y k u s at = nothing_there u at
-sent_note file chunks x i (v ∷ us) (a ∷ b) y zero u s at = let e = sym (some_is v u at) ∙ s.0 in (ap (λ (z : ReadCall). z.index) e ∙ (let q : i ≡ i + 0 = omega arith in q), ap (λ (z : ReadCall). z.xid) e ∙ (let q : x ≡ x + 0 = omega arith in q))
-sent_note file chunks x i (v ∷ us) (a ∷ b) y (suc k) u s at = let r = sent_note file chunks (x + 1) (i + 1) us b y k u s.2 at in let p = r.0 in let q = r.1 in (omega (arith, p), omega (arith, q))
-sent_note file chunks x i _ _ y k u s at = absurd s
+-- the xids of the notes go on one by one, so that one xid is one note
+sent_note : (file : ℕ) (chunks : List Chunk) (x : ℕ) (us : List ReadCall) (b : List Ask) (y k : ℕ) (u : ReadCall) → Sent file chunks x us b y → slice_get us k ≡ Some u → u.xid ≡ x + k
+sent_note file chunks x [] [] y k u s at = nothing_there u at
+sent_note file chunks x (v ∷ us) (a ∷ b) y zero u s at = let e : u.xid ≡ x = ap (λ (z : ReadCall). z.xid) (sym (some_is v u at)) ∙ s.0 in omega (arith, e)
+sent_note file chunks x (v ∷ us) (a ∷ b) y (suc k) u s at = let e = sent_note file chunks (x + 1) us b y k u s.2 at in omega (arith, e)
+sent_note file chunks x _ _ y k u s at = absurd s
 
-pub sent_commits : (file : ℕ) (chunks : List Chunk) (x i : ℕ) (us : List ReadCall) (b : List Ask) (y : ℕ) → Sent file chunks x i us b y → commits_in b ≡ 0
-sent_commits file chunks x i [] [] y s = refl
-sent_commits file chunks x i (u ∷ us) (a ∷ b) y s = ap (λ (v : Ask). commits_in (v ∷ b)) s.1.2 ∙ sent_commits file chunks (x + 1) (i + 1) us b y s.2
-sent_commits file chunks x i _ _ y s = absurd s
+pub sent_same : (file : ℕ) (chunks : List Chunk) (x : ℕ) (us : List ReadCall) (b : List Ask) (y k m : ℕ) (u v : ReadCall) → Sent file chunks x us b y → slice_get us k ≡ Some u → slice_get us m ≡ Some v → u.xid ≡ v.xid → u ≡ v
+sent_same file chunks x us b y k m u v s at is same =
+    let p = sent_note file chunks x us b y k u s at in
+    let q = sent_note file chunks x us b y m v s is in
+    let e : k ≡ m = omega (arith, p, q, same) in
+    some_is u v (sym at ∙ ap (slice_get us) e ∙ is)
+
+pub sent_from : (file : ℕ) (chunks : List Chunk) (x : ℕ) (us : List ReadCall) (b : List Ask) (y k : ℕ) (u : ReadCall) → Sent file chunks x us b y → slice_get us k ≡ Some u → x ≤ u.xid
+sent_from file chunks x us b y k u s at = let e = sent_note file chunks x us b y k u s at in omega (arith, e)
+
+pub sent_commits : (file : ℕ) (chunks : List Chunk) (x : ℕ) (us : List ReadCall) (b : List Ask) (y : ℕ) → Sent file chunks x us b y → commits_in b ≡ 0
+sent_commits file chunks x [] [] y s = refl
+sent_commits file chunks x (u ∷ us) (a ∷ b) y s = ap (λ (v : Ask). commits_in (v ∷ b)) s.1.2 ∙ sent_commits file chunks (x + 1) us b y s.2
+sent_commits file chunks x _ _ y s = absurd s
 
 -- ---- READs under way
 

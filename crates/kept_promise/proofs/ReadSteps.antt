@@ -3,40 +3,34 @@ use Rattle.std.proofs.Common.{inl, inr, ◌≡◌, ℕ, zero, suc, ◌+◌, ◌<
 use native.Mathlib.Nat.{div-add-mod'}
 use Rattle.std.proofs.lemmas.Slice.Eq.{bytes_eq-Decides}
 use Rattle.open_close.specs.State as client
+use Rattle.open_close.specs.Looking.{taken_if, taken_at, taken_by, reading_by}
 use Rattle.open_close.specs.Opening.{fault_in_digest}
 use Rattle.open_close.specs.declared.task.Stage.TheVariants as stage
 use Rattle.register_model.specs.declared.op.Word.TheVariants as words
-use Rattle.kept_promise.proofs.Common.{shown_version, nat_tests, slice_get, slice_set, not, cond, ◌==◌, nat_le, bytes_eq, Contains, sha1, chunks_of, chunk_bytes, Chunk, Done, Piece, Pending, attr_of, piece_bytes, File, read_pending, without_call, read_at, without_read, fault_in, other_version, with_bytes, idle, told_piece, told_chunk, told_bytes, misfits, BadPeer, Fetch, ReadCall, Core, Session, hashed_of, Book, Or, Reply.Bytes, Told, Queue, reply_program}
-use Rattle.kept_promise.proofs.Lists.{some_is, nothing_there, same_or_not, within, of_replaced, else_replaced, set_count, false_and_true}
+use Rattle.kept_promise.proofs.Common.{shown_version, nat_tests, slice_get, slice_set, not, cond, ◌==◌, nat_le, bytes_eq, Contains, sha1, chunks_of, chunk_bytes, Chunk, Done, Piece, Pending, attr_of, piece_bytes, File, read_pending, without_call, read_at, without_read, fault_in, other_version, with_bytes, idle, told_piece, told_chunk, told_bytes, misfits, BadPeer, Fetch, ReadCall, Core, Session, hashed_of, Book, Or, Reply.Bytes, Told, Queue, reply_program, reply_body}
+use Rattle.kept_promise.proofs.Lists.{some_is, nothing_there, same_or_not, within, of_replaced, else_replaced, set_count}
 use Rattle.kept_promise.proofs.Keys.{times, there_by}
 use Rattle.kept_promise.proofs.Taken.{times_map_append}
-use Rattle.kept_promise.proofs.Messages.{Job, job, stage_word, AllTolds, read_chunk, chunk_for, AnswerOf, IsAnswer, IsRead, IsFetch, IsReading, FetchOf, range_of}
+use Rattle.kept_promise.proofs.Messages.{Job, stage_word, read_chunk, chunk_for, AnswerOf, IsRead, IsFetch, IsReading, FetchOf, range_of}
+use Rattle.kept_promise.proofs.Growth.{bytes_or}
 use Rattle.kept_promise.proofs.Facts.{IsSession}
 use Rattle.kept_promise.proofs.Heard.{told_pending}
 use Rattle.kept_promise.proofs.Moves.{without_moves}
 use Rattle.kept_promise.proofs.Steps.{Here, session_at, Quiet}
 use Rattle.kept_promise.proofs.ReadCalls.{read_found, read_kept, read_was, read_still}
 use Rattle.kept_promise.proofs.Chunks.{row_of, link_at, read_gives, chunks_are_named}
-use Rattle.kept_promise.proofs.Attempts.{one_content, fetch_few}
+use Rattle.kept_promise.proofs.Attempts.{fetch_few}
 use Rattle.kept_promise.proofs.CloseEnds.{quiet_before}
 use Rattle.kept_promise.proofs.CloseSteps.{calls_are}
 use Rattle.kept_promise.proofs.Comes.{client_at, Comes}
 use Rattle.kept_promise.proofs.Hashings.{comes_changed}
 use Rattle.kept_promise.proofs.Listings.{MayRead, comes_reading}
-use Rattle.kept_promise.proofs.OpenSteps.{xids_at}
+use Rattle.kept_promise.proofs.OpenSteps.{Finds, said, xids_at}
 
 -- ---- bytes and versions
 
 version_shown : (g : File) → shown_version (attr_of g) ≡ g.version
 version_shown g = div-add-mod' g.version 1000000000
-
--- bytes whose digest is a chunk's name are the chunk's, or a collision is known
-bytes_or : (book : Book) (a b : List ℕ) → Contains (hashed_of book.moments) a → Contains (hashed_of book.moments) b → sha1 a ≡ sha1 b → Or book (a ≡ b)
-bytes_or book a b first second same = by (bytes_eq a b) refl
-  where
-    by : (t : Bool) → bytes_eq a b ≡ t → Or book (a ≡ b)
-    by true e = inl ((bytes_eq-Decides a b).0 e)
-    by false e = inr (record { a = a; b = b; first = first; second = second; same = same; apart = λ s. false_and_true (bytes_eq a b) e ((bytes_eq-Decides a b).1 s) })
 
 pub record Fits (c : Chunk) (bytes : List ℕ) : Type 0 where
   pub len : length bytes ≡ c.len
@@ -104,6 +98,7 @@ pub record Reads_ (book : Book) (k : Core) (qs : List Queue) (n : ℕ) (x : Sess
   pub chunk : slice_get f.chunks r.index ≡ Some c
   -- bytes of the chunk's length are noted
   pub noted : length p.bytes ≡ c.len → Contains (hashed_of book.moments) p.bytes
+  pub looked : Finds book k qs n x q t ts j g
 
 pub comes_read : (book : Book) (k : Core) (qs : List Queue) (n : ℕ) (x : Session) (q : Queue) (t : Told) (ts : List Told) (j : Job) (g : Here book k qs n x q t ts j) (f : Fetch) (p : Piece) (r : ReadCall) (d : Chunk) → Reads_ book k qs n x q t ts j g f p r d
     → Comes book k qs n x q t ts j g (told_piece (idle (client_at book k qs n x q t ts j g)) (client.calls_of (client_at book k qs n x q t ts j g)) j.file t.xid f p (read_at f.under t.xid))
@@ -118,7 +113,7 @@ comes_read book k qs n x q t ts j g f p r d is =
     c : client.State
     c = h.seat.client
 
-    fetch : (fact : IsFetch book x.taken j f) × IsReading book fact.content f
+    fetch : (fact : IsFetch book x.taken j f) × IsReading book fact.file.content f
     fetch = subst (FetchOf book x.taken j) is.at ((h.talk g.uncut).fetch j g.job_is)
 
     quiet : Quiet k n q
@@ -131,9 +126,7 @@ comes_read book k qs n x q t ts j g f p r d is =
     word = ap stage_word is.at
 
     told : IsRead book x.taken j f.first d p
-    told =
-        let first = (subst (AllTolds (IsAnswer book x.taken x.closing (job h.seat))) g.first (h.talk g.uncut).answers).0 in
-        subst (AnswerOf book x.taken x.closing (job h.seat) t.xid) is.reply_is first j f d g.job_is is.at (ap (λ s. read_chunk s t.xid) is.at ∙ ap (chunk_for f.chunks) is.under ∙ is.chunk)
+    told = subst (AnswerOf book x.taken x.closing (Some j) t.xid) is.reply_is (said book k qs n x q t ts j g) j f d refl is.at (ap (λ s. read_chunk s t.xid) is.at ∙ ap (chunk_for f.chunks) is.under ∙ is.chunk)
 
     found : (m : ℕ) × (slice_get f.under m ≡ Some r) × (r.xid ≡ t.xid)
     found = read_found f.under t.xid r is.under
@@ -165,10 +158,10 @@ comes_read book k qs n x q t ts j g f p r d is =
     gone = found.2
 
     fetched : IsFetch book x.taken j after
-    fetched = let u = fetch.0 in record { content = u.content; told = u.told; tried = u.tried; size = u.size; short = u.short; known = u.known; count = u.count; within = u.within; chunks = u.chunks; hashed = u.hashed }
+    fetched = let u = fetch.0 in record { file = u.file; held = u.held; version = u.version; value = u.value; told = u.told; value_is = u.value_is; tried = u.tried; size = u.size; short = u.short; known = u.known; count = u.count; within = u.within; chunks = u.chunks; hashed = u.hashed }
 
-    named : (d.digest ≡ sha1 (chunk_bytes fetch.0.content d)) × (length (chunk_bytes fetch.0.content d) ≡ d.len) × (d.start + d.len ≤ length fetch.0.content)
-    named = chunks_are_named fetch.0.content r.index d (ap (λ l. slice_get l r.index) (sym fetch.1.whole) ∙ is.chunk)
+    named : (d.digest ≡ sha1 (chunk_bytes fetch.0.file.content d)) × (length (chunk_bytes fetch.0.file.content d) ≡ d.len) × (d.start + d.len ≤ length fetch.0.file.content)
+    named = chunks_are_named fetch.0.file.content r.index d (ap (λ l. slice_get l r.index) (sym fetch.1.whole) ∙ is.chunk)
 
     may_read : Fits d p.bytes → MayRead book k qs n x q t ts j g after fetched
     may_read fits = record {
@@ -181,7 +174,7 @@ comes_read book k qs n x q t ts j g f p r d is =
           | inl here ↦
               let same : e ≡ d = some_is e d (sym chunk ∙ ap (slice_get f.chunks) here.0 ∙ is.chunk) in
               let bytes : b ≡ p.bytes = some_is b p.bytes here.1 in
-              (subst (λ v. Or book (v ≡ chunk_bytes fetch.0.content e)) (sym bytes) (subst (λ (z : Chunk). Or book (p.bytes ≡ chunk_bytes fetch.0.content z)) (sym same) (bytes_or book p.bytes (chunk_bytes fetch.0.content d) (is.noted fits.len) (fetch.0.hashed r.index d is.chunk) (fits.digest ∙ named.0))), ap length bytes ∙ fits.len ∙ ap (λ (z : Chunk). z.len) (sym same))
+              (subst (λ v. Or book (v ≡ chunk_bytes fetch.0.file.content e)) (sym bytes) (subst (λ (z : Chunk). Or book (p.bytes ≡ chunk_bytes fetch.0.file.content z)) (sym same) (bytes_or book p.bytes (chunk_bytes fetch.0.file.content d) (is.noted fits.len) (fetch.0.hashed r.index d is.chunk) (fits.digest ∙ named.0))), ap length bytes ∙ fits.len ∙ ap (λ (z : Chunk). z.len) (sym same))
           | inr there ↦ fetch.1.came i b e there.1 chunk
         ];
         asked = fetch.1.asked;
@@ -194,6 +187,12 @@ comes_read book k qs n x q t ts j g f p r d is =
           ]
         ];
       };
+      looked = is.looked after (
+          ap (λ s. reading_by s t.xid (reply_body t.reply)) is.at
+          ∙ ap (λ u. reading_by (stage.Reading f) t.xid (reply_body u)) is.reply_is
+          ∙ ap (taken_by f p) is.under
+          ∙ ap (taken_at f r p) is.chunk
+          ∙ ap (taken_if f r p) (faultless d p.bytes fits.len fits.digest));
       moves = λ m y.
           let a = ap (λ l. times y (map m l)) (without_same f.under r.xid ∙ ap (without_call (map read_pending f.under)) gone) in
           let pend : read_pending r ≡ told_pending t = ap (λ v. record { xid = v; program = reply_program (Bytes (Done p)) }) gone ∙ ap (λ u. record { xid = t.xid; program = reply_program u }) (sym is.reply_is) in
@@ -222,9 +221,9 @@ comes_read book k qs n x q t ts j g f p r d is =
     -- another version is shown, since else the bytes would be the chunk's
     unfit : (b : BadPeer) → fault_in d p.bytes (length p.bytes == d.len) ≡ Some b → told.file.version ≡ f.version → ⊥
     unfit b e same =
-        let one = one_content book j.file told.last fetch.0.told.moment told.file.content fetch.0.content told.value fetch.0.told.value (told.version_is ∙ same ∙ sym fetch.0.told.version_is) in
-        let most = (link_at fetch.0.content 0 (chunks_of fetch.0.content) r.index d (row_of fetch.0.content) (ap (λ l. slice_get l r.index) (sym fetch.1.whole) ∙ is.chunk)).1.most in
-        let bytes : p.bytes ≡ chunk_bytes fetch.0.content d = ap (λ (z : Piece). z.bytes) told.is ∙ ap (λ v. piece_bytes v (range_of d)) one ∙ read_gives fetch.0.content d [] most in
+        let one = g.kept.sound.alike j.file told.file fetch.0.file told.held fetch.0.held (same ∙ sym fetch.0.version) in
+        let most = (link_at fetch.0.file.content 0 (chunks_of fetch.0.file.content) r.index d (row_of fetch.0.file.content) (ap (λ l. slice_get l r.index) (sym fetch.1.whole) ∙ is.chunk)).1.most in
+        let bytes : p.bytes ≡ chunk_bytes fetch.0.file.content d = ap (λ (z : Piece). z.bytes) told.is ∙ ap (λ v. piece_bytes v (range_of d)) one ∙ read_gives fetch.0.file.content d [] most in
         nothing_there b (sym (faultless d p.bytes (ap length bytes ∙ named.1) (ap sha1 bytes ∙ sym named.0)) ∙ e)
 
     shows : other_version f.version p.attr ≡ cond (told.file.version == f.version) None (Some told.file.version)

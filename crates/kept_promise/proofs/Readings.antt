@@ -8,6 +8,7 @@ use Rattle.clock_rule.specs.declared.rule.Reading.{Reading}
 use Rattle.clock_rule.specs.declared.rule.Reading.TheVariants as reads
 use Rattle.clock_rule.proofs.Whole.{taken_whole}
 use Rattle.trace_text.specs.declared.line.Line.TheVariants as line
+use Rattle.trace_replay.specs.declared.adjusting.Adjustment.TheVariants as adjustment
 use Rattle.trace_replay.specs.declared.stage.Stage.{Stage}
 use Rattle.trace_replay.specs.declared.stage.Stage.TheVariants as stage
 use Rattle.trace_replay.specs.declared.timing.Timing.{Timing}
@@ -129,6 +130,9 @@ event_on os s k (line.Settle at) t here e = goes os s (line.Settle at) (turn.Set
 event_on os s k (line.Cut c r) t here e = goes_if os _ s (line.Cut c r) (turn.Cut c) t e (record { from = λ xs h. here (timing.Reads (reads.Client c r) ∷ xs) (one_more _ xs h); owners = refl })
 event_on os s k (line.Hang n at) t here e = goes_if os _ s (line.Hang n at) (turn.Hang n) t e (record { from = λ xs h. here (timing.Reads (reads.Server at) ∷ xs) (one_more _ xs h); owners = refl })
 event_on os s k (line.Pass n rounds at r) t here e = goes_if os _ s (line.Pass n rounds at r) (turn.Pass n rounds at r) t e (record { from = λ xs h. here (said (pass_timing at r (numbered os n)) ++ xs) (pass_more at r (numbered os n) xs h); owners = refl })
+event_on os s k (line.Forge u key file offset count) t here e = goes_if os _ s (line.Forge u key file offset count) (turn.Adjust (adjustment.Forge u key (record { file = file; offset = offset; count = count }))) t e (record { from = λ xs h. here xs h; owners = refl })
+event_on os s k (line.Clear u) t here e = goes_if os _ s (line.Clear u) (turn.Adjust (adjustment.Clear u)) t e (record { from = λ xs h. here xs h; owners = refl })
+event_on os s k (line.Evict c file) t here e = goes_if os _ s (line.Evict c file) (turn.Adjust (adjustment.Evict c file)) t e (record { from = λ xs h. here xs h; owners = refl })
 event_on os s k l t here e = refused_line Grammar t e
 
 sized_on : (os : List ℕ) (long much : Bool) (name : List ℕ) (content : List Part) (t : Turn) → sized long much (turn.File name content) ≡ asking t → GoesOn os stage.Files (line.File name content) t

@@ -109,4 +109,4 @@ kept_opened book k qs seats i c o free was around opened h = record {
     session_else n x q old is = record { seat = old.seat; owner = is; here = old.here; shut = old.shut; lost = old.lost; stands_is = old.stands_is; ups_fit = old.ups_fit; downs_fit = old.downs_fit; talk = old.talk; contents = old.contents; lengths = old.lengths; commits = old.commits; pieces = old.pieces; temps = old.temps; temps_below = old.temps_below; closes = old.closes; pending = old.pending; single = old.single; old = old.old; orderly = old.orderly }
 
     own_seat : IsSeat book k.sessions i (with_opened c o)
-    own_seat = let s = h.seats i c was in record { session = s.session; linked = s.linked; unlinked = s.unlinked; matched = s.matched; task = s.task; trying = s.trying; xids = s.xids; next = s.next; opened = opened }
+    own_seat = let s = h.seats i c was in record { session = s.session; linked = s.linked; unlinked = s.unlinked; matched = s.matched; task = s.task; trying = s.trying; xids = s.xids; next = s.next; opened = opened; kept = s.kept }

@@ -1,10 +1,11 @@
 -- What holds of an operation, and of the journal beside the operations.
-use Rattle.std.proofs.Common.{◌≡◌, ℕ, ◌<◌, ◌≤◌, length, Some, None, Bool, true, false}
+use Rattle.std.proofs.Common.{◌≡◌, ℕ, ◌+◌, ◌<◌, ◌≤◌, List, length, Some, None, Bool, true, false}
+use Rattle.server_core.specs.State as server
 use Rattle.register_model.specs.declared.op.Outcome.{Outcome}
 use Rattle.register_model.specs.declared.op.Outcome.TheVariants as told
 use Rattle.register_model.specs.declared.op.Word.TheVariants as words
 use Rattle.trace_replay.specs.Causes.{IsCloseRefused}
-use Rattle.kept_promise.proofs.Common.{slice_get, not, is_some, sha1, is_closed, is_lost, is_untold, Op, Word, Book, IsOpened, IsClosed, IsChanged, IsLost, IsOpenRefused, IsEntered, is_running, HasJournal}
+use Rattle.kept_promise.proofs.Common.{slice_get, not, is_some, Contains, sha1, File, Moment, value_at, version_at, is_closed, is_lost, is_untold, Op, Word, Book, IsOpened, IsClosed, IsChanged, IsLost, IsOpenRefused, IsEntered, is_running, HasJournal}
 
 pub open_not_close : words.Open ≡ words.Close → ⊥
 open_not_close e = absurd cc
@@ -53,9 +54,22 @@ pub record IsRight (book : Book) (o : Op) : Type 0 where
 abbrev pub IsUnmade : Op → Type 0
 IsUnmade o = (o.word ≡ words.Close) × (o.point ≡ None) × (is_untold o.outcome ≡ true)
 
--- the close at a place has its point, and its entry this version
+-- the close at a place has its point, and its entry this version, in which its file had its value
 abbrev pub IsMade : Book → (place version : ℕ) → Type 0
 IsMade book place v = (o : Op) × (p : ℕ) × (slice_get book.ops place ≡ Some o) × (o.word ≡ words.Close) × (o.point ≡ Some p) × (p ≤ book.steps) × IsEntered book o.file p v (length o.value) (sha1 o.value)
+    × ((q : ℕ) × (q ≤ book.steps + 1) × (version_at book o.file q ≡ v) × (value_at book o.file q ≡ Some o.value))
+
+-- ---- what the server had
+
+-- a file was this at one of these moments
+pub record IsHeld (moments : List Moment) (f : ℕ) (g : File) : Type 0 where
+  pub at : Moment
+  pub there : Contains moments at
+  pub held : server.file_at at.before.server.files f ≡ Some g
+
+-- in one version a file has one content
+abbrev pub AreAlike : List Moment → Type 0
+AreAlike moments = (f : ℕ) (g h : File) → IsHeld moments f g → IsHeld moments f h → g.version ≡ h.version → g.content ≡ h.content
 
 -- what holds of all operations together
 pub record IsSound (book : Book) : Type 0 where
@@ -63,3 +77,4 @@ pub record IsSound (book : Book) : Type 0 where
   pub journal : HasJournal book
   -- no entry is of a step to come
   pub past : (i p : ℕ) → slice_get book.entries i ≡ Some p → (0 < p) × (p ≤ book.steps)
+  pub alike : AreAlike book.moments

@@ -1,6 +1,8 @@
 -- The law over runs: what is kept by each event holds of what a whole run leaves, and the moments of the book are those of the run.
 use Rattle.std.proofs.Common.{◌≡◌, ℕ, ◌+◌, List, [], ◌∷◌, ◌++◌, Option, Some, None, refl, sym, ◌∙◌, subst, arith, append-nil, append_assoc, Result, Ok, Err}
 use Rattle.kept_promise.proofs.Common.{lines_of, line_of, Line, LineFault, Turn, World, start, asked, asked_by, turned, in_header, run_from, run, Moment, turn_moments, moments_from, moments}
+use Rattle.kept_promise.proofs.Rights.{AreAlike}
+use Rattle.kept_promise.proofs.Alike.{Rises, rises_start, rises_next, runs_alike}
 use Rattle.kept_promise.proofs.Statements.{ClocksKeepTheRule}
 use Rattle.kept_promise.proofs.Fits.{FitLaws}
 use Rattle.kept_promise.proofs.Readings.{HasRoom, clocks_keep_the_rule}
@@ -16,8 +18,8 @@ use Rattle.kept_promise.proofs.RunsResults.{no_world, ended_is, ran_by, moments_
 first_is : IsFirst 1 start []
 first_is = record { files = []; changes = 0; count = 0; core_is = refl; wires_is = refl; tree = no_tree; past_is = refl; few = omega arith }
 
-before_first : (P : Fact) → Carried P → (all : List Moment) → Before P 1 all [] start
-before_first P carried all = record { stands = first_stands P carried 1 all [] start first_is; few = omega arith; first = λ early. first_is }
+before_first : (P : Fact) → Carried P → (all : List Moment) → AreAlike all → Before P 1 all [] start
+before_first P carried all alike = record { stands = first_stands P carried 1 all [] start alike first_is; few = omega arith; first = λ early. first_is }
 
 -- ---- a line that was read
 
@@ -48,7 +50,7 @@ carried_lines P laws fits carried n all past w v (l ∷ ls) e split h = by_line 
 
 -- What each event keeps holds of what a run leaves, whatever further facts are carried along.
 pub carried_run : (P : Fact) → KeptLaws → FitLaws → Carried P → (input : List ℕ) (w : World) → run input ≡ Ok w → Stands P (moments input) (moments input) w
-carried_run P laws fits carried input w e = carried_lines P laws fits carried 1 (moments input) [] start w (lines_of input) e refl (before_first P carried (moments input))
+carried_run P laws fits carried input w e = carried_lines P laws fits carried 1 (moments input) [] start w (lines_of input) e refl (before_first P carried (moments input) (runs_alike input))
 
 -- ---- nothing further
 
@@ -56,7 +58,7 @@ abbrev pub Plain : Fact
 Plain all past opening k qs = Unit {0}
 
 pub plain_carried : Carried Plain
-plain_carried = record { first = λ all opening files changes count kept. tt; steps = λ all past rest opening k qs e mid after step holds. tt }
+plain_carried = record { first = λ all opening files changes count kept. tt; steps = λ all past rest opening k qs e mid after step holds. tt; adjusts = λ all past opening k qs index seats same holds. tt }
 
 pub kept_run : KeptLaws → FitLaws → (input : List ℕ) (w : World) → run input ≡ Ok w → Stands Plain (moments input) (moments input) w
 kept_run laws fits input w e = carried_run Plain laws fits plain_carried input w e
@@ -65,19 +67,20 @@ kept_run laws fits input w e = carried_run Plain laws fits plain_carried input w
 
 -- what stands before a line, whatever moments come behind it
 abbrev Whatever : ℕ → World → Type 0
-Whatever n w = (past : List Moment) × ((rest : List Moment) → Before Plain n (past ++ rest) past w)
+Whatever n w = (past : List Moment) × Rises past w × ((rest : List Moment) → AreAlike (past ++ rest) → Before Plain n (past ++ rest) past w)
 
 has_room : KeptLaws → FitLaws → HasRoom Whatever
 has_room laws fits = record {
-  first = ([], λ rest. before_first Plain plain_carried rest);
+  first = ([], rises_start, λ rest alike. before_first Plain plain_carried rest alike);
   next = λ n w bytes l t read h is.
       let le = within_lines w n l t is in
       let may = allowed w n l t (line_fits bytes l read) is in (
-        may_turn Plain n (h.0 ++ []) h.0 w t (h.1 []) le may,
+        may_turn Plain n (h.0 ++ []) h.0 w t (h.2 [] (subst AreAlike (sym (append-nil h.0)) h.1.alike)) le may,
         (
           h.0 ++ turn_moments w t,
-          λ rest. subst (λ (z : List Moment). Before Plain (n + 1) z (h.0 ++ turn_moments w t) (turned w t)) (sym (append_assoc h.0 (turn_moments w t) rest))
-              (next_of Plain laws fits plain_carried n (h.0 ++ (turn_moments w t ++ rest)) h.0 rest w bytes l t read is (h.1 (turn_moments w t ++ rest)) refl),
+          rises_next h.0 w t may h.1,
+          λ rest alike. subst (λ (z : List Moment). Before Plain (n + 1) z (h.0 ++ turn_moments w t) (turned w t)) (sym (append_assoc h.0 (turn_moments w t) rest))
+              (next_of Plain laws fits plain_carried n (h.0 ++ (turn_moments w t ++ rest)) h.0 rest w bytes l t read is (h.2 (turn_moments w t ++ rest) (subst AreAlike (append_assoc h.0 (turn_moments w t) rest) alike)) refl),
         ),
       );
 }

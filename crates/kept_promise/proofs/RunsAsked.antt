@@ -1,6 +1,7 @@
 -- What a line that is taken asks for, whatever the world is.
 use Rattle.std.proofs.Common.{◌≡◌, ℕ, Option, Some, None, Bool, true, false, List, Result, Ok, Err}
 use Rattle.trace_text.specs.declared.line.Line.TheVariants as line
+use Rattle.trace_replay.specs.declared.adjusting.Adjustment.TheVariants as adjustment
 use Rattle.trace_replay.specs.declared.stage.Stage.{Stage}
 use Rattle.trace_replay.specs.declared.stage.Stage.TheVariants as stage
 use Rattle.trace_replay.specs.declared.turn.Turn.TheVariants as turn
@@ -22,6 +23,9 @@ turn_of (line.Settle at) = turn.Settle at
 turn_of (line.Cut m r) = turn.Cut m
 turn_of (line.Hang n at) = turn.Hang n
 turn_of (line.Pass n rounds at r) = turn.Pass n rounds at r
+turn_of (line.Forge w key file offset count) = turn.Adjust (adjustment.Forge w key (record { file = file; offset = offset; count = count }))
+turn_of (line.Clear w) = turn.Adjust (adjustment.Clear w)
+turn_of (line.Evict m file) = turn.Adjust (adjustment.Evict m file)
 
 turn_is : (s t : Turn) → asking s ≡ asking t → t ≡ s
 turn_is s t e = cc
@@ -48,6 +52,9 @@ event_turn k (line.Settle at) t e = turn_is (turn.Settle at) t e
 event_turn k (line.Cut m r) t e = goes_if _ (turn.Cut m) t e
 event_turn k (line.Hang n at) t e = goes_if _ (turn.Hang n) t e
 event_turn k (line.Pass n rounds at r) t e = goes_if _ (turn.Pass n rounds at r) t e
+event_turn k (line.Forge w key file offset count) t e = goes_if _ (turn.Adjust (adjustment.Forge w key (record { file = file; offset = offset; count = count }))) t e
+event_turn k (line.Clear w) t e = goes_if _ (turn.Adjust (adjustment.Clear w)) t e
+event_turn k (line.Evict m file) t e = goes_if _ (turn.Adjust (adjustment.Evict m file)) t e
 event_turn k l t e = refused_line Grammar t e
 
 sized_turn : (long much : Bool) (u t : Turn) → sized long much u ≡ asking t → t ≡ u

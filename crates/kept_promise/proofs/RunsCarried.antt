@@ -1,8 +1,9 @@
 -- What a run carries, event by event: what the laws of events give before and after each, and what is asked of any further fact.
 use Rattle.std.proofs.Common.{◌≡◌, ℕ, ◌<◌, List, [], ◌∷◌, ◌++◌, length, Some, false, replicate}
 use Rattle.server_core.specs.State as server
-use Rattle.kept_promise.proofs.Common.{message_spell, File, Opening, file_of, Core, Seat, new_seat, Session, Event, Event.Joins, Event.Does, Event.Serves, Event.Hears, Event.Settles, Event.Cuts, Event.Hangs, numbered, with_numbered, happens, World, Moment, Book, book_of, Ask, Told, Queue, ask_message, told_message}
+use Rattle.kept_promise.proofs.Common.{message_spell, Indexed, File, Opening, file_of, Core, Seat, new_seat, Session, Event, Event.Joins, Event.Does, Event.Serves, Event.Hears, Event.Settles, Event.Cuts, Event.Hangs, numbered, with_numbered, happens, World, Moment, Book, book_of, Ask, Told, Queue, ask_message, told_message}
 use Rattle.kept_promise.proofs.Facts.{IsKept}
+use Rattle.kept_promise.proofs.Adjusts.{SameSeats, adjusted_core}
 use Rattle.kept_promise.proofs.Rounds.{AreRested}
 use Rattle.kept_promise.proofs.Leading.{Sends, queues_after, IsNoted, CarryAll, KeptJoins, KeptHangs, KeptCuts, KeptSettles, KeptDoes, KeptServes, KeptHears}
 
@@ -68,6 +69,8 @@ pub record Carried (P : (all past : List Moment) → List Opening → Core → L
       → P all [] opening (first_core files changes count) []
   pub steps : (all past rest : List Moment) (opening : List Opening) (k : Core) (qs : List Queue) (e : Event) (mid after : List Queue) → Step all past rest opening k qs e mid after → P all past opening k qs
       → P all (past ++ moment k e ∷ []) opening (happens k e).core after
+  -- another index, or other contents that are kept, change nothing of it
+  pub adjusts : (all past : List Moment) (opening : List Opening) (k : Core) (qs : List Queue) (index : Indexed) (seats : List Seat) → SameSeats k.seats seats → P all past opening k qs → P all past opening (adjusted_core k index seats) qs
 
 -- ---- what a run leaves
 

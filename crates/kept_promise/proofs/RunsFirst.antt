@@ -4,6 +4,7 @@ use Rattle.server_core.specs.State as server
 use Rattle.kept_promise.proofs.Common.{slice_get, find, option_map, cond, ◌==◌, File, content_of, Opening, Seat, new_seat, numbered, Moment, Book}
 use Rattle.kept_promise.proofs.Lists.{some_is, nothing_there, same_or_not, count_more}
 use Rattle.kept_promise.proofs.Shelf.{found_put, found_else}
+use Rattle.kept_promise.proofs.Rights.{AreAlike}
 use Rattle.kept_promise.proofs.Facts.{FileIs, IsServer, IsSeat, IsKept}
 use Rattle.kept_promise.proofs.RunsCarried.{book_at, first_core}
 
@@ -126,6 +127,7 @@ seat_first book i = record {
   xids = λ j e. nothing_there j e;
   next = (omega arith, omega arith);
   opened = λ f l e. nothing_there l e;
+  kept = λ f c e. nothing_there c e;
 }
   where
     by : false ≡ true → ⊥
@@ -143,14 +145,14 @@ server_first opening files changes count all t = record {
   where
     held : (f : ℕ) (x : Option File) → IsOpening opening f x → FileIs (book_at opening (first_core files changes count) all) f x
     held f None h = (h, h)
-    held f (Some g) h = (h.0, h.1, h.2, ap (λ (z : Option (List ℕ)). is_there z) h.3, h.3, sym h.4, h.5)
+    held f (Some g) h = (h.0, h.1, h.2, ap (λ (z : Option (List ℕ)). is_there z) h.3, record { value = g.content; is = h.3; size = refl; same = inl refl }, sym h.4, h.5)
       where
         is_there : Option (List ℕ) → Bool
         is_there None = false
         is_there (Some x) = true
 
-pub kept_first : (opening : List Opening) (files : List (ℕ × File)) (changes count : ℕ) (all : List Moment) → IsTree opening files changes → IsKept (book_at opening (first_core files changes count) all) (first_core files changes count) []
-kept_first opening files changes count all t = record {
+pub kept_first : (opening : List Opening) (files : List (ℕ × File)) (changes count : ℕ) (all : List Moment) → AreAlike all → IsTree opening files changes → IsKept (book_at opening (first_core files changes count) all) (first_core files changes count) []
+kept_first opening files changes count all alike t = record {
   ops = refl;
   steps = refl;
   journal = refl;
@@ -159,6 +161,7 @@ kept_first opening files changes count all t = record {
     rights = λ k o e. no_element k o e;
     journal = record { count = refl; rising = λ i j p q lt e f. no_element i p e; made = λ i p e f g. no_element i p f; only = λ k p o e f g. no_element k o e; once = λ k m p o q e f c g h. no_element k o e };
     past = λ i p e. no_element i p e;
+    alike = alike;
   };
   server = server_first opening files changes count all t;
   made = (refl, refl);

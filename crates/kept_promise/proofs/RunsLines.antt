@@ -5,9 +5,10 @@ use Rattle.command_text.specs.Commands.{command_of, open_of, write_of, trunc_of,
 use Rattle.command_text.specs.Fields.{◌>>=◌, value_from, is_decimal, value_of, number_of, number_within, name_of, content_of, id_of}
 use Rattle.command_text.specs.Parts.{words_of}
 use Rattle.command_text.specs.declared.command.Command.TheVariants as command
-use Rattle.trace_text.specs.Fields.{reading_of, amount_of}
-use Rattle.trace_text.specs.Grammar.{version_of, term_of, drift_of, clients_of, file_of, join_of, do_of, up_of, down_of, pass_of, settle_of, cut_of, hang_of, event_from, line_from, said_by, is_skipped}
+use Rattle.trace_text.specs.Fields.{reading_of, amount_of, who_of, key_of}
+use Rattle.trace_text.specs.Grammar.{version_of, term_of, drift_of, clients_of, file_of, join_of, do_of, up_of, down_of, pass_of, settle_of, cut_of, hang_of, forge_of, clear_of, evict_of, event_from, line_from, said_by, is_skipped}
 use Rattle.trace_text.specs.declared.line.Line.TheVariants as line
+use Rattle.trace_replay.specs.declared.adjusting.Adjustment.TheVariants as adjustment
 use Rattle.trace_replay.specs.declared.stage.Stage.{Stage}
 use Rattle.trace_replay.specs.declared.stage.Stage.TheVariants as stage
 use Rattle.trace_replay.specs.declared.turn.Turn.TheVariants as turn
@@ -153,6 +154,19 @@ hang_fits : (words : List (List ℕ)) → Gives LineFits (hang_of words)
 hang_fits (a ∷ b ∷ []) = gives_then LineFits (number_of a) _ (λ x. gives_then LineFits (reading_of b) _ (λ y. gives_some LineFits (line.Hang x y) tt))
 hang_fits _ = gives_none LineFits
 
+forge_fits : (words : List (List ℕ)) → Gives LineFits (forge_of words)
+forge_fits (a ∷ b ∷ c ∷ d ∷ n ∷ []) =
+    gives_then LineFits (who_of a) _ (λ x. gives_then LineFits (key_of b) _ (λ k. gives_then LineFits (number_of c) _ (λ y. gives_then LineFits (number_of d) _ (λ z. gives_then LineFits (number_of n) _ (λ u. gives_some LineFits (line.Forge x k y z u) tt)))))
+forge_fits _ = gives_none LineFits
+
+clear_fits : (words : List (List ℕ)) → Gives LineFits (clear_of words)
+clear_fits (a ∷ []) = gives_then LineFits (who_of a) _ (λ x. gives_some LineFits (line.Clear x) tt)
+clear_fits _ = gives_none LineFits
+
+evict_fits : (words : List (List ℕ)) → Gives LineFits (evict_of words)
+evict_fits (a ∷ b ∷ []) = gives_then LineFits (number_of a) _ (λ x. gives_then LineFits (number_of b) _ (λ y. gives_some LineFits (line.Evict x y) tt))
+evict_fits _ = gives_none LineFits
+
 event_fits : (kind : List ℕ) (words : List (List ℕ)) → Gives LineFits (event_from kind words)
 event_fits kind words =
     gives_if LineFits (bytes_eq kind (codes "join")) _ _ (join_fits words)
@@ -162,7 +176,10 @@ event_fits kind words =
     (gives_if LineFits (bytes_eq kind (codes "pass")) _ _ (pass_fits words)
     (gives_if LineFits (bytes_eq kind (codes "settle")) _ _ (settle_fits words)
     (gives_if LineFits (bytes_eq kind (codes "cut")) _ _ (cut_fits words)
-    (gives_if LineFits (bytes_eq kind (codes "hang")) _ _ (hang_fits words) (gives_none LineFits))))))))
+    (gives_if LineFits (bytes_eq kind (codes "hang")) _ _ (hang_fits words)
+    (gives_if LineFits (bytes_eq kind (codes "forge")) _ _ (forge_fits words)
+    (gives_if LineFits (bytes_eq kind (codes "clear")) _ _ (clear_fits words)
+    (gives_if LineFits (bytes_eq kind (codes "evict")) _ _ (evict_fits words) (gives_none LineFits)))))))))))
 
 words_fit : (kind : List ℕ) (words : List (List ℕ)) → Gives LineFits (line_from kind words)
 words_fit kind words =
@@ -233,6 +250,9 @@ event_on w (line.Settle at) t fits e = goes w (turn.Settle at) t e tt
 event_on w (line.Cut c r) t fits e = goes_there w (numbered w.core.seats c) (turn.Cut c) t e (λ x at. (x, at))
 event_on w (line.Hang n at) t fits e = goes_there w (numbered w.core.sessions n) (turn.Hang n) t e (λ x at. (x, at))
 event_on w (line.Pass n rounds at r) t fits e = goes_if w _ (turn.Pass n rounds at r) t e tt
+event_on w (line.Forge u key file offset count) t fits e = goes_if w _ (turn.Adjust (adjustment.Forge u key (record { file = file; offset = offset; count = count }))) t e tt
+event_on w (line.Clear u) t fits e = goes_if w _ (turn.Adjust (adjustment.Clear u)) t e tt
+event_on w (line.Evict c file) t fits e = goes_if w _ (turn.Adjust (adjustment.Evict c file)) t e tt
 event_on w l t fits e = refused_line Grammar t e
 
 named_on : (w : World) (s : Stage) (b : Bool) (size : ℕ) (name : List ℕ) (content : List Part) (t : Turn) → w.stage ≡ s → is_early s ≡ true → named b size name content ≡ asking t → Allows w t

@@ -1,7 +1,7 @@
 -- What is on its way between the two ends of a run are whole messages, each of which its end reads.
 use Rattle.std.proofs.Common.{◌≡◌, ℕ, zero, suc, List, [], ◌∷◌, Some, Bool, true, false, refl, sym, ap, ◌∙◌, subst, map}
 use Rattle.trace_replay.specs.Traces.{IsRead, IsServed, IsAnswered, xid_of, HoldsMessages}
-use Rattle.kept_promise.proofs.Common.{All-nil, All-cons, All, slice_get, MessageFits, IsExpected, Waiting, Message, Pending, waiting_of, calls_of, Session, server_waiting, World, Moment, book_of, Call, Call.Hash, Call.Read, Call.Make, Call.Name, Call.Send, Call.Commit, Ask, Told, Queue, call_message, ask_message, told_message}
+use Rattle.kept_promise.proofs.Common.{All-nil, All-cons, All, slice_get, MessageFits, IsExpected, Waiting, Message, Pending, waiting_of, calls_of, Session, server_waiting, World, Moment, book_of, Call, Call.Lease, Call.Hash, Call.Read, Call.Make, Call.Name, Call.Send, Call.Commit, Ask, Told, Queue, call_message, ask_message, told_message}
 use Rattle.kept_promise.proofs.Statements.{CallFits}
 use Rattle.kept_promise.proofs.Messages.{AllAsks, AllTolds}
 use Rattle.kept_promise.proofs.Facts.{IsSession}
@@ -31,6 +31,7 @@ asks_done [] = All-nil IsServed
 asks_done (a ∷ us) = All-cons IsServed (ask_message a) (map ask_message us) (by a.call) (asks_done us)
   where
     by : (c : Call) → IsServed (call_message a.xid c)
+    by (Lease f) = tt
     by (Hash f o) = tt
     by (Read f c) = tt
     by (Make m f) = tt
@@ -53,6 +54,7 @@ of_ask [] i m at = nothing_there m at
 of_ask (a ∷ us) zero m at = (a, refl, by a.call ∙ ap xid_of (some_is (ask_message a) m at))
   where
     by : (c : Call) → a.xid ≡ xid_of (call_message a.xid c)
+    by (Lease f) = refl
     by (Hash f o) = refl
     by (Read f c) = refl
     by (Make m f) = refl

@@ -65,6 +65,9 @@ line_adds c (line.Settle at) = refl
 line_adds c (line.Cut m r) = refl
 line_adds c (line.Hang n at) = refl
 line_adds c (line.Pass n rounds at r) = refl
+line_adds c (line.Forge w key file offset count) = refl
+line_adds c (line.Clear w) = refl
+line_adds c (line.Evict m file) = refl
 
 -- ---- all lines
 

@@ -5,8 +5,11 @@ use Rattle.trace_replay.specs.declared.stage.Stage.{Stage}
 use Rattle.trace_replay.specs.declared.stage.Stage.TheVariants as stage
 use Rattle.trace_replay.specs.declared.turn.Turn.TheVariants as turn
 use Rattle.trace_replay.specs.Run.{with_file, with_clients}
-use Rattle.kept_promise.proofs.Common.{nat_tests, nat_lt, ◌&&◌, content_length, content_bytes, Part, content_size, File, Opening, Turn, Core, new_seat, Session, Event.Joins, Event.Does, Event.Settles, Event.Cuts, Event.Hangs, numbered, World, Wire, up_length, down_length, at_events, count_of, turned, owners_of, Moment, turn_moments}
+use Rattle.kept_promise.proofs.Common.{nat_tests, nat_lt, ◌&&◌, content_length, content_bytes, Part, content_size, File, Opening, Turn, Core, new_seat, Session, Event.Joins, Event.Does, Event.Settles, Event.Cuts, Event.Hangs, numbered, World, adjusts, Wire, up_length, down_length, at_events, count_of, turned, owners_of, Moment, turn_moments}
 use Rattle.kept_promise.proofs.Lists.{nothing_there, count_more}
+use Rattle.trace_replay.specs.declared.adjusting.Adjustment.{Adjustment}
+use Rattle.kept_promise.proofs.Rights.{AreAlike}
+use Rattle.kept_promise.proofs.Adjusts.{adjusted_core, kept_adjusted, adjusts_is}
 use Rattle.kept_promise.proofs.Facts.{IsKept}
 use Rattle.kept_promise.proofs.Fits.{FitLaws}
 use Rattle.kept_promise.proofs.Leading.{CarryAll}
@@ -46,9 +49,9 @@ carry_none wires e = subst (λ (ws : List Wire). CarryAll ws []) (sym e) (refl, 
 rested_none : (wires : List Wire) → wires ≡ [] → AreRested wires
 rested_none wires e = subst AreRested (sym e) (λ k q f. nothing_there q f)
 
-pub first_stands : (P : Fact) → Carried P → (n : ℕ) (all past : List Moment) (w : World) → IsFirst n w past → Stands P all past w
-first_stands P carried n all past w f =
-    let kept = kept_first w.opening f.files f.changes f.count all f.tree in
+pub first_stands : (P : Fact) → Carried P → (n : ℕ) (all past : List Moment) (w : World) → AreAlike all → IsFirst n w past → Stands P all past w
+first_stands P carried n all past w alike f =
+    let kept = kept_first w.opening f.files f.changes f.count all alike f.tree in
     record {
       queues = [];
       kept = subst (λ (k : Core). IsKept (book_at w.opening k all) k []) (sym f.core_is) kept;
@@ -144,6 +147,7 @@ first_turned n w (turn.Settle now) past may le f h early = not_early (turned w (
 first_turned n w (turn.Cut c) past may le f h early = not_early (turned w (turn.Cut c)).stage (turned_to w (turn.Cut c) may).stage early
 first_turned n w (turn.Hang m) past may le f h early = not_early (turned w (turn.Hang m)).stage (turned_to w (turn.Hang m) may).stage early
 first_turned n w (turn.Pass m k server at) past may le f h early = not_early (turned w (turn.Pass m k server at)).stage (turned_to w (turn.Pass m k server at) may).stage early
+first_turned n w (turn.Adjust a) past may le f h early = not_early (turned w (turn.Adjust a)).stage (turned_to w (turn.Adjust a) may).stage early
 
 -- ---- any line
 
@@ -153,11 +157,25 @@ same_stands P all past w s h = record { queues = h.queues; kept = h.kept; carry 
 idle_stands : (P : Fact) (all past : List Moment) (w : World) → Stands P all past w → Stands P all (past ++ []) w
 idle_stands P all past w h = subst (λ (z : List Moment). Stands P all z w) (sym (append-nil past)) h
 
+-- an index or a cache is changed: no event, and nothing is sent
+adjusted_stands : (P : Fact) → Carried P → (all past : List Moment) (w : World) (a : Adjustment) → Stands P all past w → Stands P all past (adjusts w a)
+adjusted_stands P carried all past w a h =
+    let b = adjusts_is (book_at w.opening w.core all) w.core h.queues a h.kept in
+    let k : Core = adjusted_core w.core b.index b.seats in
+    let kept : IsKept (book_at w.opening k all) k h.queues = kept_adjusted (book_at w.opening w.core all) w.core h.queues b.index b.seats b.same b.cached h.kept in
+    record {
+      queues = h.queues;
+      kept = subst (λ (c : Core). IsKept (book_at w.opening c all) c h.queues) (sym b.is) kept;
+      carry = h.carry;
+      rested = h.rested;
+      more = subst (λ (c : Core). P all past w.opening c h.queues) (sym b.is) (carried.adjusts all past w.opening w.core h.queues b.index b.seats b.same h.more);
+    }
+
 stands_turned : (P : Fact) → KeptLaws → FitLaws → Carried P → (n : ℕ) (all past rest : List Moment) (w : World) (t : Turn) → n ≤ 65536 → Allows w t → Before P n all past w → all ≡ past ++ (turn_moments w t ++ rest) → Stands P all (past ++ turn_moments w t) (turned w t)
 stands_turned P l fits carried n all past rest w turn.Skip le f h split = idle_stands P all past w h.stands
 stands_turned P l fits carried n all past rest w (turn.At s) le f h split = idle_stands P all past (record w { stage = s }) (same_stands P all past w s h.stands)
-stands_turned P l fits carried n all past rest w (turn.Clients m) le f h split = first_stands P carried (n + 1) all (past ++ []) (with_clients w m) (clients_first n m w past (h.first f))
-stands_turned P l fits carried n all past rest w (turn.File name content) le f h split = first_stands P carried (n + 1) all (past ++ []) (with_file w name (content_bytes content)) (file_first n w name content past le f.1 (h.first f.0))
+stands_turned P l fits carried n all past rest w (turn.Clients m) le f h split = first_stands P carried (n + 1) all (past ++ []) (with_clients w m) h.stands.kept.sound.alike (clients_first n m w past (h.first f))
+stands_turned P l fits carried n all past rest w (turn.File name content) le f h split = first_stands P carried (n + 1) all (past ++ []) (with_file w name (content_bytes content)) h.stands.kept.sound.alike (file_first n w name content past le f.1 (h.first f.0))
 stands_turned P l fits carried n all past rest w (turn.Join c) le f h split =
     event_stands P l carried all past rest (at_events w) (Joins c) (same_stands P all past w stage.Events h.stands) split (f.0, f.1, f.2, made_small P n all past w h le, f.3, refl)
 stands_turned P l fits carried n all past rest w (turn.Do c now d) le f h split = event_stands P l carried all past rest (at_events w) (Does c now d) (same_stands P all past w stage.Events h.stands) split (f.0, f.1, f.2, refl)
@@ -167,6 +185,7 @@ stands_turned P l fits carried n all past rest w (turn.Hang m) le f h split = ev
 stands_turned P l fits carried n all past rest w (turn.Up m a now) le f h split = up_stands P l fits carried all past rest (at_events w) m (count_of a (up_length (numbered w.wires m))) now split (same_stands P all past w stage.Events h.stands)
 stands_turned P l fits carried n all past rest w (turn.Down m a now) le f h split = down_stands P l carried all past rest (at_events w) m (count_of a (down_length (numbered w.wires m))) now split (same_stands P all past w stage.Events h.stands)
 stands_turned P l fits carried n all past rest w (turn.Pass m k server at) le f h split = passes_stand P l fits carried k all past rest (at_events w) m server at split (same_stands P all past w stage.Events h.stands)
+stands_turned P l fits carried n all past rest w (turn.Adjust a) le f h split = idle_stands P all past (adjusts (at_events w) a) (adjusted_stands P carried all past (at_events w) a (same_stands P all past w stage.Events h.stands))
 
 pub before_next : (P : Fact) → KeptLaws → FitLaws → Carried P → (n : ℕ) (all past rest : List Moment) (w : World) (t : Turn) → n ≤ 65536 → Allows w t → Before P n all past w → all ≡ past ++ (turn_moments w t ++ rest) → Before P (n + 1) all (past ++ turn_moments w t) (turned w t)
 before_next P l fits carried n all past rest w t le f h split =

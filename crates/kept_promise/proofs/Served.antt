@@ -1,10 +1,11 @@
 -- The server takes the first call on its way: all calls together.
 use Rattle.std.proofs.Common.{◌≡◌, ℕ, ◌+◌, List, [], ◌∷◌, Some, Bool, true, false, refl, sym, ap, ◌∙◌, subst}
-use Rattle.kept_promise.proofs.Common.{not, message_spell, Message, stands, got_if, at, cond_fault, temp_at, Failed, Core, Session, Event.Serves, CoreStep, numbered, with_numbered, serves_if, serves, taken_with, quiet, happens, Book, Call, Call.Hash, Call.Read, Call.Make, Call.Name, Call.Send, Call.Commit, Reply.Named, Ask, Queue, ask_message}
+use Rattle.kept_promise.proofs.Common.{not, message_spell, Message, stands, got_if, Core, Session, Event.Serves, CoreStep, numbered, with_numbered, serves_if, serves, taken_with, quiet, happens, Book, Call, Call.Lease, Call.Hash, Call.Read, Call.Make, Call.Name, Call.Send, Call.Commit, Ask, Queue, ask_message}
 use Rattle.kept_promise.proofs.Turns.{also_numbered}
 use Rattle.kept_promise.proofs.Fits.{FitLaws}
 use Rattle.kept_promise.proofs.Serves.{parsed}
-use Rattle.kept_promise.proofs.Calls.{Given, session_in, first_fits, rest_of, serve_hash, serve_read, serve_plain, serve_make, serve_send, held_still, name_wanted}
+use Rattle.kept_promise.proofs.Calls.{Given, session_in, first_fits, rest_of, serve_lease, serve_hash, serve_read, serve_make, serve_send}
+use Rattle.kept_promise.proofs.Knowing.{serve_name}
 use Rattle.kept_promise.proofs.Commits.{serve_commit}
 use Rattle.kept_promise.proofs.Leading.{Leads, KeptServes}
 
@@ -15,10 +16,11 @@ got_by k n now x m b =
     record (quiet (record k { steps = k.steps + 1; server = r.0; sessions = with_numbered k.sessions n (record x { taken = taken_with x.taken m (k.steps + 1) }) })) { down = r.1.send }
 
 serve_call : FitLaws → (book : Book) (k : Core) (qs : List Queue) (n now : ℕ) (x : Session) (q : Queue) (xid : ℕ) (c : Call) (us : List Ask) → Given book k qs n now x q (record { xid = xid; call = c }) us → Leads book (rest_of qs n q us) (got_by k n now x (ask_message (record { xid = xid; call = c })) true)
+serve_call laws book k qs n now x q xid (Lease f) us g = serve_lease laws book k qs n now x q xid f us g
 serve_call laws book k qs n now x q xid (Hash f o) us g = serve_hash laws book k qs n now x q xid f o us g
 serve_call laws book k qs n now x q xid (Read f d) us g = serve_read laws book k qs n now x q xid f d us g
 serve_call laws book k qs n now x q xid (Make m f) us g = serve_make laws book k qs n now x q xid m f us g
-serve_call laws book k qs n now x q xid (Name m d) us g = serve_plain laws book k qs n now x q (record { xid = xid; call = Name m d }) us (Named (Failed (cond_fault (record { fd = m; offset = d.start; count = d.len; digest = d.digest }) (temp_at k.server.temps n m)) tt)) g (λ uncut. name_wanted book k qs n now x q xid m d us g uncut) (λ uncut vs e. held_still book k qs n now x q (record { xid = xid; call = Name m d }) us g tt uncut vs e) refl tt (first_fits book k qs n now x q (record { xid = xid; call = Name m d }) us g).0 (λ uncut. tt)
+serve_call laws book k qs n now x q xid (Name m d) us g = serve_name laws book k qs n now x q xid m d us g
 serve_call laws book k qs n now x q xid (Send m start bytes) us g = serve_send laws book k qs n now x q xid m start bytes us g
 serve_call laws book k qs n now x q xid (Commit m f size) us g = serve_commit laws book k qs n now x q xid m f size us g
 

@@ -1,7 +1,7 @@
 -- The first change that waits is made, and its session told.
 use Rattle.std.proofs.Common.{inl, inr, ◌≡◌, ℕ, suc, ◌+◌, ◌≤◌, List, [], ◌∷◌, ◌++◌, length, replicate, Option, Some, None, Bool, true, false, refl, sym, ap, ◌∙◌, subst, arith, eq-eqb, ne_eqb, append-nil, map, IsSome}
 use Rattle.server_core.specs.State as server
-use Rattle.server_core.specs.Closing.{changed, told_change}
+use Rattle.server_core.specs.Closing.{changed}
 use Rattle.server_core.specs.Closing as closing
 use Rattle.server_core.specs.declared.event.Told.TheVariants as told_
 use Rattle.open_close.specs.State as client
@@ -9,13 +9,13 @@ use Rattle.hash_calls.specs.declared.message.LbProc.TheVariants as lb_proc
 use Rattle.wire.specs.declared.message.Program.TheVariants as program
 use Rattle.open_close.specs.declared.task.Stage.TheVariants as stage
 use Rattle.register_model.specs.declared.op.Outcome.TheVariants as told
-use Rattle.kept_promise.proofs.Common.{slice_get, slice_set, cond, ◌==◌, sha1, Done, Failed, MessageFits, at, entry_of, makes_change, Change, ServerStep, File, Entry, Fetch, Stage, Value, content_of, Op, Core, Seat, Session, CoreStep, quiet, numbered, with_numbered, settled_ops, settled_by, pointed, pointed_at, unless, Book, value_at, version_at, Reply, Reply.Hashed, Reply.Bytes, Reply.Made, Reply.Named, Reply.Stored, Reply.Changed, Told, Queue, told_message, reply_program}
+use Rattle.kept_promise.proofs.Common.{slice_get, slice_set, cond, ◌==◌, sha1, Done, Failed, MessageFits, at, entry_of, makes_change, Change, ServerStep, File, Entry, Fetch, Stage, Value, content_of, Op, Core, Seat, Session, CoreStep, quiet, numbered, with_numbered, settled_ops, settled_by, pointed, pointed_at, unless, Book, Or, value_at, version_at, Reply, Reply.Versioned, Reply.Hashed, Reply.Bytes, Reply.Made, Reply.Named, Reply.Stored, Reply.Changed, Told, Queue, told_message, reply_program}
 use Rattle.kept_promise.proofs.Lists.{some_is, nothing_there, same_or_not, at_end, at_replaced, of_replaced}
 use Rattle.kept_promise.proofs.Keys.{times, times_append, times_head, own, on_way, key, change_key, ask_key, told_key}
 use Rattle.kept_promise.proofs.Messages.{Job, job, hash_offset, FetchOf, CommitTold, AllTolds, IsAnswer, AnswerOf, IsPending, CloseOf}
 use Rattle.kept_promise.proofs.Rights.{IsSound, IsUnmade, IsMade}
 use Rattle.kept_promise.proofs.Marks.{marks}
-use Rattle.kept_promise.proofs.Growth.{Grows, value_alike, version_alike, made_later}
+use Rattle.kept_promise.proofs.Growth.{Grows, or_map, value_alike, version_alike, made_later}
 use Rattle.kept_promise.proofs.History.{entered, made_op, IsEntryOf, grows_made, goes_made, value_now, version_now, marks_else}
 use Rattle.kept_promise.proofs.Later.{seat_later}
 use Rattle.kept_promise.proofs.Taken.{tolds_append, times_map_append}
@@ -24,7 +24,7 @@ use Rattle.kept_promise.proofs.Fits.{FitLaws}
 use Rattle.kept_promise.proofs.Ordered.{orderly_later, orderly_told}
 use Rattle.kept_promise.proofs.Shelf.{found_put, found_else}
 use Rattle.kept_promise.proofs.OrderSteps.{keys_once}
-use Rattle.kept_promise.proofs.Facts.{FileIs, IsTalk, IsKept, commits_in}
+use Rattle.kept_promise.proofs.Facts.{IsValue, FileIs, IsTalk, IsKept, commits_in}
 use Rattle.kept_promise.proofs.Leading.{Leads, downs_put_in, downs_put, KeptSettles}
 use Rattle.kept_promise.proofs.Cuts.{leads_idle}
 use Rattle.kept_promise.proofs.Steps.{no_commits}
@@ -44,18 +44,19 @@ abbrev made_book : Book → Entry → (j : ℕ) → Op → Book
 made_book book e j o = entered book (slice_set book.ops j (made_op book o)) e
 
 -- what the tree has of each file, once one got this content
-held_made : (book : Book) (e : Entry) (j : ℕ) (o : Op) (files : List (ℕ × File)) (g : File) → slice_get book.ops j ≡ Some o → IsUnmade o → IsSound book → o.file ≡ g.id → length o.value ≤ 67108864 → ((f : ℕ) → FileIs book f (server.file_at files f)) → server.file_at files g.id ≡ Some g
-    → (f : ℕ) → FileIs (made_book book e j o) f (server.file_at (server.with_file files (changed g o.value)) f)
-held_made book e j o files g there_ unmade sound mine short held there f = elim (same_or_not f g.id) [
+held_made : (book : Book) (e : Entry) (j : ℕ) (o : Op) (files : List (ℕ × File)) (g : File) (x : List ℕ) → slice_get book.ops j ≡ Some o → IsUnmade o → IsSound book → o.file ≡ g.id → length o.value ≡ length x → Or book (o.value ≡ x) → length x ≤ 67108864 → ((f : ℕ) → FileIs book f (server.file_at files f)) → server.file_at files g.id ≡ Some g
+    → (f : ℕ) → FileIs (made_book book e j o) f (server.file_at (server.with_file files (changed g x)) f)
+held_made book e j o files g x there_ unmade sound mine size same short held there f = elim (same_or_not f g.id) [
   | inl here ↦
       let was : FileIs book g.id (Some g) = subst (FileIs book g.id) there (held g.id) in
       let value = subst (λ n. value_at (made_book book e j o) o.file n ≡ Some o.value) two (value_now book e j o there_ unmade sound) in
       let version = subst (λ n. version_at (made_book book e j o) o.file n ≡ version_at book o.file (book.steps + 1) + 1) two (version_now book e j o there_ unmade sound) in
-      let own : FileIs (made_book book e j o) g.id (Some (changed g o.value)) = (refl, was.1, was.2, was.3, ap (λ z. value_at (made_book book e j o) z (book.steps + 1 + 1)) (sym mine) ∙ value, ap (λ z. version_at (made_book book e j o) z (book.steps + 1 + 1)) (sym mine) ∙ version ∙ ap (λ z. version_at book z (book.steps + 1) + 1) mine ∙ ap (λ z. z + 1) was.5, short) in
-      subst (λ (z : ℕ). FileIs (made_book book e j o) z (server.file_at (server.with_file files (changed g o.value)) z)) (sym here) (subst (FileIs (made_book book e j o) g.id) (sym (found_put files g.id (changed g o.value))) own)
+      let now : IsValue (made_book book e j o) g.id x = record { value = o.value; is = ap (λ z. value_at (made_book book e j o) z (book.steps + 1 + 1)) (sym mine) ∙ value; size = size; same = same } in
+      let own : FileIs (made_book book e j o) g.id (Some (changed g x)) = (refl, was.1, was.2, was.3, now, ap (λ z. version_at (made_book book e j o) z (book.steps + 1 + 1)) (sym mine) ∙ version ∙ ap (λ z. version_at book z (book.steps + 1) + 1) mine ∙ ap (λ z. z + 1) was.5, short) in
+      subst (λ (z : ℕ). FileIs (made_book book e j o) z (server.file_at (server.with_file files (changed g x)) z)) (sym here) (subst (FileIs (made_book book e j o) g.id) (sym (found_put files g.id (changed g x))) own)
   | inr apart ↦
       let marks_ : marks f (book.steps + 1 + 1) (slice_set book.ops j (made_op book o)) ≡ marks f (book.steps + 1) book.ops = subst (λ n. marks f n (slice_set book.ops j (made_op book o)) ≡ marks f (book.steps + 1) book.ops) two (marks_else book j o f there_ unmade (λ q. apart (sym q ∙ mine)) sound) in
-      subst (FileIs (made_book book e j o) f) (sym (found_else files g.id f (changed g o.value) apart)) (others (server.file_at files f) (held f) (value_alike book (made_book book e j o) f (book.steps + 1 + 1) (book.steps + 1) refl marks_) (version_alike book (made_book book e j o) f (book.steps + 1 + 1) (book.steps + 1) marks_))
+      subst (FileIs (made_book book e j o) f) (sym (found_else files g.id f (changed g x) apart)) (others (server.file_at files f) (held f) (value_alike book (made_book book e j o) f (book.steps + 1 + 1) (book.steps + 1) refl marks_) (version_alike book (made_book book e j o) f (book.steps + 1 + 1) (book.steps + 1) marks_))
 ]
   where
     two : book.steps + 2 ≡ book.steps + 1 + 1
@@ -63,7 +64,7 @@ held_made book e j o files g there_ unmade sound mine short held there f = elim 
 
     others : (z : Option File) → FileIs book f z → value_at (made_book book e j o) f (book.steps + 1 + 1) ≡ value_at book f (book.steps + 1) → version_at (made_book book e j o) f (book.steps + 1 + 1) ≡ version_at book f (book.steps + 1) → FileIs (made_book book e j o) f z
     others None h v w = (h.0, v ∙ h.1)
-    others (Some z) h v w = (h.0, h.1, h.2, h.3, v ∙ h.4, w ∙ h.5, h.6)
+    others (Some z) h v w = (h.0, h.1, h.2, h.3, record { value = h.4.value; is = v ∙ h.4.is; size = h.4.size; same = h.4.same }, w ∙ h.5, h.6)
 
 -- a change to a file that is there leaves each version within the changes
 versions_made : (files : List (ℕ × File)) (g : File) (content : List ℕ) (changes : ℕ) → ((f : ℕ) (z : File) → server.file_at files f ≡ Some z → z.version ≤ changes) → server.file_at files g.id ≡ Some g → (f : ℕ) (z : File) → server.file_at (server.with_file files (changed g content)) f ≡ Some z → z.version ≤ changes + 1
@@ -110,6 +111,9 @@ all_but P Q k (t ∷ ts) none f h = by (told_key t == k) refl none (λ n. all_bu
 not_reading : (x : ℕ) (f : Fetch) → stage.Committing x ≡ stage.Reading f → ⊥
 not_reading x f e = absurd cc
 
+not_asking : (x y : ℕ) → stage.Committing x ≡ stage.Asking y → ⊥
+not_asking x y e = absurd cc
+
 same_xid : (x y : ℕ) → stage.Committing x ≡ stage.Committing y → x ≡ y
 same_xid x y e = cc
 
@@ -154,6 +158,7 @@ settled_talk book e j o n c cs x q seat version g first committing made t = reco
 
     -- an answer to anything else is not waited for, or tells of the past
     old_reply : (y : ℕ) (r : Reply) → (key y (reply_program r) ≡ change_key c → ⊥) → AnswerOf book x.taken x.closing (job seat) y r → AnswerOf (made_book book e j o) x.taken x.closing (job seat) y r
+    old_reply y (Versioned a) apart h = λ i f s. let same : here ≡ i = some_is here i (sym committing ∙ f) in absurd (not_asking c.xid y (ap (λ (z : Job). z.stage) same ∙ s))
     old_reply y (Hashed a) apart h = λ i k f s. let same : here ≡ i = some_is here i (sym committing ∙ f) in nothing_there k (ap (λ (w : Job). hash_offset w.stage y) same ∙ s)
     old_reply y (Bytes a) apart h = λ i k m f s w. let same : here ≡ i = some_is here i (sym committing ∙ f) in absurd (not_reading c.xid k (ap (λ (z : Job). z.stage) same ∙ s))
     old_reply y (Changed (Done d)) apart h = λ i f s. made_later book (made_book book e j o) (Some j) None i.place d.version g (h i f s)
@@ -185,11 +190,12 @@ settled_now laws book k qs now c cs f x q j o kept waits there here unhung is pe
     let known : x.closing ≡ Some j = pending.known ∙ ap (λ (z : ℕ). Some z) place_is in
     let unmade : IsUnmade o = subst IsUnmade op_is pending.unmade in
     let file_is : o.file ≡ c.file = ap (λ (z : Op). z.file) (sym op_is) ∙ pending.file_is in
-    let value_is : o.value ≡ c.content = ap (λ (z : Op). z.value) (sym op_is) ∙ pending.value_is in
+    let size : length o.value ≡ length c.content = ap (λ (z : Op). length z.value) (sym op_is) ∙ pending.size_is in
+    let same : Or book (o.value ≡ c.content) = subst (λ (z : Op). Or book (z.value ≡ c.content)) op_is pending.value_is in
     let own_file : FileIs book c.file (Some f) = subst (FileIs book c.file) there (kept.server.held c.file) in
     let id_is : f.id ≡ c.file = own_file.0 in
     let mine : o.file ≡ f.id = file_is ∙ sym id_is in
-    let tells : IsEntryOf book o e = record { file = mine; len = ap length value_is; digest = ap sha1 value_is; version = ap (λ (z : ℕ). z + 1) (sym own_file.5 ∙ ap (λ (z : ℕ). version_at book z (book.steps + 1)) (sym id_is)) } in
+    let tells : IsEntryOf book o e = record { file = mine; len = size; digest = or_map book _ _ (λ q. ap sha1 q) same; version = ap (λ (z : ℕ). z + 1) (sym own_file.5 ∙ ap (λ (z : ℕ). version_at book z (book.steps + 1)) (sym id_is)) } in
     let goes = goes_made book e j o tells at_ unmade kept.sound in
     let g = goes.grows in
     let more = made_book book e j o in
@@ -200,9 +206,9 @@ settled_now laws book k qs now c cs f x q j o kept waits there here unhung is pe
     let first : own n k.server.waiting ≡ c ∷ own n cs = ap (own n) waits ∙ own_first c cs in
     let alone : (commits_in q.ups ≡ 0) × (length (own n cs) ≡ 0) = (let a = h.single in let b = ap length first in (omega (arith, a, b), omega (arith, a, b))) in
     let none : own n cs ≡ [] = empty_is (own n cs) alone.1 in
-    let short : length o.value ≤ 67108864 = subst (λ (z : List ℕ). length z ≤ 67108864) (sym value_is) (kept.server.lengths 0 c (ap (λ (l : List Change). slice_get l 0) waits)) in
+    let short : length c.content ≤ 67108864 = kept.server.lengths 0 c (ap (λ (l : List Change). slice_get l 0) waits) in
     let same_id : server.file_at k.server.files f.id ≡ Some f = ap (server.file_at k.server.files) id_is ∙ there in
-    let held : (z : ℕ) → FileIs more z (server.file_at r.files z) = λ z. subst (λ (v : List ℕ). FileIs more z (server.file_at (server.with_file k.server.files (changed f v)) z)) value_is (held_made book e j o k.server.files f at_ unmade kept.sound mine short kept.server.held same_id z) in
+    let held : (z : ℕ) → FileIs more z (server.file_at r.files z) = λ z. held_made book e j o k.server.files f c.content at_ unmade kept.sound mine size same short kept.server.held same_id z in
     let made : IsMade more j version = (
       made_op book o,
       book.steps + 1,
@@ -217,9 +223,10 @@ settled_now laws book k qs now c cs f x q j o kept waits there here unhung is pe
         entry_is = ap (slice_get (book.journal ++ e ∷ [])) kept.sound.journal.count ∙ at_end book.journal e;
         file_is = sym mine;
         version_is = refl;
-        len_is = ap length (sym value_is);
-        digest_is = ap sha1 (sym value_is);
+        len_is = sym size;
+        digest_is = or_map book _ _ (λ q. ap sha1 (sym q)) same;
       },
+      (book.steps + 2, omega arith, version_now book e j o at_ unmade kept.sound ∙ ap (λ (z : ℕ). z + 1) (ap (λ (z : ℕ). version_at book z (book.steps + 1)) file_is ∙ own_file.5), value_now book e j o at_ unmade kept.sound),
     ) in
     kept_turn book more k qs r k.seats k.sessions (with_numbered qs n p) n x x p h.seat h.seat (Some j) None (record {
       at = here;
@@ -263,7 +270,7 @@ settled_now laws book k qs now c cs f x q j o kept waits there here unhung is pe
         pending = λ i d w. nothing_there d (ap (λ (l : List Change). slice_get l i) (sym none) ∙ w);
         single = omega (arith, alone.0, alone.1);
         old = λ z w. let u = h.old z w in let v = g.each z u.0 u.1 in (v.0, v.1, v.2.client ∙ u.2);
-        orderly = λ uncut. orderly_told more n k.server.temps x.hung x.cut q t h.seat tt (orderly_later book more (Some j) None n k.server.temps k.server.temps x.hung q h.seat g (λ m lt. refl) (h.orderly uncut));
+        orderly = λ uncut. orderly_told more n k.server.temps x.hung x.cut q t h.seat tt tt (orderly_later book more (Some j) None n k.server.temps k.server.temps x.hung q h.seat g (λ m lt. refl) (h.orderly uncut));
       };
       seat = seat_later book more (Some j) None k.sessions k.sessions x.owner h.seat g (λ m z w. (z, w, refl, λ u. refl)) (λ z u w. nothing_there z w) (kept.seats x.owner h.seat h.owner);
       running = λ z u w run. still_runs z u w run;

@@ -1,9 +1,12 @@
 -- Temporary files by place: what is put among them, and what is taken out; and their pieces, which are parts of a content.
 use Rattle.std.proofs.Common.{◌⊎◌, inl, inr, ◌≡◌, ℕ, zero, suc, ◌+◌, ◌<◌, List, [], ◌∷◌, ◌++◌, length, take, drop, Option, Some, None, Bool, true, false, refl, sym, ap, ◌∙◌, subst, arith, eqb-true}
-use Rattle.temp_files.specs.Pieces.{joined}
-use Rattle.kept_promise.proofs.Common.{slice_get, cond, ◌==◌, option_map, insert_entry, is_at, lookup, remove_entry, nat_cmp, match_ordering, is_eq, Ordering, Less, Equal, Greater, take-append-drop, exact_unsigned, key_of}
+use Rattle.std.proofs.lemmas.List.{length-append}
+use Rattle.temp_files.specs.Pieces.{joined, overlaps}
+use Rattle.xdr_codec.specs.declared.status.Status.TheVariants as status
+use Rattle.kept_promise.proofs.Common.{slice_get, cond, ◌==◌, ◌&&◌, ◌||◌, nat_lt, if◌then◌else◌, list_any, size_most, range_fault, Collides, option_map, insert_entry, is_at, lookup, remove_entry, nat_cmp, match_ordering, is_eq, Ordering, Less, Equal, Greater, take-append-drop, exact_unsigned, key_of}
 use Rattle.kept_promise.proofs.Lists.{some_is, nothing_there}
 use Rattle.kept_promise.proofs.Messages.{AreParts, IsPartOf}
+use Rattle.kept_promise.proofs.Statements.{SameShape}
 
 -- ---- entries
 
@@ -48,14 +51,76 @@ keys_number n m p e = omega (arith, e)
 
 -- ---- pieces
 
-pub parts_put : (v : List ℕ) (ps : List (ℕ × List ℕ)) (o : ℕ) (b : List ℕ) → AreParts v ps → IsPartOf v o b → AreParts v (insert_entry nat_cmp ps o b)
-parts_put v [] o b h p = (p, tt)
-parts_put v (d ∷ ps) o b h p = by (nat_cmp o d.0) refl (parts_put v ps o b h.1 p)
+pub parts_put : (hashed : List (List ℕ)) (v : List ℕ) (ps : List (ℕ × List ℕ)) (o : ℕ) (b : List ℕ) → AreParts hashed v ps → (IsPartOf v o b ⊎ Collides hashed) → AreParts hashed v (insert_entry nat_cmp ps o b)
+parts_put hashed v [] o b h p = (p, tt)
+parts_put hashed v (d ∷ ps) o b h p = by (nat_cmp o d.0) refl (parts_put hashed v ps o b h.1 p)
   where
-    by : (r : Ordering) → nat_cmp o d.0 ≡ r → AreParts v (insert_entry nat_cmp ps o b) → AreParts v (match_ordering r ((o, b) ∷ d ∷ ps) ((d.0, b) ∷ ps) (d ∷ insert_entry nat_cmp ps o b))
+    by : (r : Ordering) → nat_cmp o d.0 ≡ r → AreParts hashed v (insert_entry nat_cmp ps o b) → AreParts hashed v (match_ordering r ((o, b) ∷ d ∷ ps) ((d.0, b) ∷ ps) (d ∷ insert_entry nat_cmp ps o b))
     by Less q later = (p, h)
-    by Equal q later = (subst (λ (z : ℕ). IsPartOf v z b) (exact_unsigned o d.0 q) p, h.1)
+    by Equal q later = (subst (λ (z : ℕ). IsPartOf v z b ⊎ Collides hashed) (exact_unsigned o d.0 q) p, h.1)
     by Greater q later = (h.0, later)
+
+-- pieces that are a content's, each
+abbrev AreExact : List ℕ → List (ℕ × List ℕ) → Type 0
+AreExact v [] = Unit {0}
+AreExact v (p ∷ ps) = IsPartOf v p.0 p.1 × AreExact v ps
+
+parts_exact : (hashed : List (List ℕ)) (v : List ℕ) (ps : List (ℕ × List ℕ)) → AreParts hashed v ps → AreExact v ps ⊎ Collides hashed
+parts_exact hashed v [] h = inl tt
+parts_exact hashed v (p ∷ ps) h = by h.0 (parts_exact hashed v ps h.1)
+  where
+    by : (IsPartOf v p.0 p.1 ⊎ Collides hashed) → (AreExact v ps ⊎ Collides hashed) → AreExact v (p ∷ ps) ⊎ Collides hashed
+    by (inl a) (inl b) = inl (a, b)
+    by (inl a) (inr c) = inr c
+    by (inr c) later = inr c
+
+-- ---- pieces at the same places, of the same lengths
+
+any_alike : (s e : ℕ) (ps qs : List (ℕ × List ℕ)) → SameShape ps qs → list_any (overlaps s e) ps ≡ list_any (overlaps s e) qs
+any_alike s e [] [] h = refl
+any_alike s e (p ∷ ps) (q ∷ qs) h =
+    ap (λ (z : ℕ). (nat_lt z e && nat_lt s (z + length p.1)) || list_any (overlaps s e) ps) h.0
+    ∙ ap (λ (z : ℕ). (nat_lt q.0 e && nat_lt s (q.0 + z)) || list_any (overlaps s e) ps) h.1
+    ∙ ap (λ (b : Bool). overlaps s e q || b) (any_alike s e ps qs h.2)
+any_alike s e [] (q ∷ qs) h = absurd h
+any_alike s e (p ∷ ps) [] h = absurd h
+
+-- the same can be put among them
+pub fault_alike : (ps qs : List (ℕ × List ℕ)) (o n : ℕ) → SameShape ps qs → range_fault ps o n ≡ range_fault qs o n
+fault_alike ps qs o n h = ap (λ (b : Bool). if n == 0 then Some status.Inval else if nat_lt 18446744073709551615 (o + n) then Some status.Inval else if nat_lt size_most (o + n) then Some status.FBig else if b then Some status.Inval else None) (any_alike o (o + n) ps qs h)
+
+pub put_alike : (ps qs : List (ℕ × List ℕ)) (o : ℕ) (b c : List ℕ) → length b ≡ length c → SameShape ps qs → SameShape (insert_entry nat_cmp ps o b) (insert_entry nat_cmp qs o c)
+put_alike [] [] o b c e h = (refl, e, tt)
+put_alike (p ∷ ps) (q ∷ qs) o b c e h = subst (λ (z : ℕ). SameShape (insert_entry nat_cmp (p ∷ ps) o b) (match_ordering (nat_cmp o z) ((o, c) ∷ q ∷ qs) ((q.0, c) ∷ qs) (q ∷ insert_entry nat_cmp qs o c))) h.0 (by (nat_cmp o p.0) (put_alike ps qs o b c e h.2))
+  where
+    by : (r : Ordering) → SameShape (insert_entry nat_cmp ps o b) (insert_entry nat_cmp qs o c)
+        → SameShape (match_ordering r ((o, b) ∷ p ∷ ps) ((p.0, b) ∷ ps) (p ∷ insert_entry nat_cmp ps o b)) (match_ordering r ((o, c) ∷ q ∷ qs) ((q.0, c) ∷ qs) (q ∷ insert_entry nat_cmp qs o c))
+    by Less later = (refl, e, h)
+    by Equal later = (h.0, e, h.2)
+    by Greater later = (h.0, h.1, later)
+put_alike [] (q ∷ qs) o b c e h = absurd h
+put_alike (p ∷ ps) [] o b c e h = absurd h
+
+pub same_shape : (ps : List (ℕ × List ℕ)) → SameShape ps ps
+same_shape [] = tt
+same_shape (p ∷ ps) = (refl, refl, same_shape ps)
+
+-- they can be joined where the others can
+pub joined_alike : (ps qs : List (ℕ × List ℕ)) (at size : ℕ) (y : List ℕ) → SameShape ps qs → joined at size qs ≡ Some y → (x : List ℕ) × (joined at size ps ≡ Some x)
+joined_alike [] [] at size y h e = (y, e)
+joined_alike (p ∷ ps) (q ∷ qs) at size y h e = by (q.0 == at) refl (joined (at + length q.1) size qs) refl e (joined_alike ps qs (at + length q.1) size)
+  where
+    by : (b : Bool) → (q.0 == at) ≡ b → (o : Option (List ℕ)) → joined (at + length q.1) size qs ≡ o → cond b (option_map (λ bytes. q.1 ++ bytes) o) None ≡ Some y → ((z : List ℕ) → SameShape ps qs → joined (at + length q.1) size qs ≡ Some z → (x : List ℕ) × (joined (at + length q.1) size ps ≡ Some x))
+        → (x : List ℕ) × (joined at size (p ∷ ps) ≡ Some x)
+    by true same (Some z) is e later =
+        let r = later z h.2 is in (
+          p.1 ++ r.0,
+          ap (λ (b : Bool). cond b (option_map (λ bytes. p.1 ++ bytes) (joined (at + length p.1) size ps)) None) (ap (λ (z : ℕ). z == at) h.0 ∙ same) ∙ ap (λ (n : ℕ). option_map (λ bytes. p.1 ++ bytes) (joined (at + n) size ps)) h.1 ∙ ap (λ (o : Option (List ℕ)). option_map (λ bytes. p.1 ++ bytes) o) r.1,
+        )
+    by true same None is e later = nothing_there y e
+    by false same o is e later = nothing_there y e
+joined_alike [] (q ∷ qs) at size y h e = absurd h
+joined_alike (p ∷ ps) [] at size y h e = absurd h
 
 -- ---- what they come to
 
@@ -70,7 +135,7 @@ drop_end [] = refl
 drop_end (b ∷ v) = drop_end v
 
 -- pieces that are joined to a whole of a content's length are that content
-joined_from : (v : List ℕ) (at : ℕ) (ps : List (ℕ × List ℕ)) (x : List ℕ) → AreParts v ps → joined at (length v) ps ≡ Some x → x ≡ drop at v
+joined_from : (v : List ℕ) (at : ℕ) (ps : List (ℕ × List ℕ)) (x : List ℕ) → AreExact v ps → joined at (length v) ps ≡ Some x → x ≡ drop at v
 joined_from v at [] x h e = by (at == length v) refl e
   where
     by : (b : Bool) → (at == length v) ≡ b → cond b (Some []) None ≡ Some x → x ≡ drop at v
@@ -78,7 +143,7 @@ joined_from v at [] x h e = by (at == length v) refl e
     by false same e = nothing_there x e
 joined_from v at (p ∷ ps) x h e = by (p.0 == at) refl (joined (at + length p.1) (length v) ps) refl e (joined_from v (at + length p.1) ps)
   where
-    by : (b : Bool) → (p.0 == at) ≡ b → (o : Option (List ℕ)) → joined (at + length p.1) (length v) ps ≡ o → cond b (option_map (λ bytes. p.1 ++ bytes) o) None ≡ Some x → ((x : List ℕ) → AreParts v ps → joined (at + length p.1) (length v) ps ≡ Some x → x ≡ drop (at + length p.1) v) → x ≡ drop at v
+    by : (b : Bool) → (p.0 == at) ≡ b → (o : Option (List ℕ)) → joined (at + length p.1) (length v) ps ≡ o → cond b (option_map (λ bytes. p.1 ++ bytes) o) None ≡ Some x → ((x : List ℕ) → AreExact v ps → joined (at + length p.1) (length v) ps ≡ Some x → x ≡ drop (at + length p.1) v) → x ≡ drop at v
     by true same (Some rest) q e later =
         let tail : rest ≡ drop (at + length p.1) v = later rest h.1 q in
         let front : p.1 ≡ take (length p.1) (drop at v) = h.0 ∙ ap (λ (k : ℕ). take (length p.1) (drop k v)) (eqb-true p.0 at same) in
@@ -86,5 +151,28 @@ joined_from v at (p ∷ ps) x h e = by (p.0 == at) refl (joined (at + length p.1
     by true same None q e later = nothing_there x e
     by false same o q e later = nothing_there x e
 
-pub joined_is : (v : List ℕ) (ps : List (ℕ × List ℕ)) (x : List ℕ) → AreParts v ps → joined 0 (length v) ps ≡ Some x → x ≡ v
-joined_is v ps x h e = joined_from v 0 ps x h e
+-- they come to as many bytes as they are to
+joined_count : (at size : ℕ) (ps : List (ℕ × List ℕ)) (x : List ℕ) → joined at size ps ≡ Some x → at + length x ≡ size
+joined_count at size [] x e = by (at == size) refl e
+  where
+    by : (b : Bool) → (at == size) ≡ b → cond b (Some []) None ≡ Some x → at + length x ≡ size
+    by true same e = let n = ap (λ (l : List ℕ). length l) (some_is [] x e) in let s = eqb-true at size same in omega (arith, n, s)
+    by false same e = nothing_there x e
+joined_count at size (p ∷ ps) x e = by (p.0 == at) (joined (at + length p.1) size ps) refl e (joined_count (at + length p.1) size ps)
+  where
+    by : (b : Bool) (o : Option (List ℕ)) → joined (at + length p.1) size ps ≡ o → cond b (option_map (λ bytes. p.1 ++ bytes) o) None ≡ Some x → ((x : List ℕ) → joined (at + length p.1) size ps ≡ Some x → at + length p.1 + length x ≡ size) → at + length x ≡ size
+    by true (Some rest) q e later =
+        let a = later rest q in
+        let n = ap (λ (l : List ℕ). length l) (sym (some_is (p.1 ++ rest) x e)) in
+        let m = length-append p.1 rest in
+        omega (arith, a, n, m)
+    by true None q e later = nothing_there x e
+    by false o q e later = nothing_there x e
+
+-- and are the content, if they have as many bytes
+pub joined_is : (hashed : List (List ℕ)) (v : List ℕ) (ps : List (ℕ × List ℕ)) (x : List ℕ) → AreParts hashed v ps → joined 0 (length v) ps ≡ Some x → (length v ≡ length x) × ((x ≡ v) ⊎ Collides hashed)
+joined_is hashed v ps x h e = ((let n = joined_count 0 (length v) ps x e in omega (arith, n)), by (parts_exact hashed v ps h))
+  where
+    by : AreExact v ps ⊎ Collides hashed → (x ≡ v) ⊎ Collides hashed
+    by (inl all) = inl (joined_from v 0 ps x all e)
+    by (inr c) = inr c

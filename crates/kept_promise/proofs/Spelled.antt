@@ -4,13 +4,13 @@ use Rattle.std.proofs.lemmas.List.Elements.{All-take, All-filter}
 use Rattle.sha1.specs.Sha1.{sha1, digest_bytes}
 use Rattle.xdr_codec.specs.Attr.{attr_form, kind_form, time_form}
 use Rattle.xdr_codec.specs.Xdr.{u32_form, u64_form, bool_form, bool_fits, fixed_form, count_form}
-use Rattle.hash_calls.specs.Calls.{hashes_form, pair_form, new_temp_form, temp_piece_form, cond_piece_form, commit_form, committed_form}
+use Rattle.hash_calls.specs.Calls.{hashes_form, leased_form, pair_form, new_temp_form, temp_piece_form, cond_piece_form, commit_form, committed_form}
 use Rattle.hash_calls.specs.Calls.{range_form as hash_range_form}
 use Rattle.nfs3_calls.specs.Calls.{piece_form, range_form}
 use Rattle.wire.proofs.Sizes.{small_fits}
 use Rattle.server_core.specs.Answers.{time_of}
-use Rattle.kept_promise.proofs.Common.{All, slice_get, filter, All-nil, All-cons, All-map, chunks_of, chunk_bytes, Chunk, handle_bytes, Done, Failed, HashRange, Range, MessageFits, IsExpected, meets, told_chunks, pair_of, is_end, hashes_of, piece_of, attr_of, File, server_waiting, Call, Call.Hash, Call.Read, Call.Make, Call.Name, Call.Send, Call.Commit, Reply, Reply.Hashed, Reply.Bytes, Reply.Made, Reply.Named, Reply.Stored, Reply.Changed, call_message, told_message}
-use Rattle.kept_promise.proofs.Statements.{CallFits, CallsFit, FileFits, HashAnswersFit, ReadAnswersFit, IsPlain, PlainAnswersFit, AreInRow}
+use Rattle.kept_promise.proofs.Common.{All, slice_get, filter, All-nil, All-cons, All-map, chunks_of, chunk_bytes, Chunk, handle_bytes, Done, Failed, HashRange, Range, MessageFits, IsExpected, meets, told_chunks, pair_of, is_end, hashes_of, leased_of, piece_of, attr_of, File, server_waiting, Call, Call.Lease, Call.Hash, Call.Read, Call.Make, Call.Name, Call.Send, Call.Commit, Reply, Reply.Versioned, Reply.Hashed, Reply.Bytes, Reply.Made, Reply.Named, Reply.Stored, Reply.Changed, call_message, told_message}
+use Rattle.kept_promise.proofs.Statements.{CallFits, CallsFit, FileFits, HashAnswersFit, LeaseAnswersFit, ReadAnswersFit, IsPlain, PlainAnswersFit, AreInRow}
 use Rattle.kept_promise.proofs.Chunks.{chunks_in_row, chunks_are_named, len_map}
 
 handle_len : (name : ℕ) → length (handle_bytes name) ≡ 16
@@ -24,6 +24,7 @@ sha1_len bytes = refl
 
 call_fits : (xid : ℕ) (c : Call) → CallFits xid c → MessageFits (call_message xid c)
 unfolding hash_range_form range_form new_temp_form cond_piece_form temp_piece_form commit_form fixed_form u64_form u32_form
+call_fits xid (Lease file) f = small_fits (call_message xid (Lease file)) (f.0, (refl, (omega (arith, handle_len file), omega (arith, handle_len file)))) tt
 call_fits xid (Hash file offset) f = let o = f.2 in small_fits (call_message xid (Hash file offset)) (f.0, (refl, ((omega (arith, handle_len file), omega (arith, handle_len file)), (omega (arith, o), lit< tt)))) tt
 call_fits xid (Read file c) f = let s = f.2 in let l = f.3 in small_fits (call_message xid (Read file c)) (f.0, (refl, ((omega (arith, handle_len file), omega (arith, handle_len file)), (omega (arith, s), omega (arith, l))))) tt
 call_fits xid (Make temp file) f = small_fits (call_message xid (Make temp file)) (f.0, (refl, (f.1, (omega (arith, handle_len file), omega (arith, handle_len file))))) tt
@@ -32,6 +33,7 @@ call_fits xid (Send temp start bytes) f = let s = f.2 in let l = f.3 in small_fi
 call_fits xid (Commit temp file size) f = let s = f.3 in small_fits (call_message xid (Commit temp file size)) (f.0, (refl, (f.1, ((omega (arith, handle_len file), omega (arith, handle_len file)), omega (arith, s))))) tt
 
 call_expected : (xid : ℕ) (c : Call) → IsExpected server_waiting (call_message xid c)
+call_expected xid (Lease file) = refl
 call_expected xid (Hash file offset) = refl
 call_expected xid (Read file c) = refl
 call_expected xid (Make temp file) = refl
@@ -89,6 +91,17 @@ attr_fits f fit =
     let l = fit.2 in
     (lit< tt, (lit< tt, (lit< tt, (lit< tt, (lit< tt, (omega (arith, l), (omega (arith, l), (lit< tt, (lit< tt, (lit< tt, (fit.0, (t, (t, t)))))))))))))
 
+-- ---- GETLEASE
+
+leased_is : (f : File) → FileFits f → leased_form.Fits (leased_of f)
+unfolding leased_form u64_form u32_form
+leased_is f fit = let v = fit.1 in (attr_fits f fit, (omega (arith, v), lit< tt))
+
+pub lease_answers_fit : LeaseAnswersFit
+lease_answers_fit = λ xid g x fit. small_fits (told_message (record { xid = xid; reply = Versioned (Done (leased_of g)) })) (x, (refl, leased_is g fit)) tt
+
+-- ---- bytes of a file
+
 piece_len : (f : File) (r : Range) → length (piece_of f r).bytes ≤ 65536
 piece_len f r = let l = length-take (min r.count 65536) (drop r.offset f.content) in omega (arith, l)
 
@@ -105,6 +118,7 @@ read_answers_fit = λ xid g handle offset count x fit. small_fits (told_message 
 
 plain_fits : (xid : ℕ) (r : Reply) → xid < 2 ^ 32 → IsPlain r → MessageFits (told_message (record { xid = xid; reply = r }))
 unfolding committed_form u64_form u32_form
+plain_fits xid (Versioned (Failed s u)) x plain = small_fits (told_message (record { xid = xid; reply = Versioned (Failed s u) })) (x, (refl, refl)) tt
 plain_fits xid (Hashed (Failed s u)) x plain = small_fits (told_message (record { xid = xid; reply = Hashed (Failed s u) })) (x, (refl, refl)) tt
 plain_fits xid (Bytes (Failed s None)) x plain = small_fits (told_message (record { xid = xid; reply = Bytes (Failed s None) })) (x, (refl, (bool_fits false, refl))) tt
 plain_fits xid (Made (Done u)) x plain = small_fits (told_message (record { xid = xid; reply = Made (Done u) })) (x, (refl, refl)) tt

@@ -1,7 +1,7 @@
 -- Statements that parts of the law show of chunk lists, of what fits a record, of deliveries, of streams and of the clocks, as types.
 use Rattle.std.proofs.Common.{◌≡◌, ℕ, suc, ◌+◌, ◌^◌, ◌<◌, ◌≤◌, List, [], ◌∷◌, ◌++◌, length, map, take, drop, Option, Some, None, Ok, Bool, true, false}
 use Rattle.temp_files.specs.Pieces as piece_rules
-use Rattle.kept_promise.proofs.Common.{nat_le, All, slice_get, insert_entry, nat_cmp, sha1, Unread, fed, stream, chunks_of, chunk_bytes, end_of, Chunk, Done, Failed, MessageFits, IsExpected, told_chunks, pair_of, is_end, hashes_of, piece_of, piece_bytes, File, with_pairs, broken_of, slots_bytes, Fetch, World, server_waiting, up_some, down_some, KeepsClocks, run, accepted, Call, Call.Hash, Call.Read, Call.Make, Call.Name, Call.Send, Call.Commit, Reply, Reply.Hashed, Reply.Bytes, Reply.Made, Reply.Named, Reply.Stored, Reply.Changed, call_message, told_message}
+use Rattle.kept_promise.proofs.Common.{nat_le, All, slice_get, insert_entry, nat_cmp, sha1, Unread, fed, stream, chunks_of, chunk_bytes, end_of, Chunk, Done, Failed, MessageFits, IsExpected, told_chunks, pair_of, is_end, hashes_of, leased_of, piece_of, piece_bytes, File, with_pairs, broken_of, slots_bytes, Fetch, World, server_waiting, up_some, down_some, KeepsClocks, run, accepted, Call, Call.Lease, Call.Hash, Call.Read, Call.Make, Call.Name, Call.Send, Call.Commit, Reply, Reply.Versioned, Reply.Hashed, Reply.Bytes, Reply.Made, Reply.Named, Reply.Stored, Reply.Changed, call_message, told_message}
 
 -- ---- chunk lists
 
@@ -51,6 +51,12 @@ abbrev pub PiecesOf : List ℕ → (Chunk → Bool) → List Chunk → List (ℕ
 PiecesOf x has [] = []
 PiecesOf x has (c ∷ cs) = elim (has c) [ true ↦ (c.start, chunk_bytes x c) ∷ PiecesOf x has cs | false ↦ PiecesOf x has cs ]
 
+-- pieces at the same places, of the same lengths
+abbrev pub SameShape : List (ℕ × List ℕ) → List (ℕ × List ℕ) → Type 0
+SameShape [] [] = Unit {0}
+SameShape (p ∷ ps) (q ∷ qs) = (p.0 ≡ q.0) × (length p.1 ≡ length q.1) × SameShape ps qs
+SameShape ps qs = ⊥
+
 abbrev pub PiecesAreWhole : Type 0
 PiecesAreWhole = (x : List ℕ) → piece_rules.joined 0 (length x) (PiecesOf x (λ c. true) (chunks_of x)) ≡ Some x
 
@@ -63,6 +69,7 @@ PieceGoesIn = (x : List ℕ) (has more : Chunk → Bool) (j : ℕ) (c : Chunk) �
 
 -- what a call's numbers need to have a record
 abbrev pub CallFits : (xid : ℕ) → Call → Type 0
+CallFits xid (Lease file) = (xid < 2 ^ 32) × (file < 2 ^ 64)
 CallFits xid (Hash file offset) = (xid < 2 ^ 32) × (file < 2 ^ 64) × (offset ≤ 67108864)
 CallFits xid (Read file c) = (xid < 2 ^ 32) × (file < 2 ^ 64) × (c.start ≤ 67108864) × (c.len ≤ 65536)
 CallFits xid (Make temp file) = (xid < 2 ^ 32) × (temp < 2 ^ 32) × (file < 2 ^ 64)
@@ -80,11 +87,15 @@ FileFits g = (g.id < 2 ^ 64) × (g.version < 2 ^ 32) × (length g.content ≤ 67
 abbrev pub HashAnswersFit : Type 0
 HashAnswersFit = (xid : ℕ) (g : File) (handle : List ℕ) (offset : ℕ) → xid < 2 ^ 32 → FileFits g → MessageFits (told_message (record { xid = xid; reply = Hashed (Done (hashes_of g (record { handle = handle; offset = offset; count = 4294967295 }))) }))
 
+abbrev pub LeaseAnswersFit : Type 0
+LeaseAnswersFit = (xid : ℕ) (g : File) → xid < 2 ^ 32 → FileFits g → MessageFits (told_message (record { xid = xid; reply = Versioned (Done (leased_of g)) }))
+
 abbrev pub ReadAnswersFit : Type 0
 ReadAnswersFit = (xid : ℕ) (g : File) (handle : List ℕ) (offset count : ℕ) → xid < 2 ^ 32 → FileFits g → MessageFits (told_message (record { xid = xid; reply = Bytes (Done (piece_of g (record { handle = handle; offset = offset; count = count }))) }))
 
 -- all other answers: refusals, and those that have nothing to tell but a version
 abbrev pub IsPlain : Reply → Type 0
+IsPlain (Versioned (Failed s u)) = Unit {0}
 IsPlain (Hashed (Failed s u)) = Unit {0}
 IsPlain (Bytes (Failed s None)) = Unit {0}
 IsPlain (Made a) = Unit {0}

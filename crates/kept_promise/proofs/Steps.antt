@@ -5,19 +5,19 @@ use Rattle.open_close.specs.declared.task.Stage.TheVariants as stage
 use Rattle.register_model.specs.declared.op.Outcome.{Outcome}
 use Rattle.register_model.specs.declared.op.Outcome.TheVariants as told
 use Rattle.register_model.specs.declared.op.Word.TheVariants as words
-use Rattle.kept_promise.proofs.Common.{nat_tests, slice_get, slice_set, nat_le, Chunk, Answer, Done, Failed, Attr, Piece, Pending, Change, Fetch, Local, Stage, content_of, Op, Traffic, TakenCall, Core, Seat, Session, numbered, unless, Book, Call, Call.Hash, Call.Read, Call.Commit, Reply, Reply.Hashed, Reply.Bytes, Reply.Changed, Ask, Told, Queue, reply_program}
+use Rattle.kept_promise.proofs.Common.{nat_tests, slice_get, slice_set, nat_le, Chunk, Answer, Done, Failed, Attr, Piece, Pending, Change, Fetch, Local, Stage, content_of, Op, Traffic, TakenCall, Core, Seat, Session, numbered, unless, hashed_of, Book, Entries, Indexed, Call, Call.Lease, Call.Hash, Call.Read, Call.Commit, Reply, Reply.Versioned, Reply.Hashed, Reply.Bytes, Reply.Changed, Ask, Told, Queue, reply_program}
 use Rattle.kept_promise.proofs.Statements.{CallFits}
 use Rattle.kept_promise.proofs.Lists.{some_is, nothing_there, same_or_not, of_replaced, at_replaced, false_and_true}
 use Rattle.kept_promise.proofs.Keys.{times, times_append, own, on_way, ask_key, change_key, told_key, pending_key, found_by, there_by, key_xid}
 use Rattle.kept_promise.proofs.Messages.{Job, job, stage_word, AllAsks, AllTolds, Rising, hash_offset, read_chunk, CallOf, IsAsked, AnswerOf, IsAnswer, Trying, FetchOf, ReadTold, CommitOf, IsCommit, IsPiece, TempUnder, CloseOf}
 use Rattle.kept_promise.proofs.Rights.{Caused, IsRight, IsSound}
 use Rattle.kept_promise.proofs.History.{Goes, onward, Becomes, goes_becomes, still_becomes}
-use Rattle.kept_promise.proofs.Later.{all_asks, answer_later, trying_later, close_later, commit_later, fetch_of_later, Spares}
+use Rattle.kept_promise.proofs.Later.{all_asks, cached_later, answer_later, trying_later, close_later, commit_later, fetch_of_later, Spares}
 use Rattle.kept_promise.proofs.Turns.{Around, turned_core}
 use Rattle.kept_promise.proofs.Orderly.{Orderly}
 use Rattle.kept_promise.proofs.Ordered.{AllFetching, none_free, orderly_later}
 use Rattle.kept_promise.proofs.OrderSteps.{EndsAt, orderly_ends, free_on}
-use Rattle.kept_promise.proofs.Facts.{IsBalanced, IsSession, IsOf, HasXids, IsKept, commits_in}
+use Rattle.kept_promise.proofs.Facts.{Cached, IsBalanced, IsSession, IsOf, HasXids, IsKept, commits_in}
 use Rattle.kept_promise.proofs.Heard.{Moves, rising_to, put_up, kept_heard}
 
 -- ---- an operation that goes on
@@ -61,6 +61,7 @@ goes_counting book i j tr of sound = goes_becomes book 1 None None j.place of.op
 
 -- what a new stage waits for with an old xid it waited for before
 pub record Again (next : ℕ) (j : Job) (s : Stage) : Type 0 where
+  pub lease : (y : ℕ) → y < next → s ≡ stage.Asking y → ⊥
   pub hash : (y o : ℕ) → y < next → hash_offset s y ≡ Some o → ⊥
   pub commit : (y : ℕ) → y < next → s ≡ stage.Committing y → ⊥
   pub read : (y : ℕ) (c : Chunk) (f : Fetch) → y < next → s ≡ stage.Reading f → read_chunk s y ≡ Some c → (g : Fetch) × (j.stage ≡ stage.Reading g) × (read_chunk j.stage y ≡ Some c) × (g.first ≡ f.first)
@@ -69,6 +70,7 @@ abbrev pub on : Job → Stage → Job
 on j s = record { place = j.place; file = j.file; stage = s }
 
 call_anew : (next : ℕ) (j : Job) (s : Stage) (y : ℕ) (c : Call) → Again next j s → y < next → CallOf (Some j) y c → CallOf (Some (on j s)) y c
+call_anew next j s y (Lease g) again lt old = λ i e w. absurd (again.lease y lt (ap (λ (z : Job). z.stage) (some_is (on j s) i e) ∙ w))
 call_anew next j s y (Hash g o) again lt old = λ i p e w. absurd (again.hash y p lt (subst (λ (z : Job). hash_offset z.stage y ≡ Some p) (sym (some_is (on j s) i e)) w))
 call_anew next j s y (Read g d) again lt old = λ i p e w.
     let same = some_is (on j s) i e in
@@ -76,18 +78,15 @@ call_anew next j s y (Read g d) again lt old = λ i p e w.
   where
     by : (r : Stage) → s ≡ r → (p : Chunk) → read_chunk s y ≡ Some p → {i : ℕ} → j.file ≡ i → (i ≡ g) × (p ≡ d)
     by (stage.Reading f) at p w {i} file = let o = again.read y p f lt at w in let z = old j p refl o.2 in (sym file ∙ z.0, z.1)
-    by (stage.Hashing tries z) at p w file = nothing_there p (sym (ap (λ (v : Stage). read_chunk v y) at) ∙ w)
-    by (stage.Listing z f) at p w file = nothing_there p (sym (ap (λ (v : Stage). read_chunk v y) at) ∙ w)
-    by (stage.Making z temp) at p w file = nothing_there p (sym (ap (λ (v : Stage). read_chunk v y) at) ∙ w)
-    by (stage.Storing st) at p w file = nothing_there p (sym (ap (λ (v : Stage). read_chunk v y) at) ∙ w)
-    by (stage.Committing z) at p w file = nothing_there p (sym (ap (λ (v : Stage). read_chunk v y) at) ∙ w)
+    by r at p w file = nothing_there p (sym (ap (λ (v : Stage). read_chunk v y) at) ∙ w)
 call_anew next j s y _ again lt old = tt
 
 read_on : (book : Book) (taken : List TakenCall) (j : Job) (s : Stage) (first : ℕ) (c : Chunk) (a : Answer Piece (Option Attr)) → ReadTold book taken j first c a → ReadTold book taken (on j s) first c a
 read_on book taken j s first c (Failed u a) h = h
-read_on book taken j s first c (Done p) h = record { file = h.file; is = h.is; began = h.began; was = h.was; last = h.last; order = h.order; past = h.past; value = h.value; version_is = h.version_is }
+read_on book taken j s first c (Done p) h = record { file = h.file; is = h.is; held = h.held; began = h.began; was = h.was; last = h.last; order = h.order; past = h.past; version_is = h.version_is }
 
 answer_anew : (book : Book) (taken : List TakenCall) (closing : Option ℕ) (next : ℕ) (j : Job) (s : Stage) (y : ℕ) (r : Reply) → Again next j s → y < next → AnswerOf book taken closing (Some j) y r → AnswerOf book taken closing (Some (on j s)) y r
+answer_anew book taken closing next j s y (Versioned a) again lt old = λ i e w. absurd (again.lease y lt (ap (λ (z : Job). z.stage) (some_is (on j s) i e) ∙ w))
 answer_anew book taken closing next j s y (Hashed a) again lt old = λ i p e w. absurd (again.hash y p lt (subst (λ (z : Job). hash_offset z.stage y ≡ Some p) (sym (some_is (on j s) i e)) w))
 answer_anew book taken closing next j s y (Changed a) again lt old = λ i e w. absurd (again.commit y lt (ap (λ (z : Job). z.stage) (some_is (on j s) i e) ∙ w))
 answer_anew book taken closing next j s y (Bytes a) again lt old = λ i f c e at w.
@@ -168,18 +167,18 @@ pub record Quiet (k : Core) (n : ℕ) (q : Queue) : Type 0 where
   pub ups : commits_in q.ups ≡ 0
   pub waiting : own n k.server.waiting ≡ []
 
-abbrev pub gone_on : client.State → (file next : ℕ) → Stage → List Pending → client.State
-gone_on c file next s forgotten = record c { next = next; task = Some (record { file = file; stage = s }); forgotten = forgotten }
+abbrev pub gone_on : client.State → (file next : ℕ) → Stage → List Pending → Entries → Indexed → client.State
+gone_on c file next s forgotten cache index = record c { next = next; task = Some (record { file = file; stage = s }); forgotten = forgotten; cache = cache; index = index }
 
 -- what else is on its way of closes is in order then
 abbrev pub GoesInOrder : (book : Book) (k : Core) (qs : List Queue) (n : ℕ) (x : Session) (q : Queue) (t : Told) (ts : List Told) (j : Job) (g : Here book k qs n x q t ts j) (s : Stage) (next : ℕ) (forgotten : List Pending) (asks : List Ask) → Type 0
-GoesInOrder book k qs n x q t ts j g s next forgotten asks = Orderly book n k.server.temps x.hung (record { ups = unless x.hung q.ups asks; downs = ts }) (record (session_at book k qs n x q t ts j g).seat { client = gone_on (session_at book k qs n x q t ts j g).seat.client j.file next s forgotten; place = Some j.place })
+GoesInOrder book k qs n x q t ts j g s next forgotten asks = (cache : Entries) (index : Indexed) → Orderly book n k.server.temps x.hung (record { ups = unless x.hung q.ups asks; downs = ts }) (record (session_at book k qs n x q t ts j g).seat { client = gone_on (session_at book k qs n x q t ts j g).seat.client j.file next s forgotten cache index; place = Some j.place })
 
 -- an open that goes on has nothing of a close on its way
 pub opens_in_order : (book : Book) (k : Core) (qs : List Queue) (n : ℕ) (x : Session) (q : Queue) (t : Told) (ts : List Told) (j : Job) (g : Here book k qs n x q t ts j) (s : Stage) (next : ℕ) (forgotten : List Pending) (asks : List Ask) → stage_word j.stage ≡ words.Open → stage_word s ≡ words.Open → AllFetching asks → GoesInOrder book k qs n x q t ts j g s next forgotten asks
-opens_in_order book k qs n x q t ts j g s next forgotten asks was is fetch =
+opens_in_order book k qs n x q t ts j g s next forgotten asks was is fetch cache index =
     let h = session_at book k qs n x q t ts j g in
-    let d : Seat = record h.seat { client = gone_on h.seat.client j.file next s forgotten; place = Some j.place } in
+    let d : Seat = record h.seat { client = gone_on h.seat.client j.file next s forgotten cache index; place = Some j.place } in
     orderly_ends book book n k.server.temps k.server.waiting q x.hung h.seat.client.next (client.calls_of h.seat.client) t ts h.seat d j asks (h.talk g.uncut).balanced g.first g.job_is (inl was) (h.orderly g.uncut) (free_on d (on j s) refl is) fetch
 
 -- what a job that goes on to this stage has to show, once it sent these calls
@@ -192,7 +191,7 @@ pub record GoesOn (book : Book) (k : Core) (qs : List Queue) (n : ℕ) (x : Sess
   pub asked : AllAsks (IsAsked (Some (on j s))) asks
   pub fits : AllAsks (λ a. CallFits a.xid a.call) asks
   pub commits : AllAsks (IsCommit book x.closing x.cut (Some (on j s)) (session_at book k qs n x q t ts j g).contents) asks
-  pub pieces : AllAsks (IsPiece (session_at book k qs n x q t ts j g).contents) asks
+  pub pieces : AllAsks (IsPiece (hashed_of book.moments) (session_at book k qs n x q t ts j g).contents) asks
   pub under : AllAsks (λ a. TempUnder (session_at book k qs n x q t ts j g).seat.client.next_temp a.call) asks
   pub few : commits_in asks ≤ 1
   pub fetch : FetchOf book x.taken (on j s) s
@@ -203,15 +202,15 @@ pub record GoesOn (book : Book) (k : Core) (qs : List Queue) (n : ℕ) (x : Sess
   pub bounded : next ≤ 4294967296
   pub orderly : GoesInOrder book k qs n x q t ts j g s next forgotten asks
 
-pub kept_goes : (book : Book) (k : Core) (qs : List Queue) (n : ℕ) (x : Session) (q : Queue) (t : Told) (ts : List Told) (j : Job) (g : Here book k qs n x q t ts j) (s : Stage) (next : ℕ) (forgotten : List Pending) (asks : List Ask) (tr : Traffic) (seats : List Seat) (after : List Queue) → GoesOn book k qs n x q t ts j g s next forgotten asks
+pub kept_goes : (book : Book) (k : Core) (qs : List Queue) (n : ℕ) (x : Session) (q : Queue) (t : Told) (ts : List Told) (j : Job) (g : Here book k qs n x q t ts j) (s : Stage) (next : ℕ) (forgotten : List Pending) (asks : List Ask) (cache : Entries) (index : Indexed) (tr : Traffic) (seats : List Seat) (after : List Queue) → GoesOn book k qs n x q t ts j g s next forgotten asks → Cached book cache
     → (let h = session_at book k qs n x q t ts j g in
-    let c = gone_on h.seat.client j.file next s forgotten in
+    let c = gone_on h.seat.client j.file next s forgotten cache index in
     let of = job_op book k qs x h.seat j g.kept h.owner g.job_is in
     let ops = slice_set book.ops j.place (counting of.op tr) in
     Around k.seats seats x.owner (record h.seat { client = c; place = Some j.place }) → Around qs after n (put_up q x.hung asks ts) → IsKept (onward book 1 ops) (turned_core (onward book 1 ops) k.server seats k.sessions) after)
-kept_goes book k qs n x q t ts j g s next forgotten asks tr seats after w around queues =
+kept_goes book k qs n x q t ts j g s next forgotten asks cache index tr seats after w cached around queues =
     let h = session_at book k qs n x q t ts j g in
-    let c = gone_on h.seat.client j.file next s forgotten in
+    let c = gone_on h.seat.client j.file next s forgotten cache index in
     let of = job_op book k qs x h.seat j g.kept h.owner g.job_is in
     let ops = slice_set book.ops j.place (counting of.op tr) in
     let more = onward book 1 ops in
@@ -255,8 +254,9 @@ kept_goes book k qs n x q t ts j g s next forgotten asks tr seats after w around
         xids = λ i f. subst (λ (z : Job). HasXids next z.stage) (some_is (on j s) i f) w.xids;
         next = (w.bounded, let a = seat_was.next.1 in let b = rising_to h.seat.client.next asks next w.rising in omega (arith, a, b));
         opened = seat_was.opened;
+        kept = cached_later book more None None cache goes.grows cached;
       };
-      orderly = orderly_later book more None None n k.server.temps k.server.temps x.hung (record { ups = unless x.hung q.ups asks; downs = ts }) (record h.seat { client = c; place = Some j.place }) goes.grows (λ m lt. refl) w.orderly;
+      orderly = orderly_later book more None None n k.server.temps k.server.temps x.hung (record { ups = unless x.hung q.ups asks; downs = ts }) (record h.seat { client = c; place = Some j.place }) goes.grows (λ m lt. refl) (w.orderly cache index);
       running = λ others round p o at run. elim (of_replaced book.ops j.place (counting of.op tr) p o at) [
         | inl here ↦ (record h.seat { client = c; place = Some j.place }, on j s, ap (λ (z : Op). numbered others z.client) here.1 ∙ ap (numbered others) of.client ∙ round.there, refl, sym here.0)
         | inr there ↦
@@ -278,6 +278,7 @@ asked_none [] = tt
 asked_none (a ∷ us) = (by a.call, asked_none us)
   where
     by : (c : Call) → CallOf None a.xid c
+    by (Lease g) = λ j e. nothing_there j e
     by (Hash g o) = λ j p e. nothing_there j e
     by (Read g d) = λ j p e. nothing_there j e
     by _ = tt
@@ -287,13 +288,14 @@ answers_none book taken closing [] = tt
 answers_none book taken closing (t ∷ ts) = (by t.reply, answers_none book taken closing ts)
   where
     by : (r : Reply) → AnswerOf book taken closing None t.xid r
+    by (Versioned a) = λ j e. nothing_there j e
     by (Hashed a) = λ j o e. nothing_there j e
     by (Bytes a) = λ j f c e. nothing_there j e
     by (Changed a) = λ j e. nothing_there j e
     by _ = tt
 
-abbrev pub stopped : client.State → (opened : List (ℕ × Local)) → List Pending → client.State
-stopped c opened forgotten = record c { task = None; opened = opened; forgotten = forgotten }
+abbrev pub stopped : client.State → (opened : List (ℕ × Local)) → List Pending → Entries → Indexed → client.State
+stopped c opened forgotten cache index = record c { task = None; opened = opened; forgotten = forgotten; cache = cache; index = index }
 
 -- what a job that ends has to show, whose operation becomes this
 pub record Stops (book : Book) (k : Core) (qs : List Queue) (n : ℕ) (x : Session) (q : Queue) (t : Told) (ts : List Told) (j : Job) (g : Here book k qs n x q t ts j) (r : Op) (made : Option ℕ) (opened : List (ℕ × Local)) (forgotten : List Pending) : Type 0 where
@@ -306,13 +308,13 @@ pub record Stops (book : Book) (k : Core) (qs : List Queue) (n : ℕ) (x : Sessi
   pub made_here : (p : ℕ) → made ≡ Some p → x.closing ≡ Some p
   pub opened_ok : (f : ℕ) (l : Local) → client.local_at opened f ≡ Some l → IsSome (content_of book.opening f) × (length l.bytes ≤ 67108864)
 
-pub kept_stops : (book : Book) (k : Core) (qs : List Queue) (n : ℕ) (x : Session) (q : Queue) (t : Told) (ts : List Told) (j : Job) (g : Here book k qs n x q t ts j) (r : Op) (made : Option ℕ) (opened : List (ℕ × Local)) (forgotten : List Pending) (seats : List Seat) (after : List Queue) → Stops book k qs n x q t ts j g r made opened forgotten
+pub kept_stops : (book : Book) (k : Core) (qs : List Queue) (n : ℕ) (x : Session) (q : Queue) (t : Told) (ts : List Told) (j : Job) (g : Here book k qs n x q t ts j) (r : Op) (made : Option ℕ) (opened : List (ℕ × Local)) (forgotten : List Pending) (cache : Entries) (index : Indexed) (seats : List Seat) (after : List Queue) → Stops book k qs n x q t ts j g r made opened forgotten → Cached (onward book 1 (slice_set book.ops j.place r)) cache
     → (let h = session_at book k qs n x q t ts j g in
     let ops = slice_set book.ops j.place r in
-    Around k.seats seats x.owner (record h.seat { client = stopped h.seat.client opened forgotten; place = None }) → Around qs after n (put_up q x.hung [] ts) → IsKept (onward book 1 ops) (turned_core (onward book 1 ops) k.server seats k.sessions) after)
-kept_stops book k qs n x q t ts j g r made opened forgotten seats after w around queues =
+    Around k.seats seats x.owner (record h.seat { client = stopped h.seat.client opened forgotten cache index; place = None }) → Around qs after n (put_up q x.hung [] ts) → IsKept (onward book 1 ops) (turned_core (onward book 1 ops) k.server seats k.sessions) after)
+kept_stops book k qs n x q t ts j g r made opened forgotten cache index seats after w cached around queues =
     let h = session_at book k qs n x q t ts j g in
-    let c = stopped h.seat.client opened forgotten in
+    let c = stopped h.seat.client opened forgotten cache index in
     let of = job_op book k qs x h.seat j g.kept h.owner g.job_is in
     let ops = slice_set book.ops j.place r in
     let more = onward book 1 ops in
@@ -350,6 +352,7 @@ kept_stops book k qs n x q t ts j g r made opened forgotten seats after w around
         xids = λ i f. nothing_there i f;
         next = seat_was.next;
         opened = w.opened_ok;
+        kept = cached;
       };
       orderly = orderly_ends book more n k.server.temps k.server.waiting q x.hung h.seat.client.next (client.calls_of h.seat.client) t ts h.seat (record h.seat { client = c; place = None }) j [] (h.talk g.uncut).balanced g.first g.job_is w.over (h.orderly g.uncut) (none_free None refl) tt;
       running = λ others round p o at run. elim (of_replaced book.ops j.place r p o at) [

@@ -73,6 +73,7 @@ pub carried_count : Carried (λ all past opening k qs. AreCounted 0 past k.steps
 carried_count = record {
   first = λ all opening files changes count kept. refl;
   steps = λ all past rest opening k qs e mid after s h. count_more 0 k.steps (happens k e).core.steps past (moment k e) h refl (happens_count all past rest opening k qs e mid after s);
+  adjusts = λ all past opening k qs index seats same h. h;
 }
 
 pub steps_counted : KeptLaws → FitLaws → (input : List ℕ) (w : World) → run input ≡ Ok w → AreCounted 0 (moments input) w.core.steps

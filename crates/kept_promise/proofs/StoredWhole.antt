@@ -1,46 +1,49 @@
--- A run carries that each COMMITTMP on its way, and each change that waits, is of a close that named and sent all of its content.
+-- A run carries that each COMMITTMP on its way, and each change that waits, is of a close that sent it; and what closes stored by that.
 use Rattle.std.proofs.Common.{◌⊎◌, inl, inr, ◌≡◌, ℕ, ◌+◌, ◌<◌, List, [], ◌∷◌, ◌++◌, length, Option, Some, None, Result, Ok, Err, Bool, true, false, refl, sym, ap, ◌∙◌, subst, arith}
+use Rattle.hash_calls.specs.declared.message.Lb.TheVariants as lb
+use Rattle.nfs3_calls.specs.declared.message.Nfs.TheVariants as nfs
+use Rattle.wire.specs.declared.message.Body.TheVariants as body
+use Rattle.wire.specs.declared.message.Message.TheVariants as message
 use Rattle.server_core.specs.State as server
 use Rattle.server_core.specs.declared.event.Event.TheVariants as event
 use Rattle.server_core.specs.declared.event.Told.{Told as Announced}
 use Rattle.server_core.specs.declared.event.Told.TheVariants as announced
 use Rattle.open_close.specs.State as client
 use Rattle.open_close.specs.declared.task.Stage.TheVariants as stage
+use Rattle.register_model.specs.declared.op.Outcome.{Outcome as History}
 use Rattle.register_model.specs.declared.op.Word.TheVariants as words
 use Rattle.trace_replay.specs.Core.{taken_of as session_taken}
-use Rattle.kept_promise.proofs.Common.{slice_get, slice_set, server_step, Change, command_step, got_step, cut, ClientStep, Ended, Outcome, changes, Op, Opening, Word, TakenCall, word_of, file_of, value_at_begin, has_point, point_if, begun, op_after, Core, Seat, Session, Event, Event.Joins, Event.Does, Event.Serves, Event.Hears, Event.Settles, Event.Cuts, Event.Hangs, CoreStep, numbered, server_waiting, serves_if, serves, session_of, ops_after, ops_with, does, joins_as, joins, cuts_if, cuts, hangs_if, hangs, happens, Moment, sent_in, sent_of, SentCommit, Book, parse_of, WireFault, Message, Call, Call.Commit, Ask, Queue}
+use Rattle.trace_replay.specs.Trail.{taken_of}
+use Rattle.trace_replay.specs.Traffic.{traffic_of, commit_number, commits_in as commits_said, AreOwn, IsFetchCall}
+use Rattle.kept_promise.proofs.Common.{slice_get, slice_set, server_step, Change, command_step, got_step, cut, ClientStep, Ended, Outcome, changes, Op, Opening, Word, TakenCall, word_of, file_of, value_at_begin, has_point, point_if, begun, op_after, Core, Seat, Session, Event, Event.Joins, Event.Does, Event.Serves, Event.Hears, Event.Settles, Event.Cuts, Event.Hangs, CoreStep, numbered, server_waiting, serves_if, serves, session_of, ops_after, ops_with, does, joins_as, joins, cuts_if, cuts, hangs_if, hangs, happens, Moment, sent_in, sent_of, SentCommit, Book, parse_of, WireFault, Message, Call, Call.Commit, Ask, Queue, Contains-append_left, Said, Deal, Deal.Took, Deal.Found, Deal.Sent, deals_of, stored_traffic}
 use Rattle.kept_promise.proofs.Lists.{some_is, nothing_there, within, at_replaced, of_replaced, else_replaced, of_appended, kept_appended}
 use Rattle.kept_promise.proofs.Keys.{own}
-use Rattle.kept_promise.proofs.Messages.{job, AllAsks, AllTolds, IsCommit, CommitOf, IsPending}
+use Rattle.kept_promise.proofs.Messages.{job, AllAsks, IsCommit, CommitOf, IsPending}
 use Rattle.kept_promise.proofs.History.{closes_alone}
 use Rattle.kept_promise.proofs.Fits.{FitLaws}
 use Rattle.kept_promise.proofs.Turns.{also_numbered}
 use Rattle.kept_promise.proofs.Facts.{IsKept, IsSession, commits_in}
 use Rattle.kept_promise.proofs.RunsCarried.{book_at, moment, Step, Carried}
-use Rattle.kept_promise.proofs.Counted.{AlikeUpTo, running_past}
+use Rattle.kept_promise.proofs.Counted.{AlikeUpTo, SaidBy, said_by, running_past}
 use Rattle.kept_promise.proofs.CountedRuns.{CountedAt, carried_counts, sent_more}
 use Rattle.kept_promise.proofs.Actors.{acts_alone, heard_at}
 use Rattle.kept_promise.proofs.VersionRuns.{Remembers, settled_are}
 use Rattle.kept_promise.proofs.Promised.{HaveStored}
-use Rattle.kept_promise.proofs.QueuedCommits.{FailsNamed, Fails, carried_fails}
 use Rattle.kept_promise.proofs.LeftCommits.{commits_left}
-use Rattle.kept_promise.proofs.StoredRuns.{AreStored, commit_more, commit_kept}
-use Rattle.kept_promise.proofs.StoredEvents.{StoredAt, StoredBy, stored_joins, stored_does, stored_serves, stored_hears, stored_settles, stored_cuts, stored_hangs}
+use Rattle.kept_promise.proofs.LogEvents.{LogsAt, carried_logs}
+use Rattle.kept_promise.proofs.LogSums.{commit_log, log_commit}
+use Rattle.kept_promise.proofs.ClosesLog.{ClosesBy, CloseNamed, closes_laws, stores_all}
+use Rattle.kept_promise.proofs.OwnLog.{OpOwn, close_asks}
 use Rattle.kept_promise.proofs.Rights.{open_not_close}
 use Rattle.kept_promise.proofs.JobFacts.{ops_shape}
 
--- ---- any event
+-- ---- a COMMITTMP stays sent
 
-stored_event : FitLaws → (all past rest : List Moment) (opening : List Opening) (k : Core) (qs : List Queue) (e : Event) (mid after : List Queue) → Step all past rest opening k qs e mid after → CountedAt past k → Fails all past opening k qs → StoredAt past k → StoredBy past k e (happens k e)
-stored_event laws all past rest opening k qs (Joins c) mid after s counted fails h = subst (λ (o : Option Seat). StoredBy past k (Joins c) (joins k c o)) (sym s.finds.1) (let r = server_step k.server event.Connect in stored_joins past k c s.finds.0 r.0 r.1.told s.finds.1 h)
-stored_event laws all past rest opening k qs (Does c now d) mid after s counted fails h = subst (λ (o : Option Seat). StoredBy past k (Does c now d) (does k c now d o)) (sym s.finds.1) (stored_does (book_at opening k all) past k qs c now d s.finds.0 s.kept s.finds.1 counted h)
-stored_event laws all past rest opening k qs (Serves n now bytes) mid after s counted fails h = stored_serves past k n now bytes (numbered k.sessions n) h
-stored_event laws all past rest opening k qs (Hears n now bytes) mid after s counted fails h =
-    let heard = heard_at (book_at opening k all) k qs n now bytes mid s.kept s.finds in
-    stored_hears laws (book_at opening k all) (book_at opening (happens k (Hears n now bytes)).core all) past k qs after n now bytes mid s.kept heard s.left counted (subst (AllTolds (λ t. FailsNamed t.reply)) heard.first (fails n heard.queue heard.queue_is)).0 h
-stored_event laws all past rest opening k qs (Settles now) mid after s counted fails h = stored_settles (book_at opening k all) past k qs now s.kept h
-stored_event laws all past rest opening k qs (Cuts c) mid after s counted fails h = subst (λ (o : Option Seat). IsKept (book_at opening (cuts k c o).core all) (cuts k c o).core after → StoredBy past k (Cuts c) (cuts k c o)) (sym s.finds.1) (λ left. stored_cuts (book_at opening k all) (book_at opening (cuts k c (Some s.finds.0)).core all) past k qs after c s.finds.0 s.kept s.finds.1 counted h s.finds.0.client.linked left) s.left
-stored_event laws all past rest opening k qs (Hangs n) mid after s counted fails h = stored_hangs past k n (numbered k.sessions n) h
+commit_more : (o : Op) (sent more : List Said) → SentCommit o sent → SentCommit o (sent ++ more)
+commit_more o sent more (s, there, of, is) = (s, Contains-append_left sent more s there, of, is)
+
+commit_kept : (n : ℕ) (o r : Op) (sent : List Said) → AlikeUpTo n o r → SaidBy n sent → SentCommit o sent → SentCommit r sent
+commit_kept n o r sent same by (s, there, of, is) = (s, there, same s.step s.client (said_by n sent s by there) ∙ of, is)
 
 -- ---- each operation has the same part of what is past
 
@@ -133,13 +136,14 @@ on_its_way book seats k n x q h lt = by (own n k.server.waiting) refl
     by [] e = asked q.ups h.commits (let z = ap length e in omega (arith, lt, z))
 
 -- as long as the owner is there, its job tells that it has sent its COMMITTMP
-waits_here : (book : Book) (past : List Moment) (k : Core) (qs : List Queue) → IsKept book k qs → StoredAt past k → Waits past k qs false
-waits_here book past k qs kept stored = λ n p x q o at is uncut known lt there.
+waits_here : (book : Book) (past : List Moment) (k : Core) (qs : List Queue) → IsKept book k qs → LogsAt ClosesBy CloseNamed past k → Waits past k qs false
+waits_here book past k qs kept closes = λ n p x q o at is uncut known lt there.
     let h = kept.sessions n x q at is in
     let w = on_its_way book k.seats k n x q h lt in
     let pending = w.3 in
     let place : pending.place ≡ p = some_is pending.place p (sym pending.known ∙ known) in
-    elim (stored.jobs x.owner h.seat (record { place = pending.place; file = w.1; stage = stage.Committing w.0 }) o h.owner (pending.waited uncut) (ap (slice_get k.ops) place ∙ there)) [ inl did ↦ did.1 | inr yet ↦ absurd yet.1 ]
+    let one = (closes.jobs x.owner h.seat (record { place = pending.place; file = w.1; stage = stage.Committing w.0 }) o h.owner (pending.waited uncut) (ap (slice_get k.ops) place ∙ there)).commits in
+    log_commit o past (omega (arith, one))
 
 -- ---- what was made
 
@@ -243,14 +247,13 @@ came_event laws all past rest opening k qs (Hangs n) mid after s = by (numbered 
 
 pub record Stored (all past : List Moment) (opening : List Opening) (k : Core) (qs : List Queue) : Type 0 where
   pub counted : CountedAt past k
-  pub fails : Fails all past opening k qs
-  pub stored : StoredAt past k
+  pub closes : LogsAt ClosesBy CloseNamed past k
   pub waits : Waits past k qs true
   pub made : MadeAt past k
 
-waits_before : (book : Book) (past : List Moment) (k : Core) (qs : List Queue) → IsKept book k qs → StoredAt past k → Waits past k qs true → (b : Bool) → Waits past k qs b
-waits_before book past k qs kept stored waits true = waits
-waits_before book past k qs kept stored waits false = waits_here book past k qs kept stored
+waits_before : (book : Book) (past : List Moment) (k : Core) (qs : List Queue) → IsKept book k qs → LogsAt ClosesBy CloseNamed past k → Waits past k qs true → (b : Bool) → Waits past k qs b
+waits_before book past k qs kept closes waits true = waits
+waits_before book past k qs kept closes waits false = waits_here book past k qs kept closes
 
 waits_event : FitLaws → (all past rest : List Moment) (opening : List Opening) (k : Core) (qs : List Queue) (e : Event) (mid after : List Queue) → Step all past rest opening k qs e mid after → Stored all past opening k qs → Waits (past ++ moment k e ∷ []) (happens k e).core after true
 waits_event laws all past rest opening k qs e mid after s h = λ n p y r o at is is_cut known lt there.
@@ -259,7 +262,7 @@ waits_event laws all past rest opening k qs e mid after s h = λ n p y r o at is
     let q : Queue = w.1 in
     let le = w.5 in
     let old = (s.kept.sessions n x q w.2 w.3).old p (sym w.4 ∙ known) in
-    let sent = waits_before (book_at opening k all) past k qs s.kept h.stored h.waits x.cut n p x q old.0 w.2 w.3 refl (sym w.4 ∙ known) (omega (arith, le, lt)) old.1 in
+    let sent = waits_before (book_at opening k all) past k qs s.kept h.closes h.waits x.cut n p x q old.0 w.2 w.3 refl (sym w.4 ∙ known) (omega (arith, le, lt)) old.1 in
     let follows = follows_event laws all past rest opening k qs e mid after s p old.0 old.1 in
     let same : follows.0 ≡ o = some_is follows.0 o (sym follows.1 ∙ there) in
     subst (λ l. SentCommit o l) (sent_more past (moment k e)) (commit_more o (sent_of past) (sent_in (moment k e)) (subst (λ (z : Op). SentCommit z (sent_of past)) same (commit_kept k.steps old.0 follows.0 (sent_of past) follows.2 h.counted.sent_by sent)))
@@ -273,25 +276,32 @@ made_event laws all past rest opening k qs e mid after s h = λ p q r at close p
         | inr (o, there, alike, from) ↦
             let w = also_numbered k.sessions qs from.0 from.2 s.kept.made.1 from.4 in
             let lt = within (own from.0 k.server.waiting) from.1 from.3 from.6 in
-            commit_kept k.steps o r (sent_of past) alike h.counted.sent_by (waits_before (book_at opening k all) past k qs s.kept h.stored h.waits from.2.cut from.0 p from.2 w.0 o from.4 w.1 refl from.5 (omega (arith, lt)) there)
+            commit_kept k.steps o r (sent_of past) alike h.counted.sent_by (waits_before (book_at opening k all) past k qs s.kept h.closes h.waits from.2.cut from.0 p from.2 w.0 o from.4 w.1 refl from.5 (omega (arith, lt)) there)
       ]
     ]))
+
+closes_carried : FitLaws → Carried (λ all past opening k qs. LogsAt ClosesBy CloseNamed past k)
+closes_carried laws = carried_logs (λ all. ClosesBy) (λ all. CloseNamed) closes_laws laws
 
 pub carried_stored : FitLaws → Carried Stored
 carried_stored laws = record {
   first = λ all opening files changes count kept. record {
     counted = carried_counts.first all opening files changes count kept;
-    fails = (carried_fails laws).first all opening files changes count kept;
-    stored = record { jobs = λ i seat j o here is at. nothing_there o at; commits = λ p o at c. nothing_there o at };
+    closes = (closes_carried laws).first all opening files changes count kept;
     waits = λ n p x q o at is is_cut known lt there. nothing_there o there;
     made = λ p q o at close point. nothing_there o at;
   };
   steps = λ all past rest opening k qs e mid after s h. record {
     counted = carried_counts.steps all past rest opening k qs e mid after s h.counted;
-    fails = (carried_fails laws).steps all past rest opening k qs e mid after s h.fails;
-    stored = subst (λ z. AreStored z (happens k e).core.seats (happens k e).core.ops) (sent_more past (moment k e)) (stored_event laws all past rest opening k qs e mid after s h.counted h.fails h.stored);
+    closes = (closes_carried laws).steps all past rest opening k qs e mid after s h.closes;
     waits = waits_event laws all past rest opening k qs e mid after s h;
     made = made_event laws all past rest opening k qs e mid after s h;
+  };
+  adjusts = λ all past opening k qs index seats same h. record {
+    counted = carried_counts.adjusts all past opening k qs index seats same h.counted;
+    closes = (closes_carried laws).adjusts all past opening k qs index seats same h.closes;
+    waits = h.waits;
+    made = h.made;
   };
 }
 
@@ -301,7 +311,32 @@ carried_stored laws = record {
 pub made_sent : (book : Book) (all : List Moment) (opening : List Opening) (k : Core) (qs : List Queue) → IsKept book k qs → Stored all book.moments opening k qs → (i p : ℕ) (o : Op) → slice_get book.ops i ≡ Some o → changes o.word ≡ true → o.point ≡ Some p → SentCommit o (sent_of book.moments)
 made_sent book all opening k qs kept h = λ i p o at change point. h.made i p o (ap (λ (l : List Op). slice_get l i) (sym kept.ops) ∙ at) (closes_alone book kept.sound i o at change p point) point
 
-pub have_stored : (book : Book) (all past : List Moment) (opening : List Opening) (k : Core) (qs : List Queue) → IsKept book k qs → Stored all past opening k qs → HaveStored k
-have_stored book all past opening k qs kept h = λ n p i x o c at known there waiting.
+-- one that sent its COMMITTMP is a close
+open_commits : (file : ℕ) (v : List ℕ) (log : List Deal) → AreOwn words.Open file v log → commits_said log ≡ 0
+open_commits file v [] h = refl
+open_commits file v (Took m ∷ log) h = let l = open_commits file v log h in omega (arith, l)
+open_commits file v (Found z ∷ log) h = let l = open_commits file v log h in omega (arith, l)
+open_commits file v (Sent m ∷ log) h = let l = open_commits file v log h.1 in let e = by m h.0 in omega (arith, l, e)
+  where
+    by : (m : Message) → IsFetchCall file m → commit_number (Sent m) ≡ 0
+    by (message.Call xid (body.Lb (lb.GetLease handle))) own = refl
+    by (message.Call xid (body.Lb (lb.GetHash z))) own = refl
+    by (message.Call xid (body.Nfs (nfs.Read z))) own = refl
+    by m own = absurd own
+
+is_close : (w : Word) (file : ℕ) (v : List ℕ) (u : History) (log : List Deal) → OpOwn log w file v u → 0 < commits_said log → w ≡ words.Close
+is_close words.Close file v u log own some = refl
+is_close words.Open file v u log own some = let none = open_commits file v log own.0 in absurd (omega (arith, some, none))
+is_close w file v u log own some = let none = ap commits_said own.1 in absurd (omega (arith, some, none))
+
+-- and so counted a CONDWRITE for each chunk of its value, and the bytes of those that the server didn't know
+pub has_stored : (past : List Moment) (o : Op) → o.traffic ≡ traffic_of o (sent_of past) (taken_of past) → CloseNamed (deals_of o past) o.word o.file o.value o.outcome → OpOwn (deals_of o past) o.word o.file o.value o.outcome → SentCommit o (sent_of past) → o.traffic ≡ stored_traffic o.value (deals_of o past)
+has_stored past o counted named own sent =
+    let close = is_close o.word o.file o.value o.outcome (deals_of o past) own (commit_log o past sent) in
+    stores_all past o close (close_asks o.file o.value (deals_of o past) (subst (λ w. AreOwn w o.file o.value (deals_of o past)) close own.0)) named counted sent
+
+pub have_stored : (book : Book) (all past : List Moment) (opening : List Opening) (k : Core) (qs : List Queue) → IsKept book k qs → Stored all past opening k qs → ((p : ℕ) (o : Op) → slice_get k.ops p ≡ Some o → OpOwn (deals_of o past) o.word o.file o.value o.outcome) → HaveStored past k
+have_stored book all past opening k qs kept h calls = λ n p i x o c at known there waiting.
     let q = also_numbered k.sessions qs n x kept.made.1 at in
-    h.stored.commits p o there (waits_before book past k qs kept h.stored h.waits x.cut n p x q.0 o at q.1 refl known (let lt = within (own n k.server.waiting) i c waiting in omega (arith, lt)) there)
+    has_stored past o (h.counted.counts p o there) (h.closes.each p o there) (calls p o there)
+    (waits_before book past k qs kept h.closes h.waits x.cut n p x q.0 o at q.1 refl known (let lt = within (own n k.server.waiting) i c waiting in omega (arith, lt)) there)

@@ -1,11 +1,12 @@
 -- Calls that were taken: what was told of them stays so when a further one is taken.
 use Rattle.std.proofs.Common.{inl, inr, ◌≡◌, ℕ, suc, ◌+◌, ◌≤◌, List, [], ◌∷◌, ◌++◌, Option, Some, None, Bool, true, false, refl, ap, ◌∙◌, arith, eq-eqb, ne_eqb, map}
 use Rattle.std.specs.Option.{option_map}
+use Rattle.hash_calls.specs.declared.call.Leased.{Leased}
 use Rattle.open_close.specs.declared.task.Stage.TheVariants as stage
-use Rattle.kept_promise.proofs.Common.{cond, ◌==◌, find, Chunk, Answer, Done, Failed, Attr, Hashes, Piece, Fetch, Stage, Value, TakenCall, taken_at, Book, Reply, Reply.Hashed, Reply.Bytes, Reply.Changed, Ask, Told}
+use Rattle.kept_promise.proofs.Common.{cond, ◌==◌, find, Chunk, Status, Answer, Done, Failed, Attr, Hashes, Piece, Fetch, Stage, Value, TakenCall, taken_at, Book, Reply, Reply.Versioned, Reply.Hashed, Reply.Bytes, Reply.Changed, Ask, Told}
 use Rattle.kept_promise.proofs.Lists.{nothing_there}
 use Rattle.kept_promise.proofs.Keys.{times}
-use Rattle.kept_promise.proofs.Messages.{Job, AllAsks, AllTolds, AllUnder, Rising, IsTold, IsTried, HashTold, ReadTold, TriedBy, AnswerOf, IsAnswer, IsFetch, FetchOf, HasFetch}
+use Rattle.kept_promise.proofs.Messages.{Job, AllAsks, AllTolds, AllUnder, Rising, IsTold, IsTried, RefusedTold, HashTold, LeaseTold, ReadTold, TriedBy, AnswerOf, IsAnswer, IsFetch, FetchOf, HasFetch}
 
 -- what was found is found
 abbrev pub Finds : List TakenCall → List TakenCall → Type 0
@@ -38,10 +39,17 @@ told_found book taken after j x v version f h = record { moment = h.moment; was 
 tried_found : (book : Book) (taken after : List TakenCall) (j : Job) (x n : ℕ) → Finds taken after → IsTried book taken j x n → IsTried book after j x n
 tried_found book taken after j x n f h = record { moment = h.moment; was = f x h.moment h.was; past = h.past; op = h.op; there = h.there; count = h.count; tries_is = h.tries_is; tried = h.tried }
 
+refused_found : (book : Book) (taken after : List TakenCall) (j : Job) (x : ℕ) (s : Status) → Finds taken after → RefusedTold book taken j x s → RefusedTold book after j x s
+refused_found book taken after j x s f (inl h) = inl h
+refused_found book taken after j x s f (inr h) = inr (h.0, h.1, (h.2.0, told_found book taken after j x None h.2.0 f h.2.1))
+
 hash_found : (book : Book) (taken after : List TakenCall) (j : Job) (x o : ℕ) (a : Answer Hashes Unit) → Finds taken after → HashTold book taken j x o a → HashTold book after j x o a
-hash_found book taken after j x o (Failed s u) f (inl h) = inl h
-hash_found book taken after j x o (Failed s u) f (inr h) = inr (h.0, h.1, (h.2.0, told_found book taken after j x None h.2.0 f h.2.1))
-hash_found book taken after j x o (Done a) f h = record { file = h.file; is = h.is; told = told_found book taken after j x (Some h.file.content) h.file.version f h.told; short = h.short; known = h.known; hashed = h.hashed }
+hash_found book taken after j x o (Failed s u) f h = refused_found book taken after j x s f h
+hash_found book taken after j x o (Done a) f h = record { file = h.file; is = h.is; held = h.held; value = h.value; told = told_found book taken after j x (Some h.value) h.file.version f h.told; value_is = h.value_is; short = h.short; known = h.known; hashed = h.hashed }
+
+lease_found : (book : Book) (taken after : List TakenCall) (j : Job) (x : ℕ) (a : Answer Leased Unit) → Finds taken after → LeaseTold book taken j x a → LeaseTold book after j x a
+lease_found book taken after j x (Failed s u) f h = refused_found book taken after j x s f h
+lease_found book taken after j x (Done a) f h = record { value = h.value; told = told_found book taken after j x (Some h.value) a.version f h.told; known = h.known }
 
 tried_by_found : (book : Book) (taken after : List TakenCall) (j : Job) (x : ℕ) (s : Stage) → Finds taken after → TriedBy book taken j x s → TriedBy book after j x s
 tried_by_found book taken after j x (stage.Hashing tries y) f h = tried_found book taken after j x tries f h
@@ -50,9 +58,10 @@ tried_by_found book taken after j x _ f h = tt
 
 read_found : (book : Book) (taken after : List TakenCall) (j : Job) (first : ℕ) (c : Chunk) (a : Answer Piece (Option Attr)) → Finds taken after → ReadTold book taken j first c a → ReadTold book after j first c a
 read_found book taken after j first c (Failed s a) f h = h
-read_found book taken after j first c (Done p) f h = record { file = h.file; is = h.is; began = h.began; was = f first h.began h.was; last = h.last; order = h.order; past = h.past; value = h.value; version_is = h.version_is }
+read_found book taken after j first c (Done p) f h = record { file = h.file; is = h.is; held = h.held; began = h.began; was = f first h.began h.was; last = h.last; order = h.order; past = h.past; version_is = h.version_is }
 
 answer_of_found : (book : Book) (taken after : List TakenCall) (closing : Option ℕ) (job : Option Job) (x : ℕ) (r : Reply) → Finds taken after → AnswerOf book taken closing job x r → AnswerOf book after closing job x r
+answer_of_found book taken after closing job x (Versioned a) f h = λ j e s. lease_found book taken after j x a f (h j e s)
 answer_of_found book taken after closing job x (Hashed a) f h = λ j o e w. let r = h j o e w in (hash_found book taken after j x o a f r.0, tried_by_found book taken after j x j.stage f r.1)
 answer_of_found book taken after closing job x (Bytes a) f h = λ j g c e s w. read_found book taken after j g.first c a f (h j g c e s w)
 answer_of_found book taken after closing job x (Changed a) f h = h
@@ -62,7 +71,7 @@ pub answer_found : (book : Book) (taken after : List TakenCall) (closing : Optio
 answer_found book taken after closing job t f h = answer_of_found book taken after closing job t.xid t.reply f h
 
 abbrev fetch_found : (book : Book) (taken after : List TakenCall) (j : Job) (g : Fetch) → Finds taken after → IsFetch book taken j g → IsFetch book after j g
-fetch_found book taken after j g f h = record { content = h.content; told = told_found book taken after j g.first (Some h.content) g.version f h.told; tried = tried_found book taken after j g.first g.tries f h.tried; size = h.size; short = h.short; known = h.known; count = h.count; within = h.within; chunks = h.chunks; hashed = h.hashed }
+fetch_found book taken after j g f h = record { file = h.file; held = h.held; version = h.version; value = h.value; told = told_found book taken after j g.first (Some h.value) g.version f h.told; value_is = h.value_is; tried = tried_found book taken after j g.first g.tries f h.tried; size = h.size; short = h.short; known = h.known; count = h.count; within = h.within; chunks = h.chunks; hashed = h.hashed }
 
 fetch_of_found : (book : Book) (taken after : List TakenCall) (j : Job) (s : Stage) → Finds taken after → FetchOf book taken j s → FetchOf book after j s
 fetch_of_found book taken after j (stage.Listing x g) f h = (fetch_found book taken after j g f h.0, h.1, h.2)

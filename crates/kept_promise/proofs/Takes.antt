@@ -2,12 +2,12 @@
 use Rattle.std.proofs.Common.{inl, inr, ◌≡◌, ℕ, suc, ◌+◌, ◌<◌, ◌≤◌, List, [], ◌∷◌, ◌++◌, Option, Some, None, Bool, true, false, refl, sym, ap, ◌∙◌, subst, arith, map, IsSome}
 use Rattle.server_core.specs.State as server
 use Rattle.open_close.specs.State as client
-use Rattle.kept_promise.proofs.Common.{slice_get, MessageFits, Temp, key_of, Change, File, content_of, TakenCall, Core, Session, numbered, unless, Book, Call, Call.Hash, Call.Read, Call.Make, Call.Name, Call.Send, Call.Commit, Reply, Ask, Told, Queue, told_message, call_program, reply_program}
+use Rattle.kept_promise.proofs.Common.{slice_get, Indexed, MessageFits, Temp, key_of, Change, File, content_of, TakenCall, Core, Session, numbered, unless, hashed_of, Book, value_at, Call, Call.Lease, Call.Hash, Call.Read, Call.Make, Call.Name, Call.Send, Call.Commit, Reply, Ask, Told, Queue, told_message, call_program, reply_program}
 use Rattle.kept_promise.proofs.Statements.{CallFits}
 use Rattle.kept_promise.proofs.Lists.{some_is, nothing_there, same_or_not, false_and_true}
 use Rattle.kept_promise.proofs.Keys.{times, times_append, own, on_way, key, change_key, ask_key, told_key}
 use Rattle.kept_promise.proofs.Messages.{job, AllAsks, AllTolds, Rising, IsAsked, AnswerOf, IsAnswer, IsCommit, IsPiece, TempUnder, AreParts}
-use Rattle.kept_promise.proofs.Growth.{value_alike, version_alike}
+use Rattle.kept_promise.proofs.Growth.{Grows, or_later, value_alike, version_alike}
 use Rattle.kept_promise.proofs.History.{Still, onward, grows_same, goes_same, still_same}
 use Rattle.kept_promise.proofs.Later.{all_asks, all_tolds, answer_later, has_fetch_later, commit_later, close_later, pending_later, seat_later, Stays, Spares}
 use Rattle.kept_promise.proofs.Taken.{finds_more, under_more, answer_found, has_fetch_found, tolds_append, times_map_append}
@@ -15,16 +15,20 @@ use Rattle.kept_promise.proofs.Turns.{Around, around_same, turned_core, kept_tur
 use Rattle.kept_promise.proofs.Shelf.{IsShelf}
 use Rattle.kept_promise.proofs.Orderly.{locals_of, Wanted, Held, Orderly}
 use Rattle.kept_promise.proofs.Ordered.{SameFound, orderly_answered}
-use Rattle.kept_promise.proofs.Facts.{FileIs, IsServer, IsTalk, IsSession, IsKept, commits_in}
+use Rattle.kept_promise.proofs.Facts.{IsValue, FileIs, IsServer, IsTalk, IsSession, IsKept, commits_in}
 
 -- ---- the tree, where no file changes
 
-pub file_still : (book more : Book) (f : ℕ) (g : Option File) → Still book more → more.opening ≡ book.opening → FileIs book f g → FileIs more f g
-file_still book more f None still o h = (ap (λ l. content_of l f) o ∙ h.0, value_alike book more f (more.steps + 1) (book.steps + 1) o (still f) ∙ h.1)
-file_still book more f (Some g) still o h = (h.0, h.1, h.2, subst (λ l. IsSome (content_of l f)) (sym o) h.3, value_alike book more f (more.steps + 1) (book.steps + 1) o (still f) ∙ h.4, version_alike book more f (more.steps + 1) (book.steps + 1) (still f) ∙ h.5, h.6)
+-- the value of a file stays
+pub value_still : (book more : Book) (made ended : Option ℕ) (f : ℕ) (x : List ℕ) → Grows book more made ended → value_at more f (more.steps + 1) ≡ value_at book f (book.steps + 1) → IsValue book f x → IsValue more f x
+value_still book more made ended f x g same h = record { value = h.value; is = same ∙ h.is; size = h.size; same = or_later book more made ended _ _ g (λ e. e) h.same }
 
-pub server_still : (book more : Book) (s : server.State) (moment : ℕ) (temps : List (ℕ × Temp)) → Still book more → more.opening ≡ book.opening → IsServer book s → IsServer more (record s { moment = moment; temps = temps })
-server_still book more s moment temps still o h = record { held = λ f. file_still book more f (server.file_at s.files f) still o (h.held f); versions = h.versions; changes = h.changes; lengths = h.lengths; targets = λ i c e. subst (λ l. IsSome (content_of l c.file)) (sym o) (h.targets i c e); xids = h.xids }
+pub file_still : (book more : Book) (made ended : Option ℕ) (f : ℕ) (g : Option File) → Grows book more made ended → Still book more → FileIs book f g → FileIs more f g
+file_still book more made ended f None grows still h = (ap (λ l. content_of l f) grows.opening ∙ h.0, value_alike book more f (more.steps + 1) (book.steps + 1) grows.opening (still f) ∙ h.1)
+file_still book more made ended f (Some g) grows still h = (h.0, h.1, h.2, subst (λ l. IsSome (content_of l f)) (sym grows.opening) h.3, value_still book more made ended f g.content grows (value_alike book more f (more.steps + 1) (book.steps + 1) grows.opening (still f)) h.4, version_alike book more f (more.steps + 1) (book.steps + 1) (still f) ∙ h.5, h.6)
+
+pub server_still : (book more : Book) (made ended : Option ℕ) (s : server.State) (moment : ℕ) (temps : List (ℕ × Temp)) (index : Indexed) → Grows book more made ended → Still book more → IsServer book s → IsServer more (record s { moment = moment; temps = temps; index = index })
+server_still book more made ended s moment temps index grows still h = record { held = λ f. file_still book more made ended f (server.file_at s.files f) grows still (h.held f); versions = h.versions; changes = h.changes; lengths = h.lengths; targets = λ i c e. subst (λ l. IsSome (content_of l c.file)) (sym grows.opening) (h.targets i c e); xids = h.xids }
 
 -- ---- a session that took a call
 
@@ -36,6 +40,7 @@ commits_tail a us = by a.call
   where
     by : (c : Call) → commits_in us ≤ elim c [ Commit temp file size ↦ suc (commits_in us) | _ ↦ commits_in us ]
     by (Commit temp file size) = omega arith
+    by (Lease f) = omega arith
     by (Hash f o) = omega arith
     by (Read f c) = omega arith
     by (Make t f) = omega arith
@@ -68,20 +73,20 @@ pub record Answers (book : Book) (k : Core) (n : ℕ) (x : Session) (q : Queue) 
   pub program : reply_program r ≡ call_program a.call
   pub fits : MessageFits (told_message (record { xid = a.xid; reply = r }))
   pub answer : x.cut ≡ false → AnswerOf (onward book 1 book.ops) (x.taken ++ record { xid = a.xid; step = book.steps + 1 } ∷ []) x.closing (job h.seat) a.xid r
-  pub pieces : (i m : ℕ) (e : ℕ × Temp) → m < 4294967296 → slice_get temps i ≡ Some e → e.0 ≡ key_of n m → AreParts (h.contents m) e.1.pieces × (key_of e.1.session e.1.fd ≡ e.0)
+  pub pieces : (i m : ℕ) (e : ℕ × Temp) → m < 4294967296 → slice_get temps i ≡ Some e → e.0 ≡ key_of n m → AreParts (hashed_of book.moments) (h.contents m) e.1.pieces × (key_of e.1.session e.1.fd ≡ e.0)
   pub below : x.cut ≡ false → (i m : ℕ) (e : ℕ × Temp) → m < 4294967296 → slice_get temps i ≡ Some e → e.0 ≡ key_of n m → m < h.seat.client.next_temp
   pub shelf : IsShelf temps
   pub found : (o : ℕ) → (o ≡ n → ⊥) → SameFound k.server.temps temps o
   pub wanted : x.cut ≡ false → Wanted (onward book 1 book.ops) (job h.seat) a.xid r
-  pub held : x.cut ≡ false → (us : List Ask) → q.ups ≡ a ∷ us → Held temps n us (locals_of h.seat.client) (job h.seat)
+  pub held : x.cut ≡ false → (us : List Ask) → q.ups ≡ a ∷ us → Held temps n us (unless x.cut q.downs (record { xid = a.xid; reply = r } ∷ [])) (locals_of h.seat.client) (job h.seat)
   pub others : (o i m : ℕ) (e : ℕ × Temp) → (o ≡ n → ⊥) → m < 4294967296 → slice_get temps i ≡ Some e → e.0 ≡ key_of o m → (j : ℕ) × (slice_get k.server.temps j ≡ Some e)
 
-pub kept_reply : (book : Book) (k : Core) (qs : List Queue) (n moment : ℕ) (x : Session) (q : Queue) (a : Ask) (us : List Ask) (temps : List (ℕ × Temp)) (r : Reply) (sessions : List Session) (after : List Queue)
+pub kept_reply : (book : Book) (k : Core) (qs : List Queue) (n moment : ℕ) (x : Session) (q : Queue) (a : Ask) (us : List Ask) (temps : List (ℕ × Temp)) (index : Indexed) (r : Reply) (sessions : List Session) (after : List Queue)
     → (kept : IsKept book k qs) → (at : numbered k.sessions n ≡ Some x) → (is : numbered qs n ≡ Some q) → q.ups ≡ a ∷ us → x.hung ≡ false
     → Around k.sessions sessions n (took x a.xid (book.steps + 1)) → Around qs after n (put_down q us x.cut (record { xid = a.xid; reply = r }))
     → Answers book k n x q a temps r (kept.sessions n x q at is)
-    → IsKept (onward book 1 book.ops) (turned_core (onward book 1 book.ops) (record k.server { moment = moment; temps = temps }) k.seats sessions) after
-kept_reply book k qs n moment x q a us temps r sessions after kept at is e unhung around queues shows =
+    → IsKept (onward book 1 book.ops) (turned_core (onward book 1 book.ops) (record k.server { moment = moment; temps = temps; index = index }) k.seats sessions) after
+kept_reply book k qs n moment x q a us temps index r sessions after kept at is e unhung around queues shows =
     let h = kept.sessions n x q at is in
     let more = onward book 1 book.ops in
     let g = grows_same book 1 in
@@ -90,7 +95,7 @@ kept_reply book k qs n moment x q a us temps r sessions after kept at is e unhun
     let c = h.seat in
     let spares : Spares x.closing None = λ p u v. nothing_there p v in
     let ups_of : (P : Ask → Type 0) → AllAsks P q.ups → P a × AllAsks P us = λ P all. subst (AllAsks P) e all in
-    kept_turn book more k qs (record k.server { moment = moment; temps = temps }) k.seats sessions after n x y (put_down q us x.cut t) c c None None (record {
+    kept_turn book more k qs (record k.server { moment = moment; temps = temps; index = index }) k.seats sessions after n x y (put_down q us x.cut t) c c None None (record {
       at = at;
       was = h.owner;
       session_around = around;
@@ -98,7 +103,7 @@ kept_reply book k qs n moment x q a us temps r sessions after kept at is e unhun
       seat_around = around_same k.seats x.owner c h.owner;
       owner = refl;
       goes = goes_same book 1 kept.sound;
-      server = server_still book more k.server moment temps (still_same book 1 kept.sound) refl kept.server;
+      server = server_still book more None None k.server moment temps index g (still_same book 1 kept.sound) kept.server;
       sessions_made = refl;
       view = λ o apart. record { stands_is = refl; waiting = refl; temps = λ i m u lt at q. shows.others o i m u apart lt at q; found = shows.found o apart };
       elsewhere = inl refl;
@@ -118,7 +123,7 @@ kept_reply book k qs n moment x q a us temps r sessions after kept at is e unhun
         contents = h.contents;
         lengths = h.lengths;
         commits = (ups_of (IsCommit more x.closing x.cut (job c) h.contents) (all_asks (IsCommit book x.closing x.cut (job c) h.contents) (IsCommit more x.closing x.cut (job c) h.contents) (λ b m. commit_later book more None None x.closing x.cut (job c) (job c) h.contents b g spares (λ u. refl) m) q.ups h.commits)).1;
-        pieces = (ups_of (IsPiece h.contents) h.pieces).1;
+        pieces = (ups_of (IsPiece (hashed_of book.moments) h.contents) h.pieces).1;
         temps = shows.pieces;
         temps_below = λ uncut. ((ups_of (λ b. TempUnder c.client.next_temp b.call) (h.temps_below uncut).0).1, shows.below uncut);
         closes = λ uncut j f. close_later book more None None x.closing h.contents c.client.next_temp j (client.local_bytes c.client.opened j.file) j.stage g spares (h.closes uncut j f);

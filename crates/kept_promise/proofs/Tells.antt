@@ -1,14 +1,15 @@
 -- What the server tells of a file when it takes a GETHASH or a READ, and what other calls come to.
-use Rattle.std.proofs.Common.{inl, inr, ◌≡◌, ℕ, ◌+◌, ◌<◌, List, [], ◌∷◌, ◌++◌, Option, Some, None, Bool, true, false, refl, sym, ap, ◌∙◌, subst, arith, eqb-true, map, IsSome, Result, Ok, Err}
+use Rattle.std.proofs.Common.{inl, inr, ◌≡◌, ℕ, ◌+◌, ◌<◌, List, [], ◌∷◌, ◌++◌, Option, Some, None, Bool, true, false, refl, sym, ap, ◌∙◌, subst, arith, eqb-true, eq-eqb, map, IsSome, Result, Ok, Err}
 use Rattle.xdr_codec.specs.declared.status.Status.TheVariants as status
 use Rattle.server_core.specs.State as server
-use Rattle.server_core.specs.Answers.{file_node, hash_answer, read_answer}
+use Rattle.server_core.specs.Answers.{file_node, hash_answer, lease_answer, read_answer}
 use Rattle.server_core.specs.Hashed.{bytes_told}
 use Rattle.open_close.specs.declared.task.Stage.TheVariants as stage
 use Rattle.trace_replay.specs.Trail.{served_hashed}
-use Rattle.kept_promise.proofs.Common.{slice_get, ◌==◌, Contains, chunk_bytes, Chunk, handle_bytes, Failed, Status, HashRange, Range, message_spell, MessageFits, Node, root, file, node_of, told_chunks, hashes_of, piece_of, File, Fetch, Stage, Value, content_of, TakenCall, Core, Seat, Session, Event.Serves, numbered, hashed_of, Book, value_at, version_at, Call.Hash, Call.Read, Reply, Reply.Hashed, Reply.Bytes, Ask, Queue, ask_message, told_message}
+use Rattle.kept_promise.proofs.Common.{slice_get, ◌==◌, Contains, chunk_bytes, Chunk, handle_bytes, Failed, Status, HashRange, Range, message_spell, MessageFits, Node, root, file, node_of, told_chunks, hashes_of, piece_of, leased_of, File, Fetch, Stage, Value, content_of, TakenCall, Core, Seat, Session, Event.Serves, numbered, hashed_of, Book, value_at, version_at, Call.Lease, Call.Hash, Call.Read, Reply, Reply.Versioned, Reply.Hashed, Reply.Bytes, Ask, Queue, ask_message, told_message}
 use Rattle.kept_promise.proofs.Statements.{CallFits}
-use Rattle.kept_promise.proofs.Messages.{Job, job, AllAsks, Rising, IsAsked, hash_offset, IsTold, IsHashed, HashTold, IsRead, ReadTold, TriedBy, AnswerOf, IsFetch, IsReading, FetchOf, range_from}
+use Rattle.kept_promise.proofs.Messages.{Job, job, AllAsks, Rising, IsAsked, hash_offset, IsTold, IsHashed, RefusedTold, HashTold, IsLeased, LeaseTold, IsRead, ReadTold, TriedBy, AnswerOf, IsFetch, IsReading, FetchOf, range_from}
+use Rattle.kept_promise.proofs.Rights.{IsHeld}
 use Rattle.kept_promise.proofs.Growth.{value_later, version_later, tried_later}
 use Rattle.kept_promise.proofs.History.{onward, grows_same}
 use Rattle.kept_promise.proofs.Taken.{finds_last, finds_more}
@@ -93,6 +94,62 @@ tried_now book k qs n x q a us c j (stage.Listing y f) kept was talk e is at =
     }
 tried_now book k qs n x q a us c j _ kept was talk e is at = tt
 
+-- what the server has of a file then
+pub held_now : (book : Book) (k : Core) (n now : ℕ) (a : Ask) (i f : ℕ) (g : File) → IsNoted book k (Serves n now (message_spell (ask_message a))) → i ≡ f → server.file_at k.server.files f ≡ Some g → IsHeld book.moments i g
+held_now book k n now a i f g noted same there = record { at = record { before = k; event = Serves n now (message_spell (ask_message a)) }; there = noted.there; held = ap (server.file_at k.server.files) same ∙ there }
+
+-- the root is there
+no_root : (files : List (ℕ × File)) (f : ℕ) → f < 18446744073709551616 → f ≡ 1 → node_of files (handle_bytes f) ≡ Err status.Stale → ⊥
+no_root files f small one at = root_is (sym (own_node files f small ∙ ap (named_by files f) (eq-eqb f 1 one)) ∙ at)
+  where
+    root_is : (let r : Result Node Status = Ok root in r ≡ Err status.Stale) → ⊥
+    root_is e = absurd cc
+
+-- a file that is not in the tree
+gone_told : (book : Book) (k : Core) (qs : List Queue) (n : ℕ) (x : Session) (q : Queue) (a : Ask) (f : ℕ) (us : List Ask) (c : Seat) (j : Job) → IsKept book k qs → numbered k.seats x.owner ≡ Some c → IsTalk book n k.server.waiting x q c → q.ups ≡ a ∷ us → job c ≡ Some j
+    → f < 18446744073709551616 → j.file ≡ f → server.file_at k.server.files f ≡ None → node_of k.server.files (handle_bytes f) ≡ Err status.Stale → RefusedTold (onward book 1 book.ops) (with_taken x a.xid (book.steps + 1)) j a.xid status.Stale
+gone_told book k qs n x q a f us c j kept was talk e is small same none at =
+    let held = subst (FileIs book f) none (kept.server.held f) in
+    inr ((refl, λ one. no_root k.server.files f small (sym same ∙ one) at), ap (content_of book.opening) same ∙ held.0, (version_at book j.file (book.steps + 1), told_now book k qs n x q a us c j None (version_at book j.file (book.steps + 1)) kept was talk e is (ap (λ (i : ℕ). value_at book i (book.steps + 1)) same ∙ held.1) refl))
+
+-- ---- a GETLEASE
+
+abbrev pub lease_reply : List (ℕ × File) → (f : ℕ) → Reply
+lease_reply files f = Versioned (lease_answer (node_of files (handle_bytes f)))
+
+pub lease_reply_fits : FitLaws → (book : Book) (s : server.State) (xid f : ℕ) → IsServer book s → xid < 4294967296 → f < 18446744073709551616 → MessageFits (told_message (record { xid = xid; reply = lease_reply s.files f }))
+lease_reply_fits laws book s xid f h x lt = by (looked s.files f lt)
+  where
+    by : Found s.files f → MessageFits (told_message (record { xid = xid; reply = lease_reply s.files f }))
+    by (is_root one e) = subst (λ (node : Result Node Status). MessageFits (told_message (record { xid = xid; reply = Versioned (lease_answer node) }))) (sym e) (laws.plain xid (Versioned (Failed status.IsDir tt)) x tt)
+    by (is_gone none e) = subst (λ (node : Result Node Status). MessageFits (told_message (record { xid = xid; reply = Versioned (lease_answer node) }))) (sym e) (laws.plain xid (Versioned (Failed status.Stale tt)) x tt)
+    by (is_file g at e) =
+        let b = subst (FileIs book f) at (h.held f) in
+        let v = h.versions f g at in
+        let c = h.changes in
+        let id = b.0 in
+        let small = b.2 in
+        subst (λ (node : Result Node Status). MessageFits (told_message (record { xid = xid; reply = Versioned (lease_answer node) }))) (sym e) (laws.leases xid g x (omega (arith, id, small), omega (arith, v, c), b.6))
+
+pub lease_told : (book : Book) (k : Core) (qs : List Queue) (n : ℕ) (x : Session) (q : Queue) (xid f : ℕ) (us : List Ask) (c : Seat) → IsKept book k qs → numbered k.seats x.owner ≡ Some c → IsTalk book n k.server.waiting x q c → q.ups ≡ record { xid = xid; call = Lease f } ∷ us → f < 18446744073709551616
+    → AnswerOf (onward book 1 book.ops) (with_taken x xid (book.steps + 1)) x.closing (job c) xid (lease_reply k.server.files f)
+lease_told book k qs n x q xid f us c kept was talk e small = λ j is at. by j is ((subst (AllAsks (IsAsked (job c))) e talk.asked).0 j is at) (looked k.server.files f small)
+  where
+    a : Ask
+    a = record { xid = xid; call = Lease f }
+
+    by : (j : Job) → job c ≡ Some j → j.file ≡ f → Found k.server.files f → LeaseTold (onward book 1 book.ops) (with_taken x xid (book.steps + 1)) j xid (lease_answer (node_of k.server.files (handle_bytes f)))
+    by j is same (is_root one at) = subst (λ (node : Result Node Status). LeaseTold (onward book 1 book.ops) (with_taken x xid (book.steps + 1)) j xid (lease_answer node)) (sym at) (inl (refl, same ∙ one))
+    by j is same (is_gone none at) = subst (λ (node : Result Node Status). LeaseTold (onward book 1 book.ops) (with_taken x xid (book.steps + 1)) j xid (lease_answer node)) (sym at) (gone_told book k qs n x q a f us c j kept was talk e is small same none at)
+    by j is same (is_file g there at) =
+        let held = subst (FileIs book f) there (kept.server.held f) in
+        let shown : IsLeased (onward book 1 book.ops) (with_taken x xid (book.steps + 1)) j xid (leased_of g) = record {
+          value = held.4.value;
+          told = told_now book k qs n x q a us c j (Some held.4.value) g.version kept was talk e is (ap (λ (i : ℕ). value_at book i (book.steps + 1)) same ∙ held.4.is) (ap (λ (i : ℕ). version_at book i (book.steps + 1)) same ∙ held.5);
+          known = subst (λ (i : ℕ). IsSome (content_of book.opening i)) (sym same) held.3;
+        } in
+        subst (λ (node : Result Node Status). LeaseTold (onward book 1 book.ops) (with_taken x xid (book.steps + 1)) j xid (lease_answer node)) (sym at) shown
+
 -- ---- a GETHASH
 
 abbrev pub hash_range : (f offset : ℕ) → HashRange
@@ -127,16 +184,17 @@ hash_told laws book k qs n now x q xid f offset us c kept was talk e fits noted 
 
     by : (j : Job) (o : ℕ) → job c ≡ Some j → (j.file ≡ f) × (o ≡ offset) → Found k.server.files f → HashTold (onward book 1 book.ops) (with_taken x xid (book.steps + 1)) j xid o (hash_answer (node_of k.server.files (handle_bytes f)) (hash_range f offset))
     by j o is same (is_root one at) = subst (λ (node : Result Node Status). HashTold (onward book 1 book.ops) (with_taken x xid (book.steps + 1)) j xid o (hash_answer node (hash_range f offset))) (sym at) (inl (refl, same.0 ∙ one))
-    by j o is same (is_gone none at) =
-        let held = subst (FileIs book f) none (kept.server.held f) in
-        subst (λ (node : Result Node Status). HashTold (onward book 1 book.ops) (with_taken x xid (book.steps + 1)) j xid o (hash_answer node (hash_range f offset))) (sym at) (inr (refl, ap (content_of book.opening) same.0 ∙ held.0, (version_at book j.file (book.steps + 1), told_now book k qs n x q (record { xid = xid; call = Hash f offset }) us c j None (version_at book j.file (book.steps + 1)) kept was talk e is (ap (λ (i : ℕ). value_at book i (book.steps + 1)) same.0 ∙ held.1) refl)))
+    by j o is same (is_gone none at) = subst (λ (node : Result Node Status). HashTold (onward book 1 book.ops) (with_taken x xid (book.steps + 1)) j xid o (hash_answer node (hash_range f offset))) (sym at) (gone_told book k qs n x q (record { xid = xid; call = Hash f offset }) f us c j kept was talk e is fits.1 same.0 none at)
     by j o is same (is_file g there at) =
         let held = subst (FileIs book f) there (kept.server.held f) in
-        let noted_bytes : (i : ℕ) (d : Chunk) → slice_get (told_chunks g.content (range_from offset)) i ≡ Some d → Contains (hashed_of book.moments) (chunk_bytes g.content d) = λ i d w. noted.hashed (chunk_bytes g.content d) (subst (λ (l : List (List ℕ)). Contains l (chunk_bytes g.content d)) (sym (ap (served_hashed k) (parsed laws (record { xid = xid; call = Hash f offset }) fits) ∙ ap (λ node. bytes_told node (hash_range f offset)) at)) (contains_at (map (chunk_bytes g.content) (told_chunks g.content (hash_range f offset))) i (chunk_bytes g.content d) (map_at (chunk_bytes g.content) (told_chunks g.content (hash_range f offset)) i d w))) in
+        let noted_bytes : (i : ℕ) (d : Chunk) → slice_get (told_chunks g.content (range_from offset)) i ≡ Some d → Contains (hashed_of book.moments) (chunk_bytes g.content d) = λ i d w. noted.hashed (chunk_bytes g.content d) (subst (λ (l : List (List ℕ)). Contains l (chunk_bytes g.content d)) (sym (ap (served_hashed k n) (parsed laws (record { xid = xid; call = Hash f offset }) fits) ∙ ap (λ node. bytes_told node (hash_range f offset)) at)) (contains_at (map (chunk_bytes g.content) (told_chunks g.content (hash_range f offset))) i (chunk_bytes g.content d) (map_at (chunk_bytes g.content) (told_chunks g.content (hash_range f offset)) i d w))) in
         subst (λ (node : Result Node Status). HashTold (onward book 1 book.ops) (with_taken x xid (book.steps + 1)) j xid o (hash_answer node (hash_range f offset))) (sym at) (subst (λ (z : ℕ). IsHashed (onward book 1 book.ops) (with_taken x xid (book.steps + 1)) j xid z (hashes_of g (hash_range f offset))) (sym same.1) (record {
           file = g;
           is = refl;
-          told = told_now book k qs n x q (record { xid = xid; call = Hash f offset }) us c j (Some g.content) g.version kept was talk e is (ap (λ (i : ℕ). value_at book i (book.steps + 1)) same.0 ∙ held.4) (ap (λ (i : ℕ). version_at book i (book.steps + 1)) same.0 ∙ held.5);
+          held = held_now book k n now (record { xid = xid; call = Hash f offset }) j.file f g noted same.0 there;
+          value = held.4.value;
+          value_is = held.4.same;
+          told = told_now book k qs n x q (record { xid = xid; call = Hash f offset }) us c j (Some held.4.value) g.version kept was talk e is (ap (λ (i : ℕ). value_at book i (book.steps + 1)) same.0 ∙ held.4.is) (ap (λ (i : ℕ). version_at book i (book.steps + 1)) same.0 ∙ held.5);
           short = held.6;
           known = subst (λ (i : ℕ). IsSome (content_of book.opening i)) (sym same.0) held.3;
           hashed = noted_bytes;
@@ -164,11 +222,11 @@ read_reply_fits laws book s xid f d h x lt = by (looked s.files f lt)
         let small = b.2 in
         subst (λ (node : Result Node Status). MessageFits (told_message (record { xid = xid; reply = Bytes (read_answer node (read_range f d)) }))) (sym e) (laws.reads xid g (handle_bytes f) d.start d.len x (omega (arith, id, small), omega (arith, v, c), b.6))
 
-pub read_told : (book : Book) (k : Core) (qs : List Queue) (n : ℕ) (x : Session) (q : Queue) (xid f : ℕ) (d : Chunk) (us : List Ask) (c : Seat) → IsKept book k qs → numbered k.seats x.owner ≡ Some c → IsTalk book n k.server.waiting x q c → q.ups ≡ record { xid = xid; call = Read f d } ∷ us → f < 18446744073709551616
+pub read_told : (book : Book) (k : Core) (qs : List Queue) (n now : ℕ) (x : Session) (q : Queue) (xid f : ℕ) (d : Chunk) (us : List Ask) (c : Seat) → IsKept book k qs → numbered k.seats x.owner ≡ Some c → IsTalk book n k.server.waiting x q c → q.ups ≡ record { xid = xid; call = Read f d } ∷ us → f < 18446744073709551616 → IsNoted book k (Serves n now (message_spell (ask_message (record { xid = xid; call = Read f d }))))
     → AnswerOf (onward book 1 book.ops) (with_taken x xid (book.steps + 1)) x.closing (job c) xid (read_reply k.server.files f d)
-read_told book k qs n x q xid f d us c kept was talk e small = λ j g w is at waits. by j g w is at ((subst (AllAsks (IsAsked (job c))) e talk.asked).0 j w is waits) (subst (FetchOf book x.taken j) at (talk.fetch j is)) (looked k.server.files f small)
+read_told book k qs n now x q xid f d us c kept was talk e small noted = λ j g w is at waits. by j g w is at ((subst (AllAsks (IsAsked (job c))) e talk.asked).0 j w is waits) (subst (FetchOf book x.taken j) at (talk.fetch j is)) (looked k.server.files f small)
   where
-    by : (j : Job) (g : Fetch) (w : Chunk) → job c ≡ Some j → j.stage ≡ stage.Reading g → (j.file ≡ f) × (w ≡ d) → ((h : IsFetch book x.taken j g) × IsReading book h.content g) → Found k.server.files f → ReadTold (onward book 1 book.ops) (with_taken x xid (book.steps + 1)) j g.first w (read_answer (node_of k.server.files (handle_bytes f)) (read_range f d))
+    by : (j : Job) (g : Fetch) (w : Chunk) → job c ≡ Some j → j.stage ≡ stage.Reading g → (j.file ≡ f) × (w ≡ d) → ((h : IsFetch book x.taken j g) × IsReading book h.file.content g) → Found k.server.files f → ReadTold (onward book 1 book.ops) (with_taken x xid (book.steps + 1)) j g.first w (read_answer (node_of k.server.files (handle_bytes f)) (read_range f d))
     by j g w is at same h (is_root one e2) = absurd (by_held (server.file_at k.server.files f) (kept.server.held f))
       where
         by_held : (o : Option File) → FileIs book f o → ⊥
@@ -182,11 +240,11 @@ read_told book k qs n x q xid f d us c kept was talk e small = λ j g w is at wa
         subst (λ (node : Result Node Status). ReadTold (onward book 1 book.ops) (with_taken x xid (book.steps + 1)) j g.first w (read_answer node (read_range f d))) (sym e2) (subst (λ (v : Chunk). IsRead (onward book 1 book.ops) (with_taken x xid (book.steps + 1)) j g.first v (piece_of z (read_range f d))) (sym same.1) (record {
           file = z;
           is = refl;
+          held = held_now book k n now (record { xid = xid; call = Read f d }) j.file f z noted same.0 there;
           began = h.0.told.moment;
           was = finds_more x.taken (record { xid = xid; step = book.steps + 1 }) g.first h.0.told.moment h.0.told.was;
           last = book.steps + 1;
           order = omega (arith, past);
           past = omega arith;
-          value = value_later book (onward book 1 book.ops) None None j.file (book.steps + 1) grows (omega arith) ∙ ap (λ (i : ℕ). value_at book i (book.steps + 1)) same.0 ∙ held.4;
           version_is = version_later book (onward book 1 book.ops) None None j.file (book.steps + 1) grows (omega arith) ∙ ap (λ (i : ℕ). version_at book i (book.steps + 1)) same.0 ∙ held.5;
         }))

@@ -8,7 +8,6 @@ use Rattle.server_core.specs.declared.event.Event.TheVariants as event
 use Rattle.server_core.specs.declared.event.Told.{Told as Announced}
 use Rattle.server_core.specs.declared.event.Told.TheVariants as announced
 use Rattle.open_close.specs.State as client
-use Rattle.open_close.specs.State.{lb_pending}
 use Rattle.open_close.specs.declared.step.Outcome.TheVariants as outcome
 use Rattle.open_close.specs.declared.task.Stage.TheVariants as stage
 use Rattle.register_model.specs.declared.op.Outcome.{Outcome as History}
@@ -18,10 +17,10 @@ use Rattle.trace_replay.specs.Ops.{taken_on}
 use Rattle.trace_replay.specs.Core.{taken_of as session_taken}
 use Rattle.trace_replay.specs.Trail.{taken_of}
 use Rattle.trace_replay.specs.Faithful.{Carries, OpensVersion}
-use Rattle.kept_promise.proofs.Common.{nat_tests, Contains-append_left, Contains-append_right, Contains-append_cases, Contains-push, ◌==◌, ◌&&◌, ◌||◌, nat_lt, nat_le, slice_get, slice_set, cond, find, Contains, option_map_or, Command, Done, Hashes, parse_of, WireFault, Message, makes_change, Change, File, server_step, has_call, pending, command_step, got_step, ended_by, joined, ClientStep, Ended, Outcome, Stage, Task, changes, changed_before, Op, Opening, TakenCall, word_of, told_of, has_point, point_if, op_after, begun, taken_at, place_after, place_with, pointed, pointed_at, Core, Seat, Session, Event, Event.Joins, Event.Does, Event.Serves, Event.Hears, Event.Settles, Event.Cuts, Event.Hangs, CoreStep, numbered, with_numbered, new_session, taken_with, commanded_session, commanded_sessions, cut_session, server_waiting, serves_if, serves, session_of, ops_after, ops_with, acted, does, joins_as, joins, settled_ops, settled_by, settles, cuts_if, cuts, hangs_if, hangs, happens, Moment, Said, all_said, owner_in, client_of, wanted_if, wanted_by, taken_by, Book, version_at, until, IsHashes, Reply, Reply.Hashed, Reply.Bytes, Told, Queue, reply_body, told_message}
+use Rattle.kept_promise.proofs.Common.{nat_tests, Contains-append_left, Contains-append_right, Contains-append_cases, Contains-push, ◌==◌, ◌&&◌, ◌||◌, nat_lt, nat_le, slice_get, slice_set, cond, find, Contains, option_map_or, Command, Done, Hashes, parse_of, WireFault, Message, makes_change, Change, File, server_step, has_call, pending, command_step, got_step, ended_by, joined, ClientStep, Ended, Outcome, Stage, Task, changes, changed_before, Op, Opening, TakenCall, word_of, told_of, has_point, point_if, op_after, begun, taken_at, place_after, place_with, pointed, pointed_at, Core, Seat, Session, Event, Event.Joins, Event.Does, Event.Serves, Event.Hears, Event.Settles, Event.Cuts, Event.Hangs, CoreStep, numbered, with_numbered, new_session, taken_with, commanded_session, commanded_sessions, cut_session, server_waiting, serves_if, serves, session_of, ops_after, ops_with, acted, does, joins_as, joins, settled_ops, settled_by, settles, cuts_if, cuts, hangs_if, hangs, happens, Moment, Said, all_said, owner_in, client_of, wanted_if, wanted_by, taken_by, Book, version_at, until, TellsVersion, Reply, Reply.Versioned, Reply.Hashed, Reply.Bytes, Told, Queue, reply_body, told_message}
 use Rattle.kept_promise.proofs.Lists.{some_is, nothing_there, at_end, same_or_not, of_replaced, of_appended, kept_appended, at_replaced, set_else, false_and_true}
 use Rattle.kept_promise.proofs.Marks.{unpointed}
-use Rattle.kept_promise.proofs.Messages.{Job, job, job_of, AllTolds, AllUnder, hash_offset, IsHashed, AnswerOf, IsAnswer}
+use Rattle.kept_promise.proofs.Messages.{Job, job, job_of, AllTolds, AllUnder, hash_offset, IsTold, IsHashed, IsLeased, AnswerOf, IsAnswer}
 use Rattle.kept_promise.proofs.Rights.{IsRight, Caused, IsUnmade, close_not_open}
 use Rattle.kept_promise.proofs.Fits.{FitLaws}
 use Rattle.kept_promise.proofs.Keys.{own}
@@ -36,7 +35,7 @@ use Rattle.kept_promise.proofs.Actors.{acts_alone, job_place, job_task, placed, 
 use Rattle.kept_promise.proofs.CountedRuns.{CountedAt, carried_counts, taken_more}
 use Rattle.kept_promise.proofs.Shapes.{TaskGood, OutcomeGood, EndGood, Good, TookIn, TaskTook, good_answer, good_command, busy_command}
 use Rattle.kept_promise.proofs.Versions.{of_numbered, version_in, count_replaced, count_appended, CameTo, Since, Attempt, Untold, takens, JobVersion, HaveVersions, Alike, alike_same, Extends, extends_same, came_alike, since_alike, job_alike, JobCame, versions_onward}
-use Rattle.kept_promise.proofs.OpenedRuns.{versions_after}
+use Rattle.kept_promise.proofs.Taking.{versions_after}
 use Rattle.kept_promise.proofs.CommandOps.{made_by, made_later, made_pointless, last_right, old_jobs}
 
 abbrev pub VersionsAt : (past : List Moment) → Core → Type 0
@@ -466,7 +465,7 @@ alike_none said more o none = record {
 }
 
 -- what an attempt has when one more answer of it came
-attempt_more : (said : List Said) (ops : List Op) (taken : List TakenCall) (o : Op) (s : Said) (v x : ℕ) → (IsHashes s.message → Carries v s.message) → Attempt said ops taken o v x → Attempt (said ++ s ∷ []) ops taken o v x
+attempt_more : (said : List Said) (ops : List Op) (taken : List TakenCall) (o : Op) (s : Said) (v x : ℕ) → (TellsVersion s.message → Carries v s.message) → Attempt said ops taken o v x → Attempt (said ++ s ∷ []) ops taken o v x
 attempt_more said ops taken o s v x carries (q, was, version, (z, there, of, lt, c), since) = (
   q,
   was,
@@ -474,35 +473,43 @@ attempt_more said ops taken o s v x carries (q, was, version, (z, there, of, lt,
   (z, Contains-append_left said (s ∷ []) z there, of, lt, c),
   λ w here mine late is. elim (one_more said s w here) [
     | inl old ↦ since w old mine late is
-    | inr same ↦ subst (λ (y : Said). Carries v y.message) (sym same) (carries (subst (λ (y : Said). IsHashes y.message) same is))
+    | inr same ↦ subst (λ (y : Said). Carries v y.message) (sym same) (carries (subst (λ (y : Said). TellsVersion y.message) same is))
   ],
 )
 
+-- what it has by the answer to its first call
+attempt_first : (book : Book) (k : Core) (said : List Said) (i : ℕ) (taken : List TakenCall) (t : Told) (j : Job) (o : Op) → book.ops ≡ k.ops → book.steps ≡ k.steps → o.file ≡ j.file → o.client ≡ i → o.end ≡ None → o.begin ≤ k.steps → (y version : ℕ) (v : List ℕ) → (y == t.xid) ≡ true → IsTold book taken j t.xid (Some v) version → Carries version (told_message t)
+    → Untold said taken o y → Attempt (said ++ record { step = k.steps + 1; client = i; message = told_message t } ∷ []) k.ops taken o version t.xid
+attempt_first book k said i taken t j o ops steps file mine none begun y version v own told carries old =
+    let q = told.moment in
+    let s : Said = record { step = k.steps + 1; client = i; message = told_message t } in
+    let past = told.past in
+    let same_xid : y ≡ t.xid = grind (arith, nat_tests, own) in (
+      q,
+      told.was,
+      ap (λ l. version_in l o.file q) (sym ops) ∙ ap (λ z. version_in book.ops z q) file ∙ told.version_is,
+      (s, Contains-append_right said (s ∷ []) s (Contains-push [] s), open_now o k.steps i mine none begun, omega (arith, past, steps), carries),
+      λ w here of late tells. elim (one_more said s w here) [
+        | inl was ↦ absurd (old q (ap (taken_at taken) same_xid ∙ told.was) w was of late tells)
+        | inr same ↦ subst (λ (z : Said). Carries version z.message) (sym same) carries
+      ],
+    )
+
 took_in : (book : Book) (k : Core) (said : List Said) (i : ℕ) (taken : List TakenCall) (closing : Option ℕ) (t : Told) (j : Job) (o : Op) → book.ops ≡ k.ops → book.steps ≡ k.steps → o.file ≡ j.file → o.client ≡ i → o.end ≡ None → o.begin ≤ k.steps → has_call (client.pending_in j.stage) t.xid ≡ true → AnswerOf book taken closing (Some j) t.xid t.reply
     → (st : Stage) → j.stage ≡ st → (r : Reply) → t.reply ≡ r → JobVersion said k.ops taken o st → TookIn (Attempt (said ++ record { step = k.steps + 1; client = i; message = told_message t } ∷ []) k.ops taken o) st t.xid (reply_body r)
+took_in book k said i taken closing t j o ops steps file mine none begun has answer (stage.Asking y) at (Versioned (Done l)) is old =
+    let own : (y == t.xid) ≡ true = or_none (y == t.xid) (ap (λ z. has_call (client.pending_in z) t.xid) (sym at) ∙ has) in
+    let h : IsLeased book taken j t.xid l = subst (AnswerOf book taken closing (Some j) t.xid) is answer j refl (at ∙ ap (λ z. stage.Asking z) (eqb-true y t.xid own)) in
+    attempt_first book k said i taken t j o ops steps file mine none begun y l.version h.value own h.told (subst (λ m. Carries l.version m) (sym (same_reply t (Versioned (Done l)) is)) refl) old
 took_in book k said i taken closing t j o ops steps file mine none begun has answer (stage.Hashing tries y) at (Hashed (Done g)) is old =
     let own : (y == t.xid) ≡ true = or_none (y == t.xid) (ap (λ z. has_call (client.pending_in z) t.xid) (sym at) ∙ has) in
     let told = subst (AnswerOf book taken closing (Some j) t.xid) is answer j 0 refl (ap (λ s. hash_offset s t.xid) at ∙ ap (λ b. cond b (Some 0) None) own) in
     let h : IsHashed book taken j t.xid 0 g = told.0 in
-    let q = h.told.moment in
-    let version : g.version ≡ h.file.version = ap (λ (z : Hashes). z.version) h.is in
-    let s : Said = record { step = k.steps + 1; client = i; message = told_message t } in
-    let carries : Carries g.version (told_message t) = subst (λ m. Carries g.version m) (sym (same_reply t (Hashed (Done g)) is)) refl in
-    let past = h.told.past in
-    let same_xid : y ≡ t.xid = grind (arith, nat_tests, own) in (
-      q,
-      h.told.was,
-      ap (λ l. version_in l o.file q) (sym ops) ∙ ap (λ z. version_in book.ops z q) file ∙ h.told.version_is ∙ sym version,
-      (s, Contains-append_right said (s ∷ []) s (Contains-push [] s), open_now o k.steps i mine none begun, omega (arith, past, steps), carries),
-      λ w here of late hashes. elim (one_more said s w here) [
-        | inl was ↦ absurd (old q (ap (taken_at taken) same_xid ∙ h.told.was) w was of late hashes)
-        | inr same ↦ subst (λ (z : Said). Carries g.version z.message) (sym same) carries
-      ],
-    )
+    attempt_first book k said i taken t j o ops steps file mine none begun y g.version h.value own (subst (IsTold book taken j t.xid (Some h.value)) (sym (ap (λ (z : Hashes). z.version) h.is)) h.told) (subst (λ m. Carries g.version m) (sym (same_reply t (Hashed (Done g)) is)) refl) old
 took_in book k said i taken closing t j o ops steps file mine none begun has answer (stage.Listing y f) at (Hashed (Done g)) is old = λ same.
     attempt_more said k.ops taken o (record { step = k.steps + 1; client = i; message = told_message t }) f.version f.first (λ hashes. subst (λ m. Carries f.version m) (sym (same_reply t (Hashed (Done g)) is)) (eqb-true g.version f.version same)) old
 took_in book k said i taken closing t j o ops steps file mine none begun has answer (stage.Reading f) at (Bytes (Done p)) is old =
-    attempt_more said k.ops taken o (record { step = k.steps + 1; client = i; message = told_message t }) f.version f.first (λ hashes. absurd (subst (λ m. IsHashes m) (same_reply t (Bytes (Done p)) is) hashes)) old
+    attempt_more said k.ops taken o (record { step = k.steps + 1; client = i; message = told_message t }) f.version f.first (λ hashes. absurd (subst (λ m. TellsVersion m) (same_reply t (Bytes (Done p)) is) hashes)) old
 took_in book k said i taken closing t j o ops steps file mine none begun has answer st at r is old = tt
 
 versions_hears : FitLaws → (book more : Book) (past : List Moment) (k : Core) (qs after : List Queue) (n now : ℕ) (bytes : List ℕ) (mid : List Queue) → IsKept book k qs → (h : Heard k qs n now bytes mid) → IsKept more (happens k (Hears n now bytes)).core after → CountedAt past k → VersionsAt past k → VersionsBy past k (Hears n now bytes) (happens k (Hears n now bytes))
@@ -633,6 +640,13 @@ pub carried_versions : FitLaws → Carried Versions
 carried_versions laws = record {
   first = λ all opening files changes count kept. (carried_counts.first all opening files changes count kept, record { jobs = λ i seat j o here is at. nothing_there o at; opened = λ p len q digest o at e point. nothing_there o at });
   steps = λ all past rest opening k qs e mid after s h. (carried_counts.steps all past rest opening k qs e mid after s h.0, subst (λ z. HaveVersions z (happens k e).core.sessions (happens k e).core.seats (happens k e).core.ops) (taken_more past (moment k e)) (versions_event laws all past rest opening k qs e mid after s h.0 h.1));
+  adjusts = λ all past opening k qs index seats same h. (
+    h.0,
+    record {
+      jobs = λ i seat j o here is at. let w = same.was i seat here in subst (λ (z : Seat). JobVersion (taken_of past) k.ops (takens k.sessions z) o j.stage) (sym w.4) (h.1.jobs i w.0 j o w.3 (ap job (sym w.4) ∙ is) at);
+      opened = h.1.opened;
+    },
+  );
 }
 
 -- ---- what it makes of the promise

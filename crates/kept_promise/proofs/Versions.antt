@@ -5,8 +5,8 @@ use Rattle.open_close.specs.declared.task.Stage.TheVariants as stage
 use Rattle.register_model.specs.declared.op.Outcome.TheVariants as told
 use Rattle.register_model.specs.declared.op.Word.TheVariants as words
 use Rattle.trace_replay.specs.Core.{taken_of as session_taken}
-use Rattle.trace_replay.specs.Faithful.{Carries}
-use Rattle.kept_promise.proofs.Common.{◌==◌, ◌&&◌, nat_lt, slice_get, slice_set, filter, cond, Contains, option_map_or, ClientStep, Ended, Outcome, Stage, changes, changed_before, Op, Word, TakenCall, has_point, point_if, op_after, taken_at, Seat, Session, numbered, with_numbered, session_of, Said, is_of, IsHashes}
+use Rattle.trace_replay.specs.Faithful.{Carries, TellsVersion}
+use Rattle.kept_promise.proofs.Common.{◌==◌, ◌&&◌, nat_lt, slice_get, slice_set, filter, cond, Contains, option_map_or, ClientStep, Ended, Outcome, Stage, changes, changed_before, Op, Word, TakenCall, has_point, point_if, op_after, taken_at, Seat, Session, numbered, with_numbered, session_of, Said, is_of}
 use Rattle.kept_promise.proofs.Lists.{some_is, nothing_there, of_replaced}
 use Rattle.kept_promise.proofs.Messages.{Job, job}
 use Rattle.kept_promise.proofs.Counted.{SaidBy, said_by}
@@ -60,13 +60,13 @@ after_alike f p o c taken step acts = by acts.ended
 
 -- ---- what is carried
 
--- an answer to a GETHASH that this operation took after a moment carried this version
+-- an answer to a GETHASH, or to a GETLEASE, that this operation took after a moment carried this version
 abbrev pub CameTo : List Said → Op → (moment version : ℕ) → Type 0
 CameTo said o q v = (s : Said) × Contains said s × (is_of o s ≡ true) × (q < s.step) × Carries v s.message
 
 -- and so did each that it took after that moment
 abbrev pub Since : List Said → Op → (moment version : ℕ) → Type 0
-Since said o q v = (s : Said) → Contains said s → is_of o s ≡ true → q < s.step → IsHashes s.message → Carries v s.message
+Since said o q v = (s : Said) → Contains said s → is_of o s ≡ true → q < s.step → TellsVersion s.message → Carries v s.message
 
 -- an attempt: the moment at which its first call was taken, the version that the file had then, and what was told of it since
 abbrev pub Attempt : List Said → List Op → List TakenCall → Op → (version first : ℕ) → Type 0
@@ -74,7 +74,7 @@ Attempt said ops taken o v x = (q : ℕ) × (taken_at taken x ≡ Some q) × (ve
 
 -- nothing was told yet since a first call was taken, if it was
 abbrev pub Untold : List Said → List TakenCall → Op → (first : ℕ) → Type 0
-Untold said taken o x = (q : ℕ) → taken_at taken x ≡ Some q → (s : Said) → Contains said s → is_of o s ≡ true → q < s.step → IsHashes s.message → ⊥
+Untold said taken o x = (q : ℕ) → taken_at taken x ≡ Some q → (s : Said) → Contains said s → is_of o s ≡ true → q < s.step → TellsVersion s.message → ⊥
 
 -- the calls that were taken of a client's newest session
 abbrev pub takens : List Session → Seat → List TakenCall
@@ -123,11 +123,15 @@ job_alike n said more ops after taken later o r s past a e stays h = by s h
     attempt : (v x : ℕ) → Attempt said ops taken o v x → Attempt more after later r v x
     attempt v x (q, was, version, came, since) = (q, e.0 x q was, ap (λ f. version_in after f q) a.file ∙ stays o.file q (came_past n said o q v past came) ∙ version, came_alike said more o r q v a came, since_alike said more o r q v a since)
 
-    by : (s : Stage) → JobVersion said ops taken o s → JobVersion more after later r s
-    by (stage.Hashing tries x) h = λ q was s there of lt is. let b = a.back s there of in elim (e.1 x q was) [
+    untold : (x : ℕ) → Untold said taken o x → Untold more later r x
+    untold x h = λ q was s there of lt is. let b = a.back s there of in elim (e.1 x q was) [
       | inl old ↦ h q old s b.0 b.1 lt is
       | inr new ↦ (let le = said_by n said s past b.0 in omega (arith, le, lt, new))
     ]
+
+    by : (s : Stage) → JobVersion said ops taken o s → JobVersion more after later r s
+    by (stage.Asking x) h = untold x h
+    by (stage.Hashing tries x) h = untold x h
     by (stage.Listing x f) h = attempt f.version f.first h
     by (stage.Reading f) h = attempt f.version f.first h
     by _ h = tt

@@ -5,6 +5,7 @@ use Rattle.xdr_codec.specs.declared.answer.Answer.{Answer}
 use Rattle.xdr_codec.specs.declared.attr.Attr.{Attr}
 use Rattle.hash_calls.specs.declared.call.Committed.{Committed}
 use Rattle.hash_calls.specs.declared.call.Hashes.{Hashes}
+use Rattle.hash_calls.specs.declared.call.Leased.{Leased}
 use Rattle.hash_calls.specs.declared.message.Lb.TheVariants as lb
 use Rattle.hash_calls.specs.declared.message.LbProc.TheVariants as lb_proc
 use Rattle.nfs3_calls.specs.declared.call.Piece.{Piece}
@@ -16,13 +17,14 @@ use Rattle.wire.specs.declared.message.Message.{Message}
 use Rattle.wire.specs.declared.message.Message.TheVariants as message
 use Rattle.wire.specs.declared.message.Program.{Program}
 use Rattle.wire.specs.declared.message.Program.TheVariants as program
-use Rattle.open_close.specs.Opening.{hash_call, read_call}
+use Rattle.open_close.specs.Opening.{lease_call, hash_call, read_call}
 use Rattle.open_close.specs.Closing.{make_call, cond_call, commit_call}
 use Rattle.trace_replay.specs.World.{Wire, bytes_of}
 
 -- ---- calls and answers
 
 pub data Call : Type 0 where
+  Lease : (file : ℕ) → Call
   Hash : (file offset : ℕ) → Call
   Read : (file : ℕ) → Chunk → Call
   Make : (temp file : ℕ) → Call
@@ -31,6 +33,7 @@ pub data Call : Type 0 where
   Commit : (temp file size : ℕ) → Call
 
 pub data Reply : Type 0 where
+  Versioned : Answer Leased Unit → Reply
   Hashed : Answer Hashes Unit → Reply
   Bytes : Answer Piece (Option Attr) → Reply
   Made : Answer Unit Unit → Reply
@@ -48,6 +51,7 @@ pub record Told : Type 0 where
   pub reply : Reply
 
 abbrev pub call_message : (xid : ℕ) → Call → Message
+call_message xid (Lease file) = lease_call xid file
 call_message xid (Hash file offset) = hash_call xid file offset
 call_message xid (Read file c) = read_call xid file c
 call_message xid (Make temp file) = make_call xid temp file
@@ -59,6 +63,7 @@ abbrev pub ask_message : Ask → Message
 ask_message a = call_message a.xid a.call
 
 abbrev pub reply_body : Reply → Body
+reply_body (Versioned a) = body.Lb (lb.GetLeaseAnswer a)
 reply_body (Hashed a) = body.Lb (lb.GetHashAnswer a)
 reply_body (Bytes a) = body.Nfs (nfs.ReadAnswer a)
 reply_body (Made a) = body.Lb (lb.MkTmpFileAnswer a)
@@ -71,6 +76,7 @@ told_message t = message.Answer t.xid (reply_body t.reply)
 
 -- which procedure a call is of, and an answer
 abbrev pub call_program : Call → Program
+call_program (Lease file) = program.Lb lb_proc.GetLease
 call_program (Hash file offset) = program.Lb lb_proc.GetHash
 call_program (Read file c) = program.Nfs nfs_proc.Read
 call_program (Make temp file) = program.Lb lb_proc.MkTmpFile
@@ -79,6 +85,7 @@ call_program (Send temp start bytes) = program.Lb lb_proc.TmpWrite
 call_program (Commit temp file size) = program.Lb lb_proc.CommitTmp
 
 abbrev pub reply_program : Reply → Program
+reply_program (Versioned a) = program.Lb lb_proc.GetLease
 reply_program (Hashed a) = program.Lb lb_proc.GetHash
 reply_program (Bytes a) = program.Nfs nfs_proc.Read
 reply_program (Made a) = program.Lb lb_proc.MkTmpFile

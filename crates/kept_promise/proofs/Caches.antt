@@ -1,0 +1,153 @@
+-- What a client keeps of files, through what changes it: a content that is found then was there, or is the one that was put.
+use Rattle.std.proofs.Common.{◌⊎◌, inl, inr, ◌≡◌, ℕ, zero, suc, ◌+◌, ◌≤◌, List, [], ◌∷◌, ◌++◌, length, drop, Option, Some, None, Bool, true, false, refl, sym, ap, ◌∙◌, subst, arith, take, eqb-true, ne_eqb}
+use Rattle.std.proofs.lemmas.List.{length-take, length-drop}
+use Rattle.std.proofs.lemmas.Slice.Eq.{bytes_eq-Decides}
+use Rattle.std.specs.Prelude.{nat_eq, cond, unwrap_or}
+use Rattle.std.specs.Map.{remove_entry, set_value}
+use Rattle.client_cache.specs.Cache.{Entries, files_most, kept_of, nothing, content_in, content_of, bytes_in, fronted, reserved, keeps, evicts, with_content, without_content}
+use Rattle.client_cache.specs.declared.kept.Content.{Content}
+use Rattle.client_cache.specs.declared.kept.Kept.{Kept}
+use Rattle.chunk_index.specs.Index.{Indexed, key_of, place_of}
+use Rattle.chunk_index.specs.declared.place.Place.{Place}
+use Rattle.open_close.specs.Caching.{bytes_there, with_digest, from_index}
+use Rattle.open_close.specs.Looking.{found_bytes, chunks_found}
+use Rattle.trace_replay.specs.Book.{HadContent}
+use Rattle.kept_promise.proofs.Common.{nat_tests, Contains-append_left, Contains-append_right, Contains-push, ◌==◌, if◌then◌else◌, nat_le, bytes_eq, slice_get, Contains, sha1, Chunk, Book}
+use Rattle.kept_promise.proofs.Lists.{some_is, nothing_there, same_or_not}
+use Rattle.kept_promise.proofs.Facts.{Cached}
+
+-- ---- entries
+
+taken_found : (n : ℕ) (es : Entries) (f : ℕ) (k : Kept) → kept_of (take n es) f ≡ Some k → kept_of es f ≡ Some k
+taken_found zero es f k e = nothing_there k e
+taken_found (suc n) [] f k e = nothing_there k e
+taken_found (suc n) (x ∷ es) f k e = by (nat_eq f x.0) e (taken_found n es f k)
+  where
+    by : (b : Bool) → cond b (Some x.1) (kept_of (take n es) f) ≡ Some k → (kept_of (take n es) f ≡ Some k → kept_of es f ≡ Some k) → cond b (Some x.1) (kept_of es f) ≡ Some k
+    by true e later = e
+    by false e later = later e
+
+others_found : (es : Entries) (f g : ℕ) → (f ≡ g → ⊥) → kept_of (remove_entry (nat_eq g) es) f ≡ kept_of es f
+others_found [] f g apart = refl
+others_found (x ∷ es) f g apart = by (nat_eq g x.0) refl (others_found es f g apart)
+  where
+    by : (b : Bool) → nat_eq g x.0 ≡ b → kept_of (remove_entry (nat_eq g) es) f ≡ kept_of es f → kept_of (cond b es (x ∷ remove_entry (nat_eq g) es)) f ≡ kept_of (x ∷ es) f
+    by true is later = sym (ap (λ b. cond b (Some x.1) (kept_of es f)) (ne_eqb f x.0 (λ e. apart (e ∙ sym (eqb-true g x.0 is)))))
+    by false is later = ap (λ (o : Option Kept). cond (nat_eq f x.0) (Some x.1) o) later
+
+front_found : (n : ℕ) (es : Entries) (f g : ℕ) (k x : Kept) → kept_of (take n ((g, k) ∷ remove_entry (nat_eq g) es)) f ≡ Some x → ((f ≡ g) × (k ≡ x)) ⊎ (kept_of es f ≡ Some x)
+front_found n es f g k x e = by (nat_eq f g) refl (taken_found n ((g, k) ∷ remove_entry (nat_eq g) es) f x e)
+  where
+    by : (b : Bool) → nat_eq f g ≡ b → cond b (Some k) (kept_of (remove_entry (nat_eq g) es) f) ≡ Some x → ((f ≡ g) × (k ≡ x)) ⊎ (kept_of es f ≡ Some x)
+    by true is e = inl (eqb-true f g is, some_is k x e)
+    by false is e = elim (same_or_not f g) [ inl same ↦ absurd (differ same is) | inr apart ↦ inr (sym (others_found es f g apart) ∙ e) ]
+      where
+        differ : f ≡ g → nat_eq f g ≡ false → ⊥
+        differ same un = Rattle.kept_promise.proofs.Lists.false_and_true (nat_eq f g) un (Rattle.std.proofs.Common.eq-eqb f g same)
+
+-- a content that is found behind a new front
+front_content : (es : Entries) (f g : ℕ) (k : Kept) (c : Content) → content_of (fronted es g k) f ≡ Some c → ((f ≡ g) × (k.content ≡ Some c)) ⊎ (content_of es f ≡ Some c)
+unfolding fronted
+front_content es f g k c e = by (kept_of (fronted es g k) f) refl e
+  where
+    by : (o : Option Kept) → kept_of (take files_most ((g, k) ∷ remove_entry (nat_eq g) es)) f ≡ o → content_in o ≡ Some c → ((f ≡ g) × (k.content ≡ Some c)) ⊎ (content_of es f ≡ Some c)
+    by None at e = nothing_there c e
+    by (Some x) at e = elim (front_found files_most es f g k x at) [ inl new ↦ inl (new.0, ap (λ (z : Kept). z.content) new.1 ∙ e) | inr old ↦ inr (ap content_in old ∙ e) ]
+
+set_found : (es : Entries) (f g : ℕ) (w x : Kept) → kept_of (set_value (nat_eq g) es w) f ≡ Some x → (w ≡ x) ⊎ (kept_of es f ≡ Some x)
+set_found [] f g w x e = nothing_there x e
+set_found (y ∷ es) f g w x e = by (nat_eq g y.0) (nat_eq f y.0) e (set_found es f g w x)
+  where
+    by : (b d : Bool) → kept_of (cond b ((y.0, w) ∷ es) (y ∷ set_value (nat_eq g) es w)) f ≡ Some x → (kept_of (set_value (nat_eq g) es w) f ≡ Some x → (w ≡ x) ⊎ (kept_of es f ≡ Some x)) → (w ≡ x) ⊎ (kept_of (y ∷ es) f ≡ Some x)
+    by true d e later = first (nat_eq f y.0) e
+      where
+        first : (d : Bool) → cond d (Some w) (kept_of es f) ≡ Some x → (w ≡ x) ⊎ (cond d (Some y.1) (kept_of es f) ≡ Some x)
+        first true e = inl (some_is w x e)
+        first false e = inr e
+    by false d e later = further (nat_eq f y.0) e
+      where
+        further : (d : Bool) → cond d (Some y.1) (kept_of (set_value (nat_eq g) es w) f) ≡ Some x → (w ≡ x) ⊎ (cond d (Some y.1) (kept_of es f) ≡ Some x)
+        further true e = inr e
+        further false e = later e
+
+-- ---- what is kept
+
+pub cached_reserved : (book : Book) (es : Entries) (file : ℕ) → Cached book es → Cached book (reserved es file)
+cached_reserved book es file h f c e = elim (front_content es f file (unwrap_or (kept_of es file) nothing) c e) [ inl new ↦ h f c (subst (λ (z : ℕ). content_of es z ≡ Some c) (sym new.0) (there (kept_of es file) new.1)) | inr old ↦ h f c old ]
+  where
+    there : (o : Option Kept) → (unwrap_or o nothing).content ≡ Some c → content_in o ≡ Some c
+    there None e = nothing_there c e
+    there (Some k) e = e
+
+pub cached_with : (book : Book) (es : Entries) (file version : ℕ) (bytes : List ℕ) → HadContent book file version bytes → length bytes ≤ 67108864 → Cached book es → Cached book (with_content es file version bytes)
+cached_with book es file version bytes had short h = by (kept_of es file)
+  where
+    new : Content
+    new = record { version = version; bytes = bytes }
+
+    by : (o : Option Kept) → Cached book (keeps es file version bytes o)
+    by None f c e = h f c e
+    by (Some k) f c e = elim (front_content es f file (record k { content = Some (record { version = version; bytes = bytes }) }) c e) [
+      | inl here ↦ subst (λ (z : Content). HadContent book f z.version z.bytes × (length z.bytes ≤ 67108864)) (some_is new c here.1) (subst (λ (z : ℕ). HadContent book z version bytes) (sym here.0) had, short)
+      | inr old ↦ h f c old
+    ]
+
+pub cached_without : (book : Book) (es : Entries) (file : ℕ) → Cached book es → Cached book (without_content es file)
+cached_without book es file h = by (kept_of es file)
+  where
+    by : (o : Option Kept) → Cached book (evicts es file o)
+    by None f c e = h f c e
+    by (Some k) f c e = found (kept_of (set_value (nat_eq file) es (record k { content = None })) f) refl e
+      where
+        found : (o : Option Kept) → kept_of (set_value (nat_eq file) es (record k { content = None })) f ≡ o → content_in o ≡ Some c → HadContent book f c.version c.bytes × (length c.bytes ≤ 67108864)
+        found None at e = nothing_there c e
+        found (Some x) at e = elim (set_found es f file (record k { content = None }) x at) [ inl gone ↦ nothing_there c (ap (λ (z : Kept). z.content) gone ∙ e) | inr old ↦ h f c (ap content_in old ∙ e) ]
+
+-- ---- what the index gives of it
+
+-- bytes that were found have the chunk's length and its digest
+pub record Given (cache : Entries) (index : Indexed) (c : Chunk) (b : List ℕ) : Type 0 where
+  pub there : bytes_there cache c (place_of index.pairs (key_of c.digest)) ≡ Some b
+  pub digest : sha1 b ≡ c.digest
+  pub len : length b ≡ c.len
+
+range_length : (offset count : ℕ) (bytes : List ℕ) → offset + count ≤ length bytes → length (take count (drop offset bytes)) ≡ count
+range_length offset count bytes le = let a = length-take count (drop offset bytes) in let b = length-drop offset bytes in omega (arith, a, b, le)
+
+in_length : (o : Option Content) (p : Place) (b : List ℕ) → bytes_in o p ≡ Some b → length b ≡ p.count
+in_length None p b e = nothing_there b e
+in_length (Some c) p b e = by (nat_le (p.offset + p.count) (length c.bytes)) refl e
+  where
+    by : (t : Bool) → nat_le (p.offset + p.count) (length c.bytes) ≡ t → (if t then Some (take p.count (drop p.offset c.bytes)) else None) ≡ Some b → length b ≡ p.count
+    by true le e = ap length (sym (some_is (take p.count (drop p.offset c.bytes)) b e)) ∙ range_length p.offset p.count c.bytes (grind (arith, nat_tests, le))
+    by false le e = nothing_there b e
+
+there_length : (cache : Entries) (c : Chunk) (o : Option Place) (b : List ℕ) → bytes_there cache c o ≡ Some b → length b ≡ c.len
+there_length cache c None b e = nothing_there b e
+there_length cache c (Some p) b e = by (p.count == c.len) refl e
+  where
+    by : (t : Bool) → (p.count == c.len) ≡ t → (if t then bytes_in (content_of cache p.file) p else None) ≡ Some b → length b ≡ c.len
+    by true is e = in_length (content_of cache p.file) p b e ∙ eqb-true p.count c.len is
+    by false is e = nothing_there b e
+
+with_both : (digest : List ℕ) (o : Option (List ℕ)) (b : List ℕ) → with_digest digest o ≡ Some b → (o ≡ Some b) × (sha1 b ≡ digest)
+with_both digest None b e = nothing_there b e
+with_both digest (Some x) b e = by (bytes_eq (sha1 x) digest) refl e
+  where
+    by : (t : Bool) → bytes_eq (sha1 x) digest ≡ t → (if t then Some x else None) ≡ Some b → (Some x ≡ Some b) × (sha1 b ≡ digest)
+    by true same e = (e, ap sha1 (sym (some_is x b e)) ∙ (bytes_eq-Decides (sha1 x) digest).0 same)
+    by false same e = nothing_there b e
+
+pub given_is : (cache : Entries) (index : Indexed) (c : Chunk) (b : List ℕ) → from_index cache index c ≡ Some b → Given cache index c b
+given_is cache index c b e =
+    let h = with_both c.digest (bytes_there cache c (place_of index.pairs (key_of c.digest))) b e in
+    record { there = h.0; digest = h.1; len = there_length cache c (place_of index.pairs (key_of c.digest)) b h.0 }
+
+-- what is found for a chunk is among what is found for all
+found_here : (o : Option (List ℕ)) (rest : List (List ℕ)) (b : List ℕ) → o ≡ Some b → Contains (found_bytes o ++ rest) b
+found_here o rest b e = subst (λ (z : Option (List ℕ)). Contains (found_bytes z ++ rest) b) (sym e) (Contains-append_left (b ∷ []) rest b (Contains-push [] b))
+
+pub found_noted : (cache : Entries) (index : Indexed) (cs : List Chunk) (i : ℕ) (c : Chunk) (b : List ℕ) → slice_get cs i ≡ Some c → bytes_there cache c (place_of index.pairs (key_of c.digest)) ≡ Some b → Contains (chunks_found cache index cs) b
+found_noted cache index [] i c b at e = nothing_there c at
+found_noted cache index (d ∷ cs) zero c b at e = found_here (bytes_there cache d (place_of index.pairs (key_of d.digest))) (chunks_found cache index cs) b (ap (λ (z : Chunk). bytes_there cache z (place_of index.pairs (key_of z.digest))) (some_is d c at) ∙ e)
+found_noted cache index (d ∷ cs) (suc i) c b at e = Contains-append_right (found_bytes (bytes_there cache d (place_of index.pairs (key_of d.digest)))) (chunks_found cache index cs) b (found_noted cache index cs i c b at e)

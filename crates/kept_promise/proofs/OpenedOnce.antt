@@ -1,0 +1,370 @@
+-- A run carries that an open which got its content, and began more than one attempt, had its file change between its begin and its end; and what opens
+-- counted by that.
+use Rattle.std.proofs.Common.{inl, inr, ◌≡◌, ℕ, ◌+◌, ◌<◌, ◌≤◌, List, [], ◌∷◌, ◌++◌, length, Option, Some, None, Ok, Bool, true, false, refl, sym, ap, ◌∙◌, subst, arith, map}
+use Rattle.server_core.specs.State as server
+use Rattle.server_core.specs.declared.event.Event.TheVariants as event
+use Rattle.server_core.specs.declared.event.Told.{Told as Announced}
+use Rattle.server_core.specs.declared.event.Told.TheVariants as announced
+use Rattle.open_close.specs.State as client
+use Rattle.open_close.specs.declared.step.Outcome.TheVariants as outcome
+use Rattle.open_close.specs.declared.task.Stage.TheVariants as stage
+use Rattle.register_model.specs.declared.op.Outcome.TheVariants as told
+use Rattle.register_model.specs.declared.op.Word.TheVariants as words
+use Rattle.trace_replay.specs.Core.{taken_of as session_taken}
+use Rattle.trace_replay.specs.Faithful.{OpenedBy}
+use Rattle.trace_replay.specs.Traffic.{attempts_in, no_attempt}
+use Rattle.trace_replay.specs.Trail.{given_by_message}
+use Rattle.kept_promise.proofs.Common.{Deal.Sent, hashed_of, Deal.Took, Deal.Found, nat_tests, ◌==◌, ◌&&◌, nat_le, nat_lt, slice_get, slice_set, option_map_or, Body, Message, Pending, server_step, command_step, got_step, cut, idle, took_if, drops, ended_by, ClientStep, Ended, Stage, State, Task, changes, changed_before, until, Op, Opening, TakenCall, Traffic, op_after, Core, Seat, Session, Event, Event.Joins, Event.Does, Event.Serves, Event.Hears, Event.Settles, Event.Cuts, Event.Hangs, CoreStep, numbered, session_of, ops_after, ops_with, acted, does, joins_as, joins, settles, cuts_if, cuts, happens, Moment, client_of, owner_in, wanted_by, taken_by, given_by, is_in, Deal, deals_with, deals_in, deals_of, Book, Queue, version_at, told_message}
+use Rattle.kept_promise.proofs.Lists.{some_is, nothing_there, at_replaced, of_appended, of_replaced}
+use Rattle.kept_promise.proofs.Messages.{Job, job, stage_word, FetchOf, IsTrying}
+use Rattle.kept_promise.proofs.Rights.{Caused}
+use Rattle.kept_promise.proofs.Fits.{FitLaws}
+use Rattle.kept_promise.proofs.Facts.{IsKept, IsSession}
+use Rattle.kept_promise.proofs.RunsCarried.{book_at, moment, Step, Carried}
+use Rattle.kept_promise.proofs.Counted.{AlikeUpTo, running_now, running_past}
+use Rattle.kept_promise.proofs.CommandOps.{made_by, made_pointless, last_right}
+use Rattle.kept_promise.proofs.Actors.{acts_alone, Heard, heard_at, heard_acts, heard_takes, heard_gives}
+use Rattle.kept_promise.proofs.Versions.{version_in, count_replaced, count_appended}
+use Rattle.kept_promise.proofs.VersionRuns.{settled_are, own_op, close_not_opened, word_after}
+use Rattle.kept_promise.proofs.JobFacts.{ops_shape}
+use Rattle.kept_promise.proofs.StepCases.{Cases, took_cases}
+use Rattle.kept_promise.proofs.Taking.{Moved, version_later, versions_after, tries_of, moved_by}
+use Rattle.kept_promise.proofs.Logs.{deals_apart, deals_own, deals_more, deals_same, deals_pointed, deals_alike}
+use Rattle.kept_promise.proofs.LogSums.{begins_in, sum_join, sum_took, IsSum}
+use Rattle.kept_promise.proofs.LogEvents.{serves_silent, hangs_silent, LogsAt, carried_logs}
+use Rattle.kept_promise.proofs.MetLog.{MeetsBy, OpenMet, meets_laws, Tries, count_of, begun_count}
+use Rattle.kept_promise.proofs.OwnLog.{OpOwn}
+use Rattle.kept_promise.proofs.OpensLog.{OpenRead, last_most, once_is}
+
+-- ---- what is carried
+
+-- an open that got its content ended by now; where it began more than one attempt its file had changed
+pub record IsOnce (past : List Moment) (steps : ℕ) (ops : List Op) (o : Op) : Type 0 where
+  pub end : ℕ
+  pub end_is : o.end ≡ Some end
+  pub by : end ≤ steps
+  pub once : 1 < begins_in (deals_of o past) → Moved ops o.file o.begin end
+
+abbrev OnceAt : List Moment → Core → Type 0
+OnceAt past k = (p len : ℕ) (digest : List ℕ) (o : Op) → slice_get k.ops p ≡ Some o → o.outcome ≡ told.Opened len digest → IsOnce past k.steps k.ops o
+
+pub record Once (past : List Moment) (k : Core) : Type 0 where
+  pub met : LogsAt MeetsBy OpenMet past k
+  pub once : OnceAt past k
+
+-- ---- one that ended before
+
+-- nothing is said for it any more
+ended_apart : (o : Op) (e n c : ℕ) → o.end ≡ Some e → e ≤ n → is_in o (n + 1) c ≡ false
+ended_apart o e n c at le = ap (λ t. (c == o.client) && (nat_le o.begin (n + 1) && until t (n + 1))) at ∙ by (c == o.client) (nat_le o.begin (n + 1)) (nat_le (n + 1) e) refl
+  where
+    by : (a b d : Bool) → nat_le (n + 1) e ≡ d → (a && (b && d)) ≡ false
+    by a b true f = absurd (grind (arith, nat_tests, f, le))
+    by true true false f = refl
+    by true false false f = refl
+    by false b false f = refl
+
+-- an operation with another point, and a history that has the same versions so far
+stays : (past : List Moment) (k : Core) (e : Event) (steps : ℕ) (after : List Op) (o : Op) (t : Option ℕ) → k.steps ≤ steps → ((f q : ℕ) → q ≤ k.steps → version_in after f q ≡ version_in k.ops f q) → IsOnce past k.steps k.ops o → IsOnce (past ++ moment k e ∷ []) steps after (record o { point = t })
+stays past k e steps after o t le alike h = record {
+  end = h.end;
+  end_is = h.end_is;
+  by = let b = h.by in omega (arith, b, le);
+  once = λ lt.
+      let same : deals_of (record o { point = t }) (past ++ moment k e ∷ []) ≡ deals_of o past = deals_pointed o t (past ++ moment k e ∷ []) ∙ deals_same o past (moment k e) (deals_apart o (moment k e) (ended_apart o h.end k.steps (client_of k e) h.end_is h.by)) in
+      let m = h.once (subst (λ l. 1 < begins_in l) same lt) in
+      let a = m.1 in
+      let b = m.2 in
+      let c = h.by in
+      (m.0, m.1, m.2, λ v. m.3 (sym (alike o.file o.begin (omega (arith, a, b, c))) ∙ v ∙ alike o.file m.0 (omega (arith, b, c))));
+}
+
+-- ---- events
+
+same_versions : (ops after : List Op) → after ≡ ops → (f q n : ℕ) → q ≤ n → version_in after f q ≡ version_in ops f q
+same_versions ops after e f q n le = ap (λ (l : List Op). version_in l f q) e
+
+-- at which operations stay as they are
+once_same : (past : List Moment) (k after : Core) (e : Event) → k.steps ≤ after.steps → after.ops ≡ k.ops → OnceAt past k → OnceAt (past ++ moment k e ∷ []) after
+once_same past k after e le same h p len digest o at is = stays past k e after.steps after.ops o o.point le (λ f q lt. same_versions k.ops after.ops same f q k.steps lt) (h p len digest o (ap (λ (l : List Op). slice_get l p) (sym same) ∙ at) is)
+
+once_settles : (book : Book) (past : List Moment) (k : Core) (qs : List Queue) (now : ℕ) → IsKept book k qs → OnceAt past k → OnceAt (past ++ moment k (Settles now) ∷ []) (settles k now).core
+once_settles book past k qs now kept h = elim (settled_are book k qs now kept) [
+  | inl same ↦ once_same past k (settles k now).core (Settles now) (omega arith) same h
+  | inr new ↦
+      let o : Op = new.1 in
+      let made : Op = record o { point = Some (k.steps + 1) } in
+      let unmade = new.3 in
+      λ p len digest r at is.
+      let there : slice_get (slice_set k.ops new.0 (record new.1 { point = Some (k.steps + 1) })) p ≡ Some r = ap (λ (l : List Op). slice_get l p) (sym new.4) ∙ at in
+      elim (of_replaced k.ops new.0 made p r there) [
+        | inr old ↦ stays past k (Settles now) (k.steps + 1) (settles k now).core.ops r r.point (omega arith) (versions new.0 new.1 new.2 unmade.1 (settles k now).core.ops new.4) (h p len digest r old.1 is)
+        | inl mine ↦ absurd (close_not_opened book o len digest (kept.sound.rights new.0 o (ap (λ (l : List Op). slice_get l new.0) kept.ops ∙ new.2)) unmade.0 (ap (λ (z : Op). z.outcome) (sym mine.1) ∙ is))
+      ]
+]
+  where
+    versions : (place : ℕ) (o : Op) → slice_get k.ops place ≡ Some o → o.point ≡ None → (after : List Op) → after ≡ slice_set k.ops place (record o { point = Some (k.steps + 1) }) → (f q : ℕ) → q ≤ k.steps → version_in after f q ≡ version_in k.ops f q
+    versions place o at none after are f q le = ap (λ (l : List Op). version_in l f q) are ∙ ap (λ z. z + 1) (count_replaced f q k.ops place o (record o { point = Some (k.steps + 1) }) at (
+        ap (λ b. (changes o.word && (o.file == f)) && b) (let t : nat_lt (k.steps + 1) q ≡ false = grind (arith, nat_tests, le) in t) ∙ ap (λ z. (changes o.word && (o.file == f)) && option_map_or (λ x. nat_lt x q) z false) (sym none)
+        ))
+
+once_does : (more : Book) (past : List Moment) (k : Core) (after : List Queue) (c now : ℕ) (d : Rattle.kept_promise.proofs.Common.Command) (seat : Seat) → IsKept more (does k c now d (Some seat)).core after → OnceAt past k → OnceAt (past ++ moment k (Does c now d) ∷ []) (does k c now d (Some seat)).core
+once_does more past k after c now d seat left h p len digest o at is = elim (of_appended k.ops new p o at) [
+  | inr old ↦ stays past k (Does c now d) (k.steps + 1) (k.ops ++ new ∷ []) o o.point (omega arith) (λ f q le. ap (λ z. z + 1) (count_appended f q k.ops new (pointless f q))) (h p len digest o old is)
+  | inl last ↦
+      let w = subst (Caused more new) (ap (λ (z : Op). z.outcome) (sym last.1) ∙ is) (last_right more k.ops new left.ops left.sound).cause in
+      nothing_there w.1.point (sym none ∙ w.1.within.0)
+]
+  where
+    r : State × ClientStep
+    r = command_step seat.client d now
+
+    new : Op
+    new = made_by k c now d seat (command_step seat.client d now).0 (command_step seat.client d now).1
+
+    none : (made_by k c now d seat (command_step seat.client d now).0 (command_step seat.client d now).1).point ≡ None
+    none = made_pointless k c now d seat r.0 r.1 r.1.ended
+
+    pointless : (f q : ℕ) → changed_before f q (made_by k c now d seat (command_step seat.client d now).0 (command_step seat.client d now).1) ≡ false
+    pointless f q = ap (λ t. (changes new.word && (new.file == f)) && option_map_or (λ x. nat_lt x q) t false) none ∙ by (changes new.word && (new.file == f))
+      where
+        by : (b : Bool) → (b && false) ≡ false
+        by true = refl
+        by false = refl
+
+-- ---- an answer
+
+-- whatever ends an operation sends nothing
+abbrev IsQuiet : State × ClientStep → Type 0
+IsQuiet r = (e : Ended) → r.1.ended ≡ Some e → r.1.send ≡ []
+
+quiet_cases : (s : State) (calls : List Pending) (file : ℕ) (st : Stage) (x : ℕ) (b : Body) → Cases (λ found r. IsQuiet r) s calls file st x b
+quiet_cases s calls file st x b = record {
+  ends = λ r e unchanged came. λ d is. e.sent;
+  uses = λ y l bytes at is kept. λ d e. refl;
+  fetches = λ y l at is. λ d e. nothing_there d e;
+  anew = λ f version bytes open_ gave few came. λ d e. nothing_there d e;
+  changed = λ r f version e open_ gave last is. λ d at. e.sent;
+  lists = λ f g is at same far. λ d e. nothing_there d e;
+  reads = λ f bytes now here. λ d e. nothing_there d e;
+  opens = λ f bytes now here. λ d e. refl;
+  names = λ w at known none e. λ d is. nothing_there d is;
+  commits = λ w at known none e. λ d is. nothing_there d is;
+  whole = λ old c k at unknown none found chunk. λ d e. nothing_there d e;
+}
+
+quiet_drops : (s : State) (o : Option Task) (x : ℕ) (b : Bool) → IsQuiet (drops s o x b)
+quiet_drops s o x true d e = refl
+quiet_drops s (Some t) x false d e = refl
+quiet_drops s None x false d e = refl
+
+quiet_answer : (s : State) (o : Option Task) (x : ℕ) (b : Body) (own : Bool) → IsQuiet (took_if s o x b own)
+quiet_answer s (Some t) x b true = took_cases (λ found r. IsQuiet r) (idle s) (client.calls_of s) t.file t.stage x b (quiet_cases (idle s) (client.calls_of s) t.file t.stage x b)
+quiet_answer s (Some t) x b false = quiet_drops s (Some t) x (client.has_call s.forgotten x)
+quiet_answer s None x b own = quiet_drops s None x (client.has_call s.forgotten x)
+
+-- attempts that began, by the stage
+begun_by : (log : List Deal) (file : ℕ) (v : List ℕ) (st : Stage) → MeetsBy log file v st → stage_word st ≡ words.Open → 1 < begins_in log → 1 < tries_of st
+begun_by log file v st h word lt = by st h word
+  where
+    tried : (n : ℕ) (a : Rattle.trace_replay.specs.Traffic.Attempt) → Tries (attempts_in log) n a → 1 < n
+    tried n a t =
+        let c = begun_count log no_attempt in
+        let last = ap (λ l. length (Rattle.trace_replay.specs.Traffic.given_up l)) t.0 in
+        let count = t.1 in
+        omega (arith, c, last, count, lt)
+
+    by : (st : Stage) → MeetsBy log file v st → stage_word st ≡ words.Open → 1 < tries_of st
+    by (stage.Asking x) h w = let c = begun_count log no_attempt in let none = ap count_of h in absurd (omega (arith, c, none, lt))
+    by (stage.Hashing tries x) h w = tried tries _ h
+    by (stage.Listing x f) h w = tried f.tries _ h.1
+    by (stage.Reading f) h w = tried f.tries _ h.1
+    by (stage.Making x temp) h w = absurd cc
+    by (stage.Storing st) h w = absurd cc
+    by (stage.Committing x) h w = absurd cc
+
+once_hears : FitLaws → (all past : List Moment) (opening : List Opening) (k : Core) (qs after : List Queue) (n now : ℕ) (bytes : List ℕ) (mid : List Queue) → IsKept (book_at opening k all) k qs → (h : Heard k qs n now bytes mid) → IsKept (book_at opening (happens k (Hears n now bytes)).core all) (happens k (Hears n now bytes)).core after
+    → LogsAt MeetsBy OpenMet past k → OnceAt past k → OnceAt (past ++ moment k (Hears n now bytes) ∷ []) (happens k (Hears n now bytes)).core
+once_hears fits all past opening k qs after n now bytes mid kept h left met before =
+    subst (λ (t : CoreStep). OnceAt (past ++ moment k (Hears n now bytes) ∷ []) t.core) (sym turned)
+    (λ p len digest q at is. elim (ops_shape k.ops h.seat.place r.0 taken (k.steps + 1) r.1 p q at) [
+      | inr old ↦ stays past k (Hears n now bytes) (k.steps + 1) (ops_with k.ops h.seat.place r.0 taken (k.steps + 1) r.1) q q.point (omega arith) (λ f m le. versions_after k.ops h.seat.place r.0 taken (k.steps + 1) r.1 f m) (before p len digest q old.1 is)
+      | inl new ↦ subst (IsOnce (past ++ moment k (Hears n now bytes) ∷ []) (k.steps + 1) (ops_with k.ops h.seat.place r.0 taken (k.steps + 1) r.1)) (sym new.3) (ended p len digest new.0 new.1 new.2 (ap (λ (z : Op). z.outcome) (sym new.3) ∙ is))
+    ])
+  where
+    book : Book
+    book = book_at opening k all
+
+    more : Book
+    more = book_at opening (happens k (Hears n now bytes)).core all
+
+    r : State × ClientStep
+    r = got_step h.seat.client (Ok (told_message h.told)) now
+
+    taken : List TakenCall
+    taken = session_taken (session_of k.sessions h.seat.session)
+
+    turned : happens k (Hears n now bytes) ≡ acted k h.session.owner h.seat (got_step h.seat.client (Ok (told_message h.told)) now).0 (got_step h.seat.client (Ok (told_message h.told)) now).1
+    turned = heard_acts fits (book_at opening k all) k qs n now bytes mid kept h
+
+    owner : owner_in (numbered k.sessions n) ≡ h.session.owner
+    owner = ap owner_in h.at
+
+    taken_is : h.session.taken ≡ session_taken (session_of k.sessions h.seat.session)
+    taken_is = sym (ap (λ l. session_taken (session_of k.sessions l)) h.newest ∙ ap session_taken h.at)
+
+    s : IsSession (book_at opening k all) k.seats k.server n h.session h.queue
+    s = kept.sessions n h.session h.queue h.at h.queue_is
+
+    same_seat : s.seat ≡ h.seat
+    same_seat = some_is s.seat h.seat (sym s.owner ∙ h.owner)
+
+    log_is : (o new : Op) → AlikeUpTo k.steps o new → is_in new (k.steps + 1) h.session.owner ≡ true → deals_of new (past ++ moment k (Hears n now bytes) ∷ []) ≡ deals_of o past ++ deals_with (wanted_by h.seat.client (Ok (told_message h.told))) (given_by_message h.seat.client (Ok (told_message h.told))) (got_step h.seat.client (Ok (told_message h.told)) now).1.send
+    log_is o new same now_in =
+        deals_more new past (moment k (Hears n now bytes))
+        ∙ ap (λ l. l ++ deals_in new (moment k (Hears n now bytes))) (deals_alike k.steps o new past same met.by)
+        ∙ ap (λ l. deals_of o past ++ l) (
+        deals_own new (moment k (Hears n now bytes)) (ap (is_in new (k.steps + 1)) owner ∙ now_in)
+        ∙ ap (λ i. deals_with (taken_by k i (Hears n now bytes)) (given_by k i (Hears n now bytes)) (happens k (Hears n now bytes)).up) owner
+        ∙ ap (λ l. deals_with l (given_by k h.session.owner (Hears n now bytes)) (happens k (Hears n now bytes)).up) (heard_takes fits (book_at opening k all) k qs n now bytes mid kept h)
+        ∙ ap (λ l. deals_with (wanted_by h.seat.client (Ok (told_message h.told))) l (happens k (Hears n now bytes)).up) (heard_gives fits (book_at opening k all) k qs n now bytes mid kept h)
+        ∙ ap (λ (t : CoreStep). deals_with (wanted_by h.seat.client (Ok (told_message h.told))) (given_by_message h.seat.client (Ok (told_message h.told))) t.up) turned
+        )
+
+    ended : (p len : ℕ) (digest : List ℕ) (o : Op) → h.seat.place ≡ Some p → slice_get k.ops p ≡ Some o → (op_after o (got_step h.seat.client (Ok (told_message h.told)) now).0 (session_taken (session_of k.sessions h.seat.session)) (k.steps + 1) (got_step h.seat.client (Ok (told_message h.told)) now).1).outcome ≡ told.Opened len digest
+        → IsOnce (past ++ moment k (Hears n now bytes) ∷ []) (k.steps + 1) (ops_with k.ops h.seat.place (got_step h.seat.client (Ok (told_message h.told)) now).0 (session_taken (session_of k.sessions h.seat.session)) (k.steps + 1) (got_step h.seat.client (Ok (told_message h.told)) now).1) (op_after o (got_step h.seat.client (Ok (told_message h.told)) now).0 (session_taken (session_of k.sessions h.seat.session)) (k.steps + 1) (got_step h.seat.client (Ok (told_message h.told)) now).1)
+    ended p len digest o e at is = record { end = k.steps + 1; end_is = end_is r.1.ended is; by = omega arith; once = λ lt. moved lt }
+      where
+        w : (j : Job) × (job h.seat ≡ Some j) × (j.place ≡ p) × (o.client ≡ h.session.owner) × (o.outcome ≡ told.Running) × (o.file ≡ j.file)
+        w = own_op book k qs h.session.owner h.seat p o kept h.owner e at
+
+        new : Op
+        new = op_after o (got_step h.seat.client (Ok (told_message h.told)) now).0 (session_taken (session_of k.sessions h.seat.session)) (k.steps + 1) (got_step h.seat.client (Ok (told_message h.told)) now).1
+
+        running : told.Running ≡ told.Opened len digest → ⊥
+        running z = absurd cc
+
+        end_is : (l : Option Ended) → (op_after o r.0 taken (k.steps + 1) (record r.1 { ended = l })).outcome ≡ told.Opened len digest → (op_after o r.0 taken (k.steps + 1) (record r.1 { ended = l })).end ≡ Some (k.steps + 1)
+        end_is None z = absurd (running (sym w.4 ∙ z))
+        end_is (Some x) z = refl
+
+        -- it ended, and so sent nothing
+        silent : (got_step h.seat.client (Ok (told_message h.told)) now).1.send ≡ []
+        silent = by r.1.ended refl is
+          where
+            by : (l : Option Ended) → (got_step h.seat.client (Ok (told_message h.told)) now).1.ended ≡ l → (op_after o r.0 taken (k.steps + 1) (record r.1 { ended = l })).outcome ≡ told.Opened len digest → (got_step h.seat.client (Ok (told_message h.told)) now).1.send ≡ []
+            by None f z = absurd (running (sym w.4 ∙ z))
+            by (Some x) f z = quiet_answer h.seat.client h.seat.client.task h.told.xid (Rattle.kept_promise.proofs.Common.reply_body h.told.reply) (client.has_call (client.pending h.seat.client.task) h.told.xid) x f
+
+        moved : 1 < begins_in (deals_of (op_after o (got_step h.seat.client (Ok (told_message h.told)) now).0 (session_taken (session_of k.sessions h.seat.session)) (k.steps + 1) (got_step h.seat.client (Ok (told_message h.told)) now).1) (past ++ moment k (Hears n now bytes) ∷ []))
+            → Moved (ops_with k.ops h.seat.place (got_step h.seat.client (Ok (told_message h.told)) now).0 (session_taken (session_of k.sessions h.seat.session)) (k.steps + 1) (got_step h.seat.client (Ok (told_message h.told)) now).1) (op_after o (got_step h.seat.client (Ok (told_message h.told)) now).0 (session_taken (session_of k.sessions h.seat.session)) (k.steps + 1) (got_step h.seat.client (Ok (told_message h.told)) now).1).file (op_after o (got_step h.seat.client (Ok (told_message h.told)) now).0 (session_taken (session_of k.sessions h.seat.session)) (k.steps + 1) (got_step h.seat.client (Ok (told_message h.told)) now).1).begin (k.steps + 1)
+        moved lt =
+            let j : Job = w.0 in
+            let of = (kept.seats h.session.owner h.seat h.owner).task j w.1 in
+            let at_place : slice_get k.ops j.place ≡ Some o = ap (slice_get k.ops) w.2 ∙ at in
+            let word : o.word ≡ stage_word j.stage = ap (λ (z : Op). z.word) (some_is o of.op (sym at_place ∙ of.there)) ∙ of.word in
+            let actor = (acts_alone book k qs h.session.owner h.seat kept h.owner).own p o e at in
+            let ops_are : more.ops ≡ slice_set k.ops p new = ap (λ (t : CoreStep). t.core.ops) turned ∙ ap (λ l. ops_with k.ops l r.0 taken (k.steps + 1) r.1) e ∙ ap (λ l. ops_after k.ops p l r.0 taken (k.steps + 1) r.1) at in
+            let right = left.sound.rights p new (ap (λ (l : List Op). slice_get l p) ops_are ∙ at_replaced k.ops p new o at) in
+            let open_ : stage_word j.stage ≡ words.Open = sym word ∙ sym (word_after o r.0 taken (k.steps + 1) r.1) ∙ (subst (Caused more new) is right.cause).0 in
+            let job_is : job s.seat ≡ Some j = ap job same_seat ∙ w.1 in
+            let fetch = subst (λ z. FetchOf book z j j.stage) taken_is ((s.talk h.uncut).fetch j job_is) in
+            let trying = subst (IsTrying book) w.1 (kept.seats h.session.owner h.seat h.owner).trying in
+            let log = log_is o new (running_past o r.0 taken k.steps r.1 actor.1) (running_now o r.0 taken k.steps h.session.owner r.1 actor.0 actor.1 actor.2) in
+            let ts = wanted_by h.seat.client (Ok (told_message h.told)) in
+            let fs = given_by_message h.seat.client (Ok (told_message h.told)) in
+            let a = ap begins_in log in
+            let b = sum_join Rattle.kept_promise.proofs.Common.first_number (deals_of o past) (deals_with ts fs r.1.send) in
+            let c = sum_join Rattle.kept_promise.proofs.Common.first_number (map Took ts ++ map Found fs) (map Sent r.1.send) in
+            let d = sum_took Rattle.kept_promise.proofs.Common.first_number ts fs in
+            let none = ap (λ (ms : List Message). begins_in (map Sent ms)) silent in
+            let more_ = begun_by (deals_of o past) o.file o.value j.stage (met.jobs h.session.owner h.seat j o h.owner w.1 at_place) open_ (omega (arith, lt, a, b, c, d, none)) in
+            let m = moved_by book taken j o at_place trying fetch open_ more_ in
+            subst (λ f. Moved (ops_with k.ops h.seat.place r.0 taken (k.steps + 1) r.1) f new.begin (k.steps + 1)) (sym (file_is r.1.ended ∙ w.5))
+            (let begin = begin_is r.1.ended in let m1 = m.1 in (m.0, omega (arith, m1, begin), m.2, λ v. m.3 (ap (version_in k.ops j.file) (sym begin) ∙ sym (versions_after k.ops h.seat.place r.0 taken (k.steps + 1) r.1 j.file new.begin) ∙ v ∙ versions_after k.ops h.seat.place r.0 taken (k.steps + 1) r.1 j.file m.0)))
+          where
+            file_is : (l : Option Ended) → (op_after o r.0 taken (k.steps + 1) (record r.1 { ended = l })).file ≡ o.file
+            file_is None = refl
+            file_is (Some x) = refl
+
+            begin_is : (l : Option Ended) → (op_after o r.0 taken (k.steps + 1) (record r.1 { ended = l })).begin ≡ o.begin
+            begin_is None = refl
+            begin_is (Some x) = refl
+
+-- ---- any event
+
+once_cuts : (book : Book) (past : List Moment) (k : Core) (qs : List Queue) (c : ℕ) (seat : Seat) → IsKept book k qs → numbered k.seats c ≡ Some seat → OnceAt past k → OnceAt (past ++ moment k (Cuts c) ∷ []) (cuts k c (Some seat)).core
+once_cuts book past k qs c seat kept here h = by seat.client.linked
+  where
+    lost : Ended
+    lost = record { outcome = outcome.Lost; rests_on = 0 }
+
+    taken : List TakenCall
+    taken = session_taken (session_of k.sessions seat.session)
+
+    gone : State
+    gone = (cut seat.client).0
+
+    not_opened : (o : Op) (len : ℕ) (digest : List ℕ) (t : Option Task) → o.outcome ≡ told.Running → (op_after o gone taken (k.steps + 1) (ended_by t lost)).outcome ≡ told.Opened len digest → ⊥
+    not_opened o len digest None run is = running (sym run ∙ is)
+      where
+        running : told.Running ≡ told.Opened len digest → ⊥
+        running z = absurd cc
+    not_opened o len digest (Some t) run is = absurd cc
+
+    by : (b : Bool) → OnceAt (past ++ moment k (Cuts c) ∷ []) (cuts_if k c seat b).core
+    by false = once_same past k (cuts_if k c seat false).core (Cuts c) (omega arith) refl h
+    by true = λ p len digest q at is. elim (ops_shape k.ops seat.place gone taken (k.steps + 1) (cut seat.client).1 p q at) [
+      | inr old ↦ stays past k (Cuts c) (k.steps + 1) (ops_with k.ops seat.place gone taken (k.steps + 1) (cut seat.client).1) q q.point (omega arith) (λ f m le. versions_after k.ops seat.place gone taken (k.steps + 1) (cut seat.client).1 f m) (h p len digest q old.1 is)
+      | inl new ↦ absurd (not_opened new.0 len digest seat.client.task (own_op book k qs c seat p new.0 kept here new.1 new.2).4 (ap (λ (z : Op). z.outcome) (sym new.3) ∙ is))
+    ]
+
+once_event : FitLaws → (all past rest : List Moment) (opening : List Opening) (k : Core) (qs : List Queue) (e : Event) (mid after : List Queue) → Step all past rest opening k qs e mid after → Once past k → OnceAt (past ++ moment k e ∷ []) (happens k e).core
+once_event laws all past rest opening k qs (Joins c) mid after s h = subst (λ (o : Option Seat). OnceAt (past ++ moment k (Joins c) ∷ []) (joins k c o).core) (sym s.finds.1) (by s.finds.0 (server_step k.server event.Connect).0 (server_step k.server event.Connect).1.told)
+  where
+    by : (seat : Seat) (s : server.State) (o : Announced) → OnceAt (past ++ moment k (Joins c) ∷ []) (joins_as k c seat s o).core
+    by seat s (announced.Session made) = once_same past k (joins_as k c seat s (announced.Session made)).core (Joins c) (omega arith) refl h.once
+    by seat s o = once_same past k (joins_as k c seat s o).core (Joins c) (omega arith) refl h.once
+once_event laws all past rest opening k qs (Does c now d) mid after s h = subst (λ (o : Option Seat). IsKept (book_at opening (does k c now d o).core all) (does k c now d o).core after → OnceAt (past ++ moment k (Does c now d) ∷ []) (does k c now d o).core) (sym s.finds.1) (λ left. once_does (book_at opening (does k c now d (Some s.finds.0)).core all) past k after c now d s.finds.0 left h.once) s.left
+once_event laws all past rest opening k qs (Serves n now bytes) mid after s h = let q = serves_silent k n now bytes (numbered k.sessions n) in once_same past k (happens k (Serves n now bytes)).core (Serves n now bytes) q.3 q.1 h.once
+once_event laws all past rest opening k qs (Hears n now bytes) mid after s h = once_hears laws all past opening k qs after n now bytes mid s.kept (heard_at (book_at opening k all) k qs n now bytes mid s.kept s.finds) s.left h.met h.once
+once_event laws all past rest opening k qs (Settles now) mid after s h = once_settles (book_at opening k all) past k qs now s.kept h.once
+once_event laws all past rest opening k qs (Cuts c) mid after s h = subst (λ (o : Option Seat). OnceAt (past ++ moment k (Cuts c) ∷ []) (cuts k c o).core) (sym s.finds.1) (once_cuts (book_at opening k all) past k qs c s.finds.0 s.kept s.finds.1 h.once)
+once_event laws all past rest opening k qs (Hangs n) mid after s h = let q = hangs_silent k n (numbered k.sessions n) in once_same past k (happens k (Hangs n)).core (Hangs n) q.3 q.1 h.once
+
+met_carried : FitLaws → Carried (λ all past opening k qs. LogsAt MeetsBy OpenMet past k)
+met_carried laws = carried_logs (λ all. MeetsBy) (λ all. OpenMet) meets_laws laws
+
+abbrev pub IsMet : (all past : List Moment) → List Opening → Core → List Queue → Type 0
+IsMet all past opening k qs = Once past k
+
+pub carried_once : FitLaws → Carried IsMet
+carried_once laws = record {
+  first = λ all opening files changes count kept. record { met = (met_carried laws).first all opening files changes count kept; once = λ p len digest o at e. nothing_there o at };
+  steps = λ all past rest opening k qs e mid after s h. record { met = (met_carried laws).steps all past rest opening k qs e mid after s h.met; once = once_event laws all past rest opening k qs e mid after s h };
+  adjusts = λ all past opening k qs index seats same h. record { met = (met_carried laws).adjusts all past opening k qs index seats same h.met; once = λ p len digest o at is. (let w = h.once p len digest o at is in record { end = w.end; end_is = w.end_is; by = w.by; once = w.once }) };
+}
+
+-- ---- what it makes of the promise
+
+-- an open counted its last attempt at least; just that where its file had one version
+pub opened_once : (book : Book) (o : Op) (len : ℕ) (digest : List ℕ) → o.outcome ≡ told.Opened len digest → o.word ≡ words.Open → IsSum o.traffic (deals_of o book.moments) → OpOwn (deals_of o book.moments) o.word o.file o.value o.outcome → OpenRead (hashed_of book.moments) (deals_of o book.moments) o.word o.file o.value o.outcome → IsOnce book.moments book.steps book.ops o → OpenedBy book o
+opened_once book o len digest is open_ sum own read once = record {
+  reads = let r = sum.read in let b = (last_most (deals_of o book.moments)).0 in omega (arith, r, b);
+  bytes = let d = sum.data_is in let b = (last_most (deals_of o book.moments)).1 in omega (arith, d, b);
+  once = λ e at versions. once_is book.moments o (hashed_of book.moments) len digest is open_ own read sum (one e at versions);
+}
+  where
+    -- it began one attempt alone
+    one : (e : ℕ) → o.end ≡ Some e → version_at book o.file o.begin ≡ version_at book o.file (e + 1) → begins_in (deals_of o book.moments) ≤ 1
+    one e at versions = by (nat_lt 1 (begins_in (deals_of o book.moments))) refl
+      where
+        by : (b : Bool) → nat_lt 1 (begins_in (deals_of o book.moments)) ≡ b → begins_in (deals_of o book.moments) ≤ 1
+        by false f = grind (arith, nat_tests, f)
+        by true f =
+            let m = once.once (grind (arith, nat_tests, f)) in
+            let last : e ≡ once.end = some_is e once.end (sym at ∙ once.end_is) in
+            let le = m.2 in
+            let x = version_later book.ops o.file o.begin m.0 m.1 in
+            let y = version_later book.ops o.file m.0 (e + 1) (omega (arith, le, last)) in
+            absurd (m.3 (omega (arith, x, y, versions)))

@@ -1,0 +1,506 @@
+-- What a client's step can come to, by a command or by an answer to a call of its operation: whatever holds of each case holds of the step. And what
+-- is true of the calls that go out in it, one by one.
+use Rattle.std.proofs.Common.{◌⊎◌, inl, inr, ◌≡◌, ℕ, zero, suc, ◌+◌, ◌<◌, ◌≤◌, List, [], ◌∷◌, ◌++◌, length, Option, Some, None, Bool, true, false, refl, sym, ap, ◌∙◌, subst, arith}
+use Rattle.command_text.specs.declared.command.Command.TheVariants as command
+use Rattle.xdr_codec.specs.declared.status.Status.TheVariants as status
+use Rattle.hash_calls.specs.declared.call.Leased.{Leased}
+use Rattle.hash_calls.specs.declared.message.Lb.TheVariants as lb
+use Rattle.nfs3_calls.specs.declared.message.Nfs.TheVariants as nfs
+use Rattle.wire.specs.declared.message.Body.TheVariants as body
+use Rattle.wire.specs.declared.message.Message.TheVariants as message
+use Rattle.chunk_index.specs.Index.{Indexed}
+use Rattle.client_cache.specs.Cache.{Entries, reserved, content_of}
+use Rattle.client_cache.specs.declared.kept.Content.{Content}
+use Rattle.open_close.specs.Caching.{content_in, from_index, found_all}
+use Rattle.open_close.specs.Looking.{listed_if, listed_by, taken_if, taken_at, taken_by, reading_by, with_file}
+use Rattle.open_close.specs.Opening.{calls_most, reads_chunk, looked_up}
+use Rattle.open_close.specs.Shape.{or_else, file_limit, pairs_most}
+use Rattle.open_close.specs.Step.{changes, closed, asks_kept, asks_file, uses_kept, told_lease}
+use Rattle.open_close.specs.State.{with_local, without_local}
+use Rattle.open_close.specs.declared.step.BadPeer.TheVariants as bad
+use Rattle.open_close.specs.declared.step.Outcome.TheVariants as outcome
+use Rattle.open_close.specs.declared.task.Stage.TheVariants as stage
+use Rattle.open_close.specs.declared.task.Way.TheVariants as way
+use Rattle.register_model.specs.declared.op.Word.TheVariants as words
+use Rattle.trace_replay.specs.Trail.{given_in}
+use Rattle.kept_promise.proofs.Common.{nat_tests, ◌==◌, ◌&&◌, not, if◌then◌else◌, sha1, end_from, end_of, slice_get, nat_lt, Chunk, content_length, content_bytes, Command, Answer, Done, Failed, Status, Hashes, Pair, Piece, Body, Pending, names_next, names_more, names_all, is_stored, store_of, store_at, answered, ends, local_most, written_size, written, truncated, tries_most, fetch_of, with_hashes, listed, reads_next, reads_more, reads_all, is_here, read_at, fault_in, other_version, with_bytes, Broken, broken_if, broken_pair, broken_pairs, chunks_from, with_pairs, broken_sum, broken_of, State, local_at, local_bytes, part_of, bad_peer, refused, tries_anew, retries, reads_if, reads_on, lists_on, told_shape, told_version, told_hashes, misfits, told_bytes, told_chunk, told_piece, goes_if, goes_on, sends_whole, told_named, told_way, told_stored, forgets, idle, took, is_open, may_ask, opens_if, opens, on_local, too_big, done_with, edits, writes, truncates, abandons, asks_temp, closes, command_step, Names, Reads, BadPeer, ClientStep, Ended, Outcome, Fetch, Local, ReadCall, Stage, Store, StoreCall, Task, Way, Word, no_counts, taken_traffic}
+use Rattle.kept_promise.proofs.Lists.{some_is, nothing_there}
+use Rattle.kept_promise.proofs.Messages.{stage_word}
+
+-- ---- calls that go out one by one
+
+-- whatever each further chunk of a fetch keeps is so of all
+pub reads_keep : (P : Reads → Type 0) (cache : Entries) (index : Indexed) (file : ℕ)
+    → ((r : Reads) (c : Chunk) (o : Option (List ℕ)) → P r → slice_get r.fetch.chunks r.fetch.asked ≡ Some c → from_index cache index c ≡ o → P (reads_chunk file r c o)) → (k : ℕ) (r : Reads) → P r → P (reads_more k cache index file r)
+reads_keep P cache index file step zero r h = h
+reads_keep P cache index file step (suc k) r h = by (nat_lt (length r.fetch.under) calls_most) (λ q g. reads_keep P cache index file step k q g)
+  where
+    one : (o : Option Chunk) → slice_get r.fetch.chunks r.fetch.asked ≡ o → P (reads_next cache index file r o)
+    one None e = h
+    one (Some c) e = step r c (from_index cache index c) h e refl
+
+    by : (b : Bool) → ((q : Reads) → P q → P (reads_more k cache index file q)) → P (if b then reads_more k cache index file (reads_next cache index file r (slice_get r.fetch.chunks r.fetch.asked)) else r)
+    by true later = later (reads_next cache index file r (slice_get r.fetch.chunks r.fetch.asked)) (one (slice_get r.fetch.chunks r.fetch.asked) refl)
+    by false later = h
+
+-- and each further chunk of a close
+pub names_keep : (P : Names → Type 0) → ((n : Names) (c : Chunk) → P n → slice_get n.store.chunks n.store.named ≡ Some c → P (names_next n (Some c))) → (k : ℕ) (n : Names) → P n → P (names_more k n)
+names_keep P step zero n h = h
+names_keep P step (suc k) n h = names_keep P step k (names_next n (slice_get n.store.chunks n.store.named)) (one (slice_get n.store.chunks n.store.named) refl)
+  where
+    one : (o : Option Chunk) → slice_get n.store.chunks n.store.named ≡ o → P (names_next n o)
+    one None e = h
+    one (Some c) e = step n c h e
+
+-- where no call is under way one may be
+pub some_call : 0 < calls_most
+unfolding calls_most
+some_call = omega arith
+
+abbrev going : ℕ → Entries → Indexed → (file : ℕ) → Reads → Bool → Reads
+going k cache index file r b = if b then reads_more k cache index file (reads_next cache index file r (slice_get r.fetch.chunks r.fetch.asked)) else r
+
+past_all : {A : Type 0} (xs : List A) (k : ℕ) → slice_get xs k ≡ None → length xs ≤ k
+past_all [] k e = omega arith
+past_all (x ∷ xs) zero e = absurd cc
+past_all (x ∷ xs) (suc k) e = let h = past_all xs k e in omega (arith, h)
+
+-- Where no READ is under way then, all chunks were looked up.
+pub reads_end : (cache : Entries) (index : Indexed) (file k : ℕ) (r : Reads) → length r.fetch.chunks ≤ r.fetch.asked + k → (reads_more k cache index file r).fetch.under ≡ [] → length (reads_more k cache index file r).fetch.chunks ≤ (reads_more k cache index file r).fetch.asked
+reads_end cache index file zero r le none = omega (arith, le)
+reads_end cache index file (suc k) r le none = by (nat_lt (length r.fetch.under) calls_most) refl none (λ q less gone. reads_end cache index file k q less gone)
+  where
+    one : (c : Chunk) (o : Option (List ℕ)) → length (reads_chunk file r c o).fetch.chunks ≤ (reads_chunk file r c o).fetch.asked + k
+    one c None = omega (arith, le)
+    one c (Some bytes) = omega (arith, le)
+
+    next : (o : Option Chunk) → slice_get r.fetch.chunks r.fetch.asked ≡ o → length (reads_next cache index file r o).fetch.chunks ≤ (reads_next cache index file r o).fetch.asked + k
+    next None e = let n = past_all r.fetch.chunks r.fetch.asked e in omega (arith, n)
+    next (Some c) e = one c (from_index cache index c)
+
+    by : (b : Bool) → nat_lt (length r.fetch.under) calls_most ≡ b → (going k cache index file r b).fetch.under ≡ []
+        → ((q : Reads) → length q.fetch.chunks ≤ q.fetch.asked + k → (reads_more k cache index file q).fetch.under ≡ [] → length (reads_more k cache index file q).fetch.chunks ≤ (reads_more k cache index file q).fetch.asked)
+        → length (going k cache index file r b).fetch.chunks ≤ (going k cache index file r b).fetch.asked
+    by true lt gone later = later (reads_next cache index file r (slice_get r.fetch.chunks r.fetch.asked)) (next (slice_get r.fetch.chunks r.fetch.asked) refl) gone
+    by false full gone later = let e = ap (λ (l : List ReadCall). length l) gone in let some = some_call in absurd (grind (arith, nat_tests, full, e, some))
+
+-- ---- a further piece of chunks is asked for behind some bytes
+
+both_none : (a b : Broken) → or_else a b ≡ None → (a ≡ None) × (b ≡ None)
+both_none None b e = (refl, e)
+both_none (Some x) b e = absurd cc
+
+unbroken : (b : Bool) (got wanted : ℕ) → broken_if b got wanted ≡ None → b ≡ false
+unbroken true got wanted e = absurd cc
+unbroken false got wanted e = refl
+
+grows : (last : Bool) (at : ℕ) (ps : List Pair) → broken_pairs last ps ≡ None → at + length ps ≤ end_from at (chunks_from at ps)
+grows last at [] e = omega arith
+grows last at (p ∷ ps) e =
+    let a = both_none (broken_pair (last && length ps == 0) p) (broken_pairs last ps) e in
+    let some : (p.size == 0) ≡ false = unbroken (p.size == 0) 0 1 (both_none (broken_if (p.size == 0) 0 1) _ a.0).0 in
+    let later = grows last (at + p.size) ps a.1 in
+    let pos : 1 ≤ p.size = grind (arith, nat_tests, some) in
+    omega (arith, later, pos)
+
+end_append : (at : ℕ) (cs ds : List Chunk) → end_from at (cs ++ ds) ≡ end_from (end_from at cs) ds
+end_append at [] ds = refl
+end_append at (c ∷ cs) ds = end_append (c.start + c.len) cs ds
+
+pub behind : (f : Fetch) (h : Hashes) → broken_of f h ≡ None → h.eof ≡ false → (end_of (with_hashes f h).chunks == 0) ≡ false
+behind f h e more =
+    let a = (both_none (broken_if (nat_lt file_limit h.size) h.size file_limit) _ e).1 in
+    let b = (both_none (broken_if (nat_lt pairs_most (length h.pairs)) (length h.pairs) pairs_most) _ a).1 in
+    let c = (both_none (broken_if (not (h.size == f.size)) h.size f.size) _ b).1 in
+    let d = both_none (broken_pairs h.eof h.pairs) _ c in
+    let s = subst (λ z. broken_sum z (end_of (with_pairs f.chunks h.pairs)) h.size (length h.pairs) ≡ None) more d.1 in
+    let some : (length h.pairs == 0) ≡ false = unbroken (length h.pairs == 0) 0 1 (both_none (broken_if (nat_lt h.size (end_of (with_pairs f.chunks h.pairs))) (end_of (with_pairs f.chunks h.pairs)) h.size) _ s).1 in
+    let le = grows h.eof (end_of f.chunks) h.pairs d.0 in
+    let is = end_append 0 f.chunks (chunks_from (end_of f.chunks) h.pairs) in
+    let pos : 1 ≤ length h.pairs = grind (arith, nat_tests, some) in
+    let far : 1 ≤ end_of (with_hashes f h).chunks = omega (arith, le, is, pos) in
+    grind (arith, nat_tests, far)
+
+-- ---- an answer
+
+-- a peer's fault ends it
+abbrev pub IsFault : Option Ended → Type 0
+IsFault None = ⊥
+IsFault (Some e) = (f : BadPeer) × (e.outcome ≡ outcome.BadPeer f)
+
+-- an answer to a CONDWRITE of a chunk that the server doesn't know
+abbrev pub IsUnknown : Body → Type 0
+IsUnknown (body.Lb (lb.CondWriteAnswer (Failed status.HashNotFound u))) = Unit {0}
+IsUnknown b = ⊥
+
+-- an open that got its content
+abbrev pub IsOpenedBy : Outcome → Type 0
+IsOpenedBy (outcome.Opened file len digest) = Unit {0}
+IsOpenedBy o = ⊥
+
+-- the bytes of a READ in an answer
+abbrev pub bytes_came : (xid : ℕ) → Body → ℕ
+bytes_came x b = (taken_traffic (message.Answer x b)).«data»
+
+-- an operation ends, but not by an opened file
+pub record JustEnds (x : ℕ) (b : Body) (r : State × ClientStep) : Type 0 where
+  pub sent : r.1.send ≡ []
+  pub bytes : ℕ
+  pub counts : r.1.counts ≡ record no_counts { bytes = bytes }
+  pub task : r.0.task ≡ None
+  pub ended : Ended
+  pub ended_is : r.1.ended ≡ Some ended
+  pub unopened : IsOpenedBy ended.outcome → ⊥
+  -- by a peer's fault, or an answer that isn't of an unknown chunk, whose bytes are counted
+  pub known : IsFault r.1.ended ⊎ ((IsUnknown b → ⊥) × (bytes ≡ bytes_came x b))
+
+-- by versions that differ
+abbrev pub IsChangedBy : (first last : ℕ) → State × ClientStep → Type 0
+IsChangedBy first last r = (e : Ended) × (r.1.ended ≡ Some e) × (e.outcome ≡ outcome.Changed first last)
+
+-- the attempt that an answer to a GETHASH is of, without its pieces
+abbrev pub FetchIn : Stage → (xid : ℕ) → Hashes → Fetch → Type 0
+FetchIn st x h f = ((tries y : ℕ) × (st ≡ stage.Hashing tries y) × (f ≡ fetch_of tries x h)) ⊎ ((y : ℕ) × (st ≡ stage.Listing y f))
+
+-- all its chunks are told, or the bytes of one have come
+pub data FetchNow (st : Stage) (x : ℕ) (b : Body) (f : Fetch) (bytes : ℕ) : Type 0 where
+  all_told : (g : Fetch) (h : Hashes) → b ≡ body.Lb (lb.GetHashAnswer (Done h)) → h.eof ≡ true → FetchIn st x h g → (h.version == g.version) ≡ true → f ≡ listed (with_hashes g h) → bytes ≡ 0 → FetchNow st x b f bytes
+  one_came : (g : Fetch) (c : ReadCall) (k : Chunk) (p : Piece) → b ≡ body.Nfs (nfs.ReadAnswer (Done p)) → st ≡ stage.Reading g → read_at g.under x ≡ Some c → slice_get g.chunks c.index ≡ Some k → fault_in k p.bytes (length p.bytes == k.len) ≡ None → f ≡ with_bytes g c p.bytes → bytes ≡ length p.bytes
+      → FetchNow st x b f bytes
+
+-- the store that goes on by an answer
+abbrev pub StoreIn : Stage → (xid : ℕ) → (content : List ℕ) → Store → Type 0
+StoreIn st x content w = ((y temp : ℕ) × (st ≡ stage.Making y temp) × (w ≡ store_of temp content)) ⊎ ((old : Store) × (st ≡ stage.Storing old) × (w ≡ answered old x))
+
+-- another version showed than that of the attempt
+abbrev pub GaveUp : Stage → (xid : ℕ) → Body → Fetch → (version : ℕ) → Type 0
+GaveUp st x b f version =
+    ((h : Hashes) × (b ≡ body.Lb (lb.GetHashAnswer (Done h))) × FetchIn st x h f × (version ≡ h.version) × ((h.version == f.version) ≡ false))
+    ⊎ ((p : Piece) × (b ≡ body.Nfs (nfs.ReadAnswer (Done p))) × (st ≡ stage.Reading f) × (other_version f.version p.attr ≡ Some version))
+
+-- the READs that go out for a fetch, and the places of the chunks that the index gives
+abbrev pub reads_of : State → (file : ℕ) → Fetch → Reads
+reads_of s file f = reads_all s.cache s.index file f s.next
+
+abbrev pub given : State → (file : ℕ) → Fetch → List (ℕ × ℕ)
+given s file f = given_in s (Some (file, f))
+
+-- with what was looked up in front
+abbrev pub looked : State → (file : ℕ) → Fetch → State
+looked s file f = record s { index = found_all s.index (looked_up f (reads_of s file f)) }
+
+-- what holds of each of them: of the places of chunks that the index gave, and of the step
+pub record Cases (Z : List (ℕ × ℕ) → State × ClientStep → Type 0) (s : State) (calls : List Pending) (file : ℕ) (st : Stage) (x : ℕ) (b : Body) : Type 0 where
+  pub ends : (r : State × ClientStep) → JustEnds x b r → ((first last : ℕ) → IsChangedBy first last r → ⊥) → IsFault r.1.ended ⊎ (bytes_came x b ≡ 0) → Z [] r
+  -- a kept content is used, or the file is fetched
+  pub uses : (y : ℕ) (l : Leased) (bytes : List ℕ) → st ≡ stage.Asking y → b ≡ body.Lb (lb.GetLeaseAnswer (Done l)) → content_in l.version (content_of s.cache file) ≡ Some bytes → Z [] (uses_kept s calls file x l.version (Some bytes))
+  pub fetches : (y : ℕ) (l : Leased) → st ≡ stage.Asking y → b ≡ body.Lb (lb.GetLeaseAnswer (Done l)) → Z [] (tries_anew (forgets s calls x) file 1 0)
+  -- an attempt ends by another version
+  pub anew : (f : Fetch) (version bytes : ℕ) → stage_word st ≡ words.Open → GaveUp st x b f version → nat_lt f.tries tries_most ≡ true → bytes ≡ bytes_came x b → Z [] (tries_anew (forgets s calls x) file (f.tries + 1) bytes)
+  pub changed : (r : State × ClientStep) (f : Fetch) (version : ℕ) → JustEnds x b r → stage_word st ≡ words.Open → GaveUp st x b f version → nat_lt f.tries tries_most ≡ false → IsChangedBy f.version version r → Z [] r
+  -- further chunks are asked for, or their bytes, or all is here
+  pub lists : (f : Fetch) (h : Hashes) → b ≡ body.Lb (lb.GetHashAnswer (Done h)) → FetchIn st x h f → (h.version == f.version) ≡ true → (end_of (with_hashes f h).chunks == 0) ≡ false → Z [] (lists_on s calls file x (with_hashes f h) false)
+  pub reads : (f : Fetch) (bytes : ℕ) → FetchNow st x b f bytes → is_here (reads_of s file f).fetch ≡ false → Z (given s file f) (reads_if (looked s file f) calls file x (reads_of s file f) bytes false)
+  pub opens : (f : Fetch) (bytes : ℕ) → FetchNow st x b f bytes → is_here (reads_of s file f).fetch ≡ true → Z (given s file f) (reads_if (looked s file f) calls file x (reads_of s file f) bytes true)
+  -- further chunks are named, or all are stored, or one is sent whole
+  pub names : (w : Store) → StoreIn st x (local_bytes s.opened file) w → (IsUnknown b → ⊥) → bytes_came x b ≡ 0 → is_stored (names_all w s.next).store ≡ false → Z [] (goes_if s file (local_bytes s.opened file) (names_all w s.next) false)
+  pub commits : (w : Store) → StoreIn st x (local_bytes s.opened file) w → (IsUnknown b → ⊥) → bytes_came x b ≡ 0 → is_stored (names_all w s.next).store ≡ true → Z [] (goes_if s file (local_bytes s.opened file) (names_all w s.next) true)
+  pub whole : (old : Store) (c : StoreCall) (k : Chunk) → st ≡ stage.Storing old → IsUnknown b → bytes_came x b ≡ 0 → store_at old.under x ≡ Some c → slice_get old.chunks c.index ≡ Some k → Z [] (sends_whole s file x (local_bytes s.opened file) (answered old x) c (Some k))
+
+-- of a client with nothing under way as well
+pub given_idle : (s : State) (o : Option (ℕ × Fetch)) → given_in (idle s) o ≡ given_in s o
+given_idle s None = refl
+given_idle s (Some p) = refl
+
+-- ---- each is one of them
+
+not_changed : (r : State × ClientStep) (e : Ended) → r.1.ended ≡ Some e → ((first last : ℕ) → e.outcome ≡ outcome.Changed first last → ⊥) → (first last : ℕ) → IsChangedBy first last r → ⊥
+not_changed r e is apart first last (d, at, c) = apart first last (ap (λ (z : Ended). z.outcome) (some_is e d (sym is ∙ at)) ∙ c)
+
+-- by a peer's fault, and by a refusal
+fault : (Z : List (ℕ × ℕ) → State × ClientStep → Type 0) (s : State) (calls : List Pending) (file : ℕ) (st : Stage) (x : ℕ) (b : Body) → Cases Z s calls file st x b → (f : BadPeer) (n : ℕ) → Z [] (bad_peer s f n)
+fault Z s calls file st x b h f n = h.ends (bad_peer s f n) (record { sent = refl; bytes = n; counts = refl; task = refl; ended = _; ended_is = refl; unopened = λ z. z; known = inl (f, refl) }) (not_changed (bad_peer s f n) _ refl (bad_not f)) (inl (f, refl))
+  where
+    bad_not : (f : BadPeer) (first last : ℕ) → outcome.BadPeer f ≡ outcome.Changed first last → ⊥
+    bad_not f first last z = absurd cc
+
+plain : (Z : List (ℕ × ℕ) → State × ClientStep → Type 0) (s : State) (calls : List Pending) (file : ℕ) (st : Stage) (x : ℕ) (b : Body) → Cases Z s calls file st x b → (t : Status) → (IsUnknown b → ⊥) → bytes_came x b ≡ 0 → Z [] (refused s calls x t)
+plain Z s calls file st x b h t known none = h.ends (refused s calls x t) (record { sent = refl; bytes = 0; counts = refl; task = refl; ended = _; ended_is = refl; unopened = λ z. z; known = inr (known, sym none) }) (not_changed (refused s calls x t) _ refl (refused_not t)) (inr none)
+  where
+    refused_not : (t : Status) (first last : ℕ) → outcome.Refused t ≡ outcome.Changed first last → ⊥
+    refused_not t first last z = absurd cc
+
+retried : (Z : List (ℕ × ℕ) → State × ClientStep → Type 0) (s : State) (calls : List Pending) (file : ℕ) (st : Stage) (x : ℕ) (b : Body) → Cases Z s calls file st x b → stage_word st ≡ words.Open → (IsUnknown b → ⊥) → (f : Fetch) (version bytes : ℕ) → bytes ≡ bytes_came x b → GaveUp st x b f version → Z [] (changes s calls file x f version bytes)
+retried Z s calls file st x b h open_ known f version bytes came gave = by (nat_lt f.tries tries_most) refl
+  where
+    by : (t : Bool) → nat_lt f.tries tries_most ≡ t → Z [] (retries s calls file x t f version bytes)
+    by true e = h.anew f version bytes open_ gave e came
+    by false e = h.changed (retries s calls file x false f version bytes) f version (record { sent = refl; bytes = bytes; counts = refl; task = refl; ended = _; ended_is = refl; unopened = λ z. z; known = inr (known, came) }) open_ gave e (_, refl, refl)
+
+fetched : (Z : List (ℕ × ℕ) → State × ClientStep → Type 0) (s : State) (calls : List Pending) (file : ℕ) (st : Stage) (x : ℕ) (b : Body) → Cases Z s calls file st x b → (f : Fetch) (bytes : ℕ) → FetchNow st x b f bytes → Z (given s file f) (reads_on s calls file x f bytes)
+fetched Z s calls file st x b cases f bytes now = by (is_here (reads_of s file f).fetch) refl
+  where
+    by : (t : Bool) → is_here (reads_of s file f).fetch ≡ t → Z (given s file f) (reads_if (looked s file f) calls file x (reads_of s file f) bytes t)
+    by true e = cases.opens f bytes now e
+    by false e = cases.reads f bytes now e
+
+hashed : (Z : List (ℕ × ℕ) → State × ClientStep → Type 0) (s : State) (calls : List Pending) (file : ℕ) (st : Stage) (x : ℕ) (h : Hashes) → Cases Z s calls file st x (body.Lb (lb.GetHashAnswer (Done h))) → stage_word st ≡ words.Open → (f : Fetch) → FetchIn st x h f
+    → Z (given_in s (with_file file (listed_by f h))) (told_hashes s calls file x f (Done h))
+hashed Z s calls file st x h cases open_ f is = version (h.version == f.version) refl
+  where
+    eof : (h.version == f.version) ≡ true → broken_of f h ≡ None → (t : Bool) → h.eof ≡ t → Z (given_in s (with_file file (listed_if f h true None t))) (lists_on s calls file x (with_hashes f h) t)
+    eof same sound true e = fetched Z s calls file st x (body.Lb (lb.GetHashAnswer (Done h))) cases (listed (with_hashes f h)) 0 (all_told f h refl e is same refl refl)
+    eof same sound false e = cases.lists f h refl is same (behind f h sound e)
+
+    shape : (h.version == f.version) ≡ true → (o : Broken) → broken_of f h ≡ o → Z (given_in s (with_file file (listed_if f h true o h.eof))) (told_shape s calls file x f h o)
+    shape same None sound = eof same sound h.eof refl
+    shape same (Some o) sound = fault Z s calls file st x (body.Lb (lb.GetHashAnswer (Done h))) cases (bad.Shape o.0 o.1) 0
+
+    version : (t : Bool) → (h.version == f.version) ≡ t → Z (given_in s (with_file file (listed_if f h t (broken_of f h) h.eof))) (told_version s calls file x f h t)
+    version true e = shape e (broken_of f h) refl
+    version false e = retried Z s calls file st x (body.Lb (lb.GetHashAnswer (Done h))) cases open_ (λ z. z) f h.version 0 refl (inl (h, refl, is, refl, e))
+
+read : (Z : List (ℕ × ℕ) → State × ClientStep → Type 0) (s : State) (calls : List Pending) (file : ℕ) (f : Fetch) (x : ℕ) (p : Piece) → Cases Z s calls file (stage.Reading f) x (body.Nfs (nfs.ReadAnswer (Done p)))
+    → Z (given_in s (with_file file (taken_by f p (read_at f.under x)))) (told_piece s calls file x f p (read_at f.under x))
+read Z s calls file f x p cases = by (read_at f.under x) refl
+  where
+    shown : (o : BadPeer) (t : Option ℕ) → other_version f.version p.attr ≡ t → Z [] (misfits s calls file x f o (length p.bytes) t)
+    shown o (Some version) e = retried Z s calls file (stage.Reading f) x (body.Nfs (nfs.ReadAnswer (Done p))) cases refl (λ z. z) f version (length p.bytes) refl (inr (p, refl, refl, e))
+    shown o None e = fault Z s calls file (stage.Reading f) x (body.Nfs (nfs.ReadAnswer (Done p))) cases o (length p.bytes)
+
+    bytes : (c : ReadCall) (k : Chunk) → read_at f.under x ≡ Some c → slice_get f.chunks c.index ≡ Some k → (o : Option BadPeer) → fault_in k p.bytes (length p.bytes == k.len) ≡ o → Z (given_in s (with_file file (taken_if f c p o))) (told_bytes s calls file x f c p o)
+    bytes c k at there None e = fetched Z s calls file (stage.Reading f) x (body.Nfs (nfs.ReadAnswer (Done p))) cases (with_bytes f c p.bytes) (length p.bytes) (one_came f c k p refl refl at there e refl refl)
+    bytes c k at there (Some o) e = shown o (other_version f.version p.attr) refl
+
+    chunk : (c : ReadCall) → read_at f.under x ≡ Some c → (o : Option Chunk) → slice_get f.chunks c.index ≡ o → Z (given_in s (with_file file (taken_at f c p o))) (told_chunk s calls file x f c p o)
+    chunk c at None e = fault Z s calls file (stage.Reading f) x (body.Nfs (nfs.ReadAnswer (Done p))) cases (bad.UnknownXid x) 0
+    chunk c at (Some k) e = bytes c k at e (fault_in k p.bytes (length p.bytes == k.len)) refl
+
+    by : (o : Option ReadCall) → read_at f.under x ≡ o → Z (given_in s (with_file file (taken_by f p o))) (told_piece s calls file x f p o)
+    by None e = fault Z s calls file (stage.Reading f) x (body.Nfs (nfs.ReadAnswer (Done p))) cases (bad.UnknownXid x) 0
+    by (Some c) e = chunk c e (slice_get f.chunks c.index) refl
+
+goes : (Z : List (ℕ × ℕ) → State × ClientStep → Type 0) (s : State) (calls : List Pending) (file : ℕ) (st : Stage) (x : ℕ) (b : Body) → Cases Z s calls file st x b → (w : Store) → StoreIn st x (local_bytes s.opened file) w → (IsUnknown b → ⊥) → bytes_came x b ≡ 0 → Z [] (goes_on s file (local_bytes s.opened file) w)
+goes Z s calls file st x b cases w at known none = by (is_stored (names_all w s.next).store) refl
+  where
+    by : (t : Bool) → is_stored (names_all w s.next).store ≡ t → Z [] (goes_if s file (local_bytes s.opened file) (names_all w s.next) t)
+    by true e = cases.commits w at known none e
+    by false e = cases.names w at known none e
+
+stored : (Z : List (ℕ × ℕ) → State × ClientStep → Type 0) (s : State) (calls : List Pending) (file : ℕ) (old : Store) (x : ℕ) (b : Body) → Cases Z s calls file (stage.Storing old) x b → Z [] (told_stored s calls file x (local_bytes s.opened file) old b (store_at old.under x))
+stored Z s calls file old x b cases = by (store_at old.under x) refl
+  where
+    came_none : (d : Body) → b ≡ d → bytes_came x d ≡ 0 → bytes_came x b ≡ 0
+    came_none d is e = ap (bytes_came x) is ∙ e
+
+    whole : (c : StoreCall) → store_at old.under x ≡ Some c → IsUnknown b → bytes_came x b ≡ 0 → (o : Option Chunk) → slice_get old.chunks c.index ≡ o → Z [] (sends_whole s file x (local_bytes s.opened file) (answered old x) c o)
+    whole c at is none None e = fault Z s calls file (stage.Storing old) x b cases (bad.UnknownXid x) 0
+    whole c at is none (Some k) e = cases.whole old c k refl is none at e
+
+    go : (IsUnknown b → ⊥) → bytes_came x b ≡ 0 → Z [] (goes_on s file (local_bytes s.opened file) (answered old x))
+    go known none = goes Z s calls file (stage.Storing old) x b cases (answered old x) (inr (old, refl, refl)) known none
+
+    named : (c : StoreCall) → store_at old.under x ≡ Some c → (a : Answer Unit Unit) → b ≡ body.Lb (lb.CondWriteAnswer a) → Z [] (told_named s calls file x (local_bytes s.opened file) (answered old x) c a)
+    named c at (Done u) is = go (λ z. not_done (subst IsUnknown is z)) (came_none _ is refl)
+      where
+        not_done : IsUnknown (body.Lb (lb.CondWriteAnswer (Done u))) → ⊥
+        not_done z = z
+    named c at (Failed status.HashNotFound u) is = whole c at (subst IsUnknown (sym is) tt) (came_none _ is refl) (slice_get old.chunks c.index) refl
+    named c at (Failed t u) is = plain Z s calls file (stage.Storing old) x b cases t (λ z. subst IsUnknown is z) (came_none _ is refl)
+
+    way_ : (c : StoreCall) → store_at old.under x ≡ Some c → (w : Way) (d : Body) → b ≡ d → Z [] (told_way s calls file x (local_bytes s.opened file) (answered old x) c w d)
+    way_ c at way.Named (body.Lb (lb.CondWriteAnswer a)) is = named c at a is
+    way_ c at way.Whole (body.Lb (lb.TmpWriteAnswer (Done u))) is = go (λ z. subst IsUnknown is z) (came_none _ is refl)
+    way_ c at way.Whole (body.Lb (lb.TmpWriteAnswer (Failed t u))) is = plain Z s calls file (stage.Storing old) x b cases t (λ z. subst IsUnknown is z) (came_none _ is refl)
+    way_ c at w d is = fault Z s calls file (stage.Storing old) x b cases (bad.UnknownXid x) 0
+
+    by : (o : Option StoreCall) → store_at old.under x ≡ o → Z [] (told_stored s calls file x (local_bytes s.opened file) old b o)
+    by None e = fault Z s calls file (stage.Storing old) x b cases (bad.UnknownXid x) 0
+    by (Some c) e = way_ c e c.way b refl
+
+leased : (Z : List (ℕ × ℕ) → State × ClientStep → Type 0) (s : State) (calls : List Pending) (file y x : ℕ) (l : Leased) → Cases Z s calls file (stage.Asking y) x (body.Lb (lb.GetLeaseAnswer (Done l))) → Z [] (told_lease s calls file x (Done l))
+leased Z s calls file y x l cases = by (content_in l.version (content_of s.cache file)) refl
+  where
+    by : (o : Option (List ℕ)) → content_in l.version (content_of s.cache file) ≡ o → Z [] (uses_kept s calls file x l.version o)
+    by (Some bytes) e = cases.uses y l bytes refl refl e
+    by None e = cases.fetches y l refl refl
+
+-- whatever holds of each holds of what an answer makes, beside the chunks that the index gives then
+pub took_cases : (Z : List (ℕ × ℕ) → State × ClientStep → Type 0) (s : State) (calls : List Pending) (file : ℕ) (st : Stage) (x : ℕ) (b : Body) → Cases Z s calls file st x b → Z (given_in s (with_file file (reading_by st x b))) (took s calls file st x b)
+took_cases Z s calls file (stage.Asking y) x (body.Lb (lb.GetLeaseAnswer (Done l))) cases = leased Z s calls file y x l cases
+took_cases Z s calls file (stage.Asking y) x (body.Lb (lb.GetLeaseAnswer (Failed t u))) cases = plain Z s calls file (stage.Asking y) x (body.Lb (lb.GetLeaseAnswer (Failed t u))) cases t (λ z. z) refl
+took_cases Z s calls file (stage.Hashing tries y) x (body.Lb (lb.GetHashAnswer (Done h))) cases = hashed Z s calls file (stage.Hashing tries y) x h cases refl (fetch_of tries x h) (inl (tries, y, refl, refl))
+took_cases Z s calls file (stage.Hashing tries y) x (body.Lb (lb.GetHashAnswer (Failed t u))) cases = plain Z s calls file (stage.Hashing tries y) x (body.Lb (lb.GetHashAnswer (Failed t u))) cases t (λ z. z) refl
+took_cases Z s calls file (stage.Listing y f) x (body.Lb (lb.GetHashAnswer (Done h))) cases = hashed Z s calls file (stage.Listing y f) x h cases refl f (inr (y, refl))
+took_cases Z s calls file (stage.Listing y f) x (body.Lb (lb.GetHashAnswer (Failed t u))) cases = plain Z s calls file (stage.Listing y f) x (body.Lb (lb.GetHashAnswer (Failed t u))) cases t (λ z. z) refl
+took_cases Z s calls file (stage.Reading f) x (body.Nfs (nfs.ReadAnswer (Failed t a))) cases = plain Z s calls file (stage.Reading f) x (body.Nfs (nfs.ReadAnswer (Failed t a))) cases t (λ z. z) refl
+took_cases Z s calls file (stage.Reading f) x (body.Nfs (nfs.ReadAnswer (Done p))) cases = read Z s calls file f x p cases
+took_cases Z s calls file (stage.Making y temp) x (body.Lb (lb.MkTmpFileAnswer (Done u))) cases = goes Z s calls file (stage.Making y temp) x (body.Lb (lb.MkTmpFileAnswer (Done u))) cases (store_of temp (local_bytes s.opened file)) (inl (y, temp, refl, refl)) (λ z. z) refl
+took_cases Z s calls file (stage.Making y temp) x (body.Lb (lb.MkTmpFileAnswer (Failed t u))) cases = plain Z s calls file (stage.Making y temp) x (body.Lb (lb.MkTmpFileAnswer (Failed t u))) cases t (λ z. z) refl
+took_cases Z s calls file (stage.Storing old) x b cases = stored Z s calls file old x b cases
+took_cases Z s calls file (stage.Committing y) x (body.Lb (lb.CommitTmpAnswer (Failed t u))) cases = plain Z s calls file (stage.Committing y) x (body.Lb (lb.CommitTmpAnswer (Failed t u))) cases t (λ z. z) refl
+took_cases Z s calls file (stage.Committing y) x (body.Lb (lb.CommitTmpAnswer (Done c))) cases =
+    let r = closed s calls file x c.version (local_bytes s.opened file) in
+    cases.ends r (record { sent = refl; bytes = 0; counts = refl; task = refl; ended = _; ended_is = refl; unopened = λ z. z; known = inr ((λ z. z), refl) }) (not_changed r _ refl (closed_not file c.version (length (local_bytes s.opened file)) (sha1 (local_bytes s.opened file)))) (inr refl)
+  where
+    closed_not : (file version len : ℕ) (digest : List ℕ) (first last : ℕ) → outcome.Closed file version len digest ≡ outcome.Changed first last → ⊥
+    closed_not file version len digest first last z = absurd cc
+took_cases Z s calls file st x b cases = fault Z s calls file st x b cases (bad.UnknownXid x) 0
+
+-- ---- where only opens matter, or only closes
+
+pub in_open : (st : Stage) (x : ℕ) (h : Hashes) (f : Fetch) → FetchIn st x h f → stage_word st ≡ words.Open
+in_open st x h f (inl (tries, y, is, e)) = ap stage_word is
+in_open st x h f (inr (y, is)) = ap stage_word is
+
+pub now_open : (st : Stage) (x : ℕ) (b : Body) (f : Fetch) (bytes : ℕ) → FetchNow st x b f bytes → stage_word st ≡ words.Open
+now_open st x b f bytes (all_told g h is eof at same f_is none) = in_open st x h g at
+now_open st x b f bytes (one_came g c k p is at found chunk fits f_is len) = ap stage_word at
+
+pub in_close : (st : Stage) (x : ℕ) (content : List ℕ) (w : Store) → StoreIn st x content w → stage_word st ≡ words.Close
+in_close st x content w (inl (y, temp, is, e)) = ap stage_word is
+in_close st x content w (inr (old, is, e)) = ap stage_word is
+
+pub open_and_close : (w : Word) → w ≡ words.Open → w ≡ words.Close → ⊥
+open_and_close w a b = apart (sym a ∙ b)
+  where
+    apart : words.Open ≡ words.Close → ⊥
+    apart e = cc
+
+-- its operation goes on as one with this word, if it does
+abbrev pub GoesOn : Word → State × ClientStep → Type 0
+GoesOn w r = (u : Task) → r.1.ended ≡ None → r.0.task ≡ Some u → stage_word u.stage ≡ w
+
+goes_with : (w : Word) (r : State × ClientStep) (t : Task) → r.0.task ≡ Some t → stage_word t.stage ≡ w → GoesOn w r
+goes_with w r t is word u running at = subst (λ (z : Task). stage_word z.stage ≡ w) (some_is t u (sym is ∙ at)) word
+
+goes_none : (w : Word) (r : State × ClientStep) (e : Ended) → r.1.ended ≡ Some e → GoesOn w r
+goes_none w r e is u running at = nothing_there e (sym running ∙ is)
+
+pub record OfCloses (Z : List (ℕ × ℕ) → State × ClientStep → Type 0) (s : State) (file : ℕ) (st : Stage) (x : ℕ) (b : Body) : Type 0 where
+  pub opens : stage_word st ≡ words.Open → (found : List (ℕ × ℕ)) (r : State × ClientStep) → GoesOn words.Open r → Z found r
+  pub ends : stage_word st ≡ words.Close → (r : State × ClientStep) → JustEnds x b r → IsFault r.1.ended ⊎ (bytes_came x b ≡ 0) → Z [] r
+  pub names : (w : Store) → StoreIn st x (local_bytes s.opened file) w → (IsUnknown b → ⊥) → bytes_came x b ≡ 0 → is_stored (names_all w s.next).store ≡ false → Z [] (goes_if s file (local_bytes s.opened file) (names_all w s.next) false)
+  pub commits : (w : Store) → StoreIn st x (local_bytes s.opened file) w → (IsUnknown b → ⊥) → bytes_came x b ≡ 0 → is_stored (names_all w s.next).store ≡ true → Z [] (goes_if s file (local_bytes s.opened file) (names_all w s.next) true)
+  pub whole : (old : Store) (c : StoreCall) (k : Chunk) → st ≡ stage.Storing old → IsUnknown b → bytes_came x b ≡ 0 → store_at old.under x ≡ Some c → slice_get old.chunks c.index ≡ Some k → Z [] (sends_whole s file x (local_bytes s.opened file) (answered old x) c (Some k))
+
+pub either_word : (st : Stage) → (stage_word st ≡ words.Open) ⊎ (stage_word st ≡ words.Close)
+either_word (stage.Asking x) = inl refl
+either_word (stage.Hashing tries x) = inl refl
+either_word (stage.Listing x f) = inl refl
+either_word (stage.Reading f) = inl refl
+either_word (stage.Making x temp) = inr refl
+either_word (stage.Storing w) = inr refl
+either_word (stage.Committing x) = inr refl
+
+pub of_closes : (Z : List (ℕ × ℕ) → State × ClientStep → Type 0) (s : State) (calls : List Pending) (file : ℕ) (st : Stage) (x : ℕ) (b : Body) → OfCloses Z s file st x b → Cases Z s calls file st x b
+of_closes Z s calls file st x b h = record {
+  ends = λ r e unchanged came. elim (either_word st) [ inl open_ ↦ h.opens open_ [] r (goes_none words.Open r e.ended e.ended_is) | inr close ↦ h.ends close r e came ];
+  changed = λ r f version e open_ gave last is. h.opens open_ [] r (goes_none words.Open r e.ended e.ended_is);
+  uses = λ y l bytes at is kept. h.opens (ap stage_word at) [] (uses_kept s calls file x l.version (Some bytes)) (goes_none words.Open (uses_kept s calls file x l.version (Some bytes)) _ refl);
+  fetches = λ y l at is. h.opens (ap stage_word at) [] (tries_anew (forgets s calls x) file 1 0) (goes_with words.Open (tries_anew (forgets s calls x) file 1 0) _ refl refl);
+  anew = λ f version bytes open_ gave few came. h.opens open_ [] (tries_anew (forgets s calls x) file (f.tries + 1) bytes) (goes_with words.Open (tries_anew (forgets s calls x) file (f.tries + 1) bytes) _ refl refl);
+  lists = λ f g is at same far. h.opens (in_open st x g f at) [] (lists_on s calls file x (with_hashes f g) false) (goes_with words.Open (lists_on s calls file x (with_hashes f g) false) _ refl refl);
+  reads = λ f bytes now here. h.opens (now_open st x b f bytes now) (given s file f) (reads_if (looked s file f) calls file x (reads_of s file f) bytes false) (goes_with words.Open (reads_if (looked s file f) calls file x (reads_of s file f) bytes false) _ refl refl);
+  opens = λ f bytes now here. h.opens (now_open st x b f bytes now) (given s file f) (reads_if (looked s file f) calls file x (reads_of s file f) bytes true) (goes_none words.Open (reads_if (looked s file f) calls file x (reads_of s file f) bytes true) _ refl);
+  names = h.names;
+  commits = h.commits;
+  whole = h.whole;
+}
+
+pub record OfOpens (Z : List (ℕ × ℕ) → State × ClientStep → Type 0) (s : State) (calls : List Pending) (file : ℕ) (st : Stage) (x : ℕ) (b : Body) : Type 0 where
+  -- a close goes on, or ends
+  pub closes : stage_word st ≡ words.Close → (r : State × ClientStep) → GoesOn words.Close r → ((e : Ended) → r.1.ended ≡ Some e → IsOpenedBy e.outcome → ⊥) → ((first last : ℕ) → IsChangedBy first last r → ⊥) → Z [] r
+  pub ends : stage_word st ≡ words.Open → (r : State × ClientStep) → JustEnds x b r → ((first last : ℕ) → IsChangedBy first last r → ⊥) → Z [] r
+  pub uses : (y : ℕ) (l : Leased) (bytes : List ℕ) → st ≡ stage.Asking y → b ≡ body.Lb (lb.GetLeaseAnswer (Done l)) → content_in l.version (content_of s.cache file) ≡ Some bytes → Z [] (uses_kept s calls file x l.version (Some bytes))
+  pub fetches : (y : ℕ) (l : Leased) → st ≡ stage.Asking y → b ≡ body.Lb (lb.GetLeaseAnswer (Done l)) → Z [] (tries_anew (forgets s calls x) file 1 0)
+  pub anew : (f : Fetch) (version bytes : ℕ) → stage_word st ≡ words.Open → GaveUp st x b f version → nat_lt f.tries tries_most ≡ true → bytes ≡ bytes_came x b → Z [] (tries_anew (forgets s calls x) file (f.tries + 1) bytes)
+  pub changed : (r : State × ClientStep) (f : Fetch) (version : ℕ) → JustEnds x b r → stage_word st ≡ words.Open → GaveUp st x b f version → nat_lt f.tries tries_most ≡ false → IsChangedBy f.version version r → Z [] r
+  pub lists : (f : Fetch) (h : Hashes) → b ≡ body.Lb (lb.GetHashAnswer (Done h)) → FetchIn st x h f → (h.version == f.version) ≡ true → (end_of (with_hashes f h).chunks == 0) ≡ false → Z [] (lists_on s calls file x (with_hashes f h) false)
+  pub reads : (f : Fetch) (bytes : ℕ) → FetchNow st x b f bytes → is_here (reads_of s file f).fetch ≡ false → Z (given s file f) (reads_if (looked s file f) calls file x (reads_of s file f) bytes false)
+  pub opens : (f : Fetch) (bytes : ℕ) → FetchNow st x b f bytes → is_here (reads_of s file f).fetch ≡ true → Z (given s file f) (reads_if (looked s file f) calls file x (reads_of s file f) bytes true)
+
+pub of_opens : (Z : List (ℕ × ℕ) → State × ClientStep → Type 0) (s : State) (calls : List Pending) (file : ℕ) (st : Stage) (x : ℕ) (b : Body) → OfOpens Z s calls file st x b → Cases Z s calls file st x b
+of_opens Z s calls file st x b h = record {
+  ends = λ r e unchanged came. elim (either_word st) [
+    | inl open_ ↦ h.ends open_ r e unchanged
+    | inr close ↦ h.closes close r (goes_none words.Close r e.ended e.ended_is) (λ d is opened. e.unopened (subst (λ (z : Ended). IsOpenedBy z.outcome) (some_is d e.ended (sym is ∙ e.ended_is)) opened)) unchanged
+  ];
+  changed = h.changed;
+  uses = h.uses;
+  fetches = h.fetches;
+  anew = h.anew;
+  lists = h.lists;
+  reads = h.reads;
+  opens = h.opens;
+  names = λ w at known none is. let r = goes_if s file (local_bytes s.opened file) (names_all w s.next) false in h.closes (in_close st x (local_bytes s.opened file) w at) r (goes_with words.Close r _ refl refl) (λ e ended opened. nothing_there e ended) (λ first last c. nothing_there c.0 c.1);
+  commits = λ w at known none is. let r = goes_if s file (local_bytes s.opened file) (names_all w s.next) true in h.closes (in_close st x (local_bytes s.opened file) w at) r (goes_with words.Close r _ refl refl) (λ e ended opened. nothing_there e ended) (λ first last c. nothing_there c.0 c.1);
+  whole = λ old c k at unknown none found chunk. let r = sends_whole s file x (local_bytes s.opened file) (answered old x) c (Some k) in h.closes (ap stage_word at) r (goes_with words.Close r _ refl refl) (λ e ended opened. nothing_there e ended) (λ first last c. nothing_there c.0 c.1);
+}
+
+-- ---- a command
+
+-- what a client answers by itself
+abbrev pub IsPlain : Outcome → Type 0
+IsPlain (outcome.Opened file len digest) = ⊥
+IsPlain (outcome.Changed first last) = ⊥
+IsPlain (outcome.Closed file version len digest) = ⊥
+IsPlain (outcome.Refused s) = ⊥
+IsPlain (outcome.BadPeer f) = ⊥
+IsPlain o = Unit {0}
+
+-- the file's entry is in front
+abbrev pub fronts : State → (file : ℕ) → State
+fronts s file = record s { cache = reserved s.cache file }
+
+pub record Begins (Z : State × ClientStep → Type 0) (s : State) (d : Command) : Type 0 where
+  pub busy : (t : Task) → s.task ≡ Some t → Z (s, ends outcome.Busy 0 0)
+  pub answers : s.task ≡ None → (opened : List (ℕ × Local)) (o : Outcome) → IsPlain o → Z (record s { opened = opened }, ends o 0 0)
+  pub fetches : (file : ℕ) → d ≡ command.Open file → s.task ≡ None → Z (asks_kept (fronts s file) file None)
+  pub asks : (file : ℕ) (c : Content) → d ≡ command.Open file → s.task ≡ None → content_of s.cache file ≡ Some c → Z (asks_kept (fronts s file) file (Some c))
+  pub closes : (file : ℕ) (l : Local) → d ≡ command.Close file → s.task ≡ None → local_at s.opened file ≡ Some l → Z (asks_temp s file true)
+
+edited : (Z : State × ClientStep → Type 0) (s : State) (d : Command) → Begins Z s d → s.task ≡ None → (file : ℕ) (l : Local) (size : ℕ) (content : List ℕ) → Z (edits s file l size content)
+edited Z s d h free file l size content = by (nat_lt local_most size)
+  where
+    by : (b : Bool) → Z (if b then too_big s size else done_with s file l content)
+    by true = h.answers free s.opened (outcome.TooBig size) tt
+    by false = h.answers free (with_local s.opened file (record l { bytes = content })) outcome.Done tt
+
+begun : (Z : State × ClientStep → Type 0) (s : State) (d : Command) → Begins Z s d → (t : Option Task) → s.task ≡ t → (l : Option Local) (f : Local → State × ClientStep) → (s.task ≡ None → (k : Local) → l ≡ Some k → Z (f k)) → Z (on_local s t l f)
+begun Z s d h (Some t) is l f does = h.busy t is
+begun Z s d h None is None f does = h.answers is s.opened outcome.NotOpen tt
+begun Z s d h None is (Some l) f does = does is l refl
+
+opened : (Z : State × ClientStep → Type 0) (s : State) (file : ℕ) → Begins Z s (command.Open file) → (t : Option Task) → s.task ≡ t → Z (opens s file t)
+opened Z s file h (Some t) is = h.busy t is
+opened Z s file h None is = by (is_open s.opened file)
+  where
+    kept : (o : Option Content) → content_of s.cache file ≡ o → Z (asks_kept (fronts s file) file o)
+    kept None e = h.fetches file refl is
+    kept (Some c) e = h.asks file c refl is e
+
+    asks : (b : Bool) → Z (asks_file s file b)
+    asks true = kept (content_of s.cache file) refl
+    asks false = h.answers is s.opened outcome.NoLink tt
+
+    by : (b : Bool) → Z (opens_if s file b)
+    by true = h.answers is s.opened outcome.AlreadyOpen tt
+    by false = asks (may_ask s)
+
+-- whatever holds of each holds of a command
+pub command_cases : (Z : State × ClientStep → Type 0) (s : State) (d : Command) (now : ℕ) → Begins Z s d → Z (command_step s d now)
+command_cases Z s (command.Open file) now h = opened Z s file h s.task refl
+command_cases Z s (command.Write file offset content) now h = begun Z s (command.Write file offset content) h s.task refl (local_at s.opened file) (writes s file offset content) (λ free l at. by free l (content_length content == 0))
+  where
+    by : s.task ≡ None → (l : Local) (b : Bool) → Z (if b then (s, ends outcome.Done 0 0) else edits s file l (written_size (length l.bytes) offset (content_length content)) (written l.bytes offset (content_bytes content)))
+    by free l true = h.answers free s.opened outcome.Done tt
+    by free l false = edited Z s (command.Write file offset content) h free file l (written_size (length l.bytes) offset (content_length content)) (written l.bytes offset (content_bytes content))
+command_cases Z s (command.Trunc file size) now h = begun Z s (command.Trunc file size) h s.task refl (local_at s.opened file) (truncates s file size) (λ free l at. edited Z s (command.Trunc file size) h free file l size (truncated l.bytes size))
+command_cases Z s (command.Read file offset count) now h = begun Z s (command.Read file offset count) h s.task refl (local_at s.opened file) (Rattle.open_close.specs.Step.reads s offset count) (λ free l at. h.answers free s.opened (outcome.Piece (length (part_of l.bytes offset count)) (sha1 (part_of l.bytes offset count))) tt)
+command_cases Z s (command.Close file) now h = begun Z s (command.Close file) h s.task refl (local_at s.opened file) (closes s file) (λ free l at. by free l at (may_ask s))
+  where
+    by : s.task ≡ None → (l : Local) → local_at s.opened file ≡ Some l → (b : Bool) → Z (asks_temp s file b)
+    by free l at true = h.closes file l refl free at
+    by free l at false = h.answers free s.opened outcome.NoLink tt
+command_cases Z s (command.Abandon file) now h = begun Z s (command.Abandon file) h s.task refl (local_at s.opened file) (abandons s file) (λ free l at. h.answers free (without_local s.opened file) outcome.Done tt)
