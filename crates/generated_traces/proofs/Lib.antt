@@ -8,3 +8,4 @@ pub mod Opening
 pub mod Clean
 pub mod Accepted
 pub mod Parts
+pub mod Short

@@ -67,7 +67,7 @@ pub fn replayed(alloc: Global, seed: u64, blocks: u64) -> Result<World, AllocErr
     requires { blocks ≤ BLOCKS_MOST }
     ensures { IfOk result (λ v. accepted (generated_text seed blocks) ≡ Ok v.world) }
 {
-    let mut world = World::new(alloc);
+    let mut world = World::new(alloc)?;
     let mut next = run_opening(alloc, &mut world, seed)?;
     for block in 0..blocks {
         next = run_block(alloc, &mut world, next, seed, block + 1)?;

@@ -1,6 +1,7 @@
 -- What a run that replays a trace and ends with status 0 was of, and what it wrote.
 use Rattle.std.proofs.Common.{◌≡◌, ℕ, ◌≤◌, List, [], ◌∷◌, Bool, true, false, Option, Some, None, Result, Ok, Err, codes, length, nat_lt, refl, sym, ap, ◌∙◌, subst, arith}
 use Rattle.std.specs.Io.KnownBytes.{Appends}
+use Rattle.std.proofs.lemmas.Bool.Decides.{nat_tests}
 use Rattle.trace_replay.specs.declared.fault.Refused.{Refused}
 use Rattle.trace_replay.specs.World.{World}
 use Rattle.trace_replay.specs.Timed.{accepted}
@@ -75,3 +76,21 @@ pub unrefused : (words : List (List ℕ)) (left left' held held' : Option (List 
 unrefused words left left' held held' code seed blocks command all answered asks five =
     let named = subst (λ (c : Option Command). Answered c held held' code answered.0) asks (answered.3, answered.4) in
     never seed blocks command (all seed blocks (blocks_fit words seed blocks command asks)) (sym five ∙ named.0)
+
+-- ---- nor is its text, where it is read
+
+abbrev pub AreShort : Type 0
+AreShort = (seed blocks : ℕ) → blocks ≤ 5000 → length (generated_text seed blocks) ≤ most_bytes
+
+not_long : (n m : ℕ) → n ≤ m → nat_lt m n ≡ false
+not_long n m h = grind (arith, nat_tests, h)
+
+pub unrefused_read : (words : List (List ℕ)) (left held held' : Option (List ℕ)) (code : ℕ) (view : View) (seed blocks : ℕ) → AreAccepted → AreShort
+    → IsAnswered words left held held' code → command_of words ≡ Some (OfInput (input.Replay view)) → blocks ≤ 5000 → left ≡ Some (generated_text seed blocks) → code ≡ 5 → ⊥
+unrefused_read words left held held' code view seed blocks all short answered asks few told five =
+    let trace : List ℕ = generated_text seed blocks in
+    let given = answered trace told in
+    let named = subst (λ (c : Option Command). Answered c held held' code trace) asks given in
+    let fits : nat_lt most_bytes (length trace) ≡ false = not_long (length trace) most_bytes (short seed blocks few) in
+    let refused : ◌≡◌ {A = ℕ} 5 (code_of (replay_output view trace).0) = sym five ∙ named.0 ∙ ap (λ (b : Bool). code_of (unless_long b (replay_output view trace)).0) fits in
+    never seed blocks (seeded.Replay view) (all seed blocks few) refused

@@ -22,7 +22,7 @@ use trace_text::refusal::Refusal;
 /// How a run ends.
 #[derive(Clone, Copy, Debug, PartialEq, Eq)]
 pub enum Status {
-    /// The input was read to its end, and all was written.
+    /// All was written, and the input, where the words have it read, was read to its end.
     Done,
     /// The words are no command.
     BadWords,

@@ -5,6 +5,7 @@ ghost use Rattle.std.specs.Prelude.{◌≡◌, ℕ, ◌<◌, ◌≤◌, ◌⊎�
 ghost use Rattle.std.specs.Io.KnownBytes.{Consumes, IsAtEnd};
 ghost use Rattle.lb_base.specs.Causes.{Rose};
 ghost use Rattle.trace_generator.specs.Lines.{generated_text};
+ghost use Rattle.trace_generator.specs.declared.TheConstants.{BLOCKS_MOST};
 ghost use Rattle.lbfs_run.specs.Words.{command_of, reads};
 ghost use Rattle.lbfs_run.specs.declared.words.View.{View};
 ghost use Rattle.lbfs_run.specs.declared.words.InputCommand.TheVariants as input;
@@ -130,11 +131,14 @@ fn run_on<S: Source, K: Sink>(alloc: Global, words: &[String], source: &mut S, s
 /// source tells what is left in it; `taken`, whatever it tells, for bytes that were taken from it), and
 /// with 0 the source stands at its end, where the words have it read; else it is untouched (`unread`).
 /// A trace that is run, read or made, is accepted, and its run keeps its promise (`replayed`,
-/// `generated`; `headline` of the word `replay` alone); one that is made is never refused (`accepted`). With 3 the source failed, its faults rose, and nothing was
-/// written. With 4 the sink failed, its faults rose, and a front of the output was written, but not all
-/// (`broken`, `broken_off`). With 6 memory ran out, which no clause gives a cause; nothing was written,
-/// or a front of the output (`starved`, `starved_off`). Which bytes a source gave and a sink took is
-/// known only where they tell, as those in memory do; streams of the system don't.
+/// `generated`; `headline` of the word `replay` alone); one that is made is never refused (`accepted`),
+/// nor is its text where it is read (`read_again`).
+///
+/// With 3 the source failed, its faults rose, and nothing was written. With 4 the sink failed, its
+/// faults rose, and a front of the output was written, but not all (`broken`, `broken_off`). With 6
+/// memory ran out, which no clause gives a cause; nothing was written, or a front of the output
+/// (`starved`, `starved_off`). Which bytes a source gave and a sink took is known only where they tell,
+/// as those in memory do; streams of the system don't.
 pub fn run<S: Source, K: Sink>(
     alloc: Global,
     words: &[String],
@@ -144,6 +148,7 @@ pub fn run<S: Source, K: Sink>(
     ensures replayed { (view : View) → command_of (map (λ w. string_bytes w) words.now) ≡ Some (OfInput (input.Replay view)) → result.0 ≡ 0 → (trace : List ℕ) → S.left out.source ≡ Some trace → IsRun view (K.held out.sink) (K.held result.1.sink) trace }
     ensures generated { (view : View) (seed blocks : ℕ) → command_of (map (λ w. string_bytes w) words.now) ≡ Some (OfSeed seed blocks (seeded.Replay view)) → result.0 ≡ 0 → IsRun view (K.held out.sink) (K.held result.1.sink) (generated_text seed blocks) }
     ensures accepted { (seed blocks : ℕ) (command : SeedCommand) → command_of (map (λ w. string_bytes w) words.now) ≡ Some (OfSeed seed blocks command) → result.0 ≡ 5 → ⊥ }
+    ensures read_again { (view : View) (seed blocks : ℕ) → command_of (map (λ w. string_bytes w) words.now) ≡ Some (OfInput (input.Replay view)) → blocks ≤ BLOCKS_MOST → S.left out.source ≡ Some (generated_text seed blocks) → result.0 ≡ 5 → ⊥ }
     ensures answered { (result.0 ≡ 0) ⊎ (result.0 ≡ 2) ⊎ (result.0 ≡ 5) → IsAnswered (map (λ w. string_bytes w) words.now) (S.left out.source) (K.held out.sink) (K.held result.1.sink) result.0 }
     ensures taken { (result.0 ≡ 0) ⊎ (result.0 ≡ 2) ⊎ (result.0 ≡ 5) → IsAnsweredFrom (map (λ w. string_bytes w) words.now) (S.left out.source) (S.left result.1.source) (K.held out.sink) (K.held result.1.sink) result.0 }
     ensures unread { reads (command_of (map (λ w. string_bytes w) words.now)) ≡ false → result.1.source ≡ out.source }

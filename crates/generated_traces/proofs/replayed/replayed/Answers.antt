@@ -6,4 +6,4 @@ use Rattle.generated_traces.proofs.Parts.{opening_taken}
 use Rattle.generated_traces.proofs.replayed.replayed.Goals as goal
 
 pub run_opening-requires : goal.run_opening-requires
-run_opening-requires c = subst (λ (v : Timed). AreTaken v 1 (opening_lines c.args.seed)) (sym c.new-world.ensures) (opening_taken c.args.seed)
+run_opening-requires c = subst (λ (v : Timed). AreTaken v 1 (opening_lines c.args.seed)) (sym c.in_ok-world.ensures) (opening_taken c.args.seed)

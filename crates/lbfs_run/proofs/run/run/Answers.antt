@@ -1,5 +1,5 @@
 use Rattle.std.proofs.Common.{inl, inr, map, string_bytes}
-use Rattle.lbfs_run.proofs.Headline.{headline, replayed, generated, unrefused}
+use Rattle.lbfs_run.proofs.Headline.{headline, replayed, generated, unrefused, unrefused_read}
 use Rattle.lbfs_run.proofs.run.run.Goals as goal
 
 pub returns-clause-headline : goal.returns-clause-headline
@@ -16,4 +16,8 @@ returns-clause-generated g c = λ view seed blocks words zero.
 
 pub returns-clause-accepted : goal.returns-clause-accepted
 returns-clause-accepted g c = λ seed blocks command words five.
-    unrefused (map (λ w. string_bytes w) c.args.words.now) _ _ _ _ _ seed blocks command c.generated_traces_are_accepted.ensures (c.run_on-status.ensures.taken (inr (inr five))) words five
+    unrefused (map (λ w. string_bytes w) c.args.words.now) _ _ _ _ _ seed blocks command c.generated_traces_are_accepted.ensures.accepted (c.run_on-status.ensures.taken (inr (inr five))) words five
+
+pub returns-clause-read_again : goal.returns-clause-read_again
+returns-clause-read_again g c = λ view seed blocks words few told five.
+    unrefused_read (map (λ w. string_bytes w) c.args.words.now) _ _ _ _ view seed blocks c.generated_traces_are_accepted.ensures.accepted c.generated_traces_are_accepted.ensures.short (c.run_on-status.ensures.answered (inr (inr five))) words few told five
