@@ -89,7 +89,7 @@ fn connections(alloc: Global, server: &mut Server) -> (u32, End, End) {
 // 64 sessions stand at once, and the 65th connection is told so.
 #[test]
 fn the_65th_connection_is_full(rt: HostRuntime) -> Result<(), Fail> {
-    let mut server = Server::new(rt.alloc());
+    let mut server = Server::new(rt.alloc())?;
     let ends = connections(rt.alloc(), &mut server);
     drop(server);
     assert_eq!(rt; ends, (64, End::Quiet(Told::Full), End::Quiet(Told::Full)));
@@ -160,7 +160,7 @@ fn changes(alloc: Global, server: &mut Server) -> Result<[End; 5], AllocError> {
 
 /// The same at a server whose tree is full. All that holds messages is let go here, by one call.
 fn full_tree_ends(alloc: Global) -> Result<[End; 5], AllocError> {
-    let mut server = Server::new(alloc);
+    let mut server = Server::new(alloc)?;
     let ends = match fill(alloc, &mut server) {
         Ok(()) => changes(alloc, &mut server),
         Err(error) => Err(error),

@@ -3,7 +3,7 @@
 ghost use Rattle.std.specs.Prelude.{◌≡◌, ℕ, None};
 
 use lb_base::items::{Bytes, Items};
-use lb_base::mem_sink::{MemSink, SureSink};
+use lb_base::mem_sink::MemSink;
 use lb_base::mem_source::MemSource;
 use lb_base::source::{Failed, Source};
 use lbfs_run::run::{Outside, run};
@@ -44,6 +44,55 @@ fn words(alloc: Global, word: &str) -> Result<Vec<String>, AllocError> {
     Ok(list)
 }
 
+/// A source of so many zeros, which are nowhere held, and of bytes in memory behind them. One type for all
+/// runs here: the program's code is made, and proved, once for each type of an outside.
+#[derive(Drop)]
+struct Given {
+    zeros: usize,
+    held: MemSource,
+}
+
+impl Source for Given {
+    ghost left = { λ _. None };
+
+    ghost faults = { λ given. given.held.faults };
+
+    fn take(&mut self, into: &mut [u8]) -> Result<usize, Failed> {
+        if self.zeros == 0 {
+            return self.held.take(into);
+        }
+        let count = into.len().min(self.zeros);
+        into[..count].fill(0);
+        self.zeros -= count;
+        Ok(count)
+    }
+}
+
+/// What a run takes and gives: so many zeros, and the bytes behind them, where these calls fail; these
+/// calls of the sink fail, and these answer want of memory.
+fn outside_of(
+    alloc: Global,
+    zeros: usize,
+    bytes: &[u8],
+    unread: &[u64],
+    failing: &[u64],
+    starved: &[u64],
+) -> Result<Outside<Given, MemSink>, AllocError> {
+    let input = Bytes::copy_of(alloc, bytes)?;
+    let (unread, failing) = (
+        Items::copy_of(alloc, unread)?,
+        Items::copy_of(alloc, failing)?,
+    );
+    let starved = Items::copy_of(alloc, starved)?;
+    Ok(Outside {
+        source: Given {
+            zeros,
+            held: MemSource::new(input, GIVEN, unread),
+        },
+        sink: MemSink::new(alloc, TAKEN, failing, starved),
+    })
+}
+
 /// Replays the trace, where these calls of the source fail, these of the sink, and these of the sink
 /// answer want of memory.
 fn replayed(
@@ -52,16 +101,7 @@ fn replayed(
     failing: &[u64],
     starved: &[u64],
 ) -> Result<End, AllocError> {
-    let input = Bytes::copy_of(alloc, TRACE.as_bytes())?;
-    let (unread, failing) = (
-        Items::copy_of(alloc, unread)?,
-        Items::copy_of(alloc, failing)?,
-    );
-    let starved = Items::copy_of(alloc, starved)?;
-    let outside = Outside {
-        source: MemSource::new(input, GIVEN, unread),
-        sink: MemSink::new(alloc, TAKEN, failing, starved),
-    };
+    let outside = outside_of(alloc, 0, TRACE.as_bytes(), unread, failing, starved)?;
     let words = words(alloc, "replay")?;
     let (status, outside) = run(alloc, words.as_slice(), outside);
     let held = outside.sink.held();
@@ -106,31 +146,9 @@ fn each_call_of_the_sink_fails_once(rt: HostRuntime) -> Result<(), Fail> {
     Ok(())
 }
 
-/// A source of so many zeros, which are nowhere held.
-#[derive(Drop)]
-struct Zeros {
-    left: usize,
-}
-
-impl Source for Zeros {
-    ghost left = { λ _. None };
-
-    ghost faults = { λ _. 0 };
-
-    fn take(&mut self, into: &mut [u8]) -> Result<usize, Failed> {
-        let count = into.len().min(self.left);
-        into[..count].fill(0);
-        self.left -= count;
-        Ok(count)
-    }
-}
-
 /// The status for so many zeros, and whether this text was written.
 fn of_zeros(alloc: Global, word: &str, left: usize, text: &str) -> Result<(u8, bool), AllocError> {
-    let outside = Outside {
-        source: Zeros { left },
-        sink: SureSink::new(alloc, 100),
-    };
+    let outside = outside_of(alloc, left, &[], &[], &[], &[])?;
     let words = words(alloc, word)?;
     let (status, outside) = run(alloc, words.as_slice(), outside);
     Ok((status, outside.sink.held() == text.as_bytes()))
