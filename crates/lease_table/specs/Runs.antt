@@ -1,10 +1,10 @@
 -- Runs of the machine of one lease, and of machines that differ from it in one thing. Each run's
 -- readings keep the clock rule (all are taken, which is the rule by `laws::readings_keep_the_rule` of
 -- `clock_rule`), so what becomes wrong is wrong by that one thing alone.
-use Rattle.std.specs.Prelude.{◌≡◌, ℕ, List, [], ◌∷◌, Some, None, Bool, true, false, is_ok, refl}
+use Rattle.std.specs.Prelude.{◌≡◌, ℕ, List, [], ◌∷◌, ◌++◌, Some, None, Bool, true, false, is_ok, refl}
 use Rattle.clock_rule.specs.Keeping.{at_first, all_read}
 use Rattle.lease_table.specs.Leases.{without_lease}
-use Rattle.lease_table.specs.Machine.{Machine, Up, Up.Reply, Down, Down.Answered, Event, Event.Open, Event.Fetch, Event.Store, Event.Read, Event.Take, Event.Arrive, Event.Change, Event.Settle, Event.Refuse, Event.Cut, Event.Hang, Event.Restart, unless, takes_one, reads_one, note_of, is_free, stores_if, happens, timed, start}
+use Rattle.lease_table.specs.Machine.{Machine, Up, Up.Reply, Down, Down.Answered, Down.Recall, Event, Event.Open, Event.Fetch, Event.Store, Event.Read, Event.Take, Event.Arrive, Event.Change, Event.Settle, Event.Refuse, Event.Cut, Event.Hang, Event.Restart, unless, takes_one, reads_one, note_of, is_free, stores_if, happens, timed, start}
 use Rattle.lease_table.specs.Claims.{readings_of}
 
 -- the term is 1000 and the drift 100
@@ -61,6 +61,32 @@ any_answer m e = happens m e
 -- so the file is changed under the new lease, and the open gives version 2 of a file that has version 3
 any_answer_is_wrong : opens any_answer late_answer ≡ (2, 3) ∷ []
 any_answer_is_wrong = refl
+
+-- ---- a RECALL is answered, and the note stays
+
+-- The lease is recalled and given up, and the file is changed long before the lease would have ended.
+abbrev given_up : List Event
+given_up = Open 0 ∷ Take 0 true ∷ Read 0 ∷ Arrive 9 0 ∷ Read 0 ∷ Take 0 true ∷ Change 9 0 ∷ Open 10 ∷ []
+
+given_up_keeps : keeps given_up ≡ true
+given_up_keeps = refl
+
+given_up_is_right : opens happens given_up ≡ []
+given_up_is_right = refl
+
+given_up_is_changed : (run_by happens (start 1 1 2 1000 100) given_up).version ≡ 2
+given_up_is_changed = refl
+
+abbrev replies_alone : Machine → List Down → Machine
+replies_alone m (Recall x ∷ ds) = record m { downs = ds; ups = m.ups ++ Reply x ∷ [] }
+replies_alone m ds = reads_one m ds
+
+abbrev forgets_recall : Machine → Event → Machine
+forgets_recall m (Read seen) = unless m.cut m (replies_alone m m.downs)
+forgets_recall m e = happens m e
+
+forgets_recall_is_wrong : opens forgets_recall given_up ≡ (1, 2) ∷ []
+forgets_recall_is_wrong = refl
 
 -- ---- an answer to a call that comes late
 
@@ -127,6 +153,16 @@ hang_drops m e = happens m e
 
 hang_drops_is_wrong : opens hang_drops lost_connection ≡ (1, 2) ∷ []
 hang_drops_is_wrong = refl
+
+-- they stand to their end, and a change is made then
+abbrev waited_for : (at : ℕ) → List Event
+waited_for at = Open 0 ∷ Take 0 true ∷ Read 0 ∷ Hang 10 ∷ Change 9 at ∷ []
+
+stands_to_its_end : (run_by happens (start 1 1 2 1000 100) (waited_for 999)).version ≡ 1
+stands_to_its_end = refl
+
+changed_at_its_end : (run_by happens (start 1 1 2 1000 100) (waited_for 1000)).version ≡ 2
+changed_at_its_end = refl
 
 -- ---- one's own COMMITTMP
 

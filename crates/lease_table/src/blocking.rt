@@ -1,5 +1,5 @@
 //! Which leases hold up a change of a file (`is_blocked` and `others` in `specs/Leases.antt`). Only
-//! the leases on the file are looked at.
+//! the leases on the file are looked at, and those in reserved places.
 
 ghost use Rattle.std.specs.Prelude.{◌≡◌, ◌<◌, ◌||◌, ◌&&◌, IfOk, filter, map, All};
 ghost use Rattle.std.specs.BTreeMap.Range.{range_contains};
