@@ -12,16 +12,6 @@ rounds=${2:-5}
 . bench/against
 build_baseline bench/cut_baseline.c
 
-# Runs both turn about over FILE, and leaves the least times in `ours` and `theirs`.
-measure() {
-    local file=$1
-    ours='' theirs=''
-    for _ in $(seq "$rounds"); do
-        ours=$(least "$ours" "$(spent "$file" "$program" cut)")
-        theirs=$(least "$theirs" "$(spent "$file" "$work/baseline")")
-    done
-}
-
 "$work/baseline" make $((mib * 1048576)) >"$work/whole"
 "$program" cut <"$work/whole" >"$work/ours"
 "$work/baseline" <"$work/whole" >"$work/theirs"
@@ -30,12 +20,10 @@ if ! cmp -s "$work/ours" "$work/theirs"; then
     exit 1
 fi
 
-before=''
+words=(cut) their_words=()
 for part in 4 2 1; do
     size=$((mib * 1048576 / part))
     head -c "$size" "$work/whole" >"$work/part"
-    measure "$work/part"
-    echo "cut of $size bytes: $ours us, C $theirs us, ratio $(ratio "$ours" "$theirs")"
-    [[ -z $before ]] || echo "  twice the input takes $(ratio "$ours" "$before") times as long"
-    before=$ours
+    turn_about "$work/part"
+    report "cut of $size bytes" 'twice the input'
 done

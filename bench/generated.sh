@@ -13,26 +13,17 @@ rounds=${2:-5}
 . bench/against
 build_baseline bench/generated_baseline.c
 
-before=''
 for part in 4 1; do
     count=$((blocks / part))
-    words=(replay --seed 31 --blocks "$count")
-    steps=$("$program" "${words[@]}" | tail -n 1 | cut -d ' ' -f 5)
-    ours='' theirs=''
-    for _ in $(seq "$rounds"); do
-        ours=$(least "$ours" "$(spent /dev/null "$program" "${words[@]}" --summary)")
-        cp "$work/out" "$work/summary"
-        theirs=$(least "$theirs" "$(spent /dev/null "$work/baseline" 31 "$count")")
-        cmp -s "$work/out" "$work/summary" || { echo "the two summaries differ" >&2; exit 1; }
-    done
-    echo "$count blocks: $ours us, C $theirs us, ratio $(ratio "$ours" "$theirs"); $steps steps, $((steps * 1000000 / ours)) in a second"
-    [[ -z $before ]] || echo "four times the blocks: $(ratio "$ours" "$before") times as long"
-    before=$ours
+    words=(replay --seed 31 --blocks "$count" --summary) their_words=(31 "$count")
+    steps=$("$program" replay --seed 31 --blocks "$count" | tail -n 1 | cut -d ' ' -f 5)
+    turn_about /dev/null
+    cmp -s "$work/ours" "$work/theirs" || { echo "the two summaries differ" >&2; exit 1; }
+    report "$count blocks" 'four times the blocks'
+    echo "$steps steps, $((steps * 1000000 / ours)) in a second"
 done
-if command -v /usr/bin/time >/dev/null; then
-    /usr/bin/time -f "%M KiB held" "$program" "${words[@]}" --summary >/dev/null
-fi
+held /dev/null "${words[@]}"
 if command -v perf >/dev/null; then
-    perf record -q -o "$work/perf" "$program" "${words[@]}" --summary >/dev/null
+    perf record -q -o "$work/perf" "$program" "${words[@]}" >/dev/null
     perf report -q --stdio -i "$work/perf" | grep -v '^#\|^$' | head -n 15
 fi

@@ -5,23 +5,9 @@
  *
  *   generated_baseline SEED N
  */
-#define main cut_main
-#include "cut_baseline.c"
-#undef main
+#include "contents.c"
 
 enum { FILES = 8, CLIENTS = 4, SIZE = 9000, AT_ONCE = 16, ROOM = 1 << 17 };
-
-struct chunk {
-    size_t start, len;
-    uint8_t digest[20];
-};
-
-struct content {
-    uint8_t *bytes;
-    size_t count;
-    struct chunk *chunks;
-    size_t all;
-};
 
 /* An operation of the history. */
 struct op {
@@ -41,27 +27,6 @@ static struct op *ops;
 static size_t op_count, journal;
 static struct queue up, down;
 static uint32_t next_xid = 1;
-
-static void *room(size_t count)
-{
-    void *bytes = malloc(count ? count : 1);
-    if (!bytes)
-        exit(3);
-    return bytes;
-}
-
-static void cut(struct content *c)
-{
-    c->chunks = room((c->count / LEAST + 1) * sizeof *c->chunks);
-    c->all = 0;
-    for (size_t start = 0; start < c->count; c->all++) {
-        struct chunk *chunk = &c->chunks[c->all];
-        chunk->start = start;
-        chunk->len = chunk_len(c->bytes + start, c->count - start);
-        sha1(c->bytes + start, chunk->len, chunk->digest);
-        start += chunk->len;
-    }
-}
 
 static void drop(struct content *c)
 {
@@ -260,12 +225,7 @@ int main(int argc, char **argv)
     up = (struct queue){room(ROOM * AT_ONCE), room(ROOM), 0, 0};
     down = (struct queue){room(ROOM * AT_ONCE), room(ROOM), 0, 0};
     for (int i = 0; i < FILES; i++) {
-        uint64_t state = seed + (uint64_t)i + 1;
-        files[i] = (struct content){room(SIZE), SIZE, NULL, 0};
-        for (size_t j = 0; j < SIZE; j++) {
-            state = state * 6364136223846793005u + 1442695040888963407u;
-            files[i].bytes[j] = (uint8_t)(state >> 56);
-        }
+        files[i] = draw(seed + (uint64_t)i + 1, SIZE);
         cut(&files[i]);
     }
     for (unsigned long k = 1; k <= blocks; k++)

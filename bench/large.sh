@@ -19,20 +19,13 @@ make() {
         'pass 1 100000 0 0' "do 1 0 write #2 $(($1 / 2)) t:x" 'do 1 0 close #2' 'pass 1 100000 0 0' 'settle 0' 'pass 1 1 0 0'
 }
 
-before=''
 for part in 4 1; do
     size=$((mib * 1048576 / part))
     make "$size" >"$work/trace"
-    ours='' theirs=''
-    for _ in $(seq "$rounds"); do
-        ours=$(least "$ours" "$(spent "$work/trace" "$program" replay)")
-        grep -q ' Closed 2 ' "$work/out" || { echo "the close did not succeed" >&2; exit 1; }
-        theirs=$(least "$theirs" "$(spent /dev/null "$work/baseline" "$size")")
-    done
-    echo "$size bytes: $ours us, C $theirs us, ratio $(ratio "$ours" "$theirs")"
-    [[ -z $before ]] || echo "four times the file: $(ratio "$ours" "$before") times as long"
-    before=$ours
+    words=(replay) their_words=("$size")
+    turn_about "$work/trace"
+    grep -q ' Closed 2 ' "$work/ours" || { echo "the close did not succeed" >&2; exit 1; }
+    report "$size bytes" 'four times the file'
 done
-if command -v /usr/bin/time >/dev/null; then
-    /usr/bin/time -f "%M KiB held for $((size / 1024)) KiB" "$program" replay <"$work/trace" >/dev/null
-fi
+echo "of a file of $((size / 1024)) KiB:"
+held "$work/trace" replay

@@ -5,44 +5,7 @@
  *
  *   large_baseline COUNT         of a content of COUNT bytes, part r:1:COUNT of a trace
  */
-#define main cut_main
-#include "cut_baseline.c"
-#undef main
-
-/* A chunk as both ends know it. */
-struct chunk {
-    size_t start, len;
-    uint8_t digest[20];
-};
-
-struct content {
-    uint8_t *bytes;
-    size_t count;
-    struct chunk *chunks;
-    size_t all;
-};
-
-static void *room(size_t count)
-{
-    void *bytes = malloc(count ? count : 1);
-    if (!bytes)
-        exit(3);
-    return bytes;
-}
-
-/* The chunks of a content, with their digests. */
-static void cut(struct content *c)
-{
-    c->chunks = room((c->count / LEAST + 1) * sizeof *c->chunks);
-    c->all = 0;
-    for (size_t start = 0; start < c->count; c->all++) {
-        struct chunk *chunk = &c->chunks[c->all];
-        chunk->start = start;
-        chunk->len = chunk_len(c->bytes + start, c->count - start);
-        sha1(c->bytes + start, chunk->len, chunk->digest);
-        start += chunk->len;
-    }
-}
+#include "contents.c"
 
 /* A chunk's bytes go from one end to the other: into a message, a queue, a record, and the content. */
 static void carry(const uint8_t *from, uint8_t *to, size_t len, uint8_t *a, uint8_t *b, uint8_t *c)
@@ -68,15 +31,8 @@ int main(int argc, char **argv)
     if (argc != 2)
         return 2;
     make_tables();
-    struct content server, client, stored;
+    struct content server = draw(1, strtoul(argv[1], NULL, 10)), client, stored;
     uint8_t *a = room(MOST), *b = room(MOST), *c = room(MOST);
-    server.count = strtoul(argv[1], NULL, 10);
-    server.bytes = room(server.count);
-    uint64_t state = 1;
-    for (size_t i = 0; i < server.count; i++) {
-        state = state * 6364136223846793005u + 1442695040888963407u;
-        server.bytes[i] = (uint8_t)(state >> 56);
-    }
     cut(&server);
 
     /* the open: each chunk's bytes are hashed where they come, and the whole */

@@ -3,10 +3,9 @@
 
     bench/vectors/generated_rows.py > examples/generated.rows
 
-The traces and the counts of their runs are worked out here by what a block does: its clients act one
-after the other and each delivery brings all that is on its way, so an open gets the file as it is,
-with a READ for each chunk, and a close stores it anew, with a CONDWRITE and a TMPWRITE for each.
+The traces are worked out here, and the counts of their runs by replays.py.
 """
+KINDS = {"opened": ("Opened",), "closed": ("Closed",), "other": ("Done", "Piece"), "running": ("Running",)}
 MODULUS, WINDOW, LEAST, MOST, MARK = 0x3DA3358B4DC173, 48, 2048, 65536, 0x78
 
 
@@ -81,21 +80,20 @@ def trace(seed, blocks):
 
 
 def summary(seed, blocks):
-    """The lines of a summary."""
-    files = {i + 1: random_bytes((seed + i) % 2**64, 9000) for i in range(1, 9)}
-    counts = {file: chunks(content) for file, content in files.items()}
-    closed = stored = read = data = 0
-    for number in range(1, blocks + 1):
-        _, file, offset = block(seed, number)
-        read, data = read + counts[file], data + len(files[file])
-        if offset is not None:
-            text, old = str(number).encode(), files[file]
-            files[file] = old[:offset] + text + old[offset + len(text) :]
-            counts[file] = chunks(files[file])
-            closed, stored, data = closed + 1, stored + counts[file], data + len(files[file])
-    yield f"ops {2 * blocks + closed} opened {blocks} closed {closed} other {blocks} refused 0 running 0"
-    yield f"cond {stored} tmp {stored} read {read} data {data}"
-    yield f"journal {closed}"
+    """The lines of a summary: what is counted of a replay apart from the program (replays.py)."""
+    from replays import World
+
+    world = World()
+    for line in trace(seed, blocks):
+        world.line(line.split(" "))
+    kinds = [op.out.split(" ")[0] for op in world.ops]
+    told = {name: sum(kind in names for kind in kinds) for name, names in KINDS.items()}
+    told["refused"] = len(kinds) - sum(told.values())
+    order = ("opened", "closed", "other", "refused", "running")
+    yield " ".join([f"ops {len(kinds)}"] + [f"{name} {told[name]}" for name in order])
+    cond, tmp, read, data = (sum(op.counts[k] for op in world.ops) for k in range(4))
+    yield f"cond {cond} tmp {tmp} read {read} data {data}"
+    yield f"journal {world.journal}"
 
 
 def row(title, words, lines, status=0, given=None):
