@@ -98,7 +98,7 @@ serves_turn k n now bytes None = refl
 serves_turn k n now bytes (Some x) = by (parse_of server_waiting bytes)
   where
     by : (r : Result Message WireFault) → files (serves_if k n now x r).core ≡ files k
-    by (Ok m) = got_keeps (λ s. s.files ≡ files k) k.server (λ temps waiting index moment. refl) n m now
+    by (Ok m) = got_keeps (λ s. s.files ≡ files k) k.server n m now (λ temps waiting index moment w. refl)
     by (Err e) = refl
 
 hears_turn : (k : Core) (n now : ℕ) (bytes : List ℕ) (x : Option Session) → files (hears k n now bytes x).core ≡ files k

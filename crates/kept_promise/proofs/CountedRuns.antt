@@ -26,7 +26,7 @@ abbrev pub IsSilent : client.State × ClientStep → Type 0
 IsSilent r = (sent_sum r.1.send ≡ no_traffic) × (r.1.counts ≡ no_counts)
 
 pub silent_command : (s : client.State) (d : Command) (now : ℕ) → IsSilent (command_step s d now)
-silent_command s d now = command_cases IsSilent s d now (record { busy = λ t is. (refl, refl); answers = λ free opened o plain. (refl, refl); fetches = λ file is free. (refl, refl); asks = λ file c is free at. (refl, refl); closes = λ file l is free at. (refl, refl) })
+silent_command s d now = command_cases IsSilent s d now (record { busy = λ t is. (refl, refl); answers = λ free opened o plain. (refl, refl); fetches = λ file is free may. (refl, refl); asks = λ file c is free may at. (refl, refl); closes = λ file l is free may at. (refl, refl) })
 
 -- ---- one more moment
 

@@ -1,24 +1,16 @@
 -- A session that its client left gets no new COMMITTMP, and remembers the close that it did.
 use Rattle.std.proofs.Common.{◌⊎◌, inl, inr, ◌≡◌, ℕ, zero, suc, ◌+◌, ◌≤◌, List, [], ◌∷◌, ◌++◌, length, Option, Some, None, Bool, true, false, refl, sym, ap, ◌∙◌, subst, arith, append-nil, map, Result, Ok, Err}
 use Rattle.std.proofs.lemmas.List.{length-append}
-use Rattle.command_text.specs.declared.command.Command.TheVariants as command
-use Rattle.xdr_codec.specs.declared.status.Status.TheVariants as status
-use Rattle.hash_calls.specs.declared.call.Commit.{Commit as Commits}
-use Rattle.hash_calls.specs.declared.call.CondPiece.{CondPiece}
-use Rattle.hash_calls.specs.declared.message.Lb.TheVariants as lb
-use Rattle.nfs3_calls.specs.declared.message.Nfs.TheVariants as nfs
-use Rattle.wire.specs.declared.message.Body.TheVariants as body
-use Rattle.wire.specs.declared.message.Message.TheVariants as message
-use Rattle.chunk_index.specs.Index.{key_of, place_of}
 use Rattle.server_core.specs.State as server
 use Rattle.server_core.specs.Closing as closing
 use Rattle.server_core.specs.Step as stepping
 use Rattle.open_close.specs.State as client
 use Rattle.open_close.specs.Step.{writes as writes_local}
-use Rattle.open_close.specs.declared.step.Outcome.TheVariants as outcome
 use Rattle.register_model.specs.declared.op.Word.TheVariants as words
-use Rattle.kept_promise.proofs.Common.{not, cond, filter, ◌==◌, nat_lt, if◌then◌else◌, content_length, content_bytes, Command, Failed, Status, TempPiece, parse_of, Body, Message, Node, root, file, node_of, makes_unless, makes, writes_unless, has_waiting, is_full, commits_whole, commits_to, commits, makes_change, room_fault, Temp, temp_at, assembled, called, got_if, stands, connect, has_room, size_most, Change, File, ends, local_most, written_size, written, truncated, is_open, may_ask, asks_file, opens_if, opens, on_local, done_with, too_big, edits, truncates, reads, abandons, asks_temp, closes, command_step, ended_by, ClientStep, Ended, Local, Task, Opening, Word, word_of, Core, Seat, Session, Event, Event.Joins, Event.Does, Event.Serves, Event.Hears, Event.Settles, Event.Cuts, Event.Hangs, CoreStep, numbered, with_numbered, server_waiting, session_of, serves_if, serves, is_newest, hears_if, hears_at, hears, commanded_session, commanded_sessions, does, joins_as, joins, settles, cut_session, cuts_if, cuts, hangs_if, hangs, happens, closing_with, Moment, unless, Call, Call.Commit, Ask, Told, Queue, ask_message, Loss, Loss.Nothing, Loss.Down_of, Loss.Up_of, no_queue, names, names_unless, names_bytes, bytes_known, cond_fault}
+use Rattle.kept_promise.proofs.Common.{not, cond, filter, ◌==◌, Command, parse_of, Message, makes_change, got_if, stands, connect, has_room, Change, File, may_ask, command_step, ended_by, ClientStep, Ended, Task, Opening, Word, word_of, Core, Seat, Session, Event, Event.Joins, Event.Does, Event.Serves, Event.Hears, Event.Settles, Event.Cuts, Event.Hangs, CoreStep, numbered, with_numbered, server_waiting, session_of, serves_if, serves, is_newest, hears_if, hears_at, hears, commanded_session, commanded_sessions, does, joins_as, joins, settles, cut_session, cuts_if, cuts, hangs_if, hangs, happens, closing_with, Moment, unless, Call, Call.Commit, Ask, Told, Queue, ask_message, Loss, Loss.Nothing, Loss.Down_of, Loss.Up_of, no_queue}
 use Rattle.trace_replay.specs.Core.{Loss.Made}
+use Rattle.kept_promise.proofs.StepCases.{command_cases}
+use Rattle.kept_promise.proofs.CallsKeep.{IsCommitCall, Waits, got_if_keeps}
 use Rattle.kept_promise.proofs.Statements.{CallFits}
 use Rattle.kept_promise.proofs.Lists.{some_is, nothing_there, same_or_not, set_count, of_appended, of_replaced, true_and_false}
 use Rattle.kept_promise.proofs.Keys.{own}
@@ -98,46 +90,17 @@ have_lost P qs (Up_of m) h new down up = by (numbered qs m) refl
 abbrev IsSilent : client.State × ClientStep → Type 0
 IsSilent r = (r.1.send ≡ []) × ((e : Ended) × (r.1.ended ≡ Some e))
 
-silent : (s : client.State) (o : Rattle.open_close.specs.declared.step.Outcome.Outcome) → IsSilent (s, ends o 0 0)
-silent s o = (refl, (record { outcome = o; rests_on = 0 }, refl))
-
 not_joined : (s : client.State) → s.linked ≡ false → may_ask s ≡ false
 not_joined s e = ap (λ (b : Bool). elim b as (λ (x : Bool). Bool) [ true ↦ Rattle.open_close.specs.Step.has_xids s.next | false ↦ false ]) e
 
-local_silent : (s : client.State) (t : Option Task) (o : Option Local) (does_it : Local → client.State × ClientStep) → ((l : Local) → IsSilent (does_it l)) → IsSilent (on_local s t o does_it)
-local_silent s (Some t) o does_it h = silent s outcome.Busy
-local_silent s None None does_it h = silent s outcome.NotOpen
-local_silent s None (Some l) does_it h = h l
-
-edits_silent : (s : client.State) (g : ℕ) (l : Local) (size : ℕ) (content : List ℕ) → IsSilent (edits s g l size content)
-edits_silent s g l size content = by (nat_lt local_most size)
-  where
-    by : (b : Bool) → IsSilent (if b then too_big s size else done_with s g l content)
-    by true = silent s (outcome.TooBig size)
-    by false = (refl, (record { outcome = outcome.Done; rests_on = 0 }, refl))
-
-writes_silent : (s : client.State) (g offset : ℕ) (content : List Rattle.command_text.specs.declared.content.Part.Part) (l : Local) → IsSilent (writes_local s g offset content l)
-writes_silent s g offset content l = by (content_length content == 0)
-  where
-    by : (b : Bool) → IsSilent (if b then (s, ends outcome.Done 0 0) else edits s g l (written_size (length l.bytes) offset (content_length content)) (written l.bytes offset (content_bytes content)))
-    by true = silent s outcome.Done
-    by false = edits_silent s g l (written_size (length l.bytes) offset (content_length content)) (written l.bytes offset (content_bytes content))
-
 command_silent : (s : client.State) (d : Command) (now : ℕ) → s.linked ≡ false → IsSilent (command_step s d now)
-command_silent s (command.Open f) now off = by_task s.task
-  where
-    by_open : (b : Bool) → IsSilent (opens_if s f b)
-    by_open true = silent s outcome.AlreadyOpen
-    by_open false = subst (λ (b : Bool). IsSilent (asks_file s f b)) (sym (not_joined s off)) (silent s outcome.NoLink)
-
-    by_task : (t : Option Task) → IsSilent (opens s f t)
-    by_task (Some t) = silent s outcome.Busy
-    by_task None = by_open (is_open s.opened f)
-command_silent s (command.Write f offset content) now off = local_silent s s.task (client.local_at s.opened f) (writes_local s f offset content) (writes_silent s f offset content)
-command_silent s (command.Trunc f size) now off = local_silent s s.task (client.local_at s.opened f) (truncates s f size) (λ l. edits_silent s f l size (truncated l.bytes size))
-command_silent s (command.Read f offset count) now off = local_silent s s.task (client.local_at s.opened f) (reads s offset count) (λ l. silent s _)
-command_silent s (command.Close f) now off = local_silent s s.task (client.local_at s.opened f) (closes s f) (λ l. subst (λ (b : Bool). IsSilent (asks_temp s f b)) (sym (not_joined s off)) (silent s outcome.NoLink))
-command_silent s (command.Abandon f) now off = local_silent s s.task (client.local_at s.opened f) (abandons s f) (λ l. (refl, (record { outcome = outcome.Done; rests_on = 0 }, refl)))
+command_silent s d now off = command_cases IsSilent s d now (record {
+  busy = λ t is. (refl, (_, refl));
+  answers = λ free opened o plain. (refl, (_, refl));
+  fetches = λ file is free may. absurd (true_and_false (may_ask s) may (not_joined s off));
+  asks = λ file c is free may at. absurd (true_and_false (may_ask s) may (not_joined s off));
+  closes = λ file l is free may at. absurd (true_and_false (may_ask s) may (not_joined s off));
+})
 
 -- the session of a client that is joined is not cut
 left_off : (opening : List Opening) (all : List Moment) (k : Core) (qs : List Queue) (c n : ℕ) (seat : Seat) (x : Session) → IsKept (book_at opening k all) k qs → numbered k.seats c ≡ Some seat → seat.session ≡ Some n → numbered k.sessions n ≡ Some x → x.cut ≡ true → seat.client.linked ≡ false
@@ -160,81 +123,8 @@ closing_stays c place w o e is = ap (closing_with c place w) is ∙ by w
 
 -- ---- what waits at the server
 
-abbrev IsCommitCall : Message → Type 0
-IsCommitCall (message.Call xid (body.Lb (lb.CommitTmp a))) = Unit {0}
-IsCommitCall m = ⊥
-
--- nothing more waits, or one change of the session, by a COMMITTMP
-abbrev Waits : (waiting : List Change) → (n : ℕ) → Type 0 → List Change → Type 0
-Waits waiting n P after = (after ≡ waiting) ⊎ ((c : Change) × (c.session ≡ n) × (after ≡ waiting ++ c ∷ []) × P)
-
-whole_waits : (s : server.State) (n xid id : ℕ) (o : Option (List ℕ)) → Waits s.waiting n (Unit {0}) (commits_whole s n xid id o).0.waiting
-whole_waits s n xid id None = inl refl
-whole_waits s n xid id (Some content) = by (has_waiting s.waiting n) (is_full s (length content))
-  where
-    by : (a b : Bool) → Waits s.waiting n (Unit {0}) (if a then closing.answers s n xid (lb.CommitTmpAnswer (Failed status.Jukebox tt)) else if b then closing.answers s n xid (lb.CommitTmpAnswer (Failed status.NoSpc tt)) else (record s { waiting = s.waiting ++ record { session = n; xid = xid; file = id; content = content } ∷ [] }, closing.sends [])).0.waiting
-    by false false = inr (record { session = n; xid = xid; file = id; content = content }, refl, refl, tt)
-    by _ _ = inl refl
-
-to_waits : (s : server.State) (n xid size : ℕ) (t : Temp) (r : Result Node Status) → Waits s.waiting n (Unit {0}) (commits_to s n xid size t r).0.waiting
-to_waits s n xid size t (Err e) = inl refl
-to_waits s n xid size t (Ok root) = inl refl
-to_waits s n xid size t (Ok (file f)) = by (nat_lt size_most size)
-  where
-    by : (b : Bool) → Waits s.waiting n (Unit {0}) (if b then closing.answers s n xid (lb.CommitTmpAnswer (Failed status.FBig tt)) else commits_whole s n xid f.id (assembled t size)).0.waiting
-    by true = inl refl
-    by false = whole_waits s n xid f.id (assembled t size)
-
-commits_wait : (s : server.State) (n xid : ℕ) (a : Commits) (o : Option Temp) → Waits s.waiting n (Unit {0}) (commits s n xid a o).0.waiting
-commits_wait s n xid a None = inl refl
-commits_wait s n xid a (Some t) = to_waits (record s { temps = Rattle.temp_files.specs.Temps.without_temp s.temps n a.fd }) n xid a.size t (node_of s.files a.handle)
-
-makes_wait : (s : server.State) (n xid number : ℕ) (r : Result Node Status) → (makes s n xid number r).0.waiting ≡ s.waiting
-makes_wait s n xid number (Err e) = refl
-makes_wait s n xid number (Ok root) = refl
-makes_wait s n xid number (Ok (file f)) = by (room_fault s.temps n number)
-  where
-    by : (o : Option Status) → (makes_unless s n xid number f.id o).0.waiting ≡ s.waiting
-    by None = refl
-    by (Some e) = refl
-
-writes_wait : (s : server.State) (n xid : ℕ) (a : TempPiece) (t : Option Temp) (o : Option Status) → (writes_unless s n xid a t o).0.waiting ≡ s.waiting
-writes_wait s n xid a (Some t) None = refl
-writes_wait s n xid a None None = refl
-writes_wait s n xid a (Some t) (Some e) = refl
-writes_wait s n xid a None (Some e) = refl
-
-named_waits : (s : server.State) (n xid : ℕ) (a : CondPiece) (t : Option Temp) → (names s n xid a t).0.waiting ≡ s.waiting
-named_waits s n xid a t = by t (cond_fault a t)
-  where
-    taken : (s : server.State) (t : Option Temp) (o : Option (List ℕ)) → (names_bytes s n xid a t o).0.waiting ≡ s.waiting
-    taken s (Some t) (Some bytes) = refl
-    taken s (Some t) None = refl
-    taken s None o = refl
-
-    by : (t : Option Temp) (o : Option Status) → (names_unless s n xid a t o).0.waiting ≡ s.waiting
-    by t (Some e) = refl
-    by t None = taken (closing.looked_up s a) t (bytes_known s.files a (place_of s.index.pairs (key_of a.digest)))
-
-called_waits : (s : server.State) (n xid : ℕ) (b : Body) → Waits s.waiting n (IsCommitCall (message.Call xid b)) (called s n xid b).0.waiting
-called_waits s n xid (body.Lb (lb.CommitTmp a)) = commits_wait s n xid a (temp_at s.temps n a.fd)
-called_waits s n xid (body.Lb (lb.MkTmpFile a)) = inl (makes_wait s n xid a.fd (node_of s.files a.handle))
-called_waits s n xid (body.Lb (lb.TmpWrite a)) = inl (writes_wait s n xid a (temp_at s.temps n a.fd) _)
-called_waits s n xid (body.Lb lb.Null) = inl refl
-called_waits s n xid (body.Lb (lb.GetHash r)) = inl refl
-called_waits s n xid (body.Lb (lb.CondWrite a)) = inl (named_waits s n xid a (temp_at s.temps n a.fd))
-called_waits s n xid (body.Nfs nfs.Null) = inl refl
-called_waits s n xid (body.Nfs (nfs.Read r)) = inl refl
-called_waits s n xid (body.Lb b) = inl refl
-called_waits s n xid (body.Nfs b) = inl refl
-called_waits s n xid (body.Back b) = inl refl
-
 got_waits : (s : server.State) (n now : ℕ) (m : Message) (b : Bool) → Waits s.waiting n (IsCommitCall m) (got_if s b n m now).0.waiting
-got_waits s n now m false = inl refl
-got_waits s n now (message.Call xid b) true = called_waits (closing.at s now) n xid b
-got_waits s n now (message.Unfit xid why) true = inl refl
-got_waits s n now (message.Answer xid b) true = inl refl
-got_waits s n now (message.Refuse xid why) true = inl refl
+got_waits s n now m b = got_if_keeps (λ r. Waits s.waiting n (IsCommitCall m) r.waiting) s n m now (λ temps waiting index moment w. w) b
 
 -- ---- changes of a session
 

@@ -9,6 +9,7 @@ pub mod ClosesLog
 pub mod OpensLog
 pub mod MetLog
 pub mod OwnLog
+pub mod OpsAfter
 pub mod OwnedRuns
 pub mod Marks
 pub mod Rights
@@ -120,7 +121,6 @@ pub mod VersionRuns
 pub mod LeftCommits
 pub mod JobFacts
 pub mod OpenedOnce
-pub mod AtOnce
 pub mod StoredWhole
 pub mod MadeRuns
 pub mod Promise

@@ -263,9 +263,9 @@ begins_free : (s : client.State) (d : Command) (now : ℕ) → s.task ≡ None �
 begins_free s d now free = command_cases (λ r. Answers r ⊎ Asks d r) s d now (record {
   busy = λ t is. nothing_there t (sym free ∙ is);
   answers = λ un opened o plain. inl (refl, (_, refl));
-  fetches = λ file is un. subst (λ (c : Command). let r = asks_kept (fronts s file) file None in Answers r ⊎ Asks c r) (sym is) (inr (hash_call s.next file 0, stage.Hashing 1 s.next, refl, refl, refl, refl, (refl, refl)));
-  asks = λ file kept is un at. subst (λ (c : Command). let r = asks_kept (fronts s file) file (Some kept) in Answers r ⊎ Asks c r) (sym is) (inr (lease_call s.next file, stage.Asking s.next, refl, refl, refl, refl, refl));
-  closes = λ file l is un at. subst (λ (c : Command). let r = asks_temp s file true in Answers r ⊎ Asks c r) (sym is) (inr (make_call s.next s.next_temp file, stage.Making s.next s.next_temp, refl, refl, refl, refl, refl));
+  fetches = λ file is un may. subst (λ (c : Command). let r = asks_kept (fronts s file) file None in Answers r ⊎ Asks c r) (sym is) (inr (hash_call s.next file 0, stage.Hashing 1 s.next, refl, refl, refl, refl, (refl, refl)));
+  asks = λ file kept is un may at. subst (λ (c : Command). let r = asks_kept (fronts s file) file (Some kept) in Answers r ⊎ Asks c r) (sym is) (inr (lease_call s.next file, stage.Asking s.next, refl, refl, refl, refl, refl));
+  closes = λ file l is un may at. subst (λ (c : Command). let r = asks_temp s file true in Answers r ⊎ Asks c r) (sym is) (inr (make_call s.next s.next_temp file, stage.Making s.next s.next_temp, refl, refl, refl, refl, refl));
 })
 
 first_said : (P : Going) (E : Ending) (all : List Moment) → LogLaws all P E → (file : ℕ) (v : List ℕ) (m : Message) (st : Stage) → IsFirst file m st → P (Sent m ∷ []) file v st

@@ -1,101 +1,24 @@
 -- A run carries that each change of the journal was made at a moment at which the server was told to make one, that it was the first that waited then,
 -- and whose close it is; and that a settling makes the first that waits.
 use Rattle.std.proofs.Common.{inl, inr, ◌≡◌, ℕ, ◌+◌, List, [], ◌∷◌, ◌++◌, length, Option, Some, None, Result, Ok, Err, Bool, true, false, refl, sym, ap, ◌∙◌, subst, arith, append-nil, replicate, IsSome}
-use Rattle.wire.specs.declared.message.Body.TheVariants as body
-use Rattle.wire.specs.declared.message.Message.TheVariants as message
-use Rattle.hash_calls.specs.declared.message.Lb.TheVariants as lb
-use Rattle.nfs3_calls.specs.declared.message.Nfs.TheVariants as nfs
-use Rattle.server_core.specs.Closing.{at as at_reading, settles as server_settles, looked_up, names_bytes, names_unless, bytes_known, cond_fault}
-use Rattle.chunk_index.specs.Index.{key_of as digest_key, place_of}
+use Rattle.server_core.specs.Closing.{at as at_reading, settles as server_settles}
 use Rattle.server_core.specs.State as server
 use Rattle.server_core.specs.Step.{hangs_if as server_hangs_if}
-use Rattle.server_core.specs.declared.event.Event.TheVariants as event
 use Rattle.open_close.specs.State as client
 use Rattle.register_model.specs.declared.op.Word.TheVariants as words
 use Rattle.trace_replay.specs.Faithful.{IsSettled, SettlesFirst}
-use Rattle.kept_promise.proofs.Common.{Contains-push_cases, slice_get, slice_set, Contains, if◌then◌else◌, nat_lt, parse_of, WireFault, Body, Message, Status, Node, root, file, node_of, entry_of, makes_change, makes, makes_unless, room_fault, writes_unless, commits, commits_to, commits_whole, has_waiting, is_full, server_step, connect, has_room, called, got_if, stands, Temp, size_most, temp_at, without_temp, piece_fault, assembled, Change, ServerStep, File, Entry, ClientStep, Ended, Op, Opening, Value, content_of, TakenCall, has_point, op_after, Core, Seat, Session, Event, Event.Joins, Event.Does, Event.Serves, Event.Hears, Event.Settles, Event.Cuts, Event.Hangs, CoreStep, numbered, server_waiting, serves_if, serves, joins_as, joins, does, cuts_if, cuts, hangs_if, hangs, ops_with, settles, happens, Moment, step_of, Book, Queue}
+use Rattle.kept_promise.proofs.Common.{Contains-push_cases, slice_get, slice_set, Contains, parse_of, WireFault, Message, entry_of, makes_change, connect, has_room, stands, Change, ServerStep, File, Entry, ClientStep, Ended, Op, Opening, Value, content_of, TakenCall, has_point, op_after, Core, Seat, Session, Event, Event.Joins, Event.Does, Event.Serves, Event.Hears, Event.Settles, Event.Cuts, Event.Hangs, CoreStep, numbered, server_waiting, serves_if, serves, joins_as, joins, does, cuts_if, cuts, hangs_if, hangs, ops_with, settles, happens, Moment, step_of, Book, Queue}
 use Rattle.kept_promise.proofs.Lists.{some_is, nothing_there, at_end, at_replaced, kept_appended, of_appended, same_or_not, set_else}
 use Rattle.kept_promise.proofs.Turns.{also_numbered}
 use Rattle.kept_promise.proofs.Facts.{IsKept, FileIs}
 use Rattle.kept_promise.proofs.RunsCarried.{book_at, moment, Step, Carried}
 use Rattle.kept_promise.proofs.Actors.{heard_at}
+use Rattle.kept_promise.proofs.CallsKeep.{got_keeps}
 use Rattle.kept_promise.proofs.Promised.{own_there}
 use Rattle.kept_promise.proofs.Rights.{IsRight}
 use Rattle.kept_promise.proofs.VersionRuns.{close_not_opened}
 use Rattle.kept_promise.proofs.LogEvents.{value_stays}
 use Rattle.kept_promise.proofs.Growth.{or_map}
-
--- ---- the journal stays but for a settling
-
-commits_journal : (s : server.State) (session xid size : ℕ) (t : Temp) (nd : Result Node Status) → (commits_to s session xid size t nd).0.journal ≡ s.journal
-commits_journal s session xid size t (Err e) = refl
-commits_journal s session xid size t (Ok root) = refl
-commits_journal s session xid size t (Ok (file f)) = by (nat_lt size_most size)
-  where
-    full : (content : List ℕ) (b : Bool) → (let r : server.State × ServerStep = if b then Rattle.server_core.specs.Closing.answers s session xid (lb.CommitTmpAnswer (Rattle.xdr_codec.specs.declared.answer.Answer.TheVariants.Failed Rattle.xdr_codec.specs.declared.status.Status.TheVariants.NoSpc tt)) else (record s { waiting = s.waiting ++ record { session = session; xid = xid; file = f.id; content = content } ∷ [] }, Rattle.server_core.specs.Closing.sends []) in r.0.journal ≡ s.journal)
-    full content true = refl
-    full content false = refl
-
-    whole : (o : Option (List ℕ)) → (commits_whole s session xid f.id o).0.journal ≡ s.journal
-    whole None = refl
-    whole (Some content) = waits (has_waiting s.waiting session) (is_full s (length content))
-      where
-        waits : (a b : Bool) → (let r : server.State × ServerStep = if a then Rattle.server_core.specs.Closing.answers s session xid (lb.CommitTmpAnswer (Rattle.xdr_codec.specs.declared.answer.Answer.TheVariants.Failed Rattle.xdr_codec.specs.declared.status.Status.TheVariants.Jukebox tt)) else if b then Rattle.server_core.specs.Closing.answers s session xid (lb.CommitTmpAnswer (Rattle.xdr_codec.specs.declared.answer.Answer.TheVariants.Failed Rattle.xdr_codec.specs.declared.status.Status.TheVariants.NoSpc tt)) else (record s { waiting = s.waiting ++ record { session = session; xid = xid; file = f.id; content = content } ∷ [] }, Rattle.server_core.specs.Closing.sends []) in r.0.journal ≡ s.journal)
-        waits true b = refl
-        waits false true = refl
-        waits false false = refl
-
-    by : (b : Bool) → (let r : server.State × ServerStep = if b then Rattle.server_core.specs.Closing.answers s session xid (lb.CommitTmpAnswer (Rattle.xdr_codec.specs.declared.answer.Answer.TheVariants.Failed Rattle.xdr_codec.specs.declared.status.Status.TheVariants.FBig tt)) else commits_whole s session xid f.id (assembled t size) in r.0.journal ≡ s.journal)
-    by true = refl
-    by false = whole (assembled t size)
-
-called_journal : (s : server.State) (session xid : ℕ) (b : Body) → (called s session xid b).0.journal ≡ s.journal
-called_journal s session xid (body.Lb lb.Null) = refl
-called_journal s session xid (body.Lb (lb.GetHash r)) = refl
-called_journal s session xid (body.Lb (lb.MkTmpFile a)) = by (node_of s.files a.handle)
-  where
-    room : (f : File) (o : Option Status) → (makes_unless s session xid a.fd f.id o).0.journal ≡ s.journal
-    room f (Some e) = refl
-    room f None = refl
-
-    by : (nd : Result Node Status) → (makes s session xid a.fd nd).0.journal ≡ s.journal
-    by (Err e) = refl
-    by (Ok root) = refl
-    by (Ok (file f)) = room f (room_fault s.temps session a.fd)
-called_journal s session xid (body.Lb (lb.TmpWrite a)) = by (temp_at s.temps session a.fd) (piece_fault (temp_at s.temps session a.fd) a.offset (length a.bytes))
-  where
-    by : (t : Option Temp) (o : Option Status) → (writes_unless s session xid a t o).0.journal ≡ s.journal
-    by (Some t) None = refl
-    by (Some t) (Some e) = refl
-    by None o = refl
-called_journal s session xid (body.Lb (lb.CondWrite a)) = by (temp_at s.temps session a.fd) (cond_fault a (temp_at s.temps session a.fd))
-  where
-    known : (t : Option Temp) (b : Option (List ℕ)) → (names_bytes (looked_up s a) session xid a t b).0.journal ≡ s.journal
-    known (Some t) (Some bytes) = refl
-    known (Some t) None = refl
-    known None b = refl
-
-    by : (t : Option Temp) (o : Option Status) → (names_unless s session xid a t o).0.journal ≡ s.journal
-    by t (Some e) = refl
-    by t None = known t (bytes_known s.files a (place_of s.index.pairs (digest_key a.digest)))
-called_journal s session xid (body.Lb (lb.CommitTmp a)) = by (temp_at s.temps session a.fd)
-  where
-    by : (t : Option Temp) → (commits s session xid a t).0.journal ≡ s.journal
-    by None = refl
-    by (Some t) = commits_journal (record s { temps = without_temp s.temps session a.fd }) session xid a.size t (node_of s.files a.handle)
-called_journal s session xid (body.Nfs nfs.Null) = refl
-called_journal s session xid (body.Nfs (nfs.Read r)) = refl
-called_journal s session xid b = refl
-
-got_journal : (s : server.State) (session : ℕ) (m : Message) (now : ℕ) → (server_step s (event.Got session m now)).0.journal ≡ s.journal
-got_journal s session m now = by (stands s session) m
-  where
-    by : (b : Bool) (m : Message) → (got_if s b session m now).0.journal ≡ s.journal
-    by true (message.Call xid b) = called_journal (at_reading s now) session xid b
-    by true (message.Unfit xid why) = refl
-    by true (message.Answer xid b) = refl
-    by true (message.Refuse xid why) = refl
-    by false m = refl
 
 -- ---- what becomes of operations that have a point
 
@@ -156,7 +79,7 @@ quiet_event all past rest opening k qs (Serves n now bytes) mid after s none = b
     by (Some x) = parsed (parse_of server_waiting bytes)
       where
         parsed : (m : Result Message WireFault) → Quietly k (serves_if k n now x m)
-        parsed (Ok m) = (refl, got_journal k.server n m now, same_points k.ops)
+        parsed (Ok m) = (refl, got_keeps (λ z. z.journal ≡ k.server.journal) k.server n m now (λ temps waiting index moment w. refl), same_points k.ops)
         parsed (Err e) = (refl, refl, same_points k.ops)
 quiet_event all past rest opening k qs (Hears n now bytes) mid after s none =
     let h = heard_at (book_at opening k all) k qs n now bytes mid s.kept s.finds in

@@ -1,12 +1,7 @@
 -- A run carries that an open which got its content, and began more than one attempt, had its file change between its begin and its end; and what opens
 -- counted by that.
 use Rattle.std.proofs.Common.{inl, inr, ◌≡◌, ℕ, ◌+◌, ◌<◌, ◌≤◌, List, [], ◌∷◌, ◌++◌, length, Option, Some, None, Ok, Bool, true, false, refl, sym, ap, ◌∙◌, subst, arith, map}
-use Rattle.server_core.specs.State as server
-use Rattle.server_core.specs.declared.event.Event.TheVariants as event
-use Rattle.server_core.specs.declared.event.Told.{Told as Announced}
-use Rattle.server_core.specs.declared.event.Told.TheVariants as announced
 use Rattle.open_close.specs.State as client
-use Rattle.open_close.specs.declared.step.Outcome.TheVariants as outcome
 use Rattle.open_close.specs.declared.task.Stage.TheVariants as stage
 use Rattle.register_model.specs.declared.op.Outcome.TheVariants as told
 use Rattle.register_model.specs.declared.op.Word.TheVariants as words
@@ -15,23 +10,23 @@ use Rattle.trace_replay.specs.Faithful.{OpenedBy}
 use Rattle.trace_replay.specs.Traffic.{attempts_in, no_attempt}
 use Rattle.trace_replay.specs.Trail.{given_by_message}
 use Rattle.kept_promise.proofs.Common.{Deal.Sent, hashed_of, Deal.Took, Deal.Found, nat_tests, ◌==◌, ◌&&◌, nat_le, nat_lt, slice_get, slice_set, option_map_or, Body, Message, Pending, server_step, command_step, got_step, cut, idle, took_if, drops, ended_by, ClientStep, Ended, Stage, State, Task, changes, changed_before, until, Op, Opening, TakenCall, Traffic, op_after, Core, Seat, Session, Event, Event.Joins, Event.Does, Event.Serves, Event.Hears, Event.Settles, Event.Cuts, Event.Hangs, CoreStep, numbered, session_of, ops_after, ops_with, acted, does, joins_as, joins, settles, cuts_if, cuts, happens, Moment, client_of, owner_in, wanted_by, taken_by, given_by, is_in, Deal, deals_with, deals_in, deals_of, Book, Queue, version_at, told_message}
-use Rattle.kept_promise.proofs.Lists.{some_is, nothing_there, at_replaced, of_appended, of_replaced}
+use Rattle.kept_promise.proofs.Lists.{some_is, nothing_there, at_replaced}
 use Rattle.kept_promise.proofs.Messages.{Job, job, stage_word, FetchOf, IsTrying}
 use Rattle.kept_promise.proofs.Rights.{Caused}
 use Rattle.kept_promise.proofs.Fits.{FitLaws}
 use Rattle.kept_promise.proofs.Facts.{IsKept, IsSession}
 use Rattle.kept_promise.proofs.RunsCarried.{book_at, moment, Step, Carried}
 use Rattle.kept_promise.proofs.Counted.{AlikeUpTo, running_now, running_past}
-use Rattle.kept_promise.proofs.CommandOps.{made_by, made_pointless, last_right}
 use Rattle.kept_promise.proofs.Actors.{acts_alone, Heard, heard_at, heard_acts, heard_takes, heard_gives}
-use Rattle.kept_promise.proofs.Versions.{version_in, count_replaced, count_appended}
-use Rattle.kept_promise.proofs.VersionRuns.{settled_are, own_op, close_not_opened, word_after}
+use Rattle.kept_promise.proofs.Versions.{version_in}
+use Rattle.kept_promise.proofs.VersionRuns.{own_op, word_after}
 use Rattle.kept_promise.proofs.JobFacts.{ops_shape}
+use Rattle.kept_promise.proofs.OpsAfter.{IsHears, ops_after_event, same_versions, opened_before}
 use Rattle.kept_promise.proofs.StepCases.{Cases, took_cases}
 use Rattle.kept_promise.proofs.Taking.{Moved, version_later, versions_after, tries_of, moved_by}
 use Rattle.kept_promise.proofs.Logs.{deals_apart, deals_own, deals_more, deals_same, deals_pointed, deals_alike}
 use Rattle.kept_promise.proofs.LogSums.{begins_in, sum_join, sum_took, IsSum}
-use Rattle.kept_promise.proofs.LogEvents.{serves_silent, hangs_silent, LogsAt, carried_logs}
+use Rattle.kept_promise.proofs.LogEvents.{LogsAt, carried_logs}
 use Rattle.kept_promise.proofs.MetLog.{MeetsBy, OpenMet, meets_laws, Tries, count_of, begun_count}
 use Rattle.kept_promise.proofs.OwnLog.{OpOwn}
 use Rattle.kept_promise.proofs.OpensLog.{OpenRead, last_most, once_is}
@@ -78,59 +73,6 @@ stays past k e steps after o t le alike h = record {
       let c = h.by in
       (m.0, m.1, m.2, λ v. m.3 (sym (alike o.file o.begin (omega (arith, a, b, c))) ∙ v ∙ alike o.file m.0 (omega (arith, b, c))));
 }
-
--- ---- events
-
-same_versions : (ops after : List Op) → after ≡ ops → (f q n : ℕ) → q ≤ n → version_in after f q ≡ version_in ops f q
-same_versions ops after e f q n le = ap (λ (l : List Op). version_in l f q) e
-
--- at which operations stay as they are
-once_same : (past : List Moment) (k after : Core) (e : Event) → k.steps ≤ after.steps → after.ops ≡ k.ops → OnceAt past k → OnceAt (past ++ moment k e ∷ []) after
-once_same past k after e le same h p len digest o at is = stays past k e after.steps after.ops o o.point le (λ f q lt. same_versions k.ops after.ops same f q k.steps lt) (h p len digest o (ap (λ (l : List Op). slice_get l p) (sym same) ∙ at) is)
-
-once_settles : (book : Book) (past : List Moment) (k : Core) (qs : List Queue) (now : ℕ) → IsKept book k qs → OnceAt past k → OnceAt (past ++ moment k (Settles now) ∷ []) (settles k now).core
-once_settles book past k qs now kept h = elim (settled_are book k qs now kept) [
-  | inl same ↦ once_same past k (settles k now).core (Settles now) (omega arith) same h
-  | inr new ↦
-      let o : Op = new.1 in
-      let made : Op = record o { point = Some (k.steps + 1) } in
-      let unmade = new.3 in
-      λ p len digest r at is.
-      let there : slice_get (slice_set k.ops new.0 (record new.1 { point = Some (k.steps + 1) })) p ≡ Some r = ap (λ (l : List Op). slice_get l p) (sym new.4) ∙ at in
-      elim (of_replaced k.ops new.0 made p r there) [
-        | inr old ↦ stays past k (Settles now) (k.steps + 1) (settles k now).core.ops r r.point (omega arith) (versions new.0 new.1 new.2 unmade.1 (settles k now).core.ops new.4) (h p len digest r old.1 is)
-        | inl mine ↦ absurd (close_not_opened book o len digest (kept.sound.rights new.0 o (ap (λ (l : List Op). slice_get l new.0) kept.ops ∙ new.2)) unmade.0 (ap (λ (z : Op). z.outcome) (sym mine.1) ∙ is))
-      ]
-]
-  where
-    versions : (place : ℕ) (o : Op) → slice_get k.ops place ≡ Some o → o.point ≡ None → (after : List Op) → after ≡ slice_set k.ops place (record o { point = Some (k.steps + 1) }) → (f q : ℕ) → q ≤ k.steps → version_in after f q ≡ version_in k.ops f q
-    versions place o at none after are f q le = ap (λ (l : List Op). version_in l f q) are ∙ ap (λ z. z + 1) (count_replaced f q k.ops place o (record o { point = Some (k.steps + 1) }) at (
-        ap (λ b. (changes o.word && (o.file == f)) && b) (let t : nat_lt (k.steps + 1) q ≡ false = grind (arith, nat_tests, le) in t) ∙ ap (λ z. (changes o.word && (o.file == f)) && option_map_or (λ x. nat_lt x q) z false) (sym none)
-        ))
-
-once_does : (more : Book) (past : List Moment) (k : Core) (after : List Queue) (c now : ℕ) (d : Rattle.kept_promise.proofs.Common.Command) (seat : Seat) → IsKept more (does k c now d (Some seat)).core after → OnceAt past k → OnceAt (past ++ moment k (Does c now d) ∷ []) (does k c now d (Some seat)).core
-once_does more past k after c now d seat left h p len digest o at is = elim (of_appended k.ops new p o at) [
-  | inr old ↦ stays past k (Does c now d) (k.steps + 1) (k.ops ++ new ∷ []) o o.point (omega arith) (λ f q le. ap (λ z. z + 1) (count_appended f q k.ops new (pointless f q))) (h p len digest o old is)
-  | inl last ↦
-      let w = subst (Caused more new) (ap (λ (z : Op). z.outcome) (sym last.1) ∙ is) (last_right more k.ops new left.ops left.sound).cause in
-      nothing_there w.1.point (sym none ∙ w.1.within.0)
-]
-  where
-    r : State × ClientStep
-    r = command_step seat.client d now
-
-    new : Op
-    new = made_by k c now d seat (command_step seat.client d now).0 (command_step seat.client d now).1
-
-    none : (made_by k c now d seat (command_step seat.client d now).0 (command_step seat.client d now).1).point ≡ None
-    none = made_pointless k c now d seat r.0 r.1 r.1.ended
-
-    pointless : (f q : ℕ) → changed_before f q (made_by k c now d seat (command_step seat.client d now).0 (command_step seat.client d now).1) ≡ false
-    pointless f q = ap (λ t. (changes new.word && (new.file == f)) && option_map_or (λ x. nat_lt x q) t false) none ∙ by (changes new.word && (new.file == f))
-      where
-        by : (b : Bool) → (b && false) ≡ false
-        by true = refl
-        by false = refl
 
 -- ---- an answer
 
@@ -293,44 +235,16 @@ once_hears fits all past opening k qs after n now bytes mid kept h left met befo
 
 -- ---- any event
 
-once_cuts : (book : Book) (past : List Moment) (k : Core) (qs : List Queue) (c : ℕ) (seat : Seat) → IsKept book k qs → numbered k.seats c ≡ Some seat → OnceAt past k → OnceAt (past ++ moment k (Cuts c) ∷ []) (cuts k c (Some seat)).core
-once_cuts book past k qs c seat kept here h = by seat.client.linked
-  where
-    lost : Ended
-    lost = record { outcome = outcome.Lost; rests_on = 0 }
-
-    taken : List TakenCall
-    taken = session_taken (session_of k.sessions seat.session)
-
-    gone : State
-    gone = (cut seat.client).0
-
-    not_opened : (o : Op) (len : ℕ) (digest : List ℕ) (t : Option Task) → o.outcome ≡ told.Running → (op_after o gone taken (k.steps + 1) (ended_by t lost)).outcome ≡ told.Opened len digest → ⊥
-    not_opened o len digest None run is = running (sym run ∙ is)
-      where
-        running : told.Running ≡ told.Opened len digest → ⊥
-        running z = absurd cc
-    not_opened o len digest (Some t) run is = absurd cc
-
-    by : (b : Bool) → OnceAt (past ++ moment k (Cuts c) ∷ []) (cuts_if k c seat b).core
-    by false = once_same past k (cuts_if k c seat false).core (Cuts c) (omega arith) refl h
-    by true = λ p len digest q at is. elim (ops_shape k.ops seat.place gone taken (k.steps + 1) (cut seat.client).1 p q at) [
-      | inr old ↦ stays past k (Cuts c) (k.steps + 1) (ops_with k.ops seat.place gone taken (k.steps + 1) (cut seat.client).1) q q.point (omega arith) (λ f m le. versions_after k.ops seat.place gone taken (k.steps + 1) (cut seat.client).1 f m) (h p len digest q old.1 is)
-      | inl new ↦ absurd (not_opened new.0 len digest seat.client.task (own_op book k qs c seat p new.0 kept here new.1 new.2).4 (ap (λ (z : Op). z.outcome) (sym new.3) ∙ is))
-    ]
+-- at which no client hears anything
+once_quiet : (all past rest : List Moment) (opening : List Opening) (k : Core) (qs : List Queue) (e : Event) (mid after : List Queue) → Step all past rest opening k qs e mid after → (IsHears e → ⊥) → OnceAt past k → OnceAt (past ++ moment k e ∷ []) (happens k e).core
+once_quiet all past rest opening k qs e mid after s quiet h = λ p len digest r at is.
+    let w = ops_after_event all past rest opening k qs e mid after s in
+    let o = opened_before (book_at opening k all) k qs e (happens k e).core.ops s.kept quiet w.0 p len digest r at is in
+    subst (IsOnce (past ++ moment k e ∷ []) (happens k e).core.steps (happens k e).core.ops) (sym o.3) (stays past k e (happens k e).core.steps (happens k e).core.ops o.0 o.1 w.1 (same_versions k e (happens k e).core.ops w.0) (h p len digest o.0 o.2 (ap (λ (z : Op). z.outcome) (sym o.3) ∙ is)))
 
 once_event : FitLaws → (all past rest : List Moment) (opening : List Opening) (k : Core) (qs : List Queue) (e : Event) (mid after : List Queue) → Step all past rest opening k qs e mid after → Once past k → OnceAt (past ++ moment k e ∷ []) (happens k e).core
-once_event laws all past rest opening k qs (Joins c) mid after s h = subst (λ (o : Option Seat). OnceAt (past ++ moment k (Joins c) ∷ []) (joins k c o).core) (sym s.finds.1) (by s.finds.0 (server_step k.server event.Connect).0 (server_step k.server event.Connect).1.told)
-  where
-    by : (seat : Seat) (s : server.State) (o : Announced) → OnceAt (past ++ moment k (Joins c) ∷ []) (joins_as k c seat s o).core
-    by seat s (announced.Session made) = once_same past k (joins_as k c seat s (announced.Session made)).core (Joins c) (omega arith) refl h.once
-    by seat s o = once_same past k (joins_as k c seat s o).core (Joins c) (omega arith) refl h.once
-once_event laws all past rest opening k qs (Does c now d) mid after s h = subst (λ (o : Option Seat). IsKept (book_at opening (does k c now d o).core all) (does k c now d o).core after → OnceAt (past ++ moment k (Does c now d) ∷ []) (does k c now d o).core) (sym s.finds.1) (λ left. once_does (book_at opening (does k c now d (Some s.finds.0)).core all) past k after c now d s.finds.0 left h.once) s.left
-once_event laws all past rest opening k qs (Serves n now bytes) mid after s h = let q = serves_silent k n now bytes (numbered k.sessions n) in once_same past k (happens k (Serves n now bytes)).core (Serves n now bytes) q.3 q.1 h.once
 once_event laws all past rest opening k qs (Hears n now bytes) mid after s h = once_hears laws all past opening k qs after n now bytes mid s.kept (heard_at (book_at opening k all) k qs n now bytes mid s.kept s.finds) s.left h.met h.once
-once_event laws all past rest opening k qs (Settles now) mid after s h = once_settles (book_at opening k all) past k qs now s.kept h.once
-once_event laws all past rest opening k qs (Cuts c) mid after s h = subst (λ (o : Option Seat). OnceAt (past ++ moment k (Cuts c) ∷ []) (cuts k c o).core) (sym s.finds.1) (once_cuts (book_at opening k all) past k qs c s.finds.0 s.kept s.finds.1 h.once)
-once_event laws all past rest opening k qs (Hangs n) mid after s h = let q = hangs_silent k n (numbered k.sessions n) in once_same past k (happens k (Hangs n)).core (Hangs n) q.3 q.1 h.once
+once_event laws all past rest opening k qs e mid after s h = once_quiet all past rest opening k qs e mid after s (λ z. z) h.once
 
 met_carried : FitLaws → Carried (λ all past opening k qs. LogsAt MeetsBy OpenMet past k)
 met_carried laws = carried_logs (λ all. MeetsBy) (λ all. OpenMet) meets_laws laws

@@ -18,7 +18,6 @@ use Rattle.kept_promise.proofs.StepsCount.{steps_counted}
 use Rattle.kept_promise.proofs.Done.{deeds_counted, deeds_done}
 use Rattle.kept_promise.proofs.CutEnds.{AreFollowed, carried_follow, cuts_end}
 use Rattle.kept_promise.proofs.StoredWhole.{Stored, carried_stored, has_stored, have_stored, made_sent}
-use Rattle.kept_promise.proofs.AtOnce.{AtOnce, carried_at_once}
 use Rattle.kept_promise.proofs.VersionRuns.{Versions, carried_versions, opens_version}
 use Rattle.kept_promise.proofs.MadeRuns.{AllSettled, carried_settled}
 use Rattle.kept_promise.proofs.OwnedRuns.{AllOwned, carried_owned, is_for}
@@ -56,7 +55,7 @@ Logs all past opening k qs = LogsAt OpensBy (OpenRead (hashed_of all)) past k ×
 
 -- what is told of the commands and their operations, of what these count and store, of versions, and of the rest
 abbrev Told : Fact
-Told all past opening k qs = Follows all past opening k qs × (Stored all past opening k qs × (Versions all past opening k qs × (AtOnce all past opening k qs × (Changes all past opening k qs × Logs all past opening k qs))))
+Told all past opening k qs = Follows all past opening k qs × (Stored all past opening k qs × (Versions all past opening k qs × (Changes all past opening k qs × Logs all past opening k qs)))
 
 logs_carried : Carried Logs
 logs_carried = carried_both (λ all past opening k qs. LogsAt OpensBy (OpenRead (hashed_of all)) past k) (λ all past opening k qs. IsMet all past opening k qs × LogsAt OwnBy OpOwn past k)
@@ -65,11 +64,10 @@ logs_carried = carried_both (λ all past opening k qs. LogsAt OpensBy (OpenRead 
 
 told_carried : Carried Told
 told_carried =
-    carried_both Follows (λ all past opening k qs. Stored all past opening k qs × (Versions all past opening k qs × (AtOnce all past opening k qs × (Changes all past opening k qs × Logs all past opening k qs)))) carried_follow
-    (carried_both Stored (λ all past opening k qs. Versions all past opening k qs × (AtOnce all past opening k qs × (Changes all past opening k qs × Logs all past opening k qs))) (carried_stored fit_laws)
-    (carried_both Versions (λ all past opening k qs. AtOnce all past opening k qs × (Changes all past opening k qs × Logs all past opening k qs)) (carried_versions fit_laws)
-    (carried_both AtOnce (λ all past opening k qs. Changes all past opening k qs × Logs all past opening k qs) carried_at_once
-    (carried_both Changes Logs (carried_both AllSettled AllOwned carried_settled (carried_owned fit_laws)) logs_carried))))
+    carried_both Follows (λ all past opening k qs. Stored all past opening k qs × (Versions all past opening k qs × (Changes all past opening k qs × Logs all past opening k qs))) carried_follow
+    (carried_both Stored (λ all past opening k qs. Versions all past opening k qs × (Changes all past opening k qs × Logs all past opening k qs)) (carried_stored fit_laws)
+    (carried_both Versions (λ all past opening k qs. Changes all past opening k qs × Logs all past opening k qs) (carried_versions fit_laws)
+    (carried_both Changes Logs (carried_both AllSettled AllOwned carried_settled (carried_owned fit_laws)) logs_carried)))
 
 -- ---- the promise of what a run leaves
 
@@ -83,9 +81,8 @@ promise_of input w ran h =
     let all : List Moment = moments input in
     let stored : Stored all all w.opening w.core h.queues = h.more.1.0 in
     let versions : Versions all all w.opening w.core h.queues = h.more.1.1.0 in
-    let once : AtOnce all all w.opening w.core h.queues = h.more.1.1.1.0 in
-    let changes : Changes all all w.opening w.core h.queues = h.more.1.1.1.1.0 in
-    let logs : Logs all all w.opening w.core h.queues = h.more.1.1.1.1.1 in
+    let changes : Changes all all w.opening w.core h.queues = h.more.1.1.1.0 in
+    let logs : Logs all all w.opening w.core h.queues = h.more.1.1.1.1 in
     record {
       faithful = record {
         opening = opening_said input w ran;
@@ -106,7 +103,7 @@ promise_of input w ran h =
         met = λ k o at open_. attempts_met all o open_ (logs.1.0.met.each k o at);
         owned = λ m there. is_for w.core.ops m (changes.1.each m there);
         calls = λ k o at. (logs.1.1.each k o at).0;
-        silent = once;
+        silent = stored.counted.silent;
         opened = λ k len digest o at is. opened_once (book_of w all) o len digest is (open_word k o len digest at is) (counts_log o all (stored.counted.counts k o at)) (logs.1.1.each k o at) (logs.0.each k o at) (logs.1.0.once k len digest o at is);
         fetched = λ k len digest o at is. got_by (book_of w all) o len digest is (open_word k o len digest at is) (logs.1.1.each k o at) (logs.0.each k o at) (counts_log o all (stored.counted.counts k o at));
         named = λ k o at close. names_chunks all o close (stored.closes.each k o at);

@@ -106,9 +106,9 @@ pub good_command : (Q : ℕ → ℕ → Type 0) (R : ℕ → Type 0) (s : State)
 good_command Q R s fresh d now q = command_cases (Good Q R) s d now (record {
   busy = λ t is. (q, tt);
   answers = λ free opened o plain. (q, by o plain);
-  fetches = λ file is free. (fresh, tt);
-  asks = λ file c is free at. (fresh, tt);
-  closes = λ file l is free at. (tt, tt);
+  fetches = λ file is free may. (fresh, tt);
+  asks = λ file c is free may at. (fresh, tt);
+  closes = λ file l is free may at. (tt, tt);
 })
   where
     by : (o : Outcome) → IsPlain o → OutcomeGood Q o 0
@@ -120,7 +120,7 @@ pub busy_command : (s : State) (d : Command) (now : ℕ) (t : Task) → s.task �
 busy_command s d now t e = command_cases (λ r. (r.1.send ≡ []) × (r.0 ≡ s)) s d now (record {
   busy = λ u is. (refl, refl);
   answers = λ free opened o plain. nothing_there t (sym free ∙ e);
-  fetches = λ file is free. nothing_there t (sym free ∙ e);
-  asks = λ file c is free at. nothing_there t (sym free ∙ e);
-  closes = λ file l is free at. nothing_there t (sym free ∙ e);
+  fetches = λ file is free may. nothing_there t (sym free ∙ e);
+  asks = λ file c is free may at. nothing_there t (sym free ∙ e);
+  closes = λ file l is free may at. nothing_there t (sym free ∙ e);
 })

@@ -456,9 +456,9 @@ fronts s file = record s { cache = reserved s.cache file }
 pub record Begins (Z : State × ClientStep → Type 0) (s : State) (d : Command) : Type 0 where
   pub busy : (t : Task) → s.task ≡ Some t → Z (s, ends outcome.Busy 0 0)
   pub answers : s.task ≡ None → (opened : List (ℕ × Local)) (o : Outcome) → IsPlain o → Z (record s { opened = opened }, ends o 0 0)
-  pub fetches : (file : ℕ) → d ≡ command.Open file → s.task ≡ None → Z (asks_kept (fronts s file) file None)
-  pub asks : (file : ℕ) (c : Content) → d ≡ command.Open file → s.task ≡ None → content_of s.cache file ≡ Some c → Z (asks_kept (fronts s file) file (Some c))
-  pub closes : (file : ℕ) (l : Local) → d ≡ command.Close file → s.task ≡ None → local_at s.opened file ≡ Some l → Z (asks_temp s file true)
+  pub fetches : (file : ℕ) → d ≡ command.Open file → s.task ≡ None → may_ask s ≡ true → Z (asks_kept (fronts s file) file None)
+  pub asks : (file : ℕ) (c : Content) → d ≡ command.Open file → s.task ≡ None → may_ask s ≡ true → content_of s.cache file ≡ Some c → Z (asks_kept (fronts s file) file (Some c))
+  pub closes : (file : ℕ) (l : Local) → d ≡ command.Close file → s.task ≡ None → may_ask s ≡ true → local_at s.opened file ≡ Some l → Z (asks_temp s file true)
 
 edited : (Z : State × ClientStep → Type 0) (s : State) (d : Command) → Begins Z s d → s.task ≡ None → (file : ℕ) (l : Local) (size : ℕ) (content : List ℕ) → Z (edits s file l size content)
 edited Z s d h free file l size content = by (nat_lt local_most size)
@@ -476,17 +476,17 @@ opened : (Z : State × ClientStep → Type 0) (s : State) (file : ℕ) → Begin
 opened Z s file h (Some t) is = h.busy t is
 opened Z s file h None is = by (is_open s.opened file)
   where
-    kept : (o : Option Content) → content_of s.cache file ≡ o → Z (asks_kept (fronts s file) file o)
-    kept None e = h.fetches file refl is
-    kept (Some c) e = h.asks file c refl is e
+    kept : may_ask s ≡ true → (o : Option Content) → content_of s.cache file ≡ o → Z (asks_kept (fronts s file) file o)
+    kept may None e = h.fetches file refl is may
+    kept may (Some c) e = h.asks file c refl is may e
 
-    asks : (b : Bool) → Z (asks_file s file b)
-    asks true = kept (content_of s.cache file) refl
-    asks false = h.answers is s.opened outcome.NoLink tt
+    asks : (b : Bool) → may_ask s ≡ b → Z (asks_file s file b)
+    asks true may = kept may (content_of s.cache file) refl
+    asks false may = h.answers is s.opened outcome.NoLink tt
 
     by : (b : Bool) → Z (opens_if s file b)
     by true = h.answers is s.opened outcome.AlreadyOpen tt
-    by false = asks (may_ask s)
+    by false = asks (may_ask s) refl
 
 -- whatever holds of each holds of a command
 pub command_cases : (Z : State × ClientStep → Type 0) (s : State) (d : Command) (now : ℕ) → Begins Z s d → Z (command_step s d now)
@@ -498,9 +498,9 @@ command_cases Z s (command.Write file offset content) now h = begun Z s (command
     by free l false = edited Z s (command.Write file offset content) h free file l (written_size (length l.bytes) offset (content_length content)) (written l.bytes offset (content_bytes content))
 command_cases Z s (command.Trunc file size) now h = begun Z s (command.Trunc file size) h s.task refl (local_at s.opened file) (truncates s file size) (λ free l at. edited Z s (command.Trunc file size) h free file l size (truncated l.bytes size))
 command_cases Z s (command.Read file offset count) now h = begun Z s (command.Read file offset count) h s.task refl (local_at s.opened file) (Rattle.open_close.specs.Step.reads s offset count) (λ free l at. h.answers free s.opened (outcome.Piece (length (part_of l.bytes offset count)) (sha1 (part_of l.bytes offset count))) tt)
-command_cases Z s (command.Close file) now h = begun Z s (command.Close file) h s.task refl (local_at s.opened file) (closes s file) (λ free l at. by free l at (may_ask s))
+command_cases Z s (command.Close file) now h = begun Z s (command.Close file) h s.task refl (local_at s.opened file) (closes s file) (λ free l at. by free l at (may_ask s) refl)
   where
-    by : s.task ≡ None → (l : Local) → local_at s.opened file ≡ Some l → (b : Bool) → Z (asks_temp s file b)
-    by free l at true = h.closes file l refl free at
-    by free l at false = h.answers free s.opened outcome.NoLink tt
+    by : s.task ≡ None → (l : Local) → local_at s.opened file ≡ Some l → (b : Bool) → may_ask s ≡ b → Z (asks_temp s file b)
+    by free l at true may = h.closes file l refl free may at
+    by free l at false may = h.answers free s.opened outcome.NoLink tt
 command_cases Z s (command.Abandon file) now h = begun Z s (command.Abandon file) h s.task refl (local_at s.opened file) (abandons s file) (λ free l at. h.answers free (without_local s.opened file) outcome.Done tt)

@@ -1,13 +1,9 @@
 -- A run carries that each COMMITTMP on its way, and each change that waits, is of a close that sent it; and what closes stored by that.
-use Rattle.std.proofs.Common.{◌⊎◌, inl, inr, ◌≡◌, ℕ, ◌+◌, ◌<◌, List, [], ◌∷◌, ◌++◌, length, Option, Some, None, Result, Ok, Err, Bool, true, false, refl, sym, ap, ◌∙◌, subst, arith}
+use Rattle.std.proofs.Common.{◌⊎◌, inl, inr, ◌≡◌, ℕ, ◌+◌, ◌<◌, List, [], ◌∷◌, ◌++◌, length, Option, Some, None, Bool, true, false, refl, sym, ap, ◌∙◌, subst, arith}
 use Rattle.hash_calls.specs.declared.message.Lb.TheVariants as lb
 use Rattle.nfs3_calls.specs.declared.message.Nfs.TheVariants as nfs
 use Rattle.wire.specs.declared.message.Body.TheVariants as body
 use Rattle.wire.specs.declared.message.Message.TheVariants as message
-use Rattle.server_core.specs.State as server
-use Rattle.server_core.specs.declared.event.Event.TheVariants as event
-use Rattle.server_core.specs.declared.event.Told.{Told as Announced}
-use Rattle.server_core.specs.declared.event.Told.TheVariants as announced
 use Rattle.open_close.specs.State as client
 use Rattle.open_close.specs.declared.task.Stage.TheVariants as stage
 use Rattle.register_model.specs.declared.op.Outcome.{Outcome as History}
@@ -15,8 +11,8 @@ use Rattle.register_model.specs.declared.op.Word.TheVariants as words
 use Rattle.trace_replay.specs.Core.{taken_of as session_taken}
 use Rattle.trace_replay.specs.Trail.{taken_of}
 use Rattle.trace_replay.specs.Traffic.{traffic_of, commit_number, commits_in as commits_said, AreOwn, IsFetchCall}
-use Rattle.kept_promise.proofs.Common.{slice_get, slice_set, server_step, Change, command_step, got_step, cut, ClientStep, Ended, Outcome, changes, Op, Opening, Word, TakenCall, word_of, file_of, value_at_begin, has_point, point_if, begun, op_after, Core, Seat, Session, Event, Event.Joins, Event.Does, Event.Serves, Event.Hears, Event.Settles, Event.Cuts, Event.Hangs, CoreStep, numbered, server_waiting, serves_if, serves, session_of, ops_after, ops_with, does, joins_as, joins, cuts_if, cuts, hangs_if, hangs, happens, Moment, sent_in, sent_of, SentCommit, Book, parse_of, WireFault, Message, Call, Call.Commit, Ask, Queue, Contains-append_left, Said, Deal, Deal.Took, Deal.Found, Deal.Sent, deals_of, stored_traffic}
-use Rattle.kept_promise.proofs.Lists.{some_is, nothing_there, within, at_replaced, of_replaced, else_replaced, of_appended, kept_appended}
+use Rattle.kept_promise.proofs.Common.{slice_get, Change, cut, ClientStep, Ended, Outcome, changes, Op, Opening, Word, TakenCall, has_point, point_if, op_after, Core, Seat, Session, Event, numbered, session_of, ops_with, happens, Moment, sent_in, sent_of, SentCommit, Book, Message, Call, Call.Commit, Ask, Queue, Contains-append_left, Said, Deal, Deal.Took, Deal.Found, Deal.Sent, deals_of, stored_traffic}
+use Rattle.kept_promise.proofs.Lists.{some_is, nothing_there, within, of_replaced, of_appended}
 use Rattle.kept_promise.proofs.Keys.{own}
 use Rattle.kept_promise.proofs.Messages.{job, AllAsks, IsCommit, CommitOf, IsPending}
 use Rattle.kept_promise.proofs.History.{closes_alone}
@@ -26,8 +22,9 @@ use Rattle.kept_promise.proofs.Facts.{IsKept, IsSession, commits_in}
 use Rattle.kept_promise.proofs.RunsCarried.{book_at, moment, Step, Carried}
 use Rattle.kept_promise.proofs.Counted.{AlikeUpTo, SaidBy, said_by, running_past}
 use Rattle.kept_promise.proofs.CountedRuns.{CountedAt, carried_counts, sent_more}
-use Rattle.kept_promise.proofs.Actors.{acts_alone, heard_at}
-use Rattle.kept_promise.proofs.VersionRuns.{Remembers, settled_are}
+use Rattle.kept_promise.proofs.Actors.{acts_alone}
+use Rattle.kept_promise.proofs.VersionRuns.{Remembers}
+use Rattle.kept_promise.proofs.OpsAfter.{OpsAfter, ops_after_event, stays_in}
 use Rattle.kept_promise.proofs.Promised.{HaveStored}
 use Rattle.kept_promise.proofs.LeftCommits.{commits_left}
 use Rattle.kept_promise.proofs.LogEvents.{LogsAt, carried_logs}
@@ -44,74 +41,6 @@ commit_more o sent more (s, there, of, is) = (s, Contains-append_left sent more 
 
 commit_kept : (n : ℕ) (o r : Op) (sent : List Said) → AlikeUpTo n o r → SaidBy n sent → SentCommit o sent → SentCommit r sent
 commit_kept n o r sent same by (s, there, of, is) = (s, there, same s.step s.client (said_by n sent s by there) ∙ of, is)
-
--- ---- each operation has the same part of what is past
-
-abbrev Follows : Core → List Op → Type 0
-Follows k ops = (p : ℕ) (o : Op) → slice_get k.ops p ≡ Some o → (r : Op) × (slice_get ops p ≡ Some r) × AlikeUpTo k.steps o r
-
-follows_same : (k : Core) → Follows k k.ops
-follows_same k = λ p o at. (o, at, λ step c le. refl)
-
-follows_acts : (book : Book) (k : Core) (qs : List Queue) (i : ℕ) (seat : Seat) (c : client.State) (taken : List TakenCall) (acts : ClientStep) → IsKept book k qs → numbered k.seats i ≡ Some seat → Follows k (ops_with k.ops seat.place c taken (k.steps + 1) acts)
-follows_acts book k qs i seat c taken acts kept here = by seat.place refl
-  where
-    by : (l : Option ℕ) → seat.place ≡ l → Follows k (ops_with k.ops l c taken (k.steps + 1) acts)
-    by None e = follows_same k
-    by (Some l) e = there (slice_get k.ops l) refl
-      where
-        there : (q : Option Op) → slice_get k.ops l ≡ q → Follows k (ops_after k.ops l q c taken (k.steps + 1) acts)
-        there None was = follows_same k
-        there (Some q) was = λ p o at. elim (else_replaced k.ops l (op_after q c taken (k.steps + 1) acts) p o at) [
-          | inl same ↦
-              let mine : q ≡ o = some_is q o (sym was ∙ ap (slice_get k.ops) (sym same) ∙ at) in
-              let running = (acts_alone book k qs i seat kept here).own l q e was in
-              (op_after q c taken (k.steps + 1) acts, ap (slice_get (slice_set k.ops l (op_after q c taken (k.steps + 1) acts))) same ∙ at_replaced k.ops l (op_after q c taken (k.steps + 1) acts) q was, subst (λ (z : Op). AlikeUpTo k.steps z (op_after q c taken (k.steps + 1) acts)) mine (running_past q c taken k.steps acts running.1))
-          | inr other ↦ (o, other.1, λ step i le. refl)
-        ]
-
-follows_event : FitLaws → (all past rest : List Moment) (opening : List Opening) (k : Core) (qs : List Queue) (e : Event) (mid after : List Queue) → Step all past rest opening k qs e mid after → Follows k (happens k e).core.ops
-follows_event laws all past rest opening k qs (Joins c) mid after s = subst (λ (o : Option Seat). Follows k (joins k c o).core.ops) (sym s.finds.1) (by s.finds.0 (server_step k.server event.Connect).0 (server_step k.server event.Connect).1.told)
-  where
-    by : (seat : Seat) (s : server.State) (o : Announced) → Follows k (joins_as k c seat s o).core.ops
-    by seat s (announced.Session made) = follows_same k
-    by seat s _ = follows_same k
-follows_event laws all past rest opening k qs (Does c now d) mid after s = subst (λ (o : Option Seat). Follows k (does k c now d o).core.ops) (sym s.finds.1) (λ p o at. (o, kept_appended k.ops _ p o at, λ step i le. refl))
-follows_event laws all past rest opening k qs (Serves n now bytes) mid after s = by (numbered k.sessions n)
-  where
-    by : (x : Option Session) → Follows k (serves k n now bytes x).core.ops
-    by None = follows_same k
-    by (Some x) = parsed (parse_of server_waiting bytes)
-      where
-        parsed : (m : Result Message WireFault) → Follows k (serves_if k n now x m).core.ops
-        parsed (Ok m) = follows_same k
-        parsed (Err e) = follows_same k
-follows_event laws all past rest opening k qs (Hears n now bytes) mid after s =
-    let heard = heard_at (book_at opening k all) k qs n now bytes mid s.kept s.finds in
-    subst (λ (t : CoreStep). Follows k t.core.ops) (sym heard.hears_is) (follows_acts (book_at opening k all) k qs heard.session.owner heard.seat (got_step heard.seat.client (parse_of (client.waiting_of heard.seat.client) bytes) now).0 (session_taken (session_of k.sessions heard.seat.session)) (got_step heard.seat.client (parse_of (client.waiting_of heard.seat.client) bytes) now).1 s.kept heard.owner)
-follows_event laws all past rest opening k qs (Settles now) mid after s = elim (settled_are (book_at opening k all) k qs now s.kept) [
-  | inl same ↦ subst (Follows k) (sym same) (follows_same k)
-  | inr new ↦ subst (Follows k) (sym new.4) (λ p o at. elim (else_replaced k.ops new.0 (record new.1 { point = Some (k.steps + 1) }) p o at) [
-    | inl same ↦
-        let mine : new.1 ≡ o = some_is new.1 o (sym new.2 ∙ ap (slice_get k.ops) (sym same) ∙ at) in
-        (record new.1 { point = Some (k.steps + 1) }, ap (slice_get (slice_set k.ops new.0 (record new.1 { point = Some (k.steps + 1) }))) same ∙ at_replaced k.ops new.0 (record new.1 { point = Some (k.steps + 1) }) new.1 new.2, subst (λ (z : Op). AlikeUpTo k.steps z (record new.1 { point = Some (k.steps + 1) })) mine (λ step i le. refl))
-    | inr other ↦ (o, other.1, λ step i le. refl)
-  ])
-]
-follows_event laws all past rest opening k qs (Cuts c) mid after s = subst (λ (o : Option Seat). Follows k (cuts k c o).core.ops) (sym s.finds.1) (by s.finds.0.client.linked)
-  where
-    by : (b : Bool) → Follows k (cuts_if k c s.finds.0 b).core.ops
-    by false = follows_same k
-    by true = follows_acts (book_at opening k all) k qs c s.finds.0 (cut s.finds.0.client).0 (session_taken (session_of k.sessions s.finds.0.session)) (cut s.finds.0.client).1 s.kept s.finds.1
-follows_event laws all past rest opening k qs (Hangs n) mid after s = by (numbered k.sessions n)
-  where
-    by : (x : Option Session) → Follows k (hangs k n x).core.ops
-    by None = follows_same k
-    by (Some x) = hung x.hung
-      where
-        hung : (b : Bool) → Follows k (hangs_if k n x b).core.ops
-        hung true = follows_same k
-        hung false = follows_same k
 
 -- ---- what is on its way
 
@@ -188,60 +117,21 @@ came_acts book k qs i seat c taken acts kept here = λ p r at. elim (ops_shape k
       subst (Came k p) (sym new.3) (inl (new.0, new.2, running_past new.0 c taken k.steps acts running.1, same_word new.0 c taken (k.steps + 1) acts, close_point new.0 c taken (k.steps + 1) acts))
 ]
 
-came_event : FitLaws → (all past rest : List Moment) (opening : List Opening) (k : Core) (qs : List Queue) (e : Event) (mid after : List Queue) → Step all past rest opening k qs e mid after → AllCame k (happens k e).core.ops
-came_event laws all past rest opening k qs (Joins c) mid after s = subst (λ (o : Option Seat). AllCame k (joins k c o).core.ops) (sym s.finds.1) (by s.finds.0 (server_step k.server event.Connect).0 (server_step k.server event.Connect).1.told)
+came_event : (all past rest : List Moment) (opening : List Opening) (k : Core) (qs : List Queue) (e : Event) (mid after : List Queue) → Step all past rest opening k qs e mid after → AllCame k (happens k e).core.ops
+came_event all past rest opening k qs e mid after s = by (ops_after_event all past rest opening k qs e mid after s).0
   where
-    by : (seat : Seat) (s : server.State) (o : Announced) → AllCame k (joins_as k c seat s o).core.ops
-    by seat s (announced.Session made) = came_same k
-    by seat s _ = came_same k
-came_event laws all past rest opening k qs (Does c now d) mid after s = subst (λ (o : Option Seat). AllCame k (does k c now d o).core.ops) (sym s.finds.1) (by (command_step s.finds.0.client d now).0 (command_step s.finds.0.client d now).1 (command_step s.finds.0.client d now).1.ended)
-  where
-    point : (b : Bool) (x : ℕ) → point_if b [] x None ≡ None
-    point true x = refl
-    point false x = refl
-
-    by : (c_after : client.State) (acts : ClientStep) (e : Option Ended) → AllCame k (k.ops ++ op_after (begun c (word_of d) (file_of d) (value_at_begin s.finds.0.client (word_of d) (file_of d) (command_step s.finds.0.client d now).1.ended) (k.steps + 1)) c_after [] (k.steps + 1) (record acts { ended = e }) ∷ [])
-    by c_after acts None = λ p r at. elim (of_appended k.ops (op_after (begun c (word_of d) (file_of d) (value_at_begin s.finds.0.client (word_of d) (file_of d) (command_step s.finds.0.client d now).1.ended) (k.steps + 1)) c_after [] (k.steps + 1) (record acts { ended = None })) p r at) [
-      | inl new ↦ inr (inl (ap (λ (z : Op). z.point) new.1))
+    by : OpsAfter e k (happens k e).core.ops → AllCame k (happens k e).core.ops
+    by (inl same) = subst (AllCame k) (sym same) (came_same k)
+    by (inr (inl n)) = subst (AllCame k) (sym n.is) (λ p r at. elim (of_appended k.ops n.new p r at) [
+      | inl new ↦ inr (inl (ap (λ (z : Op). z.point) new.1 ∙ n.pointless))
       | inr old ↦ came_same k p r old
-    ]
-    by c_after acts (Some e) = λ p r at. elim (of_appended k.ops (op_after (begun c (word_of d) (file_of d) (value_at_begin s.finds.0.client (word_of d) (file_of d) (command_step s.finds.0.client d now).1.ended) (k.steps + 1)) c_after [] (k.steps + 1) (record acts { ended = Some e })) p r at) [
-      | inl new ↦ inr (inl (ap (λ (z : Op). z.point) new.1 ∙ point (has_point (word_of d) e.outcome) e.rests_on))
-      | inr old ↦ came_same k p r old
-    ]
-came_event laws all past rest opening k qs (Serves n now bytes) mid after s = by (numbered k.sessions n)
-  where
-    by : (x : Option Session) → AllCame k (serves k n now bytes x).core.ops
-    by None = came_same k
-    by (Some x) = parsed (parse_of server_waiting bytes)
-      where
-        parsed : (m : Result Message WireFault) → AllCame k (serves_if k n now x m).core.ops
-        parsed (Ok m) = came_same k
-        parsed (Err e) = came_same k
-came_event laws all past rest opening k qs (Hears n now bytes) mid after s =
-    let heard = heard_at (book_at opening k all) k qs n now bytes mid s.kept s.finds in
-    subst (λ (t : CoreStep). AllCame k t.core.ops) (sym heard.hears_is) (came_acts (book_at opening k all) k qs heard.session.owner heard.seat (got_step heard.seat.client (parse_of (client.waiting_of heard.seat.client) bytes) now).0 (session_taken (session_of k.sessions heard.seat.session)) (got_step heard.seat.client (parse_of (client.waiting_of heard.seat.client) bytes) now).1 s.kept heard.owner)
-came_event laws all past rest opening k qs (Settles now) mid after s = elim (settled_are (book_at opening k all) k qs now s.kept) [
-  | inl same ↦ subst (AllCame k) (sym same) (came_same k)
-  | inr new ↦ subst (AllCame k) (sym new.4) (λ p r at. elim (of_replaced k.ops new.0 (record new.1 { point = Some (k.steps + 1) }) p r at) [
-    | inr other ↦ came_same k p r other.1
-    | inl made ↦ subst (Came k p) (sym made.1) (inr (inr (new.1, ap (slice_get k.ops) made.0 ∙ new.2, λ step i le. refl, subst (Remembers k) (sym made.0) new.5)))
-  ])
-]
-came_event laws all past rest opening k qs (Cuts c) mid after s = subst (λ (o : Option Seat). AllCame k (cuts k c o).core.ops) (sym s.finds.1) (by s.finds.0.client.linked)
-  where
-    by : (b : Bool) → AllCame k (cuts_if k c s.finds.0 b).core.ops
-    by false = came_same k
-    by true = came_acts (book_at opening k all) k qs c s.finds.0 (cut s.finds.0.client).0 (session_taken (session_of k.sessions s.finds.0.session)) (cut s.finds.0.client).1 s.kept s.finds.1
-came_event laws all past rest opening k qs (Hangs n) mid after s = by (numbered k.sessions n)
-  where
-    by : (x : Option Session) → AllCame k (hangs k n x).core.ops
-    by None = came_same k
-    by (Some x) = hung x.hung
-      where
-        hung : (b : Bool) → AllCame k (hangs_if k n x b).core.ops
-        hung true = came_same k
-        hung false = came_same k
+    ])
+    by (inr (inr (inl a))) = subst (AllCame k) (sym a.is) (came_acts (book_at opening k all) k qs a.index a.seat a.after (session_taken (session_of k.sessions a.seat.session)) a.acts s.kept a.here)
+    by (inr (inr (inr (inl same)))) = subst (AllCame k) (sym same) (came_same k)
+    by (inr (inr (inr (inr new)))) = subst (AllCame k) (sym new.4) (λ p r at. elim (of_replaced k.ops new.0 (record new.1 { point = Some (k.steps + 1) }) p r at) [
+      | inr other ↦ came_same k p r other.1
+      | inl made ↦ subst (Came k p) (sym made.1) (inr (inr (new.1, ap (slice_get k.ops) made.0 ∙ new.2, λ step i le. refl, subst (Remembers k) (sym made.0) new.5)))
+    ])
 
 -- ---- what a run carries
 
@@ -263,13 +153,13 @@ waits_event laws all past rest opening k qs e mid after s h = λ n p y r o at is
     let le = w.5 in
     let old = (s.kept.sessions n x q w.2 w.3).old p (sym w.4 ∙ known) in
     let sent = waits_before (book_at opening k all) past k qs s.kept h.closes h.waits x.cut n p x q old.0 w.2 w.3 refl (sym w.4 ∙ known) (omega (arith, le, lt)) old.1 in
-    let follows = follows_event laws all past rest opening k qs e mid after s p old.0 old.1 in
+    let follows = stays_in (book_at opening k all) k qs e (happens k e).core.ops s.kept (ops_after_event all past rest opening k qs e mid after s).0 p old.0 old.1 in
     let same : follows.0 ≡ o = some_is follows.0 o (sym follows.1 ∙ there) in
     subst (λ l. SentCommit o l) (sent_more past (moment k e)) (commit_more o (sent_of past) (sent_in (moment k e)) (subst (λ (z : Op). SentCommit z (sent_of past)) same (commit_kept k.steps old.0 follows.0 (sent_of past) follows.2 h.counted.sent_by sent)))
 
 made_event : FitLaws → (all past rest : List Moment) (opening : List Opening) (k : Core) (qs : List Queue) (e : Event) (mid after : List Queue) → Step all past rest opening k qs e mid after → Stored all past opening k qs → MadeAt (past ++ moment k e ∷ []) (happens k e).core
 made_event laws all past rest opening k qs e mid after s h = λ p q r at close point.
-    subst (λ l. SentCommit r l) (sent_more past (moment k e)) (commit_more r (sent_of past) (sent_in (moment k e)) (elim (came_event laws all past rest opening k qs e mid after s p r at) [
+    subst (λ l. SentCommit r l) (sent_more past (moment k e)) (commit_more r (sent_of past) (sent_in (moment k e)) (elim (came_event all past rest opening k qs e mid after s p r at) [
       | inl was ↦ commit_kept k.steps was.0 r (sent_of past) was.2 h.counted.sent_by (h.made p q was.0 was.1 (was.3 ∙ close) (sym (was.4 close) ∙ point))
       | inr rest ↦ elim rest [
         | inl none ↦ nothing_there q (sym none ∙ point)

@@ -1,0 +1,173 @@
+-- What an event makes of the operations: nothing, or one begins, or a client goes on with its own, or a change gives one its point.
+use Rattle.std.proofs.Common.{◌⊎◌, inl, inr, ◌≡◌, ℕ, ◌+◌, ◌≤◌, List, [], ◌∷◌, ◌++◌, Option, Some, None, Bool, true, false, refl, sym, ap, ◌∙◌, subst, arith}
+use Rattle.server_core.specs.State as server
+use Rattle.server_core.specs.declared.event.Event.TheVariants as event
+use Rattle.server_core.specs.declared.event.Told.{Told as Announced}
+use Rattle.server_core.specs.declared.event.Told.TheVariants as announced
+use Rattle.open_close.specs.State as client
+use Rattle.open_close.specs.declared.step.Outcome.TheVariants as outcome
+use Rattle.register_model.specs.declared.op.Outcome.TheVariants as told
+use Rattle.trace_replay.specs.Core.{taken_of as session_taken}
+use Rattle.kept_promise.proofs.Common.{nat_tests, ◌==◌, ◌&&◌, nat_lt, option_map_or, slice_get, slice_set, changes, Book, ops_after, server_step, command_step, got_step, ended_by, ClientStep, Ended, Task, Op, Opening, TakenCall, op_after, Core, Seat, Event, Event.Joins, Event.Does, Event.Serves, Event.Hears, Event.Settles, Event.Cuts, Event.Hangs, CoreStep, numbered, session_of, ops_with, does, joins_as, joins, cuts_if, cuts, happens, Moment, Queue, parse_of}
+use Rattle.kept_promise.proofs.Lists.{some_is, nothing_there, at_replaced, of_appended, of_replaced, kept_appended, same_or_not, set_else}
+use Rattle.kept_promise.proofs.Rights.{Caused}
+use Rattle.kept_promise.proofs.Facts.{IsKept}
+use Rattle.kept_promise.proofs.RunsCarried.{book_at, Step}
+use Rattle.kept_promise.proofs.Actors.{acts_alone, heard_at}
+use Rattle.kept_promise.proofs.Marks.{unpointed}
+use Rattle.kept_promise.proofs.Counted.{AlikeUpTo, IsActor, running_past}
+use Rattle.kept_promise.proofs.JobFacts.{ops_shape}
+use Rattle.kept_promise.proofs.Versions.{version_in, count_replaced, count_appended}
+use Rattle.kept_promise.proofs.Taking.{versions_after}
+use Rattle.kept_promise.proofs.CommandOps.{made_by, made_pointless, last_right}
+use Rattle.kept_promise.proofs.VersionRuns.{Settled, settled_are, own_op}
+use Rattle.kept_promise.proofs.LogEvents.{serves_silent, hangs_silent}
+
+abbrev pub IsHears : Event → Type 0
+IsHears (Hears n now bytes) = Unit {0}
+IsHears e = ⊥
+
+-- one begins
+pub record IsBegun (k : Core) (ops : List Op) : Type 0 where
+  pub new : Op
+  pub is : ops ≡ k.ops ++ new ∷ []
+  pub pointless : new.point ≡ None
+  pub unopened : (len : ℕ) (digest : List ℕ) → new.outcome ≡ told.Opened len digest → ⊥
+
+-- a client goes on with its own: where it heard nothing, none of a running open gets its content
+pub record IsActed (e : Event) (k : Core) (ops : List Op) : Type 0 where
+  pub index : ℕ
+  pub seat : Seat
+  pub here : numbered k.seats index ≡ Some seat
+  pub after : client.State
+  pub acts : ClientStep
+  pub is : ops ≡ ops_with k.ops seat.place after (session_taken (session_of k.sessions seat.session)) (k.steps + 1) acts
+  pub unopened : IsHears e ⊎ ((o : Op) (len : ℕ) (digest : List ℕ) → o.outcome ≡ told.Running → (op_after o after (session_taken (session_of k.sessions seat.session)) (k.steps + 1) acts).outcome ≡ told.Opened len digest → ⊥)
+
+abbrev pub OpsAfter : Event → Core → List Op → Type 0
+OpsAfter e k ops = (ops ≡ k.ops) ⊎ (IsBegun k ops ⊎ (IsActed e k ops ⊎ Settled k ops))
+
+abbrev pub Becomes : Event → Core → CoreStep → Type 0
+Becomes e k t = OpsAfter e k t.core.ops × (k.steps ≤ t.core.steps)
+
+running_not : (len : ℕ) (digest : List ℕ) → told.Running ≡ told.Opened len digest → ⊥
+running_not len digest z = absurd cc
+
+lost_not : (len : ℕ) (digest : List ℕ) → told.Lost ≡ told.Opened len digest → ⊥
+lost_not len digest z = absurd cc
+
+pub ops_after_event : (all past rest : List Moment) (opening : List Opening) (k : Core) (qs : List Queue) (e : Event) (mid after : List Queue) → Step all past rest opening k qs e mid after → Becomes e k (happens k e)
+ops_after_event all past rest opening k qs (Joins c) mid after s = subst (λ (o : Option Seat). Becomes (Joins c) k (joins k c o)) (sym s.finds.1) (by s.finds.0 (server_step k.server event.Connect).0 (server_step k.server event.Connect).1.told)
+  where
+    by : (seat : Seat) (s : server.State) (o : Announced) → Becomes (Joins c) k (joins_as k c seat s o)
+    by seat s (announced.Session made) = (inl refl, omega arith)
+    by seat s _ = (inl refl, omega arith)
+ops_after_event all past rest opening k qs (Does c now d) mid after s = subst (λ (o : Option Seat). IsKept (book_at opening (does k c now d o).core all) (does k c now d o).core after → Becomes (Does c now d) k (does k c now d o)) (sym s.finds.1) begins s.left
+  where
+    begins : IsKept (book_at opening (does k c now d (Some s.finds.0)).core all) (does k c now d (Some s.finds.0)).core after → Becomes (Does c now d) k (does k c now d (Some s.finds.0))
+    begins left =
+        let r = command_step s.finds.0.client d now in
+        let new : Op = made_by k c now d s.finds.0 r.0 r.1 in
+        let point = made_pointless k c now d s.finds.0 r.0 r.1 r.1.ended in
+        let more = book_at opening (does k c now d (Some s.finds.0)).core all in
+        let right = last_right more k.ops new left.ops left.sound in (
+          inr (inl (record {
+            new = new;
+            is = refl;
+            pointless = point;
+            unopened = λ len digest is. let w = subst (Caused more new) is right.cause in nothing_there w.1.point (sym point ∙ w.1.within.0);
+          })),
+          omega arith,
+        )
+ops_after_event all past rest opening k qs (Serves n now bytes) mid after s = let q = serves_silent k n now bytes (numbered k.sessions n) in (inl q.1, q.3)
+ops_after_event all past rest opening k qs (Hears n now bytes) mid after s =
+    let h = heard_at (book_at opening k all) k qs n now bytes mid s.kept s.finds in
+    let r = got_step h.seat.client (parse_of (client.waiting_of h.seat.client) bytes) now in
+    (inr (inr (inl (record { index = h.session.owner; seat = h.seat; here = h.owner; after = r.0; acts = r.1; is = ap (λ (t : CoreStep). t.core.ops) h.hears_is; unopened = inl tt }))), (let n = ap (λ (t : CoreStep). t.core.steps) h.hears_is in omega (arith, n)))
+ops_after_event all past rest opening k qs (Settles now) mid after s = (inr (inr (inr (settled_are (book_at opening k all) k qs now s.kept))), omega arith)
+ops_after_event all past rest opening k qs (Cuts c) mid after s = subst (λ (o : Option Seat). Becomes (Cuts c) k (cuts k c o)) (sym s.finds.1) (by s.finds.0.client.linked)
+  where
+    lost : Ended
+    lost = record { outcome = outcome.Lost; rests_on = 0 }
+
+    gone : client.State
+    gone = record s.finds.0.client { linked = false; task = None; forgotten = [] }
+
+    taken : List TakenCall
+    taken = session_taken (session_of k.sessions s.finds.0.session)
+
+    never : (t : Option Task) (o : Op) (len : ℕ) (digest : List ℕ) → o.outcome ≡ told.Running → (op_after o gone taken (k.steps + 1) (ended_by t (record { outcome = outcome.Lost; rests_on = 0 }))).outcome ≡ told.Opened len digest → ⊥
+    never None o len digest run is = running_not len digest (sym run ∙ is)
+    never (Some t) o len digest run is = lost_not len digest is
+
+    by : (b : Bool) → Becomes (Cuts c) k (cuts_if k c s.finds.0 b)
+    by false = (inl refl, omega arith)
+    by true = (inr (inr (inl (record { index = c; seat = s.finds.0; here = s.finds.1; after = gone; acts = ended_by s.finds.0.client.task lost; is = refl; unopened = inr (never s.finds.0.client.task) }))), omega arith)
+ops_after_event all past rest opening k qs (Hangs n) mid after s = let q = hangs_silent k n (numbered k.sessions n) in (inl q.1, q.3)
+
+-- ---- what stays
+
+-- each operation has the same part of what is past
+abbrev pub StayIn : (step : ℕ) → (ops after : List Op) → Type 0
+StayIn n ops after = (p : ℕ) (o : Op) → slice_get ops p ≡ Some o → (r : Op) × (slice_get after p ≡ Some r) × AlikeUpTo n o r
+
+stay_same : (n : ℕ) (ops : List Op) → StayIn n ops ops
+stay_same n ops p o at = (o, at, λ step i le. refl)
+
+stay_replaced : (n : ℕ) (ops : List Op) (place : ℕ) (old new : Op) → slice_get ops place ≡ Some old → AlikeUpTo n old new → StayIn n ops (slice_set ops place new)
+stay_replaced n ops place old new there alike p o at = elim (same_or_not p place) [
+  | inr apart ↦ (o, set_else ops place p new apart ∙ at, λ step i le. refl)
+  | inl same ↦
+      let mine : old ≡ o = some_is old o (sym there ∙ ap (slice_get ops) (sym same) ∙ at) in
+      (new, ap (slice_get (slice_set ops place new)) same ∙ at_replaced ops place new old there, subst (λ (z : Op). AlikeUpTo n z new) mine alike)
+]
+
+stay_acted : (n i : ℕ) (ops : List Op) (place : Option ℕ) (c : client.State) (taken : List TakenCall) (acts : ClientStep) → IsActor ops i place n → StayIn n ops (ops_with ops place c taken (n + 1) acts)
+stay_acted n i ops None c taken acts actor = stay_same n ops
+stay_acted n i ops (Some p) c taken acts actor = by (slice_get ops p) refl
+  where
+    by : (q : Option Op) → slice_get ops p ≡ q → StayIn n ops (ops_after ops p q c taken (n + 1) acts)
+    by None e = stay_same n ops
+    by (Some q) e = stay_replaced n ops p q (op_after q c taken (n + 1) acts) e (running_past q c taken n acts (actor.own p q refl e).1)
+
+pub stays_in : (book : Book) (k : Core) (qs : List Queue) (e : Event) (ops : List Op) → IsKept book k qs → OpsAfter e k ops → StayIn k.steps k.ops ops
+stays_in book k qs e ops kept (inl same) = subst (StayIn k.steps k.ops) (sym same) (stay_same k.steps k.ops)
+stays_in book k qs e ops kept (inr (inl n)) = subst (StayIn k.steps k.ops) (sym n.is) (λ p o at. (o, kept_appended k.ops n.new p o at, λ step i le. refl))
+stays_in book k qs e ops kept (inr (inr (inl a))) = subst (StayIn k.steps k.ops) (sym a.is) (stay_acted k.steps a.index k.ops a.seat.place a.after (session_taken (session_of k.sessions a.seat.session)) a.acts (acts_alone book k qs a.index a.seat kept a.here))
+stays_in book k qs e ops kept (inr (inr (inr (inl same)))) = subst (StayIn k.steps k.ops) (sym same) (stay_same k.steps k.ops)
+stays_in book k qs e ops kept (inr (inr (inr (inr s)))) = subst (StayIn k.steps k.ops) (sym s.4) (stay_replaced k.steps k.ops s.0 s.1 (record s.1 { point = Some (k.steps + 1) }) s.2 (λ step i le. refl))
+
+-- and each file has the same versions up to now
+pub same_versions : (k : Core) (e : Event) (ops : List Op) → OpsAfter e k ops → (f q : ℕ) → q ≤ k.steps → version_in ops f q ≡ version_in k.ops f q
+same_versions k e ops by f q le = shown by
+  where
+    shown : OpsAfter e k ops → version_in ops f q ≡ version_in k.ops f q
+    shown (inl same) = ap (λ (l : List Op). version_in l f q) same
+    shown (inr (inl n)) = ap (λ (l : List Op). version_in l f q) n.is ∙ ap (λ z. z + 1) (count_appended f q k.ops n.new (unpointed f q n.new n.pointless))
+    shown (inr (inr (inl a))) = ap (λ (l : List Op). version_in l f q) a.is ∙ versions_after k.ops a.seat.place a.after (session_taken (session_of k.sessions a.seat.session)) (k.steps + 1) a.acts f q
+    shown (inr (inr (inr (inl same)))) = ap (λ (l : List Op). version_in l f q) same
+    shown (inr (inr (inr (inr s)))) = ap (λ (l : List Op). version_in l f q) s.4 ∙ ap (λ z. z + 1) (count_replaced f q k.ops s.0 s.1 (record s.1 { point = Some (k.steps + 1) }) s.2 (
+        ap (λ b. (changes s.1.word && (s.1.file == f)) && b) (let t : nat_lt (k.steps + 1) q ≡ false = grind (arith, nat_tests, le) in t) ∙ ap (λ z. (changes s.1.word && (s.1.file == f)) && option_map_or (λ x. nat_lt x q) z false) (sym s.3.1)))
+
+-- where none was heard, an open that has its content had it before
+pub opened_before : (book : Book) (k : Core) (qs : List Queue) (e : Event) (ops : List Op) → IsKept book k qs → (IsHears e → ⊥) → OpsAfter e k ops → (p len : ℕ) (digest : List ℕ) (r : Op) → slice_get ops p ≡ Some r → r.outcome ≡ told.Opened len digest → (o : Op) × (t : Option ℕ) × (slice_get k.ops p ≡ Some o) × (r ≡ record o { point = t })
+opened_before book k qs e ops kept quiet by p len digest r at is = shown by
+  where
+    shown : OpsAfter e k ops → (o : Op) × (t : Option ℕ) × (slice_get k.ops p ≡ Some o) × (r ≡ record o { point = t })
+    shown (inl same) = (r, r.point, ap (λ (l : List Op). slice_get l p) (sym same) ∙ at, refl)
+    shown (inr (inl n)) = elim (of_appended k.ops n.new p r (ap (λ (l : List Op). slice_get l p) (sym n.is) ∙ at)) [
+      | inl last ↦ absurd (n.unopened len digest (ap (λ (z : Op). z.outcome) (sym last.1) ∙ is))
+      | inr old ↦ (r, r.point, old, refl)
+    ]
+    shown (inr (inr (inl a))) = elim (ops_shape k.ops a.seat.place a.after (session_taken (session_of k.sessions a.seat.session)) (k.steps + 1) a.acts p r (ap (λ (l : List Op). slice_get l p) (sym a.is) ∙ at)) [
+      | inr old ↦ (r, r.point, old.1, refl)
+      | inl mine ↦ elim a.unopened [
+        | inl hears ↦ absurd (quiet hears)
+        | inr never ↦ absurd (never mine.0 len digest (own_op book k qs a.index a.seat p mine.0 kept a.here mine.1 mine.2).4 (ap (λ (z : Op). z.outcome) (sym mine.3) ∙ is))
+      ]
+    ]
+    shown (inr (inr (inr (inl same)))) = (r, r.point, ap (λ (l : List Op). slice_get l p) (sym same) ∙ at, refl)
+    shown (inr (inr (inr (inr s)))) = elim (of_replaced k.ops s.0 (record s.1 { point = Some (k.steps + 1) }) p r (ap (λ (l : List Op). slice_get l p) (sym s.4) ∙ at)) [
+      | inr old ↦ (r, r.point, old.1, refl)
+      | inl made ↦ (s.1, Some (k.steps + 1), ap (slice_get k.ops) made.0 ∙ s.2, made.1)
+    ]
