@@ -1,13 +1,14 @@
 /* `replay --seed SEED --blocks N --summary` as a plain C program, to measure the proved one against:
  * the same lines made and read, the same calls as records on a queue of bytes, the same hashing and
- * the same cuts at each end, and each byte of content copied as often. What a line asks for is known
- * beforehand and nothing is refused; no other trace can be run.
+ * the same cuts at each end, each byte that goes over the wire copied as often, the same indexes of
+ * chunks at both ends, and the same contents kept by clients. What a line asks for is known beforehand
+ * and nothing is refused; no other trace can be run.
  *
  *   generated_baseline SEED N
  */
 #include "contents.c"
 
-enum { FILES = 8, CLIENTS = 4, SIZE = 9000, AT_ONCE = 16, ROOM = 1 << 17 };
+enum { FILES = 8, CLIENTS = 4, SIZE = 9000, AT_ONCE = 16, ROOM = 1 << 17, PAIRS = 1 << 16 };
 
 /* An operation of the history. */
 struct op {
@@ -22,7 +23,36 @@ struct queue {
     size_t front, back;
 };
 
+/* A place of a chunk's bytes, and what an index has for a key: the first eight bytes of a digest. */
+struct place {
+    size_t file, start, len;
+};
+
+struct pair {
+    uint64_t key;
+    struct place place;
+    uint32_t next, newer, older;
+};
+
+/* Places by keys. Pairs are linked by their numbers, from 1 on: in a chain for each low part of a key,
+ * which 0 ends, and through pair 0 in a ring, by when they were put or found last. */
+struct index {
+    struct pair pairs[PAIRS + 1];
+    uint32_t chains[PAIRS], count;
+};
+
+/* A client: its index, and of each file the content that it keeps, in this version, or in version 0
+ * where it keeps none. It may keep those of 256 files, so none of these ever has to go. */
+struct client {
+    struct index index;
+    struct content kept[FILES];
+    unsigned long versions[FILES];
+};
+
 static struct content files[FILES];
+static unsigned long versions[FILES];
+static struct index known;
+static struct client clients[CLIENTS];
 static struct op *ops;
 static size_t op_count, journal;
 static struct queue up, down;
@@ -80,6 +110,88 @@ static const uint8_t *take(struct queue *q, int words, size_t *len)
     return sum == UINT32_MAX ? NULL : q->record + 4 * words + 4;
 }
 
+/* ---- indexes of chunks */
+
+static void leave_ring(struct index *x, uint32_t at)
+{
+    x->pairs[x->pairs[at].older].newer = x->pairs[at].newer;
+    x->pairs[x->pairs[at].newer].older = x->pairs[at].older;
+}
+
+static void join_ring(struct index *x, uint32_t at)
+{
+    x->pairs[at].newer = 0;
+    x->pairs[at].older = x->pairs[0].older;
+    x->pairs[x->pairs[0].older].newer = at;
+    x->pairs[0].older = at;
+}
+
+/* Where the number of a key's pair stands in its chain, or would. */
+static uint32_t *link_of(struct index *x, uint64_t key)
+{
+    uint32_t *link = &x->chains[key % PAIRS];
+    while (*link != 0 && x->pairs[*link].key != key)
+        link = &x->pairs[*link].next;
+    return link;
+}
+
+static uint64_t key_of(const uint8_t *digest)
+{
+    return (uint64_t)get(digest) << 32 | get(digest + 4);
+}
+
+/* The place that is there for a digest, if one is. Its pair is the newest then. */
+static struct place *find(struct index *x, const uint8_t *digest)
+{
+    uint32_t at = *link_of(x, key_of(digest));
+    if (at == 0)
+        return NULL;
+    leave_ring(x, at);
+    join_ring(x, at);
+    return &x->pairs[at].place;
+}
+
+/* The number of a pair that is in no chain: a new one, or the oldest, which goes. */
+static uint32_t spare(struct index *x)
+{
+    if (x->count < PAIRS)
+        return ++x->count;
+    uint32_t at = x->pairs[0].newer;
+    leave_ring(x, at);
+    *link_of(x, x->pairs[at].key) = x->pairs[at].next;
+    return at;
+}
+
+static void enter(struct index *x, size_t file, const struct content *c)
+{
+    for (size_t i = 0; i < c->all; i++) {
+        struct place place = {file, c->chunks[i].start, c->chunks[i].len};
+        struct place *there = find(x, c->chunks[i].digest);
+        if (there != NULL) {
+            *there = place;
+            continue;
+        }
+        uint64_t key = key_of(c->chunks[i].digest);
+        uint32_t at = spare(x), *link = link_of(x, key);
+        x->pairs[at] = (struct pair){key, place, 0, 0, 0};
+        *link = at;
+        join_ring(x, at);
+    }
+}
+
+/* The bytes that an index gives for a digest, where the place has so many, lies in its file, and they
+ * have the digest. */
+static const uint8_t *look_up(struct index *x, const struct content *of, const uint8_t *digest, size_t len)
+{
+    const struct place *place = find(x, digest);
+    if (place == NULL || place->len != len || place->start + len > of[place->file].count)
+        return NULL;
+    const uint8_t *bytes = of[place->file].bytes + place->start;
+    uint8_t got[20];
+    sha1(bytes, len, got);
+    return memcmp(got, digest, 20) == 0 ? bytes : NULL;
+}
+
 /* ---- the client's commands */
 
 static struct op *begin(char word)
@@ -90,36 +202,120 @@ static struct op *begin(char word)
     return op;
 }
 
-static struct content open_file(struct content *file)
+static struct content copy_of(const struct content *c)
 {
-    struct op *op = begin('o');
-    struct content got = {room(file->count), file->count, NULL, 0};
+    struct content copy = {room(c->count), c->count, NULL, 0};
+    memcpy(copy.bytes, c->bytes, c->count);
+    return copy;
+}
+
+static void keep(struct client *client, size_t id, struct content content)
+{
+    drop(&client->kept[id]);
+    client->kept[id] = content;
+    client->versions[id] = versions[id];
+}
+
+/* The chunks of a file are read whose numbers these are. */
+static void read_chunks(const struct content *file, const size_t *asked, size_t count, struct content *got, struct op *op)
+{
     size_t len;
-    give(&up, next_xid++, 20, NULL, 0);
-    take(&up, 20, &len);
-    give(&down, 1, 12 + 7 * (int)file->all, NULL, 0);
-    take(&down, 12 + 7 * (int)file->all, &len);
-    for (size_t i = 0; i < file->all; i++)
+    for (size_t k = 0; k < count; k++)
         give(&up, next_xid++, 22, NULL, 0);
-    for (size_t i = 0; i < file->all; i++) {
+    for (size_t k = 0; k < count; k++) {
         take(&up, 22, &len);
-        give(&down, next_xid, 30, file->bytes + file->chunks[i].start, file->chunks[i].len);
+        give(&down, next_xid, 30, file->bytes + file->chunks[asked[k]].start, file->chunks[asked[k]].len);
     }
-    for (size_t i = 0; i < file->all; i++) {
+    for (size_t k = 0; k < count; k++) {
+        const struct chunk *chunk = &file->chunks[asked[k]];
         uint8_t digest[20];
         const uint8_t *bytes = take(&down, 30, &len);
         sha1(bytes, len, digest);
-        if (memcmp(digest, file->chunks[i].digest, 20) != 0)
+        if (memcmp(digest, chunk->digest, 20) != 0)
             exit(1);
-        memcpy(got.bytes + file->chunks[i].start, bytes, len);
+        memcpy(got->bytes + chunk->start, bytes, len);
         op->read++;
         op->data += len;
     }
+}
+
+/* The file's content, of which each chunk is taken from what the client keeps, or read. */
+static struct content fetch(struct client *client, size_t id, struct op *op)
+{
+    const struct content *file = &files[id];
+    struct content got = {room(file->count), file->count, NULL, 0};
+    size_t len, asked[AT_ONCE], count = 0;
+    give(&up, next_xid++, 20, NULL, 0);
+    take(&up, 20, &len);
+    enter(&known, id, file);
+    give(&down, 1, 12 + 7 * (int)file->all, NULL, 0);
+    take(&down, 12 + 7 * (int)file->all, &len);
+    for (size_t i = 0; i < file->all; i++) {
+        const struct chunk *chunk = &file->chunks[i];
+        const uint8_t *bytes = look_up(&client->index, client->kept, chunk->digest, chunk->len);
+        if (bytes != NULL)
+            memcpy(got.bytes + chunk->start, bytes, chunk->len);
+        else
+            asked[count++] = i;
+    }
+    read_chunks(file, asked, count, &got, op);
+    keep(client, id, copy_of(&got));
+    enter(&client->index, id, file);
+    return got;
+}
+
+/* The version is asked for where a content is kept, which is the file's where it is of that version. */
+static int is_current(const struct client *client, size_t id)
+{
+    size_t len;
+    if (client->versions[id] == 0)
+        return 0;
+    give(&up, next_xid++, 17, NULL, 0);
+    take(&up, 17, &len);
+    give(&down, 1, 31, NULL, 0);
+    take(&down, 31, &len);
+    return client->versions[id] == versions[id];
+}
+
+static struct content open_file(struct client *client, size_t id)
+{
+    struct op *op = begin('o');
+    struct content got = is_current(client, id) ? copy_of(&client->kept[id]) : fetch(client, id, op);
     sha1(got.bytes, got.count, op->digest);
     return got;
 }
 
-static void close_file(struct content *file, struct content *local)
+/* The chunks go into the temporary file, by their digests where the server knows them. */
+static void store_chunks(const struct content *local, struct content *stored, struct op *op)
+{
+    size_t len, missing[AT_ONCE], count = 0;
+    for (size_t i = 0; i < local->all; i++) {
+        const struct chunk *chunk = &local->chunks[i];
+        give(&up, next_xid++, 16, chunk->digest, 20);
+        const uint8_t *digest = take(&up, 16, &len);
+        const uint8_t *bytes = look_up(&known, files, digest, chunk->len);
+        if (bytes != NULL)
+            memcpy(stored->bytes + chunk->start, bytes, chunk->len);
+        else
+            missing[count++] = i;
+        give(&down, 1, 8, NULL, 0);
+        take(&down, 8, &len);
+        op->cond++;
+    }
+    for (size_t k = 0; k < count; k++) {
+        const struct chunk *chunk = &local->chunks[missing[k]];
+        give(&up, next_xid++, 16, local->bytes + chunk->start, chunk->len);
+        const uint8_t *bytes = take(&up, 16, &len);
+        memcpy(stored->bytes + chunk->start, bytes, len);
+        op->data += len;
+        op->tmp++;
+        give(&down, 1, 8, NULL, 0);
+        take(&down, 8, &len);
+    }
+}
+
+/* The content becomes the file's, and the client keeps it. */
+static void close_file(struct client *client, size_t id, struct content *local)
 {
     struct op *op = begin('c');
     struct content stored = {room(local->count), local->count, NULL, 0};
@@ -129,33 +325,22 @@ static void close_file(struct content *file, struct content *local)
     take(&up, 18, &len);
     give(&down, 1, 8, NULL, 0);
     take(&down, 8, &len);
-    for (size_t i = 0; i < local->all; i++) {
-        give(&up, next_xid++, 16, local->chunks[i].digest, 20);
-        take(&up, 16, &len);
-        give(&down, 1, 8, NULL, 0);
-        take(&down, 8, &len);
-        op->cond++;
-    }
-    for (size_t i = 0; i < local->all; i++) {
-        give(&up, next_xid++, 16, local->bytes + local->chunks[i].start, local->chunks[i].len);
-        const uint8_t *bytes = take(&up, 16, &len);
-        memcpy(stored.bytes + local->chunks[i].start, bytes, len);
-        give(&down, 1, 8, NULL, 0);
-        take(&down, 8, &len);
-        op->tmp++;
-        op->data += local->chunks[i].len;
-    }
+    store_chunks(local, &stored, op);
     give(&up, next_xid++, 20, NULL, 0);
     take(&up, 20, &len);
     cut(&stored);
     uint8_t digest[20];
     sha1(stored.bytes, stored.count, digest);
-    drop(file);
-    *file = stored;
+    enter(&known, id, &stored);
+    drop(&files[id]);
+    files[id] = stored;
+    versions[id]++;
     journal++;
     give(&down, 1, 10, NULL, 0);
     take(&down, 10, &len);
     sha1(local->bytes, local->count, op->digest);
+    keep(client, id, *local);
+    *local = (struct content){NULL, 0, NULL, 0};
 }
 
 static void write_at(struct content *local, size_t offset, const char *text)
@@ -196,7 +381,7 @@ static unsigned long block(uint64_t seed, unsigned long number)
     unsigned long t = 10 * number, client = 1 + q % CLIENTS, file = q / 4 % FILES, offset = 37 * q % SIZE;
     text_len = 0;
     LINES("do %lu %lu open #%lu\npass %lu 40 %lu %lu\n", client, t, file + 2, client, t, t);
-    struct content local = open_file(&files[file]);
+    struct content local = open_file(&clients[client - 1], file);
     if (q / 32 % 2 == 0) {
         LINES("do %lu %lu abandon #%lu\n", client, t, file + 2);
         begin('d');
@@ -208,7 +393,7 @@ static unsigned long block(uint64_t seed, unsigned long number)
             LINES("pass %d 2 %lu %lu\n", s, t, t);
         LINES("settle %lu\npass %lu 2 %lu %lu\n", t, client, t, t);
         write_at(&local, offset, word);
-        close_file(&files[file], &local);
+        close_file(&clients[client - 1], file, &local);
     }
     drop(&local);
     return read_lines();
@@ -227,6 +412,7 @@ int main(int argc, char **argv)
     for (int i = 0; i < FILES; i++) {
         files[i] = draw(seed + (uint64_t)i + 1, SIZE);
         cut(&files[i]);
+        versions[i] = 1;
     }
     for (unsigned long k = 1; k <= blocks; k++)
         sum += block(seed, k);
