@@ -91,6 +91,8 @@ pub record Waiting (P : Type 0) : Type 0 where
   pub leases : List Lease
   -- how many leases more may be granted for certain, beside the one that each change has its place for
   pub spare : ℕ
+  -- how many changes more may wait for certain
+  pub room : ℕ
   -- in the order of arrival
   pub waits : List (Change P)
 

@@ -1,6 +1,6 @@
 //! How a change comes to wait, and how it leaves (`specs/Waits.antt`).
 
-ghost use Rattle.std.specs.Prelude.{◌≡◌, ◌+◌, ◌<◌, ◌≤◌, ◌^◌, ◌∷◌, ◌++◌, [], OnOk, OnErr, IfOk, IfSome, OnSome, IsSome, ◌⊎◌, map, length, false, IsOk};
+ghost use Rattle.std.specs.Prelude.{◌≡◌, ◌+◌, ◌<◌, ◌≤◌, ◌^◌, ◌∷◌, ◌++◌, [], OnOk, OnErr, IfOk, IfSome, OnSome, IsSome, ◌⊎◌, map, length, vec_len, vec_capacity, ℕ, false, IsOk};
 ghost use Rattle.lease_table.specs.Leases.{grant, lease_at};
 ghost use Rattle.callback_core.specs.Waits.{recall_of, recalls_due, has_wait, without_made, entries_of, bytes_of, IsAnswered, AreBounded};
 ghost use Rattle.callback_core.specs.Places.{place_in, without_place};
@@ -38,6 +38,34 @@ fn recalls_due<P>(
     recalls_to(alloc, sessions.as_slice(), change.file)
 }
 
+/// Makes room for one change more, and for its lease. The one error is want of memory; nothing else
+/// changes.
+pub fn make_room<P>(leases: &mut Leases, waits: &mut Vec<Change<P>>) -> Result<(), AllocError>
+    requires bounded { AreBounded waits.old.items leases.old.room }
+    ensures place { OnOk result (vec_len waits.new < vec_capacity waits.new) }
+    ensures lease_place { OnOk result (length waits.new.items < leases.new.room) }
+    ensures waits { waits.new.items ≡ waits.old.items }
+    ensures leases { leases.new.leases ≡ leases.old.leases }
+    ensures room { leases.old.room ≤ leases.new.room }
+    ensures bounded { AreBounded waits.new.items leases.new.room }
+{
+    leases.reserve(waits.len() + 1)?;
+    waits.reserve(1)?;
+    Ok(())
+}
+
+/// A change waits, for which there is room.
+pub fn push<P: Drop>(waits: &mut Vec<Change<P>>, change: Change<P>)
+    requires new { has_wait waits.old.items change.session ≡ false }
+    requires place { vec_len waits.old < vec_capacity waits.old }
+    requires entries { entries_of waits.old.items + change.entries < 2 ^ 64 }
+    requires bytes { bytes_of waits.old.items + change.bytes < 2 ^ 64 }
+    ensures waits { waits.new.items ≡ waits.old.items ++ change ∷ [] }
+    ensures bounded { (room : ℕ) → AreBounded waits.old.items room → length waits.old.items < room → AreBounded waits.new.items room }
+{
+    waits.push_reserved(change);
+}
+
 /// A change comes and waits, and its lease has a place. The one error is want of memory.
 fn add<P: Drop>(
     leases: &mut Leases,
@@ -54,8 +82,8 @@ fn add<P: Drop>(
     ensures room { leases.old.room ≤ leases.new.room }
     ensures bounded { AreBounded waits.new.items leases.new.room }
 {
-    leases.reserve(waits.len() + 1)?;
-    waits.push(change)?;
+    make_room(leases, waits)?;
+    push(waits, change);
     Ok(())
 }
 

@@ -1,7 +1,7 @@
 //! The changes that wait, and the leases that they wait for. `specs/Waits.antt` has the words of the
 //! contracts.
 
-ghost use Rattle.std.specs.Prelude.{◌≡◌, ◌+◌, ◌<◌, ◌≤◌, ◌^◌, ◌∷◌, ◌++◌, [], OnOk, OnErr, IfOk, IsOk, IsSome, is_some, ◌⊎◌, OnSome, option_copied};
+ghost use Rattle.std.specs.Prelude.{◌≡◌, ◌+◌, ◌<◌, ◌≤◌, ◌^◌, ◌∷◌, ◌++◌, [], OnOk, OnErr, IfOk, IsOk, IsSome, is_some, ◌⊎◌, OnSome, option_copied, false};
 ghost use Rattle.lease_table.specs.Leases.{grant, without_lease, marked, without_recalled, without_ended, is_blocked, others, lease_at};
 ghost use Rattle.callback_core.specs.Waits.{recalls_due, ready, change_of, has_wait, waits_on, without, without_made, entries_of, bytes_of, IsAnswered};
 
@@ -23,12 +23,12 @@ pub struct Waits<P: Drop> {
 }
 
 impl<P: Drop> Model for Waits<P> {
-    ghost use Rattle.std.specs.Prelude.{◌-◌, ◌<◌, ◌≤◌, ◌^◌, length, AllPairs};
+    ghost use Rattle.std.specs.Prelude.{◌-◌, ◌<◌, ◌≤◌, ◌^◌, length, min, vec_len, vec_capacity, AllPairs};
     ghost use Rattle.callback_core.specs.Waits.{Waiting, AreBounded};
 
     ghost Value = { Waiting P };
 
-    ghost view = { λ w. record { leases = w.leases.leases; spare = w.leases.room - length w.waits.items; waits = w.waits.items } };
+    ghost view = { λ w. record { leases = w.leases.leases; spare = w.leases.room - length w.waits.items; room = min (w.leases.room - length w.waits.items) (vec_capacity w.waits - vec_len w.waits); waits = w.waits.items } };
 
     ghost invariant = { λ w. AreBounded w.waits.items w.leases.room };
 }
@@ -66,6 +66,31 @@ impl<P: Drop> Waits<P> {
         ensures leases { self.new.leases ≡ self.old.leases }
     {
         asking::ask(alloc, &mut self.leases, &mut self.waits, change, now)
+    }
+
+    /// Makes room for one change more, and for the lease that is granted when it is made. The one error
+    /// is want of memory; nothing else changes.
+    pub fn make_room(&mut self) -> Result<(), AllocError>
+        ensures ok { OnOk result (0 < self.new.room) }
+        ensures waits { self.new.waits ≡ self.old.waits }
+        ensures leases { self.new.leases ≡ self.old.leases }
+        ensures spare { self.old.spare ≤ self.new.spare }
+    {
+        asking::make_room(&mut self.leases, &mut self.waits)
+    }
+
+    /// A change waits, for which there is room. It takes no memory. The recalls that are due are those
+    /// to `others`, with the change's asker.
+    pub fn wait(&mut self, change: Change<P>)
+        requires new { has_wait self.old.waits change.session ≡ false }
+        requires room { 0 < self.old.room }
+        requires entries { entries_of self.old.waits + change.entries < 2 ^ 64 }
+        requires bytes { bytes_of self.old.waits + change.bytes < 2 ^ 64 }
+        ensures waits { self.new.waits ≡ self.old.waits ++ change ∷ [] }
+        ensures leases { self.new.leases ≡ self.old.leases }
+        ensures spare { self.old.spare ≤ self.new.spare + 1 }
+    {
+        asking::push(&mut self.waits, change);
     }
 
     /// The change that is made next at this reading of the server's clock: of the first of each
