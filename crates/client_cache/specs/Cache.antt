@@ -1,7 +1,8 @@
 -- A client's cache: what is kept of at most 256 files, the most recent first.
-use Rattle.std.specs.Prelude.{ℕ, ◌+◌, List, ◌∷◌, length, take, drop, Option, Some, None, Bool, ◌&&◌, ◌==◌, nat_lt, nat_le, if◌then◌else◌, nat_eq, unwrap_or}
+use Rattle.std.specs.Prelude.{ℕ, List, ◌∷◌, take, Option, Some, None, Bool, ◌&&◌, ◌==◌, nat_lt, if◌then◌else◌, nat_eq, unwrap_or}
 use Rattle.std.specs.Borrow.{Bor}
 use Rattle.std.specs.Map.{lookup, remove_entry, set_value}
+use Rattle.chunk_index.specs.Placed.{bytes_placed}
 use Rattle.chunk_index.specs.declared.place.Place.{Place}
 use Rattle.client_cache.specs.declared.kept.Content.{Content}
 use Rattle.client_cache.specs.declared.kept.Note.{Note}
@@ -54,7 +55,7 @@ fresh_of entries file now = fresh_in (kept_of entries file) now
 -- the bytes at a place, where its file's content is kept and has the range
 abbrev pub bytes_in : Option Content → Place → Option (List ℕ)
 bytes_in None place = None
-bytes_in (Some c) place = if nat_le (place.offset + place.count) (length c.bytes) then Some (take place.count (drop place.offset c.bytes)) else None
+bytes_in (Some c) place = bytes_placed c.bytes place
 
 abbrev pub bytes_at : Entries → Place → Option (List ℕ)
 bytes_at entries place = bytes_in (content_of entries place.file) place

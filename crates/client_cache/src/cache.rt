@@ -7,8 +7,8 @@ ghost use Rattle.client_cache.specs.Cache.{kept_of, content_of, fresh_of, bytes_
 
 use crate::kept::{Content, Kept, Note};
 use chunk_index::place::Place;
-use lb_base::items::Bytes;
 use lru::LruCache;
+use shared_bytes::SharedBytes;
 use std::alloc::{AllocError, Global};
 use std::marker::Model;
 use std::num::NonZeroUsize;
@@ -64,7 +64,7 @@ fn give_entry(entries: &mut Keyed, file: u64) -> Result<(), AllocError>
 }
 
 /// Puts a content into a file's entry, which goes first.
-fn set_content(entries: &mut Keyed, file: u64, version: u64, bytes: Bytes)
+fn set_content(entries: &mut Keyed, file: u64, version: u64, bytes: SharedBytes)
     requires there { IsSome (kept_of entries.old.entries file) }
     requires within { length entries.old.entries ≤ files_most }
     ensures { entries.new ≡ lru_cache (with_content entries.old.entries file version bytes) entries.old.cap }
@@ -101,12 +101,13 @@ impl Cache {
         Ok(Cache { entries })
     }
 
-    /// The content that is kept of a file, with its version. It takes no memory.
-    pub fn content(&self, file: u64) -> Option<(u64, &[u8])>
+    /// The content that is kept of a file, with its version. Whoever is to have it for longer takes a
+    /// further owner of it. It takes no memory.
+    pub fn content(&self, file: u64) -> Option<(u64, &SharedBytes)>
         ensures { lent result ≡ content_of self.now file }
     {
         let content = self.entries.peek(&file)?.content.as_ref()?;
-        Some((content.version, content.bytes.as_slice()))
+        Some((content.version, &content.bytes))
     }
 
     /// The content that is kept of a file, where its version is its note's and the note hasn't ended
@@ -150,7 +151,7 @@ impl Cache {
 
     /// Keeps the content of a file in a version, in place of the one that was kept, and brings its
     /// entry to the front. It takes no memory: the file has an entry.
-    pub fn keep(&mut self, file: u64, version: u64, bytes: Bytes)
+    pub fn keep(&mut self, file: u64, version: u64, bytes: SharedBytes)
         requires { IsSome (kept_of self.old file) }
         ensures kept { self.new ≡ with_content self.old file version bytes }
         ensures there { IsSome (kept_of self.new file) }

@@ -1,6 +1,6 @@
 //! What is kept of a file.
 
-use lb_base::items::Bytes;
+use shared_bytes::SharedBytes;
 
 /// A content, as a file had it in a version.
 #[derive(Drop, Debug)]
@@ -8,7 +8,7 @@ pub struct Content {
     /// The version.
     pub version: u64,
     /// The bytes.
-    pub bytes: Bytes,
+    pub bytes: SharedBytes,
 }
 
 /// The note of a lease.

@@ -2,12 +2,13 @@
 
 use crate::cache::Cache;
 use lb_base::items::Bytes;
+use shared_bytes::SharedBytes;
 use std::alloc::{AllocError, Global};
 use std::test::*;
 
 /// A cache with the content "abc" of file 2, in version 4.
 fn filled(alloc: Global) -> Result<Cache, AllocError> {
-    let content = Bytes::copy_of(alloc, b"abc")?;
+    let content = SharedBytes::new(alloc, Bytes::copy_of(alloc, b"abc")?)?;
     let mut cache = Cache::new(alloc)?;
     cache.reserve(2)?;
     cache.keep(2, 4, content);

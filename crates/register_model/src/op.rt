@@ -7,6 +7,7 @@ ghost use Rattle.register_model.specs.Test.{is_open};
 ghost use Rattle.register_model.specs.Summary.{is_running, is_other, is_refused};
 
 use lb_base::items::{Bytes, Items, Name};
+use shared_bytes::SharedBytes;
 
 /// The status by which a file is gone: NFS3ERR_STALE of RFC 1813, section 2.6.
 const STALE: u32 = 70;
@@ -146,7 +147,7 @@ pub struct Op {
     /// How it ended, or that it hasn't.
     pub outcome: Outcome,
     /// The content that an open got, or that a close stores; of any other operation, no byte.
-    pub value: Bytes,
+    pub value: SharedBytes,
     /// What it sent and received.
     pub traffic: Traffic,
 }

@@ -8,6 +8,7 @@ use register_model::history::History;
 use register_model::legal::is_legal;
 use register_model::op::{Op, Opening, Outcome, Traffic, Word};
 use register_model::text::{summary_text, text};
+use shared_bytes::SharedBytes;
 use std::alloc::{AllocError, Global};
 use std::fmt::Write;
 
@@ -25,7 +26,7 @@ struct Rows<'a> {
 pub type Times = (u64, Option<u64>, Option<u64>);
 
 /// An operation of client 1, which sent one READ and got three bytes.
-pub fn op(word: Word, file: u64, times: Times, outcome: Outcome, value: Bytes) -> Op {
+pub fn op(word: Word, file: u64, times: Times, outcome: Outcome, value: SharedBytes) -> Op {
     let (begin, end, point) = times;
     let traffic = Traffic {
         cond: 0,
@@ -94,7 +95,7 @@ fn read_op(alloc: Global, line: &str) -> Result<Option<Op>, AllocError> {
         point.parse::<u64>().ok(),
     );
     let bytes = value_of(value);
-    let value = Bytes::copy_of(alloc, bytes)?;
+    let value = SharedBytes::new(alloc, Bytes::copy_of(alloc, bytes)?)?;
     let file = file.parse::<u64>().unwrap_or(0);
     let outcome = outcome_of(alloc, outcome, bytes)?;
     Ok(Some(op(word_of(word), file, times, outcome, value)))

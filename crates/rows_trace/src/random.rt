@@ -6,6 +6,7 @@ use crate::histories::{Times, files_of, op, push_op, verdicts};
 use lb_base::items::{Bytes, Items};
 use register_model::history::History;
 use register_model::op::{Op, Opening, Outcome, Word};
+use shared_bytes::SharedBytes;
 use std::alloc::{AllocError, Global};
 use std::fmt::Write;
 
@@ -24,7 +25,7 @@ fn told(word: Word, sha1: Bytes) -> Outcome {
 /// An operation on file 2 that takes one step.
 fn at_step(alloc: Global, word: Word, step: u64, value: &[u8]) -> Result<Op, AllocError> {
     let times = (step, Some(step), Some(step));
-    let value = Bytes::copy_of(alloc, value)?;
+    let value = SharedBytes::new(alloc, Bytes::copy_of(alloc, value)?)?;
     Ok(op(word, 2, times, told(word, Bytes::new(alloc)), value))
 }
 
@@ -108,7 +109,7 @@ fn some_op(alloc: Global, state: &mut u64) -> Result<Op, AllocError> {
     let way = next(state, 6);
     let value = if next(state, 2) == 0 { b"a" } else { b"b" };
     let times: Times = (begin, end, point);
-    let value = Bytes::copy_of(alloc, value)?;
+    let value = SharedBytes::new(alloc, Bytes::copy_of(alloc, value)?)?;
     Ok(op(word, file, times, outcome_of(alloc, way), value))
 }
 
