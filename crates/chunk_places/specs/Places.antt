@@ -22,7 +22,12 @@ abbrev pub indexed : Indexed → (file : ℕ) → List Chunk → Indexed
 indexed index file [] = index
 indexed index file (c ∷ cs) = indexed (with_chunk index file c) file cs
 
--- the same, but for places that are left out
+-- the same, but for places that are left out, if any are
 abbrev pub LeavesOut : Indexed → (file : ℕ) → List Chunk → Indexed → Type 0
 LeavesOut index file [] new = new ≡ index
 LeavesOut index file (c ∷ cs) new = LeavesOut (with_chunk index file c) file cs new ⊎ LeavesOut index file cs new
+
+-- the same, where at least one place is left out
+abbrev pub LeavesSome : Indexed → (file : ℕ) → List Chunk → Indexed → Type 0
+LeavesSome index file [] new = ⊥
+LeavesSome index file (c ∷ cs) new = LeavesSome (with_chunk index file c) file cs new ⊎ LeavesOut index file cs new

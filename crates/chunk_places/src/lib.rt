@@ -3,7 +3,7 @@
 #![tactic(auto)]
 
 ghost use Rattle.std.specs.Prelude.{◌≡◌, IfOk, true, false};
-ghost use Rattle.chunk_places.specs.Places.{no_index, with_chunk, indexed, LeavesOut};
+ghost use Rattle.chunk_places.specs.Places.{no_index, with_chunk, indexed, LeavesSome};
 
 use chunk_cut::chunk::Chunk;
 use chunk_index::index::Index;
@@ -40,7 +40,7 @@ fn is_left_out(index: &mut Index, file: u64, chunk: &Chunk) -> bool
 /// left out; says whether one was.
 pub fn enter(index: &mut Index, file: u64, chunks: &[Chunk]) -> bool
     ensures all { result ≡ false → index.new ≡ indexed index.old file chunks.now }
-    ensures lacks { LeavesOut index.old file chunks.now index.new }
+    ensures lacks { result ≡ true → LeavesSome index.old file chunks.now index.new }
 {
     let mut left_out = false;
     for chunk in chunks {
