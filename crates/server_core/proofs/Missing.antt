@@ -1,10 +1,9 @@
 -- What a step does that met want of memory, or did not: of a GETHASH and a change that is made, whose chunks enter the index; and event by event.
-use Rattle.std.proofs.Common.{◌≡◌, refl, sym, ap, ◌∙◌, subst, ℕ, ◌+◌, ◌<◌, List, [], ◌∷◌, ◌++◌, length, Option, Some, Bool, true, false, true≢false, inl, inr, arith}
-use Rattle.std.specs.Prelude.{Result, IfOk, max, remove, slice_index_or}
-use Rattle.std.proofs.lemmas.Result.{IfOk-weaker}
+use Rattle.std.proofs.Common.{◌≡◌, refl, sym, ap, ◌∙◌, subst, ℕ, ◌+◌, ◌<◌, List, [], ◌∷◌, ◌++◌, length, Option, Some, Bool, true, false, inl, inr, arith}
+use Rattle.std.specs.Prelude.{Result, max, remove, slice_index_or}
 use Rattle.chunk_cut.specs.Chunks.{chunks_of}
 use Rattle.chunk_index.specs.Index.{Indexed}
-use Rattle.chunk_places.specs.Places.{indexed, LeavesOut}
+use Rattle.chunk_places.specs.Places.{indexed, LeavesSome}
 use Rattle.xdr_codec.specs.declared.status.Status.{Status}
 use Rattle.xdr_codec.specs.declared.answer.Answer.{Answer}
 use Rattle.xdr_codec.specs.declared.answer.Answer.TheVariants.{Done}
@@ -23,7 +22,7 @@ use Rattle.server_core.specs.declared.journal.Entry.{Entry}
 use Rattle.server_core.specs.Answers.{Node, hash_answer, chunks_told}
 use Rattle.server_core.specs.Closing.{to, at, changed, entry_of, told_change, makes_change, settles}
 use Rattle.server_core.specs.State.{State, Change, file_at, with_file}
-use Rattle.server_core.specs.Step.{with_told, tells_hashes, got_if, stands, change_entered, chunks_of_change, chunks_if, chunks_called, has_room, missed_step, MayLack, Lacks, MissesCall, Misses, nothing, lacks}
+use Rattle.server_core.specs.Step.{with_told, tells_hashes, got_if, stands, change_entered, chunks_of_change, chunks_if, chunks_called, has_room, missed_step, IsLacking, Lacks, MissesCall, Misses, nothing, lacks}
 
 -- ---- a GETHASH
 
@@ -37,7 +36,7 @@ tells_all s session xid r n index told left o is entered said none =
     ∙ ap (λ (b : Bool). (record s { index = index }, record o { missed = b })) (sym none)
 
 pub tells_some : (s : State) (session xid : ℕ) (r : HashRange) (n : Result Node Status) (index : Indexed) (told : Answer Hashes Unit) (left : Bool) (o : ServerStep)
-    → told ≡ hash_answer n r → MayLack s.index (chunks_told n r) index → o ≡ to session (message.Answer xid (body.Lb (lb.GetHashAnswer told))) → left ≡ true
+    → told ≡ hash_answer n r → IsLacking s.index (chunks_told n r) index → o ≡ to session (message.Answer xid (body.Lb (lb.GetHashAnswer told))) → left ≡ true
     → Lacks s.index (chunks_told n r) (tells_hashes s session xid r n) (record s { index = index }) (record o { missed = left })
 tells_some s session xid r n index told left o is lack said some = (
   index,
@@ -64,7 +63,7 @@ made_all s c f files journal index left o there put entered places said none =
 
 pub made_some : (s : State) (c : Change) (f : File) (files : List (ℕ × File)) (journal : List Entry) (index : Indexed) (left : Bool) (o : ServerStep)
     → file_at s.files c.file ≡ Some f → files ≡ with_file s.files (changed f c.content) → journal ≡ s.journal ++ entry_of c f ∷ []
-    → LeavesOut s.index f.id (chunks_of c.content) index → o ≡ told_change c 1 (Done (record { version = f.version + 1; term = 0 })) → left ≡ true
+    → LeavesSome s.index f.id (chunks_of c.content) index → o ≡ told_change c 1 (Done (record { version = f.version + 1; term = 0 })) → left ≡ true
     → Lacks s.index (change_entered c (file_at s.files c.file)) (makes_change s c (file_at s.files c.file)) (record s { files = files; changes = s.changes + 1; journal = journal; index = index }) (record o { missed = left })
 made_some s c f files journal index left o there put entered places said some =
     subst (λ (x : Option File). Lacks s.index (change_entered c x) (makes_change s c x) (record s { files = files; changes = s.changes + 1; journal = journal; index = index }) (record o { missed = left })) (sym there) (
@@ -95,14 +94,6 @@ pub settles_some : (s new : State) (now moment : ℕ) (c : Change) (rest : List 
 settles_some s new now moment c rest o first later made =
     subst (λ (l : List Change). Lacks s.index (chunks_of_change s l) (settles s now l) new o) (sym first)
     (subst (λ (m : ℕ). Lacks s.index (change_entered c (file_at s.files c.file)) (makes_change (record s { moment = m; waiting = rest }) c (file_at s.files c.file)) new o) later made)
-
--- ---- a call that leaves out no place
-
-pub done_whole : {E : Type 0} (r : Result ServerStep E) (P : ServerStep → Type 0) → IfOk r P → IfOk r (λ o. o.missed ≡ false → P o)
-done_whole r P done = IfOk-weaker r P (λ o. o.missed ≡ false → P o) (λ o is none. is) done
-
-pub lacks_none : {E : Type 0} (r : Result ServerStep E) (P : ServerStep → Type 0) → IfOk r (λ o. o.missed ≡ false) → IfOk r (λ o. o.missed ≡ true → P o)
-lacks_none r P done = IfOk-weaker r (λ o. o.missed ≡ false) (λ o. o.missed ≡ true → P o) (λ o none some. absurd (true≢false (sym some ∙ none))) done
 
 -- ---- an event
 

@@ -25,7 +25,7 @@ use Rattle.server_core.specs.State.{State, Change, file_at, with_file}
 use Rattle.server_core.specs.Answers.{Node, file, node_of, lease_answer, hash_answer, chunks_told, read_answer}
 use Rattle.server_core.specs.Asking.{CanWait}
 use Rattle.server_core.specs.Closing.{sends, to, at, makes, writes, names, cond_fault, bytes_known, looked_up, commits, settles}
-use Rattle.chunk_places.specs.Places.{indexed, LeavesOut}
+use Rattle.chunk_places.specs.Places.{indexed, LeavesSome}
 
 -- ---- a message
 
@@ -164,10 +164,10 @@ chunks_entered s (event.Got session (message.Call xid b) now) = chunks_if (stand
 chunks_entered s (event.Settle now) = chunks_of_change s s.waiting
 chunks_entered s e = None
 
--- an index that lacks some of the places that it was to gain
-abbrev pub MayLack : Indexed → Option (ℕ × List Chunk) → Indexed → Type 0
-MayLack index None new = ⊥
-MayLack index (Some e) new = LeavesOut index e.0 e.1 new
+-- an index that lacks at least one of the places that it was to gain
+abbrev pub IsLacking : Indexed → Option (ℕ × List Chunk) → Indexed → Type 0
+IsLacking index None new = ⊥
+IsLacking index (Some e) new = LeavesSome index e.0 e.1 new
 
 -- a handle names a file
 abbrev pub IsFile : Result Node Status → Type 0
@@ -192,9 +192,9 @@ MayMiss s event.Connect = has_room s ≡ true
 MayMiss s (event.Got session (message.Call xid b) now) = (stands s session ≡ true) × TakesMemory (at s now) session b
 MayMiss s e = ⊥
 
--- What is done but for places for which memory was wanting, which are left out of the index.
+-- What is done but for places for which memory was wanting: at least one is left out of the index.
 abbrev pub Lacks : Indexed → Option (ℕ × List Chunk) → State × ServerStep → State → ServerStep → Type 0
-Lacks index entered done new step = (left : Indexed) × MayLack index entered left × (new ≡ with_index done.0 left) × (step ≡ record done.1 { missed = true })
+Lacks index entered done new step = (left : Indexed) × IsLacking index entered left × (new ≡ with_index done.0 left) × (step ≡ record done.1 { missed = true })
 
 -- what a call does that met want of memory: it is refused, or done but for places that are left out of the index
 abbrev pub MissesCall : State → (session xid : ℕ) → Body → State → ServerStep → Type 0

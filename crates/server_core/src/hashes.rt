@@ -8,7 +8,7 @@ ghost use Rattle.chunk_cut.specs.Places.{end_of};
 ghost use Rattle.temp_files.specs.Pieces.{size_most};
 ghost use Rattle.server_core.specs.Answers.{node_of, told_chunks, chunks_told, pair_of, hashes_of, hash_answer};
 ghost use Rattle.server_core.specs.Chunks.{ends_behind, begins_before, IsWithin};
-ghost use Rattle.server_core.specs.Step.{IsFileBounded, IsFile, with_told, MayLack};
+ghost use Rattle.server_core.specs.Step.{IsFileBounded, IsFile, with_told, IsLacking};
 
 use crate::answers::{self, ROOT};
 use crate::chunked::Chunked;
@@ -134,7 +134,7 @@ pub fn hash_answer(
 pub fn enter_told(index: &mut Index, files: &BTreeMap<u64, File>, range: &HashRange) -> bool
     requires { All IsFileBounded (values_of files.now.entries) }
     ensures all { result ≡ false → index.new ≡ with_told index.old (chunks_told (node_of files.now.entries range.now.handle) range.now) }
-    ensures lacks { result ≡ true → MayLack index.old (chunks_told (node_of files.now.entries range.now.handle) range.now) index.new }
+    ensures lacks { result ≡ true → IsLacking index.old (chunks_told (node_of files.now.entries range.now.handle) range.now) index.new }
 {
     let Some(id) = range.handle.file_of() else {
         return false;

@@ -4,14 +4,14 @@
 use xdr_codec::digest::Digest;
 
 /// What kind of change was made.
-#[derive(Clone, Copy, Debug, PartialEq, Eq, Drop)]
+#[derive(Clone, Copy, Drop)]
 pub enum EntryKind {
     /// A file's content was replaced.
     Commit,
 }
 
 /// A change that was made.
-#[derive(Clone, Copy, Debug, PartialEq, Eq, Drop)]
+#[derive(Clone, Copy, Drop)]
 pub struct Entry {
     /// The file's id.
     pub file: u64,

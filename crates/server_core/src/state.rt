@@ -63,7 +63,7 @@ pub struct ServerState {
 pub fn stands(sessions: &Vec<u32>, session: u32) -> bool
     ensures { result ≡ list_any (λ k. k == session) sessions.now.items }
 {
-    sessions.iter().any(|k| *k == session)
+    sessions.contains(&session)
 }
 
 impl ServerState {

@@ -6,7 +6,7 @@ use Rattle.std.specs.Option.{IsSome, IfSome}
 use Rattle.std.specs.Ordering.{nat_cmp}
 use Rattle.std.proofs.lemmas.Map.Views.{IfSome-lookup_from_All}
 use Rattle.chunk_cut.specs.declared.chunk.Chunk.{Chunk}
-use Rattle.chunk_places.specs.Places.{indexed, LeavesOut}
+use Rattle.chunk_places.specs.Places.{indexed, LeavesSome}
 use Rattle.server_core.specs.declared.file.File.{File}
 use Rattle.server_core.specs.declared.journal.Entry.{Entry}
 use Rattle.server_core.specs.Closing.{changed}
@@ -61,4 +61,4 @@ returns-clause-lacks c some =
     let f = c.in-Some.file.now in
     made_some s c.args.change f c.replace.new.files.entries c.push_reserved.new.self.items c.enter-left_out.new.index c.enter-left_out.result c.tell_change-step.result
     (sym c.in-Some.ensures.value) c.replace.ensures.replaced (c.push_reserved.ensures.items ∙ ap (λ (e : Entry). s.journal ++ e ∷ []) c.entry_of.ensures)
-    (subst (λ (cs : List Chunk). LeavesOut s.index f.id cs c.enter-left_out.new.index) c.chunks.ensures c.enter-left_out.ensures.lacks) c.tell_change-step.ensures some
+    (subst (λ (cs : List Chunk). LeavesSome s.index f.id cs c.enter-left_out.new.index) c.chunks.ensures (c.enter-left_out.ensures.lacks some)) c.tell_change-step.ensures some
