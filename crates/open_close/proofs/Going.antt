@@ -1,9 +1,11 @@
 -- A close, or a fetch, goes on with all calls that may be under way, whatever their number is.
 use Rattle.std.proofs.Common.{◌≡◌, ℕ, List, Bool, sym, ap, ◌∙◌}
+use Rattle.std.specs.Prelude.{Some}
 use Rattle.open_close.specs.Closing.{Names, names_all, is_stored}
 use Rattle.open_close.specs.State.{State}
 use Rattle.open_close.specs.Caching.{found_all}
 use Rattle.open_close.specs.Opening.{Reads, reads_all, is_here, looked_up}
+use Rattle.open_close.specs.Looking.{entering_if, entering_by}
 use Rattle.open_close.specs.Step.{goes_if, goes_on, reads_if, reads_on}
 use Rattle.open_close.specs.declared.task.Fetch.{Fetch}
 use Rattle.wire.specs.declared.message.Pending.{Pending}
@@ -20,3 +22,7 @@ pub reads_named : (s : State) (calls : List Pending) (file xid : ℕ) (f : Fetch
 reads_named s calls file xid f bytes r b e h =
     sym (ap (λ (m : Reads). reads_if (record s { index = found_all s.index (looked_up f m) }) calls file xid m bytes (is_here m.fetch)) e)
     ∙ ap (reads_if (record s { index = found_all s.index (looked_up f r) }) calls file xid r bytes) h
+
+-- and what enters the index then
+pub enters_named : (s : State) (file : ℕ) (f : Fetch) (r : Reads) (b : Bool) → r ≡ reads_all s.cache s.index file f s.next → is_here r.fetch ≡ b → entering_by s (Some (file, f)) ≡ entering_if file f r b
+enters_named s file f r b e h = sym (ap (λ (m : Reads). entering_if file f m (is_here m.fetch)) e) ∙ ap (entering_if file f r) h

@@ -1,9 +1,9 @@
 -- Which bytes a chunk of a fetch finds by a client's index, among what is kept of files.
-use Rattle.std.specs.Prelude.{ℕ, List, [], ◌∷◌, Option, Some, None, ◌==◌, bytes_eq, if◌then◌else◌}
-use Rattle.sha1.specs.Sha1.{sha1}
+use Rattle.std.specs.Prelude.{ℕ, List, [], ◌∷◌, Option, Some, None, ◌==◌, if◌then◌else◌}
 use Rattle.chunk_cut.specs.declared.chunk.Chunk.{Chunk}
 use Rattle.chunk_index.specs.Index.{Indexed, key_of, found, place_of}
 use Rattle.chunk_index.specs.declared.place.Place.{Place}
+pub use Rattle.chunk_places.specs.Known.{with_digest}
 use Rattle.client_cache.specs.Cache.{Entries, bytes_at}
 use Rattle.client_cache.specs.declared.kept.Content.{Content}
 
@@ -16,11 +16,6 @@ content_in version (Some c) = if c.version == version then Some c.bytes else Non
 abbrev pub bytes_there : Entries → Chunk → Option Place → Option (List ℕ)
 bytes_there cache c None = None
 bytes_there cache c (Some p) = if p.count == c.len then bytes_at cache p else None
-
--- bytes that were found, where they have the digest
-abbrev pub with_digest : (digest : List ℕ) → Option (List ℕ) → Option (List ℕ)
-with_digest digest None = None
-with_digest digest (Some bytes) = if bytes_eq (sha1 bytes) digest then Some bytes else None
 
 -- a look-up brings a chunk's pair to the front, one after the other
 abbrev pub found_all : Indexed → List Chunk → Indexed

@@ -1,5 +1,5 @@
--- When a client looks chunks up in its index, and which bytes it finds there.
-use Rattle.std.specs.Prelude.{ℕ, List, [], ◌∷◌, ◌++◌, length, slice_get, Option, Some, None, Bool, true, false, ◌==◌}
+-- When a client looks chunks up in its index, which bytes it finds there, and which places enter it then.
+use Rattle.std.specs.Prelude.{ℕ, List, [], ◌∷◌, ◌++◌, length, slice_get, Option, Some, None, Result, Ok, Err, Bool, true, false, ◌==◌}
 use Rattle.chunk_cut.specs.declared.chunk.Chunk.{Chunk}
 use Rattle.chunk_index.specs.Index.{Indexed, key_of, place_of}
 use Rattle.client_cache.specs.Cache.{Entries}
@@ -8,6 +8,7 @@ use Rattle.hash_calls.specs.declared.call.Hashes.{Hashes}
 use Rattle.hash_calls.specs.declared.message.Lb.TheVariants as lb
 use Rattle.nfs3_calls.specs.declared.call.Piece.{Piece}
 use Rattle.nfs3_calls.specs.declared.message.Nfs.TheVariants as nfs
+use Rattle.wire.specs.declared.fault.WireFault.{WireFault}
 use Rattle.wire.specs.declared.message.Body.{Body}
 use Rattle.wire.specs.declared.message.Body.TheVariants as body
 use Rattle.wire.specs.declared.message.Message.{Message}
@@ -19,7 +20,7 @@ use Rattle.open_close.specs.declared.task.Stage.{Stage}
 use Rattle.open_close.specs.declared.task.Stage.TheVariants as stage
 use Rattle.open_close.specs.declared.task.Task.{Task}
 use Rattle.open_close.specs.Caching.{bytes_there}
-use Rattle.open_close.specs.Opening.{fetch_of, with_hashes, listed, reads_all, looked_up, read_at, fault_in, with_bytes}
+use Rattle.open_close.specs.Opening.{Reads, fetch_of, with_hashes, listed, reads_all, looked_up, is_here, read_at, fault_in, with_bytes}
 use Rattle.open_close.specs.Shape.{Broken, broken_of}
 use Rattle.open_close.specs.State.{State, pending_in, has_call}
 
@@ -81,3 +82,26 @@ chunks_found cache index (c ∷ cs) = found_bytes (bytes_there cache c (place_of
 abbrev pub looked_by : State → Option (ℕ × Fetch) → List (List ℕ)
 looked_by s None = []
 looked_by s (Some p) = chunks_found s.cache s.index (looked_up p.1 (reads_all s.cache s.index p.0 p.1 s.next))
+
+-- ---- what enters then
+
+-- where all chunks are here: those that were looked up by then, and those of the file, whose places enter
+pub record Entering : Type 0 where
+  pub looked : List Chunk
+  pub file : ℕ
+  pub chunks : List Chunk
+
+abbrev pub entering_if : (file : ℕ) → Fetch → Reads → (is_here : Bool) → Option Entering
+entering_if file f r true = Some (record { looked = looked_up f r; file = file; chunks = r.fetch.chunks })
+entering_if file f r false = None
+
+abbrev pub entering_by : State → Option (ℕ × Fetch) → Option Entering
+entering_by s None = None
+entering_by s (Some p) =
+    let r : Reads = reads_all s.cache s.index p.0 p.1 s.next in
+    entering_if p.0 p.1 r (is_here r.fetch)
+
+-- at what comes
+abbrev pub entering : State → Result Message WireFault → Option Entering
+entering s (Ok m) = entering_by s (reading s.task m)
+entering s (Err e) = None

@@ -1,5 +1,5 @@
 -- Worked sessions.
-use Rattle.std.specs.Prelude.{◌≡◌, ℕ, List, [], ◌∷◌, refl, codes, Some, None, Ok, Bool, true, false}
+use Rattle.std.specs.Prelude.{◌≡◌, ℕ, List, [], ◌∷◌, refl, codes, Option, Some, None, Ok, Bool, true, false}
 use Rattle.sha1.specs.Sha1.{sha1, digest_bytes, hash_after, compress, rounds, schedule, first_words}
 use Rattle.chunk_cut.specs.Search.{next_end, closed_ends}
 use Rattle.chunk_cut.specs.declared.chunk.Chunk.{Chunk}
@@ -27,6 +27,7 @@ use Rattle.chunk_index.specs.Index.{key_of}
 use Rattle.chunk_index.specs.declared.place.Place.{Place}
 use Rattle.client_cache.specs.Cache.{fronted, nothing}
 use Rattle.chunk_places.specs.Places.{no_index}
+use Rattle.open_close.specs.Looking.{Entering, entering}
 use Rattle.open_close.specs.Opening.{calls_most, lease_call, hash_call, read_call}
 use Rattle.open_close.specs.Shape.{with_pairs}
 use Rattle.open_close.specs.State.{State, start, read_pending, evicted, forged, index_cleared}
@@ -259,3 +260,19 @@ no_places = refl
 refused_close : (after opened (Does (command.Close 2) ∷ made 1 ∷ Gets (message.Answer 2 (body.Lb (lb.CondWriteAnswer (Done tt)))) ∷ Gets (message.Answer 3 (body.Lb (lb.CommitTmpAnswer (Failed status.Stale tt)))) ∷ [])).cache ≡ (2, nothing) ∷ []
 unfolding calls_most fronted closed_ends next_end
 refused_close = refl
+
+-- ---- which places enter the index
+
+abbrev enters_at : State → Event → Option Entering
+enters_at s (Gets m) = entering s (Ok m)
+enters_at s e = None
+
+-- those of all chunks once the last has come, and none at another answer or at a call: so a step can't say there that places are wanting
+at_the_end : (enters_at (fetching 3) (bytes_are 6 9 (codes "c")) ∷ enters_at (after (fetching 3) (bytes_are 6 9 (codes "c") ∷ [])) (bytes_are 5 5 (codes "ab")) ∷ enters_at (fetching 3) (bytes_are 5 9 (codes "x")) ∷ enters_at (fetching 3) (Gets (hash_call 1 2 0)) ∷ []) ≡ (None ∷ Some (record { looked = []; file = 2; chunks = chunks }) ∷ None ∷ None ∷ [])
+unfolding calls_most sha1 digest_bytes hash_after compress rounds schedule first_words
+at_the_end = refl
+
+-- where all chunks are found they are looked up before
+looked_up_before : enters_at (after seen (Does (command.Open 3) ∷ [])) (hashes_are 3 1 1 (pair_of (codes "a") 1 ∷ []) true) ≡ Some (record { looked = chunk_of 0 (codes "a") 1 ∷ []; file = 3; chunks = chunk_of 0 (codes "a") 1 ∷ [] })
+unfolding calls_most fronted key_of sha1 digest_bytes hash_after compress rounds schedule first_words
+looked_up_before = refl

@@ -46,9 +46,10 @@ use Rattle.open_close.specs.Local.{local_most, written_size, written, truncated,
 use Rattle.chunk_index.specs.Index.{Indexed}
 use Rattle.client_cache.specs.Cache.{reserved, content_of, with_content}
 use Rattle.client_cache.specs.declared.kept.Content.{Content}
-use Rattle.chunk_places.specs.Places.{indexed, LeavesOut}
+use Rattle.chunk_places.specs.Places.{indexed, LeavesSome}
 use Rattle.open_close.specs.Caching.{content_in, found_all}
 use Rattle.open_close.specs.Opening.{tries_most, lease_call, hash_call, fetch_of, with_hashes, listed, Reads, reads_all, looked_up, is_here, slots_bytes, read_at, fault_in, other_version, with_bytes}
+use Rattle.open_close.specs.Looking.{Entering, entering}
 use Rattle.open_close.specs.Shape.{Broken, broken_of}
 use Rattle.open_close.specs.State.{State, local_at, with_local, without_local, local_bytes, pending, calls_of, has_call, without_call}
 
@@ -412,22 +413,23 @@ abbrev pub MayMiss : State → Result Message WireFault → Type 0
 MayMiss s (Ok (message.Answer xid b)) = (has_call (pending s.task) xid ≡ true) × (IsCommitting s.task → ⊥)
 MayMiss s m = ⊥
 
--- what was to come, but for places of the fetched chunks that are wanting in the index, which the step says
-pub record Lacks (old : Indexed) (comes : State × ClientStep) (new : State) (step : ClientStep) : Type 0 where
-  pub looked : List Chunk
-  pub file : ℕ
-  pub chunks : List Chunk
-  pub gains : comes.0.index ≡ indexed (found_all old looked) file chunks
-  pub lacks : LeavesOut (found_all old looked) file chunks new.index
+-- an index in which places are wanting of those that enter: at least one was left out
+abbrev pub IsLacking : (old : Indexed) → Option Entering → (new : Indexed) → Type 0
+IsLacking old None new = ⊥
+IsLacking old (Some e) new = LeavesSome (found_all old e.looked) e.file e.chunks new
+
+-- What was to come, but for such places, which the step says. None is wanting where none enters, so only what ends a fetch well may say so.
+pub record Lacks (old : Indexed) (enters : Option Entering) (comes : State × ClientStep) (new : State) (step : ClientStep) : Type 0 where
+  pub lacks : IsLacking old enters new.index
   pub rest : new ≡ with_index comes.0 new.index
   pub said : step ≡ record comes.1 { missed = true }
 
 -- what was to come, or what lacks such places
-pub record Comes (old : Indexed) (comes : State × ClientStep) (new : State) (step : ClientStep) : Type 0 where
+pub record Comes (old : Indexed) (enters : Option Entering) (comes : State × ClientStep) (new : State) (step : ClientStep) : Type 0 where
   pub exact : step.missed ≡ false → comes ≡ (new, step)
-  pub lacks : step.missed ≡ true → Lacks old comes new step
+  pub lacks : step.missed ≡ true → Lacks old enters comes new step
 
--- Where memory ran out the operation ended by that, or nothing is wanting but places in the index.
+-- Where memory ran out the operation ended by that, or a fetch ended well and nothing is wanting but places in the index.
 pub data Misses (s : State) (m : Result Message WireFault) (now : ℕ) (new : State) (step : ClientStep) : Type 0 where
   ended : MayMiss s m → new ≡ missed_at s m → step ≡ misses (Some by_memory) → Misses s m now new step
-  lacks : Lacks s.index (got_step s m now) new step → Misses s m now new step
+  lacks : Lacks s.index (entering s m) (got_step s m now) new step → Misses s m now new step

@@ -1,9 +1,9 @@
 //! What the index gives of a chunk among what is kept of files: `specs/Caching.antt`.
 
-ghost use Rattle.std.specs.Prelude.{◌≡◌, ◌-◌, ◌≤◌, length, take, drop, IfOk, is_some, false};
+ghost use Rattle.std.specs.Prelude.{◌≡◌, ◌-◌, ◌≤◌, length, take, drop, IfOk, is_some, false, true};
 ghost use Rattle.std.specs.Option.{option_copied};
 ghost use Rattle.client_cache.specs.Cache.{content_of};
-ghost use Rattle.chunk_places.specs.Places.{indexed, LeavesOut};
+ghost use Rattle.chunk_places.specs.Places.{indexed, LeavesSome};
 ghost use Rattle.open_close.specs.Caching.{content_in, bytes_there, from_index, found_all};
 
 use crate::task::Fetch;
@@ -13,6 +13,7 @@ use chunk_index::place::Place;
 use client_cache::cache::Cache;
 use lb_base::items::Bytes;
 use sha1::Sha1;
+use shared_bytes::SharedBytes;
 use std::alloc::{AllocError, Global};
 
 /// Whether a content is kept of a file.
@@ -25,20 +26,15 @@ pub fn is_kept(cache: &Cache, file: u64) -> bool
     }
 }
 
-/// A copy of the content that is kept of a file in this version.
-pub fn content_in(
-    alloc: Global,
-    cache: &Cache,
-    file: u64,
-    version: u64,
-) -> Result<Option<Bytes>, AllocError>
+/// One more owner of the content that is kept of a file in this version.
+pub fn content_in(cache: &Cache, file: u64, version: u64) -> Result<Option<SharedBytes>, AllocError>
     ensures { IfOk result (λ bytes. bytes ≡ content_in version (content_of cache.now file)) }
 {
     let Some((kept, bytes)) = cache.content(file) else {
         return Ok(None);
     };
     if kept == version {
-        Ok(Some(Bytes::copy_of(alloc, bytes)?))
+        Ok(Some(bytes.share()?))
     } else {
         Ok(None)
     }
@@ -107,7 +103,7 @@ pub fn enter_fetched(index: &mut Index, file: u64, fetch: &Fetch, from: usize) -
     requires from { from ≤ fetch.now.asked }
     requires asked { fetch.now.asked ≤ length fetch.now.chunks }
     ensures all { result ≡ false → index.new ≡ indexed (found_all index.old (take (fetch.now.asked - from) (drop from fetch.now.chunks))) file fetch.now.chunks }
-    ensures lacks { LeavesOut (found_all index.old (take (fetch.now.asked - from) (drop from fetch.now.chunks))) file fetch.now.chunks index.new }
+    ensures lacks { result ≡ true → LeavesSome (found_all index.old (take (fetch.now.asked - from) (drop from fetch.now.chunks))) file fetch.now.chunks index.new }
 {
     find_asked(index, fetch, from);
     chunk_places::enter(index, file, fetch.chunks.as_slice())

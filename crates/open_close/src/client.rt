@@ -15,6 +15,7 @@ use client_cache::cache::Cache;
 use command_text::command::Command;
 use lb_base::items::Items;
 use send_list::SendList;
+use shared_bytes::SharedBytes;
 use std::alloc::{AllocError, Global};
 use std::collections::BTreeMap;
 use std::marker::Model;
@@ -167,9 +168,9 @@ impl Client {
     }
 
     /// The local content of an open file; none where it isn't open. It takes no memory.
-    pub fn local(&self, file: u64) -> Option<&[u8]>
+    pub fn local(&self, file: u64) -> Option<&SharedBytes>
         ensures { option_copied result ≡ option_map (λ l. l.bytes) (local_at self.now.opened file) }
     {
-        parts::find_local(&self.state.opened, file).map(|l| l.bytes.as_slice())
+        parts::find_local(&self.state.opened, file).map(|l| &l.bytes)
     }
 }

@@ -21,6 +21,7 @@ use send_list::SendList;
 use std::alloc::{AllocError, Global};
 use wire::message::Body;
 use xdr_codec::answer::Answer;
+use xdr_codec::handle::Handle;
 use xdr_codec::status::Status;
 
 impl ClientState {
@@ -58,17 +59,11 @@ impl ClientState {
     {
         let xid = self.next;
         let temp = self.next_temp;
-        let call = messages::make_call(alloc, xid, temp, file)?;
-        match self.wait(alloc, file, Stage::Making { xid, temp }, xid + 1) {
-            Ok(()) => {
-                self.next_temp = temp + 1;
-                Ok(parts::sends_one(alloc, call, 0))
-            }
-            Err(error) => {
-                drop(call);
-                Err(error)
-            }
-        }
+        let handle = Handle::of_file(alloc, file)?;
+        self.wait(alloc, file, Stage::Making { xid, temp }, xid + 1)?;
+        self.next_temp = temp + 1;
+        let call = messages::make_call(xid, temp, handle);
+        Ok(parts::sends_one(alloc, call, 0))
     }
 
     /// Messages go out, and the operation under way has come this far. An `Err` changes nothing.
@@ -232,11 +227,11 @@ impl ClientState {
         file: u64,
         temp: u32,
         xid: u32,
-        body: Body,
+        body: &Body,
     ) -> Result<ClientStep, AllocError>
         requires held { IsHeld self.old }
         requires xids { HasXids self.old.next (stage.Making 0 temp) }
-        ensures ok { IfOk result (λ a. took (state_of self.old) self.old.waiting.calls file (stage.Making 0 temp) xid body ≡ (state_of self.new, a)) }
+        ensures ok { IfOk result (λ a. took (state_of self.old) self.old.waiting.calls file (stage.Making 0 temp) xid body.now ≡ (state_of self.new, a)) }
         ensures done { IfOk result (λ a. a.missed ≡ false) }
         ensures err { OnErr result (whole_of self.new ≡ whole_of self.old) }
         ensures sound { OnOk result (IsSound self.new) }
@@ -244,13 +239,10 @@ impl ClientState {
     {
         match body {
             Body::Lb(Lb::MkTmpFileAnswer(answer)) => match answer {
-                Answer::Failed(status, _) => Ok(self.refused(alloc, xid, status)),
+                Answer::Failed(status, _) => Ok(self.refused(alloc, xid, *status)),
                 Answer::Done(_) => self.store(alloc, file, temp),
             },
-            other => {
-                drop(other);
-                Ok(self.unknown(alloc, xid))
-            }
+            _ => Ok(self.unknown(alloc, xid)),
         }
     }
 
@@ -320,12 +312,12 @@ impl ClientState {
         store: Store,
         call: StoreCall,
         xid: u32,
-        answer: Answer<(), ()>,
+        answer: &Answer<(), ()>,
     ) -> Result<ClientStep, AllocError>
         requires held { IsHeld self.old }
         requires within { IsStore store }
         requires xids { self.old.next + store_left store + 1 < 4294967296 }
-        ensures ok { IfOk result (λ a. told_named (state_of self.old) self.old.waiting.calls file xid (local_bytes self.old.opened.entries file) store call answer ≡ (state_of self.new, a)) }
+        ensures ok { IfOk result (λ a. told_named (state_of self.old) self.old.waiting.calls file xid (local_bytes self.old.opened.entries file) store call answer.now ≡ (state_of self.new, a)) }
         ensures done { IfOk result (λ a. a.missed ≡ false) }
         ensures err { OnErr result (whole_of self.new ≡ whole_of self.old) }
         ensures sound { OnOk result (IsSound self.new) }
@@ -336,7 +328,7 @@ impl ClientState {
             Answer::Failed(Status::HashNotFound, _) => {
                 self.told_missing(alloc, file, store, call, xid)
             }
-            Answer::Failed(status, _) => Ok(self.refused(alloc, xid, status)),
+            Answer::Failed(status, _) => Ok(self.refused(alloc, xid, *status)),
         }
     }
 
@@ -348,12 +340,12 @@ impl ClientState {
         store: Store,
         call: StoreCall,
         xid: u32,
-        body: Body,
+        body: &Body,
     ) -> Result<ClientStep, AllocError>
         requires held { IsHeld self.old }
         requires within { IsStore store }
         requires xids { self.old.next + store_left store + 1 < 4294967296 }
-        ensures ok { IfOk result (λ a. told_way (state_of self.old) self.old.waiting.calls file xid (local_bytes self.old.opened.entries file) store call way.Named body ≡ (state_of self.new, a)) }
+        ensures ok { IfOk result (λ a. told_way (state_of self.old) self.old.waiting.calls file xid (local_bytes self.old.opened.entries file) store call way.Named body.now ≡ (state_of self.new, a)) }
         ensures done { IfOk result (λ a. a.missed ≡ false) }
         ensures err { OnErr result (whole_of self.new ≡ whole_of self.old) }
         ensures sound { OnOk result (IsSound self.new) }
@@ -363,10 +355,7 @@ impl ClientState {
             Body::Lb(Lb::CondWriteAnswer(answer)) => {
                 self.told_named(alloc, file, store, call, xid, answer)
             }
-            other => {
-                drop(other);
-                Ok(self.unknown(alloc, xid))
-            }
+            _ => Ok(self.unknown(alloc, xid)),
         }
     }
 
@@ -378,12 +367,12 @@ impl ClientState {
         store: Store,
         call: StoreCall,
         xid: u32,
-        body: Body,
+        body: &Body,
     ) -> Result<ClientStep, AllocError>
         requires held { IsHeld self.old }
         requires within { IsStore store }
         requires xids { HasXids self.old.next (stage.Storing store) }
-        ensures ok { IfOk result (λ a. told_way (state_of self.old) self.old.waiting.calls file xid (local_bytes self.old.opened.entries file) store call way.Whole body ≡ (state_of self.new, a)) }
+        ensures ok { IfOk result (λ a. told_way (state_of self.old) self.old.waiting.calls file xid (local_bytes self.old.opened.entries file) store call way.Whole body.now ≡ (state_of self.new, a)) }
         ensures done { IfOk result (λ a. a.missed ≡ false) }
         ensures err { OnErr result (whole_of self.new ≡ whole_of self.old) }
         ensures sound { OnOk result (IsSound self.new) }
@@ -392,12 +381,9 @@ impl ClientState {
         match body {
             Body::Lb(Lb::TmpWriteAnswer(answer)) => match answer {
                 Answer::Done(_) => self.go_on(alloc, file, store),
-                Answer::Failed(status, _) => Ok(self.refused(alloc, xid, status)),
+                Answer::Failed(status, _) => Ok(self.refused(alloc, xid, *status)),
             },
-            other => {
-                drop(other);
-                Ok(self.unknown(alloc, xid))
-            }
+            _ => Ok(self.unknown(alloc, xid)),
         }
     }
 
@@ -409,12 +395,12 @@ impl ClientState {
         store: Store,
         call: StoreCall,
         xid: u32,
-        body: Body,
+        body: &Body,
     ) -> Result<ClientStep, AllocError>
         requires held { IsHeld self.old }
         requires within { IsStore store }
         requires xids { self.old.next + store_left store + calls_after call.way < 4294967296 }
-        ensures ok { IfOk result (λ a. told_way (state_of self.old) self.old.waiting.calls file xid (local_bytes self.old.opened.entries file) store call call.way body ≡ (state_of self.new, a)) }
+        ensures ok { IfOk result (λ a. told_way (state_of self.old) self.old.waiting.calls file xid (local_bytes self.old.opened.entries file) store call call.way body.now ≡ (state_of self.new, a)) }
         ensures done { IfOk result (λ a. a.missed ≡ false) }
         ensures err { OnErr result (whole_of self.new ≡ whole_of self.old) }
         ensures sound { OnOk result (IsSound self.new) }
@@ -434,12 +420,12 @@ impl ClientState {
         file: u64,
         store: Store,
         xid: u32,
-        body: Body,
+        body: &Body,
     ) -> Result<ClientStep, AllocError>
         requires held { IsHeld self.old }
         requires within { IsStore store }
         requires xids { HasXids self.old.next (stage.Storing store) }
-        ensures ok { IfOk result (λ a. took (state_of self.old) self.old.waiting.calls file (stage.Storing store) xid body ≡ (state_of self.new, a)) }
+        ensures ok { IfOk result (λ a. took (state_of self.old) self.old.waiting.calls file (stage.Storing store) xid body.now ≡ (state_of self.new, a)) }
         ensures done { IfOk result (λ a. a.missed ≡ false) }
         ensures err { OnErr result (whole_of self.new ≡ whole_of self.old) }
         ensures sound { OnOk result (IsSound self.new) }
@@ -450,10 +436,7 @@ impl ClientState {
                 let store = stores::answered(store, xid);
                 self.told_chunk(alloc, file, store, call, xid, body)
             }
-            None => {
-                drop(body);
-                Ok(self.unknown(alloc, xid))
-            }
+            None => Ok(self.unknown(alloc, xid)),
         }
     }
 
@@ -465,7 +448,7 @@ impl ClientState {
         ensures done { result.missed ≡ false }
         ensures sound { IsSound self.new }
     {
-        let content = self.take_local(alloc, file);
+        let content = self.take_local(file);
         let step = parts::closed(alloc, file, version, content.as_slice(), xid);
         self.cache.keep(file, version, content);
         self.forget(alloc, xid);
@@ -473,22 +456,19 @@ impl ClientState {
     }
 
     /// An answer while COMMITTMP is under way. It takes no memory.
-    pub fn took_commit(&mut self, alloc: Global, file: u64, xid: u32, body: Body) -> ClientStep
+    pub fn took_commit(&mut self, alloc: Global, file: u64, xid: u32, body: &Body) -> ClientStep
         requires held { IsHeld self.old }
         requires there { IsThere self.old.cache file }
-        ensures ok { took (state_of self.old) self.old.waiting.calls file (stage.Committing 0) xid body ≡ (state_of self.new, result) }
+        ensures ok { took (state_of self.old) self.old.waiting.calls file (stage.Committing 0) xid body.now ≡ (state_of self.new, result) }
         ensures done { result.missed ≡ false }
         ensures sound { IsSound self.new }
     {
         match body {
             Body::Lb(Lb::CommitTmpAnswer(answer)) => match answer {
-                Answer::Failed(status, _) => self.refused(alloc, xid, status),
+                Answer::Failed(status, _) => self.refused(alloc, xid, *status),
                 Answer::Done(committed) => self.closed(alloc, file, xid, committed.version),
             },
-            other => {
-                drop(other);
-                self.unknown(alloc, xid)
-            }
+            _ => self.unknown(alloc, xid),
         }
     }
 }

@@ -16,8 +16,8 @@ use crate::state::ClientState;
 use crate::step::{ClientStep, Outcome};
 use crate::task::Local;
 use command_text::content::{self, Content};
-use lb_base::items::Bytes;
 use sha1::Sha1;
+use shared_bytes::SharedBytes;
 use std::alloc::{AllocError, Global};
 
 /// An open file's content with some bytes written at a place, within the limit of a file.
@@ -27,7 +27,7 @@ fn written(
     local: &Local,
     offset: u64,
     content: &Content,
-) -> Result<Bytes, AllocError>
+) -> Result<SharedBytes, AllocError>
     requires some { 0 < content_length content.now }
     requires small { written_size (length local.now.bytes) offset (content_length content.now) ≤ FILE_MOST }
     ensures written { IfOk result (λ b. b ≡ written local.now.bytes offset (content_bytes content.now)) }
@@ -40,7 +40,7 @@ fn written(
 impl ClientState {
     /// The file is open with this content, whatever it was before. An `Err` changes nothing.
     #[tactic(auto, using(crate::proofs::Bounds::locals_with))]
-    pub fn put(&mut self, file: u64, version: u64, bytes: Bytes) -> Result<(), AllocError>
+    pub fn put(&mut self, file: u64, version: u64, bytes: SharedBytes) -> Result<(), AllocError>
         requires base { IsBase self.old }
         requires small { length bytes ≤ FILE_MOST }
         ensures ok { OnOk result (state_of self.new ≡ record (state_of self.old) { opened = with_local self.old.opened.entries file (record { version = version; bytes = bytes }) }) }
@@ -64,7 +64,7 @@ impl ClientState {
         alloc: Global,
         file: u64,
         version: u64,
-        bytes: Bytes,
+        bytes: SharedBytes,
     ) -> Result<ClientStep, AllocError>
         requires sound { IsSound self.old }
         requires small { length bytes ≤ FILE_MOST }
@@ -170,7 +170,8 @@ impl ClientState {
         if !parts::is_open(&self.opened, file) {
             return parts::ends(alloc, Outcome::NotOpen, 0, 0);
         }
-        self.shut(file);
+        let content = self.take_local(file);
+        drop(content);
         parts::ends(alloc, Outcome::Done, 0, 0)
     }
 }

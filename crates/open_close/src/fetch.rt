@@ -11,6 +11,8 @@ use crate::task::{Fetch, ReadCall};
 use crate::{calls, shape};
 use hash_calls::call::Hashes;
 use lb_base::items::{Bytes, Items};
+use nfs3_calls::call::Piece;
+use shared_bytes::SharedBytes;
 use std::alloc::{AllocError, Global};
 use std::mem;
 
@@ -89,8 +91,24 @@ pub fn with_bytes(mut fetch: Fetch, call: ReadCall, bytes: Bytes) -> Fetch
     fetch
 }
 
+/// What a READ brought, taken out of its answer. It takes no memory.
+pub fn take_piece(alloc: Global, piece: &mut Piece) -> Piece
+    ensures { result ≡ piece.old }
+{
+    Piece {
+        attr: piece.attr,
+        count: piece.count,
+        eof: piece.eof,
+        bytes: mem::replace(&mut piece.bytes, Items::new(alloc)),
+    }
+}
+
 /// The bytes of all chunks that have come, in room that is taken once.
-pub fn slots_bytes(alloc: Global, slots: &[Option<Bytes>], size: u64) -> Result<Bytes, AllocError>
+pub fn slots_bytes(
+    alloc: Global,
+    slots: &[Option<Bytes>],
+    size: u64,
+) -> Result<SharedBytes, AllocError>
     ensures { IfOk result (λ b. b ≡ slots_bytes slots.now) }
 {
     let mut whole = Vec::with_capacity(alloc, size as usize)?;
@@ -99,5 +117,5 @@ pub fn slots_bytes(alloc: Global, slots: &[Option<Bytes>], size: u64) -> Result<
             whole.extend_from_slice(bytes.as_slice())?;
         }
     }
-    Ok(Items::from_vec(whole))
+    Ok(SharedBytes::new(alloc, Items::from_vec(whole))?)
 }

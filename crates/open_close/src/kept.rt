@@ -18,11 +18,12 @@ use crate::step::{ClientStep, Outcome};
 use crate::task::Stage;
 use crate::{caching, messages, parts};
 use hash_calls::message::Lb;
-use lb_base::items::Bytes;
 use sha1::Sha1;
+use shared_bytes::SharedBytes;
 use std::alloc::{AllocError, Global};
 use wire::message::Body;
 use xdr_codec::answer::Answer;
+use xdr_codec::handle::Handle;
 
 impl ClientState {
     /// The version of a file is asked for, since a content of it is kept. An `Err` changes nothing.
@@ -37,8 +38,10 @@ impl ClientState {
         ensures sound { IsSound self.new }
     {
         let xid = self.next;
-        let call = messages::lease_call(alloc, xid, file)?;
-        self.begin(alloc, file, Stage::Asking(xid), call)
+        let handle = Handle::of_file(alloc, file)?;
+        self.begin(alloc, file, Stage::Asking(xid))?;
+        let call = messages::lease_call(xid, handle);
+        Ok(parts::sends_one(alloc, call, 0))
     }
 
     /// A file is open with this content, which its open tells, resting on the call with this xid, after
@@ -48,7 +51,7 @@ impl ClientState {
         alloc: Global,
         file: u64,
         version: u64,
-        content: Bytes,
+        content: SharedBytes,
         rests_on: u32,
         bytes: u64,
     ) -> Result<ClientStep, AllocError>
@@ -75,7 +78,7 @@ impl ClientState {
         alloc: Global,
         file: u64,
         version: u64,
-        content: Bytes,
+        content: SharedBytes,
         rests_on: u32,
         bytes: u64,
     ) -> Result<ClientStep, AllocError>
@@ -89,7 +92,7 @@ impl ClientState {
         ensures index { self.new.index ≡ self.old.index }
         ensures held { IsHeld self.new }
     {
-        let kept = content.try_clone(alloc)?;
+        let kept = content.share()?;
         let step = self.put_open(alloc, file, version, content, rests_on, bytes)?;
         self.cache.keep(file, version, kept);
         Ok(step)
@@ -102,7 +105,7 @@ impl ClientState {
         file: u64,
         xid: u32,
         version: u64,
-        bytes: Bytes,
+        bytes: SharedBytes,
     ) -> Result<ClientStep, AllocError>
         requires held { IsHeld self.old }
         requires small { length bytes ≤ FILE_MOST }
@@ -136,7 +139,7 @@ impl ClientState {
         ensures sound { OnOk result (IsSound self.new) }
         ensures held { OnErr result (IsHeld self.new) }
     {
-        match caching::content_in(alloc, &self.cache, file, version)? {
+        match caching::content_in(&self.cache, file, version)? {
             Some(bytes) => self.use_kept(alloc, file, xid, version, bytes),
             None => self.retry(alloc, file, 0, xid, 0),
         }
@@ -148,12 +151,12 @@ impl ClientState {
         alloc: Global,
         file: u64,
         xid: u32,
-        body: Body,
+        body: &Body,
     ) -> Result<ClientStep, AllocError>
         requires held { IsHeld self.old }
         requires there { IsThere self.old.cache file }
         requires xids { HasXids self.old.next (stage.Asking 0) }
-        ensures ok { IfOk result (λ a. took (state_of self.old) self.old.waiting.calls file (stage.Asking 0) xid body ≡ (state_of self.new, a)) }
+        ensures ok { IfOk result (λ a. took (state_of self.old) self.old.waiting.calls file (stage.Asking 0) xid body.now ≡ (state_of self.new, a)) }
         ensures done { IfOk result (λ a. a.missed ≡ false) }
         ensures err { OnErr result (whole_of self.new ≡ whole_of self.old) }
         ensures sound { OnOk result (IsSound self.new) }
@@ -161,13 +164,10 @@ impl ClientState {
     {
         match body {
             Body::Lb(Lb::GetLeaseAnswer(answer)) => match answer {
-                Answer::Failed(status, _) => Ok(self.refused(alloc, xid, status)),
+                Answer::Failed(status, _) => Ok(self.refused(alloc, xid, *status)),
                 Answer::Done(leased) => self.told_leased(alloc, file, xid, leased.version),
             },
-            other => {
-                drop(other);
-                Ok(self.unknown(alloc, xid))
-            }
+            _ => Ok(self.unknown(alloc, xid)),
         }
     }
 }

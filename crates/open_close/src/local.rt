@@ -3,8 +3,9 @@
 ghost use Rattle.std.specs.Prelude.{◌≡◌, [], ◌+◌, ◌-◌, ◌^◌, ◌++◌, ◌<◌, ◌≤◌, length, take, drop, replicate, IfOk, OnOk, MatchResult};
 ghost use Rattle.open_close.specs.Local.{written_size, written, truncated, part_of};
 
-use lb_base::items::{Bytes, Items};
+use lb_base::items::Items;
 use limits::FILE_MOST;
+use shared_bytes::SharedBytes;
 use std::alloc::{AllocError, Global};
 
 /// No local content is longer, in bytes.
@@ -62,7 +63,12 @@ fn filled(alloc: Global, bytes: &[u8], offset: u64, size: u64) -> Result<Vec<u8>
 
 /// The content with some bytes written at a place.
 #[tactic(auto, using(crate::proofs::Edits::written_some, crate::proofs::Edits::written_length))]
-pub fn written(alloc: Global, bytes: &[u8], offset: u64, more: &[u8]) -> Result<Bytes, AllocError>
+pub fn written(
+    alloc: Global,
+    bytes: &[u8],
+    offset: u64,
+    more: &[u8],
+) -> Result<SharedBytes, AllocError>
     requires some { 0 < length more.now }
     requires small { offset + length more.now < 18446744073709551616 }
     ensures written { IfOk result (λ b. b ≡ written bytes.now offset more.now) }
@@ -72,15 +78,15 @@ pub fn written(alloc: Global, bytes: &[u8], offset: u64, more: &[u8]) -> Result<
     let mut whole = filled(alloc, bytes, offset, end.max(bytes.len() as u64))?;
     whole.extend_from_slice(more)?;
     whole.extend_from_slice(rest_of(bytes, end))?;
-    Ok(Items::from_vec(whole))
+    Ok(SharedBytes::new(alloc, Items::from_vec(whole))?)
 }
 
 /// The content cut to a size, or filled with zeros up to it.
 #[tactic(auto, using(crate::proofs::Edits::truncated_length))]
-pub fn truncated(alloc: Global, bytes: &[u8], size: u64) -> Result<Bytes, AllocError>
+pub fn truncated(alloc: Global, bytes: &[u8], size: u64) -> Result<SharedBytes, AllocError>
     ensures truncated { IfOk result (λ b. b ≡ truncated bytes.now size) }
     ensures size { IfOk result (λ b. length b ≡ size) }
 {
     let whole = filled(alloc, bytes, size, size)?;
-    Ok(Items::from_vec(whole))
+    Ok(SharedBytes::new(alloc, Items::from_vec(whole))?)
 }

@@ -1,8 +1,11 @@
 //! The calls that a client sends, as `specs/Opening.antt` and `specs/Closing.antt` write them.
 
 ghost use Rattle.std.specs.Prelude.{◌≡◌, ◌<◌, IfOk};
-ghost use Rattle.open_close.specs.Closing.{make_call, cond_call, temp_call, commit_call};
-ghost use Rattle.open_close.specs.Opening.{lease_call, hash_call, read_call};
+ghost use Rattle.hash_calls.specs.declared.message.Lb.TheVariants as lb;
+ghost use Rattle.wire.specs.declared.message.Body.TheVariants as body;
+ghost use Rattle.wire.specs.declared.message.Message.TheVariants as message;
+ghost use Rattle.open_close.specs.Closing.{cond_call, temp_call, commit_call};
+ghost use Rattle.open_close.specs.Opening.{read_call};
 
 use crate::local;
 use chunk_cut::chunk::Chunk;
@@ -15,24 +18,23 @@ use std::alloc::{AllocError, Global};
 use wire::message::{Body, Message};
 use xdr_codec::handle::Handle;
 
-/// The call for the version of a file.
-pub fn lease_call(alloc: Global, xid: u32, file: u64) -> Result<Message, AllocError>
-    ensures { IfOk result (λ m. m ≡ lease_call xid file) }
+/// The call for the version of a file, whose handle this is. It takes no memory.
+pub fn lease_call(xid: u32, handle: Handle) -> Message
+    ensures { result ≡ message.Call xid (body.Lb (lb.GetLease handle)) }
 {
-    let handle = Handle::of_file(alloc, file)?;
-    Ok(Message::Call(xid, Body::Lb(Lb::GetLease(handle))))
+    Message::Call(xid, Body::Lb(Lb::GetLease(handle)))
 }
 
-/// The call for the chunks of a file from a place on.
-pub fn hash_call(alloc: Global, xid: u32, file: u64, offset: u64) -> Result<Message, AllocError>
-    ensures { IfOk result (λ m. m ≡ hash_call xid file offset) }
+/// The call for the chunks of a file from a place on. It takes no memory.
+pub fn hash_call(xid: u32, handle: Handle, offset: u64) -> Message
+    ensures { result ≡ message.Call xid (body.Lb (lb.GetHash (record { handle = handle; offset = offset; count = 4294967295 }))) }
 {
     let range = HashRange {
-        handle: Handle::of_file(alloc, file)?,
+        handle,
         offset,
         count: u32::MAX,
     };
-    Ok(Message::Call(xid, Body::Lb(Lb::GetHash(range))))
+    Message::Call(xid, Body::Lb(Lb::GetHash(range)))
 }
 
 /// The call for the bytes of a chunk.
@@ -48,13 +50,12 @@ pub fn read_call(alloc: Global, xid: u32, file: u64, chunk: &Chunk) -> Result<Me
     Ok(Message::Call(xid, Body::Nfs(Nfs::Read(range))))
 }
 
-/// The call for a temporary file of this number.
-pub fn make_call(alloc: Global, xid: u32, temp: u32, file: u64) -> Result<Message, AllocError>
-    ensures { IfOk result (λ m. m ≡ make_call xid temp file) }
+/// The call for a temporary file of this number. It takes no memory.
+pub fn make_call(xid: u32, temp: u32, handle: Handle) -> Message
+    ensures { result ≡ message.Call xid (body.Lb (lb.MkTmpFile (record { fd = temp; handle = handle }))) }
 {
-    let handle = Handle::of_file(alloc, file)?;
     let temp = NewTemp { fd: temp, handle };
-    Ok(Message::Call(xid, Body::Lb(Lb::MkTmpFile(temp))))
+    Message::Call(xid, Body::Lb(Lb::MkTmpFile(temp)))
 }
 
 /// The call that names a chunk. It takes no memory.

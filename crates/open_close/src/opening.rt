@@ -2,10 +2,10 @@
 //! `specs/Opening.antt` and `specs/Step.antt` say how.
 
 ghost use Rattle.std.specs.Prelude.{◌≡◌, ◌+◌, ◌-◌, ◌<◌, ◌≤◌, ◌==◌, length, take, drop, None, Some, slice_get, nat_lt, is_some, IfOk, OnOk, OnErr, false, true};
-ghost use Rattle.open_close.specs.Counting.{sends_one};
 ghost use Rattle.client_cache.specs.Cache.{reserved, content_of};
 ghost use Rattle.open_close.specs.Caching.{found_all};
 ghost use Rattle.open_close.specs.Opening.{is_here, read_at, fault_in, with_bytes, other_version, fetch_of, with_hashes, listed, tries_most};
+ghost use Rattle.open_close.specs.Looking.{with_file, listed_if, listed_by, taken_if, taken_at, taken_by, reading_by, entering_by};
 ghost use Rattle.open_close.specs.Shape.{broken_of};
 ghost use Rattle.open_close.specs.Step.{opens, asks_file, MayMissOpen, Comes, forgets, tries_anew, opened_with, retries, changes, reads_if, reads_on, lists_on, told_shape, told_version, told_hashes, told_first, misfits, told_bytes, told_chunk, told_piece, took};
 ghost use Rattle.open_close.specs.View.{state_of, whole_of, later_left, IsListing, IsReading, IsFetch, IsHeld, IsSound, IsThere, IsSendingReads, HasXids, IsWithin};
@@ -23,9 +23,10 @@ use lb_base::items::Bytes;
 use nfs3_calls::call::Piece;
 use nfs3_calls::message::Nfs;
 use std::alloc::{AllocError, Global};
-use wire::message::{Body, Message};
+use wire::message::Body;
 use xdr_codec::answer::Answer;
 use xdr_codec::attr::Attr;
+use xdr_codec::handle::Handle;
 
 /// The most attempts of an open.
 const TRIES_MOST: u32 = limits::ATTEMPTS_MOST;
@@ -83,36 +84,25 @@ impl ClientState {
         ensures sound { IsSound self.new }
     {
         let xid = self.next;
-        let call = messages::hash_call(alloc, xid, file, 0)?;
-        self.begin(alloc, file, Stage::Hashing { tries: 1, xid }, call)
+        let handle = Handle::of_file(alloc, file)?;
+        self.begin(alloc, file, Stage::Hashing { tries: 1, xid })?;
+        let call = messages::hash_call(xid, handle, 0);
+        Ok(parts::sends_one(alloc, call, 0))
     }
 
-    /// An open begins with this call: the file has an entry in the cache, at its front. An `Err`
-    /// changes nothing.
+    /// An open begins with the call of the next xid: the file has an entry in the cache, at its
+    /// front. An `Err` changes nothing.
     #[tactic(auto, using(crate::proofs::Pending::held_of))]
-    pub fn begin(
-        &mut self,
-        alloc: Global,
-        file: u64,
-        stage: Stage,
-        call: Message,
-    ) -> Result<ClientStep, AllocError>
+    pub fn begin(&mut self, alloc: Global, file: u64, stage: Stage) -> Result<(), AllocError>
         requires sound { IsSound self.old }
         requires idle { self.old.task ≡ None }
         requires xids { HasXids (self.old.next + 1) stage }
         requires within { IsWithin stage }
-        ensures ok { IfOk result (λ a. (a ≡ sends_one call 0) × (state_of self.new ≡ record (state_of self.old) { next = self.old.next + 1; task = Some (record { file = file; stage = stage }); cache = reserved self.old.cache file })) }
-        ensures done { IfOk result (λ a. a.missed ≡ false) }
+        ensures ok { OnOk result (state_of self.new ≡ record (state_of self.old) { next = self.old.next + 1; task = Some (record { file = file; stage = stage }); cache = reserved self.old.cache file }) }
         ensures err { OnErr result (state_of self.new ≡ state_of self.old) }
         ensures sound { IsSound self.new }
     {
-        match self.wait_there(alloc, file, stage, self.next + 1) {
-            Ok(()) => Ok(parts::sends_one(alloc, call, 0)),
-            Err(error) => {
-                drop(call);
-                Err(error)
-            }
-        }
+        self.wait_there(alloc, file, stage, self.next + 1)
     }
 
     /// The file is whole and open, its content is kept, and its chunks' places enter the index, but
@@ -131,7 +121,7 @@ impl ClientState {
         requires there { IsThere self.old.cache file }
         requires within { IsReading fetch.now }
         requires from { from ≤ fetch.now.asked }
-        ensures ok { IfOk result (λ a. Comes self.old.index (opened_with (record (state_of self.old) { index = found_all self.old.index (take (fetch.now.asked - from) (drop from fetch.now.chunks)) }) self.old.waiting.calls file xid fetch.now bytes) (state_of self.new) a) }
+        ensures ok { IfOk result (λ a. Comes self.old.index (Some (record { looked = take (fetch.now.asked - from) (drop from fetch.now.chunks); file = file; chunks = fetch.now.chunks })) (opened_with (record (state_of self.old) { index = found_all self.old.index (take (fetch.now.asked - from) (drop from fetch.now.chunks)) }) self.old.waiting.calls file xid fetch.now bytes) (state_of self.new) a) }
         ensures err { OnErr result (whole_of self.new ≡ whole_of self.old) }
         ensures sound { OnOk result (IsSound self.new) }
         ensures held { OnErr result (IsHeld self.new) }
@@ -163,14 +153,11 @@ impl ClientState {
         ensures sound { OnOk result (IsSound self.new) }
         ensures held { OnErr result (IsHeld self.new) }
     {
-        let call = messages::hash_call(alloc, self.next, file, 0)?;
-        match self.wait_anew(alloc, file, tries + 1, xid) {
-            Ok(()) => Ok(parts::sends_one(alloc, call, bytes)),
-            Err(error) => {
-                drop(call);
-                Err(error)
-            }
-        }
+        let asked = self.next;
+        let handle = Handle::of_file(alloc, file)?;
+        self.wait_anew(alloc, file, tries + 1, xid)?;
+        let call = messages::hash_call(asked, handle, 0);
+        Ok(parts::sends_one(alloc, call, bytes))
     }
 
     /// The attempt ends by another version than its own, and the next begins, or there is none. An
@@ -258,7 +245,7 @@ impl ClientState {
         requires there { IsThere self.old.cache file }
         requires within { IsReading fetch }
         requires xids { HasXids self.old.next (stage.Reading fetch) }
-        ensures ok { IfOk result (λ a. Comes self.old.index (reads_on (state_of self.old) self.old.waiting.calls file xid fetch bytes) (state_of self.new) a) }
+        ensures ok { IfOk result (λ a. Comes self.old.index (entering_by (state_of self.old) (Some (file, fetch))) (reads_on (state_of self.old) self.old.waiting.calls file xid fetch bytes) (state_of self.new) a) }
         ensures err { OnErr result (whole_of self.new ≡ whole_of self.old) }
         ensures sound { OnOk result (IsSound self.new) }
         ensures held { OnErr result (IsHeld self.new) }
@@ -290,14 +277,10 @@ impl ClientState {
     {
         let xid = self.next;
         let offset = shape::end_of(fetch.chunks.as_slice());
-        let call = messages::hash_call(alloc, xid, file, offset)?;
-        match self.wait(alloc, file, Stage::Listing { xid, fetch }, xid + 1) {
-            Ok(()) => Ok(parts::sends_one(alloc, call, 0)),
-            Err(error) => {
-                drop(call);
-                Err(error)
-            }
-        }
+        let handle = Handle::of_file(alloc, file)?;
+        self.wait(alloc, file, Stage::Listing { xid, fetch }, xid + 1)?;
+        let call = messages::hash_call(xid, handle, offset);
+        Ok(parts::sends_one(alloc, call, 0))
     }
 
     /// All chunks are told. An `Err` changes nothing.
@@ -314,7 +297,7 @@ impl ClientState {
         requires within { IsFetch fetch }
         requires fresh { fetch.asked ≡ 0 }
         requires xids { HasXids self.old.next (stage.Reading fetch) }
-        ensures ok { IfOk result (λ a. Comes self.old.index (reads_on (state_of self.old) self.old.waiting.calls file xid (listed fetch) 0) (state_of self.new) a) }
+        ensures ok { IfOk result (λ a. Comes self.old.index (entering_by (state_of self.old) (Some (file, listed fetch))) (reads_on (state_of self.old) self.old.waiting.calls file xid (listed fetch) 0) (state_of self.new) a) }
         ensures err { OnErr result (whole_of self.new ≡ whole_of self.old) }
         ensures sound { OnOk result (IsSound self.new) }
         ensures held { OnErr result (IsHeld self.new) }
@@ -338,7 +321,7 @@ impl ClientState {
         requires within { IsListing fetch }
         requires can { broken_of fetch hashes.now ≡ None }
         requires xids { HasXids self.old.next (stage.Listing 0 fetch) }
-        ensures ok { IfOk result (λ a. Comes self.old.index (lists_on (state_of self.old) self.old.waiting.calls file xid (with_hashes fetch hashes.now) hashes.now.eof) (state_of self.new) a) }
+        ensures ok { IfOk result (λ a. Comes self.old.index (entering_by (state_of self.old) (with_file file (listed_if fetch hashes.now true None hashes.now.eof))) (lists_on (state_of self.old) self.old.waiting.calls file xid (with_hashes fetch hashes.now) hashes.now.eof) (state_of self.new) a) }
         ensures err { OnErr result (whole_of self.new ≡ whole_of self.old) }
         ensures sound { OnOk result (IsSound self.new) }
         ensures held { OnErr result (IsHeld self.new) }
@@ -364,7 +347,7 @@ impl ClientState {
         requires there { IsThere self.old.cache file }
         requires within { IsListing fetch }
         requires xids { HasXids self.old.next (stage.Listing 0 fetch) }
-        ensures ok { IfOk result (λ a. Comes self.old.index (told_shape (state_of self.old) self.old.waiting.calls file xid fetch hashes.now (broken_of fetch hashes.now)) (state_of self.new) a) }
+        ensures ok { IfOk result (λ a. Comes self.old.index (entering_by (state_of self.old) (with_file file (listed_if fetch hashes.now true (broken_of fetch hashes.now) hashes.now.eof))) (told_shape (state_of self.old) self.old.waiting.calls file xid fetch hashes.now (broken_of fetch hashes.now)) (state_of self.new) a) }
         ensures err { OnErr result (whole_of self.new ≡ whole_of self.old) }
         ensures sound { OnOk result (IsSound self.new) }
         ensures held { OnErr result (IsHeld self.new) }
@@ -389,7 +372,7 @@ impl ClientState {
         requires there { IsThere self.old.cache file }
         requires within { IsListing fetch }
         requires xids { HasXids self.old.next (stage.Listing 0 fetch) }
-        ensures ok { IfOk result (λ a. Comes self.old.index (told_version (state_of self.old) self.old.waiting.calls file xid fetch hashes.now (hashes.now.version == fetch.version)) (state_of self.new) a) }
+        ensures ok { IfOk result (λ a. Comes self.old.index (entering_by (state_of self.old) (with_file file (listed_by fetch hashes.now))) (told_version (state_of self.old) self.old.waiting.calls file xid fetch hashes.now (hashes.now.version == fetch.version)) (state_of self.new) a) }
         ensures err { OnErr result (whole_of self.new ≡ whole_of self.old) }
         ensures sound { OnOk result (IsSound self.new) }
         ensures held { OnErr result (IsHeld self.new) }
@@ -448,7 +431,7 @@ impl ClientState {
         requires xids { HasXids self.old.next (stage.Reading fetch) }
         requires chunk { slice_get fetch.chunks call.index ≡ Some chunk.now }
         requires fits { length bytes ≡ chunk.now.len }
-        ensures ok { IfOk result (λ a. Comes self.old.index (reads_on (state_of self.old) self.old.waiting.calls file xid (with_bytes fetch call bytes) (length bytes)) (state_of self.new) a) }
+        ensures ok { IfOk result (λ a. Comes self.old.index (entering_by (state_of self.old) (Some (file, with_bytes fetch call bytes))) (reads_on (state_of self.old) self.old.waiting.calls file xid (with_bytes fetch call bytes) (length bytes)) (state_of self.new) a) }
         ensures err { OnErr result (whole_of self.new ≡ whole_of self.old) }
         ensures sound { OnOk result (IsSound self.new) }
         ensures held { OnErr result (IsHeld self.new) }
@@ -474,7 +457,7 @@ impl ClientState {
         requires within { IsReading fetch }
         requires xids { HasXids self.old.next (stage.Reading fetch) }
         requires chunk { slice_get fetch.chunks call.index ≡ Some chunk.now }
-        ensures ok { IfOk result (λ a. Comes self.old.index (told_bytes (state_of self.old) self.old.waiting.calls file xid fetch call piece (fault_in chunk.now piece.bytes (length piece.bytes == chunk.now.len))) (state_of self.new) a) }
+        ensures ok { IfOk result (λ a. Comes self.old.index (entering_by (state_of self.old) (with_file file (taken_if fetch call piece (fault_in chunk.now piece.bytes (length piece.bytes == chunk.now.len))))) (told_bytes (state_of self.old) self.old.waiting.calls file xid fetch call piece (fault_in chunk.now piece.bytes (length piece.bytes == chunk.now.len))) (state_of self.new) a) }
         ensures err { OnErr result (whole_of self.new ≡ whole_of self.old) }
         ensures sound { OnOk result (IsSound self.new) }
         ensures held { OnErr result (IsHeld self.new) }
@@ -506,7 +489,7 @@ impl ClientState {
         requires there { IsThere self.old.cache file }
         requires within { IsReading fetch }
         requires xids { HasXids self.old.next (stage.Reading fetch) }
-        ensures ok { IfOk result (λ a. Comes self.old.index (told_chunk (state_of self.old) self.old.waiting.calls file xid fetch call piece (slice_get fetch.chunks call.index)) (state_of self.new) a) }
+        ensures ok { IfOk result (λ a. Comes self.old.index (entering_by (state_of self.old) (with_file file (taken_at fetch call piece (slice_get fetch.chunks call.index)))) (told_chunk (state_of self.old) self.old.waiting.calls file xid fetch call piece (slice_get fetch.chunks call.index)) (state_of self.new) a) }
         ensures err { OnErr result (whole_of self.new ≡ whole_of self.old) }
         ensures sound { OnOk result (IsSound self.new) }
         ensures held { OnErr result (IsHeld self.new) }
@@ -530,7 +513,7 @@ impl ClientState {
         requires there { IsThere self.old.cache file }
         requires within { IsReading fetch }
         requires xids { HasXids self.old.next (stage.Reading fetch) }
-        ensures ok { IfOk result (λ a. Comes self.old.index (told_piece (state_of self.old) self.old.waiting.calls file xid fetch piece (read_at fetch.under xid)) (state_of self.new) a) }
+        ensures ok { IfOk result (λ a. Comes self.old.index (entering_by (state_of self.old) (with_file file (taken_by fetch piece (read_at fetch.under xid)))) (told_piece (state_of self.old) self.old.waiting.calls file xid fetch piece (read_at fetch.under xid)) (state_of self.new) a) }
         ensures err { OnErr result (whole_of self.new ≡ whole_of self.old) }
         ensures sound { OnOk result (IsSound self.new) }
         ensures held { OnErr result (IsHeld self.new) }
@@ -549,29 +532,26 @@ impl ClientState {
         file: u64,
         tries: u32,
         xid: u32,
-        body: Body,
+        body: &Body,
     ) -> Result<ClientStep, AllocError>
         requires held { IsHeld self.old }
         requires there { IsThere self.old.cache file }
         requires tries { tries ≤ tries_most }
         requires xids { HasXids self.old.next (stage.Hashing tries 0) }
-        ensures ok { IfOk result (λ a. Comes self.old.index (took (state_of self.old) self.old.waiting.calls file (stage.Hashing tries 0) xid body) (state_of self.new) a) }
+        ensures ok { IfOk result (λ a. Comes self.old.index (entering_by (state_of self.old) (with_file file (reading_by (stage.Hashing tries 0) xid body.now))) (took (state_of self.old) self.old.waiting.calls file (stage.Hashing tries 0) xid body.now) (state_of self.new) a) }
         ensures err { OnErr result (whole_of self.new ≡ whole_of self.old) }
         ensures sound { OnOk result (IsSound self.new) }
         ensures held { OnErr result (IsHeld self.new) }
     {
         match body {
             Body::Lb(Lb::GetHashAnswer(answer)) => match answer {
-                Answer::Failed(status, _) => Ok(self.refused(alloc, xid, status)),
+                Answer::Failed(status, _) => Ok(self.refused(alloc, xid, *status)),
                 Answer::Done(hashes) => {
-                    let fetch = fetch::fetch_of(alloc, tries, xid, &hashes);
-                    self.told_hashes(alloc, file, fetch, &hashes, xid)
+                    let fetch = fetch::fetch_of(alloc, tries, xid, hashes);
+                    self.told_hashes(alloc, file, fetch, hashes, xid)
                 }
             },
-            other => {
-                drop(other);
-                Ok(self.unknown(alloc, xid))
-            }
+            _ => Ok(self.unknown(alloc, xid)),
         }
     }
 
@@ -582,26 +562,23 @@ impl ClientState {
         file: u64,
         fetch: Fetch,
         xid: u32,
-        body: Body,
+        body: &Body,
     ) -> Result<ClientStep, AllocError>
         requires held { IsHeld self.old }
         requires there { IsThere self.old.cache file }
         requires within { IsListing fetch }
         requires xids { HasXids self.old.next (stage.Listing 0 fetch) }
-        ensures ok { IfOk result (λ a. Comes self.old.index (took (state_of self.old) self.old.waiting.calls file (stage.Listing 0 fetch) xid body) (state_of self.new) a) }
+        ensures ok { IfOk result (λ a. Comes self.old.index (entering_by (state_of self.old) (with_file file (reading_by (stage.Listing 0 fetch) xid body.now))) (took (state_of self.old) self.old.waiting.calls file (stage.Listing 0 fetch) xid body.now) (state_of self.new) a) }
         ensures err { OnErr result (whole_of self.new ≡ whole_of self.old) }
         ensures sound { OnOk result (IsSound self.new) }
         ensures held { OnErr result (IsHeld self.new) }
     {
         match body {
             Body::Lb(Lb::GetHashAnswer(answer)) => match answer {
-                Answer::Failed(status, _) => Ok(self.refused(alloc, xid, status)),
-                Answer::Done(hashes) => self.told_hashes(alloc, file, fetch, &hashes, xid),
+                Answer::Failed(status, _) => Ok(self.refused(alloc, xid, *status)),
+                Answer::Done(hashes) => self.told_hashes(alloc, file, fetch, hashes, xid),
             },
-            other => {
-                drop(other);
-                Ok(self.unknown(alloc, xid))
-            }
+            _ => Ok(self.unknown(alloc, xid)),
         }
     }
 
@@ -612,26 +589,26 @@ impl ClientState {
         file: u64,
         fetch: Fetch,
         xid: u32,
-        body: Body,
+        body: &mut Body,
     ) -> Result<ClientStep, AllocError>
         requires held { IsHeld self.old }
         requires there { IsThere self.old.cache file }
         requires within { IsReading fetch }
         requires xids { HasXids self.old.next (stage.Reading fetch) }
-        ensures ok { IfOk result (λ a. Comes self.old.index (took (state_of self.old) self.old.waiting.calls file (stage.Reading fetch) xid body) (state_of self.new) a) }
+        ensures ok { IfOk result (λ a. Comes self.old.index (entering_by (state_of self.old) (with_file file (reading_by (stage.Reading fetch) xid body.old))) (took (state_of self.old) self.old.waiting.calls file (stage.Reading fetch) xid body.old) (state_of self.new) a) }
         ensures err { OnErr result (whole_of self.new ≡ whole_of self.old) }
         ensures sound { OnOk result (IsSound self.new) }
         ensures held { OnErr result (IsHeld self.new) }
     {
         match body {
             Body::Nfs(Nfs::ReadAnswer(answer)) => match answer {
-                Answer::Failed(status, _) => Ok(self.refused(alloc, xid, status)),
-                Answer::Done(piece) => self.told_piece(alloc, file, fetch, xid, piece),
+                Answer::Failed(status, _) => Ok(self.refused(alloc, xid, *status)),
+                Answer::Done(piece) => {
+                    let piece = fetch::take_piece(alloc, piece);
+                    self.told_piece(alloc, file, fetch, xid, piece)
+                }
             },
-            other => {
-                drop(other);
-                Ok(self.unknown(alloc, xid))
-            }
+            _ => Ok(self.unknown(alloc, xid)),
         }
     }
 }

@@ -1,7 +1,7 @@
 //! The plain parts of a step: what is done (`specs/Counting.antt`), and what is wrong with what came
 //! (`specs/Opening.antt`, `specs/Step.antt`).
 
-ghost use Rattle.std.specs.Prelude.{◌≡◌, ◌==◌, ◌≤◌, length, None, IfSome};
+ghost use Rattle.std.specs.Prelude.{◌≡◌, ◌==◌, ◌≤◌, [], length, option_map, unwrap_or, None, IfSome};
 ghost use Rattle.std.specs.Str.{bytes_eq};
 ghost use Rattle.sha1.specs.Sha1.{sha1};
 ghost use Rattle.std.specs.List.{All};
@@ -20,6 +20,7 @@ use crate::task::Local;
 use chunk_cut::chunk::Chunk;
 use send_list::SendList;
 use sha1::Sha1;
+use shared_bytes::SharedBytes;
 use std::alloc::Global;
 use std::collections::BTreeMap;
 use wire::fault::WireFault;
@@ -136,6 +137,16 @@ pub fn local_bytes(opened: &BTreeMap<u64, Local>, file: u64) -> &[u8]
     match find_local(opened, file) {
         Some(local) => local.bytes.as_slice(),
         None => &[],
+    }
+}
+
+/// The content of a file that was open; nothing where it wasn't. It takes no memory.
+pub fn bytes_of(local: Option<Local>) -> SharedBytes
+    ensures { result ≡ unwrap_or (option_map (λ l. l.bytes) local) [] }
+{
+    match local {
+        Some(local) => local.bytes,
+        None => SharedBytes::empty(),
     }
 }
 

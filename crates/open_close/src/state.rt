@@ -14,7 +14,8 @@ use crate::{parts, waiting};
 use chunk_index::index::{Index, Key};
 use chunk_index::place::Place;
 use client_cache::cache::Cache;
-use lb_base::items::{Bytes, Items};
+use lb_base::items::Items;
+use shared_bytes::SharedBytes;
 use std::alloc::{AllocError, Global};
 use std::collections::BTreeMap;
 use std::mem;
@@ -151,9 +152,16 @@ impl ClientState {
         ensures sound { OnOk result (IsSound self.new) }
         ensures held { OnErr result (IsHeld self.new) }
     {
-        let (calls, own) = with_forgotten(alloc, &stage, self.forgotten())?;
-        self.set_waiting(calls, own, file, stage, next);
-        Ok(())
+        match with_forgotten(alloc, &stage, self.forgotten()) {
+            Ok((calls, own)) => {
+                self.set_waiting(calls, own, file, stage, next);
+                Ok(())
+            }
+            Err(error) => {
+                drop(stage);
+                Err(error)
+            }
+        }
     }
 
     /// The same, and the file's entry in the cache is there and goes first. An `Err` changes nothing.
@@ -173,7 +181,13 @@ impl ClientState {
         ensures sound { OnOk result (IsSound self.new) }
         ensures held { OnErr result (IsHeld self.new) }
     {
-        let (calls, own) = with_forgotten(alloc, &stage, self.forgotten())?;
+        let (calls, own) = match with_forgotten(alloc, &stage, self.forgotten()) {
+            Ok(listed) => listed,
+            Err(error) => {
+                drop(stage);
+                return Err(error);
+            }
+        };
         match self.cache.reserve(file) {
             Ok(()) => {
                 self.set_waiting(calls, own, file, stage, next);
@@ -227,24 +241,10 @@ impl ClientState {
         self.own = 0;
     }
 
-    /// The file is no longer open. It takes no memory.
-    #[tactic(auto, using(crate::proofs::Bounds::locals_without, crate::proofs::Locals::remove_is_without))]
-    pub fn shut(&mut self, file: u64)
-        requires { IsBase self.old }
-        ensures rest { state_of self.new ≡ record (state_of self.old) { opened = without_local self.old.opened.entries file } }
-        ensures task { self.new.task ≡ self.old.task }
-        ensures waiting { self.new.waiting ≡ self.old.waiting }
-        ensures own { self.new.own ≡ self.old.own }
-        ensures base { IsBase self.new }
-    {
-        let local = self.opened.remove(&file);
-        drop(local);
-    }
-
     /// The file is no longer open, and this was its local content; nothing where it wasn't open. It
     /// takes no memory.
     #[tactic(auto, using(crate::proofs::Bounds::locals_without, crate::proofs::Locals::remove_is_without))]
-    pub fn take_local(&mut self, alloc: Global, file: u64) -> Bytes
+    pub fn take_local(&mut self, file: u64) -> SharedBytes
         requires { IsBase self.old }
         ensures bytes { result ≡ local_bytes self.old.opened.entries file }
         ensures rest { state_of self.new ≡ record (state_of self.old) { opened = without_local self.old.opened.entries file } }
@@ -254,10 +254,8 @@ impl ClientState {
         ensures cache { self.new.cache ≡ self.old.cache }
         ensures base { IsBase self.new }
     {
-        match self.opened.remove(&file) {
-            Some(local) => local.bytes,
-            None => Items::new(alloc),
-        }
+        let local = self.opened.remove(&file);
+        parts::bytes_of(local)
     }
 
     /// The content that is kept of a file is dropped, if one is. It takes no memory.

@@ -1,6 +1,7 @@
 //! One command, or one message: `command_step` and `got_step` of `specs/Step.antt`.
 
 ghost use Rattle.std.specs.Prelude.{◌≡◌, None, Some, Ok, IfOk, OnOk, OnErr, false, true};
+ghost use Rattle.open_close.specs.Looking.{with_file, reading_by, entering_by, entering};
 ghost use Rattle.open_close.specs.State.{pending, has_call};
 ghost use Rattle.open_close.specs.Step.{command_step, forgets, took, took_if, denied_if, got_message, got_fault, got_step, missed_at, Comes, MayMiss, MayMissCommand, InCommit, IsCommitting};
 ghost use Rattle.open_close.specs.View.{state_of, whole_of, IsHeld, IsSound, StageIsThere, HasXids, IsWithin};
@@ -59,13 +60,13 @@ impl ClientState {
         alloc: Global,
         task: Task,
         xid: u32,
-        body: Body,
+        body: &mut Body,
     ) -> Result<ClientStep, AllocError>
         requires held { IsHeld self.old }
         requires xids { HasXids self.old.next task.stage }
         requires within { IsWithin task.stage }
         requires there { StageIsThere self.old.cache task.file task.stage }
-        ensures ok { IfOk result (λ a. Comes self.old.index (took (state_of self.old) self.old.waiting.calls task.file task.stage xid body) (state_of self.new) a) }
+        ensures ok { IfOk result (λ a. Comes self.old.index (entering_by (state_of self.old) (with_file task.file (reading_by task.stage xid body.old))) (took (state_of self.old) self.old.waiting.calls task.file task.stage xid body.old) (state_of self.new) a) }
         ensures err { OnErr result (whole_of self.new ≡ whole_of self.old) }
         ensures calm { OnErr result (InCommit task.stage → ⊥) }
         ensures sound { OnOk result (IsSound self.new) }
@@ -90,18 +91,20 @@ impl ClientState {
         alloc: Global,
         task: Task,
         xid: u32,
-        body: Body,
+        mut body: Body,
     ) -> Result<ClientStep, AllocError>
         requires held { IsHeld self.old }
         requires xids { HasXids self.old.next task.stage }
         requires within { IsWithin task.stage }
         requires there { StageIsThere self.old.cache task.file task.stage }
-        ensures ok { IfOk result (λ a. Comes self.old.index (took (state_of self.old) self.old.waiting.calls task.file task.stage xid body) (state_of self.new) a) }
+        ensures ok { IfOk result (λ a. Comes self.old.index (entering_by (state_of self.old) (with_file task.file (reading_by task.stage xid body))) (took (state_of self.old) self.old.waiting.calls task.file task.stage xid body) (state_of self.new) a) }
         ensures err { OnErr result (state_of self.new ≡ forgets (state_of self.old) self.old.waiting.calls xid) }
         ensures calm { OnErr result (InCommit task.stage → ⊥) }
         ensures sound { IsSound self.new }
     {
-        match self.took(alloc, task, xid, body) {
+        let done = self.took(alloc, task, xid, &mut body);
+        drop(body);
+        match done {
             Ok(step) => Ok(step),
             Err(error) => {
                 self.forget(alloc, xid);
@@ -114,7 +117,7 @@ impl ClientState {
     /// COMMITTMP was sent.
     fn answered(&mut self, alloc: Global, xid: u32, body: Body) -> Result<ClientStep, AllocError>
         requires { IsSound self.old }
-        ensures ok { IfOk result (λ a. Comes self.old.index (got_message (state_of self.old) self.old.task (message.Answer xid body)) (state_of self.new) a) }
+        ensures ok { IfOk result (λ a. Comes self.old.index (entering (state_of self.old) (Ok (message.Answer xid body))) (got_message (state_of self.old) self.old.task (message.Answer xid body)) (state_of self.new) a) }
         ensures err { OnErr result (state_of self.new ≡ missed_at (state_of self.old) (Ok (message.Answer xid body))) }
         ensures sure { OnErr result (MayMiss (state_of self.old) (Ok (message.Answer xid body))) }
         ensures sound { IsSound self.new }
@@ -169,7 +172,7 @@ impl ClientState {
     /// come once COMMITTMP was sent.
     fn got_message(&mut self, alloc: Global, message: Message) -> Result<ClientStep, AllocError>
         requires { IsSound self.old }
-        ensures ok { IfOk result (λ a. Comes self.old.index (got_message (state_of self.old) self.old.task message) (state_of self.new) a) }
+        ensures ok { IfOk result (λ a. Comes self.old.index (entering (state_of self.old) (Ok message)) (got_message (state_of self.old) self.old.task message) (state_of self.new) a) }
         ensures err { OnErr result (state_of self.new ≡ missed_at (state_of self.old) (Ok message)) }
         ensures sure { OnErr result (MayMiss (state_of self.old) (Ok message)) }
         ensures sound { IsSound self.new }
@@ -197,7 +200,7 @@ impl ClientState {
         _now: u64,
     ) -> Result<ClientStep, AllocError>
         requires { IsSound self.old }
-        ensures ok { IfOk result (λ a. Comes self.old.index (got_step (state_of self.old) message _now) (state_of self.new) a) }
+        ensures ok { IfOk result (λ a. Comes self.old.index (entering (state_of self.old) message) (got_step (state_of self.old) message _now) (state_of self.new) a) }
         ensures err { OnErr result (state_of self.new ≡ missed_at (state_of self.old) message) }
         ensures sure { OnErr result (MayMiss (state_of self.old) message) }
         ensures sound { IsSound self.new }

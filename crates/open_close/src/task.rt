@@ -2,6 +2,7 @@
 
 use chunk_cut::chunk::Chunk;
 use lb_base::items::{Bytes, Items};
+use shared_bytes::SharedBytes;
 
 /// What a client has of an open file. It stands under the file's id.
 #[derive(Drop)]
@@ -9,7 +10,7 @@ pub struct Local {
     /// The version that its content was fetched in.
     pub version: u64,
     /// Its local content.
-    pub bytes: Bytes,
+    pub bytes: SharedBytes,
 }
 
 /// A READ that waits for its answer.

@@ -1,7 +1,7 @@
 use Rattle.std.proofs.Common.{◌≡◌, ◌-◌, ap, subst, ◌∙◌, List, take, drop}
 use Rattle.chunk_cut.specs.declared.chunk.Chunk.{Chunk}
 use Rattle.chunk_index.specs.Index.{Indexed}
-use Rattle.chunk_places.specs.Places.{indexed, LeavesOut}
+use Rattle.chunk_places.specs.Places.{indexed, LeavesSome}
 use Rattle.open_close.specs.Caching.{found_all}
 use Rattle.open_close.proofs.caching.enter_fetched.Goals as goal
 
@@ -15,4 +15,4 @@ pub returns-clause-lacks : goal.returns-clause-lacks
 returns-clause-lacks c =
     let f = c.args.fetch.now in
     let looked = take (f.asked - c.args.from) (drop c.args.from f.chunks) in
-    subst (λ (cs : List Chunk). LeavesOut (found_all c.args.index.now looked) c.args.file cs c.enter.new.index) c.as_slice.ensures (subst (λ (i : Indexed). LeavesOut i c.args.file c.as_slice.result.now c.enter.new.index) c.find_asked.ensures c.enter.ensures.lacks)
+    λ e. subst (λ (cs : List Chunk). LeavesSome (found_all c.args.index.now looked) c.args.file cs c.enter.new.index) c.as_slice.ensures (subst (λ (i : Indexed). LeavesSome i c.args.file c.as_slice.result.now c.enter.new.index) c.find_asked.ensures (c.enter.ensures.lacks e))

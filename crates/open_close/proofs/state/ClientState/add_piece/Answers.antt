@@ -35,4 +35,4 @@ returns-else-hashes-clause-ok c =
     subst (λ (g : Fetch). IfOk c.list_on.result (λ (a : ClientStep). lists g false ≡ (state_of c.list_on.new.self, a))) c.in_ok-fetch.ensures c.list_on.ensures.ok in
     let so : IfOk c.list_on.result (λ (a : ClientStep). lists (with_hashes f h) h.eof ≡ (state_of c.list_on.new.self, a)) =
     subst (λ (b : Bool). IfOk c.list_on.result (λ (a : ClientStep). lists (with_hashes f h) b ≡ (state_of c.list_on.new.self, a))) (sym c.if-hashes.false) one in
-    comes_ok c.list_on.result s.index (lists (with_hashes f h) h.eof) (state_of c.list_on.new.self) so c.list_on.ensures.done
+    comes_ok c.list_on.result s.index _ (lists (with_hashes f h) h.eof) (state_of c.list_on.new.self) so c.list_on.ensures.done

@@ -1,14 +1,15 @@
-use Rattle.std.proofs.Common.{◌≡◌, ◌+◌, sym, ap, subst, ◌∙◌, true, IfOk}
+use Rattle.std.proofs.Common.{◌≡◌, ◌+◌, ap, ◌∙◌, ℕ, List}
 use Rattle.std.specs.Prelude.{Some}
 use Rattle.client_cache.specs.Cache.{reserved, content_of}
+use Rattle.hash_calls.specs.declared.message.Lb.TheVariants as lb
+use Rattle.wire.specs.declared.message.Body.TheVariants as body
 use Rattle.wire.specs.declared.message.Message.{Message}
-use Rattle.open_close.specs.Counting.{sends_one}
+use Rattle.wire.specs.declared.message.Message.TheVariants as message
+use Rattle.open_close.specs.Opening.{hash_call}
 use Rattle.open_close.specs.State.{State}
-use Rattle.open_close.specs.Step.{asks_file}
 use Rattle.open_close.specs.View.{state_of}
-use Rattle.open_close.specs.declared.step.ClientStep.{ClientStep}
 use Rattle.open_close.specs.declared.task.Stage.TheVariants as stage
-use Rattle.open_close.proofs.Comings.{paired}
+use Rattle.open_close.proofs.Comings.{sent_one}
 use Rattle.open_close.proofs.Keeping.{asks_hashes}
 use Rattle.open_close.proofs.state.ClientState.ask_hashes.Goals as goal
 
@@ -17,6 +18,6 @@ returns-clause-ok c =
     let s = state_of c.args.self.now in
     let file = c.args.file in
     let begun : State = record s { next = s.next + 1; task = Some (record { file = file; stage = stage.Hashing 1 s.next }); cache = reserved s.cache file } in
-    let asked : Message → State × ClientStep = λ m. (begun, sends_one m 0) in
-    let is : asked c.in_ok-call.call ≡ asks_file s file true = ap asked c.in_ok-call.ensures ∙ sym (asks_hashes (record s { cache = reserved s.cache file }) file (content_of s.cache file) c.requires.kept) in
-    subst (λ (v : State × ClientStep). IfOk c.begin.result (λ (a : ClientStep). v ≡ (state_of c.begin.new.self, a))) is (paired c.begin.result (state_of c.begin.new.self) begun (sends_one c.in_ok-call.call 0) c.begin.ensures.ok)
+    let asked : List ℕ → Message = λ h. message.Call s.next (body.Lb (lb.GetHash (record { handle = h; offset = 0; count = 4294967295 }))) in
+    asks_hashes (record s { cache = reserved s.cache file }) file (content_of s.cache file) c.requires.kept
+    ∙ sent_one begun (state_of c.begin.new.self) c.sends_one.result (hash_call s.next file 0) c.hash_call-call.result 0 c.in_ok-begin.ensures.ok c.sends_one.ensures (c.hash_call-call.ensures ∙ ap asked c.in_ok-handle.ensures)

@@ -1,7 +1,7 @@
-use Rattle.std.proofs.Common.{◌≡◌, ◌-◌, ◌≤◌, refl, sym, ap, subst, ◌∙◌, ℕ, List, length, take, drop, false}
+use Rattle.std.proofs.Common.{◌≡◌, ◌-◌, ◌≤◌, refl, sym, ap, subst, ◌∙◌, ℕ, List, length, take, drop, true, false}
 use Rattle.sha1.specs.Sha1.{sha1}
 use Rattle.chunk_index.specs.Index.{Indexed}
-use Rattle.chunk_places.specs.Places.{indexed, LeavesOut}
+use Rattle.chunk_places.specs.Places.{indexed, LeavesSome}
 use Rattle.client_cache.specs.Cache.{with_content}
 use Rattle.wire.specs.declared.message.Waiting.{Waiting}
 use Rattle.open_close.specs.Caching.{found_all}
@@ -42,5 +42,5 @@ returns-clause-ok c =
     let tells : List ℕ → ClientStep = λ bytes. ends (outcome.Opened file (length bytes) (sha1 bytes)) f.first c.args.bytes in
     let said : record c.in_ok-step.step { missed = missed } ≡ record (tells (slots_bytes f.slots)) { missed = missed } = ap (λ (a : ClientStep). record a { missed = missed }) (c.in_ok-step.ensures.ok ∙ ap tells content) in
     let all : missed ≡ false → index ≡ indexed (found_all s.index looked) file f.chunks = λ e. c.enter_fetched-missed.ensures.all e ∙ ap (λ (i : Indexed). indexed (found_all i looked) file f.chunks) c.keep_open.ensures.index in
-    let lacks : LeavesOut (found_all s.index looked) file f.chunks index = subst (λ (i : Indexed). LeavesOut (found_all i looked) file f.chunks index) c.keep_open.ensures.index c.enter_fetched-missed.ensures.lacks in
-    comes_at s.index looked file f.chunks (opened_with (record (state_of s) { index = found_all s.index looked }) calls file xid f c.args.bytes) (state_of c.forget.new.self) (record c.in_ok-step.step { missed = missed }) missed index refl all lacks rest said refl
+    let lacks : missed ≡ true → LeavesSome (found_all s.index looked) file f.chunks index = λ e. subst (λ (i : Indexed). LeavesSome (found_all i looked) file f.chunks index) c.keep_open.ensures.index (c.enter_fetched-missed.ensures.lacks e) in
+    comes_at s.index (record { looked = looked; file = file; chunks = f.chunks }) (opened_with (record (state_of s) { index = found_all s.index looked }) calls file xid f c.args.bytes) (state_of c.forget.new.self) (record c.in_ok-step.step { missed = missed }) missed index refl all lacks rest said refl

@@ -1,5 +1,6 @@
 use Rattle.std.proofs.Common.{◌≡◌, ◌==◌, ℕ, List, length, sym, ap, subst, ◌∙◌, IfOk}
 use Rattle.std.specs.Prelude.{Option, Some, None}
+use Rattle.open_close.specs.Looking.{with_file, taken_if, entering_by}
 use Rattle.open_close.specs.Opening.{fault_in}
 use Rattle.open_close.specs.State.{State}
 use Rattle.open_close.specs.Step.{Comes, told_bytes}
@@ -18,7 +19,7 @@ returns-in-Some-clause-ok c =
     let is : Some c.in-Some.fault ≡ fault_in k piece.bytes (length piece.bytes == k.len) = c.in-Some.ensures.fault ∙ ap (λ (bytes : List ℕ). fault_in k bytes (length bytes == k.len)) c.as_slice.ensures in
     let so : IfOk c.misfit.result (λ (a : ClientStep). told (fault_in k piece.bytes (length piece.bytes == k.len)) ≡ (state_of c.misfit.new.self, a)) =
     subst (λ (o : Option BadPeer). IfOk c.misfit.result (λ (a : ClientStep). told o ≡ (state_of c.misfit.new.self, a))) is c.misfit.ensures.ok in
-    comes_ok c.misfit.result s.index (told (fault_in k piece.bytes (length piece.bytes == k.len))) (state_of c.misfit.new.self) so c.misfit.ensures.done
+    comes_ok c.misfit.result s.index _ (told (fault_in k piece.bytes (length piece.bytes == k.len))) (state_of c.misfit.new.self) so c.misfit.ensures.done
 
 pub returns-in-None-clause-ok : goal.returns-in-None-clause-ok
 returns-in-None-clause-ok c =
@@ -27,4 +28,4 @@ returns-in-None-clause-ok c =
     let piece = c.args.piece in
     let told : Option BadPeer → State × ClientStep = λ o. told_bytes (state_of s) s.waiting.calls c.args.file c.args.xid c.args.fetch c.args.call piece o in
     let is : None ≡ fault_in k piece.bytes (length piece.bytes == k.len) = c.in-None.ensures.fault ∙ ap (λ (bytes : List ℕ). fault_in k bytes (length bytes == k.len)) c.as_slice.ensures in
-    subst (λ (o : Option BadPeer). IfOk c.keep.result (λ (a : ClientStep). Comes s.index (told o) (state_of c.keep.new.self) a)) is c.keep.ensures.ok
+    subst (λ (o : Option BadPeer). IfOk c.keep.result (λ (a : ClientStep). Comes s.index (entering_by (state_of s) (with_file c.args.file (taken_if c.args.fetch c.args.call piece o))) (told o) (state_of c.keep.new.self) a)) is c.keep.ensures.ok

@@ -9,26 +9,26 @@ pub returns-in-Asking-clause-ok : goal.returns-in-Asking-clause-ok
 returns-in-Asking-clause-ok c =
     let s = c.args.self.now in
     let t = c.args.task in
-    let so : IfOk c.took_lease.result (λ (a : ClientStep). took (state_of s) s.waiting.calls t.file t.stage c.args.xid c.args.body ≡ (state_of c.took_lease.new.self, a)) = search rules in
-    comes_ok c.took_lease.result s.index (took (state_of s) s.waiting.calls t.file t.stage c.args.xid c.args.body) (state_of c.took_lease.new.self) so c.took_lease.ensures.done
+    let so : IfOk c.took_lease.result (λ (a : ClientStep). took (state_of s) s.waiting.calls t.file t.stage c.args.xid c.args.body.now ≡ (state_of c.took_lease.new.self, a)) = search rules in
+    comes_ok c.took_lease.result s.index _ (took (state_of s) s.waiting.calls t.file t.stage c.args.xid c.args.body.now) (state_of c.took_lease.new.self) so c.took_lease.ensures.done
 
 pub returns-in-Making-clause-ok : goal.returns-in-Making-clause-ok
 returns-in-Making-clause-ok c =
     let s = c.args.self.now in
     let t = c.args.task in
-    let so : IfOk c.took_temp.result (λ (a : ClientStep). took (state_of s) s.waiting.calls t.file t.stage c.args.xid c.args.body ≡ (state_of c.took_temp.new.self, a)) = search rules in
-    comes_ok c.took_temp.result s.index (took (state_of s) s.waiting.calls t.file t.stage c.args.xid c.args.body) (state_of c.took_temp.new.self) so c.took_temp.ensures.done
+    let so : IfOk c.took_temp.result (λ (a : ClientStep). took (state_of s) s.waiting.calls t.file t.stage c.args.xid c.args.body.now ≡ (state_of c.took_temp.new.self, a)) = search rules in
+    comes_ok c.took_temp.result s.index _ (took (state_of s) s.waiting.calls t.file t.stage c.args.xid c.args.body.now) (state_of c.took_temp.new.self) so c.took_temp.ensures.done
 
 pub returns-in-Storing-clause-ok : goal.returns-in-Storing-clause-ok
 returns-in-Storing-clause-ok c =
     let s = c.args.self.now in
     let t = c.args.task in
-    let so : IfOk c.took_stored.result (λ (a : ClientStep). took (state_of s) s.waiting.calls t.file t.stage c.args.xid c.args.body ≡ (state_of c.took_stored.new.self, a)) = search rules in
-    comes_ok c.took_stored.result s.index (took (state_of s) s.waiting.calls t.file t.stage c.args.xid c.args.body) (state_of c.took_stored.new.self) so c.took_stored.ensures.done
+    let so : IfOk c.took_stored.result (λ (a : ClientStep). took (state_of s) s.waiting.calls t.file t.stage c.args.xid c.args.body.now ≡ (state_of c.took_stored.new.self, a)) = search rules in
+    comes_ok c.took_stored.result s.index _ (took (state_of s) s.waiting.calls t.file t.stage c.args.xid c.args.body.now) (state_of c.took_stored.new.self) so c.took_stored.ensures.done
 
 pub returns-in-Committing-clause-ok : goal.returns-in-Committing-clause-ok
 returns-in-Committing-clause-ok c =
     let s = c.args.self.now in
     let t = c.args.task in
-    let so : took (state_of s) s.waiting.calls t.file t.stage c.args.xid c.args.body ≡ (state_of c.took_commit.new.self, c.took_commit.result) = search rules in
-    comes_so s.index (took (state_of s) s.waiting.calls t.file t.stage c.args.xid c.args.body) (state_of c.took_commit.new.self) c.took_commit.result so c.took_commit.ensures.done
+    let so : took (state_of s) s.waiting.calls t.file t.stage c.args.xid c.args.body.now ≡ (state_of c.took_commit.new.self, c.took_commit.result) = search rules in
+    comes_so s.index (took (state_of s) s.waiting.calls t.file t.stage c.args.xid c.args.body.now) (state_of c.took_commit.new.self) c.took_commit.result so c.took_commit.ensures.done
