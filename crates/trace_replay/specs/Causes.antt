@@ -8,10 +8,13 @@ use Rattle.command_text.specs.declared.command.Command.{Command}
 use Rattle.command_text.specs.declared.command.Command.TheVariants as command
 use Rattle.hash_calls.specs.declared.call.Commit.{Commit}
 use Rattle.hash_calls.specs.declared.message.Lb.TheVariants as lb
+use Rattle.xdr_codec.specs.Handle.{handle_bytes}
 use Rattle.xdr_codec.specs.declared.answer.Answer.TheVariants.{Done}
 use Rattle.wire.specs.Parse.{parse_of}
+use Rattle.wire.specs.declared.message.Body.{Body}
 use Rattle.wire.specs.declared.message.Body.TheVariants as body
 use Rattle.wire.specs.declared.message.Message.TheVariants as message
+use Rattle.open_close.specs.State.{pending, has_call}
 use Rattle.open_close.specs.Local.{local_most, written_size, written, truncated, part_of}
 use Rattle.server_core.specs.Closing.{is_full}
 use Rattle.server_core.specs.declared.journal.Entry.{Entry}
@@ -19,7 +22,7 @@ use Rattle.register_model.specs.Register.{Absent, content_of}
 use Rattle.register_model.specs.declared.op.Op.{Op}
 use Rattle.register_model.specs.declared.op.Outcome.{Outcome}
 use Rattle.register_model.specs.declared.op.Outcome.TheVariants as told
-use Rattle.trace_replay.specs.Core.{Event.Cuts, Event.Serves, numbered, server_waiting}
+use Rattle.trace_replay.specs.Core.{Seat, Event.Cuts, Event.Serves, numbered, server_waiting}
 use Rattle.trace_replay.specs.Commands.{file_of}
 use Rattle.trace_replay.specs.Trail.{Deed, Moment, Said, step_of, owner_in, taken_of}
 use Rattle.trace_replay.specs.Book.{Book, Or, value_at, version_at}
@@ -107,7 +110,32 @@ can_ask joined calls = joined && nat_le (calls + 1000000) 4294967295
 abbrev pub Within : Op → (point : ℕ) → Type 0
 Within o p = (o.point ≡ Some p) × (o.begin ≤ p) × ((e : ℕ) × (o.end ≡ Some e) × (p ≤ e))
 
--- an open of a file of the tree got the content that its file had at its point
+-- At a moment a client is at this session, and its operation under way waits for the answer to the call of this number there.
+pub record WaitsFor (m : Moment) (client session xid : ℕ) : Type 0 where
+  pub seat : Seat
+  pub seat_is : numbered m.before.seats client ≡ Some seat
+  pub newest : seat.session ≡ Some session
+  pub own : has_call (pending seat.client.task) xid ≡ true
+
+-- In this step the server took this call, of this number, and the operation under way of the client waited for its answer.
+pub record TakesCall (book : Book) (client step xid : ℕ) (call : Body) : Type 0 where
+  pub moment : Moment
+  pub there : Contains book.moments moment
+  pub step_is : step_of moment ≡ step
+  pub session : ℕ
+  pub now : ℕ
+  pub bytes : List ℕ
+  pub event_is : moment.event ≡ Serves session now bytes
+  pub parsed : parse_of server_waiting bytes ≡ Ok (message.Call xid call)
+  pub waits : WaitsFor moment client session xid
+
+-- what an open asks first: for the version of its file, or for its chunks from the first byte on, as each attempt does
+abbrev pub IsFirstCall : (file : ℕ) → Body → Type 0
+IsFirstCall file (body.Lb (lb.GetLease handle)) = handle ≡ handle_bytes file
+IsFirstCall file (body.Lb (lb.GetHash a)) = (a.handle ≡ handle_bytes file) × (a.offset ≡ 0)
+IsFirstCall file b = ⊥
+
+-- an open of a file of the tree got the content that its file had at its point, the step in which the server took its first call, or that of an attempt
 pub record IsOpened (book : Book) (file : ℕ) (o : Op) (len : ℕ) (digest : List ℕ) : Type 0 where
   pub there : IsSome (content_of book.opening file)
   pub length_is : len ≡ length o.value
@@ -115,6 +143,10 @@ pub record IsOpened (book : Book) (file : ℕ) (o : Op) (len : ℕ) (digest : Li
   pub point : ℕ
   pub within : Within o point
   pub value_is : Or book (value_at book file point ≡ Some o.value)
+  pub xid : ℕ
+  pub call : Body
+  pub first : IsFirstCall file call
+  pub taken : TakesCall book o.client point xid call
 
 -- a change of the file was made at the point, of which the server's journal tells this
 pub record IsEntered (book : Book) (file point version len : ℕ) (digest : List ℕ) : Type 0 where
@@ -181,13 +213,14 @@ pub record IsCloseRefused (book : Book) (o : Op) (status : ℕ) : Type 0 where
   pub bytes : List ℕ
   pub event_is : moment.event ≡ Serves session now bytes
   pub owner : owner_in (numbered moment.before.sessions session) ≡ o.client
-  -- that of its content
+  -- that of its content, which was its own
   pub xid : ℕ
   pub call : Commit
   pub parsed : parse_of server_waiting bytes ≡ Ok (message.Call xid (body.Lb (lb.CommitTmp call)))
   pub size : call.size ≡ length o.value
   pub after : o.begin ≤ step_of moment
   pub before : step_of moment ≤ end
+  pub waits : WaitsFor moment o.client session xid
   pub full : is_full moment.before.server (length o.value) ≡ true
 
 -- the cause of how an operation ended, or goes on, that asked the server

@@ -22,7 +22,10 @@ use Rattle.trace_replay.specs.Ops.{no_traffic}
 use Rattle.trace_replay.specs.Commands.{word_of, file_of}
 use Rattle.trace_replay.specs.Core.{Session, Event.Settles, Event.Cuts, numbered}
 use Rattle.trace_replay.specs.Trail.{Deed, Moment, Said, AreCounted, told_of, events_of, deeds_of, told_in, openings_of, commands_of, step_of, sent_of, taken_of}
-use Rattle.trace_replay.specs.Traffic.{is_of, traffic_of, read_traffic, stored_traffic, SavesAll, GotBy, CountsOwn, SentCommit, AttemptsEnd, AttemptsMet, deals_of, IsFor, AreOwn, NamesChunks, last_fetch}
+use Rattle.trace_replay.specs.Traffic.{is_of, traffic_of, stored_traffic, SavesAll, CountsOwn, SentCommit, AttemptsEnd, AttemptsMet, deals_of, IsFor, AreOwn, NamesChunks}
+use Rattle.trace_replay.specs.Fetches.{EachReaches, GotBy, last_fetch, read_traffic}
+use Rattle.trace_replay.specs.Owing.{owes_nothing, PaysAll}
+use Rattle.trace_replay.specs.Numbered.{numbers_of, CountOn}
 use Rattle.trace_replay.specs.Book.{Book, Or, version_at}
 use Rattle.trace_replay.specs.Causes.{HasCause, can_ask, is_busy, local_before, own_answer}
 
@@ -174,14 +177,20 @@ pub record IsFaithful (input : List ℕ) (book : Book) : Type 0 where
   -- nothing is sent or taken but for an operation, and what is sent for one are its own calls
   pub owned : (m : Moment) → Contains book.moments m → IsFor book.ops m
   pub calls : (k : ℕ) (o : Op) → slice_get book.ops k ≡ Some o → AreOwn o.word o.file o.value (deals_of o book.moments)
+  -- the calls that go up a session are numbered from 1 on, in order: no two have one number, also where its client left it
+  pub numbered : (session : ℕ) → CountOn 1 (numbers_of session book.moments)
   -- what a client answers by itself counts nothing
   pub silent : (k : ℕ) (o : Op) → slice_get book.ops k ≡ Some o → o.end ≡ Some o.begin → o.traffic ≡ no_traffic
   pub opened : (k len : ℕ) (digest : List ℕ) (o : Op) → slice_get book.ops k ≡ Some o → o.outcome ≡ told.Opened len digest → OpenedBy book o
-  -- An open that got its content had it kept, and sent no READ, or reached each chunk of it since its last attempt began, in order, and each once: by a
-  -- READ, or by the index.
+  -- Each attempt of an open, whatever comes of it, has reached the first of the chunks that GETHASH answers told it, in order, and each once: by a READ, or
+  -- by the index.
+  pub reached : (k : ℕ) (o : Op) → slice_get book.ops k ≡ Some o → o.word ≡ word.Open → EachReaches (deals_of o book.moments)
+  -- an open that got its content had it kept, and sent no READ, or its last attempt was told its chunks, and reached all of them
   pub fetched : (k len : ℕ) (digest : List ℕ) (o : Op) → slice_get book.ops k ≡ Some o → o.outcome ≡ told.Opened len digest → Or book (GotBy o (deals_of o book.moments))
-  -- a close, whatever comes of it, has named the first chunks of its value, in order, and sent the bytes of those that the server didn't know
+  -- a close, whatever comes of it, has named the first chunks of its value, in order
   pub named : (k : ℕ) (o : Op) → slice_get book.ops k ≡ Some o → o.word ≡ word.Close → NamesChunks o.value (deals_of o book.moments)
+  -- and has sent the bytes of just those that answers told it the server doesn't know
+  pub paid : (k : ℕ) (o : Op) → slice_get book.ops k ≡ Some o → o.word ≡ word.Close → PaysAll o.value owes_nothing (deals_of o book.moments)
   pub stored : (k : ℕ) (o : Op) → slice_get book.ops k ≡ Some o → SentCommit o (sent_of book.moments) → o.traffic ≡ stored_traffic o.value (deals_of o book.moments)
   -- one whose chunks the server all knew sent no byte of its value
   pub saved : (k : ℕ) (o : Op) → slice_get book.ops k ≡ Some o → o.word ≡ word.Close → SavesAll o (deals_of o book.moments)

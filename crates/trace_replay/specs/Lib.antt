@@ -18,6 +18,11 @@ pub mod Causes
 pub mod Rows
 pub mod TrailRows
 pub mod Traffic
+pub mod Fetches
+pub mod Owing
+pub mod Numbered
 pub mod Faithful
 pub mod Complete
+pub mod Saving
+pub mod SavingRows
 pub mod Traces

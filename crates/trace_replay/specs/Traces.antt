@@ -30,6 +30,7 @@ use Rattle.trace_replay.specs.Traffic.{deals_of, stored_traffic}
 use Rattle.trace_replay.specs.Book.{Book, AreApart, HadContent, Or, book_of, value_at, version_at}
 use Rattle.trace_replay.specs.Faithful.{IsFaithful}
 use Rattle.trace_replay.specs.Complete.{IsComplete}
+use Rattle.trace_replay.specs.Saving.{IsSaving}
 
 abbrev pub Fails : TraceErr → Result World Refused → Type 0
 Fails errors.Memory ran = Unit {0}
@@ -132,12 +133,14 @@ HoldsMessages w = (number : ℕ) (q : Wire) → numbered w.wires number ≡ Some
 
 -- A replayed history tells what the trace says. Each open in it gave the whole content that its file had at one moment within it, and each
 -- close that ended Closed replaced its file wholly by its local content at one moment within it, wherever no two different byte lists
--- that were hashed in the run share a digest. An operation that is left alone has ended. What the server holds is what the history says,
--- and what is on its way between the two ends are whole messages, which their ends take.
+-- that were hashed in the run share a digest. An operation that is left alone has ended, and bytes that the other end was found to have were
+-- not sent. What the server holds is what the history says, and what is on its way between the two ends are whole messages, which their ends
+-- take.
 pub record IsKeptPromise (input : List ℕ) (w : World) : Type 0 where
   pub faithful : IsFaithful input (book_of w (moments input))
   pub legal : AreApart (hashed input) → IsLegal (history_of w)
   pub complete : IsComplete (book_of w (moments input)) w
+  pub saving : IsSaving (book_of w (moments input))
   pub waiting : HoldsValues (book_of w (moments input)) w
   pub tree : HoldsFiles (book_of w (moments input)) w
   pub contents : HoldsContents (book_of w (moments input)) w

@@ -1,8 +1,7 @@
 -- What an operation sent and received, by the messages of the run.
-use Rattle.std.specs.Prelude.{◌≡◌, ◌⊎◌, ℕ, ◌+◌, ◌≤◌, List, [], ◌∷◌, ◌++◌, length, map, take, option_map, slice_get, Option, Some, None, Bool, true, false, not, ◌&&◌, ◌==◌, nat_le, Contains}
+use Rattle.std.specs.Prelude.{◌≡◌, ◌⊎◌, ℕ, ◌+◌, ◌≤◌, List, [], ◌∷◌, ◌++◌, length, map, take, option_map, slice_get, Option, Some, None, Bool, true, false, ◌&&◌, ◌==◌, nat_le, Contains}
 use Rattle.xdr_codec.specs.declared.answer.Answer.TheVariants.{Done, Failed}
 use Rattle.chunk_cut.specs.Chunks.{chunks_of}
-use Rattle.chunk_cut.specs.Places.{chunk_bytes}
 use Rattle.xdr_codec.specs.Handle.{handle_bytes}
 use Rattle.chunk_cut.specs.declared.chunk.Chunk.{Chunk}
 use Rattle.xdr_codec.specs.declared.status.Status.TheVariants as status
@@ -20,7 +19,7 @@ use Rattle.register_model.specs.declared.op.Word.{Word}
 use Rattle.register_model.specs.declared.op.Word.TheVariants as word
 use Rattle.trace_replay.specs.Ops.{no_traffic}
 use Rattle.trace_replay.specs.Core.{happens}
-use Rattle.trace_replay.specs.Trail.{Moment, Said, place_of, step_of, client_of, taken_by, given_by}
+use Rattle.trace_replay.specs.Trail.{Moment, Said, step_of, client_of, taken_by, given_by}
 
 abbrev pub until : (end : Option ℕ) → (step : ℕ) → Bool
 until None step = true
@@ -176,71 +175,13 @@ abbrev pub commits_in : List Deal → ℕ
 commits_in [] = 0
 commits_in (d ∷ ds) = commit_number d + commits_in ds
 
--- A close named the first chunks of its value, in order, each once, and sent the bytes of one for each answer that one isn't known; it asked for
--- one temporary file at most, and had its file replaced by one once at most.
+-- A close named the first chunks of its value, in order, each once; it asked for one temporary file at most, and had its file replaced by one once
+-- at most.
 pub record NamesChunks (value : List ℕ) (deals : List Deal) : Type 0 where
   pub count : ℕ
   pub named : named_in deals ≡ take count (chunks_of value)
-  pub whole : whole_in deals ≡ unknown_in deals
   pub makes : made_in deals ≤ 1
   pub commits : commits_in deals ≤ 1
-
--- ---- what the last attempt of an open read
-
--- the chunks that were asked for by a READ, those that the index gave, each by its place and length, and how many bytes came
-pub record LastFetch : Type 0 where
-  pub reads : List (ℕ × ℕ)
-  pub found : List (ℕ × ℕ)
-  pub bytes : ℕ
-
-abbrev pub no_fetch : LastFetch
-no_fetch = record { reads = []; found = []; bytes = 0 }
-
--- a GETHASH from the file's first byte on begins a new attempt
-abbrev pub fetch_if : (begins : Bool) → LastFetch → LastFetch
-fetch_if true f = no_fetch
-fetch_if false f = f
-
-abbrev pub fetch_with : LastFetch → Deal → LastFetch
-fetch_with f (Sent (message.Call xid (body.Lb (lb.GetHash a)))) = fetch_if (a.offset == 0) f
-fetch_with f (Sent (message.Call xid (body.Nfs (nfs.Read r)))) = record f { reads = f.reads ++ (r.offset, r.count) ∷ [] }
-fetch_with f (Found place) = record f { found = f.found ++ place ∷ [] }
-fetch_with f (Took (message.Answer xid (body.Nfs (nfs.ReadAnswer (Done piece))))) = record f { bytes = f.bytes + length piece.bytes }
-fetch_with f d = f
-
-abbrev pub fetch_from : LastFetch → List Deal → LastFetch
-fetch_from f [] = f
-fetch_from f (d ∷ ds) = fetch_from (fetch_with f d) ds
-
-abbrev pub last_fetch : List Deal → LastFetch
-last_fetch ds = fetch_from no_fetch ds
-
-abbrev pub is_same : Bool → Bool → Bool
-is_same true b = b
-is_same false b = not b
-
--- those chunks of which this is so
-abbrev pub chosen_if : Bool → Chunk → List (ℕ × ℕ)
-chosen_if true c = place_of c ∷ []
-chosen_if false c = []
-
-abbrev pub chosen : (which : Bool) → List Bool → List Chunk → List (ℕ × ℕ)
-chosen which [] cs = []
-chosen which (b ∷ bs) [] = []
-chosen which (b ∷ bs) (c ∷ cs) = chosen_if (is_same b which) c ++ chosen which bs cs
-
-abbrev pub lengths_of : List (ℕ × ℕ) → ℕ
-lengths_of [] = 0
-lengths_of (p ∷ ps) = p.1 + lengths_of ps
-
--- Each chunk of a content was reached once, and in order: a READ went out for it exactly where the index didn't give its bytes, and what came are the
--- bytes of those.
-pub record ReachesAll (content : List ℕ) (f : LastFetch) : Type 0 where
-  pub given : List Bool
-  pub count : length given ≡ length (chunks_of content)
-  pub found : f.found ≡ chosen true given (chunks_of content)
-  pub reads : f.reads ≡ chosen false given (chunks_of content)
-  pub bytes : f.bytes ≡ lengths_of f.reads
 
 -- ---- attempts that met another version
 
@@ -320,11 +261,11 @@ IsFetchCall file (message.Call xid (body.Lb (lb.GetHash a))) = a.handle ≡ hand
 IsFetchCall file (message.Call xid (body.Nfs (nfs.Read r))) = r.handle ≡ handle_bytes file
 IsFetchCall file m = ⊥
 
--- a close puts chunks of its value into a temporary file, and has its file replaced by it
+-- a close puts chunks of its value into a temporary file (`NamesChunks` and `PaysAll` say which), and has its file replaced by it
 abbrev pub IsStoreCall : (file : ℕ) (value : List ℕ) → Message → Type 0
 IsStoreCall file value (message.Call xid (body.Lb (lb.MkTmpFile a))) = a.handle ≡ handle_bytes file
 IsStoreCall file value (message.Call xid (body.Lb (lb.CondWrite a))) = Unit {0}
-IsStoreCall file value (message.Call xid (body.Lb (lb.TmpWrite a))) = (i : ℕ) × (c : Chunk) × (slice_get (chunks_of value) i ≡ Some c) × (a.offset ≡ c.start) × (a.bytes ≡ chunk_bytes value c)
+IsStoreCall file value (message.Call xid (body.Lb (lb.TmpWrite a))) = Unit {0}
 IsStoreCall file value (message.Call xid (body.Lb (lb.CommitTmp a))) = (a.handle ≡ handle_bytes file) × (a.size ≡ length value)
 IsStoreCall file value m = ⊥
 
@@ -354,14 +295,6 @@ bytes_in (d ∷ ds) = bytes_number d + bytes_in ds
 -- A close that sent its COMMITTMP named each chunk of its value by a CONDWRITE, and sent the bytes of those that the server didn't know.
 abbrev pub stored_traffic : (value : List ℕ) → List Deal → Traffic
 stored_traffic value deals = record no_traffic { cond = length (chunks_of value); tmp = unknown_in deals; «data» = bytes_in deals }
-
--- an open that read just this
-abbrev pub read_traffic : LastFetch → Traffic
-read_traffic f = record no_traffic { read = length f.reads; «data» = f.bytes }
-
--- An open that got its content by what its client kept sent no READ, and took no byte of it; else its last attempt reached each chunk of it once.
-abbrev pub GotBy : Op → List Deal → Type 0
-GotBy o deals = (((attempts_in deals).last ≡ None) × (o.traffic ≡ no_traffic)) ⊎ ReachesAll o.value (last_fetch deals)
 
 -- and a close whose chunks the server all knew sent no byte of its value
 abbrev pub SavesAll : Op → List Deal → Type 0

@@ -291,14 +291,19 @@ abbrev pub served_hashed : Core → (session : ℕ) → Result Message WireFault
 served_hashed k session (Ok m) = server_hashed k.server session m
 served_hashed k session (Err e) = []
 
-abbrev pub heard_hashed : Option Seat → (now : ℕ) → List ℕ → List (List ℕ)
-heard_hashed None now bytes = []
-heard_hashed (Some seat) now bytes = client_hashed seat.client (parse_of (waiting_of seat.client) bytes) now
+abbrev pub heard_hashed_if : State → (now : ℕ) → List ℕ → (is_newest : Bool) → List (List ℕ)
+heard_hashed_if c now bytes true = client_hashed c (parse_of (waiting_of c) bytes) now
+heard_hashed_if c now bytes false = []
+
+-- what comes on a session that its client has left is dropped, and nobody hashes it
+abbrev pub heard_hashed : (number now : ℕ) → List ℕ → Option Seat → List (List ℕ)
+heard_hashed number now bytes None = []
+heard_hashed number now bytes (Some seat) = heard_hashed_if seat.client now bytes (is_newest seat.session number)
 
 -- the byte lists whose digests are sent or compared then, as names of chunks
 abbrev pub hashed_by : Core → Event → List (List ℕ)
 hashed_by k (Serves number now bytes) = served_hashed k number (parse_of server_waiting bytes)
-hashed_by k (Hears number now bytes) = heard_hashed (numbered k.seats (owner_in (numbered k.sessions number))) now bytes
+hashed_by k (Hears number now bytes) = heard_hashed number now bytes (numbered k.seats (owner_in (numbered k.sessions number)))
 hashed_by k e = []
 
 abbrev pub hashed_in : Moment → List (List ℕ)

@@ -1,9 +1,19 @@
--- Worked traces: which events and commands their lines tell, how their steps and the calls of a connection count, which messages begin an attempt, and which close has a value.
+-- Worked traces: which events and commands their lines tell, how their steps and the calls of a connection count, which numbers calls have, which messages
+-- begin an attempt, what attempts read, what a close sends whole, and which close has a value.
 use Rattle.std.specs.Prelude.{◌≡◌, ℕ, List, [], ◌∷◌, ◌++◌, map, Bool, true, false, Some, codes, refl}
+use Rattle.std.proofs.Common.{arith}
+use Rattle.chunk_cut.specs.declared.chunk.Chunk.{Chunk}
 use Rattle.command_text.specs.Parts.{lines_of}
 use Rattle.command_text.specs.declared.command.Command.TheVariants as command
 use Rattle.rpc_record.specs.Records.{record_of}
-use Rattle.open_close.specs.Opening.{hash_call}
+use Rattle.client_cache.specs.Cache.{fronted}
+use Rattle.xdr_codec.specs.declared.answer.Answer.TheVariants.{Done, Failed}
+use Rattle.xdr_codec.specs.declared.status.Status.TheVariants as status
+use Rattle.hash_calls.specs.declared.message.Lb.TheVariants as lb
+use Rattle.wire.specs.declared.message.Body.TheVariants as body
+use Rattle.wire.specs.declared.message.Message.TheVariants as message
+use Rattle.open_close.specs.Closing.{cond_call, temp_call}
+use Rattle.open_close.specs.Opening.{hash_call, read_call}
 use Rattle.open_close.specs.State as client
 use Rattle.server_core.specs.State as server
 use Rattle.register_model.specs.declared.op.Op.{Op}
@@ -11,7 +21,10 @@ use Rattle.register_model.specs.declared.op.Word.TheVariants as word
 use Rattle.trace_replay.specs.Ops.{begun}
 use Rattle.trace_replay.specs.Core.{Core, new_seat, happens, Event.Joins, Event.Does, Event.Settles, Event.Cuts, Event.Hangs}
 use Rattle.trace_replay.specs.Trail.{Deed, Said, moments, deeds_of, commands_of, events_of, AreCounted}
-use Rattle.trace_replay.specs.Traffic.{attempts_of}
+use Rattle.trace_replay.specs.Traffic.{Deal, Deal.Took, Deal.Found, Deal.Sent, attempts_of}
+use Rattle.trace_replay.specs.Fetches.{fetches_in, no_fetch, EachReaches}
+use Rattle.trace_replay.specs.Owing.{owes_nothing, Pays, PaysAll}
+use Rattle.trace_replay.specs.Numbered.{numbers_of}
 use Rattle.trace_replay.specs.Causes.{can_ask}
 
 abbrev header : List ℕ
@@ -46,6 +59,17 @@ calls_counted = refl
 pub numbers_left : can_ask true 4293967295 ∷ can_ask true 4293967296 ∷ can_ask false 0 ∷ [] ≡ true ∷ false ∷ false ∷ []
 numbers_left = refl
 
+-- ---- the numbers of calls
+
+-- a client asks on its first session, and again on its second one
+abbrev opens_twice : List ℕ
+opens_twice = header ++ codes "file a t:abc\njoin 1 0 0\ndo 1 5 open #2\ncut 1 9\njoin 1 9 9\ndo 1 9 open #2\n"
+
+-- each session's calls are numbered from 1 on
+pub sessions_numbered : map (λ n. numbers_of n (moments opens_twice)) (1 ∷ 2 ∷ 3 ∷ []) ≡ (1 ∷ []) ∷ (1 ∷ []) ∷ [] ∷ []
+unfolding record_of fronted
+sessions_numbered = refl
+
 -- ---- attempts
 
 -- an open of the first client
@@ -59,6 +83,53 @@ asks step client offset = record { step = step; client = client; message = hash_
 -- a further piece begins no attempt, nor does what another client sends, or this one before its begin and behind its end
 pub attempts_counted : attempts_of opened (asks 2 1 0 ∷ asks 3 1 0 ∷ asks 5 1 4096 ∷ asks 7 2 0 ∷ asks 9 1 0 ∷ asks 10 1 0 ∷ []) ≡ 2
 attempts_counted = refl
+
+-- ---- what attempts read
+
+abbrev one : Chunk
+one = record { start = 0; len = 2048; digest = 1 ∷ [] }
+
+abbrev other : Chunk
+other = record { start = 2048; len = 2952; digest = 2 ∷ [] }
+
+-- an attempt was told two chunks, found the first by the index and sent a READ for the second; then another began
+abbrev read_twice : List Deal
+read_twice =
+    Sent (hash_call 1 2 0)
+    ∷ Took (message.Answer 1 (body.Lb (lb.GetHashAnswer (Done (record { version = 1; term = 0; size = 5000; pairs = record { digest = 1 ∷ []; size = 2048 } ∷ record { digest = 2 ∷ []; size = 2952 } ∷ []; eof = true })))))
+    ∷ Found (0, 2048)
+    ∷ Sent (read_call 2 2 other)
+    ∷ Sent (hash_call 3 2 0)
+    ∷ []
+
+pub attempts_read : fetches_in read_twice ≡ no_fetch ∷ record { told = one ∷ other ∷ []; reads = (2048, 2952) ∷ []; found = (0, 2048) ∷ []; bytes = 0 } ∷ no_fetch ∷ []
+attempts_read = refl
+
+pub attempts_reach : EachReaches read_twice
+attempts_reach = (record { given = []; within = omega arith; found = refl; reads = refl }, (record { given = true ∷ false ∷ []; within = omega arith; found = refl; reads = refl }, (record { given = []; within = omega arith; found = refl; reads = refl }, tt)))
+
+-- ---- what a close sends whole
+
+abbrev value : List ℕ
+value = codes "abcdefg"
+
+abbrev front : Chunk
+front = record { start = 0; len = 3; digest = [] }
+
+abbrev back : Chunk
+back = record { start = 3; len = 4; digest = [] }
+
+-- that the chunk of this CONDWRITE isn't known
+abbrev unknown : (xid : ℕ) → Deal
+unknown xid = Took (message.Answer xid (body.Lb (lb.CondWriteAnswer (Failed status.HashNotFound tt))))
+
+-- of two chunks the server doesn't know the second, whose CONDWRITE has the number 4
+pub one_is_paid : PaysAll value owes_nothing (Sent (cond_call 3 1 front) ∷ Sent (cond_call 4 1 back) ∷ unknown 4 ∷ Sent (temp_call 5 1 value back) ∷ [])
+one_is_paid = (tt, tt, (tt, tt, (tt, refl, ((refl, refl), tt, refl))))
+
+-- the other one's bytes don't do
+pub other_is_not : Pays value (Some back) (Sent (temp_call 5 1 value front)) → ⊥
+other_is_not = λ h. absurd (omega (arith, h.0))
 
 -- ---- the value of a close
 

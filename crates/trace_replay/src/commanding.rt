@@ -13,10 +13,10 @@ use crate::ops;
 use crate::session::{Session, short_number};
 use crate::world_core::{Core, count_on};
 use command_text::command::Command;
-use lb_base::items::Items;
 use open_close::client::Client;
 use open_close::step::ClientStep;
 use register_model::op::{Op, Word};
+use shared_bytes::SharedBytes;
 use std::alloc::{AllocError, Global};
 
 /// What a command leaves of its client's newest session.
@@ -41,7 +41,7 @@ fn command_session(
 }
 
 /// Puts a command's own operation behind the others, as its first step leaves it. It comes without
-/// its value: the local content is copied only for a close that goes on.
+/// its value: the local content gets a further owner only for a close that goes on.
 fn begin(
     alloc: Global,
     ops: &mut Vec<Op>,
@@ -53,7 +53,7 @@ fn begin(
     ensures { OnOk result (ops.new.items ≡ ops.old.items ++ op_after (record op { value = value_at_begin client.now op.word op.file acts.now.ended }) client.now [] step acts.now ∷ []) }
 {
     let mut own = op;
-    own.value = value_at_begin(alloc, client, own.word, own.file, &acts.ended)?;
+    own.value = value_at_begin(client, own.word, own.file, &acts.ended)?;
     ops::note(alloc, &mut own, client, &Vec::new(alloc), step, acts)?;
     ops.push(own)?;
     Ok(())
@@ -77,10 +77,10 @@ fn step_and_number(steps: u64, place: usize) -> Result<(u64, u32), AllocError>
 }
 
 /// The operation that a command begins, without its value.
-fn begun_by(alloc: Global, number: u32, step: u64, command: &Command) -> Op
+fn begun_by(number: u32, step: u64, command: &Command) -> Op
     ensures { result ≡ begun number (word_of command.now) (file_of command.now) [] step }
 {
-    let value = Items::new(alloc);
+    let value = SharedBytes::empty();
     ops::begun(number, word_of(command), file_of(command), value, step)
 }
 
@@ -102,7 +102,7 @@ fn does_at(
             return Err(error);
         }
     };
-    let op = begun_by(alloc, number, step, &command);
+    let op = begun_by(number, step, &command);
     let word = op.word;
     let seat = &core.seats[place];
     let session = seat.session();

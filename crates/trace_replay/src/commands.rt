@@ -6,11 +6,11 @@ ghost use Rattle.open_close.specs.State.{local_bytes};
 ghost use Rattle.trace_replay.specs.Commands.{word_of, file_of, value_at_begin};
 
 use command_text::command::Command;
-use lb_base::items::{Bytes, Items};
 use open_close::client::Client;
 use open_close::step::Ended;
 use register_model::op::Word;
-use std::alloc::{AllocError, Global};
+use shared_bytes::SharedBytes;
+use std::alloc::AllocError;
 
 /// What a command is called.
 pub fn word_of(command: &Command) -> Word
@@ -38,13 +38,13 @@ pub fn file_of(command: &Command) -> u64
     }
 }
 
-/// The local content of a file; none where it isn't open.
-pub fn local_bytes(alloc: Global, client: &Client, file: u64) -> Result<Bytes, AllocError>
+/// One more owner of the local content of a file; no byte where it isn't open.
+pub fn local_bytes(client: &Client, file: u64) -> Result<SharedBytes, AllocError>
     ensures { IfOk result (λ bytes. bytes ≡ local_bytes client.now.opened file) }
 {
     match client.local(file) {
-        Some(bytes) => Items::copy_of(alloc, bytes),
-        None => Ok(Items::new(alloc)),
+        Some(bytes) => bytes.share(),
+        None => Ok(SharedBytes::empty()),
     }
 }
 
@@ -52,19 +52,18 @@ pub fn local_bytes(alloc: Global, client: &Client, file: u64) -> Result<Bytes, A
 /// its first step ends it. That step leaves a content that is to be stored as it was, so the client
 /// behind it will do.
 pub fn value_at_begin(
-    alloc: Global,
     client: &Client,
     word: Word,
     file: u64,
     ended: &Option<Ended>,
-) -> Result<Bytes, AllocError>
+) -> Result<SharedBytes, AllocError>
     ensures { IfOk result (λ bytes. bytes ≡ value_at_begin client.now word file ended.now) }
 {
     match word {
         Word::Close => match ended {
-            None => local_bytes(alloc, client, file),
-            Some(_) => Ok(Items::new(alloc)),
+            None => local_bytes(client, file),
+            Some(_) => Ok(SharedBytes::empty()),
         },
-        _ => Ok(Items::new(alloc)),
+        _ => Ok(SharedBytes::empty()),
     }
 }

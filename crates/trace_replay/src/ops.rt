@@ -13,6 +13,7 @@ use open_close::client::Client;
 use open_close::step;
 use open_close::step::{BadPeer, ClientStep, Counts, Ended};
 use register_model::op::{Op, Outcome, Traffic, Word};
+use shared_bytes::SharedBytes;
 use std::alloc::{AllocError, Global};
 use xdr_codec::status;
 use xdr_codec::status::Status;
@@ -112,8 +113,7 @@ fn point_of(word: Word, point: Option<u64>, ended: &Ended, taken: &[TakenCall]) 
 
 /// Puts the content that an open got in its place. A close has its value from its begin.
 fn put_value(
-    alloc: Global,
-    value: &mut Bytes,
+    value: &mut SharedBytes,
     client: &Client,
     outcome: &step::Outcome,
 ) -> Result<(), AllocError>
@@ -121,7 +121,7 @@ fn put_value(
 {
     match outcome {
         step::Outcome::Opened { file, .. } => {
-            *value = local_bytes(alloc, client, *file)?;
+            *value = local_bytes(client, *file)?;
             Ok(())
         }
         _ => Ok(()),
@@ -152,7 +152,7 @@ fn counted(traffic: Traffic, counts: Counts) -> Result<Traffic, AllocError>
 }
 
 /// An operation that begins.
-pub fn begun(client: u32, word: Word, file: u64, value: Bytes, step: u64) -> Op
+pub fn begun(client: u32, word: Word, file: u64, value: SharedBytes, step: u64) -> Op
     ensures { result ≡ begun client word file value step }
 {
     Op {
@@ -185,7 +185,7 @@ fn end(
     ensures { OnOk result (op.new ≡ ended_op op.old client.now taken.now step ended.now) }
 {
     op.outcome = told_of(alloc, &ended.outcome)?;
-    put_value(alloc, &mut op.value, client, &ended.outcome)?;
+    put_value(&mut op.value, client, &ended.outcome)?;
     op.end = Some(step);
     op.point = point_of(op.word, op.point, ended, taken);
     Ok(())

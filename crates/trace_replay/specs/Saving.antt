@@ -1,0 +1,118 @@
+-- What is saved: bytes that the other end is found to have are not sent.
+use Rattle.std.specs.Prelude.{◌≡◌, ◌⊎◌, ℕ, ◌<◌, List, [], ◌∷◌, length, Option, Some, None, IsSome, Ok, true, Contains, slice_get}
+use Rattle.sha1.specs.Sha1.{sha1}
+use Rattle.chunk_index.specs.Index.{key_of, place_of}
+use Rattle.client_cache.specs.Cache.{content_of}
+use Rattle.client_cache.specs.declared.kept.Content.{Content}
+use Rattle.command_text.specs.declared.command.Command.TheVariants as command
+use Rattle.xdr_codec.specs.declared.answer.Answer.{Answer}
+use Rattle.xdr_codec.specs.declared.answer.Answer.TheVariants.{Done, Failed}
+use Rattle.xdr_codec.specs.declared.status.Status.TheVariants as status
+use Rattle.hash_calls.specs.declared.call.CondPiece.{CondPiece}
+use Rattle.hash_calls.specs.declared.call.Leased.{Leased}
+use Rattle.hash_calls.specs.declared.message.Lb.TheVariants as lb
+use Rattle.wire.specs.Parse.{parse_of}
+use Rattle.wire.specs.declared.message.Body.TheVariants as body
+use Rattle.wire.specs.declared.message.Message.{Message}
+use Rattle.wire.specs.declared.message.Message.TheVariants as message
+use Rattle.temp_files.specs.Temps.{temp_at}
+use Rattle.server_core.specs.Closing.{cond_fault, bytes_known}
+use Rattle.open_close.specs.Caching.{content_in}
+use Rattle.open_close.specs.Opening.{lease_call, hash_call}
+use Rattle.register_model.specs.declared.op.Op.{Op}
+use Rattle.register_model.specs.declared.op.Outcome.TheVariants as told
+use Rattle.register_model.specs.declared.op.Word.TheVariants as word
+use Rattle.trace_replay.specs.Ops.{no_traffic}
+use Rattle.trace_replay.specs.Core.{Seat, Event.Does, Event.Serves, Event.Hears, numbered, server_waiting, happens}
+use Rattle.trace_replay.specs.Trail.{Moment, step_of, client_of, taken_by}
+use Rattle.trace_replay.specs.Traffic.{is_in}
+use Rattle.trace_replay.specs.Book.{Book}
+
+-- ---- the server knows a chunk
+
+abbrev pub name_call : (xid : ℕ) → CondPiece → Message
+name_call xid a = message.Call xid (body.Lb (lb.CondWrite a))
+
+abbrev pub name_told : (xid : ℕ) → Answer Unit Unit → Message
+name_told xid r = message.Answer xid (body.Lb (lb.CondWriteAnswer r))
+
+-- a moment at which the server takes the CONDWRITE of this number on a session, and the temporary file has room for its bytes
+pub record TakesName (m : Moment) (session xid : ℕ) (a : CondPiece) : Type 0 where
+  pub now : ℕ
+  pub bytes : List ℕ
+  pub event_is : m.event ≡ Serves session now bytes
+  pub call_is : parse_of server_waiting bytes ≡ Ok (name_call xid a)
+  pub free : cond_fault a (temp_at m.before.server.temps session a.fd) ≡ None
+
+-- the bytes that the server's files then have at the place that its index has for the digest, if they are the chunk's
+abbrev pub known_at : Moment → CondPiece → Option (List ℕ)
+known_at m a = bytes_known m.before.server.files a (place_of m.before.server.index.pairs (key_of a.digest))
+
+-- what is told of them: that the chunk isn't known exactly where there are none
+abbrev pub name_answer : (known : Option (List ℕ)) → Answer Unit Unit
+name_answer None = Failed status.HashNotFound tt
+name_answer (Some bytes) = Done tt
+
+-- the server sends just this answer then
+abbrev pub AnswersName : Moment → Type 0
+AnswersName m = (session xid : ℕ) (a : CondPiece) → TakesName m session xid a → (happens m.before m.event).down ≡ record { session = session; message = name_told xid (name_answer (known_at m a)) } ∷ []
+
+-- ---- a client is told of it
+
+-- at a moment a client takes an answer to the CONDWRITE of this number on a session
+abbrev pub TakesTold : Moment → (session xid : ℕ) → Answer Unit Unit → Type 0
+TakesTold m session xid r = (now : ℕ) × (bytes : List ℕ) × (m.event ≡ Hears session now bytes) × Contains (taken_by m.before (client_of m.before m.event) m.event) (name_told xid r)
+
+-- It is what the server made of it at a moment before.
+pub record ToldOf (moments : List Moment) (m : Moment) (session xid : ℕ) (r : Answer Unit Unit) : Type 0 where
+  pub moment : Moment
+  pub there : Contains moments moment
+  pub before : step_of moment < step_of m
+  pub piece : CondPiece
+  pub taken : TakesName moment session xid piece
+  pub answer_is : r ≡ name_answer (known_at moment piece)
+
+abbrev pub AreTold : List Moment → Moment → Type 0
+AreTold moments m = (session xid : ℕ) (r : Answer Unit Unit) → TakesTold m session xid r → ToldOf moments m session xid r
+
+-- the server knew the bytes of each CONDWRITE, when it took it, of which the operation took an answer
+abbrev pub AllKnown : List Moment → Op → Type 0
+AllKnown moments o = (m n : Moment) (session xid : ℕ) (r : Answer Unit Unit) (a : CondPiece) → Contains moments m → Contains moments n → is_in o (step_of n) (client_of n.before n.event) ≡ true → TakesTold n session xid r → TakesName m session xid a → IsSome (known_at m a)
+
+-- ---- a client has the content
+
+-- what an open asks first: which version its file has, where a content of it is kept, and else its chunks
+abbrev pub first_call : (xid file : ℕ) → (kept : Option Content) → Message
+first_call xid file None = hash_call xid file 0
+first_call xid file (Some c) = lease_call xid file
+
+-- a client that is told to open a file answers that by itself, and sends nothing, or asks so
+abbrev pub AsksFirst : Moment → Type 0
+AsksFirst m = (client now file : ℕ) (seat : Seat) → m.event ≡ Does client now (command.Open file) → numbered m.before.seats client ≡ Some seat
+    → ((happens m.before m.event).up ≡ []) ⊎ ((xid : ℕ) × ((happens m.before m.event).up ≡ first_call xid file (content_of seat.client.cache file) ∷ []))
+
+-- An open that is told a version ends in that step by the content that is kept in it, if there is one: nothing is sent for its bytes, and it counts
+-- nothing. Else it asks for the file's chunks.
+abbrev pub EndsBy : Op → (step : ℕ) → (sent : List Message) → (kept : Option (List ℕ)) → Type 0
+EndsBy o step sent (Some bytes) = (o.outcome ≡ told.Opened (length bytes) (sha1 bytes)) × (o.end ≡ Some step) × (o.value ≡ bytes) × (sent ≡ []) × (o.traffic ≡ no_traffic)
+EndsBy o step sent None = (xid : ℕ) × (sent ≡ hash_call xid o.file 0 ∷ [])
+
+-- it is so of an operation at whose moment its client takes the answer to a GETLEASE
+abbrev pub UsesKept : Moment → Op → Type 0
+UsesKept m o = (xid : ℕ) (l : Leased) (seat : Seat) → is_in o (step_of m) (client_of m.before m.event) ≡ true → numbered m.before.seats (client_of m.before m.event) ≡ Some seat
+    → Contains (taken_by m.before (client_of m.before m.event) m.event) (message.Answer xid (body.Lb (lb.GetLeaseAnswer (Done l))))
+    → EndsBy o (step_of m) (happens m.before m.event).up (content_in l.version (content_of seat.client.cache o.file))
+
+-- ---- all of it
+
+pub record IsSaving (book : Book) : Type 0 where
+  -- the server answers a CONDWRITE that a chunk isn't known exactly where its index doesn't lead to its bytes
+  pub known : (m : Moment) → Contains book.moments m → AnswersName m
+  -- and that is what the client takes
+  pub told : (m : Moment) → Contains book.moments m → AreTold book.moments m
+  -- so a close of which the server knew all chunks sent no byte of its value
+  pub saved : (k : ℕ) (o : Op) → slice_get book.ops k ≡ Some o → o.word ≡ word.Close → AllKnown book.moments o → (o.traffic.tmp ≡ 0) × (o.traffic.«data» ≡ 0)
+  -- an open of a file of which a content is kept asks for its version
+  pub asked : (m : Moment) → Contains book.moments m → AsksFirst m
+  -- and gets what is kept in the version that it is told
+  pub used : (m : Moment) (k : ℕ) (o : Op) → Contains book.moments m → slice_get book.ops k ≡ Some o → UsesKept m o
