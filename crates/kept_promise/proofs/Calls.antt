@@ -155,7 +155,7 @@ serve_hash laws book k qs n now x q xid f o us g =
     let a : Ask = record { xid = xid; call = Hash f o } in
     let h = session_in book k qs n now x q a us g in
     let fits = first_fits book k qs n now x q a us g in
-    leads_by book k qs n now x q a us k.server.temps (hash_index k.server f o) (hash_reply k.server.files f o) g (same_temps book k n x q a (hash_reply k.server.files f o) h g.kept.shelf (λ uncut. hash_wanted (onward book 1 book.ops) (job h.seat) xid k.server.files f o) (λ uncut vs e. held_still book k qs n now x q a us g (hash_reply k.server.files f o) tt tt uncut vs e) refl (hash_reply_fits laws book k.server xid f o g.kept.server fits.0 fits.1) (λ uncut. hash_told laws book k qs n now x q xid f o us h.seat g.kept h.owner (h.talk uncut) g.first fits g.noted))
+    leads_by book k qs n now x q a us k.server.temps (hash_index k.server f o) (hash_reply k.server.files f o) g (same_temps book k n x q a (hash_reply k.server.files f o) h g.kept.shelf (λ uncut. hash_wanted (onward book 1 book.ops) (job h.seat) xid k.server.files f o) (λ uncut vs e. held_still book k qs n now x q a us g (hash_reply k.server.files f o) tt tt uncut vs e) refl (hash_reply_fits laws book k.server xid f o g.kept.server fits.0 fits.1) (λ uncut. hash_told laws book k qs n now x q xid f o us h.seat g.kept h.owner (h.here uncut).0 (h.talk uncut) g.first fits g.noted))
 
 pub serve_read : FitLaws → (book : Book) (k : Core) (qs : List Queue) (n now : ℕ) (x : Session) (q : Queue) (xid f : ℕ) (d : Chunk) (us : List Ask) → Given book k qs n now x q (record { xid = xid; call = Read f d }) us → Leads book (rest_of qs n q us) (answered k n (max k.server.moment now) x (record { xid = xid; call = Read f d }) k.server.temps k.server.index (read_reply k.server.files f d))
 serve_read laws book k qs n now x q xid f d us g =
@@ -172,7 +172,7 @@ serve_lease laws book k qs n now x q xid f us g =
     let a : Ask = record { xid = xid; call = Lease f } in
     let h = session_in book k qs n now x q a us g in
     let fits = first_fits book k qs n now x q a us g in
-    leads_by book k qs n now x q a us k.server.temps k.server.index (lease_reply k.server.files f) g (same_temps book k n x q a (lease_reply k.server.files f) h g.kept.shelf (λ uncut. lease_wanted (onward book 1 book.ops) (job h.seat) xid k.server.files f) (λ uncut vs e. held_still book k qs n now x q a us g (lease_reply k.server.files f) tt tt uncut vs e) refl (lease_reply_fits laws book k.server xid f g.kept.server fits.0 fits.1) (λ uncut. lease_told book k qs n x q xid f us h.seat g.kept h.owner (h.talk uncut) g.first fits.1))
+    leads_by book k qs n now x q a us k.server.temps k.server.index (lease_reply k.server.files f) g (same_temps book k n x q a (lease_reply k.server.files f) h g.kept.shelf (λ uncut. lease_wanted (onward book 1 book.ops) (job h.seat) xid k.server.files f) (λ uncut vs e. held_still book k qs n now x q a us g (lease_reply k.server.files f) tt tt uncut vs e) refl (lease_reply_fits laws book k.server xid f g.kept.server fits.0 fits.1) (λ uncut. lease_told laws book k qs n now x q xid f us h.seat g.kept h.owner (h.here uncut).0 (h.talk uncut) g.first fits g.noted))
 
 -- an answer that has nothing to tell
 pub serve_plain : FitLaws → (book : Book) (k : Core) (qs : List Queue) (n now : ℕ) (x : Session) (q : Queue) (a : Ask) (us : List Ask) (index : Indexed) (r : Reply) → (g : Given book k qs n now x q a us) → (x.cut ≡ false → Wanted (onward book 1 book.ops) (job (session_in book k qs n now x q a us g).seat) a.xid r) → (x.cut ≡ false → (vs : List Ask) → q.ups ≡ a ∷ vs → Held k.server.temps n vs (downs_then x q a r) (locals_of (session_in book k qs n now x q a us g).seat.client) (job (session_in book k qs n now x q a us g).seat))

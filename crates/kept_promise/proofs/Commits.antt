@@ -7,7 +7,7 @@ use Rattle.server_core.specs.Closing.{answers, sends, changes_most}
 use Rattle.temp_files.specs.Pieces.{joined}
 use Rattle.open_close.specs.State as client
 use Rattle.open_close.specs.declared.task.Stage.TheVariants as stage
-use Rattle.kept_promise.proofs.Common.{nat_tests, slice_get, cond, ◌==◌, ◌||◌, nat_lt, if◌then◌else◌, handle_bytes, chunks_of, Failed, Status, message_spell, Node, root, file, node_of, at, commits, commits_to, commits_whole, has_waiting, is_full, size_most, Temp, temp_at, without_temp, key_of, assembled, Change, File, content_of, TakenCall, Op, Core, Session, Event.Serves, numbered, with_numbered, owner_in, hashed_of, Book, Or, Call.Commit, Reply.Changed, Ask, Queue, ask_message}
+use Rattle.kept_promise.proofs.Common.{nat_tests, slice_get, cond, ◌==◌, ◌||◌, nat_lt, if◌then◌else◌, handle_bytes, chunks_of, Failed, Status, message_spell, Node, root, file, node_of, at, commits, commits_to, commits_whole, has_waiting, is_full, size_most, Temp, temp_at, without_temp, key_of, assembled, Change, File, Stage, content_of, TakenCall, Op, Core, Session, Event.Serves, numbered, with_numbered, owner_in, hashed_of, Book, Or, Call.Commit, Reply.Changed, Ask, Queue, ask_message}
 use Rattle.kept_promise.proofs.Statements.{CallFits}
 use Rattle.kept_promise.proofs.Lists.{some_is, nothing_there, same_or_not, of_appended, count_more, false_and_true}
 use Rattle.kept_promise.proofs.Keys.{times, times_append, own, on_way, change_key, ask_key, told_key}
@@ -27,7 +27,7 @@ use Rattle.kept_promise.proofs.Fills.{file_there}
 use Rattle.kept_promise.proofs.Facts.{FileIs, IsSession, IsKept, commits_in}
 use Rattle.kept_promise.proofs.Takes.{took, file_still}
 use Rattle.kept_promise.proofs.Serves.{answered, parsed}
-use Rattle.kept_promise.proofs.Tells.{Found, is_root, is_gone, is_file, looked}
+use Rattle.kept_promise.proofs.Tells.{Found, is_root, is_gone, is_file, looked, waits_in}
 use Rattle.kept_promise.proofs.Shelves.{of_removed, of_lookup, joined_alike, joined_is}
 use Rattle.kept_promise.proofs.Calls.{Given, session_in, first_fits, rest_of, leads_by, served, held_at, place_at, rest_above}
 use Rattle.kept_promise.proofs.Leading.{Leads}
@@ -350,6 +350,12 @@ no_room laws book k qs n now x q xid m f size us g content uncut is full =
           size = (subst (AllAsks (IsCommit book x.closing x.cut (job h.seat) h.contents)) g.first h.commits).0.1 ∙ value;
           after = omega (arith, begun, steps);
           before = omega (arith, steps);
+          waits = record {
+            seat = h.seat;
+            seat_is = ap (numbered k.seats) of.client ∙ h.owner;
+            newest = (h.here uncut).0;
+            own = waits_in h.seat.place h.seat.client.task p.0 xid p.1 (ap (λ (s : Stage). client.has_call (client.pending_in s) xid) p.2 ∙ ap (λ b. b || false) (eq-eqb xid xid refl));
+          };
           full = subst (λ (z : ℕ). is_full k.server z ≡ true) (sym is.0 ∙ value) full;
         },
       ),

@@ -4,7 +4,8 @@ use Rattle.std.proofs.lemmas.Slice.Eq.{bytes_eq-Decides}
 use Rattle.register_model.specs.declared.op.Outcome.{Outcome}
 use Rattle.register_model.specs.declared.op.Outcome.TheVariants as told
 use Rattle.register_model.specs.declared.op.Word.TheVariants as words
-use Rattle.kept_promise.proofs.Common.{slice_get, bytes_eq, Contains, sha1, Entry, File, Value, content_of, Op, Opening, Word, Moment, hashed_of, Book, Or, Collides, history, value_at, version_at, Tried, IsEntered}
+use Rattle.trace_replay.specs.Causes.{WaitsFor, TakesCall}
+use Rattle.kept_promise.proofs.Common.{Body, slice_get, bytes_eq, Contains, sha1, Entry, File, Value, content_of, Op, Opening, Word, Moment, hashed_of, Book, Or, Collides, history, value_at, version_at, Tried, IsEntered}
 use Rattle.kept_promise.proofs.Lists.{false_and_true}
 use Rattle.kept_promise.proofs.Marks.{Mark, marks, latest_mark, left_by, value_is, count_is}
 use Rattle.kept_promise.proofs.Rights.{Caused, RefusedBy, IsRight, IsUnmade, IsMade, IsHeld}
@@ -111,10 +112,13 @@ pub tried_wider : (book : Book) (f b n p q : ℕ) → p ≤ q → Tried book f b
 tried_wider book f b zero p q le h = omega (arith, le, h)
 tried_wider book f b (suc n) p q le h = let at = h.4 in (h.0, h.1, h.2, h.3, omega (arith, at, le), h.5)
 
+pub takes_later : (book more : Book) (made ended : Option ℕ) (c d step xid : ℕ) (call : Body) → Grows book more made ended → d ≡ c → TakesCall book c step xid call → TakesCall more d step xid call
+takes_later book more made ended c d step xid call g same h = record { moment = h.moment; there = g.happened h.moment h.there; step_is = h.step_is; session = h.session; now = h.now; bytes = h.bytes; event_is = h.event_is; parsed = h.parsed; waits = subst (λ (z : ℕ). WaitsFor h.moment z h.session xid) (sym same) h.waits }
+
 refused_later : (book more : Book) (made ended : Option ℕ) (o : Op) (w : Word) (s : ℕ) → Grows book more made ended → ((p : ℕ) → o.point ≡ Some p → p ≤ book.steps) → RefusedBy book o w s → RefusedBy more o w s
 refused_later book more made ended o words.Open s g past (inl h) = inl h
 refused_later book more made ended o words.Open s g past (inr h) = inr (h.0, h.1, ap (λ (l : List Opening). content_of l o.file) g.opening ∙ h.2, (h.3.0, h.3.1, value_later book more made ended o.file h.3.0 g (let le = past h.3.0 h.3.1.0 in omega (arith, le)) ∙ h.3.2))
-refused_later book more made ended o words.Close s g past h = record { status_is = h.status_is; pointless = h.pointless; end = h.end; end_is = h.end_is; moment = h.moment; there = g.happened h.moment h.there; session = h.session; now = h.now; bytes = h.bytes; event_is = h.event_is; owner = h.owner; xid = h.xid; call = h.call; parsed = h.parsed; size = h.size; after = h.after; before = h.before; full = h.full }
+refused_later book more made ended o words.Close s g past h = record { status_is = h.status_is; pointless = h.pointless; end = h.end; end_is = h.end_is; moment = h.moment; there = g.happened h.moment h.there; session = h.session; now = h.now; bytes = h.bytes; event_is = h.event_is; owner = h.owner; xid = h.xid; call = h.call; parsed = h.parsed; size = h.size; after = h.after; before = h.before; waits = h.waits; full = h.full }
 refused_later book more made ended o _ s g past h = h
 
 cause_later : (book more : Book) (made ended : Option ℕ) (o : Op) (u : Outcome) → Grows book more made ended → IsRight book o → Caused book o u → Caused more o u
@@ -127,6 +131,10 @@ cause_later book more made ended o (told.Opened len digest) g r h = (
     point = h.1.point;
     within = h.1.within;
     value_is = or_later book more made ended _ _ g (λ e. value_later book more made ended o.file h.1.point g (let lt = (r.pointed h.1.point h.1.within.0).1 in omega (arith, lt)) ∙ e) h.1.value_is;
+    xid = h.1.xid;
+    call = h.1.call;
+    first = h.1.first;
+    taken = takes_later book more made ended o.client o.client h.1.point h.1.xid h.1.call g refl h.1.taken;
   },
 )
 cause_later book more made ended o (told.Refused s) g r h = refused_later book more made ended o o.word s g (λ p e. (r.pointed p e).1) h

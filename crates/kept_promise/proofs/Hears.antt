@@ -4,7 +4,7 @@ use Rattle.open_close.specs.State as client
 use Rattle.open_close.specs.Hashed.{client_hashed, message_compared, answer_compared, took_compared, compared_at, compared, compared_if, task_named, named as parts_named}
 use Rattle.open_close.specs.Looking.{reading_by, with_file, reading_if, reading, looked_by}
 use Rattle.open_close.specs.declared.task.Stage.TheVariants as stage
-use Rattle.trace_replay.specs.Trail.{heard_hashed}
+use Rattle.trace_replay.specs.Trail.{heard_hashed, heard_hashed_if}
 use Rattle.kept_promise.proofs.Common.{Contains-append_left, Contains-append_right, Contains-push, looked_up, slice_get, Contains, Chunk, Done, Piece, MessageFits, message_spell, parse_of, Message, Pending, WireFault, has_call, got_step, took_if, drops, took, idle, ClientStep, Fetch, ReadCall, Stage, Task, read_at, Core, Seat, Session, Event.Hears, CoreStep, numbered, is_newest, hears_if, hears_at, hears, acted, happens, owner_in, hashed_by, hashed_of, Book, Reply, Reply.Bytes, Told, Queue, reply_body, told_message}
 use Rattle.kept_promise.proofs.Lists.{some_is, nothing_there, false_and_true}
 use Rattle.kept_promise.proofs.Keys.{times}
@@ -36,11 +36,15 @@ heard laws book k qs n x q t ts h first uncut =
 abbrev bytes_of : Told → List ℕ
 bytes_of t = message_spell (told_message t)
 
-hashed_is : (k : Core) (n now : ℕ) (x : Session) (seat : Seat) (t : Told) → numbered k.sessions n ≡ Some x → numbered k.seats x.owner ≡ Some seat → parse_of (client.waiting_of seat.client) (bytes_of t) ≡ Ok (told_message t)
+is_here : (n : ℕ) (o : Option ℕ) → o ≡ Some n → is_newest o n ≡ true
+is_here n o e = ap (λ (z : Option ℕ). is_newest z n) e ∙ eq-eqb n n refl
+
+hashed_is : (k : Core) (n now : ℕ) (x : Session) (seat : Seat) (t : Told) → numbered k.sessions n ≡ Some x → numbered k.seats x.owner ≡ Some seat → seat.session ≡ Some n → parse_of (client.waiting_of seat.client) (bytes_of t) ≡ Ok (told_message t)
     → hashed_by k (Hears n now (bytes_of t)) ≡ client_hashed seat.client (Ok (told_message t)) now
-hashed_is k n now x seat t at owner read =
-    ap (λ (o : Option Session). heard_hashed (numbered k.seats (owner_in o)) now (bytes_of t)) at
-    ∙ ap (λ (o : Option Seat). heard_hashed o now (bytes_of t)) owner
+hashed_is k n now x seat t at owner newest read =
+    ap (λ (o : Option Session). heard_hashed n now (bytes_of t) (numbered k.seats (owner_in o))) at
+    ∙ ap (heard_hashed n now (bytes_of t)) owner
+    ∙ ap (heard_hashed_if seat.client now (bytes_of t)) (is_here n seat.session newest)
     ∙ ap (λ (r : Result Message WireFault). client_hashed seat.client r now) read
 
 -- the bytes of a READ that have their chunk's length are compared with its name
@@ -76,10 +80,10 @@ named_hashed s now t file st task own b h =
     let named = subst (λ (o : Option Task). Contains (task_named s o (got_step s (Ok (told_message t)) now).1.send) b) (sym task) sent in
     Contains-append_right (message_compared s.task (told_message t) ++ looked_by s (reading s.task (told_message t))) (task_named s s.task (got_step s (Ok (told_message t)) now).1.send) b named
 
-notes : (book : Book) (k : Core) (n now : ℕ) (x : Session) (seat : Seat) (t : Told) (file : ℕ) (f : Fetch) → IsNoted book k (Hears n now (bytes_of t)) → numbered k.sessions n ≡ Some x → numbered k.seats x.owner ≡ Some seat → parse_of (client.waiting_of seat.client) (bytes_of t) ≡ Ok (told_message t)
+notes : (book : Book) (k : Core) (n now : ℕ) (x : Session) (seat : Seat) (t : Told) (file : ℕ) (f : Fetch) → IsNoted book k (Hears n now (bytes_of t)) → numbered k.sessions n ≡ Some x → numbered k.seats x.owner ≡ Some seat → seat.session ≡ Some n → parse_of (client.waiting_of seat.client) (bytes_of t) ≡ Ok (told_message t)
     → seat.client.task ≡ Some (record { file = file; stage = stage.Reading f }) → has_call (client.pending_in (stage.Reading f)) t.xid ≡ true → Noted book t f
-notes book k n now x seat t file f noted at owner read task own p r c reply under chunk len =
-    noted.hashed p.bytes (subst (λ (l : List (List ℕ)). Contains l p.bytes) (sym (hashed_is k n now x seat t at owner read)) (bytes_hashed seat.client now t file f p r c task own reply under chunk len))
+notes book k n now x seat t file f noted at owner newest read task own p r c reply under chunk len =
+    noted.hashed p.bytes (subst (λ (l : List (List ℕ)). Contains l p.bytes) (sym (hashed_is k n now x seat t at owner newest read)) (bytes_hashed seat.client now t file f p r c task own reply under chunk len))
 
 -- ---- an answer that is waited for, and one that is not
 
@@ -100,12 +104,12 @@ waited book k qs n now x q t ts j g noted read task own =
     let calls = ap (λ (l : List Pending). times t.xid (map (λ (c : Pending). c.xid) l)) (calls_are h.seat j g.job_is) in
     leads_comes book k qs n x q t ts j g (took (idle h.seat.client) (client.calls_of h.seat.client) j.file j.stage t.xid (reply_body t.reply))
     (comes_taken book k qs n x q t ts j g j.stage refl mine.0 mine.1 (omega (arith, all, split, calls))
-    (λ f is. notes book k n now x h.seat t j.file f noted g.at h.owner read (task ∙ ap (λ (s : Stage). Some (record { file = j.file; stage = s })) is) (subst (λ (s : Stage). has_call (client.pending_in s) t.xid ≡ true) is own))
+    (λ f is. notes book k n now x h.seat t j.file f noted g.at h.owner (h.here g.uncut).0 read (task ∙ ap (λ (s : Stage). Some (record { file = j.file; stage = s })) is) (subst (λ (s : Stage). has_call (client.pending_in s) t.xid ≡ true) is own))
     (λ u is i d b at there. noted_is b (found_hashed h.seat.client now t j.file j.stage u task own is i d b at there))
     (λ b at. noted_is b (named_hashed h.seat.client now t j.file j.stage task own b at)))
   where
     noted_is : (b : List ℕ) → Contains (client_hashed (session_at book k qs n x q t ts j g).seat.client (Ok (told_message t)) now) b → Contains (hashed_of book.moments) b
-    noted_is b at = noted.hashed b (subst (λ (l : List (List ℕ)). Contains l b) (sym (hashed_is k n now x (session_at book k qs n x q t ts j g).seat t g.at (session_at book k qs n x q t ts j g).owner read)) at)
+    noted_is b at = noted.hashed b (subst (λ (l : List (List ℕ)). Contains l b) (sym (hashed_is k n now x (session_at book k qs n x q t ts j g).seat t g.at (session_at book k qs n x q t ts j g).owner ((session_at book k qs n x q t ts j g).here g.uncut).0 read)) at)
 
 takes : (book : Book) (k : Core) (qs : List Queue) (n now : ℕ) (x : Session) (q : Queue) (t : Told) (ts : List Told) → (kept : IsKept book k qs) → (at : numbered k.sessions n ≡ Some x) → (is : numbered qs n ≡ Some q) → q.downs ≡ t ∷ ts → x.cut ≡ false → IsNoted book k (Hears n now (bytes_of t))
     → parse_of (client.waiting_of (kept.sessions n x q at is).seat.client) (bytes_of t) ≡ Ok (told_message t)
@@ -149,9 +153,6 @@ uncut_by true downs t ts first shut = absurd (none (sym first ∙ shut refl))
 pub kept_hears : FitLaws → KeptHears
 kept_hears laws book k qs n now q t ts kept is first noted = by (also_numbered qs k.sessions n q (sym kept.made.1) is)
   where
-    newest : (o : Option ℕ) → o ≡ Some n → is_newest o n ≡ true
-    newest o e = ap (λ (z : Option ℕ). is_newest z n) e ∙ eq-eqb n n refl
-
     by : (x : Session) × (numbered k.sessions n ≡ Some x) → Leads book (rest_down qs n q ts) (happens k (Hears n now (bytes_of t)))
     by (x, at) =
         let h = kept.sessions n x q at is in
@@ -160,6 +161,6 @@ kept_hears laws book k qs n now q t ts kept is first noted = by (also_numbered q
         let heard_is : happens k (Hears n now (bytes_of t)) ≡ heard_by k x.owner h.seat (got_step h.seat.client (Ok (told_message t)) now) =
         ap (hears k n now (bytes_of t)) at
         ∙ ap (hears_at k n x.owner now (bytes_of t)) h.owner
-        ∙ ap (hears_if k x.owner now h.seat (bytes_of t)) (newest h.seat.session (h.here uncut).0)
+        ∙ ap (hears_if k x.owner now h.seat (bytes_of t)) (is_here n h.seat.session (h.here uncut).0)
         ∙ ap (λ (r : Result Message WireFault). heard_by k x.owner h.seat (got_step h.seat.client r now)) read in
         subst (Leads book (rest_down qs n q ts)) (sym heard_is) (takes book k qs n now x q t ts kept at is first uncut noted read)

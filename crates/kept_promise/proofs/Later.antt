@@ -5,11 +5,11 @@ use Rattle.hash_calls.specs.declared.call.Leased.{Leased}
 use Rattle.server_core.specs.State as server
 use Rattle.open_close.specs.State as client
 use Rattle.open_close.specs.declared.task.Stage.TheVariants as stage
-use Rattle.kept_promise.proofs.Common.{slice_get, Contains, Status, Chunk, Answer, Done, Failed, Committed, Hashes, Piece, Attr, Pending, stands, Temp, key_of, Change, Fetch, Stage, Value, content_of, Op, Opening, TakenCall, Seat, Session, numbered, hashed_of, Book, Collides, Tried, Call, Call.Name, Call.Send, Call.Commit, Reply, Reply.Versioned, Reply.Hashed, Reply.Bytes, Reply.Changed, Ask, Told, Queue}
+use Rattle.kept_promise.proofs.Common.{Body, slice_get, Contains, Status, Chunk, Answer, Done, Failed, Committed, Hashes, Piece, Attr, Pending, stands, Temp, key_of, Change, Fetch, Stage, Value, content_of, Op, Opening, TakenCall, Seat, Session, numbered, hashed_of, Book, Collides, Tried, Call, Call.Name, Call.Send, Call.Commit, Reply, Reply.Versioned, Reply.Hashed, Reply.Bytes, Reply.Changed, Ask, Told, Queue}
 use Rattle.kept_promise.proofs.Keys.{times, own, on_way, change_key, ask_key, told_key, pending_key}
 use Rattle.kept_promise.proofs.Lists.{some_is}
-use Rattle.kept_promise.proofs.Messages.{Job, job, AllAsks, AllTolds, IsTold, IsTried, Trying, RefusedTold, HashTold, LeaseTold, PieceOf, IsPiece, IsPartOf, AreParts, ReadTold, CommitTold, TriedBy, AnswerOf, IsAnswer, IsFetch, IsReading, FetchOf, HasFetch, IsPending, CommitOf, IsCommit, IsOwed, CloseOf, TempUnder}
-use Rattle.kept_promise.proofs.Growth.{Grows, value_later, version_later, or_later, held_later, tried_later, tried_wider, made_later}
+use Rattle.kept_promise.proofs.Messages.{Job, job, lease_body, hash_body, AllAsks, AllTolds, IsTold, IsServed, IsTried, Trying, RefusedTold, HashTold, LeaseTold, PieceOf, IsPiece, IsPartOf, AreParts, ReadTold, CommitTold, TriedBy, AnswerOf, IsAnswer, IsFetch, IsReading, FetchOf, HasFetch, IsPending, CommitOf, IsCommit, IsOwed, CloseOf, TempUnder}
+use Rattle.kept_promise.proofs.Growth.{Grows, takes_later, value_later, version_later, or_later, held_later, tried_later, tried_wider, made_later}
 use Rattle.kept_promise.proofs.Orderly.{Orderly}
 use Rattle.kept_promise.proofs.Ordered.{SameFound, orderly_later}
 use Rattle.kept_promise.proofs.Facts.{commits_in, Cached, IsBalanced, IsTalk, IsSession, IsOf, IsSeat}
@@ -41,12 +41,17 @@ told_later book more made ended taken j x v version g h =
       apart = λ i e. elim (g.entries_new i h.moment e) [ inl old ↦ h.apart i old | inr new ↦ omega (arith, le, new) ];
     }
 
+served_later : (book more : Book) (made ended : Option ℕ) (taken : List TakenCall) (j : Job) (x : ℕ) (call : Body) → Grows book more made ended → IsServed book taken j x call → IsServed more taken j x call
+served_later book more made ended taken j x call g h =
+    let r = g.each j.place h.op h.there in
+    record { moment = h.moment; was = h.was; op = r.0; there = r.1; takes = takes_later book more made ended h.op.client r.0.client h.moment x call g r.2.client h.takes }
+
 pub is_tried_later : (book more : Book) (made ended : Option ℕ) (taken : List TakenCall) (j : Job) (x n : ℕ) → Grows book more made ended → IsTried book taken j x n → IsTried more taken j x n
 is_tried_later book more made ended taken j x n g h =
     let r = g.each j.place h.op h.there in
     let le = h.past in
     let p = g.passes in
-    record { moment = h.moment; was = h.was; past = omega (arith, le, p); op = r.0; there = r.1; count = h.count; tries_is = h.tries_is; tried = subst (λ (b : ℕ). Tried more j.file b h.count h.moment) (sym r.2.begin) (tried_later book more made ended j.file h.op.begin h.count h.moment g (omega (arith, le)) h.tried) }
+    record { moment = h.moment; was = h.was; past = omega (arith, le, p); op = r.0; there = r.1; count = h.count; tries_is = h.tries_is; tried = subst (λ (b : ℕ). Tried more j.file b h.count h.moment) (sym r.2.begin) (tried_later book more made ended j.file h.op.begin h.count h.moment g (omega (arith, le)) h.tried); call = served_later book more made ended taken j x (hash_body j.file 0) g h.call }
 
 pub trying_later : (book more : Book) (made ended : Option ℕ) (j : Job) (n : ℕ) → Grows book more made ended → Trying book j n → Trying more j n
 trying_later book more made ended j n g h =
@@ -74,7 +79,7 @@ hash_later book more made ended taken j x o (Done a) g h = record {
 
 lease_later : (book more : Book) (made ended : Option ℕ) (taken : List TakenCall) (j : Job) (x : ℕ) (a : Answer Leased Unit) → Grows book more made ended → LeaseTold book taken j x a → LeaseTold more taken j x a
 lease_later book more made ended taken j x (Failed s u) g h = refused_told_later book more made ended taken j x s g h
-lease_later book more made ended taken j x (Done a) g h = record { value = h.value; told = told_later book more made ended taken j x (Some h.value) a.version g h.told; known = subst (λ (l : List Opening). IsSome (content_of l j.file)) (sym g.opening) h.known }
+lease_later book more made ended taken j x (Done a) g h = record { value = h.value; told = told_later book more made ended taken j x (Some h.value) a.version g h.told; call = served_later book more made ended taken j x (lease_body j.file) g h.call; known = subst (λ (l : List Opening). IsSome (content_of l j.file)) (sym g.opening) h.known }
 
 read_later : (book more : Book) (made ended : Option ℕ) (taken : List TakenCall) (j : Job) (first : ℕ) (c : Chunk) (a : Answer Piece (Option Attr)) → Grows book more made ended → ReadTold book taken j first c a → ReadTold more taken j first c a
 read_later book more made ended taken j first c (Failed s a) g h = h

@@ -26,7 +26,7 @@ use Rattle.kept_promise.proofs.Takes.{commits_tail}
 -- ---- the queues after an event
 
 -- each queue has this
-abbrev QueuesHave : (ℕ → Queue → Type 0) → List Queue → Type 0
+abbrev pub QueuesHave : (ℕ → Queue → Type 0) → List Queue → Type 0
 QueuesHave P qs = (n : ℕ) (q : Queue) → numbered qs n ≡ Some q → P n q
 
 -- what stands at a number of a list with another there is that one, or was there
@@ -40,13 +40,13 @@ of_more : {A : Type 0} (xs : List A) (n : ℕ) (y z : A) → numbered (xs ++ y �
 of_more xs zero y z e = nothing_there z e
 of_more xs (suc n) y z e = elim (of_appended xs y n z e) [ inl h ↦ inl (ap suc h.0, h.1) | inr h ↦ inr h ]
 
-have_with : (P : ℕ → Queue → Type 0) (qs : List Queue) (m : ℕ) (r : Queue) → QueuesHave P qs → P m r → QueuesHave P (with_numbered qs m r)
+pub have_with : (P : ℕ → Queue → Type 0) (qs : List Queue) (m : ℕ) (r : Queue) → QueuesHave P qs → P m r → QueuesHave P (with_numbered qs m r)
 have_with P qs m r h p n q e = elim (of_with qs m n r q e) [
   | inl at ↦ subst (λ (z : ℕ). P z q) (sym at.0) (subst (P m) (sym at.1) p)
   | inr was ↦ h n q was
 ]
 
-have_ups : (P : ℕ → Queue → Type 0) (sessions : List Session) (qs : List Queue) (o : Option ℕ) (asks : List Ask) → QueuesHave P qs
+pub have_ups : (P : ℕ → Queue → Type 0) (sessions : List Session) (qs : List Queue) (o : Option ℕ) (asks : List Ask) → QueuesHave P qs
     → ((n : ℕ) (x : Session) (q : Queue) → o ≡ Some n → numbered sessions n ≡ Some x → numbered qs n ≡ Some q → P n q → P n (record q { ups = unless x.hung q.ups asks })) → QueuesHave P (ups_put sessions qs o asks)
 have_ups P sessions qs None asks h put = h
 have_ups P sessions qs (Some m) asks h put = by (numbered sessions m) (numbered qs m) refl refl
@@ -55,12 +55,12 @@ have_ups P sessions qs (Some m) asks h put = by (numbered sessions m) (numbered 
     by (Some x) (Some q) e f = have_with P qs m (record q { ups = unless x.hung q.ups asks }) h (put m x q refl e f (h m q f))
     by _ _ e f = h
 
-abbrev AllOf : {A : Type 0} → (A → Type 0) → List A → Type 0
+abbrev pub AllOf : {A : Type 0} → (A → Type 0) → List A → Type 0
 AllOf P [] = Unit {0}
 AllOf P (x ∷ xs) = P x × AllOf P xs
 
-have_downs : (P : ℕ → Queue → Type 0) (Q : Told → Type 0) (sessions : List Session) (ps : List (ℕ × Told)) (qs : List Queue) → AllOf (λ p. Q p.1) ps → QueuesHave P qs
-    → ((n : ℕ) (t : Told) (q : Queue) (lost : Bool) → Q t → P n q → P n (record q { downs = unless lost q.downs (t ∷ []) })) → QueuesHave P (downs_put sessions qs ps)
+pub have_downs : (P : ℕ → Queue → Type 0) (Q : ℕ × Told → Type 0) (sessions : List Session) (ps : List (ℕ × Told)) (qs : List Queue) → AllOf Q ps → QueuesHave P qs
+    → ((n : ℕ) (t : Told) (q : Queue) (lost : Bool) → Q (n, t) → P n q → P n (record q { downs = unless lost q.downs (t ∷ []) })) → QueuesHave P (downs_put sessions qs ps)
 have_downs P Q sessions [] qs all h put = h
 have_downs P Q sessions (p ∷ ps) qs all h put = have_downs P Q sessions ps (downs_put_in qs p (numbered sessions p.0) (numbered qs p.0)) all.1 (by (numbered sessions p.0) (numbered qs p.0) refl) put
   where
@@ -68,7 +68,7 @@ have_downs P Q sessions (p ∷ ps) qs all h put = have_downs P Q sessions ps (do
     by (Some x) (Some q) f = have_with P qs p.0 (record q { downs = unless x.cut q.downs (p.1 ∷ []) }) h (put p.0 p.1 q x.cut all.0 (h p.0 q f))
     by _ _ f = h
 
-have_lost : (P : ℕ → Queue → Type 0) (qs : List Queue) (loss : Loss) → QueuesHave P qs → P (suc (length qs)) no_queue → ((n : ℕ) (q : Queue) → P n q → P n (record q { downs = [] })) → ((n : ℕ) (q : Queue) → P n q → P n (record q { ups = [] })) → QueuesHave P (queues_lost qs loss)
+pub have_lost : (P : ℕ → Queue → Type 0) (qs : List Queue) (loss : Loss) → QueuesHave P qs → P (suc (length qs)) no_queue → ((n : ℕ) (q : Queue) → P n q → P n (record q { downs = [] })) → ((n : ℕ) (q : Queue) → P n q → P n (record q { ups = [] })) → QueuesHave P (queues_lost qs loss)
 have_lost P qs Nothing h new down up = h
 have_lost P qs Made h new down up = λ n q e. elim (of_more qs n no_queue q e) [
   | inl at ↦ subst (λ (z : ℕ). P z q) (sym at.0) (subst (P (suc (length qs))) (sym at.1) new)

@@ -5,7 +5,9 @@ pub mod Taking
 pub mod LogSums
 pub mod Logs
 pub mod LogEvents
+pub mod Paying
 pub mod ClosesLog
+pub mod Reached
 pub mod OpensLog
 pub mod MetLog
 pub mod OwnLog
@@ -98,6 +100,7 @@ pub mod RunsMessages
 pub mod Whole
 pub mod Leaving
 pub mod Numbering
+pub mod NumberedRuns
 pub mod Locally
 pub mod Deeds
 pub mod Answering
@@ -114,6 +117,10 @@ pub mod Counted
 pub mod Actors
 pub mod CommandOps
 pub mod CountedRuns
+pub mod SentDown
+pub mod NameAnswers
+pub mod KeptUsed
+pub mod Saved
 pub mod Promised
 pub mod Shapes
 pub mod Versions

@@ -2,9 +2,12 @@
 use Rattle.std.proofs.Common.{◌≡◌, ℕ, suc, ◌+◌, ◌<◌, ◌≤◌, List, [], ◌∷◌, ◌⊎◌, Option, Some, None, Bool, false, length, take, drop, IsSome}
 use Rattle.hash_calls.specs.declared.call.Leased.{Leased}
 use Rattle.xdr_codec.specs.declared.status.Status.TheVariants as status
+use Rattle.hash_calls.specs.declared.message.Lb.TheVariants as lb
+use Rattle.wire.specs.declared.message.Body.TheVariants as body
 use Rattle.open_close.specs.declared.task.Stage.TheVariants as stage
 use Rattle.register_model.specs.declared.op.Word.TheVariants as words
-use Rattle.kept_promise.proofs.Common.{slice_get, cond, Status, Collides, ◌==◌, Contains, chunk_bytes, end_of, chunks_of, Chunk, Answer, Done, Failed, Attr, Committed, Hashes, HashRange, Piece, Range, hashes_of, piece_of, told_chunks, File, read_at, Fetch, ReadCall, Stage, Store, StoreCall, Task, Value, content_of, Op, Word, TakenCall, Seat, taken_at, hashed_of, sha1, Book, Or, value_at, version_at, Tried, Call, Call.Lease, Call.Hash, Call.Read, Call.Make, Call.Name, Call.Send, Call.Commit, Reply, Reply.Versioned, Reply.Hashed, Reply.Bytes, Reply.Changed, Ask, Told}
+use Rattle.trace_replay.specs.Causes.{TakesCall}
+use Rattle.kept_promise.proofs.Common.{handle_bytes, Body, slice_get, cond, Status, Collides, ◌==◌, Contains, chunk_bytes, end_of, chunks_of, Chunk, Answer, Done, Failed, Attr, Committed, Hashes, HashRange, Piece, Range, hashes_of, piece_of, told_chunks, File, read_at, Fetch, ReadCall, Stage, Store, StoreCall, Task, Value, content_of, Op, Word, TakenCall, Seat, taken_at, hashed_of, sha1, Book, Or, value_at, version_at, Tried, Call, Call.Lease, Call.Hash, Call.Read, Call.Make, Call.Name, Call.Send, Call.Commit, Reply, Reply.Versioned, Reply.Hashed, Reply.Bytes, Reply.Changed, Ask, Told}
 use Rattle.kept_promise.proofs.Rights.{IsHeld, IsUnmade, IsMade}
 
 -- ---- the operation under way
@@ -88,6 +91,21 @@ pub record IsTold (book : Book) (taken : List TakenCall) (j : Job) (xid : ℕ) (
   -- no change was made in that step
   pub apart : (i : ℕ) → slice_get book.entries i ≡ Some moment → ⊥
 
+-- the calls by which an open asks
+abbrev pub lease_body : (file : ℕ) → Body
+lease_body file = body.Lb (lb.GetLease (handle_bytes file))
+
+abbrev pub hash_body : (file offset : ℕ) → Body
+hash_body file offset = body.Lb (lb.GetHash (record { handle = handle_bytes file; offset = offset; count = 4294967295 }))
+
+-- this call was taken, and the job's client waited for the answer
+pub record IsServed (book : Book) (taken : List TakenCall) (j : Job) (xid : ℕ) (call : Body) : Type 0 where
+  pub moment : ℕ
+  pub was : taken_at taken xid ≡ Some moment
+  pub op : Op
+  pub there : slice_get book.ops j.place ≡ Some op
+  pub takes : TakesCall book op.client moment xid call
+
 -- the attempts before the one of this GETHASH, up to the moment at which it was taken
 pub record IsTried (book : Book) (taken : List TakenCall) (j : Job) (xid tries : ℕ) : Type 0 where
   pub moment : ℕ
@@ -98,6 +116,7 @@ pub record IsTried (book : Book) (taken : List TakenCall) (j : Job) (xid tries :
   pub count : ℕ
   pub tries_is : tries ≡ suc count
   pub tried : Tried book j.file op.begin count moment
+  pub call : IsServed book taken j xid (hash_body j.file 0)
 
 -- the same as long as it was not taken, up to now
 pub record Trying (book : Book) (j : Job) (tries : ℕ) : Type 0 where
@@ -141,6 +160,7 @@ HashTold book taken j xid offset (Done h) = IsHashed book taken j xid offset h
 pub record IsLeased (book : Book) (taken : List TakenCall) (j : Job) (xid : ℕ) (l : Leased) : Type 0 where
   pub value : List ℕ
   pub told : IsTold book taken j xid (Some value) l.version
+  pub call : IsServed book taken j xid (lease_body j.file)
   pub known : IsSome (content_of book.opening j.file)
 
 abbrev pub LeaseTold : Book → List TakenCall → Job → (xid : ℕ) → Answer Leased Unit → Type 0

@@ -92,7 +92,7 @@ quiet_cases s calls file st x b = record {
   opens = λ f bytes now here. λ d e. refl;
   names = λ w at known none e. λ d is. nothing_there d is;
   commits = λ w at known none e. λ d is. nothing_there d is;
-  whole = λ old c k at unknown none found chunk. λ d e. nothing_there d e;
+  whole = λ old c k at unknown none found name chunk. λ d e. nothing_there d e;
 }
 
 quiet_drops : (s : State) (o : Option Task) (x : ℕ) (b : Bool) → IsQuiet (drops s o x b)

@@ -1,5 +1,5 @@
 -- What an event makes of the operations: nothing, or one begins, or a client goes on with its own, or a change gives one its point.
-use Rattle.std.proofs.Common.{◌⊎◌, inl, inr, ◌≡◌, ℕ, ◌+◌, ◌≤◌, List, [], ◌∷◌, ◌++◌, Option, Some, None, Bool, true, false, refl, sym, ap, ◌∙◌, subst, arith}
+use Rattle.std.proofs.Common.{◌⊎◌, inl, inr, ◌≡◌, ℕ, ◌+◌, ◌<◌, ◌≤◌, List, [], ◌∷◌, ◌++◌, Option, Some, None, Bool, true, false, refl, sym, ap, ◌∙◌, subst, arith}
 use Rattle.server_core.specs.State as server
 use Rattle.server_core.specs.declared.event.Event.TheVariants as event
 use Rattle.server_core.specs.declared.event.Told.{Told as Announced}
@@ -19,7 +19,7 @@ use Rattle.kept_promise.proofs.Counted.{AlikeUpTo, IsActor, running_past}
 use Rattle.kept_promise.proofs.JobFacts.{ops_shape}
 use Rattle.kept_promise.proofs.Versions.{version_in, count_replaced, count_appended}
 use Rattle.kept_promise.proofs.Taking.{versions_after}
-use Rattle.kept_promise.proofs.CommandOps.{made_by, made_pointless, last_right}
+use Rattle.kept_promise.proofs.CommandOps.{made_by, made_later, made_pointless, last_right}
 use Rattle.kept_promise.proofs.VersionRuns.{Settled, settled_are, own_op}
 use Rattle.kept_promise.proofs.LogEvents.{serves_silent, hangs_silent}
 
@@ -31,6 +31,7 @@ IsHears e = ⊥
 pub record IsBegun (k : Core) (ops : List Op) : Type 0 where
   pub new : Op
   pub is : ops ≡ k.ops ++ new ∷ []
+  pub late : k.steps < new.begin
   pub pointless : new.point ≡ None
   pub unopened : (len : ℕ) (digest : List ℕ) → new.outcome ≡ told.Opened len digest → ⊥
 
@@ -74,6 +75,7 @@ ops_after_event all past rest opening k qs (Does c now d) mid after s = subst (�
           inr (inl (record {
             new = new;
             is = refl;
+            late = made_later k c now d s.finds.0 r.0 r.1 r.1.ended;
             pointless = point;
             unopened = λ len digest is. let w = subst (Caused more new) is right.cause in nothing_there w.1.point (sym point ∙ w.1.within.0);
           })),

@@ -2,6 +2,7 @@
 use Rattle.std.proofs.Common.{inl, inr, ◌≡◌, ℕ, zero, suc, ◌<◌, ◌≤◌, List, [], ◌∷◌, ◌++◌, Option, Some, None, Bool, true, false, length, refl, sym, ap, ◌∙◌, subst, arith, IsSome}
 use Rattle.open_close.specs.declared.task.Stage.TheVariants as stage
 use Rattle.register_model.specs.declared.op.Word.TheVariants as words
+use Rattle.trace_replay.specs.Causes.{WaitsFor}
 use Rattle.kept_promise.proofs.Common.{Done, Failed, Temp, temp_at, is_full, Stage, Store, content_of, Opening, Op, Seat, unless, Book, step_of, Call, Call.Lease, Call.Hash, Call.Read, Call.Make, Call.Name, Call.Send, Call.Commit, Reply, Reply.Versioned, Reply.Hashed, Reply.Bytes, Reply.Made, Reply.Named, Reply.Stored, Reply.Changed, Ask, Told, Queue}
 use Rattle.kept_promise.proofs.Lists.{some_is, nothing_there, at_end, of_appended, in_front}
 use Rattle.kept_promise.proofs.Messages.{Job, job, stage_word, AllAsks, AllTolds}
@@ -119,6 +120,7 @@ room_later book more made ended o r g client begin value h = record {
   size = h.size ∙ ap (λ (l : List ℕ). length l) (sym value);
   after = subst (λ (z : ℕ). z ≤ step_of h.moment) (sym begin) h.after;
   before = let a = h.before in let b = g.passes in omega (arith, a, b);
+  waits = subst (λ (c : ℕ). WaitsFor h.moment c h.session h.xid) (sym client) h.waits;
   full = subst (λ (l : List ℕ). is_full h.moment.before.server (length l) ≡ true) (sym value) h.full;
 }
 

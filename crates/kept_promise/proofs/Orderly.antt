@@ -7,6 +7,7 @@ use Rattle.hash_calls.specs.declared.message.Lb.TheVariants as lb
 use Rattle.wire.specs.declared.message.Body.TheVariants as body
 use Rattle.wire.specs.declared.message.Message.TheVariants as message
 use Rattle.open_close.specs.State as client
+use Rattle.trace_replay.specs.Causes.{WaitsFor}
 use Rattle.open_close.specs.declared.task.Stage.TheVariants as stage
 use Rattle.open_close.specs.declared.task.Way.TheVariants as way
 use Rattle.register_model.specs.declared.op.Word.TheVariants as words
@@ -61,6 +62,7 @@ pub record NoRoom (book : Book) (o : Op) : Type 0 where
   pub size : call.size ≡ length o.value
   pub after : o.begin ≤ step_of moment
   pub before : step_of moment ≤ book.steps
+  pub waits : WaitsFor moment o.client session xid
   pub full : is_full moment.before.server (length o.value) ≡ true
 
 -- an answer to a call of a close is one that the operation under way waits for, and it is no refusal but of a commit for want of room

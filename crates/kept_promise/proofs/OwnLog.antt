@@ -102,13 +102,12 @@ sends_cases s calls file v st x b h same = record {
         (λ u running task. subst (λ (z : Task). (stage_word z.stage ≡ words.Close) × StageChunks z.stage v) (some_is _ u task) (refl, tt)),
         subst (AreOwn words.Close file v) (sym (sent_more n.send commit)) (own_join words.Close file v (map Sent n.send) (Sent commit ∷ []) own.0 ((refl, ap length (sym k.1)), tt)),
       );
-  whole = λ old c k at unknown none found chunk.
+  whole = λ old c k at unknown none found name chunk.
       let close = ap stage_word at in
-      let content = same close in
       let chunks : old.chunks ≡ chunks_of v = subst (λ (t : Stage). StageChunks t v) at h in
       closing close (sends_whole s file x (client.local_bytes s.opened file) (Rattle.open_close.specs.Closing.answered old x) c (Some k)) (
         (λ u running task. subst (λ (z : Task). (stage_word z.stage ≡ words.Close) × StageChunks z.stage v) (some_is _ u task) (refl, chunks)),
-        ((c.index, k, ap (λ (l : List Chunk). slice_get l c.index) (sym chunks) ∙ chunk, refl, ap (λ z. Rattle.chunk_cut.specs.Places.chunk_bytes z k) (sym content)), tt),
+        (tt, tt),
       );
 }
   where

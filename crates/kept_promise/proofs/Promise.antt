@@ -1,14 +1,14 @@
 -- The promise, of every trace that is accepted.
-use Rattle.std.proofs.Common.{◌≡◌, ℕ, suc, List, Some, refl, sym, subst, Ok}
+use Rattle.std.proofs.Common.{◌≡◌, ℕ, suc, List, [], ◌∷◌, Some, refl, sym, subst, arith, Ok}
 use Rattle.register_model.specs.declared.op.Outcome.TheVariants as told
 use Rattle.register_model.specs.declared.op.Word.TheVariants as words
 use Rattle.trace_replay.specs.Traces.{IsKeptPromise}
-use Rattle.kept_promise.proofs.Common.{World, Op, slice_get, passes, run, accepted, Moment, deeds_of, moments, hashed_of, book_of, rounds}
+use Rattle.kept_promise.proofs.Common.{Contains-append_right, Contains-push, World, Op, slice_get, passes, run, accepted, Moment, deeds_of, moments, hashed_of, book_of, rounds}
 use Rattle.kept_promise.proofs.Statements.{ClocksKeepTheRule}
 use Rattle.kept_promise.proofs.Turns.{also_numbered}
 use Rattle.kept_promise.proofs.Rounds.{passes_are_rounds}
 use Rattle.kept_promise.proofs.Laws.{fit_laws, kept_laws}
-use Rattle.kept_promise.proofs.RunsCarried.{Carried, Stands}
+use Rattle.kept_promise.proofs.RunsCarried.{moment, Carried, Stands}
 use Rattle.kept_promise.proofs.RunsEvents.{Fact}
 use Rattle.kept_promise.proofs.Runs.{carried_run, kept_run, clocks_kept}
 use Rattle.kept_promise.proofs.RunsOpening.{opening_said}
@@ -21,16 +21,19 @@ use Rattle.kept_promise.proofs.StoredWhole.{Stored, carried_stored, has_stored, 
 use Rattle.kept_promise.proofs.VersionRuns.{Versions, carried_versions, opens_version}
 use Rattle.kept_promise.proofs.MadeRuns.{AllSettled, carried_settled}
 use Rattle.kept_promise.proofs.OwnedRuns.{AllOwned, carried_owned, is_for}
+use Rattle.kept_promise.proofs.NumberedRuns.{AllNumbered, carried_numbered}
 use Rattle.kept_promise.proofs.LogSums.{counts_log}
 use Rattle.kept_promise.proofs.LogEvents.{LogsAt, carried_logs}
 use Rattle.kept_promise.proofs.OpenedOnce.{IsMet, carried_once, opened_once}
 use Rattle.kept_promise.proofs.Rights.{Caused}
-use Rattle.kept_promise.proofs.OpensLog.{OpensBy, OpenRead, opens_laws, got_by}
-use Rattle.kept_promise.proofs.ClosesLog.{names_chunks, saves_all}
+use Rattle.kept_promise.proofs.OpensLog.{OpensBy, OpenRead, opens_laws, each_reaches, got_by}
+use Rattle.kept_promise.proofs.ClosesLog.{names_chunks, pays_all, saves_all}
 use Rattle.kept_promise.proofs.MetLog.{attempts_met, attempts_end}
 use Rattle.kept_promise.proofs.OwnLog.{OwnBy, OpOwn, own_laws, own_counts}
 use Rattle.kept_promise.proofs.Completed.{completes}
 use Rattle.kept_promise.proofs.EndedWell.{ends_well}
+use Rattle.kept_promise.proofs.KeptUsed.{UsedAt, used_event}
+use Rattle.kept_promise.proofs.Saved.{AllSaved, carried_saved, none_unknown}
 use Rattle.kept_promise.proofs.Promised.{AreWords, no_fault, legal_kept, holds_files, holds_contents, holds_values}
 
 -- ---- facts that are carried together
@@ -45,9 +48,9 @@ carried_both P Q p q = record {
 abbrev Follows : Fact
 Follows all past opening k qs = AreFollowed past k
 
--- of the steps of changes, and of whose the messages are
+-- of the steps of changes, of whose the messages are, and of the numbers of calls
 abbrev Changes : Fact
-Changes all past opening k qs = AllSettled all past opening k qs × AllOwned all past opening k qs
+Changes all past opening k qs = AllSettled all past opening k qs × (AllOwned all past opening k qs × AllNumbered all past opening k qs)
 
 -- by what was said for operations, in order: what opens read since their last attempt began, why they gave one up, and that all calls are their own
 abbrev Logs : Fact
@@ -62,36 +65,57 @@ logs_carried = carried_both (λ all past opening k qs. LogsAt OpensBy (OpenRead 
     (carried_logs (λ all. OpensBy) (λ all. OpenRead (hashed_of all)) opens_laws fit_laws)
     (carried_both IsMet (λ all past opening k qs. LogsAt OwnBy OpOwn past k) (carried_once fit_laws) (carried_logs (λ all. OwnBy) (λ all. OpOwn) own_laws fit_laws))
 
+-- and that an open gets what its client keeps, which rests on what is told before
+abbrev Used : Fact
+Used all past opening k qs = Told all past opening k qs × UsedAt past k
+
+-- all that is carried
+abbrev More : Fact
+More all past opening k qs = Used all past opening k qs × AllSaved all past opening k qs
+
 told_carried : Carried Told
 told_carried =
     carried_both Follows (λ all past opening k qs. Stored all past opening k qs × (Versions all past opening k qs × (Changes all past opening k qs × Logs all past opening k qs))) carried_follow
     (carried_both Stored (λ all past opening k qs. Versions all past opening k qs × (Changes all past opening k qs × Logs all past opening k qs)) (carried_stored fit_laws)
     (carried_both Versions (λ all past opening k qs. Changes all past opening k qs × Logs all past opening k qs) (carried_versions fit_laws)
-    (carried_both Changes Logs (carried_both AllSettled AllOwned carried_settled (carried_owned fit_laws)) logs_carried)))
+    (carried_both Changes Logs (carried_both AllSettled (λ all past opening k qs. AllOwned all past opening k qs × AllNumbered all past opening k qs) carried_settled (carried_both AllOwned AllNumbered (carried_owned fit_laws) carried_numbered)) logs_carried)))
+
+used_carried : Carried Used
+used_carried = record {
+  first = λ all opening files changes count kept. (told_carried.first all opening files changes count kept, record { by = λ m there. (let lt = there.1 in absurd (omega (arith, lt))); each = λ m there. (let lt = there.1 in absurd (omega (arith, lt))) });
+  steps = λ all past rest opening k qs e mid after s h.
+      let told = told_carried.steps all past rest opening k qs e mid after s h.0 in
+      let said = told.1.1.1.0.1.0.by (moment k e) (Contains-append_right past (moment k e ∷ []) (moment k e) (Contains-push [] (moment k e))) in
+      (told, used_event fit_laws all past rest opening k qs e mid after s (record { opens = h.0.1.1.1.1.0; own = h.0.1.1.1.1.1.1; counted = h.0.1.0.counted }) said h.1);
+  adjusts = λ all past opening k qs index seats same h. (told_carried.adjusts all past opening k qs index seats same h.0, h.1);
+}
+
+more_carried : Carried More
+more_carried = carried_both Used AllSaved used_carried (carried_saved fit_laws)
 
 -- ---- the promise of what a run leaves
 
-are_words : (w : World) (all : List Moment) (h : Stands Told all all w) → AreWords w.core.ops
+are_words : (w : World) (all : List Moment) (h : Stands More all all w) → AreWords w.core.ops
 are_words w all h = λ i o at.
-    let d = also_numbered w.core.ops (deeds_of all) (suc i) o (sym (deeds_counted w all h.more.0.followed)) at in
-    (d.0.command, (deeds_done w all h.queues h.kept h.more.0.followed i d.0 o d.1 at).word)
+    let d = also_numbered w.core.ops (deeds_of all) (suc i) o (sym (deeds_counted w all h.more.0.0.0.followed)) at in
+    (d.0.command, (deeds_done w all h.queues h.kept h.more.0.0.0.followed i d.0 o d.1 at).word)
 
-promise_of : (input : List ℕ) (w : World) → run input ≡ Ok w → Stands Told (moments input) (moments input) w → IsKeptPromise input w
+promise_of : (input : List ℕ) (w : World) → run input ≡ Ok w → Stands More (moments input) (moments input) w → IsKeptPromise input w
 promise_of input w ran h =
     let all : List Moment = moments input in
-    let stored : Stored all all w.opening w.core h.queues = h.more.1.0 in
-    let versions : Versions all all w.opening w.core h.queues = h.more.1.1.0 in
-    let changes : Changes all all w.opening w.core h.queues = h.more.1.1.1.0 in
-    let logs : Logs all all w.opening w.core h.queues = h.more.1.1.1.1 in
+    let stored : Stored all all w.opening w.core h.queues = h.more.0.0.1.0 in
+    let versions : Versions all all w.opening w.core h.queues = h.more.0.0.1.1.0 in
+    let changes : Changes all all w.opening w.core h.queues = h.more.0.0.1.1.1.0 in
+    let logs : Logs all all w.opening w.core h.queues = h.more.0.0.1.1.1.1 in
     record {
       faithful = record {
         opening = opening_said input w ran;
         lines = events_said input w ran;
         commands = commands_said input w ran;
         counted = steps_counted (kept_laws fit_laws) fit_laws input w ran;
-        count = deeds_counted w all h.more.0.followed;
-        done = deeds_done w all h.queues h.kept h.more.0.followed;
-        cuts = cuts_end w all h.more.0.cuts;
+        count = deeds_counted w all h.more.0.0.0.followed;
+        done = deeds_done w all h.queues h.kept h.more.0.0.0.followed;
+        cuts = cuts_end w all h.more.0.0.0.cuts;
         journal = h.kept.sound.journal;
         settled = changes.0.settled;
         settles = changes.0.first;
@@ -101,12 +125,15 @@ promise_of input w ran h =
         own = λ k o at. own_counts all o (logs.1.1.each k o at) (counts_log o all (stored.counted.counts k o at));
         attempts = λ k o at. attempts_end (book_of w all) all o (h.kept.sound.rights k o at) (logs.1.0.met.each k o at) (logs.1.1.each k o at);
         met = λ k o at open_. attempts_met all o open_ (logs.1.0.met.each k o at);
-        owned = λ m there. is_for w.core.ops m (changes.1.each m there);
+        owned = λ m there. is_for w.core.ops m (changes.1.0.each m there);
         calls = λ k o at. (logs.1.1.each k o at).0;
+        numbered = λ n. changes.1.1.each n;
         silent = stored.counted.silent;
         opened = λ k len digest o at is. opened_once (book_of w all) o len digest is (open_word k o len digest at is) (counts_log o all (stored.counted.counts k o at)) (logs.1.1.each k o at) (logs.0.each k o at) (logs.1.0.once k len digest o at is);
+        reached = λ k o at open_. each_reaches all o (hashed_of all) open_ (logs.0.each k o at);
         fetched = λ k len digest o at is. got_by (book_of w all) o len digest is (open_word k o len digest at is) (logs.1.1.each k o at) (logs.0.each k o at) (counts_log o all (stored.counted.counts k o at));
         named = λ k o at close. names_chunks all o close (stored.closes.each k o at);
+        paid = λ k o at close. pays_all all o close (stored.closes.each k o at);
         stored = λ k o at sent. has_stored all o (stored.counted.counts k o at) (stored.closes.each k o at) (logs.1.1.each k o at) sent;
         saved = λ k o at close. saves_all all o close (stored.closes.each k o at) (stored.counted.counts k o at);
         made = made_sent (book_of w all) all w.opening w.core h.queues h.kept stored;
@@ -115,12 +142,19 @@ promise_of input w ran h =
       complete = record {
         ended = completes fit_laws w all h.queues h.kept h.carry h.rested;
         well = λ k d o was at alone asks free uncut.
-            ends_well (book_of w all) d o _ (deeds_done w all h.queues h.kept h.more.0.followed k d o was at) (completes fit_laws w all h.queues h.kept h.carry h.rested k o at alone) asks free uncut;
+            ends_well (book_of w all) d o _ (deeds_done w all h.queues h.kept h.more.0.0.0.followed k d o was at) (completes fit_laws w all h.queues h.kept h.carry h.rested k o at alone) asks free uncut;
+      };
+      saving = record {
+        known = λ m there. (h.more.1.each m there).0;
+        told = λ m there. (h.more.1.each m there).1;
+        saved = λ k o at close known. saves_all all o close (stored.closes.each k o at) (stored.counted.counts k o at) (none_unknown all o (λ m there. (h.more.1.each m there).1) known);
+        asked = λ m there. (h.more.1.each m there).2;
+        used = λ m k o there at. h.more.0.1.each m there k o at;
       };
       waiting = holds_values (book_of w all) w h.queues h.kept (have_stored (book_of w all) all all w.opening w.core h.queues h.kept stored (λ p o at. logs.1.1.each p o at));
       tree = holds_files (book_of w all) w h.queues refl h.kept;
       contents = holds_contents (book_of w all) w h.queues h.kept;
-      messages = holds_messages Told fit_laws all all w h;
+      messages = holds_messages More fit_laws all all w h;
     }
   where
     -- it is an open
@@ -138,4 +172,4 @@ passes_run input w ran count number server at = passes_are_rounds count w number
 pub promise_accepted : (input : List ℕ) (w : World) → accepted input ≡ Ok w → IsKeptPromise input w
 promise_accepted input w e =
     let ran = ((accepted_exactly input w).0 e).0 in
-    promise_of input w ran (carried_run Told (kept_laws fit_laws) fit_laws told_carried input w ran)
+    promise_of input w ran (carried_run More (kept_laws fit_laws) fit_laws more_carried input w ran)

@@ -84,7 +84,7 @@ good_took Q R s fresh calls file st x b q = took_cases (λ found r. Good Q R r) 
   opens = λ f bytes now here. (tt, ((reads_of s file f).fetch.version, good_fetch Q s file f (took_now Q st x b f bytes q now)));
   names = λ w at known none is. (tt, tt);
   commits = λ w at known none is. (tt, tt);
-  whole = λ old c k at unknown none found chunk. (tt, tt);
+  whole = λ old c k at unknown none found name chunk. (tt, tt);
 })
 
 good_drops : (Q : ℕ → ℕ → Type 0) (R : ℕ → Type 0) (s : State) (task : Option Task) (xid : ℕ) (b : Bool) → TaskGood Q R s.task → Good Q R (drops s task xid b)

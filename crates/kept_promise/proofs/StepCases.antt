@@ -205,7 +205,7 @@ pub record Cases (Z : List (ℕ × ℕ) → State × ClientStep → Type 0) (s :
   -- further chunks are named, or all are stored, or one is sent whole
   pub names : (w : Store) → StoreIn st x (local_bytes s.opened file) w → (IsUnknown b → ⊥) → bytes_came x b ≡ 0 → is_stored (names_all w s.next).store ≡ false → Z [] (goes_if s file (local_bytes s.opened file) (names_all w s.next) false)
   pub commits : (w : Store) → StoreIn st x (local_bytes s.opened file) w → (IsUnknown b → ⊥) → bytes_came x b ≡ 0 → is_stored (names_all w s.next).store ≡ true → Z [] (goes_if s file (local_bytes s.opened file) (names_all w s.next) true)
-  pub whole : (old : Store) (c : StoreCall) (k : Chunk) → st ≡ stage.Storing old → IsUnknown b → bytes_came x b ≡ 0 → store_at old.under x ≡ Some c → slice_get old.chunks c.index ≡ Some k → Z [] (sends_whole s file x (local_bytes s.opened file) (answered old x) c (Some k))
+  pub whole : (old : Store) (c : StoreCall) (k : Chunk) → st ≡ stage.Storing old → IsUnknown b → bytes_came x b ≡ 0 → store_at old.under x ≡ Some c → c.way ≡ way.Named → slice_get old.chunks c.index ≡ Some k → Z [] (sends_whole s file x (local_bytes s.opened file) (answered old x) c (Some k))
 
 -- of a client with nothing under way as well
 pub given_idle : (s : State) (o : Option (ℕ × Fetch)) → given_in (idle s) o ≡ given_in s o
@@ -293,30 +293,30 @@ stored Z s calls file old x b cases = by (store_at old.under x) refl
     came_none : (d : Body) → b ≡ d → bytes_came x d ≡ 0 → bytes_came x b ≡ 0
     came_none d is e = ap (bytes_came x) is ∙ e
 
-    whole : (c : StoreCall) → store_at old.under x ≡ Some c → IsUnknown b → bytes_came x b ≡ 0 → (o : Option Chunk) → slice_get old.chunks c.index ≡ o → Z [] (sends_whole s file x (local_bytes s.opened file) (answered old x) c o)
-    whole c at is none None e = fault Z s calls file (stage.Storing old) x b cases (bad.UnknownXid x) 0
-    whole c at is none (Some k) e = cases.whole old c k refl is none at e
+    whole : (c : StoreCall) → store_at old.under x ≡ Some c → c.way ≡ way.Named → IsUnknown b → bytes_came x b ≡ 0 → (o : Option Chunk) → slice_get old.chunks c.index ≡ o → Z [] (sends_whole s file x (local_bytes s.opened file) (answered old x) c o)
+    whole c at name is none None e = fault Z s calls file (stage.Storing old) x b cases (bad.UnknownXid x) 0
+    whole c at name is none (Some k) e = cases.whole old c k refl is none at name e
 
     go : (IsUnknown b → ⊥) → bytes_came x b ≡ 0 → Z [] (goes_on s file (local_bytes s.opened file) (answered old x))
     go known none = goes Z s calls file (stage.Storing old) x b cases (answered old x) (inr (old, refl, refl)) known none
 
-    named : (c : StoreCall) → store_at old.under x ≡ Some c → (a : Answer Unit Unit) → b ≡ body.Lb (lb.CondWriteAnswer a) → Z [] (told_named s calls file x (local_bytes s.opened file) (answered old x) c a)
-    named c at (Done u) is = go (λ z. not_done (subst IsUnknown is z)) (came_none _ is refl)
+    named : (c : StoreCall) → store_at old.under x ≡ Some c → c.way ≡ way.Named → (a : Answer Unit Unit) → b ≡ body.Lb (lb.CondWriteAnswer a) → Z [] (told_named s calls file x (local_bytes s.opened file) (answered old x) c a)
+    named c at name (Done u) is = go (λ z. not_done (subst IsUnknown is z)) (came_none _ is refl)
       where
         not_done : IsUnknown (body.Lb (lb.CondWriteAnswer (Done u))) → ⊥
         not_done z = z
-    named c at (Failed status.HashNotFound u) is = whole c at (subst IsUnknown (sym is) tt) (came_none _ is refl) (slice_get old.chunks c.index) refl
-    named c at (Failed t u) is = plain Z s calls file (stage.Storing old) x b cases t (λ z. subst IsUnknown is z) (came_none _ is refl)
+    named c at name (Failed status.HashNotFound u) is = whole c at name (subst IsUnknown (sym is) tt) (came_none _ is refl) (slice_get old.chunks c.index) refl
+    named c at name (Failed t u) is = plain Z s calls file (stage.Storing old) x b cases t (λ z. subst IsUnknown is z) (came_none _ is refl)
 
-    way_ : (c : StoreCall) → store_at old.under x ≡ Some c → (w : Way) (d : Body) → b ≡ d → Z [] (told_way s calls file x (local_bytes s.opened file) (answered old x) c w d)
-    way_ c at way.Named (body.Lb (lb.CondWriteAnswer a)) is = named c at a is
-    way_ c at way.Whole (body.Lb (lb.TmpWriteAnswer (Done u))) is = go (λ z. subst IsUnknown is z) (came_none _ is refl)
-    way_ c at way.Whole (body.Lb (lb.TmpWriteAnswer (Failed t u))) is = plain Z s calls file (stage.Storing old) x b cases t (λ z. subst IsUnknown is z) (came_none _ is refl)
-    way_ c at w d is = fault Z s calls file (stage.Storing old) x b cases (bad.UnknownXid x) 0
+    way_ : (c : StoreCall) → store_at old.under x ≡ Some c → (w : Way) → c.way ≡ w → (d : Body) → b ≡ d → Z [] (told_way s calls file x (local_bytes s.opened file) (answered old x) c w d)
+    way_ c at way.Named name (body.Lb (lb.CondWriteAnswer a)) is = named c at name a is
+    way_ c at way.Whole name (body.Lb (lb.TmpWriteAnswer (Done u))) is = go (λ z. subst IsUnknown is z) (came_none _ is refl)
+    way_ c at way.Whole name (body.Lb (lb.TmpWriteAnswer (Failed t u))) is = plain Z s calls file (stage.Storing old) x b cases t (λ z. subst IsUnknown is z) (came_none _ is refl)
+    way_ c at w name d is = fault Z s calls file (stage.Storing old) x b cases (bad.UnknownXid x) 0
 
     by : (o : Option StoreCall) → store_at old.under x ≡ o → Z [] (told_stored s calls file x (local_bytes s.opened file) old b o)
     by None e = fault Z s calls file (stage.Storing old) x b cases (bad.UnknownXid x) 0
-    by (Some c) e = way_ c e c.way b refl
+    by (Some c) e = way_ c e c.way refl b refl
 
 leased : (Z : List (ℕ × ℕ) → State × ClientStep → Type 0) (s : State) (calls : List Pending) (file y x : ℕ) (l : Leased) → Cases Z s calls file (stage.Asking y) x (body.Lb (lb.GetLeaseAnswer (Done l))) → Z [] (told_lease s calls file x (Done l))
 leased Z s calls file y x l cases = by (content_in l.version (content_of s.cache file)) refl
@@ -382,7 +382,7 @@ pub record OfCloses (Z : List (ℕ × ℕ) → State × ClientStep → Type 0) (
   pub ends : stage_word st ≡ words.Close → (r : State × ClientStep) → JustEnds x b r → IsFault r.1.ended ⊎ (bytes_came x b ≡ 0) → Z [] r
   pub names : (w : Store) → StoreIn st x (local_bytes s.opened file) w → (IsUnknown b → ⊥) → bytes_came x b ≡ 0 → is_stored (names_all w s.next).store ≡ false → Z [] (goes_if s file (local_bytes s.opened file) (names_all w s.next) false)
   pub commits : (w : Store) → StoreIn st x (local_bytes s.opened file) w → (IsUnknown b → ⊥) → bytes_came x b ≡ 0 → is_stored (names_all w s.next).store ≡ true → Z [] (goes_if s file (local_bytes s.opened file) (names_all w s.next) true)
-  pub whole : (old : Store) (c : StoreCall) (k : Chunk) → st ≡ stage.Storing old → IsUnknown b → bytes_came x b ≡ 0 → store_at old.under x ≡ Some c → slice_get old.chunks c.index ≡ Some k → Z [] (sends_whole s file x (local_bytes s.opened file) (answered old x) c (Some k))
+  pub whole : (old : Store) (c : StoreCall) (k : Chunk) → st ≡ stage.Storing old → IsUnknown b → bytes_came x b ≡ 0 → store_at old.under x ≡ Some c → c.way ≡ way.Named → slice_get old.chunks c.index ≡ Some k → Z [] (sends_whole s file x (local_bytes s.opened file) (answered old x) c (Some k))
 
 pub either_word : (st : Stage) → (stage_word st ≡ words.Open) ⊎ (stage_word st ≡ words.Close)
 either_word (stage.Asking x) = inl refl
@@ -435,7 +435,7 @@ of_opens Z s calls file st x b h = record {
   opens = h.opens;
   names = λ w at known none is. let r = goes_if s file (local_bytes s.opened file) (names_all w s.next) false in h.closes (in_close st x (local_bytes s.opened file) w at) r (goes_with words.Close r _ refl refl) (λ e ended opened. nothing_there e ended) (λ first last c. nothing_there c.0 c.1);
   commits = λ w at known none is. let r = goes_if s file (local_bytes s.opened file) (names_all w s.next) true in h.closes (in_close st x (local_bytes s.opened file) w at) r (goes_with words.Close r _ refl refl) (λ e ended opened. nothing_there e ended) (λ first last c. nothing_there c.0 c.1);
-  whole = λ old c k at unknown none found chunk. let r = sends_whole s file x (local_bytes s.opened file) (answered old x) c (Some k) in h.closes (ap stage_word at) r (goes_with words.Close r _ refl refl) (λ e ended opened. nothing_there e ended) (λ first last c. nothing_there c.0 c.1);
+  whole = λ old c k at unknown none found name chunk. let r = sends_whole s file x (local_bytes s.opened file) (answered old x) c (Some k) in h.closes (ap stage_word at) r (goes_with words.Close r _ refl refl) (λ e ended opened. nothing_there e ended) (λ first last c. nothing_there c.0 c.1);
 }
 
 -- ---- a command

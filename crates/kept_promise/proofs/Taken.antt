@@ -3,10 +3,10 @@ use Rattle.std.proofs.Common.{inl, inr, ◌≡◌, ℕ, suc, ◌+◌, ◌≤◌,
 use Rattle.std.specs.Option.{option_map}
 use Rattle.hash_calls.specs.declared.call.Leased.{Leased}
 use Rattle.open_close.specs.declared.task.Stage.TheVariants as stage
-use Rattle.kept_promise.proofs.Common.{cond, ◌==◌, find, Chunk, Status, Answer, Done, Failed, Attr, Hashes, Piece, Fetch, Stage, Value, TakenCall, taken_at, Book, Reply, Reply.Versioned, Reply.Hashed, Reply.Bytes, Reply.Changed, Ask, Told}
+use Rattle.kept_promise.proofs.Common.{Body, cond, ◌==◌, find, Chunk, Status, Answer, Done, Failed, Attr, Hashes, Piece, Fetch, Stage, Value, TakenCall, taken_at, Book, Reply, Reply.Versioned, Reply.Hashed, Reply.Bytes, Reply.Changed, Ask, Told}
 use Rattle.kept_promise.proofs.Lists.{nothing_there}
 use Rattle.kept_promise.proofs.Keys.{times}
-use Rattle.kept_promise.proofs.Messages.{Job, AllAsks, AllTolds, AllUnder, Rising, IsTold, IsTried, RefusedTold, HashTold, LeaseTold, ReadTold, TriedBy, AnswerOf, IsAnswer, IsFetch, FetchOf, HasFetch}
+use Rattle.kept_promise.proofs.Messages.{Job, IsServed, lease_body, hash_body, AllAsks, AllTolds, AllUnder, Rising, IsTold, IsTried, RefusedTold, HashTold, LeaseTold, ReadTold, TriedBy, AnswerOf, IsAnswer, IsFetch, FetchOf, HasFetch}
 
 -- what was found is found
 abbrev pub Finds : List TakenCall → List TakenCall → Type 0
@@ -36,8 +36,11 @@ under_more floor (v ∷ taken) t u le = let lt = u.0 in (omega (arith, lt, le), 
 told_found : (book : Book) (taken after : List TakenCall) (j : Job) (x : ℕ) (v : Value) (version : ℕ) → Finds taken after → IsTold book taken j x v version → IsTold book after j x v version
 told_found book taken after j x v version f h = record { moment = h.moment; was = f x h.moment h.was; past = h.past; value = h.value; version_is = h.version_is; op = h.op; there = h.there; after = h.after; apart = h.apart }
 
+served_found : (book : Book) (taken after : List TakenCall) (j : Job) (x : ℕ) (call : Body) → Finds taken after → IsServed book taken j x call → IsServed book after j x call
+served_found book taken after j x call f h = record { moment = h.moment; was = f x h.moment h.was; op = h.op; there = h.there; takes = h.takes }
+
 tried_found : (book : Book) (taken after : List TakenCall) (j : Job) (x n : ℕ) → Finds taken after → IsTried book taken j x n → IsTried book after j x n
-tried_found book taken after j x n f h = record { moment = h.moment; was = f x h.moment h.was; past = h.past; op = h.op; there = h.there; count = h.count; tries_is = h.tries_is; tried = h.tried }
+tried_found book taken after j x n f h = record { moment = h.moment; was = f x h.moment h.was; past = h.past; op = h.op; there = h.there; count = h.count; tries_is = h.tries_is; tried = h.tried; call = served_found book taken after j x (hash_body j.file 0) f h.call }
 
 refused_found : (book : Book) (taken after : List TakenCall) (j : Job) (x : ℕ) (s : Status) → Finds taken after → RefusedTold book taken j x s → RefusedTold book after j x s
 refused_found book taken after j x s f (inl h) = inl h
@@ -49,7 +52,7 @@ hash_found book taken after j x o (Done a) f h = record { file = h.file; is = h.
 
 lease_found : (book : Book) (taken after : List TakenCall) (j : Job) (x : ℕ) (a : Answer Leased Unit) → Finds taken after → LeaseTold book taken j x a → LeaseTold book after j x a
 lease_found book taken after j x (Failed s u) f h = refused_found book taken after j x s f h
-lease_found book taken after j x (Done a) f h = record { value = h.value; told = told_found book taken after j x (Some h.value) a.version f h.told; known = h.known }
+lease_found book taken after j x (Done a) f h = record { value = h.value; told = told_found book taken after j x (Some h.value) a.version f h.told; call = served_found book taken after j x (lease_body j.file) f h.call; known = h.known }
 
 tried_by_found : (book : Book) (taken after : List TakenCall) (j : Job) (x : ℕ) (s : Stage) → Finds taken after → TriedBy book taken j x s → TriedBy book after j x s
 tried_by_found book taken after j x (stage.Hashing tries y) f h = tried_found book taken after j x tries f h

@@ -153,7 +153,7 @@ tally_cases s calls file st x b = record {
       let r = sum_read n.send m in
       let t = sum_data n.send m in
       inl (record { cond = omega (arith, a, p); tmp = omega (arith, c, q); read = omega (arith, d, r); data_is = omega (arith, e, t, none) });
-  whole = λ old c k at unknown none found chunk. inl (record { cond = refl; tmp = refl; read = refl; data_is = omega (arith, none) });
+  whole = λ old c k at unknown none found name chunk. inl (record { cond = refl; tmp = refl; read = refl; data_is = omega (arith, none) });
 }
 
 tally_drops : (s : State) (task : Option Task) (xid : ℕ) (b : Bool) → Tallies 0 (drops s task xid b)

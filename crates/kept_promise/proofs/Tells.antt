@@ -4,11 +4,15 @@ use Rattle.xdr_codec.specs.declared.status.Status.TheVariants as status
 use Rattle.server_core.specs.State as server
 use Rattle.server_core.specs.Answers.{file_node, hash_answer, lease_answer, read_answer}
 use Rattle.server_core.specs.Hashed.{bytes_told}
+use Rattle.wire.specs.declared.message.Message.TheVariants as message
+use Rattle.open_close.specs.State as client
 use Rattle.open_close.specs.declared.task.Stage.TheVariants as stage
+use Rattle.trace_replay.specs.Causes.{TakesCall}
 use Rattle.trace_replay.specs.Trail.{served_hashed}
-use Rattle.kept_promise.proofs.Common.{slice_get, ◌==◌, Contains, chunk_bytes, Chunk, handle_bytes, Failed, Status, HashRange, Range, message_spell, MessageFits, Node, root, file, node_of, told_chunks, hashes_of, piece_of, leased_of, File, Fetch, Stage, Value, content_of, TakenCall, Core, Seat, Session, Event.Serves, numbered, hashed_of, Book, value_at, version_at, Call.Lease, Call.Hash, Call.Read, Reply, Reply.Versioned, Reply.Hashed, Reply.Bytes, Ask, Queue, ask_message, told_message}
+use Rattle.kept_promise.proofs.Common.{slice_get, cond, ◌==◌, ◌||◌, Contains, end_of, parse_of, server_waiting, Body, Op, Task, chunk_bytes, Chunk, handle_bytes, Failed, Status, HashRange, Range, message_spell, MessageFits, Node, root, file, node_of, told_chunks, hashes_of, piece_of, leased_of, File, Fetch, Stage, Value, content_of, TakenCall, Core, Seat, Session, Event.Serves, numbered, hashed_of, Book, value_at, version_at, Call.Lease, Call.Hash, Call.Read, Reply, Reply.Versioned, Reply.Hashed, Reply.Bytes, Ask, Queue, ask_message, told_message}
 use Rattle.kept_promise.proofs.Statements.{CallFits}
-use Rattle.kept_promise.proofs.Messages.{Job, job, AllAsks, Rising, IsAsked, hash_offset, IsTold, IsHashed, RefusedTold, HashTold, IsLeased, LeaseTold, IsRead, ReadTold, TriedBy, AnswerOf, IsFetch, IsReading, FetchOf, range_from}
+use Rattle.kept_promise.proofs.Lists.{some_is, nothing_there}
+use Rattle.kept_promise.proofs.Messages.{Job, job, job_of, lease_body, hash_body, AllAsks, Rising, IsAsked, hash_offset, IsTold, IsHashed, RefusedTold, HashTold, IsLeased, LeaseTold, IsRead, ReadTold, TriedBy, AnswerOf, IsFetch, IsReading, FetchOf, range_from}
 use Rattle.kept_promise.proofs.Rights.{IsHeld}
 use Rattle.kept_promise.proofs.Growth.{value_later, version_later, tried_later}
 use Rattle.kept_promise.proofs.History.{onward, grows_same}
@@ -66,8 +70,45 @@ told_now book k qs n x q a us c j v version kept was talk e is value versions =
       apart = λ i f. let le = (kept.sound.past i (book.steps + 1) f).1 in omega (arith, le);
     }
 
-tried_now : (book : Book) (k : Core) (qs : List Queue) (n : ℕ) (x : Session) (q : Queue) (a : Ask) (us : List Ask) (c : Seat) (j : Job) (s : Stage) → IsKept book k qs → numbered k.seats x.owner ≡ Some c → IsTalk book n k.server.waiting x q c → q.ups ≡ a ∷ us → job c ≡ Some j → j.stage ≡ s → TriedBy (onward book 1 book.ops) (with_taken x a.xid (book.steps + 1)) j a.xid s
-tried_now book k qs n x q a us c j (stage.Hashing tries y) kept was talk e is at =
+-- an operation's client waits for what its stage waits for
+pub waits_in : (place : Option ℕ) (task : Option Task) (j : Job) (x : ℕ) → job_of place task ≡ Some j → client.has_call (client.pending_in j.stage) x ≡ true → client.has_call (client.pending task) x ≡ true
+waits_in (Some p) (Some t) j x e is = ap (λ (z : Job). client.has_call (client.pending_in z.stage) x) (some_is (record { place = p; file = t.file; stage = t.stage }) j e) ∙ is
+waits_in _ _ j x e is = nothing_there j e
+
+-- what is taken in this step is such a call
+takes_now : (book : Book) (k : Core) (qs : List Queue) (n now : ℕ) (x : Session) (a : Ask) (c : Seat) (j : Job) (call : Body) → IsKept book k qs → numbered k.seats x.owner ≡ Some c → c.session ≡ Some n → job c ≡ Some j → client.has_call (client.pending_in j.stage) a.xid ≡ true
+    → IsNoted book k (Serves n now (message_spell (ask_message a))) → parse_of server_waiting (message_spell (ask_message a)) ≡ Ok (message.Call a.xid call) → (o : Op) → slice_get book.ops j.place ≡ Some o → TakesCall (onward book 1 book.ops) o.client (book.steps + 1) a.xid call
+takes_now book k qs n now x a c j call kept was here is own noted parsed_ o at =
+    let of = (kept.seats x.owner c was).task j is in
+    let steps = kept.steps in
+    record {
+      moment = record { before = k; event = Serves n now (message_spell (ask_message a)) };
+      there = noted.there;
+      step_is = omega (arith, steps);
+      session = n;
+      now = now;
+      bytes = message_spell (ask_message a);
+      event_is = refl;
+      parsed = parsed_;
+      waits = record { seat = c; seat_is = ap (numbered k.seats) (ap (λ (z : Op). z.client) (some_is o of.op (sym at ∙ of.there)) ∙ of.client) ∙ was; newest = here; own = waits_in c.place c.client.task j a.xid is own };
+    }
+
+-- one that asks for chunks waits
+hash_waits : (s : Stage) (x o : ℕ) → hash_offset s x ≡ Some o → client.has_call (client.pending_in s) x ≡ true
+hash_waits (stage.Hashing tries y) x o e = by (y == x) 0 e
+  where
+    by : (b : Bool) (z : ℕ) → cond b (Some z) None ≡ Some o → (b || false) ≡ true
+    by true z e = refl
+    by false z e = nothing_there o e
+hash_waits (stage.Listing y f) x o e = by (y == x) (end_of f.chunks) e
+  where
+    by : (b : Bool) (z : ℕ) → cond b (Some z) None ≡ Some o → (b || false) ≡ true
+    by true z e = refl
+    by false z e = nothing_there o e
+hash_waits _ x o e = nothing_there o e
+
+tried_now : (book : Book) (k : Core) (qs : List Queue) (n : ℕ) (x : Session) (q : Queue) (a : Ask) (us : List Ask) (c : Seat) (j : Job) (s : Stage) (o : ℕ) → hash_offset s a.xid ≡ Some o → ((z : Op) → slice_get book.ops j.place ≡ Some z → TakesCall (onward book 1 book.ops) z.client (book.steps + 1) a.xid (hash_body j.file o)) → IsKept book k qs → numbered k.seats x.owner ≡ Some c → IsTalk book n k.server.waiting x q c → q.ups ≡ a ∷ us → job c ≡ Some j → j.stage ≡ s → TriedBy (onward book 1 book.ops) (with_taken x a.xid (book.steps + 1)) j a.xid s
+tried_now book k qs n x q a us c j (stage.Hashing tries y) o waits call kept was talk e is at =
     let h = (kept.seats x.owner c was).trying j tries y is at in
     let g = grows_same book 1 in
     let rising = subst (λ (l : List Ask). Rising talk.floor l c.client.next) e talk.rising in
@@ -80,8 +121,19 @@ tried_now book k qs n x q a us c j (stage.Hashing tries y) kept was talk e is at
       count = h.count;
       tries_is = h.tries_is;
       tried = tried_later book (onward book 1 book.ops) None None j.file h.op.begin h.count (book.steps + 1) g (omega arith) h.tried;
+      call = record {
+        moment = book.steps + 1;
+        was = finds_last x.taken talk.floor (record { xid = a.xid; step = book.steps + 1 }) talk.under rising.0;
+        op = h.op;
+        there = h.there;
+        takes = subst (λ (z : ℕ). TakesCall (onward book 1 book.ops) h.op.client (book.steps + 1) a.xid (hash_body j.file z)) (first (y == a.xid) waits) (call h.op h.there);
+      };
     }
-tried_now book k qs n x q a us c j (stage.Listing y f) kept was talk e is at =
+  where
+    first : (b : Bool) → cond b (Some 0) None ≡ Some o → o ≡ 0
+    first true e = sym (some_is 0 o e)
+    first false e = nothing_there o e
+tried_now book k qs n x q a us c j (stage.Listing y f) o waits call kept was talk e is at =
     let h = (subst (FetchOf book x.taken j) at (talk.fetch j is)).0 in
     let past = h.told.past in
     let rising = subst (λ (l : List Ask). Rising talk.floor l c.client.next) e talk.rising in
@@ -92,7 +144,7 @@ tried_now book k qs n x q a us c j (stage.Listing y f) kept was talk e is at =
       is = finds_last x.taken talk.floor (record { xid = a.xid; step = book.steps + 1 }) talk.under rising.0;
       order = omega (arith, past);
     }
-tried_now book k qs n x q a us c j _ kept was talk e is at = tt
+tried_now book k qs n x q a us c j _ o waits call kept was talk e is at = tt
 
 -- what the server has of a file then
 pub held_now : (book : Book) (k : Core) (n now : ℕ) (a : Ask) (i f : ℕ) (g : File) → IsNoted book k (Serves n now (message_spell (ask_message a))) → i ≡ f → server.file_at k.server.files f ≡ Some g → IsHeld book.moments i g
@@ -131,21 +183,33 @@ lease_reply_fits laws book s xid f h x lt = by (looked s.files f lt)
         let small = b.2 in
         subst (λ (node : Result Node Status). MessageFits (told_message (record { xid = xid; reply = Versioned (lease_answer node) }))) (sym e) (laws.leases xid g x (omega (arith, id, small), omega (arith, v, c), b.6))
 
-pub lease_told : (book : Book) (k : Core) (qs : List Queue) (n : ℕ) (x : Session) (q : Queue) (xid f : ℕ) (us : List Ask) (c : Seat) → IsKept book k qs → numbered k.seats x.owner ≡ Some c → IsTalk book n k.server.waiting x q c → q.ups ≡ record { xid = xid; call = Lease f } ∷ us → f < 18446744073709551616
-    → AnswerOf (onward book 1 book.ops) (with_taken x xid (book.steps + 1)) x.closing (job c) xid (lease_reply k.server.files f)
-lease_told book k qs n x q xid f us c kept was talk e small = λ j is at. by j is ((subst (AllAsks (IsAsked (job c))) e talk.asked).0 j is at) (looked k.server.files f small)
+pub lease_told : FitLaws → (book : Book) (k : Core) (qs : List Queue) (n now : ℕ) (x : Session) (q : Queue) (xid f : ℕ) (us : List Ask) (c : Seat) → IsKept book k qs → numbered k.seats x.owner ≡ Some c → c.session ≡ Some n → IsTalk book n k.server.waiting x q c → q.ups ≡ record { xid = xid; call = Lease f } ∷ us → CallFits xid (Lease f)
+    → IsNoted book k (Serves n now (message_spell (ask_message (record { xid = xid; call = Lease f })))) → AnswerOf (onward book 1 book.ops) (with_taken x xid (book.steps + 1)) x.closing (job c) xid (lease_reply k.server.files f)
+lease_told laws book k qs n now x q xid f us c kept was here talk e fits noted = λ j is at. by j is at ((subst (AllAsks (IsAsked (job c))) e talk.asked).0 j is at) (looked k.server.files f fits.1)
   where
     a : Ask
     a = record { xid = xid; call = Lease f }
 
-    by : (j : Job) → job c ≡ Some j → j.file ≡ f → Found k.server.files f → LeaseTold (onward book 1 book.ops) (with_taken x xid (book.steps + 1)) j xid (lease_answer (node_of k.server.files (handle_bytes f)))
-    by j is same (is_root one at) = subst (λ (node : Result Node Status). LeaseTold (onward book 1 book.ops) (with_taken x xid (book.steps + 1)) j xid (lease_answer node)) (sym at) (inl (refl, same ∙ one))
-    by j is same (is_gone none at) = subst (λ (node : Result Node Status). LeaseTold (onward book 1 book.ops) (with_taken x xid (book.steps + 1)) j xid (lease_answer node)) (sym at) (gone_told book k qs n x q a f us c j kept was talk e is small same none at)
-    by j is same (is_file g there at) =
+    by : (j : Job) → job c ≡ Some j → j.stage ≡ stage.Asking xid → j.file ≡ f → Found k.server.files f → LeaseTold (onward book 1 book.ops) (with_taken x xid (book.steps + 1)) j xid (lease_answer (node_of k.server.files (handle_bytes f)))
+    by j is asks same (is_root one at) = subst (λ (node : Result Node Status). LeaseTold (onward book 1 book.ops) (with_taken x xid (book.steps + 1)) j xid (lease_answer node)) (sym at) (inl (refl, same ∙ one))
+    by j is asks same (is_gone none at) = subst (λ (node : Result Node Status). LeaseTold (onward book 1 book.ops) (with_taken x xid (book.steps + 1)) j xid (lease_answer node)) (sym at) (gone_told book k qs n x q a f us c j kept was talk e is fits.1 same none at)
+    by j is asks same (is_file g there at) =
         let held = subst (FileIs book f) there (kept.server.held f) in
         let shown : IsLeased (onward book 1 book.ops) (with_taken x xid (book.steps + 1)) j xid (leased_of g) = record {
           value = held.4.value;
           told = told_now book k qs n x q a us c j (Some held.4.value) g.version kept was talk e is (ap (λ (i : ℕ). value_at book i (book.steps + 1)) same ∙ held.4.is) (ap (λ (i : ℕ). version_at book i (book.steps + 1)) same ∙ held.5);
+          call = (
+              let of = (kept.seats x.owner c was).task j is in
+              let own : client.has_call (client.pending_in j.stage) xid ≡ true = ap (λ (s : Stage). client.has_call (client.pending_in s) xid) asks ∙ ap (λ b. b || false) (eq-eqb xid xid refl) in
+              let rising = subst (λ (l : List Ask). Rising talk.floor l c.client.next) e talk.rising in
+              record {
+                moment = book.steps + 1;
+                was = finds_last x.taken talk.floor (record { xid = xid; step = book.steps + 1 }) talk.under rising.0;
+                op = of.op;
+                there = of.there;
+                takes = subst (λ (i : ℕ). TakesCall (onward book 1 book.ops) of.op.client (book.steps + 1) xid (lease_body i)) (sym same) (takes_now book k qs n now x a c j (lease_body f) kept was here is own noted (parsed laws a fits) of.op of.there);
+              }
+              );
           known = subst (λ (i : ℕ). IsSome (content_of book.opening i)) (sym same) held.3;
         } in
         subst (λ (node : Result Node Status). LeaseTold (onward book 1 book.ops) (with_taken x xid (book.steps + 1)) j xid (lease_answer node)) (sym at) shown
@@ -172,15 +236,22 @@ hash_reply_fits laws book s xid f offset h x lt = by (looked s.files f lt)
         let small = b.2 in
         subst (λ (node : Result Node Status). MessageFits (told_message (record { xid = xid; reply = Hashed (hash_answer node (hash_range f offset)) }))) (sym e) (laws.hashes xid g (handle_bytes f) offset x (omega (arith, id, small), omega (arith, v, c), b.6))
 
-pub hash_told : FitLaws → (book : Book) (k : Core) (qs : List Queue) (n now : ℕ) (x : Session) (q : Queue) (xid f offset : ℕ) (us : List Ask) (c : Seat) → IsKept book k qs → numbered k.seats x.owner ≡ Some c → IsTalk book n k.server.waiting x q c → q.ups ≡ record { xid = xid; call = Hash f offset } ∷ us → CallFits xid (Hash f offset)
+pub hash_told : FitLaws → (book : Book) (k : Core) (qs : List Queue) (n now : ℕ) (x : Session) (q : Queue) (xid f offset : ℕ) (us : List Ask) (c : Seat) → IsKept book k qs → numbered k.seats x.owner ≡ Some c → c.session ≡ Some n → IsTalk book n k.server.waiting x q c → q.ups ≡ record { xid = xid; call = Hash f offset } ∷ us → CallFits xid (Hash f offset)
     → IsNoted book k (Serves n now (message_spell (ask_message (record { xid = xid; call = Hash f offset })))) → AnswerOf (onward book 1 book.ops) (with_taken x xid (book.steps + 1)) x.closing (job c) xid (hash_reply k.server.files f offset)
-hash_told laws book k qs n now x q xid f offset us c kept was talk e fits noted = λ j o is waits. (
+hash_told laws book k qs n now x q xid f offset us c kept was here talk e fits noted = λ j o is waits. (
   by j o is (asks j o is waits) (looked k.server.files f fits.1),
-  tried_now book k qs n x q (record { xid = xid; call = Hash f offset }) us c j j.stage kept was talk e is refl,
+  tried_now book k qs n x q (record { xid = xid; call = Hash f offset }) us c j j.stage o waits (calls j o is waits) kept was talk e is refl,
 )
   where
     asks : (j : Job) (o : ℕ) → job c ≡ Some j → hash_offset j.stage xid ≡ Some o → (j.file ≡ f) × (o ≡ offset)
     asks j o is waits = (subst (AllAsks (IsAsked (job c))) e talk.asked).0 j o is waits
+
+    calls : (j : Job) (o : ℕ) → job c ≡ Some j → hash_offset j.stage xid ≡ Some o → (z : Op) → slice_get book.ops j.place ≡ Some z → TakesCall (onward book 1 book.ops) z.client (book.steps + 1) xid (hash_body j.file o)
+    calls j o is waits z at =
+        let same = asks j o is waits in
+        subst (λ (i : ℕ). TakesCall (onward book 1 book.ops) z.client (book.steps + 1) xid (hash_body i o)) (sym same.0)
+        (subst (λ (y : ℕ). TakesCall (onward book 1 book.ops) z.client (book.steps + 1) xid (hash_body f y)) (sym same.1)
+        (takes_now book k qs n now x (record { xid = xid; call = Hash f offset }) c j (hash_body f offset) kept was here is (hash_waits j.stage xid o waits) noted (parsed laws (record { xid = xid; call = Hash f offset }) fits) z at))
 
     by : (j : Job) (o : ℕ) → job c ≡ Some j → (j.file ≡ f) × (o ≡ offset) → Found k.server.files f → HashTold (onward book 1 book.ops) (with_taken x xid (book.steps + 1)) j xid o (hash_answer (node_of k.server.files (handle_bytes f)) (hash_range f offset))
     by j o is same (is_root one at) = subst (λ (node : Result Node Status). HashTold (onward book 1 book.ops) (with_taken x xid (book.steps + 1)) j xid o (hash_answer node (hash_range f offset))) (sym at) (inl (refl, same.0 ∙ one))

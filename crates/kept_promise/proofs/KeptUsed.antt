@@ -1,0 +1,237 @@
+-- An open that is told the version in which its client keeps a content ends by that content, and counts nothing.
+use Rattle.std.proofs.Common.{◌⊎◌, inl, inr, ◌≡◌, ℕ, ◌+◌, ◌≤◌, List, [], ◌∷◌, ◌++◌, Option, Some, None, Ok, Bool, true, false, refl, sym, ap, ◌∙◌, subst, arith}
+use Rattle.hash_calls.specs.declared.call.Leased.{Leased}
+use Rattle.hash_calls.specs.declared.message.Lb.TheVariants as lb
+use Rattle.wire.specs.declared.message.Body.TheVariants as body
+use Rattle.wire.specs.declared.message.Message.TheVariants as message
+use Rattle.client_cache.specs.Cache.{content_of}
+use Rattle.open_close.specs.Caching.{content_in}
+use Rattle.open_close.specs.State as client
+use Rattle.open_close.specs.declared.step.BadPeer.TheVariants as bad
+use Rattle.open_close.specs.declared.task.Stage.TheVariants as stage
+use Rattle.open_close.specs.declared.task.Way.TheVariants as way
+use Rattle.register_model.specs.declared.op.Word.TheVariants as words
+use Rattle.trace_replay.specs.Core.{taken_of as session_taken}
+use Rattle.trace_replay.specs.Saving.{EndsBy, UsesKept}
+use Rattle.kept_promise.proofs.Common.{Contains, Contains-push_cases, Way, answered, no_counts, slice_get, option_map, unwrap_or, Done, Body, Message, Pending, got_step, took, took_if, told_stored, told_way, uses_kept, idle, hash_call, ClientStep, Local, Stage, Store, StoreCall, Task, store_at, Op, Opening, TakenCall, op_after, counted, no_traffic, Core, Seat, Event, Event.Joins, Event.Does, Event.Serves, Event.Hears, Event.Settles, Event.Cuts, Event.Hangs, CoreStep, numbered, session_of, acted, happens, Moment, step_of, client_of, owner_in, wanted_if, taken_by, is_in, local_bytes, local_at_itself, hashed_of, deals_of, Book, Queue, told_message, reply_body}
+use Rattle.kept_promise.proofs.Lists.{some_is, nothing_there, of_appended, of_replaced, true_and_false}
+use Rattle.kept_promise.proofs.Messages.{Job, job, stage_word}
+use Rattle.kept_promise.proofs.Fits.{FitLaws}
+use Rattle.kept_promise.proofs.Facts.{IsKept}
+use Rattle.kept_promise.proofs.RunsCarried.{book_at, moment, Step}
+use Rattle.kept_promise.proofs.Actors.{job_task, acts_alone, Heard, heard_at, heard_acts, heard_takes}
+use Rattle.kept_promise.proofs.Counted.{IsActor, early, running_past, traffic_is}
+use Rattle.kept_promise.proofs.CountedRuns.{no_fault_after}
+use Rattle.kept_promise.proofs.JobFacts.{ops_shape}
+use Rattle.kept_promise.proofs.StepCases.{IsFault}
+use Rattle.kept_promise.proofs.VersionRuns.{own_op}
+use Rattle.kept_promise.proofs.Logs.{IsSilent}
+use Rattle.kept_promise.proofs.LogSums.{counts_log, IsSum}
+use Rattle.kept_promise.proofs.LogEvents.{LogsAt, file_stays}
+use Rattle.kept_promise.proofs.CountedRuns.{CountedAt}
+use Rattle.kept_promise.proofs.OpsAfter.{OpsAfter, Becomes, ops_after_event}
+use Rattle.kept_promise.proofs.Reached.{IsBare}
+use Rattle.kept_promise.proofs.OpensLog.{OpensBy, OpenRead}
+use Rattle.kept_promise.proofs.ClosesLog.{none_sent}
+use Rattle.kept_promise.proofs.OwnLog.{OwnBy, OpOwn, open_stores}
+
+-- ---- what is carried
+
+pub record AreUsed (past : List Moment) (steps : ℕ) (ops : List Op) : Type 0 where
+  pub by : (m : Moment) → Contains past m → (step_of m ≤ steps) ⊎ IsSilent m
+  pub each : (m : Moment) → Contains past m → (p : ℕ) (o : Op) → slice_get ops p ≡ Some o → UsesKept m o
+
+abbrev pub UsedAt : List Moment → Core → Type 0
+UsedAt past k = AreUsed past k.steps k.ops
+
+-- nothing is taken then
+none_taken : (m : Moment) (o : Op) → taken_by m.before (client_of m.before m.event) m.event ≡ [] → UsesKept m o
+none_taken m o none x l seat mine here there = (let lt = (subst (λ (ms : List Message). Contains ms (message.Answer x (body.Lb (lb.GetLeaseAnswer (Done l))))) none there).1 in absurd (omega (arith, lt)))
+
+-- ---- what is past stays
+
+-- an operation that went on had not ended
+went_on : (m : Moment) (n : ℕ) (q : Op) (c : client.State) (taken : List TakenCall) (acts : ClientStep) → step_of m ≤ n → q.end ≡ None → UsesKept m q → UsesKept m (op_after q c taken (n + 1) acts)
+went_on m n q c taken acts le running h x l seat mine here there =
+    let new : Op = op_after q c taken (n + 1) acts in
+    let was : is_in q (step_of m) (client_of m.before m.event) ≡ true = sym (running_past q c taken n acts running (step_of m) (client_of m.before m.event) le) ∙ mine in
+    let file : new.file ≡ q.file = file_stays q c taken (n + 1) acts in
+    subst (λ f. EndsBy (op_after q c taken (n + 1) acts) (step_of m) (happens m.before m.event).up (content_in l.version (content_of seat.client.cache f))) (sym file) (by (content_in l.version (content_of seat.client.cache q.file)) (h x l seat was here there))
+  where
+    by : (kept : Option (List ℕ)) → EndsBy q (step_of m) (happens m.before m.event).up kept → EndsBy (op_after q c taken (n + 1) acts) (step_of m) (happens m.before m.event).up kept
+    by (Some bytes) e = nothing_there (step_of m) (sym running ∙ e.1)
+    by None e = (e.0, e.1 ∙ ap (λ f. hash_call e.0 f 0 ∷ []) (sym (file_stays q c taken (n + 1) acts)))
+
+stays : (book : Book) (k : Core) (qs : List Queue) (e : Event) (ops : List Op) (m : Moment) → IsKept book k qs → step_of m ≤ k.steps → OpsAfter e k ops → ((p : ℕ) (o : Op) → slice_get k.ops p ≡ Some o → UsesKept m o) → (p : ℕ) (o : Op) → slice_get ops p ≡ Some o → UsesKept m o
+stays book k qs e ops m kept le (inl same) h p o at = h p o (ap (λ (l : List Op). slice_get l p) (sym same) ∙ at)
+stays book k qs e ops m kept le (inr (inl n)) h p o at = elim (of_appended k.ops n.new p o (ap (λ (l : List Op). slice_get l p) (sym n.is) ∙ at)) [
+  | inl last ↦ subst (UsesKept m) (sym last.1) (λ x l seat mine here there. (let lt = n.late in absurd (true_and_false (is_in n.new (step_of m) (client_of m.before m.event)) mine (early n.new (step_of m) (client_of m.before m.event) (omega (arith, lt, le))))))
+  | inr old ↦ h p o old
+]
+stays book k qs e ops m kept le (inr (inr (inl a))) h p o at = elim (ops_shape k.ops a.seat.place a.after (session_taken (session_of k.sessions a.seat.session)) (k.steps + 1) a.acts p o (ap (λ (l : List Op). slice_get l p) (sym a.is) ∙ at)) [
+  | inl mine ↦ subst (UsesKept m) (sym mine.3) (went_on m k.steps mine.0 a.after (session_taken (session_of k.sessions a.seat.session)) a.acts le ((acts_alone book k qs a.index a.seat kept a.here).own p mine.0 mine.1 mine.2).1 (h p mine.0 mine.2))
+  | inr old ↦ h p o old.1
+]
+stays book k qs e ops m kept le (inr (inr (inr (inl same)))) h p o at = h p o (ap (λ (l : List Op). slice_get l p) (sym same) ∙ at)
+stays book k qs e ops m kept le (inr (inr (inr (inr s)))) h p o at = elim (of_replaced k.ops s.0 (record s.1 { point = Some (k.steps + 1) }) p o (ap (λ (l : List Op). slice_get l p) (sym s.4) ∙ at)) [
+  | inr old ↦ h p o old.1
+  | inl made ↦ subst (UsesKept m) (sym made.1) (λ x l seat mine here there. h s.0 s.1 s.2 x l seat mine here there)
+]
+
+-- ---- the answer to a GETLEASE
+
+-- one that waits for no such answer meets a fault
+store_fault : (s : client.State) (calls : List Pending) (file x : ℕ) (content : List ℕ) (st : Store) (l : Leased) (o : Option StoreCall) → IsFault (told_stored s calls file x content st (body.Lb (lb.GetLeaseAnswer (Done l))) o).1.ended
+store_fault s calls file x content st l None = (bad.UnknownXid x, refl)
+store_fault s calls file x content st l (Some c) = by c.way
+  where
+    by : (w : Way) → IsFault (told_way s calls file x content (answered st x) c w (body.Lb (lb.GetLeaseAnswer (Done l)))).1.ended
+    by way.Named = (bad.UnknownXid x, refl)
+    by way.Whole = (bad.UnknownXid x, refl)
+
+takes_lease : (s : client.State) (calls : List Pending) (file : ℕ) (st : Stage) (x : ℕ) (l : Leased) → IsFault (took s calls file st x (body.Lb (lb.GetLeaseAnswer (Done l)))).1.ended ⊎ ((y : ℕ) × (st ≡ stage.Asking y))
+takes_lease s calls file (stage.Asking y) x l = inr (y, refl)
+takes_lease s calls file (stage.Storing st) x l = inl (store_fault s calls file x (client.local_bytes s.opened file) st l (store_at st.under x))
+takes_lease s calls file _ x l = inl (bad.UnknownXid x, refl)
+
+-- an open that read nothing yet counts nothing
+bare_counts : (past : List Moment) (o : Op) → o.word ≡ words.Open → OpOwn (deals_of o past) o.word o.file o.value o.outcome → IsBare (deals_of o past) → IsSum o.traffic (deals_of o past) → o.traffic ≡ no_traffic
+bare_counts past o open_ own bare s =
+    let n = open_stores o.file o.value (deals_of o past) (subst (λ w. OpOwn (deals_of o past) w o.file o.value o.outcome) open_ own).0 in
+    let a = n.0 in
+    let b = n.1 in
+    let c = none_sent (deals_of o past) n.1 in
+    let asked = bare.1 in
+    let came = bare.2 in
+    let p = s.cond in
+    let q = s.tmp in
+    let r = s.read in
+    let d = s.data_is in
+    traffic_is o.traffic no_traffic (omega (arith, p, a)) (omega (arith, q, b)) (omega (arith, r, asked)) (omega (arith, d, c, came))
+
+-- what it comes to
+kept_ends : (q : Op) (s : client.State) (calls : List Pending) (file x version step : ℕ) (taken : List TakenCall) → q.file ≡ file → q.traffic ≡ no_traffic → (kept : Option (List ℕ))
+    → EndsBy (op_after q (uses_kept s calls file x version kept).0 taken step (uses_kept s calls file x version kept).1) step (uses_kept s calls file x version kept).1.send kept
+kept_ends q s calls file x version step taken file_is none (Some bytes) = (refl, refl, value, refl, ap (λ t. counted t (record no_counts { bytes = 0 })) none)
+  where
+    value : client.local_bytes (client.with_local s.opened file (record { version = version; bytes = bytes })) file ≡ bytes
+    value = ap (λ (o : Option Local). unwrap_or (option_map (λ (z : Local). z.bytes) o) []) (local_at_itself s.opened file (record { version = version; bytes = bytes }))
+kept_ends q s calls file x version step taken file_is none None = (s.next, ap (λ f. hash_call s.next f 0 ∷ []) (sym file_is))
+
+-- ---- an answer is heard
+
+-- what is known before a step
+pub record Known (all past : List Moment) (k : Core) : Type 0 where
+  pub opens : LogsAt OpensBy (OpenRead (hashed_of all)) past k
+  pub own : LogsAt OwnBy OpOwn past k
+  pub counted : CountedAt past k
+
+used_hears : FitLaws → (all past : List Moment) (opening : List Opening) (k : Core) (qs after : List Queue) (n now : ℕ) (bytes : List ℕ) (mid : List Queue) → (kept : IsKept (book_at opening k all) k qs) → (h : Heard k qs n now bytes mid) → IsKept (book_at opening (happens k (Hears n now bytes)).core all) (happens k (Hears n now bytes)).core after → Known all past k
+    → (p : ℕ) (o : Op) → slice_get (happens k (Hears n now bytes)).core.ops p ≡ Some o → UsesKept (moment k (Hears n now bytes)) o
+used_hears fits all past opening k qs after n now bytes mid kept h left known p o at x l seat mine here there =
+    elim (ops_shape k.ops h.seat.place r.0 taken (k.steps + 1) r.1 p o (ap (λ (t : CoreStep). slice_get t.core.ops p) (sym turned) ∙ at)) [
+      | inr old ↦ absurd (true_and_false (is_in o (k.steps + 1) h.session.owner) (ap (is_in o (k.steps + 1)) (sym owner) ∙ mine) (actor.other p o old.1 old.0))
+      | inl new ↦ subst (λ (z : Op). EndsBy z (k.steps + 1) (happens k (Hears n now bytes)).up (content_in l.version (content_of seat.client.cache z.file))) (sym new.3) (acting new.0 new.1 new.2 (at ∙ ap (λ (z : Op). Some z) new.3))
+    ]
+  where
+    book : Book
+    book = book_at opening k all
+
+    r : client.State × ClientStep
+    r = got_step h.seat.client (Ok (told_message h.told)) now
+
+    taken : List TakenCall
+    taken = session_taken (session_of k.sessions h.seat.session)
+
+    turned : happens k (Hears n now bytes) ≡ acted k h.session.owner h.seat (got_step h.seat.client (Ok (told_message h.told)) now).0 (got_step h.seat.client (Ok (told_message h.told)) now).1
+    turned = heard_acts fits (book_at opening k all) k qs n now bytes mid kept h
+
+    owner : owner_in (numbered k.sessions n) ≡ h.session.owner
+    owner = ap owner_in h.at
+
+    actor : IsActor k.ops h.session.owner h.seat.place k.steps
+    actor = acts_alone (book_at opening k all) k qs h.session.owner h.seat kept h.owner
+
+    heard : Contains (wanted_if (client.has_call (client.pending h.seat.client.task) h.told.xid) (told_message h.told)) (message.Answer x (body.Lb (lb.GetLeaseAnswer (Done l))))
+    heard = subst (λ (ms : List Message). Contains ms (message.Answer x (body.Lb (lb.GetLeaseAnswer (Done l))))) (ap (λ i. taken_by k i (Hears n now bytes)) owner ∙ heard_takes fits (book_at opening k all) k qs n now bytes mid kept h) there
+
+    same_seat : h.seat ≡ seat
+    same_seat = some_is h.seat seat (sym h.owner ∙ ap (numbered k.seats) (sym owner) ∙ here)
+
+    -- it is the one that its operation waits for
+    is_it : (b : Bool) → Contains (wanted_if b (told_message h.told)) (message.Answer x (body.Lb (lb.GetLeaseAnswer (Done l)))) → (b ≡ true) × (told_message h.told ≡ message.Answer x (body.Lb (lb.GetLeaseAnswer (Done l))))
+    is_it false c = (let lt = c.1 in absurd (omega (arith, lt)))
+    is_it true c = elim (Contains-push_cases [] (told_message h.told) (message.Answer x (body.Lb (lb.GetLeaseAnswer (Done l)))) c) [
+      | inl none ↦ (let lt = none.1 in absurd (omega (arith, lt)))
+      | inr same ↦ (refl, same)
+    ]
+
+    ended : (q : Op) (j : Job) → j.place ≡ p → q.file ≡ j.file → slice_get k.ops p ≡ Some q → job h.seat ≡ Some j → (y : ℕ) → j.stage ≡ stage.Asking y → got_step h.seat.client (Ok (told_message h.told)) now ≡ took (idle h.seat.client) (client.calls_of h.seat.client) j.file j.stage x (body.Lb (lb.GetLeaseAnswer (Done l)))
+        → EndsBy (op_after q (got_step h.seat.client (Ok (told_message h.told)) now).0 (session_taken (session_of k.sessions h.seat.session)) (k.steps + 1) (got_step h.seat.client (Ok (told_message h.told)) now).1) (k.steps + 1) (happens k (Hears n now bytes)).up (content_in l.version (content_of seat.client.cache (op_after q (got_step h.seat.client (Ok (told_message h.told)) now).0 (session_taken (session_of k.sessions h.seat.session)) (k.steps + 1) (got_step h.seat.client (Ok (told_message h.told)) now).1).file))
+    ended q j place file was is y asking got =
+        let r_is : got_step h.seat.client (Ok (told_message h.told)) now ≡ uses_kept (idle h.seat.client) (client.calls_of h.seat.client) j.file x l.version (content_in l.version (content_of h.seat.client.cache j.file)) = got ∙ ap (λ (st : Stage). took (idle h.seat.client) (client.calls_of h.seat.client) j.file st x (body.Lb (lb.GetLeaseAnswer (Done l)))) asking in
+        let at_place : slice_get k.ops j.place ≡ Some q = ap (slice_get k.ops) place ∙ was in
+        let bare = (subst (OpensBy (deals_of q past) q.file q.value) asking (known.opens.jobs h.session.owner h.seat j q h.owner is at_place)).0 in
+        let of = (kept.seats h.session.owner h.seat h.owner).task j is in
+        let word : q.word ≡ words.Open = ap (λ (z : Op). z.word) (some_is q of.op (sym at_place ∙ ap (λ (l : List Op). slice_get l j.place) (sym kept.ops) ∙ of.there)) ∙ of.word ∙ ap stage_word asking in
+        let none = bare_counts past q word (known.own.each p q was) bare (counts_log q past (known.counted.counts p q was)) in
+        let up : (happens k (Hears n now bytes)).up ≡ (got_step h.seat.client (Ok (told_message h.told)) now).1.send = ap (λ (t : CoreStep). t.up) turned in
+        subst (λ ms. EndsBy (op_after q (got_step h.seat.client (Ok (told_message h.told)) now).0 taken (k.steps + 1) (got_step h.seat.client (Ok (told_message h.told)) now).1) (k.steps + 1) ms (content_in l.version (content_of seat.client.cache (op_after q (got_step h.seat.client (Ok (told_message h.told)) now).0 taken (k.steps + 1) (got_step h.seat.client (Ok (told_message h.told)) now).1).file))) (sym up)
+        (subst (λ f. EndsBy (op_after q (got_step h.seat.client (Ok (told_message h.told)) now).0 taken (k.steps + 1) (got_step h.seat.client (Ok (told_message h.told)) now).1) (k.steps + 1) (got_step h.seat.client (Ok (told_message h.told)) now).1.send (content_in l.version (content_of seat.client.cache f))) (sym (file_stays q (got_step h.seat.client (Ok (told_message h.told)) now).0 taken (k.steps + 1) (got_step h.seat.client (Ok (told_message h.told)) now).1 ∙ file))
+        (subst (λ (c : Seat). EndsBy (op_after q (got_step h.seat.client (Ok (told_message h.told)) now).0 taken (k.steps + 1) (got_step h.seat.client (Ok (told_message h.told)) now).1) (k.steps + 1) (got_step h.seat.client (Ok (told_message h.told)) now).1.send (content_in l.version (content_of c.client.cache j.file))) same_seat
+        (subst (λ (z : client.State × ClientStep). EndsBy (op_after q z.0 taken (k.steps + 1) z.1) (k.steps + 1) z.1.send (content_in l.version (content_of h.seat.client.cache j.file))) (sym r_is)
+        (kept_ends q (idle h.seat.client) (client.calls_of h.seat.client) j.file x l.version (k.steps + 1) taken file none (content_in l.version (content_of h.seat.client.cache j.file))))))
+
+    acting : (q : Op) → h.seat.place ≡ Some p → slice_get k.ops p ≡ Some q
+        → slice_get (happens k (Hears n now bytes)).core.ops p ≡ Some (op_after q (got_step h.seat.client (Ok (told_message h.told)) now).0 (session_taken (session_of k.sessions h.seat.session)) (k.steps + 1) (got_step h.seat.client (Ok (told_message h.told)) now).1)
+        → EndsBy (op_after q (got_step h.seat.client (Ok (told_message h.told)) now).0 (session_taken (session_of k.sessions h.seat.session)) (k.steps + 1) (got_step h.seat.client (Ok (told_message h.told)) now).1) (k.steps + 1) (happens k (Hears n now bytes)).up (content_in l.version (content_of seat.client.cache (op_after q (got_step h.seat.client (Ok (told_message h.told)) now).0 (session_taken (session_of k.sessions h.seat.session)) (k.steps + 1) (got_step h.seat.client (Ok (told_message h.told)) now).1).file))
+    acting q place was now_at =
+        let w = own_op book k qs h.session.owner h.seat p q kept h.owner place was in
+        let j : Job = w.0 in
+        let task = job_task h.seat.place h.seat.client.task j w.1 in
+        let it = is_it (client.has_call (client.pending h.seat.client.task) h.told.xid) heard in
+        let got : got_step h.seat.client (Ok (told_message h.told)) now ≡ took (idle h.seat.client) (client.calls_of h.seat.client) j.file j.stage x (body.Lb (lb.GetLeaseAnswer (Done l))) = took_it j task it.0 it.1 in
+        let right = left.sound.rights p _ now_at in
+        elim (takes_lease (idle h.seat.client) (client.calls_of h.seat.client) j.file j.stage x l) [
+          | inl fault ↦ absurd (no_fault_after (book_at opening (happens k (Hears n now bytes)).core all) q r.0 taken (k.steps + 1) r.1 right (subst (λ (z : client.State × ClientStep). IsFault z.1.ended) (sym got) fault))
+          | inr asking ↦ ended q j w.2 w.5 was w.1 asking.0 asking.1 got
+        ]
+      where
+        took_it : (j : Job) → h.seat.client.task ≡ Some (record { file = j.file; stage = j.stage }) → client.has_call (client.pending h.seat.client.task) h.told.xid ≡ true → told_message h.told ≡ message.Answer x (body.Lb (lb.GetLeaseAnswer (Done l))) → got_step h.seat.client (Ok (told_message h.told)) now ≡ took (idle h.seat.client) (client.calls_of h.seat.client) j.file j.stage x (body.Lb (lb.GetLeaseAnswer (Done l)))
+        took_it j task own same =
+            let xid = xid_is h.told.xid (reply_body h.told.reply) same in
+            ap (λ (m : Message). got_step h.seat.client (Ok m) now) same
+            ∙ ap (λ (t : Option Task). took_if h.seat.client t x (body.Lb (lb.GetLeaseAnswer (Done l))) (client.has_call (client.pending t) x)) task
+            ∙ ap (took_if h.seat.client (Some (record { file = j.file; stage = j.stage })) x (body.Lb (lb.GetLeaseAnswer (Done l)))) (ap (λ (t : Option Task). client.has_call (client.pending t) x) (sym task) ∙ ap (client.has_call (client.pending h.seat.client.task)) (sym xid) ∙ own)
+          where
+            xid_is : (a : ℕ) (b : Body) → message.Answer a b ≡ message.Answer x (body.Lb (lb.GetLeaseAnswer (Done l))) → a ≡ x
+            xid_is a b e = cc
+
+-- ---- any event
+
+used_now : FitLaws → (all past rest : List Moment) (opening : List Opening) (k : Core) (qs : List Queue) (e : Event) (mid after : List Queue) → Step all past rest opening k qs e mid after → Known all past k → (p : ℕ) (o : Op) → slice_get (happens k e).core.ops p ≡ Some o → UsesKept (moment k e) o
+used_now fits all past rest opening k qs (Hears n now bytes) mid after s known p o at = used_hears fits all past opening k qs after n now bytes mid s.kept (heard_at (book_at opening k all) k qs n now bytes mid s.kept s.finds) s.left known p o at
+used_now fits all past rest opening k qs (Joins c) mid after s known p o at = none_taken (moment k (Joins c)) o refl
+used_now fits all past rest opening k qs (Does c now d) mid after s known p o at = none_taken (moment k (Does c now d)) o refl
+used_now fits all past rest opening k qs (Serves n now bytes) mid after s known p o at = none_taken (moment k (Serves n now bytes)) o refl
+used_now fits all past rest opening k qs (Settles now) mid after s known p o at = none_taken (moment k (Settles now)) o refl
+used_now fits all past rest opening k qs (Cuts c) mid after s known p o at = none_taken (moment k (Cuts c)) o refl
+used_now fits all past rest opening k qs (Hangs n) mid after s known p o at = none_taken (moment k (Hangs n)) o refl
+
+pub used_event : FitLaws → (all past rest : List Moment) (opening : List Opening) (k : Core) (qs : List Queue) (e : Event) (mid after : List Queue) → Step all past rest opening k qs e mid after → Known all past k → (step_of (moment k e) ≤ (happens k e).core.steps) ⊎ IsSilent (moment k e) → UsedAt past k → UsedAt (past ++ moment k e ∷ []) (happens k e).core
+used_event fits all past rest opening k qs e mid after s known said h = record {
+  by = λ z there. elim (Contains-push_cases past (moment k e) z there) [
+    | inl old ↦ elim (h.by z old) [ inl lt ↦ inl (let le = w.1 in omega (arith, le, lt)) | inr silent ↦ inr silent ]
+    | inr new ↦ subst (λ (y : Moment). (step_of y ≤ (happens k e).core.steps) ⊎ IsSilent y) new said
+  ];
+  each = λ z there p o at. elim (Contains-push_cases past (moment k e) z there) [
+    | inl old ↦ elim (h.by z old) [
+      | inl lt ↦ stays (book_at opening k all) k qs e (happens k e).core.ops z s.kept lt w.0 (h.each z old) p o at
+      | inr silent ↦ none_taken z o silent.0
+    ]
+    | inr new ↦ subst (λ (y : Moment). UsesKept y o) new (used_now fits all past rest opening k qs e mid after s known p o at)
+  ];
+}
+  where
+    w : Becomes e k (happens k e)
+    w = ops_after_event all past rest opening k qs e mid after s

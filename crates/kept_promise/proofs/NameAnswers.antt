@@ -1,0 +1,270 @@
+-- The answer to a CONDWRITE is what the server makes of it as it takes it: that it has no such chunk exactly where it knows no bytes for it.
+use Rattle.std.proofs.Common.{◌⊎◌, inl, inr, ◌≡◌, ℕ, ◌+◌, List, [], ◌∷◌, ◌++◌, length, Option, Some, None, Result, Ok, Err, Bool, true, false, refl, sym, ap, ◌∙◌, subst, arith}
+use Rattle.hash_calls.specs.declared.call.CondPiece.{CondPiece}
+use Rattle.hash_calls.specs.declared.message.Lb.{Lb}
+use Rattle.hash_calls.specs.declared.message.Lb.TheVariants as lb
+use Rattle.nfs3_calls.specs.declared.message.Nfs.TheVariants as nfs
+use Rattle.wire.specs.declared.message.Body.TheVariants as body
+use Rattle.wire.specs.declared.message.Message.TheVariants as message
+use Rattle.xdr_codec.specs.declared.status.Status.TheVariants as status
+use Rattle.chunk_index.specs.Index.{key_of as digest_key, place_of}
+use Rattle.server_core.specs.State as server
+use Rattle.temp_files.specs.Pieces.{overlaps}
+use Rattle.server_core.specs.Closing.{answers, sends, cond_most, looked_up, settles as server_settles}
+use Rattle.server_core.specs.declared.event.Sent.{Sent}
+use Rattle.server_core.specs.declared.event.Told.{Told as Announced}
+use Rattle.server_core.specs.declared.event.Told.TheVariants as announced
+use Rattle.server_core.specs.declared.event.Event.TheVariants as event
+use Rattle.trace_replay.specs.Saving.{name_call, name_told, name_answer}
+use Rattle.kept_promise.proofs.Common.{nat_lt, if◌then◌else◌, ◌==◌, ◌||◌, list_any, Contains, Contains-push_cases, Contains-append_cases, Answer, Done, Failed, Status, Body, Message, WireFault, parse_of, Temp, size_most, temp_at, room_fault, piece_fault, assembled, without_temp, Node, root, file, node_of, File, Change, server_step, called, got_if, stands, at, makes, makes_unless, makes_change, names, names_unless, names_bytes, bytes_known, cond_fault, writes_unless, commits, commits_to, commits_whole, has_waiting, is_full, Core, Seat, Session, Event, Event.Joins, Event.Does, Event.Serves, Event.Hears, Event.Settles, Event.Cuts, Event.Hangs, CoreStep, numbered, server_waiting, is_newest, serves_if, serves, does, joins_as, joins, hears, hears_at, hears_if, cuts_if, cuts, hangs_if, hangs, happens}
+use Rattle.kept_promise.proofs.Lists.{nothing_there}
+
+-- ---- what a CONDWRITE comes to
+
+-- the bytes that a server knows for it
+abbrev pub known_in : server.State → CondPiece → Option (List ℕ)
+known_in s a = bytes_known s.files a (place_of s.index.pairs (digest_key a.digest))
+
+-- its temporary file can't take the bytes, or the answer says whether they are known
+abbrev pub ComesTo : server.State → CondPiece → Option Temp → Answer Unit Unit → Type 0
+ComesTo s a t r = ((e : Status) × (cond_fault a t ≡ Some e) × (r ≡ Failed e tt)) ⊎ ((cond_fault a t ≡ None) × (r ≡ name_answer (known_in s a)))
+
+abbrev one_sent : (session : ℕ) → Message → List Sent
+one_sent n m = record { session = n; message = m } ∷ []
+
+abbrev Says : server.State → (n xid : ℕ) → CondPiece → Option Temp → List Sent → Type 0
+Says s n xid a t send = (r : Answer Unit Unit) × ComesTo s a t r × (send ≡ one_sent n (name_told xid r))
+
+-- a temporary file that isn't there takes nothing
+none_free : (a : CondPiece) → cond_fault a None ≡ None → ⊥
+none_free a e = by (a.count == 0 || nat_lt cond_most a.count) e
+  where
+    by : (b : Bool) → (if b then Some status.Inval else piece_fault None a.offset a.count) ≡ None → ⊥
+    by true e = absurd cc
+    by false e = absurd cc
+
+pub names_say : (s : server.State) (n xid : ℕ) (a : CondPiece) (t : Option Temp) → Says s n xid a t (names s n xid a t).1.send
+names_say s n xid a t = by (cond_fault a t) refl
+  where
+    bytes : (t : Option Temp) → cond_fault a t ≡ None → (o : Option (List ℕ)) → known_in s a ≡ o → Says s n xid a t (names_bytes (looked_up s a) n xid a t o).1.send
+    bytes (Some t) none (Some b) is = (Done tt, inr (none, sym (ap name_answer is)), refl)
+    bytes (Some t) none None is = (Failed status.HashNotFound tt, inr (none, sym (ap name_answer is)), refl)
+    bytes None none o is = absurd (none_free a none)
+
+    by : (o : Option Status) → cond_fault a t ≡ o → Says s n xid a t (names_unless s n xid a t o).1.send
+    by (Some e) is = (Failed e tt, inl (e, is, refl), refl)
+    by None is = bytes t is (known_in s a) refl
+
+-- where its temporary file has room it is answered so
+pub names_free : (s : server.State) (n xid : ℕ) (a : CondPiece) (t : Option Temp) → cond_fault a t ≡ None → (names s n xid a t).1.send ≡ one_sent n (name_told xid (name_answer (known_in s a)))
+names_free s n xid a t none = by (names_say s n xid a t)
+  where
+    by : Says s n xid a t (names s n xid a t).1.send → (names s n xid a t).1.send ≡ one_sent n (name_told xid (name_answer (known_in s a)))
+    by (r, inl (e, is, failed), sent) = nothing_there e (sym none ∙ is)
+    by (r, inr (free, is), sent) = sent ∙ ap (λ z. one_sent n (name_told xid z)) is
+
+-- no fault of a temporary file says that a chunk isn't known
+pub fault_apart : (a : CondPiece) (t : Option Temp) → cond_fault a t ≡ Some status.HashNotFound → ⊥
+fault_apart a t e = by (a.count == 0 || nat_lt cond_most a.count) e
+  where
+    over : (x y z : Bool) → (if x then Some status.Inval else if y then Some status.FBig else if z then Some status.Inval else None) ≡ Some status.HashNotFound → ⊥
+    over true y z e = absurd cc
+    over false true z e = absurd cc
+    over false false true e = absurd cc
+    over false false false e = absurd cc
+
+    range : (x y z w : Bool) → (if x then Some status.Inval else if y then Some status.Inval else if z then Some status.FBig else if w then Some status.Inval else None) ≡ Some status.HashNotFound → ⊥
+    range true y z w e = absurd cc
+    range false y z w e = over y z w e
+
+    piece : (t : Option Temp) → piece_fault t a.offset a.count ≡ Some status.HashNotFound → ⊥
+    piece None e = absurd cc
+    piece (Some t) e = range (a.count == 0) (nat_lt 18446744073709551615 (a.offset + a.count)) (nat_lt size_most (a.offset + a.count)) (list_any (overlaps a.offset (a.offset + a.count)) t.pieces) e
+
+    by : (b : Bool) → (if b then Some status.Inval else piece_fault t a.offset a.count) ≡ Some status.HashNotFound → ⊥
+    by true e = absurd cc
+    by false e = piece t e
+
+-- ---- nothing else answers one
+
+abbrev IsOther : Message → Type 0
+IsOther (message.Answer xid (body.Lb (lb.CondWriteAnswer r))) = ⊥
+IsOther m = Unit {0}
+
+abbrev AreOther : List Sent → Type 0
+AreOther [] = Unit {0}
+AreOther (s ∷ ss) = IsOther s.message × AreOther ss
+
+other_sent : (ss : List Sent) (n xid : ℕ) (r : Answer Unit Unit) → AreOther ss → Contains ss (record { session = n; message = name_told xid r }) → ⊥
+other_sent [] n xid r h c = let lt = c.1 in omega (arith, lt)
+other_sent (s ∷ ss) n xid r h c = elim (Contains-append_cases (s ∷ []) ss (record { session = n; message = name_told xid r }) c) [
+  | inl first ↦ elim (Contains-push_cases [] s (record { session = n; message = name_told xid r }) first) [
+    | inl none ↦ (let lt = none.1 in absurd (omega (arith, lt)))
+    | inr same ↦ subst (λ (z : Sent). IsOther z.message) same h.0
+  ]
+  | inr later ↦ other_sent ss n xid r h.1 later
+]
+
+commits_other : (s : server.State) (n xid size : ℕ) (t : Temp) (nd : Result Node Status) → AreOther (commits_to s n xid size t nd).1.send
+commits_other s n xid size t (Err e) = (tt, tt)
+commits_other s n xid size t (Ok root) = (tt, tt)
+commits_other s n xid size t (Ok (file f)) = by (nat_lt size_most size)
+  where
+    waits : (content : List ℕ) (a b : Bool) → AreOther (if a then answers s n xid (lb.CommitTmpAnswer (Failed status.Jukebox tt)) else if b then answers s n xid (lb.CommitTmpAnswer (Failed status.NoSpc tt)) else (record s { waiting = s.waiting ++ record { session = n; xid = xid; file = f.id; content = content } ∷ [] }, sends [])).1.send
+    waits content true b = (tt, tt)
+    waits content false true = (tt, tt)
+    waits content false false = tt
+
+    whole : (o : Option (List ℕ)) → AreOther (commits_whole s n xid f.id o).1.send
+    whole None = (tt, tt)
+    whole (Some content) = waits content (has_waiting s.waiting n) (is_full s (length content))
+
+    by : (b : Bool) → AreOther (if b then answers s n xid (lb.CommitTmpAnswer (Failed status.FBig tt)) else commits_whole s n xid f.id (assembled t size)).1.send
+    by true = (tt, tt)
+    by false = whole (assembled t size)
+
+-- what a call comes to: a CONDWRITE, or another
+abbrev Answers : server.State → (n xid : ℕ) → Body → List Sent → Type 0
+Answers s n xid b send = ((a : CondPiece) × (b ≡ body.Lb (lb.CondWrite a)) × Says s n xid a (temp_at s.temps n a.fd) send) ⊎ AreOther send
+
+call_answers : (s : server.State) (n xid : ℕ) (b : Body) → Answers s n xid b (called s n xid b).1.send
+call_answers s n xid (body.Lb (lb.CondWrite a)) = inl (a, refl, names_say s n xid a (temp_at s.temps n a.fd))
+call_answers s n xid (body.Lb (lb.MkTmpFile a)) = inr (by (node_of s.files a.handle))
+  where
+    room : (f : File) (o : Option Status) → AreOther (makes_unless s n xid a.fd f.id o).1.send
+    room f (Some e) = (tt, tt)
+    room f None = (tt, tt)
+
+    by : (nd : Result Node Status) → AreOther (makes s n xid a.fd nd).1.send
+    by (Err e) = (tt, tt)
+    by (Ok root) = (tt, tt)
+    by (Ok (file f)) = room f (room_fault s.temps n a.fd)
+call_answers s n xid (body.Lb (lb.TmpWrite a)) = inr (by (temp_at s.temps n a.fd) (piece_fault (temp_at s.temps n a.fd) a.offset (length a.bytes)))
+  where
+    by : (t : Option Temp) (o : Option Status) → AreOther (writes_unless s n xid a t o).1.send
+    by (Some t) None = (tt, tt)
+    by (Some t) (Some e) = (tt, tt)
+    by None o = (tt, tt)
+call_answers s n xid (body.Lb (lb.CommitTmp a)) = inr (by (temp_at s.temps n a.fd))
+  where
+    by : (t : Option Temp) → AreOther (commits s n xid a t).1.send
+    by None = (tt, tt)
+    by (Some t) = commits_other (record s { temps = without_temp s.temps n a.fd }) n xid a.size t (node_of s.files a.handle)
+call_answers s n xid (body.Nfs (nfs.Read a)) = inr (tt, tt)
+call_answers s n xid b = inr (tt, tt)
+
+-- ---- of any event
+
+-- a CONDWRITE of this number was taken on this session, and came to this answer
+pub record NameTaken (k : Core) (e : Event) (n xid : ℕ) (r : Answer Unit Unit) : Type 0 where
+  pub now : ℕ
+  pub bytes : List ℕ
+  pub event_is : e ≡ Serves n now bytes
+  pub piece : CondPiece
+  pub call_is : parse_of server_waiting bytes ≡ Ok (name_call xid piece)
+  pub comes : ComesTo k.server piece (temp_at k.server.temps n piece.fd) r
+
+-- the answer that is sent is just this one
+same_sent : (n m x y : ℕ) (r s : Answer Unit Unit) → Contains (one_sent n (name_told x r)) (record { session = m; message = name_told y s }) → (m ≡ n) × (y ≡ x) × (s ≡ r)
+same_sent n m x y r s c = elim (Contains-push_cases [] (record { session = n; message = name_told x r }) (record { session = m; message = name_told y s }) c) [
+  | inl none ↦ (let lt = none.1 in absurd (omega (arith, lt)))
+  | inr same ↦ (ap (λ (z : Sent). z.session) (sym same), xid_is x y r s (ap (λ (z : Sent). z.message) same), told_is x y r s (ap (λ (z : Sent). z.message) same))
+]
+  where
+    xid_is : (x y : ℕ) (r s : Answer Unit Unit) → name_told x r ≡ name_told y s → y ≡ x
+    xid_is x y r s e = cc
+
+    told_is : (x y : ℕ) (r s : Answer Unit Unit) → name_told x r ≡ name_told y s → s ≡ r
+    told_is x y r s e = cc
+
+-- each answer to a CONDWRITE that is sent is what it came to
+pub record SentBy (k : Core) (e : Event) (t : CoreStep) : Type 0 where
+  pub taken : (n xid : ℕ) (r : Answer Unit Unit) → Contains t.down (record { session = n; message = name_told xid r }) → NameTaken k e n xid r
+
+quietly : (k : Core) (e : Event) (t : CoreStep) → AreOther t.down → SentBy k e t
+quietly k e t h = record { taken = λ n xid r c. absurd (other_sent t.down n xid r h c) }
+
+pub name_taken : (k : Core) (e : Event) → SentBy k e (happens k e)
+name_taken k (Joins c) = by (numbered k.seats c)
+  where
+    made : (seat : Seat) (s : server.State) (o : Announced) → SentBy k (Joins c) (joins_as k c seat s o)
+    made seat s (announced.Session n) = quietly k (Joins c) _ tt
+    made seat s _ = quietly k (Joins c) _ tt
+
+    by : (o : Option Seat) → SentBy k (Joins c) (joins k c o)
+    by None = quietly k (Joins c) _ tt
+    by (Some seat) = made seat (server_step k.server event.Connect).0 (server_step k.server event.Connect).1.told
+name_taken k (Does c now d) = by (numbered k.seats c)
+  where
+    by : (o : Option Seat) → SentBy k (Does c now d) (does k c now d o)
+    by None = quietly k (Does c now d) _ tt
+    by (Some seat) = quietly k (Does c now d) _ tt
+name_taken k (Serves m now bytes) = by (numbered k.sessions m)
+  where
+    called_by : (x : Session) (xid : ℕ) (b : Body) → parse_of server_waiting bytes ≡ Ok (message.Call xid b) → Answers (at k.server now) m xid b (called (at k.server now) m xid b).1.send → (n y : ℕ) (r : Answer Unit Unit) → Contains (called (at k.server now) m xid b).1.send (record { session = n; message = name_told y r }) → NameTaken k (Serves m now bytes) n y r
+    called_by x xid b is (inr other) n y r c = absurd (other_sent (called (at k.server now) m xid b).1.send n y r other c)
+    called_by x xid b is (inl (a, names_it, (s, comes, sent))) n y r c =
+        let same = same_sent m n xid y s r (subst (λ l. Contains l (record { session = n; message = name_told y r })) sent c) in
+        subst (λ z. NameTaken k (Serves m now bytes) z y r) (sym same.0) (subst (λ z. NameTaken k (Serves m now bytes) m z r) (sym same.1) (subst (NameTaken k (Serves m now bytes) m xid) (sym same.2) (record {
+          now = now;
+          bytes = bytes;
+          event_is = refl;
+          piece = a;
+          call_is = is ∙ ap (λ z. Ok (message.Call xid z)) names_it;
+          comes = comes;
+        })))
+
+    got_by : (x : Session) (z : Message) → parse_of server_waiting bytes ≡ Ok z → (b : Bool) → (n y : ℕ) (r : Answer Unit Unit) → Contains (got_if k.server b m z now).1.send (record { session = n; message = name_told y r }) → NameTaken k (Serves m now bytes) n y r
+    got_by x (message.Call xid b) is true n y r c = called_by x xid b is (call_answers (at k.server now) m xid b) n y r c
+    got_by x (message.Unfit xid why) is true n y r c = absurd (other_sent (got_if k.server true m (message.Unfit xid why) now).1.send n y r (tt, tt) c)
+    got_by x (message.Answer xid b) is true n y r c = absurd (other_sent [] n y r tt c)
+    got_by x (message.Refuse xid why) is true n y r c = absurd (other_sent [] n y r tt c)
+    got_by x z is false n y r c = absurd (other_sent [] n y r tt c)
+
+    read : (x : Session) (o : Result Message WireFault) → parse_of server_waiting bytes ≡ o → SentBy k (Serves m now bytes) (serves_if k m now x o)
+    read x (Ok z) is = record { taken = got_by x z is (stands k.server m) }
+    read x (Err f) is = quietly k (Serves m now bytes) _ tt
+
+    by : (o : Option Session) → SentBy k (Serves m now bytes) (serves k m now bytes o)
+    by None = quietly k (Serves m now bytes) _ tt
+    by (Some x) = read x (parse_of server_waiting bytes) refl
+name_taken k (Hears m now bytes) = by (numbered k.sessions m)
+  where
+    newest : (i : ℕ) (seat : Seat) (b : Bool) → SentBy k (Hears m now bytes) (hears_if k i now seat bytes b)
+    newest i seat true = quietly k (Hears m now bytes) _ tt
+    newest i seat false = quietly k (Hears m now bytes) _ tt
+
+    here : (i : ℕ) (o : Option Seat) → SentBy k (Hears m now bytes) (hears_at k m i now bytes o)
+    here i None = quietly k (Hears m now bytes) _ tt
+    here i (Some seat) = newest i seat (is_newest seat.session m)
+
+    by : (o : Option Session) → SentBy k (Hears m now bytes) (hears k m now bytes o)
+    by None = quietly k (Hears m now bytes) _ tt
+    by (Some x) = here x.owner (numbered k.seats x.owner)
+name_taken k (Settles now) = quietly k (Settles now) _ (by k.server.waiting)
+  where
+    made : (s : server.State) (c : Change) (o : Option File) → AreOther (makes_change s c o).1.send
+    made s c None = (tt, tt)
+    made s c (Some f) = (tt, tt)
+
+    by : (ws : List Change) → AreOther (server_settles k.server now ws).1.send
+    by [] = tt
+    by (c ∷ cs) = made (at (record k.server { waiting = cs }) now) c (server.file_at k.server.files c.file)
+name_taken k (Cuts c) = by (numbered k.seats c)
+  where
+    linked : (seat : Seat) (b : Bool) → SentBy k (Cuts c) (cuts_if k c seat b)
+    linked seat true = quietly k (Cuts c) _ tt
+    linked seat false = quietly k (Cuts c) _ tt
+
+    by : (o : Option Seat) → SentBy k (Cuts c) (cuts k c o)
+    by None = quietly k (Cuts c) _ tt
+    by (Some seat) = linked seat seat.client.linked
+name_taken k (Hangs m) = by (numbered k.sessions m)
+  where
+    hung : (x : Session) (b : Bool) → SentBy k (Hangs m) (hangs_if k m x b)
+    hung x true = quietly k (Hangs m) _ tt
+    hung x false = quietly k (Hangs m) _ tt
+
+    by : (o : Option Session) → SentBy k (Hangs m) (hangs k m o)
+    by None = quietly k (Hangs m) _ tt
+    by (Some x) = hung x x.hung

@@ -1,0 +1,331 @@
+-- A run carries that the calls of each session are numbered from 1 on, in the order in which they are sent.
+use Rattle.std.proofs.Common.{inl, inr, ◌≡◌, ℕ, zero, suc, ◌+◌, ◌-◌, ◌<◌, List, [], ◌∷◌, ◌++◌, length, Option, Some, None, Result, Ok, Err, Bool, true, false, refl, sym, ap, ◌∙◌, subst, arith, append-nil, length-append, replicate}
+use Rattle.wire.specs.declared.message.Message.TheVariants as message
+use Rattle.wire.specs.declared.message.RpcRefusal.TheVariants as refusal
+use Rattle.server_core.specs.State as server
+use Rattle.open_close.specs.State as client
+use Rattle.open_close.specs.declared.step.Outcome.TheVariants as outcome
+use Rattle.trace_replay.specs.Core.{taken_of as session_taken}
+use Rattle.trace_replay.specs.Numbered.{numbers_among, numbers_if, numbers_by, numbers_of, CountOn}
+use Rattle.kept_promise.proofs.Common.{nat_tests, ◌==◌, slice_get, Chunk, Command, Body, Message, Pending, RpcRefusal, WireFault, parse_of, names_from, names_all, names_next, calls_most, cond_call, commit_call, reads_from, reads_chunk, read_call, server_step, connect, has_room, command_step, got_step, got_fault, took_if, drops, denied, denied_if, idle, took, ended_by, Names, Reads, ClientStep, Ended, Fetch, Stage, Store, Task, Opening, Word, word_of, calls_among, Core, Seat, Session, Event, Event.Joins, Event.Does, Event.Serves, Event.Hears, Event.Settles, Event.Cuts, Event.Hangs, CoreStep, new_seat, new_session, joined, numbered, with_numbered, session_of, commanded_sessions, cut_session, is_newest, acted, does, joins_as, joins, cuts_if, cuts, hangs_if, hangs, serves, serves_if, server_waiting, happens, Moment, Book, Queue}
+use Rattle.kept_promise.proofs.Lists.{some_is, nothing_there, set_count, within as inside}
+use Rattle.kept_promise.proofs.Adjusts.{SameSeats}
+use Rattle.kept_promise.proofs.Facts.{IsKept}
+use Rattle.kept_promise.proofs.RunsCarried.{book_at, moment, Step, Carried}
+use Rattle.kept_promise.proofs.Actors.{newest_is, heard_at}
+use Rattle.kept_promise.proofs.Versions.{of_numbered}
+use Rattle.kept_promise.proofs.StepCases.{reads_keep, names_keep, reads_of, Cases, took_cases, command_cases}
+use Rattle.kept_promise.proofs.Numbering.{got_number, command_number}
+use Rattle.kept_promise.proofs.LogEvents.{joins_silent, serves_silent, hangs_silent, cuts_silent}
+
+-- ---- numbers joined
+
+among_join : (a b : List Message) → numbers_among (a ++ b) ≡ numbers_among a ++ numbers_among b
+among_join [] b = refl
+among_join (message.Call x c ∷ a) b = ap (λ l. x ∷ l) (among_join a b)
+among_join (m ∷ a) b = among_join a b
+
+among_count : (ms : List Message) → length (numbers_among ms) ≡ calls_among ms
+among_count [] = refl
+among_count (message.Call x c ∷ ms) = let h = among_count ms in omega (arith, h)
+among_count (m ∷ ms) = let h = among_count ms in omega (arith, h)
+
+count_join : (k : ℕ) (xs ys : List ℕ) → CountOn k xs → CountOn (k + length xs) ys → CountOn k (xs ++ ys)
+count_join k [] ys h g = subst (λ z. CountOn z ys) (let e : k + 0 ≡ k = omega arith in e) g
+count_join k (x ∷ xs) ys h g = (h.0, count_join (k + 1) xs ys h.1 (subst (λ z. CountOn z ys) (let e : k + length (x ∷ xs) ≡ (k + 1) + length xs = omega arith in e) g))
+
+-- ---- a client's step
+
+-- calls go out with the numbers from this one on, of which that one is the next
+abbrev Sends : (from next : ℕ) → List Message → Type 0
+Sends from next ms = CountOn from (numbers_among ms) × (next ≡ from + length (numbers_among ms))
+
+-- one more
+sends_more : (from next : ℕ) (ms : List Message) (b : Body) → Sends from next ms → Sends from (next + 1) (ms ++ message.Call next b ∷ [])
+sends_more from next ms b h =
+    let all : numbers_among (ms ++ message.Call next b ∷ []) ≡ numbers_among ms ++ next ∷ [] = among_join ms (message.Call next b ∷ []) in
+    let l = ap (λ (z : List ℕ). length z) all in
+    let n = length-append (numbers_among ms) (next ∷ []) in
+    let e = h.1 in
+    (subst (CountOn from) (sym all) (count_join from (numbers_among ms) (next ∷ []) h.0 (e, tt)), omega (arith, l, n, e))
+
+reads_sent : (s : client.State) (file : ℕ) (f : Fetch) → Sends s.next (reads_of s file f).next (reads_of s file f).send
+reads_sent s file f = reads_keep (λ r. Sends s.next r.next r.send) s.cache s.index file (λ r c o h at is. by r c o h) (length f.chunks - f.asked) (reads_from f s.next) (tt, omega arith)
+  where
+    by : (r : Reads) (c : Chunk) (o : Option (List ℕ)) → Sends s.next r.next r.send → Sends s.next (reads_chunk file r c o).next (reads_chunk file r c o).send
+    by r c (Some bytes) h = h
+    by r c None h = sends_more s.next r.next r.send _ h
+
+names_sent : (w : Store) (next : ℕ) → Sends next (names_all w next).next (names_all w next).send
+names_sent w next = names_keep (λ n. Sends next n.next n.send) (λ n c h at. sends_more next n.next n.send _ h) (calls_most - length w.under) (names_from w next) (tt, omega arith)
+
+abbrev Numbers : client.State → client.State × ClientStep → Type 0
+Numbers s r = CountOn s.next (numbers_among r.1.send)
+
+took_numbers : (s : client.State) (calls : List Pending) (file : ℕ) (st : Stage) (x : ℕ) (b : Body) → Cases (λ found r. Numbers s r) s calls file st x b
+took_numbers s calls file st x b = record {
+  ends = λ r e unchanged came. subst (λ ms. CountOn s.next (numbers_among ms)) (sym e.sent) tt;
+  changed = λ r f version e open_ gave last is. subst (λ ms. CountOn s.next (numbers_among ms)) (sym e.sent) tt;
+  uses = λ y l bytes at is kept. tt;
+  fetches = λ y l at is. (refl, tt);
+  anew = λ f version bytes open_ gave few came. (refl, tt);
+  lists = λ f g is at same far. (refl, tt);
+  reads = λ f bytes now here. (reads_sent s file f).0;
+  opens = λ f bytes now here. tt;
+  names = λ w at known none is. (names_sent w s.next).0;
+  commits = λ w at known none is. (sends_more s.next (names_all w s.next).next (names_all w s.next).send _ (names_sent w s.next)).0;
+  whole = λ old c k at unknown none found name chunk. (refl, tt);
+}
+
+got_numbers : (s : client.State) (m : Result Message WireFault) (now : ℕ) → Numbers s (got_step s m now)
+got_numbers s (Err e) now = by s.task
+  where
+    by : (o : Option Task) → Numbers s (got_fault s o e)
+    by (Some t) = tt
+    by None = tt
+got_numbers s (Ok (message.Answer x b)) now = by s.task (client.has_call (client.pending s.task) x)
+  where
+    dropped : (o : Option Task) (t : Bool) → Numbers s (drops s o x t)
+    dropped o true = tt
+    dropped (Some t) false = tt
+    dropped None false = tt
+
+    by : (o : Option Task) (own : Bool) → Numbers s (took_if s o x b own)
+    by (Some t) true = took_cases (λ found r. Numbers s r) (idle s) (client.calls_of s) t.file t.stage x b (took_numbers (idle s) (client.calls_of s) t.file t.stage x b)
+    by (Some t) false = dropped (Some t) (client.has_call s.forgotten x)
+    by None own = dropped None (client.has_call s.forgotten x)
+got_numbers s (Ok (message.Refuse x r)) now = by s.task (client.has_call (client.pending s.task) x)
+  where
+    dropped : (o : Option Task) (t : Bool) → Numbers s (drops s o x t)
+    dropped o true = tt
+    dropped (Some t) false = tt
+    dropped None false = tt
+
+    why : (r : RpcRefusal) → Numbers s (denied (idle s) (client.calls_of s) x r)
+    why refusal.SystemErr = tt
+    why _ = tt
+
+    by : (o : Option Task) (own : Bool) → Numbers s (denied_if s o x r own)
+    by (Some t) true = why r
+    by (Some t) false = dropped (Some t) (client.has_call s.forgotten x)
+    by None own = dropped None (client.has_call s.forgotten x)
+got_numbers s (Ok (message.Unfit x r)) now = tt
+got_numbers s (Ok (message.Call x b)) now = tt
+
+command_numbers : (s : client.State) (d : Command) (now : ℕ) → Numbers s (command_step s d now)
+command_numbers s d now = command_cases (Numbers s) s d now (record {
+  busy = λ t is. tt;
+  answers = λ un opened o plain. tt;
+  fetches = λ file is un may. (refl, tt);
+  asks = λ file kept is un may at. (refl, tt);
+  closes = λ file l is un may at. (refl, tt);
+})
+
+-- ---- what is carried
+
+pub record AreNumbered (past : List Moment) (seats : List Seat) (made : ℕ) : Type 0 where
+  pub each : (n : ℕ) → CountOn 1 (numbers_of n past)
+  pub next : (i n : ℕ) (seat : Seat) → numbered seats i ≡ Some seat → seat.session ≡ Some n → seat.client.next ≡ 1 + length (numbers_of n past)
+  pub none : (n : ℕ) → made < n → numbers_of n past ≡ []
+
+abbrev At : List Moment → Core → Type 0
+At past k = AreNumbered past k.seats (length k.sessions)
+
+of_more : (n : ℕ) (past : List Moment) (m : Moment) → numbers_of n (past ++ m ∷ []) ≡ numbers_of n past ++ numbers_by n (happens m.before m.event)
+of_more n [] m = append-nil (numbers_by n (happens m.before m.event))
+of_more n (z ∷ past) m = ap (λ l. numbers_by n (happens z.before z.event) ++ l) (of_more n past m) ∙ sym (joined (numbers_by n (happens z.before z.event)) (numbers_of n past) (numbers_by n (happens m.before m.event)))
+  where
+    joined : (xs ys zs : List ℕ) → (xs ++ ys) ++ zs ≡ xs ++ (ys ++ zs)
+    joined [] ys zs = refl
+    joined (x ∷ xs) ys zs = ap (λ l. x ∷ l) (joined xs ys zs)
+
+-- ---- nothing is sent
+
+none_by : (b : Bool) → numbers_if b [] ≡ []
+none_by true = refl
+none_by false = refl
+
+same_of : (n : ℕ) (past : List Moment) (m : Moment) → (happens m.before m.event).up ≡ [] → numbers_of n (past ++ m ∷ []) ≡ numbers_of n past
+same_of n past m silent = of_more n past m ∙ ap (λ l. numbers_of n past ++ l) (ap (numbers_if (is_newest (happens m.before m.event).session n)) silent ∙ none_by (is_newest (happens m.before m.event).session n)) ∙ append-nil (numbers_of n past)
+
+quiet : (past : List Moment) (m : Moment) (seats after : List Seat) (made more : ℕ) → (happens m.before m.event).up ≡ [] → more ≡ made
+    → ((i n : ℕ) (seat : Seat) → numbered after i ≡ Some seat → seat.session ≡ Some n → (j : ℕ) × (old : Seat) × (numbered seats j ≡ Some old) × (old.session ≡ Some n) × (seat.client.next ≡ old.client.next))
+    → AreNumbered past seats made → AreNumbered (past ++ m ∷ []) after more
+quiet past m seats after made more silent count was h = record {
+  each = λ n. subst (CountOn 1) (sym (same_of n past m silent)) (h.each n);
+  next = λ i n seat at on. let o = was i n seat at on in o.4 ∙ h.next o.0 n o.1 o.2 o.3 ∙ ap (λ (l : List ℕ). 1 + length l) (sym (same_of n past m silent));
+  none = λ n lt. same_of n past m silent ∙ h.none n (omega (arith, lt, count));
+}
+
+same_seat : (seats : List Seat) (i n : ℕ) (seat : Seat) → numbered seats i ≡ Some seat → seat.session ≡ Some n → (j : ℕ) × (old : Seat) × (numbered seats j ≡ Some old) × (old.session ≡ Some n) × (seat.client.next ≡ old.client.next)
+same_seat seats i n seat at on = (i, seat, at, on, refl)
+
+-- ---- a client acts
+
+on_newest : (session : Option ℕ) (n : ℕ) → is_newest session n ≡ true → session ≡ Some n
+on_newest None n e = absurd cc
+on_newest (Some m) n e = ap (λ z. Some z) (let q : m ≡ n = grind (arith, nat_tests, e) in q)
+
+acts : (past : List Moment) (m : Moment) (seats : List Seat) (made more i : ℕ) (seat : Seat) (c : client.State) (place : Option ℕ) (step : CoreStep) → happens m.before m.event ≡ step → step.session ≡ seat.session → numbered seats i ≡ Some seat → more ≡ made
+    → ((n : ℕ) → seat.session ≡ Some n → n < made + 1)
+    → ((j n : ℕ) (other : Seat) → numbered seats j ≡ Some other → other.session ≡ Some n → seat.session ≡ Some n → j ≡ i)
+    → CountOn seat.client.next (numbers_among step.up) → c.next ≡ seat.client.next + calls_among step.up
+    → AreNumbered past seats made → AreNumbered (past ++ m ∷ []) (with_numbered seats i (record seat { client = c; place = place })) more
+acts past m seats made more i seat c place step is on here count within alone sends next h = record {
+  each = λ n. subst (CountOn 1) (sym (all n)) (each n (is_newest seat.session n) refl);
+  next = λ j n other at there. elim (of_numbered seats i (record seat { client = c; place = place }) j other at) [
+    | inl mine ↦
+        let mine_on : seat.session ≡ Some n = ap (λ (z : Seat). z.session) (sym mine.1) ∙ there in
+        let e = ap (λ (z : Seat). z.client.next) mine.1 in
+        let was = h.next i n seat here mine_on in
+        let l = ap (λ (z : List ℕ). length z) (all n ∙ ap (λ b. numbers_of n past ++ numbers_if b step.up) (newest seat.session n mine_on)) in
+        let k = length-append (numbers_of n past) (numbers_among step.up) in
+        let q = among_count step.up in
+        omega (arith, e, next, was, l, k, q)
+    | inr away ↦
+        let was = h.next j n other away.1 there in
+        let l = ap (λ (z : List ℕ). length z) (all n ∙ ap (λ b. numbers_of n past ++ numbers_if b step.up) (not_on (is_newest seat.session n) (is_newest seat.session n) refl (λ e. away.0 (alone j n other away.1 there (on_newest seat.session n e)))) ∙ append-nil (numbers_of n past)) in
+        omega (arith, was, l)
+  ];
+  none = λ n lt. all n ∙ ap (λ b. numbers_of n past ++ numbers_if b step.up) (not_on (is_newest seat.session n) (is_newest seat.session n) refl (λ e. let k = within n (on_newest seat.session n e) in omega (arith, lt, count, k))) ∙ append-nil (numbers_of n past) ∙ h.none n (omega (arith, lt, count));
+}
+  where
+    all : (n : ℕ) → numbers_of n (past ++ m ∷ []) ≡ numbers_of n past ++ numbers_if (is_newest seat.session n) step.up
+    all n = of_more n past m ∙ ap (λ (t : CoreStep). numbers_of n past ++ numbers_by n t) is ∙ ap (λ o. numbers_of n past ++ numbers_if (is_newest o n) step.up) on
+
+    newest : (o : Option ℕ) (n : ℕ) → o ≡ Some n → is_newest o n ≡ true
+    newest o n e = newest_is o n e
+
+    not_on : (t b : Bool) → t ≡ b → (t ≡ true → ⊥) → t ≡ false
+    not_on t true e never = absurd (never e)
+    not_on t false e never = e
+
+    each : (n : ℕ) (b : Bool) → is_newest seat.session n ≡ b → CountOn 1 (numbers_of n past ++ numbers_if b step.up)
+    each n true e = count_join 1 (numbers_of n past) (numbers_among step.up) (h.each n) (subst (λ z. CountOn z (numbers_among step.up)) (h.next i n seat here (on_newest seat.session n e)) sends)
+    each n false e = subst (CountOn 1) (sym (append-nil (numbers_of n past))) (h.each n)
+
+-- no other client is at its session
+alone_at : (book : Book) (k : Core) (qs : List Queue) (i : ℕ) (seat : Seat) → IsKept book k qs → numbered k.seats i ≡ Some seat → (j n : ℕ) (other : Seat) → numbered k.seats j ≡ Some other → other.session ≡ Some n → seat.session ≡ Some n → j ≡ i
+alone_at book k qs i seat kept here j n other at there on =
+    let a = (kept.seats i seat here).session n on in
+    let b = (kept.seats j other at).session n there in
+    sym b.2 ∙ ap (λ (z : Session). z.owner) (some_is b.0 a.0 (sym b.1 ∙ a.1)) ∙ a.2
+
+within_at : (book : Book) (k : Core) (qs : List Queue) (i : ℕ) (seat : Seat) → IsKept book k qs → numbered k.seats i ≡ Some seat → (n : ℕ) → seat.session ≡ Some n → n < length k.sessions + 1
+within_at book k qs i seat kept here n on = let a = (kept.seats i seat here).session n on in by n a.1
+  where
+    by : (n : ℕ) {x : Session} → numbered k.sessions n ≡ Some x → n < length k.sessions + 1
+    by zero e = omega arith
+    by (suc n) e = let lt = inside k.sessions n _ e in omega (arith, lt)
+
+-- ---- any event
+
+with_count : {A : Type 0} (xs : List A) (n : ℕ) (x : A) → length (with_numbered xs n x) ≡ length xs
+with_count xs zero x = refl
+with_count xs (suc n) x = set_count xs n x
+
+commanded_count : (sessions : List Session) (number : Option ℕ) (x : Option Session) (running : Option ℕ) (place : ℕ) (w : Word) (r : ClientStep) → length (commanded_sessions sessions number x running place w r) ≡ length sessions
+commanded_count sessions (Some n) (Some x) running place w r = with_count sessions n _
+commanded_count sessions (Some n) None running place w r = refl
+commanded_count sessions None x running place w r = refl
+
+cut_count : (sessions : List Session) (number : Option ℕ) (x : Option Session) → length (cut_session sessions number x) ≡ length sessions
+cut_count sessions (Some n) (Some x) = with_count sessions n _
+cut_count sessions (Some n) None = refl
+cut_count sessions None x = refl
+
+numbers_join : (past : List Moment) (k : Core) (c : ℕ) (seat : Seat) (b : Bool) → length k.sessions ≡ k.server.sessions_made → numbered k.seats c ≡ Some seat → At past k → (let r = connect k.server b in At (past ++ moment k (Joins c) ∷ []) (joins_as k c seat r.0 r.1.told).core)
+numbers_join past k c seat false made here h = quiet past (moment k (Joins c)) k.seats k.seats (length k.sessions) (length k.sessions) (joins_silent k c).2 refl (same_seat k.seats) h
+numbers_join past k c seat true made here h = record {
+  each = λ n. subst (CountOn 1) (sym (same n)) (h.each n);
+  next = λ j n other at there. elim (of_numbered k.seats c now j other at) [
+    | inl mine ↦
+        let e : n ≡ k.server.sessions_made + 1 = some_is n (k.server.sessions_made + 1) (sym there ∙ ap (λ (z : Seat). z.session) mine.1) in
+        let z = ap (λ (z : Seat). z.client.next) mine.1 in
+        let l = ap (λ (z : List ℕ). length z) (same n ∙ h.none n (omega (arith, e, made))) in
+        omega (arith, z, l)
+    | inr away ↦ h.next j n other away.1 there ∙ ap (λ (l : List ℕ). 1 + length l) (sym (same n))
+  ];
+  none = λ n lt. same n ∙ h.none n (let l = length-append k.sessions (new_session c ∷ []) in omega (arith, lt, l));
+}
+  where
+    now : Seat
+    now = record seat { client = joined seat.client; session = Some (k.server.sessions_made + 1) }
+
+    same : (n : ℕ) → numbers_of n (past ++ moment k (Joins c) ∷ []) ≡ numbers_of n past
+    same n = same_of n past (moment k (Joins c)) (joins_silent k c).2
+
+numbers_event : (all past rest : List Moment) (opening : List Opening) (k : Core) (qs : List Queue) (e : Event) (mid after : List Queue) → Step all past rest opening k qs e mid after → At past k → At (past ++ moment k e ∷ []) (happens k e).core
+numbers_event all past rest opening k qs (Joins c) mid after s h = subst (λ (o : Option Seat). At (past ++ moment k (Joins c) ∷ []) (joins k c o).core) (sym s.finds.1) (numbers_join past k c s.finds.0 (has_room k.server) s.kept.made.0 s.finds.1 h)
+numbers_event all past rest opening k qs (Does c now d) mid after s h =
+    let book = book_at opening k all in
+    let seat : Seat = s.finds.0 in
+    let step : CoreStep = does k c now d (Some seat) in
+    let is : happens k (Does c now d) ≡ does k c now d (Some s.finds.0) = ap (does k c now d) s.finds.1 in
+    subst (λ (t : CoreStep). At (past ++ moment k (Does c now d) ∷ []) t.core) (sym is) (acts past (moment k (Does c now d)) k.seats (length k.sessions) (length (does k c now d (Some s.finds.0)).core.sessions) c s.finds.0 (command_step s.finds.0.client d now).0 _ (does k c now d (Some s.finds.0)) is refl s.finds.1 (commanded_count k.sessions s.finds.0.session (session_of k.sessions s.finds.0.session) s.finds.0.place (length k.ops) (word_of d) (command_step s.finds.0.client d now).1) (within_at book k qs c s.finds.0 s.kept s.finds.1) (alone_at book k qs c s.finds.0 s.kept s.finds.1) (command_numbers s.finds.0.client d now) (command_number s.finds.0.client d now) h)
+numbers_event all past rest opening k qs (Serves n now bytes) mid after s h =
+    let q = serves_silent k n now bytes (numbered k.sessions n) in
+    subst (λ (l : List Seat). AreNumbered (past ++ moment k (Serves n now bytes) ∷ []) l (length (happens k (Serves n now bytes)).core.sessions)) (sym q.2) (quiet past (moment k (Serves n now bytes)) k.seats k.seats (length k.sessions) (length (happens k (Serves n now bytes)).core.sessions) q.0 (count (numbered k.sessions n)) (same_seat k.seats) h)
+  where
+    count : (o : Option Session) → length (serves k n now bytes o).core.sessions ≡ length k.sessions
+    count None = refl
+    count (Some x) = by (parse_of server_waiting bytes)
+      where
+        by : (m : Result Message WireFault) → length (serves_if k n now x m).core.sessions ≡ length k.sessions
+        by (Ok m) = with_count k.sessions n _
+        by (Err e) = refl
+numbers_event all past rest opening k qs (Hears n now bytes) mid after s h =
+    let book = book_at opening k all in
+    let g = heard_at book k qs n now bytes mid s.kept s.finds in
+    let m = parse_of (client.waiting_of g.seat.client) bytes in
+    subst (λ (t : CoreStep). At (past ++ moment k (Hears n now bytes) ∷ []) t.core) (sym g.hears_is) (acts past (moment k (Hears n now bytes)) k.seats (length k.sessions) (length k.sessions) g.session.owner g.seat (got_step g.seat.client m now).0 _ (acted k g.session.owner g.seat (got_step g.seat.client m now).0 (got_step g.seat.client m now).1) g.hears_is refl g.owner refl (within_at book k qs g.session.owner g.seat s.kept g.owner) (alone_at book k qs g.session.owner g.seat s.kept g.owner) (got_numbers g.seat.client m now) (got_number g.seat.client m now) h)
+numbers_event all past rest opening k qs (Settles now) mid after s h = quiet past (moment k (Settles now)) k.seats k.seats (length k.sessions) (length k.sessions) refl refl (same_seat k.seats) h
+numbers_event all past rest opening k qs (Cuts c) mid after s h = subst (λ (o : Option Seat). At (past ++ moment k (Cuts c) ∷ []) (cuts k c o).core) (sym s.finds.1) (by s.finds.0.client.linked)
+  where
+    gone : (p : Option ℕ) → Seat
+    gone p = record s.finds.0 { client = record s.finds.0.client { linked = false; task = None; forgotten = [] }; place = p }
+
+    was : (p : Option ℕ) (i n : ℕ) (seat : Seat) → numbered (with_numbered k.seats c (gone p)) i ≡ Some seat → seat.session ≡ Some n → (j : ℕ) × (old : Seat) × (numbered k.seats j ≡ Some old) × (old.session ≡ Some n) × (seat.client.next ≡ old.client.next)
+    was p i n seat at on = elim (of_numbered k.seats c (gone p) i seat at) [
+      | inl mine ↦ (c, s.finds.0, s.finds.1, ap (λ (z : Seat). z.session) (sym mine.1) ∙ on, ap (λ (z : Seat). z.client.next) mine.1)
+      | inr away ↦ (i, seat, away.1, on, refl)
+    ]
+
+    by : (b : Bool) → At (past ++ moment k (Cuts c) ∷ []) (cuts_if k c s.finds.0 b).core
+    by false = quiet past (moment k (Cuts c)) k.seats k.seats (length k.sessions) (length k.sessions) (cuts_silent k c).2 refl (same_seat k.seats) h
+    by true = quiet past (moment k (Cuts c)) k.seats _ (length k.sessions) _ (cuts_silent k c).2 (cut_count k.sessions s.finds.0.session (session_of k.sessions s.finds.0.session)) (was _) h
+numbers_event all past rest opening k qs (Hangs n) mid after s h =
+    let q = hangs_silent k n (numbered k.sessions n) in
+    subst (λ (l : List Seat). AreNumbered (past ++ moment k (Hangs n) ∷ []) l (length (happens k (Hangs n)).core.sessions)) (sym q.2) (quiet past (moment k (Hangs n)) k.seats k.seats (length k.sessions) (length (happens k (Hangs n)).core.sessions) q.0 (count (numbered k.sessions n)) (same_seat k.seats) h)
+  where
+    count : (o : Option Session) → length (hangs k n o).core.sessions ≡ length k.sessions
+    count None = refl
+    count (Some x) = by x.hung
+      where
+        by : (b : Bool) → length (hangs_if k n x b).core.sessions ≡ length k.sessions
+        by true = refl
+        by false = with_count k.sessions n _
+
+abbrev pub AllNumbered : (all past : List Moment) → List Opening → Core → List Queue → Type 0
+AllNumbered all past opening k qs = At past k
+
+pub carried_numbered : Carried AllNumbered
+carried_numbered = record {
+  first = λ all opening files changes count kept. record { each = λ n. tt; next = λ i n seat at on. nothing_on i n seat count at on; none = λ n lt. refl };
+  steps = λ all past rest opening k qs e mid after s h. numbers_event all past rest opening k qs e mid after s h;
+  adjusts = λ all past opening k qs index seats same h. record {
+    each = h.each;
+    next = λ i n seat at on. let w = same.was i seat at in ap (λ (z : Seat). z.client.next) w.4 ∙ h.next i n w.0 w.3 (ap (λ (z : Seat). z.session) (sym w.4) ∙ on);
+    none = h.none;
+  };
+}
+  where
+    -- no client was at a session yet
+    at_none : (count k : ℕ) (seat : Seat) → slice_get (replicate count new_seat) k ≡ Some seat → seat.session ≡ None
+    at_none zero k seat at = nothing_there seat at
+    at_none (suc count) zero seat at = ap (λ (z : Seat). z.session) (sym (some_is new_seat seat at))
+    at_none (suc count) (suc k) seat at = at_none count k seat at
+
+    nothing_on : (i n : ℕ) (seat : Seat) (count : ℕ) → numbered (replicate count new_seat) i ≡ Some seat → seat.session ≡ Some n → seat.client.next ≡ 1 + length (numbers_of n [])
+    nothing_on zero n seat count at on = nothing_there seat at
+    nothing_on (suc i) n seat count at on = nothing_there n (sym (at_none count i seat at) ∙ on)
