@@ -79,6 +79,11 @@ module _ {P : Type 0} where
   without_made waits None = waits
   without_made waits (Some c) = without waits c.session
 
+  -- how many places it leaves, where it is there
+  abbrev pub places_of : Option (Change P) → ℕ
+  places_of None = 0
+  places_of (Some c) = 1
+
   -- how many entries of the journal, and bytes of the tree, they will make
   abbrev pub entries_of : List (Change P) → ℕ
   entries_of waits = sum_by (λ c. c.entries) waits

@@ -2,7 +2,7 @@
 
 ghost use Rattle.std.specs.Prelude.{◌≡◌, ◌+◌, ◌<◌, ◌≤◌, ◌^◌, ◌∷◌, ◌++◌, [], OnOk, OnErr, IfOk, IfSome, OnSome, IsSome, ◌⊎◌, map, length, vec_len, vec_capacity, ℕ, false, IsOk};
 ghost use Rattle.lease_table.specs.Leases.{grant, lease_at};
-ghost use Rattle.callback_core.specs.Waits.{recall_of, recalls_due, has_wait, without_made, entries_of, bytes_of, IsAnswered, AreBounded};
+ghost use Rattle.callback_core.specs.Waits.{recall_of, recalls_due, has_wait, without_made, places_of, entries_of, bytes_of, IsAnswered, AreBounded};
 ghost use Rattle.callback_core.specs.Places.{place_in, without_place};
 
 use crate::change::{AskErr, Change, Recall};
@@ -38,12 +38,15 @@ fn recalls_due<P>(
     recalls_to(alloc, sessions.as_slice(), change.file)
 }
 
-/// Makes room for one change more, and for its lease. The one error is want of memory; nothing else
-/// changes.
+/// Makes room for one change more, and for its lease. The one error is want of memory, which never
+/// comes where there is room; nothing else changes.
 pub fn make_room<P>(leases: &mut Leases, waits: &mut Vec<Change<P>>) -> Result<(), AllocError>
     requires bounded { AreBounded waits.old.items leases.old.room }
     ensures place { OnOk result (vec_len waits.new < vec_capacity waits.new) }
     ensures lease_place { OnOk result (length waits.new.items < leases.new.room) }
+    ensures sure { vec_len waits.old < vec_capacity waits.old → length waits.old.items < leases.old.room → IsOk result }
+    ensures len { vec_len waits.new ≡ vec_len waits.old }
+    ensures capacity { vec_capacity waits.old ≤ vec_capacity waits.new }
     ensures waits { waits.new.items ≡ waits.old.items }
     ensures leases { leases.new.leases ≡ leases.old.leases }
     ensures room { leases.old.room ≤ leases.new.room }
@@ -61,6 +64,8 @@ pub fn push<P: Drop>(waits: &mut Vec<Change<P>>, change: Change<P>)
     requires entries { entries_of waits.old.items + change.entries < 2 ^ 64 }
     requires bytes { bytes_of waits.old.items + change.bytes < 2 ^ 64 }
     ensures waits { waits.new.items ≡ waits.old.items ++ change ∷ [] }
+    ensures len { vec_len waits.new ≡ vec_len waits.old + 1 }
+    ensures capacity { vec_capacity waits.new ≡ vec_capacity waits.old }
     ensures bounded { (room : ℕ) → AreBounded waits.old.items room → length waits.old.items < room → AreBounded waits.new.items room }
 {
     waits.push_reserved(change);
@@ -78,6 +83,9 @@ fn add<P: Drop>(
     requires bytes { bytes_of waits.old.items + change.bytes < 2 ^ 64 }
     ensures ok { OnOk result (waits.new.items ≡ waits.old.items ++ change ∷ []) }
     ensures err { OnErr result (waits.new.items ≡ waits.old.items) }
+    ensures ok_len { OnOk result (vec_len waits.new ≡ vec_len waits.old + 1) }
+    ensures err_len { OnErr result (vec_len waits.new ≡ vec_len waits.old) }
+    ensures capacity { vec_capacity waits.old ≤ vec_capacity waits.new }
     ensures leases { leases.new.leases ≡ leases.old.leases }
     ensures room { leases.old.room ≤ leases.new.room }
     ensures bounded { AreBounded waits.new.items leases.new.room }
@@ -102,6 +110,9 @@ pub fn ask<P: Drop>(
     ensures recalls { IfOk result (λ recalls. recalls ≡ recalls_due leases.old.leases now change) }
     ensures ok { OnOk result (waits.new.items ≡ waits.old.items ++ change ∷ []) }
     ensures err { OnErr result (waits.new.items ≡ waits.old.items) }
+    ensures ok_len { OnOk result (vec_len waits.new ≡ vec_len waits.old + 1) }
+    ensures err_len { OnErr result (vec_len waits.new ≡ vec_len waits.old) }
+    ensures capacity { vec_capacity waits.old ≤ vec_capacity waits.new }
     ensures leases { leases.new.leases ≡ leases.old.leases }
     ensures room { leases.old.room ≤ leases.new.room }
     ensures bounded { AreBounded waits.new.items leases.new.room }
@@ -153,6 +164,7 @@ pub fn grant<P>(
     ensures sure { IsSome (lease_at leases.old.leases session file) ⊎ (length waits.now.items < leases.old.room) → IsOk result }
     ensures same_room { IsSome (lease_at leases.old.leases session file) → leases.old.room ≤ leases.new.room }
     ensures room { leases.old.room ≤ leases.new.room + 1 }
+    ensures err_room { OnErr result (leases.old.room ≤ leases.new.room) }
     ensures bounded { AreBounded waits.now.items leases.new.room }
 {
     if !leases.has(session, file) {
@@ -166,6 +178,8 @@ pub fn take_out<P>(waits: &mut Vec<Change<P>>, at: Option<usize>) -> Option<Chan
     requires { IfSome at (λ i. i < length waits.old.items) }
     ensures change { result ≡ place_in waits.old.items at }
     ensures rest { waits.new.items ≡ without_place waits.old.items at }
+    ensures len { vec_len waits.new + places_of result ≡ vec_len waits.old }
+    ensures capacity { vec_capacity waits.new ≡ vec_capacity waits.old }
 {
     match at {
         Some(at) => Some(waits.remove(at)),

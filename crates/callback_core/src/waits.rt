@@ -3,7 +3,7 @@
 
 ghost use Rattle.std.specs.Prelude.{◌≡◌, ◌+◌, ◌<◌, ◌≤◌, ◌^◌, ◌∷◌, ◌++◌, [], OnOk, OnErr, IfOk, IsOk, IsSome, is_some, ◌⊎◌, OnSome, option_copied, false};
 ghost use Rattle.lease_table.specs.Leases.{grant, without_lease, marked, without_recalled, without_ended, is_blocked, others, lease_at};
-ghost use Rattle.callback_core.specs.Waits.{recalls_due, ready, change_of, has_wait, waits_on, without, without_made, entries_of, bytes_of, IsAnswered};
+ghost use Rattle.callback_core.specs.Waits.{recalls_due, ready, change_of, has_wait, waits_on, without, without_made, places_of, entries_of, bytes_of, IsAnswered};
 
 use crate::change::{AskErr, Change, Recall};
 use crate::{asking, ready, sizes};
@@ -63,18 +63,22 @@ impl<P: Drop> Waits<P> {
         ensures err { OnErr result (self.new.waits ≡ self.old.waits) }
         ensures spare { self.old.spare ≤ self.new.spare + 1 }
         ensures err_spare { OnErr result (self.old.spare ≤ self.new.spare) }
+        ensures room { self.old.room ≤ self.new.room + 1 }
+        ensures err_room { OnErr result (self.old.room ≤ self.new.room) }
         ensures leases { self.new.leases ≡ self.old.leases }
     {
         asking::ask(alloc, &mut self.leases, &mut self.waits, change, now)
     }
 
     /// Makes room for one change more, and for the lease that is granted when it is made. The one error
-    /// is want of memory; nothing else changes.
+    /// is want of memory, which never comes where there is room; nothing else changes.
     pub fn make_room(&mut self) -> Result<(), AllocError>
         ensures ok { OnOk result (0 < self.new.room) }
+        ensures sure { 0 < self.old.room → IsOk result }
+        ensures room { self.old.room ≤ self.new.room }
+        ensures spare { self.old.spare ≤ self.new.spare }
         ensures waits { self.new.waits ≡ self.old.waits }
         ensures leases { self.new.leases ≡ self.old.leases }
-        ensures spare { self.old.spare ≤ self.new.spare }
     {
         asking::make_room(&mut self.leases, &mut self.waits)
     }
@@ -88,7 +92,8 @@ impl<P: Drop> Waits<P> {
         requires bytes { bytes_of self.old.waits + change.bytes < 2 ^ 64 }
         ensures waits { self.new.waits ≡ self.old.waits ++ change ∷ [] }
         ensures leases { self.new.leases ≡ self.old.leases }
-        ensures spare { self.old.spare ≤ self.new.spare + 1 }
+        ensures room { self.new.room + 1 ≡ self.old.room }
+        ensures spare { self.new.spare + 1 ≡ self.old.spare }
     {
         asking::push(&mut self.waits, change);
     }
@@ -108,8 +113,8 @@ impl<P: Drop> Waits<P> {
         ensures ready { result ≡ ready self.old.leases now self.old.waits }
         ensures waits { self.new.waits ≡ without_made self.old.waits result }
         ensures leases { self.new.leases ≡ self.old.leases }
-        ensures spare { self.old.spare ≤ self.new.spare }
-        ensures room { OnSome result (self.old.spare < self.new.spare) }
+        ensures room { self.new.room ≡ self.old.room + places_of result }
+        ensures spare { self.new.spare ≡ self.old.spare + places_of result }
     {
         let at = ready::place_of_ready(&self.waits, &self.leases, now);
         asking::take_out(&mut self.waits, at)
@@ -121,8 +126,8 @@ impl<P: Drop> Waits<P> {
         ensures change { result ≡ change_of self.old.waits session }
         ensures waits { self.new.waits ≡ without self.old.waits session }
         ensures leases { self.new.leases ≡ self.old.leases }
-        ensures spare { self.old.spare ≤ self.new.spare }
-        ensures room { OnSome result (self.old.spare < self.new.spare) }
+        ensures room { self.new.room ≡ self.old.room + places_of result }
+        ensures spare { self.new.spare ≡ self.old.spare + places_of result }
     {
         let at = ready::place_of(&self.waits, session);
         asking::take_out(&mut self.waits, at)
@@ -157,6 +162,7 @@ impl<P: Drop> Waits<P> {
         ensures ok { OnOk result (count ≤ self.new.spare) }
         ensures leases { self.new.leases ≡ self.old.leases }
         ensures spare { self.old.spare ≤ self.new.spare }
+        ensures room { self.old.room ≤ self.new.room }
         ensures sure { count ≤ self.old.spare → IsOk result }
         ensures waits { self.new.waits ≡ self.old.waits }
     {
@@ -173,7 +179,11 @@ impl<P: Drop> Waits<P> {
         ensures err { OnErr result (self.new.leases ≡ self.old.leases) }
         ensures sure { IsSome (lease_at self.old.leases session file) ⊎ (0 < self.old.spare) → IsOk result }
         ensures same_spare { IsSome (lease_at self.old.leases session file) → self.old.spare ≤ self.new.spare }
+        ensures err_spare { OnErr result (self.old.spare ≤ self.new.spare) }
         ensures spare { self.old.spare ≤ self.new.spare + 1 }
+        ensures same_room { IsSome (lease_at self.old.leases session file) → self.old.room ≤ self.new.room }
+        ensures err_room { OnErr result (self.old.room ≤ self.new.room) }
+        ensures room { self.old.room ≤ self.new.room + 1 }
         ensures waits { self.new.waits ≡ self.old.waits }
     {
         asking::grant(&mut self.leases, &self.waits, session, file, now, term)
@@ -183,6 +193,7 @@ impl<P: Drop> Waits<P> {
     pub fn drop_one(&mut self, session: u32, file: u64)
         ensures leases { self.new.leases ≡ without_lease self.old.leases session file }
         ensures spare { self.old.spare ≤ self.new.spare }
+        ensures room { self.old.room ≤ self.new.room }
         ensures waits { self.new.waits ≡ self.old.waits }
     {
         self.leases.drop_one(session, file);
@@ -193,6 +204,7 @@ impl<P: Drop> Waits<P> {
     pub fn mark_recalled(&mut self, session: u32, file: u64, xid: u32)
         ensures leases { self.new.leases ≡ marked self.old.leases session file xid }
         ensures spare { self.old.spare ≤ self.new.spare }
+        ensures room { self.old.room ≤ self.new.room }
         ensures waits { self.new.waits ≡ self.old.waits }
     {
         self.leases.mark_recalled(session, file, xid);
@@ -203,6 +215,7 @@ impl<P: Drop> Waits<P> {
     pub fn answered(&mut self, session: u32, xid: u32)
         ensures leases { self.new.leases ≡ without_recalled self.old.leases session xid }
         ensures spare { self.old.spare ≤ self.new.spare }
+        ensures room { self.old.room ≤ self.new.room }
         ensures waits { self.new.waits ≡ self.old.waits }
     {
         self.leases.answered(session, xid);
@@ -213,6 +226,7 @@ impl<P: Drop> Waits<P> {
     pub fn forget_ended(&mut self, now: u64)
         ensures leases { self.new.leases ≡ without_ended self.old.leases now }
         ensures spare { self.old.spare ≤ self.new.spare }
+        ensures room { self.old.room ≤ self.new.room }
         ensures waits { self.new.waits ≡ self.old.waits }
     {
         self.leases.forget_ended(now);
