@@ -23,7 +23,7 @@ cat >"$work/crates/lease_bench/src/main.rt" <<'EOF'
 mod words;
 
 use lease_table::table::Leases;
-use std::alloc::{AllocError, Global};
+use std::alloc::AllocError;
 use std::io;
 use std::rt::Runtime;
 use std::time::Instant;
@@ -53,15 +53,20 @@ fn file_of(state: u64, files: u64) -> u64 {
         .wrapping_add(3)
 }
 
-/// A table in which each session has a lease on each of so many files.
-fn filled(alloc: Global, files: u64) -> Result<Leases, AllocError> {
-    let mut leases = Leases::new(alloc);
-    for file in 0..files {
-        for session in 0..SESSIONS {
-            leases.grant(session + 1, file.wrapping_mul(2).wrapping_add(2), 0, 60_000)?;
-        }
+/// Grants each session a lease on a file.
+fn fill_file(leases: &mut Leases, file: u64) -> Result<(), AllocError> {
+    for session in 0..SESSIONS {
+        leases.grant(session + 1, file, 0, 60_000)?;
     }
-    Ok(leases)
+    Ok(())
+}
+
+/// Grants each session a lease on each of so many files.
+fn fill(leases: &mut Leases, files: u64) -> Result<(), AllocError> {
+    for file in 0..files {
+        fill_file(leases, file.wrapping_mul(2).wrapping_add(2))?;
+    }
+    Ok(())
 }
 
 /// Grants leases, to sessions and on files as numbers pick them.
@@ -92,21 +97,58 @@ fn turn_first(leases: &mut Leases) -> Result<(), AllocError> {
     Ok(())
 }
 
-/// The microseconds of granting, of dropping, and of both in the first place.
-fn timed(rt: &impl Runtime, leases: &mut Leases, files: u64) -> io::Result<(u128, u128, u128)> {
+/// The microseconds that granting took.
+fn timed_grants(rt: &impl Runtime, leases: &mut Leases, files: u64) -> io::Result<u128> {
     let start = Instant::now(rt)?;
     grant_all(leases, files)?;
-    let granted = start.elapsed(rt)?;
+    Ok(start.elapsed(rt)?.as_micros())
+}
+
+/// The microseconds that dropping took.
+fn timed_drops(rt: &impl Runtime, leases: &mut Leases, files: u64) -> io::Result<u128> {
     let start = Instant::now(rt)?;
     drop_all(leases, files);
-    let dropped = start.elapsed(rt)?;
+    Ok(start.elapsed(rt)?.as_micros())
+}
+
+/// The microseconds of both in the first place.
+fn timed_turns(rt: &impl Runtime, leases: &mut Leases) -> io::Result<u128> {
     let start = Instant::now(rt)?;
     turn_first(leases)?;
-    let turned = start.elapsed(rt)?;
+    Ok(start.elapsed(rt)?.as_micros())
+}
+
+/// Prints the three times of a table.
+fn measure(rt: &impl Runtime, leases: &mut Leases, files: u64) -> io::Result<()> {
+    let granted = timed_grants(rt, leases, files)?;
+    let dropped = timed_drops(rt, leases, files)?;
+    let turned = timed_turns(rt, leases)?;
     if leases.has(1, 1) || !leases.has(1, 2) {
         println!(rt; "wrong: what was granted was not dropped")?;
     }
-    Ok((granted.as_micros(), dropped.as_micros(), turned.as_micros()))
+    print!(rt; "{granted} {dropped} {turned}")
+}
+
+/// Fills three tables, and prints a line of times for each round.
+fn run(
+    rt: &impl Runtime,
+    small: &mut Leases,
+    middle: &mut Leases,
+    large: &mut Leases,
+    rounds: usize,
+) -> io::Result<()> {
+    fill(small, 64)?;
+    fill(middle, 2048)?;
+    fill(large, 4096)?;
+    for _ in 0..rounds {
+        measure(rt, small, 64)?;
+        print!(rt; " ")?;
+        measure(rt, middle, 2048)?;
+        print!(rt; " ")?;
+        measure(rt, large, 4096)?;
+        println!(rt; "")?;
+    }
+    Ok(())
 }
 
 fn main(rt: HostRuntime) -> io::Result<()> {
@@ -114,18 +156,14 @@ fn main(rt: HostRuntime) -> io::Result<()> {
     let Some(rounds) = words::rounds(&rt)? else {
         return Ok(());
     };
-    let mut small = filled(alloc, 64)?;
-    let mut middle = filled(alloc, 2048)?;
-    let mut large = filled(alloc, 4096)?;
-    for _ in 0..rounds {
-        let (granted, dropped, turned) = timed(&rt, &mut small, 64)?;
-        print!(rt; "{granted} {dropped} {turned} ")?;
-        let (granted, dropped, turned) = timed(&rt, &mut middle, 2048)?;
-        print!(rt; "{granted} {dropped} {turned} ")?;
-        let (granted, dropped, turned) = timed(&rt, &mut large, 4096)?;
-        println!(rt; "{granted} {dropped} {turned}")?;
-    }
-    Ok(())
+    let mut small = Leases::new(alloc);
+    let mut middle = Leases::new(alloc);
+    let mut large = Leases::new(alloc);
+    let done = run(&rt, &mut small, &mut middle, &mut large, rounds);
+    drop(small);
+    drop(middle);
+    drop(large);
+    done
 }
 EOF
 
