@@ -1,0 +1,111 @@
+//! The next call of a walk, as `specs/Walk.antt` writes it.
+
+ghost use Rattle.std.specs.Prelude.{◌≡◌, IfOk};
+ghost use Rattle.path_calls.specs.Walk.{place, keeps_all, page_call, create_call, make_dir_call, rename_call, goal_call, next_call};
+
+use crate::walk::{Goal, Pages, Walk};
+use lb_base::items::Name;
+use limits::LISTING_MOST;
+use nfs3_calls::listing::ListRange;
+use nfs3_calls::making::{HowMade, NewDir, NewFile, SetAttr, SetTime};
+use nfs3_calls::message::Nfs;
+use nfs3_calls::place::{Place, Rename};
+use std::alloc::{AllocError, Global};
+use xdr_codec::handle::Handle;
+
+/// No attribute is set.
+const KEEPS_ALL: SetAttr = SetAttr {
+    mode: None,
+    uid: None,
+    gid: None,
+    size: None,
+    atime: SetTime::Keep,
+    mtime: SetTime::Keep,
+};
+
+/// A name in the directory of an id.
+fn place(alloc: Global, dir: u64, name: &Name) -> Result<Place, AllocError>
+    ensures { IfOk result (λ p. p ≡ place dir name.now) }
+{
+    Ok(Place {
+        dir: Handle::of_file(alloc, dir)?,
+        name: name.try_clone(alloc)?,
+    })
+}
+
+/// The call for the page behind those that came.
+fn page_call(alloc: Global, dir: u64, pages: &Pages) -> Result<Nfs, AllocError>
+    ensures { IfOk result (λ c. c ≡ page_call dir pages.now) }
+{
+    Ok(Nfs::ReadDir(ListRange {
+        dir: Handle::of_file(alloc, dir)?,
+        cookie: pages.cookie,
+        verifier: pages.verifier,
+        count: LISTING_MOST,
+    }))
+}
+
+/// The call that makes a file, where the name is free.
+fn create_call(alloc: Global, dir: u64, name: &Name) -> Result<Nfs, AllocError>
+    ensures { IfOk result (λ c. c ≡ create_call dir name.now) }
+{
+    Ok(Nfs::Create(NewFile {
+        place: place(alloc, dir, name)?,
+        how: HowMade::Guarded(KEEPS_ALL),
+    }))
+}
+
+/// The call that makes a directory.
+fn make_dir_call(alloc: Global, dir: u64, name: &Name) -> Result<Nfs, AllocError>
+    ensures { IfOk result (λ c. c ≡ make_dir_call dir name.now) }
+{
+    Ok(Nfs::MkDir(NewDir {
+        place: place(alloc, dir, name)?,
+        attr: KEEPS_ALL,
+    }))
+}
+
+/// The call that moves a name.
+fn rename_call(
+    alloc: Global,
+    from: u64,
+    name: &Name,
+    to: u64,
+    to_name: &Name,
+) -> Result<Nfs, AllocError>
+    ensures { IfOk result (λ c. c ≡ rename_call from name.now to to_name.now) }
+{
+    let from = place(alloc, from, name)?;
+    let to = place(alloc, to, to_name)?;
+    Ok(Nfs::Rename(Rename { from, to }))
+}
+
+/// What is asked for in the directory that was reached.
+fn goal_call(alloc: Global, dir: u64, goal: &Goal) -> Result<Nfs, AllocError>
+    ensures { IfOk result (λ c. c ≡ goal_call dir goal.now) }
+{
+    match goal {
+        Goal::Find(name) | Goal::Look(name) | Goal::RenameFrom(name, _) => {
+            Ok(Nfs::Lookup(place(alloc, dir, name)?))
+        }
+        Goal::LookRoot => Ok(Nfs::GetAttr(Handle::of_file(alloc, dir)?)),
+        Goal::List(pages) => page_call(alloc, dir, pages),
+        Goal::Make(name) => create_call(alloc, dir, name),
+        Goal::MakeDir(name) => make_dir_call(alloc, dir, name),
+        Goal::Remove(name) => Ok(Nfs::Remove(place(alloc, dir, name)?)),
+        Goal::RemoveDir(name) => Ok(Nfs::RmDir(place(alloc, dir, name)?)),
+        Goal::RenameTo(from, name, to_name) => rename_call(alloc, *from, name, dir, to_name),
+    }
+}
+
+impl Walk {
+    /// Its next call. The one error is want of memory.
+    pub fn next_call(&self, alloc: Global) -> Result<Nfs, AllocError>
+        ensures { IfOk result (λ c. c ≡ next_call self.now) }
+    {
+        match self.left.as_slice().first() {
+            Some(name) => Ok(Nfs::Lookup(place(alloc, self.dir, name)?)),
+            None => goal_call(alloc, self.dir, &self.goal),
+        }
+    }
+}
