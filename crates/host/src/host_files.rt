@@ -1,0 +1,101 @@
+//! The files of the folder that the program runs in.
+
+ghost use Rattle.std.specs.Prelude.{◌≡◌, ℕ, ◌≤◌, ◌<◌, length, Err, None, IfOk};
+ghost use Rattle.limits.specs.declared.TheConstants.{FILE_MOST};
+ghost use Rattle.links.specs.declared.files.FilesErr.TheVariants as errors;
+
+use lb_base::faults::one_more;
+use lb_base::items::{Bytes, Items};
+use lb_base::sink::GiveErr;
+use lb_base::source::{ReadError, read_all};
+use lb_base::streams::StreamSource;
+use limits::FILE_MOST;
+use links::files::{Files, FilesErr};
+use std::alloc::Global;
+use std::fs::OpenFile;
+use std::io::Write;
+use std::rt::Files as HostDisk;
+use std::{fs, io};
+
+/// The files of the folder that the program runs in. They tell nothing of bytes.
+#[derive(Drop)]
+pub struct HostFiles<R> {
+    rt: R,
+    mark: u32,
+    faults: u64,
+}
+
+impl<R> HostFiles<R> {
+    /// Files with no fault so far. The mark is no other program's at the same time, as the process's
+    /// number: the file that is being written has it in its name.
+    pub fn new(rt: R, mark: u32) -> HostFiles<R>
+        ensures { result ≡ record { rt = rt; mark = mark; faults = 0 } }
+    {
+        HostFiles {
+            rt,
+            mark,
+            faults: 0,
+        }
+    }
+}
+
+/// The bytes of a file, where it has at most `FILE_MOST`.
+fn read_file<R: HostDisk>(rt: &R, alloc: Global, name: &str) -> Result<Bytes, FilesErr>
+    ensures within { IfOk result (λ bytes. length bytes ≤ FILE_MOST) }
+    ensures big { (len : ℕ) → result ≡ Err (errors.TooBig len) → FILE_MOST < len }
+{
+    let Ok(file) = fs::open(rt, name) else {
+        return Err(FilesErr::Failed);
+    };
+    let Ok(facts) = file.metadata() else {
+        return Err(FilesErr::Failed);
+    };
+    let len = facts.len();
+    if FILE_MOST < len {
+        return Err(FilesErr::TooBig { len });
+    }
+    let mut source = StreamSource::new(file);
+    match read_all(alloc, FILE_MOST as usize, &mut source) {
+        Ok(bytes) => Ok(Items::from_vec(bytes)),
+        Err(ReadError::Memory) => Err(FilesErr::Memory),
+        Err(ReadError::Fault | ReadError::TooLong) => Err(FilesErr::Failed),
+    }
+}
+
+/// Writes a file beside the one of the name, and puts it in its place.
+fn write_file<R: HostDisk>(rt: &R, beside: &str, name: &str, bytes: &[u8]) -> io::Result<()> {
+    let mut file = fs::create(rt, beside)?;
+    file.write_all(bytes)?;
+    drop(file);
+    fs::rename(rt, beside, name)
+}
+
+impl<R: HostDisk> Files for HostFiles<R> {
+    ghost files = { λ _. None };
+
+    ghost faults = { λ f. f.faults };
+
+    fn get(&mut self, alloc: Global, name: &str) -> Result<Bytes, FilesErr> {
+        match read_file(&self.rt, alloc, name) {
+            Ok(bytes) => Ok(bytes),
+            Err(FilesErr::Failed) => {
+                self.faults = one_more(self.faults);
+                Err(FilesErr::Failed)
+            }
+            Err(error) => Err(error),
+        }
+    }
+
+    fn put(&mut self, alloc: Global, name: &str, bytes: &[u8]) -> Result<(), GiveErr> {
+        let mark = self.mark;
+        let beside = format!(in alloc; "~{mark}")?;
+        match write_file(&self.rt, beside.as_str(), name, bytes) {
+            Ok(()) => Ok(()),
+            Err(_) => {
+                let _gone = fs::remove_file(&self.rt, beside.as_str());
+                self.faults = one_more(self.faults);
+                Err(GiveErr::Failed)
+            }
+        }
+    }
+}

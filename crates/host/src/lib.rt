@@ -1,0 +1,8 @@
+//! The outside of the program on a machine: TCP on this host alone, its files, its clock, and a
+//! rest. They tell nothing of bytes, and are trusted for those; what is proved is that each fault is
+//! counted.
+#![tactic(auto)]
+
+pub mod host_files;
+pub mod tcp;
+pub mod time;

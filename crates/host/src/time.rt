@@ -1,0 +1,61 @@
+//! The host's clock, and a rest.
+
+use limits::READING_MOST;
+use links::clock::Clock;
+use links::rest::Rest;
+use std::rt::Clock as HostTime;
+use std::sync::atomic::{AtomicU64, Ordering};
+use std::thread;
+use std::time::Duration;
+
+/// The host's clock that never goes back, in milliseconds. Where it can't be read it stands at the
+/// last reading that it gave.
+#[derive(Drop)]
+pub struct HostClock<R> {
+    rt: R,
+    last: AtomicU64,
+}
+
+impl<R> HostClock<R> {
+    /// A clock that gave no reading yet.
+    pub fn new(rt: R) -> HostClock<R> {
+        HostClock {
+            rt,
+            last: AtomicU64::new(0),
+        }
+    }
+}
+
+impl<R: HostTime> Clock for HostClock<R> {
+    fn now(&self) -> u64 {
+        let read = match self.rt.monotonic() {
+            Ok(since) => u64::try_from(since.as_millis()).unwrap_or(READING_MOST),
+            Err(_) => 0,
+        };
+        self.last
+            .fetch_max(read, Ordering::SeqCst)
+            .max(read)
+            .min(READING_MOST)
+    }
+}
+
+/// How many milliseconds a rest takes.
+const REST: u64 = 1;
+
+/// A rest of a millisecond.
+#[derive(Drop)]
+pub struct HostRest<R> {
+    rt: R,
+}
+
+impl<R> HostRest<R> {
+    pub fn new(rt: R) -> HostRest<R> {
+        HostRest { rt }
+    }
+}
+
+impl<R: HostTime> Rest for HostRest<R> {
+    fn rest(&self) {
+        thread::sleep(&self.rt, Duration::from_millis(REST));
+    }
+}

@@ -1,0 +1,14 @@
+//! The outside of a running server and of a mount: links to peers, the network that gives them,
+//! files of the host, a clock and a rest. Each is a trait; those that can fail count their faults,
+//! as sources and sinks do. Beside them stand objects in memory that meet them.
+#![tactic(auto)]
+
+pub mod calls;
+pub mod clock;
+pub mod files;
+pub mod link;
+pub mod mem_files;
+pub mod mem_link;
+pub mod mem_network;
+pub mod network;
+pub mod rest;
