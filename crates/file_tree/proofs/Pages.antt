@@ -1,9 +1,12 @@
 -- Pages of a directory.
-use Rattle.std.proofs.Common.{◌≡◌, ℕ, zero, suc, ◌+◌, ◌-◌, ◌<◌, ◌≤◌, List, [], ◌∷◌, ◌++◌, nat_le, true, false, subst, length, length-drop, take, drop, Some, refl, sym, ap, ◌∙◌, arith}
+use Rattle.std.proofs.Common.{◌≡◌, ℕ, zero, suc, ◌+◌, ◌-◌, ◌<◌, ◌≤◌, List, [], ◌∷◌, ◌++◌, nat_le, ◌==◌, ◌&&◌, not, Bool, true, false, if◌then◌else◌, Result, Ok, Err, IsOk, OnErr, subst, length, length-drop, take, drop, Some, refl, sym, ap, ◌∙◌, arith}
 use Rattle.std.specs.List.{slice_get}
 use Rattle.std.proofs.lemmas.Bool.Decides.{nat_tests}
 use Rattle.nfs3_calls.specs.declared.listing.Entry.{Entry}
-use Rattle.file_tree.specs.Reading.{entry_size, page}
+use Rattle.xdr_codec.specs.declared.status.Status.{Status}
+use Rattle.xdr_codec.specs.declared.status.Status.TheVariants as status
+use Rattle.nfs3_calls.specs.declared.listing.Listing.{Listing}
+use Rattle.file_tree.specs.Reading.{attr_of, entry_size, page, listing_of}
 use Rattle.tree_nodes.specs.declared.node.Node.{Node}
 use Rattle.std.proofs.lemmas.List.{drop-drop}
 use Rattle.file_tree.proofs.Found.{some_is}
@@ -66,6 +69,33 @@ page_more ns at end left cookie size n es es' all less is size_is within es_is s
     let rest = take (end - (at + 1)) (drop (at + 1) ns) in
     let first : page left cookie (take (end - at) (drop at ns)) ≡ e ∷ page (left - entry_size n.name) (cookie + 1) rest = ap (page left cookie) (next_node ns at end n less is) ∙ rw (fits (entry_size n.name) left (subst (λ k. k ≤ left) size_is within)) refl in
     ap (λ z. z ++ page (left - size) (cookie + 1) rest) es_is ∙ append_one es e (page (left - size) (cookie + 1) rest) ∙ ap (λ k. es ++ e ∷ page (left - k) (cookie + 1) rest) size_is ∙ ap (λ z. es ++ z) (sym first) ∙ so_far
+
+one_more : (es : List Entry) (e : Entry) (rest : List Entry) → 0 < length (es ++ e ∷ rest)
+one_more [] e rest = omega arith
+one_more (x ∷ es) e rest = omega arith
+
+-- where an entry fits, the page has one
+pub page_some : (ns : List Node) (at end left cookie size : ℕ) (n : Node) (es all : List Entry) → at < end → slice_get ns at ≡ Some n → size ≡ entry_size n.name → size ≤ left → es ++ page left cookie (take (end - at) (drop at ns)) ≡ all → 0 < length all
+page_some ns at end left cookie size n es all less is size_is within so_far =
+    let e : Entry = record { fileid = n.id; name = n.name; cookie = cookie + 1 } in
+    let rest = take (end - (at + 1)) (drop (at + 1) ns) in
+    let first : page left cookie (take (end - at) (drop at ns)) ≡ e ∷ page (left - entry_size n.name) (cookie + 1) rest = ap (page left cookie) (next_node ns at end n less is) ∙ rw (fits (entry_size n.name) left (subst (λ k. k ≤ left) size_is within)) refl in
+    subst (λ z. 0 < length z) (ap (λ z. es ++ z) (sym first) ∙ so_far) (one_more es e (page (left - entry_size n.name) (cookie + 1) rest))
+
+pub on_err : {A E P : Type 0} (r : Result A E) → P → OnErr r P
+on_err (Ok x) p = tt
+on_err (Err e) p = p
+
+-- so an answer of it isn't too small
+pub listing_ok : (nodes : List Node) (d : Node) (left : List Node) (entries : List Entry) → 0 < length entries → IsOk (listing_of nodes d left entries)
+listing_ok nodes d left entries some = rw (some_entry (length entries) some) (by_left (length left == 0))
+  where
+    some_entry : (k : ℕ) → 0 < k → (k == 0) ≡ false
+    some_entry k some = grind (arith, nat_tests, some)
+
+    by_left : (b : Bool) → IsOk {T = Listing} (if not b && false then Err status.TooSmall else Ok (record { attr = Some (attr_of nodes d); verifier = d.version; entries = entries; eof = length entries == length left }))
+    by_left true = refl
+    by_left false = refl
 
 -- ---- the names behind a cookie
 

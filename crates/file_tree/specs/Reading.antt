@@ -1,5 +1,8 @@
 -- What is read of a tree.
-use Rattle.std.specs.Prelude.{◌≡◌, ℕ, ◌+◌, ◌-◌, ◌*◌, ◌/◌, ◌%◌, List, [], ◌∷◌, length, take, drop, min, Option, Some, None, Result, Ok, Err, Bool, ◌&&◌, ◌||◌, ◌==◌, not, if◌then◌else◌, nat_lt, nat_le}
+use Rattle.std.specs.Prelude.{◌≡◌, IsOk, ℕ, ◌+◌, ◌-◌, ◌*◌, ◌/◌, ◌%◌, List, [], ◌∷◌, length, take, drop, min, Option, Some, None, Result, Ok, Err, Bool, ◌&&◌, ◌||◌, ◌==◌, not, if◌then◌else◌, nat_lt, nat_le}
+use Rattle.std.specs.Option.{option_map}
+use Rattle.chunk_cut.specs.Chunks.{chunks_of}
+use Rattle.chunk_cut.specs.declared.chunk.Chunk.{Chunk}
 use Rattle.file_tree.specs.Chain.{◌>>=◌}
 use Rattle.xdr_codec.specs.declared.status.Status.{Status}
 use Rattle.xdr_codec.specs.declared.status.Status.TheVariants as status
@@ -15,9 +18,10 @@ use Rattle.tree_nodes.specs.declared.node.Body.TheVariants.{Directory, File}
 use Rattle.tree_nodes.specs.Nodes.{with_id, named, names}
 use Rattle.file_tree.specs.declared.error.TreeErr.{TreeErr}
 use Rattle.file_tree.specs.declared.error.TreeErr.TheVariants as tree_err
+use Rattle.file_tree.specs.declared.call.Standing.{Standing}
 use Rattle.file_tree.specs.declared.reading.Looked.{Looked}
 use Rattle.file_tree.specs.Names.{is_dot, is_dot_dot, spelt}
-use Rattle.file_tree.specs.Tree.{node_of, directory_of, file_or, or_no_entry, content_of}
+use Rattle.file_tree.specs.Tree.{is_directory, node_of, directory_of, file_or, or_no_entry, content_of}
 
 -- ---- attributes (RFC 1813, section 2.6: fattr3)
 
@@ -61,6 +65,14 @@ abbrev pub lookup : List Node → ℕ → List ℕ → Result Looked Status
 lookup nodes dir name =
     directory_of nodes dir >>= λ d. spelt name >>= λ _. looked nodes d name >>= λ n. Ok (found_of nodes d n)
 
+-- ---- what a name stands for, whatever its spelling
+
+abbrev pub standing_of : Node → Standing
+standing_of n = record { id = n.id; is_file = not (is_directory n.body) }
+
+abbrev pub stands_for : List Node → ℕ → List ℕ → Option Standing
+stands_for nodes dir name = option_map standing_of (named nodes dir name)
+
 -- ---- READ (RFC 1813, section 3.3.6)
 
 -- the bytes from the offset on, at most as many as are asked for, and at most 65,536
@@ -82,6 +94,12 @@ read nodes id offset count = node_of nodes id >>= file_or status.Inval >>= λ n.
 
 abbrev pub content : List Node → ℕ → Result (List ℕ) Status
 content nodes id = node_of nodes id >>= file_or status.IsDir >>= λ n. Ok (content_of n.body)
+
+abbrev pub chunks_in : Node → Result (List Chunk) Status
+chunks_in n = file_or status.IsDir n >>= λ f. Ok (chunks_of (content_of f.body))
+
+abbrev pub chunks : List Node → ℕ → Result (List Chunk) Status
+chunks nodes id = node_of nodes id >>= λ n. chunks_in n
 
 abbrev pub version : List Node → ℕ → Result ℕ Status
 version nodes id = node_of nodes id >>= λ n. Ok n.version
@@ -120,9 +138,9 @@ abbrev pub list : List Node → ℕ → ℕ → ℕ → ℕ → Result Listing S
 list nodes dir cookie verifier count =
     directory_of nodes dir >>= λ d. if is_bad_cookie nodes d cookie verifier then Err status.BadCookie else listed nodes d cookie (min count 65536)
 
--- ---- what is answered, where memory may run out
+-- ---- what is answered, where memory may run out: never where the call is refused
 
 abbrev pub Answers : {A : Type 0} → Result A Status → Result A TreeErr → Type 0
 Answers {A} r (Ok x) = ◌≡◌ {A = Result A Status} r (Ok x)
 Answers {A} r (Err (tree_err.Refused s)) = ◌≡◌ {A = Result A Status} r (Err s)
-Answers r (Err tree_err.Memory) = Unit {0}
+Answers r (Err tree_err.Memory) = IsOk r

@@ -18,6 +18,11 @@ abbrev pub lent_option : Result (Option (Bor Node)) Status → Result (Option No
 lent_option (Ok o) = Ok (option_copied o)
 lent_option (Err s) = Err s
 
+-- bytes that are lent, or chunks
+abbrev pub lent_list : {A : Type 0} → Result (Bor (List A)) Status → Result (List A) Status
+lent_list (Ok xs) = Ok xs.now
+lent_list (Err s) = Err s
+
 -- a tree of these nodes
 abbrev pub tree_of : NodesState → ℕ → Tree
 tree_of nodes changes = record { nodes = nodes.nodes; next = nodes.next; changes = changes }

@@ -29,6 +29,14 @@ pub struct Spot {
     pub name: Name,
 }
 
+/// What a name stands for.
+#[derive(Clone, Copy, Debug, PartialEq, Eq, Drop)]
+pub struct Standing {
+    /// The id of the file or directory.
+    pub id: u64,
+    pub is_file: bool,
+}
+
 /// A call that changes the tree.
 #[derive(Drop, Debug)]
 pub enum Call {

@@ -1,6 +1,6 @@
 //! READDIR (`specs/Reading.antt`). A page begins at its cookie, with no walk from the start.
 
-ghost use Rattle.std.specs.Prelude.{◌≡◌, ◌+◌, ◌-◌, ◌*◌, ◌/◌, ◌<◌, ◌≤◌, ◌^◌, List, length, take, drop, Ok, IfOk};
+ghost use Rattle.std.specs.Prelude.{◌≡◌, ◌+◌, ◌-◌, ◌*◌, ◌/◌, ◌<◌, ◌≤◌, ◌^◌, List, length, take, drop, Ok, IfOk, OnErr};
 ghost use Rattle.tree_nodes.specs.Nodes.{names};
 ghost use Rattle.tree_nodes.specs.declared.node.Node.{Node};
 ghost use Rattle.file_tree.specs.View.{AreBounded};
@@ -41,7 +41,8 @@ fn page(
     requires rises { start ≤ end }
     requires within { end ≤ length nodes.now.nodes }
     requires cookies { cookie + (end - start) < 2 ^ 64 }
-    ensures { IfOk result (λ es. es ≡ page room cookie (take (end - start) (drop start nodes.now.nodes))) }
+    ensures page { IfOk result (λ es. es ≡ page room cookie (take (end - start) (drop start nodes.now.nodes))) }
+    ensures takes { OnErr result (0 < length (page room cookie (take (end - start) (drop start nodes.now.nodes)))) }
 {
     let mut entries = Vec::new(alloc);
     let mut left = room;
@@ -99,7 +100,8 @@ fn page_behind(
 ) -> Result<Items<Entry>, AllocError>
     requires id { dir.now.id < 2 ^ 64 - 1 }
     requires cookie { cookie ≤ length (names nodes.now.nodes dir.now.id) }
-    ensures { IfOk result (λ es. es ≡ page room cookie (drop cookie (names nodes.now.nodes dir.now.id))) }
+    ensures page { IfOk result (λ es. es ≡ page room cookie (drop cookie (names nodes.now.nodes dir.now.id))) }
+    ensures takes { OnErr result (0 < length (page room cookie (drop cookie (names nodes.now.nodes dir.now.id)))) }
 {
     let (start, end) = nodes.places(dir.id);
     page(alloc, nodes, start + cookie as usize, end, cookie, room)
@@ -129,6 +131,7 @@ fn listing_of(
 }
 
 // A page of a directory in an answer of at most so many bytes.
+#[tactic(auto, using(crate::proofs::Pages::listing_ok))]
 fn listed(
     alloc: Global,
     nodes: &Nodes,

@@ -4,12 +4,14 @@ ghost use Rattle.std.specs.Prelude.{◌≡◌, ◌+◌, ◌-◌, ◌<◌, ◌≤
 ghost use Rattle.std.specs.Option.{option_copied};
 ghost use Rattle.tree_nodes.specs.Nodes.{names, with_id};
 ghost use Rattle.file_tree.specs.Tree.{content_of, node_of, directory_of};
-ghost use Rattle.file_tree.specs.View.{lent, AreBounded, IsNodeBounded};
-ghost use Rattle.file_tree.specs.Reading.{time_of, file_attr, directory_attr, attr_body, attr_of, attr, above, looked, found_of, lookup, piece_bytes, piece_of, read, content, version, Answers};
+ghost use Rattle.file_tree.specs.View.{lent, lent_list, AreBounded, IsNodeBounded};
+ghost use Rattle.file_tree.specs.Reading.{time_of, file_attr, directory_attr, attr_body, attr_of, attr, above, looked, found_of, lookup, piece_bytes, piece_of, read, content, chunks_in, chunks, version, standing_of, stands_for, Answers};
 
+use crate::call::Standing;
 use crate::checks;
 use crate::error::TreeErr;
 use crate::names::{is_dot, is_dot_dot, spelt};
+use chunk_cut::chunk::Chunk;
 use lb_base::items::Bytes;
 use nfs3_calls::call::Piece;
 use std::alloc::Global;
@@ -203,6 +205,52 @@ pub fn read(
     let node = known(nodes, changes, id)?;
     let file = checks::file_or(node, Status::Inval)?;
     piece_of(alloc, nodes, changes, file, offset, count)
+}
+
+/// The bytes of a file.
+pub fn file_bytes(nodes: &Nodes, id: u64) -> Result<&[u8], Status>
+    ensures { lent_list result ≡ content nodes.now.nodes id }
+{
+    let node = checks::node_of(nodes, id)?;
+    let file = checks::file_or(node, Status::IsDir)?;
+    Ok(bytes_of(file))
+}
+
+/// The chunks of a file.
+pub fn file_chunks(nodes: &Nodes, id: u64) -> Result<&[Chunk], Status>
+    ensures { lent_list result ≡ chunks nodes.now.nodes id }
+{
+    let node = checks::node_of(nodes, id)?;
+    chunks_in(node)
+}
+
+// The chunks of a node, if it is a file.
+fn chunks_in(node: &Node) -> Result<&[Chunk], Status>
+    ensures { lent_list result ≡ chunks_in node.now }
+{
+    match &node.body {
+        Body::Directory => Err(Status::IsDir),
+        Body::File(content) => Ok(content.chunks()),
+    }
+}
+
+fn standing_of(node: &Node) -> Standing
+    ensures { result ≡ standing_of node.now }
+{
+    Standing {
+        id: node.id,
+        is_file: !checks::is_directory(node),
+    }
+}
+
+/// What a name stands for, if for anything.
+pub fn at_name(nodes: &Nodes, dir: u64, name: &[u8]) -> Option<Standing>
+    ensures { result ≡ stands_for nodes.now.nodes dir name.now }
+{
+    match nodes.named(dir, name) {
+        Some(node) => Some(standing_of(node)),
+        None => None,
+    }
 }
 
 /// A copy of a file's content.

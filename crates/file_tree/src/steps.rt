@@ -1,7 +1,7 @@
 //! The calls that change a tree (`specs/Step.antt`).
 
 ghost use Rattle.std.specs.Prelude.{◌≡◌, ◌+◌, ◌<◌, ◌≤◌, [], IfOk};
-ghost use Rattle.file_tree.specs.Step.{create, mkdir, remove, rmdir, rename, replace, rename_plan, IsPlannedMove, may, may_create, may_remove, may_rmdir, may_replace_content};
+ghost use Rattle.file_tree.specs.Step.{create, mkdir, remove, rmdir, rename, replace, remove_plan, rename_plan, IsPlannedMove, may, may_create, may_remove, may_rmdir, may_replace_content};
 ghost use Rattle.file_tree.specs.Chain.{refused};
 ghost use Rattle.file_tree.specs.Reading.{lookup, attr, read, list, Answers};
 ghost use Rattle.file_tree.specs.State.{state_of, IsState};
@@ -101,6 +101,15 @@ pub fn remove(tree: &mut TreeState, held: Held, dir: u64, name: &[u8]) -> Result
     Ok(done)
 }
 
+/// What REMOVE comes to in a tree.
+#[tactic(auto, using(crate::proofs::Limits::bounds))]
+pub fn plan_remove(tree: &TreeState, held: Held, dir: u64, name: &[u8]) -> Result<Changed, Status>
+    requires { IsState tree.now }
+    ensures { result ≡ remove_plan (state_of tree.now) held dir name.now }
+{
+    plans::remove(&tree.nodes, tree.changes, held, dir, name)
+}
+
 /// RMDIR. It takes no memory.
 #[tactic(auto, using(crate::proofs::Limits::bounds, crate::proofs::Admitted::rmdir_there))]
 pub fn rmdir(tree: &mut TreeState, held: Held, dir: u64, name: &[u8]) -> Result<Changed, Status>
@@ -162,8 +171,8 @@ pub fn rename(
     }
 }
 
-// What RENAME comes to in a tree.
-fn plan_rename(
+/// What RENAME comes to in a tree.
+pub fn plan_rename(
     tree: &TreeState,
     held: Held,
     dir: u64,

@@ -2,14 +2,16 @@
 
 ghost use Rattle.std.specs.Prelude.{◌≡◌, ◌+◌, ◌<◌, ◌≤◌, IfOk, OnOk};
 ghost use Rattle.file_tree.specs.Tree.{empty, contents_size};
-ghost use Rattle.file_tree.specs.Reading.{lookup, attr, version, content, read, list, Answers};
-ghost use Rattle.file_tree.specs.Step.{create, mkdir, remove, rmdir, rename, replace, may};
+ghost use Rattle.file_tree.specs.Reading.{lookup, attr, version, content, chunks, read, list, stands_for, Answers};
+ghost use Rattle.file_tree.specs.Step.{create, mkdir, remove, rmdir, rename, replace, may, create_plan, may_mkdir, remove_plan, rename_plan};
+ghost use Rattle.file_tree.specs.View.{lent_list};
 
-use crate::call::{Call, Changed, CreateMode, Held};
+use crate::call::{Call, Changed, CreateMode, Held, Planned, Standing};
 use crate::error::TreeErr;
 use crate::reading::{self, Looked};
 use crate::state::{self, TreeState};
-use crate::steps;
+use crate::{plans, steps};
+use chunk_cut::chunk::Chunk;
 use lb_base::items::{Bytes, Name};
 use nfs3_calls::call::Piece;
 use nfs3_calls::listing::Listing;
@@ -142,6 +144,55 @@ impl Tree {
         steps::may(&self.state, call, held)
     }
 
+    /// What CREATE comes to: the file that is there and may be, or none, and one is to be made. It
+    /// changes nothing and takes no memory.
+    pub fn plan_create(
+        &self,
+        dir: u64,
+        name: &[u8],
+        mode: CreateMode,
+        held: Held,
+    ) -> Result<Option<Changed>, Status>
+        ensures { result ≡ create_plan self.now.tree held dir name.now mode }
+    {
+        plans::create(&self.state.nodes, self.state.changes, held, dir, name, mode)
+    }
+
+    /// Why MKDIR would be refused. It changes nothing and takes no memory.
+    pub fn plan_mkdir(&self, dir: u64, name: &[u8], held: Held) -> Result<(), Status>
+        ensures { result ≡ may_mkdir self.now.tree held dir name.now }
+    {
+        plans::may_mkdir(&self.state.nodes, self.state.changes, held, dir, name)
+    }
+
+    /// What REMOVE comes to. It changes nothing and takes no memory.
+    pub fn plan_remove(&self, dir: u64, name: &[u8], held: Held) -> Result<Changed, Status>
+        ensures { result ≡ remove_plan self.now.tree held dir name.now }
+    {
+        steps::plan_remove(&self.state, held, dir, name)
+    }
+
+    /// What RENAME comes to. It changes nothing and takes no memory.
+    pub fn plan_rename(
+        &self,
+        dir: u64,
+        name: &[u8],
+        to: u64,
+        to_name: &[u8],
+        held: Held,
+    ) -> Result<Planned, Status>
+        ensures { result ≡ rename_plan self.now.tree held dir name.now to to_name.now }
+    {
+        steps::plan_rename(&self.state, held, dir, name, to, to_name)
+    }
+
+    /// What a name stands for, if for anything, whatever its spelling. It takes no memory.
+    pub fn stands_for(&self, dir: u64, name: &[u8]) -> Option<Standing>
+        ensures { result ≡ stands_for self.now.tree.nodes dir name.now }
+    {
+        reading::at_name(&self.state.nodes, dir, name)
+    }
+
     /// LOOKUP: the id of what a name stands for, its attributes and the directory's. It takes no
     /// memory.
     pub fn lookup(&self, dir: u64, name: &[u8]) -> Result<Looked, Status>
@@ -162,6 +213,20 @@ impl Tree {
         ensures { result ≡ version self.now.tree.nodes id }
     {
         reading::version(&self.state.nodes, id)
+    }
+
+    /// The bytes of a file. It takes no memory.
+    pub fn bytes_of(&self, id: u64) -> Result<&[u8], Status>
+        ensures { lent_list result ≡ content self.now.tree.nodes id }
+    {
+        reading::file_bytes(&self.state.nodes, id)
+    }
+
+    /// The chunks of a file, in order. It takes no memory.
+    pub fn chunks(&self, id: u64) -> Result<&[Chunk], Status>
+        ensures { lent_list result ≡ chunks self.now.tree.nodes id }
+    {
+        reading::file_chunks(&self.state.nodes, id)
     }
 
     /// A copy of a file's content.

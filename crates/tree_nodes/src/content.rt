@@ -46,12 +46,20 @@ impl Content {
         ensures { IfOk result (λ c. c ≡ bytes) }
     {
         let chunks = chunk_cut::cut(alloc, bytes.as_slice())?;
+        Ok(Content::with_chunks(bytes, chunks))
+    }
+
+    /// A content of these bytes, whose chunks were cut before. It takes no memory.
+    pub fn with_chunks(bytes: Bytes, chunks: Items<Chunk>) -> Content
+        requires { chunks ≡ chunks_of bytes }
+        ensures { result ≡ bytes }
+    {
         let digest = chunk_cut::digest(bytes.as_slice());
-        Ok(Content {
+        Content {
             bytes,
             chunks,
             digest,
-        })
+        }
     }
 
     /// The bytes.
