@@ -1,0 +1,4 @@
+pub mod Changing
+pub mod Rows
+pub mod Telling
+pub mod Waiting

@@ -1,0 +1,82 @@
+//! What a call comes to.
+
+ghost use Rattle.std.specs.Prelude.{◌≡◌};
+ghost use Rattle.tree_calls.specs.Waiting.{file_of, entries_of};
+
+use file_tree::call::Spot;
+use file_tree::entry::Entry;
+use hash_calls::call::Committed;
+use nfs3_calls::message::Nfs;
+use xdr_codec::answer::Answer;
+
+/// What a call was answered, and the entries of the journal that it made, in their order.
+#[derive(Drop)]
+pub struct Done {
+    pub answer: Nfs,
+    pub first: Option<Entry>,
+    pub second: Option<Entry>,
+}
+
+/// A file that is to be removed.
+#[derive(Drop, Debug)]
+pub struct Removing {
+    pub spot: Spot,
+    /// The id of the file that the name stood for.
+    pub file: u64,
+}
+
+/// A node that is to get the name of a file, which goes.
+#[derive(Drop, Debug)]
+pub struct Renaming {
+    pub from: Spot,
+    pub to: Spot,
+    /// The id of the node that the first name stood for.
+    pub node: u64,
+    /// The id of the file that the second name stood for.
+    pub file: u64,
+}
+
+/// A change that waits.
+#[derive(Drop, Debug)]
+pub enum Asked {
+    Remove(Removing),
+    Rename(Renaming),
+}
+
+impl Asked {
+    /// The id of the file that goes, for whose leases it waits.
+    pub fn file(&self) -> u64
+        ensures { result ≡ file_of self.now }
+    {
+        match self {
+            Asked::Remove(removing) => removing.file,
+            Asked::Rename(renaming) => renaming.file,
+        }
+    }
+
+    /// How many entries of the journal it will make.
+    pub fn entries(&self) -> u64
+        ensures { result ≡ entries_of self.now }
+    {
+        match self {
+            Asked::Remove(_) => 1,
+            Asked::Rename(_) => 2,
+        }
+    }
+}
+
+/// What became of a call.
+#[derive(Drop)]
+pub enum Outcome {
+    /// It is answered.
+    Answered(Done),
+    /// It waits, and the tree is as it was.
+    Waits(Asked),
+}
+
+/// What a COMMITTMP was answered once it was made, and the entry of the journal that it made.
+#[derive(Drop)]
+pub struct Committing {
+    pub answer: Answer<Committed, ()>,
+    pub entry: Option<Entry>,
+}

@@ -1,0 +1,185 @@
+//! REMOVE and RENAME on arrival: whether they are refused, done at once, or wait
+//! (`specs/Waiting.antt`).
+
+ghost use Rattle.std.specs.Prelude.{◌≡◌, IfOk, OnErr, IsOk};
+ghost use Rattle.xdr_codec.specs.declared.answer.Answer.TheVariants as answer;
+ghost use Rattle.nfs3_calls.specs.declared.message.Nfs.TheVariants as nfs;
+ghost use Rattle.tree_calls.specs.Changing.{no_side, said};
+ghost use Rattle.tree_calls.specs.Waiting.{busy_first, remove_comes, is_over_file, over_comes, rename_comes, removing, asks_remove, renaming, asks_rename};
+
+use crate::asked::{Asked, Done, Outcome, Removing, Renaming};
+use crate::changing;
+use crate::naming::spot_of;
+use crate::sides::{no_side, said};
+use file_tree::call::{Changed, Held, Planned, Standing};
+use file_tree::tree::Tree;
+use lb_base::items::Name;
+use nfs3_calls::message::Nfs;
+use std::alloc::{AllocError, Global};
+use xdr_codec::answer::Answer;
+use xdr_codec::status::Status;
+
+// The status of a refusal, where JUKEBOX comes before want of space.
+fn busy_first(busy: bool, status: Status) -> Status
+    ensures { result ≡ busy_first busy status }
+{
+    if !busy {
+        return status;
+    }
+    match status {
+        Status::NoSpc => Status::Jukebox,
+        _ => status,
+    }
+}
+
+// The file that REMOVE waits for.
+fn remove_comes(busy: bool, plan: Result<Changed, Status>) -> Result<u64, Status>
+    ensures { result ≡ remove_comes busy plan }
+{
+    match plan {
+        Err(status) => Err(busy_first(busy, status)),
+        Ok(changed) => {
+            if busy {
+                Err(Status::Jukebox)
+            } else {
+                Ok(changed.id)
+            }
+        }
+    }
+}
+
+fn is_over_file(found: Option<Standing>) -> bool
+    ensures { result ≡ is_over_file found }
+{
+    match found {
+        Some(standing) => standing.is_file,
+        None => false,
+    }
+}
+
+// The file that RENAME waits for, or none, and it is done at once.
+fn over_comes(busy: bool, found: Option<Standing>) -> Result<Option<u64>, Status>
+    ensures { result ≡ over_comes busy found }
+{
+    match found {
+        None => Ok(None),
+        Some(standing) => {
+            if !standing.is_file {
+                return Ok(None);
+            }
+            if busy {
+                return Err(Status::Jukebox);
+            }
+            Ok(Some(standing.id))
+        }
+    }
+}
+
+// The node that RENAME moves and the file that it waits for, or none, and it is done at once.
+fn rename_comes(
+    busy: bool,
+    found: Option<Standing>,
+    plan: Result<Planned, Status>,
+) -> Result<Option<(u64, u64)>, Status>
+    ensures { result ≡ rename_comes busy found plan }
+{
+    match plan {
+        Err(status) => Err(busy_first(busy && is_over_file(found), status)),
+        Ok(Planned::Nothing(_)) => Ok(None),
+        Ok(Planned::Free(_)) => Ok(None),
+        Ok(Planned::Over(changed)) => match over_comes(busy, found)? {
+            Some(file) => Ok(Some((changed.id, file))),
+            None => Ok(None),
+        },
+    }
+}
+
+/// The answer to a REMOVE that is refused.
+pub fn refuse_remove(status: Status) -> Done
+    ensures { result ≡ said (nfs.RemoveAnswer (answer.Failed status no_side)) }
+{
+    said(Nfs::RemoveAnswer(Answer::Failed(status, no_side())))
+}
+
+/// REMOVE in a directory. The one error is want of memory, where the call waits.
+pub fn remove(
+    alloc: Global,
+    tree: &Tree,
+    held: Held,
+    busy: bool,
+    dir: u64,
+    name: &Name,
+) -> Result<Outcome, AllocError>
+    ensures ok { IfOk result (λ o. o ≡ removing dir name.now (asks_remove tree.now.tree held busy dir name.now)) }
+    ensures takes { OnErr result (IsOk (asks_remove tree.now.tree held busy dir name.now)) }
+{
+    match remove_comes(busy, tree.plan_remove(dir, name.as_slice(), held)) {
+        Err(status) => Ok(Outcome::Answered(refuse_remove(status))),
+        Ok(file) => {
+            let spot = spot_of(alloc, dir, name)?;
+            Ok(Outcome::Waits(Asked::Remove(Removing { spot, file })))
+        }
+    }
+}
+
+// What RENAME comes to on arrival.
+fn asks_rename(
+    tree: &Tree,
+    held: Held,
+    busy: bool,
+    dir: u64,
+    name: &[u8],
+    to: u64,
+    to_name: &[u8],
+) -> Result<Option<(u64, u64)>, Status>
+    ensures { result ≡ asks_rename tree.now.tree held busy dir name.now to to_name.now }
+{
+    let found = tree.stands_for(to, to_name);
+    rename_comes(busy, found, tree.plan_rename(dir, name, to, to_name, held))
+}
+
+/// RENAME in a directory. The one error is want of memory, where the call is not refused, and the
+/// tree is then as it was.
+#[tactic(auto, using(crate::proofs::Steps::renamed_now))]
+pub fn rename(
+    alloc: Global,
+    tree: &mut Tree,
+    held: Held,
+    busy: bool,
+    dir: u64,
+    name: &Name,
+    to: u64,
+    to_name: &Name,
+) -> Result<Outcome, AllocError>
+    ensures ok { IfOk result (λ o. renaming tree.old.tree held dir name.now to to_name.now (asks_rename tree.old.tree held busy dir name.now to to_name.now) ≡ (tree.new.tree, o)) }
+    ensures err { OnErr result (tree.new.tree ≡ tree.old.tree) }
+    ensures takes { OnErr result (IsOk (asks_rename tree.old.tree held busy dir name.now to to_name.now)) }
+{
+    let comes = asks_rename(
+        tree,
+        held,
+        busy,
+        dir,
+        name.as_slice(),
+        to,
+        to_name.as_slice(),
+    );
+    match comes {
+        Err(status) => Ok(Outcome::Answered(changing::refuse_rename(status))),
+        Ok(None) => {
+            let to_name = to_name.try_clone(alloc)?;
+            let done = changing::rename(tree, held, dir, name.as_slice(), to, to_name);
+            Ok(Outcome::Answered(done))
+        }
+        Ok(Some((node, file))) => {
+            let from = spot_of(alloc, dir, name)?;
+            let to = spot_of(alloc, to, to_name)?;
+            Ok(Outcome::Waits(Asked::Rename(Renaming {
+                from,
+                to,
+                node,
+                file,
+            })))
+        }
+    }
+}

@@ -1,0 +1,281 @@
+//! The calls that change the tree at once: CREATE, MKDIR, RMDIR, and RENAME that is not over a file
+//! (`specs/Changing.antt`).
+
+ghost use Rattle.std.specs.Prelude.{◌≡◌, ◌<◌, Some, None, Ok, IfOk, OnOk, OnErr, IsOk};
+ghost use Rattle.xdr_codec.specs.Handle.{handle_bytes};
+ghost use Rattle.xdr_codec.specs.declared.answer.Answer.TheVariants as answer;
+ghost use Rattle.nfs3_calls.specs.declared.message.Nfs.TheVariants as nfs;
+ghost use Rattle.file_tree.specs.Step.{create_plan, may_mkdir};
+ghost use Rattle.tree_calls.specs.Changing.{before, no_side, said, made_of, created, made_directory, mode_of, removed_directory, refused_rename, renamed, creates, mkdirs, rmdirs, renames};
+
+use crate::asked::Done;
+use crate::sides::{before, both_sides, did, known, no_side, said};
+use file_tree::call::{Changed, CreateMode, Held};
+use file_tree::tree::Tree;
+use lb_base::items::Name;
+use nfs3_calls::change::{Before, Moved};
+use nfs3_calls::making::{HowMade, Made};
+use nfs3_calls::message::Nfs;
+use std::alloc::{AllocError, Global};
+use xdr_codec::answer::Answer;
+use xdr_codec::handle::Handle;
+use xdr_codec::status::Status;
+
+/// How a CREATE makes its file.
+pub fn mode_of(how: &HowMade) -> CreateMode
+    ensures { result ≡ mode_of how.now }
+{
+    match how {
+        HowMade::Unchecked(_) => CreateMode::Unchecked,
+        HowMade::Guarded(_) => CreateMode::Guarded,
+        HowMade::Exclusive(_) => CreateMode::Exclusive,
+    }
+}
+
+/// What is told of a node that was made, or was there, under this handle.
+fn made_of(tree: &Tree, before: Option<Before>, dir: u64, handle: Handle, changed: Changed) -> Made
+    requires { handle ≡ handle_bytes changed.id }
+    ensures { result ≡ made_of before dir tree.now.tree.nodes changed }
+{
+    Made {
+        handle: Some(handle),
+        attr: known(tree, changed.id),
+        dir: both_sides(tree, before, dir),
+    }
+}
+
+/// What a node that is to be made needs: its handle, a copy of its name, and a place in the tree,
+/// which is as it was. The one error is want of memory.
+fn prepared(alloc: Global, tree: &mut Tree, name: &Name) -> Result<(Handle, Name), AllocError>
+    ensures handle { IfOk result (λ p. p.0 ≡ handle_bytes tree.old.tree.next) }
+    ensures name { IfOk result (λ p. p.1 ≡ name.now) }
+    ensures room { OnOk result (0 < tree.new.room) }
+    ensures tree { tree.new.tree ≡ tree.old.tree }
+{
+    let handle = Handle::of_file(alloc, tree.head().next)?;
+    let name = name.try_clone(alloc)?;
+    tree.reserve(1)?;
+    Ok((handle, name))
+}
+
+/// The answer to a CREATE that is refused.
+pub fn refuse_create(status: Status) -> Done
+    ensures { result ≡ said (nfs.CreateAnswer (answer.Failed status no_side)) }
+{
+    said(Nfs::CreateAnswer(Answer::Failed(status, no_side())))
+}
+
+/// The answer to a CREATE, where this handle is that of the file that was made, or was there.
+fn created(
+    tree: &Tree,
+    before: Option<Before>,
+    dir: u64,
+    handle: Handle,
+    outcome: Result<Changed, Status>,
+) -> Done
+    requires { IfOk outcome (λ c. handle ≡ handle_bytes c.id) }
+    ensures { result ≡ created before dir tree.now.tree.nodes outcome }
+{
+    match outcome {
+        Ok(changed) => {
+            let made = made_of(tree, before, dir, handle, changed);
+            did(changed, Nfs::CreateAnswer(Answer::Done(made)))
+        }
+        Err(status) => refuse_create(status),
+    }
+}
+
+/// CREATE of a file that is there. The one error is want of memory for its handle.
+fn find_file(alloc: Global, tree: &Tree, dir: u64, there: Changed) -> Result<Done, AllocError>
+    ensures { IfOk result (λ o. o ≡ created (before tree.now.tree.nodes dir) dir tree.now.tree.nodes (Ok there)) }
+{
+    let handle = Handle::of_file(alloc, there.id)?;
+    let before = before(tree, dir);
+    Ok(created(tree, before, dir, handle, Ok(there)))
+}
+
+/// CREATE of a file that is to be made. The one error is want of memory, and the tree is then as it
+/// was.
+#[tactic(auto, using(crate::proofs::Steps::file_made, crate::proofs::Steps::file_id))]
+fn make_file(
+    alloc: Global,
+    tree: &mut Tree,
+    held: Held,
+    dir: u64,
+    name: &Name,
+    mode: CreateMode,
+) -> Result<Done, AllocError>
+    requires { create_plan tree.old.tree held dir name.now mode ≡ Ok None }
+    ensures ok { IfOk result (λ o. creates tree.old.tree held dir name.now mode ≡ (tree.new.tree, o)) }
+    ensures err { OnErr result (tree.new.tree ≡ tree.old.tree) }
+{
+    let (handle, name) = prepared(alloc, tree, name)?;
+    let before = before(tree, dir);
+    let outcome = tree.create(dir, name, mode, held);
+    Ok(created(tree, before, dir, handle, outcome))
+}
+
+/// CREATE in a directory. The one error is want of memory, where the call is not refused, and the
+/// tree is then as it was.
+#[tactic(auto, using(crate::proofs::Steps::create_refused, crate::proofs::Steps::create_there))]
+pub fn create(
+    alloc: Global,
+    tree: &mut Tree,
+    held: Held,
+    dir: u64,
+    name: &Name,
+    mode: CreateMode,
+) -> Result<Done, AllocError>
+    ensures ok { IfOk result (λ o. creates tree.old.tree held dir name.now mode ≡ (tree.new.tree, o)) }
+    ensures err { OnErr result (tree.new.tree ≡ tree.old.tree) }
+    ensures takes { OnErr result (IsOk (create_plan tree.old.tree held dir name.now mode)) }
+{
+    match tree.plan_create(dir, name.as_slice(), mode, held) {
+        Ok(Some(there)) => find_file(alloc, tree, dir, there),
+        Ok(None) => make_file(alloc, tree, held, dir, name, mode),
+        Err(status) => Ok(refuse_create(status)),
+    }
+}
+
+/// The answer to a MKDIR that is refused.
+pub fn refuse_mkdir(status: Status) -> Done
+    ensures { result ≡ said (nfs.MkDirAnswer (answer.Failed status no_side)) }
+{
+    said(Nfs::MkDirAnswer(Answer::Failed(status, no_side())))
+}
+
+/// The answer to a MKDIR, where this handle is that of the directory that was made.
+fn made_directory(
+    tree: &Tree,
+    before: Option<Before>,
+    dir: u64,
+    handle: Handle,
+    outcome: Result<Changed, Status>,
+) -> Done
+    requires { IfOk outcome (λ c. handle ≡ handle_bytes c.id) }
+    ensures { result ≡ made_directory before dir tree.now.tree.nodes outcome }
+{
+    match outcome {
+        Ok(changed) => {
+            let made = made_of(tree, before, dir, handle, changed);
+            did(changed, Nfs::MkDirAnswer(Answer::Done(made)))
+        }
+        Err(status) => refuse_mkdir(status),
+    }
+}
+
+/// MKDIR of a directory that is to be made. The one error is want of memory, and the tree is then as
+/// it was.
+#[tactic(auto, using(crate::proofs::Steps::directory_made, crate::proofs::Steps::directory_id))]
+fn make_directory(
+    alloc: Global,
+    tree: &mut Tree,
+    held: Held,
+    dir: u64,
+    name: &Name,
+) -> Result<Done, AllocError>
+    requires { may_mkdir tree.old.tree held dir name.now ≡ Ok tt }
+    ensures ok { IfOk result (λ o. mkdirs tree.old.tree held dir name.now ≡ (tree.new.tree, o)) }
+    ensures err { OnErr result (tree.new.tree ≡ tree.old.tree) }
+{
+    let (handle, name) = prepared(alloc, tree, name)?;
+    let before = before(tree, dir);
+    let outcome = tree.mkdir(dir, name, held);
+    Ok(made_directory(tree, before, dir, handle, outcome))
+}
+
+/// MKDIR in a directory. The one error is want of memory, where the call is not refused, and the
+/// tree is then as it was.
+#[tactic(auto, using(crate::proofs::Steps::mkdir_refused))]
+pub fn mkdir(
+    alloc: Global,
+    tree: &mut Tree,
+    held: Held,
+    dir: u64,
+    name: &Name,
+) -> Result<Done, AllocError>
+    ensures ok { IfOk result (λ o. mkdirs tree.old.tree held dir name.now ≡ (tree.new.tree, o)) }
+    ensures err { OnErr result (tree.new.tree ≡ tree.old.tree) }
+    ensures takes { OnErr result (IsOk (may_mkdir tree.old.tree held dir name.now)) }
+{
+    match tree.plan_mkdir(dir, name.as_slice(), held) {
+        Ok(()) => make_directory(alloc, tree, held, dir, name),
+        Err(status) => Ok(refuse_mkdir(status)),
+    }
+}
+
+/// The answer to a RMDIR that is refused.
+pub fn refuse_rmdir(status: Status) -> Done
+    ensures { result ≡ said (nfs.RmDirAnswer (answer.Failed status no_side)) }
+{
+    said(Nfs::RmDirAnswer(Answer::Failed(status, no_side())))
+}
+
+fn removed_directory(
+    tree: &Tree,
+    before: Option<Before>,
+    dir: u64,
+    outcome: Result<Changed, Status>,
+) -> Done
+    ensures { result ≡ removed_directory before dir tree.now.tree.nodes outcome }
+{
+    match outcome {
+        Ok(changed) => {
+            let sides = both_sides(tree, before, dir);
+            did(changed, Nfs::RmDirAnswer(Answer::Done(sides)))
+        }
+        Err(status) => refuse_rmdir(status),
+    }
+}
+
+/// RMDIR in a directory. It takes no memory.
+#[tactic(auto, using(crate::proofs::Steps::rmdir_step))]
+pub fn rmdir(tree: &mut Tree, held: Held, dir: u64, name: &[u8]) -> Done
+    ensures { rmdirs tree.old.tree held dir name.now ≡ (tree.new.tree, result) }
+{
+    let before = before(tree, dir);
+    let outcome = tree.rmdir(dir, name, held);
+    removed_directory(tree, before, dir, outcome)
+}
+
+/// The answer to a RENAME that is refused.
+pub fn refuse_rename(status: Status) -> Done
+    ensures { result ≡ refused_rename status }
+{
+    let moved = Moved {
+        from: no_side(),
+        to: no_side(),
+    };
+    said(Nfs::RenameAnswer(Answer::Failed(status, moved)))
+}
+
+fn renamed(
+    tree: &Tree,
+    before: (Option<Before>, Option<Before>),
+    dir: u64,
+    to: u64,
+    outcome: Result<Changed, Status>,
+) -> Done
+    ensures { result ≡ renamed before.0 before.1 dir to tree.now.tree.nodes outcome }
+{
+    match outcome {
+        Ok(changed) => {
+            let moved = Moved {
+                from: both_sides(tree, before.0, dir),
+                to: both_sides(tree, before.1, to),
+            };
+            did(changed, Nfs::RenameAnswer(Answer::Done(moved)))
+        }
+        Err(status) => refuse_rename(status),
+    }
+}
+
+/// RENAME of a name in a directory to another. It takes no memory.
+#[tactic(auto, using(crate::proofs::Steps::renamed_step))]
+pub fn rename(tree: &mut Tree, held: Held, dir: u64, name: &[u8], to: u64, to_name: Name) -> Done
+    ensures { renames tree.old.tree held dir name.now to to_name ≡ (tree.new.tree, result) }
+{
+    let sides = (before(tree, dir), before(tree, to));
+    let outcome = tree.rename(dir, name, to, to_name, held);
+    renamed(tree, sides, dir, to, outcome)
+}
