@@ -49,6 +49,7 @@ pub struct HostRest<R> {
 }
 
 impl<R> HostRest<R> {
+    /// A rest by this runtime's clock. It takes no memory.
     pub fn new(rt: R) -> HostRest<R> {
         HostRest { rt }
     }
