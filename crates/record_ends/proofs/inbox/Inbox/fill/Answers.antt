@@ -1,0 +1,12 @@
+use Rattle.std.proofs.Common.{rules, ◌≡◌, ap, sym, ◌∙◌}
+use Rattle.rpc_record.specs.Records.{fed}
+use Rattle.record_ends.proofs.Coming.{takes_piece}
+use Rattle.record_ends.proofs.inbox.Inbox.fill.Goals as goal
+
+pub returns-clause-ok : goal.returns-clause-ok
+returns-clause-ok g c =
+    let given = c.in_ok-given.ensures.given in
+    let unread : c.self.inside.end ≡ c.args.self.now.unread = ap (λ k. k.unread) c.self.view_is in
+    let gave : fed c.args.self.now.unread given.0 ≡ (c.take_piece.new.end, c.in_ok-given.given) = ap (λ u. fed u given.0) (sym unread) ∙ given.2 in
+    let same : c.from.result.items ≡ c.in_ok-given.given.records = search rules in
+    (given.0, given.1, takes_piece c.args.self.now (record { waiting = c.from.result.items; unread = c.take_piece.new.end }) given.0 c.in_ok-given.given c.requires gave same)
