@@ -1,6 +1,7 @@
 pub mod Admitted
 pub mod Found
 pub mod Ids
+pub mod Keeping
 pub mod Limits
 pub mod Pages
 pub mod States

@@ -3,7 +3,6 @@ use Rattle.std.proofs.Common.{◌≡◌, ℕ, zero, suc, ◌+◌, ◌-◌, ◌<�
 use Rattle.std.specs.List.{slice_get}
 use Rattle.std.proofs.lemmas.Bool.Decides.{nat_tests}
 use Rattle.nfs3_calls.specs.declared.listing.Entry.{Entry}
-use Rattle.xdr_codec.specs.declared.status.Status.{Status}
 use Rattle.xdr_codec.specs.declared.status.Status.TheVariants as status
 use Rattle.nfs3_calls.specs.declared.listing.Listing.{Listing}
 use Rattle.file_tree.specs.Reading.{attr_of, entry_size, page, listing_of}

@@ -6,5 +6,6 @@ pub mod Reading
 pub mod Rows
 pub mod State
 pub mod Step
+pub mod Storing
 pub mod Tree
 pub mod View
