@@ -1,4 +1,4 @@
 pub mod Division
 pub mod Entries
 pub mod Rings
-pub mod Roll
+pub mod Rolling

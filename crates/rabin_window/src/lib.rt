@@ -31,6 +31,15 @@ pub fn fp(bytes: &[u8]) -> u64
     print
 }
 
+/// The fingerprint of 48 bytes when the first of them, `gone`, goes and `byte` comes at the end, from
+/// what it was before.
+pub fn roll(print: u64, gone: u8, byte: u8) -> u64
+    requires { (w : List ℕ) × (length w ≡ 47) × (print ≡ fp (gone ∷ w)) }
+    ensures { (w : List ℕ) → length w ≡ 47 → print ≡ fp (gone ∷ w) → result ≡ fp (w ++ byte ∷ []) }
+{
+    append(without(print, gone), byte)
+}
+
 /// The last 48 bytes of a stream, and their fingerprint.
 #[derive(Drop)]
 pub struct Window {
@@ -77,12 +86,26 @@ impl Window {
         }
     }
 
+    /// The window of these 48 bytes.
+    pub fn of(bytes: &[u8]) -> Window
+        requires { length bytes.now ≡ 48 }
+        ensures { result ≡ bytes.now }
+    {
+        let mut ring = [0; WINDOW_LEN];
+        ring.copy_from_slice(bytes);
+        Window {
+            ring,
+            oldest: 0,
+            print: fp(bytes),
+        }
+    }
+
     /// Puts a byte at the end, for which the first one goes.
     pub fn push(&mut self, byte: u8)
         ensures { self.new ≡ drop 1 self.old ++ byte ∷ [] }
     {
         let gone = self.ring[self.oldest];
-        self.print = append(without(self.print, gone), byte);
+        self.print = roll(self.print, gone, byte);
         self.ring[self.oldest] = byte;
         self.oldest += 1;
         if self.oldest == WINDOW_LEN {

@@ -1,5 +1,5 @@
 use Rattle.std.proofs.Common.{arith}
-use Rattle.rabin_window.proofs.Roll.{appended}
+use Rattle.rabin_window.proofs.Rolling.{appended}
 use Rattle.rabin_window.proofs.append.Goals as goal
 
 pub returns : goal.returns

@@ -1,6 +1,6 @@
 use Rattle.std.proofs.Common.{refl}
 use Rattle.rabin_window.specs.Fingerprint.{fp}
-use Rattle.rabin_window.proofs.Roll.{fp-lt}
+use Rattle.rabin_window.proofs.Rolling.{fp-lt}
 use Rattle.rabin_window.proofs.fp.Goals as goal
 
 pub loop-byte-init : goal.loop-byte-init

@@ -1,4 +1,4 @@
-use Rattle.rabin_window.proofs.Roll.{rest_of}
+use Rattle.rabin_window.proofs.Rolling.{rest_of}
 use Rattle.rabin_window.proofs.without.Goals as goal
 
 pub returns : goal.returns
