@@ -3,4 +3,5 @@ pub mod Feeding
 pub mod Found
 pub mod Only
 pub mod Scanned
+pub mod Sliding
 pub mod Windows

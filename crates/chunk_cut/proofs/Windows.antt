@@ -45,7 +45,7 @@ recent_push content len window b full recent (suc k) p q =
     ∙ sym (ap (λ (n : ℕ). drop n (content ++ b ∷ [])) e5 ∙ e6)
 
 -- from 2048 bytes on the window is that before the end
-window_known : (content : List ℕ) (s len : ℕ) (window : List ℕ) → s + len ≡ length content → 2048 ≤ len → length window ≡ 48 → IsRecent content len window → window_before content (length content) ≡ window
+pub window_known : (content : List ℕ) (s len : ℕ) (window : List ℕ) → s + len ≡ length content → 2048 ≤ len → length window ≡ 48 → IsRecent content len window → window_before content (length content) ≡ window
 window_known content s len window size h full recent =
     ap (λ (xs : List ℕ). take 48 xs) (sym (recent 48 (omega arith) (omega arith))) ∙ take_all 48 window (omega arith)
 

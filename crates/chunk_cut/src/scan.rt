@@ -2,9 +2,9 @@
 
 ghost use Rattle.std.specs.Prelude.{◌≡◌, ℕ, ◌+◌, ◌%◌, ◌^◌, ◌<◌, ◌≤◌, ◌⊎◌, List, ◌++◌, length, take, IsTrue, ◌↔◌, IfSome, MatchOption};
 ghost use Rattle.chunk_cut.specs.Cutting.{IsUnderWay};
-ghost use Rattle.chunk_cut.specs.Ends.{IsLeastEnd};
+ghost use Rattle.chunk_cut.specs.Ends.{IsLeastEnd, window_before};
 
-use rabin_window::{WINDOW_LEN, Window};
+use rabin_window::{WINDOW_LEN, Window, fp, roll};
 
 /// The least number of bytes of a chunk that is not the last.
 pub const LEAST: u64 = limits::CHUNK_LEAST as u64;
@@ -21,16 +21,46 @@ const MARK: u64 = 0x78;
 const UNWATCHED: u64 = LEAST - WINDOW_LEN as u64;
 
 /// Finds the end of the chunk under way, which has `len` bytes, in the piece that follows: how many
-/// bytes of it the chunk still has, or `None` where it goes on past the piece.
+/// bytes of it the chunk still has, or `None` where it goes on past the piece. The window takes the
+/// first 48 bytes that are looked at, and behind these none up to the piece's last 48.
 pub fn find_end(window: &mut Window, len: u64, piece: &[u8]) -> Option<usize>
     requires { len + length piece.now < 2 ^ 64 }
     ensures within { IfSome result (λ n. (0 < n) × (n ≤ length piece.now)) }
     ensures end { (content : List ℕ) (s : ℕ) → IsUnderWay content s len window.old → MatchOption result (IsUnderWay (content ++ piece.now) s (len + length piece.now) window.new) (λ n. (length window.new ≡ 48) × IsLeastEnd (content ++ take n piece.now) s (length (content ++ take n piece.now))) }
 {
     let skipped = unwatched(len, piece.len());
-    'bytes: for i in skipped..piece.len() {
+    let filled = skipped + WINDOW_LEN.min(piece.len() - skipped);
+    'bytes: for i in skipped..filled {
         window.push(piece[i]);
         if is_end(window.value(), len + i as u64 + 1) {
+            return Some(i + 1);
+        }
+    }
+    if filled == piece.len() {
+        return None;
+    }
+    match roll_on(len, piece, filled) {
+        Some(count) => Some(count),
+        None => {
+            *window = Window::of(&piece[piece.len() - WINDOW_LEN..]);
+            None
+        }
+    }
+}
+
+// Finds the end behind the first `from` bytes of the piece. With these the chunk has the least number
+// of bytes, and the window lies in the piece: no byte has to be kept for it.
+fn roll_on(len: u64, piece: &[u8], from: usize) -> Option<usize>
+    requires sizes { len + length piece.now < 2 ^ 64 }
+    requires within { (48 ≤ from) × (from ≤ length piece.now) }
+    requires least { 2048 ≤ len + from }
+    ensures within { IfSome result (λ n. (0 < n) × (n ≤ length piece.now)) }
+    ensures end { (content : List ℕ) (s : ℕ) → IsUnderWay (content ++ take from piece.now) s (len + from) (window_before piece.now from) → MatchOption result (IsUnderWay (content ++ piece.now) s (len + length piece.now) (window_before piece.now (length piece.now))) (λ n. IsLeastEnd (content ++ take n piece.now) s (length (content ++ take n piece.now))) }
+{
+    let mut print = fp(&piece[from - WINDOW_LEN..from]);
+    'bytes: for i in from..piece.len() {
+        print = roll(print, piece[i - WINDOW_LEN], piece[i]);
+        if ends_here(print, len + i as u64 + 1) {
             return Some(i + 1);
         }
     }
@@ -41,6 +71,7 @@ pub fn find_end(window: &mut Window, len: u64, piece: &[u8]) -> Option<usize>
 fn unwatched(len: u64, count: usize) -> usize
     ensures within { result ≤ count }
     ensures before { (len + result ≤ 2000) ⊎ (result ≡ 0) }
+    ensures watched { result < count → 2000 ≤ len + result }
 {
     let watched = UNWATCHED.saturating_sub(len) as usize;
     watched.min(count)
@@ -50,5 +81,12 @@ fn unwatched(len: u64, count: usize) -> usize
 fn is_end(print: u64, len: u64) -> bool
     ensures { IsTrue result ↔ (2048 ≤ len) × ((print % 2 ^ 13 ≡ 0x78) ⊎ (len ≡ 65536)) }
 {
-    len >= LEAST && (print & MARK_BITS == MARK || len == MOST)
+    len >= LEAST && ends_here(print, len)
+}
+
+// Whether it does where it has the least number of bytes.
+fn ends_here(print: u64, len: u64) -> bool
+    ensures { IsTrue result ↔ ((print % 2 ^ 13 ≡ 0x78) ⊎ (len ≡ 65536)) }
+{
+    print & MARK_BITS == MARK || len == MOST
 }
