@@ -21,16 +21,10 @@ printf '%s\n' 'lbfs-trace 1' 'term 60000' 'drift 100' 'clients 1' "file f r:1:$s
     printf '%s\n' 'do 1 0 close #2' 'pass 1 100000 0 0' 'settle 0' 'pass 1 1 0 0'
 } >"$work/close"
 
-# The processor time of a replay of FILE, in microseconds: replayed FILE
-replayed() {
-    local TIMEFORMAT='%3U %3S'
-    { time "$program" replay <"$1" >"$work/out" 2>/dev/null; } 2>&1 | awk '{ printf "%d\n", ($1 + $2) * 1000000 }'
-}
-
 opened='' both='' theirs=''
 for _ in $(seq "$rounds"); do
-    opened=$(least "$opened" "$(replayed "$work/open")")
-    both=$(least "$both" "$(replayed "$work/close")")
+    opened=$(least "$opened" "$(worked "$work/open" "$program" replay)")
+    both=$(least "$both" "$(worked "$work/close" "$program" replay)")
     theirs=$(least "$theirs" "$("$work/baseline" "$size")")
 done
 grep -q ' Closed 2 .* tmp 0 ' "$work/out" || { echo "the close did not succeed, or sent bytes" >&2; exit 1; }
