@@ -1,7 +1,7 @@
 -- Worked traces: which events and commands their lines tell, how their steps and the calls of a connection count, which numbers calls have, which messages
 -- begin an attempt, what attempts read, what a close sends whole, and which close has a value.
-use Rattle.std.specs.Prelude.{◌≡◌, ℕ, List, [], ◌∷◌, ◌++◌, map, Bool, true, false, Some, codes, refl}
-use Rattle.std.proofs.Common.{arith}
+use Rattle.std.specs.Prelude.{◌≡◌, ℕ, ◌<◌, List, [], ◌∷◌, ◌++◌, map, Bool, true, false, Some, codes, refl}
+use Rattle.std.proofs.Common.{arith, ap}
 use Rattle.chunk_cut.specs.declared.chunk.Chunk.{Chunk}
 use Rattle.command_text.specs.Parts.{lines_of}
 use Rattle.command_text.specs.declared.command.Command.TheVariants as command
@@ -22,9 +22,9 @@ use Rattle.trace_replay.specs.Ops.{begun}
 use Rattle.trace_replay.specs.Core.{Core, new_seat, happens, Event.Joins, Event.Does, Event.Settles, Event.Cuts, Event.Hangs}
 use Rattle.trace_replay.specs.Trail.{Deed, Said, moments, deeds_of, commands_of, events_of, AreCounted}
 use Rattle.trace_replay.specs.Traffic.{Deal, Deal.Took, Deal.Found, Deal.Sent, attempts_of}
-use Rattle.trace_replay.specs.Fetches.{fetches_in, no_fetch, EachReaches}
+use Rattle.trace_replay.specs.Fetches.{fetches_in, no_fetch, chosen, ReachesFirst, EachReaches}
 use Rattle.trace_replay.specs.Owing.{owes_nothing, Pays, PaysAll}
-use Rattle.trace_replay.specs.Numbered.{numbers_of}
+use Rattle.trace_replay.specs.Numbered.{numbers_of, CountOn}
 use Rattle.trace_replay.specs.Causes.{can_ask}
 
 abbrev header : List ℕ
@@ -70,6 +70,10 @@ pub sessions_numbered : map (λ n. numbers_of n (moments opens_twice)) (1 ∷ 2 
 unfolding record_of fronted
 sessions_numbered = refl
 
+-- one number twice doesn't do
+pub again_is_not : CountOn 1 (1 ∷ 1 ∷ []) → ⊥
+again_is_not = λ h. let e = h.1.0 in absurd (omega (arith, e))
+
 -- ---- attempts
 
 -- an open of the first client
@@ -107,6 +111,28 @@ attempts_read = refl
 
 pub attempts_reach : EachReaches read_twice
 attempts_reach = (record { given = []; within = omega arith; found = refl; reads = refl }, (record { given = true ∷ false ∷ []; within = omega arith; found = refl; reads = refl }, (record { given = []; within = omega arith; found = refl; reads = refl }, tt)))
+
+-- a READ for the chunk that the index gave doesn't do
+pub read_again_is_not : ReachesFirst (record { told = one ∷ other ∷ []; reads = (0, 2048) ∷ []; found = (0, 2048) ∷ []; bytes = 0 }) → ⊥
+read_again_is_not h = by h.given h.found h.reads
+  where
+    start : List (ℕ × ℕ) → ℕ
+    start [] = 1
+    start (p ∷ ps) = p.0
+
+    behind : (which : Bool) (bs : List Bool) → 0 < start (chosen which bs (other ∷ []))
+    behind which [] = omega arith
+    behind true (true ∷ bs) = omega arith
+    behind true (false ∷ []) = omega arith
+    behind true (false ∷ b ∷ bs) = omega arith
+    behind false (false ∷ bs) = omega arith
+    behind false (true ∷ []) = omega arith
+    behind false (true ∷ b ∷ bs) = omega arith
+
+    by : (given : List Bool) → (0, 2048) ∷ [] ≡ chosen true given (one ∷ other ∷ []) → (0, 2048) ∷ [] ≡ chosen false given (one ∷ other ∷ []) → ⊥
+    by [] found reads = let e = ap start found in absurd (omega (arith, e))
+    by (true ∷ bs) found reads = let e = ap start reads in let b = behind false bs in absurd (omega (arith, e, b))
+    by (false ∷ bs) found reads = let e = ap start found in let b = behind true bs in absurd (omega (arith, e, b))
 
 -- ---- what a close sends whole
 
