@@ -1,34 +1,28 @@
 -- An open that is told the version in which its client keeps a content ends by that content, and counts nothing.
-use Rattle.std.proofs.Common.{◌⊎◌, inl, inr, ◌≡◌, ℕ, ◌+◌, ◌≤◌, List, [], ◌∷◌, ◌++◌, Option, Some, None, Ok, Bool, true, false, refl, sym, ap, ◌∙◌, subst, arith}
-use Rattle.hash_calls.specs.declared.call.Leased.{Leased}
+use Rattle.std.proofs.Common.{◌⊎◌, inl, inr, ◌≡◌, ℕ, ◌+◌, ◌≤◌, List, [], ◌∷◌, ◌++◌, Option, Some, None, Ok, true, refl, sym, ap, ◌∙◌, subst, arith}
 use Rattle.hash_calls.specs.declared.message.Lb.TheVariants as lb
 use Rattle.wire.specs.declared.message.Body.TheVariants as body
 use Rattle.wire.specs.declared.message.Message.TheVariants as message
 use Rattle.client_cache.specs.Cache.{content_of}
 use Rattle.open_close.specs.Caching.{content_in}
 use Rattle.open_close.specs.State as client
-use Rattle.open_close.specs.declared.step.BadPeer.TheVariants as bad
-use Rattle.open_close.specs.declared.task.Stage.TheVariants as stage
-use Rattle.open_close.specs.declared.task.Way.TheVariants as way
 use Rattle.register_model.specs.declared.op.Word.TheVariants as words
 use Rattle.trace_replay.specs.Core.{taken_of as session_taken}
-use Rattle.trace_replay.specs.Saving.{EndsBy, UsesKept}
-use Rattle.kept_promise.proofs.Common.{Contains, Contains-push_cases, Way, answered, no_counts, slice_get, option_map, unwrap_or, Done, Body, Message, Pending, got_step, took, took_if, told_stored, told_way, uses_kept, idle, hash_call, ClientStep, Local, Stage, Store, StoreCall, Task, store_at, Op, Opening, TakenCall, op_after, counted, no_traffic, Core, Seat, Event, Event.Joins, Event.Does, Event.Serves, Event.Hears, Event.Settles, Event.Cuts, Event.Hangs, CoreStep, numbered, session_of, acted, happens, Moment, step_of, client_of, owner_in, wanted_if, taken_by, is_in, local_bytes, local_at_itself, hashed_of, deals_of, Book, Queue, told_message, reply_body}
+use Rattle.trace_replay.specs.Saving.{lease_told, EndsBy, UsesKept, TellsLease}
+use Rattle.kept_promise.proofs.Common.{Contains, Contains-push_cases, no_counts, slice_get, option_map, unwrap_or, Done, Message, Pending, got_step, took, uses_kept, idle, hash_call, ClientStep, Local, Stage, Op, Opening, TakenCall, op_after, counted, no_traffic, Core, Seat, Event, Event.Joins, Event.Does, Event.Serves, Event.Hears, Event.Settles, Event.Cuts, Event.Hangs, numbered, session_of, happens, Moment, step_of, client_of, owner_in, taken_by, is_in, local_at_itself, hashed_of, deals_of, Book, Queue, told_message}
 use Rattle.kept_promise.proofs.Lists.{some_is, nothing_there, of_appended, of_replaced, true_and_false}
-use Rattle.kept_promise.proofs.Messages.{Job, job, stage_word}
+use Rattle.kept_promise.proofs.Messages.{stage_word}
 use Rattle.kept_promise.proofs.Fits.{FitLaws}
 use Rattle.kept_promise.proofs.Facts.{IsKept}
 use Rattle.kept_promise.proofs.RunsCarried.{book_at, moment, Step}
-use Rattle.kept_promise.proofs.Actors.{job_task, acts_alone, Heard, heard_at, heard_acts, heard_takes}
-use Rattle.kept_promise.proofs.Counted.{IsActor, early, running_past, traffic_is}
-use Rattle.kept_promise.proofs.CountedRuns.{no_fault_after}
+use Rattle.kept_promise.proofs.Actors.{acts_alone, Heard, heard_at}
+use Rattle.kept_promise.proofs.Counted.{early, running_past, traffic_is}
 use Rattle.kept_promise.proofs.JobFacts.{ops_shape}
-use Rattle.kept_promise.proofs.StepCases.{IsFault}
-use Rattle.kept_promise.proofs.VersionRuns.{own_op}
 use Rattle.kept_promise.proofs.Logs.{IsSilent}
 use Rattle.kept_promise.proofs.LogSums.{counts_log, IsSum}
 use Rattle.kept_promise.proofs.LogEvents.{LogsAt, file_stays}
 use Rattle.kept_promise.proofs.CountedRuns.{CountedAt}
+use Rattle.kept_promise.proofs.Leases.{HeardLease, heard_lease, none_leased, leased_now, leased_stays}
 use Rattle.kept_promise.proofs.OpsAfter.{OpsAfter, Becomes, ops_after_event}
 use Rattle.kept_promise.proofs.Reached.{IsBare}
 use Rattle.kept_promise.proofs.OpensLog.{OpensBy, OpenRead}
@@ -37,12 +31,13 @@ use Rattle.kept_promise.proofs.OwnLog.{OwnBy, OpOwn, open_stores}
 
 -- ---- what is carried
 
-pub record AreUsed (past : List Moment) (steps : ℕ) (ops : List Op) : Type 0 where
-  pub by : (m : Moment) → Contains past m → (step_of m ≤ steps) ⊎ IsSilent m
-  pub each : (m : Moment) → Contains past m → (p : ℕ) (o : Op) → slice_get ops p ≡ Some o → UsesKept m o
+pub record AreUsed (past : List Moment) (book : Book) : Type 0 where
+  pub by : (m : Moment) → Contains past m → (step_of m ≤ book.steps) ⊎ IsSilent m
+  pub leased : (m : Moment) → Contains past m → (p : ℕ) (o : Op) → slice_get book.ops p ≡ Some o → TellsLease book m o
+  pub each : (m : Moment) → Contains past m → (p : ℕ) (o : Op) → slice_get book.ops p ≡ Some o → UsesKept m o
 
-abbrev pub UsedAt : List Moment → Core → Type 0
-UsedAt past k = AreUsed past k.steps k.ops
+abbrev pub UsedAt : (all past : List Moment) → List Opening → Core → Type 0
+UsedAt all past opening k = AreUsed past (book_at opening k all)
 
 -- nothing is taken then
 none_taken : (m : Moment) (o : Op) → taken_by m.before (client_of m.before m.event) m.event ≡ [] → UsesKept m o
@@ -80,20 +75,6 @@ stays book k qs e ops m kept le (inr (inr (inr (inr s)))) h p o at = elim (of_re
 
 -- ---- the answer to a GETLEASE
 
--- one that waits for no such answer meets a fault
-store_fault : (s : client.State) (calls : List Pending) (file x : ℕ) (content : List ℕ) (st : Store) (l : Leased) (o : Option StoreCall) → IsFault (told_stored s calls file x content st (body.Lb (lb.GetLeaseAnswer (Done l))) o).1.ended
-store_fault s calls file x content st l None = (bad.UnknownXid x, refl)
-store_fault s calls file x content st l (Some c) = by c.way
-  where
-    by : (w : Way) → IsFault (told_way s calls file x content (answered st x) c w (body.Lb (lb.GetLeaseAnswer (Done l)))).1.ended
-    by way.Named = (bad.UnknownXid x, refl)
-    by way.Whole = (bad.UnknownXid x, refl)
-
-takes_lease : (s : client.State) (calls : List Pending) (file : ℕ) (st : Stage) (x : ℕ) (l : Leased) → IsFault (took s calls file st x (body.Lb (lb.GetLeaseAnswer (Done l)))).1.ended ⊎ ((y : ℕ) × (st ≡ stage.Asking y))
-takes_lease s calls file (stage.Asking y) x l = inr (y, refl)
-takes_lease s calls file (stage.Storing st) x l = inl (store_fault s calls file x (client.local_bytes s.opened file) st l (store_at st.under x))
-takes_lease s calls file _ x l = inl (bad.UnknownXid x, refl)
-
 -- an open that read nothing yet counts nothing
 bare_counts : (past : List Moment) (o : Op) → o.word ≡ words.Open → OpOwn (deals_of o past) o.word o.file o.value o.outcome → IsBare (deals_of o past) → IsSum o.traffic (deals_of o past) → o.traffic ≡ no_traffic
 bare_counts past o open_ own bare s =
@@ -128,84 +109,25 @@ pub record Known (all past : List Moment) (k : Core) : Type 0 where
 
 used_hears : FitLaws → (all past : List Moment) (opening : List Opening) (k : Core) (qs after : List Queue) (n now : ℕ) (bytes : List ℕ) (mid : List Queue) → (kept : IsKept (book_at opening k all) k qs) → (h : Heard k qs n now bytes mid) → IsKept (book_at opening (happens k (Hears n now bytes)).core all) (happens k (Hears n now bytes)).core after → Known all past k
     → (p : ℕ) (o : Op) → slice_get (happens k (Hears n now bytes)).core.ops p ≡ Some o → UsesKept (moment k (Hears n now bytes)) o
-used_hears fits all past opening k qs after n now bytes mid kept h left known p o at x l seat mine here there =
-    elim (ops_shape k.ops h.seat.place r.0 taken (k.steps + 1) r.1 p o (ap (λ (t : CoreStep). slice_get t.core.ops p) (sym turned) ∙ at)) [
-      | inr old ↦ absurd (true_and_false (is_in o (k.steps + 1) h.session.owner) (ap (is_in o (k.steps + 1)) (sym owner) ∙ mine) (actor.other p o old.1 old.0))
-      | inl new ↦ subst (λ (z : Op). EndsBy z (k.steps + 1) (happens k (Hears n now bytes)).up (content_in l.version (content_of seat.client.cache z.file))) (sym new.3) (acting new.0 new.1 new.2 (at ∙ ap (λ (z : Op). Some z) new.3))
-    ]
+used_hears fits all past opening k qs after n now bytes mid kept h left known p o at x l seat mine here there = by (heard_lease fits all opening k qs after n now bytes mid kept h left p o at x l mine there)
   where
-    book : Book
-    book = book_at opening k all
-
-    r : client.State × ClientStep
-    r = got_step h.seat.client (Ok (told_message h.told)) now
-
-    taken : List TakenCall
-    taken = session_taken (session_of k.sessions h.seat.session)
-
-    turned : happens k (Hears n now bytes) ≡ acted k h.session.owner h.seat (got_step h.seat.client (Ok (told_message h.told)) now).0 (got_step h.seat.client (Ok (told_message h.told)) now).1
-    turned = heard_acts fits (book_at opening k all) k qs n now bytes mid kept h
-
-    owner : owner_in (numbered k.sessions n) ≡ h.session.owner
-    owner = ap owner_in h.at
-
-    actor : IsActor k.ops h.session.owner h.seat.place k.steps
-    actor = acts_alone (book_at opening k all) k qs h.session.owner h.seat kept h.owner
-
-    heard : Contains (wanted_if (client.has_call (client.pending h.seat.client.task) h.told.xid) (told_message h.told)) (message.Answer x (body.Lb (lb.GetLeaseAnswer (Done l))))
-    heard = subst (λ (ms : List Message). Contains ms (message.Answer x (body.Lb (lb.GetLeaseAnswer (Done l))))) (ap (λ i. taken_by k i (Hears n now bytes)) owner ∙ heard_takes fits (book_at opening k all) k qs n now bytes mid kept h) there
-
     same_seat : h.seat ≡ seat
-    same_seat = some_is h.seat seat (sym h.owner ∙ ap (numbered k.seats) (sym owner) ∙ here)
+    same_seat = some_is h.seat seat (sym h.owner ∙ ap (numbered k.seats) (sym (ap owner_in h.at)) ∙ here)
 
-    -- it is the one that its operation waits for
-    is_it : (b : Bool) → Contains (wanted_if b (told_message h.told)) (message.Answer x (body.Lb (lb.GetLeaseAnswer (Done l)))) → (b ≡ true) × (told_message h.told ≡ message.Answer x (body.Lb (lb.GetLeaseAnswer (Done l))))
-    is_it false c = (let lt = c.1 in absurd (omega (arith, lt)))
-    is_it true c = elim (Contains-push_cases [] (told_message h.told) (message.Answer x (body.Lb (lb.GetLeaseAnswer (Done l)))) c) [
-      | inl none ↦ (let lt = none.1 in absurd (omega (arith, lt)))
-      | inr same ↦ (refl, same)
-    ]
-
-    ended : (q : Op) (j : Job) → j.place ≡ p → q.file ≡ j.file → slice_get k.ops p ≡ Some q → job h.seat ≡ Some j → (y : ℕ) → j.stage ≡ stage.Asking y → got_step h.seat.client (Ok (told_message h.told)) now ≡ took (idle h.seat.client) (client.calls_of h.seat.client) j.file j.stage x (body.Lb (lb.GetLeaseAnswer (Done l)))
-        → EndsBy (op_after q (got_step h.seat.client (Ok (told_message h.told)) now).0 (session_taken (session_of k.sessions h.seat.session)) (k.steps + 1) (got_step h.seat.client (Ok (told_message h.told)) now).1) (k.steps + 1) (happens k (Hears n now bytes)).up (content_in l.version (content_of seat.client.cache (op_after q (got_step h.seat.client (Ok (told_message h.told)) now).0 (session_taken (session_of k.sessions h.seat.session)) (k.steps + 1) (got_step h.seat.client (Ok (told_message h.told)) now).1).file))
-    ended q j place file was is y asking got =
-        let r_is : got_step h.seat.client (Ok (told_message h.told)) now ≡ uses_kept (idle h.seat.client) (client.calls_of h.seat.client) j.file x l.version (content_in l.version (content_of h.seat.client.cache j.file)) = got ∙ ap (λ (st : Stage). took (idle h.seat.client) (client.calls_of h.seat.client) j.file st x (body.Lb (lb.GetLeaseAnswer (Done l)))) asking in
-        let at_place : slice_get k.ops j.place ≡ Some q = ap (slice_get k.ops) place ∙ was in
-        let bare = (subst (OpensBy (deals_of q past) q.file q.value) asking (known.opens.jobs h.session.owner h.seat j q h.owner is at_place)).0 in
-        let of = (kept.seats h.session.owner h.seat h.owner).task j is in
-        let word : q.word ≡ words.Open = ap (λ (z : Op). z.word) (some_is q of.op (sym at_place ∙ ap (λ (l : List Op). slice_get l j.place) (sym kept.ops) ∙ of.there)) ∙ of.word ∙ ap stage_word asking in
-        let none = bare_counts past q word (known.own.each p q was) bare (counts_log q past (known.counted.counts p q was)) in
-        let up : (happens k (Hears n now bytes)).up ≡ (got_step h.seat.client (Ok (told_message h.told)) now).1.send = ap (λ (t : CoreStep). t.up) turned in
-        subst (λ ms. EndsBy (op_after q (got_step h.seat.client (Ok (told_message h.told)) now).0 taken (k.steps + 1) (got_step h.seat.client (Ok (told_message h.told)) now).1) (k.steps + 1) ms (content_in l.version (content_of seat.client.cache (op_after q (got_step h.seat.client (Ok (told_message h.told)) now).0 taken (k.steps + 1) (got_step h.seat.client (Ok (told_message h.told)) now).1).file))) (sym up)
-        (subst (λ f. EndsBy (op_after q (got_step h.seat.client (Ok (told_message h.told)) now).0 taken (k.steps + 1) (got_step h.seat.client (Ok (told_message h.told)) now).1) (k.steps + 1) (got_step h.seat.client (Ok (told_message h.told)) now).1.send (content_in l.version (content_of seat.client.cache f))) (sym (file_stays q (got_step h.seat.client (Ok (told_message h.told)) now).0 taken (k.steps + 1) (got_step h.seat.client (Ok (told_message h.told)) now).1 ∙ file))
-        (subst (λ (c : Seat). EndsBy (op_after q (got_step h.seat.client (Ok (told_message h.told)) now).0 taken (k.steps + 1) (got_step h.seat.client (Ok (told_message h.told)) now).1) (k.steps + 1) (got_step h.seat.client (Ok (told_message h.told)) now).1.send (content_in l.version (content_of c.client.cache j.file))) same_seat
-        (subst (λ (z : client.State × ClientStep). EndsBy (op_after q z.0 taken (k.steps + 1) z.1) (k.steps + 1) z.1.send (content_in l.version (content_of h.seat.client.cache j.file))) (sym r_is)
-        (kept_ends q (idle h.seat.client) (client.calls_of h.seat.client) j.file x l.version (k.steps + 1) taken file none (content_in l.version (content_of h.seat.client.cache j.file))))))
-
-    acting : (q : Op) → h.seat.place ≡ Some p → slice_get k.ops p ≡ Some q
-        → slice_get (happens k (Hears n now bytes)).core.ops p ≡ Some (op_after q (got_step h.seat.client (Ok (told_message h.told)) now).0 (session_taken (session_of k.sessions h.seat.session)) (k.steps + 1) (got_step h.seat.client (Ok (told_message h.told)) now).1)
-        → EndsBy (op_after q (got_step h.seat.client (Ok (told_message h.told)) now).0 (session_taken (session_of k.sessions h.seat.session)) (k.steps + 1) (got_step h.seat.client (Ok (told_message h.told)) now).1) (k.steps + 1) (happens k (Hears n now bytes)).up (content_in l.version (content_of seat.client.cache (op_after q (got_step h.seat.client (Ok (told_message h.told)) now).0 (session_taken (session_of k.sessions h.seat.session)) (k.steps + 1) (got_step h.seat.client (Ok (told_message h.told)) now).1).file))
-    acting q place was now_at =
-        let w = own_op book k qs h.session.owner h.seat p q kept h.owner place was in
-        let j : Job = w.0 in
-        let task = job_task h.seat.place h.seat.client.task j w.1 in
-        let it = is_it (client.has_call (client.pending h.seat.client.task) h.told.xid) heard in
-        let got : got_step h.seat.client (Ok (told_message h.told)) now ≡ took (idle h.seat.client) (client.calls_of h.seat.client) j.file j.stage x (body.Lb (lb.GetLeaseAnswer (Done l))) = took_it j task it.0 it.1 in
-        let right = left.sound.rights p _ now_at in
-        elim (takes_lease (idle h.seat.client) (client.calls_of h.seat.client) j.file j.stage x l) [
-          | inl fault ↦ absurd (no_fault_after (book_at opening (happens k (Hears n now bytes)).core all) q r.0 taken (k.steps + 1) r.1 right (subst (λ (z : client.State × ClientStep). IsFault z.1.ended) (sym got) fault))
-          | inr asking ↦ ended q j w.2 w.5 was w.1 asking.0 asking.1 got
-        ]
-      where
-        took_it : (j : Job) → h.seat.client.task ≡ Some (record { file = j.file; stage = j.stage }) → client.has_call (client.pending h.seat.client.task) h.told.xid ≡ true → told_message h.told ≡ message.Answer x (body.Lb (lb.GetLeaseAnswer (Done l))) → got_step h.seat.client (Ok (told_message h.told)) now ≡ took (idle h.seat.client) (client.calls_of h.seat.client) j.file j.stage x (body.Lb (lb.GetLeaseAnswer (Done l)))
-        took_it j task own same =
-            let xid = xid_is h.told.xid (reply_body h.told.reply) same in
-            ap (λ (m : Message). got_step h.seat.client (Ok m) now) same
-            ∙ ap (λ (t : Option Task). took_if h.seat.client t x (body.Lb (lb.GetLeaseAnswer (Done l))) (client.has_call (client.pending t) x)) task
-            ∙ ap (took_if h.seat.client (Some (record { file = j.file; stage = j.stage })) x (body.Lb (lb.GetLeaseAnswer (Done l)))) (ap (λ (t : Option Task). client.has_call (client.pending t) x) (sym task) ∙ ap (client.has_call (client.pending h.seat.client.task)) (sym xid) ∙ own)
-          where
-            xid_is : (a : ℕ) (b : Body) → message.Answer a b ≡ message.Answer x (body.Lb (lb.GetLeaseAnswer (Done l))) → a ≡ x
-            xid_is a b e = cc
+    by : (told_message h.told ≡ lease_told x l) × ((happens k (Hears n now bytes)).up ≡ (got_step h.seat.client (Ok (lease_told x l)) now).1.send) × HeardLease k h.seat now x l p o → EndsBy o (k.steps + 1) (happens k (Hears n now bytes)).up (content_in l.version (content_of seat.client.cache o.file))
+    by (same, up, w) =
+        let r_is : (got_step h.seat.client (Ok (lease_told x l)) now) ≡ uses_kept (idle h.seat.client) (client.calls_of h.seat.client) w.of.file x l.version (content_in l.version (content_of h.seat.client.cache w.of.file)) = w.got ∙ ap (λ (st : Stage). took (idle h.seat.client) (client.calls_of h.seat.client) w.of.file st x (body.Lb (lb.GetLeaseAnswer (Done l)))) w.asking in
+        let at_place : slice_get k.ops w.of.place ≡ Some w.old = ap (slice_get k.ops) w.place ∙ w.was in
+        let bare = (subst (OpensBy (deals_of w.old past) w.old.file w.old.value) w.asking (known.opens.jobs h.session.owner h.seat w.of w.old h.owner w.job_is at_place)).0 in
+        let of = (kept.seats h.session.owner h.seat h.owner).task w.of w.job_is in
+        let word : w.old.word ≡ words.Open = ap (λ (z : Op). z.word) (some_is w.old of.op (sym at_place ∙ ap (λ (l : List Op). slice_get l w.of.place) (sym kept.ops) ∙ of.there)) ∙ of.word ∙ ap stage_word w.asking in
+        let none = bare_counts past w.old word (known.own.each p w.old w.was) bare (counts_log w.old past (known.counted.counts p w.old w.was)) in
+        subst (λ (z : Op). EndsBy z (k.steps + 1) (happens k (Hears n now bytes)).up (content_in l.version (content_of seat.client.cache z.file))) (sym w.is)
+        (subst (λ ms. EndsBy (op_after w.old (got_step h.seat.client (Ok (lease_told x l)) now).0 (session_taken (session_of k.sessions h.seat.session)) (k.steps + 1) (got_step h.seat.client (Ok (lease_told x l)) now).1) (k.steps + 1) ms (content_in l.version (content_of seat.client.cache (op_after w.old (got_step h.seat.client (Ok (lease_told x l)) now).0 (session_taken (session_of k.sessions h.seat.session)) (k.steps + 1) (got_step h.seat.client (Ok (lease_told x l)) now).1).file))) (sym up)
+        (subst (λ f. EndsBy (op_after w.old (got_step h.seat.client (Ok (lease_told x l)) now).0 (session_taken (session_of k.sessions h.seat.session)) (k.steps + 1) (got_step h.seat.client (Ok (lease_told x l)) now).1) (k.steps + 1) (got_step h.seat.client (Ok (lease_told x l)) now).1.send (content_in l.version (content_of seat.client.cache f))) (sym (file_stays w.old (got_step h.seat.client (Ok (lease_told x l)) now).0 (session_taken (session_of k.sessions h.seat.session)) (k.steps + 1) (got_step h.seat.client (Ok (lease_told x l)) now).1 ∙ w.file))
+        (subst (λ (c : Seat). EndsBy (op_after w.old (got_step h.seat.client (Ok (lease_told x l)) now).0 (session_taken (session_of k.sessions h.seat.session)) (k.steps + 1) (got_step h.seat.client (Ok (lease_told x l)) now).1) (k.steps + 1) (got_step h.seat.client (Ok (lease_told x l)) now).1.send (content_in l.version (content_of c.client.cache w.of.file))) same_seat
+        (subst (λ (z : client.State × ClientStep). EndsBy (op_after w.old z.0 (session_taken (session_of k.sessions h.seat.session)) (k.steps + 1) z.1) (k.steps + 1) z.1.send (content_in l.version (content_of h.seat.client.cache w.of.file))) (sym r_is)
+        (kept_ends w.old (idle h.seat.client) (client.calls_of h.seat.client) w.of.file x l.version (k.steps + 1) (session_taken (session_of k.sessions h.seat.session)) w.file none (content_in l.version (content_of h.seat.client.cache w.of.file)))))))
 
 -- ---- any event
 
@@ -218,11 +140,18 @@ used_now fits all past rest opening k qs (Settles now) mid after s known p o at 
 used_now fits all past rest opening k qs (Cuts c) mid after s known p o at = none_taken (moment k (Cuts c)) o refl
 used_now fits all past rest opening k qs (Hangs n) mid after s known p o at = none_taken (moment k (Hangs n)) o refl
 
-pub used_event : FitLaws → (all past rest : List Moment) (opening : List Opening) (k : Core) (qs : List Queue) (e : Event) (mid after : List Queue) → Step all past rest opening k qs e mid after → Known all past k → (step_of (moment k e) ≤ (happens k e).core.steps) ⊎ IsSilent (moment k e) → UsedAt past k → UsedAt (past ++ moment k e ∷ []) (happens k e).core
+pub used_event : FitLaws → (all past rest : List Moment) (opening : List Opening) (k : Core) (qs : List Queue) (e : Event) (mid after : List Queue) → Step all past rest opening k qs e mid after → Known all past k → (step_of (moment k e) ≤ (happens k e).core.steps) ⊎ IsSilent (moment k e) → UsedAt all past opening k → UsedAt all (past ++ moment k e ∷ []) opening (happens k e).core
 used_event fits all past rest opening k qs e mid after s known said h = record {
   by = λ z there. elim (Contains-push_cases past (moment k e) z there) [
     | inl old ↦ elim (h.by z old) [ inl lt ↦ inl (let le = w.1 in omega (arith, le, lt)) | inr silent ↦ inr silent ]
     | inr new ↦ subst (λ (y : Moment). (step_of y ≤ (happens k e).core.steps) ⊎ IsSilent y) new said
+  ];
+  leased = λ z there p o at. elim (Contains-push_cases past (moment k e) z there) [
+    | inl old ↦ elim (h.by z old) [
+      | inl lt ↦ leased_stays (book_at opening k all) (book_at opening (happens k e).core all) k qs e z s.kept lt w.0 (λ y c. c) (h.leased z old) p o at
+      | inr silent ↦ none_leased (book_at opening (happens k e).core all) z o silent.0
+    ]
+    | inr new ↦ subst (λ (y : Moment). TellsLease (book_at opening (happens k e).core all) y o) new (leased_now fits all past rest opening k qs e mid after s w.0 p o at)
   ];
   each = λ z there p o at. elim (Contains-push_cases past (moment k e) z there) [
     | inl old ↦ elim (h.by z old) [

@@ -119,6 +119,7 @@ pub mod CommandOps
 pub mod CountedRuns
 pub mod SentDown
 pub mod NameAnswers
+pub mod Leases
 pub mod KeptUsed
 pub mod Saved
 pub mod Promised

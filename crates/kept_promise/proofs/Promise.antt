@@ -67,7 +67,7 @@ logs_carried = carried_both (λ all past opening k qs. LogsAt OpensBy (OpenRead 
 
 -- and that an open gets what its client keeps, which rests on what is told before
 abbrev Used : Fact
-Used all past opening k qs = Told all past opening k qs × UsedAt past k
+Used all past opening k qs = Told all past opening k qs × UsedAt all past opening k
 
 -- all that is carried
 abbrev More : Fact
@@ -82,12 +82,12 @@ told_carried =
 
 used_carried : Carried Used
 used_carried = record {
-  first = λ all opening files changes count kept. (told_carried.first all opening files changes count kept, record { by = λ m there. (let lt = there.1 in absurd (omega (arith, lt))); each = λ m there. (let lt = there.1 in absurd (omega (arith, lt))) });
+  first = λ all opening files changes count kept. (told_carried.first all opening files changes count kept, record { by = λ m there. (let lt = there.1 in absurd (omega (arith, lt))); leased = λ m there. (let lt = there.1 in absurd (omega (arith, lt))); each = λ m there. (let lt = there.1 in absurd (omega (arith, lt))) });
   steps = λ all past rest opening k qs e mid after s h.
       let told = told_carried.steps all past rest opening k qs e mid after s h.0 in
       let said = told.1.1.1.0.1.0.by (moment k e) (Contains-append_right past (moment k e ∷ []) (moment k e) (Contains-push [] (moment k e))) in
       (told, used_event fit_laws all past rest opening k qs e mid after s (record { opens = h.0.1.1.1.1.0; own = h.0.1.1.1.1.1.1; counted = h.0.1.0.counted }) said h.1);
-  adjusts = λ all past opening k qs index seats same h. (told_carried.adjusts all past opening k qs index seats same h.0, h.1);
+  adjusts = λ all past opening k qs index seats same h. (told_carried.adjusts all past opening k qs index seats same h.0, record { by = h.1.by; leased = h.1.leased; each = h.1.each });
 }
 
 more_carried : Carried More
@@ -149,6 +149,7 @@ promise_of input w ran h =
         told = λ m there. (h.more.1.each m there).1;
         saved = λ k o at close known. saves_all all o close (stored.closes.each k o at) (stored.counted.counts k o at) (none_unknown all o (λ m there. (h.more.1.each m there).1) known);
         asked = λ m there. (h.more.1.each m there).2;
+        leased = λ m k o there at. h.more.0.1.leased m there k o at;
         used = λ m k o there at. h.more.0.1.each m there k o at;
       };
       waiting = holds_values (book_of w all) w h.queues h.kept (have_stored (book_of w all) all all w.opening w.core h.queues h.kept stored (λ p o at. logs.1.1.each p o at));

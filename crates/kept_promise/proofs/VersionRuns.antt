@@ -258,7 +258,7 @@ word_after o c taken step acts = by acts.ended
     by None = refl
     by (Some e) = refl
 
-or_none : (b : Bool) → (b || false) ≡ true → b ≡ true
+pub or_none : (b : Bool) → (b || false) ≡ true → b ≡ true
 or_none true e = refl
 or_none false e = e
 

@@ -1,10 +1,11 @@
 -- What is saved: bytes that the other end is found to have are not sent.
-use Rattle.std.specs.Prelude.{◌≡◌, ◌⊎◌, ℕ, ◌<◌, List, [], ◌∷◌, length, Option, Some, None, IsSome, Ok, true, Contains, slice_get}
+use Rattle.std.specs.Prelude.{◌≡◌, ◌⊎◌, ℕ, ◌<◌, ◌≤◌, List, [], ◌∷◌, length, Option, Some, None, IsSome, Ok, true, Contains, slice_get}
 use Rattle.sha1.specs.Sha1.{sha1}
 use Rattle.chunk_index.specs.Index.{key_of, place_of}
 use Rattle.client_cache.specs.Cache.{content_of}
 use Rattle.client_cache.specs.declared.kept.Content.{Content}
 use Rattle.command_text.specs.declared.command.Command.TheVariants as command
+use Rattle.xdr_codec.specs.Handle.{handle_bytes}
 use Rattle.xdr_codec.specs.declared.answer.Answer.{Answer}
 use Rattle.xdr_codec.specs.declared.answer.Answer.TheVariants.{Done, Failed}
 use Rattle.xdr_codec.specs.declared.status.Status.TheVariants as status
@@ -26,7 +27,8 @@ use Rattle.trace_replay.specs.Ops.{no_traffic}
 use Rattle.trace_replay.specs.Core.{Seat, Event.Does, Event.Serves, Event.Hears, numbered, server_waiting, happens}
 use Rattle.trace_replay.specs.Trail.{Moment, step_of, client_of, taken_by}
 use Rattle.trace_replay.specs.Traffic.{is_in}
-use Rattle.trace_replay.specs.Book.{Book}
+use Rattle.trace_replay.specs.Book.{Book, version_at}
+use Rattle.trace_replay.specs.Causes.{TakesCall}
 
 -- ---- the server knows a chunk
 
@@ -79,6 +81,23 @@ AreTold moments m = (session xid : ℕ) (r : Answer Unit Unit) → TakesTold m s
 abbrev pub AllKnown : List Moment → Op → Type 0
 AllKnown moments o = (m n : Moment) (session xid : ℕ) (r : Answer Unit Unit) (a : CondPiece) → Contains moments m → Contains moments n → is_in o (step_of n) (client_of n.before n.event) ≡ true → TakesTold n session xid r → TakesName m session xid a → IsSome (known_at m a)
 
+-- ---- a client is told a version
+
+abbrev pub lease_told : (xid : ℕ) → Leased → Message
+lease_told xid l = message.Answer xid (body.Lb (lb.GetLeaseAnswer (Done l)))
+
+-- In a step of the operation, before this moment, the server took its GETLEASE of this number; the file had this version then.
+pub record LeasedAt (book : Book) (o : Op) (m : Moment) (xid version : ℕ) : Type 0 where
+  pub step : ℕ
+  pub taken : TakesCall book o.client step xid (body.Lb (lb.GetLease (handle_bytes o.file)))
+  pub within : o.begin ≤ step
+  pub before : step < step_of m
+  pub version_is : version_at book o.file step ≡ version
+
+-- it is so of an operation at whose moment its client takes the answer to a GETLEASE
+abbrev pub TellsLease : Book → Moment → Op → Type 0
+TellsLease book m o = (xid : ℕ) (l : Leased) → is_in o (step_of m) (client_of m.before m.event) ≡ true → Contains (taken_by m.before (client_of m.before m.event) m.event) (lease_told xid l) → LeasedAt book o m xid l.version
+
 -- ---- a client has the content
 
 -- what an open asks first: which version its file has, where a content of it is kept, and else its chunks
@@ -100,7 +119,7 @@ EndsBy o step sent None = (xid : ℕ) × (sent ≡ hash_call xid o.file 0 ∷ []
 -- it is so of an operation at whose moment its client takes the answer to a GETLEASE
 abbrev pub UsesKept : Moment → Op → Type 0
 UsesKept m o = (xid : ℕ) (l : Leased) (seat : Seat) → is_in o (step_of m) (client_of m.before m.event) ≡ true → numbered m.before.seats (client_of m.before m.event) ≡ Some seat
-    → Contains (taken_by m.before (client_of m.before m.event) m.event) (message.Answer xid (body.Lb (lb.GetLeaseAnswer (Done l))))
+    → Contains (taken_by m.before (client_of m.before m.event) m.event) (lease_told xid l)
     → EndsBy o (step_of m) (happens m.before m.event).up (content_in l.version (content_of seat.client.cache o.file))
 
 -- ---- all of it
@@ -114,5 +133,7 @@ pub record IsSaving (book : Book) : Type 0 where
   pub saved : (k : ℕ) (o : Op) → slice_get book.ops k ≡ Some o → o.word ≡ word.Close → AllKnown book.moments o → (o.traffic.tmp ≡ 0) × (o.traffic.«data» ≡ 0)
   -- an open of a file of which a content is kept asks for its version
   pub asked : (m : Moment) → Contains book.moments m → AsksFirst m
-  -- and gets what is kept in the version that it is told
+  -- is told the one that the file has when the server takes that call
+  pub leased : (m : Moment) (k : ℕ) (o : Op) → Contains book.moments m → slice_get book.ops k ≡ Some o → TellsLease book m o
+  -- and gets what is kept in it
   pub used : (m : Moment) (k : ℕ) (o : Op) → Contains book.moments m → slice_get book.ops k ≡ Some o → UsesKept m o
