@@ -164,7 +164,7 @@ right_refused book place o tr r u room = record {
 }
   where
     by : (w : Word) → w ≡ words.Close → Caused (onward book 1 (slice_set book.ops place (refused_op o tr (book.steps + 1) 28))) (record (refused_op o tr (book.steps + 1) 28) { word = w }) (told.Refused 28)
-    by words.Close e = record { status_is = refl; pointless = u.1; end = book.steps + 1; end_is = refl; moment = room.moment; there = room.there; session = room.session; now = room.now; bytes = room.bytes; event_is = room.event_is; owner = room.owner; xid = room.xid; call = room.call; parsed = room.parsed; size = room.size; after = room.after; before = (let b = room.before in omega (arith, b)); waits = room.waits; full = room.full }
+    by words.Close e = record { status_is = refl; pointless = u.1; end = book.steps + 1; end_is = refl; moment = room.moment; there = room.there; session = room.session; now = room.now; bytes = room.bytes; event_is = room.event_is; xid = room.xid; call = room.call; parsed = room.parsed; size = room.size; after = room.after; before = (let b = room.before in omega (arith, b)); waits = room.waits; full = room.full }
     by _ e = absurd cc
 
 -- a commit was refused for want of room

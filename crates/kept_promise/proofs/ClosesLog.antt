@@ -10,7 +10,7 @@ use Rattle.open_close.specs.declared.task.Stage.TheVariants as stage
 use Rattle.open_close.specs.declared.task.Way.TheVariants as way
 use Rattle.register_model.specs.declared.op.Outcome.{Outcome as History}
 use Rattle.register_model.specs.declared.op.Word.TheVariants as words
-use Rattle.trace_replay.specs.Traffic.{named_in, unknown_in, whole_in, made_in, commits_in, traffic_of, whole_number, bytes_number, bytes_in, SavesAll, NamesChunks}
+use Rattle.trace_replay.specs.Traffic.{named_in, unknown_in, made_in, commits_in, traffic_of, bytes_number, bytes_in, NamesChunks}
 use Rattle.trace_replay.specs.Owing.{Owing, owes_nothing, asked_at, without_asked, owing_with, owing_from, PaysAll}
 use Rattle.kept_promise.proofs.Common.{Deal.Sent, nat_tests, slice_get, chunks_of, Chunk, Body, Message, cond_call, commit_call, temp_call, store_of, without_store, names_from, names_all, calls_most, idle, took, Names, ClientStep, Ended, Stage, Store, Task, Op, Word, TakenCall, op_after, Moment, Deal, Deal.Took, deals_of, deals_with, Book, SentCommit, stored_traffic}
 use Rattle.trace_replay.specs.Trail.{sent_of, taken_of}
@@ -22,7 +22,7 @@ use Rattle.kept_promise.proofs.VersionRuns.{close_not_opened, word_after}
 use Rattle.kept_promise.proofs.StepCases.{IsFault, IsUnknown, bytes_came, names_keep, StoreIn, open_and_close, OfCloses, of_closes, took_cases}
 use Rattle.kept_promise.proofs.Paying.{owing_join, pays_join, pays_end, pays_whole, asked_of, asked_more, asked_whole, asked_without, asked_found, owing_at, plain_pays, whole_pays, owing_plain}
 use Rattle.kept_promise.proofs.Logs.{Going, Ending}
-use Rattle.kept_promise.proofs.LogSums.{sent_more, named_join, made_join, commits_join, came_in, came_join, none_came, asked_in, counts_log, commit_log}
+use Rattle.kept_promise.proofs.LogSums.{sent_more, named_join, made_join, commits_join, came_in, came_join, none_came, asked_in, counts_log, commit_log, whole_number, whole_in}
 use Rattle.kept_promise.proofs.LogEvents.{Answering, Answered, found_in, LogLaws, value_stays}
 
 -- ---- what is carried
@@ -339,8 +339,8 @@ none_sent (d ∷ log) none = let h = none_sent log (omega (arith, none)) in let 
     one d none = refl
 
 -- and one whose chunks the server all knew sent no byte of them
-pub saves_all : (past : List Moment) (o : Op) → o.word ≡ words.Close → CloseNamed (deals_of o past) o.word o.file o.value o.outcome → o.traffic ≡ traffic_of o (sent_of past) (taken_of past) → SavesAll o (deals_of o past)
-saves_all past o close h counted = λ known.
+pub saves_all : (past : List Moment) (o : Op) → o.word ≡ words.Close → CloseNamed (deals_of o past) o.word o.file o.value o.outcome → o.traffic ≡ traffic_of o (sent_of past) (taken_of past) → unknown_in (deals_of o past) ≡ 0 → (o.traffic.tmp ≡ 0) × (o.traffic.«data» ≡ 0)
+saves_all past o close h counted known =
     let n = subst (λ w. CloseNamed (deals_of o past) w o.file o.value o.outcome) close h in
     let s = counts_log o past counted in
     let w = all_paid o.value (deals_of o past) n in

@@ -7,7 +7,7 @@ use Rattle.server_core.specs.Closing.{answers, sends, changes_most}
 use Rattle.temp_files.specs.Pieces.{joined}
 use Rattle.open_close.specs.State as client
 use Rattle.open_close.specs.declared.task.Stage.TheVariants as stage
-use Rattle.kept_promise.proofs.Common.{nat_tests, slice_get, cond, ◌==◌, ◌||◌, nat_lt, if◌then◌else◌, handle_bytes, chunks_of, Failed, Status, message_spell, Node, root, file, node_of, at, commits, commits_to, commits_whole, has_waiting, is_full, size_most, Temp, temp_at, without_temp, key_of, assembled, Change, File, Stage, content_of, TakenCall, Op, Core, Session, Event.Serves, numbered, with_numbered, owner_in, hashed_of, Book, Or, Call.Commit, Reply.Changed, Ask, Queue, ask_message}
+use Rattle.kept_promise.proofs.Common.{nat_tests, slice_get, cond, ◌==◌, ◌||◌, nat_lt, if◌then◌else◌, handle_bytes, chunks_of, Failed, Status, message_spell, Node, root, file, node_of, at, commits, commits_to, commits_whole, has_waiting, is_full, size_most, Temp, temp_at, without_temp, key_of, assembled, Change, File, Stage, content_of, TakenCall, Op, Core, Session, Event.Serves, numbered, with_numbered, hashed_of, Book, Or, Call.Commit, Reply.Changed, Ask, Queue, ask_message}
 use Rattle.kept_promise.proofs.Statements.{CallFits}
 use Rattle.kept_promise.proofs.Lists.{some_is, nothing_there, same_or_not, of_appended, count_more, false_and_true}
 use Rattle.kept_promise.proofs.Keys.{times, times_append, own, on_way, change_key, ask_key, told_key}
@@ -343,7 +343,6 @@ no_room laws book k qs n now x q xid m f size us g content uncut is full =
           now = now;
           bytes = message_spell (ask_message a);
           event_is = refl;
-          owner = ap owner_in g.at ∙ sym of.client;
           xid = xid;
           call = record { fd = m; handle = handle_bytes f; size = size };
           parsed = parsed laws a (first_fits book k qs n now x q a us g);

@@ -118,7 +118,7 @@ takes_later book more made ended c d step xid call g same h = record { moment = 
 refused_later : (book more : Book) (made ended : Option ℕ) (o : Op) (w : Word) (s : ℕ) → Grows book more made ended → ((p : ℕ) → o.point ≡ Some p → p ≤ book.steps) → RefusedBy book o w s → RefusedBy more o w s
 refused_later book more made ended o words.Open s g past (inl h) = inl h
 refused_later book more made ended o words.Open s g past (inr h) = inr (h.0, h.1, ap (λ (l : List Opening). content_of l o.file) g.opening ∙ h.2, (h.3.0, h.3.1, value_later book more made ended o.file h.3.0 g (let le = past h.3.0 h.3.1.0 in omega (arith, le)) ∙ h.3.2))
-refused_later book more made ended o words.Close s g past h = record { status_is = h.status_is; pointless = h.pointless; end = h.end; end_is = h.end_is; moment = h.moment; there = g.happened h.moment h.there; session = h.session; now = h.now; bytes = h.bytes; event_is = h.event_is; owner = h.owner; xid = h.xid; call = h.call; parsed = h.parsed; size = h.size; after = h.after; before = h.before; waits = h.waits; full = h.full }
+refused_later book more made ended o words.Close s g past h = record { status_is = h.status_is; pointless = h.pointless; end = h.end; end_is = h.end_is; moment = h.moment; there = g.happened h.moment h.there; session = h.session; now = h.now; bytes = h.bytes; event_is = h.event_is; xid = h.xid; call = h.call; parsed = h.parsed; size = h.size; after = h.after; before = h.before; waits = h.waits; full = h.full }
 refused_later book more made ended o _ s g past h = h
 
 cause_later : (book more : Book) (made ended : Option ℕ) (o : Op) (u : Outcome) → Grows book more made ended → IsRight book o → Caused book o u → Caused more o u

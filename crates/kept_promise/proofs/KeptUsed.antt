@@ -16,18 +16,16 @@ use Rattle.kept_promise.proofs.Fits.{FitLaws}
 use Rattle.kept_promise.proofs.Facts.{IsKept}
 use Rattle.kept_promise.proofs.RunsCarried.{book_at, moment, Step}
 use Rattle.kept_promise.proofs.Actors.{acts_alone, Heard, heard_at}
-use Rattle.kept_promise.proofs.Counted.{early, running_past, traffic_is}
+use Rattle.kept_promise.proofs.Counted.{early, running_past}
 use Rattle.kept_promise.proofs.JobFacts.{ops_shape}
 use Rattle.kept_promise.proofs.Logs.{IsSilent}
-use Rattle.kept_promise.proofs.LogSums.{counts_log, IsSum}
+use Rattle.kept_promise.proofs.LogSums.{counts_log}
 use Rattle.kept_promise.proofs.LogEvents.{LogsAt, file_stays}
 use Rattle.kept_promise.proofs.CountedRuns.{CountedAt}
 use Rattle.kept_promise.proofs.Leases.{HeardLease, heard_lease, none_leased, leased_now, leased_stays}
 use Rattle.kept_promise.proofs.OpsAfter.{OpsAfter, Becomes, ops_after_event}
-use Rattle.kept_promise.proofs.Reached.{IsBare}
-use Rattle.kept_promise.proofs.OpensLog.{OpensBy, OpenRead}
-use Rattle.kept_promise.proofs.ClosesLog.{none_sent}
-use Rattle.kept_promise.proofs.OwnLog.{OwnBy, OpOwn, open_stores}
+use Rattle.kept_promise.proofs.OpensLog.{OpensBy, OpenRead, bare_counts}
+use Rattle.kept_promise.proofs.OwnLog.{OwnBy, OpOwn}
 
 -- ---- what is carried
 
@@ -74,21 +72,6 @@ stays book k qs e ops m kept le (inr (inr (inr (inr s)))) h p o at = elim (of_re
 ]
 
 -- ---- the answer to a GETLEASE
-
--- an open that read nothing yet counts nothing
-bare_counts : (past : List Moment) (o : Op) → o.word ≡ words.Open → OpOwn (deals_of o past) o.word o.file o.value o.outcome → IsBare (deals_of o past) → IsSum o.traffic (deals_of o past) → o.traffic ≡ no_traffic
-bare_counts past o open_ own bare s =
-    let n = open_stores o.file o.value (deals_of o past) (subst (λ w. OpOwn (deals_of o past) w o.file o.value o.outcome) open_ own).0 in
-    let a = n.0 in
-    let b = n.1 in
-    let c = none_sent (deals_of o past) n.1 in
-    let asked = bare.1 in
-    let came = bare.2 in
-    let p = s.cond in
-    let q = s.tmp in
-    let r = s.read in
-    let d = s.data_is in
-    traffic_is o.traffic no_traffic (omega (arith, p, a)) (omega (arith, q, b)) (omega (arith, r, asked)) (omega (arith, d, c, came))
 
 -- what it comes to
 kept_ends : (q : Op) (s : client.State) (calls : List Pending) (file x version step : ℕ) (taken : List TakenCall) → q.file ≡ file → q.traffic ≡ no_traffic → (kept : Option (List ℕ))

@@ -1,6 +1,6 @@
 -- A run carries what opens read: in each attempt each chunk that was looked up was given by the index, or a READ went out for it, in order; and one that
 -- got its content reached all chunks by its last attempt.
-use Rattle.std.proofs.Common.{◌⊎◌, inl, inr, ◌≡◌, ℕ, zero, suc, ◌+◌, ◌-◌, ◌<◌, ◌≤◌, List, [], ◌∷◌, ◌++◌, length, Option, Some, None, Bool, true, false, refl, sym, ap, ◌∙◌, subst, arith, append-nil, length-append, map, take, drop}
+use Rattle.std.proofs.Common.{◌⊎◌, inl, inr, ◌≡◌, ℕ, ◌+◌, ◌-◌, ◌≤◌, List, [], ◌∷◌, ◌++◌, length, Option, Some, None, Bool, true, false, refl, sym, ap, ◌∙◌, subst, arith, length-append, map}
 use Rattle.hash_calls.specs.declared.message.Lb.TheVariants as lb
 use Rattle.nfs3_calls.specs.declared.message.Nfs.TheVariants as nfs
 use Rattle.wire.specs.declared.message.Body.TheVariants as body
@@ -12,17 +12,16 @@ use Rattle.register_model.specs.declared.op.Outcome.{Outcome as History}
 use Rattle.register_model.specs.declared.op.Outcome.TheVariants as told
 use Rattle.register_model.specs.declared.op.Word.TheVariants as words
 use Rattle.trace_replay.specs.Fetches.{Fetched, no_fetch, fetch_if, fetch_with, fetch_from, last_fetch, over_from, lengths_of, AllReach, EachReaches, ReachesAll, GotBy, read_traffic}
-use Rattle.kept_promise.proofs.Common.{Deal.Sent, Deal.Found, nat_tests, ◌==◌, is_some, not, cond, slice_get, slice_set, Chunk, Done, Hashes, Body, Message, Pending, hash_call, with_hashes, with_pairs, is_none, read_at, without_read, fault_in, idle, took, Reads, ClientStep, Ended, Fetch, ReadCall, Stage, Task, Op, Word, TakenCall, op_after, told_of, has_point, point_if, taken_at, Traffic, no_traffic, Moment, hashed_of, Deal, Deal.Took, deals_with, deals_of, IsOpened, Book, Or, Collides, value_at}
-use Rattle.kept_promise.proofs.Lists.{some_is, nothing_there, both_true, within, count_more}
-use Rattle.kept_promise.proofs.Keys.{times}
+use Rattle.kept_promise.proofs.Common.{Deal.Sent, Deal.Found, nat_tests, ◌==◌, slice_get, slice_set, Chunk, Done, Hashes, Body, Message, Pending, hash_call, with_hashes, with_pairs, is_none, without_read, fault_in, idle, took, ClientStep, Ended, Fetch, Stage, Task, Op, Word, TakenCall, op_after, told_of, has_point, point_if, taken_at, no_traffic, Moment, hashed_of, Deal, Deal.Took, deals_with, deals_of, IsOpened, Book, Or, Collides, value_at}
+use Rattle.kept_promise.proofs.Lists.{some_is, nothing_there, both_true}
 use Rattle.kept_promise.proofs.Messages.{Job, stage_word, IsFetch}
 use Rattle.kept_promise.proofs.Rights.{Caused}
 use Rattle.kept_promise.proofs.VersionRuns.{opened_by, word_after}
 use Rattle.kept_promise.proofs.Counted.{traffic_is}
-use Rattle.kept_promise.proofs.Taking.{Taking, IsApart, none_without, same_value}
+use Rattle.kept_promise.proofs.Taking.{Taking, IsApart, same_value}
 use Rattle.kept_promise.proofs.StepCases.{bytes_came, IsOpenedBy, JustEnds, FetchIn, FetchNow, FetchNow.all_told, FetchNow.one_came, GaveUp, reads_of, given, open_and_close, OfOpens, of_opens, took_cases}
 use Rattle.kept_promise.proofs.Logs.{Going, Ending}
-use Rattle.kept_promise.proofs.LogSums.{sent_more, came_in, came_join, none_came, asked_in, read_number, begins_in, sum_join, sum_took, IsSum}
+use Rattle.kept_promise.proofs.LogSums.{came_in, came_join, asked_in, read_number, begins_in, sum_join, IsSum}
 use Rattle.kept_promise.proofs.LogEvents.{IsUnopened, Answering, Answered, found_in, LogLaws, file_stays}
 use Rattle.kept_promise.proofs.Reached.{Reached, OneFetch, IsBare, AreReached, each_reached, told_only, first_told, first_reached, over_took, reached_took, over_begins, over_lists, chosen_count, under_lens, lens_less, len_is, read_xid, appended, fetch_join, came_one, last_one, reads_ask, goes_onward}
 use Rattle.kept_promise.proofs.ClosesLog.{none_sent}
@@ -441,8 +440,23 @@ pub last_most : (log : List Deal) → (length (last_fetch log).reads ≤ asked_i
 last_most log = let h = fetch_most no_fetch log in let a = h.0 in let b = h.1 in (omega (arith, a), omega (arith, b))
 
 -- what an open stores comes to nothing
-own_bytes : (past : List Moment) (o : Op) → o.word ≡ words.Open → OpOwn (deals_of o past) o.word o.file o.value o.outcome → (length (Rattle.trace_replay.specs.Traffic.named_in (deals_of o past)) ≡ 0) × (Rattle.trace_replay.specs.Traffic.whole_in (deals_of o past) ≡ 0) × (Rattle.trace_replay.specs.Traffic.bytes_in (deals_of o past) ≡ 0)
+own_bytes : (past : List Moment) (o : Op) → o.word ≡ words.Open → OpOwn (deals_of o past) o.word o.file o.value o.outcome → (length (Rattle.trace_replay.specs.Traffic.named_in (deals_of o past)) ≡ 0) × (Rattle.kept_promise.proofs.LogSums.whole_in (deals_of o past) ≡ 0) × (Rattle.trace_replay.specs.Traffic.bytes_in (deals_of o past) ≡ 0)
 own_bytes past o open_ own = let n = open_stores o.file o.value (deals_of o past) (subst (λ w. OpOwn (deals_of o past) w o.file o.value o.outcome) open_ own).0 in (n.0, n.1, none_sent (deals_of o past) n.1)
+
+-- one that read nothing counts nothing
+pub bare_counts : (past : List Moment) (o : Op) → o.word ≡ words.Open → OpOwn (deals_of o past) o.word o.file o.value o.outcome → IsBare (deals_of o past) → IsSum o.traffic (deals_of o past) → o.traffic ≡ no_traffic
+bare_counts past o open_ own bare s =
+    let n = own_bytes past o open_ own in
+    let a = n.0 in
+    let b = n.1 in
+    let c = n.2 in
+    let asked = bare.1 in
+    let came = bare.2 in
+    let p = s.cond in
+    let q = s.tmp in
+    let r = s.read in
+    let d = s.data_is in
+    traffic_is o.traffic no_traffic (omega (arith, p, a)) (omega (arith, q, b)) (omega (arith, r, asked)) (omega (arith, d, c, came))
 
 -- where it began one attempt alone, it counts just what that one read
 pub once_is : (past : List Moment) (o : Op) (hashed : List (List ℕ)) (len : ℕ) (digest : List ℕ) → o.outcome ≡ told.Opened len digest → o.word ≡ words.Open → OpOwn (deals_of o past) o.word o.file o.value o.outcome → OpenRead hashed (deals_of o past) o.word o.file o.value o.outcome → IsSum o.traffic (deals_of o past) → begins_in (deals_of o past) ≤ 1 → o.traffic ≡ read_traffic (last_fetch (deals_of o past))
@@ -471,15 +485,6 @@ pub got_by : (book : Book) (o : Op) (len : ℕ) (digest : List ℕ) → o.outcom
 got_by book o len digest is open_ own read s = by (subst (GotAll (hashed_of book.moments) (deals_of o book.moments) o.value) is read.1)
   where
     by : (IsBare (deals_of o book.moments) ⊎ (OneFetch (deals_of o book.moments) × ((content : List ℕ) × ReachesAll content (last_fetch (deals_of o book.moments)) × ((o.value ≡ content) ⊎ Collides (hashed_of book.moments))))) → Or book (GotBy o (deals_of o book.moments))
-    by (inl (none, asked, came)) =
-        let n = own_bytes book.moments o open_ own in
-        let a = n.0 in
-        let b = n.1 in
-        let c = n.2 in
-        let p = s.cond in
-        let q = s.tmp in
-        let r = s.read in
-        let d = s.data_is in
-        inl (inl (Rattle.kept_promise.proofs.MetLog.none_begun (deals_of o book.moments) none, traffic_is o.traffic no_traffic (omega (arith, p, a)) (omega (arith, q, b)) (omega (arith, r, asked)) (omega (arith, d, c, came))))
+    by (inl bare) = inl (inl (Rattle.kept_promise.proofs.MetLog.none_begun (deals_of o book.moments) bare.0, bare_counts book.moments o open_ own bare s))
     by (inr (one, (content, all, inr collides))) = inr collides
     by (inr (one, (content, all, inl same))) = inl (inr (subst (λ (c : List ℕ). ReachesAll c (last_fetch (deals_of o book.moments))) (sym same) all))

@@ -113,7 +113,6 @@ room_later book more made ended o r g client begin value h = record {
   now = h.now;
   bytes = h.bytes;
   event_is = h.event_is;
-  owner = h.owner ∙ sym client;
   xid = h.xid;
   call = h.call;
   parsed = h.parsed;

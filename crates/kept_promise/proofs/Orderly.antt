@@ -11,7 +11,7 @@ use Rattle.trace_replay.specs.Causes.{WaitsFor}
 use Rattle.open_close.specs.declared.task.Stage.TheVariants as stage
 use Rattle.open_close.specs.declared.task.Way.TheVariants as way
 use Rattle.register_model.specs.declared.op.Word.TheVariants as words
-use Rattle.kept_promise.proofs.Common.{slice_get, Contains, chunks_of, chunk_bytes, Chunk, Done, Failed, parse_of, is_full, Temp, store_at, Stage, Store, StoreCall, Way, content_of, Op, Seat, Event.Serves, numbered, server_waiting, Moment, step_of, owner_in, Book, Call, Call.Make, Call.Name, Call.Send, Call.Commit, Reply, Reply.Made, Reply.Named, Reply.Stored, Reply.Changed, Ask, Told, Queue}
+use Rattle.kept_promise.proofs.Common.{slice_get, Contains, chunks_of, chunk_bytes, Chunk, Done, Failed, parse_of, is_full, Temp, store_at, Stage, Store, StoreCall, Way, content_of, Op, Seat, Event.Serves, server_waiting, Moment, step_of, Book, Call, Call.Make, Call.Name, Call.Send, Call.Commit, Reply, Reply.Made, Reply.Named, Reply.Stored, Reply.Changed, Ask, Told, Queue}
 use Rattle.kept_promise.proofs.Statements.{PiecesOf, SameShape}
 use Rattle.kept_promise.proofs.Messages.{Job, job, stage_word, AllAsks, AllTolds}
 use Rattle.kept_promise.proofs.Shelf.{NoTemp, OneTemp}
@@ -55,7 +55,6 @@ pub record NoRoom (book : Book) (o : Op) : Type 0 where
   pub now : ℕ
   pub bytes : List ℕ
   pub event_is : moment.event ≡ Serves session now bytes
-  pub owner : owner_in (numbered moment.before.sessions session) ≡ o.client
   pub xid : ℕ
   pub call : Commit_call
   pub parsed : parse_of server_waiting bytes ≡ Ok (message.Call xid (body.Lb (lb.CommitTmp call)))

@@ -8,15 +8,15 @@ use Rattle.wire.specs.declared.message.Message.TheVariants as message
 use Rattle.open_close.specs.State as client
 use Rattle.open_close.specs.declared.task.Stage.TheVariants as stage
 use Rattle.register_model.specs.declared.op.Word.TheVariants as words
-use Rattle.trace_replay.specs.Traffic.{IsFetchCall, IsStoreCall, AreOwn, named_in, whole_in}
-use Rattle.kept_promise.proofs.Common.{slice_get, chunks_of, Chunk, Body, Message, Pending, cond_call, commit_call, names_from, names_all, calls_most, read_call, reads_from, reads_chunk, with_hashes, idle, forgets, tries_anew, lists_on, reads_if, goes_if, sends_whole, took, Reads, ClientStep, Ended, Fetch, Stage, Store, Task, Op, Word, TakenCall, op_after, no_traffic, Moment, Deal, Deal.Took, Deal.Found, Deal.Sent, deals_with, deals_of, CountsOwn, first_number, Book}
+use Rattle.trace_replay.specs.Traffic.{IsFetchCall, IsStoreCall, AreOwn, named_in}
+use Rattle.kept_promise.proofs.Common.{chunks_of, Chunk, Body, Message, Pending, cond_call, commit_call, names_from, names_all, calls_most, read_call, reads_from, reads_chunk, with_hashes, idle, forgets, tries_anew, lists_on, reads_if, goes_if, sends_whole, took, Reads, ClientStep, Ended, Fetch, Stage, Store, Task, Op, Word, TakenCall, op_after, no_traffic, Moment, Deal, Deal.Took, Deal.Found, Deal.Sent, deals_with, deals_of, CountsOwn, first_number, Book}
 use Rattle.kept_promise.proofs.Lists.{some_is, nothing_there}
 use Rattle.kept_promise.proofs.Messages.{Job, stage_word}
 use Rattle.kept_promise.proofs.Counted.{traffic_is}
 use Rattle.kept_promise.proofs.VersionRuns.{close_not_opened, word_after}
 use Rattle.kept_promise.proofs.StepCases.{reads_keep, names_keep, JustEnds, StoreIn, reads_of, looked, in_open, now_open, either_word, Cases, took_cases}
 use Rattle.kept_promise.proofs.Logs.{Going, Ending}
-use Rattle.kept_promise.proofs.LogSums.{sent_more, asked_in, read_number, begins_in, IsSum}
+use Rattle.kept_promise.proofs.LogSums.{sent_more, asked_in, read_number, begins_in, IsSum, whole_in}
 use Rattle.kept_promise.proofs.LogEvents.{Answering, Answered, found_in, LogLaws, value_stays, file_stays}
 
 -- ---- what is carried

@@ -1,15 +1,16 @@
 -- What a close owes: by what was said for it, and by the calls that it has under way.
-use Rattle.std.proofs.Common.{◌≡◌, ℕ, suc, ◌+◌, List, [], ◌∷◌, ◌++◌, Option, Some, None, IsSome, Bool, true, false, refl, sym, ap, ◌∙◌, subst, arith, append-nil, map}
+use Rattle.std.proofs.Common.{◌≡◌, ℕ, ◌+◌, List, [], ◌∷◌, ◌++◌, Option, Some, None, IsSome, Bool, true, false, refl, sym, ap, ◌∙◌, subst, arith, append-nil, map}
 use Rattle.xdr_codec.specs.declared.status.Status.TheVariants as status
 use Rattle.hash_calls.specs.declared.message.Lb.TheVariants as lb
 use Rattle.wire.specs.declared.message.Body.TheVariants as body
 use Rattle.wire.specs.declared.message.Message.TheVariants as message
 use Rattle.open_close.specs.declared.task.Way.TheVariants as way
-use Rattle.trace_replay.specs.Traffic.{unknown_number, unknown_in, whole_number, whole_in}
+use Rattle.trace_replay.specs.Traffic.{unknown_number, unknown_in}
 use Rattle.trace_replay.specs.Owing.{Owing, asked_at, without_asked, owed_by, owing_with, owing_from, Pays, Answers, PaysAll}
-use Rattle.kept_promise.proofs.Common.{Deal.Sent, ◌==◌, not, cond, if◌then◌else◌, slice_get, Chunk, Failed, Body, Message, cond_call, temp_call, without_store, store_at, StoreCall, Way, Deal, Deal.Took}
+use Rattle.kept_promise.proofs.Common.{Deal.Sent, ◌==◌, not, cond, if◌then◌else◌, slice_get, Chunk, Failed, Body, Message, temp_call, without_store, store_at, StoreCall, Way, Deal, Deal.Took}
 use Rattle.kept_promise.proofs.Lists.{some_is, nothing_there}
 use Rattle.kept_promise.proofs.StepCases.{IsUnknown}
+use Rattle.kept_promise.proofs.LogSums.{whole_number, whole_in}
 
 -- ---- logs joined
 

@@ -135,7 +135,6 @@ promise_of input w ran h =
         named = λ k o at close. names_chunks all o close (stored.closes.each k o at);
         paid = λ k o at close. pays_all all o close (stored.closes.each k o at);
         stored = λ k o at sent. has_stored all o (stored.counted.counts k o at) (stored.closes.each k o at) (logs.1.1.each k o at) sent;
-        saved = λ k o at close. saves_all all o close (stored.closes.each k o at) (stored.counted.counts k o at);
         made = made_sent (book_of w all) all w.opening w.core h.queues h.kept stored;
       };
       legal = legal_kept (book_of w all) w.core h.queues h.kept (are_words w all h);

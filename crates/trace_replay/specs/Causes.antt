@@ -1,7 +1,6 @@
 -- Why an operation ended as it did: for each outcome what must have happened.
-use Rattle.std.specs.Prelude.{◌≡◌, ℕ, zero, suc, ◌+◌, ◌*◌, ◌<◌, ◌≤◌, List, [], ◌∷◌, ◌++◌, length, take, ◌⊎◌, Bool, true, false, not, ◌&&◌, ◌==◌, nat_lt, nat_le, Option, Some, None, Result, Ok, Err, IsSome, Contains, option_map, slice_get, if◌then◌else◌}
+use Rattle.std.specs.Prelude.{◌≡◌, ℕ, zero, suc, ◌+◌, ◌<◌, ◌≤◌, List, [], ◌∷◌, length, take, ◌⊎◌, Bool, true, false, ◌&&◌, ◌==◌, nat_lt, nat_le, Option, Some, None, Ok, IsSome, Contains, option_map, slice_get, if◌then◌else◌}
 use Rattle.std.specs.List.{list_any}
-use Rattle.std.specs.Option.{option_map_or}
 use Rattle.sha1.specs.Sha1.{sha1}
 use Rattle.command_text.specs.Content.{content_length, content_bytes}
 use Rattle.command_text.specs.declared.command.Command.{Command}
@@ -9,7 +8,6 @@ use Rattle.command_text.specs.declared.command.Command.TheVariants as command
 use Rattle.hash_calls.specs.declared.call.Commit.{Commit}
 use Rattle.hash_calls.specs.declared.message.Lb.TheVariants as lb
 use Rattle.xdr_codec.specs.Handle.{handle_bytes}
-use Rattle.xdr_codec.specs.declared.answer.Answer.TheVariants.{Done}
 use Rattle.wire.specs.Parse.{parse_of}
 use Rattle.wire.specs.declared.message.Body.{Body}
 use Rattle.wire.specs.declared.message.Body.TheVariants as body
@@ -24,7 +22,7 @@ use Rattle.register_model.specs.declared.op.Outcome.{Outcome}
 use Rattle.register_model.specs.declared.op.Outcome.TheVariants as told
 use Rattle.trace_replay.specs.Core.{Seat, Event.Cuts, Event.Serves, numbered, server_waiting}
 use Rattle.trace_replay.specs.Commands.{file_of}
-use Rattle.trace_replay.specs.Trail.{Deed, Moment, Said, step_of, owner_in, taken_of}
+use Rattle.trace_replay.specs.Trail.{Deed, Moment, step_of}
 use Rattle.trace_replay.specs.Book.{Book, Or, value_at, version_at}
 
 -- ---- local contents
@@ -212,7 +210,6 @@ pub record IsCloseRefused (book : Book) (o : Op) (status : ℕ) : Type 0 where
   pub now : ℕ
   pub bytes : List ℕ
   pub event_is : moment.event ≡ Serves session now bytes
-  pub owner : owner_in (numbered moment.before.sessions session) ≡ o.client
   -- that of its content, which was its own
   pub xid : ℕ
   pub call : Commit

@@ -22,7 +22,7 @@ use Rattle.trace_replay.specs.Ops.{no_traffic}
 use Rattle.trace_replay.specs.Commands.{word_of, file_of}
 use Rattle.trace_replay.specs.Core.{Session, Event.Settles, Event.Cuts, numbered}
 use Rattle.trace_replay.specs.Trail.{Deed, Moment, Said, AreCounted, told_of, events_of, deeds_of, told_in, openings_of, commands_of, step_of, sent_of, taken_of}
-use Rattle.trace_replay.specs.Traffic.{is_of, traffic_of, stored_traffic, SavesAll, CountsOwn, SentCommit, AttemptsEnd, AttemptsMet, deals_of, IsFor, AreOwn, NamesChunks}
+use Rattle.trace_replay.specs.Traffic.{is_of, traffic_of, stored_traffic, CountsOwn, SentCommit, AttemptsEnd, AttemptsMet, deals_of, IsFor, AreOwn, NamesChunks}
 use Rattle.trace_replay.specs.Fetches.{EachReaches, GotBy, last_fetch, read_traffic}
 use Rattle.trace_replay.specs.Owing.{owes_nothing, PaysAll}
 use Rattle.trace_replay.specs.Numbered.{numbers_of, CountOn}
@@ -192,7 +192,5 @@ pub record IsFaithful (input : List ℕ) (book : Book) : Type 0 where
   -- and has sent the bytes of just those that answers told it the server doesn't know
   pub paid : (k : ℕ) (o : Op) → slice_get book.ops k ≡ Some o → o.word ≡ word.Close → PaysAll o.value owes_nothing (deals_of o book.moments)
   pub stored : (k : ℕ) (o : Op) → slice_get book.ops k ≡ Some o → SentCommit o (sent_of book.moments) → o.traffic ≡ stored_traffic o.value (deals_of o book.moments)
-  -- one whose chunks the server all knew sent no byte of its value
-  pub saved : (k : ℕ) (o : Op) → slice_get book.ops k ≡ Some o → o.word ≡ word.Close → SavesAll o (deals_of o book.moments)
   -- and each that replaced its file had sent it
   pub made : (k p : ℕ) (o : Op) → slice_get book.ops k ≡ Some o → changes o.word ≡ true → o.point ≡ Some p → SentCommit o (sent_of book.moments)

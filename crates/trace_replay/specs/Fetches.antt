@@ -1,5 +1,5 @@
 -- What each attempt of an open was told, found and read, by what was said for the open.
-use Rattle.std.specs.Prelude.{◌≡◌, ◌⊎◌, ℕ, ◌+◌, ◌≤◌, List, [], ◌∷◌, ◌++◌, length, None, Bool, true, false, not, ◌==◌}
+use Rattle.std.specs.Prelude.{◌≡◌, ◌⊎◌, ℕ, ◌+◌, ◌≤◌, List, [], ◌∷◌, ◌++◌, length, None, Bool, true, false, not}
 use Rattle.chunk_cut.specs.Chunks.{chunks_of}
 use Rattle.chunk_cut.specs.declared.chunk.Chunk.{Chunk}
 use Rattle.xdr_codec.specs.declared.answer.Answer.TheVariants.{Done}
@@ -12,7 +12,7 @@ use Rattle.register_model.specs.declared.op.Op.{Op}
 use Rattle.register_model.specs.declared.op.Traffic.{Traffic}
 use Rattle.trace_replay.specs.Ops.{no_traffic}
 use Rattle.trace_replay.specs.Trail.{place_of}
-use Rattle.trace_replay.specs.Traffic.{Deal, Deal.Took, Deal.Found, Deal.Sent, attempts_in}
+use Rattle.trace_replay.specs.Traffic.{Deal, Deal.Took, Deal.Found, Deal.Sent, begins, attempts_in}
 
 -- ---- the attempts of an open
 
@@ -27,18 +27,18 @@ pub record Fetched : Type 0 where
 abbrev pub no_fetch : Fetched
 no_fetch = record { told = []; reads = []; found = []; bytes = 0 }
 
--- a GETHASH from the file's first byte on begins a new attempt
+-- a message that is sent may begin a new attempt
 abbrev pub begins_by : Deal → Bool
-begins_by (Sent (message.Call xid (body.Lb (lb.GetHash a)))) = a.offset == 0
+begins_by (Sent m) = begins m
 begins_by d = false
 
-abbrev pub fetch_if : (begins : Bool) → Fetched → Fetched
+abbrev pub fetch_if : (anew : Bool) → Fetched → Fetched
 fetch_if true f = no_fetch
 fetch_if false f = f
 
 abbrev pub fetch_with : Fetched → Deal → Fetched
-fetch_with f (Sent (message.Call xid (body.Lb (lb.GetHash a)))) = fetch_if (a.offset == 0) f
 fetch_with f (Sent (message.Call xid (body.Nfs (nfs.Read r)))) = record f { reads = f.reads ++ (r.offset, r.count) ∷ [] }
+fetch_with f (Sent m) = fetch_if (begins m) f
 fetch_with f (Found place) = record f { found = f.found ++ place ∷ [] }
 fetch_with f (Took (message.Answer xid (body.Lb (lb.GetHashAnswer (Done h))))) = record f { told = with_pairs f.told h.pairs }
 fetch_with f (Took (message.Answer xid (body.Nfs (nfs.ReadAnswer (Done piece))))) = record f { bytes = f.bytes + length piece.bytes }
@@ -53,7 +53,7 @@ abbrev pub last_fetch : List Deal → Fetched
 last_fetch ds = fetch_from no_fetch ds
 
 -- those behind which another began
-abbrev pub over_if : (begins : Bool) → Fetched → List Fetched
+abbrev pub over_if : (anew : Bool) → Fetched → List Fetched
 over_if true f = f ∷ []
 over_if false f = []
 

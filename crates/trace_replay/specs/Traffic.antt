@@ -87,10 +87,13 @@ abbrev pub number_if : Bool → ℕ → ℕ
 number_if true n = n
 number_if false n = 0
 
--- a GETHASH from a file's first byte on: an attempt of an open begins with one
+-- an attempt of an open begins with a GETHASH from its file's first byte on
+abbrev pub begins : Message → Bool
+begins (message.Call xid (body.Lb (lb.GetHash a))) = a.offset == 0
+begins m = false
+
 abbrev pub first_number : Message → ℕ
-first_number (message.Call xid (body.Lb (lb.GetHash a))) = number_if (a.offset == 0) 1
-first_number m = 0
+first_number m = number_if (begins m) 1
 
 -- how many attempts an operation began
 abbrev pub attempts_of : Op → List Said → ℕ
@@ -141,7 +144,7 @@ abbrev pub named_in : List Deal → List Chunk
 named_in [] = []
 named_in (d ∷ ds) = named_by d ++ named_in ds
 
--- how many answers told that a chunk isn't known, and how many TMPWRITEs sent one
+-- how many answers told that a chunk isn't known
 abbrev pub unknown_number : Deal → ℕ
 unknown_number (Took (message.Answer xid (body.Lb (lb.CondWriteAnswer (Failed status.HashNotFound u))))) = 1
 unknown_number d = 0
@@ -149,14 +152,6 @@ unknown_number d = 0
 abbrev pub unknown_in : List Deal → ℕ
 unknown_in [] = 0
 unknown_in (d ∷ ds) = unknown_number d + unknown_in ds
-
-abbrev pub whole_number : Deal → ℕ
-whole_number (Sent (message.Call xid (body.Lb (lb.TmpWrite a)))) = 1
-whole_number d = 0
-
-abbrev pub whole_in : List Deal → ℕ
-whole_in [] = 0
-whole_in (d ∷ ds) = whole_number d + whole_in ds
 
 -- how many MKTMPFILEs were sent, and how many COMMITTMPs
 abbrev pub made_number : Deal → ℕ
@@ -221,12 +216,12 @@ given_up (Some a) = a ∷ []
 abbrev pub begun_anew : Attempts → Attempts
 begun_anew t = record { last = Some new_attempt; failed = t.failed ++ given_up t.last }
 
-abbrev pub begun_if : (begins : Bool) → Attempts → Attempts
+abbrev pub begun_if : (anew : Bool) → Attempts → Attempts
 begun_if true t = begun_anew t
 begun_if false t = t
 
 abbrev pub attempts_with : Attempts → Deal → Attempts
-attempts_with t (Sent (message.Call xid (body.Lb (lb.GetHash a)))) = begun_if (a.offset == 0) t
+attempts_with t (Sent m) = begun_if (begins m) t
 attempts_with t (Took (message.Answer xid (body.Lb (lb.GetHashAnswer (Done h))))) = record t { last = option_map (λ a. told_if a.told h.version) t.last }
 attempts_with t (Took (message.Answer xid (body.Nfs (nfs.ReadAnswer (Done piece))))) = record t { last = option_map (λ a. shown_if a.told piece.attr) t.last }
 attempts_with t d = t
@@ -295,7 +290,3 @@ bytes_in (d ∷ ds) = bytes_number d + bytes_in ds
 -- A close that sent its COMMITTMP named each chunk of its value by a CONDWRITE, and sent the bytes of those that the server didn't know.
 abbrev pub stored_traffic : (value : List ℕ) → List Deal → Traffic
 stored_traffic value deals = record no_traffic { cond = length (chunks_of value); tmp = unknown_in deals; «data» = bytes_in deals }
-
--- and a close whose chunks the server all knew sent no byte of its value
-abbrev pub SavesAll : Op → List Deal → Type 0
-SavesAll o deals = unknown_in deals ≡ 0 → (o.traffic.tmp ≡ 0) × (o.traffic.«data» ≡ 0)
