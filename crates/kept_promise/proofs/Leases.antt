@@ -106,16 +106,16 @@ heard_lease fits all opening k qs after n now bytes mid kept h left p o at x l m
         acting q place was is (j, job_is, at_place, client_is, running, file) = elim (takes_lease (idle h.seat.client) (client.calls_of h.seat.client) j.file j.stage x l) [
           | inl fault ↦ absurd (no_fault_after (book_at opening (happens k (Hears n now bytes)).core all) q r.0 taken (k.steps + 1) r.1 (left.sound.rights p _ (at ∙ ap (λ (z : Op). Some z) is)) (subst (λ (z : client.State × ClientStep). IsFault z.1.ended) (sym got) fault))
           | inr (y, asking) ↦ record {
-              old = q;
-              was = was;
-              of = j;
-              job_is = job_is;
-              place = at_place;
-              file = file;
-              asking = asking ∙ ap (λ z. stage.Asking z) (eqb-true y x (or_none (y == x) (ap (λ st. client.has_call (client.pending_in st) x) (sym asking) ∙ ap (λ (t : Option Task). client.has_call (client.pending t) x) (sym task) ∙ waits)));
-              got = got;
-              is = is;
-            }
+            old = q;
+            was = was;
+            of = j;
+            job_is = job_is;
+            place = at_place;
+            file = file;
+            asking = asking ∙ ap (λ z. stage.Asking z) (eqb-true y x (or_none (y == x) (ap (λ st. client.has_call (client.pending_in st) x) (sym asking) ∙ ap (λ (t : Option Task). client.has_call (client.pending t) x) (sym task) ∙ waits)));
+            got = got;
+            is = is;
+          }
         ]
           where
             task : h.seat.client.task ≡ Some (record { file = j.file; stage = j.stage })

@@ -118,6 +118,7 @@ pub mod Actors
 pub mod CommandOps
 pub mod CountedRuns
 pub mod SentDown
+pub mod SentUp
 pub mod NameAnswers
 pub mod Leases
 pub mod KeptUsed

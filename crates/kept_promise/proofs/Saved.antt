@@ -9,11 +9,11 @@ use Rattle.xdr_codec.specs.declared.status.Status.TheVariants as status
 use Rattle.command_text.specs.declared.command.Command.TheVariants as command
 use Rattle.client_cache.specs.Cache.{content_of, reserved}
 use Rattle.open_close.specs.State as client
-use Rattle.trace_replay.specs.Saving.{name_call, name_told, name_answer, known_at, AnswersName, TakesTold, ToldOf, AreTold, AllKnown, first_call, AsksFirst}
+use Rattle.trace_replay.specs.Saving.{name_call, name_told, name_answer, known_at, AnswersName, TakesName, SentBefore, TakesTold, ToldOf, AreTold, AllKnown, first_call, AsksFirst}
 use Rattle.trace_replay.specs.Traffic.{unknown_in, unknown_number, deals_if}
-use Rattle.kept_promise.proofs.Common.{Contains, Contains-append_left, Contains-append_right, Contains-push, Contains-push_cases, not, Answer, Done, Failed, Status, Command, Body, Message, WireFault, parse_of, temp_at, cond_fault, at, got_if, stands, opens, opens_if, asks_file, asks_kept, may_ask, is_open, command_step, Content, Task, Op, Opening, Core, Seat, Session, Event, Event.Joins, Event.Does, Event.Serves, Event.Hears, Event.Settles, Event.Cuts, Event.Hangs, numbered, server_waiting, serves_if, serves, does, happens, Moment, step_of, client_of, owner_in, wanted_if, wanted_by, taken_by, given_by, is_in, Deal, Deal.Took, Deal.Found, Deal.Sent, deals_with, deals_in, deals_of, Book, Queue, Ask, Reply, Reply.Named, told_message, reply_body}
+use Rattle.kept_promise.proofs.Common.{Contains, Contains-append_left, Contains-append_right, Contains-push, Contains-push_cases, not, Answer, Done, Failed, Status, Command, Body, Message, WireFault, parse_of, temp_at, cond_fault, at, got_if, stands, opens, opens_if, asks_file, asks_kept, may_ask, is_open, command_step, Content, Task, Op, Opening, Core, Seat, Session, Event, Event.Joins, Event.Does, Event.Serves, Event.Hears, Event.Settles, Event.Cuts, Event.Hangs, numbered, server_waiting, serves_if, serves, does, happens, Moment, step_of, client_of, owner_in, wanted_if, wanted_by, taken_by, given_by, is_in, Deal, Deal.Took, Deal.Found, Deal.Sent, deals_with, deals_in, deals_of, Book, Queue, Ask, Reply, Reply.Named, ask_message, told_message, reply_body}
 use Rattle.kept_promise.proofs.Lists.{nothing_there}
-use Rattle.kept_promise.proofs.Messages.{Job, job, AllTolds}
+use Rattle.kept_promise.proofs.Messages.{Job, job, AllAsks, AllTolds}
 use Rattle.kept_promise.proofs.Orderly.{Wanted, IsWanted}
 use Rattle.kept_promise.proofs.Fits.{FitLaws}
 use Rattle.kept_promise.proofs.Facts.{IsKept, IsSession}
@@ -21,7 +21,10 @@ use Rattle.kept_promise.proofs.Turns.{also_numbered}
 use Rattle.kept_promise.proofs.RunsCarried.{book_at, moment, Finds, Step, Carried}
 use Rattle.kept_promise.proofs.Actors.{Heard, heard_at, heard_takes}
 use Rattle.kept_promise.proofs.OpsAfter.{ops_after_event}
+use Rattle.kept_promise.proofs.Statements.{CallFits}
+use Rattle.kept_promise.proofs.Serves.{parsed}
 use Rattle.kept_promise.proofs.SentDown.{WasSent, DownsSent, sent_after}
+use Rattle.kept_promise.proofs.SentUp.{WasCalled, UpsSent, called_after}
 use Rattle.kept_promise.proofs.NameAnswers.{ComesTo, known_in, names_free, fault_apart, NameTaken, name_taken}
 
 -- ---- the server answers a CONDWRITE
@@ -81,6 +84,41 @@ answers_name all opening k qs mid (Hangs m) kept f session xid a w = absurd (oth
     other : {n i : ℕ} {b : List ℕ} → Hangs m ≡ Serves n i b → ⊥
     other e = absurd cc
 
+-- ---- it had been sent
+
+abbrev AreSent : List Moment → Moment → Type 0
+AreSent all m = (session xid : ℕ) (a : CondPiece) → TakesName m session xid a → SentBefore all m session (name_call xid a)
+
+was_sent : FitLaws → (all past rest : List Moment) (opening : List Opening) (k : Core) (qs mid : List Queue) (n now : ℕ) (bytes : List ℕ) → all ≡ past ++ rest → IsKept (book_at opening k all) k qs → Finds k qs (Serves n now bytes) mid → UpsSent past k.steps qs → AreSent all (moment k (Serves n now bytes))
+was_sent fits all past rest opening k qs mid n now bytes split kept f sent session xid a w = record {
+  moment = was.moment;
+  there = subst (λ (l : List Moment). Contains l was.moment) (sym split) (Contains-append_left past rest was.moment was.there);
+  before = (let le = was.by in omega (arith, le));
+  on = was.session ∙ ap (λ z. Some z) (session_is n session now w.now bytes w.bytes w.event_is);
+  sent = subst (λ (m : Message). Contains (happens was.moment.before was.moment.event).up m) call was.sent;
+}
+  where
+    was : WasCalled past k.steps n f.1
+    was = (subst (AllAsks (WasCalled past k.steps n)) f.4 (sent n f.0 f.3)).0
+
+    session_is : (n m i j : ℕ) (a b : List ℕ) → Serves n i a ≡ Serves m j b → n ≡ m
+    session_is n m i j a b e = cc
+
+    bytes_are : (n m i j : ℕ) (a b : List ℕ) → Serves n i a ≡ Serves m j b → a ≡ b
+    bytes_are n m i j a b e = cc
+
+    same_read : (r : Result Message WireFault) (p q : Message) → r ≡ Ok p → r ≡ Ok q → p ≡ q
+    same_read r p q a b = cc
+
+    call : ask_message f.1 ≡ name_call xid a
+    call =
+        let x = also_numbered qs k.sessions n f.0 (sym kept.made.1) f.3 in
+        let fit = (subst (AllAsks (λ u. CallFits u.xid u.call)) f.4 (kept.sessions n x.0 f.0 x.1 f.3).ups_fit).0 in
+        same_read (parse_of server_waiting bytes) (ask_message f.1) (name_call xid a) (ap (parse_of server_waiting) f.5 ∙ parsed fits f.1 fit) (ap (parse_of server_waiting) (bytes_are n session now w.now bytes w.bytes w.event_is) ∙ w.call_is)
+
+not_served : (all : List Moment) (k : Core) (e : Event) → ((n i : ℕ) (b : List ℕ) → e ≡ Serves n i b → ⊥) → AreSent all (moment k e)
+not_served all k e other session xid a w = absurd (other session w.now w.bytes w.event_is)
+
 -- ---- a client is told
 
 -- an answer that is waited for says that the chunk is known, or not
@@ -92,8 +130,8 @@ named_so book o x (Named a) r e w = by a r e w.1
     by a r e (inr failed) = inr (let same : r ≡ a = cc in same ∙ failed)
 named_so book o x p r e w = absurd cc
 
-are_told : FitLaws → (all past rest : List Moment) (opening : List Opening) (k : Core) (qs mid : List Queue) (n now : ℕ) (bytes : List ℕ) → all ≡ past ++ rest → IsKept (book_at opening k all) k qs → Heard k qs n now bytes mid → DownsSent past k.steps qs → AreTold all (moment k (Hears n now bytes))
-are_told fits all past rest opening k qs mid n now bytes split kept h sent session xid r (i, b, event, there) =
+are_told : FitLaws → (all past rest : List Moment) (opening : List Opening) (k : Core) (qs mid : List Queue) (n now : ℕ) (bytes : List ℕ) → all ≡ past ++ rest → IsKept (book_at opening k all) k qs → Heard k qs n now bytes mid → DownsSent past k.steps qs → ((m : Moment) → Contains past m → AreSent all m) → AreTold all (moment k (Hears n now bytes))
+are_told fits all past rest opening k qs mid n now bytes split kept h sent asked session xid r (i, b, event, there) =
     subst (λ z. ToldOf all (moment k (Hears n now bytes)) z xid r) (session_is n session now i bytes b event)
     (by (client.has_call (client.pending h.seat.client.task) h.told.xid) (subst (λ (ms : List Message). Contains ms (name_told xid r)) taken there))
   where
@@ -127,9 +165,13 @@ are_told fits all past rest opening k qs mid n now bytes split kept h sent sessi
       there = subst (λ (l : List Moment). Contains l was.moment) (sym split) (Contains-append_left past rest was.moment was.there);
       before = (let le = was.by in omega (arith, le));
       piece = w.piece;
-      taken = record { now = w.now; bytes = w.bytes; event_is = w.event_is; call_is = w.call_is; free = free };
+      asked = asked was.moment was.there n xid w.piece (takes free);
+      taken = takes free;
       answer_is = is;
     }
+      where
+        takes : cond_fault w.piece (temp_at was.moment.before.server.temps n w.piece.fd) ≡ None → TakesName was.moment n xid w.piece
+        takes free = record { now = w.now; bytes = w.bytes; event_is = w.event_is; call_is = w.call_is; free = free }
     told_of w (inl done) (inl (e, fault, failed)) = failed_is r e done failed
     told_of w (inr unknown) (inl (e, fault, failed)) = absurd (fault_apart w.piece (temp_at was.moment.before.server.temps n w.piece.fd) (fault ∙ ap (λ z. Some z) (same_status r e failed unknown)))
 
@@ -180,7 +222,7 @@ first_asked k c now d client then file seat event here =
 
 -- what is so of each
 abbrev Saves : List Moment → Moment → Type 0
-Saves all m = AnswersName m × AreTold all m × AsksFirst m
+Saves all m = AnswersName m × AreTold all m × AsksFirst m × AreSent all m
 
 not_heard : (all : List Moment) (k : Core) (e : Event) → ((n i : ℕ) (b : List ℕ) → e ≡ Hears n i b → ⊥) → AreTold all (moment k e)
 not_heard all k e other session xid r (i, b, is, there) = absurd (other session i b is)
@@ -188,11 +230,11 @@ not_heard all k e other session xid r (i, b, is, there) = absurd (other session 
 not_done : (k : Core) (e : Event) → ((c i : ℕ) (d : Command) → e ≡ Does c i d → ⊥) → AsksFirst (moment k e)
 not_done k e other client now file seat event here = absurd (other client now (command.Open file) event)
 
-saves : FitLaws → (all past rest : List Moment) (opening : List Opening) (k : Core) (qs : List Queue) (e : Event) (mid after : List Queue) → Step all past rest opening k qs e mid after → DownsSent past k.steps qs → Saves all (moment k e)
-saves fits all past rest opening k qs e mid after s sent = (answers_name all opening k qs mid e s.kept s.finds, told e s, asked e)
+saves : FitLaws → (all past rest : List Moment) (opening : List Opening) (k : Core) (qs : List Queue) (e : Event) (mid after : List Queue) → Step all past rest opening k qs e mid after → DownsSent past k.steps qs → UpsSent past k.steps qs → ((m : Moment) → Contains past m → AreSent all m) → Saves all (moment k e)
+saves fits all past rest opening k qs e mid after s sent ups before = (answers_name all opening k qs mid e s.kept s.finds, told e s, asked e, called e s)
   where
     told : (e : Event) → Step all past rest opening k qs e mid after → AreTold all (moment k e)
-    told (Hears n now bytes) s = are_told fits all past (moment k (Hears n now bytes) ∷ rest) opening k qs mid n now bytes s.split s.kept (heard_at (book_at opening k all) k qs n now bytes mid s.kept s.finds) sent
+    told (Hears n now bytes) s = are_told fits all past (moment k (Hears n now bytes) ∷ rest) opening k qs mid n now bytes s.split s.kept (heard_at (book_at opening k all) k qs n now bytes mid s.kept s.finds) sent before
     told (Joins c) s = not_heard all k (Joins c) (λ i j x is. absurd cc)
     told (Does c now d) s = not_heard all k (Does c now d) (λ i j x is. absurd cc)
     told (Serves n now bytes) s = not_heard all k (Serves n now bytes) (λ i j x is. absurd cc)
@@ -209,23 +251,34 @@ saves fits all past rest opening k qs e mid after s sent = (answers_name all ope
     asked (Cuts c) = not_done k (Cuts c) (λ i j x is. absurd cc)
     asked (Hangs n) = not_done k (Hangs n) (λ i j x is. absurd cc)
 
+    called : (e : Event) → Step all past rest opening k qs e mid after → AreSent all (moment k e)
+    called (Serves n now bytes) s = was_sent fits all past (moment k (Serves n now bytes) ∷ rest) opening k qs mid n now bytes s.split s.kept s.finds ups
+    called (Joins c) s = not_served all k (Joins c) (λ i j x is. absurd cc)
+    called (Does c now d) s = not_served all k (Does c now d) (λ i j x is. absurd cc)
+    called (Hears n now bytes) s = not_served all k (Hears n now bytes) (λ i j x is. absurd cc)
+    called (Settles now) s = not_served all k (Settles now) (λ i j x is. absurd cc)
+    called (Cuts c) s = not_served all k (Cuts c) (λ i j x is. absurd cc)
+    called (Hangs n) s = not_served all k (Hangs n) (λ i j x is. absurd cc)
+
 -- ---- what a run carries
 
 pub record AllSaved (all past : List Moment) (opening : List Opening) (k : Core) (qs : List Queue) : Type 0 where
   pub sent : DownsSent past k.steps qs
+  pub called : UpsSent past k.steps qs
   pub each : (m : Moment) → Contains past m → Saves all m
 
 pub carried_saved : FitLaws → Carried AllSaved
 carried_saved fits = record {
-  first = λ all opening files changes count kept. record { sent = λ n q at. none_numbered n q at; each = λ m there. (let lt = there.1 in absurd (omega (arith, lt))) };
+  first = λ all opening files changes count kept. record { sent = λ n q at. none_numbered n q at; called = λ n q at. none_numbered n q at; each = λ m there. (let lt = there.1 in absurd (omega (arith, lt))) };
   steps = λ all past rest opening k qs e mid after s h. record {
     sent = subst (DownsSent (past ++ moment k e ∷ []) (happens k e).core.steps) (sym s.after_is) (sent_after past k qs mid e s.sends s.finds (ops_after_event all past rest opening k qs e mid after s).1 h.sent);
+    called = subst (UpsSent (past ++ moment k e ∷ []) (happens k e).core.steps) (sym s.after_is) (called_after past k qs mid e s.sends s.finds (ops_after_event all past rest opening k qs e mid after s).1 h.called);
     each = λ m there. elim (Contains-push_cases past (moment k e) m there) [
       | inl old ↦ h.each m old
-      | inr new ↦ subst (Saves all) new (saves fits all past rest opening k qs e mid after s h.sent)
+      | inr new ↦ subst (Saves all) new (saves fits all past rest opening k qs e mid after s h.sent h.called (λ z old. (h.each z old).3))
     ];
   };
-  adjusts = λ all past opening k qs index seats same h. record { sent = h.sent; each = h.each };
+  adjusts = λ all past opening k qs index seats same h. record { sent = h.sent; called = h.called; each = h.each };
 }
   where
     none_numbered : {B : Type 0} (n : ℕ) (q : Queue) → numbered [] n ≡ Some q → B

@@ -59,18 +59,27 @@ name_answer (Some bytes) = Done tt
 abbrev pub AnswersName : Moment → Type 0
 AnswersName m = (session xid : ℕ) (a : CondPiece) → TakesName m session xid a → (happens m.before m.event).down ≡ record { session = session; message = name_told xid (name_answer (known_at m a)) } ∷ []
 
+-- a client sent this message on the session, in a step before
+pub record SentBefore (moments : List Moment) (m : Moment) (session : ℕ) (z : Message) : Type 0 where
+  pub moment : Moment
+  pub there : Contains moments moment
+  pub before : step_of moment < step_of m
+  pub on : (happens moment.before moment.event).session ≡ Some session
+  pub sent : Contains (happens moment.before moment.event).up z
+
 -- ---- a client is told of it
 
 -- at a moment a client takes an answer to the CONDWRITE of this number on a session
 abbrev pub TakesTold : Moment → (session xid : ℕ) → Answer Unit Unit → Type 0
 TakesTold m session xid r = (now : ℕ) × (bytes : List ℕ) × (m.event ≡ Hears session now bytes) × Contains (taken_by m.before (client_of m.before m.event) m.event) (name_told xid r)
 
--- It is what the server made of it at a moment before.
+-- It is what the server made of it at a moment before, and a client had sent that call on this session.
 pub record ToldOf (moments : List Moment) (m : Moment) (session xid : ℕ) (r : Answer Unit Unit) : Type 0 where
   pub moment : Moment
   pub there : Contains moments moment
   pub before : step_of moment < step_of m
   pub piece : CondPiece
+  pub asked : SentBefore moments moment session (name_call xid piece)
   pub taken : TakesName moment session xid piece
   pub answer_is : r ≡ name_answer (known_at moment piece)
 
