@@ -7,7 +7,7 @@ use Rattle.wire.specs.declared.message.Message.TheVariants as message
 use Rattle.open_close.specs.declared.task.Way.TheVariants as way
 use Rattle.trace_replay.specs.Traffic.{unknown_number, unknown_in}
 use Rattle.trace_replay.specs.Owing.{Owing, asked_at, without_asked, owed_by, owing_with, owing_from, Pays, Answers, PaysAll}
-use Rattle.kept_promise.proofs.Common.{Deal.Sent, ◌==◌, not, cond, if◌then◌else◌, slice_get, Chunk, Failed, Body, Message, temp_call, without_store, store_at, StoreCall, Way, Deal, Deal.Took}
+use Rattle.kept_promise.proofs.Common.{Deal.Sent, ◌==◌, not, cond, slice_get, Chunk, Failed, Body, Message, temp_call, without_store, store_at, StoreCall, Way, Deal, Deal.Took}
 use Rattle.kept_promise.proofs.Lists.{some_is, nothing_there}
 use Rattle.kept_promise.proofs.StepCases.{IsUnknown}
 use Rattle.kept_promise.proofs.LogSums.{whole_number, whole_in}
@@ -104,12 +104,12 @@ asked_found cs [] x c k at named chunk = nothing_there c at
 asked_found cs (u ∷ us) x c k at named chunk = by (u.xid == x) refl at (λ later. asked_found cs us x c k later named chunk)
   where
     other : (w : Way) (o : Option Chunk) → (u.xid == x) ≡ false → asked_at (asked_if w u.xid o ++ asked_of cs us) x ≡ asked_at (asked_of cs us) x
-    other way.Named (Some d) e = ap (λ b. if b then Some d else asked_at (asked_of cs us) x) e
+    other way.Named (Some d) e = ap (λ b. cond b (Some d) (asked_at (asked_of cs us) x)) e
     other way.Named None e = refl
     other way.Whole o e = refl
 
     this : (w : Way) (o : Option Chunk) → w ≡ way.Named → o ≡ Some k → (u.xid == x) ≡ true → asked_at (asked_if w u.xid o ++ asked_of cs us) x ≡ Some k
-    this w o is there e = ap (λ z. asked_at (asked_if z u.xid o ++ asked_of cs us) x) is ∙ ap (λ z. asked_at (asked_if way.Named u.xid z ++ asked_of cs us) x) there ∙ ap (λ b. if b then Some k else asked_at (asked_of cs us) x) e
+    this w o is there e = ap (λ z. asked_at (asked_if z u.xid o ++ asked_of cs us) x) is ∙ ap (λ z. asked_at (asked_if way.Named u.xid z ++ asked_of cs us) x) there ∙ ap (λ b. cond b (Some k) (asked_at (asked_of cs us) x)) e
 
     by : (b : Bool) → (u.xid == x) ≡ b → cond b (Some u) (store_at us x) ≡ Some c → (store_at us x ≡ Some c → asked_at (asked_of cs us) x ≡ Some k) → asked_at (asked_of cs (u ∷ us)) x ≡ Some k
     by true e is later = let same : u ≡ c = some_is u c is in this u.way (slice_get cs u.index) (ap (λ (z : StoreCall). z.way) same ∙ named) (ap (λ (z : StoreCall). slice_get cs z.index) same ∙ chunk) e

@@ -1,5 +1,6 @@
 -- Which chunks a close sends whole, by what was said for it: those that answers told it the server doesn't know.
-use Rattle.std.specs.Prelude.{◌≡◌, ℕ, List, [], ◌∷◌, ◌++◌, filter, Option, Some, None, IsSome, not, ◌==◌, if◌then◌else◌}
+use Rattle.std.specs.Prelude.{◌≡◌, ℕ, List, [], ◌∷◌, ◌++◌, filter, Option, Some, None, IsSome, not, ◌==◌}
+use Rattle.std.specs.Map.{lookup}
 use Rattle.chunk_cut.specs.Places.{chunk_bytes}
 use Rattle.chunk_cut.specs.declared.chunk.Chunk.{Chunk}
 use Rattle.xdr_codec.specs.declared.answer.Answer.TheVariants.{Failed}
@@ -20,8 +21,7 @@ owes_nothing = record { asked = []; owed = None }
 
 -- the chunk of the one with an xid, and those with other xids
 abbrev pub asked_at : List (ℕ × Chunk) → (xid : ℕ) → Option Chunk
-asked_at [] xid = None
-asked_at (p ∷ ps) xid = if p.0 == xid then Some p.1 else asked_at ps xid
+asked_at asked xid = lookup (λ x. x == xid) asked
 
 abbrev pub without_asked : List (ℕ × Chunk) → (xid : ℕ) → List (ℕ × Chunk)
 without_asked asked xid = filter (λ p. not (p.0 == xid)) asked
