@@ -131,10 +131,6 @@ cause_later book more made ended o (told.Opened len digest) g r h = (
     point = h.1.point;
     within = h.1.within;
     value_is = or_later book more made ended _ _ g (λ e. value_later book more made ended o.file h.1.point g (let lt = (r.pointed h.1.point h.1.within.0).1 in omega (arith, lt)) ∙ e) h.1.value_is;
-    xid = h.1.xid;
-    call = h.1.call;
-    first = h.1.first;
-    taken = takes_later book more made ended o.client o.client h.1.point h.1.xid h.1.call g refl h.1.taken;
   },
 )
 cause_later book more made ended o (told.Refused s) g r h = refused_later book more made ended o o.word s g (λ p e. (r.pointed p e).1) h

@@ -148,7 +148,7 @@ begin_stays o c taken step acts = by acts.ended
     by None = refl
     by (Some e) = refl
 
-client_stays : (o : Op) (c : client.State) (taken : List TakenCall) (step : ℕ) (acts : ClientStep) → (op_after o c taken step acts).client ≡ o.client
+pub client_stays : (o : Op) (c : client.State) (taken : List TakenCall) (step : ℕ) (acts : ClientStep) → (op_after o c taken step acts).client ≡ o.client
 client_stays o c taken step acts = by acts.ended
   where
     by : (e : Option Ended) → (op_after o c taken step (record acts { ended = e })).client ≡ o.client

@@ -129,6 +129,7 @@ pub mod Versions
 pub mod VersionRuns
 pub mod LeftCommits
 pub mod JobFacts
+pub mod Points
 pub mod OpenedOnce
 pub mod StoredWhole
 pub mod MadeRuns

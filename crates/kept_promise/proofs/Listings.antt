@@ -9,13 +9,12 @@ use Rattle.open_close.specs.declared.step.Outcome.TheVariants as outcome
 use Rattle.open_close.specs.declared.task.Stage.TheVariants as stage
 use Rattle.register_model.specs.declared.op.Outcome.TheVariants as told
 use Rattle.register_model.specs.declared.op.Word.TheVariants as words
-use Rattle.trace_replay.specs.Causes.{IsFirstCall, TakesCall}
-use Rattle.kept_promise.proofs.Common.{Body, nat_tests, slice_get, slice_set, ◌==◌, ◌&&◌, nat_lt, Contains, sha1, chunks_of, chunk_bytes, Chunk, Pending, read_pending, no_counts, is_none, is_here, reads_from, reads_chunk, reads_all, looked_up, read_at, slots_bytes, idle, opened_with, reads_on, reads_if, Entries, Indexed, ClientStep, ends, ended_op, Reads, Fetch, Local, ReadCall, Stage, local_at_itself, local_at_another, content_of, Op, Traffic, TakenCall, Core, Session, has_point, point_if, counted, hashed_of, Book, HadContent, Or, value_at, Call.Read, Told, Queue}
+use Rattle.kept_promise.proofs.Common.{nat_tests, slice_get, slice_set, ◌==◌, ◌&&◌, nat_lt, Contains, sha1, chunks_of, chunk_bytes, Chunk, Pending, read_pending, no_counts, is_none, is_here, reads_from, reads_chunk, reads_all, looked_up, read_at, slots_bytes, idle, opened_with, reads_on, reads_if, Entries, Indexed, ClientStep, ends, ended_op, Reads, Fetch, Local, ReadCall, Stage, local_at_itself, local_at_another, content_of, Op, Traffic, TakenCall, Core, Session, has_point, point_if, counted, hashed_of, Book, HadContent, Or, value_at, Call.Read, Told, Queue}
 use Rattle.kept_promise.proofs.Statements.{CallFits}
 use Rattle.kept_promise.proofs.Lists.{some_is, nothing_there, same_or_not, within, in_front, there_at, of_appended, at_end, of_replaced, at_replaced, set_count, set_else}
 use Rattle.kept_promise.proofs.Keys.{times}
-use Rattle.kept_promise.proofs.Messages.{Job, stage_word, hash_body, IsServed, IsTold, IsAsked, read_chunk, chunk_for, IsFetch, IsReading, IsCommit, IsPiece, TempUnder}
-use Rattle.kept_promise.proofs.Growth.{or_later, or_map, or_both, bytes_or, value_later, takes_later}
+use Rattle.kept_promise.proofs.Messages.{Job, stage_word, IsTold, IsAsked, read_chunk, chunk_for, IsFetch, IsReading, IsCommit, IsPiece, TempUnder}
+use Rattle.kept_promise.proofs.Growth.{or_later, or_map, or_both, bytes_or, value_later}
 use Rattle.kept_promise.proofs.Facts.{Cached, IsSession, IsOf}
 use Rattle.kept_promise.proofs.Taken.{times_map_append}
 use Rattle.kept_promise.proofs.Heard.{told_pending}
@@ -209,7 +208,6 @@ pub record Gets (book : Book) (k : Core) (qs : List Queue) (n : ℕ) (x : Sessio
   pub word : stage_word j.stage ≡ words.Open
   pub value : List ℕ
   pub told_ : IsTold book x.taken j rests (Some value) version
-  pub call : (b : Body) × IsFirstCall j.file b × IsServed book x.taken j rests b
   pub value_is : Or book (v ≡ value)
   pub short : length v ≤ 67108864
   pub known : IsSome (content_of book.opening j.file)
@@ -246,13 +244,6 @@ comes_opened book k qs n x q t ts j g rests version v bytes cache index r gets c
       point = m;
       within = (refl, after, (book.steps + 1, refl, omega (arith, past)));
       value_is = or_later book more None (Some j.place) (v ≡ gets.value) (value_at more of.op.file m ≡ Some v) grows (λ e. ap (λ z. value_at more z m) of.file ∙ value_later book more None (Some j.place) j.file m grows (omega (arith, past)) ∙ gets.told_.value ∙ ap (λ z. Some z) (sym e)) gets.value_is;
-      xid = rests;
-      call = gets.call.0;
-      first = subst (λ (i : ℕ). IsFirstCall i gets.call.0) (sym of.file) gets.call.1;
-      taken = (
-          let s = gets.call.2 in
-          subst (λ (p : ℕ). TakesCall more of.op.client p rests gets.call.0) (some_is s.moment m (sym s.was ∙ gets.told_.was)) (takes_later book more None (Some j.place) s.op.client of.op.client s.moment rests gets.call.0 grows (ap (λ (z : Op). z.client) (some_is of.op s.op (sym of.there ∙ s.there))) s.takes)
-          );
     },
   )) (λ i l e. ok i l e (same_or_not i j.file));
   cached = inl cached;
@@ -325,7 +316,6 @@ fetch_opened book k qs n x q t ts j g f bytes index fact word quiet reading none
       word = word;
       value = fact.value;
       told_ = fact.told;
-      call = (hash_body j.file 0, (refl, refl), fact.tried.call);
       value_is = or_both book (v ≡ fact.file.content) (fact.value ≡ fact.file.content) (v ≡ fact.value) (λ a b. a ∙ sym b) (whole_value book fact.file.content f.slots slots came) fact.value_is;
       short = omega (arith, len, short);
       known = fact.known;

@@ -11,7 +11,7 @@ use Rattle.register_model.specs.declared.op.Word.TheVariants as words
 use Rattle.kept_promise.proofs.Common.{nat_tests, slice_get, cond, ◌==◌, chunks_of, end_of, Answer, Done, Failed, Status, Hashes, File, read_pending, fetch_of, with_hashes, listed, read_at, broken_of, idle, told_first, told_hashes, told_version, told_shape, lists_on, told_lease, uses_kept, if◌then◌else◌, Content, Pending, Fetch, ReadCall, Stage, Value, Core, Session, hashed_of, Book, value_at, Reply.Hashed, Reply.Versioned, Told, Queue, reply_program, reply_body}
 use Rattle.kept_promise.proofs.Lists.{some_is, nothing_there}
 use Rattle.kept_promise.proofs.Keys.{times}
-use Rattle.kept_promise.proofs.Messages.{Job, job, stage_word, lease_body, AllTolds, hash_offset, AnswerOf, IsAnswer, HashTold, IsHashed, IsLeased, LeaseTold, IsAfter, IsTried, Trying, TriedBy, IsFetch, FetchOf}
+use Rattle.kept_promise.proofs.Messages.{Job, job, stage_word, AllTolds, hash_offset, AnswerOf, IsAnswer, HashTold, IsHashed, IsLeased, LeaseTold, IsAfter, IsTried, Trying, TriedBy, IsFetch, FetchOf}
 use Rattle.kept_promise.proofs.Growth.{or_map}
 use Rattle.kept_promise.proofs.Facts.{FileIs, HasXids, IsSession, IsOf}
 use Rattle.kept_promise.proofs.Chunks.{row_of, sum_sound}
@@ -312,7 +312,6 @@ comes_leased book k qs n x q t ts j g a at e = by a (subst (AnswerOf book x.take
           word = word;
           value = told.value;
           told_ = told.told;
-          call = (lease_body j.file, refl, told.call);
           value_is = or_map book (value_at book j.file had.0.moment ≡ Some f.0.bytes) (bytes ≡ told.value) (λ v. sym f.3 ∙ one_content book j.file had.0.moment told.told.moment f.0.bytes told.value v told.told.value (had.0.version_is ∙ f.2 ∙ sym told.told.version_is)) had.0.value_is;
           short = subst (λ (b : List ℕ). length b ≤ 67108864) f.3 had.1;
           known = told.known;

@@ -9,18 +9,22 @@ use Rattle.trace_replay.specs.Core.{taken_of as session_taken}
 use Rattle.trace_replay.specs.Faithful.{OpenedBy}
 use Rattle.trace_replay.specs.Traffic.{attempts_in, no_attempt}
 use Rattle.trace_replay.specs.Trail.{given_by_message}
-use Rattle.kept_promise.proofs.Common.{Deal.Sent, hashed_of, Deal.Took, Deal.Found, nat_tests, ◌==◌, ◌&&◌, nat_le, nat_lt, slice_get, slice_set, option_map_or, Body, Message, Pending, server_step, command_step, got_step, cut, idle, took_if, drops, ended_by, ClientStep, Ended, Stage, State, Task, changes, changed_before, until, Op, Opening, TakenCall, Traffic, op_after, Core, Seat, Session, Event, Event.Joins, Event.Does, Event.Serves, Event.Hears, Event.Settles, Event.Cuts, Event.Hangs, CoreStep, numbered, session_of, ops_after, ops_with, acted, does, joins_as, joins, settles, cuts_if, cuts, happens, Moment, client_of, owner_in, wanted_by, taken_by, given_by, is_in, Deal, deals_with, deals_in, deals_of, Book, Queue, version_at, told_message}
+use Rattle.kept_promise.proofs.Common.{Deal.Sent, hashed_of, Deal.Took, Deal.Found, nat_tests, ◌==◌, ◌&&◌, nat_le, nat_lt, slice_get, slice_set, Body, Message, Pending, got_step, idle, took_if, drops, ClientStep, Ended, Stage, State, Task, changes, until, Op, Opening, TakenCall, op_after, Core, Event, Event.Hears, CoreStep, numbered, session_of, ops_after, ops_with, acted, happens, Moment, client_of, owner_in, wanted_by, taken_by, given_by, is_in, Deal, deals_with, deals_in, deals_of, Book, Queue, version_at, told_message}
 use Rattle.kept_promise.proofs.Lists.{some_is, nothing_there, at_replaced}
-use Rattle.kept_promise.proofs.Messages.{Job, job, stage_word, FetchOf, IsTrying}
+use Rattle.kept_promise.proofs.Messages.{Job, job, stage_word, AllTolds, AnswerOf, IsAnswer, FetchOf, IsTrying}
 use Rattle.kept_promise.proofs.Rights.{Caused}
 use Rattle.kept_promise.proofs.Fits.{FitLaws}
 use Rattle.kept_promise.proofs.Facts.{IsKept, IsSession}
 use Rattle.kept_promise.proofs.RunsCarried.{book_at, moment, Step, Carried}
 use Rattle.kept_promise.proofs.Counted.{AlikeUpTo, running_now, running_past}
-use Rattle.kept_promise.proofs.Actors.{acts_alone, Heard, heard_at, heard_acts, heard_takes, heard_gives}
+use Rattle.kept_promise.proofs.Actors.{job_task, acts_alone, Heard, heard_at, heard_acts, heard_takes, heard_gives}
 use Rattle.kept_promise.proofs.Versions.{version_in}
 use Rattle.kept_promise.proofs.VersionRuns.{own_op, word_after}
 use Rattle.kept_promise.proofs.JobFacts.{ops_shape}
+use Rattle.kept_promise.proofs.Adjusts.{adjusted_core}
+use Rattle.kept_promise.proofs.Leases.{client_stays}
+use Rattle.kept_promise.proofs.LogEvents.{file_stays}
+use Rattle.kept_promise.proofs.Points.{CalledAt, called_as, point_now, rests_on}
 use Rattle.kept_promise.proofs.OpsAfter.{IsHears, ops_after_event, same_versions, opened_before}
 use Rattle.kept_promise.proofs.StepCases.{Cases, took_cases}
 use Rattle.kept_promise.proofs.Taking.{Moved, version_later, versions_after, tries_of, moved_by}
@@ -34,18 +38,19 @@ use Rattle.kept_promise.proofs.OpensLog.{OpenRead, last_most, once_is}
 -- ---- what is carried
 
 -- an open that got its content ended by now; where it began more than one attempt its file had changed
-pub record IsOnce (past : List Moment) (steps : ℕ) (ops : List Op) (o : Op) : Type 0 where
+pub record IsOnce (past : List Moment) (book : Book) (o : Op) : Type 0 where
   pub end : ℕ
   pub end_is : o.end ≡ Some end
-  pub by : end ≤ steps
-  pub once : 1 < begins_in (deals_of o past) → Moved ops o.file o.begin end
+  pub by : end ≤ book.steps
+  pub once : 1 < begins_in (deals_of o past) → Moved book.ops o.file o.begin end
+  pub called : CalledAt book past o
 
-abbrev OnceAt : List Moment → Core → Type 0
-OnceAt past k = (p len : ℕ) (digest : List ℕ) (o : Op) → slice_get k.ops p ≡ Some o → o.outcome ≡ told.Opened len digest → IsOnce past k.steps k.ops o
+abbrev OnceAt : (all past : List Moment) → List Opening → Core → Type 0
+OnceAt all past opening k = (p len : ℕ) (digest : List ℕ) (o : Op) → slice_get k.ops p ≡ Some o → o.outcome ≡ told.Opened len digest → IsOnce past (book_at opening k all) o
 
-pub record Once (past : List Moment) (k : Core) : Type 0 where
+pub record Once (all past : List Moment) (opening : List Opening) (k : Core) : Type 0 where
   pub met : LogsAt MeetsBy OpenMet past k
-  pub once : OnceAt past k
+  pub once : OnceAt all past opening k
 
 -- ---- one that ended before
 
@@ -59,20 +64,23 @@ ended_apart o e n c at le = ap (λ t. (c == o.client) && (nat_le o.begin (n + 1)
     by true false false f = refl
     by false b false f = refl
 
--- an operation with another point, and a history that has the same versions so far
-stays : (past : List Moment) (k : Core) (e : Event) (steps : ℕ) (after : List Op) (o : Op) (t : Option ℕ) → k.steps ≤ steps → ((f q : ℕ) → q ≤ k.steps → version_in after f q ≡ version_in k.ops f q) → IsOnce past k.steps k.ops o → IsOnce (past ++ moment k e ∷ []) steps after (record o { point = t })
-stays past k e steps after o t le alike h = record {
+-- a history that has the same versions so far
+stays : (all past : List Moment) (opening : List Opening) (k : Core) (e : Event) (after : Core) (o : Op) → k.steps ≤ after.steps → ((f q : ℕ) → q ≤ k.steps → version_in after.ops f q ≡ version_in k.ops f q) → IsOnce past (book_at opening k all) o → IsOnce (past ++ moment k e ∷ []) (book_at opening after all) o
+stays all past opening k e after o le alike h = record {
   end = h.end;
   end_is = h.end_is;
   by = let b = h.by in omega (arith, b, le);
   once = λ lt.
-      let same : deals_of (record o { point = t }) (past ++ moment k e ∷ []) ≡ deals_of o past = deals_pointed o t (past ++ moment k e ∷ []) ∙ deals_same o past (moment k e) (deals_apart o (moment k e) (ended_apart o h.end k.steps (client_of k e) h.end_is h.by)) in
       let m = h.once (subst (λ l. 1 < begins_in l) same lt) in
       let a = m.1 in
       let b = m.2 in
       let c = h.by in
       (m.0, m.1, m.2, λ v. m.3 (sym (alike o.file o.begin (omega (arith, a, b, c))) ∙ v ∙ alike o.file m.0 (omega (arith, b, c))));
+  called = called_as (book_at opening k all) (book_at opening after all) past (past ++ moment k e ∷ []) o o (λ z c. c) refl refl (λ p is. is) (ap begins_in same) h.called;
 }
+  where
+    same : deals_of o (past ++ moment k e ∷ []) ≡ deals_of o past
+    same = deals_same o past (moment k e) (deals_apart o (moment k e) (ended_apart o h.end k.steps (client_of k e) h.end_is h.by))
 
 -- ---- an answer
 
@@ -126,12 +134,12 @@ begun_by log file v st h word lt = by st h word
     by (stage.Committing x) h w = absurd cc
 
 once_hears : FitLaws → (all past : List Moment) (opening : List Opening) (k : Core) (qs after : List Queue) (n now : ℕ) (bytes : List ℕ) (mid : List Queue) → IsKept (book_at opening k all) k qs → (h : Heard k qs n now bytes mid) → IsKept (book_at opening (happens k (Hears n now bytes)).core all) (happens k (Hears n now bytes)).core after
-    → LogsAt MeetsBy OpenMet past k → OnceAt past k → OnceAt (past ++ moment k (Hears n now bytes) ∷ []) (happens k (Hears n now bytes)).core
+    → LogsAt MeetsBy OpenMet past k → OnceAt all past opening k → OnceAt all (past ++ moment k (Hears n now bytes) ∷ []) opening (happens k (Hears n now bytes)).core
 once_hears fits all past opening k qs after n now bytes mid kept h left met before =
-    subst (λ (t : CoreStep). OnceAt (past ++ moment k (Hears n now bytes) ∷ []) t.core) (sym turned)
+    subst (λ (t : CoreStep). OnceAt all (past ++ moment k (Hears n now bytes) ∷ []) opening t.core) (sym turned)
     (λ p len digest q at is. elim (ops_shape k.ops h.seat.place r.0 taken (k.steps + 1) r.1 p q at) [
-      | inr old ↦ stays past k (Hears n now bytes) (k.steps + 1) (ops_with k.ops h.seat.place r.0 taken (k.steps + 1) r.1) q q.point (omega arith) (λ f m le. versions_after k.ops h.seat.place r.0 taken (k.steps + 1) r.1 f m) (before p len digest q old.1 is)
-      | inl new ↦ subst (IsOnce (past ++ moment k (Hears n now bytes) ∷ []) (k.steps + 1) (ops_with k.ops h.seat.place r.0 taken (k.steps + 1) r.1)) (sym new.3) (ended p len digest new.0 new.1 new.2 (ap (λ (z : Op). z.outcome) (sym new.3) ∙ is))
+      | inr old ↦ stays all past opening k (Hears n now bytes) (acted k h.session.owner h.seat r.0 r.1).core q (omega arith) (λ f m le. versions_after k.ops h.seat.place r.0 taken (k.steps + 1) r.1 f m) (before p len digest q old.1 is)
+      | inl new ↦ subst (IsOnce (past ++ moment k (Hears n now bytes) ∷ []) (book_at opening (acted k h.session.owner h.seat r.0 r.1).core all)) (sym new.3) (ended p len digest new.0 new.1 new.2 (ap (λ (z : Op). z.outcome) (sym new.3) ∙ is))
     ])
   where
     book : Book
@@ -174,8 +182,8 @@ once_hears fits all past opening k qs after n now bytes mid kept h left met befo
         )
 
     ended : (p len : ℕ) (digest : List ℕ) (o : Op) → h.seat.place ≡ Some p → slice_get k.ops p ≡ Some o → (op_after o (got_step h.seat.client (Ok (told_message h.told)) now).0 (session_taken (session_of k.sessions h.seat.session)) (k.steps + 1) (got_step h.seat.client (Ok (told_message h.told)) now).1).outcome ≡ told.Opened len digest
-        → IsOnce (past ++ moment k (Hears n now bytes) ∷ []) (k.steps + 1) (ops_with k.ops h.seat.place (got_step h.seat.client (Ok (told_message h.told)) now).0 (session_taken (session_of k.sessions h.seat.session)) (k.steps + 1) (got_step h.seat.client (Ok (told_message h.told)) now).1) (op_after o (got_step h.seat.client (Ok (told_message h.told)) now).0 (session_taken (session_of k.sessions h.seat.session)) (k.steps + 1) (got_step h.seat.client (Ok (told_message h.told)) now).1)
-    ended p len digest o e at is = record { end = k.steps + 1; end_is = end_is r.1.ended is; by = omega arith; once = λ lt. moved lt }
+        → IsOnce (past ++ moment k (Hears n now bytes) ∷ []) (book_at opening (acted k h.session.owner h.seat (got_step h.seat.client (Ok (told_message h.told)) now).0 (got_step h.seat.client (Ok (told_message h.told)) now).1).core all) (op_after o (got_step h.seat.client (Ok (told_message h.told)) now).0 (session_taken (session_of k.sessions h.seat.session)) (k.steps + 1) (got_step h.seat.client (Ok (told_message h.told)) now).1)
+    ended p len digest o e at is = record { end = k.steps + 1; end_is = end_is r.1.ended is; by = omega arith; once = λ lt. moved lt; called = called }
       where
         w : (j : Job) × (job h.seat ≡ Some j) × (j.place ≡ p) × (o.client ≡ h.session.owner) × (o.outcome ≡ told.Running) × (o.file ≡ j.file)
         w = own_op book k qs h.session.owner h.seat p o kept h.owner e at
@@ -197,6 +205,48 @@ once_hears fits all past opening k qs after n now bytes mid kept h left met befo
             by : (l : Option Ended) → (got_step h.seat.client (Ok (told_message h.told)) now).1.ended ≡ l → (op_after o r.0 taken (k.steps + 1) (record r.1 { ended = l })).outcome ≡ told.Opened len digest → (got_step h.seat.client (Ok (told_message h.told)) now).1.send ≡ []
             by None f z = absurd (running (sym w.4 ∙ z))
             by (Some x) f z = quiet_answer h.seat.client h.seat.client.task h.told.xid (Rattle.kept_promise.proofs.Common.reply_body h.told.reply) (client.has_call (client.pending h.seat.client.task) h.told.xid) x f
+
+        job_is : job s.seat ≡ Some w.0
+        job_is = ap job same_seat ∙ w.1
+
+        fetch : FetchOf (book_at opening k all) (session_taken (session_of k.sessions h.seat.session)) w.0 w.0.stage
+        fetch = subst (λ z. FetchOf (book_at opening k all) z w.0 w.0.stage) taken_is ((s.talk h.uncut).fetch w.0 job_is)
+
+        answer : AnswerOf (book_at opening k all) (session_taken (session_of k.sessions h.seat.session)) h.session.closing (Some w.0) h.told.xid h.told.reply
+        answer = subst (λ z. AnswerOf (book_at opening k all) z h.session.closing (Some w.0) h.told.xid h.told.reply) taken_is (subst (λ z. AnswerOf (book_at opening k all) h.session.taken h.session.closing z h.told.xid h.told.reply) job_is (subst (AllTolds (IsAnswer (book_at opening k all) h.session.taken h.session.closing (job s.seat))) h.first (s.talk h.uncut).answers).0)
+
+        there : slice_get k.ops w.0.place ≡ Some o
+        there = ap (slice_get k.ops) w.2 ∙ at
+
+        open_word : o.word ≡ words.Open
+        open_word =
+            let ops_are : more.ops ≡ slice_set k.ops p new = ap (λ (t : CoreStep). t.core.ops) turned ∙ ap (λ l. ops_with k.ops l r.0 taken (k.steps + 1) r.1) e ∙ ap (λ l. ops_after k.ops p l r.0 taken (k.steps + 1) r.1) at in
+            let right = left.sound.rights p new (ap (λ (l : List Op). slice_get l p) ops_are ∙ at_replaced k.ops p new o at) in
+            sym (word_after o r.0 taken (k.steps + 1) r.1) ∙ (subst (Caused more new) is right.cause).0
+
+        stage_open : stage_word w.0.stage ≡ words.Open
+        stage_open =
+            let of = (kept.seats h.session.owner h.seat h.owner).task w.0 w.1 in
+            sym (ap (λ (z : Op). z.word) (some_is o of.op (sym there ∙ of.there)) ∙ of.word) ∙ open_word
+
+        -- it began no attempt in this step
+        begun : begins_in (deals_of new (past ++ moment k (Hears n now bytes) ∷ [])) ≡ begins_in (deals_of o past)
+        begun =
+            let actor = (acts_alone book k qs h.session.owner h.seat kept h.owner).own p o e at in
+            let log = log_is o new (running_past o r.0 taken k.steps r.1 actor.1) (running_now o r.0 taken k.steps h.session.owner r.1 actor.0 actor.1 actor.2) in
+            let ts = wanted_by h.seat.client (Ok (told_message h.told)) in
+            let fs = given_by_message h.seat.client (Ok (told_message h.told)) in
+            let a = ap begins_in log in
+            let b = sum_join Rattle.kept_promise.proofs.Common.first_number (deals_of o past) (deals_with ts fs r.1.send) in
+            let c = sum_join Rattle.kept_promise.proofs.Common.first_number (map Took ts ++ map Found fs) (map Sent r.1.send) in
+            let d = sum_took Rattle.kept_promise.proofs.Common.first_number ts fs in
+            let none = ap (λ (ms : List Message). begins_in (map Sent ms)) silent in
+            omega (arith, a, b, c, d, none)
+
+        called : CalledAt (book_at opening (acted k h.session.owner h.seat (got_step h.seat.client (Ok (told_message h.told)) now).0 (got_step h.seat.client (Ok (told_message h.told)) now).1).core all) (past ++ moment k (Hears n now bytes) ∷ []) (op_after o (got_step h.seat.client (Ok (told_message h.told)) now).0 (session_taken (session_of k.sessions h.seat.session)) (k.steps + 1) (got_step h.seat.client (Ok (told_message h.told)) now).1)
+        called = called_as (book_at opening k all) (book_at opening (acted k h.session.owner h.seat r.0 r.1).core all) past (past ++ moment k (Hears n now bytes) ∷ []) (record o { point = new.point }) new (λ z c. c) (client_stays o r.0 taken (k.steps + 1) r.1) (file_stays o r.0 taken (k.steps + 1) r.1) (λ q z. z)
+            (begun ∙ ap begins_in (sym (deals_pointed o new.point past)))
+            (point_now (book_at opening k all) past o w.0 r.0 taken (k.steps + 1) r.1 len digest there w.5 w.4 open_word stage_open (met.jobs h.session.owner h.seat w.0 o h.owner w.1 there) is (rests_on (book_at opening k all) taken h.session.closing h.told w.0 h.seat.client now (job_task h.seat.place h.seat.client.task w.0 w.1) fetch answer))
 
         moved : 1 < begins_in (deals_of (op_after o (got_step h.seat.client (Ok (told_message h.told)) now).0 (session_taken (session_of k.sessions h.seat.session)) (k.steps + 1) (got_step h.seat.client (Ok (told_message h.told)) now).1) (past ++ moment k (Hears n now bytes) ∷ []))
             → Moved (ops_with k.ops h.seat.place (got_step h.seat.client (Ok (told_message h.told)) now).0 (session_taken (session_of k.sessions h.seat.session)) (k.steps + 1) (got_step h.seat.client (Ok (told_message h.told)) now).1) (op_after o (got_step h.seat.client (Ok (told_message h.told)) now).0 (session_taken (session_of k.sessions h.seat.session)) (k.steps + 1) (got_step h.seat.client (Ok (told_message h.told)) now).1).file (op_after o (got_step h.seat.client (Ok (told_message h.told)) now).0 (session_taken (session_of k.sessions h.seat.session)) (k.steps + 1) (got_step h.seat.client (Ok (told_message h.told)) now).1).begin (k.steps + 1)
@@ -236,13 +286,13 @@ once_hears fits all past opening k qs after n now bytes mid kept h left met befo
 -- ---- any event
 
 -- at which no client hears anything
-once_quiet : (all past rest : List Moment) (opening : List Opening) (k : Core) (qs : List Queue) (e : Event) (mid after : List Queue) → Step all past rest opening k qs e mid after → (IsHears e → ⊥) → OnceAt past k → OnceAt (past ++ moment k e ∷ []) (happens k e).core
+once_quiet : (all past rest : List Moment) (opening : List Opening) (k : Core) (qs : List Queue) (e : Event) (mid after : List Queue) → Step all past rest opening k qs e mid after → (IsHears e → ⊥) → OnceAt all past opening k → OnceAt all (past ++ moment k e ∷ []) opening (happens k e).core
 once_quiet all past rest opening k qs e mid after s quiet h = λ p len digest r at is.
     let w = ops_after_event all past rest opening k qs e mid after s in
     let o = opened_before (book_at opening k all) k qs e (happens k e).core.ops s.kept quiet w.0 p len digest r at is in
-    subst (IsOnce (past ++ moment k e ∷ []) (happens k e).core.steps (happens k e).core.ops) (sym o.3) (stays past k e (happens k e).core.steps (happens k e).core.ops o.0 o.1 w.1 (same_versions k e (happens k e).core.ops w.0) (h p len digest o.0 o.2 (ap (λ (z : Op). z.outcome) (sym o.3) ∙ is)))
+    stays all past opening k e (happens k e).core r w.1 (same_versions k e (happens k e).core.ops w.0) (h p len digest r o is)
 
-once_event : FitLaws → (all past rest : List Moment) (opening : List Opening) (k : Core) (qs : List Queue) (e : Event) (mid after : List Queue) → Step all past rest opening k qs e mid after → Once past k → OnceAt (past ++ moment k e ∷ []) (happens k e).core
+once_event : FitLaws → (all past rest : List Moment) (opening : List Opening) (k : Core) (qs : List Queue) (e : Event) (mid after : List Queue) → Step all past rest opening k qs e mid after → Once all past opening k → OnceAt all (past ++ moment k e ∷ []) opening (happens k e).core
 once_event laws all past rest opening k qs (Hears n now bytes) mid after s h = once_hears laws all past opening k qs after n now bytes mid s.kept (heard_at (book_at opening k all) k qs n now bytes mid s.kept s.finds) s.left h.met h.once
 once_event laws all past rest opening k qs e mid after s h = once_quiet all past rest opening k qs e mid after s (λ z. z) h.once
 
@@ -250,19 +300,19 @@ met_carried : FitLaws → Carried (λ all past opening k qs. LogsAt MeetsBy Open
 met_carried laws = carried_logs (λ all. MeetsBy) (λ all. OpenMet) meets_laws laws
 
 abbrev pub IsMet : (all past : List Moment) → List Opening → Core → List Queue → Type 0
-IsMet all past opening k qs = Once past k
+IsMet all past opening k qs = Once all past opening k
 
 pub carried_once : FitLaws → Carried IsMet
 carried_once laws = record {
   first = λ all opening files changes count kept. record { met = (met_carried laws).first all opening files changes count kept; once = λ p len digest o at e. nothing_there o at };
   steps = λ all past rest opening k qs e mid after s h. record { met = (met_carried laws).steps all past rest opening k qs e mid after s h.met; once = once_event laws all past rest opening k qs e mid after s h };
-  adjusts = λ all past opening k qs index seats same h. record { met = (met_carried laws).adjusts all past opening k qs index seats same h.met; once = λ p len digest o at is. (let w = h.once p len digest o at is in record { end = w.end; end_is = w.end_is; by = w.by; once = w.once }) };
+  adjusts = λ all past opening k qs index seats same h. record { met = (met_carried laws).adjusts all past opening k qs index seats same h.met; once = λ p len digest o at is. (let w = h.once p len digest o at is in record { end = w.end; end_is = w.end_is; by = w.by; once = w.once; called = called_as (book_at opening k all) (book_at opening (adjusted_core k index seats) all) past past o o (λ z c. c) refl refl (λ p is. is) refl w.called }) };
 }
 
 -- ---- what it makes of the promise
 
 -- an open counted its last attempt at least; just that where its file had one version
-pub opened_once : (book : Book) (o : Op) (len : ℕ) (digest : List ℕ) → o.outcome ≡ told.Opened len digest → o.word ≡ words.Open → IsSum o.traffic (deals_of o book.moments) → OpOwn (deals_of o book.moments) o.word o.file o.value o.outcome → OpenRead (hashed_of book.moments) (deals_of o book.moments) o.word o.file o.value o.outcome → IsOnce book.moments book.steps book.ops o → OpenedBy book o
+pub opened_once : (book : Book) (o : Op) (len : ℕ) (digest : List ℕ) → o.outcome ≡ told.Opened len digest → o.word ≡ words.Open → IsSum o.traffic (deals_of o book.moments) → OpOwn (deals_of o book.moments) o.word o.file o.value o.outcome → OpenRead (hashed_of book.moments) (deals_of o book.moments) o.word o.file o.value o.outcome → IsOnce book.moments book o → OpenedBy book o
 opened_once book o len digest is open_ sum own read once = record {
   reads = let r = sum.read in let b = (last_most (deals_of o book.moments)).0 in omega (arith, r, b);
   bytes = let d = sum.data_is in let b = (last_most (deals_of o book.moments)).1 in omega (arith, d, b);

@@ -20,7 +20,7 @@ use Rattle.kept_promise.proofs.JobFacts.{ops_shape}
 use Rattle.kept_promise.proofs.Versions.{version_in, count_replaced, count_appended}
 use Rattle.kept_promise.proofs.Taking.{versions_after}
 use Rattle.kept_promise.proofs.CommandOps.{made_by, made_later, made_pointless, last_right}
-use Rattle.kept_promise.proofs.VersionRuns.{Settled, settled_are, own_op}
+use Rattle.kept_promise.proofs.VersionRuns.{Settled, settled_are, own_op, close_not_opened}
 use Rattle.kept_promise.proofs.LogEvents.{serves_silent, hangs_silent}
 
 abbrev pub IsHears : Event → Type 0
@@ -152,24 +152,24 @@ same_versions k e ops by f q le = shown by
         ap (λ b. (changes s.1.word && (s.1.file == f)) && b) (let t : nat_lt (k.steps + 1) q ≡ false = grind (arith, nat_tests, le) in t) ∙ ap (λ z. (changes s.1.word && (s.1.file == f)) && option_map_or (λ x. nat_lt x q) z false) (sym s.3.1)))
 
 -- where none was heard, an open that has its content had it before
-pub opened_before : (book : Book) (k : Core) (qs : List Queue) (e : Event) (ops : List Op) → IsKept book k qs → (IsHears e → ⊥) → OpsAfter e k ops → (p len : ℕ) (digest : List ℕ) (r : Op) → slice_get ops p ≡ Some r → r.outcome ≡ told.Opened len digest → (o : Op) × (t : Option ℕ) × (slice_get k.ops p ≡ Some o) × (r ≡ record o { point = t })
+pub opened_before : (book : Book) (k : Core) (qs : List Queue) (e : Event) (ops : List Op) → IsKept book k qs → (IsHears e → ⊥) → OpsAfter e k ops → (p len : ℕ) (digest : List ℕ) (r : Op) → slice_get ops p ≡ Some r → r.outcome ≡ told.Opened len digest → slice_get k.ops p ≡ Some r
 opened_before book k qs e ops kept quiet by p len digest r at is = shown by
   where
-    shown : OpsAfter e k ops → (o : Op) × (t : Option ℕ) × (slice_get k.ops p ≡ Some o) × (r ≡ record o { point = t })
-    shown (inl same) = (r, r.point, ap (λ (l : List Op). slice_get l p) (sym same) ∙ at, refl)
+    shown : OpsAfter e k ops → slice_get k.ops p ≡ Some r
+    shown (inl same) = ap (λ (l : List Op). slice_get l p) (sym same) ∙ at
     shown (inr (inl n)) = elim (of_appended k.ops n.new p r (ap (λ (l : List Op). slice_get l p) (sym n.is) ∙ at)) [
       | inl last ↦ absurd (n.unopened len digest (ap (λ (z : Op). z.outcome) (sym last.1) ∙ is))
-      | inr old ↦ (r, r.point, old, refl)
+      | inr old ↦ old
     ]
     shown (inr (inr (inl a))) = elim (ops_shape k.ops a.seat.place a.after (session_taken (session_of k.sessions a.seat.session)) (k.steps + 1) a.acts p r (ap (λ (l : List Op). slice_get l p) (sym a.is) ∙ at)) [
-      | inr old ↦ (r, r.point, old.1, refl)
+      | inr old ↦ old.1
       | inl mine ↦ elim a.unopened [
         | inl hears ↦ absurd (quiet hears)
         | inr never ↦ absurd (never mine.0 len digest (own_op book k qs a.index a.seat p mine.0 kept a.here mine.1 mine.2).4 (ap (λ (z : Op). z.outcome) (sym mine.3) ∙ is))
       ]
     ]
-    shown (inr (inr (inr (inl same)))) = (r, r.point, ap (λ (l : List Op). slice_get l p) (sym same) ∙ at, refl)
+    shown (inr (inr (inr (inl same)))) = ap (λ (l : List Op). slice_get l p) (sym same) ∙ at
     shown (inr (inr (inr (inr s)))) = elim (of_replaced k.ops s.0 (record s.1 { point = Some (k.steps + 1) }) p r (ap (λ (l : List Op). slice_get l p) (sym s.4) ∙ at)) [
-      | inr old ↦ (r, r.point, old.1, refl)
-      | inl made ↦ (s.1, Some (k.steps + 1), ap (slice_get k.ops) made.0 ∙ s.2, made.1)
+      | inr old ↦ old.1
+      | inl made ↦ absurd (close_not_opened book s.1 len digest (kept.sound.rights s.0 s.1 (ap (λ (l : List Op). slice_get l s.0) kept.ops ∙ s.2)) s.3.0 (ap (λ (z : Op). z.outcome) (sym made.1) ∙ is))
     ]

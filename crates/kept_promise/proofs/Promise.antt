@@ -25,6 +25,7 @@ use Rattle.kept_promise.proofs.NumberedRuns.{AllNumbered, carried_numbered}
 use Rattle.kept_promise.proofs.LogSums.{counts_log}
 use Rattle.kept_promise.proofs.LogEvents.{LogsAt, carried_logs}
 use Rattle.kept_promise.proofs.OpenedOnce.{IsMet, carried_once, opened_once}
+use Rattle.kept_promise.proofs.Points.{opens_at}
 use Rattle.kept_promise.proofs.Rights.{Caused}
 use Rattle.kept_promise.proofs.OpensLog.{OpensBy, OpenRead, opens_laws, each_reaches, got_by}
 use Rattle.kept_promise.proofs.ClosesLog.{names_chunks, pays_all, saves_all}
@@ -119,6 +120,7 @@ promise_of input w ran h =
         journal = h.kept.sound.journal;
         settled = changes.0.settled;
         settles = changes.0.first;
+        points = λ k o at. opens_at (book_of w all) o (λ len digest is. (logs.1.0.once k len digest o at is).called);
         versions = opens_version (book_of w all) w.core h.queues h.kept versions.1;
         no_fault = no_fault (book_of w all) h.kept.sound;
         traffic = stored.counted.counts;

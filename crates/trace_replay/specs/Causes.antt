@@ -7,7 +7,6 @@ use Rattle.command_text.specs.declared.command.Command.{Command}
 use Rattle.command_text.specs.declared.command.Command.TheVariants as command
 use Rattle.hash_calls.specs.declared.call.Commit.{Commit}
 use Rattle.hash_calls.specs.declared.message.Lb.TheVariants as lb
-use Rattle.xdr_codec.specs.Handle.{handle_bytes}
 use Rattle.wire.specs.Parse.{parse_of}
 use Rattle.wire.specs.declared.message.Body.{Body}
 use Rattle.wire.specs.declared.message.Body.TheVariants as body
@@ -127,13 +126,7 @@ pub record TakesCall (book : Book) (client step xid : ℕ) (call : Body) : Type 
   pub parsed : parse_of server_waiting bytes ≡ Ok (message.Call xid call)
   pub waits : WaitsFor moment client session xid
 
--- what an open asks first: for the version of its file, or for its chunks from the first byte on, as each attempt does
-abbrev pub IsFirstCall : (file : ℕ) → Body → Type 0
-IsFirstCall file (body.Lb (lb.GetLease handle)) = handle ≡ handle_bytes file
-IsFirstCall file (body.Lb (lb.GetHash a)) = (a.handle ≡ handle_bytes file) × (a.offset ≡ 0)
-IsFirstCall file b = ⊥
-
--- an open of a file of the tree got the content that its file had at its point, the step in which the server took its first call, or that of an attempt
+-- an open of a file of the tree got the content that its file had at its point (`HasPoint` says which step that is)
 pub record IsOpened (book : Book) (file : ℕ) (o : Op) (len : ℕ) (digest : List ℕ) : Type 0 where
   pub there : IsSome (content_of book.opening file)
   pub length_is : len ≡ length o.value
@@ -141,10 +134,6 @@ pub record IsOpened (book : Book) (file : ℕ) (o : Op) (len : ℕ) (digest : Li
   pub point : ℕ
   pub within : Within o point
   pub value_is : Or book (value_at book file point ≡ Some o.value)
-  pub xid : ℕ
-  pub call : Body
-  pub first : IsFirstCall file call
-  pub taken : TakesCall book o.client point xid call
 
 -- a change of the file was made at the point, of which the server's journal tells this
 pub record IsEntered (book : Book) (file point version len : ℕ) (digest : List ℕ) : Type 0 where

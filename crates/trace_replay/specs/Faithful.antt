@@ -1,11 +1,13 @@
 -- When the history of a run is faithful to its trace.
-use Rattle.std.specs.Prelude.{◌≡◌, ℕ, ◌+◌, ◌*◌, ◌<◌, ◌≤◌, List, length, ◌⊎◌, Bool, true, false, not, Option, Some, None, is_some, Contains, slice_get, map}
+use Rattle.std.specs.Prelude.{◌≡◌, ℕ, zero, suc, ◌+◌, ◌*◌, ◌<◌, ◌≤◌, List, length, ◌⊎◌, Bool, true, false, not, Option, Some, None, is_some, Contains, slice_get, map}
 use Rattle.sha1.specs.Sha1.{sha1}
 use Rattle.command_text.specs.Parts.{lines_of}
 use Rattle.command_text.specs.declared.command.Command.{Command}
 use Rattle.command_text.specs.declared.command.Command.TheVariants as command
+use Rattle.xdr_codec.specs.Handle.{handle_bytes}
 use Rattle.xdr_codec.specs.declared.answer.Answer.TheVariants.{Done}
 use Rattle.hash_calls.specs.declared.message.Lb.TheVariants as lb
+use Rattle.wire.specs.declared.message.Body.{Body}
 use Rattle.wire.specs.declared.message.Body.TheVariants as body
 use Rattle.wire.specs.declared.message.Message.{Message}
 use Rattle.wire.specs.declared.message.Message.TheVariants as message
@@ -22,12 +24,12 @@ use Rattle.trace_replay.specs.Ops.{no_traffic}
 use Rattle.trace_replay.specs.Commands.{word_of, file_of}
 use Rattle.trace_replay.specs.Core.{Session, Event.Settles, Event.Cuts, numbered}
 use Rattle.trace_replay.specs.Trail.{Deed, Moment, Said, AreCounted, told_of, events_of, deeds_of, told_in, openings_of, commands_of, step_of, sent_of, taken_of}
-use Rattle.trace_replay.specs.Traffic.{is_of, traffic_of, stored_traffic, CountsOwn, SentCommit, AttemptsEnd, AttemptsMet, deals_of, IsFor, AreOwn, NamesChunks}
+use Rattle.trace_replay.specs.Traffic.{is_of, attempts_of, traffic_of, stored_traffic, CountsOwn, SentCommit, AttemptsEnd, AttemptsMet, deals_of, IsFor, AreOwn, NamesChunks}
 use Rattle.trace_replay.specs.Fetches.{EachReaches, GotBy, last_fetch, read_traffic}
 use Rattle.trace_replay.specs.Owing.{owes_nothing, PaysAll}
 use Rattle.trace_replay.specs.Numbered.{numbers_of, CountOn}
 use Rattle.trace_replay.specs.Book.{Book, Or, version_at}
-use Rattle.trace_replay.specs.Causes.{HasCause, can_ask, is_busy, local_before, own_answer}
+use Rattle.trace_replay.specs.Causes.{TakesCall, HasCause, can_ask, is_busy, local_before, own_answer}
 
 -- ---- an operation
 
@@ -89,6 +91,28 @@ pub record OpensOne (book : Book) (o : Op) : Type 0 where
 abbrev pub OpensVersion : Book → Op → Outcome → Type 0
 OpensVersion book o (told.Opened len digest) = OpensOne book o
 OpensVersion book o outcome = Unit {0}
+
+-- ---- the point of an open
+
+-- by which call an open of this file has its point, where it began so many attempts: by its GETLEASE, where it began none, and else by a GETHASH from the
+-- first byte on, as each attempt begins with one
+abbrev pub IsFirstOf : (attempts file : ℕ) → Body → Type 0
+IsFirstOf zero file (body.Lb (lb.GetLease handle)) = handle ≡ handle_bytes file
+IsFirstOf (suc n) file (body.Lb (lb.GetHash a)) = (a.handle ≡ handle_bytes file) × (a.offset ≡ 0)
+IsFirstOf n file b = ⊥
+
+-- An open that got its content has its point in the step in which the server took that call, while the client's operation under way waited for the answer.
+pub record HasPoint (book : Book) (o : Op) : Type 0 where
+  pub point : ℕ
+  pub point_is : o.point ≡ Some point
+  pub xid : ℕ
+  pub call : Body
+  pub first : IsFirstOf (attempts_of o (sent_of book.moments)) o.file call
+  pub taken : TakesCall book o.client point xid call
+
+abbrev pub OpensAt : Book → Op → Outcome → Type 0
+OpensAt book o (told.Opened len digest) = HasPoint book o
+OpensAt book o outcome = Unit {0}
 
 -- ---- what an open counts
 
@@ -164,6 +188,8 @@ pub record IsFaithful (input : List ℕ) (book : Book) : Type 0 where
   pub journal : HasJournal book
   pub settled : (i p : ℕ) → slice_get book.entries i ≡ Some p → IsSettled book i p
   pub settles : SettlesFirst book
+  -- an open that got its content has its point by its GETLEASE, if it began no attempt, and else by the first GETHASH of one
+  pub points : (k : ℕ) (o : Op) → slice_get book.ops k ≡ Some o → OpensAt book o o.outcome
   pub versions : (k : ℕ) (o : Op) → slice_get book.ops k ≡ Some o → OpensVersion book o o.outcome
   -- a peer's fault never comes
   pub no_fault : (k n : ℕ) (o : Op) → slice_get book.ops k ≡ Some o → o.outcome ≡ told.BadPeer n → ⊥
