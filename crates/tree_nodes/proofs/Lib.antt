@@ -2,6 +2,7 @@ pub mod Adding
 pub mod Changes
 pub mod Finds
 pub mod Fronts
+pub mod Gathering
 pub mod Lists
 pub mod Order
 pub mod Ranges

@@ -42,7 +42,7 @@ then_equal Less s e = absurd cc
 then_equal Equal s e = (refl, e)
 then_equal Greater s e = absurd cc
 
-named_if : (m : Node) (dir : ℕ) (name : List ℕ) → place_cmp m.parent m.name dir name ≡ Equal → is_named dir name m ≡ true
+pub named_if : (m : Node) (dir : ℕ) (name : List ℕ) → place_cmp m.parent m.name dir name ≡ Equal → is_named dir name m ≡ true
 named_if m dir name e =
     let parts = then_equal (nat_cmp m.parent dir) (slice_cmp nat_cmp m.name name) e in
     let first : (m.parent == dir) ≡ true = let same : m.parent ≡ dir = nat_cmp-IsAntisymmetric m.parent dir parts.0 in grind (arith, nat_tests, same) in

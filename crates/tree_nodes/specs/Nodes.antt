@@ -1,5 +1,5 @@
 -- The nodes of a tree: a list in the order of their directories' ids, and in a directory of their names' bytes.
-use Rattle.std.specs.Prelude.{◌≡◌, ℕ, List, [], ◌∷◌, map, Option, Bool, true, not, ◌==◌, ◌&&◌, if◌then◌else◌}
+use Rattle.std.specs.Prelude.{◌≡◌, ℕ, List, [], ◌∷◌, map, Option, Bool, true, false, not, ◌==◌, ◌&&◌, if◌then◌else◌}
 use Rattle.std.specs.List.{find, filter, AllByRecursion}
 use Rattle.std.specs.Str.{bytes_eq}
 use Rattle.std.specs.Ordering.{nat_cmp, is_lt, ordering_then}
@@ -35,12 +35,26 @@ abbrev pub AreInOrder : List Node → Type 0
 AreInOrder [] = Unit {0}
 AreInOrder (n ∷ ns) = AllByRecursion (λ m. before n m.parent m.name ≡ true) ns × AreInOrder ns
 
+-- two nodes have neither one id nor one name
+abbrev pub Differ : Node → Node → Type 0
+Differ m n = ((m.id == n.id) ≡ false) × (((m.parent == n.parent) && bytes_eq m.name n.name) ≡ false)
+
+-- no two of them have
+abbrev pub AreApart : List Node → Type 0
+AreApart [] = Unit {0}
+AreApart (n ∷ ns) = AllByRecursion (Differ n) ns × AreApart ns
+
 -- ---- changes
 
 -- the nodes and one more, before the first that it comes before
 abbrev pub with_node : List Node → Node → List Node
 with_node [] n = n ∷ []
 with_node (m ∷ ms) n = let later : List Node = with_node ms n in if before m n.parent n.name then m ∷ later else n ∷ m ∷ ms
+
+-- the nodes and several more
+abbrev pub with_nodes : List Node → List Node → List Node
+with_nodes ms [] = ms
+with_nodes ms (n ∷ ns) = with_nodes (with_node ms n) ns
 
 -- the nodes without that of an id
 abbrev pub without : List Node → ℕ → List Node

@@ -1,4 +1,4 @@
-//! The content of a file, with its chunks.
+//! The content of a file, with its chunks: those of `chunk_cut/specs/Chunks.antt`.
 
 ghost use Rattle.std.specs.Prelude.{◌≡◌, ◌↔◌, [], length, IsTrue, IfOk};
 ghost use Rattle.sha1.specs.Sha1.{sha1};

@@ -4,6 +4,7 @@
 #![tactic(auto)]
 
 pub mod content;
+mod listed;
 pub mod node;
 pub mod nodes;
 pub mod slot;

@@ -1,4 +1,4 @@
-//! Nodes of a tree.
+//! Nodes of a tree. What is made of them stands in `specs/Nodes.antt`.
 
 use crate::content::Content;
 use lb_base::items::Name;

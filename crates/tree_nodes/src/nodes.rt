@@ -1,13 +1,14 @@
-//! The nodes of a tree: their one public face.
+//! The nodes of a tree: their one public face, by `specs/Nodes.antt`.
 
 ghost use Rattle.std.specs.Prelude.{◌≡◌, ℕ, ◌+◌, ◌-◌, ◌<◌, ◌^◌, ◌≤◌, [], ◌∷◌, ◌==◌, Option, Some, None, IfOk, OnOk, OnErr, IsSome, length, take, drop};
-ghost use Rattle.std.specs.List.{slice_get};
+ghost use Rattle.std.specs.List.{slice_get, AllByRecursion};
 ghost use Rattle.std.specs.Option.{option_copied};
 ghost use Rattle.tree_nodes.specs.declared.node.Node.{Node};
 ghost use Rattle.tree_nodes.specs.declared.node.Body.TheVariants.{File};
-ghost use Rattle.tree_nodes.specs.Nodes.{named, with_node, without, with_id, versioned, changed, names};
+ghost use Rattle.tree_nodes.specs.Nodes.{named, with_node, with_nodes, AreApart, without, with_id, versioned, changed, names};
 
 use crate::content::Content;
+use crate::listed;
 use crate::node::Node;
 use crate::table::{self, Table};
 use lb_base::items::Name;
@@ -45,6 +46,18 @@ impl Nodes {
                 next,
             },
         }
+    }
+
+    /// These nodes, of which no two have one id or one name, in their order. The ids below `next` are
+    /// never given. The one error is want of memory.
+    pub fn from_list(alloc: Global, nodes: Vec<Node>, next: u64) -> Result<Nodes, AllocError>
+        requires apart { AreApart nodes.items }
+        requires below { AllByRecursion (λ n. n.id < next) nodes.items }
+        ensures nodes { IfOk result (λ n. n.nodes ≡ with_nodes [] nodes.items) }
+        ensures next { IfOk result (λ n. n.next ≡ next) }
+    {
+        let table = listed::from_list(alloc, nodes, next)?;
+        Ok(Nodes { table })
     }
 
     /// The id that is given next, at the least.

@@ -1,4 +1,4 @@
-//! Places for nodes, by rising ids.
+//! Places for nodes, by rising ids: `specs/Table.antt`.
 
 ghost use Rattle.std.specs.Prelude.{◌≡◌, ◌<◌, ◌^◌, ◌≤◌, IfSome, length, Some, List, [], ◌∷◌, ◌++◌};
 ghost use Rattle.std.specs.List.{slice_get, slice_set};

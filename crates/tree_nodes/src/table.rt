@@ -1,4 +1,4 @@
-//! Nodes by their ids and by their names.
+//! Nodes by their ids and by their names: `specs/Nodes.antt`, and how they lie `specs/Table.antt`.
 
 ghost use Rattle.std.specs.Prelude.{◌≡◌, ℕ, ◌+◌, ◌-◌, ◌<◌, ◌^◌, ◌≤◌, Option, Some, None, IfSome, IfOk, OnOk, OnErr, IsSome, is_some, length, map, take, drop, min, IsTrue, false, ◌==◌, ◌&&◌};
 ghost use Rattle.std.specs.List.{slice_get, slice_set, insert, remove, AllByRecursion};
