@@ -1,5 +1,5 @@
 -- What is found is among the nodes.
-use Rattle.std.proofs.Common.{◌≡◌, ℕ, List, [], ◌∷◌, Option, Some, None, Bool, true, false, ◌==◌, ◌&&◌, refl, sym, ap, subst, if◌then◌else◌, Result, Ok, Err, IfOk, IfSome, ◌<◌, ◌-◌, ◌^◌, arith}
+use Rattle.std.proofs.Common.{◌≡◌, ℕ, List, [], ◌∷◌, Option, Some, None, Bool, true, false, ◌==◌, ◌&&◌, refl, sym, ap, subst, if◌then◌else◌, Result, Ok, Err, IfOk, IfSome, ◌<◌, ◌≤◌, ◌-◌, ◌^◌, length, arith}
 use Rattle.std.specs.Borrow.{Bor}
 use Rattle.std.specs.Option.{option_copied}
 use Rattle.xdr_codec.specs.declared.status.Status.{Status}
@@ -10,8 +10,9 @@ use Rattle.tree_nodes.specs.Nodes.{named, with_id}
 use Rattle.tree_nodes.specs.View.{NodesState}
 use Rattle.file_tree.specs.Names.{is_dot, is_dot_dot}
 use Rattle.file_tree.specs.Reading.{above, looked}
-use Rattle.file_tree.specs.Tree.{or_no_entry}
-use Rattle.file_tree.specs.View.{lent, AreBounded, IsNodeBounded}
+use Rattle.file_tree.specs.Step.{file_most}
+use Rattle.file_tree.specs.Tree.{or_no_entry, content_of}
+use Rattle.file_tree.specs.View.{lent, AreBounded, IsNodeBounded, IsWithinLimits}
 
 pub some_is : (d a b : Node) → Some a ≡ Some b → a ≡ b
 some_is d a b e = ap (λ o. or_else o) e
@@ -82,3 +83,8 @@ looked_bounded nodes changes d name n bounded is e = dot_if (is_dot name) (is_do
 pub looked_ok : (nodes : NodesState) (changes : ℕ) (d : Node) (name : List ℕ) (r : Result (Bor Node) Status) → AreBounded nodes changes → IsNodeBounded nodes.next changes d → lent r ≡ looked nodes.nodes d name → IfOk r (λ n. IsNodeBounded nodes.next changes n.now)
 looked_ok nodes changes d name (Ok n) bounded is e = looked_bounded nodes changes d name n.now bounded is (sym e)
 looked_ok nodes changes d name (Err s) bounded is e = tt
+
+-- no content is longer than one may be
+pub node_short : (nodes : NodesState) (changes id : ℕ) (o : Option (Bor Node)) → IsWithinLimits nodes changes → option_copied o ≡ with_id nodes.nodes id → IfSome o (λ n. length (content_of n.now.body) ≤ file_most)
+node_short nodes changes id None l e = tt
+node_short nodes changes id (Some n) l e = (found_all (IsNodeBounded nodes.next changes) (λ m. m.id == id) nodes.nodes n.now l.each (sym e)).content

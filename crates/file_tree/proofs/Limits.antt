@@ -1,24 +1,24 @@
 -- What changes leave of a tree's limits.
-use Rattle.std.proofs.Common.{◌≡◌, ℕ, ◌+◌, ◌^◌, ◌<◌, ◌≤◌, List, [], ◌∷◌, length, Option, Some, None, Bool, true, false, not, ◌==◌, refl, sym, ap, arith, if◌then◌else◌, cond}
-use Rattle.std.specs.List.{filter, AllByRecursion}
+use Rattle.std.proofs.Common.{◌≡◌, ℕ, zero, suc, ◌+◌, ◌^◌, ◌<◌, ◌≤◌, List, [], ◌∷◌, length, drop, Option, Some, None, Bool, true, false, not, ◌==◌, refl, sym, ap, ◌∙◌, arith, if◌then◌else◌, cond}
+use Rattle.std.specs.List.{filter, slice_get, AllByRecursion}
 use Rattle.std.proofs.lemmas.Bool.Decides.{nat_tests}
 use Rattle.tree_nodes.specs.declared.node.Node.{Node}
 use Rattle.tree_nodes.specs.declared.node.Body.{Body}
 use Rattle.tree_nodes.specs.declared.node.Body.TheVariants.{File}
 use Rattle.tree_nodes.specs.Nodes.{before, with_id, with_node, without, changed, versioned}
 use Rattle.tree_nodes.specs.View.{NodesState}
-use Rattle.file_tree.specs.Tree.{content_of, contents_size}
+use Rattle.file_tree.specs.Tree.{content_of, contents_size, size_in}
 use Rattle.file_tree.specs.Step.{changes_most, file_most, tree_most}
 use Rattle.file_tree.specs.View.{IsNodeBounded, AreBounded, AreIdsApart, IsWithinLimits}
 use Rattle.file_tree.proofs.Found.{found_all}
 
 -- ---- each node
 
-all_map : (P Q : Node → Type 0) → ((x : Node) → P x → Q x) → (xs : List Node) → AllByRecursion P xs → AllByRecursion Q xs
+pub all_map : (P Q : Node → Type 0) → ((x : Node) → P x → Q x) → (xs : List Node) → AllByRecursion P xs → AllByRecursion Q xs
 all_map P Q f [] all = tt
 all_map P Q f (x ∷ xs) all = (f x all.0, all_map P Q f xs all.1)
 
-all_with : (P : Node → Type 0) (ms : List Node) (n : Node) → AllByRecursion P ms → P n → AllByRecursion P (with_node ms n)
+pub all_with : (P : Node → Type 0) (ms : List Node) (n : Node) → AllByRecursion P ms → P n → AllByRecursion P (with_node ms n)
 all_with P [] n all is = (is, tt)
 all_with P (m ∷ ms) n all is = all_if P m ms n (before m n.parent n.name) all is (all_with P ms n all.1 is)
   where
@@ -26,7 +26,7 @@ all_with P (m ∷ ms) n all is = all_if P m ms n (before m n.parent n.name) all 
     all_if P m ms n true all is later = (all.0, later)
     all_if P m ms n false all is later = (is, all)
 
-all_filter : (P : Node → Type 0) (q : Node → Bool) (ms : List Node) → AllByRecursion P ms → AllByRecursion P (filter q ms)
+pub all_filter : (P : Node → Type 0) (q : Node → Bool) (ms : List Node) → AllByRecursion P ms → AllByRecursion P (filter q ms)
 all_filter P q [] all = tt
 all_filter P q (m ∷ ms) all = filter_if P q m ms (q m) all.0 (all_filter P q ms all.1)
   where
@@ -34,7 +34,7 @@ all_filter P q (m ∷ ms) all = filter_if P q m ms (q m) all.0 (all_filter P q m
     filter_if P q m ms true is later = (is, later)
     filter_if P q m ms false is later = later
 
-all_changed : (P : Node → Type 0) (f : Node → Node) → ((m : Node) → P m → P (f m)) → (ms : List Node) (id : ℕ) → AllByRecursion P ms → AllByRecursion P (changed ms id f)
+pub all_changed : (P : Node → Type 0) (f : Node → Node) → ((m : Node) → P m → P (f m)) → (ms : List Node) (id : ℕ) → AllByRecursion P ms → AllByRecursion P (changed ms id f)
 all_changed P f keeps [] id all = tt
 all_changed P f keeps (m ∷ ms) id all = (changed_if P f keeps m (m.id == id) all.0, all_changed P f keeps ms id all.1)
   where
@@ -44,7 +44,7 @@ all_changed P f keeps (m ∷ ms) id all = (changed_if P f keeps m (m.id == id) a
 
 -- ---- ids
 
-apart_with : (ms : List Node) (n : Node) → AreIdsApart ms → AllByRecursion (λ m. (m.id == n.id) ≡ false) ms → AreIdsApart (with_node ms n)
+pub apart_with : (ms : List Node) (n : Node) → AreIdsApart ms → AllByRecursion (λ m. (m.id == n.id) ≡ false) ms → AreIdsApart (with_node ms n)
 apart_with [] n apart new = (tt, tt)
 apart_with (m ∷ ms) n apart new = apart_if (before m n.parent n.name) (apart_with ms n apart.1 new.1)
   where
@@ -55,7 +55,7 @@ apart_with (m ∷ ms) n apart new = apart_if (before m n.parent n.name) (apart_w
     apart_if true later = (all_with (λ k. (m.id == k.id) ≡ false) ms n apart.0 new.0, later)
     apart_if false later = ((turned m new.0, all_map (λ k. (k.id == n.id) ≡ false) (λ k. (n.id == k.id) ≡ false) turned ms new.1), apart)
 
-apart_without : (ms : List Node) (id : ℕ) → AreIdsApart ms → AreIdsApart (without ms id)
+pub apart_without : (ms : List Node) (id : ℕ) → AreIdsApart ms → AreIdsApart (without ms id)
 apart_without [] id apart = tt
 apart_without (m ∷ ms) id apart = without_if (not (m.id == id)) (apart_without ms id apart.1)
   where
@@ -63,7 +63,7 @@ apart_without (m ∷ ms) id apart = without_if (not (m.id == id)) (apart_without
     without_if true later = (all_filter (λ k. (m.id == k.id) ≡ false) (λ k. not (k.id == id)) ms apart.0, later)
     without_if false later = later
 
-apart_changed : (f : Node → Node) → ((m : Node) → (f m).id ≡ m.id) → (ms : List Node) (id : ℕ) → AreIdsApart ms → AreIdsApart (changed ms id f)
+pub apart_changed : (f : Node → Node) → ((m : Node) → (f m).id ≡ m.id) → (ms : List Node) (id : ℕ) → AreIdsApart ms → AreIdsApart (changed ms id f)
 apart_changed f same [] id apart = tt
 apart_changed f same (m ∷ ms) id apart = (others ms apart.0, apart_changed f same ms id apart.1)
   where
@@ -84,6 +84,21 @@ size_with (m ∷ ms) n = size_if (before m n.parent n.name) (size_with ms n)
     size_if : (b : Bool) → contents_size (with_node ms n) ≡ contents_size ms + length (content_of n.body) → contents_size (if b then m ∷ with_node ms n else n ∷ m ∷ ms) ≡ length (content_of m.body) + contents_size ms + length (content_of n.body)
     size_if true later = omega (arith, later)
     size_if false later = omega arith
+
+-- place by place
+size_at : (ns : List Node) (k : ℕ) → k < length ns → contents_size (drop k ns) ≡ size_in (slice_get ns k) + contents_size (drop (suc k) ns)
+size_at [] k within = absurd (omega (arith, within))
+size_at (n ∷ ns) zero within = refl
+size_at (n ∷ ns) (suc k) within = size_at ns k (omega (arith, within))
+
+pub size_from : (ns : List Node) (k : ℕ) → k < length ns → contents_size (drop k ns) ≡ size_in (slice_get ns k) + contents_size (drop (k + 1) ns)
+size_from ns k within = let next : k + 1 ≡ suc k = omega arith in size_at ns k within ∙ ap (λ j. size_in (slice_get ns k) + contents_size (drop j ns)) (sym next)
+
+pub size_past : (ns : List Node) (k : ℕ) → length ns ≤ k → contents_size (drop k ns) ≡ 0
+size_past [] zero past = refl
+size_past [] (suc k) past = refl
+size_past (n ∷ ns) zero past = absurd (omega (arith, past))
+size_past (n ∷ ns) (suc k) past = size_past ns k (omega (arith, past))
 
 pub size_same : (f : Node → Node) → ((m : Node) → (f m).body ≡ m.body) → (ms : List Node) (id : ℕ) → contents_size (changed ms id f) ≡ contents_size ms
 size_same f same [] id = refl
@@ -153,14 +168,14 @@ counted s changes changes' l more most = record {
   size = l.size;
 }
 
--- a node more, with a new id and no content
-pub limits_with : (s : NodesState) (changes : ℕ) (n : Node) (room : ℕ) → IsWithinLimits s changes → n.id ≡ s.next → s.next + 1 ≤ 2 ^ 63 + changes → n.version ≤ changes → length (content_of n.body) ≡ 0 → IsWithinLimits (record { nodes = with_node s.nodes n; next = s.next + 1; room = room }) changes
-limits_with s changes n room l new next counted_version none = record {
+-- a node more, with a new id
+pub limits_with : (s : NodesState) (changes : ℕ) (n : Node) (room : ℕ) → IsWithinLimits s changes → n.id ≡ s.next → s.next + 1 ≤ 2 ^ 63 + changes → n.version ≤ changes → length (content_of n.body) ≤ file_most → contents_size s.nodes + length (content_of n.body) ≤ tree_most → IsWithinLimits (record { nodes = with_node s.nodes n; next = s.next + 1; room = room }) changes
+limits_with s changes n room l new next counted_version short small = record {
   count = l.count;
   next = next;
-  each = all_with (IsNodeBounded (s.next + 1) changes) s.nodes n (all_map (IsNodeBounded s.next changes) (IsNodeBounded (s.next + 1) changes) (λ m b. record { id = omega (arith, b.id); version = b.version; content = b.content }) s.nodes l.each) (record { id = omega (arith, new); version = counted_version; content = omega (arith, none) });
+  each = all_with (IsNodeBounded (s.next + 1) changes) s.nodes n (all_map (IsNodeBounded s.next changes) (IsNodeBounded (s.next + 1) changes) (λ m b. record { id = omega (arith, b.id); version = b.version; content = b.content }) s.nodes l.each) (record { id = omega (arith, new); version = counted_version; content = short });
   apart = apart_with s.nodes n l.apart (all_map (IsNodeBounded s.next changes) (λ m. (m.id == n.id) ≡ false) (λ m b. other m.id n.id (omega (arith, b.id, new))) s.nodes l.each);
-  size = omega (arith, size_with s.nodes n, none, l.size);
+  size = omega (arith, size_with s.nodes n, small);
 }
   where
     other : (a b : ℕ) → a < b → (a == b) ≡ false

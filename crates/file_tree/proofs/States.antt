@@ -51,7 +51,7 @@ named_id ns dir name n apart e = found_id (λ m. (m.parent == dir) && bytes_eq m
 pub made_limits : (old more new : NodesState) (changes : ℕ) (n : Node) → IsWithinLimits old changes → n.id ≡ old.next → changes + 1 ≤ changes_most → n.version ≤ changes + 1 → length (content_of n.body) ≡ 0 → more ≡ record { nodes = with_node old.nodes n; next = n.id + 1; room = more.room } → new ≡ record { nodes = versioned more.nodes n.parent (changes + 1); next = more.next; room = new.room } → IsWithinLimits new (changes + 1)
 made_limits old more new changes n l id most version none more_is new_is =
     let raised = counted old changes (changes + 1) l (omega arith) most in
-    let wide : IsWithinLimits (record { nodes = with_node old.nodes n; next = old.next + 1; room = more.room }) (changes + 1) = limits_with old (changes + 1) n more.room raised id (omega (arith, l.next)) version none in
+    let wide : IsWithinLimits (record { nodes = with_node old.nodes n; next = old.next + 1; room = more.room }) (changes + 1) = limits_with old (changes + 1) n more.room raised id (omega (arith, l.next)) version (omega (arith, none)) (omega (arith, none, l.size)) in
     let wider : IsWithinLimits more (changes + 1) = subst (λ (s : NodesState). IsWithinLimits s (changes + 1)) (sym (more_is ∙ ap (λ (i : ℕ). record { nodes = with_node old.nodes n; next = i + 1; room = more.room }) id)) wide in
     subst (λ (s : NodesState). IsWithinLimits s (changes + 1)) (sym new_is) (limits_versioned more (changes + 1) n.parent (changes + 1) new.room wider (omega arith))
 

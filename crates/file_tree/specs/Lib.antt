@@ -1,7 +1,7 @@
 pub mod Chain
 pub mod Kept
-pub mod Load
 pub mod Names
+pub mod Opening
 pub mod Reading
 pub mod Rows
 pub mod State

@@ -16,10 +16,6 @@ use Rattle.xdr_codec.specs.declared.attr.Kind.TheVariants as attr_kind
 use Rattle.file_tree.specs.Chain.{◌>>=◌}
 use Rattle.file_tree.specs.Tree.{Tree, root, empty}
 use Rattle.file_tree.specs.Step.{may, create, mkdir, remove, rmdir, rename, replace}
-use Rattle.file_tree.specs.Load.{load}
-use Rattle.store.specs.declared.record.Kept.{Kept}
-use Rattle.store.specs.declared.record.Kept.TheVariants as kept
-use Rattle.store.specs.declared.record.NodeKind.TheVariants as node_kind
 use Rattle.file_tree.specs.Reading.{attr, lookup, read, version, list}
 
 -- ---- a tree: a file "a", a directory "d" that has a directory "s" and a file "x", and an empty directory "e"
@@ -200,46 +196,3 @@ row_list_sizes = refl
 -- a cookie with another verifier, a cookie past the end, and no directory, before what is too small
 row_list_cookies : listed_at 9 3 0 0 ∷ listed_at 2 3 0 0 ∷ listed_at 3 3 5 0 ∷ listed_at 3 1 4 0 ∷ listed_at 3 1 5 103 ∷ listed_at 3 1 5 132 ∷ listed_at 3 2 5 104 ∷ listed_at 3 0 77 132 ∷ [] ≡ Err Stale ∷ Err NotDir ∷ Err BadCookie ∷ Err BadCookie ∷ Err TooSmall ∷ Ok (2 ∷ [], true) ∷ Ok ([], true) ∷ Ok (1 ∷ [], false) ∷ []
 row_list_cookies = refl
-
--- ---- records of a store: the first that breaks a rule
-
-abbrev head : ℕ → ℕ → Kept
-head next changes = kept.Head (record { next = next; changes = changes })
-
-abbrev kept_file : ℕ → ℕ → List ℕ → Kept
-kept_file id parent name = kept.Node (record { id = id; parent = parent; kind = node_kind.File; name = name })
-
-abbrev kept_directory : ℕ → ℕ → List ℕ → Kept
-kept_directory id parent name = kept.Node (record { id = id; parent = parent; kind = node_kind.Directory; name = name })
-
-abbrev kept_content : ℕ → ℕ → List ℕ → Kept
-kept_content id version bytes = kept.Content (record { id = id; version = version; bytes = bytes })
-
-abbrev told : Result Tree ℕ → Option ℕ
-told (Ok t) = None
-told (Err k) = Some k
-
-abbrev fault_of : List Kept → Option ℕ
-fault_of records = told (load records)
-
--- no head; no content; a version that was not counted; and none
-row_load : map fault_of ((kept_file 2 1 (codes "a") ∷ []) ∷ (head 3 1 ∷ kept_file 2 1 (codes "a") ∷ []) ∷ (head 3 1 ∷ kept_file 2 1 (codes "a") ∷ kept_content 2 2 [] ∷ []) ∷ (head 3 1 ∷ kept_file 2 1 (codes "a") ∷ kept_content 2 1 [] ∷ []) ∷ []) ≡ Some 0 ∷ Some 1 ∷ Some 2 ∷ None ∷ []
-row_load = refl
-
--- the head: too many changes, a next id below 2 or above 2^63 + changes; a second head
-row_load_heads : map fault_of ((head 2 4294967296 ∷ []) ∷ (head 1 0 ∷ []) ∷ (head 9223372036854775809 0 ∷ []) ∷ (head 9223372036854775808 0 ∷ []) ∷ (head 2 0 ∷ head 2 0 ∷ []) ∷ []) ≡ Some 0 ∷ Some 0 ∷ Some 0 ∷ None ∷ Some 1 ∷ []
-row_load_heads = refl
-
--- nodes: an id that is the root's, or not below the next; two of one id, the later; a parent that is no directory, or isn't there; wrong names; two of one name in a directory, the later; nodes that are each above the other
-row_load_nodes : map fault_of ((head 3 1 ∷ kept_directory 1 1 (codes "d") ∷ []) ∷ (head 3 1 ∷ kept_directory 3 1 (codes "d") ∷ []) ∷ (head 3 1 ∷ kept_directory 2 1 (codes "d") ∷ kept_directory 2 1 (codes "e") ∷ []) ∷ (head 4 1 ∷ kept_file 2 1 (codes "a") ∷ kept_content 2 1 [] ∷ kept_directory 3 2 (codes "d") ∷ []) ∷ (head 4 1 ∷ kept_directory 2 3 (codes "d") ∷ []) ∷ (head 4 1 ∷ kept_directory 2 1 (codes ".") ∷ []) ∷ (head 4 1 ∷ kept_directory 2 1 (codes "..") ∷ []) ∷ (head 4 1 ∷ kept_directory 2 1 [] ∷ []) ∷ (head 4 1 ∷ kept_directory 2 1 long ∷ []) ∷ (head 4 1 ∷ kept_directory 2 1 longest ∷ []) ∷ (head 4 1 ∷ kept_directory 2 1 (codes "d") ∷ kept_directory 3 1 (codes "d") ∷ []) ∷ (head 4 1 ∷ kept_directory 2 3 (codes "d") ∷ kept_directory 3 2 (codes "d") ∷ []) ∷ (head 4 1 ∷ kept_directory 3 2 (codes "d") ∷ kept_directory 2 1 (codes "d") ∷ []) ∷ []) ≡ Some 1 ∷ Some 1 ∷ Some 2 ∷ Some 3 ∷ Some 1 ∷ Some 1 ∷ Some 1 ∷ Some 1 ∷ Some 1 ∷ None ∷ Some 2 ∷ Some 1 ∷ None ∷ []
-row_load_nodes = refl
-
--- contents: of no node; two of one file, the later; of a directory, the later of the two; version 0
-row_load_contents : map fault_of ((head 3 1 ∷ kept_content 2 1 [] ∷ []) ∷ (head 3 1 ∷ kept_file 2 1 (codes "a") ∷ kept_content 2 1 [] ∷ kept_content 2 1 [] ∷ []) ∷ (head 3 1 ∷ kept_directory 2 1 (codes "d") ∷ kept_content 2 1 [] ∷ []) ∷ (head 3 1 ∷ kept_content 2 1 [] ∷ kept_directory 2 1 (codes "d") ∷ []) ∷ (head 3 1 ∷ kept_file 2 1 (codes "a") ∷ kept_content 2 0 [] ∷ []) ∷ (head 3 1 ∷ kept_content 2 1 [] ∷ kept_file 2 1 (codes "a") ∷ []) ∷ []) ≡ Some 1 ∷ Some 3 ∷ Some 2 ∷ Some 2 ∷ Some 2 ∷ None ∷ []
-row_load_contents = refl
-
-row_load_none : load [] ≡ Ok empty
-row_load_none = refl
-
-row_load_one : load (head 3 1 ∷ kept_file 2 1 (codes "a") ∷ kept_content 2 1 [] ∷ []) ≡ Ok (record { nodes = root 1 ∷ file 2 1 (codes "a") 1 [] ∷ []; next = 3; changes = 1 })
-row_load_one = refl

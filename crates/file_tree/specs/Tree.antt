@@ -37,6 +37,11 @@ abbrev pub contents_size : List Node → ℕ
 contents_size [] = 0
 contents_size (n ∷ ns) = length (content_of n.body) + contents_size ns
 
+-- those of one, if there is one
+abbrev pub size_in : Option Node → ℕ
+size_in None = 0
+size_in (Some n) = length (content_of n.body)
+
 -- ---- what an id names
 
 abbrev pub or_stale : Option Node → Result Node Status

@@ -1,12 +1,14 @@
 -- What contracts see of a tree.
-use Rattle.std.specs.Prelude.{ℕ, List, Option, Result, Ok, Err, ◌<◌, ◌≤◌, ◌^◌, ◌+◌, ◌==◌, ◌≡◌, [], ◌∷◌, false, length}
+use Rattle.std.specs.Prelude.{ℕ, List, Option, Some, None, Result, Ok, Err, ◌<◌, ◌≤◌, ◌^◌, ◌+◌, ◌==◌, ◌≡◌, [], ◌∷◌, Bool, true, false, length, nat_lt, if◌then◌else◌}
 use Rattle.std.specs.List.{AllByRecursion}
 use Rattle.std.specs.Borrow.{Bor}
 use Rattle.xdr_codec.specs.declared.status.Status.{Status}
 use Rattle.std.specs.Option.{option_copied}
 use Rattle.tree_nodes.specs.declared.node.Node.{Node}
 use Rattle.tree_nodes.specs.View.{NodesState}
-use Rattle.file_tree.specs.Tree.{Tree, content_of, contents_size}
+use Rattle.tree_nodes.specs.Nodes.{with_id, versioned}
+use Rattle.file_tree.specs.Opening.{counted_at}
+use Rattle.file_tree.specs.Tree.{Tree, is_directory, content_of, contents_size}
 use Rattle.file_tree.specs.Step.{file_most, tree_most, changes_most}
 
 -- a node that is lent, as the node that it is
@@ -50,3 +52,20 @@ pub record IsWithinLimits (nodes : NodesState) (changes : ℕ) : Type 0 where
   pub each : AllByRecursion (IsNodeBounded nodes.next changes) nodes.nodes
   pub apart : AreIdsApart nodes.nodes
   pub size : contents_size nodes.nodes ≤ tree_most
+
+-- whether a directory has the id
+abbrev pub is_directory_found : Option Node → Bool
+is_directory_found None = false
+is_directory_found (Some n) = is_directory n.body
+
+abbrev pub is_directory_at : List Node → ℕ → Bool
+is_directory_at nodes id = is_directory_found (with_id nodes id)
+
+-- the nodes, once a directory with the id has the version 1
+abbrev pub counted_if : Bool → List Node → ℕ → List Node
+counted_if true nodes id = versioned nodes id 1
+counted_if false nodes id = nodes
+
+-- the nodes, once all directories below an id have it
+abbrev pub counted_below : ℕ → Node → Node
+counted_below id n = if nat_lt n.id id then counted_at 1 n else n

@@ -1,4 +1,4 @@
-//! What changes a tree, and what a change came to.
+//! What changes a tree, and what a change came to: `specs/Step.antt`.
 
 use crate::entry::Entry;
 use lb_base::items::Name;

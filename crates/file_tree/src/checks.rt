@@ -16,10 +16,10 @@ use xdr_codec::status::Status;
 const CHANGES_MOST: u128 = 4_294_967_295;
 
 /// A file may have so many bytes.
-const FILE_MOST: u64 = 67_108_864;
+pub const FILE_MOST: u64 = 67_108_864;
 
 /// The contents, and what waits to be stored, may have so many bytes.
-const TREE_MOST: u128 = 1_073_741_824;
+pub const TREE_MOST: u128 = 1_073_741_824;
 
 /// Whether so many changes more may be made.
 pub fn spared(changes: u64, held: Held, more: u64) -> Result<(), Status>

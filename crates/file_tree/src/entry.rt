@@ -1,4 +1,5 @@
-//! Entries of the journal, as a change of the tree makes them.
+//! Entries of the journal, as a change of the tree makes them: `made_entry` and those behind it in
+//! `specs/Step.antt`.
 
 use xdr_codec::digest::Digest;
 

@@ -1,4 +1,4 @@
-//! Why a tree does not answer.
+//! Why a tree does not answer: `Answers` in `specs/Reading.antt`.
 
 ghost use Rattle.std.specs.Prelude.{◌≡◌};
 ghost use Rattle.file_tree.specs.declared.error.TreeErr.TheVariants.{Refused, Memory};

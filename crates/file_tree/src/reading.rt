@@ -1,9 +1,11 @@
 //! What is read of a tree (`specs/Reading.antt`).
 
-ghost use Rattle.std.specs.Prelude.{◌≡◌, ◌+◌, ◌-◌, ◌<◌, ◌≤◌, ◌^◌, length, take, drop, min, Ok, IfOk};
+ghost use Rattle.std.specs.Prelude.{◌≡◌, ◌+◌, ◌-◌, ◌<◌, ◌≤◌, ◌^◌, length, take, drop, min, Ok, IfOk, IfSome};
 ghost use Rattle.std.specs.Option.{option_copied};
 ghost use Rattle.tree_nodes.specs.Nodes.{names, with_id};
 ghost use Rattle.file_tree.specs.Tree.{content_of, node_of, directory_of};
+ghost use Rattle.file_tree.specs.State.{IsState};
+ghost use Rattle.file_tree.specs.Step.{file_most};
 ghost use Rattle.file_tree.specs.View.{lent, lent_list, AreBounded, IsNodeBounded};
 ghost use Rattle.file_tree.specs.Reading.{time_of, file_attr, directory_attr, attr_body, attr_of, attr, above, looked, found_of, lookup, piece_bytes, piece_of, read, content, chunks_in, chunks, version, standing_of, stands_for, Answers};
 
@@ -11,6 +13,7 @@ use crate::call::Standing;
 use crate::checks;
 use crate::error::TreeErr;
 use crate::names::{is_dot, is_dot_dot, spelt};
+use crate::state::TreeState;
 use chunk_cut::chunk::Chunk;
 use lb_base::items::Bytes;
 use nfs3_calls::call::Piece;
@@ -205,6 +208,15 @@ pub fn read(
     let node = known(nodes, changes, id)?;
     let file = checks::file_or(node, Status::Inval)?;
     piece_of(alloc, nodes, changes, file, offset, count)
+}
+
+/// The node of an id of a tree, if there is one.
+pub fn node(tree: &TreeState, id: u64) -> Option<&Node>
+    requires { IsState tree.now }
+    ensures node { option_copied result ≡ with_id tree.now.nodes.nodes id }
+    ensures short { IfSome result (λ n. length (content_of n.now.body) ≤ file_most) }
+{
+    tree.nodes.with_id(id)
 }
 
 /// The bytes of a file.

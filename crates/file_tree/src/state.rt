@@ -1,13 +1,15 @@
-//! A tree, and what its changes make of it.
+//! A tree, and what its changes make of it: the trees of `specs/Step.antt`, and what always holds of
+//! one (`specs/State.antt`).
 
 ghost use Rattle.std.specs.Prelude.{◌≡◌, ◌==◌, false, ◌+◌, ◌-◌, ◌<◌, ◌^◌, ◌≤◌, Some, None, IsSome, IfOk, length};
+ghost use Rattle.std.specs.Option.{option_copied};
 ghost use Rattle.tree_nodes.specs.Nodes.{named, with_id, with_node, without, versioned, changed};
 ghost use Rattle.tree_nodes.specs.declared.node.Node.{Node};
 ghost use Rattle.tree_nodes.specs.declared.node.Body.TheVariants.{File};
-ghost use Rattle.file_tree.specs.Tree.{empty, content_of, contents_size};
+ghost use Rattle.file_tree.specs.Tree.{empty, content_of, contents_size, size_in};
 ghost use Rattle.file_tree.specs.Step.{changes_most, file_most, tree_most, made, removed, moved, moved_at, replaced};
 ghost use Rattle.file_tree.specs.State.{state_of, IsState};
-ghost use Rattle.file_tree.specs.View.{IsWithinLimits};
+ghost use Rattle.file_tree.specs.View.{tree_of, IsWithinLimits};
 
 use lb_base::items::Name;
 use std::alloc::{AllocError, Global};
@@ -24,8 +26,8 @@ pub struct TreeState {
     pub alloc: Global,
 }
 
-// How many bytes a node contains.
-fn size_of(node: &Node) -> u64
+/// How many bytes a node contains.
+pub fn size_of(node: &Node) -> u64
     ensures { result ≡ length (content_of node.now.body) }
 {
     match &node.body {
@@ -171,6 +173,44 @@ fn let_go(node: Node) -> u64
     ensures { result ≡ length (content_of node.body) }
 {
     size_of(&node)
+}
+
+// How many bytes the nodes contain.
+#[tactic(auto, using(crate::proofs::Limits::size_from, crate::proofs::Limits::size_past))]
+fn bytes_in(nodes: &Nodes) -> u64
+    requires { contents_size nodes.now.nodes ≤ tree_most }
+    ensures { result ≡ contents_size nodes.now.nodes }
+{
+    let mut bytes = 0;
+    for place in 0..nodes.len() {
+        bytes += size_in(nodes.at(place));
+    }
+    bytes
+}
+
+// How many bytes a node contains, if there is one.
+fn size_in(node: Option<&Node>) -> u64
+    ensures { result ≡ size_in (option_copied node.entry) }
+{
+    match node {
+        Some(node) => size_of(node),
+        None => 0,
+    }
+}
+
+/// A tree of these nodes.
+pub fn of_nodes(alloc: Global, nodes: Nodes, changes: u64) -> TreeState
+    requires { IsWithinLimits nodes changes }
+    ensures tree { state_of result ≡ tree_of nodes changes }
+    ensures state { IsState result }
+{
+    let bytes = bytes_in(&nodes);
+    TreeState {
+        nodes,
+        changes,
+        bytes,
+        alloc,
+    }
 }
 
 /// The root alone. The one error is want of memory.

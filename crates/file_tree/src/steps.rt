@@ -1,7 +1,7 @@
 //! The calls that change a tree (`specs/Step.antt`).
 
 ghost use Rattle.std.specs.Prelude.{◌≡◌, ◌+◌, ◌<◌, ◌≤◌, [], IfOk};
-ghost use Rattle.file_tree.specs.Step.{create, mkdir, remove, rmdir, rename, replace, remove_plan, rename_plan, IsPlannedMove, may, may_create, may_remove, may_rmdir, may_replace_content};
+ghost use Rattle.file_tree.specs.Step.{create, mkdir, remove, rmdir, rename, replace, remove_plan, rmdir_plan, rename_plan, IsPlannedMove, may, may_create, may_remove, may_rmdir, may_replace_content};
 ghost use Rattle.file_tree.specs.Chain.{refused};
 ghost use Rattle.file_tree.specs.Reading.{lookup, attr, read, list, Answers};
 ghost use Rattle.file_tree.specs.State.{state_of, IsState};
@@ -121,6 +121,15 @@ pub fn rmdir(tree: &mut TreeState, held: Held, dir: u64, name: &[u8]) -> Result<
     let done = plans::rmdir(&tree.nodes, tree.changes, held, dir, name)?;
     tree.take_away(dir, name);
     Ok(done)
+}
+
+/// What RMDIR comes to in a tree.
+#[tactic(auto, using(crate::proofs::Limits::bounds))]
+pub fn plan_rmdir(tree: &TreeState, held: Held, dir: u64, name: &[u8]) -> Result<Changed, Status>
+    requires { IsState tree.now }
+    ensures { result ≡ rmdir_plan (state_of tree.now) held dir name.now }
+{
+    plans::rmdir(&tree.nodes, tree.changes, held, dir, name)
 }
 
 /// COMMITTMP, once its content is whole and nothing blocks it. It takes no memory.

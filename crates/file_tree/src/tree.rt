@@ -1,16 +1,20 @@
-//! The tree: its one public face.
+//! The tree: its one public face. What is read of it is `specs/Reading.antt`, and what changes it
+//! `specs/Step.antt`.
 
-ghost use Rattle.std.specs.Prelude.{◌≡◌, ◌+◌, ◌<◌, ◌≤◌, IfOk, OnOk};
-ghost use Rattle.file_tree.specs.Tree.{empty, contents_size};
+ghost use Rattle.std.specs.Prelude.{◌≡◌, ◌+◌, ◌<◌, ◌≤◌, IfOk, IfSome, OnOk, OnErr, length};
+ghost use Rattle.std.specs.Option.{option_copied};
+ghost use Rattle.tree_nodes.specs.Nodes.{with_id};
+ghost use Rattle.file_tree.specs.Opening.{can_open, opens};
+ghost use Rattle.file_tree.specs.Tree.{empty, content_of, contents_size};
 ghost use Rattle.file_tree.specs.Reading.{lookup, attr, version, content, chunks, read, list, stands_for, Answers};
-ghost use Rattle.file_tree.specs.Step.{create, mkdir, remove, rmdir, rename, replace, may, create_plan, may_mkdir, remove_plan, rename_plan};
-ghost use Rattle.file_tree.specs.View.{lent_list};
+ghost use Rattle.file_tree.specs.Step.{create, mkdir, remove, rmdir, rename, replace, may, create_plan, may_mkdir, remove_plan, rmdir_plan, rename_plan, file_most};
+ghost use Rattle.file_tree.specs.View.{lent_list, tree_of, IsWithinLimits};
 
 use crate::call::{Call, Changed, CreateMode, Held, Planned, Standing};
 use crate::error::TreeErr;
 use crate::reading::{self, Looked};
 use crate::state::{self, TreeState};
-use crate::{plans, steps};
+use crate::{opening, plans, steps};
 use chunk_cut::chunk::Chunk;
 use lb_base::items::{Bytes, Name};
 use nfs3_calls::call::Piece;
@@ -19,6 +23,8 @@ use std::alloc::{AllocError, Global};
 use std::marker::Model;
 use store::record::Head;
 use tree_nodes::content::Content;
+use tree_nodes::node::{Body, Node};
+use tree_nodes::nodes::Nodes;
 use xdr_codec::attr::Attr;
 use xdr_codec::status::Status;
 
@@ -47,6 +53,16 @@ impl Tree {
         Ok(Tree { state })
     }
 
+    /// A tree of these nodes, within its limits. It takes no memory.
+    pub fn from_nodes(alloc: Global, nodes: Nodes, changes: u64) -> Tree
+        requires { IsWithinLimits nodes changes }
+        ensures { result.tree ≡ tree_of nodes changes }
+    {
+        Tree {
+            state: state::of_nodes(alloc, nodes, changes),
+        }
+    }
+
     /// Makes room for so many nodes more. The one error is want of memory; the tree stays as it was.
     pub fn reserve(&mut self, count: u32) -> Result<(), AllocError>
         ensures room { OnOk result (count ≤ self.new.room) }
@@ -54,6 +70,24 @@ impl Tree {
         ensures tree { self.new.tree ≡ self.old.tree }
     {
         self.state.nodes.reserve(count)
+    }
+
+    /// Whether a node may be opened with a name in a directory: the directory is there, and the name
+    /// is one that a node may have, and free. It takes no memory.
+    pub fn can_open(&self, dir: u64, name: &[u8]) -> bool
+        ensures { result ≡ can_open self.now.tree dir name.now }
+    {
+        opening::may_open(&self.state.nodes, dir, name).is_ok()
+    }
+
+    /// Adds a node that the tree opens with, if it may have it. The one error is want of memory, as
+    /// which a content past the limits counts too, and an id of 2^63 or more; the tree stays as it
+    /// was.
+    pub fn open(&mut self, dir: u64, name: Name, body: Body) -> Result<(), AllocError>
+        ensures ok { OnOk result (self.new.tree ≡ opens self.old.tree dir name body) }
+        ensures err { OnErr result (self.new.tree ≡ self.old.tree) }
+    {
+        self.state.open(dir, name, body)
     }
 
     /// What a store's head says of the tree. It takes no memory.
@@ -172,6 +206,13 @@ impl Tree {
         steps::plan_remove(&self.state, held, dir, name)
     }
 
+    /// What RMDIR comes to. It changes nothing and takes no memory.
+    pub fn plan_rmdir(&self, dir: u64, name: &[u8], held: Held) -> Result<Changed, Status>
+        ensures { result ≡ rmdir_plan self.now.tree held dir name.now }
+    {
+        steps::plan_rmdir(&self.state, held, dir, name)
+    }
+
     /// What RENAME comes to. It changes nothing and takes no memory.
     pub fn plan_rename(
         &self,
@@ -213,6 +254,14 @@ impl Tree {
         ensures { result ≡ version self.now.tree.nodes id }
     {
         reading::version(&self.state.nodes, id)
+    }
+
+    /// The node of an id, if there is one. It takes no memory.
+    pub fn node(&self, id: u64) -> Option<&Node>
+        ensures node { option_copied result ≡ with_id self.now.tree.nodes id }
+        ensures short { IfSome result (λ n. length (content_of n.now.body) ≤ file_most) }
+    {
+        reading::node(&self.state, id)
     }
 
     /// The bytes of a file. It takes no memory.
