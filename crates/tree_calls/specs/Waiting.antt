@@ -1,5 +1,5 @@
 -- REMOVE of a file and RENAME over a file (RFC 1813, sections 3.3.12 and 14), which wait until nothing blocks them; COMMITTMP once it's made; and any call.
-use Rattle.std.specs.Prelude.{ℕ, List, Option, Some, None, Result, Ok, Err, IsOk, Bool, true, false, ◌&&◌, ◌==◌, if◌then◌else◌}
+use Rattle.std.specs.Prelude.{ℕ, List, Option, Some, None, Result, Ok, Err, IsOk, is_ok, Bool, true, false, ◌&&◌, ◌==◌, if◌then◌else◌}
 use Rattle.xdr_codec.specs.declared.answer.Answer.TheVariants as answer
 use Rattle.xdr_codec.specs.declared.status.Status.{Status}
 use Rattle.xdr_codec.specs.declared.status.Status.TheVariants as status
@@ -9,7 +9,7 @@ use Rattle.nfs3_calls.specs.declared.message.Nfs.TheVariants as nfs
 use Rattle.tree_nodes.specs.declared.node.Node.{Node}
 use Rattle.file_tree.specs.Chain.{◌>>=◌}
 use Rattle.file_tree.specs.Reading.{stands_for, version}
-use Rattle.file_tree.specs.Step.{create_plan, may_mkdir, remove, remove_plan, rename_plan, replace}
+use Rattle.file_tree.specs.Step.{create_plan, may_mkdir, remove, remove_plan, rmdir_plan, rename_plan, replace}
 use Rattle.file_tree.specs.Tree.{Tree}
 use Rattle.file_tree.specs.declared.call.Changed.{Changed}
 use Rattle.file_tree.specs.declared.call.Held.{Held}
@@ -180,6 +180,15 @@ calls t held busy (nfs.Remove p) = (t, Some (removes_in t held busy p.name (id_o
 calls t held busy (nfs.RmDir p) = some (answered (rmdirs_in t held p.name (id_of p.dir)))
 calls t held busy (nfs.Rename r) = some (renames_in t held busy r.from.name r.to.name (id_of r.from.dir) (id_of r.to.dir))
 calls t held busy m = (t, told_outcome (told t.nodes m))
+
+-- whether a call that may change the tree isn't refused: it may then make entries, at once or once it has waited
+abbrev pub enters : Tree → Held → Bool → Nfs → Bool
+enters t held busy (nfs.Create f) = is_ok (id_of f.place.dir >>= λ dir. create_plan t held dir f.place.name (mode_of f.how))
+enters t held busy (nfs.MkDir d) = is_ok (id_of d.place.dir >>= λ dir. may_mkdir t held dir d.place.name)
+enters t held busy (nfs.Remove p) = is_ok (id_of p.dir >>= λ dir. asks_remove t held busy dir p.name)
+enters t held busy (nfs.RmDir p) = is_ok (id_of p.dir >>= λ dir. rmdir_plan t held dir p.name)
+enters t held busy (nfs.Rename r) = is_ok (id_of r.from.dir >>= λ dir. id_of r.to.dir >>= λ to. asks_rename t held busy dir r.from.name to r.to.name)
+enters t held busy m = false
 
 -- memory is taken by calls that aren't refused, and of those that change the tree not by RMDIR
 abbrev pub Takes : Tree → Held → Bool → Nfs → Type 0

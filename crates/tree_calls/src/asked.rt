@@ -1,4 +1,4 @@
-//! What a call comes to.
+//! What a call comes to: `specs/Waiting.antt`.
 
 ghost use Rattle.std.specs.Prelude.{◌≡◌};
 ghost use Rattle.tree_calls.specs.Waiting.{file_of, entries_of};

@@ -101,6 +101,19 @@ pub fn refuse_remove(status: Status) -> Done
     said(Nfs::RemoveAnswer(Answer::Failed(status, no_side())))
 }
 
+/// What REMOVE comes to on arrival: the file that it waits for.
+pub fn asks_remove(
+    tree: &Tree,
+    held: Held,
+    busy: bool,
+    dir: u64,
+    name: &[u8],
+) -> Result<u64, Status>
+    ensures { result ≡ asks_remove tree.now.tree held busy dir name.now }
+{
+    remove_comes(busy, tree.plan_remove(dir, name, held))
+}
+
 /// REMOVE in a directory. The one error is want of memory, where the call waits.
 pub fn remove(
     alloc: Global,
@@ -113,7 +126,7 @@ pub fn remove(
     ensures ok { IfOk result (λ o. o ≡ removing dir name.now (asks_remove tree.now.tree held busy dir name.now)) }
     ensures takes { OnErr result (IsOk (asks_remove tree.now.tree held busy dir name.now)) }
 {
-    match remove_comes(busy, tree.plan_remove(dir, name.as_slice(), held)) {
+    match asks_remove(tree, held, busy, dir, name.as_slice()) {
         Err(status) => Ok(Outcome::Answered(refuse_remove(status))),
         Ok(file) => {
             let spot = spot_of(alloc, dir, name)?;
@@ -122,8 +135,8 @@ pub fn remove(
     }
 }
 
-// What RENAME comes to on arrival.
-fn asks_rename(
+/// What RENAME comes to on arrival: the node that it moves and the file that it waits for, or none.
+pub fn asks_rename(
     tree: &Tree,
     held: Held,
     busy: bool,

@@ -8,6 +8,7 @@ pub mod asked;
 pub mod asking;
 pub mod calls;
 pub mod changing;
+pub mod entering;
 pub mod naming;
 pub mod settling;
 pub mod sides;
