@@ -74,4 +74,12 @@ impl<T: Drop> SendList<T> {
     {
         (self.first.as_ref(), self.rest.as_slice())
     }
+
+    /// The first message, if there is one, and those behind it. It takes no memory.
+    pub fn into_parts(self) -> (Option<T>, Items<T>)
+        ensures { sent_list result.0 result.1 ≡ self }
+    {
+        let SendList { first, rest } = self;
+        (first, rest)
+    }
 }
