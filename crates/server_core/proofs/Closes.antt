@@ -12,10 +12,11 @@ use Rattle.wire.specs.declared.message.Message.TheVariants as message
 use Rattle.temp_files.specs.Pieces.{size_most, all_bytes}
 use Rattle.temp_files.specs.Temps.{Temp, Temps, temp_at, with_temp, with_more, without_temp, empty_temp, room_fault, piece_fault, assembled, whole_of}
 use Rattle.server_core.specs.declared.event.ServerStep.{ServerStep}
-use Rattle.server_core.specs.Answers.{Node, root, file, node_of}
+use Rattle.server_core.specs.Answers.{Node, directory, file, node_of}
 use Rattle.server_core.specs.Asking.{target_in, commit_target, admits}
 use Rattle.server_core.specs.Closing.{answers, sends, to, makes, makes_unless, writes, writes_unless, has_waiting, is_full, commits_whole, commits_to, commits}
-use Rattle.server_core.specs.State.{State, Change, waiting_size}
+use Rattle.server_core.specs.State.{State, Change, size_wanted, waiting_size}
+use Rattle.server_core.specs.declared.change.Wanted.TheVariants as wanted
 use Rattle.temp_files.proofs.Joins.{joined_size, joined_all}
 
 -- ---- MKTMPFILE, by the file that the handle names
@@ -26,7 +27,7 @@ makes_for s session xid fd (Ok id) = makes_unless s session xid fd id (room_faul
 
 pub makes_as : (s : State) (session xid fd : ℕ) (n : Result Node Status) → makes s session xid fd n ≡ makes_for s session xid fd (target_in n)
 makes_as s session xid fd (Err e) = refl
-makes_as s session xid fd (Ok root) = refl
+makes_as s session xid fd (Ok directory) = refl
 makes_as s session xid fd (Ok (file f)) = refl
 
 -- one for no file
@@ -79,7 +80,7 @@ writes_refused s session xid a (Some t) e is = ap (λ (f : Option Status). write
 abbrev ends_by : State → (session xid : ℕ) → Result ℕ Status → Option (List ℕ) → State × ServerStep
 ends_by s session xid (Err e) o = answers s session xid (lb.CommitTmpAnswer (Failed e tt))
 ends_by s session xid (Ok id) None = answers s session xid (lb.CommitTmpAnswer (Failed status.Inval tt))
-ends_by s session xid (Ok id) (Some content) = (record s { waiting = s.waiting ++ record { session = session; xid = xid; file = id; content = content } ∷ [] }, sends [])
+ends_by s session xid (Ok id) (Some content) = (record s { waiting = s.waiting ++ record { session = session; xid = xid; file = id; what = wanted.Content content } ∷ [] }, sends [])
 
 -- a content that is whole for a size has that size
 pub whole_size : (t : Temp) (size : ℕ) (content : List ℕ) → Some content ≡ assembled t size → length content ≡ size
@@ -89,7 +90,7 @@ whole_size t size content is = omega (arith, joined_size 0 size t.pieces content
 commits_as : (s : State) (left : Temps) (session xid size : ℕ) (t : Temp) (n : Result Node Status)
     → commits_to (record s { temps = left }) session xid size t n ≡ ends_by (record s { temps = left }) session xid (commit_target s session size t (target_in n)) (assembled t size)
 commits_as s left session xid size t (Err e) = refl
-commits_as s left session xid size t (Ok root) = refl
+commits_as s left session xid size t (Ok directory) = refl
 commits_as s left session xid size t (Ok (file f)) = by (nat_lt size_most size) (assembled t size) refl
   where
     ended : State
@@ -101,7 +102,7 @@ commits_as s left session xid size t (Ok (file f)) = by (nat_lt size_most size) 
     fits : (content : List ℕ) (w u : Bool)
         → (if w then answers ended session xid (lb.CommitTmpAnswer (Failed status.Jukebox tt))
         else if u then answers ended session xid (lb.CommitTmpAnswer (Failed status.NoSpc tt))
-        else (record ended { waiting = s.waiting ++ record { session = session; xid = xid; file = f.id; content = content } ∷ [] }, sends []))
+        else (record ended { waiting = s.waiting ++ record { session = session; xid = xid; file = f.id; what = wanted.Content content } ∷ [] }, sends []))
         ≡ ends_by ended session xid (target false true w u) (Some content)
     fits content true u = refl
     fits content false true = refl
@@ -118,26 +119,26 @@ commits_as s left session xid size t (Ok (file f)) = by (nat_lt size_most size) 
 
 -- one that is refused
 pub commit_refused : (s : State) (session xid : ℕ) (a : Commit) (t : Temp) (e : Status) (temps : Temps) (o : ServerStep)
-    → temp_at s.temps session a.fd ≡ Some t → commit_target s session a.size t (target_in (node_of s.files a.handle)) ≡ Err e
+    → temp_at s.temps session a.fd ≡ Some t → commit_target s session a.size t (target_in (node_of s.tree a.handle)) ≡ Err e
     → temps ≡ without_temp s.temps session a.fd → o ≡ to session (message.Answer xid (body.Lb (lb.CommitTmpAnswer (Failed e tt))))
     → commits s session xid a (temp_at s.temps session a.fd) ≡ (record s { temps = temps }, o)
 commit_refused s session xid a t e temps o at target ended said =
     let left : Temps = without_temp s.temps session a.fd in
     ap (λ (x : Option Temp). commits s session xid a x) at
-    ∙ commits_as s left session xid a.size t (node_of s.files a.handle)
+    ∙ commits_as s left session xid a.size t (node_of s.tree a.handle)
     ∙ ap (λ (x : Result ℕ Status). ends_by (record s { temps = left }) session xid x (assembled t a.size)) target
     ∙ ap (λ (l : Temps). (record s { temps = l }, to session (message.Answer xid (body.Lb (lb.CommitTmpAnswer (Failed e tt)))))) (sym ended)
     ∙ ap (λ (x : ServerStep). (record s { temps = temps }, x)) (sym said)
 
 -- one whose change waits from now on
 pub commit_taken : (s n : State) (session xid id : ℕ) (a : Commit) (t : Temp) (content : List ℕ) (o : ServerStep)
-    → temp_at s.temps session a.fd ≡ Some t → commit_target s session a.size t (target_in (node_of s.files a.handle)) ≡ Ok id
+    → temp_at s.temps session a.fd ≡ Some t → commit_target s session a.size t (target_in (node_of s.tree a.handle)) ≡ Ok id
     → Some content ≡ assembled t a.size → n ≡ admits s session xid id a.fd content → o ≡ sends []
     → commits s session xid a (temp_at s.temps session a.fd) ≡ (n, o)
 commit_taken s n session xid id a t content o at target whole waits said =
     let left : Temps = without_temp s.temps session a.fd in
     ap (λ (x : Option Temp). commits s session xid a x) at
-    ∙ commits_as s left session xid a.size t (node_of s.files a.handle)
+    ∙ commits_as s left session xid a.size t (node_of s.tree a.handle)
     ∙ ap (λ (x : Result ℕ Status). ends_by (record s { temps = left }) session xid x (assembled t a.size)) target
     ∙ ap (λ (x : Option (List ℕ)). ends_by (record s { temps = left }) session xid (Ok id) x) (sym whole)
     ∙ ap (λ (m : State). (m, sends [])) (sym waits)
@@ -174,6 +175,6 @@ target_fits s session size t (Ok n) id h = by (nat_lt size_most size) (is_some (
 
 -- ---- the bytes that wait
 
-pub waiting_size_more : (ws : List Change) (c : Change) → waiting_size (ws ++ c ∷ []) ≡ waiting_size ws + length c.content
+pub waiting_size_more : (ws : List Change) (c : Change) → waiting_size (ws ++ c ∷ []) ≡ waiting_size ws + size_wanted c.what
 waiting_size_more [] c = search arith
 waiting_size_more (w ∷ ws) c = omega (arith, waiting_size_more ws c)

@@ -1,12 +1,9 @@
 -- What a step does that met want of memory, or did not: of a GETHASH and a change that is made, whose chunks enter the index; and event by event.
-use Rattle.std.proofs.Common.{◌≡◌, refl, sym, ap, ◌∙◌, subst, ℕ, ◌+◌, ◌<◌, List, [], ◌∷◌, ◌++◌, length, Option, Some, Bool, true, false, inl, inr, arith}
+use Rattle.std.proofs.Common.{◌≡◌, refl, sym, ap, ◌∙◌, subst, ℕ, ◌+◌, ◌<◌, List, [], ◌∷◌, ◌++◌, length, None, Bool, true, false, inl, inr, arith}
 use Rattle.std.specs.Prelude.{Result, max, remove, slice_index_or}
-use Rattle.chunk_cut.specs.Chunks.{chunks_of}
 use Rattle.chunk_index.specs.Index.{Indexed}
-use Rattle.chunk_places.specs.Places.{indexed, LeavesSome}
 use Rattle.xdr_codec.specs.declared.status.Status.{Status}
 use Rattle.xdr_codec.specs.declared.answer.Answer.{Answer}
-use Rattle.xdr_codec.specs.declared.answer.Answer.TheVariants.{Done}
 use Rattle.hash_calls.specs.declared.call.HashRange.{HashRange}
 use Rattle.hash_calls.specs.declared.call.Hashes.{Hashes}
 use Rattle.hash_calls.specs.declared.message.Lb.TheVariants as lb
@@ -17,12 +14,18 @@ use Rattle.wire.specs.declared.message.Message.TheVariants as message
 use Rattle.server_core.specs.declared.event.Event.{Event}
 use Rattle.server_core.specs.declared.event.Event.TheVariants as event
 use Rattle.server_core.specs.declared.event.ServerStep.{ServerStep}
-use Rattle.server_core.specs.declared.file.File.{File}
+use Rattle.file_tree.specs.Tree.{Tree}
+use Rattle.file_tree.specs.declared.call.Held.{Held}
+use Rattle.tree_calls.specs.Waiting.{commits as tree_commits, settles as tree_settles}
+use Rattle.tree_calls.specs.declared.asked.Asked.{Asked}
+use Rattle.tree_calls.specs.declared.asked.Committing.{Committing}
+use Rattle.tree_calls.specs.declared.asked.Done.{Done}
+use Rattle.server_core.specs.declared.change.Wanted.TheVariants as wanted
 use Rattle.server_core.specs.declared.journal.Entry.{Entry}
 use Rattle.server_core.specs.Answers.{Node, hash_answer, chunks_told}
-use Rattle.server_core.specs.Closing.{to, at, changed, entry_of, told_change, makes_change, settles}
-use Rattle.server_core.specs.State.{State, Change, file_at, with_file}
-use Rattle.server_core.specs.Step.{with_told, tells_hashes, got_if, stands, change_entered, chunks_of_change, chunks_if, chunks_called, has_room, missed_step, IsLacking, Lacks, MissesCall, Misses, nothing, lacks}
+use Rattle.server_core.specs.Closing.{to, at, entries_by, count_of, index_with, committed_by, settled_by, told_change, makes_change, settles}
+use Rattle.server_core.specs.State.{State, Change, held}
+use Rattle.server_core.specs.Step.{with_told, tells_hashes, got_if, stands, change_entered, chunks_got, chunks_of_change, chunks_if, chunks_called, has_room, missed_step, IsLacking, Lacks, MissesCall, Misses, nothing, lacks}
 
 -- ---- a GETHASH
 
@@ -49,30 +52,52 @@ tells_some s session xid r n index told left o is lack said some = (
 
 -- ---- a change that is made
 
-pub made_all : (s : State) (c : Change) (f : File) (files : List (ℕ × File)) (journal : List Entry) (index : Indexed) (left : Bool) (o : ServerStep)
-    → file_at s.files c.file ≡ Some f → files ≡ with_file s.files (changed f c.content) → journal ≡ s.journal ++ entry_of c f ∷ []
-    → index ≡ indexed s.index f.id (chunks_of c.content) → o ≡ told_change c 1 (Done (record { version = f.version + 1; term = 0 })) → left ≡ false
-    → makes_change s c (file_at s.files c.file) ≡ (record s { files = files; changes = s.changes + 1; journal = journal; index = index }, record o { missed = left })
-made_all s c f files journal index left o there put entered places said none =
-    ap (λ (x : Option File). makes_change s c x) there
-    ∙ ap (λ (l : List (ℕ × File)). (record s { files = l; changes = s.changes + 1; journal = s.journal ++ entry_of c f ∷ []; index = indexed s.index f.id (chunks_of c.content) }, told_change c 1 (Done (record { version = f.version + 1; term = 0 })))) (sym put)
-    ∙ ap (λ (l : List Entry). (record s { files = files; changes = s.changes + 1; journal = l; index = indexed s.index f.id (chunks_of c.content) }, told_change c 1 (Done (record { version = f.version + 1; term = 0 })))) (sym entered)
-    ∙ ap (λ (i : Indexed). (record s { files = files; changes = s.changes + 1; journal = journal; index = i }, told_change c 1 (Done (record { version = f.version + 1; term = 0 })))) (sym places)
-    ∙ ap (λ (x : ServerStep). (record s { files = files; changes = s.changes + 1; journal = journal; index = index }, record x { missed = false })) (sym said)
-    ∙ ap (λ (b : Bool). (record s { files = files; changes = s.changes + 1; journal = journal; index = index }, record o { missed = b })) (sym none)
+-- what a COMMITTMP leaves, by what the tree made of it
+abbrev committed_state : State → Tree → List Entry → Indexed → State
+committed_state s t journal index = record s { tree = t; journal = journal; index = index }
 
-pub made_some : (s : State) (c : Change) (f : File) (files : List (ℕ × File)) (journal : List Entry) (index : Indexed) (left : Bool) (o : ServerStep)
-    → file_at s.files c.file ≡ Some f → files ≡ with_file s.files (changed f c.content) → journal ≡ s.journal ++ entry_of c f ∷ []
-    → LeavesSome s.index f.id (chunks_of c.content) index → o ≡ told_change c 1 (Done (record { version = f.version + 1; term = 0 })) → left ≡ true
-    → Lacks s.index (change_entered c (file_at s.files c.file)) (makes_change s c (file_at s.files c.file)) (record s { files = files; changes = s.changes + 1; journal = journal; index = index }) (record o { missed = left })
-made_some s c f files journal index left o there put entered places said some =
-    subst (λ (x : Option File). Lacks s.index (change_entered c x) (makes_change s c x) (record s { files = files; changes = s.changes + 1; journal = journal; index = index }) (record o { missed = left })) (sym there) (
+abbrev committed_body : Committing → Body
+committed_body d = body.Lb (lb.CommitTmpAnswer d.answer)
+
+pub committed_all : (s : State) (c : Change) (content : List ℕ) (h : Held) (t : Tree) (d : Committing) (journal : List Entry) (index : Indexed) (entries : ℕ) (left : Bool) (o : ServerStep)
+    → h ≡ held s.waiting → tree_commits s.tree h c.file content 0 ≡ (t, d) → journal ≡ s.journal ++ entries_by c.session d.entry None → index ≡ index_with s.index c.file content d.answer
+    → entries ≡ count_of d.entry None → o ≡ told_change c entries (body.Lb (lb.CommitTmpAnswer d.answer)) → left ≡ false
+    → makes_change s c (wanted.Content content) ≡ (record s { tree = t; journal = journal; index = index }, record o { missed = left })
+committed_all s c content h t d journal index entries left o needs done entered places counts said none =
+    let after : List Entry = s.journal ++ entries_by c.session d.entry None in
+    ap (λ (x : Held). committed_by s c content (tree_commits s.tree x c.file content 0)) (sym needs)
+    ∙ ap (λ (p : Tree × Committing). committed_by s c content p) done
+    ∙ ap (λ (l : List Entry). (committed_state s t l (index_with s.index c.file content d.answer), told_change c (count_of d.entry None) (committed_body d))) (sym entered)
+    ∙ ap (λ (i : Indexed). (committed_state s t journal i, told_change c (count_of d.entry None) (committed_body d))) (sym places)
+    ∙ ap (λ (n : ℕ). (committed_state s t journal index, told_change c n (committed_body d))) (sym counts)
+    ∙ ap (λ (x : ServerStep). (committed_state s t journal index, record x { missed = false })) (sym said)
+    ∙ ap (λ (b : Bool). (committed_state s t journal index, record o { missed = b })) (sym none)
+
+pub committed_some : (s : State) (c : Change) (content : List ℕ) (h : Held) (t : Tree) (d : Committing) (journal : List Entry) (index : Indexed) (entries : ℕ) (left : Bool) (o : ServerStep)
+    → h ≡ held s.waiting → tree_commits s.tree h c.file content 0 ≡ (t, d) → journal ≡ s.journal ++ entries_by c.session d.entry None → IsLacking s.index (chunks_got c.file content d.answer) index
+    → entries ≡ count_of d.entry None → o ≡ told_change c entries (body.Lb (lb.CommitTmpAnswer d.answer)) → left ≡ true
+    → Lacks s.index (change_entered s.tree s.waiting c (wanted.Content content)) (makes_change s c (wanted.Content content)) (record s { tree = t; journal = journal; index = index }) (record o { missed = left })
+committed_some s c content h t d journal index entries left o needs done entered lack counts said some =
+    subst (λ (p : Tree × Committing). Lacks s.index (chunks_got c.file content p.1.answer) (committed_by s c content p) (committed_state s t journal index) (record o { missed = left }))
+    (sym (ap (λ (x : Held). tree_commits s.tree x c.file content 0) (sym needs) ∙ done)) (
       index,
-      places,
-      ap (λ (l : List (ℕ × File)). record s { files = l; changes = s.changes + 1; journal = journal; index = index }) put
-          ∙ ap (λ (l : List Entry). record s { files = with_file s.files (changed f c.content); changes = s.changes + 1; journal = l; index = index }) entered,
-      ap (λ (b : Bool). record o { missed = b }) some ∙ ap (λ (x : ServerStep). record x { missed = true }) said,
+      lack,
+      ap (λ (l : List Entry). committed_state s t l index) entered,
+      ap (λ (b : Bool). record o { missed = b }) some
+          ∙ ap (λ (x : ServerStep). record x { missed = true }) said
+          ∙ ap (λ (n : ℕ). record (told_change c n (committed_body d)) { missed = true }) counts,
     )
+
+-- a REMOVE or RENAME
+pub settled_all : (s : State) (c : Change) (a : Asked) (h : Held) (t : Tree) (d : Done) (journal : List Entry) (entries : ℕ) (o : ServerStep)
+    → h ≡ held s.waiting → tree_settles s.tree h a ≡ (t, d) → journal ≡ s.journal ++ entries_by c.session d.first d.second → entries ≡ count_of d.first d.second
+    → o ≡ told_change c entries (body.Nfs d.answer) → makes_change s c (wanted.Asked a) ≡ (record s { tree = t; journal = journal }, o)
+settled_all s c a h t d journal entries o needs done entered counts said =
+    ap (λ (x : Held). settled_by s c (tree_settles s.tree x a)) (sym needs)
+    ∙ ap (λ (p : Tree × Done). settled_by s c p) done
+    ∙ ap (λ (l : List Entry). (record s { tree = t; journal = l }, told_change c (count_of d.first d.second) (body.Nfs d.answer))) (sym entered)
+    ∙ ap (λ (n : ℕ). (record s { tree = t; journal = journal }, told_change c n (body.Nfs d.answer))) (sym counts)
+    ∙ ap (λ (x : ServerStep). (record s { tree = t; journal = journal }, x)) (sym said)
 
 -- ---- the change that came first
 
@@ -82,18 +107,18 @@ first_of [] rest c some first behind = absurd (omega (arith, some))
 first_of (d ∷ ds) rest c some first behind = ap (λ (x : Change). x ∷ ds) (sym first) ∙ ap (λ (l : List Change). c ∷ l) (sym behind)
 
 pub settles_all : (s new : State) (now moment : ℕ) (c : Change) (rest : List Change) (o : ServerStep) → s.waiting ≡ c ∷ rest → moment ≡ max s.moment now
-    → makes_change (record s { moment = moment; waiting = rest }) c (file_at s.files c.file) ≡ (new, o) → settles s now s.waiting ≡ (new, o)
+    → makes_change (record s { moment = moment; waiting = rest }) c c.what ≡ (new, o) → settles s now s.waiting ≡ (new, o)
 settles_all s new now moment c rest o first later made =
     ap (λ (l : List Change). settles s now l) first
-    ∙ ap (λ (m : ℕ). makes_change (record s { moment = m; waiting = rest }) c (file_at s.files c.file)) (sym later)
+    ∙ ap (λ (m : ℕ). makes_change (record s { moment = m; waiting = rest }) c c.what) (sym later)
     ∙ made
 
 pub settles_some : (s new : State) (now moment : ℕ) (c : Change) (rest : List Change) (o : ServerStep) → s.waiting ≡ c ∷ rest → moment ≡ max s.moment now
-    → Lacks s.index (change_entered c (file_at s.files c.file)) (makes_change (record s { moment = moment; waiting = rest }) c (file_at s.files c.file)) new o
+    → Lacks s.index (change_entered s.tree rest c c.what) (makes_change (record s { moment = moment; waiting = rest }) c c.what) new o
     → Lacks s.index (chunks_of_change s s.waiting) (settles s now s.waiting) new o
 settles_some s new now moment c rest o first later made =
     subst (λ (l : List Change). Lacks s.index (chunks_of_change s l) (settles s now l) new o) (sym first)
-    (subst (λ (m : ℕ). Lacks s.index (change_entered c (file_at s.files c.file)) (makes_change (record s { moment = m; waiting = rest }) c (file_at s.files c.file)) new o) later made)
+    (subst (λ (m : ℕ). Lacks s.index (change_entered s.tree rest c c.what) (makes_change (record s { moment = m; waiting = rest }) c c.what) new o) later made)
 
 -- ---- an event
 

@@ -16,10 +16,10 @@ use Rattle.wire.specs.declared.message.Body.TheVariants as body
 use Rattle.wire.specs.declared.message.Message.TheVariants as message
 use Rattle.temp_files.specs.Temps.{Temp, Temps, with_more, piece_fault}
 use Rattle.server_core.specs.declared.event.ServerStep.{ServerStep}
-use Rattle.server_core.specs.declared.file.File.{File}
+use Rattle.file_tree.specs.Tree.{Tree}
 use Rattle.server_core.specs.Closing.{to, cond_most, cond_fault, bytes_found, bytes_known, names, names_unless, names_bytes}
 use Rattle.server_core.specs.Indexing.{bytes_of, wanted_bytes, with_digest}
-use Rattle.server_core.specs.State.{State, file_at}
+use Rattle.server_core.specs.State.{State, File, file_at}
 
 some_same : (b c : List ℕ) → Some b ≡ Some c → b ≡ c
 some_same b c e = cc
@@ -46,9 +46,9 @@ wanted_length f p count bytes h = by (p.count == count) refl h
     by true e g = of_length f p bytes g ∙ eqb-true p.count count e
     by false e g = absurd (none_some bytes g)
 
-found_length : (files : List (ℕ × File)) (a : CondPiece) (p : Option Place) (bytes : List ℕ) → bytes_found files a p ≡ Some bytes → length bytes ≡ a.count
-found_length files a None bytes h = absurd (none_some bytes h)
-found_length files a (Some p) bytes h = wanted_length (file_at files p.file) p a.count bytes h
+found_length : (tree : Tree) (a : CondPiece) (p : Option Place) (bytes : List ℕ) → bytes_found tree a p ≡ Some bytes → length bytes ≡ a.count
+found_length tree a None bytes h = absurd (none_some bytes h)
+found_length tree a (Some p) bytes h = wanted_length (file_at tree p.file) p a.count bytes h
 
 digest_same : (digest : List ℕ) (o : Option (List ℕ)) (bytes : List ℕ) → with_digest digest o ≡ Some bytes → o ≡ Some bytes
 digest_same digest None bytes h = h
@@ -58,8 +58,8 @@ digest_same digest (Some b) bytes h = by (bytes_eq (sha1 b) digest) h
     by true g = g
     by false g = absurd (none_some bytes g)
 
-known_length : (files : List (ℕ × File)) (a : CondPiece) (p : Option Place) (bytes : List ℕ) → bytes_known files a p ≡ Some bytes → length bytes ≡ a.count
-known_length files a p bytes h = found_length files a p bytes (digest_same a.digest (bytes_found files a p) bytes h)
+known_length : (tree : Tree) (a : CondPiece) (p : Option Place) (bytes : List ℕ) → bytes_known tree a p ≡ Some bytes → length bytes ≡ a.count
+known_length tree a p bytes h = found_length tree a p bytes (digest_same a.digest (bytes_found tree a p) bytes h)
 
 -- ---- the fault of its piece
 
@@ -71,9 +71,9 @@ fault_none a t h = by (a.count == 0 || nat_lt cond_most a.count) h
     by false g = g
 
 -- what is known may be put where there is no fault
-pub known_fits : (files : List (ℕ × File)) (a : CondPiece) (t : Option Temp) (p : Option Place) (bytes : List ℕ) → cond_fault a t ≡ None → bytes_known files a p ≡ Some bytes
+pub known_fits : (tree : Tree) (a : CondPiece) (t : Option Temp) (p : Option Place) (bytes : List ℕ) → cond_fault a t ≡ None → bytes_known tree a p ≡ Some bytes
     → piece_fault t a.offset (length bytes) ≡ None
-known_fits files a t p bytes fault known = ap (λ n. piece_fault t a.offset n) (known_length files a p bytes known) ∙ fault_none a t fault
+known_fits tree a t p bytes fault known = ap (λ n. piece_fault t a.offset n) (known_length tree a p bytes known) ∙ fault_none a t fault
 
 -- ---- what becomes of it
 
@@ -89,7 +89,7 @@ no_bytes s session xid a (Some t) = refl
 
 -- one by whose digest nothing is known
 pub names_unknown : (s : State) (session xid : ℕ) (a : CondPiece) (t : Option Temp) (index : Indexed) (o : ServerStep) → cond_fault a t ≡ None
-    → bytes_known s.files a (place_of s.index.pairs (key_of a.digest)) ≡ None → index ≡ found s.index (key_of a.digest)
+    → bytes_known s.tree a (place_of s.index.pairs (key_of a.digest)) ≡ None → index ≡ found s.index (key_of a.digest)
     → o ≡ to session (message.Answer xid (body.Lb (lb.CondWriteAnswer (Failed status.HashNotFound tt)))) → names s session xid a t ≡ (record s { index = index }, o)
 names_unknown s session xid a t index o fault none is said =
     ap (λ (f : Option Status). names_unless s session xid a t f) fault
@@ -105,7 +105,7 @@ some_bytes s session xid a (Some t) bytes fits = refl
 
 -- one whose bytes are known
 pub names_known : (s : State) (session xid : ℕ) (a : CondPiece) (t : Option Temp) (bytes : List ℕ) (index : Indexed) (temps : Temps) (o : ServerStep) → cond_fault a t ≡ None
-    → bytes_known s.files a (place_of s.index.pairs (key_of a.digest)) ≡ Some bytes → index ≡ found s.index (key_of a.digest) → temps ≡ with_more s.temps t a.offset bytes
+    → bytes_known s.tree a (place_of s.index.pairs (key_of a.digest)) ≡ Some bytes → index ≡ found s.index (key_of a.digest) → temps ≡ with_more s.temps t a.offset bytes
     → o ≡ to session (message.Answer xid (body.Lb (lb.CondWriteAnswer (Done tt)))) → names s session xid a t ≡ (record s { index = index; temps = temps }, o)
 names_known s session xid a t bytes index temps o fault known is more said =
     ap (λ (f : Option Status). names_unless s session xid a t f) fault

@@ -1,5 +1,5 @@
 -- What the server answers to each call. It changes nothing.
-use Rattle.std.specs.Prelude.{ℕ, ◌+◌, ◌/◌, ◌%◌, List, length, map, filter, take, drop, min, Option, Some, None, Result, Ok, Err, Bool, true, false, ◌&&◌, ◌||◌, ◌==◌, nat_lt, nat_le}
+use Rattle.std.specs.Prelude.{ℕ, ◌+◌, ◌/◌, ◌%◌, List, length, map, filter, take, drop, min, Option, Some, None, Result, Ok, Err, Bool, ◌&&◌, ◌||◌, ◌==◌, nat_lt, nat_le}
 use Rattle.limits.specs.declared.TheConstants.{PAIRS_MOST, PIECE_MOST}
 use Rattle.chunk_cut.specs.Chunks.{chunks_of}
 use Rattle.chunk_cut.specs.Places.{end_of}
@@ -18,25 +18,33 @@ use Rattle.hash_calls.specs.declared.call.Pair.{Pair}
 use Rattle.hash_calls.specs.declared.call.Leased.{Leased}
 use Rattle.nfs3_calls.specs.declared.call.Range.{Range}
 use Rattle.nfs3_calls.specs.declared.call.Piece.{Piece}
-use Rattle.server_core.specs.declared.file.File.{File}
-use Rattle.server_core.specs.State.{file_at}
+use Rattle.tree_nodes.specs.declared.node.Node.{Node as TreeNode}
+use Rattle.tree_nodes.specs.declared.node.Body.{Body}
+use Rattle.tree_nodes.specs.declared.node.Body.TheVariants.{Directory, File as Content}
+use Rattle.tree_nodes.specs.Nodes.{with_id}
+use Rattle.file_tree.specs.Tree.{Tree}
+use Rattle.server_core.specs.State.{File}
 
--- what a handle names: the root directory, whose id is 1, or a file
+-- what a handle names: a directory, or a file
 pub data Node : Type 0 where
-  root : Node
+  directory : Node
   file : File → Node
 
-abbrev pub file_node : Option File → Result Node Status
-file_node None = Err status.Stale
-file_node (Some f) = Ok (file f)
+abbrev pub node_with : TreeNode → Body → Node
+node_with n Directory = directory
+node_with n (Content c) = file (record { id = n.id; version = n.version; content = c })
+
+abbrev pub node_found : Option TreeNode → Result Node Status
+node_found None = Err status.Stale
+node_found (Some n) = Ok (node_with n n.body)
 
 -- a handle of another form is BADHANDLE, and an id that is not in the tree STALE
-abbrev pub node_named : List (ℕ × File) → Option ℕ → Result Node Status
-node_named files None = Err status.BadHandle
-node_named files (Some id) = elim (id == 1) [ true ↦ Ok root | false ↦ file_node (file_at files id) ]
+abbrev pub node_named : Tree → Option ℕ → Result Node Status
+node_named t None = Err status.BadHandle
+node_named t (Some id) = node_found (with_id t.nodes id)
 
-abbrev pub node_of : List (ℕ × File) → List ℕ → Result Node Status
-node_of files handle = node_named files (file_of handle)
+abbrev pub node_of : Tree → List ℕ → Result Node Status
+node_of t handle = node_named t (file_of handle)
 
 -- ---- attributes (RFC 1813 section 2.6)
 
@@ -94,7 +102,7 @@ hashes_of f r = record {
 
 abbrev pub hash_answer : Result Node Status → HashRange → Answer Hashes Unit
 hash_answer (Err s) r = Failed s tt
-hash_answer (Ok root) r = Failed status.IsDir tt
+hash_answer (Ok directory) r = Failed status.IsDir tt
 hash_answer (Ok (file f)) r = Done (hashes_of f r)
 
 -- the file that the call is about and those of its chunks that are told, where any are
@@ -110,7 +118,7 @@ leased_of f = record { attr = attr_of f; version = f.version; term = 0 }
 
 abbrev pub lease_answer : Result Node Status → Answer Leased Unit
 lease_answer (Err s) = Failed s tt
-lease_answer (Ok root) = Failed status.IsDir tt
+lease_answer (Ok directory) = Failed status.IsDir tt
 lease_answer (Ok (file f)) = Done (leased_of f)
 
 -- ---- READ (RFC 1813 section 3.3.6)
@@ -129,5 +137,5 @@ piece_of f r = record {
 
 abbrev pub read_answer : Result Node Status → Range → Answer Piece (Option Attr)
 read_answer (Err s) r = Failed s None
-read_answer (Ok root) r = Failed status.Inval None
+read_answer (Ok directory) r = Failed status.Inval None
 read_answer (Ok (file f)) r = Done (piece_of f r)

@@ -5,14 +5,15 @@ use Rattle.xdr_codec.specs.declared.status.Status.TheVariants as status
 use Rattle.hash_calls.specs.declared.call.Commit.{Commit}
 use Rattle.temp_files.specs.Pieces.{size_most}
 use Rattle.temp_files.specs.Temps.{Temp, without_temp, assembled}
-use Rattle.server_core.specs.Answers.{Node, root, file, node_of}
+use Rattle.server_core.specs.Answers.{Node, directory, file, node_of}
 use Rattle.server_core.specs.Closing.{has_waiting, is_full}
 use Rattle.server_core.specs.State.{State}
+use Rattle.server_core.specs.declared.change.Wanted.TheVariants as wanted
 
--- the id of the file that a handle names; the root is none
+-- the id of the file that a handle names; a directory is none
 abbrev pub target_in : Result Node Status → Result ℕ Status
 target_in (Err e) = Err e
-target_in (Ok root) = Err status.IsDir
+target_in (Ok directory) = Err status.IsDir
 target_in (Ok (file f)) = Ok f.id
 
 -- the file that is to get what a temporary file comes to, or why it can't get it
@@ -26,8 +27,8 @@ commit_target s session size t (Ok id) =
 -- the change of this COMMITTMP may wait
 abbrev pub CanWait : State → (session : ℕ) → Commit → Option Temp → Type 0
 CanWait s session a None = ⊥
-CanWait s session a (Some t) = is_ok (commit_target s session a.size t (target_in (node_of s.files a.handle))) ≡ true
+CanWait s session a (Some t) = is_ok (commit_target s session a.size t (target_in (node_of s.tree a.handle))) ≡ true
 
 -- what a temporary file comes to waits from now on as the next content of a file, and the temporary file has ended
 abbrev pub admits : State → (session xid id fd : ℕ) → List ℕ → State
-admits s session xid id fd content = record s { temps = without_temp s.temps session fd; waiting = s.waiting ++ record { session = session; xid = xid; file = id; content = content } ∷ [] }
+admits s session xid id fd content = record s { temps = without_temp s.temps session fd; waiting = s.waiting ++ record { session = session; xid = xid; file = id; what = wanted.Content content } ∷ [] }

@@ -2,9 +2,8 @@
 use Rattle.std.specs.Prelude.{ℕ, ◌+◌, List, [], ◌∷◌, ◌++◌, length, Option, Some, None, Result, Ok, Err, Bool, false, ◌||◌, ◌==◌, max, nat_lt, if◌then◌else◌}
 use Rattle.limits.specs.declared.TheConstants.{PIECE_MOST, TREE_MOST, CHANGES_MOST}
 use Rattle.std.specs.List.{list_any}
-use Rattle.sha1.specs.Sha1.{sha1}
 use Rattle.chunk_cut.specs.Chunks.{chunks_of}
-use Rattle.chunk_index.specs.Index.{key_of, place_of, found}
+use Rattle.chunk_index.specs.Index.{Indexed, key_of, place_of, found}
 use Rattle.chunk_index.specs.declared.place.Place.{Place}
 use Rattle.xdr_codec.specs.declared.status.Status.{Status}
 use Rattle.xdr_codec.specs.declared.status.Status.TheVariants as status
@@ -16,6 +15,7 @@ use Rattle.hash_calls.specs.declared.call.Commit.{Commit}
 use Rattle.hash_calls.specs.declared.call.Committed.{Committed}
 use Rattle.hash_calls.specs.declared.message.Lb.{Lb}
 use Rattle.hash_calls.specs.declared.message.Lb.TheVariants as lb
+use Rattle.wire.specs.declared.message.Body.{Body}
 use Rattle.wire.specs.declared.message.Body.TheVariants as body
 use Rattle.wire.specs.declared.message.Message.{Message}
 use Rattle.wire.specs.declared.message.Message.TheVariants as message
@@ -24,13 +24,18 @@ use Rattle.temp_files.specs.Temps.{Temp, with_temp, without_temp, empty_temp, ro
 use Rattle.server_core.specs.declared.event.Sent.{Sent}
 use Rattle.server_core.specs.declared.event.ServerStep.{ServerStep}
 use Rattle.server_core.specs.declared.event.Told.TheVariants as told
-use Rattle.server_core.specs.declared.file.File.{File}
+use Rattle.server_core.specs.declared.change.Wanted.{Wanted}
+use Rattle.server_core.specs.declared.change.Wanted.TheVariants as wanted
 use Rattle.server_core.specs.declared.journal.Entry.{Entry}
-use Rattle.server_core.specs.declared.journal.EntryKind.TheVariants as entry
-use Rattle.server_core.specs.Answers.{Node, root, file, node_of}
+use Rattle.server_core.specs.Answers.{Node, directory, file, node_of}
 use Rattle.chunk_places.specs.Places.{indexed}
 use Rattle.server_core.specs.Indexing.{wanted_bytes, with_digest}
-use Rattle.server_core.specs.State.{State, Change, file_at, with_file, bytes_held}
+use Rattle.server_core.specs.State.{State, Change, file_at, held, entries_held, bytes_held}
+use Rattle.file_tree.specs.Tree.{Tree}
+use Rattle.file_tree.specs.declared.entry.Entry.{Entry as TreeEntry}
+use Rattle.tree_calls.specs.Waiting.{commits as tree_commits, settles as tree_settles}
+use Rattle.tree_calls.specs.declared.asked.Committing.{Committing}
+use Rattle.tree_calls.specs.declared.asked.Done.{Done as Outcome}
 
 -- ---- limits
 
@@ -72,7 +77,7 @@ makes_unless s session xid fd target None = answers (record s { temps = with_tem
 -- a temporary file with nothing in it, for a file that is there
 abbrev pub makes : State → (session xid fd : ℕ) → Result Node Status → State × ServerStep
 makes s session xid fd (Err e) = answers s session xid (lb.MkTmpFileAnswer (Failed e tt))
-makes s session xid fd (Ok root) = answers s session xid (lb.MkTmpFileAnswer (Failed status.IsDir tt))
+makes s session xid fd (Ok directory) = answers s session xid (lb.MkTmpFileAnswer (Failed status.IsDir tt))
 makes s session xid fd (Ok (file f)) = makes_unless s session xid fd f.id (room_fault s.temps session fd)
 
 -- ---- TMPWRITE
@@ -94,13 +99,13 @@ cond_fault a t =
     else piece_fault t a.offset a.count
 
 -- the bytes that a place has for it, which are compared with its digest
-abbrev pub bytes_found : List (ℕ × File) → CondPiece → Option Place → Option (List ℕ)
-bytes_found files a None = None
-bytes_found files a (Some p) = wanted_bytes (file_at files p.file) p a.count
+abbrev pub bytes_found : Tree → CondPiece → Option Place → Option (List ℕ)
+bytes_found t a None = None
+bytes_found t a (Some p) = wanted_bytes (file_at t p.file) p a.count
 
 -- the bytes that are known by its digest
-abbrev pub bytes_known : List (ℕ × File) → CondPiece → Option Place → Option (List ℕ)
-bytes_known files a p = with_digest a.digest (bytes_found files a p)
+abbrev pub bytes_known : Tree → CondPiece → Option Place → Option (List ℕ)
+bytes_known t a p = with_digest a.digest (bytes_found t a p)
 
 abbrev pub names_bytes : State → (session xid : ℕ) → CondPiece → Option Temp → Option (List ℕ) → State × ServerStep
 names_bytes s session xid a (Some t) (Some bytes) = answers (record s { temps = with_temp s.temps (with_piece t a.offset bytes) }) session xid (lb.CondWriteAnswer (Done tt))
@@ -112,7 +117,7 @@ looked_up s a = record s { index = found s.index (key_of a.digest) }
 
 abbrev pub names_unless : State → (session xid : ℕ) → CondPiece → Option Temp → Option Status → State × ServerStep
 names_unless s session xid a t (Some e) = answers s session xid (lb.CondWriteAnswer (Failed e tt))
-names_unless s session xid a t None = names_bytes (looked_up s a) session xid a t (bytes_known s.files a (place_of s.index.pairs (key_of a.digest)))
+names_unless s session xid a t None = names_bytes (looked_up s a) session xid a t (bytes_known s.tree a (place_of s.index.pairs (key_of a.digest)))
 
 -- bytes that are known by their digest are put into a temporary file, as a piece
 abbrev pub names : State → (session xid : ℕ) → CondPiece → Option Temp → State × ServerStep
@@ -126,25 +131,46 @@ has_waiting waiting session = list_any (λ c. c.session == session) waiting
 
 -- whether a change with so many bytes has no place: by the changes ever made, or by the bytes of the tree
 abbrev pub is_full : State → (size : ℕ) → Bool
-is_full s size = nat_lt changes_most (s.changes + length s.waiting + 1) || nat_lt tree_most (bytes_held s + size)
+is_full s size = nat_lt changes_most (s.tree.changes + entries_held s.waiting + 1) || nat_lt tree_most (bytes_held s + size)
 
 abbrev pub commits_whole : State → (session xid id : ℕ) → Option (List ℕ) → State × ServerStep
 commits_whole s session xid id None = answers s session xid (lb.CommitTmpAnswer (Failed status.Inval tt))
 commits_whole s session xid id (Some content) =
     if has_waiting s.waiting session then answers s session xid (lb.CommitTmpAnswer (Failed status.Jukebox tt))
     else if is_full s (length content) then answers s session xid (lb.CommitTmpAnswer (Failed status.NoSpc tt))
-    else (record s { waiting = s.waiting ++ record { session = session; xid = xid; file = id; content = content } ∷ [] }, sends [])
+    else (record s { waiting = s.waiting ++ record { session = session; xid = xid; file = id; what = wanted.Content content } ∷ [] }, sends [])
 
 -- the file that the handle names is to get the content of a temporary file, which has ended
 abbrev pub commits_to : State → (session xid size : ℕ) → Temp → Result Node Status → State × ServerStep
 commits_to s session xid size t (Err e) = answers s session xid (lb.CommitTmpAnswer (Failed e tt))
-commits_to s session xid size t (Ok root) = answers s session xid (lb.CommitTmpAnswer (Failed status.IsDir tt))
+commits_to s session xid size t (Ok directory) = answers s session xid (lb.CommitTmpAnswer (Failed status.IsDir tt))
 commits_to s session xid size t (Ok (file f)) = if nat_lt size_most size then answers s session xid (lb.CommitTmpAnswer (Failed status.FBig tt)) else commits_whole s session xid f.id (assembled t size)
 
 -- Whatever is answered, the temporary file ends, if there was one.
 abbrev pub commits : State → (session xid : ℕ) → Commit → Option Temp → State × ServerStep
 commits s session xid a None = answers s session xid (lb.CommitTmpAnswer (Failed status.BadFd tt))
-commits s session xid a (Some t) = commits_to (record s { temps = without_temp s.temps session a.fd }) session xid a.size t (node_of s.files a.handle)
+commits s session xid a (Some t) = commits_to (record s { temps = without_temp s.temps session a.fd }) session xid a.size t (node_of s.tree a.handle)
+
+-- ---- entries of the journal
+
+-- what a session has changed
+abbrev pub entry_by : (session : ℕ) → TreeEntry → Entry
+entry_by session e = record { file = e.file; version = e.version; kind = e.kind; len = e.len; sha1 = e.sha1; session = session }
+
+abbrev pub entered_by : (session : ℕ) → Option TreeEntry → List Entry
+entered_by session None = []
+entered_by session (Some e) = entry_by session e ∷ []
+
+-- those of a change, in their order
+abbrev pub entries_by : (session : ℕ) → (first second : Option TreeEntry) → List Entry
+entries_by session first second = entered_by session first ++ entered_by session second
+
+abbrev pub one_if : Option TreeEntry → ℕ
+one_if None = 0
+one_if (Some e) = 1
+
+abbrev pub count_of : (first second : Option TreeEntry) → ℕ
+count_of first second = one_if first + one_if second
 
 -- ---- a change is made
 
@@ -153,21 +179,28 @@ abbrev pub at : State → ℕ → State
 at s now = record s { moment = max s.moment now }
 
 -- what is told of a change that has left the queue
-abbrev pub told_change : Change → (entries : ℕ) → Answer Committed Unit → ServerStep
-told_change c entries a = record { send = record { session = c.session; message = message.Answer c.xid (body.Lb (lb.CommitTmpAnswer a)) } ∷ []; told = told.Settled c.session c.xid; entries = entries; missed = false }
+abbrev pub told_change : Change → (entries : ℕ) → Body → ServerStep
+told_change c entries b = record { send = record { session = c.session; message = message.Answer c.xid b } ∷ []; told = told.Settled c.session c.xid; entries = entries; missed = false }
 
-abbrev pub changed : File → List ℕ → File
-changed f content = record f { version = f.version + 1; content = content }
+-- the places of the chunks of a content enter the index where a file got it
+abbrev pub index_with : Indexed → (id : ℕ) → List ℕ → Answer Committed Unit → Indexed
+index_with index id content (Done a) = indexed index id (chunks_of content)
+index_with index id content (Failed e u) = index
 
-abbrev pub entry_of : Change → File → Entry
-entry_of c f = record { file = f.id; version = f.version + 1; kind = entry.Commit; len = length c.content; sha1 = sha1 c.content; session = c.session }
+-- a COMMITTMP, by what the tree makes of it
+abbrev pub committed_by : State → Change → List ℕ → Tree × Committing → State × ServerStep
+committed_by s c content p = (record s { tree = p.0; journal = s.journal ++ entries_by c.session p.1.entry None; index = index_with s.index c.file content p.1.answer }, told_change c (count_of p.1.entry None) (body.Lb (lb.CommitTmpAnswer p.1.answer)))
 
--- A change of a file, which may be gone. The places of its chunks enter the index.
-abbrev pub makes_change : State → Change → Option File → State × ServerStep
-makes_change s c None = (s, told_change c 0 (Failed status.Stale tt))
-makes_change s c (Some f) = (record s { files = with_file s.files (changed f c.content); changes = s.changes + 1; journal = s.journal ++ entry_of c f ∷ []; index = indexed s.index f.id (chunks_of c.content) }, told_change c 1 (Done (record { version = f.version + 1; term = 0 })))
+-- a REMOVE or RENAME, by what the tree makes of it
+abbrev pub settled_by : State → Change → Tree × Outcome → State × ServerStep
+settled_by s c p = (record s { tree = p.0; journal = s.journal ++ entries_by c.session p.1.first p.1.second }, told_change c (count_of p.1.first p.1.second) (body.Nfs p.1.answer))
+
+-- The change is made if all is as it was when it came (`specs/Waiting.antt` of `tree_calls`). What the others that wait need is left free.
+abbrev pub makes_change : State → Change → Wanted → State × ServerStep
+makes_change s c (wanted.Content content) = committed_by s c content (tree_commits s.tree (held s.waiting) c.file content 0)
+makes_change s c (wanted.Asked a) = settled_by s c (tree_settles s.tree (held s.waiting) a)
 
 -- The change that came first is made: no lease stands, so nothing blocks it. Where none waits nothing changes.
 abbrev pub settles : State → ℕ → List Change → State × ServerStep
 settles s now [] = (s, record { send = []; told = told.NotReady; entries = 0; missed = false })
-settles s now (c ∷ cs) = makes_change (at (record s { waiting = cs }) now) c (file_at s.files c.file)
+settles s now (c ∷ cs) = makes_change (at (record s { waiting = cs }) now) c c.what

@@ -24,10 +24,10 @@ listed (Some bytes) = bytes ∷ []
 
 abbrev pub bytes_compared : State → CondPiece → Option Status → List (List ℕ)
 bytes_compared s a (Some e) = []
-bytes_compared s a None = listed (bytes_found s.files a (place_of s.index.pairs (key_of a.digest)))
+bytes_compared s a None = listed (bytes_found s.tree a (place_of s.index.pairs (key_of a.digest)))
 
 -- The byte lists that the server hashes for a message of a session: chunks that it tells, and bytes that it compares with a CONDWRITE's digest.
 abbrev pub server_hashed : State → (session : ℕ) → Message → List (List ℕ)
-server_hashed s session (message.Call xid (body.Lb (lb.GetHash r))) = bytes_told (node_of s.files r.handle) r
+server_hashed s session (message.Call xid (body.Lb (lb.GetHash r))) = bytes_told (node_of s.tree r.handle) r
 server_hashed s session (message.Call xid (body.Lb (lb.CondWrite a))) = bytes_compared s a (cond_fault a (temp_at s.temps session a.fd))
 server_hashed s session _ = []

@@ -19,6 +19,7 @@ use Rattle.server_core.specs.declared.event.ServerStep.{ServerStep}
 use Rattle.server_core.specs.declared.event.Told.TheVariants as told
 use Rattle.server_core.specs.Answers.{attr_of}
 use Rattle.server_core.specs.Closing.{sends, to}
+use Rattle.tree_nodes.specs.declared.node.Body.TheVariants.{File as Content}
 use Rattle.server_core.specs.State.{State, empty}
 use Rattle.server_core.specs.Step.{server_step, opens_with, forges, clears_index}
 
@@ -38,7 +39,7 @@ abbrev answers : (xid : ℕ) → Lb → ServerStep
 answers xid b = to 1 (message.Answer xid (body.Lb b))
 
 abbrev tree : State
-tree = after (opens_with empty (record { id = 2; version = 1; content = codes "abc" })) (event.Connect ∷ calls 1 (lb.MkTmpFile (record { fd = 1; handle = handle_bytes 2 })) ∷ [])
+tree = after (opens_with empty 1 (codes "a") (Content (codes "abc"))) (event.Connect ∷ calls 1 (lb.MkTmpFile (record { fd = 1; handle = handle_bytes 2 })) ∷ [])
 
 abbrev hashes : (xid : ℕ) → Event
 hashes xid = calls xid (lb.GetHash (record { handle = handle_bytes 2; offset = 0; count = 9 }))

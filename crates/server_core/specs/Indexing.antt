@@ -3,7 +3,7 @@ use Rattle.std.specs.Prelude.{ℕ, List, Option, Some, None, ◌==◌, if◌then
 use Rattle.chunk_index.specs.Placed.{bytes_placed}
 use Rattle.chunk_index.specs.declared.place.Place.{Place}
 pub use Rattle.chunk_places.specs.Known.{with_digest}
-use Rattle.server_core.specs.declared.file.File.{File}
+use Rattle.server_core.specs.State.{File}
 
 -- the bytes of a place, where they lie in its file, which may not be there
 abbrev pub bytes_of : Option File → Place → Option (List ℕ)

@@ -18,11 +18,12 @@ use Rattle.server_core.specs.declared.event.Event.{Event}
 use Rattle.server_core.specs.declared.event.Event.TheVariants as event
 use Rattle.server_core.specs.declared.event.ServerStep.{ServerStep}
 use Rattle.server_core.specs.declared.event.Told.TheVariants as told
-use Rattle.server_core.specs.declared.file.File.{File}
-use Rattle.server_core.specs.declared.journal.EntryKind.TheVariants as entry
+use Rattle.tree_nodes.specs.declared.node.Body.TheVariants.{Directory, File as Content}
+use Rattle.file_tree.specs.declared.entry.EntryKind.TheVariants as entry
+use Rattle.file_tree.specs.Tree.{root}
 use Rattle.server_core.specs.Answers.{attr_of, hashes_of}
 use Rattle.server_core.specs.Closing.{sends, to}
-use Rattle.server_core.specs.State.{State, empty}
+use Rattle.server_core.specs.State.{State, File, empty}
 use Rattle.server_core.specs.Step.{server_step, opens_with}
 
 -- ---- a run
@@ -37,7 +38,7 @@ steps s (e ∷ es) = (server_step s e).1 ∷ steps (server_step s e).0 es
 
 -- file 2 is "abc" in its first version, file 3 has nothing in it, and session 1 stands
 abbrev tree : State
-tree = (server_step (opens_with (opens_with empty (record { id = 2; version = 1; content = codes "abc" })) (record { id = 3; version = 1; content = [] })) event.Connect).0
+tree = (server_step (opens_with (opens_with empty 1 (codes "a") (Content (codes "abc"))) 1 (codes "b") (Content [])) event.Connect).0
 
 -- session 1 calls at moment 0
 abbrev calls : (xid : ℕ) → Lb → Event
@@ -118,7 +119,7 @@ too_many = refl
 changed : steps tree (makes 1 1 ∷ calls 2 (lb.CondWrite (record { fd = 1; offset = 0; count = 1; digest = sha1 (codes "x") })) ∷ writes 3 0 (codes "x") ∷ commits 4 1 1 ∷ event.Settle 7 ∷ event.Settle 8 ∷ []) ≡ (made 1 ∷ answers 2 (lb.CondWriteAnswer (Failed status.HashNotFound tt)) ∷ answers 3 (lb.TmpWriteAnswer (Done tt)) ∷ sends [] ∷ record (answers 4 (lb.CommitTmpAnswer (Done (record { version = 2; term = 0 })))) { told = told.Settled 1 4; entries = 1 } ∷ record (sends []) { told = told.NotReady } ∷ [])
 changed = refl
 
-changed_state : (after tree (makes 1 1 ∷ writes 3 0 (codes "x") ∷ commits 4 1 1 ∷ event.Settle 7 ∷ event.Settle 8 ∷ [])) ≡ record tree { files = (2, record { id = 2; version = 2; content = codes "x" }) ∷ (3, record { id = 3; version = 1; content = [] }) ∷ []; changes = 2; journal = record { file = 2; version = 2; kind = entry.Commit; len = 1; sha1 = sha1 (codes "x"); session = 1 } ∷ []; index = with_chunk no_index 2 (record { start = 0; len = 1; digest = sha1 (codes "x") }); moment = 7 }
+changed_state : (after tree (makes 1 1 ∷ writes 3 0 (codes "x") ∷ commits 4 1 1 ∷ event.Settle 7 ∷ event.Settle 8 ∷ [])) ≡ record tree { tree = record { nodes = root 1 ∷ record { id = 2; parent = 1; name = codes "a"; version = 2; body = Content (codes "x") } ∷ record { id = 3; parent = 1; name = codes "b"; version = 1; body = Content [] } ∷ []; next = 4; changes = 2 }; journal = record { file = 2; version = 2; kind = entry.Commit; len = 1; sha1 = sha1 (codes "x"); session = 1 } ∷ []; index = with_chunk no_index 2 (record { start = 0; len = 1; digest = sha1 (codes "x") }); moment = 7 }
 unfolding closed_ends next_end fp
 changed_state = refl
 

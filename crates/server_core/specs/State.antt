@@ -1,20 +1,23 @@
 -- What a server is.
-use Rattle.std.specs.Prelude.{ℕ, ◌+◌, List, [], ◌∷◌, length, Option}
-use Rattle.std.specs.BTreeMap.{insert_entry, is_at}
-use Rattle.std.specs.Map.{lookup}
-use Rattle.std.specs.Ordering.{nat_cmp}
+use Rattle.std.specs.Prelude.{ℕ, ◌+◌, List, [], ◌∷◌, length, Option, Some, None}
+use Rattle.tree_nodes.specs.declared.node.Node.{Node}
+use Rattle.tree_nodes.specs.declared.node.Body.{Body}
+use Rattle.tree_nodes.specs.declared.node.Body.TheVariants.{Directory, File as Content}
+use Rattle.tree_nodes.specs.Nodes.{with_id}
+use Rattle.file_tree.specs.Tree.{Tree, contents_size, empty as root_alone}
+use Rattle.file_tree.specs.declared.call.Held.{Held}
+use Rattle.tree_calls.specs.Waiting.{entries_of}
 pub use Rattle.server_core.specs.declared.change.Change.{Change}
-use Rattle.server_core.specs.declared.file.File.{File}
+use Rattle.server_core.specs.declared.change.Wanted.{Wanted}
+use Rattle.server_core.specs.declared.change.Wanted.TheVariants as wanted
 use Rattle.server_core.specs.declared.journal.Entry.{Entry}
 use Rattle.chunk_index.specs.Index.{Indexed}
 use Rattle.temp_files.specs.Temps.{Temps}
 use Rattle.chunk_places.specs.Places.{no_index}
 
 pub record State : Type 0 where
-  -- the files of the root, each with its id, by rising id
-  pub files : List (ℕ × File)
-  -- how many changes were ever made, those that an opening tree tells of included
-  pub changes : ℕ
+  -- the files and directories, and how many changes were ever made, those that an opening tree tells of included
+  pub tree : Tree
   -- the changes that were made since, the oldest first
   pub journal : List Entry
   -- the temporary files, each with its key, by rising key
@@ -30,29 +33,54 @@ pub record State : Type 0 where
   -- the last moment used, in milliseconds of the server's clock
   pub moment : ℕ
 
--- a server with no file and no session
+-- a server with the root alone, and no session
 abbrev pub empty : State
-empty = record { files = []; changes = 0; journal = []; temps = []; index = no_index; waiting = []; sessions = []; sessions_made = 0; moment = 0 }
+empty = record { tree = root_alone; journal = []; temps = []; index = no_index; waiting = []; sessions = []; sessions_made = 0; moment = 0 }
 
--- the file with the id
-abbrev pub file_at : List (ℕ × File) → ℕ → Option File
-file_at files id = lookup (is_at (nat_cmp id)) files
+-- ---- the files of a tree
 
--- the files, with f under its id; one that was there before is no more
-abbrev pub with_file : List (ℕ × File) → File → List (ℕ × File)
-with_file files f = insert_entry nat_cmp files f.id f
+-- a file, as the calls of LBFS see it
+pub record File : Type 0 where
+  pub id : ℕ
+  pub version : ℕ
+  pub content : List ℕ
 
--- ---- how many bytes are held
+abbrev pub file_of_body : Node → Body → Option File
+file_of_body n Directory = None
+file_of_body n (Content c) = Some (record { id = n.id; version = n.version; content = c })
 
--- the bytes of all contents together
-abbrev pub files_size : List (ℕ × File) → ℕ
-files_size [] = 0
-files_size (e ∷ es) = length e.1.content + files_size es
+abbrev pub file_of_node : Option Node → Option File
+file_of_node None = None
+file_of_node (Some n) = file_of_body n n.body
+
+-- the file with the id; none where a directory has it, or nothing
+abbrev pub file_at : Tree → ℕ → Option File
+file_at t id = file_of_node (with_id t.nodes id)
+
+-- ---- what waits
+
+-- how many entries a change that waits will make, at the most
+abbrev pub entries_wanted : Wanted → ℕ
+entries_wanted (wanted.Content content) = 1
+entries_wanted (wanted.Asked a) = entries_of a
+
+-- how many bytes it brings
+abbrev pub size_wanted : Wanted → ℕ
+size_wanted (wanted.Content content) = length content
+size_wanted (wanted.Asked a) = 0
+
+abbrev pub entries_held : List Change → ℕ
+entries_held [] = 0
+entries_held (c ∷ cs) = entries_wanted c.what + entries_held cs
 
 abbrev pub waiting_size : List Change → ℕ
 waiting_size [] = 0
-waiting_size (c ∷ cs) = length c.content + waiting_size cs
+waiting_size (c ∷ cs) = size_wanted c.what + waiting_size cs
+
+-- what they need, which the calls that come leave free
+abbrev pub held : List Change → Held
+held cs = record { entries = entries_held cs; bytes = waiting_size cs }
 
 -- the bytes of the tree: its contents, and those of the changes that wait
 abbrev pub bytes_held : State → ℕ
-bytes_held s = files_size s.files + waiting_size s.waiting
+bytes_held s = contents_size s.tree.nodes + waiting_size s.waiting

@@ -3,6 +3,9 @@ use Rattle.std.specs.Prelude.{◌≡◌, ◌⊎◌, ℕ, ◌+◌, ◌<◌, ◌�
 use Rattle.limits.specs.declared.TheConstants.{SESSIONS_MOST, SESSIONS_EVER_MOST, FILE_MOST}
 use Rattle.std.specs.List.{list_any}
 use Rattle.xdr_codec.specs.declared.status.Status.{Status}
+use Rattle.xdr_codec.specs.declared.answer.Answer.{Answer}
+use Rattle.xdr_codec.specs.declared.answer.Answer.TheVariants as answer
+use Rattle.hash_calls.specs.declared.call.Committed.{Committed}
 use Rattle.hash_calls.specs.declared.call.HashRange.{HashRange}
 use Rattle.hash_calls.specs.declared.message.Lb.TheVariants as lb
 use Rattle.nfs3_calls.specs.declared.message.Nfs.TheVariants as nfs
@@ -20,11 +23,19 @@ use Rattle.server_core.specs.declared.event.Event.{Event}
 use Rattle.server_core.specs.declared.event.Event.TheVariants as event
 use Rattle.server_core.specs.declared.event.ServerStep.{ServerStep}
 use Rattle.server_core.specs.declared.event.Told.TheVariants as told
-use Rattle.server_core.specs.declared.file.File.{File}
-use Rattle.server_core.specs.State.{State, Change, file_at, with_file}
+use Rattle.server_core.specs.declared.change.Wanted.{Wanted}
+use Rattle.server_core.specs.declared.change.Wanted.TheVariants as wanted
+use Rattle.server_core.specs.State.{State, Change, held}
+use Rattle.tree_nodes.specs.declared.node.Body.{Body as NodeBody}
+use Rattle.file_tree.specs.Opening.{opens}
+use Rattle.file_tree.specs.Tree.{Tree}
+use Rattle.tree_calls.specs.Waiting.{calls, enters, file_of, Takes, commits as tree_commits}
+use Rattle.tree_calls.specs.declared.asked.Done.{Done}
+use Rattle.tree_calls.specs.declared.asked.Outcome.{Outcome}
+use Rattle.tree_calls.specs.declared.asked.Outcome.TheVariants.{Answered, Waits}
 use Rattle.server_core.specs.Answers.{Node, file, node_of, lease_answer, hash_answer, chunks_told, read_answer}
 use Rattle.server_core.specs.Asking.{CanWait}
-use Rattle.server_core.specs.Closing.{sends, to, at, makes, writes, names, cond_fault, bytes_known, looked_up, commits, settles}
+use Rattle.server_core.specs.Closing.{sends, to, at, has_waiting, entries_by, count_of, makes, writes, names, cond_fault, bytes_known, looked_up, commits, settles}
 use Rattle.chunk_places.specs.Places.{indexed, LeavesSome}
 
 -- ---- a message
@@ -41,18 +52,33 @@ with_told index (Some e) = indexed index e.0 e.1
 abbrev pub tells_hashes : State → (session xid : ℕ) → HashRange → Result Node Status → State × ServerStep
 tells_hashes s session xid r n = says (record s { index = with_told s.index (chunks_told n r) }) session xid (body.Lb (lb.GetHashAnswer (hash_answer n r)))
 
+-- what a call of NFS is answered, and the entries that it makes
+abbrev pub does : State → (session xid : ℕ) → Done → State × ServerStep
+does s session xid d = (record s { journal = s.journal ++ entries_by session d.first d.second }, record (to session (message.Answer xid (body.Nfs d.answer))) { entries = count_of d.first d.second })
+
+-- What a call of NFS comes to over the tree, which it may have changed. Of a message that is none of its calls nothing comes.
+abbrev pub asks : State → (session xid : ℕ) → Option Outcome → State × ServerStep
+asks s session xid None = (s, to session (message.Refuse xid refusal.ProcUnavail))
+asks s session xid (Some (Answered d)) = does s session xid d
+asks s session xid (Some (Waits a)) = (record s { waiting = s.waiting ++ record { session = session; xid = xid; file = file_of a; what = wanted.Asked a } ∷ [] }, sends [])
+
+-- what waits leaves a call no less room than it needs itself
+abbrev pub asks_tree : State → (session xid : ℕ) → Tree × Option Outcome → State × ServerStep
+asks_tree s session xid p = asks (record s { tree = p.0 }) session xid p.1
+
 -- What a call of a session does. One of these programs that the server doesn't do yet is refused, as a procedure that it doesn't have
 -- (RFC 5531 section 9).
 abbrev pub called : State → (session xid : ℕ) → Body → State × ServerStep
 called s session xid (body.Lb lb.Null) = says s session xid (body.Lb lb.NullAnswer)
-called s session xid (body.Lb (lb.GetLease handle)) = says s session xid (body.Lb (lb.GetLeaseAnswer (lease_answer (node_of s.files handle))))
-called s session xid (body.Lb (lb.GetHash r)) = tells_hashes s session xid r (node_of s.files r.handle)
-called s session xid (body.Lb (lb.MkTmpFile a)) = makes s session xid a.fd (node_of s.files a.handle)
+called s session xid (body.Lb (lb.GetLease handle)) = says s session xid (body.Lb (lb.GetLeaseAnswer (lease_answer (node_of s.tree handle))))
+called s session xid (body.Lb (lb.GetHash r)) = tells_hashes s session xid r (node_of s.tree r.handle)
+called s session xid (body.Lb (lb.MkTmpFile a)) = makes s session xid a.fd (node_of s.tree a.handle)
 called s session xid (body.Lb (lb.TmpWrite a)) = writes s session xid a (temp_at s.temps session a.fd)
 called s session xid (body.Lb (lb.CondWrite a)) = names s session xid a (temp_at s.temps session a.fd)
 called s session xid (body.Lb (lb.CommitTmp a)) = commits s session xid a (temp_at s.temps session a.fd)
 called s session xid (body.Nfs nfs.Null) = says s session xid (body.Nfs nfs.NullAnswer)
-called s session xid (body.Nfs (nfs.Read r)) = says s session xid (body.Nfs (nfs.ReadAnswer (read_answer (node_of s.files r.handle) r)))
+called s session xid (body.Nfs (nfs.Read r)) = says s session xid (body.Nfs (nfs.ReadAnswer (read_answer (node_of s.tree r.handle) r)))
+called s session xid (body.Nfs m) = asks_tree s session xid (calls s.tree (held s.waiting) (has_waiting s.waiting session) m)
 called s session xid _ = (s, to session (message.Refuse xid refusal.ProcUnavail))
 
 -- a call is done, and an unfit one refused; the server has asked for nothing, so an answer to it changes nothing
@@ -98,9 +124,9 @@ server_step s (event.Got session m now) = got_if s (stands s session) session m 
 server_step s (event.Settle now) = settles s now s.waiting
 server_step s (event.Hang session) = hangs_if s (stands s session) session
 
--- a file that a tree opens with: as many changes were made as its version tells, or more
-abbrev pub opens_with : State → File → State
-opens_with s f = record s { files = with_file s.files f; changes = max s.changes f.version }
+-- a node that the tree opens with; what can't be opened changes nothing
+abbrev pub opens_with : State → (dir : ℕ) → (name : List ℕ) → NodeBody → State
+opens_with s dir name b = record s { tree = opens s.tree dir name b }
 
 -- ---- the index alone
 
@@ -143,20 +169,25 @@ missed_step event.Connect = record (sends []) { told = told.Memory; missed = tru
 missed_step e = record (sends []) { missed = true }
 
 -- the file and those of its chunks whose places an event puts into the index, where it puts any
-abbrev pub change_entered : Change → Option File → Option (ℕ × List Chunk)
-change_entered c None = None
-change_entered c (Some f) = Some (f.id, chunks_of c.content)
+abbrev pub chunks_got : (id : ℕ) → List ℕ → Answer Committed Unit → Option (ℕ × List Chunk)
+chunks_got id content (answer.Done a) = Some (id, chunks_of content)
+chunks_got id content (answer.Failed e u) = None
+
+-- those of a change, where these are the others that wait
+abbrev pub change_entered : Tree → List Change → Change → Wanted → Option (ℕ × List Chunk)
+change_entered t others c (wanted.Content content) = chunks_got c.file content (tree_commits t (held others) c.file content 0).1.answer
+change_entered t others c (wanted.Asked a) = None
 
 abbrev pub chunks_of_change : State → List Change → Option (ℕ × List Chunk)
 chunks_of_change s [] = None
-chunks_of_change s (c ∷ cs) = change_entered c (file_at s.files c.file)
+chunks_of_change s (c ∷ cs) = change_entered s.tree cs c c.what
 
 abbrev pub chunks_if : Bool → Option (ℕ × List Chunk) → Option (ℕ × List Chunk)
 chunks_if true e = e
 chunks_if false e = None
 
 abbrev pub chunks_called : State → Body → Option (ℕ × List Chunk)
-chunks_called s (body.Lb (lb.GetHash r)) = chunks_told (node_of s.files r.handle) r
+chunks_called s (body.Lb (lb.GetHash r)) = chunks_told (node_of s.tree r.handle) r
 chunks_called s b = None
 
 abbrev pub chunks_entered : State → Event → Option (ℕ × List Chunk)
@@ -174,15 +205,15 @@ abbrev pub IsFile : Result Node Status → Type 0
 IsFile (Ok (file f)) = Unit {0}
 IsFile n = ⊥
 
--- The calls that take memory: those that give chunks or bytes of a file, and those that keep something. One that is refused, or answered by a
+-- The calls that take memory: those that give chunks or bytes of a file, a handle or names, and those that keep something. One that is refused, or answered by a
 -- failure, takes none.
 abbrev pub TakesMemory : State → (session : ℕ) → Body → Type 0
-TakesMemory s session (body.Lb (lb.GetHash r)) = IsFile (node_of s.files r.handle)
-TakesMemory s session (body.Lb (lb.MkTmpFile a)) = IsFile (node_of s.files a.handle) × (room_fault s.temps session a.fd ≡ None)
+TakesMemory s session (body.Lb (lb.GetHash r)) = IsFile (node_of s.tree r.handle)
+TakesMemory s session (body.Lb (lb.MkTmpFile a)) = IsFile (node_of s.tree a.handle) × (room_fault s.temps session a.fd ≡ None)
 TakesMemory s session (body.Lb (lb.TmpWrite a)) = piece_fault (temp_at s.temps session a.fd) a.offset (length a.bytes) ≡ None
-TakesMemory s session (body.Lb (lb.CondWrite a)) = (cond_fault a (temp_at s.temps session a.fd) ≡ None) × IsSome (bytes_known s.files a (place_of s.index.pairs (key_of a.digest)))
+TakesMemory s session (body.Lb (lb.CondWrite a)) = (cond_fault a (temp_at s.temps session a.fd) ≡ None) × IsSome (bytes_known s.tree a (place_of s.index.pairs (key_of a.digest)))
 TakesMemory s session (body.Lb (lb.CommitTmp a)) = CanWait s session a (temp_at s.temps session a.fd)
-TakesMemory s session (body.Nfs (nfs.Read r)) = IsFile (node_of s.files r.handle)
+TakesMemory s session (body.Nfs m) = (enters s.tree (held s.waiting) (has_waiting s.waiting session) m ≡ true) ⊎ Takes s.tree (held s.waiting) (has_waiting s.waiting session) m
 TakesMemory s session _ = ⊥
 
 -- A step may do nothing for want of memory where a connection is to be made, and at a call of a session that stands, if it takes memory. A change
@@ -206,9 +237,3 @@ MissesCall s session xid b new step =
 pub data Misses (s : State) (e : Event) (new : State) (step : ServerStep) : Type 0 where
   nothing : MayMiss s e → new ≡ missed_at s e → step ≡ missed_step e → Misses s e new step
   lacks : Lacks s.index (chunks_entered s e) (server_step s e) new step → Misses s e new step
-
--- a file within its limits
-pub record IsFileBounded (f : File) : Type 0 where
-  pub id : f.id < 2 ^ 64
-  pub version : f.version < 2 ^ 32
-  pub size : length f.content ≤ FILE_MOST

@@ -1,12 +1,23 @@
-//! Changes that wait to be made. `specs/Closing.antt` says when one waits, and what is made of it.
+//! Changes that wait to be made. `specs/Closing.antt` says what is made of one.
 
-use crate::chunked::Chunked;
+use tree_calls::asked::Asked;
+use tree_nodes::content::Content;
 
-/// A change that waits: a session's COMMITTMP, under this xid, that gives a file this content.
+/// What a change is to make.
+#[derive(Drop)]
+pub enum Wanted {
+    /// A COMMITTMP: the file gets this content.
+    Content(Content),
+    /// A REMOVE, or a RENAME over a file.
+    Asked(Asked),
+}
+
+/// A change that waits: a session asked for it, under this xid. It waits for the file that gets a
+/// content, or that goes.
 #[derive(Drop)]
 pub struct Change {
     pub session: u32,
     pub xid: u32,
     pub file: u64,
-    pub content: Chunked,
+    pub what: Wanted,
 }

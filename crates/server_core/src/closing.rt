@@ -1,8 +1,7 @@
 //! The calls of a close: MKTMPFILE, TMPWRITE, CONDWRITE and COMMITTMP. `specs/Closing.antt` says what
 //! each does, and `specs/Asking.antt` when the change of a COMMITTMP may wait.
 
-ghost use Rattle.std.specs.Prelude.{◌≡◌, ◌==◌, ◌≤◌, ℕ, List, ◌∷◌, ◌++◌, [], Some, None, length, is_some, IfOk, OnOk, OnErr, true, false};
-ghost use Rattle.std.specs.List.{list_any};
+ghost use Rattle.std.specs.Prelude.{◌≡◌, ◌+◌, ◌≤◌, ℕ, List, ◌∷◌, ◌++◌, [], Some, None, length, is_some, IfOk, OnOk, OnErr, true, false};
 ghost use Rattle.hash_calls.specs.declared.message.Lb.TheVariants as lb;
 ghost use Rattle.wire.specs.declared.message.Body.TheVariants as body;
 ghost use Rattle.wire.specs.declared.message.Message.TheVariants as message;
@@ -11,25 +10,27 @@ ghost use Rattle.temp_files.specs.Pieces.{size_most};
 ghost use Rattle.temp_files.specs.Temps.{temp_at, with_more, without_temp, room_fault, piece_fault, whole_of, status_of};
 ghost use Rattle.server_core.specs.Answers.{node_of};
 ghost use Rattle.server_core.specs.Asking.{target_in, commit_target, CanWait, admits};
-ghost use Rattle.server_core.specs.Closing.{to, makes, writes, names, looked_up, commits, cond_fault, has_waiting, is_full};
+ghost use Rattle.server_core.specs.Closing.{to, makes, writes, names, looked_up, commits, cond_fault, is_full, tree_most};
+ghost use Rattle.server_core.specs.State.{waiting_size, size_wanted};
 ghost use Rattle.server_core.specs.Step.{IsFile, TakesMemory};
 ghost use Rattle.server_core.specs.View.{state_of, IsBounded, HasRoom};
 
-use crate::change::Change;
-use crate::chunked::{self, Chunked};
+use crate::change::{Change, Wanted};
 use crate::event::ServerStep;
 use crate::state::ServerState;
 use crate::steps::{answer, nothing};
+use crate::waiting::{has_waiting, held};
 use crate::{answers, indexing};
 use hash_calls::call::{Commit, CondPiece, NewTemp, TempPiece};
 use hash_calls::message::Lb;
 use lb_base::items::Bytes;
-use limits::{CHANGES_MOST, FILE_MOST, PIECE_MOST, TREE_MOST};
+use limits::{CHANGES_MOST, FILE_MOST, PIECE_MOST, SESSIONS_MOST, TREE_MOST};
 use std::alloc::{AllocError, Global};
 use std::mem;
 use temp_files::fault::TempErr;
 use temp_files::temp::Temp;
 use temp_files::temps::Temps;
+use tree_nodes::content::Content;
 use wire::message::Body;
 use xdr_codec::answer::Answer;
 use xdr_codec::status::Status;
@@ -57,13 +58,6 @@ fn cond_fault(temps: &Temps, session: u32, piece: &CondPiece) -> Option<Status>
         Ok(()) => None,
         Err(refusal) => refusal.status(),
     }
-}
-
-/// Whether a change of the session waits.
-pub fn has_waiting(waiting: &Vec<Change>, session: u32) -> bool
-    ensures { result ≡ has_waiting waiting.now.items session }
-{
-    waiting.iter().any(|change| change.session == session)
 }
 
 /// The answer to a COMMITTMP that is refused.
@@ -103,7 +97,7 @@ fn take_content(
     temps: &mut Temps,
     session: u32,
     commit: &Commit,
-) -> Result<Chunked, AllocError>
+) -> Result<Content, AllocError>
     requires size { commit.now.size ≤ size_most }
     requires whole { is_some (whole_of (temp_at temps.old session commit.now.fd) commit.now.size) ≡ true }
     ensures content { IfOk result (λ content. Some content ≡ whole_of (temp_at temps.old session commit.now.fd) commit.now.size) }
@@ -114,9 +108,9 @@ fn take_content(
         unreachable!()
     };
     let (front, pieces) = temp.parts();
-    let chunks = chunked::cut_pieces(alloc, front, pieces)?;
+    let chunks = answers::cut_pieces(alloc, front, pieces)?;
     match temps.take(session, commit.fd, commit.size) {
-        Ok(Some(bytes)) => Ok(Chunked::with_chunks(bytes, chunks)),
+        Ok(Some(bytes)) => Ok(Content::with_chunks(bytes, chunks)),
         Ok(None) => unreachable!(),
         Err(_) => Err(AllocError),
     }
@@ -152,13 +146,13 @@ impl ServerState {
         new: &NewTemp,
     ) -> Result<ServerStep, AllocError>
         requires { IsBounded self.old }
-        ensures ok { IfOk result (λ o. makes (state_of self.old) session xid new.now.fd (node_of (state_of self.old).files new.now.handle) ≡ (state_of self.new, o)) }
+        ensures ok { IfOk result (λ o. makes (state_of self.old) session xid new.now.fd (node_of (state_of self.old).tree new.now.handle) ≡ (state_of self.new, o)) }
         ensures done { IfOk result (λ o. o.missed ≡ false) }
         ensures err { OnErr result (state_of self.new ≡ state_of self.old) }
-        ensures takes { OnErr result (IsFile (node_of (state_of self.old).files new.now.handle) × (room_fault (state_of self.old).temps session new.now.fd ≡ None)) }
+        ensures takes { OnErr result (IsFile (node_of (state_of self.old).tree new.now.handle) × (room_fault (state_of self.old).temps session new.now.fd ≡ None)) }
         ensures bounded { IsBounded self.new }
     {
-        let target = match answers::target_in(&self.files, &new.handle) {
+        let target = match answers::target_in(&self.tree, &new.handle) {
             Ok(id) => id,
             Err(status) => return Ok(made(alloc, session, xid, Answer::Failed(status, ()))),
         };
@@ -233,7 +227,7 @@ impl ServerState {
         ensures takes { OnErr result (TakesMemory (state_of self.old) session (body.Lb (lb.CondWrite piece.now))) }
         ensures bounded { IsBounded self.new }
     {
-        match indexing::look_up(&mut self.index, &self.files, piece) {
+        match indexing::look_up(&mut self.index, &self.tree, piece) {
             Some(bytes) => {
                 put_known(alloc, &mut self.temps, session, piece, bytes)?;
                 Ok(named(alloc, session, xid, Answer::Done(())))
@@ -299,7 +293,7 @@ impl ServerState {
             session,
             xid,
             file,
-            content,
+            what: Wanted::Content(content),
         });
         Ok(())
     }
@@ -307,9 +301,9 @@ impl ServerState {
     /// The id of the file that is to get what a temporary file comes to, or why it can't get it.
     fn commit_target(&self, session: u32, temp: &Temp, commit: &Commit) -> Result<u64, Status>
         requires { IsBounded self.now }
-        ensures { result ≡ commit_target (state_of self.now) session commit.now.size temp.now (target_in (node_of (state_of self.now).files commit.now.handle)) }
+        ensures { result ≡ commit_target (state_of self.now) session commit.now.size temp.now (target_in (node_of (state_of self.now).tree commit.now.handle)) }
     {
-        let id = match answers::target_in(&self.files, &commit.handle) {
+        let id = match answers::target_in(&self.tree, &commit.handle) {
             Ok(id) => id,
             Err(status) => return Err(status),
         };
@@ -332,35 +326,40 @@ impl ServerState {
     /// of the tree.
     fn is_full(&self, size: u64) -> bool
         requires bounded { IsBounded self.now }
-        requires size { size ≤ size_most }
         ensures { result ≡ is_full (state_of self.now) size }
     {
-        let changes = self.changes + self.waiting.len() as u64 + 1;
-        changes > CHANGES_MOST || self.bytes_held.saturating_add(size) > TREE_MOST
+        let held = held(&self.waiting);
+        let changes = self.tree.head().changes as u128 + held.entries as u128 + 1;
+        let bytes = self.tree.bytes() as u128 + held.bytes as u128 + size as u128;
+        changes > CHANGES_MOST as u128 || bytes > TREE_MOST as u128
     }
 
-    /// Takes memory for one change more that waits, and for its entry. Nothing else changes.
-    fn reserve(&mut self) -> Result<(), AllocError>
+    /// Takes memory for one change more that waits, for its entries, and for those of a call that
+    /// comes. Nothing else changes.
+    pub fn reserve(&mut self) -> Result<(), AllocError>
         requires { IsBounded self.old }
         ensures same { state_of self.new ≡ state_of self.old }
         ensures bounded { IsBounded self.new }
         ensures room { OnOk result (HasRoom self.new) }
     {
-        self.journal.reserve(self.waiting.len() + 1)?;
+        // a session has one change that waits at most
+        let waiting = self.waiting.len();
+        if waiting > SESSIONS_MOST {
+            return Err(AllocError);
+        }
+        self.journal.reserve(waiting + waiting + 2)?;
         self.waiting.reserve(1)?;
         Ok(())
     }
 
     /// A change waits from now on, behind the others. It takes no memory.
-    fn wait(&mut self, change: Change)
+    pub fn wait(&mut self, change: Change)
         requires bounded { IsBounded self.old }
-        requires size { length change.content ≤ size_most }
-        requires place { is_full (state_of self.old) (length change.content) ≡ false }
+        requires size { waiting_size self.old.waiting.items + size_wanted change.what ≤ tree_most }
         requires room { HasRoom self.old }
         ensures waits { state_of self.new ≡ record (state_of self.old) { waiting = (state_of self.old).waiting ++ change ∷ [] } }
         ensures bounded { IsBounded self.new }
     {
-        self.bytes_held += change.content.len() as u64;
         self.waiting.push_reserved(change);
     }
 }

@@ -1,7 +1,6 @@
 //! What goes with a session whose connection is lost. `hangs` in `specs/Step.antt` says it.
 
-ghost use Rattle.std.specs.Prelude.{◌≡◌, ◌+◌, ◌<◌, ◌^◌, ◌==◌, filter, not, false};
-ghost use Rattle.server_core.specs.State.{waiting_size};
+ghost use Rattle.std.specs.Prelude.{◌≡◌, ◌==◌, filter, not, false};
 ghost use Rattle.server_core.specs.Step.{stands, hangs, hangs_if};
 ghost use Rattle.server_core.specs.View.{state_of, IsBounded};
 
@@ -16,20 +15,6 @@ fn leave(sessions: &mut Vec<u32>, session: u32)
     ensures { sessions.new.items ≡ filter (λ k. not (k == session)) sessions.old.items }
 {
     sessions.retain(|k| *k != session);
-}
-
-/// The bytes of the session's changes that wait.
-fn bytes_of(waiting: &Vec<Change>, session: u32) -> u64
-    requires { waiting_size waiting.now.items < 2 ^ 64 }
-    ensures { waiting_size (filter (λ c. not (c.session == session)) waiting.now.items) + result ≡ waiting_size waiting.now.items }
-{
-    let mut bytes = 0;
-    for change in waiting {
-        if change.session == session {
-            bytes += change.content.len() as u64;
-        }
-    }
-    bytes
 }
 
 /// The session's changes wait no longer.
@@ -59,10 +44,6 @@ impl ServerState {
         ensures exact { state_of self.new ≡ hangs (state_of self.old) session }
         ensures bounded { IsBounded self.new }
     {
-        // read first, since what waits is bounded by it
-        let bytes_held = self.bytes_held;
-        let gone = bytes_of(&self.waiting, session);
-        self.bytes_held = bytes_held - gone;
         withdraw(&mut self.waiting, session);
         self.temps.drop_session(session);
         leave(&mut self.sessions, session);

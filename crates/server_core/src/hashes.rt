@@ -3,23 +3,21 @@
 ghost use Rattle.std.specs.Prelude.{◌≡◌, ◌+◌, ◌≤◌, length, take, drop, map, filter, nat_lt, nat_le, IfOk, OnErr, true, false};
 ghost use Rattle.std.specs.List.{All};
 ghost use Rattle.std.specs.List.Sorted.{IsNonDecreasingBy};
-ghost use Rattle.std.specs.Map.{values_of};
 ghost use Rattle.chunk_cut.specs.Places.{end_of};
 ghost use Rattle.temp_files.specs.Pieces.{size_most};
 ghost use Rattle.server_core.specs.Answers.{node_of, told_chunks, chunks_told, pair_of, hashes_of, hash_answer};
 ghost use Rattle.server_core.specs.Chunks.{ends_behind, begins_before, IsWithin};
-ghost use Rattle.server_core.specs.Step.{IsFileBounded, IsFile, with_told, IsLacking};
+ghost use Rattle.server_core.specs.Step.{IsFile, with_told, IsLacking};
 
-use crate::answers::{self, ROOT};
-use crate::chunked::Chunked;
-use crate::file::File;
 use chunk_cut::chunk::Chunk;
 use chunk_index::index::Index;
+use file_tree::tree::Tree;
 use hash_calls::call::{HashRange, Hashes, Pair};
 use lb_base::items::Items;
 use limits::PAIRS_MOST;
 use std::alloc::{AllocError, Global};
-use std::collections::BTreeMap;
+use tree_nodes::content::Content;
+use tree_nodes::node::{Body, Node};
 use xdr_codec::answer::Answer;
 use xdr_codec::status::Status;
 
@@ -51,7 +49,7 @@ fn count_begun(chunks: &[Chunk], place: u128) -> usize
 }
 
 /// The chunks of a content that are told of a range.
-fn told_chunks<'a>(content: &'a Chunked, range: &HashRange) -> &'a [Chunk]
+fn told_chunks<'a>(content: &'a Content, range: &HashRange) -> &'a [Chunk]
     ensures { result.now ≡ told_chunks content.now range.now }
 {
     let chunks = content.chunks();
@@ -90,15 +88,20 @@ fn end_of(told: &[Chunk]) -> u64
 }
 
 /// The chunks of a file that meet the range. The one error is want of memory.
-fn hashes_of(alloc: Global, file: &File, range: &HashRange) -> Result<Hashes, AllocError>
-    requires { IsFileBounded file.now }
-    ensures { IfOk result (λ h. h ≡ hashes_of file.now range.now) }
+fn hashes_of(
+    alloc: Global,
+    node: &Node,
+    content: &Content,
+    range: &HashRange,
+) -> Result<Hashes, AllocError>
+    requires { length content.now ≤ size_most }
+    ensures { IfOk result (λ h. h ≡ hashes_of (record { id = node.now.id; version = node.now.version; content = content.now }) range.now) }
 {
-    let told = told_chunks(&file.content, range);
-    let size = file.content.len() as u64;
+    let told = told_chunks(content, range);
+    let size = content.len() as u64;
     let pairs = pairs_of(alloc, told)?;
     Ok(Hashes {
-        version: file.version,
+        version: node.version,
         term: 0,
         size,
         pairs,
@@ -109,41 +112,41 @@ fn hashes_of(alloc: Global, file: &File, range: &HashRange) -> Result<Hashes, Al
 /// What a GETHASH is answered. The one error is want of memory.
 pub fn hash_answer(
     alloc: Global,
-    files: &BTreeMap<u64, File>,
+    tree: &Tree,
     range: &HashRange,
 ) -> Result<Answer<Hashes, ()>, AllocError>
-    requires { All IsFileBounded (values_of files.now.entries) }
-    ensures ok { IfOk result (λ a. a ≡ hash_answer (node_of files.now.entries range.now.handle) range.now) }
-    ensures takes { OnErr result (IsFile (node_of files.now.entries range.now.handle)) }
+    ensures ok { IfOk result (λ a. a ≡ hash_answer (node_of tree.now.tree range.now.handle) range.now) }
+    ensures takes { OnErr result (IsFile (node_of tree.now.tree range.now.handle)) }
 {
     let Some(id) = range.handle.file_of() else {
         return Ok(Answer::Failed(Status::BadHandle, ()));
     };
-    if id == ROOT {
-        return Ok(Answer::Failed(Status::IsDir, ()));
-    }
-    let Some(file) = answers::find_file(files, id) else {
+    let Some(node) = tree.node(id) else {
         return Ok(Answer::Failed(Status::Stale, ()));
     };
-    let hashes = hashes_of(alloc, file, range)?;
-    Ok(Answer::Done(hashes))
+    match &node.body {
+        Body::Directory => Ok(Answer::Failed(Status::IsDir, ())),
+        Body::File(content) => {
+            let hashes = hashes_of(alloc, node, content, range)?;
+            Ok(Answer::Done(hashes))
+        }
+    }
 }
 
 /// Puts the chunks that a GETHASH is told into the index. A place for which memory is wanting is
 /// left out; says whether one was.
-pub fn enter_told(index: &mut Index, files: &BTreeMap<u64, File>, range: &HashRange) -> bool
-    requires { All IsFileBounded (values_of files.now.entries) }
-    ensures all { result ≡ false → index.new ≡ with_told index.old (chunks_told (node_of files.now.entries range.now.handle) range.now) }
-    ensures lacks { result ≡ true → IsLacking index.old (chunks_told (node_of files.now.entries range.now.handle) range.now) index.new }
+pub fn enter_told(index: &mut Index, tree: &Tree, range: &HashRange) -> bool
+    ensures all { result ≡ false → index.new ≡ with_told index.old (chunks_told (node_of tree.now.tree range.now.handle) range.now) }
+    ensures lacks { result ≡ true → IsLacking index.old (chunks_told (node_of tree.now.tree range.now.handle) range.now) index.new }
 {
     let Some(id) = range.handle.file_of() else {
         return false;
     };
-    if id == ROOT {
-        return false;
-    }
-    let Some(file) = answers::find_file(files, id) else {
+    let Some(node) = tree.node(id) else {
         return false;
     };
-    chunk_places::enter(index, file.id, told_chunks(&file.content, range))
+    match &node.body {
+        Body::Directory => false,
+        Body::File(content) => { chunk_places::enter(index, node.id, told_chunks(content, range)) }
+    }
 }

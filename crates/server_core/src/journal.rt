@@ -1,24 +1,18 @@
-//! The journal: the changes that were made, in order. `entry_of` in `specs/Closing.antt` says what an
+//! The journal: the changes that were made, in order. `entry_by` in `specs/Closing.antt` says what an
 //! entry tells.
 
+use file_tree::entry::EntryKind;
 use xdr_codec::digest::Digest;
-
-/// What kind of change was made.
-#[derive(Clone, Copy, Drop)]
-pub enum EntryKind {
-    /// A file's content was replaced.
-    Commit,
-}
 
 /// A change that was made.
 #[derive(Clone, Copy, Drop)]
 pub struct Entry {
-    /// The file's id.
+    /// The id of the file, or of the directory.
     pub file: u64,
-    /// The version that it has since then.
+    /// The file's version since then; 0 for `Name`.
     pub version: u64,
     pub kind: EntryKind,
-    /// How many bytes its content has since then.
+    /// How many bytes its content has since then; 0 where it went, and for `Name`.
     pub len: u64,
     /// The SHA-1 digest of that content.
     pub sha1: Digest,

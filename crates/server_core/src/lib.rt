@@ -1,21 +1,20 @@
-//! The server: a tree of files, and one event after another on it.
+//! The server: a tree of files and directories, and one event after another on it.
 //!
 //! It stands on `wire`'s messages and knows no bytes of the wire: a message comes in, messages go
 //! out, each to a session. One event is one atomic step.
 #![tactic(auto)]
 
 mod answers;
-mod change;
-pub mod chunked;
+pub mod change;
 mod closing;
 pub mod event;
-pub mod file;
 mod hanging;
 mod hashes;
 mod indexing;
 pub mod journal;
+mod naming;
 pub mod server;
 mod settling;
 mod state;
 mod steps;
-mod tree;
+mod waiting;

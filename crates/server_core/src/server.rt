@@ -1,22 +1,26 @@
 //! The server. `specs/State.antt` says what it is, and `specs/Step.antt` what it does.
 
-ghost use Rattle.std.specs.Prelude.{◌≡◌, ◌<◌, ◌^◌, [], length, false, true, IfOk, OnOk, OnErr};
+ghost use Rattle.std.specs.Prelude.{◌≡◌, length, false, true, IfOk, OnOk, OnErr};
 ghost use Rattle.server_core.specs.Closing.{has_waiting};
 ghost use Rattle.server_core.specs.State.{empty};
-ghost use Rattle.server_core.specs.Step.{server_step, opens_with, forges, clears_index, IsFileBounded, IsTimed, Misses};
+ghost use Rattle.server_core.specs.Step.{server_step, opens_with, forges, clears_index, IsTimed, Misses};
+ghost use Rattle.file_tree.specs.Opening.{can_open};
+ghost use Rattle.file_tree.specs.Reading.{stands_for};
 
-use crate::closing::has_waiting;
 use crate::event::{Event, ServerStep};
-use crate::file::File;
 use crate::journal::Entry;
 use crate::state::ServerState;
+use crate::waiting::has_waiting;
 use chunk_index::place::Place;
+use file_tree::call::Standing;
+use file_tree::tree::Tree;
+use lb_base::items::Name;
 use std::alloc::{AllocError, Global};
-use std::collections::BTreeMap;
 use std::marker::Model;
 use temp_files::temps::Temps;
+use tree_nodes::node::Body;
 
-/// A server of a tree of files.
+/// A server of a tree of files and directories.
 #[derive(Drop)]
 pub struct Server {
     state: ServerState,
@@ -35,20 +39,19 @@ impl Model for Server {
 }
 
 impl Server {
-    /// A server with no file and no session. The one error is want of memory.
+    /// A server with the root directory alone, and no session. The one error is want of memory.
     pub fn new(alloc: Global) -> Result<Server, AllocError>
         ensures { IfOk result (λ server. server ≡ empty) }
     {
+        let tree = Tree::new(alloc)?;
         let index = chunk_places::empty(alloc)?;
         Ok(Server {
             state: ServerState {
-                files: BTreeMap::new(alloc),
-                changes: 0,
+                tree,
                 journal: Vec::new(alloc),
                 temps: Temps::new(alloc),
                 index,
                 waiting: Vec::new(alloc),
-                bytes_held: 0,
                 sessions: Vec::new(alloc),
                 sessions_made: 0,
                 moment: 0,
@@ -56,16 +59,36 @@ impl Server {
         })
     }
 
-    /// Puts a file under its id, in place of one that was there: the tree opens with it, before
-    /// any change waits. The one error is want of memory, as which a count of bytes past 64 bits
-    /// counts too, and the server then stays as it was.
-    pub fn add_file(&mut self, file: File) -> Result<(), AllocError>
-        requires file { IsFileBounded file }
-        requires quiet { self.old.waiting ≡ [] }
-        ensures ok { OnOk result (self.new ≡ opens_with self.old file) }
+    /// Whether the tree may open with a node of a name in a directory: the directory is there, and
+    /// the name is one that a node may have, and free. It takes no memory.
+    pub fn can_open(&self, dir: u64, name: &[u8]) -> bool
+        ensures { result ≡ can_open self.now.tree dir name.now }
+    {
+        self.state.tree.can_open(dir, name)
+    }
+
+    /// The tree opens with a node more, if it may have it. The one error is want of memory, as which
+    /// a content past the limits counts too, and an id of 2^63 or more; the server then stays as it
+    /// was.
+    pub fn open(&mut self, dir: u64, name: Name, body: Body) -> Result<(), AllocError>
+        ensures ok { OnOk result (self.new ≡ opens_with self.old dir name body) }
         ensures err { OnErr result (self.new ≡ self.old) }
     {
-        self.state.add_file(file)
+        self.state.open(dir, name, body)
+    }
+
+    /// The id that the next node of the tree gets.
+    pub fn next_id(&self) -> u64
+        ensures { result ≡ self.now.tree.next }
+    {
+        self.state.tree.head().next
+    }
+
+    /// What a name of a directory stands for, if for anything. It takes no memory.
+    pub fn stands_for(&self, dir: u64, name: &[u8]) -> Option<Standing>
+        ensures { result ≡ stands_for self.now.tree.nodes dir name.now }
+    {
+        self.state.tree.stands_for(dir, name)
     }
 
     /// Puts a place into the index of chunks, under a key. The one error is want of memory, and the
@@ -96,9 +119,9 @@ impl Server {
 
     /// How many changes were ever made, those that an opening tree tells of included.
     pub fn changes(&self) -> u64
-        ensures { result ≡ self.now.changes }
+        ensures { result ≡ self.now.tree.changes }
     {
-        self.state.changes
+        self.state.tree.head().changes
     }
 
     /// Whether a change of the session waits.

@@ -1,62 +1,106 @@
 //! How a change that waits is made. `settles` in `specs/Closing.antt` says it.
 
-ghost use Rattle.std.specs.Prelude.{◌≡◌, ◌+◌, ◌<◌, ◌≤◌, ◌∷◌, ◌++◌, [], length, false, true, Some, vec_capacity};
-ghost use Rattle.std.specs.List.{All};
-ghost use Rattle.std.specs.Map.{values_of};
-ghost use Rattle.sha1.specs.Sha1.{sha1};
-ghost use Rattle.server_core.specs.declared.journal.EntryKind.TheVariants as entry;
-ghost use Rattle.server_core.specs.Closing.{settles, makes_change, told_change};
-ghost use Rattle.server_core.specs.State.{file_at, bytes_held};
-ghost use Rattle.server_core.specs.Step.{Lacks, chunks_of_change, change_entered};
+ghost use Rattle.std.specs.Prelude.{◌≡◌, ℕ, ◌+◌, ◌≤◌, ◌∷◌, ◌++◌, [], length, false, true, vec_capacity};
+ghost use Rattle.wire.specs.declared.message.Message.TheVariants as message;
+ghost use Rattle.tree_calls.specs.Waiting.{commits as tree_commits};
+ghost use Rattle.server_core.specs.Closing.{settles, makes_change, index_with, entered_by, one_if, entries_by, count_of};
+ghost use Rattle.server_core.specs.Step.{Lacks, IsLacking, chunks_got, chunks_of_change, change_entered};
 ghost use Rattle.server_core.specs.View.{state_of, IsBounded, IsSettling};
+ghost use Rattle.server_core.specs.declared.event.Told.TheVariants as told;
+ghost use Rattle.server_core.specs.declared.change.Wanted.TheVariants as wanted;
 
-use crate::change::Change;
+use crate::change::{Change, Wanted};
 use crate::event::{Sent, ServerStep, Told};
-use crate::file::File;
-use crate::journal::{Entry, EntryKind};
+use crate::journal::Entry;
 use crate::state::ServerState;
-use crate::{steps, tree};
-use hash_calls::call::Committed;
+use crate::steps;
+use crate::waiting::held;
+use chunk_index::index::Index;
+use file_tree::call::{Call, Held};
+use file_tree::entry::Entry as TreeEntry;
+use file_tree::tree::Tree;
 use hash_calls::message::Lb;
 use send_list::SendList;
-use sha1::Sha1;
 use std::alloc::Global;
+use tree_calls::asked::{Asked, Committing, Done};
+use tree_calls::settling;
+use tree_nodes::content::Content;
 use wire::message::{Body, Message};
-use xdr_codec::answer::Answer;
-use xdr_codec::status::Status;
 
-/// The journal's entry of a change that gives a file this version.
-fn entry_of(change: &Change, file: u64, version: u64) -> Entry
-    ensures { result ≡ record { file = file; version = version; kind = entry.Commit; len = length change.now.content; sha1 = sha1 change.now.content; session = change.now.session } }
+/// A place of the journal is taken for an entry, if there is one; says how many were.
+fn enter(journal: &mut Vec<Entry>, session: u32, entry: Option<TreeEntry>) -> u32
+    requires { length journal.old.items + one_if entry ≤ vec_capacity journal.old }
+    ensures items { journal.new.items ≡ journal.old.items ++ entered_by session entry }
+    ensures count { result ≡ one_if entry }
+    ensures capacity { vec_capacity journal.new ≡ vec_capacity journal.old }
 {
-    Entry {
-        file,
-        version,
-        kind: EntryKind::Commit,
-        len: change.content.len() as u64,
-        sha1: Sha1::digest(change.content.as_slice()),
-        session: change.session,
+    match entry {
+        Some(entry) => {
+            let sha1 = entry.sha1;
+            journal.push_reserved(Entry {
+                file: entry.file,
+                version: entry.version,
+                kind: entry.kind,
+                len: entry.len,
+                sha1,
+                session,
+            });
+            1
+        }
+        None => 0,
     }
 }
 
-/// The step that tells a session what became of its change. It takes no memory.
-fn tell_change(
-    alloc: Global,
-    change: &Change,
-    entries: u32,
-    answer: Answer<Committed, ()>,
-) -> ServerStep
-    ensures { result ≡ told_change change.now entries answer }
+/// The entries of a change are appended to the journal, which has room for them; says how many there
+/// are.
+pub fn enter_both(
+    journal: &mut Vec<Entry>,
+    session: u32,
+    first: Option<TreeEntry>,
+    second: Option<TreeEntry>,
+) -> u32
+    requires { length journal.old.items + count_of first second ≤ vec_capacity journal.old }
+    ensures items { journal.new.items ≡ journal.old.items ++ entries_by session first second }
+    ensures count { result ≡ count_of first second }
+    ensures capacity { vec_capacity journal.new ≡ vec_capacity journal.old }
 {
-    let session = change.session;
-    let xid = change.xid;
-    let message = Message::Answer(xid, Body::Lb(Lb::CommitTmpAnswer(answer)));
+    let entered = enter(journal, session, first);
+    entered + enter(journal, session, second)
+}
+
+/// The step that tells a session what became of its change. It takes no memory.
+fn tell_change(alloc: Global, session: u32, xid: u32, entries: u32, body: Body) -> ServerStep
+    ensures { result ≡ record { send = record { session = session; message = message.Answer xid body } ∷ []; told = told.Settled session xid; entries = entries; missed = false } }
+{
+    let message = Message::Answer(xid, body);
     ServerStep {
         send: SendList::one(alloc, Sent { session, message }),
         told: Told::Settled { session, xid },
         entries,
         missed: false,
     }
+}
+
+/// Gives a file a content that waited, and enters the places of its chunks, if the file is there. The
+/// index gets them first, since the tree then has the content.
+fn commit(
+    tree: &mut Tree,
+    index: &mut Index,
+    file: u64,
+    content: Content,
+    held: Held,
+) -> (Committing, bool)
+    ensures tree { tree_commits tree.old.tree held file content 0 ≡ (tree.new.tree, result.0) }
+    ensures all { result.1 ≡ false → index.new ≡ index_with index.old file content result.0.answer }
+    ensures lacks { result.1 ≡ true → IsLacking index.old (chunks_got file content result.0.answer) index.new }
+{
+    let call = Call::Replace(file, content.len() as u64);
+    let left_out = match tree.check(&call, held) {
+        Ok(()) => chunk_places::enter(index, file, content.chunks()),
+        Err(_) => false,
+    };
+    drop(call);
+    (settling::commit(tree, file, content, held, 0), left_out)
 }
 
 impl ServerState {
@@ -76,35 +120,62 @@ impl ServerState {
         self.make_change(alloc, change)
     }
 
-    /// A change that has left the queue is made, if its file is still there.
+    /// A change that has left the queue is made, if all is as it was when it came.
     fn make_change(&mut self, alloc: Global, change: Change) -> ServerStep
-        requires { IsSettling self.old change }
-        ensures exact { result.missed ≡ false → makes_change (state_of self.old) change (file_at (state_of self.old).files change.file) ≡ (state_of self.new, result) }
-        ensures lacks { result.missed ≡ true → Lacks (state_of self.old).index (change_entered change (file_at (state_of self.old).files change.file)) (makes_change (state_of self.old) change (file_at (state_of self.old).files change.file)) (state_of self.new) result }
+        requires { IsSettling self.old }
+        ensures exact { result.missed ≡ false → makes_change (state_of self.old) change change.what ≡ (state_of self.new, result) }
+        ensures lacks { result.missed ≡ true → Lacks (state_of self.old).index (change_entered (state_of self.old).tree (state_of self.old).waiting change change.what) (makes_change (state_of self.old) change change.what) (state_of self.new) result }
         ensures bounded { IsBounded self.new }
     {
-        let Some(file) = self.files.get(&change.file) else {
-            self.bytes_held -= change.content.len() as u64;
-            return tell_change(alloc, &change, 0, Answer::Failed(Status::Stale, ()));
-        };
-        let id = file.id;
-        let version = file.version + 1;
-        self.journal.push_reserved(entry_of(&change, id, version));
-        let left_out = chunk_places::enter(&mut self.index, id, change.content.chunks());
-        let mut step = tell_change(
-            alloc,
-            &change,
-            1,
-            Answer::Done(Committed { version, term: 0 }),
-        );
-        let file = File {
-            id,
-            version,
-            content: change.content,
-        };
-        self.bytes_held -= tree::replace(&mut self.files, file);
-        self.changes += 1;
+        let Change {
+            session,
+            xid,
+            file,
+            what,
+        } = change;
+        match what {
+            Wanted::Content(content) => self.commit_waiting(alloc, session, xid, file, content),
+            Wanted::Asked(asked) => self.settle_asked(alloc, session, xid, asked),
+        }
+    }
+
+    /// A COMMITTMP is made.
+    fn commit_waiting(
+        &mut self,
+        alloc: Global,
+        session: u32,
+        xid: u32,
+        file: u64,
+        content: Content,
+    ) -> ServerStep
+        requires { IsSettling self.old }
+        ensures exact { result.missed ≡ false → makes_change (state_of self.old) (record { session = session; xid = xid; file = file; what = wanted.Content content }) (wanted.Content content) ≡ (state_of self.new, result) }
+        ensures lacks { result.missed ≡ true → Lacks (state_of self.old).index (change_entered (state_of self.old).tree (state_of self.old).waiting (record { session = session; xid = xid; file = file; what = wanted.Content content }) (wanted.Content content)) (makes_change (state_of self.old) (record { session = session; xid = xid; file = file; what = wanted.Content content }) (wanted.Content content)) (state_of self.new) result }
+        ensures bounded { IsBounded self.new }
+    {
+        let held = held(&self.waiting);
+        let (done, left_out) = commit(&mut self.tree, &mut self.index, file, content, held);
+        let entries = enter_both(&mut self.journal, session, done.entry, None);
+        let body = Body::Lb(Lb::CommitTmpAnswer(done.answer));
+        let mut step = tell_change(alloc, session, xid, entries, body);
         step.missed = left_out;
         step
+    }
+
+    /// A REMOVE, or a RENAME over a file, is made.
+    fn settle_asked(&mut self, alloc: Global, session: u32, xid: u32, asked: Asked) -> ServerStep
+        requires { IsSettling self.old }
+        ensures exact { (id : ℕ) → makes_change (state_of self.old) (record { session = session; xid = xid; file = id; what = wanted.Asked asked }) (wanted.Asked asked) ≡ (state_of self.new, result) }
+        ensures done { result.missed ≡ false }
+        ensures bounded { IsBounded self.new }
+    {
+        let held = held(&self.waiting);
+        let Done {
+            answer,
+            first,
+            second,
+        } = settling::settle(&mut self.tree, asked, held);
+        let entries = enter_both(&mut self.journal, session, first, second);
+        tell_change(alloc, session, xid, entries, Body::Nfs(answer))
     }
 }

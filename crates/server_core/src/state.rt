@@ -2,45 +2,41 @@
 //! `specs/Step.antt` what an event does.
 
 ghost use Rattle.std.specs.Prelude.{◌≡◌, ◌==◌, ◌<◌, ◌^◌, [], ◌∷◌, ◌++◌, OnOk, OnErr, IfOk, false, true};
-ghost use Rattle.std.specs.List.{list_any, All};
-ghost use Rattle.std.specs.Map.{values_of};
+ghost use Rattle.std.specs.List.{list_any};
 ghost use Rattle.hash_calls.specs.declared.message.Lb.TheVariants as lb;
-ghost use Rattle.nfs3_calls.specs.declared.message.Nfs.TheVariants as nfs;
 ghost use Rattle.wire.specs.declared.message.Body.TheVariants as body;
 ghost use Rattle.wire.specs.declared.message.Message.TheVariants as message;
 ghost use Rattle.wire.specs.declared.message.RpcRefusal.TheVariants as refusal;
 ghost use Rattle.server_core.specs.Closing.{at, sends, to};
 ghost use Rattle.server_core.specs.Answers.{node_of, chunks_told};
-ghost use Rattle.server_core.specs.Step.{server_step, called, got, got_if, stands, connect, has_room, opens_with, tells_hashes, chunks_called, IsFileBounded, IsTimed, missed_call, TakesMemory, Lacks, MissesCall, Misses};
+ghost use Rattle.server_core.specs.Step.{server_step, called, got, got_if, stands, connect, has_room, opens_with, tells_hashes, chunks_called, IsTimed, missed_call, TakesMemory, Lacks, MissesCall, Misses};
 ghost use Rattle.server_core.specs.View.{state_of, IsBounded};
 ghost use Rattle.server_core.specs.declared.event.Event.TheVariants as event;
 ghost use Rattle.server_core.specs.declared.event.Told.TheVariants as told;
 
 use crate::change::Change;
 use crate::event::{Event, ServerStep, Told};
-use crate::file::File;
+use crate::hashes;
 use crate::journal::Entry;
 use crate::steps::{self, answer, refuse};
-use crate::tree::{self, Files};
-use crate::{answers, hashes};
 use chunk_index::index::Index;
+use file_tree::tree::Tree;
 use hash_calls::call::HashRange;
 use hash_calls::message::Lb;
+use lb_base::items::Name;
 use limits::{SESSIONS_EVER_MOST, SESSIONS_MOST};
-use nfs3_calls::call::Range;
-use nfs3_calls::message::Nfs;
 use std::alloc::{AllocError, Global};
 use temp_files::temps::Temps;
+use tree_calls::telling;
+use tree_nodes::node::Body as NodeBody;
 use wire::message::{Body, Message, RpcRefusal};
 use xdr_codec::handle::Handle;
 
 /// A server's fields.
 #[derive(Drop)]
 pub struct ServerState {
-    /// The files of the root by their ids.
-    pub files: Files,
-    /// How many changes were ever made.
-    pub changes: u64,
+    /// The files and directories, and how many changes were ever made.
+    pub tree: Tree,
     /// The changes that were made since the server stands.
     pub journal: Vec<Entry>,
     /// The temporary files of all sessions.
@@ -49,8 +45,6 @@ pub struct ServerState {
     pub index: Index,
     /// The changes that wait, in the order of their arrival.
     pub waiting: Vec<Change>,
-    /// The bytes of all contents together, and of the changes that wait.
-    pub bytes_held: u64,
     /// The sessions that stand.
     pub sessions: Vec<u32>,
     /// How many sessions were ever made.
@@ -67,24 +61,14 @@ pub fn stands(sessions: &Vec<u32>, session: u32) -> bool
 }
 
 impl ServerState {
-    /// Puts a file under its id, in place of one that was there. An `Err` changes nothing.
-    pub fn add_file(&mut self, file: File) -> Result<(), AllocError>
-        requires bounded { IsBounded self.old }
-        requires file { IsFileBounded file }
-        requires quiet { (state_of self.old).waiting ≡ [] }
-        ensures ok { OnOk result (state_of self.new ≡ opens_with (state_of self.old) file) }
+    /// The tree opens with a node more, if it may have it. An `Err` changes nothing.
+    pub fn open(&mut self, dir: u64, name: Name, body: NodeBody) -> Result<(), AllocError>
+        requires { IsBounded self.old }
+        ensures ok { OnOk result (state_of self.new ≡ opens_with (state_of self.old) dir name body) }
         ensures err { OnErr result (state_of self.new ≡ state_of self.old) }
         ensures bounded { IsBounded self.new }
     {
-        let version = file.version;
-        let size = file.content.len() as u64;
-        if size > u64::MAX - self.bytes_held {
-            return Err(AllocError);
-        }
-        let replaced = tree::put(&mut self.files, file)?;
-        self.bytes_held = self.bytes_held + size - replaced;
-        self.changes = self.changes.max(version);
-        Ok(())
+        self.tree.open(dir, name, body)
     }
 
     /// One event.
@@ -221,7 +205,7 @@ impl ServerState {
         ensures ok { called (state_of self.now) session xid (body.Lb (lb.GetLease handle.now)) ≡ (state_of self.now, result) }
         ensures done { result.missed ≡ false }
     {
-        let told = answers::lease_answer(&self.files, handle);
+        let told = telling::lease_answer(&self.tree, handle, 0);
         answer(alloc, session, xid, Body::Lb(Lb::GetLeaseAnswer(told)))
     }
 
@@ -234,53 +218,16 @@ impl ServerState {
         range: &HashRange,
     ) -> Result<ServerStep, AllocError>
         requires { IsBounded self.old }
-        ensures ok { IfOk result (λ o. o.missed ≡ false → tells_hashes (state_of self.old) session xid range.now (node_of (state_of self.old).files range.now.handle) ≡ (state_of self.new, o)) }
-        ensures lacks { IfOk result (λ o. o.missed ≡ true → Lacks (state_of self.old).index (chunks_told (node_of (state_of self.old).files range.now.handle) range.now) (tells_hashes (state_of self.old) session xid range.now (node_of (state_of self.old).files range.now.handle)) (state_of self.new) o) }
+        ensures ok { IfOk result (λ o. o.missed ≡ false → tells_hashes (state_of self.old) session xid range.now (node_of (state_of self.old).tree range.now.handle) ≡ (state_of self.new, o)) }
+        ensures lacks { IfOk result (λ o. o.missed ≡ true → Lacks (state_of self.old).index (chunks_told (node_of (state_of self.old).tree range.now.handle) range.now) (tells_hashes (state_of self.old) session xid range.now (node_of (state_of self.old).tree range.now.handle)) (state_of self.new) o) }
         ensures err { OnErr result (state_of self.new ≡ state_of self.old) }
         ensures takes { OnErr result (TakesMemory (state_of self.old) session (body.Lb (lb.GetHash range.now))) }
         ensures bounded { IsBounded self.new }
     {
-        let told = hashes::hash_answer(alloc, &self.files, range)?;
-        let left_out = hashes::enter_told(&mut self.index, &self.files, range);
+        let told = hashes::hash_answer(alloc, &self.tree, range)?;
+        let left_out = hashes::enter_told(&mut self.index, &self.tree, range);
         let mut step = answer(alloc, session, xid, Body::Lb(Lb::GetHashAnswer(told)));
         step.missed = left_out;
         Ok(step)
-    }
-
-    /// A call of NFS, none of which changes anything here.
-    fn call_nfs(
-        &self,
-        alloc: Global,
-        session: u32,
-        xid: u32,
-        call: &Nfs,
-    ) -> Result<ServerStep, AllocError>
-        requires { IsBounded self.now }
-        ensures ok { IfOk result (λ o. called (state_of self.now) session xid (body.Nfs call.now) ≡ (state_of self.now, o)) }
-        ensures done { IfOk result (λ o. o.missed ≡ false) }
-        ensures takes { OnErr result (TakesMemory (state_of self.now) session (body.Nfs call.now)) }
-    {
-        match call {
-            Nfs::Null => Ok(answer(alloc, session, xid, Body::Nfs(Nfs::NullAnswer))),
-            Nfs::Read(range) => self.tell_piece(alloc, session, xid, range),
-            _ => Ok(refuse(alloc, session, xid, RpcRefusal::ProcUnavail)),
-        }
-    }
-
-    /// A READ.
-    fn tell_piece(
-        &self,
-        alloc: Global,
-        session: u32,
-        xid: u32,
-        range: &Range,
-    ) -> Result<ServerStep, AllocError>
-        requires { IsBounded self.now }
-        ensures ok { IfOk result (λ o. called (state_of self.now) session xid (body.Nfs (nfs.Read range.now)) ≡ (state_of self.now, o)) }
-        ensures done { IfOk result (λ o. o.missed ≡ false) }
-        ensures takes { OnErr result (TakesMemory (state_of self.now) session (body.Nfs (nfs.Read range.now))) }
-    {
-        let told = answers::read_answer(alloc, &self.files, range)?;
-        Ok(answer(alloc, session, xid, Body::Nfs(Nfs::ReadAnswer(told))))
     }
 }

@@ -7,7 +7,7 @@ use Rattle.server_core.proofs.ChunkRows.{told_within}
 use Rattle.server_core.proofs.hashes.hashes_of.Goals as goal
 
 pub pairs_of-requires : goal.pairs_of-requires
-pairs_of-requires c = subst (λ (l : List Chunk). All (IsWithin size_most) l) (sym c.told_chunks-told.ensures) (told_within c.args.file.now.content c.args.range.now size_most c.requires.size)
+pairs_of-requires c = subst (λ (l : List Chunk). All (IsWithin size_most) l) (sym c.told_chunks-told.ensures) (told_within c.args.content.now c.args.range.now size_most c.requires)
 
 pub end_of-requires : goal.end_of-requires
-end_of-requires c = subst (λ (l : List Chunk). All (IsWithin size_most) l) (sym c.told_chunks-told.ensures) (told_within c.args.file.now.content c.args.range.now size_most c.requires.size)
+end_of-requires c = subst (λ (l : List Chunk). All (IsWithin size_most) l) (sym c.told_chunks-told.ensures) (told_within c.args.content.now c.args.range.now size_most c.requires)

@@ -5,7 +5,9 @@ use Rattle.server_core.specs.Asking.{admits}
 use Rattle.server_core.specs.Closing.{is_full}
 use Rattle.server_core.specs.State.{State}
 use Rattle.server_core.specs.View.{state_of}
+use Rattle.server_core.specs.declared.change.Wanted.TheVariants as wanted
 use Rattle.server_core.proofs.Closes.{whole_of_size}
+use Rattle.server_core.proofs.Making.{has_place}
 use Rattle.server_core.proofs.state.ServerState.admit.Goals as goal
 
 pub take_content-requires-clause-whole : goal.take_content-requires-clause-whole
@@ -14,16 +16,13 @@ take_content-requires-clause-whole c = rw (ap (λ (s : State). s.temps) c.reserv
 pub wait-requires-clause-bounded : goal.wait-requires-clause-bounded
 wait-requires-clause-bounded c =
     let b = c.reserve.ensures.bounded in
-    record { files = b.files; versions = b.versions; file_keys = b.file_keys; changes = b.changes; waiting = b.waiting; bytes_held = b.bytes_held; room = b.room }
+    record { bytes = b.bytes; room = b.room }
 
 pub wait-requires-clause-size : goal.wait-requires-clause-size
 wait-requires-clause-size c =
-    omega (arith, whole_of_size (temp_at c.reserve.new.self.temps c.args.session c.args.commit.now.fd) c.args.commit.now.size c.in_ok-content.content c.in_ok-content.ensures.content, c.requires.size)
-
-pub wait-requires-clause-place : goal.wait-requires-clause-place
-wait-requires-clause-place c =
     let size : length c.in_ok-content.content ≡ c.args.commit.now.size = whole_of_size (temp_at c.reserve.new.self.temps c.args.session c.args.commit.now.fd) c.args.commit.now.size c.in_ok-content.content c.in_ok-content.ensures.content in
-    ap (λ n. is_full (state_of c.reserve.new.self) n) size ∙ ap (λ (s : State). is_full s c.args.commit.now.size) c.reserve.ensures.same ∙ c.requires.room
+    let place = has_place (state_of c.reserve.new.self) c.args.commit.now.size (ap (λ (s : State). is_full s c.args.commit.now.size) c.reserve.ensures.same ∙ c.requires.room) in
+    omega (arith, size, place)
 
 pub wait-requires-clause-room : goal.wait-requires-clause-room
 wait-requires-clause-room c = c.in_ok-reserve.ensures.room
@@ -37,6 +36,6 @@ returns-clause-ok c content is =
     let found : c.in_ok-content.content ≡ content =
     some_same c.in_ok-content.content content (c.in_ok-content.ensures.content ∙ ap (λ (s : State). whole_of (temp_at s.temps c.args.session fd) c.args.commit.now.size) same ∙ sym is) in
     c.wait.ensures.waits
-    ∙ ap (λ (l : Temps). record now { temps = l; waiting = now.waiting ++ record { session = c.args.session; xid = c.args.xid; file = c.args.file; content = c.in_ok-content.content } ∷ [] }) c.in_ok-content.ensures.ended
+    ∙ ap (λ (l : Temps). record now { temps = l; waiting = now.waiting ++ record { session = c.args.session; xid = c.args.xid; file = c.args.file; what = wanted.Content c.in_ok-content.content } ∷ [] }) c.in_ok-content.ensures.ended
     ∙ ap (λ (b : List ℕ). admits now c.args.session c.args.xid c.args.file fd b) found
     ∙ ap (λ (s : State). admits s c.args.session c.args.xid c.args.file fd content) same

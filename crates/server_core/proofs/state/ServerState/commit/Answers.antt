@@ -19,7 +19,7 @@ pub admit-requires-clause-size : goal.admit-requires-clause-size
 admit-requires-clause-size c =
     let s = state_of c.args.self.now in
     let commit = c.args.commit.now in
-    (target_fits s c.args.session commit.size c.in-Some.temp.now (target_in (node_of s.files commit.handle)) c.in-Ok.file (sym c.commit_target.ensures ∙ c.in-Ok.is)).0
+    (target_fits s c.args.session commit.size c.in-Some.temp.now (target_in (node_of s.tree commit.handle)) c.in-Ok.file (sym c.commit_target.ensures ∙ c.in-Ok.is)).0
 
 pub admit-requires-clause-whole : goal.admit-requires-clause-whole
 admit-requires-clause-whole c =
@@ -27,13 +27,13 @@ admit-requires-clause-whole c =
     let commit = c.args.commit.now in
     let at : temp_at s.temps c.args.session commit.fd ≡ Some c.in-Some.temp.now = sym c.find.ensures ∙ ap option_copied c.in-Some.is in
     ap (λ (o : Option Temp). is_some (whole_of o commit.size)) at
-    ∙ (target_fits s c.args.session commit.size c.in-Some.temp.now (target_in (node_of s.files commit.handle)) c.in-Ok.file (sym c.commit_target.ensures ∙ c.in-Ok.is)).1
+    ∙ (target_fits s c.args.session commit.size c.in-Some.temp.now (target_in (node_of s.tree commit.handle)) c.in-Ok.file (sym c.commit_target.ensures ∙ c.in-Ok.is)).1
 
 pub admit-requires-clause-room : goal.admit-requires-clause-room
 admit-requires-clause-room c =
     let s = state_of c.args.self.now in
     let commit = c.args.commit.now in
-    (target_fits s c.args.session commit.size c.in-Some.temp.now (target_in (node_of s.files commit.handle)) c.in-Ok.file (sym c.commit_target.ensures ∙ c.in-Ok.is)).2
+    (target_fits s c.args.session commit.size c.in-Some.temp.now (target_in (node_of s.tree commit.handle)) c.in-Ok.file (sym c.commit_target.ensures ∙ c.in-Ok.is)).2
 
 pub returns-clause-ok : goal.returns-clause-ok
 returns-clause-ok c =
@@ -41,7 +41,7 @@ returns-clause-ok c =
     let commit = c.args.commit.now in
     let t = c.in-Some.temp.now in
     let at : temp_at s.temps c.args.session commit.fd ≡ Some t = sym c.find.ensures ∙ ap option_copied c.in-Some.is in
-    let fits = target_fits s c.args.session commit.size t (target_in (node_of s.files commit.handle)) c.in-Ok.file (sym c.commit_target.ensures ∙ c.in-Ok.is) in
+    let fits = target_fits s c.args.session commit.size t (target_in (node_of s.tree commit.handle)) c.in-Ok.file (sym c.commit_target.ensures ∙ c.in-Ok.is) in
     let whole = there (assembled t commit.size) fits.1 in
     commit_taken s (state_of c.admit.new.self) c.args.session c.args.xid c.in-Ok.file commit t whole.0 c.nothing.result
     at (sym c.commit_target.ensures ∙ c.in-Ok.is) whole.1 (c.in_ok-admit.ensures.ok whole.0 (whole.1 ∙ ap (λ (o : Option Temp). whole_of o commit.size) (sym at))) c.nothing.ensures

@@ -13,13 +13,13 @@ pub put_known-requires : goal.put_known-requires
 put_known-requires c =
     let s = state_of c.args.self.now in
     let a = c.args.piece.now in
-    known_fits s.files a (temp_at s.temps c.args.session a.fd) (place_of s.index.pairs (key_of a.digest)) c.in-Some.bytes.now c.requires.fits (sym c.look_up.ensures.known ∙ ap option_copied c.in-Some.is)
+    known_fits s.tree a (temp_at s.temps c.args.session a.fd) (place_of s.index.pairs (key_of a.digest)) c.in-Some.bytes.now c.requires.fits (sym c.look_up.ensures.known ∙ ap option_copied c.in-Some.is)
 
 pub returns-in_err-put_known-in-Some-clause-takes : goal.returns-in_err-put_known-in-Some-clause-takes
 returns-in_err-put_known-in-Some-clause-takes c =
     let s = state_of c.args.self.now in
     let a = c.args.piece.now in
-    let known : bytes_known s.files a (place_of s.index.pairs (key_of a.digest)) ≡ Some c.in-Some.bytes.now = sym c.look_up.ensures.known ∙ ap option_copied c.in-Some.is in
+    let known : bytes_known s.tree a (place_of s.index.pairs (key_of a.digest)) ≡ Some c.in-Some.bytes.now = sym c.look_up.ensures.known ∙ ap option_copied c.in-Some.is in
     rw (err_from_is_err_and c.from_residual.result c.from_residual.ensures.1).1 (c.requires.fits, ap is_some known)
 
 pub returns-in_ok-put_known-in-Some-clause-ok : goal.returns-in_ok-put_known-in-Some-clause-ok

@@ -4,7 +4,7 @@ use Rattle.chunk_cut.specs.Cutting.{IsFed}
 use Rattle.chunk_cut.specs.declared.chunk.Chunk.{Chunk}
 use Rattle.temp_files.specs.Pieces.{Piece, all_bytes}
 use Rattle.server_core.proofs.Cuttings.{IsCut, cut_begins, cut_more}
-use Rattle.server_core.proofs.chunked.cut_pieces.Goals as goal
+use Rattle.server_core.proofs.answers.cut_pieces.Goals as goal
 
 pub loop-at-init : goal.loop-at-init
 loop-at-init c =

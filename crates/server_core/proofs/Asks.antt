@@ -1,0 +1,204 @@
+-- The calls of NFS: what GETLEASE and READ tell of a file, and what a call leaves that has no memory taken for it.
+use Rattle.std.proofs.Common.{◌≡◌, refl, sym, ap, ◌∙◌, subst, ℕ, ◌+◌, ◌≤◌, List, [], ◌∷◌, ◌++◌, length, Option, Some, None, Result, Ok, Err, Bool, true, false, true≢false, arith, inl, inr}
+use Rattle.std.specs.Prelude.{is_ok, vec_capacity}
+use Rattle.std.proofs.lemmas.List.{append-nil}
+use Rattle.xdr_codec.specs.Handle.{file_of}
+use Rattle.xdr_codec.specs.declared.status.Status.{Status}
+use Rattle.xdr_codec.specs.declared.status.Status.TheVariants as status
+use Rattle.xdr_codec.specs.declared.answer.Answer.{Answer}
+use Rattle.xdr_codec.specs.declared.attr.Attr.{Attr}
+use Rattle.hash_calls.specs.declared.call.Leased.{Leased}
+use Rattle.nfs3_calls.specs.declared.call.Range.{Range}
+use Rattle.nfs3_calls.specs.declared.change.Before.{Before}
+use Rattle.nfs3_calls.specs.declared.message.Nfs.{Nfs}
+use Rattle.nfs3_calls.specs.declared.message.Nfs.TheVariants as nfs
+use Rattle.wire.specs.declared.message.Body.TheVariants as body
+use Rattle.wire.specs.declared.message.Message.TheVariants as message
+use Rattle.tree_nodes.specs.declared.node.Node.{Node as TreeNode}
+use Rattle.tree_nodes.specs.declared.node.Body.{Body as NodeBody}
+use Rattle.tree_nodes.specs.declared.node.Body.TheVariants.{Directory, File as Content}
+use Rattle.tree_nodes.specs.Nodes.{with_id}
+use Rattle.file_tree.specs.Chain.{◌>>=◌}
+use Rattle.file_tree.specs.Reading.{attr, attr_of, file_attr, version, content, piece_of}
+use Rattle.file_tree.specs.Step.{created, mkdir_if, remove_if, create_plan, may_mkdir, rmdir_plan}
+use Rattle.file_tree.specs.Tree.{Tree, content_of, or_stale, file_or}
+use Rattle.file_tree.specs.declared.call.Changed.{Changed}
+use Rattle.file_tree.specs.declared.call.Held.{Held}
+use Rattle.file_tree.specs.declared.entry.Entry.{Entry as TreeEntry}
+use Rattle.tree_calls.specs.Telling.{id_of, or_bad_handle, answer_of, piece, leased, told}
+use Rattle.tree_calls.specs.Changing.{before, with_done, mode_of, created as created_answer, made_directory, removed_directory}
+use Rattle.tree_calls.specs.Waiting.{calls, enters, asks_remove, asks_rename, removes_in, removing, renames_in, renaming, told_outcome, creates_in, mkdirs_in, rmdirs_in}
+use Rattle.tree_calls.specs.declared.asked.Done.{Done}
+use Rattle.tree_calls.specs.declared.asked.Outcome.{Outcome}
+use Rattle.tree_calls.specs.declared.asked.Outcome.TheVariants.{Answered, Waits}
+use Rattle.server_core.specs.declared.event.ServerStep.{ServerStep}
+use Rattle.server_core.specs.declared.journal.Entry.{Entry}
+use Rattle.server_core.specs.declared.state.ServerState.{ServerState}
+use Rattle.server_core.specs.Answers.{node_with, node_found, node_named, node_of, lease_answer, read_answer}
+use Rattle.server_core.specs.Closing.{to, has_waiting, count_of, one_if}
+use Rattle.server_core.specs.State.{State, held}
+use Rattle.server_core.specs.Step.{called, asks, asks_tree}
+use Rattle.server_core.specs.View.{IsBounded, HasRoom, RoomFor}
+
+-- ---- READ, as the tree's calls have it
+
+module _ (t : Tree) (r : Range) where
+  read_of : (n : TreeNode) (b : NodeBody) → answer_of None (file_or status.Inval (record n { body = b }) >>= λ (m : TreeNode). Ok (piece_of t.nodes m r.offset r.count)) ≡ read_answer (Ok (node_with (record n { body = b }) b)) r
+  read_of n Directory = refl
+  read_of n (Content c) = refl
+
+  read_found : (o : Option TreeNode) → answer_of None (or_stale o >>= file_or status.Inval >>= λ (m : TreeNode). Ok (piece_of t.nodes m r.offset r.count)) ≡ read_answer (node_found o) r
+  read_found None = refl
+  read_found (Some n) = read_of n n.body
+
+  read_named : (o : Option ℕ) → answer_of None (or_bad_handle o >>= λ id. or_stale (with_id t.nodes id) >>= file_or status.Inval >>= λ (m : TreeNode). Ok (piece_of t.nodes m r.offset r.count)) ≡ read_answer (node_named t o) r
+  read_named None = refl
+  read_named (Some id) = read_found (with_id t.nodes id)
+
+  pub read_told : answer_of None (piece t.nodes r) ≡ read_answer (node_of t r.handle) r
+  read_told = read_named (file_of r.handle)
+
+-- ---- GETLEASE
+
+module _ (t : Tree) where
+  abbrev leased_as : Attr → ℕ → Leased
+  leased_as a v = record { attr = a; version = v; term = 0 }
+
+  abbrev lease_of : (id : ℕ) → Result (List ℕ) Status → Answer Leased Unit
+  lease_of id r = answer_of tt (r >>= (λ _. Ok id) >>= λ i. attr t.nodes i >>= λ a. version t.nodes i >>= λ v. Ok (leased_as a v))
+
+  lease_body : (id : ℕ) (n : TreeNode) (b : NodeBody) → with_id t.nodes id ≡ Some (record n { body = b }) → lease_of id (content t.nodes id) ≡ lease_answer (Ok (node_with (record n { body = b }) b))
+  lease_body id n Directory at = ap (λ (o : Option TreeNode). lease_of id (or_stale o >>= file_or status.IsDir >>= λ (m : TreeNode). Ok (content_of m.body))) at
+  lease_body id n (Content c) at =
+      ap (λ (o : Option TreeNode). lease_of id (or_stale o >>= file_or status.IsDir >>= λ (m : TreeNode). Ok (content_of m.body))) at
+      ∙ ap (λ (r : Result Attr Status). answer_of tt (r >>= λ a. version t.nodes id >>= λ v. Ok (leased_as a v))) attr_is
+      ∙ ap (λ (r : Result ℕ Status). answer_of tt (r >>= λ v. Ok (leased_as (file_attr n.id n.version (length c)) v))) version_is
+    where
+      attr_is : attr t.nodes id ≡ Ok (file_attr n.id n.version (length c))
+      attr_is = ap (λ (o : Option TreeNode). or_stale o >>= λ (m : TreeNode). Ok (attr_of t.nodes m)) at
+
+      version_is : version t.nodes id ≡ Ok n.version
+      version_is = ap (λ (o : Option TreeNode). or_stale o >>= λ (m : TreeNode). Ok m.version) at
+
+  lease_found : (id : ℕ) (o : Option TreeNode) → with_id t.nodes id ≡ o → lease_of id (content t.nodes id) ≡ lease_answer (node_found o)
+  lease_found id None at = ap (λ (o : Option TreeNode). lease_of id (or_stale o >>= file_or status.IsDir >>= λ (m : TreeNode). Ok (content_of m.body))) at
+  lease_found id (Some n) at = lease_body id n n.body at
+
+  lease_named : (o : Option ℕ) → answer_of tt (or_bad_handle o >>= (λ id. content t.nodes id >>= λ _. Ok id) >>= λ i. attr t.nodes i >>= λ a. version t.nodes i >>= λ v. Ok (leased_as a v)) ≡ lease_answer (node_named t o)
+  lease_named None = refl
+  lease_named (Some id) = lease_found id (with_id t.nodes id) refl
+
+  pub lease_told : (handle : List ℕ) → answer_of tt (leased t.nodes handle 0) ≡ lease_answer (node_of t handle)
+  lease_told handle = lease_named (file_of handle)
+
+-- ---- any call
+
+-- NULL and READ are told as the tree's calls tell them
+told_as : (s : State) (session xid : ℕ) (m n : Nfs) → n ≡ m → (s, to session (message.Answer xid (body.Nfs m))) ≡ asks_tree s session xid (s.tree, Some (Answered (record { answer = n; first = None; second = None })))
+told_as s session xid m n is =
+    ap (λ (x : Nfs). (s, to session (message.Answer xid (body.Nfs x)))) (sym is)
+    ∙ ap (λ (l : List Entry). (record s { journal = l }, to session (message.Answer xid (body.Nfs n)))) (sym (append-nil s.journal))
+
+pub called_asks : (s : State) (session xid : ℕ) (m : Nfs) → called s session xid (body.Nfs m) ≡ asks_tree s session xid (calls s.tree (held s.waiting) (has_waiting s.waiting session) m)
+called_asks s session xid nfs.Null = told_as s session xid nfs.NullAnswer nfs.NullAnswer refl
+called_asks s session xid (nfs.Read r) = told_as s session xid (nfs.ReadAnswer (read_answer (node_of s.tree r.handle) r)) (nfs.ReadAnswer (answer_of None (piece s.tree.nodes r))) (ap (λ x. nfs.ReadAnswer x) (read_told s.tree r))
+called_asks s session xid m = refl
+
+-- the same by what was found of the changes that wait, and by what the tree makes of the call
+pub called_by : (s new : State) (session xid : ℕ) (m : Nfs) (h : Held) (busy : Bool) (t : Tree) (o : Option Outcome) (step : ServerStep)
+    → h ≡ held s.waiting → busy ≡ has_waiting s.waiting session → calls s.tree h busy m ≡ (t, o) → asks (record s { tree = t }) session xid o ≡ (new, step) → called s session xid (body.Nfs m) ≡ (new, step)
+called_by s new session xid m h busy t o step needs has done made =
+    called_asks s session xid m
+    ∙ ap (λ (x : Held). asks_tree s session xid (calls s.tree x (has_waiting s.waiting session) m)) (sym needs)
+    ∙ ap (λ (b : Bool). asks_tree s session xid (calls s.tree h b m)) (sym has)
+    ∙ ap (λ (p : Tree × Option Outcome). asks_tree s session xid p) done
+    ∙ made
+
+-- ---- a call that is refused, or changes nothing, makes no entry and doesn't wait
+
+abbrev pub IsQuiet : Option Outcome → Type 0
+IsQuiet None = Unit {0}
+IsQuiet (Some (Answered d)) = (d.first ≡ None) × (d.second ≡ None)
+IsQuiet (Some (Waits a)) = ⊥
+
+quiet_told : (o : Option Nfs) → IsQuiet (told_outcome o)
+quiet_told None = tt
+quiet_told (Some m) = (refl, refl)
+
+module _ (t : Tree) (h : Held) (busy : Bool) where
+  quiet_made : (b : Option Before) (dir : ℕ) (name : List ℕ) (p : Result (Option Changed) Status) → is_ok p ≡ false → IsQuiet (Some (Answered (with_done (created_answer b dir) (created t dir name p)).1))
+  quiet_made b dir name (Err s) e = (refl, refl)
+  quiet_made b dir name (Ok o) e = absurd (true≢false e)
+
+  quiet_directory : (b : Option Before) (dir : ℕ) (name : List ℕ) (p : Result Unit Status) → is_ok p ≡ false → IsQuiet (Some (Answered (with_done (made_directory b dir) (mkdir_if t dir name p)).1))
+  quiet_directory b dir name (Err s) e = (refl, refl)
+  quiet_directory b dir name (Ok o) e = absurd (true≢false e)
+
+  quiet_gone : (b : Option Before) (dir : ℕ) (p : Result Changed Status) → is_ok p ≡ false → IsQuiet (Some (Answered (with_done (removed_directory b dir) (remove_if t dir p)).1))
+  quiet_gone b dir (Err s) e = (refl, refl)
+  quiet_gone b dir (Ok o) e = absurd (true≢false e)
+
+  quiet_removing : (dir : ℕ) (name : List ℕ) (p : Result ℕ Status) → is_ok p ≡ false → IsQuiet (Some (removing dir name p))
+  quiet_removing dir name (Err s) e = (refl, refl)
+  quiet_removing dir name (Ok o) e = absurd (true≢false e)
+
+  quiet_renaming : (dir : ℕ) (name : List ℕ) (to : ℕ) (to_name : List ℕ) (p : Result (Option (ℕ × ℕ)) Status) → is_ok p ≡ false → IsQuiet (Some (renaming t h dir name to to_name p).1)
+  quiet_renaming dir name to to_name (Err s) e = (refl, refl)
+  quiet_renaming dir name to to_name (Ok o) e = absurd (true≢false e)
+
+  pub quiet : (m : Nfs) → enters t h busy m ≡ false → IsQuiet (calls t h busy m).1
+  quiet (nfs.Create f) e = by (id_of f.place.dir) e
+    where
+      by : (r : Result ℕ Status) → is_ok (r >>= λ dir. create_plan t h dir f.place.name (mode_of f.how)) ≡ false → IsQuiet (Some (Answered (creates_in t h f r).1))
+      by (Err s) g = (refl, refl)
+      by (Ok dir) g = quiet_made (before t.nodes dir) dir f.place.name (create_plan t h dir f.place.name (mode_of f.how)) g
+  quiet (nfs.MkDir d) e = by (id_of d.place.dir) e
+    where
+      by : (r : Result ℕ Status) → is_ok (r >>= λ dir. may_mkdir t h dir d.place.name) ≡ false → IsQuiet (Some (Answered (mkdirs_in t h d.place.name r).1))
+      by (Err s) g = (refl, refl)
+      by (Ok dir) g = quiet_directory (before t.nodes dir) dir d.place.name (may_mkdir t h dir d.place.name) g
+  quiet (nfs.Remove p) e = by (id_of p.dir) e
+    where
+      by : (r : Result ℕ Status) → is_ok (r >>= λ dir. asks_remove t h busy dir p.name) ≡ false → IsQuiet (Some (removes_in t h busy p.name r))
+      by (Err s) g = (refl, refl)
+      by (Ok dir) g = quiet_removing dir p.name (asks_remove t h busy dir p.name) g
+  quiet (nfs.RmDir p) e = by (id_of p.dir) e
+    where
+      by : (r : Result ℕ Status) → is_ok (r >>= λ dir. rmdir_plan t h dir p.name) ≡ false → IsQuiet (Some (Answered (rmdirs_in t h p.name r).1))
+      by (Err s) g = (refl, refl)
+      by (Ok dir) g = quiet_gone (before t.nodes dir) dir (rmdir_plan t h dir p.name) g
+  quiet (nfs.Rename r) e = by (id_of r.from.dir) (id_of r.to.dir) e
+    where
+      by : (a b : Result ℕ Status) → is_ok (a >>= λ dir. b >>= λ to. asks_rename t h busy dir r.from.name to r.to.name) ≡ false → IsQuiet (Some (renames_in t h busy r.from.name r.to.name a b).1)
+      by (Err s) b g = (refl, refl)
+      by (Ok dir) (Err s) g = (refl, refl)
+      by (Ok dir) (Ok to) g = quiet_renaming dir r.from.name to r.to.name (asks_rename t h busy dir r.from.name to r.to.name) g
+  quiet m e = quiet_told (told t.nodes m)
+
+-- ---- there is room for what comes
+
+two_at_most : (d : Done) → count_of d.first d.second ≤ 2
+two_at_most d = by d.first d.second
+  where
+    by : (a b : Option TreeEntry) → one_if a + one_if b ≤ 2
+    by None None = omega arith
+    by (Some x) None = omega arith
+    by None (Some y) = omega arith
+    by (Some x) (Some y) = omega arith
+
+room_if : (s : ServerState) (o : Option Outcome) → HasRoom s → RoomFor s o
+room_if s None room = tt
+room_if s (Some (Answered d)) room = omega (arith, room.0, two_at_most d)
+room_if s (Some (Waits a)) room = room
+
+room_quiet : (s : ServerState) (o : Option Outcome) → IsBounded s → IsQuiet o → RoomFor s o
+room_quiet s None b q = tt
+room_quiet s (Some (Answered d)) b q = omega (arith, b.room, ap one_if q.0, ap one_if q.1)
+room_quiet s (Some (Waits a)) b q = absurd q
+
+pub room_for : (s : ServerState) (t t' : Tree) (h : Held) (busy : Bool) (m : Nfs) (o : Option Outcome) → IsBounded s → (enters t h busy m ≡ true → HasRoom s) → calls t h busy m ≡ (t', o) → RoomFor s o
+room_for s t t' h busy m o bounded room done = by (enters t h busy m) refl
+  where
+    by : (b : Bool) → enters t h busy m ≡ b → RoomFor s o
+    by true is = room_if s o (room is)
+    by false is = room_quiet s o bounded (subst IsQuiet (ap (λ (p : Tree × Option Outcome). p.1) done) (quiet t h busy m is))

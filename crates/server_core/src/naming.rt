@@ -1,0 +1,111 @@
+//! The calls of NFS: what they come to over the tree, and in the journal. `asks` in `specs/Step.antt`
+//! says it.
+
+ghost use Rattle.std.specs.Prelude.{◌≡◌, ◌≤◌, ◌+◌, length, vec_capacity, IfOk, OnOk, OnErr, false, true};
+ghost use Rattle.wire.specs.declared.message.Body.TheVariants as body;
+ghost use Rattle.server_core.specs.Closing.{count_of};
+ghost use Rattle.server_core.specs.Step.{called, does, asks, TakesMemory};
+ghost use Rattle.server_core.specs.View.{state_of, IsBounded, HasRoom, RoomFor};
+ghost use Rattle.tree_calls.specs.Waiting.{enters};
+
+use crate::change::{Change, Wanted};
+use crate::event::ServerStep;
+use crate::settling::enter_both;
+use crate::state::ServerState;
+use crate::steps::{answer, nothing, refuse};
+use crate::waiting::{has_waiting, held};
+use file_tree::call::Held;
+use nfs3_calls::message::Nfs;
+use std::alloc::{AllocError, Global};
+use tree_calls::asked::{Done, Outcome};
+use tree_calls::{calls, entering};
+use wire::message::{Body, RpcRefusal};
+
+impl ServerState {
+    /// A call of NFS. Memory is taken for its entries only where it is not refused. An `Err` changes
+    /// nothing.
+    pub fn call_nfs(
+        &mut self,
+        alloc: Global,
+        session: u32,
+        xid: u32,
+        call: &Nfs,
+    ) -> Result<ServerStep, AllocError>
+        requires { IsBounded self.old }
+        ensures ok { IfOk result (λ o. called (state_of self.old) session xid (body.Nfs call.now) ≡ (state_of self.new, o)) }
+        ensures done { IfOk result (λ o. o.missed ≡ false) }
+        ensures err { OnErr result (state_of self.new ≡ state_of self.old) }
+        ensures takes { OnErr result (TakesMemory (state_of self.old) session (body.Nfs call.now)) }
+        ensures bounded { IsBounded self.new }
+    {
+        let held = held(&self.waiting);
+        let busy = has_waiting(&self.waiting, session);
+        self.reserve_for(call, held, busy)?;
+        let outcome = calls::call(alloc, &mut self.tree, call, held, busy)?;
+        Ok(self.take_outcome(alloc, session, xid, outcome))
+    }
+
+    /// Takes memory for what a call may leave behind it, if it is not refused. Nothing else changes.
+    fn reserve_for(&mut self, call: &Nfs, held: Held, busy: bool) -> Result<(), AllocError>
+        requires { IsBounded self.old }
+        ensures same { state_of self.new ≡ state_of self.old }
+        ensures bounded { IsBounded self.new }
+        ensures room { OnOk result (enters self.old.tree.tree held busy call.now ≡ true → HasRoom self.new) }
+        ensures takes { OnErr result (enters self.old.tree.tree held busy call.now ≡ true) }
+    {
+        if entering::enters(&self.tree, call, held, busy) {
+            self.reserve()?;
+        }
+        Ok(())
+    }
+
+    /// What a call of NFS came to over the tree.
+    fn take_outcome(
+        &mut self,
+        alloc: Global,
+        session: u32,
+        xid: u32,
+        outcome: Option<Outcome>,
+    ) -> ServerStep
+        requires bounded { IsBounded self.old }
+        requires room { RoomFor self.old outcome }
+        ensures exact { asks (state_of self.old) session xid outcome ≡ (state_of self.new, result) }
+        ensures done { result.missed ≡ false }
+        ensures bounded { IsBounded self.new }
+    {
+        match outcome {
+            None => refuse(alloc, session, xid, RpcRefusal::ProcUnavail),
+            Some(Outcome::Answered(done)) => self.take_done(alloc, session, xid, done),
+            Some(Outcome::Waits(asked)) => {
+                let file = asked.file();
+                let what = Wanted::Asked(asked);
+                self.wait(Change {
+                    session,
+                    xid,
+                    file,
+                    what,
+                });
+                nothing(alloc)
+            }
+        }
+    }
+
+    /// A call of NFS that is answered.
+    fn take_done(&mut self, alloc: Global, session: u32, xid: u32, done: Done) -> ServerStep
+        requires bounded { IsBounded self.old }
+        requires room { length self.old.journal.items + (length self.old.waiting.items + length self.old.waiting.items) + count_of done.first done.second ≤ vec_capacity self.old.journal }
+        ensures exact { does (state_of self.old) session xid done ≡ (state_of self.new, result) }
+        ensures done { result.missed ≡ false }
+        ensures bounded { IsBounded self.new }
+    {
+        let Done {
+            answer: told,
+            first,
+            second,
+        } = done;
+        let entries = enter_both(&mut self.journal, session, first, second);
+        let mut step = answer(alloc, session, xid, Body::Nfs(told));
+        step.entries = entries;
+        step
+    }
+}
