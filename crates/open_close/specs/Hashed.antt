@@ -4,18 +4,18 @@ use Rattle.chunk_cut.specs.declared.chunk.Chunk.{Chunk}
 use Rattle.xdr_codec.specs.declared.answer.Answer.TheVariants.{Done}
 use Rattle.hash_calls.specs.declared.message.Lb.TheVariants as lb
 use Rattle.nfs3_calls.specs.declared.message.Nfs.TheVariants as nfs
-use Rattle.wire.specs.declared.message.Body.{Body}
-use Rattle.wire.specs.declared.message.Body.TheVariants as body
-use Rattle.wire.specs.declared.message.Message.{Message}
-use Rattle.wire.specs.declared.message.Message.TheVariants as message
 use Rattle.wire.specs.declared.fault.WireFault.{WireFault}
-use Rattle.open_close.specs.declared.task.ReadCall.{ReadCall}
-use Rattle.open_close.specs.declared.task.Stage.{Stage}
-use Rattle.open_close.specs.declared.task.Stage.TheVariants as stage
-use Rattle.open_close.specs.declared.task.Task.{Task}
-use Rattle.open_close.specs.Looking.{reading, looked_by}
-use Rattle.open_close.specs.Opening.{read_at}
-use Rattle.open_close.specs.State.{State, local_bytes, pending, has_call}
+use Rattle.wire.specs.declared.message.Body.TheVariants as body
+use Rattle.wire.specs.declared.message.Body.{Body}
+use Rattle.wire.specs.declared.message.Message.TheVariants as message
+use Rattle.wire.specs.declared.message.Message.{Message}
+use Rattle.client_state.specs.State.{State, local_bytes, pending, has_call}
+use Rattle.client_state.specs.declared.task.ReadCall.{ReadCall}
+use Rattle.client_state.specs.declared.task.Stage.TheVariants as stage
+use Rattle.client_state.specs.declared.task.Stage.{Stage}
+use Rattle.client_state.specs.declared.task.Task.{Task}
+use Rattle.file_open.specs.Looking.{reading, looked_by}
+use Rattle.file_open.specs.Opening.{read_at}
 use Rattle.open_close.specs.Step.{got_step}
 
 abbrev pub compared_if : Bool → List ℕ → List (List ℕ)

@@ -1,12 +1,3 @@
-pub mod Caching
-pub mod State
-pub mod Shape
-pub mod Local
-pub mod Looking
-pub mod Counting
-pub mod Opening
-pub mod Closing
 pub mod Step
 pub mod Hashed
-pub mod View
 pub mod Rows

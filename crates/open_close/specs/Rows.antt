@@ -16,22 +16,24 @@ use Rattle.wire.specs.declared.message.Body.TheVariants as body
 use Rattle.wire.specs.declared.message.Message.{Message}
 use Rattle.wire.specs.declared.message.Message.TheVariants as message
 use Rattle.wire.specs.declared.message.RpcRefusal.TheVariants as refusal
-use Rattle.open_close.specs.declared.step.BadPeer.TheVariants as bad
-use Rattle.open_close.specs.declared.step.ClientStep.{ClientStep}
-use Rattle.open_close.specs.declared.step.Outcome.TheVariants as outcome
-use Rattle.open_close.specs.declared.task.Fetch.{Fetch}
-use Rattle.open_close.specs.declared.task.Stage.TheVariants as stage
-use Rattle.open_close.specs.Closing.{make_call, cond_call, temp_call, commit_call}
-use Rattle.open_close.specs.Counting.{no_counts, sends, nothing_done, sends_one, sends_reads, ends}
+use Rattle.client_state.specs.declared.step.BadPeer.TheVariants as bad
+use Rattle.client_state.specs.declared.step.ClientStep.{ClientStep}
+use Rattle.client_state.specs.declared.step.Outcome.TheVariants as outcome
+use Rattle.client_state.specs.declared.task.Fetch.{Fetch}
+use Rattle.client_state.specs.declared.task.Stage.TheVariants as stage
+use Rattle.file_close.specs.Closing.{make_call, cond_call, temp_call, commit_call}
+use Rattle.client_state.specs.Counting.{no_counts, sends, nothing_done, sends_one, sends_reads, ends}
 use Rattle.chunk_index.specs.Index.{key_of}
 use Rattle.chunk_index.specs.declared.place.Place.{Place}
 use Rattle.client_cache.specs.Cache.{fronted, nothing}
 use Rattle.chunk_places.specs.Places.{no_index}
-use Rattle.open_close.specs.Looking.{Entering, entering}
-use Rattle.open_close.specs.Opening.{calls_most, lease_call, hash_call, read_call}
-use Rattle.open_close.specs.Shape.{with_pairs}
-use Rattle.open_close.specs.State.{State, start, read_pending, evicted, forged, index_cleared}
-use Rattle.open_close.specs.Step.{command_step, got_step, joined, cut}
+use Rattle.file_open.specs.Looking.{Entering, entering}
+use Rattle.client_state.specs.Limits.{calls_most}
+use Rattle.file_open.specs.Opening.{lease_call, hash_call, read_call}
+use Rattle.file_open.specs.Shape.{with_pairs}
+use Rattle.client_state.specs.State.{State, start, read_pending, evicted, forged, index_cleared}
+use Rattle.open_close.specs.Step.{command_step, got_step}
+use Rattle.client_state.specs.Ending.{joined, cut}
 
 -- ---- a run
 

@@ -2,19 +2,20 @@
 
 ghost use Rattle.std.specs.Prelude.{◌≡◌, false, true, option_map, Some, IfOk, OnOk, OnErr};
 ghost use Rattle.std.specs.Option.{option_copied};
-ghost use Rattle.open_close.specs.State.{start, evicted, forged, index_cleared, waiting_of, local_at};
-ghost use Rattle.open_close.specs.Counting.{misses, by_memory};
-ghost use Rattle.open_close.specs.Step.{command_step, got_step, cut, joined, Misses, MayMissCommand};
+ghost use Rattle.client_state.specs.State.{start, evicted, forged, index_cleared, waiting_of, local_at};
+ghost use Rattle.client_state.specs.Counting.{misses, by_memory};
+ghost use Rattle.open_close.specs.Step.{command_step, got_step, Misses, MayMissCommand};
+ghost use Rattle.client_state.specs.Ending.{cut, joined};
 
-use crate::parts;
-use crate::state::ClientState;
-use crate::step::{ClientStep, Ended, Outcome};
+use crate::taking;
 use chunk_index::index::Key;
 use chunk_index::place::Place;
 use client_cache::cache::Cache;
+use client_state::state::ClientState;
+use client_state::step::{ClientStep, Ended, Outcome};
+use client_state::{parts, sending};
 use command_text::command::Command;
 use lb_base::items::Items;
-use send_list::SendList;
 use shared_bytes::SharedBytes;
 use std::alloc::{AllocError, Global};
 use std::collections::BTreeMap;
@@ -29,11 +30,11 @@ pub struct Client {
 }
 
 impl Model for Client {
-    ghost use Rattle.open_close.specs.State.{State};
+    ghost use Rattle.client_state.specs.State.{State};
 
     ghost Value = { State };
 
-    ghost use Rattle.open_close.specs.View.{state_of, IsSound};
+    ghost use Rattle.client_state.specs.View.{state_of, IsSound};
 
     ghost view = { λ c. state_of c.state };
 
@@ -45,7 +46,7 @@ fn missed(alloc: Global) -> ClientStep
     ensures { result ≡ misses (Some by_memory) }
 {
     ClientStep {
-        send: SendList::none(alloc),
+        send: sending::none(alloc),
         ended: Some(Ended {
             outcome: Outcome::Memory,
             rests_on: 0,
@@ -88,7 +89,7 @@ impl Client {
         ensures silent { result.missed ≡ true → result ≡ misses (Some by_memory) }
         ensures sure { result.missed ≡ true → MayMissCommand self.old command }
     {
-        match self.state.command(alloc, command, now) {
+        match taking::command(alloc, &mut self.state, command, now) {
             Ok(step) => step,
             Err(_) => missed(alloc),
         }
@@ -107,7 +108,7 @@ impl Client {
         ensures exact { result.missed ≡ false → got_step self.old message now ≡ (self.new, result) }
         ensures missed { result.missed ≡ true → Misses self.old message now self.new result }
     {
-        match self.state.got(alloc, message, now) {
+        match taking::got(alloc, &mut self.state, message, now) {
             Ok(step) => step,
             Err(_) => missed(alloc),
         }

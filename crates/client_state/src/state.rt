@@ -1,0 +1,462 @@
+//! The client's fields, and how they change where an operation goes on or ends. `specs/View.antt`
+//! says which state they are, and what always holds of them.
+
+ghost use Rattle.limits.specs.declared.TheConstants.{FILE_MOST};
+ghost use Rattle.std.specs.Prelude.{◌≡◌, ◌+◌, ◌<◌, ◌≤◌, ◌++◌, [], length, map, None, Some, IfOk, OnOk, OnErr, false, true};
+ghost use Rattle.client_cache.specs.Cache.{reserved};
+ghost use Rattle.client_state.specs.State.{State, evicted, forged, index_cleared, read_pending, pending, pending_in, has_call, with_local, without_local, local_bytes};
+ghost use Rattle.client_state.specs.Ending.{bad_peer, refused, denied, drops, unawaited, unknown, cut, cut_off, joined, forgets, idle, may_ask};
+ghost use Rattle.client_state.specs.View.{state_of, whole_of, IsBase, IsHeld, IsSound, IsThere, StageIsThere, HasXids, IsWithin};
+ghost use Rattle.client_state.specs.declared.task.Stage.TheVariants as stage;
+
+use crate::step::{BadPeer, ClientStep, Outcome};
+use crate::task::{Local, ReadCall, Stage, Task};
+use crate::{parts, waiting};
+use chunk_index::index::{Index, Key};
+use chunk_index::place::Place;
+use client_cache::cache::Cache;
+use lb_base::items::Items;
+use shared_bytes::SharedBytes;
+use std::alloc::{AllocError, Global};
+use std::collections::BTreeMap;
+use std::mem;
+use wire::message::{Pending, RpcRefusal, Waiting};
+use xdr_codec::status::Status;
+
+/// An operation begins only below this xid: 1,000,000 are left then.
+pub const XID_END: u32 = 4_293_967_297;
+
+/// A client's fields.
+#[derive(Drop)]
+pub struct ClientState {
+    /// Whether a connection is joined.
+    pub linked: bool,
+    /// The xid of the next call on it.
+    pub next: u32,
+    /// The number of the next temporary file on it.
+    pub next_temp: u32,
+    /// The open files by their ids.
+    pub opened: BTreeMap<u64, Local>,
+    /// The operation under way.
+    pub task: Option<Task>,
+    /// The calls that have no answer yet: those of the operation under way, and behind them those of
+    /// ended operations and attempts.
+    pub waiting: Waiting,
+    /// How many of them are of the operation under way.
+    pub own: usize,
+    /// What is kept of files.
+    pub cache: Cache,
+    /// Where the bytes of chunks may be found among what is kept.
+    pub index: Index,
+}
+
+/// The calls of a stage, and behind them those of ended operations and attempts.
+fn with_forgotten(
+    alloc: Global,
+    stage: &Stage,
+    forgotten: &[Pending],
+) -> Result<(Items<Pending>, usize), AllocError>
+    ensures calls { IfOk result (λ p. p.0 ≡ pending_in stage.now ++ forgotten.now) }
+    ensures own { IfOk result (λ p. p.1 ≡ length (pending_in stage.now)) }
+{
+    let mut calls = waiting::pending_in(alloc, stage)?;
+    let own = calls.len();
+    calls.extend_from_slice(forgotten)?;
+    Ok((Items::from_vec(calls), own))
+}
+
+impl ClientState {
+    /// Whether an operation may begin: a connection is joined, and has enough xids.
+    pub fn may_ask(&self) -> bool
+        ensures { result ≡ may_ask (state_of self.now) }
+    {
+        self.linked && self.next < XID_END
+    }
+
+    /// The calls of the operation under way.
+    #[tactic(auto, using(crate::proofs::Pending::own_first))]
+    pub fn own_calls(&self) -> &[Pending]
+        requires { IsSound self.now }
+        ensures { result.now ≡ pending self.now.task }
+    {
+        &self.waiting.calls.as_slice()[..self.own]
+    }
+
+    /// The calls of ended operations and attempts.
+    pub fn forgotten(&self) -> &[Pending]
+        requires { IsBase self.now }
+        ensures { result.now ≡ (state_of self.now).forgotten }
+    {
+        &self.waiting.calls.as_slice()[self.own..]
+    }
+
+    /// These READs, and behind them the calls of ended operations and attempts, and how many are
+    /// READs of these.
+    pub fn list_reads(
+        &self,
+        alloc: Global,
+        under: &[ReadCall],
+    ) -> Result<(Items<Pending>, usize), AllocError>
+        requires { IsBase self.now }
+        ensures calls { IfOk result (λ p. p.0 ≡ map read_pending under.now ++ (state_of self.now).forgotten) }
+        ensures own { IfOk result (λ p. p.1 ≡ length (map read_pending under.now)) }
+    {
+        let mut calls = waiting::reads_pending(alloc, under)?;
+        let own = calls.len();
+        calls.extend_from_slice(self.forgotten())?;
+        Ok((Items::from_vec(calls), own))
+    }
+
+    /// The operation under way has come this far, this is the next xid, and these calls wait, of which
+    /// so many are its own. It takes no memory.
+    #[tactic(auto, using(crate::proofs::Pending::drop_front, crate::proofs::Pending::front_fits))]
+    pub fn set_waiting(
+        &mut self,
+        calls: Items<Pending>,
+        own: usize,
+        file: u64,
+        stage: Stage,
+        next: u32,
+    )
+        requires held { IsHeld self.old }
+        requires rises { self.old.next ≤ next }
+        requires xids { HasXids next stage }
+        requires within { IsWithin stage }
+        requires there { StageIsThere self.old.cache file stage }
+        requires calls { calls ≡ pending_in stage ++ (state_of self.old).forgotten }
+        requires own { own ≡ length (pending_in stage) }
+        ensures rest { state_of self.new ≡ record (state_of self.old) { next = next; task = Some (record { file = file; stage = stage }) } }
+        ensures sound { IsSound self.new }
+    {
+        self.waiting.calls = calls;
+        self.own = own;
+        self.next = next;
+        let old = self.task.replace(Task { file, stage });
+        drop(old);
+    }
+
+    /// The operation under way has come this far, and this is the next xid. An `Err` changes nothing.
+    pub fn wait(
+        &mut self,
+        alloc: Global,
+        file: u64,
+        stage: Stage,
+        next: u32,
+    ) -> Result<(), AllocError>
+        requires held { IsHeld self.old }
+        requires rises { self.old.next ≤ next }
+        requires xids { HasXids next stage }
+        requires within { IsWithin stage }
+        requires there { StageIsThere self.old.cache file stage }
+        ensures ok { OnOk result (state_of self.new ≡ record (state_of self.old) { next = next; task = Some (record { file = file; stage = stage }) }) }
+        ensures err { OnErr result (whole_of self.new ≡ whole_of self.old) }
+        ensures sound { OnOk result (IsSound self.new) }
+        ensures held { OnErr result (IsHeld self.new) }
+    {
+        match with_forgotten(alloc, &stage, self.forgotten()) {
+            Ok((calls, own)) => {
+                self.set_waiting(calls, own, file, stage, next);
+                Ok(())
+            }
+            Err(error) => {
+                drop(stage);
+                Err(error)
+            }
+        }
+    }
+
+    /// The same, and the file's entry in the cache is there and goes first. An `Err` changes nothing.
+    pub fn wait_there(
+        &mut self,
+        alloc: Global,
+        file: u64,
+        stage: Stage,
+        next: u32,
+    ) -> Result<(), AllocError>
+        requires held { IsHeld self.old }
+        requires rises { self.old.next ≤ next }
+        requires xids { HasXids next stage }
+        requires within { IsWithin stage }
+        ensures ok { OnOk result (state_of self.new ≡ record (state_of self.old) { next = next; task = Some (record { file = file; stage = stage }); cache = reserved self.old.cache file }) }
+        ensures err { OnErr result (whole_of self.new ≡ whole_of self.old) }
+        ensures sound { OnOk result (IsSound self.new) }
+        ensures held { OnErr result (IsHeld self.new) }
+    {
+        let (calls, own) = match with_forgotten(alloc, &stage, self.forgotten()) {
+            Ok(listed) => listed,
+            Err(error) => {
+                drop(stage);
+                return Err(error);
+            }
+        };
+        match self.cache.reserve(file) {
+            Ok(()) => {
+                self.set_waiting(calls, own, file, stage, next);
+                Ok(())
+            }
+            Err(error) => {
+                drop(stage);
+                Err(error)
+            }
+        }
+    }
+
+    /// An attempt has ended by the answer with this xid, and the next is under way with the GETHASH of
+    /// the next xid. An `Err` changes nothing.
+    pub fn wait_anew(
+        &mut self,
+        alloc: Global,
+        file: u64,
+        tries: u32,
+        xid: u32,
+    ) -> Result<(), AllocError>
+        requires held { IsHeld self.old }
+        requires xids { HasXids (self.old.next + 1) (stage.Hashing tries self.old.next) }
+        requires within { IsWithin (stage.Hashing tries self.old.next) }
+        requires there { IsThere self.old.cache file }
+        ensures ok { OnOk result (state_of self.new ≡ record (forgets (state_of self.old) self.old.waiting.calls xid) { next = self.old.next + 1; task = Some (record { file = file; stage = stage.Hashing tries self.old.next }) }) }
+        ensures err { OnErr result (whole_of self.new ≡ whole_of self.old) }
+        ensures sound { OnOk result (IsSound self.new) }
+        ensures held { OnErr result (IsHeld self.new) }
+    {
+        let asked = self.next;
+        let calls = waiting::anew(alloc, asked, self.waiting.calls.as_slice(), xid)?;
+        self.waiting.calls = calls;
+        self.own = 1;
+        self.next = asked + 1;
+        let stage = Stage::Hashing { tries, xid: asked };
+        let old = self.task.replace(Task { file, stage });
+        drop(old);
+        Ok(())
+    }
+
+    /// The operation has ended by the answer with this xid: the other calls that wait are forgotten. It
+    /// takes no memory.
+    pub fn forget(&mut self, alloc: Global, xid: u32)
+        requires { IsHeld self.old }
+        ensures rest { state_of self.new ≡ forgets (state_of self.old) self.old.waiting.calls xid }
+        ensures sound { IsSound self.new }
+    {
+        let calls = mem::replace(&mut self.waiting.calls, Items::new(alloc));
+        self.waiting.calls = waiting::without_call(calls, xid);
+        self.own = 0;
+    }
+
+    /// The file is open with this content, whatever it was before. An `Err` changes nothing.
+    #[tactic(auto, using(crate::proofs::Bounds::locals_with))]
+    pub fn put(&mut self, file: u64, version: u64, bytes: SharedBytes) -> Result<(), AllocError>
+        requires base { IsBase self.old }
+        requires small { length bytes ≤ FILE_MOST }
+        ensures ok { OnOk result (state_of self.new ≡ record (state_of self.old) { opened = with_local self.old.opened.entries file (record { version = version; bytes = bytes }) }) }
+        ensures err { OnErr result (state_of self.new ≡ state_of self.old) }
+        ensures task { self.new.task ≡ self.old.task }
+        ensures waiting { self.new.waiting ≡ self.old.waiting }
+        ensures own { self.new.own ≡ self.old.own }
+        ensures next { self.new.next ≡ self.old.next }
+        ensures cache { self.new.cache ≡ self.old.cache }
+        ensures index { self.new.index ≡ self.old.index }
+        ensures base { IsBase self.new }
+    {
+        let old = self.opened.insert(file, Local { version, bytes })?;
+        drop(old);
+        Ok(())
+    }
+
+    /// The file is no longer open, and this was its local content; nothing where it wasn't open. It
+    /// takes no memory.
+    #[tactic(auto, using(crate::proofs::Bounds::locals_without, crate::proofs::Locals::remove_is_without))]
+    pub fn take_local(&mut self, file: u64) -> SharedBytes
+        requires { IsBase self.old }
+        ensures bytes { result ≡ local_bytes self.old.opened.entries file }
+        ensures rest { state_of self.new ≡ record (state_of self.old) { opened = without_local self.old.opened.entries file } }
+        ensures task { self.new.task ≡ self.old.task }
+        ensures waiting { self.new.waiting ≡ self.old.waiting }
+        ensures own { self.new.own ≡ self.old.own }
+        ensures cache { self.new.cache ≡ self.old.cache }
+        ensures base { IsBase self.new }
+    {
+        let local = self.opened.remove(&file);
+        parts::bytes_of(local)
+    }
+
+    /// The content that is kept of a file is dropped, if one is. It takes no memory.
+    pub fn evict(&mut self, file: u64)
+        requires { IsSound self.old }
+        ensures rest { state_of self.new ≡ evicted (state_of self.old) file }
+        ensures sound { IsSound self.new }
+    {
+        self.cache.evict(file);
+    }
+
+    /// Any place stands in the index under any key. The one error is want of memory, and changes
+    /// nothing.
+    pub fn forge(&mut self, key: Key, place: Place) -> Result<(), AllocError>
+        requires { IsSound self.old }
+        ensures ok { OnOk result (state_of self.new ≡ forged (state_of self.old) key place) }
+        ensures err { OnErr result (state_of self.new ≡ state_of self.old) }
+        ensures sound { IsSound self.new }
+    {
+        match self.index.forge(key, place) {
+            Ok(()) => Ok(()),
+            Err(_) => Err(AllocError),
+        }
+    }
+
+    /// All places are dropped from the index. It takes no memory.
+    pub fn clear_index(&mut self)
+        requires { IsSound self.old }
+        ensures rest { state_of self.new ≡ index_cleared (state_of self.old) }
+        ensures sound { IsSound self.new }
+    {
+        self.index.clear();
+    }
+
+    /// The connection is no longer used, and nothing waits.
+    fn unlink(&mut self, alloc: Global)
+        requires { IsBase self.old }
+        ensures rest { state_of self.new ≡ record (state_of self.old) { linked = false; task = None; forgotten = [] } }
+        ensures sound { IsSound self.new }
+    {
+        let task = self.task.take();
+        drop(task);
+        self.linked = false;
+        self.waiting.calls = Items::new(alloc);
+        self.own = 0;
+    }
+
+    /// The operation under way ends by the peer's fault, and the connection counts as cut.
+    pub fn bad_peer(&mut self, alloc: Global, fault: BadPeer, bytes: u64) -> ClientStep
+        requires { IsBase self.old }
+        ensures ok { bad_peer (state_of self.old) fault bytes ≡ (state_of self.new, result) }
+        ensures done { result.missed ≡ false }
+        ensures sound { IsSound self.new }
+    {
+        self.unlink(alloc);
+        parts::ends(alloc, Outcome::BadPeer(fault), 0, bytes)
+    }
+
+    /// An answer to nothing that waits for one.
+    pub fn unknown(&mut self, alloc: Global, xid: u32) -> ClientStep
+        requires { IsBase self.old }
+        ensures ok { unknown (state_of self.old) xid ≡ (state_of self.new, result) }
+        ensures done { result.missed ≡ false }
+        ensures sound { IsSound self.new }
+    {
+        self.bad_peer(alloc, BadPeer::UnknownXid { xid }, 0)
+    }
+
+    /// With no operation under way a fault of the peer only cuts the connection.
+    pub fn cut_off(&mut self, alloc: Global) -> ClientStep
+        requires sound { IsBase self.old }
+        requires idle { self.old.task ≡ None }
+        ensures ok { cut_off (state_of self.old) ≡ (state_of self.new, result) }
+        ensures done { result.missed ≡ false }
+        ensures sound { IsSound self.new }
+    {
+        self.unlink(alloc);
+        parts::nothing_done(alloc)
+    }
+
+    /// The connection is lost: the operation under way ends by that, if there is one. It takes no
+    /// memory.
+    pub fn cut(&mut self, alloc: Global) -> ClientStep
+        requires { IsBase self.old }
+        ensures ok { cut (state_of self.old) ≡ (state_of self.new, result) }
+        ensures done { result.missed ≡ false }
+        ensures sound { IsSound self.new }
+    {
+        let is_busy = self.task.is_some();
+        self.unlink(alloc);
+        if is_busy {
+            parts::ends(alloc, Outcome::Lost, 0, 0)
+        } else {
+            parts::nothing_done(alloc)
+        }
+    }
+
+    /// A connection is joined: its xids and the numbers of its temporary files begin anew, and no call
+    /// was sent on it. It takes no memory.
+    pub fn join(&mut self, alloc: Global)
+        requires { IsSound self.old }
+        ensures rest { state_of self.new ≡ joined (state_of self.old) }
+        ensures sound { IsSound self.new }
+    {
+        let calls = mem::replace(&mut self.waiting.calls, Items::new(alloc));
+        self.waiting.calls = waiting::first_calls(calls, self.own);
+        self.linked = true;
+        self.next = 1;
+        self.next_temp = 1;
+    }
+
+    /// The operation ends by a status.
+    pub fn refused(&mut self, alloc: Global, xid: u32, status: Status) -> ClientStep
+        requires { IsHeld self.old }
+        ensures ok { refused (state_of self.old) self.old.waiting.calls xid status ≡ (state_of self.new, result) }
+        ensures done { result.missed ≡ false }
+        ensures sound { IsSound self.new }
+    {
+        self.forget(alloc, xid);
+        parts::ends(alloc, Outcome::Refused(status), xid, 0)
+    }
+
+    /// The operation ends by a refusal of its call.
+    pub fn denied(&mut self, alloc: Global, xid: u32, refusal: RpcRefusal) -> ClientStep
+        requires { IsHeld self.old }
+        ensures ok { denied (state_of self.old) self.old.waiting.calls xid refusal ≡ (state_of self.new, result) }
+        ensures done { result.missed ≡ false }
+        ensures sound { IsSound self.new }
+    {
+        match refusal {
+            RpcRefusal::SystemErr => {
+                self.forget(alloc, xid);
+                parts::ends(alloc, Outcome::PeerMemory, 0, 0)
+            }
+            _ => {
+                let code = parts::refusal_code(refusal);
+                self.bad_peer(alloc, BadPeer::Denied { code }, 0)
+            }
+        }
+    }
+
+    /// The answer to a call of an ended operation or attempt is dropped. It takes no memory.
+    fn drop_answer(&mut self, alloc: Global, xid: u32) -> ClientStep
+        requires sound { IsSound self.old }
+        requires other { has_call (pending self.old.task) xid ≡ false }
+        ensures ok { drops (state_of self.old) self.old.task xid true ≡ (state_of self.new, result) }
+        ensures done { result.missed ≡ false }
+        ensures sound { IsSound self.new }
+    {
+        let calls = mem::replace(&mut self.waiting.calls, Items::new(alloc));
+        self.waiting.calls = waiting::without_call(calls, xid);
+        parts::nothing_done(alloc)
+    }
+
+    /// An answer to nothing that waits for one, whether or not an operation is under way.
+    fn unawaited(&mut self, alloc: Global, xid: u32) -> ClientStep
+        requires { IsSound self.old }
+        ensures ok { unawaited (state_of self.old) self.old.task xid ≡ (state_of self.new, result) }
+        ensures done { result.missed ≡ false }
+        ensures sound { IsSound self.new }
+    {
+        if self.task.is_some() {
+            self.unknown(alloc, xid)
+        } else {
+            self.cut_off(alloc)
+        }
+    }
+
+    /// An answer to no call of the operation under way: to one that is forgotten, or to none.
+    pub fn take_other(&mut self, alloc: Global, xid: u32) -> ClientStep
+        requires sound { IsSound self.old }
+        requires other { has_call (pending self.old.task) xid ≡ false }
+        ensures ok { drops (state_of self.old) self.old.task xid (has_call (state_of self.old).forgotten xid) ≡ (state_of self.new, result) }
+        ensures done { result.missed ≡ false }
+        ensures sound { IsSound self.new }
+    {
+        if waiting::has_call(self.forgotten(), xid) {
+            self.drop_answer(alloc, xid)
+        } else {
+            self.unawaited(alloc, xid)
+        }
+    }
+}

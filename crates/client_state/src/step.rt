@@ -1,0 +1,108 @@
+//! What a client does in one step: what it sends, how the operation under way ended, and what is
+//! counted. `specs/Counting.antt` has the plain ones.
+
+use send_list::SendList;
+use wire::message::Message;
+use xdr_codec::digest::Digest;
+use xdr_codec::status::Status;
+
+/// What is wrong with what the other end sent.
+#[derive(Drop)]
+pub enum BadPeer {
+    /// Bytes outside their grammar, with the place of the fault in its record.
+    Garbage { at: u64 },
+    /// An answer to nothing that waits.
+    UnknownXid { xid: u32 },
+    /// A chunk's bytes have another digest than was told.
+    Digest { got: Digest, wanted: Digest },
+    /// A call was not accepted: the accept_stat, or 10 and the reject_stat.
+    Denied { code: u32 },
+    /// A number that came breaks a bound: 0 where none came.
+    Shape { got: u64, wanted: u64 },
+}
+
+/// How a command ended.
+#[derive(Drop)]
+pub enum Outcome {
+    /// The file is open: the length and the SHA-1 of its whole content.
+    Opened {
+        file: u64,
+        len: u64,
+        sha1: Digest,
+    },
+    /// A part of an open file: its length and its SHA-1.
+    Piece {
+        len: u64,
+        sha1: Digest,
+    },
+    /// The file has this version since then: the length and the SHA-1 of its whole content.
+    Closed {
+        file: u64,
+        version: u64,
+        len: u64,
+        sha1: Digest,
+    },
+    /// It was done, and has nothing to tell.
+    Done,
+    /// An operation is under way already.
+    Busy,
+    /// The file isn't open.
+    NotOpen,
+    /// The file is open already.
+    AlreadyOpen,
+    /// The file would have had so many bytes, above the limit of a file.
+    TooBig(u128),
+    /// The connection was lost meanwhile.
+    Lost,
+    /// Each of four attempts to fetch the file met two versions of it: those that the last one met,
+    /// its first GETHASH's before the other.
+    Changed {
+        first: u64,
+        last: u64,
+    },
+    /// No connection is joined, or it has fewer than 1,000,000 xids left.
+    NoLink,
+    /// The server answered this status.
+    Refused(Status),
+    /// The server has no memory.
+    PeerMemory,
+    /// The other end is not this project's server.
+    BadPeer(BadPeer),
+    /// Memory ran out.
+    Memory,
+}
+
+/// How a command ended, and on which call of its operation that rests.
+#[derive(Drop)]
+pub struct Ended {
+    pub outcome: Outcome,
+    /// The call's xid: the first GETHASH of the last attempt for Opened, the call that was answered for
+    /// Closed and Refused. 0 where it rests on no call: what the client tells by itself, and Lost,
+    /// Changed, PeerMemory, BadPeer and Memory.
+    pub rests_on: u32,
+}
+
+/// What was sent and received for an operation in a step.
+#[derive(Clone, Copy, Drop)]
+pub struct Counts {
+    /// CONDWRITE calls sent.
+    pub cond_writes: u64,
+    /// TMPWRITE calls sent.
+    pub temp_writes: u64,
+    /// READ calls sent.
+    pub reads: u64,
+    /// Bytes of files sent by TMPWRITE, or received by READs that it asked for.
+    pub bytes: u64,
+}
+
+/// What a client does in one step.
+#[derive(Drop)]
+pub struct ClientStep {
+    /// The messages that it sends, in order.
+    pub send: SendList<Message>,
+    /// How the operation under way ended, if it did.
+    pub ended: Option<Ended>,
+    pub counts: Counts,
+    /// Whether memory ran out: then the operation under way ended with Memory.
+    pub missed: bool,
+}

@@ -1,0 +1,49 @@
+use Rattle.std.proofs.Common.{◌≡◌, ◌≤◌, sym, ap, subst, ◌∙◌, ℕ, List, length}
+use Rattle.std.specs.Prelude.{IsSome}
+use Rattle.std.specs.List.{All}
+use Rattle.sha1.specs.Sha1.{sha1}
+use Rattle.client_cache.specs.Cache.{Entries, kept_of, with_content}
+use Rattle.wire.specs.declared.message.Waiting.{Waiting}
+use Rattle.client_state.specs.Counting.{ends}
+use Rattle.client_state.specs.Limits.{file_limit}
+use Rattle.client_state.specs.State.{State, without_local, local_bytes}
+use Rattle.client_state.specs.Ending.{forgets}
+use Rattle.client_state.specs.View.{state_of, IsKeptBounded}
+use Rattle.client_state.specs.declared.step.ClientStep.{ClientStep}
+use Rattle.client_state.specs.declared.step.Outcome.TheVariants as outcome
+use Rattle.client_state.proofs.Bounds.{local_small}
+use Rattle.client_state.proofs.Keeping.{bounded_kept}
+use Rattle.client_state.proofs.Pending.{held_cache}
+use Rattle.file_close.proofs.closing.closed.Goals as goal
+
+pub keep-requires : goal.keep-requires
+keep-requires c = subst (λ (es : Entries). IsSome (kept_of es c.args.file)) (sym c.take_local-content.ensures.cache) c.requires.there
+
+pub forget-requires : goal.forget-requires
+forget-requires c =
+    let s = c.args.state.now in
+    let t = c.take_local-content.new.self in
+    let content = c.take_local-content.result in
+    let small : length content ≤ file_limit = subst (λ (bytes : List ℕ). length bytes ≤ file_limit) (sym c.take_local-content.ensures.bytes) (local_small s.opened.entries c.args.file c.requires.held.base.locals) in
+    held_cache t c.keep.new.self (record { base = c.take_local-content.ensures.base; task = c.take_local-content.ensures.task ∙ c.requires.held.task }) (subst (λ (es : Entries). All IsKeptBounded es) (sym c.keep.ensures.kept) (bounded_kept t.cache c.args.file c.args.version content c.take_local-content.ensures.base.kept small))
+
+pub returns-clause-ok : goal.returns-clause-ok
+returns-clause-ok c =
+    let s = c.args.state.now in
+    let t = c.take_local-content.new.self in
+    let file = c.args.file in
+    let version = c.args.version in
+    let xid = c.args.xid in
+    let content = c.take_local-content.result in
+    let local = local_bytes s.opened.entries file in
+    let shut : State = record (state_of s) { opened = without_local s.opened.entries file } in
+    let cache : c.keep.new.self ≡ with_content s.cache file version local =
+    c.keep.ensures.kept ∙ (ap (λ (es : Entries). with_content es file version content) c.take_local-content.ensures.cache ∙ ap (λ (bytes : List ℕ). with_content s.cache file version bytes) c.take_local-content.ensures.bytes) in
+    let state : state_of c.forget.new.self ≡ forgets (record shut { cache = with_content s.cache file version local }) s.waiting.calls xid =
+    c.forget.ensures.rest
+    ∙ (ap (λ (r : State). forgets (record r { cache = c.keep.new.self }) t.waiting.calls xid) c.take_local-content.ensures.rest
+    ∙ (ap (λ (w : Waiting). forgets (record shut { cache = c.keep.new.self }) w.calls xid) c.take_local-content.ensures.waiting
+    ∙ ap (λ (es : Entries). forgets (record shut { cache = es }) s.waiting.calls xid) cache)) in
+    let tells : List ℕ → ClientStep = λ bytes. ends (outcome.Closed file version (length bytes) (sha1 bytes)) xid 0 in
+    let step : c.closed-step.result ≡ tells local = c.closed-step.ensures ∙ (ap tells c.as_slice.ensures ∙ ap tells c.take_local-content.ensures.bytes) in
+    sym (ap (λ (r : State). (r, c.closed-step.result)) state ∙ ap (λ (a : ClientStep). (forgets (record shut { cache = with_content s.cache file version local }) s.waiting.calls xid, a)) step)

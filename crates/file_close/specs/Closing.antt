@@ -1,0 +1,77 @@
+-- A close: MKTMPFILE, a CONDWRITE for each chunk of the local content, a TMPWRITE for each that the server doesn't know, then COMMITTMP.
+use Rattle.std.specs.Prelude.{ℕ, zero, suc, ◌+◌, ◌-◌, List, [], ◌∷◌, ◌++◌, length, filter, find, not, slice_get, Option, Some, None, Bool, ◌&&◌, ◌==◌}
+use Rattle.chunk_cut.specs.Chunks.{chunks_of}
+use Rattle.chunk_cut.specs.Places.{chunk_bytes}
+use Rattle.chunk_cut.specs.declared.chunk.Chunk.{Chunk}
+use Rattle.xdr_codec.specs.Handle.{handle_bytes}
+use Rattle.hash_calls.specs.declared.message.Lb.TheVariants as lb
+use Rattle.wire.specs.declared.message.Body.TheVariants as body
+use Rattle.wire.specs.declared.message.Message.TheVariants as message
+use Rattle.wire.specs.declared.message.Message.{Message}
+use Rattle.client_state.specs.Limits.{calls_most}
+use Rattle.client_state.specs.State.{is_none}
+use Rattle.client_state.specs.declared.task.Store.{Store}
+use Rattle.client_state.specs.declared.task.StoreCall.{StoreCall}
+use Rattle.client_state.specs.declared.task.Way.TheVariants as way
+pub use Rattle.file_close.specs.declared.calls.Names.{Names}
+
+-- ---- the calls
+
+abbrev pub make_call : (xid temp file : ℕ) → Message
+make_call xid temp file = message.Call xid (body.Lb (lb.MkTmpFile (record { fd = temp; handle = handle_bytes file })))
+
+abbrev pub cond_call : (xid temp : ℕ) → Chunk → Message
+cond_call xid temp c = message.Call xid (body.Lb (lb.CondWrite (record { fd = temp; offset = c.start; count = c.len; digest = c.digest })))
+
+abbrev pub temp_call : (xid temp : ℕ) → List ℕ → Chunk → Message
+temp_call xid temp content c = message.Call xid (body.Lb (lb.TmpWrite (record { fd = temp; offset = c.start; bytes = chunk_bytes content c })))
+
+abbrev pub commit_call : (xid temp file size : ℕ) → Message
+commit_call xid temp file size = message.Call xid (body.Lb (lb.CommitTmp (record { fd = temp; handle = handle_bytes file; size = size })))
+
+-- ---- the chunks are named
+
+-- the temporary file of this number is there, and no chunk of the content in it
+abbrev pub store_of : (temp : ℕ) → List ℕ → Store
+store_of temp content = record { temp = temp; chunks = chunks_of content; named = 0; under = [] }
+
+abbrev pub names_from : Store → ℕ → Names
+names_from st next = record { store = st; next = next; send = [] }
+
+-- the chunk is named, if it is there
+abbrev pub names_next : Names → Option Chunk → Names
+names_next n None = n
+names_next n (Some c) = record {
+  store = record n.store { named = n.store.named + 1; under = n.store.under ++ record { xid = n.next; index = n.store.named; way = way.Named } ∷ [] };
+  next = n.next + 1;
+  send = n.send ++ cond_call n.next n.store.temp c ∷ [];
+}
+
+-- so many chunks, or as many as there are
+abbrev pub names_more : ℕ → Names → Names
+names_more zero n = n
+names_more (suc k) n = names_more k (names_next n (slice_get n.store.chunks n.store.named))
+
+-- all CONDWRITEs that may be under way beside the calls that are
+abbrev pub names_all : Store → (next : ℕ) → Names
+names_all st next = names_more (calls_most - length st.under) (names_from st next)
+
+-- all chunks are stored
+abbrev pub is_stored : Store → Bool
+is_stored st = is_none st.under && st.named == length st.chunks
+
+-- ---- their answers
+
+-- the call under way with this xid, and those with other xids
+abbrev pub store_at : List StoreCall → (xid : ℕ) → Option StoreCall
+store_at under xid = find (λ c. c.xid == xid) under
+
+abbrev pub without_store : List StoreCall → (xid : ℕ) → List StoreCall
+without_store under xid = filter (λ c. not (c.xid == xid)) under
+
+abbrev pub answered : Store → (xid : ℕ) → Store
+answered st xid = record st { under = without_store st.under xid }
+
+-- the bytes of the chunk go out that this CONDWRITE named
+abbrev pub with_whole : Store → StoreCall → (xid : ℕ) → Store
+with_whole st c xid = record st { under = st.under ++ record { xid = xid; index = c.index; way = way.Whole } ∷ [] }

@@ -1,0 +1,136 @@
+//! The calls for chunks that go out in a step of a close, and the one that an answer is of:
+//! `specs/Closing.antt`.
+
+ghost use Rattle.std.specs.Prelude.{◌≡◌, ◌+◌, ◌-◌, ◌<◌, slice_get, IfOk, OnOk, ◌++◌, [], ◌∷◌};
+ghost use Rattle.client_state.specs.View.{HasXids, IsStore, IsChunkBounded};
+ghost use Rattle.file_close.specs.Sending.{IsSendingNames};
+ghost use Rattle.file_close.specs.Closing.{is_stored, store_at, commit_call, names_next, names_all, without_store};
+ghost use Rattle.std.specs.List.{All};
+ghost use Rattle.std.specs.Option.{option_copied};
+ghost use Rattle.client_state.specs.Limits.{calls_most};
+ghost use Rattle.client_state.specs.declared.task.Stage.TheVariants as stage;
+
+use crate::messages;
+use client_state::calls::{CALLS_MOST, chunk_at};
+use client_state::task::{Store, StoreCall, Way};
+use client_state::{drops, sending};
+use lb_base::items::Items;
+use send_list::SendList;
+use std::alloc::{AllocError, Global};
+use wire::message::Message;
+
+/// The chunks of a close, the next xid, and the CONDWRITEs that were sent for them by now.
+pub struct Names {
+    pub store: Store,
+    pub next: u32,
+    pub send: SendList<Message>,
+}
+
+/// How many calls may go out beside so many that are under way.
+#[tactic(auto, unfolding(client_state::specs::Limits::calls_most))]
+fn room_beside(under: usize) -> usize
+    ensures { result ≡ calls_most - under }
+{
+    CALLS_MOST.saturating_sub(under)
+}
+
+/// The next chunk is named, if there is one.
+#[tactic(auto, using(client_state::proofs::Bounds::chunk_bounded))]
+fn name_next(names: &mut Names) -> Result<(), AllocError>
+    requires xid { names.old.next + 1 < 4294967296 }
+    requires lens { All IsChunkBounded names.old.store.chunks }
+    ensures { OnOk result (names.new ≡ names_next names.old (slice_get names.old.store.chunks names.old.store.named)) }
+{
+    let index = names.store.named;
+    let Some(chunk) = chunk_at(names.store.chunks.as_slice(), index) else {
+        return Ok(());
+    };
+    let xid = names.next;
+    let call = messages::cond_call(xid, names.store.temp, &chunk);
+    sending::push(&mut names.send, call)?;
+    let way = Way::Named;
+    names.store.under.push(StoreCall { xid, index, way })?;
+    names.store.named = index + 1;
+    names.next = xid + 1;
+    Ok(())
+}
+
+/// All CONDWRITEs that may be under way beside the calls that are.
+pub fn name_all(alloc: Global, store: Store, next: u32) -> Result<Names, AllocError>
+    requires within { IsStore store }
+    requires xids { HasXids next (stage.Storing store) }
+    ensures all { IfOk result (λ n. n ≡ names_all store next) }
+    ensures kept { IfOk result (λ n. IsSendingNames store.named next n) }
+{
+    let room = room_beside(store.under.len());
+    let mut names = Names {
+        store,
+        next,
+        send: sending::none(alloc),
+    };
+    for _i in 0..room {
+        match name_next(&mut names) {
+            Ok(()) => {}
+            Err(error) => {
+                let Names {
+                    store,
+                    next: _,
+                    send,
+                } = names;
+                drop(store);
+                drops::messages(send);
+                return Err(error);
+            }
+        }
+    }
+    Ok(names)
+}
+
+/// COMMITTMP goes out behind what goes out already.
+pub fn send_commit(
+    alloc: Global,
+    xid: u32,
+    temp: u32,
+    file: u64,
+    size: u64,
+    send: &mut SendList<Message>,
+) -> Result<(), AllocError>
+    ensures { OnOk result (send.new ≡ send.old ++ commit_call xid temp file size ∷ []) }
+{
+    let call = messages::commit_call(alloc, xid, temp, file, size)?;
+    sending::push(send, call)?;
+    Ok(())
+}
+
+/// Whether all chunks of a close are stored.
+pub fn is_stored(store: &Store) -> bool
+    ensures { result ≡ is_stored store.now }
+{
+    store.under.is_empty() && store.named == store.chunks.len()
+}
+
+/// The call of a close under way with this xid.
+fn find_store(under: &[StoreCall], xid: u32) -> Option<&StoreCall>
+    ensures { option_copied result ≡ store_at under.now xid }
+{
+    under.iter().find(|c| c.xid == xid)
+}
+
+/// A copy of the call of a close under way with this xid.
+pub fn store_at(under: &[StoreCall], xid: u32) -> Option<StoreCall>
+    ensures { result ≡ store_at under.now xid }
+{
+    match find_store(under, xid) {
+        Some(call) => Some(*call),
+        None => None,
+    }
+}
+
+/// The calls of a close under way with other xids. It takes no memory.
+pub fn without_store(under: Items<StoreCall>, xid: u32) -> Items<StoreCall>
+    ensures { result ≡ without_store under xid }
+{
+    let mut left = under.into_vec();
+    left.retain(|c| c.xid != xid);
+    Items::from_vec(left)
+}

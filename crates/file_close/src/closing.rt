@@ -1,0 +1,419 @@
+//! The operation that closes a file: its content is stored in a temporary file chunk by chunk, which
+//! is then committed. `specs/Closing.antt` and `specs/Storing.antt` say how.
+
+ghost use Rattle.std.specs.Prelude.{◌≡◌, ◌+◌, ◌<◌, ◌≤◌, length, None, Some, slice_get, IfOk, OnOk, OnErr, false, true};
+ghost use Rattle.client_cache.specs.Cache.{reserved};
+ghost use Rattle.client_state.specs.View.{state_of, whole_of, IsHeld, IsSound, IsThere, HasXids, IsWithin, calls_after, store_left, IsStore, StageIsThere};
+ghost use Rattle.file_close.specs.Closing.{store_of};
+ghost use Rattle.client_state.specs.State.{local_at, local_bytes};
+ghost use Rattle.client_state.specs.Ending.{on_local, may_ask, MayMissOn};
+ghost use Rattle.file_close.specs.Storing.{closes, asks_temp, goes_if, goes_on, sends_whole, told_named, told_way, closed};
+ghost use Rattle.client_state.specs.declared.task.Stage.TheVariants as stage;
+ghost use Rattle.client_state.specs.declared.task.Way.TheVariants as way;
+
+use crate::calls::Names;
+use crate::{calls, messages, stores};
+use chunk_cut::chunk::Chunk;
+use client_state::calls::chunk_at;
+use client_state::state::ClientState;
+use client_state::step::{ClientStep, Outcome};
+use client_state::task::{Stage, Store, StoreCall, Way};
+use client_state::{drops, parts, sending};
+use hash_calls::message::Lb;
+use std::alloc::{AllocError, Global};
+use wire::message::Body;
+use xdr_codec::answer::Answer;
+use xdr_codec::handle::Handle;
+use xdr_codec::status::Status;
+
+/// A command to close a file. An `Err` changes nothing, and comes only where a call is sent.
+pub fn close(alloc: Global, state: &mut ClientState, file: u64) -> Result<ClientStep, AllocError>
+    requires { IsSound state.old }
+    ensures ok { IfOk result (λ a. on_local (state_of state.old) state.old.task (local_at state.old.opened.entries file) (closes (state_of state.old) file) ≡ (state_of state.new, a)) }
+    ensures done { IfOk result (λ a. a.missed ≡ false) }
+    ensures err { OnErr result (state_of state.new ≡ state_of state.old) }
+    ensures sure { OnErr result (MayMissOn state.old.task (local_at state.old.opened.entries file) (λ l. may_ask (state_of state.old) ≡ true)) }
+    ensures sound { IsSound state.new }
+{
+    if state.task.is_some() {
+        return Ok(parts::ends(alloc, Outcome::Busy, 0, 0));
+    }
+    if !parts::is_open(&state.opened, file) {
+        return Ok(parts::ends(alloc, Outcome::NotOpen, 0, 0));
+    }
+    if !state.may_ask() {
+        return Ok(parts::ends(alloc, Outcome::NoLink, 0, 0));
+    }
+    ask_temp(alloc, state, file)
+}
+
+/// A temporary file of the next number is asked for. An `Err` changes nothing.
+#[tactic(auto, using(client_state::proofs::Pending::held_of))]
+fn ask_temp(alloc: Global, state: &mut ClientState, file: u64) -> Result<ClientStep, AllocError>
+    requires sound { IsSound state.old }
+    requires idle { state.old.task ≡ None }
+    requires xids { state.old.next < 4293967297 }
+    ensures ok { IfOk result (λ a. asks_temp (state_of state.old) file true ≡ (state_of state.new, a)) }
+    ensures done { IfOk result (λ a. a.missed ≡ false) }
+    ensures err { OnErr result (state_of state.new ≡ state_of state.old) }
+    ensures sound { IsSound state.new }
+{
+    let xid = state.next;
+    let temp = state.next_temp;
+    let handle = Handle::of_file(alloc, file)?;
+    state.wait(alloc, file, Stage::Making { xid, temp }, xid + 1)?;
+    state.next_temp = temp + 1;
+    let call = messages::make_call(xid, temp, handle);
+    Ok(parts::sends_one(alloc, call, 0))
+}
+
+/// Messages go out, and the operation under way has come this far. An `Err` changes nothing.
+fn send_and_wait(
+    alloc: Global,
+    state: &mut ClientState,
+    file: u64,
+    stage: Stage,
+    next: u32,
+    step: ClientStep,
+) -> Result<ClientStep, AllocError>
+    requires held { IsHeld state.old }
+    requires rises { state.old.next ≤ next }
+    requires xids { HasXids next stage }
+    requires within { IsWithin stage }
+    requires there { StageIsThere state.old.cache file stage }
+    ensures ok { IfOk result (λ a. (a ≡ step) × (state_of state.new ≡ record (state_of state.old) { next = next; task = Some (record { file = file; stage = stage }) })) }
+    ensures err { OnErr result (whole_of state.new ≡ whole_of state.old) }
+    ensures sound { OnOk result (IsSound state.new) }
+    ensures held { OnErr result (IsHeld state.new) }
+{
+    match state.wait(alloc, file, stage, next) {
+        Ok(()) => Ok(step),
+        Err(error) => {
+            drops::step(step);
+            Err(error)
+        }
+    }
+}
+
+/// COMMITTMP goes out with this xid, and the file has an entry in the cache for the content that it
+/// gets. An `Err` changes nothing.
+fn wait_commit(
+    alloc: Global,
+    state: &mut ClientState,
+    file: u64,
+    xid: u32,
+    step: ClientStep,
+) -> Result<ClientStep, AllocError>
+    requires held { IsHeld state.old }
+    requires rises { state.old.next ≤ xid }
+    requires xid { xid + 1 < 4294967296 }
+    ensures ok { IfOk result (λ a. (a ≡ step) × (state_of state.new ≡ record (state_of state.old) { next = xid + 1; task = Some (record { file = file; stage = stage.Committing xid }); cache = reserved state.old.cache file })) }
+    ensures err { OnErr result (whole_of state.new ≡ whole_of state.old) }
+    ensures sound { OnOk result (IsSound state.new) }
+    ensures held { OnErr result (IsHeld state.new) }
+{
+    match state.wait_there(alloc, file, Stage::Committing(xid), xid + 1) {
+        Ok(()) => Ok(step),
+        Err(error) => {
+            drops::step(step);
+            Err(error)
+        }
+    }
+}
+
+/// All chunks are stored: COMMITTMP goes out behind what goes out already, which are so many
+/// CONDWRITEs. An `Err` changes nothing.
+fn commit(
+    alloc: Global,
+    state: &mut ClientState,
+    file: u64,
+    names: Names,
+    count: u64,
+) -> Result<ClientStep, AllocError>
+    requires held { IsHeld state.old }
+    requires rises { state.old.next ≤ names.next }
+    requires xid { names.next + 1 < 4294967296 }
+    requires count { count ≡ length names.send }
+    ensures ok { IfOk result (λ a. goes_if (state_of state.old) file (local_bytes state.old.opened.entries file) names true ≡ (state_of state.new, a)) }
+    ensures done { IfOk result (λ a. a.missed ≡ false) }
+    ensures err { OnErr result (whole_of state.new ≡ whole_of state.old) }
+    ensures sound { OnOk result (IsSound state.new) }
+    ensures held { OnErr result (IsHeld state.new) }
+{
+    let Names {
+        store,
+        next,
+        mut send,
+    } = names;
+    let temp = store.temp;
+    drop(store);
+    let size = parts::local_bytes(&state.opened, file).len() as u64;
+    match calls::send_commit(alloc, next, temp, file, size, &mut send) {
+        Ok(()) => {
+            let step = parts::sends(send, stores::names_counted(count));
+            wait_commit(alloc, state, file, next, step)
+        }
+        Err(error) => {
+            drops::messages(send);
+            Err(error)
+        }
+    }
+}
+
+/// CONDWRITEs go out, so many, and their answers are waited for. An `Err` changes nothing.
+fn wait_names(
+    alloc: Global,
+    state: &mut ClientState,
+    file: u64,
+    names: Names,
+    count: u64,
+) -> Result<ClientStep, AllocError>
+    requires held { IsHeld state.old }
+    requires rises { state.old.next ≤ names.next }
+    requires within { IsStore names.store }
+    requires xids { HasXids names.next (stage.Storing names.store) }
+    requires count { count ≡ length names.send }
+    ensures ok { IfOk result (λ a. goes_if (state_of state.old) file (local_bytes state.old.opened.entries file) names false ≡ (state_of state.new, a)) }
+    ensures done { IfOk result (λ a. a.missed ≡ false) }
+    ensures err { OnErr result (whole_of state.new ≡ whole_of state.old) }
+    ensures sound { OnOk result (IsSound state.new) }
+    ensures held { OnErr result (IsHeld state.new) }
+{
+    let Names { store, next, send } = names;
+    let step = parts::sends(send, stores::names_counted(count));
+    send_and_wait(alloc, state, file, Stage::Storing(store), next, step)
+}
+
+/// All CONDWRITEs that may be under way go out, or COMMITTMP where all chunks are stored. An `Err`
+/// changes nothing.
+fn go_on(
+    alloc: Global,
+    state: &mut ClientState,
+    file: u64,
+    store: Store,
+) -> Result<ClientStep, AllocError>
+    requires held { IsHeld state.old }
+    requires within { IsStore store }
+    requires xids { HasXids state.old.next (stage.Storing store) }
+    ensures ok { IfOk result (λ a. goes_on (state_of state.old) file (local_bytes state.old.opened.entries file) store ≡ (state_of state.new, a)) }
+    ensures done { IfOk result (λ a. a.missed ≡ false) }
+    ensures err { OnErr result (whole_of state.new ≡ whole_of state.old) }
+    ensures sound { OnOk result (IsSound state.new) }
+    ensures held { OnErr result (IsHeld state.new) }
+{
+    let named = store.named;
+    let names = calls::name_all(alloc, store, state.next)?;
+    let count = (names.store.named - named) as u64;
+    if calls::is_stored(&names.store) {
+        commit(alloc, state, file, names, count)
+    } else {
+        wait_names(alloc, state, file, names, count)
+    }
+}
+
+/// The temporary file is there: the chunks of the content go into it. An `Err` changes nothing.
+pub fn store(
+    alloc: Global,
+    state: &mut ClientState,
+    file: u64,
+    temp: u32,
+) -> Result<ClientStep, AllocError>
+    requires held { IsHeld state.old }
+    requires xids { HasXids state.old.next (stage.Making 0 temp) }
+    ensures ok { IfOk result (λ a. goes_on (state_of state.old) file (local_bytes state.old.opened.entries file) (store_of temp (local_bytes state.old.opened.entries file)) ≡ (state_of state.new, a)) }
+    ensures done { IfOk result (λ a. a.missed ≡ false) }
+    ensures err { OnErr result (whole_of state.new ≡ whole_of state.old) }
+    ensures sound { OnOk result (IsSound state.new) }
+    ensures held { OnErr result (IsHeld state.new) }
+{
+    let content = parts::local_bytes(&state.opened, file);
+    let store = stores::store_of(alloc, temp, content)?;
+    go_on(alloc, state, file, store)
+}
+
+/// The bytes of a chunk go out in the place of its name. An `Err` changes nothing.
+#[tactic(auto, using(crate::proofs::Sending::whole_xids, crate::proofs::Sending::whole_within))]
+fn send_whole(
+    alloc: Global,
+    state: &mut ClientState,
+    file: u64,
+    store: Store,
+    call: StoreCall,
+    chunk: &Chunk,
+) -> Result<ClientStep, AllocError>
+    requires held { IsHeld state.old }
+    requires within { IsStore store }
+    requires xids { state.old.next + store_left store + 1 < 4294967296 }
+    ensures ok { IfOk result (λ a. sends_whole (state_of state.old) file 0 (local_bytes state.old.opened.entries file) store call (Some chunk.now) ≡ (state_of state.new, a)) }
+    ensures done { IfOk result (λ a. a.missed ≡ false) }
+    ensures err { OnErr result (whole_of state.new ≡ whole_of state.old) }
+    ensures sound { OnOk result (IsSound state.new) }
+    ensures held { OnErr result (IsHeld state.new) }
+{
+    let xid = state.next;
+    let temp = store.temp;
+    let content = parts::local_bytes(&state.opened, file);
+    let bytes = stores::bytes_count(content, chunk);
+    let store = stores::with_whole(store, call, xid)?;
+    let whole = messages::temp_call(alloc, xid, temp, content, chunk)?;
+    match state.wait(alloc, file, Stage::Storing(store), xid + 1) {
+        Ok(()) => Ok(parts::sends(sending::one(alloc, whole), stores::whole_counted(bytes))),
+        Err(error) => {
+            drops::message(whole);
+            Err(error)
+        }
+    }
+}
+
+/// The server doesn't know a chunk that was named. An `Err` changes nothing.
+fn told_missing(
+    alloc: Global,
+    state: &mut ClientState,
+    file: u64,
+    store: Store,
+    call: StoreCall,
+    xid: u32,
+) -> Result<ClientStep, AllocError>
+    requires held { IsHeld state.old }
+    requires within { IsStore store }
+    requires xids { state.old.next + store_left store + 1 < 4294967296 }
+    ensures ok { IfOk result (λ a. sends_whole (state_of state.old) file xid (local_bytes state.old.opened.entries file) store call (slice_get store.chunks call.index) ≡ (state_of state.new, a)) }
+    ensures done { IfOk result (λ a. a.missed ≡ false) }
+    ensures err { OnErr result (whole_of state.new ≡ whole_of state.old) }
+    ensures sound { OnOk result (IsSound state.new) }
+    ensures held { OnErr result (IsHeld state.new) }
+{
+    match chunk_at(store.chunks.as_slice(), call.index) {
+        Some(chunk) => send_whole(alloc, state, file, store, call, &chunk),
+        None => Ok(state.unknown(alloc, xid)),
+    }
+}
+
+/// The answer to a CONDWRITE, which is no longer under way. An `Err` changes nothing.
+fn told_named(
+    alloc: Global,
+    state: &mut ClientState,
+    file: u64,
+    store: Store,
+    call: StoreCall,
+    xid: u32,
+    answer: &Answer<(), ()>,
+) -> Result<ClientStep, AllocError>
+    requires held { IsHeld state.old }
+    requires within { IsStore store }
+    requires xids { state.old.next + store_left store + 1 < 4294967296 }
+    ensures ok { IfOk result (λ a. told_named (state_of state.old) state.old.waiting.calls file xid (local_bytes state.old.opened.entries file) store call answer.now ≡ (state_of state.new, a)) }
+    ensures done { IfOk result (λ a. a.missed ≡ false) }
+    ensures err { OnErr result (whole_of state.new ≡ whole_of state.old) }
+    ensures sound { OnOk result (IsSound state.new) }
+    ensures held { OnErr result (IsHeld state.new) }
+{
+    match answer {
+        Answer::Done(()) => go_on(alloc, state, file, store),
+        Answer::Failed(Status::HashNotFound, _) => {
+            told_missing(alloc, state, file, store, call, xid)
+        }
+        Answer::Failed(status, _) => Ok(state.refused(alloc, xid, *status)),
+    }
+}
+
+/// An answer where a CONDWRITE was under way. An `Err` changes nothing.
+fn took_named(
+    alloc: Global,
+    state: &mut ClientState,
+    file: u64,
+    store: Store,
+    call: StoreCall,
+    xid: u32,
+    body: &Body,
+) -> Result<ClientStep, AllocError>
+    requires held { IsHeld state.old }
+    requires within { IsStore store }
+    requires xids { state.old.next + store_left store + 1 < 4294967296 }
+    ensures ok { IfOk result (λ a. told_way (state_of state.old) state.old.waiting.calls file xid (local_bytes state.old.opened.entries file) store call way.Named body.now ≡ (state_of state.new, a)) }
+    ensures done { IfOk result (λ a. a.missed ≡ false) }
+    ensures err { OnErr result (whole_of state.new ≡ whole_of state.old) }
+    ensures sound { OnOk result (IsSound state.new) }
+    ensures held { OnErr result (IsHeld state.new) }
+{
+    match body {
+        Body::Lb(Lb::CondWriteAnswer(answer)) => {
+            told_named(alloc, state, file, store, call, xid, answer)
+        }
+        _ => Ok(state.unknown(alloc, xid)),
+    }
+}
+
+/// An answer where a TMPWRITE was under way. An `Err` changes nothing.
+fn took_whole(
+    alloc: Global,
+    state: &mut ClientState,
+    file: u64,
+    store: Store,
+    call: StoreCall,
+    xid: u32,
+    body: &Body,
+) -> Result<ClientStep, AllocError>
+    requires held { IsHeld state.old }
+    requires within { IsStore store }
+    requires xids { HasXids state.old.next (stage.Storing store) }
+    ensures ok { IfOk result (λ a. told_way (state_of state.old) state.old.waiting.calls file xid (local_bytes state.old.opened.entries file) store call way.Whole body.now ≡ (state_of state.new, a)) }
+    ensures done { IfOk result (λ a. a.missed ≡ false) }
+    ensures err { OnErr result (whole_of state.new ≡ whole_of state.old) }
+    ensures sound { OnOk result (IsSound state.new) }
+    ensures held { OnErr result (IsHeld state.new) }
+{
+    match body {
+        Body::Lb(Lb::TmpWriteAnswer(answer)) => match answer {
+            Answer::Done(_) => go_on(alloc, state, file, store),
+            Answer::Failed(status, _) => Ok(state.refused(alloc, xid, *status)),
+        },
+        _ => Ok(state.unknown(alloc, xid)),
+    }
+}
+
+/// The answer to a call for a chunk, which is no longer under way. An `Err` changes nothing.
+pub fn told_chunk(
+    alloc: Global,
+    state: &mut ClientState,
+    file: u64,
+    store: Store,
+    call: StoreCall,
+    xid: u32,
+    body: &Body,
+) -> Result<ClientStep, AllocError>
+    requires held { IsHeld state.old }
+    requires within { IsStore store }
+    requires xids { state.old.next + store_left store + calls_after call.way < 4294967296 }
+    ensures ok { IfOk result (λ a. told_way (state_of state.old) state.old.waiting.calls file xid (local_bytes state.old.opened.entries file) store call call.way body.now ≡ (state_of state.new, a)) }
+    ensures done { IfOk result (λ a. a.missed ≡ false) }
+    ensures err { OnErr result (whole_of state.new ≡ whole_of state.old) }
+    ensures sound { OnOk result (IsSound state.new) }
+    ensures held { OnErr result (IsHeld state.new) }
+{
+    match call.way {
+        Way::Named => took_named(alloc, state, file, store, call, xid, body),
+        Way::Whole => took_whole(alloc, state, file, store, call, xid, body),
+    }
+}
+
+/// The file has its new content, which is kept, and is no longer open. It takes no memory.
+pub fn closed(
+    alloc: Global,
+    state: &mut ClientState,
+    file: u64,
+    xid: u32,
+    version: u64,
+) -> ClientStep
+    requires held { IsHeld state.old }
+    requires there { IsThere state.old.cache file }
+    ensures ok { closed (state_of state.old) state.old.waiting.calls file xid version (local_bytes state.old.opened.entries file) ≡ (state_of state.new, result) }
+    ensures done { result.missed ≡ false }
+    ensures sound { IsSound state.new }
+{
+    let content = state.take_local(file);
+    let step = stores::closed(alloc, file, version, content.as_slice(), xid);
+    state.cache.keep(file, version, content);
+    state.forget(alloc, xid);
+    step
+}

@@ -1,0 +1,110 @@
+//! What the index gives of a chunk among what is kept of files: `specs/Caching.antt`.
+
+ghost use Rattle.std.specs.Prelude.{◌≡◌, ◌-◌, ◌≤◌, length, take, drop, is_some, IfOk, false, true};
+ghost use Rattle.client_cache.specs.Cache.{content_of};
+ghost use Rattle.file_open.specs.Caching.{found_all, content_in, bytes_there, from_index};
+ghost use Rattle.std.specs.Option.{option_copied};
+ghost use Rattle.chunk_places.specs.Places.{indexed, LeavesSome};
+
+use chunk_cut::chunk::Chunk;
+use chunk_index::index::Index;
+use chunk_index::place::Place;
+use client_cache::cache::Cache;
+use client_state::task::Fetch;
+use lb_base::items::Bytes;
+use sha1::Sha1;
+use shared_bytes::SharedBytes;
+use std::alloc::{AllocError, Global};
+
+/// Whether a content is kept of a file.
+pub fn is_kept(cache: &Cache, file: u64) -> bool
+    ensures { result ≡ is_some (content_of cache.now file) }
+{
+    match cache.content(file) {
+        Some(_) => true,
+        None => false,
+    }
+}
+
+/// One more owner of the content that is kept of a file in this version.
+pub fn content_in(cache: &Cache, file: u64, version: u64) -> Result<Option<SharedBytes>, AllocError>
+    ensures { IfOk result (λ bytes. bytes ≡ content_in version (content_of cache.now file)) }
+{
+    let Some((kept, bytes)) = cache.content(file) else {
+        return Ok(None);
+    };
+    if kept == version {
+        Ok(Some(bytes.share()?))
+    } else {
+        Ok(None)
+    }
+}
+
+/// The bytes of a place that has as many as the chunk, where they are kept.
+fn bytes_there<'a>(cache: &'a Cache, chunk: &Chunk, place: Option<Place>) -> Option<&'a [u8]>
+    ensures { option_copied result ≡ bytes_there cache.now chunk.now place }
+{
+    let place = place?;
+    if place.count == chunk.len {
+        cache.bytes_at(place)
+    } else {
+        None
+    }
+}
+
+/// The bytes of a chunk that the index gives, where they have its digest. No pair of the index moves.
+fn kept_bytes<'a>(cache: &'a Cache, index: &Index, chunk: &Chunk) -> Option<&'a [u8]>
+    ensures { option_copied result ≡ from_index cache.now index.now chunk.now }
+{
+    let bytes = bytes_there(cache, chunk, index.peek(&chunk.digest))?;
+    if Sha1::digest(bytes) == chunk.digest {
+        Some(bytes)
+    } else {
+        None
+    }
+}
+
+/// A copy of them.
+pub fn from_index(
+    alloc: Global,
+    cache: &Cache,
+    index: &Index,
+    chunk: &Chunk,
+) -> Result<Option<Bytes>, AllocError>
+    ensures { IfOk result (λ bytes. bytes ≡ from_index cache.now index.now chunk.now) }
+{
+    match kept_bytes(cache, index, chunk) {
+        Some(bytes) => Ok(Some(Bytes::copy_of(alloc, bytes)?)),
+        None => Ok(None),
+    }
+}
+
+/// The pairs of these chunks go to the front, one after the other. It takes no memory.
+pub fn find_all(index: &mut Index, chunks: &[Chunk])
+    ensures { index.new ≡ found_all index.old chunks.now }
+{
+    for chunk in chunks {
+        let _place = index.find(&chunk.digest);
+    }
+}
+
+/// The pairs of the chunks of a fetch that were looked up, from a place on, go to the front.
+pub fn find_asked(index: &mut Index, fetch: &Fetch, from: usize)
+    requires from { from ≤ fetch.now.asked }
+    requires asked { fetch.now.asked ≤ length fetch.now.chunks }
+    ensures { index.new ≡ found_all index.old (take (fetch.now.asked - from) (drop from fetch.now.chunks)) }
+{
+    find_all(index, &fetch.chunks.as_slice()[from..fetch.asked]);
+}
+
+/// A fetch ends: its chunks were looked up from a place on, and then the places of all enter, but
+/// those for which memory is wanting; says whether it was.
+pub fn enter_fetched(index: &mut Index, file: u64, fetch: &Fetch, from: usize) -> bool
+    requires from { from ≤ fetch.now.asked }
+    requires asked { fetch.now.asked ≤ length fetch.now.chunks }
+    ensures all { result ≡ false → index.new ≡ indexed (found_all index.old (take (fetch.now.asked - from) (drop from fetch.now.chunks))) file fetch.now.chunks }
+    ensures lacks { result ≡ true → LeavesSome (found_all index.old (take (fetch.now.asked - from) (drop from fetch.now.chunks))) file fetch.now.chunks index.new }
+{
+    find_asked(index, fetch, from);
+    chunk_places::enter(index, file, fetch.chunks.as_slice())
+}

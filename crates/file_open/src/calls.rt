@@ -1,0 +1,200 @@
+//! The READs that go out in a step, and the one that an answer is of: `specs/Opening.antt`.
+
+ghost use Rattle.std.specs.Prelude.{◌≡◌, ◌+◌, ◌<◌, length, None, slice_get, nat_lt, IfOk, OnOk};
+ghost use Rattle.file_open.specs.Opening.{is_here, read_at, reads_chunk, reads_next, reads_all, without_read};
+ghost use Rattle.client_state.specs.Limits.{calls_most};
+ghost use Rattle.client_state.specs.View.{IsReading, HasXids};
+ghost use Rattle.file_open.specs.Sending.{IsSendingReads};
+ghost use Rattle.std.specs.Option.{option_copied};
+ghost use Rattle.client_state.specs.Counting.{sends_reads};
+ghost use Rattle.client_state.specs.declared.task.Stage.TheVariants as stage;
+
+use crate::{caching, fetch, messages};
+use chunk_cut::chunk::Chunk;
+use chunk_index::index::Index;
+use client_cache::cache::Cache;
+use client_state::calls::{CALLS_MOST, chunk_at};
+use client_state::step::{ClientStep, Counts};
+use client_state::task::{Fetch, ReadCall};
+use client_state::{drops, parts, sending};
+use lb_base::items::{Bytes, Items};
+use send_list::SendList;
+use std::alloc::{AllocError, Global};
+use wire::message::Message;
+
+/// A fetch, the next xid, and the READs that were sent for it by now.
+pub struct Reads {
+    pub fetch: Fetch,
+    pub next: u32,
+    pub send: SendList<Message>,
+}
+
+/// The chunk is asked for, at the place where it stands.
+fn ask_chunk(
+    alloc: Global,
+    file: u64,
+    reads: &mut Reads,
+    index: usize,
+    chunk: &Chunk,
+) -> Result<(), AllocError>
+    requires xid { reads.old.next + 1 < 4294967296 }
+    requires len { chunk.now.len < 4294967296 }
+    requires index { index ≡ reads.old.fetch.asked }
+    requires more { index + 1 < 18446744073709551616 }
+    ensures { OnOk result (reads.new ≡ reads_chunk file reads.old chunk.now None) }
+{
+    let xid = reads.next;
+    let call = messages::read_call(alloc, xid, file, chunk)?;
+    sending::push(&mut reads.send, call)?;
+    reads.fetch.under.push(ReadCall { xid, index })?;
+    reads.fetch.asked = index + 1;
+    reads.next = xid + 1;
+    Ok(())
+}
+
+/// The chunk's bytes are taken, where they are kept, or it is asked for, at the place where it stands.
+fn take_chunk(
+    alloc: Global,
+    file: u64,
+    reads: &mut Reads,
+    place: usize,
+    chunk: &Chunk,
+    kept: Option<Bytes>,
+) -> Result<(), AllocError>
+    requires xid { reads.old.next + 1 < 4294967296 }
+    requires len { chunk.now.len < 4294967296 }
+    requires place { place ≡ reads.old.fetch.asked }
+    requires slot { place < length reads.old.fetch.slots }
+    requires more { place + 1 < 18446744073709551616 }
+    ensures { OnOk result (reads.new ≡ reads_chunk file reads.old chunk.now kept) }
+{
+    match kept {
+        Some(bytes) => {
+            fetch::fill_slot(alloc, &mut reads.fetch, place, bytes);
+            reads.fetch.asked = place + 1;
+            Ok(())
+        }
+        None => ask_chunk(alloc, file, reads, place, chunk),
+    }
+}
+
+/// The next chunk is looked up, if there is one, and where it isn't kept it is asked for.
+#[tactic(auto, using(client_state::proofs::Bounds::chunk_bounded, crate::proofs::Slots::slot_there))]
+fn read_next(
+    alloc: Global,
+    cache: &Cache,
+    index: &Index,
+    file: u64,
+    reads: &mut Reads,
+) -> Result<(), AllocError>
+    requires xid { reads.old.next + 1 < 4294967296 }
+    requires within { IsReading reads.old.fetch }
+    ensures { OnOk result (reads.new ≡ reads_next cache.now index.now file reads.old (slice_get reads.old.fetch.chunks reads.old.fetch.asked)) }
+{
+    let place = reads.fetch.asked;
+    let Some(chunk) = chunk_at(reads.fetch.chunks.as_slice(), place) else {
+        return Ok(());
+    };
+    let kept = caching::from_index(alloc, cache, index, &chunk)?;
+    take_chunk(alloc, file, reads, place, &chunk, kept)
+}
+
+/// Whether one more call may be under way.
+#[tactic(auto, unfolding(client_state::specs::Limits::calls_most))]
+fn has_room(under: &[ReadCall]) -> bool
+    ensures { result ≡ nat_lt (length under.now) calls_most }
+{
+    under.len() < CALLS_MOST
+}
+
+/// A fetch is let go, with the READs that were sent for it.
+pub fn let_go(reads: Reads) {
+    let Reads {
+        fetch,
+        next: _,
+        send,
+    } = reads;
+    drop(fetch);
+    drops::messages(send);
+}
+
+/// The chunks that are left are taken from what is kept, or asked for, while calls may be under way.
+pub fn read_all(
+    alloc: Global,
+    cache: &Cache,
+    index: &Index,
+    file: u64,
+    fetch: Fetch,
+    next: u32,
+) -> Result<Reads, AllocError>
+    requires within { IsReading fetch }
+    requires xids { HasXids next (stage.Reading fetch) }
+    ensures all { IfOk result (λ r. r ≡ reads_all cache.now index.now file fetch next) }
+    ensures sending { IfOk result (λ r. IsSendingReads fetch next r) }
+{
+    let left = fetch.chunks.len() - fetch.asked;
+    let mut reads = Reads {
+        fetch,
+        next,
+        send: sending::none(alloc),
+    };
+    for _i in 0..left {
+        if !has_room(reads.fetch.under.as_slice()) {
+            return Ok(reads);
+        }
+        match read_next(alloc, cache, index, file, &mut reads) {
+            Ok(()) => {}
+            Err(error) => {
+                let_go(reads);
+                return Err(error);
+            }
+        }
+    }
+    Ok(reads)
+}
+
+/// So many READs are sent, after so many bytes of one came. It takes no memory.
+pub fn sends_reads(send: SendList<Message>, reads: u64, bytes: u64) -> ClientStep
+    requires { reads ≡ length send }
+    ensures { result ≡ sends_reads send bytes }
+{
+    let counts = Counts {
+        reads,
+        bytes,
+        ..parts::no_counts()
+    };
+    parts::sends(send, counts)
+}
+
+/// Whether all chunks of a fetch are here.
+pub fn is_here(fetch: &Fetch) -> bool
+    ensures { result ≡ is_here fetch.now }
+{
+    fetch.under.is_empty() && fetch.asked == fetch.chunks.len()
+}
+
+/// The READ under way with this xid.
+fn find_read(under: &[ReadCall], xid: u32) -> Option<&ReadCall>
+    ensures { option_copied result ≡ read_at under.now xid }
+{
+    under.iter().find(|c| c.xid == xid)
+}
+
+/// A copy of the READ under way with this xid.
+pub fn read_at(under: &[ReadCall], xid: u32) -> Option<ReadCall>
+    ensures { result ≡ read_at under.now xid }
+{
+    match find_read(under, xid) {
+        Some(call) => Some(*call),
+        None => None,
+    }
+}
+
+/// The READs under way with other xids. It takes no memory.
+pub fn without_read(under: Items<ReadCall>, xid: u32) -> Items<ReadCall>
+    ensures { result ≡ without_read under xid }
+{
+    let mut left = under.into_vec();
+    left.retain(|c| c.xid != xid);
+    Items::from_vec(left)
+}

@@ -1,0 +1,147 @@
+//! The opens of files whose content is kept: its version is asked for, and where the file has it still
+//! the content is open again. `specs/Caching.antt` and `specs/Fetching.antt` say how.
+
+ghost use Rattle.std.specs.Prelude.{◌≡◌, ◌<◌, ◌≤◌, length, None, Some, is_some, IfOk, OnOk, OnErr, false, true};
+ghost use Rattle.client_cache.specs.Cache.{content_of, with_content};
+ghost use Rattle.file_open.specs.Fetching.{asks_file, uses_kept};
+ghost use Rattle.client_state.specs.View.{state_of, whole_of, IsHeld, IsSound, IsThere, HasXids};
+ghost use Rattle.limits.specs.declared.TheConstants.{FILE_MOST};
+ghost use Rattle.sha1.specs.Sha1.{sha1};
+ghost use Rattle.file_open.specs.Caching.{content_in};
+ghost use Rattle.client_state.specs.Counting.{ends};
+ghost use Rattle.client_state.specs.State.{with_local};
+ghost use Rattle.client_state.specs.declared.task.Stage.TheVariants as stage;
+ghost use Rattle.client_state.specs.declared.step.Outcome.TheVariants as outcome;
+
+use crate::{caching, messages, opening};
+use client_state::parts;
+use client_state::state::ClientState;
+use client_state::step::{ClientStep, Outcome};
+use client_state::task::Stage;
+use sha1::Sha1;
+use shared_bytes::SharedBytes;
+use std::alloc::{AllocError, Global};
+use xdr_codec::handle::Handle;
+
+/// The version of a file is asked for, since a content of it is kept. An `Err` changes nothing.
+pub fn ask_version(
+    alloc: Global,
+    state: &mut ClientState,
+    file: u64,
+) -> Result<ClientStep, AllocError>
+    requires sound { IsSound state.old }
+    requires idle { state.old.task ≡ None }
+    requires xids { state.old.next < 4293967297 }
+    requires kept { is_some (content_of state.old.cache file) ≡ true }
+    ensures ok { IfOk result (λ a. asks_file (state_of state.old) file true ≡ (state_of state.new, a)) }
+    ensures done { IfOk result (λ a. a.missed ≡ false) }
+    ensures err { OnErr result (state_of state.new ≡ state_of state.old) }
+    ensures sound { IsSound state.new }
+{
+    let xid = state.next;
+    let handle = Handle::of_file(alloc, file)?;
+    opening::begin(alloc, state, file, Stage::Asking(xid))?;
+    let call = messages::lease_call(xid, handle);
+    Ok(parts::sends_one(alloc, call, 0))
+}
+
+/// A file is open with this content, which its open tells, resting on the call with this xid, after
+/// so many bytes of a READ came. An `Err` changes nothing.
+fn put_open(
+    alloc: Global,
+    state: &mut ClientState,
+    file: u64,
+    version: u64,
+    content: SharedBytes,
+    rests_on: u32,
+    bytes: u64,
+) -> Result<ClientStep, AllocError>
+    requires held { IsHeld state.old }
+    requires small { length content ≤ FILE_MOST }
+    ensures ok { IfOk result (λ a. a ≡ ends (outcome.Opened file (length content) (sha1 content)) rests_on bytes) }
+    ensures rest { OnOk result (state_of state.new ≡ record (state_of state.old) { opened = with_local state.old.opened.entries file (record { version = version; bytes = content }) }) }
+    ensures err { OnErr result (state_of state.new ≡ state_of state.old) }
+    ensures waiting { state.new.waiting ≡ state.old.waiting }
+    ensures cache { state.new.cache ≡ state.old.cache }
+    ensures index { state.new.index ≡ state.old.index }
+    ensures held { IsHeld state.new }
+{
+    let len = content.len() as u64;
+    let sha1 = Sha1::digest(content.as_slice());
+    state.put(file, version, content)?;
+    let outcome = Outcome::Opened { file, len, sha1 };
+    Ok(parts::ends(alloc, outcome, rests_on, bytes))
+}
+
+/// The same, and the content is kept. An `Err` changes nothing.
+pub fn keep_open(
+    alloc: Global,
+    state: &mut ClientState,
+    file: u64,
+    version: u64,
+    content: SharedBytes,
+    rests_on: u32,
+    bytes: u64,
+) -> Result<ClientStep, AllocError>
+    requires held { IsHeld state.old }
+    requires there { IsThere state.old.cache file }
+    requires small { length content ≤ FILE_MOST }
+    ensures ok { IfOk result (λ a. a ≡ ends (outcome.Opened file (length content) (sha1 content)) rests_on bytes) }
+    ensures rest { OnOk result (state_of state.new ≡ record (state_of state.old) { opened = with_local state.old.opened.entries file (record { version = version; bytes = content }); cache = with_content state.old.cache file version content }) }
+    ensures err { OnErr result (state_of state.new ≡ state_of state.old) }
+    ensures waiting { state.new.waiting ≡ state.old.waiting }
+    ensures index { state.new.index ≡ state.old.index }
+    ensures held { IsHeld state.new }
+{
+    let kept = content.share()?;
+    let step = put_open(alloc, state, file, version, content, rests_on, bytes)?;
+    state.cache.keep(file, version, kept);
+    Ok(step)
+}
+
+/// A content that is kept is open again. An `Err` changes nothing.
+fn use_kept(
+    alloc: Global,
+    state: &mut ClientState,
+    file: u64,
+    xid: u32,
+    version: u64,
+    bytes: SharedBytes,
+) -> Result<ClientStep, AllocError>
+    requires held { IsHeld state.old }
+    requires small { length bytes ≤ FILE_MOST }
+    ensures ok { IfOk result (λ a. uses_kept (state_of state.old) state.old.waiting.calls file xid version (Some bytes) ≡ (state_of state.new, a)) }
+    ensures done { IfOk result (λ a. a.missed ≡ false) }
+    ensures err { OnErr result (whole_of state.new ≡ whole_of state.old) }
+    ensures sound { OnOk result (IsSound state.new) }
+    ensures held { OnErr result (IsHeld state.new) }
+{
+    let step = put_open(alloc, state, file, version, bytes, xid, 0)?;
+    state.forget(alloc, xid);
+    Ok(step)
+}
+
+/// The server told the file's version: a content that is kept in it is used again, and else the
+/// file is fetched. An `Err` changes nothing.
+#[tactic(auto, using(crate::proofs::Keeping::content_small))]
+pub fn told_leased(
+    alloc: Global,
+    state: &mut ClientState,
+    file: u64,
+    xid: u32,
+    version: u64,
+) -> Result<ClientStep, AllocError>
+    requires held { IsHeld state.old }
+    requires there { IsThere state.old.cache file }
+    requires xids { HasXids state.old.next (stage.Asking 0) }
+    ensures ok { IfOk result (λ a. uses_kept (state_of state.old) state.old.waiting.calls file xid version (content_in version (content_of state.old.cache file)) ≡ (state_of state.new, a)) }
+    ensures done { IfOk result (λ a. a.missed ≡ false) }
+    ensures err { OnErr result (whole_of state.new ≡ whole_of state.old) }
+    ensures sound { OnOk result (IsSound state.new) }
+    ensures held { OnErr result (IsHeld state.new) }
+{
+    match caching::content_in(&state.cache, file, version)? {
+        Some(bytes) => use_kept(alloc, state, file, xid, version, bytes),
+        None => opening::retry(alloc, state, file, 0, xid, 0),
+    }
+}

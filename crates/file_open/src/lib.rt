@@ -1,0 +1,15 @@
+//! How a client opens a file: a content that is kept is used again in its version, and else the file is
+//! fetched, in attempts, by its chunks and their bytes.
+//!
+//! It works on the state of `client_state`. `specs/Opening.antt` says what an attempt has, and
+//! `specs/Fetching.antt` what is done at each answer.
+#![tactic(auto)]
+
+mod caching;
+mod calls;
+mod faults;
+pub mod fetch;
+pub mod kept;
+mod messages;
+pub mod opening;
+mod shape;

@@ -1,0 +1,534 @@
+//! The operation that opens a file: its chunks are asked for, piece by piece, and then their bytes.
+//! `specs/Opening.antt` and `specs/Fetching.antt` say how.
+
+ghost use Rattle.std.specs.Prelude.{◌≡◌, ◌+◌, ◌-◌, ◌<◌, ◌≤◌, ◌==◌, length, take, drop, None, Some, slice_get, is_some, IfOk, OnOk, OnErr, false, true};
+ghost use Rattle.client_cache.specs.Cache.{reserved, content_of};
+ghost use Rattle.file_open.specs.Caching.{found_all};
+ghost use Rattle.file_open.specs.Opening.{read_at, fault_in, with_bytes, other_version, with_hashes, listed};
+ghost use Rattle.client_state.specs.Limits.{tries_most};
+ghost use Rattle.file_open.specs.Looking.{with_file, listed_if, listed_by, taken_if, taken_at, taken_by, entering_by};
+ghost use Rattle.file_open.specs.Shape.{broken_of};
+ghost use Rattle.file_open.specs.Fetching.{opens, asks_file, MayMissOpen, Comes, tries_anew, opened_with, changes, reads_if, reads_on, lists_on, told_shape, told_version, misfits, told_bytes, told_chunk, told_piece};
+ghost use Rattle.client_state.specs.Ending.{forgets};
+ghost use Rattle.client_state.specs.View.{state_of, whole_of, later_left, IsListing, IsReading, IsFetch, IsHeld, IsSound, IsThere, HasXids, IsWithin};
+ghost use Rattle.client_state.specs.declared.task.Stage.TheVariants as stage;
+
+use crate::calls::Reads;
+use crate::{caching, calls, faults, fetch, kept, messages, shape};
+use chunk_cut::chunk::Chunk;
+use client_state::calls::chunk_at;
+use client_state::state::ClientState;
+use client_state::step::{BadPeer, ClientStep, Outcome};
+use client_state::task::{Fetch, ReadCall, Stage};
+use client_state::{drops, parts};
+use hash_calls::call::Hashes;
+use lb_base::items::Bytes;
+use nfs3_calls::call::Piece;
+use std::alloc::{AllocError, Global};
+use xdr_codec::attr::Attr;
+use xdr_codec::handle::Handle;
+
+/// The most attempts of an open.
+const TRIES_MOST: u32 = limits::ATTEMPTS_MOST;
+
+/// A command to open a file. An `Err` changes nothing, and comes only where the file is asked for.
+#[tactic(auto, using(client_state::proofs::Pending::held_of))]
+pub fn open(alloc: Global, state: &mut ClientState, file: u64) -> Result<ClientStep, AllocError>
+    requires { IsSound state.old }
+    ensures ok { IfOk result (λ a. opens (state_of state.old) file state.old.task ≡ (state_of state.new, a)) }
+    ensures done { IfOk result (λ a. a.missed ≡ false) }
+    ensures err { OnErr result (state_of state.new ≡ state_of state.old) }
+    ensures sure { OnErr result (MayMissOpen (state_of state.old) file state.old.task) }
+    ensures sound { IsSound state.new }
+{
+    if state.task.is_some() {
+        return Ok(parts::ends(alloc, Outcome::Busy, 0, 0));
+    }
+    if parts::is_open(&state.opened, file) {
+        return Ok(parts::ends(alloc, Outcome::AlreadyOpen, 0, 0));
+    }
+    if !state.may_ask() {
+        return Ok(parts::ends(alloc, Outcome::NoLink, 0, 0));
+    }
+    ask_file(alloc, state, file)
+}
+
+/// The file is asked for: by its version where a content is kept, else by its chunks. An `Err`
+/// changes nothing.
+fn ask_file(alloc: Global, state: &mut ClientState, file: u64) -> Result<ClientStep, AllocError>
+    requires sound { IsSound state.old }
+    requires idle { state.old.task ≡ None }
+    requires xids { state.old.next < 4293967297 }
+    ensures ok { IfOk result (λ a. asks_file (state_of state.old) file true ≡ (state_of state.new, a)) }
+    ensures done { IfOk result (λ a. a.missed ≡ false) }
+    ensures err { OnErr result (state_of state.new ≡ state_of state.old) }
+    ensures sound { IsSound state.new }
+{
+    if caching::is_kept(&state.cache, file) {
+        kept::ask_version(alloc, state, file)
+    } else {
+        ask_hashes(alloc, state, file)
+    }
+}
+
+/// The first attempt begins. An `Err` changes nothing.
+fn ask_hashes(alloc: Global, state: &mut ClientState, file: u64) -> Result<ClientStep, AllocError>
+    requires sound { IsSound state.old }
+    requires idle { state.old.task ≡ None }
+    requires xids { state.old.next < 4293967297 }
+    requires kept { is_some (content_of state.old.cache file) ≡ false }
+    ensures ok { IfOk result (λ a. asks_file (state_of state.old) file true ≡ (state_of state.new, a)) }
+    ensures done { IfOk result (λ a. a.missed ≡ false) }
+    ensures err { OnErr result (state_of state.new ≡ state_of state.old) }
+    ensures sound { IsSound state.new }
+{
+    let xid = state.next;
+    let handle = Handle::of_file(alloc, file)?;
+    begin(alloc, state, file, Stage::Hashing { tries: 1, xid })?;
+    let call = messages::hash_call(xid, handle, 0);
+    Ok(parts::sends_one(alloc, call, 0))
+}
+
+/// An open begins with the call of the next xid: the file has an entry in the cache, at its
+/// front. An `Err` changes nothing.
+#[tactic(auto, using(client_state::proofs::Pending::held_of))]
+pub fn begin(
+    alloc: Global,
+    state: &mut ClientState,
+    file: u64,
+    stage: Stage,
+) -> Result<(), AllocError>
+    requires sound { IsSound state.old }
+    requires idle { state.old.task ≡ None }
+    requires xids { HasXids (state.old.next + 1) stage }
+    requires within { IsWithin stage }
+    ensures ok { OnOk result (state_of state.new ≡ record (state_of state.old) { next = state.old.next + 1; task = Some (record { file = file; stage = stage }); cache = reserved state.old.cache file }) }
+    ensures err { OnErr result (state_of state.new ≡ state_of state.old) }
+    ensures sound { IsSound state.new }
+{
+    state.wait_there(alloc, file, stage, state.next + 1)
+}
+
+/// The file is whole and open, its content is kept, and its chunks' places enter the index, but
+/// those for which memory is wanting; chunks from a place on were looked up. An `Err` changes
+/// nothing.
+fn opened_with(
+    alloc: Global,
+    state: &mut ClientState,
+    file: u64,
+    fetch: &Fetch,
+    from: usize,
+    xid: u32,
+    bytes: u64,
+) -> Result<ClientStep, AllocError>
+    requires held { IsHeld state.old }
+    requires there { IsThere state.old.cache file }
+    requires within { IsReading fetch.now }
+    requires from { from ≤ fetch.now.asked }
+    ensures ok { IfOk result (λ a. Comes state.old.index (Some (record { looked = take (fetch.now.asked - from) (drop from fetch.now.chunks); file = file; chunks = fetch.now.chunks })) (opened_with (record (state_of state.old) { index = found_all state.old.index (take (fetch.now.asked - from) (drop from fetch.now.chunks)) }) state.old.waiting.calls file xid fetch.now bytes) (state_of state.new) a) }
+    ensures err { OnErr result (whole_of state.new ≡ whole_of state.old) }
+    ensures sound { OnOk result (IsSound state.new) }
+    ensures held { OnErr result (IsHeld state.new) }
+{
+    let content = fetch::slots_bytes(alloc, fetch.slots.as_slice(), fetch.size)?;
+    let version = fetch.version;
+    let step = kept::keep_open(alloc, state, file, version, content, fetch.first, bytes)?;
+    let missed = caching::enter_fetched(&mut state.index, file, fetch, from);
+    state.forget(alloc, xid);
+    Ok(ClientStep { missed, ..step })
+}
+
+/// The next attempt begins. An `Err` changes nothing.
+pub fn retry(
+    alloc: Global,
+    state: &mut ClientState,
+    file: u64,
+    tries: u32,
+    xid: u32,
+    bytes: u64,
+) -> Result<ClientStep, AllocError>
+    requires held { IsHeld state.old }
+    requires there { IsThere state.old.cache file }
+    requires tries { tries < tries_most }
+    requires xids { state.old.next + 1 + later_left tries < 4294967296 }
+    ensures ok { IfOk result (λ a. tries_anew (forgets (state_of state.old) state.old.waiting.calls xid) file (tries + 1) bytes ≡ (state_of state.new, a)) }
+    ensures done { IfOk result (λ a. a.missed ≡ false) }
+    ensures err { OnErr result (whole_of state.new ≡ whole_of state.old) }
+    ensures sound { OnOk result (IsSound state.new) }
+    ensures held { OnErr result (IsHeld state.new) }
+{
+    let asked = state.next;
+    let handle = Handle::of_file(alloc, file)?;
+    state.wait_anew(alloc, file, tries + 1, xid)?;
+    let call = messages::hash_call(asked, handle, 0);
+    Ok(parts::sends_one(alloc, call, bytes))
+}
+
+/// The attempt ends by another version than its own, and the next begins, or there is none. An
+/// `Err` changes nothing.
+fn change(
+    alloc: Global,
+    state: &mut ClientState,
+    file: u64,
+    fetch: &Fetch,
+    xid: u32,
+    version: u64,
+    bytes: u64,
+) -> Result<ClientStep, AllocError>
+    requires held { IsHeld state.old }
+    requires there { IsThere state.old.cache file }
+    requires tries { fetch.now.tries ≤ tries_most }
+    requires xids { state.old.next + 1 + later_left fetch.now.tries < 4294967296 }
+    ensures ok { IfOk result (λ a. changes (state_of state.old) state.old.waiting.calls file xid fetch.now version bytes ≡ (state_of state.new, a)) }
+    ensures done { IfOk result (λ a. a.missed ≡ false) }
+    ensures err { OnErr result (whole_of state.new ≡ whole_of state.old) }
+    ensures sound { OnOk result (IsSound state.new) }
+    ensures held { OnErr result (IsHeld state.new) }
+{
+    if fetch.tries < TRIES_MOST {
+        return retry(alloc, state, file, fetch.tries, xid, bytes);
+    }
+    state.forget(alloc, xid);
+    let outcome = Outcome::Changed {
+        first: fetch.version,
+        last: version,
+    };
+    Ok(parts::ends(alloc, outcome, 0, bytes))
+}
+
+/// READs go out, so many, and their answers are waited for; chunks from a place on were looked up.
+/// An `Err` changes nothing.
+fn wait_reads(
+    alloc: Global,
+    state: &mut ClientState,
+    file: u64,
+    reads: Reads,
+    from: usize,
+    count: u64,
+    bytes: u64,
+) -> Result<ClientStep, AllocError>
+    requires held { IsHeld state.old }
+    requires there { IsThere state.old.cache file }
+    requires within { IsReading reads.fetch }
+    requires xids { HasXids reads.next (stage.Reading reads.fetch) }
+    requires rises { state.old.next ≤ reads.next }
+    requires from { from ≤ reads.fetch.asked }
+    requires count { count ≡ length reads.send }
+    ensures ok { IfOk result (λ a. reads_if (record (state_of state.old) { index = found_all state.old.index (take (reads.fetch.asked - from) (drop from reads.fetch.chunks)) }) state.old.waiting.calls file 0 reads bytes false ≡ (state_of state.new, a)) }
+    ensures done { IfOk result (λ a. a.missed ≡ false) }
+    ensures err { OnErr result (whole_of state.new ≡ whole_of state.old) }
+    ensures sound { OnOk result (IsSound state.new) }
+    ensures held { OnErr result (IsHeld state.new) }
+{
+    let Reads { fetch, next, send } = reads;
+    match state.list_reads(alloc, fetch.under.as_slice()) {
+        Ok((calls, own)) => {
+            caching::find_asked(&mut state.index, &fetch, from);
+            state.set_waiting(calls, own, file, Stage::Reading(fetch), next);
+            Ok(calls::sends_reads(send, count, bytes))
+        }
+        Err(error) => {
+            drop(fetch);
+            drops::messages(send);
+            Err(error)
+        }
+    }
+}
+
+/// The chunks that are left are taken from what is kept, or READs go out for them, or all are here.
+/// An `Err` changes nothing.
+fn read_on(
+    alloc: Global,
+    state: &mut ClientState,
+    file: u64,
+    fetch: Fetch,
+    xid: u32,
+    bytes: u64,
+) -> Result<ClientStep, AllocError>
+    requires held { IsHeld state.old }
+    requires there { IsThere state.old.cache file }
+    requires within { IsReading fetch }
+    requires xids { HasXids state.old.next (stage.Reading fetch) }
+    ensures ok { IfOk result (λ a. Comes state.old.index (entering_by (state_of state.old) (Some (file, fetch))) (reads_on (state_of state.old) state.old.waiting.calls file xid fetch bytes) (state_of state.new) a) }
+    ensures err { OnErr result (whole_of state.new ≡ whole_of state.old) }
+    ensures sound { OnOk result (IsSound state.new) }
+    ensures held { OnErr result (IsHeld state.new) }
+{
+    let from = fetch.asked;
+    let under = fetch.under.len();
+    let reads = calls::read_all(alloc, &state.cache, &state.index, file, fetch, state.next)?;
+    if calls::is_here(&reads.fetch) {
+        let done = opened_with(alloc, state, file, &reads.fetch, from, xid, bytes);
+        calls::let_go(reads);
+        done
+    } else {
+        let count = (reads.fetch.under.len() - under) as u64;
+        wait_reads(alloc, state, file, reads, from, count, bytes)
+    }
+}
+
+/// The further chunks are asked for. An `Err` changes nothing.
+fn list_on(
+    alloc: Global,
+    state: &mut ClientState,
+    file: u64,
+    fetch: Fetch,
+) -> Result<ClientStep, AllocError>
+    requires held { IsHeld state.old }
+    requires there { IsThere state.old.cache file }
+    requires within { IsListing fetch }
+    requires xids { HasXids (state.old.next + 1) (stage.Listing 0 fetch) }
+    ensures ok { IfOk result (λ a. lists_on (state_of state.old) state.old.waiting.calls file 0 fetch false ≡ (state_of state.new, a)) }
+    ensures done { IfOk result (λ a. a.missed ≡ false) }
+    ensures err { OnErr result (whole_of state.new ≡ whole_of state.old) }
+    ensures sound { OnOk result (IsSound state.new) }
+    ensures held { OnErr result (IsHeld state.new) }
+{
+    let xid = state.next;
+    let offset = shape::end_of(fetch.chunks.as_slice());
+    let handle = Handle::of_file(alloc, file)?;
+    state.wait(alloc, file, Stage::Listing { xid, fetch }, xid + 1)?;
+    let call = messages::hash_call(xid, handle, offset);
+    Ok(parts::sends_one(alloc, call, 0))
+}
+
+/// All chunks are told. An `Err` changes nothing.
+#[tactic(auto, using(crate::proofs::Slots::listed_fits))]
+fn read_first(
+    alloc: Global,
+    state: &mut ClientState,
+    file: u64,
+    fetch: Fetch,
+    xid: u32,
+) -> Result<ClientStep, AllocError>
+    requires held { IsHeld state.old }
+    requires there { IsThere state.old.cache file }
+    requires within { IsFetch fetch }
+    requires fresh { fetch.asked ≡ 0 }
+    requires xids { HasXids state.old.next (stage.Reading fetch) }
+    ensures ok { IfOk result (λ a. Comes state.old.index (entering_by (state_of state.old) (Some (file, listed fetch))) (reads_on (state_of state.old) state.old.waiting.calls file xid (listed fetch) 0) (state_of state.new) a) }
+    ensures err { OnErr result (whole_of state.new ≡ whole_of state.old) }
+    ensures sound { OnOk result (IsSound state.new) }
+    ensures held { OnErr result (IsHeld state.new) }
+{
+    let fetch = fetch::listed(alloc, fetch)?;
+    read_on(alloc, state, file, fetch, xid, 0)
+}
+
+/// A piece can be, and its chunks are listed. An `Err` changes nothing.
+#[tactic(auto, using(crate::proofs::Pieces::few_pairs))]
+fn add_piece(
+    alloc: Global,
+    state: &mut ClientState,
+    file: u64,
+    fetch: Fetch,
+    hashes: &Hashes,
+    xid: u32,
+) -> Result<ClientStep, AllocError>
+    requires held { IsHeld state.old }
+    requires there { IsThere state.old.cache file }
+    requires within { IsListing fetch }
+    requires can { broken_of fetch hashes.now ≡ None }
+    requires xids { HasXids state.old.next (stage.Listing 0 fetch) }
+    ensures ok { IfOk result (λ a. Comes state.old.index (entering_by (state_of state.old) (with_file file (listed_if fetch hashes.now true None hashes.now.eof))) (lists_on (state_of state.old) state.old.waiting.calls file xid (with_hashes fetch hashes.now) hashes.now.eof) (state_of state.new) a) }
+    ensures err { OnErr result (whole_of state.new ≡ whole_of state.old) }
+    ensures sound { OnOk result (IsSound state.new) }
+    ensures held { OnErr result (IsHeld state.new) }
+{
+    let fetch = fetch::with_hashes(fetch, hashes)?;
+    if hashes.eof {
+        read_first(alloc, state, file, fetch, xid)
+    } else {
+        list_on(alloc, state, file, fetch)
+    }
+}
+
+/// A piece is of the attempt's version. An `Err` changes nothing.
+fn told_shape(
+    alloc: Global,
+    state: &mut ClientState,
+    file: u64,
+    fetch: Fetch,
+    hashes: &Hashes,
+    xid: u32,
+) -> Result<ClientStep, AllocError>
+    requires held { IsHeld state.old }
+    requires there { IsThere state.old.cache file }
+    requires within { IsListing fetch }
+    requires xids { HasXids state.old.next (stage.Listing 0 fetch) }
+    ensures ok { IfOk result (λ a. Comes state.old.index (entering_by (state_of state.old) (with_file file (listed_if fetch hashes.now true (broken_of fetch hashes.now) hashes.now.eof))) (told_shape (state_of state.old) state.old.waiting.calls file xid fetch hashes.now (broken_of fetch hashes.now)) (state_of state.new) a) }
+    ensures err { OnErr result (whole_of state.new ≡ whole_of state.old) }
+    ensures sound { OnOk result (IsSound state.new) }
+    ensures held { OnErr result (IsHeld state.new) }
+{
+    match shape::broken_of(&fetch, hashes) {
+        Some((got, wanted)) => Ok(state.bad_peer(alloc, BadPeer::Shape { got, wanted }, 0)),
+        None => add_piece(alloc, state, file, fetch, hashes, xid),
+    }
+}
+
+/// A piece of a file's chunks has come. An `Err` changes nothing.
+#[tactic(auto, using(crate::proofs::Pieces::may_retry))]
+pub fn told_hashes(
+    alloc: Global,
+    state: &mut ClientState,
+    file: u64,
+    fetch: Fetch,
+    hashes: &Hashes,
+    xid: u32,
+) -> Result<ClientStep, AllocError>
+    requires held { IsHeld state.old }
+    requires there { IsThere state.old.cache file }
+    requires within { IsListing fetch }
+    requires xids { HasXids state.old.next (stage.Listing 0 fetch) }
+    ensures ok { IfOk result (λ a. Comes state.old.index (entering_by (state_of state.old) (with_file file (listed_by fetch hashes.now))) (told_version (state_of state.old) state.old.waiting.calls file xid fetch hashes.now (hashes.now.version == fetch.version)) (state_of state.new) a) }
+    ensures err { OnErr result (whole_of state.new ≡ whole_of state.old) }
+    ensures sound { OnOk result (IsSound state.new) }
+    ensures held { OnErr result (IsHeld state.new) }
+{
+    if hashes.version == fetch.version {
+        told_shape(alloc, state, file, fetch, hashes, xid)
+    } else {
+        change(alloc, state, file, &fetch, xid, hashes.version, 0)
+    }
+}
+
+/// Bytes don't fit: another version ends the attempt, else they are the peer's fault. An `Err`
+/// changes nothing.
+fn misfit(
+    alloc: Global,
+    state: &mut ClientState,
+    file: u64,
+    fetch: &Fetch,
+    xid: u32,
+    fault: BadPeer,
+    bytes: &Bytes,
+    attr: &Option<Attr>,
+) -> Result<ClientStep, AllocError>
+    requires held { IsHeld state.old }
+    requires there { IsThere state.old.cache file }
+    requires tries { fetch.now.tries ≤ tries_most }
+    requires xids { state.old.next + 1 + later_left fetch.now.tries < 4294967296 }
+    ensures ok { IfOk result (λ a. misfits (state_of state.old) state.old.waiting.calls file xid fetch.now fault (length bytes.now) (other_version fetch.now.version attr.now) ≡ (state_of state.new, a)) }
+    ensures done { IfOk result (λ a. a.missed ≡ false) }
+    ensures err { OnErr result (whole_of state.new ≡ whole_of state.old) }
+    ensures sound { OnOk result (IsSound state.new) }
+    ensures held { OnErr result (IsHeld state.new) }
+{
+    let count = bytes.len() as u64;
+    match faults::other_version(fetch.version, attr) {
+        Some(version) => change(alloc, state, file, fetch, xid, version, count),
+        None => Ok(state.bad_peer(alloc, fault, count)),
+    }
+}
+
+/// The bytes of a chunk fit, and are taken. An `Err` changes nothing.
+#[tactic(auto, using(crate::proofs::Slots::bytes_kept, crate::proofs::Slots::slot_there))]
+fn keep(
+    alloc: Global,
+    state: &mut ClientState,
+    file: u64,
+    fetch: Fetch,
+    xid: u32,
+    call: ReadCall,
+    chunk: &Chunk,
+    bytes: Bytes,
+) -> Result<ClientStep, AllocError>
+    requires held { IsHeld state.old }
+    requires there { IsThere state.old.cache file }
+    requires within { IsReading fetch }
+    requires xids { HasXids state.old.next (stage.Reading fetch) }
+    requires chunk { slice_get fetch.chunks call.index ≡ Some chunk.now }
+    requires fits { length bytes ≡ chunk.now.len }
+    ensures ok { IfOk result (λ a. Comes state.old.index (entering_by (state_of state.old) (Some (file, with_bytes fetch call bytes))) (reads_on (state_of state.old) state.old.waiting.calls file xid (with_bytes fetch call bytes) (length bytes)) (state_of state.new) a) }
+    ensures err { OnErr result (whole_of state.new ≡ whole_of state.old) }
+    ensures sound { OnOk result (IsSound state.new) }
+    ensures held { OnErr result (IsHeld state.new) }
+{
+    let count = bytes.len() as u64;
+    let fetch = fetch::with_bytes(fetch, call, bytes);
+    read_on(alloc, state, file, fetch, xid, count)
+}
+
+/// The bytes of a chunk have come. An `Err` changes nothing.
+fn told_bytes(
+    alloc: Global,
+    state: &mut ClientState,
+    file: u64,
+    fetch: Fetch,
+    xid: u32,
+    call: ReadCall,
+    chunk: &Chunk,
+    piece: Piece,
+) -> Result<ClientStep, AllocError>
+    requires held { IsHeld state.old }
+    requires there { IsThere state.old.cache file }
+    requires within { IsReading fetch }
+    requires xids { HasXids state.old.next (stage.Reading fetch) }
+    requires chunk { slice_get fetch.chunks call.index ≡ Some chunk.now }
+    ensures ok { IfOk result (λ a. Comes state.old.index (entering_by (state_of state.old) (with_file file (taken_if fetch call piece (fault_in chunk.now piece.bytes (length piece.bytes == chunk.now.len))))) (told_bytes (state_of state.old) state.old.waiting.calls file xid fetch call piece (fault_in chunk.now piece.bytes (length piece.bytes == chunk.now.len))) (state_of state.new) a) }
+    ensures err { OnErr result (whole_of state.new ≡ whole_of state.old) }
+    ensures sound { OnOk result (IsSound state.new) }
+    ensures held { OnErr result (IsHeld state.new) }
+{
+    let Piece {
+        attr,
+        count: _,
+        eof: _,
+        bytes,
+    } = piece;
+    match faults::fault_in(chunk, bytes.as_slice()) {
+        Some(fault) => misfit(alloc, state, file, &fetch, xid, fault, &bytes, &attr),
+        None => keep(alloc, state, file, fetch, xid, call, chunk, bytes),
+    }
+}
+
+/// The bytes of a chunk have come, if there is one at the place that was read. An `Err` changes
+/// nothing.
+fn told_read(
+    alloc: Global,
+    state: &mut ClientState,
+    file: u64,
+    fetch: Fetch,
+    xid: u32,
+    call: ReadCall,
+    piece: Piece,
+) -> Result<ClientStep, AllocError>
+    requires held { IsHeld state.old }
+    requires there { IsThere state.old.cache file }
+    requires within { IsReading fetch }
+    requires xids { HasXids state.old.next (stage.Reading fetch) }
+    ensures ok { IfOk result (λ a. Comes state.old.index (entering_by (state_of state.old) (with_file file (taken_at fetch call piece (slice_get fetch.chunks call.index)))) (told_chunk (state_of state.old) state.old.waiting.calls file xid fetch call piece (slice_get fetch.chunks call.index)) (state_of state.new) a) }
+    ensures err { OnErr result (whole_of state.new ≡ whole_of state.old) }
+    ensures sound { OnOk result (IsSound state.new) }
+    ensures held { OnErr result (IsHeld state.new) }
+{
+    match chunk_at(fetch.chunks.as_slice(), call.index) {
+        Some(chunk) => told_bytes(alloc, state, file, fetch, xid, call, &chunk, piece),
+        None => Ok(state.unknown(alloc, xid)),
+    }
+}
+
+/// The answer to a READ. An `Err` changes nothing.
+pub fn told_piece(
+    alloc: Global,
+    state: &mut ClientState,
+    file: u64,
+    fetch: Fetch,
+    xid: u32,
+    piece: Piece,
+) -> Result<ClientStep, AllocError>
+    requires held { IsHeld state.old }
+    requires there { IsThere state.old.cache file }
+    requires within { IsReading fetch }
+    requires xids { HasXids state.old.next (stage.Reading fetch) }
+    ensures ok { IfOk result (λ a. Comes state.old.index (entering_by (state_of state.old) (with_file file (taken_by fetch piece (read_at fetch.under xid)))) (told_piece (state_of state.old) state.old.waiting.calls file xid fetch piece (read_at fetch.under xid)) (state_of state.new) a) }
+    ensures err { OnErr result (whole_of state.new ≡ whole_of state.old) }
+    ensures sound { OnOk result (IsSound state.new) }
+    ensures held { OnErr result (IsHeld state.new) }
+{
+    match calls::read_at(fetch.under.as_slice(), xid) {
+        Some(call) => told_read(alloc, state, file, fetch, xid, call, piece),
+        None => Ok(state.unknown(alloc, xid)),
+    }
+}

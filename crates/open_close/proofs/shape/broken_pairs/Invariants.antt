@@ -1,7 +1,0 @@
-use Rattle.std.proofs.Common.{◌≡◌, drop}
-use Rattle.open_close.specs.Shape.{broken_pairs}
-use Rattle.open_close.proofs.shape.broken_pairs.Given as goal
-
--- nothing is wrong so far
-abbrev pub invariant-loop-i : goal.invariant-loop-i
-invariant-loop-i l = broken_pairs l.is_last (drop l.i l.pairs) ≡ broken_pairs l.is_last l.pairs
