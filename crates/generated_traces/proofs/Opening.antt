@@ -14,14 +14,17 @@ use Rattle.trace_text.specs.Grammar.{line_of}
 use Rattle.trace_text.specs.declared.line.Line.TheVariants as line
 use Rattle.trace_text.specs.declared.refusal.LineFault.{LineFault}
 use Rattle.trace_text.specs.declared.refusal.LineFault.TheVariants.{Grammar}
-use Rattle.open_close.specs.Step.{joined}
+use Rattle.client_state.specs.Ending.{joined}
+use Rattle.file_tree.specs.Opening.{can_open, opens}
+use Rattle.file_tree.specs.Tree.{Tree, empty}
+use Rattle.tree_nodes.specs.declared.node.Body.TheVariants.{File}
 use Rattle.server_core.specs.State as server
 use Rattle.server_core.specs.Step.{has_room, connect}
+use Rattle.trace_replay.specs.declared.opening.TheConstants.{ROOT}
 use Rattle.trace_replay.specs.declared.stage.Stage.{Stage}
 use Rattle.trace_replay.specs.declared.stage.Stage.TheVariants as stage
 use Rattle.trace_replay.specs.declared.turn.Turn.{Turn}
 use Rattle.trace_replay.specs.declared.turn.Turn.TheVariants as turn
-use Rattle.trace_replay.specs.Names.{has_name, with_name}
 use Rattle.trace_replay.specs.Core.{Core, Seat, Session, new_seat, new_session, numbered, with_numbered, Event.Joins, joins, joins_as, happens}
 use Rattle.trace_replay.specs.World.{World, start}
 use Rattle.trace_replay.specs.Run.{line_most, file_most, tree_most, sessions_most, sized, named, joins_if, joins_within, event_asks, asks_at, asks, at_events, with_clients, turned}
@@ -42,9 +45,9 @@ header_goes = refl
 
 -- ---- files
 
-record Filed (v : Timed) (called : List (List ℕ)) (bytes : ℕ) : Type 0 where
+record Filed (v : Timed) (held : Tree) (bytes : ℕ) : Type 0 where
   stage : v.world.stage ≡ stage.Files
-  names : v.world.names ≡ called
+  tree : v.world.core.server.tree ≡ held
   size : v.world.size ≡ bytes
   seats : v.world.core.seats ≡ replicate 4 new_seat
   sessions : v.world.core.sessions ≡ []
@@ -58,28 +61,31 @@ name number = 102 ∷ decimal number
 abbrev content : (seed number : ℕ) → List Part
 content seed number = Random ((seed + number) % 2 ^ 64) 9000 ∷ []
 
+abbrev bytes : (seed number : ℕ) → List ℕ
+bytes seed number = content_bytes (content seed number)
+
 abbrev file_turn : (seed number : ℕ) → Turn
 file_turn seed number = turn.File (name number) (content seed number)
 
-file_asked : (v : Timed) (seed number : ℕ) (names : List (List ℕ)) (size : ℕ) → Filed v names size → has_name names (name number) ≡ false → size + 9000 ≤ tree_most → asks v.world (line.File (name number) (content seed number)) ≡ Ok (file_turn seed number)
-file_asked v seed number names size h free room =
+file_asked : (v : Timed) (seed number : ℕ) (tree : Tree) (size : ℕ) → Filed v tree size → can_open tree ROOT (name number) ≡ true → size + 9000 ≤ tree_most → asks v.world (line.File (name number) (content seed number)) ≡ Ok (file_turn seed number)
+file_asked v seed number tree size h free room =
     let within : nat_lt tree_most (size + 9000) ≡ false = grind (arith, nat_tests, room) in
     ap (λ (s : Stage). asks_at v.world s (line.File (name number) (content seed number))) h.stage
-    ∙ ap (λ (ns : List (List ℕ)). named (has_name ns (name number)) v.world.size (name number) (content seed number)) h.names
+    ∙ ap (λ (t : Tree). named (can_open t ROOT (name number)) v.world.size (name number) (content seed number)) h.tree
     ∙ ap (λ (b : Bool). named b v.world.size (name number) (content seed number)) free
     ∙ ap (λ (n : ℕ). sized (nat_lt file_most 9000) (nat_lt tree_most (n + 9000)) (file_turn seed number)) h.size
     ∙ ap (λ (b : Bool). sized (nat_lt file_most 9000) b (file_turn seed number)) within
 
-file_then : (v : Timed) (n seed number later until : ℕ) (names : List (List ℕ)) (size : ℕ) (lines : List (List ℕ)) → Filed v names size → number < 2 ^ 64 → name_of (name number) ≡ Some (name number) → has_name names (name number) ≡ false → size + 9000 ≤ tree_most → n ≤ line_most
-    → ((w : Timed) → Filed w (with_name names (name number)) (size + 9000) → Leads w (n + 1) lines later until) → Leads v n (file_line seed number ∷ lines) later until
-file_then v n seed number later until names size lines h small called free room few next =
+file_then : (v : Timed) (n seed number later until : ℕ) (tree : Tree) (size : ℕ) (lines : List (List ℕ)) → Filed v tree size → number < 2 ^ 64 → name_of (name number) ≡ Some (name number) → can_open tree ROOT (name number) ≡ true → size + 9000 ≤ tree_most → n ≤ line_most
+    → ((w : Timed) → Filed w (opens tree ROOT (name number) (File (bytes seed number))) (size + 9000) → Leads w (n + 1) lines later until) → Leads v n (file_line seed number ∷ lines) later until
+file_then v n seed number later until tree size lines h small called free room few next =
     let w : Timed = timed_turn v (file_turn seed number, v.times) in
     let below : (seed + number) % 2 ^ 64 < 2 ^ 64 = omega arith in
     line_first v w n (file_line seed number) lines later until
-    (taken v n (file_line seed number) (line.File (name number) (content seed number)) (file_turn seed number) v.times (file_said number ((seed + number) % 2 ^ 64) small called below) few (file_asked v seed number names size h free room) refl)
+    (taken v n (file_line seed number) (line.File (name number) (content seed number)) (file_turn seed number) v.times (file_said number ((seed + number) % 2 ^ 64) small called below) few (file_asked v seed number tree size h free room) refl)
     (next w (record {
       stage = h.stage;
-      names = ap (λ (ns : List (List ℕ)). with_name ns (name number)) h.names;
+      tree = ap (λ (t : Tree). opens t ROOT (name number) (File (bytes seed number))) h.tree;
       size = ap (λ (n : ℕ). v.world.size + n) (content_size (content seed number)) ∙ ap (λ (n : ℕ). n + 9000) h.size;
       seats = h.seats;
       sessions = h.sessions;
@@ -184,32 +190,37 @@ joins_lead v h =
     (λ v3 e3 h3. join_then v3 16 4 0 0 (seats_with 3) (sessions_with 3) (standing_with 3) 3 new_seat [] h3 joins_said.1.1 refl refl (omega arith) (omega arith) (omega arith)
     (λ v4 e4 h4. no_lines v4 17 0 0 (joined_stands v4 e4 h4)))))
 
--- the names of the first so many files
-abbrev names : ℕ → List (List ℕ)
-names zero = []
-names (suc k) = with_name (names k) (name (suc k))
+-- the tree of the first so many files, whatever their contents are
+abbrev tree_of : (contents : ℕ → List ℕ) → ℕ → Tree
+tree_of contents zero = empty
+tree_of contents (suc k) = opens (tree_of contents k) ROOT (name (suc k)) (File (contents (suc k)))
+
+-- and what it is with those of a seed
+abbrev seeded : (seed : ℕ) → ℕ → Tree
+seeded seed k = tree_of (bytes seed) k
 
 IsNew : ℕ → Type 0
-IsNew k = (name_of (name (suc k)) ≡ Some (name (suc k))) × (has_name (names k) (name (suc k)) ≡ false)
+IsNew k = (name_of (name (suc k)) ≡ Some (name (suc k))) × ((contents : ℕ → List ℕ) → can_open (tree_of contents k) ROOT (name (suc k)) ≡ true)
 
 new_names : ((IsNew 0 × IsNew 1) × (IsNew 2 × IsNew 3)) × ((IsNew 4 × IsNew 5) × (IsNew 6 × IsNew 7))
 unfolding digits IsNew
-new_names = ((((refl, refl), (refl, refl)), ((refl, refl), (refl, refl))), (((refl, refl), (refl, refl)), ((refl, refl), (refl, refl))))
+new_names =
+    ((((refl, λ contents. refl), (refl, λ contents. refl)), ((refl, λ contents. refl), (refl, λ contents. refl))), (((refl, λ contents. refl), (refl, λ contents. refl)), ((refl, λ contents. refl), (refl, λ contents. refl))))
 
-next_file : (k : ℕ) (v : Timed) (n seed : ℕ) (lines : List (List ℕ)) → k < 8 → n ≤ line_most → IsNew k → Filed v (names k) (9000 * k) → ((w : Timed) → Filed w (names (suc k)) (9000 * suc k) → Leads w (n + 1) lines 0 0) → Leads v n (file_line seed (suc k) ∷ lines) 0 0
+next_file : (k : ℕ) (v : Timed) (n seed : ℕ) (lines : List (List ℕ)) → k < 8 → n ≤ line_most → IsNew k → Filed v (seeded seed k) (9000 * k) → ((w : Timed) → Filed w (seeded seed (suc k)) (9000 * suc k) → Leads w (n + 1) lines 0 0) → Leads v n (file_line seed (suc k) ∷ lines) 0 0
 unfolding IsNew
 next_file k v n seed lines low few new h next =
-    file_then v n seed (suc k) 0 0 (names k) (9000 * k) lines h (omega (arith, low)) new.0 new.1 (omega (arith, low)) few
-    (λ w g. next w (subst (λ (size : ℕ). Filed w (names (suc k)) size) (more k) g))
+    file_then v n seed (suc k) 0 0 (seeded seed k) (9000 * k) lines h (omega (arith, low)) new.0 (new.1 (bytes seed)) (omega (arith, low)) few
+    (λ w g. next w (subst (λ (size : ℕ). Filed w (seeded seed (suc k)) size) (more k) g))
   where
     more : (k : ℕ) → 9000 * k + 9000 ≡ 9000 * suc k
     more k = omega arith
 
-headed_filed : Filed headed (names 0) 0
-headed_filed = record { stage = refl; names = refl; size = refl; seats = refl; sessions = refl; standing = refl; made = refl; times = refl }
+headed_filed : Filed headed empty 0
+headed_filed = record { stage = refl; tree = refl; size = refl; seats = refl; sessions = refl; standing = refl; made = refl; times = refl }
 
-filed_joined : (v : Timed) (names : List (List ℕ)) (size : ℕ) → Filed v names size → Joined v (seats_with 0) (sessions_with 0) (standing_with 0) 0
-filed_joined v names size h = record {
+filed_joined : (v : Timed) (tree : Tree) (size : ℕ) → Filed v tree size → Joined v (seats_with 0) (sessions_with 0) (standing_with 0) 0
+filed_joined v tree size h = record {
   stage = inl h.stage;
   seats = h.seats;
   sessions = h.sessions;
@@ -229,7 +240,7 @@ files_lead seed =
     (λ v5 h5. next_file 5 v5 10 seed _ (omega arith) (omega arith) new.1.0.1 h5
     (λ v6 h6. next_file 6 v6 11 seed _ (omega arith) (omega arith) new.1.1.0 h6
     (λ v7 h7. next_file 7 v7 12 seed _ (omega arith) (omega arith) new.1.1.1 h7
-    (λ v8 h8. joins_lead v8 (filed_joined v8 (names 8) 72000 h8)))))))))
+    (λ v8 h8. joins_lead v8 (filed_joined v8 (seeded seed 8) 72000 h8)))))))))
 
 header_then : (lines : List (List ℕ)) → Leads headed 5 lines 0 0 → Leads timed_start 1 (header ++ lines) 0 0
 header_then lines h = record { world = h.world; goes = applied_then timed_start headed 1 5 header lines header_goes ∙ h.goes ∙ ap (there_at h.world) (four_more (length lines)); stands = h.stands }

@@ -1,25 +1,40 @@
 -- What a line in place asks for is within its bounds.
-use Rattle.std.proofs.Common.{◌≡◌, ℕ, List, Option, Some, None, Bool, true, false, refl, sym, subst, length}
+use Rattle.std.proofs.Common.{◌≡◌, ℕ, List, Option, Some, None, Bool, true, false, sym, subst, length}
 use Rattle.std.specs.Prelude.{nat_lt, nat_le, Result, Ok, Err, IfOk}
 use Rattle.command_text.specs.Content.{content_length}
 use Rattle.command_text.specs.declared.content.Part.{Part}
-use Rattle.std.proofs.lemmas.Bool.{ltb-false}
 use Rattle.trace_text.specs.Reading.{IsTimely}
 use Rattle.trace_text.specs.declared.line.Line.{Line}
 use Rattle.trace_text.specs.declared.line.Line.TheVariants as line
 use Rattle.trace_text.specs.declared.refusal.LineFault.{LineFault}
-use Rattle.trace_text.specs.declared.refusal.LineFault.TheVariants.{Grammar}
+use Rattle.trace_text.specs.declared.refusal.LineFault.TheVariants.{Grammar, Limit, Clock}
 use Rattle.trace_replay.specs.declared.stage.Stage.{Stage}
 use Rattle.trace_replay.specs.declared.stage.Stage.TheVariants as stage
 use Rattle.trace_replay.specs.declared.adjusting.Adjustment.TheVariants as adjustment
 use Rattle.trace_replay.specs.declared.turn.Turn.{Turn}
 use Rattle.trace_replay.specs.declared.turn.Turn.TheVariants as turn
+use Rattle.file_tree.specs.Opening.{can_open}
+use Rattle.trace_replay.specs.declared.opening.TheConstants.{ROOT}
 use Rattle.trace_replay.specs.Core.{Core, Seat, numbered}
-use Rattle.trace_replay.specs.Names.{has_name}
 use Rattle.trace_replay.specs.World.{World}
-use Rattle.trace_replay.specs.Run.{line_most, file_most, asks_if, sized, named, joins_within, joins_if, event_asks, asks_at, asks, asked}
+use Rattle.trace_replay.specs.Run.{line_most, file_most, asks_if, sized, named, joins_within, joins_if, event_asks, asks_at, asks, asks_within, asked}
 use Rattle.trace_replay.specs.Turns.{IsTurnBounded}
-use Rattle.trace_replay.proofs.Quiet.{asking, turn_is, refused_line, within}
+
+abbrev asking : Turn → Result Turn LineFault
+asking t = Ok t
+
+turn_is : (s t : Turn) → asking s ≡ asking t → s ≡ t
+turn_is s t e = cc
+
+refused_line : {A : Type 0} (f : LineFault) (t : Turn) → Err f ≡ asking t → A
+refused_line f t e = absurd cc
+
+within : (b : Bool) (r : Result Turn LineFault) (t : Turn) → asks_within b r ≡ asking t → r ≡ asking t
+within true r t e = e
+within false (Err Grammar) t e = refused_line Grammar t e
+within false (Err (Limit w)) t e = refused_line _ t e
+within false (Err (Clock f)) t e = refused_line _ t e
+within false (Ok s) t e = refused_line _ t e
 
 taken : (s t : Turn) → IsTurnBounded s → asking s ≡ asking t → IsTurnBounded t
 taken s t h e = subst (λ (x : Turn). IsTurnBounded x) (turn_is s t e) h
@@ -54,17 +69,17 @@ event k (line.Clear w) t h e = when _ (turn.Adjust (adjustment.Clear w)) t tt e
 event k (line.Evict c file) t h e = when _ (turn.Adjust (adjustment.Evict c file)) t tt e
 event k l t h e = refused_line Grammar t e
 
-of_size : (long much : Bool) (name : List ℕ) (content : List Part) (t : Turn) → nat_lt file_most (content_length content) ≡ long → sized long much (turn.File name content) ≡ asking t → IsTurnBounded t
-of_size true much name content t s e = refused_line _ t e
-of_size false true name content t s e = refused_line _ t e
-of_size false false name content t s e = taken (turn.File name content) t (ltb-false file_most (content_length content) s) e
+of_size : (long much : Bool) (name : List ℕ) (content : List Part) (t : Turn) → sized long much (turn.File name content) ≡ asking t → IsTurnBounded t
+of_size true much name content t e = refused_line _ t e
+of_size false true name content t e = refused_line _ t e
+of_size false false name content t e = taken (turn.File name content) t tt e
 
-file : (is_taken : Bool) (size : ℕ) (name : List ℕ) (content : List Part) (t : Turn) → named is_taken size name content ≡ asking t → IsTurnBounded t
-file true size name content t e = refused_line Grammar t e
-file false size name content t e = of_size (nat_lt file_most (content_length content)) _ name content t refl e
+file : (is_free : Bool) (size : ℕ) (name : List ℕ) (content : List Part) (t : Turn) → named is_free size name content ≡ asking t → IsTurnBounded t
+file false size name content t e = refused_line Grammar t e
+file true size name content t e = of_size (nat_lt file_most (content_length content)) _ name content t e
 
 at_files : (w : World) (l : Line) (t : Turn) → IsTimely l → asks_at w stage.Files l ≡ asking t → IsTurnBounded t
-at_files w (line.File name content) t h e = file (has_name w.names name) w.size name content t e
+at_files w (line.File name content) t h e = file (can_open w.core.server.tree ROOT name) w.size name content t e
 at_files w l t h e = event w.core l t h e
 
 at_version : (w : World) (l : Line) (t : Turn) → asks_at w stage.Version l ≡ asking t → IsTurnBounded t

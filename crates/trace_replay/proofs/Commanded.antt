@@ -4,12 +4,14 @@ use Rattle.std.specs.Prelude.{slice_get, slice_set}
 use native.Mathlib.Numerals.{unary_clauses}
 use Rattle.command_text.specs.declared.command.Command.{Command}
 use Rattle.command_text.specs.declared.command.Command.TheVariants as command
-use Rattle.open_close.specs.State as client
-use Rattle.open_close.specs.State.{local_at}
-use Rattle.open_close.specs.Step.{command_step, on_local, closes, asks_temp, may_ask}
-use Rattle.open_close.specs.declared.task.Local.{Local}
-use Rattle.open_close.specs.declared.task.Task.{Task}
-use Rattle.open_close.specs.declared.step.ClientStep.{ClientStep}
+use Rattle.client_state.specs.State as client
+use Rattle.client_state.specs.State.{local_at}
+use Rattle.open_close.specs.Step.{command_step}
+use Rattle.client_state.specs.Ending.{on_local, may_ask}
+use Rattle.file_close.specs.Storing.{closes, asks_temp}
+use Rattle.client_state.specs.declared.task.Local.{Local}
+use Rattle.client_state.specs.declared.task.Task.{Task}
+use Rattle.client_state.specs.declared.step.ClientStep.{ClientStep}
 use Rattle.register_model.specs.declared.op.Op.{Op}
 use Rattle.register_model.specs.declared.op.Word.TheVariants as word
 use Rattle.trace_replay.specs.Commands.{word_of, file_of, value_at_begin}

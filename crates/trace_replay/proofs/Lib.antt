@@ -3,7 +3,6 @@ pub mod Keys
 pub mod Numbers
 pub mod Pieces
 pub mod Rounds
-pub mod Quiet
 pub mod Bounded
 pub mod Applied
 mod Giving

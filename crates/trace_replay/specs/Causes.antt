@@ -11,8 +11,8 @@ use Rattle.wire.specs.Parse.{parse_of}
 use Rattle.wire.specs.declared.message.Body.{Body}
 use Rattle.wire.specs.declared.message.Body.TheVariants as body
 use Rattle.wire.specs.declared.message.Message.TheVariants as message
-use Rattle.open_close.specs.State.{pending, has_call}
-use Rattle.open_close.specs.Local.{local_most, written_size, written, truncated, part_of}
+use Rattle.client_state.specs.State.{pending, has_call}
+use Rattle.client_state.specs.Local.{local_most, written_size, written, truncated, part_of}
 use Rattle.server_core.specs.Closing.{is_full}
 use Rattle.server_core.specs.declared.journal.Entry.{Entry}
 use Rattle.register_model.specs.Register.{Absent, content_of}

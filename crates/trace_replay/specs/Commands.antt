@@ -2,8 +2,8 @@
 use Rattle.std.specs.Prelude.{ℕ, List, [], Option, Some, None}
 use Rattle.command_text.specs.declared.command.Command.{Command}
 use Rattle.command_text.specs.declared.command.Command.TheVariants as command
-use Rattle.open_close.specs.State as client
-use Rattle.open_close.specs.declared.step.Ended.{Ended}
+use Rattle.client_state.specs.State as client
+use Rattle.client_state.specs.declared.step.Ended.{Ended}
 use Rattle.register_model.specs.declared.op.Word.{Word}
 use Rattle.register_model.specs.declared.op.Word.TheVariants as word
 

@@ -15,9 +15,10 @@ use Rattle.server_core.specs.declared.event.Sent.{Sent}
 use Rattle.server_core.specs.declared.event.ServerStep.{ServerStep}
 use Rattle.server_core.specs.declared.event.Told.{Told}
 use Rattle.server_core.specs.declared.event.Told.TheVariants as told
-use Rattle.open_close.specs.State as client
-use Rattle.open_close.specs.Step.{command_step, got_step, joined, cut}
-use Rattle.open_close.specs.declared.step.ClientStep.{ClientStep}
+use Rattle.client_state.specs.State as client
+use Rattle.open_close.specs.Step.{command_step, got_step}
+use Rattle.client_state.specs.Ending.{joined, cut}
+use Rattle.client_state.specs.declared.step.ClientStep.{ClientStep}
 use Rattle.register_model.specs.declared.op.Op.{Op}
 use Rattle.register_model.specs.declared.op.Word.{Word}
 use Rattle.trace_text.specs.declared.line.Who.TheVariants as who

@@ -11,10 +11,11 @@ use Rattle.wire.specs.declared.message.Body.{Body}
 use Rattle.wire.specs.declared.message.Body.TheVariants as body
 use Rattle.wire.specs.declared.message.Message.{Message}
 use Rattle.wire.specs.declared.message.Message.TheVariants as message
-use Rattle.open_close.specs.Opening.{calls_most}
+use Rattle.client_state.specs.Limits.{calls_most}
 use Rattle.server_core.specs.declared.change.Change.{Change}
+use Rattle.server_core.specs.declared.change.Wanted.TheVariants as wanted
 use Rattle.server_core.specs.declared.journal.Entry.{Entry}
-use Rattle.server_core.specs.declared.journal.EntryKind.TheVariants as kind
+use Rattle.file_tree.specs.declared.entry.EntryKind.TheVariants as kind
 use Rattle.register_model.specs.Register.{changes}
 use Rattle.register_model.specs.declared.op.Op.{Op}
 use Rattle.register_model.specs.declared.op.Outcome.{Outcome}
@@ -162,7 +163,9 @@ pub record IsSettled (book : Book) (number step : ℕ) : Type 0 where
   pub op_is : slice_get book.ops place ≡ Some op
   pub word_is : op.word ≡ word.Close
   pub point_is : op.point ≡ Some step
-  pub value_is : Or book (op.value ≡ change.content)
+  pub content : List ℕ
+  pub what_is : change.what ≡ wanted.Content content
+  pub value_is : Or book (op.value ≡ content)
   pub owner : session.owner ≡ op.client
   pub closing : session.closing ≡ Some place
 

@@ -7,7 +7,7 @@ use Rattle.hash_calls.specs.declared.message.Lb.TheVariants as lb
 use Rattle.nfs3_calls.specs.declared.message.Nfs.TheVariants as nfs
 use Rattle.wire.specs.declared.message.Body.TheVariants as body
 use Rattle.wire.specs.declared.message.Message.TheVariants as message
-use Rattle.open_close.specs.Shape.{with_pairs}
+use Rattle.file_open.specs.Shape.{with_pairs}
 use Rattle.register_model.specs.declared.op.Op.{Op}
 use Rattle.register_model.specs.declared.op.Traffic.{Traffic}
 use Rattle.trace_replay.specs.Ops.{no_traffic}

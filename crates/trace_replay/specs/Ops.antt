@@ -3,14 +3,14 @@ use Rattle.std.specs.Prelude.{ℕ, ◌+◌, List, [], ◌∷◌, find, Option, S
 use Rattle.std.specs.Option.{option_map}
 use Rattle.xdr_codec.specs.Status.{status_number}
 use Rattle.xdr_codec.specs.declared.status.Status.TheVariants as status
-use Rattle.open_close.specs.State as client
-use Rattle.open_close.specs.declared.step.ClientStep.{ClientStep}
-use Rattle.open_close.specs.declared.step.BadPeer.{BadPeer}
-use Rattle.open_close.specs.declared.step.BadPeer.TheVariants as bad
-use Rattle.open_close.specs.declared.step.Counts.{Counts}
-use Rattle.open_close.specs.declared.step.Ended.{Ended}
-use Rattle.open_close.specs.declared.step.Outcome.{Outcome}
-use Rattle.open_close.specs.declared.step.Outcome.TheVariants as outcome
+use Rattle.client_state.specs.State as client
+use Rattle.client_state.specs.declared.step.ClientStep.{ClientStep}
+use Rattle.client_state.specs.declared.step.BadPeer.{BadPeer}
+use Rattle.client_state.specs.declared.step.BadPeer.TheVariants as bad
+use Rattle.client_state.specs.declared.step.Counts.{Counts}
+use Rattle.client_state.specs.declared.step.Ended.{Ended}
+use Rattle.client_state.specs.declared.step.Outcome.{Outcome}
+use Rattle.client_state.specs.declared.step.Outcome.TheVariants as outcome
 use Rattle.register_model.specs.declared.op.Op.{Op}
 use Rattle.register_model.specs.declared.op.Outcome.{Outcome as Told}
 use Rattle.register_model.specs.declared.op.Outcome.TheVariants as told

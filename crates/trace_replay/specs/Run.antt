@@ -15,13 +15,15 @@ use Rattle.trace_text.specs.declared.refusal.Limit.TheVariants as limit
 use Rattle.trace_text.specs.declared.refusal.LineFault.{LineFault}
 use Rattle.trace_text.specs.declared.refusal.LineFault.TheVariants.{Grammar, Limit}
 use Rattle.server_core.specs.Step.{opens_with}
+use Rattle.file_tree.specs.Opening.{can_open}
+use Rattle.tree_nodes.specs.declared.node.Body.TheVariants.{File}
+use Rattle.trace_replay.specs.declared.opening.TheConstants.{ROOT}
 use Rattle.trace_replay.specs.declared.fault.Refused.{Refused}
 use Rattle.trace_replay.specs.declared.stage.Stage.{Stage}
 use Rattle.trace_replay.specs.declared.stage.Stage.TheVariants as stage
 use Rattle.trace_replay.specs.declared.adjusting.Adjustment.TheVariants as adjustment
 use Rattle.trace_replay.specs.declared.turn.Turn.{Turn}
 use Rattle.trace_replay.specs.declared.turn.Turn.TheVariants as turn
-use Rattle.trace_replay.specs.Names.{has_name, with_name}
 use Rattle.trace_replay.specs.Core.{Core, Seat, new_seat, Event, Event.Joins, Event.Does, Event.Settles, Event.Cuts, Event.Hangs, numbered}
 use Rattle.trace_replay.specs.World.{World, Wire, start, happened, adjusts}
 use Rattle.trace_replay.specs.Delivery.{up_some, down_some, up_length, down_length, passes}
@@ -45,16 +47,13 @@ sessions_most = SESSIONS_MOST
 
 -- ---- the opening tree
 
--- a file of the root gets the next id, from 2, and version 1
+-- a file of the root, which gets the tree's next id, and version 1
 abbrev pub with_file : World → List ℕ → List ℕ → World
-with_file w name content =
-    let id = length w.opening + 2 in
-    record w {
-      names = with_name w.names name;
-      opening = w.opening ++ record { file = id; content = content } ∷ [];
-      size = w.size + length content;
-      core = record w.core { server = opens_with w.core.server (record { id = id; version = 1; content = content }) };
-    }
+with_file w name content = record w {
+  opening = w.opening ++ record { file = w.core.server.tree.next; content = content } ∷ [];
+  size = w.size + length content;
+  core = record w.core { server = opens_with w.core.server ROOT name (File content) };
+}
 
 -- so many clients, none of which has joined
 abbrev pub with_clients : World → (count : ℕ) → World
@@ -73,9 +72,9 @@ sized false true t = Err (Limit limit.Tree)
 sized false false t = Ok t
 
 -- a file whose name is free
-abbrev pub named : (is_taken : Bool) (size : ℕ) → List ℕ → List Part → Result Turn LineFault
-named true size name content = Err Grammar
-named false size name content = sized (nat_lt file_most (content_length content)) (nat_lt tree_most (size + content_length content)) (turn.File name content)
+abbrev pub named : (is_free : Bool) (size : ℕ) → List ℕ → List Part → Result Turn LineFault
+named false size name content = Err Grammar
+named true size name content = sized (nat_lt file_most (content_length content)) (nat_lt tree_most (size + content_length content)) (turn.File name content)
 
 -- a client that isn't joined joins, where a further session can stand
 abbrev pub joins_within : (has_room : Bool) → (client : ℕ) → Result Turn LineFault
@@ -120,7 +119,7 @@ asks_at w stage.Version line.Version = Ok (turn.At stage.Term)
 asks_at w stage.Term (line.Term t) = Ok (turn.At stage.Drift)
 asks_at w stage.Drift (line.Drift d) = Ok (turn.At stage.Clients)
 asks_at w stage.Clients (line.Clients n) = Ok (turn.Clients n)
-asks_at w stage.Files (line.File name content) = named (has_name w.names name) w.size name content
+asks_at w stage.Files (line.File name content) = named (can_open w.core.server.tree ROOT name) w.size name content
 asks_at w stage.Files l = event_asks w.core l
 asks_at w stage.Events l = event_asks w.core l
 asks_at w s l = Err Grammar

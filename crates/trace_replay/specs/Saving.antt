@@ -18,8 +18,8 @@ use Rattle.wire.specs.declared.message.Message.{Message}
 use Rattle.wire.specs.declared.message.Message.TheVariants as message
 use Rattle.temp_files.specs.Temps.{temp_at}
 use Rattle.server_core.specs.Closing.{cond_fault, bytes_known}
-use Rattle.open_close.specs.Caching.{content_in}
-use Rattle.open_close.specs.Opening.{lease_call, hash_call}
+use Rattle.file_open.specs.Caching.{content_in}
+use Rattle.file_open.specs.Opening.{lease_call, hash_call}
 use Rattle.register_model.specs.declared.op.Op.{Op}
 use Rattle.register_model.specs.declared.op.Outcome.TheVariants as told
 use Rattle.register_model.specs.declared.op.Word.TheVariants as word
@@ -48,7 +48,7 @@ pub record TakesName (m : Moment) (session xid : ℕ) (a : CondPiece) : Type 0 w
 
 -- the bytes that the server's files then have at the place that its index has for the digest, if they are the chunk's
 abbrev pub known_at : Moment → CondPiece → Option (List ℕ)
-known_at m a = bytes_known m.before.server.files a (place_of m.before.server.index.pairs (key_of a.digest))
+known_at m a = bytes_known m.before.server.tree a (place_of m.before.server.index.pairs (key_of a.digest))
 
 -- what is told of them: that the chunk isn't known exactly where there are none
 abbrev pub name_answer : (known : Option (List ℕ)) → Answer Unit Unit

@@ -5,9 +5,11 @@ use Rattle.chunk_index.specs.Index.{Pairs, key_of}
 use Rattle.xdr_codec.specs.declared.answer.Answer.TheVariants.{Done, Failed}
 use Rattle.xdr_codec.specs.declared.status.Status.TheVariants as status
 use Rattle.hash_calls.specs.declared.call.CondPiece.{CondPiece}
-use Rattle.open_close.specs.Opening.{lease_call, hash_call}
+use Rattle.file_open.specs.Opening.{lease_call, hash_call}
 use Rattle.server_core.specs.State as server
 use Rattle.server_core.specs.Step.{opens_with}
+use Rattle.tree_nodes.specs.declared.node.Body.TheVariants.{File}
+use Rattle.trace_replay.specs.declared.opening.TheConstants.{ROOT}
 use Rattle.trace_replay.specs.Core.{new_seat, Event.Settles}
 use Rattle.trace_replay.specs.Trail.{Moment, heard_hashed}
 use Rattle.trace_replay.specs.Saving.{known_at, name_answer, first_call}
@@ -16,7 +18,7 @@ use Rattle.trace_replay.specs.Saving.{known_at, name_answer, first_call}
 abbrev holds : Pairs → Moment
 holds pairs = record {
   before = record {
-    server = record (opens_with server.empty (record { id = 2; version = 1; content = codes "abc" })) { index = record server.empty.index { pairs = pairs } };
+    server = record (opens_with server.empty ROOT (codes "a") (File (codes "abc"))) { index = record server.empty.index { pairs = pairs } };
     seats = [];
     sessions = [];
     steps = 0;

@@ -10,16 +10,16 @@ use Rattle.wire.specs.declared.message.Pending.{Pending}
 use Rattle.wire.specs.declared.message.Message.TheVariants as message
 use Rattle.wire.specs.declared.message.Message.{Message}
 use Rattle.wire.specs.declared.message.Waiting.{Waiting}
-use Rattle.open_close.specs.State.{waiting_of, calls_of, has_call}
+use Rattle.client_state.specs.State.{waiting_of, calls_of, has_call}
 use Rattle.client_cache.specs.Cache.{content_of}
 use Rattle.client_cache.specs.declared.kept.Content.{Content}
 use Rattle.register_model.specs.Register.{History, IsLegal, Value}
 use Rattle.register_model.specs.declared.op.Op.{Op}
 use Rattle.register_model.specs.declared.op.Outcome.TheVariants as told
 use Rattle.register_model.specs.declared.op.Word.TheVariants as word
-use Rattle.server_core.specs.State.{file_at}
-use Rattle.server_core.specs.declared.file.File.{File}
+use Rattle.server_core.specs.State.{File, file_at}
 use Rattle.server_core.specs.declared.change.Change.{Change}
+use Rattle.server_core.specs.declared.change.Wanted.TheVariants as wanted
 use Rattle.trace_replay.specs.declared.fault.Refused.{Refused}
 use Rattle.trace_replay.specs.declared.fault.TraceErr.{TraceErr}
 use Rattle.trace_replay.specs.declared.fault.TraceErr.TheVariants as errors
@@ -41,8 +41,8 @@ abbrev pub Gives : Result History TraceErr → Result World Refused → Type 0
 Gives (Ok h) ran = (w : World) × (ran ≡ Ok w) × (h ≡ history_of w)
 Gives (Err e) ran = Fails e ran
 
--- A change that waits has the content that its close is to store: the one of the value of a close that is still running, or was lost, which
--- had sent all of its traffic. It came on a session of the close's client that the server did not see lost, and it is of the last close that
+-- A change that waits is to give its file a content, the one that its close is to store: that of the value of a close that is still running, or
+-- was lost, which had sent all of its traffic. It came on a session of the close's client that the server did not see lost, and it is of the last close that
 -- sent calls there.
 pub record HoldsValue (book : Book) (w : World) (c : Change) : Type 0 where
   pub place : ℕ
@@ -52,8 +52,10 @@ pub record HoldsValue (book : Book) (w : World) (c : Change) : Type 0 where
   pub file_is : op.file ≡ c.file
   pub untold : (op.outcome ≡ told.Running) ⊎ (op.outcome ≡ told.Lost)
   pub pointless : op.point ≡ None
-  pub size_is : length op.value ≡ length c.content
-  pub value_is : Or book (op.value ≡ c.content)
+  pub content : List ℕ
+  pub what_is : c.what ≡ wanted.Content content
+  pub size_is : length op.value ≡ length content
+  pub value_is : Or book (op.value ≡ content)
   pub traffic_is : op.traffic ≡ stored_traffic op.value (deals_of op book.moments)
   pub session : Session
   pub session_is : numbered w.core.sessions c.session ≡ Some session
@@ -73,7 +75,7 @@ HoldsFile book w file (Some f) (Some content) = Or book (f.content ≡ content) 
 HoldsFile book w file f v = ⊥
 
 abbrev pub HoldsFiles : Book → World → Type 0
-HoldsFiles book w = (file : ℕ) → HoldsFile book w file (file_at w.core.server.files file) (value_at book file (w.core.steps + 1))
+HoldsFiles book w = (file : ℕ) → HoldsFile book w file (file_at w.core.server.tree file) (value_at book file (w.core.steps + 1))
 
 -- each content that a client keeps of a file is what the file had in that version
 abbrev pub HoldsContents : Book → World → Type 0
@@ -83,7 +85,7 @@ HoldsContents book w = (c file : ℕ) (seat : Seat) (kept : Content) → numbere
 abbrev pub IsRead : Waiting → Message → Type 0
 IsRead waiting m = MessageFits m × (parse_of waiting (message_spell m) ≡ Ok m)
 
--- a call that the server does
+-- a call that these clients make
 abbrev pub IsServed : Message → Type 0
 IsServed (message.Call xid (body.Lb (lb.GetLease handle))) = Unit {0}
 IsServed (message.Call xid (body.Lb (lb.GetHash a))) = Unit {0}

@@ -10,15 +10,15 @@ use Rattle.wire.specs.Parse.{parse_of}
 use Rattle.wire.specs.declared.message.Message.{Message}
 use Rattle.wire.specs.declared.message.Message.TheVariants as message
 use Rattle.wire.specs.declared.fault.WireFault.{WireFault}
-use Rattle.open_close.specs.State.{State, waiting_of, pending, has_call}
+use Rattle.client_state.specs.State.{State, waiting_of, pending, has_call}
 use Rattle.chunk_cut.specs.declared.chunk.Chunk.{Chunk}
 use Rattle.chunk_index.specs.Index.{Indexed}
 use Rattle.client_cache.specs.Cache.{Entries}
-use Rattle.open_close.specs.Caching.{from_index}
+use Rattle.file_open.specs.Caching.{from_index}
 use Rattle.open_close.specs.Hashed.{client_hashed}
-use Rattle.open_close.specs.Looking.{reading}
-use Rattle.open_close.specs.Opening.{reads_all, looked_up}
-use Rattle.open_close.specs.declared.task.Fetch.{Fetch}
+use Rattle.file_open.specs.Looking.{reading}
+use Rattle.file_open.specs.Opening.{reads_all, looked_up}
+use Rattle.client_state.specs.declared.task.Fetch.{Fetch}
 use Rattle.server_core.specs.Hashed.{server_hashed}
 use Rattle.register_model.specs.declared.op.Opening.{Opening}
 use Rattle.trace_replay.specs.declared.turn.Turn.{Turn}

@@ -12,9 +12,9 @@ use Rattle.xdr_codec.specs.declared.status.Status.TheVariants as status
 use Rattle.hash_calls.specs.declared.message.Lb.TheVariants as lb
 use Rattle.wire.specs.declared.message.Body.TheVariants as body
 use Rattle.wire.specs.declared.message.Message.TheVariants as message
-use Rattle.open_close.specs.Closing.{cond_call, temp_call}
-use Rattle.open_close.specs.Opening.{hash_call, read_call}
-use Rattle.open_close.specs.State as client
+use Rattle.file_close.specs.Closing.{cond_call, temp_call}
+use Rattle.file_open.specs.Opening.{hash_call, read_call}
+use Rattle.client_state.specs.State as client
 use Rattle.server_core.specs.State as server
 use Rattle.register_model.specs.declared.op.Op.{Op}
 use Rattle.register_model.specs.declared.op.Word.TheVariants as word

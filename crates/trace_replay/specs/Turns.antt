@@ -1,40 +1,20 @@
 -- What a line that is applied makes of the world, or why it is refused.
-use Rattle.std.specs.Prelude.{◌≡◌, ℕ, ◌<◌, ◌≤◌, ◌^◌, List, [], Ok, Err}
-use Rattle.command_text.specs.Content.{content_length}
+use Rattle.std.specs.Prelude.{◌≡◌, ℕ, ◌<◌, ◌^◌, Ok, Err}
 use Rattle.trace_text.specs.declared.line.Line.{Line}
-use Rattle.server_core.specs.declared.change.Change.{Change}
 use Rattle.trace_replay.specs.declared.fault.TraceErr.{TraceErr}
 use Rattle.trace_replay.specs.declared.fault.TraceErr.TheVariants as errors
 use Rattle.trace_replay.specs.declared.stage.Stage.{Stage}
 use Rattle.trace_replay.specs.declared.stage.Stage.TheVariants as stage
 use Rattle.trace_replay.specs.declared.turn.Turn.{Turn}
 use Rattle.trace_replay.specs.declared.turn.Turn.TheVariants as turn
-use Rattle.trace_replay.specs.World.{World}
-use Rattle.trace_replay.specs.Run.{file_most}
 use Rattle.trace_replay.specs.Timed.{Timed, Times, timed_asked, timed_turn}
 
--- a content within the limit of a file, and a reading of the server's clock that has at most 63 bits
+-- a reading of the server's clock that has at most 63 bits
 abbrev pub IsTurnBounded : Turn → Type 0
-IsTurnBounded (turn.File name content) = content_length content ≤ file_most
 IsTurnBounded (turn.Up session amount now) = now < 2 ^ 63
 IsTurnBounded (turn.Settle now) = now < 2 ^ 63
 IsTurnBounded (turn.Pass session rounds server at) = server < 2 ^ 63
 IsTurnBounded t = Unit {0}
-
--- before the events no change waits
-abbrev pub IsQuietAt : Stage → List Change → Type 0
-IsQuietAt stage.Events waiting = Unit {0}
-IsQuietAt s waiting = waiting ≡ []
-
-abbrev pub IsQuiet : World → Type 0
-IsQuiet w = IsQuietAt w.stage w.core.server.waiting
-
--- what comes before the events is taken while no change waits
-abbrev pub IsTurnQuiet : World → Turn → Type 0
-IsTurnQuiet w (turn.At s) = w.core.server.waiting ≡ []
-IsTurnQuiet w (turn.Clients count) = w.core.server.waiting ≡ []
-IsTurnQuiet w (turn.File name content) = w.core.server.waiting ≡ []
-IsTurnQuiet w t = Unit {0}
 
 -- which lines may come after a turn: once an event came, events alone
 abbrev pub stage_after : Stage → Turn → Stage

@@ -25,9 +25,7 @@ new_wire = record { up = []; down = []; server_end = nothing_read; client_end = 
 pub record World : Type 0 where
   -- which lines may come next
   pub stage : Stage
-  -- the names of the files that the trace opens with, in order
-  pub names : List (List ℕ)
-  -- those files, and the bytes of their contents together
+  -- the files that the trace opens with, and the bytes of their contents together
   pub opening : List Opening
   pub size : ℕ
   pub core : Core
@@ -37,7 +35,6 @@ pub record World : Type 0 where
 abbrev pub start : World
 start = record {
   stage = stage.Version;
-  names = [];
   opening = [];
   size = 0;
   core = record { server = server.empty; seats = []; sessions = []; steps = 0; ops = []; entries = [] };

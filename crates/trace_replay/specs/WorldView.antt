@@ -6,7 +6,7 @@ use Rattle.trace_replay.specs.World.{World}
 use Rattle.trace_replay.specs.Timed.{Times, Timed}
 
 abbrev pub world_of : WorldState → World
-world_of w = record { stage = w.stage; names = w.names; opening = w.opening.items; size = w.size; core = core_of w.core; wires = w.wires.items }
+world_of w = record { stage = w.stage; opening = w.opening.items; size = w.size; core = core_of w.core; wires = w.wires.items }
 
 abbrev pub times_of : TimeFields → Times
 times_of t = record { term = t.term; clocks = t.clocks }

@@ -2,7 +2,7 @@
 //! that makes of the two ends: no step, and nothing is sent.
 
 ghost use Rattle.std.specs.Prelude.{◌≡◌, OnOk};
-ghost use Rattle.open_close.specs.State.{forged, index_cleared, evicted};
+ghost use Rattle.client_state.specs.State.{forged, index_cleared, evicted};
 ghost use Rattle.trace_replay.specs.Core.{numbered, with_client, adjusted};
 ghost use Rattle.trace_replay.specs.View.{core_of};
 

@@ -1,20 +1,19 @@
 //! What the lines of a trace do to a world. `specs/Run.antt` says what each is.
 
-ghost use Rattle.std.specs.Prelude.{◌≡◌, ◌≤◌, ◌+◌, IfOk, OnOk, length, []};
-ghost use Rattle.command_text.specs.Content.{content_length, content_bytes};
-ghost use Rattle.trace_replay.specs.Run.{file_most, with_file, with_clients, turned};
-ghost use Rattle.trace_replay.specs.Turns.{IsTurnBounded, IsQuiet, IsTurnQuiet};
+ghost use Rattle.std.specs.Prelude.{◌≡◌, ◌+◌, IfOk, OnOk, length};
+ghost use Rattle.command_text.specs.Content.{content_bytes};
+ghost use Rattle.trace_replay.specs.Run.{with_file, with_clients, turned};
+ghost use Rattle.trace_replay.specs.Turns.{IsTurnBounded};
 ghost use Rattle.trace_replay.specs.WorldView.{world_of};
 
 use crate::opening::OpeningFile;
-use crate::stage::Stage;
 use crate::state::WorldState;
 use crate::turn::{Turn, stage_after};
 use command_text::content::{Content, build};
 use lb_base::items::Bytes;
-use server_core::chunked::Chunked;
-use server_core::file::File;
 use std::alloc::{AllocError, Global};
+use tree_nodes::content::Content as Whole;
+use tree_nodes::node::Body;
 
 /// A size with so many bytes more. No tree comes to 2^64 bytes, so there it is want of memory.
 fn size_with(size: u64, content: &Bytes) -> Result<u64, AllocError>
@@ -24,74 +23,45 @@ fn size_with(size: u64, content: &Bytes) -> Result<u64, AllocError>
 }
 
 impl WorldState {
-    /// A file of the root gets the next id, from 2, and version 1. Its content is here as bytes, for
+    /// A file of the root gets the tree's next id, and version 1. Its content is here as bytes, for
     /// the server, and in parts.
     fn with_file(
         &mut self,
         alloc: Global,
-        name: &Bytes,
+        name: Bytes,
         bytes: Bytes,
         content: Content,
     ) -> Result<(), AllocError>
-        requires same { bytes ≡ content_bytes content }
-        requires size { length bytes ≤ file_most }
-        requires quiet { self.old.core.server.waiting ≡ [] }
-        ensures { OnOk result (world_of self.new ≡ with_file (world_of self.old) name.now (content_bytes content)) }
+        requires { bytes ≡ content_bytes content }
+        ensures { OnOk result (world_of self.new ≡ with_file (world_of self.old) name (content_bytes content)) }
     {
         let size = size_with(self.size, &bytes)?;
-        let id = self.opening.len() as u64 + 2;
-        let whole = Chunked::new(alloc, bytes)?;
-        self.names.add(alloc, name.as_slice())?;
-        self.core.add_file(File {
-            id,
-            version: 1,
-            content: whole,
-        })?;
+        let id = self.core.server.next_id();
+        let whole = Whole::new(alloc, bytes)?;
+        self.core.open(name, Body::File(whole))?;
         self.opening.push(OpeningFile::new(id, content))?;
         self.size = size;
         Ok(())
     }
 
-    /// A file of this name and content, which is within the limit of a file.
-    fn builds(&mut self, alloc: Global, name: &Bytes, content: Content) -> Result<(), AllocError>
-        requires size { content_length content ≤ file_most }
-        requires quiet { self.old.core.server.waiting ≡ [] }
-        ensures { OnOk result (world_of self.new ≡ with_file (world_of self.old) name.now (content_bytes content)) }
+    /// A file of this name and content.
+    fn builds(&mut self, alloc: Global, name: Bytes, content: Content) -> Result<(), AllocError>
+        ensures { OnOk result (world_of self.new ≡ with_file (world_of self.old) name (content_bytes content)) }
     {
         let bytes = build(alloc, &content)?;
         self.with_file(alloc, name, bytes, content)
     }
 
-    /// What a line in place asks for. Before the events no change waits then, and where memory ran
-    /// out the events have come.
-    #[tactic(auto, using(crate::proofs::Quiet::turned_quiet))]
-    pub fn take(&mut self, alloc: Global, turn: Turn) -> Result<(), AllocError>
-        requires bounded { IsTurnBounded turn }
-        requires before { IsQuiet (world_of self.old) }
-        requires quiet { IsTurnQuiet (world_of self.old) turn }
-        ensures taken { OnOk result (world_of self.new ≡ turned (world_of self.old) turn) }
-        ensures quiet { IsQuiet (world_of self.new) }
-    {
-        match self.turn(alloc, turn) {
-            Ok(()) => Ok(()),
-            Err(error) => {
-                self.stage = Stage::Events;
-                Err(error)
-            }
-        }
-    }
-
     /// What a line in place asks for.
-    fn turn(&mut self, alloc: Global, turn: Turn) -> Result<(), AllocError>
-        requires bounded { IsTurnBounded turn }
-        requires quiet { IsTurnQuiet (world_of self.old) turn }
+    pub fn take(&mut self, alloc: Global, turn: Turn) -> Result<(), AllocError>
+        requires { IsTurnBounded turn }
         ensures { OnOk result (world_of self.new ≡ turned (world_of self.old) turn) }
     {
         self.stage = stage_after(self.stage, &turn);
         match turn {
             Turn::Skip | Turn::At(_) => Ok(()),
             Turn::Clients(count) => self.core.seat_all(alloc, count),
-            Turn::File { name, content } => self.builds(alloc, &name, content),
+            Turn::File { name, content } => self.builds(alloc, name, content),
             Turn::Join(client) => self.joins(alloc, client),
             Turn::Do {
                 client,

@@ -2,12 +2,12 @@
 //! `specs/Commands.antt` says so.
 
 ghost use Rattle.std.specs.Prelude.{◌≡◌, IfOk};
-ghost use Rattle.open_close.specs.State.{local_bytes};
+ghost use Rattle.client_state.specs.State.{local_bytes};
 ghost use Rattle.trace_replay.specs.Commands.{word_of, file_of, value_at_begin};
 
+use client_state::step::Ended;
 use command_text::command::Command;
 use open_close::client::Client;
-use open_close::step::Ended;
 use register_model::op::Word;
 use shared_bytes::SharedBytes;
 use std::alloc::AllocError;

@@ -2,11 +2,11 @@
 //! what that is.
 
 ghost use Rattle.std.specs.Prelude.{◌≡◌, [], None};
-ghost use Rattle.open_close.specs.declared.step.ClientStep.{ClientStep as Acts};
+ghost use Rattle.client_state.specs.declared.step.ClientStep.{ClientStep as Acts};
 ghost use Rattle.server_core.specs.declared.event.ServerStep.{ServerStep as Served};
 ghost use Rattle.trace_replay.specs.declared.core_step.Loss.TheVariants as losses;
 
-use open_close::step::ClientStep;
+use client_state::step::ClientStep;
 use send_list::SendList;
 use server_core::event::{Sent, ServerStep};
 use std::alloc::Global;

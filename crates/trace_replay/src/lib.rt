@@ -17,7 +17,6 @@ mod disconnecting;
 pub mod fault;
 mod hearing;
 mod joining;
-mod names;
 mod numbered;
 mod opening;
 mod ops;

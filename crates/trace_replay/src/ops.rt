@@ -8,10 +8,10 @@ ghost use Rattle.trace_replay.specs.Ops.{fault_number, told_of, has_point, taken
 
 use crate::commands::local_bytes;
 use crate::taken_call::TakenCall;
+use client_state::step;
+use client_state::step::{BadPeer, ClientStep, Counts, Ended};
 use lb_base::items::Bytes;
 use open_close::client::Client;
-use open_close::step;
-use open_close::step::{BadPeer, ClientStep, Counts, Ended};
 use register_model::op::{Op, Outcome, Traffic, Word};
 use shared_bytes::SharedBytes;
 use std::alloc::{AllocError, Global};

@@ -3,7 +3,7 @@
 ghost use Rattle.std.specs.Prelude.{◌≡◌};
 ghost use Rattle.trace_replay.specs.Ops.{place_after, place_with, closing_with};
 
-use open_close::step::Ended;
+use client_state::step::Ended;
 use register_model::op::Word;
 
 /// The place of the operation under way, after a step of its client.

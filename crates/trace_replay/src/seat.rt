@@ -3,17 +3,18 @@
 
 ghost use Rattle.std.specs.Prelude.{◌≡◌, Some, IfOk, OnOk};
 ghost use Rattle.wire.specs.Parse.{parse_of};
-ghost use Rattle.open_close.specs.State.{waiting_of, forged, index_cleared, evicted};
-ghost use Rattle.open_close.specs.Step.{command_step, got_step, joined, cut};
+ghost use Rattle.client_state.specs.State.{waiting_of, forged, index_cleared, evicted};
+ghost use Rattle.open_close.specs.Step.{command_step, got_step};
+ghost use Rattle.client_state.specs.Ending.{joined, cut};
 ghost use Rattle.trace_replay.specs.Core.{new_seat};
 ghost use Rattle.trace_replay.specs.Ops.{place_after, place_with};
 
 use crate::parsing::parse_record;
 use crate::places::{place_after, place_with};
 use chunk_index::place::Place;
+use client_state::step::ClientStep;
 use command_text::command::Command;
 use open_close::client::Client;
-use open_close::step::ClientStep;
 use std::alloc::{AllocError, Global};
 use std::marker::Model;
 

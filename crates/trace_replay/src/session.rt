@@ -7,7 +7,7 @@ ghost use Rattle.trace_replay.specs.Core.{new_session, taken_with, taken_of, ses
 use crate::numbered::place_of;
 use crate::places::closing_with;
 use crate::taken_call::TakenCall;
-use open_close::step::ClientStep;
+use client_state::step::ClientStep;
 use register_model::op::Word;
 use std::alloc::{AllocError, Global};
 use std::marker::Model;

@@ -9,7 +9,6 @@ ghost use Rattle.trace_replay.specs.WorldView.{world_of};
 
 use crate::adjusting::{Adjustment, adjust};
 use crate::core_step::CoreStep;
-use crate::names::Names;
 use crate::opening::OpeningFile;
 use crate::sending::{down_put, up_put};
 use crate::stage::Stage;
@@ -23,8 +22,6 @@ use std::alloc::{AllocError, Global};
 #[derive(Drop)]
 pub struct WorldState {
     pub stage: Stage,
-    /// The names of the files that the trace opens with.
-    pub names: Names,
     /// The files that the trace opens with.
     pub opening: Vec<OpeningFile>,
     /// The bytes of their contents together.
@@ -42,7 +39,6 @@ impl WorldState {
         let core = Core::new(alloc)?;
         Ok(WorldState {
             stage: Stage::Version,
-            names: Names::new(alloc),
             opening: Vec::new(alloc),
             size: 0,
             core,

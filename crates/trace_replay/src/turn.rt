@@ -2,7 +2,8 @@
 
 ghost use Rattle.std.specs.Prelude.{◌≡◌, true, false, nat_lt, nat_le, IfOk};
 ghost use Rattle.trace_text.specs.Reading.{IsTimely};
-ghost use Rattle.trace_replay.specs.Names.{has_name};
+ghost use Rattle.file_tree.specs.Opening.{can_open};
+ghost use Rattle.trace_replay.specs.declared.opening.TheConstants.{ROOT};
 ghost use Rattle.trace_replay.specs.Core.{numbered};
 ghost use Rattle.trace_replay.specs.World.{World};
 ghost use Rattle.trace_replay.specs.Run.{is_there, has_index, asks_if, named, joins_within, joins_if, adjust_asks, event_asks, asks_at, asks, asks_within, asked, in_header};
@@ -14,8 +15,8 @@ ghost use Rattle.trace_replay.specs.declared.adjusting.Adjustment.TheVariants as
 ghost use Rattle.trace_replay.specs.declared.turn.Turn.TheVariants as turn;
 
 use crate::adjusting::Adjustment;
-use crate::names::Names;
 use crate::numbered::place_of;
+use crate::opening::ROOT;
 use crate::seat::Seat;
 use crate::stage::Stage;
 use crate::state::WorldState;
@@ -131,7 +132,7 @@ fn header_asks(stage: Stage, line: &Line) -> Result<Turn, LineFault>
 
 /// A content within the limits of a file, and of the tree, which has so many bytes already.
 fn sized(name: Bytes, content: Content, size: u64) -> Result<Turn, LineFault>
-    ensures { result ≡ named false size name content }
+    ensures { result ≡ named true size name content }
 {
     let Some(len) = length_within(&content, FILE_MOST) else {
         return Err(LineFault::Limit(Limit::File));
@@ -143,13 +144,14 @@ fn sized(name: Bytes, content: Content, size: u64) -> Result<Turn, LineFault>
 }
 
 /// What a file asks for: its name is free, and its content within the limits.
-fn file_asks(names: &Names, size: u64, name: Bytes, content: Content) -> Result<Turn, LineFault>
-    ensures { result ≡ named (has_name names.now name) size name content }
+fn file_asks(core: &Core, size: u64, name: Bytes, content: Content) -> Result<Turn, LineFault>
+    ensures { result ≡ named (can_open (core_of core.now).server.tree ROOT name) size name content }
 {
-    if names.has(name.as_slice()) {
-        return Err(LineFault::Grammar);
+    if core.server.can_open(ROOT, name.as_slice()) {
+        sized(name, content, size)
+    } else {
+        Err(LineFault::Grammar)
     }
-    sized(name, content, size)
 }
 
 /// A client joins where a further session can stand.
@@ -342,7 +344,7 @@ fn files_asks(world: &WorldState, line: Line) -> Result<Turn, LineFault>
     ensures { result ≡ asks_at (world_of world.now) stage.Files line }
 {
     match line {
-        Line::File { name, content } => file_asks(&world.names, world.size, name, content),
+        Line::File { name, content } => file_asks(&world.core, world.size, name, content),
         line => event_asks(&world.core, line),
     }
 }

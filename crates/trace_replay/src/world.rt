@@ -35,11 +35,8 @@ impl Model for World {
     ghost Value = { Timed };
 
     ghost use Rattle.trace_replay.specs.WorldView.{world_of, timed_of};
-    ghost use Rattle.trace_replay.specs.Turns.{IsQuiet};
 
     ghost view = { λ w. timed_of w.state w.times };
-
-    ghost invariant = { λ w. IsQuiet (world_of w.state) };
 }
 
 /// A line that is refused.
@@ -65,8 +62,7 @@ impl World {
     /// every line that was read. `Refused` with that number: the line is outside the
     /// grammar or stands out of place, or breaks a limit, or else its readings break the clock rule,
     /// and the world stays as it was. `Memory`: the world may be left half-way, and is of no further
-    /// use: it is behind its files then.
-    #[tactic(auto, using(crate::proofs::Quiet::asked_quiet))]
+    /// use.
     pub fn apply(&mut self, alloc: Global, number: u64, line: Line) -> Result<(), TraceErr>
         requires { IsTimely line }
         ensures ok { OnOk result (IsApplied self.old number line self.new) }

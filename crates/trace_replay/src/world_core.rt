@@ -3,20 +3,22 @@
 
 ghost use Rattle.std.specs.Prelude.{◌≡◌, ◌+◌, ◌<◌, ◌^◌, [], ◌++◌, replicate, IfOk, OnOk};
 ghost use Rattle.server_core.specs.State.{empty};
-ghost use Rattle.server_core.specs.Step.{opens_with, IsFileBounded};
+ghost use Rattle.server_core.specs.Step.{opens_with};
+ghost use Rattle.trace_replay.specs.declared.opening.TheConstants.{ROOT};
 ghost use Rattle.trace_replay.specs.Core.{new_seat, happens, Event.Joins, Event.Does, Event.Serves, Event.Hears, Event.Settles, Event.Cuts, Event.Hangs};
 ghost use Rattle.trace_replay.specs.View.{core_of, core_step_of};
 
 use crate::core_step::CoreStep;
+use crate::opening::ROOT;
 use crate::seat::Seat;
 use crate::session::Session;
 use crate::{commanding, disconnecting, hearing, joining, serving, settling};
 use command_text::command::Command;
-use lb_base::items::Items;
+use lb_base::items::{Items, Name};
 use register_model::op::Op;
-use server_core::file::File;
 use server_core::server::Server;
 use std::alloc::{AllocError, Global};
+use tree_nodes::node::Body;
 
 /// The server, the clients, and what the history tells of them, without the bytes between them.
 #[derive(Drop)]
@@ -66,14 +68,12 @@ impl Core {
         })
     }
 
-    /// A file that the tree opens with, while no change waits. The one error is want of memory, and
-    /// all then stays as it was.
-    pub fn add_file(&mut self, file: File) -> Result<(), AllocError>
-        requires file { IsFileBounded file }
-        requires quiet { self.old.server.waiting ≡ [] }
-        ensures { OnOk result (core_of self.new ≡ record (core_of self.old) { server = opens_with (core_of self.old).server file }) }
+    /// The tree opens with a file or directory of the root, where its name is free. The one error is
+    /// want of memory, and all then stays as it was.
+    pub fn open(&mut self, name: Name, body: Body) -> Result<(), AllocError>
+        ensures { OnOk result (core_of self.new ≡ record (core_of self.old) { server = opens_with (core_of self.old).server ROOT name body }) }
     {
-        self.server.add_file(file)
+        self.server.open(ROOT, name, body)
     }
 
     /// So many clients, none of which has joined. The one error is want of memory.

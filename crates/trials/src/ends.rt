@@ -1,17 +1,15 @@
 //! What a server refuses at the edge of what it holds: it takes no memory to refuse that, and so the
 //! refusal isn't answered as want of memory.
 
-ghost use Rattle.std.specs.Prelude.{◌≡◌, ◌≤◌, [], IfOk, length};
-
 use hash_calls::call::{Commit, NewTemp, TempPiece};
 use hash_calls::message::Lb;
-use lb_base::items::{Bytes, Items};
-use server_core::chunked::Chunked;
+use lb_base::items::{Bytes, Items, Name};
 use server_core::event::{Event, ServerStep, Told};
-use server_core::file::File;
 use server_core::server::Server;
 use std::alloc::{AllocError, Global};
 use std::test::Fail;
+use tree_nodes::content::Content;
+use tree_nodes::node::Body as NodeBody;
 use wire::message::{Body, Message};
 use xdr_codec::answer::Answer;
 use xdr_codec::handle::Handle;
@@ -97,23 +95,16 @@ fn the_65th_connection_is_full(rt: HostRuntime) -> Result<(), Fail> {
 }
 
 /// So many zeros.
-fn zeros(alloc: Global, count: usize) -> Result<Bytes, AllocError>
-    ensures { IfOk result (λ bytes. length bytes ≡ count) }
-{
+fn zeros(alloc: Global, count: usize) -> Result<Bytes, AllocError> {
     Ok(Items::from_vec(vec![in alloc; 0u8; count]?))
 }
 
 /// 16 files of 67,108,864 bytes: all that a tree may have.
-fn fill(alloc: Global, server: &mut Server) -> Result<(), AllocError>
-    requires { server.old.waiting ≡ [] }
-{
-    for id in 2..18u64 {
-        let content = Chunked::new(alloc, zeros(alloc, 67_108_864)?)?;
-        server.add_file(File {
-            id,
-            version: 1,
-            content,
-        })?;
+fn fill(alloc: Global, server: &mut Server) -> Result<(), AllocError> {
+    for letter in b'a'..b'q' {
+        let content = Content::new(alloc, zeros(alloc, 67_108_864)?)?;
+        let name = Name::copy_of(alloc, &[letter])?;
+        server.open(1, name, NodeBody::File(content))?;
     }
     Ok(())
 }
