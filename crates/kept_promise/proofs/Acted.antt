@@ -1,6 +1,6 @@
 -- A client has acted on an answer: its core and its queues are those of the facts, whatever came of the answer.
 use Rattle.std.proofs.Common.{inl, inr, ◌≡◌, ℕ, ◌+◌, List, [], Option, Some, None, refl, sym, ap, ◌∙◌, subst, map}
-use Rattle.open_close.specs.State as client
+use Rattle.client_state.specs.State as client
 use Rattle.kept_promise.proofs.Common.{slice_set, Message, ClientStep, Ended, Op, TakenCall, Core, Seat, Session, CoreStep, Loss.Nothing, numbered, with_numbered, taken_of, session_of, ops_after, ops_with, acted, counted, op_ended, op_after, place_after, Book, Ask, Told, Queue, ask_message}
 use Rattle.kept_promise.proofs.Lists.{some_is, nothing_there}
 use Rattle.kept_promise.proofs.Messages.{Job, job, job_of}
@@ -87,7 +87,7 @@ leads_acted book k qs n x q ts seat c acts place ops asks kept at is owner here 
 pub place_of : (seat : Seat) (j : Job) → job seat ≡ Some j → seat.place ≡ Some j.place
 place_of seat j e = by seat.place seat.client.task e
   where
-    by : (p : Option ℕ) (o : Option Rattle.open_close.specs.declared.task.Task.Task) → job_of p o ≡ Some j → p ≡ Some j.place
+    by : (p : Option ℕ) (o : Option Rattle.client_state.specs.declared.task.Task.Task) → job_of p o ≡ Some j → p ≡ Some j.place
     by (Some p) (Some o) e = ap (λ (z : Job). Some z.place) (some_is _ j e)
     by _ _ e = nothing_there j e
 

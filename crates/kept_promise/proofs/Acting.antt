@@ -1,8 +1,8 @@
 -- A step of a client that hears an answer, or sees its connection lost: what becomes of its operation, and of its local contents.
 use Rattle.std.proofs.Common.{◌⊎◌, inl, inr, ◌≡◌, ℕ, ◌+◌, ◌<◌, List, [], Option, Some, None, refl, sym, ap, ◌∙◌, subst}
 use Rattle.command_text.specs.declared.command.Command.TheVariants as command
-use Rattle.open_close.specs.State as client
-use Rattle.open_close.specs.declared.step.Outcome.TheVariants as outcome
+use Rattle.client_state.specs.State as client
+use Rattle.client_state.specs.declared.step.Outcome.TheVariants as outcome
 use Rattle.register_model.specs.declared.op.Outcome.{Outcome as Told}
 use Rattle.register_model.specs.declared.op.Outcome.TheVariants as told
 use Rattle.register_model.specs.declared.op.Word.TheVariants as words

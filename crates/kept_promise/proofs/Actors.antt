@@ -1,12 +1,12 @@
 -- The client that acts in an event: its session, its seat and its operation.
 use Rattle.std.proofs.Common.{inl, inr, ◌≡◌, ℕ, ◌+◌, List, [], ◌∷◌, Option, Some, None, Bool, true, false, refl, sym, ap, ◌∙◌, subst, arith, ne_eqb, Result, Ok}
-use Rattle.open_close.specs.State as client
+use Rattle.client_state.specs.State as client
 use Rattle.register_model.specs.declared.op.Outcome.{Outcome}
 use Rattle.register_model.specs.declared.op.Outcome.TheVariants as told
 use Rattle.trace_replay.specs.Trail.{given_by_message, given_by_record, given_from}
-use Rattle.kept_promise.proofs.Common.{nat_tests, ◌==◌, ◌&&◌, nat_le, slice_get, is_some, not, MessageFits, message_spell, parse_of, WireFault, Message, got_step, Task, Op, Core, Seat, Session, Event.Hears, is_newest, acted, hears, hears_at, hears_if, numbered, happens, wanted_by, taken_if, taken_from, taken_by, given_by, until, Book, is_running, Told, Queue, told_message}
+use Rattle.kept_promise.proofs.Common.{nat_tests, ◌==◌, ◌&&◌, nat_le, slice_get, is_some, not, MessageFits, message_spell, parse_of, WireFault, Message, got_step, Task, Op, Core, Seat, Session, Event.Hears, is_newest, acted, hears, hears_at, hears_if, numbered, happens, wanted_by, taken_if, taken_from, taken_by, given_by, until, Book, is_running, Told, Queue, told_message, Event.Serves, server_waiting, Ask, ask_message}
 use Rattle.kept_promise.proofs.Lists.{some_is, nothing_there, same_or_not}
-use Rattle.kept_promise.proofs.Messages.{Job, job, job_of, AllTolds}
+use Rattle.kept_promise.proofs.Messages.{Job, job, job_of, AllTolds, AllAsks}
 use Rattle.kept_promise.proofs.Fits.{FitLaws}
 use Rattle.kept_promise.proofs.Moves.{expected}
 use Rattle.kept_promise.proofs.Rights.{IsRight}
@@ -14,6 +14,7 @@ use Rattle.kept_promise.proofs.Facts.{IsKept, IsSession, IsMatched}
 use Rattle.kept_promise.proofs.Turns.{also_numbered}
 use Rattle.kept_promise.proofs.RunsCarried.{Finds}
 use Rattle.kept_promise.proofs.Counted.{IsActor}
+use Rattle.kept_promise.proofs.Statements.{CallFits}
 
 -- ---- operations
 
@@ -155,3 +156,14 @@ heard_takes laws book k qs n now bytes mid kept h = ap (taken_from n bytes) h.ow
 -- and which chunks its index gives it then
 pub heard_gives : FitLaws → (book : Book) (k : Core) (qs : List Queue) (n now : ℕ) (bytes : List ℕ) (mid : List Queue) → IsKept book k qs → (h : Heard k qs n now bytes mid) → given_by k h.session.owner (Hears n now bytes) ≡ given_by_message h.seat.client (Ok (told_message h.told))
 heard_gives laws book k qs n now bytes mid kept h = ap (given_from n bytes) h.owner ∙ ap (given_by_record h.seat.client bytes) (newest_is h.seat.session n h.newest) ∙ ap (given_by_message h.seat.client) (heard_reads laws book k qs n now bytes mid kept h)
+
+-- ---- what the server reads
+
+-- a record that reaches it is read as the first call on its way
+pub serves_read : FitLaws → (book : Book) (k : Core) (qs : List Queue) (n now : ℕ) (bytes : List ℕ) (mid : List Queue) → IsKept book k qs → (f : Finds k qs (Serves n now bytes) mid) → parse_of server_waiting bytes ≡ Ok (ask_message f.1)
+serves_read laws book k qs n now bytes mid kept f =
+    let x = also_numbered qs k.sessions n f.0 (sym kept.made.1) f.3 in
+    let s = kept.sessions n x.0 f.0 x.1 f.3 in
+    let fits : AllAsks (λ a. CallFits a.xid a.call) (f.1 ∷ f.2) = subst (AllAsks (λ a. CallFits a.xid a.call)) f.4 s.ups_fit in
+    let c = laws.calls f.1.xid f.1.call fits.0 in
+    ap (parse_of server_waiting) f.5 ∙ laws.again server_waiting (ask_message f.1) c.0.0 c.1

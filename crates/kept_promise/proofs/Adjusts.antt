@@ -4,7 +4,7 @@ use Rattle.chunk_index.specs.Index.{Indexed, put, cleared}
 use Rattle.client_cache.specs.Cache.{without_content}
 use Rattle.server_core.specs.State as server
 use Rattle.server_core.specs.Step.{with_index}
-use Rattle.open_close.specs.State as client
+use Rattle.client_state.specs.State as client
 use Rattle.trace_text.specs.declared.line.Who.TheVariants as who
 use Rattle.trace_replay.specs.declared.adjusting.Adjustment.{Adjustment}
 use Rattle.trace_replay.specs.declared.adjusting.Adjustment.TheVariants as adjustment
@@ -93,7 +93,7 @@ seat_kept : (book : Book) (sessions : List Session) (i : ℕ) (c : Seat) (es : E
 seat_kept book sessions i c es ix cached h = record { session = h.session; linked = h.linked; unlinked = h.unlinked; matched = h.matched; task = h.task; trying = h.trying; xids = h.xids; next = h.next; opened = h.opened; kept = cached }
 
 server_kept : (book : Book) (s : server.State) (index : Indexed) → IsServer book s → IsServer book (with_index s index)
-server_kept book s index h = record { held = h.held; versions = h.versions; changes = h.changes; lengths = h.lengths; targets = h.targets; xids = h.xids }
+server_kept book s index h = record { held = h.held; bounded = h.bounded; plain = h.plain; commits = h.commits; changes = h.changes; bytes = h.bytes; lengths = h.lengths; targets = h.targets; xids = h.xids }
 
 -- where each content that is kept is still what its file had in its version
 pub kept_adjusted : (book : Book) (k : Core) (qs : List Queue) (index : Indexed) (seats : List Seat) → SameSeats k.seats seats → ((i : ℕ) (e : Seat) → numbered seats i ≡ Some e → Cached book e.client.cache) → IsKept book k qs → IsKept book (adjusted_core k index seats) qs

@@ -1,14 +1,14 @@
 -- An operation begins that asks the server: its first call goes up.
 use Rattle.std.proofs.Common.{◌⊎◌, inl, inr, ◌≡◌, ℕ, zero, suc, ◌+◌, ◌<◌, ◌≤◌, List, [], ◌∷◌, ◌++◌, length, Option, Some, None, Bool, true, false, refl, sym, ap, ◌∙◌, subst, arith, eq-eqb, ne_eqb, map, IsSome}
-use Rattle.open_close.specs.State as client
-use Rattle.open_close.specs.declared.task.Stage.TheVariants as stage
+use Rattle.client_state.specs.State as client
+use Rattle.client_state.specs.declared.task.Stage.TheVariants as stage
 use Rattle.register_model.specs.declared.op.Outcome.TheVariants as told
 use Rattle.register_model.specs.declared.op.Word.TheVariants as words
 use Rattle.kept_promise.proofs.Common.{nat_tests, slice_get, cond, ◌==◌, Pending, Temp, key_of, Change, Stage, content_of, Op, TakenCall, Core, Entries, Seat, Session, numbered, unless, hashed_of, Book, Call, Call.Lease, Call.Hash, Call.Read, Call.Name, Call.Send, Call.Commit, Reply, Reply.Versioned, Reply.Hashed, Reply.Bytes, Reply.Changed, Ask, Queue}
 use Rattle.kept_promise.proofs.Statements.{CallFits}
 use Rattle.kept_promise.proofs.Lists.{some_is, nothing_there, same_or_not, at_end, of_appended, false_and_true}
 use Rattle.kept_promise.proofs.Keys.{times, times_append, own, on_way, ask_key, change_key, told_key, pending_key, IsOurs, call_ours}
-use Rattle.kept_promise.proofs.Messages.{Job, job, stage_word, AllAsks, Rising, hash_offset, read_chunk, CallOf, IsAsked, AnswerOf, IsAnswer, FetchOf, IsCommit, CommitOf, IsPending, IsNamed, IsPiece, PieceOf, TempUnder, AreParts, CloseOf, Trying}
+use Rattle.kept_promise.proofs.Messages.{Job, job, stage_word, AllAsks, Rising, hash_offset, read_chunk, CallOf, IsAsked, AnswerOf, IsAnswer, FetchOf, IsCommit, CommitOf, IsPending, IsNamed, IsPiece, PieceOf, TempUnder, AreParts, CloseOf, Trying, content_wanted}
 use Rattle.kept_promise.proofs.Rights.{IsRight}
 use Rattle.kept_promise.proofs.History.{onward, goes_appended, still_appended}
 use Rattle.kept_promise.proofs.Later.{all_asks, all_tolds, same_view, cached_later}
@@ -34,7 +34,7 @@ free_commits book closing cut o contents (a ∷ us) uncut free all = by a.call a
     by (Commit temp file size) h none = nothing_there _ (sym free ∙ h.0.waited uncut)
     by _ h none = none
 
-free_waiting : (book : Book) (closing : Option ℕ) (cut : Bool) (o : Option Job) (cs : List Change) → cut ≡ false → o ≡ None → ((i : ℕ) (d : Change) → slice_get cs i ≡ Some d → IsPending book closing cut o d.xid d.file d.content) → cs ≡ []
+free_waiting : (book : Book) (closing : Option ℕ) (cut : Bool) (o : Option Job) (cs : List Change) → cut ≡ false → o ≡ None → ((i : ℕ) (d : Change) → slice_get cs i ≡ Some d → IsPending book closing cut o d.xid d.file (content_wanted d.what)) → cs ≡ []
 free_waiting book closing cut o [] uncut free all = refl
 free_waiting book closing cut o (d ∷ cs) uncut free all = nothing_there _ (sym free ∙ (all 0 d refl).waited uncut)
 

@@ -9,8 +9,8 @@ use Rattle.client_cache.specs.declared.kept.Content.{Content}
 use Rattle.client_cache.specs.declared.kept.Kept.{Kept}
 use Rattle.chunk_index.specs.Index.{Indexed, key_of, place_of}
 use Rattle.chunk_index.specs.declared.place.Place.{Place}
-use Rattle.open_close.specs.Caching.{bytes_there, with_digest, from_index}
-use Rattle.open_close.specs.Looking.{found_bytes, chunks_found}
+use Rattle.file_open.specs.Caching.{bytes_there, with_digest, from_index}
+use Rattle.file_open.specs.Looking.{found_bytes, chunks_found}
 use Rattle.trace_replay.specs.Book.{HadContent}
 use Rattle.kept_promise.proofs.Common.{nat_tests, Contains-append_left, Contains-append_right, Contains-push, ◌==◌, if◌then◌else◌, nat_le, bytes_eq, slice_get, Contains, sha1, Chunk, Book}
 use Rattle.kept_promise.proofs.Lists.{some_is, nothing_there, same_or_not}

@@ -6,8 +6,8 @@ use Rattle.server_core.specs.Answers.{chunks_told}
 use Rattle.server_core.specs.Closing.{done_unless}
 use Rattle.server_core.specs.Step.{with_told}
 use Rattle.temp_files.specs.Temps.{with_piece}
-use Rattle.open_close.specs.declared.task.Way.TheVariants as way
-use Rattle.kept_promise.proofs.Common.{slice_get, Chunk, handle_bytes, Done, Failed, Status, message_spell, MessageFits, Node, root, file, node_of, at, makes, makes_unless, writes_unless, room_fault, Temp, temp_at, with_temp, key_of, piece_fault, range_fault, insert_entry, nat_cmp, ServerStep, Indexed, File, Core, Session, Event.Serves, CoreStep, Loss.Nothing, numbered, with_numbered, unless, content_of, hashed_of, Book, Call.Lease, Call.Hash, Call.Read, Call.Make, Call.Send, Reply, Reply.Made, Reply.Stored, Ask, Told, Queue, ask_message, told_message, call_program, reply_program}
+use Rattle.client_state.specs.declared.task.Way.TheVariants as way
+use Rattle.kept_promise.proofs.Common.{slice_get, Chunk, handle_bytes, Done, Failed, Status, message_spell, MessageFits, Node, directory, file, node_of, at, makes, makes_unless, writes_unless, room_fault, Temp, temp_at, with_temp, key_of, piece_fault, range_fault, insert_entry, nat_cmp, ServerStep, Indexed, File, Core, Session, Event.Serves, CoreStep, Loss.Nothing, numbered, with_numbered, unless, content_of, hashed_of, Book, Call.Lease, Call.Hash, Call.Read, Call.Make, Call.Send, Reply, Reply.Made, Reply.Stored, Ask, Told, Queue, ask_message, told_message, call_program, reply_program, Tree}
 use Rattle.kept_promise.proofs.Statements.{CallFits, IsPlain}
 use Rattle.kept_promise.proofs.Lists.{some_is, nothing_there}
 use Rattle.kept_promise.proofs.Messages.{Job, job, stage_word, AllAsks, Rising, AreParts, IsPiece, TempUnder, AnswerOf}
@@ -140,47 +140,47 @@ rest_above book k qs n now x q a us g uncut i b at e =
     above n (c ∷ cs) top r zero b at = subst (λ (z : Ask). n ≤ z.xid) (some_is c b at) r.0
     above n (c ∷ cs) top r (suc i) b at = let le = above (c.xid + 1) cs top r.1 i b at in let f = r.0 in omega (arith, le, f)
 
-hash_wanted : (book : Book) (o : Option Job) (xid : ℕ) (files : List (ℕ × File)) (f p : ℕ) → Wanted book o xid (hash_reply files f p)
-hash_wanted book o xid files f p = tt
+hash_wanted : (book : Book) (o : Option Job) (xid : ℕ) (t : Tree) (f p : ℕ) → Wanted book o xid (hash_reply t f p)
+hash_wanted book o xid t f p = tt
 
-read_wanted : (book : Book) (o : Option Job) (xid : ℕ) (files : List (ℕ × File)) (f : ℕ) (d : Chunk) → Wanted book o xid (read_reply files f d)
-read_wanted book o xid files f d = tt
+read_wanted : (book : Book) (o : Option Job) (xid : ℕ) (t : Tree) (f : ℕ) (d : Chunk) → Wanted book o xid (read_reply t f d)
+read_wanted book o xid t f d = tt
 
 -- what a GETHASH leaves of the index
 abbrev pub hash_index : server.State → (f o : ℕ) → Indexed
-hash_index s f o = with_told s.index (chunks_told (node_of s.files (handle_bytes f)) (hash_range f o))
+hash_index s f o = with_told s.index (chunks_told (node_of s.tree (handle_bytes f)) (hash_range f o))
 
-pub serve_hash : FitLaws → (book : Book) (k : Core) (qs : List Queue) (n now : ℕ) (x : Session) (q : Queue) (xid f o : ℕ) (us : List Ask) → Given book k qs n now x q (record { xid = xid; call = Hash f o }) us → Leads book (rest_of qs n q us) (answered k n (max k.server.moment now) x (record { xid = xid; call = Hash f o }) k.server.temps (hash_index k.server f o) (hash_reply k.server.files f o))
+pub serve_hash : FitLaws → (book : Book) (k : Core) (qs : List Queue) (n now : ℕ) (x : Session) (q : Queue) (xid f o : ℕ) (us : List Ask) → Given book k qs n now x q (record { xid = xid; call = Hash f o }) us → Leads book (rest_of qs n q us) (answered k n (max k.server.moment now) x (record { xid = xid; call = Hash f o }) k.server.temps (hash_index k.server f o) (hash_reply k.server.tree f o))
 serve_hash laws book k qs n now x q xid f o us g =
     let a : Ask = record { xid = xid; call = Hash f o } in
     let h = session_in book k qs n now x q a us g in
     let fits = first_fits book k qs n now x q a us g in
-    leads_by book k qs n now x q a us k.server.temps (hash_index k.server f o) (hash_reply k.server.files f o) g (same_temps book k n x q a (hash_reply k.server.files f o) h g.kept.shelf (λ uncut. hash_wanted (onward book 1 book.ops) (job h.seat) xid k.server.files f o) (λ uncut vs e. held_still book k qs n now x q a us g (hash_reply k.server.files f o) tt tt uncut vs e) refl (hash_reply_fits laws book k.server xid f o g.kept.server fits.0 fits.1) (λ uncut. hash_told laws book k qs n now x q xid f o us h.seat g.kept h.owner (h.here uncut).0 (h.talk uncut) g.first fits g.noted))
+    leads_by book k qs n now x q a us k.server.temps (hash_index k.server f o) (hash_reply k.server.tree f o) g (same_temps book k n x q a (hash_reply k.server.tree f o) h g.kept.shelf (λ uncut. hash_wanted (onward book 1 book.ops) (job h.seat) xid k.server.tree f o) (λ uncut vs e. held_still book k qs n now x q a us g (hash_reply k.server.tree f o) tt tt uncut vs e) refl (hash_reply_fits laws book k.server xid f o g.kept.server fits.0 fits.1) (λ uncut. hash_told laws book k qs n now x q xid f o us h.seat g.kept h.owner (h.here uncut).0 (h.talk uncut) g.first fits g.noted))
 
-pub serve_read : FitLaws → (book : Book) (k : Core) (qs : List Queue) (n now : ℕ) (x : Session) (q : Queue) (xid f : ℕ) (d : Chunk) (us : List Ask) → Given book k qs n now x q (record { xid = xid; call = Read f d }) us → Leads book (rest_of qs n q us) (answered k n (max k.server.moment now) x (record { xid = xid; call = Read f d }) k.server.temps k.server.index (read_reply k.server.files f d))
+pub serve_read : FitLaws → (book : Book) (k : Core) (qs : List Queue) (n now : ℕ) (x : Session) (q : Queue) (xid f : ℕ) (d : Chunk) (us : List Ask) → Given book k qs n now x q (record { xid = xid; call = Read f d }) us → Leads book (rest_of qs n q us) (answered k n (max k.server.moment now) x (record { xid = xid; call = Read f d }) k.server.temps k.server.index (read_reply k.server.tree f d))
 serve_read laws book k qs n now x q xid f d us g =
     let a : Ask = record { xid = xid; call = Read f d } in
     let h = session_in book k qs n now x q a us g in
     let fits = first_fits book k qs n now x q a us g in
-    leads_by book k qs n now x q a us k.server.temps k.server.index (read_reply k.server.files f d) g (same_temps book k n x q a (read_reply k.server.files f d) h g.kept.shelf (λ uncut. read_wanted (onward book 1 book.ops) (job h.seat) xid k.server.files f d) (λ uncut vs e. held_still book k qs n now x q a us g (read_reply k.server.files f d) tt tt uncut vs e) refl (read_reply_fits laws book k.server xid f d g.kept.server fits.0 fits.1) (λ uncut. read_told book k qs n now x q xid f d us h.seat g.kept h.owner (h.talk uncut) g.first fits.1 g.noted))
+    leads_by book k qs n now x q a us k.server.temps k.server.index (read_reply k.server.tree f d) g (same_temps book k n x q a (read_reply k.server.tree f d) h g.kept.shelf (λ uncut. read_wanted (onward book 1 book.ops) (job h.seat) xid k.server.tree f d) (λ uncut vs e. held_still book k qs n now x q a us g (read_reply k.server.tree f d) tt tt uncut vs e) refl (read_reply_fits laws book k.server xid f d g.kept.server fits.0 fits.1) (λ uncut. read_told book k qs n now x q xid f d us h.seat g.kept h.owner (h.talk uncut) g.first fits.1 g.noted))
 
-lease_wanted : (book : Book) (o : Option Job) (xid : ℕ) (files : List (ℕ × File)) (f : ℕ) → Wanted book o xid (lease_reply files f)
-lease_wanted book o xid files f = tt
+lease_wanted : (book : Book) (o : Option Job) (xid : ℕ) (t : Tree) (f : ℕ) → Wanted book o xid (lease_reply t f)
+lease_wanted book o xid t f = tt
 
-pub serve_lease : FitLaws → (book : Book) (k : Core) (qs : List Queue) (n now : ℕ) (x : Session) (q : Queue) (xid f : ℕ) (us : List Ask) → Given book k qs n now x q (record { xid = xid; call = Lease f }) us → Leads book (rest_of qs n q us) (answered k n (max k.server.moment now) x (record { xid = xid; call = Lease f }) k.server.temps k.server.index (lease_reply k.server.files f))
+pub serve_lease : FitLaws → (book : Book) (k : Core) (qs : List Queue) (n now : ℕ) (x : Session) (q : Queue) (xid f : ℕ) (us : List Ask) → Given book k qs n now x q (record { xid = xid; call = Lease f }) us → Leads book (rest_of qs n q us) (answered k n (max k.server.moment now) x (record { xid = xid; call = Lease f }) k.server.temps k.server.index (lease_reply k.server.tree f))
 serve_lease laws book k qs n now x q xid f us g =
     let a : Ask = record { xid = xid; call = Lease f } in
     let h = session_in book k qs n now x q a us g in
     let fits = first_fits book k qs n now x q a us g in
-    leads_by book k qs n now x q a us k.server.temps k.server.index (lease_reply k.server.files f) g (same_temps book k n x q a (lease_reply k.server.files f) h g.kept.shelf (λ uncut. lease_wanted (onward book 1 book.ops) (job h.seat) xid k.server.files f) (λ uncut vs e. held_still book k qs n now x q a us g (lease_reply k.server.files f) tt tt uncut vs e) refl (lease_reply_fits laws book k.server xid f g.kept.server fits.0 fits.1) (λ uncut. lease_told laws book k qs n now x q xid f us h.seat g.kept h.owner (h.here uncut).0 (h.talk uncut) g.first fits g.noted))
+    leads_by book k qs n now x q a us k.server.temps k.server.index (lease_reply k.server.tree f) g (same_temps book k n x q a (lease_reply k.server.tree f) h g.kept.shelf (λ uncut. lease_wanted (onward book 1 book.ops) (job h.seat) xid k.server.tree f) (λ uncut vs e. held_still book k qs n now x q a us g (lease_reply k.server.tree f) tt tt uncut vs e) refl (lease_reply_fits laws book k.server xid f g.kept.server fits.0 fits.1) (λ uncut. lease_told laws book k qs n now x q xid f us h.seat g.kept h.owner (h.here uncut).0 (h.talk uncut) g.first fits g.noted))
 
 -- an answer that has nothing to tell
 pub serve_plain : FitLaws → (book : Book) (k : Core) (qs : List Queue) (n now : ℕ) (x : Session) (q : Queue) (a : Ask) (us : List Ask) (index : Indexed) (r : Reply) → (g : Given book k qs n now x q a us) → (x.cut ≡ false → Wanted (onward book 1 book.ops) (job (session_in book k qs n now x q a us g).seat) a.xid r) → (x.cut ≡ false → (vs : List Ask) → q.ups ≡ a ∷ vs → Held k.server.temps n vs (downs_then x q a r) (locals_of (session_in book k qs n now x q a us g).seat.client) (job (session_in book k qs n now x q a us g).seat))
     → reply_program r ≡ call_program a.call → IsPlain r → a.xid < 4294967296 → (x.cut ≡ false → AnswerOf (onward book 1 book.ops) (x.taken ++ record { xid = a.xid; step = book.steps + 1 } ∷ []) x.closing (job (session_in book k qs n now x q a us g).seat) a.xid r) → Leads book (rest_of qs n q us) (answered k n (max k.server.moment now) x a k.server.temps index r)
 serve_plain laws book k qs n now x q a us index r g wanted held program plain lt answer = leads_by book k qs n now x q a us k.server.temps index r g (same_temps book k n x q a r (session_in book k qs n now x q a us g) g.kept.shelf wanted held program (laws.plain a.xid r lt plain) answer)
 
-pub serve_make : FitLaws → (book : Book) (k : Core) (qs : List Queue) (n now : ℕ) (x : Session) (q : Queue) (xid m f : ℕ) (us : List Ask) → Given book k qs n now x q (record { xid = xid; call = Make m f }) us → Leads book (rest_of qs n q us) (served k n x xid (makes (at k.server now) n xid m (node_of k.server.files (handle_bytes f))))
-serve_make laws book k qs n now x q xid m f us g = by (node_of k.server.files (handle_bytes f)) refl
+pub serve_make : FitLaws → (book : Book) (k : Core) (qs : List Queue) (n now : ℕ) (x : Session) (q : Queue) (xid m f : ℕ) (us : List Ask) → Given book k qs n now x q (record { xid = xid; call = Make m f }) us → Leads book (rest_of qs n q us) (served k n x xid (makes (at k.server now) n xid m (node_of k.server.tree (handle_bytes f))))
+serve_make laws book k qs n now x q xid m f us g = by (node_of k.server.tree (handle_bytes f)) refl
   where
     a : Ask
     a = record { xid = xid; call = Make m f }
@@ -201,7 +201,7 @@ serve_make laws book k qs n now x q xid m f us g = by (node_of k.server.files (h
         let held = subst (Held k.server.temps n (a ∷ us) q.downs (locals_of h.seat.client)) p.1 (held_at book k qs n now x q a us g uncut) in
         (subst (HeldIn k.server.temps n (a ∷ us) q.downs (locals_of h.seat.client p.0.file)) p.2 held).0 (0, m, f, refl)
 
-    node : x.cut ≡ false → (z : File) × (server.file_at k.server.files f ≡ Some z) × (node_of k.server.files (handle_bytes f) ≡ Ok (file z))
+    node : x.cut ≡ false → (z : File) × (server.file_at k.server.tree f ≡ Some z) × (node_of k.server.tree (handle_bytes f) ≡ Ok (file z))
     node uncut =
         let p = place_at book k qs n now x q a us g uncut in
         file_there book k.server f g.kept.server (subst (λ (z : ℕ). IsSome (content_of book.opening z)) p.3 ((h.orderly uncut).tree p.0 p.1 (ap stage_word p.2))) fits.2
@@ -231,14 +231,14 @@ serve_make laws book k qs n now x q xid m f us g = by (node_of k.server.files (h
         let w : Temp = record { session = n; fd = m; target = t; pieces = [] } in
         leads_by book k qs n now x q a us (with_temp k.server.temps w) k.server.index (Made (Done tt)) g (put_temp book k n x q a (Made (Done tt)) m w h g.kept.shelf fits.1 made (held w refl refl refl) refl (laws.plain xid (Made (Done tt)) fits.0 tt) (λ uncut. tt) fits.1 refl tt (λ uncut. (subst (AllAsks (λ b. TempUnder h.seat.client.next_temp b.call)) g.first (h.temps_below uncut).0).0))
 
-    by : (nd : Result Node Status) → node_of k.server.files (handle_bytes f) ≡ nd → Leads book (rest_of qs n q us) (served k n x xid (makes (at k.server now) n xid m nd))
+    by : (nd : Result Node Status) → node_of k.server.tree (handle_bytes f) ≡ nd → Leads book (rest_of qs n q us) (served k n x xid (makes (at k.server now) n xid m nd))
     by (Err e) is = refuses e (λ uncut. not_err e (node uncut).0 (sym is ∙ (node uncut).2))
       where
         not_err : (e : Status) (z : File) → Err e ≡ Ok (file z) → ⊥
         not_err e z q = absurd cc
-    by (Ok root) is = refuses status.IsDir (λ uncut. not_root (node uncut).0 (sym is ∙ (node uncut).2))
+    by (Ok directory) is = refuses status.IsDir (λ uncut. not_root (node uncut).0 (sym is ∙ (node uncut).2))
       where
-        not_root : (z : File) → ◌≡◌ {A = Result Node Status} (Ok root) (Ok (file z)) → ⊥
+        not_root : (z : File) → ◌≡◌ {A = Result Node Status} (Ok directory) (Ok (file z)) → ⊥
         not_root z q = absurd cc
     by (Ok (file z)) is = faults (room_fault k.server.temps n m) z.id refl
 

@@ -1,5 +1,6 @@
--- What the server changes as it takes a message: its temporary files, the changes that wait, its index and its moment, and nothing else.
-use Rattle.std.proofs.Common.{◌⊎◌, inl, inr, ◌≡◌, refl, ℕ, List, ◌∷◌, ◌++◌, [], length, Option, Some, None, Result, Ok, Err, Bool, true, false}
+-- What the server changes as it takes a message that asks for nothing by a name: its temporary files, the changes that wait, its index and its
+-- moment, and nothing else; and what any message leaves of the tree.
+use Rattle.std.proofs.Common.{◌⊎◌, inl, inr, ◌≡◌, refl, ℕ, List, ◌∷◌, ◌++◌, [], length, Option, Some, None, Result, Ok, Err, Bool, true, false, sym, subst}
 use Rattle.hash_calls.specs.declared.message.Lb.TheVariants as lb
 use Rattle.nfs3_calls.specs.declared.message.Nfs.TheVariants as nfs
 use Rattle.wire.specs.declared.message.Body.TheVariants as body
@@ -9,7 +10,14 @@ use Rattle.chunk_index.specs.Index.{key_of as digest_key, place_of}
 use Rattle.server_core.specs.State as server
 use Rattle.server_core.specs.Closing.{answers, sends, names_unless, names_bytes, bytes_known, looked_up as index_found, writes_unless, cond_fault}
 use Rattle.server_core.specs.declared.event.Event.TheVariants as event
-use Rattle.kept_promise.proofs.Common.{Temp, size_most, temp_at, room_fault, piece_fault, assembled, without_temp, nat_lt, if◌then◌else◌, Failed, Status, Body, Message, Indexed, Node, root, file, node_of, File, Change, ServerStep, server_step, called, got_if, stands, at, makes, makes_unless, commits, commits_to, commits_whole, has_waiting, is_full}
+use Rattle.kept_promise.proofs.Common.{Temp, size_most, temp_at, room_fault, piece_fault, assembled, without_temp, nat_lt, if◌then◌else◌, Failed, Status, Body, Message, Indexed, Node, directory, file, node_of, File, Change, ServerStep, server_step, called, got_if, stands, at, makes, makes_unless, commits, commits_to, commits_whole, has_waiting, is_full, Tree, Ask, ask_message, Call, Call.Lease, Call.Hash, Call.Read, Call.Make, Call.Name, Call.Send, Call.Commit}
+use Rattle.server_core.specs.declared.change.Wanted.TheVariants as wanted
+use Rattle.server_core.specs.Step.{asks, asks_tree}
+use Rattle.tree_calls.specs.Waiting.{calls}
+use Rattle.tree_calls.specs.declared.asked.Outcome.{Outcome}
+use Rattle.tree_calls.specs.declared.asked.Outcome.TheVariants.{Answered, Waits as ToWait}
+use Rattle.kept_promise.proofs.Trees.{Keeps, keeps_same}
+use Rattle.kept_promise.proofs.TreeCalls.{calls_keep}
 
 abbrev pub IsCommitCall : Message → Type 0
 IsCommitCall (message.Call xid (body.Lb (lb.CommitTmp a))) = Unit {0}
@@ -25,13 +33,13 @@ Frees Q s n P = (temps : List (ℕ × Temp)) (waiting : List Change) (index : In
 
 commits_keeps : (Q : server.State → Type 0) (s : server.State) (session : ℕ) → Frees Q s session (Unit {0}) → (xid size : ℕ) (t : Temp) (nd : Result Node Status) → Q (commits_to s session xid size t nd).0
 commits_keeps Q s session q xid size t (Err e) = q s.temps s.waiting s.index s.moment (inl refl)
-commits_keeps Q s session q xid size t (Ok root) = q s.temps s.waiting s.index s.moment (inl refl)
+commits_keeps Q s session q xid size t (Ok directory) = q s.temps s.waiting s.index s.moment (inl refl)
 commits_keeps Q s session q xid size t (Ok (file f)) = by (nat_lt size_most size)
   where
-    waits : (content : List ℕ) (a b : Bool) → (let r : server.State × ServerStep = if a then answers s session xid (lb.CommitTmpAnswer (Failed status.Jukebox tt)) else if b then answers s session xid (lb.CommitTmpAnswer (Failed status.NoSpc tt)) else (record s { waiting = s.waiting ++ record { session = session; xid = xid; file = f.id; content = content } ∷ [] }, sends []) in Q r.0)
+    waits : (content : List ℕ) (a b : Bool) → (let r : server.State × ServerStep = if a then answers s session xid (lb.CommitTmpAnswer (Failed status.Jukebox tt)) else if b then answers s session xid (lb.CommitTmpAnswer (Failed status.NoSpc tt)) else (record s { waiting = s.waiting ++ record { session = session; xid = xid; file = f.id; what = wanted.Content content } ∷ [] }, sends []) in Q r.0)
     waits content true b = q s.temps s.waiting s.index s.moment (inl refl)
     waits content false true = q s.temps s.waiting s.index s.moment (inl refl)
-    waits content false false = q s.temps (s.waiting ++ record { session = session; xid = xid; file = f.id; content = content } ∷ []) s.index s.moment (inr (record { session = session; xid = xid; file = f.id; content = content }, refl, refl, tt))
+    waits content false false = q s.temps (s.waiting ++ record { session = session; xid = xid; file = f.id; what = wanted.Content content } ∷ []) s.index s.moment (inr (record { session = session; xid = xid; file = f.id; what = wanted.Content content }, refl, refl, tt))
 
     whole : (o : Option (List ℕ)) → Q (commits_whole s session xid f.id o).0
     whole None = q s.temps s.waiting s.index s.moment (inl refl)
@@ -41,9 +49,29 @@ commits_keeps Q s session q xid size t (Ok (file f)) = by (nat_lt size_most size
     by true = q s.temps s.waiting s.index s.moment (inl refl)
     by false = whole (assembled t size)
 
-called_keeps : (Q : server.State → Type 0) (s : server.State) (session xid : ℕ) (b : Body) → Frees Q s session (IsCommitCall (message.Call xid b)) → Q (called s session xid b).0
-called_keeps Q s session xid (body.Lb (lb.GetHash r)) q = q s.temps s.waiting _ s.moment (inl refl)
-called_keeps Q s session xid (body.Lb (lb.MkTmpFile a)) q = by (node_of s.files a.handle)
+-- a message that asks for nothing by a name
+abbrev pub IsOfFiles : Message → Type 0
+IsOfFiles (message.Call xid (body.Nfs nfs.Null)) = Unit {0}
+IsOfFiles (message.Call xid (body.Nfs (nfs.Read r))) = Unit {0}
+IsOfFiles (message.Call xid (body.Nfs m)) = ⊥
+IsOfFiles m = Unit {0}
+
+-- so are all that are on their way
+pub is_of_files : (a : Ask) → IsOfFiles (ask_message a)
+is_of_files a = by a.call
+  where
+    by : (c : Call) → IsOfFiles (ask_message (record { xid = a.xid; call = c }))
+    by (Lease f) = tt
+    by (Hash f o) = tt
+    by (Read f c) = tt
+    by (Make m f) = tt
+    by (Name m c) = tt
+    by (Send m start bytes) = tt
+    by (Commit m f size) = tt
+
+called_keeps : (Q : server.State → Type 0) (s : server.State) (session xid : ℕ) (b : Body) → IsOfFiles (message.Call xid b) → Frees Q s session (IsCommitCall (message.Call xid b)) → Q (called s session xid b).0
+called_keeps Q s session xid (body.Lb (lb.GetHash r)) plain q = q s.temps s.waiting _ s.moment (inl refl)
+called_keeps Q s session xid (body.Lb (lb.MkTmpFile a)) plain q = by (node_of s.tree a.handle)
   where
     room : (f : File) (o : Option Status) → Q (makes_unless s session xid a.fd f.id o).0
     room f (Some e) = q s.temps s.waiting s.index s.moment (inl refl)
@@ -51,15 +79,15 @@ called_keeps Q s session xid (body.Lb (lb.MkTmpFile a)) q = by (node_of s.files 
 
     by : (nd : Result Node Status) → Q (makes s session xid a.fd nd).0
     by (Err e) = q s.temps s.waiting s.index s.moment (inl refl)
-    by (Ok root) = q s.temps s.waiting s.index s.moment (inl refl)
+    by (Ok directory) = q s.temps s.waiting s.index s.moment (inl refl)
     by (Ok (file f)) = room f (room_fault s.temps session a.fd)
-called_keeps Q s session xid (body.Lb (lb.TmpWrite a)) q = by (temp_at s.temps session a.fd) (piece_fault (temp_at s.temps session a.fd) a.offset (length a.bytes))
+called_keeps Q s session xid (body.Lb (lb.TmpWrite a)) plain q = by (temp_at s.temps session a.fd) (piece_fault (temp_at s.temps session a.fd) a.offset (length a.bytes))
   where
     by : (t : Option Temp) (o : Option Status) → Q (writes_unless s session xid a t o).0
     by (Some t) None = q _ s.waiting s.index s.moment (inl refl)
     by (Some t) (Some e) = q s.temps s.waiting s.index s.moment (inl refl)
     by None o = q s.temps s.waiting s.index s.moment (inl refl)
-called_keeps Q s session xid (body.Lb (lb.CondWrite a)) q = by (temp_at s.temps session a.fd) (cond_fault a (temp_at s.temps session a.fd)) (bytes_known s.files a (place_of s.index.pairs (digest_key a.digest)))
+called_keeps Q s session xid (body.Lb (lb.CondWrite a)) plain q = by (temp_at s.temps session a.fd) (cond_fault a (temp_at s.temps session a.fd)) (bytes_known s.tree a (place_of s.index.pairs (digest_key a.digest)))
   where
     found : Indexed
     found = (index_found s a).index
@@ -71,21 +99,49 @@ called_keeps Q s session xid (body.Lb (lb.CondWrite a)) q = by (temp_at s.temps 
 
     by : (t : Option Temp) (o : Option Status) (known : Option (List ℕ)) → Q (names_unless s session xid a t o).0
     by t (Some e) known = q s.temps s.waiting s.index s.moment (inl refl)
-    by t None known = taken t (bytes_known s.files a (place_of s.index.pairs (digest_key a.digest)))
-called_keeps Q s session xid (body.Lb (lb.CommitTmp a)) q = by (temp_at s.temps session a.fd)
+    by t None known = taken t (bytes_known s.tree a (place_of s.index.pairs (digest_key a.digest)))
+called_keeps Q s session xid (body.Lb (lb.CommitTmp a)) plain q = by (temp_at s.temps session a.fd)
   where
     by : (t : Option Temp) → Q (commits s session xid a t).0
     by None = q s.temps s.waiting s.index s.moment (inl refl)
-    by (Some t) = commits_keeps Q (record s { temps = without_temp s.temps session a.fd }) session (λ temps waiting index moment w. q temps waiting index moment w) xid a.size t (node_of s.files a.handle)
-called_keeps Q s session xid (body.Nfs (nfs.Read r)) q = q s.temps s.waiting s.index s.moment (inl refl)
-called_keeps Q s session xid b q = q s.temps s.waiting s.index s.moment (inl refl)
+    by (Some t) = commits_keeps Q (record s { temps = without_temp s.temps session a.fd }) session (λ temps waiting index moment w. q temps waiting index moment w) xid a.size t (node_of s.tree a.handle)
+called_keeps Q s session xid (body.Nfs nfs.Null) plain q = q s.temps s.waiting s.index s.moment (inl refl)
+called_keeps Q s session xid (body.Nfs (nfs.Read r)) plain q = q s.temps s.waiting s.index s.moment (inl refl)
+called_keeps Q s session xid (body.Nfs m) plain q = absurd plain
+called_keeps Q s session xid b plain q = q s.temps s.waiting s.index s.moment (inl refl)
 
-pub got_if_keeps : (Q : server.State → Type 0) (s : server.State) (session : ℕ) (m : Message) (now : ℕ) → Frees Q s session (IsCommitCall m) → (b : Bool) → Q (got_if s b session m now).0
-got_if_keeps Q s session (message.Call xid b) now q true = called_keeps Q (at s now) session xid b (λ temps waiting index moment w. q temps waiting index moment w)
-got_if_keeps Q s session (message.Unfit xid why) now q true = q s.temps s.waiting s.index _ (inl refl)
-got_if_keeps Q s session (message.Answer xid b) now q true = q s.temps s.waiting s.index _ (inl refl)
-got_if_keeps Q s session (message.Refuse xid why) now q true = q s.temps s.waiting s.index _ (inl refl)
-got_if_keeps Q s session m now q false = q s.temps s.waiting s.index s.moment (inl refl)
+pub got_if_keeps : (Q : server.State → Type 0) (s : server.State) (session : ℕ) (m : Message) (now : ℕ) → IsOfFiles m → Frees Q s session (IsCommitCall m) → (b : Bool) → Q (got_if s b session m now).0
+got_if_keeps Q s session (message.Call xid b) now plain q true = called_keeps Q (at s now) session xid b plain (λ temps waiting index moment w. q temps waiting index moment w)
+got_if_keeps Q s session (message.Unfit xid why) now plain q true = q s.temps s.waiting s.index _ (inl refl)
+got_if_keeps Q s session (message.Answer xid b) now plain q true = q s.temps s.waiting s.index _ (inl refl)
+got_if_keeps Q s session (message.Refuse xid why) now plain q true = q s.temps s.waiting s.index _ (inl refl)
+got_if_keeps Q s session m now plain q false = q s.temps s.waiting s.index s.moment (inl refl)
 
-pub got_keeps : (Q : server.State → Type 0) (s : server.State) (session : ℕ) (m : Message) (now : ℕ) → Frees Q s session (IsCommitCall m) → Q (server_step s (event.Got session m now)).0
-got_keeps Q s session m now q = got_if_keeps Q s session m now q (stands s session)
+pub got_keeps : (Q : server.State → Type 0) (s : server.State) (session : ℕ) (m : Message) (now : ℕ) → IsOfFiles m → Frees Q s session (IsCommitCall m) → Q (server_step s (event.Got session m now)).0
+got_keeps Q s session m now plain q = got_if_keeps Q s session m now plain q (stands s session)
+
+-- ---- the tree, whatever the message
+
+outcome_tree : (s : server.State) (session xid : ℕ) (p : Tree × Option Outcome) → (asks_tree s session xid p).0.tree ≡ p.0
+outcome_tree s session xid p = by p.1
+  where
+    by : (o : Option Outcome) → (asks (record s { tree = p.0 }) session xid o).0.tree ≡ p.0
+    by None = refl
+    by (Some (Answered d)) = refl
+    by (Some (ToWait a)) = refl
+
+called_tree : (s : server.State) (session xid : ℕ) (b : Body) → Keeps s.tree (called s session xid b).0.tree
+called_tree s session xid (body.Nfs nfs.Null) = keeps_same s.tree
+called_tree s session xid (body.Nfs (nfs.Read r)) = keeps_same s.tree
+called_tree s session xid (body.Nfs m) = subst (Keeps s.tree) (sym (outcome_tree s session xid (calls s.tree (server.held s.waiting) (has_waiting s.waiting session) m))) (calls_keep s.tree (server.held s.waiting) (has_waiting s.waiting session) m)
+called_tree s session xid b = called_keeps (λ z. Keeps s.tree z.tree) s session xid b tt (λ temps waiting index moment w. keeps_same s.tree)
+
+pub got_tree : (s : server.State) (session : ℕ) (m : Message) (now : ℕ) → Keeps s.tree (server_step s (event.Got session m now)).0.tree
+got_tree s session m now = by m (stands s session)
+  where
+    by : (m : Message) (b : Bool) → Keeps s.tree (got_if s b session m now).0.tree
+    by (message.Call xid b) true = called_tree (at s now) session xid b
+    by (message.Unfit xid why) true = keeps_same s.tree
+    by (message.Answer xid b) true = keeps_same s.tree
+    by (message.Refuse xid why) true = keeps_same s.tree
+    by m false = keeps_same s.tree

@@ -8,7 +8,7 @@ use Rattle.chunk_cut.specs.Ends.{IsOpen, IsNextEnd, AreEndsFrom}
 use Rattle.chunk_cut.specs.Search.{ends}
 use Rattle.chunk_cut.proofs.Only.{are_ends, chunks_are}
 use Rattle.temp_files.specs.Pieces as piece_rules
-use Rattle.open_close.specs.Shape.{broken_inner}
+use Rattle.file_open.specs.Shape.{broken_inner}
 use Rattle.kept_promise.proofs.Common.{nat_lt, nat_le, ◌==◌, ◌&&◌, ◌||◌, cond, filter, slice_get, list_any, insert_entry, nat_cmp, nat_tests, take-append-drop, length-drop, take_all, sha1, chunks_of, chunk_bytes, end_from, end_of, Chunk, Pair, meets, told_chunks, pair_of, is_end, broken_if, broken_pair, broken_pairs, broken_sum, broken_of, chunks_from, with_pairs, slots_bytes, Fetch}
 use Rattle.kept_promise.proofs.Statements.{AreInRow, ChunksInRow, ChunksAreLong, ChunksAreNamed, TellsNext, TellsEnd, PairsTell, NothingBroken, ReadGives, SlotsAreWhole, PiecesOf, PiecesAreWhole, PieceGoesIn}
 use Rattle.kept_promise.proofs.Lists.{some_is, nothing_there}

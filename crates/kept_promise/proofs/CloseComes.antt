@@ -1,15 +1,15 @@
 -- What a client comes to by an answer that its close waits for.
 use Rattle.std.proofs.Common.{◌⊎◌, inl, inr, ◌≡◌, ℕ, ◌+◌, ◌<◌, ◌≤◌, List, [], ◌∷◌, ◌++◌, append_assoc, length, Option, Some, None, Bool, true, false, refl, sym, ap, ◌∙◌, subst, arith}
 use Rattle.xdr_codec.specs.declared.status.Status.TheVariants as status
-use Rattle.open_close.specs.State as client
-use Rattle.open_close.specs.declared.step.Outcome.TheVariants as outcome
-use Rattle.open_close.specs.declared.task.Stage.TheVariants as stage
-use Rattle.open_close.specs.declared.task.Way.TheVariants as way
+use Rattle.client_state.specs.State as client
+use Rattle.client_state.specs.declared.step.Outcome.TheVariants as outcome
+use Rattle.client_state.specs.declared.task.Stage.TheVariants as stage
+use Rattle.client_state.specs.declared.task.Way.TheVariants as way
 use Rattle.register_model.specs.declared.op.Outcome.TheVariants as told
 use Rattle.register_model.specs.declared.op.Word.TheVariants as words
 use Rattle.client_cache.specs.Cache.{reserved, with_content}
 use Rattle.open_close.specs.Hashed.{named_by as part_of_named, named as parts_named}
-use Rattle.open_close.specs.Step.{closed}
+use Rattle.file_close.specs.Storing.{closed}
 use Rattle.kept_promise.proofs.Common.{refused, slice_get, sha1, Chunk, Answer, Done, Failed, Status, Committed, store_pending, store_of, is_stored, store_at, answered, no_counts, idle, goes_on, goes_if, told_temp, sends_whole, told_named, told_whole, Local, Store, StoreCall, Op, Traffic, Contains, Contains-append_left, slice_set, unwrap_or, option_map, Message, ClientStep, Core, Session, has_point, point_if, counted, Book, HadContent, value_at, version_at, Reply, Reply.Made, Reply.Named, Reply.Stored, Reply.Changed, Told, Queue, reply_program}
 use Rattle.kept_promise.proofs.Lists.{some_is, there_at}
 use Rattle.kept_promise.proofs.Messages.{Job, CommitTold, CloseOf}
@@ -169,7 +169,7 @@ comes_named book k qs n x q t ts j g st u a fits waits found by_name same is = b
     whole none c at =
         let s = client_at book k qs n x q t ts j g in
         inl (record {
-          to = stage.Storing (Rattle.open_close.specs.Closing.with_whole (answered st t.xid) u s.next);
+          to = stage.Storing (Rattle.file_close.specs.Closing.with_whole (answered st t.xid) u s.next);
           next = s.next + 1;
           forgotten = s.forgotten;
           cache = s.cache;

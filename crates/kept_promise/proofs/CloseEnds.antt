@@ -2,14 +2,14 @@
 use Rattle.std.proofs.Common.{inl, inr, ◌≡◌, ℕ, suc, ◌+◌, ◌<◌, ◌≤◌, List, [], ◌∷◌, ◌++◌, length, Option, Some, None, Bool, true, false, refl, sym, ap, ◌∙◌, subst, arith, eqb-true, eq-eqb, map}
 use Rattle.wire.specs.declared.message.Program.TheVariants as program
 use Rattle.hash_calls.specs.declared.message.LbProc.TheVariants as lb_proc
-use Rattle.open_close.specs.State as client
-use Rattle.open_close.specs.declared.task.Stage.TheVariants as stage
+use Rattle.client_state.specs.State as client
+use Rattle.client_state.specs.declared.task.Stage.TheVariants as stage
 use Rattle.register_model.specs.declared.op.Outcome.TheVariants as told
 use Rattle.register_model.specs.declared.op.Word.TheVariants as words
 use Rattle.kept_promise.proofs.Common.{slice_get, slice_set, cond, ◌==◌, sha1, Pending, Change, Local, Stage, without_at_itself, without_at_another, Op, Traffic, Word, Core, Session, Book, Call, Call.Commit, Ask, Told, Queue, reply_program}
 use Rattle.kept_promise.proofs.Lists.{some_is, nothing_there, same_or_not}
 use Rattle.kept_promise.proofs.Keys.{times, times_append, own, on_way, ask_key, change_key, told_key, pending_key, there_by, key, key_xid}
-use Rattle.kept_promise.proofs.Messages.{Job, job, AllAsks, IsCommit, CommitOf, IsPending}
+use Rattle.kept_promise.proofs.Messages.{Job, job, AllAsks, IsCommit, CommitOf, IsPending, content_wanted}
 use Rattle.kept_promise.proofs.Rights.{is_remote, Caused, IsRight, IsUnmade, IsMade}
 use Rattle.kept_promise.proofs.Growth.{entered_later}
 use Rattle.kept_promise.proofs.History.{onward, Becomes, grows_becomes}
@@ -32,7 +32,7 @@ commits_apart book closing cut o j contents (a ∷ us) uncut is apart all = by a
     by (Commit temp file size) e h none = absurd (apart 0 a temp file size refl e (ap (λ (z : Job). z.stage) (some_is j _ (sym is ∙ h.0.waited uncut))))
     by _ e h none = none
 
-waiting_apart : (book : Book) (closing : Option ℕ) (cut : Bool) (o : Option Job) (j : Job) (cs : List Change) → cut ≡ false → o ≡ Some j → ((i : ℕ) (d : Change) → slice_get cs i ≡ Some d → j.stage ≡ stage.Committing d.xid → ⊥) → ((i : ℕ) (d : Change) → slice_get cs i ≡ Some d → IsPending book closing cut o d.xid d.file d.content) → cs ≡ []
+waiting_apart : (book : Book) (closing : Option ℕ) (cut : Bool) (o : Option Job) (j : Job) (cs : List Change) → cut ≡ false → o ≡ Some j → ((i : ℕ) (d : Change) → slice_get cs i ≡ Some d → j.stage ≡ stage.Committing d.xid → ⊥) → ((i : ℕ) (d : Change) → slice_get cs i ≡ Some d → IsPending book closing cut o d.xid d.file (content_wanted d.what)) → cs ≡ []
 waiting_apart book closing cut o j [] uncut is apart all = refl
 waiting_apart book closing cut o j (d ∷ cs) uncut is apart all = absurd (apart 0 d refl (ap (λ (z : Job). z.stage) (some_is j _ (sym is ∙ (all 0 d refl).waited uncut))))
 

@@ -1,8 +1,8 @@
 -- What the temporary file of a close holds once an answer to it was taken.
 use Rattle.std.proofs.Common.{◌≡◌, ℕ, List, ◌∷◌, ◌++◌, Some, false, refl, sym, ap, ◌∙◌, subst}
-use Rattle.open_close.specs.State as client
-use Rattle.open_close.specs.declared.task.Stage.TheVariants as stage
-use Rattle.open_close.specs.declared.task.Way.TheVariants as way
+use Rattle.client_state.specs.State as client
+use Rattle.client_state.specs.declared.task.Stage.TheVariants as stage
+use Rattle.client_state.specs.declared.task.Way.TheVariants as way
 use Rattle.kept_promise.proofs.Common.{slice_get, chunk_bytes, Chunk, store_of, store_at, answered, with_whole, Stage, Store, StoreCall, Way, Core, Session, Book, Call.Make, Call.Send, Reply, Ask, Told, Queue}
 use Rattle.kept_promise.proofs.Lists.{some_is}
 use Rattle.kept_promise.proofs.Messages.{Job}

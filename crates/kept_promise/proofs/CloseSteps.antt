@@ -4,9 +4,9 @@ use Rattle.sha1.specs.Sha1.{sha1, digest_bytes}
 use Rattle.hash_calls.specs.declared.message.LbProc.TheVariants as lb_proc
 use Rattle.wire.specs.declared.message.Program.TheVariants as program
 use Rattle.open_close.specs.Hashed.{named_by as part_of_named, named as parts_named}
-use Rattle.open_close.specs.State as client
-use Rattle.open_close.specs.declared.task.Stage.TheVariants as stage
-use Rattle.open_close.specs.declared.task.Way.TheVariants as way
+use Rattle.client_state.specs.State as client
+use Rattle.client_state.specs.declared.task.Stage.TheVariants as stage
+use Rattle.client_state.specs.declared.task.Way.TheVariants as way
 use Rattle.register_model.specs.declared.op.Word.TheVariants as words
 use Rattle.kept_promise.proofs.Common.{nat_tests, slice_get, not, cond, ◌==◌, ◌&&◌, nat_le, chunks_of, chunk_bytes, Chunk, Pending, Program, Temp, store_pending, without_call, names_from, names_all, store_of, is_stored, store_at, without_store, answered, with_whole, commit_call, temp_call, calls_most, is_none, Names, Stage, Store, StoreCall, Task, Way, Op, content_of, Contains, Contains-append_left, Contains-append_right, Contains-push, Message, call_message, hashed_of, Core, Seat, Session, Book, unless, Call, Call.Name, Call.Send, Call.Commit, Ask, Told, Queue, ask_message, reply_program}
 use Rattle.kept_promise.proofs.Statements.{CallFits, AreInRow, PiecesOf, SameShape}

@@ -1,8 +1,8 @@
 -- What a client comes to by an answer that its operation waits for: it goes on, or the operation ends.
 use Rattle.std.proofs.Common.{◌⊎◌, inl, inr, ◌≡◌, ℕ, ◌+◌, ◌≤◌, List, [], length, Option, Some, None, false, refl, sym, ap, ◌∙◌, subst, arith, map, IsSome}
 use Rattle.xdr_codec.specs.declared.status.Status.TheVariants as status
-use Rattle.open_close.specs.State as client
-use Rattle.open_close.specs.declared.step.Outcome.TheVariants as outcome
+use Rattle.client_state.specs.State as client
+use Rattle.client_state.specs.declared.step.Outcome.TheVariants as outcome
 use Rattle.register_model.specs.declared.op.Outcome.{Outcome}
 use Rattle.register_model.specs.declared.op.Outcome.TheVariants as told
 use Rattle.register_model.specs.declared.op.Word.TheVariants as words

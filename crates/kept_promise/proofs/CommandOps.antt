@@ -1,6 +1,6 @@
 -- The operation that a command makes, and what is known of it at once.
 use Rattle.std.proofs.Common.{◌≡◌, ℕ, ◌+◌, ◌<◌, List, [], ◌∷◌, ◌++◌, length, Option, Some, None, Bool, true, false, refl, sym, ap, ◌∙◌, arith}
-use Rattle.open_close.specs.State as client
+use Rattle.client_state.specs.State as client
 use Rattle.kept_promise.proofs.Common.{slice_get, Command, no_counts, command_step, ClientStep, Ended, Task, Op, word_of, file_of, value_at_begin, no_traffic, counted, begun, has_point, point_if, op_after, place_with, Core, Seat, numbered, Book, Queue}
 use Rattle.kept_promise.proofs.Lists.{some_is, nothing_there, at_end, within}
 use Rattle.kept_promise.proofs.Rights.{IsRight, IsSound}

@@ -2,10 +2,10 @@
 use Rattle.std.proofs.Common.{inl, inr, ◌≡◌, ℕ, zero, suc, ◌+◌, ◌<◌, ◌≤◌, List, [], ◌∷◌, ◌++◌, length, Option, Some, None, Bool, true, false, refl, sym, ap, ◌∙◌, subst, arith, eq-eqb, ne_eqb, IsSome}
 use Rattle.command_text.specs.declared.command.Command.TheVariants as command
 use Rattle.client_cache.specs.Cache.{reserved, content_of as kept_of}
-use Rattle.open_close.specs.State as client
-use Rattle.open_close.specs.declared.step.Outcome.TheVariants as outcome
-use Rattle.open_close.specs.declared.task.Stage.TheVariants as stage
-use Rattle.open_close.proofs.Edits.{written_length, truncated_length}
+use Rattle.client_state.specs.State as client
+use Rattle.client_state.specs.declared.step.Outcome.TheVariants as outcome
+use Rattle.client_state.specs.declared.task.Stage.TheVariants as stage
+use Rattle.client_state.proofs.Edits.{written_length, truncated_length}
 use Rattle.register_model.specs.declared.op.Word.TheVariants as words
 use Rattle.kept_promise.proofs.Common.{nat_tests, cond, ◌==◌, nat_lt, if◌then◌else◌, sha1, content_length, content_bytes, Part, Command, content_size, ends, local_most, written_size, written, truncated, part_of, is_open, has_xids, may_ask, tries_anew, asks_file, asks_kept, opens_if, opens, on_local, done_with, edits, writes, truncates, reads, abandons, asks_temp, closes, command_step, ClientStep, Outcome, Local, Stage, Task, local_at_itself, local_at_another, without_at_itself, without_at_another, content_of, Op, Word, Core, Seat, Session, Loss.Nothing, CoreStep, numbered, with_numbered, session_of, commanded_sessions, does, word_of, file_of, value_at_begin, begun, op_after, place_with, unless, Book, Entries, Content, Call.Lease, Call.Hash, Call.Make, Ask, Queue, ask_message}
 use Rattle.kept_promise.proofs.Lists.{some_is, nothing_there, same_or_not, at_end}
@@ -200,12 +200,12 @@ leads_begins book k qs c seat w file value cache temp s a acts g l send ended co
       kept = shape more acts.ended ended op_is place one;
     }
   where
-    op_same : (e : Option Rattle.open_close.specs.declared.step.Ended.Ended) → e ≡ None → Rattle.trace_replay.specs.Ops.op_ended (record (begun c w file value (k.steps + 1)) { traffic = Rattle.trace_replay.specs.Ops.counted (record { cond = 0; tmp = 0; read = 0; «data» = 0 }) acts.counts }) (begun_client seat.client cache temp file s) [] (k.steps + 1) e ≡ begun c w file value (k.steps + 1)
+    op_same : (e : Option Rattle.client_state.specs.declared.step.Ended.Ended) → e ≡ None → Rattle.trace_replay.specs.Ops.op_ended (record (begun c w file value (k.steps + 1)) { traffic = Rattle.trace_replay.specs.Ops.counted (record { cond = 0; tmp = 0; read = 0; «data» = 0 }) acts.counts }) (begun_client seat.client cache temp file s) [] (k.steps + 1) e ≡ begun c w file value (k.steps + 1)
     op_same None e = ap (λ t. record (begun c w file value (k.steps + 1)) { traffic = t }) counts
     op_same (Some e) is = absurd cc
 
     -- the sessions, the seats, the operations and the queues, as the step says them
-    shape : (more : Book) (e : Option Rattle.open_close.specs.declared.step.Ended.Ended) → acts.ended ≡ None → op_after (begun c w file value (k.steps + 1)) (begun_client seat.client cache temp file s) [] (k.steps + 1) acts ≡ begun c w file value (k.steps + 1) → length book.ops ≡ length k.ops
+    shape : (more : Book) (e : Option Rattle.client_state.specs.declared.step.Ended.Ended) → acts.ended ≡ None → op_after (begun c w file value (k.steps + 1)) (begun_client seat.client cache temp file s) [] (k.steps + 1) acts ≡ begun c w file value (k.steps + 1) → length book.ops ≡ length k.ops
         → IsKept more (record { server = k.server; seats = with_numbered k.seats c (record { client = begun_client seat.client cache temp file s; session = seat.session; place = Some (length book.ops) }); sessions = with_numbered k.sessions l.number (record l.session { taken = []; closing = Rattle.trace_replay.specs.Ops.closing_with l.session.closing (length book.ops) w None }); steps = k.steps + 1; ops = k.ops ++ begun c w file value (k.steps + 1) ∷ []; entries = k.entries }) (with_numbered qs l.number (record { ups = unless l.session.hung l.queue.ups (a ∷ []); downs = l.queue.downs }))
         → IsKept more (commanded_as k c seat None seat.session (session_of k.sessions seat.session) w file value (begun_client seat.client cache temp file s) acts).core (ups_put (commanded_sessions k.sessions seat.session (session_of k.sessions seat.session) None (length k.ops) w acts) qs seat.session (a ∷ []))
     shape more e ended op_is place h =
@@ -221,7 +221,7 @@ leads_begins book k qs c seat w file value cache temp s a acts g l send ended co
         let one = subst (λ (p : ℕ). IsKept more (record { server = k.server; seats = with_numbered k.seats c (record { client = begun_client seat.client cache temp file s; session = seat.session; place = Some p }); sessions = with_numbered k.sessions l.number (record l.session { taken = []; closing = Rattle.trace_replay.specs.Ops.closing_with l.session.closing p w None }); steps = k.steps + 1; ops = k.ops ++ begun c w file value (k.steps + 1) ∷ []; entries = k.entries }) (with_numbered qs l.number (record { ups = unless l.session.hung l.queue.ups (a ∷ []); downs = l.queue.downs }))) place h in
         let two = subst (λ (z : List Queue). IsKept more (record { server = k.server; seats = with_numbered k.seats c (record { client = begun_client seat.client cache temp file s; session = seat.session; place = Some (length k.ops) }); sessions = sessions; steps = k.steps + 1; ops = k.ops ++ begun c w file value (k.steps + 1) ∷ []; entries = k.entries }) z) (sym queues_is) one in
         let three = subst (λ (z : Op). IsKept more (record { server = k.server; seats = with_numbered k.seats c (record { client = begun_client seat.client cache temp file s; session = seat.session; place = Some (length k.ops) }); sessions = sessions; steps = k.steps + 1; ops = k.ops ++ z ∷ []; entries = k.entries }) (ups_put sessions qs seat.session (a ∷ []))) (sym op_is) two in
-        let four = subst (λ (z : Option Rattle.open_close.specs.declared.step.Ended.Ended). IsKept more (record { server = k.server; seats = with_numbered k.seats c (record { client = begun_client seat.client cache temp file s; session = seat.session; place = place_with None (length k.ops) z }); sessions = sessions; steps = k.steps + 1; ops = k.ops ++ op_after (begun c w file value (k.steps + 1)) (begun_client seat.client cache temp file s) [] (k.steps + 1) acts ∷ []; entries = k.entries }) (ups_put sessions qs seat.session (a ∷ []))) (sym ended) three in
+        let four = subst (λ (z : Option Rattle.client_state.specs.declared.step.Ended.Ended). IsKept more (record { server = k.server; seats = with_numbered k.seats c (record { client = begun_client seat.client cache temp file s; session = seat.session; place = place_with None (length k.ops) z }); sessions = sessions; steps = k.steps + 1; ops = k.ops ++ op_after (begun c w file value (k.steps + 1)) (begun_client seat.client cache temp file s) [] (k.steps + 1) acts ∷ []; entries = k.entries }) (ups_put sessions qs seat.session (a ∷ []))) (sym ended) three in
         subst (λ (z : List Session). IsKept more (record { server = k.server; seats = with_numbered k.seats c (record { client = begun_client seat.client cache temp file s; session = seat.session; place = place_with None (length k.ops) acts.ended }); sessions = z; steps = k.steps + 1; ops = k.ops ++ op_after (begun c w file value (k.steps + 1)) (begun_client seat.client cache temp file s) [] (k.steps + 1) acts ∷ []; entries = k.entries }) (ups_put z qs seat.session (a ∷ []))) (sym sessions_is) four
 
 -- ---- an open

@@ -3,15 +3,15 @@ use Rattle.std.proofs.Common.{inl, inr, ◌≡◌, ℕ, ◌+◌, ◌<◌, ◌≤
 use Rattle.xdr_codec.specs.declared.status.Status.TheVariants as status
 use Rattle.hash_calls.specs.declared.message.Lb.TheVariants as lb
 use Rattle.server_core.specs.State as server
-use Rattle.server_core.specs.Closing.{answers, sends, changes_most}
+use Rattle.server_core.specs.Closing.{answers, sends, changes_most, tree_most}
 use Rattle.temp_files.specs.Pieces.{joined}
-use Rattle.open_close.specs.State as client
-use Rattle.open_close.specs.declared.task.Stage.TheVariants as stage
-use Rattle.kept_promise.proofs.Common.{nat_tests, slice_get, cond, ◌==◌, ◌||◌, nat_lt, if◌then◌else◌, handle_bytes, chunks_of, Failed, Status, message_spell, Node, root, file, node_of, at, commits, commits_to, commits_whole, has_waiting, is_full, size_most, Temp, temp_at, without_temp, key_of, assembled, Change, File, Stage, content_of, TakenCall, Op, Core, Session, Event.Serves, numbered, with_numbered, hashed_of, Book, Or, Call.Commit, Reply.Changed, Ask, Queue, ask_message}
+use Rattle.client_state.specs.State as client
+use Rattle.client_state.specs.declared.task.Stage.TheVariants as stage
+use Rattle.kept_promise.proofs.Common.{nat_tests, slice_get, cond, ◌==◌, ◌||◌, nat_lt, if◌then◌else◌, handle_bytes, chunks_of, Failed, Status, message_spell, Node, directory, file, node_of, at, commits, commits_to, commits_whole, has_waiting, is_full, size_most, Temp, temp_at, without_temp, key_of, assembled, Change, File, Stage, content_of, TakenCall, Op, Core, Session, Event.Serves, numbered, with_numbered, hashed_of, Book, Or, Call.Commit, Reply.Changed, Ask, Queue, ask_message}
 use Rattle.kept_promise.proofs.Statements.{CallFits}
 use Rattle.kept_promise.proofs.Lists.{some_is, nothing_there, same_or_not, of_appended, count_more, false_and_true}
 use Rattle.kept_promise.proofs.Keys.{times, times_append, own, on_way, change_key, ask_key, told_key}
-use Rattle.kept_promise.proofs.Messages.{Job, job, stage_word, AllAsks, Rising, IsAsked, IsAnswer, AnswerOf, IsCommit, IsPiece, IsPending, TempUnder, AreParts}
+use Rattle.kept_promise.proofs.Messages.{Job, job, stage_word, AllAsks, Rising, IsAsked, IsAnswer, AnswerOf, IsCommit, IsPiece, IsPending, TempUnder, AreParts, content_wanted}
 use Rattle.kept_promise.proofs.Growth.{or_both}
 use Rattle.kept_promise.proofs.History.{onward, grows_same, goes_same, still_same}
 use Rattle.kept_promise.proofs.Later.{all_asks, all_tolds, answer_later, has_fetch_later, commit_later, close_later, pending_later, seat_later, Stays, Spares}
@@ -31,6 +31,8 @@ use Rattle.kept_promise.proofs.Tells.{Found, is_root, is_gone, is_file, looked, 
 use Rattle.kept_promise.proofs.Shelves.{of_removed, of_lookup, joined_alike, joined_is}
 use Rattle.kept_promise.proofs.Calls.{Given, session_in, first_fits, rest_of, leads_by, served, held_at, place_at, rest_above}
 use Rattle.kept_promise.proofs.Leading.{Leads}
+use Rattle.server_core.specs.declared.change.Wanted.TheVariants as what
+use Rattle.kept_promise.proofs.TreeCalls.{entries_more, sizes_more}
 
 -- ---- it is refused
 
@@ -69,6 +71,10 @@ refused_with laws book k qs n now x q xid m f size us s temps g were shelf found
     })
 
 -- ---- its change waits
+
+-- there is room for a change with this content
+abbrev Roomy : server.State → List ℕ → Type 0
+Roomy s content = (s.tree.changes + server.entries_held s.waiting + 1 ≤ 4294967295) × (server.bytes_held s + length content ≤ 1073741824)
 
 -- bytes are a content, but for those that were known by their digest
 abbrev SameBytes : Book → (content bytes : List ℕ) → Type 0
@@ -113,10 +119,10 @@ way_waits n y w c q a us e here same =
 kept_waits : (book : Book) (k : Core) (qs : List Queue) (n now : ℕ) (x : Session) (q : Queue) (xid m f size : ℕ) (us : List Ask) (temps : List (ℕ × Temp)) (content : List ℕ) (sessions : List Session) (after : List Queue) → (g : Given book k qs n now x q (record { xid = xid; call = Commit m f size }) us)
     → ((i : ℕ) (e : ℕ × Temp) → slice_get temps i ≡ Some e → (j : ℕ) × (slice_get k.server.temps j ≡ Some e))
     → SameBytes book ((session_in book k qs n now x q (record { xid = xid; call = Commit m f size }) us g).contents m) content
-    → k.server.changes + length k.server.waiting + 1 ≤ 4294967295 → IsSome (content_of book.opening f) → IsShelf temps → ((o : ℕ) → (o ≡ n → ⊥) → SameFound k.server.temps temps o)
+    → Roomy k.server content → IsSome (content_of book.opening f) → IsShelf temps → ((o : ℕ) → (o ≡ n → ⊥) → SameFound k.server.temps temps o)
     → (x.cut ≡ false → Held temps n us q.downs (locals_of (session_in book k qs n now x q (record { xid = xid; call = Commit m f size }) us g).seat.client) (job (session_in book k qs n now x q (record { xid = xid; call = Commit m f size }) us g).seat))
     → Around k.sessions sessions n (took x xid (book.steps + 1)) → Around qs after n (record q { ups = us })
-    → IsKept (onward book 1 book.ops) (turned_core (onward book 1 book.ops) (record k.server { moment = max k.server.moment now; temps = temps; waiting = k.server.waiting ++ record { session = n; xid = xid; file = f; content = content } ∷ [] }) k.seats sessions) after
+    → IsKept (onward book 1 book.ops) (turned_core (onward book 1 book.ops) (record k.server { moment = max k.server.moment now; temps = temps; waiting = k.server.waiting ++ record { session = n; xid = xid; file = f; what = what.Content content } ∷ [] }) k.seats sessions) after
 kept_waits book k qs n now x q xid m f size us temps content sessions after g were same_content room known shelf found held around queues =
     let a : Ask = record { xid = xid; call = Commit m f size } in
     let kept = g.kept in
@@ -125,7 +131,7 @@ kept_waits book k qs n now x q xid m f size us temps content sessions after g we
     let grows = grows_same book 1 in
     let c = h.seat in
     let y = took x xid (book.steps + 1) in
-    let d : Change = record { session = n; xid = xid; file = f; content = content } in
+    let d : Change = record { session = n; xid = xid; file = f; what = what.Content content } in
     let waiting : List Change = k.server.waiting ++ d ∷ [] in
     let r : server.State = record k.server { moment = max k.server.moment now; temps = temps; waiting = waiting } in
     let spares : Spares x.closing None = λ p u v. nothing_there p v in
@@ -139,11 +145,17 @@ kept_waits book k qs n now x q xid m f size us temps content sessions after g we
       owner = refl;
       goes = goes_same book 1 kept.sound;
       server = record {
-        held = λ i. file_still book more None None i (server.file_at k.server.files i) grows (still_same book 1 kept.sound) (kept.server.held i);
-        versions = kept.server.versions;
-        changes = let e = count_more k.server.waiting d in omega (arith, e, room);
+        held = λ i. file_still book more None None i (server.file_at k.server.tree i) grows (still_same book 1 kept.sound) (kept.server.held i);
+        bounded = kept.server.bounded;
+        plain = kept.server.plain;
+        commits = λ i u at. elim (of_appended k.server.waiting d i u at) [
+          | inl new ↦ subst (λ (z : Change). z.what ≡ what.Content (content_wanted z.what)) (sym new.1) refl
+          | inr old ↦ kept.server.commits i u old
+        ];
+        changes = let e = entries_more k.server.waiting d in let r = room.0 in omega (arith, e, r);
+        bytes = let e = sizes_more k.server.waiting d in let r = room.1 in omega (arith, e, r);
         lengths = λ i u at. elim (of_appended k.server.waiting d i u at) [
-          | inl new ↦ subst (λ (z : Change). length z.content ≤ 67108864) (sym new.1) (subst (λ (z : ℕ). z ≤ 67108864) same_content.0 (h.lengths m))
+          | inl new ↦ subst (λ (z : Change). length (content_wanted z.what) ≤ 67108864) (sym new.1) (subst (λ (z : ℕ). z ≤ 67108864) same_content.0 (h.lengths m))
           | inr old ↦ kept.server.lengths i u old
         ];
         targets = λ i u at. elim (of_appended k.server.waiting d i u at) [
@@ -199,8 +211,8 @@ kept_waits book k qs n now x q xid m f size us temps content sessions after g we
         temps_below = λ uncut. ((subst (AllAsks (λ b. TempUnder c.client.next_temp b.call)) g.first (h.temps_below uncut).0).1, λ i o e lt is key. let w = were i e is in (h.temps_below uncut).1 w.0 o e lt w.1 key);
         closes = λ uncut j u. close_later book more None None x.closing h.contents c.client.next_temp j (client.local_bytes c.client.opened j.file) j.stage grows spares (h.closes uncut j u);
         pending = λ i u at. elim (of_appended (own n k.server.waiting) d i u (ap (λ (l : List Change). slice_get l i) (sym (own_here n k.server.waiting d refl)) ∙ at)) [
-          | inl new ↦ subst (λ (z : Change). IsPending more x.closing x.cut (job c) z.xid z.file z.content) (sym new.1) (pending_with more x.closing x.cut (job c) xid f (h.contents m) content same_content (pending_later book more None None x.closing x.cut (job c) (job c) xid f (h.contents m) grows spares (λ z. refl) first))
-          | inr old ↦ pending_later book more None None x.closing x.cut (job c) (job c) u.xid u.file u.content grows spares (λ z. refl) (h.pending i u old)
+          | inl new ↦ subst (λ (z : Change). IsPending more x.closing x.cut (job c) z.xid z.file (content_wanted z.what)) (sym new.1) (pending_with more x.closing x.cut (job c) xid f (h.contents m) content same_content (pending_later book more None None x.closing x.cut (job c) (job c) xid f (h.contents m) grows spares (λ z. refl) first))
+          | inr old ↦ pending_later book more None None x.closing x.cut (job c) (job c) u.xid u.file (content_wanted u.what) grows spares (λ z. refl) (h.pending i u old)
         ];
         single =
             let s = h.single in
@@ -234,9 +246,9 @@ kept_waits book k qs n now x q xid m f size us temps content sessions after g we
 leads_waits : (book : Book) (k : Core) (qs : List Queue) (n now : ℕ) (x : Session) (q : Queue) (xid m f size : ℕ) (us : List Ask) (temps : List (ℕ × Temp)) (content : List ℕ) → (g : Given book k qs n now x q (record { xid = xid; call = Commit m f size }) us)
     → ((i : ℕ) (e : ℕ × Temp) → slice_get temps i ≡ Some e → (j : ℕ) × (slice_get k.server.temps j ≡ Some e))
     → SameBytes book ((session_in book k qs n now x q (record { xid = xid; call = Commit m f size }) us g).contents m) content
-    → k.server.changes + length k.server.waiting + 1 ≤ 4294967295 → IsSome (content_of book.opening f) → IsShelf temps → ((o : ℕ) → (o ≡ n → ⊥) → SameFound k.server.temps temps o)
+    → Roomy k.server content → IsSome (content_of book.opening f) → IsShelf temps → ((o : ℕ) → (o ≡ n → ⊥) → SameFound k.server.temps temps o)
     → (x.cut ≡ false → Held temps n us q.downs (locals_of (session_in book k qs n now x q (record { xid = xid; call = Commit m f size }) us g).seat.client) (job (session_in book k qs n now x q (record { xid = xid; call = Commit m f size }) us g).seat))
-    → Leads book (rest_of qs n q us) (served k n x xid (record (at k.server now) { temps = temps; waiting = k.server.waiting ++ record { session = n; xid = xid; file = f; content = content } ∷ [] }, sends []))
+    → Leads book (rest_of qs n q us) (served k n x xid (record (at k.server now) { temps = temps; waiting = k.server.waiting ++ record { session = n; xid = xid; file = f; what = what.Content content } ∷ [] }, sends []))
 leads_waits book k qs n now x q xid m f size us temps content g were same room known shelf found held =
     let y = took x xid (book.steps + 1) in
     let z = took x xid (k.steps + 1) in
@@ -244,7 +256,7 @@ leads_waits book k qs n now x q xid m f size us temps content g were same room k
     let sessions = with_numbered k.sessions n z in
     let around = around_with k.sessions n x z g.at in
     let more = onward book 1 book.ops in
-    let r : server.State = record k.server { moment = max k.server.moment now; temps = temps; waiting = k.server.waiting ++ record { session = n; xid = xid; file = f; content = content } ∷ [] } in
+    let r : server.State = record k.server { moment = max k.server.moment now; temps = temps; waiting = k.server.waiting ++ record { session = n; xid = xid; file = f; what = what.Content content } ∷ [] } in
     let done : IsKept more (turned_core more r k.seats sessions) (rest_of qs n q us) = kept_waits book k qs n now x q xid m f size us temps content sessions (rest_of qs n q us) g were same room known shelf found held (record { there = around.there ∙ ap (λ v. Some v) (sym same_step); others = around.others; count = around.count }) (around_with qs n q (record q { ups = us }) g.is) in
     record {
       sends = record { asks = []; up_is = refl; tolds = []; down_is = refl };
@@ -256,12 +268,12 @@ leads_waits book k qs n now x q xid m f size us temps content g were same room k
 
 -- ---- whatever becomes of it
 
-not_full : (a b c d : ℕ) → (nat_lt a b || nat_lt c d) ≡ false → b ≤ a
+not_full : (a b c d : ℕ) → (nat_lt a b || nat_lt c d) ≡ false → (b ≤ a) × (d ≤ c)
 not_full a b c d e = by (nat_lt a b) refl e
   where
-    by : (t : Bool) → nat_lt a b ≡ t → (t || nat_lt c d) ≡ false → b ≤ a
+    by : (t : Bool) → nat_lt a b ≡ t → (t || nat_lt c d) ≡ false → (b ≤ a) × (d ≤ c)
     by true same e = absurd cc
-    by false same e = grind (arith, nat_tests, same)
+    by false same e = (grind (arith, nat_tests, same), grind (arith, nat_tests, e))
 
 -- where its client is there, a commit finds its temporary file whole, and its file in the tree
 pub record IsReady (book : Book) (k : Core) (qs : List Queue) (n now : ℕ) (x : Session) (q : Queue) (xid m f size : ℕ) (us : List Ask) (g : Given book k qs n now x q (record { xid = xid; call = Commit m f size }) us) : Type 0 where
@@ -273,7 +285,7 @@ pub record IsReady (book : Book) (k : Core) (qs : List Queue) (n now : ℕ) (x :
   pub content : List ℕ
   pub whole : assembled temp size ≡ Some content
   pub file : File
-  pub node : node_of k.server.files (handle_bytes f) ≡ Ok (Rattle.server_core.specs.Answers.file file)
+  pub node : node_of k.server.tree (handle_bytes f) ≡ Ok (Rattle.server_core.specs.Answers.file file)
   pub small : nat_lt size_most size ≡ false
   pub alone : has_waiting k.server.waiting n ≡ false
   pub left : Held (without_temp k.server.temps n m) n us q.downs (locals_of (session_in book k qs n now x q (record { xid = xid; call = Commit m f size }) us g).seat.client) (job (session_in book k qs n now x q (record { xid = xid; call = Commit m f size }) us g).seat)
@@ -387,10 +399,10 @@ serve_commit laws book k qs n now x q xid m f size us g = by (temp_at k.server.t
     ends s wanted = refused_with laws book k qs n now x q xid m f size us s left g (λ i e is. of_removed _ k.server.temps i e is) (shelf_out k.server.temps n m g.kept.shelf) others wanted (λ uncut. (ready uncut).left)
 
     has_room : (id : ℕ) (content : List ℕ) (w full : Bool) → has_waiting k.server.waiting n ≡ w → is_full (record (at k.server now) { temps = left }) (length content) ≡ full → id ≡ f → IsSome (content_of book.opening f) → SameBytes book (h.contents m) content
-        → Leads book (rest_of qs n q us) (served k n x xid (if w then answers (record (at k.server now) { temps = left }) n xid (lb.CommitTmpAnswer (Failed status.Jukebox tt)) else if full then answers (record (at k.server now) { temps = left }) n xid (lb.CommitTmpAnswer (Failed status.NoSpc tt)) else (record (at k.server now) { temps = left; waiting = k.server.waiting ++ record { session = n; xid = xid; file = id; content = content } ∷ [] }, sends [])))
+        → Leads book (rest_of qs n q us) (served k n x xid (if w then answers (record (at k.server now) { temps = left }) n xid (lb.CommitTmpAnswer (Failed status.Jukebox tt)) else if full then answers (record (at k.server now) { temps = left }) n xid (lb.CommitTmpAnswer (Failed status.NoSpc tt)) else (record (at k.server now) { temps = left; waiting = k.server.waiting ++ record { session = n; xid = xid; file = id; what = what.Content content } ∷ [] }, sends [])))
     has_room id content true full waits e same known is = ends status.Jukebox (λ uncut. absurd (false_and_true (has_waiting k.server.waiting n) (ready uncut).alone waits))
     has_room id content false true waits e same known is = ends status.NoSpc (λ uncut. no_room laws book k qs n now x q xid m f size us g content uncut is e)
-    has_room id content false false waits e same known is = subst (λ (i : ℕ). Leads book (rest_of qs n q us) (served k n x xid (record (at k.server now) { temps = left; waiting = k.server.waiting ++ record { session = n; xid = xid; file = i; content = content } ∷ [] }, sends []))) (sym same) (leads_waits book k qs n now x q xid m f size us left content g (λ i u w. of_removed _ k.server.temps i u w) is (let le = not_full changes_most (k.server.changes + length k.server.waiting + 1) _ _ e in le) known (shelf_out k.server.temps n m g.kept.shelf) others (λ uncut. (ready uncut).left))
+    has_room id content false false waits e same known is = subst (λ (i : ℕ). Leads book (rest_of qs n q us) (served k n x xid (record (at k.server now) { temps = left; waiting = k.server.waiting ++ record { session = n; xid = xid; file = i; what = what.Content content } ∷ [] }, sends []))) (sym same) (leads_waits book k qs n now x q xid m f size us left content g (λ i u w. of_removed _ k.server.temps i u w) is (not_full changes_most (k.server.tree.changes + server.entries_held k.server.waiting + 1) tree_most (server.bytes_held k.server + length content) e) known (shelf_out k.server.temps n m g.kept.shelf) others (λ uncut. (ready uncut).left))
 
     whole : (id : ℕ) (t : Temp) (o : Option (List ℕ)) → temp_at k.server.temps n m ≡ Some t → assembled t size ≡ o → id ≡ f → IsSome (content_of book.opening f) → ((c : List ℕ) → o ≡ Some c → SameBytes book (h.contents m) c) → Leads book (rest_of qs n q us) (served k n x xid (commits_whole (record (at k.server now) { temps = left }) n xid id o))
     whole id t None found none same known is = ends status.Inval (λ uncut. let r = ready uncut in nothing_there r.content (sym none ∙ ap (λ (z : Temp). assembled z size) (some_is t r.temp (sym found ∙ r.found)) ∙ r.whole))
@@ -406,10 +418,10 @@ serve_commit laws book k qs n now x q xid m f size us g = by (temp_at k.server.t
         let sized_is : size ≡ length (h.contents m) = (subst (AllAsks (IsCommit book x.closing x.cut (job h.seat) h.contents)) g.first h.commits).0.1 in
         whole id t (assembled t size) found refl same known (λ c is. joined_is (hashed_of book.moments) (h.contents m) t.pieces c parts (ap (λ (z : ℕ). joined 0 z t.pieces) (sym sized_is) ∙ is))
 
-    nodes : (t : Temp) → temp_at k.server.temps n m ≡ Some t → Found k.server.files f → Leads book (rest_of qs n q us) (served k n x xid (commits_to (record (at k.server now) { temps = left }) n xid size t (node_of k.server.files (handle_bytes f))))
+    nodes : (t : Temp) → temp_at k.server.temps n m ≡ Some t → Found k.server.tree f → Leads book (rest_of qs n q us) (served k n x xid (commits_to (record (at k.server now) { temps = left }) n xid size t (node_of k.server.tree (handle_bytes f))))
     nodes t found (is_root one e) = subst (λ (nd : Result Node Status). Leads book (rest_of qs n q us) (served k n x xid (commits_to (record (at k.server now) { temps = left }) n xid size t nd))) (sym e) (ends status.IsDir (λ uncut. absurd (not_root (ready uncut).file (sym e ∙ (ready uncut).node))))
       where
-        not_root : (z : File) → ◌≡◌ {A = Result Node Status} (Ok root) (Ok (file z)) → ⊥
+        not_root : (z : File) → ◌≡◌ {A = Result Node Status} (Ok directory) (Ok (file z)) → ⊥
         not_root z q = absurd cc
     nodes t found (is_gone none e) = subst (λ (nd : Result Node Status). Leads book (rest_of qs n q us) (served k n x xid (commits_to (record (at k.server now) { temps = left }) n xid size t nd))) (sym e) (ends status.Stale (λ uncut. absurd (not_err (ready uncut).file (sym e ∙ (ready uncut).node))))
       where
@@ -419,4 +431,4 @@ serve_commit laws book k qs n now x q xid m f size us g = by (temp_at k.server.t
 
     by : (o : Option Temp) → temp_at k.server.temps n m ≡ o → Leads book (rest_of qs n q us) (served k n x xid (commits (at k.server now) n xid (record { fd = m; handle = handle_bytes f; size = size }) o))
     by None found = fails status.BadFd (λ uncut. let r = ready uncut in nothing_there r.temp (sym found ∙ r.found))
-    by (Some t) found = nodes t found (looked k.server.files f (first_fits book k qs n now x q a us g).2)
+    by (Some t) found = nodes t found (looked k.server.tree f g.kept.server.plain (first_fits book k qs n now x q a us g).2)

@@ -60,43 +60,50 @@ pub use Rattle.register_model.specs.declared.op.Op.{Op}
 pub use Rattle.register_model.specs.declared.op.Opening.{Opening}
 pub use Rattle.register_model.specs.declared.op.Traffic.{Traffic}
 pub use Rattle.register_model.specs.declared.op.Word.{Word}
-pub use Rattle.server_core.specs.Answers.{node_of, file, told_chunks, Node, root, hashes_of, pair_of, is_end, piece_of, meets, attr_of, piece_bytes, leased_of, lease_answer}
-pub use Rattle.server_core.specs.Closing.{is_full, makes_change, at, makes, makes_unless, writes_unless, commits, commits_to, commits_whole, has_waiting, cond_fault, entry_of, names, names_unless, names_bytes, bytes_known, bytes_found}
+pub use Rattle.file_tree.specs.Tree.{Tree}
+pub use Rattle.file_tree.specs.Opening.{can_open}
+pub use Rattle.server_core.specs.Answers.{node_of, file, told_chunks, Node, directory, hashes_of, pair_of, is_end, piece_of, meets, attr_of, piece_bytes, leased_of, lease_answer}
+pub use Rattle.server_core.specs.Closing.{is_full, makes_change, at, makes, makes_unless, writes_unless, commits, commits_to, commits_whole, has_waiting, cond_fault, entry_by, names, names_unless, names_bytes, bytes_known, bytes_found}
 pub use Rattle.server_core.specs.Step.{server_step, stands, connect, has_room, got_if, called}
 pub use Rattle.server_core.specs.declared.change.Change.{Change}
 pub use Rattle.server_core.specs.declared.event.ServerStep.{ServerStep}
-pub use Rattle.server_core.specs.declared.file.File.{File}
+pub use Rattle.server_core.specs.declared.change.Wanted.{Wanted}
+pub use Rattle.server_core.specs.State.{File}
 pub use Rattle.server_core.specs.declared.journal.Entry.{Entry}
-pub use Rattle.open_close.proofs.Locals.{local_at_itself, local_at_another, without_at_itself, without_at_another}
-pub use Rattle.open_close.specs.Closing.{store_at, is_stored, answered, store_of, names_all, names_from, names_next, names_more, commit_call, without_store, cond_call, with_whole, temp_call}
-pub use Rattle.open_close.specs.Counting.{no_counts, ends, nothing_done}
-pub use Rattle.open_close.specs.Local.{local_most, written_size, written, truncated, part_of}
-pub use Rattle.open_close.specs.Opening.{read_at, calls_most, with_hashes, reads_all, is_here, fetch_of, listed, reads_from, reads_next, reads_more, with_bytes, other_version, tries_most, fault_in, slots_bytes, is_none, read_call, without_read, hash_call, shown_version, lease_call, reads_chunk, looked_up}
-pub use Rattle.open_close.specs.Shape.{broken_of, Broken, with_pairs, broken_if, broken_pair, broken_pairs, broken_sum, chunks_from}
-pub use Rattle.open_close.specs.State.{has_call, store_pending, State, local_bytes, read_pending, pending, calls_of, local_at, without_call, waiting_of}
-pub use Rattle.open_close.specs.Step.{idle, command_step, took, got_step, reads_on, goes_if, reads_if, may_ask, goes_on, asks_file, asks_kept, opens_if, opens, on_local, done_with, edits, truncates, reads, abandons, asks_temp, closes, sends_whole, ended_by, too_big, writes, told_named, is_open, retries, lists_on, told_shape, told_version, told_hashes, misfits, told_bytes, told_chunk, told_piece, took_if, drops, told_way, told_stored, told_temp, told_whole, joined, got_message, told_first, cut, refused, tries_anew, bad_peer, denied, denied_if, got_fault, has_xids, forgets, told_lease, uses_kept, opened_with, closed}
-pub use Rattle.open_close.specs.declared.calls.Names.{Names}
-pub use Rattle.open_close.specs.declared.calls.Reads.{Reads}
-pub use Rattle.open_close.specs.declared.step.BadPeer.{BadPeer}
-pub use Rattle.open_close.specs.declared.step.ClientStep.{ClientStep}
-pub use Rattle.open_close.specs.declared.step.Counts.{Counts}
-pub use Rattle.open_close.specs.declared.step.Ended.{Ended}
-pub use Rattle.open_close.specs.declared.step.Outcome.{Outcome}
-pub use Rattle.open_close.specs.declared.task.Fetch.{Fetch}
-pub use Rattle.open_close.specs.declared.task.Local.{Local}
-pub use Rattle.open_close.specs.declared.task.ReadCall.{ReadCall}
-pub use Rattle.open_close.specs.declared.task.Stage.{Stage}
-pub use Rattle.open_close.specs.declared.task.Store.{Store}
-pub use Rattle.open_close.specs.declared.task.StoreCall.{StoreCall}
-pub use Rattle.open_close.specs.declared.task.Task.{Task}
-pub use Rattle.open_close.specs.declared.task.Way.{Way}
+pub use Rattle.client_state.proofs.Locals.{local_at_itself, local_at_another, without_at_itself, without_at_another}
+pub use Rattle.file_close.specs.Closing.{store_at, is_stored, answered, store_of, names_all, names_from, names_next, names_more, commit_call, without_store, cond_call, with_whole, temp_call}
+pub use Rattle.client_state.specs.Counting.{no_counts, ends, nothing_done}
+pub use Rattle.client_state.specs.Local.{local_most, written_size, written, truncated, part_of}
+pub use Rattle.file_open.specs.Opening.{read_at, with_hashes, reads_all, is_here, fetch_of, listed, reads_from, reads_next, reads_more, with_bytes, other_version, fault_in, slots_bytes, read_call, without_read, hash_call, shown_version, lease_call, reads_chunk, looked_up}
+pub use Rattle.client_state.specs.Limits.{calls_most, tries_most}
+pub use Rattle.client_state.specs.State.{is_none}
+pub use Rattle.file_open.specs.Shape.{broken_of, Broken, with_pairs, broken_if, broken_pair, broken_pairs, broken_sum, chunks_from}
+pub use Rattle.client_state.specs.State.{has_call, store_pending, State, local_bytes, read_pending, pending, calls_of, local_at, without_call, waiting_of}
+pub use Rattle.client_state.specs.Ending.{idle, may_ask, on_local, ended_by, is_open, drops, joined, cut, refused, bad_peer, denied, has_xids, forgets}
+pub use Rattle.open_close.specs.Step.{command_step, took, got_step, done_with, edits, truncates, reads, abandons, too_big, writes, took_if, got_message, denied_if, got_fault}
+pub use Rattle.file_open.specs.Fetching.{reads_on, reads_if, asks_file, asks_kept, opens_if, opens, retries, lists_on, told_shape, told_version, told_hashes, misfits, told_bytes, told_chunk, told_piece, told_first, tries_anew, told_lease, uses_kept, opened_with}
+pub use Rattle.file_close.specs.Storing.{goes_if, goes_on, asks_temp, closes, sends_whole, told_named, told_way, told_stored, told_temp, told_whole, closed}
+pub use Rattle.file_close.specs.declared.calls.Names.{Names}
+pub use Rattle.file_open.specs.declared.calls.Reads.{Reads}
+pub use Rattle.client_state.specs.declared.step.BadPeer.{BadPeer}
+pub use Rattle.client_state.specs.declared.step.ClientStep.{ClientStep}
+pub use Rattle.client_state.specs.declared.step.Counts.{Counts}
+pub use Rattle.client_state.specs.declared.step.Ended.{Ended}
+pub use Rattle.client_state.specs.declared.step.Outcome.{Outcome}
+pub use Rattle.client_state.specs.declared.task.Fetch.{Fetch}
+pub use Rattle.client_state.specs.declared.task.Local.{Local}
+pub use Rattle.client_state.specs.declared.task.ReadCall.{ReadCall}
+pub use Rattle.client_state.specs.declared.task.Stage.{Stage}
+pub use Rattle.client_state.specs.declared.task.Store.{Store}
+pub use Rattle.client_state.specs.declared.task.StoreCall.{StoreCall}
+pub use Rattle.client_state.specs.declared.task.Task.{Task}
+pub use Rattle.client_state.specs.declared.task.Way.{Way}
 pub use Rattle.trace_replay.specs.Book.{Book, value_at, version_at, Or, book_of, Collides, history, HadContent}
 pub use Rattle.trace_replay.specs.Causes.{Tried, own_answer, is_busy, leaves, after_one, local_from, IsOpenRefused, can_ask, IsOpened, lasts, unless_asks, write_outcome, sized_outcome, local_before, IsClosed, IsChanged, HasCause, IsLost, IsEntered}
 pub use Rattle.trace_replay.specs.Commands.{word_of, file_of, value_at_begin}
 pub use Rattle.trace_replay.specs.Core.{numbered, Session, Core, Seat, with_numbered, Event.Serves, CoreStep, Event.Hears, happens, Event, Event.Cuts, server_waiting, ops_with, Event.Joins, Event.Does, Event.Settles, Event.Hangs, session_of, serves_if, serves, cuts_if, ops_after, does, joins_as, cuts, joins, hangs_if, hangs, acted, Loss.Nothing, is_newest, hears, hears_at, hears_if, settles, Loss, commanded_sessions, taken_of, settled_ops, settled_by, cut_session, new_seat, Loss.Down_of, Loss.Up_of, quiet, new_session, commanded_session, taken_with}
 pub use Rattle.trace_replay.specs.Delivery.{all_happened, up_at, down_at, up_length, down_length, up_some, down_some, up_all, round, is_still, passes, up_taken, down_taken, is_still_at, up_events, down_events}
 pub use Rattle.trace_replay.specs.Faithful.{is_running, StoresLocal, CameTo, IsDone, HasJournal, OpenedBy, TellsVersion}
-pub use Rattle.trace_replay.specs.Names.{has_name}
 pub use Rattle.trace_replay.specs.Ops.{op_after, counted, has_point, point_if, place_after, told_of, no_traffic, begun, place_with, taken_at, value_of, ended_op, pointed, pointed_at, op_ended, closing_with}
 pub use Rattle.trace_replay.specs.Readings.{KeepsClocks}
 pub use Rattle.trace_replay.specs.Run.{turned, run, asked, run_from, at_events, count_of, asked_by, line_most, sessions_most, asks_if, sized, named, joins_if, joins_within, event_asks, asks_at, asks, in_header, ended, asks_within}

@@ -3,7 +3,7 @@ use Rattle.std.proofs.Common.{◌⊎◌, inl, inr, ◌≡◌, ℕ, zero, suc, �
 use Rattle.nfs3_calls.specs.declared.message.Nfs.TheVariants as nfs
 use Rattle.wire.specs.declared.message.Body.TheVariants as body
 use Rattle.wire.specs.declared.message.Message.TheVariants as message
-use Rattle.open_close.specs.State as client
+use Rattle.client_state.specs.State as client
 use Rattle.trace_replay.specs.Traffic.{traffic_if, sent_for, taken_for, traffic_of}
 use Rattle.kept_promise.proofs.Common.{nat_tests, Contains, ◌==◌, ◌&&◌, nat_le, slice_get, Done, Message, ClientStep, Counts, Ended, Op, Traffic, TakenCall, ops_after, ops_with, no_traffic, counted, op_after, pointed, pointed_at, Said, all_said, until, is_of, sent_traffic, taken_traffic, both}
 use Rattle.kept_promise.proofs.Lists.{some_is, nothing_there, of_replaced, of_appended}

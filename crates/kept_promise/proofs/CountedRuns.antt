@@ -5,8 +5,8 @@ use Rattle.server_core.specs.State as server
 use Rattle.server_core.specs.declared.event.Event.TheVariants as event
 use Rattle.server_core.specs.declared.event.Told.{Told}
 use Rattle.server_core.specs.declared.event.Told.TheVariants as told
-use Rattle.open_close.specs.State as client
-use Rattle.open_close.specs.declared.step.Outcome.TheVariants as outcome
+use Rattle.client_state.specs.State as client
+use Rattle.client_state.specs.declared.step.Outcome.TheVariants as outcome
 use Rattle.trace_replay.specs.Core.{taken_of as session_taken}
 use Rattle.trace_replay.specs.Trail.{taken_in, taken_of}
 use Rattle.kept_promise.proofs.Common.{slice_get, Command, parse_of, Message, WireFault, server_step, no_counts, command_step, got_step, ended_by, cut, BadPeer, ClientStep, Ended, Outcome, Task, Op, Opening, TakenCall, no_traffic, counted, op_after, ended_op, told_of, Core, Seat, Session, Event, Event.Joins, Event.Does, Event.Serves, Event.Hears, Event.Settles, Event.Cuts, Event.Hangs, CoreStep, numbered, server_waiting, serves_if, serves, session_of, ops_after, ops_with, does, joins_as, joins, settled_ops, settled_by, settles, cuts_if, cuts, hangs_if, hangs, happens, Moment, all_said, owner_in, client_of, sent_in, sent_of, wanted_by, taken_if, taken_from, taken_by, Book, Queue}
@@ -162,7 +162,7 @@ Counts all past opening k qs = CountedAt past k
 
 pub carried_counts : Carried Counts
 carried_counts = record {
-  first = λ all opening files changes count kept. record { sent_by = tt; taken_by = tt; counts = λ p o at. nothing_there o at; silent = λ p o at. nothing_there o at };
+  first = λ all opening tree count kept. record { sent_by = tt; taken_by = tt; counts = λ p o at. nothing_there o at; silent = λ p o at. nothing_there o at };
   steps = λ all past rest opening k qs e mid after s h.
       let t = happens k e in
       subst (λ z. AreCounted z (taken_of (past ++ moment k e ∷ [])) t.core.steps t.core.ops) (sent_more past (moment k e))

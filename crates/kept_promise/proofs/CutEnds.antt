@@ -1,6 +1,6 @@
 -- Where a client saw its connection lost, each operation that it began before has ended.
 use Rattle.std.proofs.Common.{◌⊎◌, inl, inr, ◌≡◌, ℕ, ◌+◌, ◌<◌, ◌≤◌, List, [], ◌∷◌, ◌++◌, Option, Some, None, Bool, true, false, refl, sym, ap, ◌∙◌, subst, arith}
-use Rattle.open_close.specs.declared.step.Outcome.TheVariants as outcome
+use Rattle.client_state.specs.declared.step.Outcome.TheVariants as outcome
 use Rattle.register_model.specs.declared.op.Outcome.TheVariants as told
 use Rattle.trace_replay.specs.Faithful.{CutsEnd}
 use Rattle.kept_promise.proofs.Common.{Contains-push_cases, slice_get, slice_set, Contains, cut, ended_by, Ended, Task, Op, Opening, TakenCall, Core, Seat, Event, Event.Cuts, numbered, taken_of, session_of, ops_after, ops_with, cuts_if, cuts, happens, op_ended, op_after, counted, Moment, step_of, World, book_of, Queue}
@@ -119,8 +119,8 @@ pub record AreFollowed (past : List Moment) (k : Core) : Type 0 where
 
 pub carried_follow : Carried (λ all past opening k qs. AreFollowed past k)
 carried_follow = record {
-  first = λ all opening files changes count kept. record {
-    followed = followed_first files changes count;
+  first = λ all opening tree count kept. record {
+    followed = followed_first tree count;
     cuts = record { late = λ m there. let lt = there.1 in absurd (omega (arith, lt)); cuts = λ m c i o there is at. nothing_there o at };
   };
   steps = λ all past rest opening k qs e mid after s h. record { followed = (goes all past rest opening k qs e mid after s h.followed).followed; cuts = cuts_go all past rest opening k qs e mid after s h.followed h.cuts };

@@ -1,14 +1,14 @@
 -- A client sees its connection lost: its operation ends by that, and what is on its way down goes.
 use Rattle.std.proofs.Common.{◌⊎◌, inl, inr, ◌≡◌, ℕ, ◌+◌, ◌<◌, List, [], Option, Some, None, Bool, true, false, refl, sym, ap, ◌∙◌, subst, arith, append-nil, IsSome}
 use Rattle.server_core.specs.State as server
-use Rattle.open_close.specs.State as client
-use Rattle.open_close.specs.declared.step.Outcome.TheVariants as outcome
+use Rattle.client_state.specs.State as client
+use Rattle.client_state.specs.declared.step.Outcome.TheVariants as outcome
 use Rattle.register_model.specs.declared.op.Outcome.TheVariants as told
 use Rattle.register_model.specs.declared.op.Word.TheVariants as words
 use Rattle.trace_replay.specs.Core.{idles, loss_down}
 use Rattle.kept_promise.proofs.Common.{slice_get, slice_set, cut, ended_by, nothing_done, ClientStep, Ended, Task, content_of, Op, Word, TakenCall, Core, Seat, Session, Event.Cuts, CoreStep, taken_of, session_of, ops_after, ops_with, cut_session, cuts_if, cuts, numbered, with_numbered, has_point, point_if, op_after, place_after, unless, hashed_of, Book, Ask, Queue, Call, Call.Commit}
 use Rattle.kept_promise.proofs.Lists.{some_is, nothing_there, same_or_not, of_replaced}
-use Rattle.kept_promise.proofs.Messages.{Job, job, job_of, IsCommit, CommitOf, IsPending}
+use Rattle.kept_promise.proofs.Messages.{Job, job, job_of, IsCommit, CommitOf, IsPending, content_wanted}
 use Rattle.kept_promise.proofs.Rights.{is_remote, IsRight}
 use Rattle.kept_promise.proofs.History.{Goes, Still, Becomes, onward, grows_same, goes_same, still_same, goes_becomes, still_becomes}
 use Rattle.kept_promise.proofs.Later.{all_asks, commit_later, pending_later, pieces_later, parts_later, cached_later, same_view, Spares}
@@ -62,7 +62,7 @@ cut_kept book more k qs c n x q seat ended after kept here at is owner newest go
       seat_around = subst (λ (z : ℕ). Around k.seats seats z d) (sym owner) seated;
       owner = refl;
       goes = goes;
-      server = record { held = λ f. file_still book more None ended f (server.file_at k.server.files f) g still (kept.server.held f); versions = kept.server.versions; changes = kept.server.changes; lengths = kept.server.lengths; targets = λ i z e. subst (λ l. IsSome (content_of l z.file)) (sym opening) (kept.server.targets i z e); xids = kept.server.xids };
+      server = record { held = λ f. file_still book more None ended f (server.file_at k.server.tree f) g still (kept.server.held f); bounded = kept.server.bounded; plain = kept.server.plain; commits = kept.server.commits; changes = kept.server.changes; bytes = kept.server.bytes; lengths = kept.server.lengths; targets = λ i z e. subst (λ l. IsSome (content_of l z.file)) (sym opening) (kept.server.targets i z e); xids = kept.server.xids };
       sessions_made = refl;
       view = λ m apart. same_view m k.server;
       elsewhere = inr newest;
@@ -86,7 +86,7 @@ cut_kept book more k qs c n x q seat ended after kept here at is owner newest go
         temps = λ i m e lt f key. let o = h.temps i m e lt f key in (parts_later (hashed_of book.moments) (hashed_of more.moments) (h.contents m) e.1.pieces g.hashed o.0, o.1);
         temps_below = λ e. absurd cc;
         closes = λ e. absurd cc;
-        pending = λ i z f. pending_later book more None ended x.closing true (job d) (job d) z.xid z.file z.content g spares (λ e. refl) (cut_pending book x.closing x.cut (job h.seat) (job d) z.xid z.file z.content (h.pending i z f));
+        pending = λ i z f. pending_later book more None ended x.closing true (job d) (job d) z.xid z.file (content_wanted z.what) g spares (λ e. refl) (cut_pending book x.closing x.cut (job h.seat) (job d) z.xid z.file (content_wanted z.what) (h.pending i z f));
         single = h.single;
         old = λ p f. let o = h.old p f in let u = g.each p o.0 o.1 in (u.0, u.1, u.2.client ∙ o.2);
         orderly = λ e. absurd cc;
@@ -179,7 +179,7 @@ idle_kept : (book : Book) (k : Core) (qs : List Queue) → IsKept book k qs → 
 idle_kept book k qs kept =
     subst (λ (z : Core). IsKept (onward book 1 book.ops) z qs) (core_is book k qs k.server k.seats k.sessions kept)
     (kept_rest book (onward book 1 book.ops) k qs k.server (goes_same book 1 kept.sound)
-    (record { held = λ f. file_still book (onward book 1 book.ops) None None f (server.file_at k.server.files f) (grows_same book 1) (still_same book 1 kept.sound) (kept.server.held f); versions = kept.server.versions; changes = kept.server.changes; lengths = kept.server.lengths; targets = kept.server.targets; xids = kept.server.xids })
+    (record { held = λ f. file_still book (onward book 1 book.ops) None None f (server.file_at k.server.tree f) (grows_same book 1) (still_same book 1 kept.sound) (kept.server.held f); bounded = kept.server.bounded; plain = kept.server.plain; commits = kept.server.commits; changes = kept.server.changes; bytes = kept.server.bytes; lengths = kept.server.lengths; targets = kept.server.targets; xids = kept.server.xids })
     refl (λ m. same_view m k.server) kept.home kept.running kept.journal kept.shelf kept)
 
 pub leads_idle : (book : Book) (k : Core) (qs : List Queue) → IsKept book k qs → Leads book qs (idles k)

@@ -1,7 +1,7 @@
 -- A client is told to do something: one command more, and its operation.
 use Rattle.std.proofs.Common.{◌⊎◌, inl, inr, ◌≡◌, ℕ, ◌+◌, ◌<◌, ◌≤◌, List, [], ◌∷◌, ◌++◌, Option, Some, None, Bool, true, false, refl, sym, ap, ◌∙◌, subst, arith}
 use Rattle.command_text.specs.declared.command.Command.TheVariants as command
-use Rattle.open_close.specs.State as client
+use Rattle.client_state.specs.State as client
 use Rattle.register_model.specs.declared.op.Outcome.{Outcome as Told}
 use Rattle.register_model.specs.declared.op.Outcome.TheVariants as told
 use Rattle.kept_promise.proofs.Common.{nat_tests, slice_get, nat_le, not, is_some, Command, has_xids, may_ask, command_step, ClientStep, Ended, Local, Task, Op, Word, word_of, file_of, value_at_begin, Core, Seat, numbered, with_numbered, begun, counted, op_ended, op_after, has_point, point_if, value_of, Deed, Book, can_ask, leaves, lasts, is_busy, after_one, local_from, own_answer, is_running, StoresLocal, Queue}

@@ -1,11 +1,11 @@
 -- A client takes an answer to a call that it has forgotten: it is dropped, and what is under way stays as it is.
 use Rattle.std.proofs.Common.{inl, inr, ◌≡◌, ℕ, zero, suc, ◌+◌, ◌<◌, ◌≤◌, List, [], ◌∷◌, ◌++◌, Option, Some, None, Bool, true, false, refl, sym, ap, ◌∙◌, subst, arith, eq-eqb, map}
-use Rattle.open_close.specs.State as client
+use Rattle.client_state.specs.State as client
 use Rattle.register_model.specs.declared.op.Outcome.TheVariants as told
 use Rattle.kept_promise.proofs.Common.{slice_get, slice_set, ◌==◌, ◌||◌, Pending, has_call, without_call, no_counts, nothing_done, store_pending, Stage, Op, Core, Seat, Session, numbered, ops_with, ops_after, acted, counted, Book, Told, Queue}
 use Rattle.kept_promise.proofs.Lists.{some_is, nothing_there, same_or_not, of_replaced, false_and_true}
 use Rattle.kept_promise.proofs.Keys.{times, there_by}
-use Rattle.kept_promise.proofs.Messages.{Job, job, AllTolds, IsAnswer, IsCommit}
+use Rattle.kept_promise.proofs.Messages.{Job, job, AllTolds, IsAnswer, IsCommit, content_wanted}
 use Rattle.kept_promise.proofs.History.{Goes, Still, onward, goes_same, still_same, still_becomes}
 use Rattle.kept_promise.proofs.Later.{all_asks, all_tolds, answer_later, commit_later, pending_later, close_later, has_fetch_later, seat_later, Spares}
 use Rattle.kept_promise.proofs.Taken.{times_map_append}
@@ -95,7 +95,7 @@ kept_dropped book ops k qs n x q t ts seats after kept at is first uncut i there
       old_asks = talk.asked;
       old_tolds = (subst (AllTolds (IsAnswer more x.taken x.closing (job h.seat))) first (all_tolds (IsAnswer book x.taken x.closing (job h.seat)) (IsAnswer more x.taken x.closing (job h.seat)) (λ u a. answer_later book more None None x.taken x.closing (job h.seat) u goes.grows spares a) q.downs talk.answers)).1;
       old_commits = all_asks (IsCommit book x.closing x.cut (job h.seat) h.contents) (IsCommit more x.closing x.cut (job h.seat) h.contents) (λ a m. commit_later book more None None x.closing x.cut (job h.seat) (job h.seat) h.contents a goes.grows spares (λ u. refl) m) q.ups h.commits;
-      old_pending = λ m d f. pending_later book more None None x.closing x.cut (job h.seat) (job h.seat) d.xid d.file d.content goes.grows spares (λ u. refl) (h.pending m d f);
+      old_pending = λ m d f. pending_later book more None None x.closing x.cut (job h.seat) (job h.seat) d.xid d.file (content_wanted d.what) goes.grows spares (λ u. refl) (h.pending m d f);
       moves = moves_drops (client.pending h.seat.client.task) h.seat.client.forgotten i t there (talk.balanced.once t.xid);
       rising = omega arith;
       asked = tt;

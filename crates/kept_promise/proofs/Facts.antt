@@ -3,17 +3,20 @@ use Rattle.std.proofs.Common.{◌≡◌, ℕ, suc, ◌+◌, ◌*◌, ◌<◌, �
 use Rattle.client_cache.specs.Cache.{Entries, content_of as kept_of}
 use Rattle.client_cache.specs.declared.kept.Content.{Content}
 use Rattle.server_core.specs.State as server
-use Rattle.open_close.specs.State as client
-use Rattle.open_close.specs.declared.task.Stage.TheVariants as stage
-use Rattle.open_close.specs.declared.task.Way.TheVariants as way
+use Rattle.client_state.specs.State as client
+use Rattle.client_state.specs.declared.task.Stage.TheVariants as stage
+use Rattle.client_state.specs.declared.task.Way.TheVariants as way
 use Rattle.register_model.specs.declared.op.Outcome.TheVariants as told
 use Rattle.kept_promise.proofs.Common.{slice_get, not, MessageFits, Pending, stands, Temp, key_of, Change, File, Local, Stage, StoreCall, content_of, Op, Core, Seat, Session, numbered, hashed_of, Book, HadContent, Or, value_at, version_at, Call.Commit, Ask, Queue, told_message}
 use Rattle.kept_promise.proofs.Statements.{CallFits}
 use Rattle.kept_promise.proofs.Keys.{times, own, on_way, pending_key, IsOurs}
-use Rattle.kept_promise.proofs.Messages.{Job, job, stage_word, AllAsks, AllTolds, AllUnder, Rising, IsAsked, IsAnswer, IsTrying, HasFetch, IsCommit, IsPiece, IsPending, TempUnder, AreParts, CloseOf}
+use Rattle.kept_promise.proofs.Messages.{Job, job, stage_word, AllAsks, AllTolds, AllUnder, Rising, IsAsked, IsAnswer, IsTrying, HasFetch, IsCommit, IsPiece, IsPending, TempUnder, AreParts, CloseOf, content_wanted}
 use Rattle.kept_promise.proofs.Rights.{IsSound}
 use Rattle.kept_promise.proofs.Shelf.{IsShelf}
 use Rattle.kept_promise.proofs.Orderly.{Orderly}
+use Rattle.server_core.specs.declared.change.Wanted.TheVariants as wanted
+use Rattle.kept_promise.proofs.Trees.{IsBounded}
+use Rattle.kept_promise.proofs.TreeOpens.{IsPlain}
 
 -- ---- xids
 
@@ -76,7 +79,7 @@ pub record IsSession (book : Book) (seats : List Seat) (s : server.State) (n : �
   pub temps : (i m : ℕ) (e : ℕ × Temp) → m < 4294967296 → slice_get s.temps i ≡ Some e → e.0 ≡ key_of n m → AreParts (hashed_of book.moments) (contents m) e.1.pieces × (key_of e.1.session e.1.fd ≡ e.0)
   pub temps_below : x.cut ≡ false → AllAsks (λ a. TempUnder seat.client.next_temp a.call) q.ups × ((i m : ℕ) (e : ℕ × Temp) → m < 4294967296 → slice_get s.temps i ≡ Some e → e.0 ≡ key_of n m → m < seat.client.next_temp)
   pub closes : x.cut ≡ false → (j : Job) → job seat ≡ Some j → CloseOf book x.closing contents seat.client.next_temp j (client.local_bytes seat.client.opened j.file) j.stage
-  pub pending : (i : ℕ) (c : Change) → slice_get (own n s.waiting) i ≡ Some c → IsPending book x.closing x.cut (job seat) c.xid c.file c.content
+  pub pending : (i : ℕ) (c : Change) → slice_get (own n s.waiting) i ≡ Some c → IsPending book x.closing x.cut (job seat) c.xid c.file (content_wanted c.what)
   pub single : commits_in q.ups + length (own n s.waiting) ≤ 1
   pub old : (k : ℕ) → x.closing ≡ Some k → (o : Op) × (slice_get book.ops k ≡ Some o) × (o.client ≡ x.owner)
   pub orderly : x.cut ≡ false → Orderly book n s.temps x.hung q seat
@@ -128,10 +131,15 @@ FileIs book f None = (content_of book.opening f ≡ None) × (value_at book f (b
 FileIs book f (Some g) = (g.id ≡ f) × (1 < f) × (f < 18446744073709551616) × IsSome (content_of book.opening f) × IsValue book f g.content × (version_at book f (book.steps + 1) ≡ g.version) × (length g.content ≤ 67108864)
 
 pub record IsServer (book : Book) (s : server.State) : Type 0 where
-  pub held : (f : ℕ) → FileIs book f (server.file_at s.files f)
-  pub versions : (f : ℕ) (g : File) → server.file_at s.files f ≡ Some g → g.version ≤ s.changes
-  pub changes : s.changes + length s.waiting ≤ 4294967295
-  pub lengths : (i : ℕ) (c : Change) → slice_get s.waiting i ≡ Some c → length c.content ≤ 67108864
+  pub held : (f : ℕ) → FileIs book f (server.file_at s.tree f)
+  -- its tree is within the limits, and the root is its only directory
+  pub bounded : IsBounded s.tree
+  pub plain : IsPlain s.tree
+  -- each change that waits is a commit, and has its room
+  pub commits : (i : ℕ) (c : Change) → slice_get s.waiting i ≡ Some c → c.what ≡ wanted.Content (content_wanted c.what)
+  pub changes : s.tree.changes + server.entries_held s.waiting ≤ 4294967295
+  pub bytes : server.bytes_held s ≤ 1073741824
+  pub lengths : (i : ℕ) (c : Change) → slice_get s.waiting i ≡ Some c → length (content_wanted c.what) ≤ 67108864
   -- each change that waits is of a file of the tree
   pub targets : (i : ℕ) (c : Change) → slice_get s.waiting i ≡ Some c → IsSome (content_of book.opening c.file)
   pub xids : (i : ℕ) (c : Change) → slice_get s.waiting i ≡ Some c → c.xid < 4294967296

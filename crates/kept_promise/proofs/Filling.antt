@@ -1,6 +1,6 @@
 -- A client fills a temporary file: what is held as its store goes on.
 use Rattle.std.proofs.Common.{◌⊎◌, inl, inr, ◌≡◌, ℕ, zero, suc, ◌+◌, ◌<◌, ◌≤◌, List, [], ◌∷◌, ◌++◌, length, Some, Bool, true, false, refl, sym, ap, ◌∙◌, subst, arith, eq-eqb, eqb-true}
-use Rattle.open_close.specs.declared.task.Way.TheVariants as way
+use Rattle.client_state.specs.declared.task.Way.TheVariants as way
 use Rattle.kept_promise.proofs.Common.{nat_tests, slice_get, cond, ◌==◌, not, nat_lt, chunks_of, Chunk, store_of, without_store, answered, with_whole, Store, StoreCall, Call.Name, Call.Send, Ask, Told}
 use Rattle.kept_promise.proofs.Statements.{PiecesOf, SameShape}
 use Rattle.kept_promise.proofs.Lists.{some_is, nothing_there, same_or_not, of_appended, at_end, false_and_true}

@@ -3,7 +3,7 @@ use Rattle.std.proofs.Common.{◌⊎◌, inl, inr, ◌≡◌, ℕ, zero, suc, �
 use Rattle.xdr_codec.specs.declared.status.Status.TheVariants as status
 use Rattle.server_core.specs.State as server
 use Rattle.server_core.specs.Closing.{cond_most}
-use Rattle.open_close.specs.declared.task.Way.TheVariants as way
+use Rattle.client_state.specs.declared.task.Way.TheVariants as way
 use Rattle.kept_promise.proofs.Common.{nat_tests, slice_get, ◌==◌, ◌||◌, nat_lt, nat_le, is_some, if◌then◌else◌, insert_entry, nat_cmp, handle_bytes, chunks_of, chunk_bytes, Chunk, file, node_of, cond_fault, room_fault, Temp, temp_at, temps_of, range_fault, File, Store, StoreCall, content_of, Book, Call.Name, Call.Send, Ask, Told}
 use Rattle.kept_promise.proofs.Statements.{PiecesOf, SameShape, AreInRow}
 use Rattle.kept_promise.proofs.Lists.{some_is, nothing_there, same_or_not, of_appended, at_end}
@@ -17,10 +17,10 @@ use Rattle.kept_promise.proofs.Tells.{Found, is_root, is_gone, is_file, looked, 
 
 -- ---- the file is in the tree
 
-pub file_there : (book : Book) (s : server.State) (f : ℕ) → IsServer book s → IsSome (content_of book.opening f) → f < 18446744073709551616 → (z : File) × (server.file_at s.files f ≡ Some z) × (node_of s.files (handle_bytes f) ≡ Ok (file z))
-file_there book s f h known lt = by (server.file_at s.files f) refl (h.held f) (looked s.files f lt)
+pub file_there : (book : Book) (s : server.State) (f : ℕ) → IsServer book s → IsSome (content_of book.opening f) → f < 18446744073709551616 → (z : File) × (server.file_at s.tree f ≡ Some z) × (node_of s.tree (handle_bytes f) ≡ Ok (file z))
+file_there book s f h known lt = by (server.file_at s.tree f) refl (h.held f) (looked s.tree f h.plain lt)
   where
-    by : (o : Option File) → server.file_at s.files f ≡ o → FileIs book f o → Found s.files f → (z : File) × (server.file_at s.files f ≡ Some z) × (node_of s.files (handle_bytes f) ≡ Ok (file z))
+    by : (o : Option File) → server.file_at s.tree f ≡ o → FileIs book f o → Found s.tree f → (z : File) × (server.file_at s.tree f ≡ Some z) × (node_of s.tree (handle_bytes f) ≡ Ok (file z))
     by None e is found = absurd (not_some (subst IsSome is.0 known))
     by (Some z) e is (is_root one n) = let lt1 = is.1 in absurd (omega (arith, one, lt1))
     by (Some z) e is (is_gone none n) = nothing_there z (sym none ∙ e)

@@ -2,12 +2,12 @@
 use Rattle.std.proofs.Common.{◌⊎◌, inl, inr, ◌≡◌, ℕ, zero, suc, ◌+◌, ◌*◌, ◌<◌, ◌≤◌, List, [], ◌∷◌, ◌++◌, length, Option, Some, None, Bool, true, false, refl, sym, ap, ◌∙◌, subst, arith, append-nil, eq-eqb, ne_eqb, replicate, Result, Ok, Err}
 use Rattle.server_core.specs.State as server
 use Rattle.server_core.specs.Closing as closing
-use Rattle.open_close.specs.State as client
-use Rattle.open_close.specs.declared.step.Outcome.TheVariants as outcome
+use Rattle.client_state.specs.State as client
+use Rattle.client_state.specs.declared.step.Outcome.TheVariants as outcome
 use Rattle.register_model.specs.declared.op.Word.TheVariants as words
 use Rattle.trace_replay.specs.Core.{hears_by}
-use Rattle.open_close.specs.Opening.{calls_most}
-use Rattle.kept_promise.proofs.Common.{nat_tests, Indexed, slice_get, slice_set, ◌==◌, nat_lt, Command, parse_of, Message, WireFault, connect, has_room, Change, ServerStep, File, command_step, got_step, joined, cut, ended_by, ClientStep, Ended, Task, Op, Opening, word_of, file_of, value_at_begin, Core, Seat, new_seat, Session, Event, Event.Joins, Event.Does, Event.Serves, Event.Hears, Event.Settles, Event.Cuts, Event.Hangs, CoreStep, numbered, with_numbered, server_waiting, serves_if, serves, acted, is_newest, hears_if, hears_at, hears, does, joins_as, joins, settled_ops, settled_by, cuts_if, cuts, hangs_if, hangs, happens, pointed, pointed_at, place_with, Moment, Deed, deed_by, deeds_of, joined_by, joined_from, owner_in, client_of, calls_among, sent_if, calls_by, calls_from, Book, Queue}
+use Rattle.client_state.specs.Limits.{calls_most}
+use Rattle.kept_promise.proofs.Common.{nat_tests, Indexed, slice_get, slice_set, ◌==◌, nat_lt, Command, parse_of, Message, WireFault, connect, has_room, Change, ServerStep, File, command_step, got_step, joined, cut, ended_by, ClientStep, Ended, Task, Op, Opening, word_of, file_of, value_at_begin, Core, Seat, new_seat, Session, Event, Event.Joins, Event.Does, Event.Serves, Event.Hears, Event.Settles, Event.Cuts, Event.Hangs, CoreStep, numbered, with_numbered, server_waiting, serves_if, serves, acted, is_newest, hears_if, hears_at, hears, does, joins_as, joins, settled_ops, settled_by, cuts_if, cuts, hangs_if, hangs, happens, pointed, pointed_at, place_with, Moment, Deed, deed_by, deeds_of, joined_by, joined_from, owner_in, client_of, calls_among, sent_if, calls_by, calls_from, Book, Queue, Tree}
 use Rattle.kept_promise.proofs.Lists.{some_is, nothing_there, same_or_not, of_appended}
 use Rattle.kept_promise.proofs.Keys.{own}
 use Rattle.kept_promise.proofs.Rights.{IsUnmade}
@@ -21,6 +21,8 @@ use Rattle.kept_promise.proofs.Locally.{deeds_more, joined_more}
 use Rattle.kept_promise.proofs.Deeds.{also_there, local_of, HasDeeds, Moved, AllMoved, all_same, deeds_moved}
 use Rattle.kept_promise.proofs.Acting.{all_set, set_alike, HasWord, caused_word, locals_with, Acts, acted_follows}
 use Rattle.kept_promise.proofs.Doing.{with_end, asks_by, new_op, fixed, does_follows}
+use Rattle.kept_promise.proofs.Messages.{content_wanted}
+use Rattle.kept_promise.proofs.Making.{made_change, target_there, made_is}
 
 -- ---- what is carried
 
@@ -53,9 +55,9 @@ seat_first : (count c : ℕ) (seat : Seat) → numbered (replicate count new_sea
 seat_first count zero seat e = nothing_there seat e
 seat_first count (suc c) seat e = replicated count c new_seat seat e
 
-pub followed_first : (files : List (ℕ × File)) (changes count : ℕ) → IsFollowed [] (first_core files changes count)
+pub followed_first : (tree : Tree) (count : ℕ) → IsFollowed [] (first_core tree count)
 unfolding calls_most
-followed_first files changes count = record {
+followed_first tree count = record {
   deeds = record {
     count = refl;
     rising = λ i j o q lt a b. nothing_there o a;
@@ -172,7 +174,9 @@ goes_joins past opening all k qs c seat kept h at made few =
 -- whatever is settled is the close that its session remembers, which has no point yet
 settled_moves : (opening : List Opening) (all : List Moment) (k : Core) (qs : List Queue) (now : ℕ) → IsKept (book_at opening k all) k qs → (o : List Change) → k.server.waiting ≡ o → (let r = closing.settles k.server now o in (settled_by k r.1.entries r.1.told ≡ k.ops) ⊎ ((p : ℕ) × (q : Op) × (slice_get k.ops p ≡ Some q) × IsUnmade q × (settled_by k r.1.entries r.1.told ≡ slice_set k.ops p (record q { point = Some (k.steps + 1) }))))
 settled_moves opening all k qs now kept [] e = inl refl
-settled_moves opening all k qs now kept (c ∷ cs) e = by (server.file_at k.server.files c.file)
+settled_moves opening all k qs now kept (c ∷ cs) e =
+    let f = target_there (book_at opening k all) k.server c cs kept.server e in
+    subst (λ (r : server.State × ServerStep). (settled_by k r.1.entries r.1.told ≡ k.ops) ⊎ ((p : ℕ) × (q : Op) × (slice_get k.ops p ≡ Some q) × IsUnmade q × (settled_by k r.1.entries r.1.told ≡ slice_set k.ops p (record q { point = Some (k.steps + 1) })))) (sym (made_is (book_at opening k all) k.server now c cs f.0 kept.server e f.1)) (by f.0)
   where
     home : (x : Session) × (numbered k.sessions c.session ≡ Some x) × (x.hung ≡ false)
     home = kept.home 0 c (ap (λ (l : List Change). slice_get l 0) e)
@@ -180,9 +184,8 @@ settled_moves opening all k qs now kept (c ∷ cs) e = by (server.file_at k.serv
     own_first : own c.session (c ∷ cs) ≡ c ∷ own c.session cs
     own_first = ap (λ b. Rattle.std.specs.Prelude.cond b (c ∷ own c.session cs) (own c.session cs)) (eq-eqb c.session c.session refl)
 
-    by : (f : Option File) → (let r = closing.makes_change (closing.at (record k.server { waiting = cs }) now) c f in (settled_by k r.1.entries r.1.told ≡ k.ops) ⊎ ((p : ℕ) × (q : Op) × (slice_get k.ops p ≡ Some q) × IsUnmade q × (settled_by k r.1.entries r.1.told ≡ slice_set k.ops p (record q { point = Some (k.steps + 1) }))))
-    by None = inl refl
-    by (Some f) =
+    by : (f : File) → (let r = made_change (closing.at (record k.server { waiting = cs }) now) c (content_wanted c.what) f in (settled_by k r.1.entries r.1.told ≡ k.ops) ⊎ ((p : ℕ) × (q : Op) × (slice_get k.ops p ≡ Some q) × IsUnmade q × (settled_by k r.1.entries r.1.told ≡ slice_set k.ops p (record q { point = Some (k.steps + 1) }))))
+    by f =
         let x = home.0 in
         let q = also_numbered k.sessions qs c.session x kept.made.1 home.1 in
         let s = kept.sessions c.session x q.0 home.1 q.1 in
@@ -263,7 +266,7 @@ ended_idle : (task : Option Task) (e : Ended) → task ≡ None → (ended_by ta
 ended_idle None e is = refl
 ended_idle (Some t) e is = absurd cc
 
-ended_busy : (opened : List (ℕ × Rattle.open_close.specs.declared.task.Local.Local)) (file : ℕ) (task : Option Task) (t : Task) → task ≡ Some t → Leaves opened opened file (ended_by task (record { outcome = outcome.Lost; rests_on = 0 })).ended
+ended_busy : (opened : List (ℕ × Rattle.client_state.specs.declared.task.Local.Local)) (file : ℕ) (task : Option Task) (t : Task) → task ≡ Some t → Leaves opened opened file (ended_by task (record { outcome = outcome.Lost; rests_on = 0 })).ended
 ended_busy opened file (Some x) t e = refl
 ended_busy opened file None t e = absurd cc
 
@@ -462,7 +465,7 @@ followed_adjusted past k index seats same h = record {
 
 pub carried_deeds : Carried (λ all past opening k qs. IsFollowed past k)
 carried_deeds = record {
-  first = λ all opening files changes count kept. followed_first files changes count;
+  first = λ all opening tree count kept. followed_first tree count;
   steps = λ all past rest opening k qs e mid after s h. (goes all past rest opening k qs e mid after s h).followed;
   adjusts = λ all past opening k qs index seats same h. followed_adjusted past k index seats same h;
 }

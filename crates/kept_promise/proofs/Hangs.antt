@@ -3,7 +3,7 @@ use Rattle.std.proofs.Common.{inl, inr, ◌≡◌, ℕ, zero, suc, ◌+◌, ◌�
 use Rattle.server_core.specs.State as server
 use Rattle.server_core.specs.Step.{hangs, hangs_if}
 use Rattle.server_core.specs.declared.event.Event.TheVariants as event
-use Rattle.open_close.specs.State as client
+use Rattle.client_state.specs.State as client
 use Rattle.trace_replay.specs.Core.{hangs_if as core_hangs_if, hangs as core_hangs}
 use Rattle.kept_promise.proofs.Common.{slice_get, not, cond, ◌==◌, filter, list_any, stands, server_step, Change, Op, Core, Seat, Session, quiet, numbered, with_numbered, Book, Ask, Queue}
 use Rattle.kept_promise.proofs.Lists.{some_is, nothing_there, same_or_not}
@@ -18,6 +18,7 @@ use Rattle.kept_promise.proofs.Facts.{FileIs, IsServer, IsTalk, IsKept}
 use Rattle.kept_promise.proofs.Leading.{Leads, ups_lost, KeptHangs}
 use Rattle.kept_promise.proofs.Takes.{file_still}
 use Rattle.kept_promise.proofs.Chunks.{is_other}
+use Rattle.kept_promise.proofs.TreeCalls.{fewer_need}
 
 -- ---- what the server still has of other sessions
 
@@ -83,21 +84,16 @@ left_there n (d ∷ ws) i c e = by (d.session == n) refl i e (λ k f. left_there
         differ h q = let t : (c.session == n) ≡ true = eq-eqb c.session n q in absurd cc
     by false f (suc k) g later = let r = later k g in ((suc r.0.0, r.0.1), r.1)
 
-fewer : (n : ℕ) (ws : List Change) → length (filter (λ d. not (d.session == n)) ws) ≤ length ws
-fewer n [] = omega arith
-fewer n (d ∷ ws) = by (not (d.session == n)) (fewer n ws)
-  where
-    by : (b : Bool) → length (filter (λ z. not (z.session == n)) ws) ≤ length ws → length (cond b (d ∷ filter (λ z. not (z.session == n)) ws) (filter (λ z. not (z.session == n)) ws)) ≤ suc (length ws)
-    by true h = omega (arith, h)
-    by false h = omega (arith, h)
-
 -- ---- the event
 
-server_hung : (book : Book) (s : server.State) (n : ℕ) → (kept : IsServer book s) → ((f : ℕ) → FileIs (onward book 1 book.ops) f (server.file_at s.files f)) → IsServer (onward book 1 book.ops) (hangs s n)
+server_hung : (book : Book) (s : server.State) (n : ℕ) → (kept : IsServer book s) → ((f : ℕ) → FileIs (onward book 1 book.ops) f (server.file_at s.tree f)) → IsServer (onward book 1 book.ops) (hangs s n)
 server_hung book s n kept held = record {
   held = held;
-  versions = kept.versions;
-  changes = let a = kept.changes in let b = fewer n s.waiting in omega (arith, a, b);
+  bounded = kept.bounded;
+  plain = kept.plain;
+  commits = λ i c e. let r = left_there n s.waiting i c e in kept.commits r.0.0 c r.0.1;
+  changes = let a = kept.changes in let b = (fewer_need (λ d. not (d.session == n)) s.waiting).0 in omega (arith, a, b);
+  bytes = let a = kept.bytes in let b = (fewer_need (λ d. not (d.session == n)) s.waiting).1 in omega (arith, a, b);
   lengths = λ i c e. let r = left_there n s.waiting i c e in kept.lengths r.0.0 c r.0.1;
   targets = λ i c e. let r = left_there n s.waiting i c e in kept.targets r.0.0 c r.0.1;
   xids = λ i c e. let r = left_there n s.waiting i c e in kept.xids r.0.0 c r.0.1;
@@ -159,7 +155,7 @@ hung_now book k qs n x q kept at is unhung =
       seat_around = around_same k.seats x.owner c h.owner;
       owner = refl;
       goes = goes_same book 1 kept.sound;
-      server = server_hung book k.server n kept.server (λ f. file_still book more None None f (server.file_at k.server.files f) g (still_same book 1 kept.sound) (kept.server.held f));
+      server = server_hung book k.server n kept.server (λ f. file_still book more None None f (server.file_at k.server.tree f) g (still_same book 1 kept.sound) (kept.server.held f));
       sessions_made = refl;
       view = λ o apart. record { stands_is = stands_else o n apart k.server.sessions; waiting = own_else o n apart k.server.waiting; temps = λ i m e lt f g. was_there (λ z. not (z.1.session == n)) k.server.temps i e f; found = λ m lt. else_left k.server.temps n o m apart lt kept.shelf.1 };
       elsewhere = inl refl;

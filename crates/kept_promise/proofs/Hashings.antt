@@ -2,10 +2,10 @@
 use Rattle.std.proofs.Common.{inl, inr, ◌≡◌, ℕ, zero, suc, ◌+◌, ◌*◌, ◌<◌, ◌≤◌, List, [], ◌∷◌, ◌++◌, length, Option, Some, None, Bool, true, false, refl, sym, ap, ◌∙◌, subst, arith, eqb-true, IsSome}
 use Rattle.hash_calls.specs.declared.message.LbProc.TheVariants as lb_proc
 use Rattle.server_core.specs.State as server
-use Rattle.open_close.specs.State as client
-use Rattle.open_close.specs.Step.{changes}
-use Rattle.open_close.specs.declared.step.Outcome.TheVariants as outcome
-use Rattle.open_close.specs.declared.task.Stage.TheVariants as stage
+use Rattle.client_state.specs.State as client
+use Rattle.file_open.specs.Fetching.{changes}
+use Rattle.client_state.specs.declared.step.Outcome.TheVariants as outcome
+use Rattle.client_state.specs.declared.task.Stage.TheVariants as stage
 use Rattle.register_model.specs.declared.op.Outcome.TheVariants as told
 use Rattle.register_model.specs.declared.op.Word.TheVariants as words
 use Rattle.kept_promise.proofs.Common.{nat_tests, slice_get, cond, ◌==◌, nat_lt, Pending, File, no_counts, tries_most, idle, retries, Fetch, Stage, Value, content_of, Op, Traffic, Core, Session, has_point, point_if, counted, Book, version_at, Tried, Call.Hash, Ask, Told, Queue}
@@ -22,7 +22,7 @@ use Rattle.kept_promise.proofs.Comes.{client_at, Comes, open_op, stops_open}
 
 -- what is in the tree has a handle
 pub file_small : (book : Book) (k : Core) (qs : List Queue) (f : ℕ) → IsKept book k qs → IsSome (content_of book.opening f) → f < 18446744073709551616
-file_small book k qs f kept known = by (server.file_at k.server.files f) (kept.server.held f)
+file_small book k qs f kept known = by (server.file_at k.server.tree f) (kept.server.held f)
   where
     by : (o : Option File) → FileIs book f o → f < 18446744073709551616
     by None b = absurd (not_some (subst (λ (v : Value). IsSome v) b.0 known))

@@ -1,11 +1,11 @@
 -- A client takes an answer: the frame of all that it makes of it.
 use Rattle.std.proofs.Common.{inl, inr, ◌≡◌, ℕ, zero, suc, ◌+◌, ◌<◌, ◌≤◌, List, [], ◌∷◌, ◌++◌, length, Option, Some, Bool, true, false, refl, sym, ap, ◌∙◌, subst, arith, eqb-true, ne_eqb, map}
-use Rattle.open_close.specs.State as client
+use Rattle.client_state.specs.State as client
 use Rattle.register_model.specs.declared.op.Outcome.TheVariants as told
 use Rattle.kept_promise.proofs.Common.{nat_tests, slice_get, cond, ◌==◌, nat_le, MessageFits, Pending, Change, Op, Core, Seat, Session, numbered, unless, hashed_of, Book, Call, Call.Commit, Ask, Told, Queue, told_message, call_program, reply_program}
 use Rattle.kept_promise.proofs.Statements.{CallFits}
 use Rattle.kept_promise.proofs.Keys.{times, times_append, own, on_way, change_key, ask_key, told_key, pending_key, IsOurs, call_ours, found_by, there_by, key_code}
-use Rattle.kept_promise.proofs.Messages.{Job, job, job_of, AllAsks, AllTolds, Rising, IsAsked, IsAnswer, HasFetch, IsCommit, IsPiece, IsPending, TempUnder, CloseOf}
+use Rattle.kept_promise.proofs.Messages.{Job, job, job_of, AllAsks, AllTolds, Rising, IsAsked, IsAnswer, HasFetch, IsCommit, IsPiece, IsPending, TempUnder, CloseOf, content_wanted}
 use Rattle.kept_promise.proofs.History.{Goes, Still, onward}
 use Rattle.kept_promise.proofs.Later.{same_view}
 use Rattle.kept_promise.proofs.Taken.{asks_append, rising_append, times_map_append}
@@ -60,7 +60,7 @@ pub record Hearing (book : Book) (ops : List Op) (k : Core) (n : ℕ) (x : Sessi
   pub old_asks : AllAsks (IsAsked (job_of place c.task)) q.ups
   pub old_tolds : AllTolds (IsAnswer (onward book 1 ops) x.taken x.closing (job_of place c.task)) ts
   pub old_commits : AllAsks (IsCommit (onward book 1 ops) x.closing x.cut (job_of place c.task) h.contents) q.ups
-  pub old_pending : (i : ℕ) (d : Change) → slice_get (own n k.server.waiting) i ≡ Some d → IsPending (onward book 1 ops) x.closing x.cut (job_of place c.task) d.xid d.file d.content
+  pub old_pending : (i : ℕ) (d : Change) → slice_get (own n k.server.waiting) i ≡ Some d → IsPending (onward book 1 ops) x.closing x.cut (job_of place c.task) d.xid d.file (content_wanted d.what)
   -- what goes up
   pub moves : Moves (client.calls_of h.seat.client) (client.calls_of c) t asks
   pub rising : Rising h.seat.client.next asks c.next

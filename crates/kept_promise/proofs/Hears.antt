@@ -1,9 +1,9 @@
 -- A client hears the first answer on its way: it is read as itself, and is either waited for or forgotten.
 use Rattle.std.proofs.Common.{inl, inr, ◌≡◌, ℕ, List, [], ◌∷◌, ◌++◌, length, Option, Some, None, Bool, true, false, refl, sym, ap, ◌∙◌, subst, arith, eq-eqb, map, Result, Ok}
-use Rattle.open_close.specs.State as client
+use Rattle.client_state.specs.State as client
 use Rattle.open_close.specs.Hashed.{client_hashed, message_compared, answer_compared, took_compared, compared_at, compared, compared_if, task_named, named as parts_named}
-use Rattle.open_close.specs.Looking.{reading_by, with_file, reading_if, reading, looked_by}
-use Rattle.open_close.specs.declared.task.Stage.TheVariants as stage
+use Rattle.file_open.specs.Looking.{reading_by, with_file, reading_if, reading, looked_by}
+use Rattle.client_state.specs.declared.task.Stage.TheVariants as stage
 use Rattle.trace_replay.specs.Trail.{heard_hashed, heard_hashed_if}
 use Rattle.kept_promise.proofs.Common.{Contains-append_left, Contains-append_right, Contains-push, looked_up, slice_get, Contains, Chunk, Done, Piece, MessageFits, message_spell, parse_of, Message, Pending, WireFault, has_call, got_step, took_if, drops, took, idle, ClientStep, Fetch, ReadCall, Stage, Task, read_at, Core, Seat, Session, Event.Hears, CoreStep, numbered, is_newest, hears_if, hears_at, hears, acted, happens, owner_in, hashed_by, hashed_of, Book, Reply, Reply.Bytes, Told, Queue, reply_body, told_message}
 use Rattle.kept_promise.proofs.Lists.{some_is, nothing_there, false_and_true}

@@ -1,7 +1,7 @@
 -- The calls of a store and their answers stay in order as the store goes on.
 use Rattle.std.proofs.Common.{◌≡◌, ℕ, zero, suc, ◌+◌, ◌≤◌, List, [], ◌∷◌, ◌++◌, Some, Bool, true, false, refl, sym, ap, ◌∙◌, arith, eq-eqb, eqb-true, ne_eqb}
-use Rattle.open_close.specs.declared.task.Stage.TheVariants as stage
-use Rattle.open_close.specs.declared.task.Way.TheVariants as way
+use Rattle.client_state.specs.declared.task.Stage.TheVariants as stage
+use Rattle.client_state.specs.declared.task.Way.TheVariants as way
 use Rattle.kept_promise.proofs.Common.{slice_get, cond, ◌==◌, not, chunk_bytes, Chunk, Failed, store_at, without_store, Stage, Store, StoreCall, Way, Book, Call, Call.Make, Call.Name, Call.Send, Call.Commit, Reply, Reply.Made, Reply.Named, Reply.Stored, Reply.Changed, Ask}
 use Rattle.kept_promise.proofs.Lists.{some_is, nothing_there}
 use Rattle.kept_promise.proofs.Messages.{Job}

@@ -1,6 +1,6 @@
 -- A fact of each operation, or of each that is under way: what is left of it where one gets another form, one begins, or a client goes on.
 use Rattle.std.proofs.Common.{◌⊎◌, inl, inr, ◌≡◌, ℕ, ◌<◌, List, [], ◌∷◌, ◌++◌, length, Option, Some, None, refl, sym, ap, ◌∙◌, subst, arith}
-use Rattle.open_close.specs.State as client
+use Rattle.client_state.specs.State as client
 use Rattle.kept_promise.proofs.Common.{slice_get, slice_set, ClientStep, Ended, Stage, Task, Op, TakenCall, Seat, numbered, with_numbered, ops_after, ops_with, op_after, place_after}
 use Rattle.kept_promise.proofs.Lists.{some_is, nothing_there, of_replaced, of_appended}
 use Rattle.kept_promise.proofs.Messages.{Job, job, job_of}

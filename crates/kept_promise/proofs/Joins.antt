@@ -2,7 +2,7 @@
 use Rattle.std.proofs.Common.{◌⊎◌, inl, inr, ◌≡◌, ℕ, zero, suc, ◌+◌, ◌<◌, List, [], ◌∷◌, ◌++◌, length, Option, Some, None, Bool, true, false, refl, sym, ap, ◌∙◌, subst, arith, eq-eqb, ne_eqb, map}
 use Rattle.std.proofs.lemmas.List.Folds.{list_any-append}
 use Rattle.server_core.specs.State as server
-use Rattle.open_close.specs.State as client
+use Rattle.client_state.specs.State as client
 use Rattle.kept_promise.proofs.Common.{nat_tests, slice_get, cond, ◌==◌, ◌||◌, nat_lt, list_any, has_room, connect, Temp, temp_at, key_of, Change, ServerStep, joined, Task, Pending, Op, Core, Seat, Session, new_session, numbered, with_numbered, joins_as, joins, Book, Queue, no_queue}
 use Rattle.kept_promise.proofs.Lists.{some_is, nothing_there, same_or_not, at_end, of_appended, kept_appended, count_more}
 use Rattle.kept_promise.proofs.Keys.{times, own, on_way, change_key, pending_key}
@@ -122,7 +122,7 @@ joined_now book k qs c n seat kept number at unlinked =
       journal = kept.journal;
       entries = refl;
       sound = (goes_same book 2 kept.sound).sound;
-      server = record { held = λ f. file_still book more None None f (server.file_at s.files f) g (still_same book 2 kept.sound) (kept.server.held f); versions = kept.server.versions; changes = kept.server.changes; lengths = kept.server.lengths; targets = kept.server.targets; xids = kept.server.xids };
+      server = record { held = λ f. file_still book more None None f (server.file_at s.tree f) g (still_same book 2 kept.sound) (kept.server.held f); bounded = kept.server.bounded; plain = kept.server.plain; commits = kept.server.commits; changes = kept.server.changes; bytes = kept.server.bytes; lengths = kept.server.lengths; targets = kept.server.targets; xids = kept.server.xids };
       made = (let a = count_more k.sessions (new_session c) in omega (arith, a, made), count_more qs no_queue ∙ ap suc kept.made.1 ∙ sym (count_more k.sessions (new_session c)));
       sessions = λ m z p f h. elim (of_new k.sessions (new_session c) m z f) [
         | inl new ↦ elim (of_new qs no_queue m p h) [

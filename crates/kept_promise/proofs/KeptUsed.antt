@@ -4,8 +4,8 @@ use Rattle.hash_calls.specs.declared.message.Lb.TheVariants as lb
 use Rattle.wire.specs.declared.message.Body.TheVariants as body
 use Rattle.wire.specs.declared.message.Message.TheVariants as message
 use Rattle.client_cache.specs.Cache.{content_of}
-use Rattle.open_close.specs.Caching.{content_in}
-use Rattle.open_close.specs.State as client
+use Rattle.file_open.specs.Caching.{content_in}
+use Rattle.client_state.specs.State as client
 use Rattle.register_model.specs.declared.op.Word.TheVariants as words
 use Rattle.trace_replay.specs.Core.{taken_of as session_taken}
 use Rattle.trace_replay.specs.Saving.{lease_told, EndsBy, UsesKept, TellsLease}

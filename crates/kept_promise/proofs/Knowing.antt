@@ -12,10 +12,10 @@ use Rattle.server_core.specs.Closing.{looked_up}
 use Rattle.server_core.specs.Hashed.{bytes_compared, listed}
 use Rattle.server_core.specs.Indexing.{bytes_of, wanted_bytes, with_digest}
 use Rattle.temp_files.specs.Temps.{with_piece}
-use Rattle.open_close.specs.State as client
-use Rattle.open_close.specs.declared.task.Way.TheVariants as way
+use Rattle.client_state.specs.State as client
+use Rattle.client_state.specs.declared.task.Way.TheVariants as way
 use Rattle.trace_replay.specs.Trail.{served_hashed}
-use Rattle.kept_promise.proofs.Common.{nat_tests, slice_get, ◌==◌, nat_le, bytes_eq, Contains, sha1, if◌then◌else◌, Chunk, chunk_bytes, Done, Failed, Status, at, cond_fault, names, names_unless, names_bytes, bytes_known, bytes_found, Indexed, Temp, temp_at, with_temp, key_of, File, Core, Session, unless, hashed_of, Book, Or, Call.Name, Call.Send, Reply.Named, Ask, Told, Queue}
+use Rattle.kept_promise.proofs.Common.{nat_tests, slice_get, ◌==◌, nat_le, bytes_eq, Contains, sha1, if◌then◌else◌, Chunk, chunk_bytes, Done, Failed, Status, at, cond_fault, names, names_unless, names_bytes, bytes_known, bytes_found, Indexed, Temp, temp_at, with_temp, key_of, File, Core, Session, unless, hashed_of, Book, Or, Call.Name, Call.Send, Reply.Named, Ask, Told, Queue, Tree}
 use Rattle.kept_promise.proofs.Statements.{CallFits}
 use Rattle.kept_promise.proofs.Lists.{some_is, nothing_there}
 use Rattle.kept_promise.proofs.Keys.{times, times_append, times_head, own, key, change_key, ask_key, told_key, there_by}
@@ -55,9 +55,9 @@ wanted_many f p n bytes e = by (p.count == n) refl e
     by true same e = bytes_many f p bytes e ∙ eqb-true p.count n same
     by false same e = nothing_there bytes e
 
-found_many : (files : List (ℕ × File)) (a : CondPiece) (p : Option Place) (bytes : List ℕ) → bytes_found files a p ≡ Some bytes → length bytes ≡ a.count
-found_many files a None bytes e = nothing_there bytes e
-found_many files a (Some p) bytes e = wanted_many (server.file_at files p.file) p a.count bytes e
+found_many : (t : Tree) (a : CondPiece) (p : Option Place) (bytes : List ℕ) → bytes_found t a p ≡ Some bytes → length bytes ≡ a.count
+found_many t a None bytes e = nothing_there bytes e
+found_many t a (Some p) bytes e = wanted_many (server.file_at t p.file) p a.count bytes e
 
 -- they were compared, and have the digest
 digest_is : (digest : List ℕ) (o : Option (List ℕ)) (bytes : List ℕ) → with_digest digest o ≡ Some bytes → (o ≡ Some bytes) × (sha1 bytes ≡ digest)
@@ -139,7 +139,7 @@ serve_name laws book k qs n now x q xid m d us g = by (temp_at k.server.temps n 
     fits = first_fits book k qs n now x q a us g
 
     known : Option (List ℕ)
-    known = bytes_known k.server.files c (place_of k.server.index.pairs (digest_key d.digest))
+    known = bytes_known k.server.tree c (place_of k.server.index.pairs (digest_key d.digest))
 
     index : Indexed
     index = found k.server.index (digest_key d.digest)
@@ -160,19 +160,19 @@ serve_name laws book k qs n now x q xid m d us g = by (temp_at k.server.temps n 
     -- bytes that are known were compared, and are the chunk's, or two collide
     compared : (bytes : List ℕ) → cond_fault c (temp_at k.server.temps n m) ≡ None → known ≡ Some bytes → Contains (hashed_of book.moments) bytes
     compared bytes none is =
-        let there = (digest_is d.digest (bytes_found k.server.files c (place_of k.server.index.pairs (digest_key d.digest))) bytes is).0 in
+        let there = (digest_is d.digest (bytes_found k.server.tree c (place_of k.server.index.pairs (digest_key d.digest))) bytes is).0 in
         g.noted.hashed bytes (subst (λ (l : List (List ℕ)). Contains l bytes) (sym (ap (served_hashed k n) (parsed laws a fits) ∙ ap (bytes_compared k.server c) none ∙ ap listed there)) (contains_at (bytes ∷ []) 0 bytes refl))
 
     parts : (bytes : List ℕ) → cond_fault c (temp_at k.server.temps n m) ≡ None → known ≡ Some bytes → length bytes ≡ d.len → Or book (IsPartOf (h.contents m) d.start bytes)
     parts bytes none is count =
         let named : IsNamed (hashed_of book.moments) (h.contents m) d = (subst (AllAsks (IsPiece (hashed_of book.moments) h.contents)) g.first h.pieces).0 in
-        let same = (digest_is d.digest (bytes_found k.server.files c (place_of k.server.index.pairs (digest_key d.digest))) bytes is).1 in
+        let same = (digest_is d.digest (bytes_found k.server.tree c (place_of k.server.index.pairs (digest_key d.digest))) bytes is).1 in
         or_map book _ _ (λ e. e ∙ ap (λ (z : ℕ). take z (drop d.start (h.contents m))) (sym count)) (bytes_or book bytes (chunk_bytes (h.contents m) d) (compared bytes none is) named.there (same ∙ named.digest))
 
     -- its bytes are put into the temporary file
     takes : (t : Temp) (bytes : List ℕ) → temp_at k.server.temps n m ≡ Some t → cond_fault c (temp_at k.server.temps n m) ≡ None → known ≡ Some bytes → Leads book (rest_of qs n q us) (answered k n (max k.server.moment now) x a (with_temp k.server.temps (with_piece t d.start bytes)) index (Named (Done tt)))
     takes t bytes found none is =
-        let count : length bytes ≡ d.len = found_many k.server.files c (place_of k.server.index.pairs (digest_key d.digest)) bytes (digest_is d.digest (bytes_found k.server.files c (place_of k.server.index.pairs (digest_key d.digest))) bytes is).0 in
+        let count : length bytes ≡ d.len = found_many k.server.tree c (place_of k.server.index.pairs (digest_key d.digest)) bytes (digest_is d.digest (bytes_found k.server.tree c (place_of k.server.index.pairs (digest_key d.digest))) bytes is).0 in
         let e = of_lookup k.server.temps (key_of n m) t found in
         let held = h.temps e.0 m e.1 fits.1 e.2 e.3 in
         let pieces : AreParts (hashed_of book.moments) (h.contents m) t.pieces = subst (λ (u : Temp). AreParts (hashed_of book.moments) (h.contents m) u.pieces) e.4 held.0 in

@@ -3,12 +3,12 @@ use Rattle.std.proofs.Common.{◌⊎◌, inl, inr, ◌≡◌, ℕ, ◌+◌, ◌<
 use Rattle.client_cache.specs.Cache.{Entries}
 use Rattle.hash_calls.specs.declared.call.Leased.{Leased}
 use Rattle.server_core.specs.State as server
-use Rattle.open_close.specs.State as client
-use Rattle.open_close.specs.declared.task.Stage.TheVariants as stage
+use Rattle.client_state.specs.State as client
+use Rattle.client_state.specs.declared.task.Stage.TheVariants as stage
 use Rattle.kept_promise.proofs.Common.{Body, slice_get, Contains, Status, Chunk, Answer, Done, Failed, Committed, Hashes, Piece, Attr, Pending, stands, Temp, key_of, Change, Fetch, Stage, Value, content_of, Op, Opening, TakenCall, Seat, Session, numbered, hashed_of, Book, Collides, Tried, Call, Call.Name, Call.Send, Call.Commit, Reply, Reply.Versioned, Reply.Hashed, Reply.Bytes, Reply.Changed, Ask, Told, Queue}
 use Rattle.kept_promise.proofs.Keys.{times, own, on_way, change_key, ask_key, told_key, pending_key}
 use Rattle.kept_promise.proofs.Lists.{some_is}
-use Rattle.kept_promise.proofs.Messages.{Job, job, lease_body, hash_body, AllAsks, AllTolds, IsTold, IsServed, IsTried, Trying, RefusedTold, HashTold, LeaseTold, PieceOf, IsPiece, IsPartOf, AreParts, ReadTold, CommitTold, TriedBy, AnswerOf, IsAnswer, IsFetch, IsReading, FetchOf, HasFetch, IsPending, CommitOf, IsCommit, IsOwed, CloseOf, TempUnder}
+use Rattle.kept_promise.proofs.Messages.{Job, job, lease_body, hash_body, AllAsks, AllTolds, IsTold, IsServed, IsTried, Trying, RefusedTold, HashTold, LeaseTold, PieceOf, IsPiece, IsPartOf, AreParts, ReadTold, CommitTold, TriedBy, AnswerOf, IsAnswer, IsFetch, IsReading, FetchOf, HasFetch, IsPending, CommitOf, IsCommit, IsOwed, CloseOf, TempUnder, content_wanted}
 use Rattle.kept_promise.proofs.Growth.{Grows, takes_later, value_later, version_later, or_later, held_later, tried_later, tried_wider, made_later}
 use Rattle.kept_promise.proofs.Orderly.{Orderly}
 use Rattle.kept_promise.proofs.Ordered.{SameFound, orderly_later}
@@ -233,7 +233,7 @@ session_later book more made ended seats others s r n x q c d g was is same spar
       temps = λ i m u lt at k. let w = view.temps i m u lt at k in let o = h.temps w.0 m u lt w.1 k in (parts_later (hashed_of book.moments) (hashed_of more.moments) (h.contents m) u.1.pieces g.hashed o.0, o.1);
       temps_below = λ at. let f = h.temps_below at in subst (λ (z : Seat). AllAsks (λ a. TempUnder z.client.next_temp a.call) q.ups × ((i m : ℕ) (u : ℕ × Temp) → m < 4294967296 → slice_get r.temps i ≡ Some u → u.0 ≡ key_of n m → m < z.client.next_temp)) (sym (there at)) (f.0, λ i m u lt is k. let w = view.temps i m u lt is k in f.1 w.0 m u lt w.1 k);
       closes = λ at j q. subst (λ (z : Seat). CloseOf more x.closing h.contents z.client.next_temp j (client.local_bytes z.client.opened j.file) j.stage) (sym (there at)) (close_later book more made ended x.closing h.contents h.seat.client.next_temp j (client.local_bytes h.seat.client.opened j.file) j.stage g spares (h.closes at j (sym (jobs at) ∙ q)));
-      pending = λ i c at. pending_later book more made ended x.closing x.cut (job h.seat) (job d) c.xid c.file c.content g spares jobs (h.pending i c (ap (λ (l : List Change). slice_get l i) (sym view.waiting) ∙ at));
+      pending = λ i c at. pending_later book more made ended x.closing x.cut (job h.seat) (job d) c.xid c.file (content_wanted c.what) g spares jobs (h.pending i c (ap (λ (l : List Change). slice_get l i) (sym view.waiting) ∙ at));
       single = subst (λ (l : List Change). commits_in q.ups + length l ≤ 1) (sym view.waiting) h.single;
       old = λ k at. let o = h.old k at in let p = g.each k o.0 o.1 in (p.0, p.1, p.2.client ∙ o.2);
       orderly = λ at. subst (λ (z : Seat). Orderly more n r.temps x.hung q z) (sym (there at)) (orderly_later book more made ended n s.temps r.temps x.hung q h.seat g view.found (h.orderly at));

@@ -4,10 +4,10 @@ use Rattle.hash_calls.specs.declared.call.Leased.{Leased}
 use Rattle.hash_calls.specs.declared.message.Lb.TheVariants as lb
 use Rattle.wire.specs.declared.message.Body.TheVariants as body
 use Rattle.wire.specs.declared.message.Message.TheVariants as message
-use Rattle.open_close.specs.State as client
-use Rattle.open_close.specs.declared.step.BadPeer.TheVariants as bad
-use Rattle.open_close.specs.declared.task.Stage.TheVariants as stage
-use Rattle.open_close.specs.declared.task.Way.TheVariants as way
+use Rattle.client_state.specs.State as client
+use Rattle.client_state.specs.declared.step.BadPeer.TheVariants as bad
+use Rattle.client_state.specs.declared.task.Stage.TheVariants as stage
+use Rattle.client_state.specs.declared.task.Way.TheVariants as way
 use Rattle.register_model.specs.declared.op.Outcome.TheVariants as told
 use Rattle.trace_replay.specs.Causes.{WaitsFor, TakesCall}
 use Rattle.trace_replay.specs.Core.{taken_of as session_taken}

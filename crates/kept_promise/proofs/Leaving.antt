@@ -10,13 +10,13 @@ use Rattle.wire.specs.declared.message.Message.TheVariants as message
 use Rattle.wire.specs.declared.message.RpcRefusal.TheVariants as refusal
 use Rattle.chunk_index.specs.Index.{Indexed}
 use Rattle.client_cache.specs.Cache.{Entries, content_of}
-use Rattle.open_close.specs.Caching.{content_in, from_index, found_all}
-use Rattle.open_close.specs.Opening.{reads_chunk, looked_up}
-use Rattle.open_close.specs.Step.{uses_kept, told_lease}
-use Rattle.open_close.specs.State as client
-use Rattle.open_close.specs.declared.step.Outcome.TheVariants as outcome
-use Rattle.open_close.specs.declared.task.Stage.TheVariants as stage
-use Rattle.open_close.specs.declared.task.Way.TheVariants as way
+use Rattle.file_open.specs.Caching.{content_in, from_index, found_all}
+use Rattle.file_open.specs.Opening.{reads_chunk, looked_up}
+use Rattle.file_open.specs.Fetching.{uses_kept, told_lease}
+use Rattle.client_state.specs.State as client
+use Rattle.client_state.specs.declared.step.Outcome.TheVariants as outcome
+use Rattle.client_state.specs.declared.task.Stage.TheVariants as stage
+use Rattle.client_state.specs.declared.task.Way.TheVariants as way
 use Rattle.kept_promise.proofs.Common.{nat_tests, slice_get, nat_lt, if◌then◌else◌, ◌==◌, ◌&&◌, Chunk, Answer, Done, Failed, Status, Hashes, Piece, Body, Message, Pending, RpcRefusal, WireFault, names_from, names_next, names_more, names_all, is_stored, store_of, store_at, answered, calls_most, is_none, fetch_of, with_hashes, listed, reads_from, reads_next, reads_more, reads_all, is_here, read_at, fault_in, other_version, with_bytes, Broken, broken_of, idle, refused, bad_peer, reads_if, reads_on, lists_on, told_shape, told_version, told_hashes, told_first, retries, misfits, told_bytes, told_chunk, told_piece, goes_if, goes_on, told_temp, sends_whole, told_named, told_whole, told_way, told_stored, denied, took, drops, took_if, denied_if, got_message, got_fault, got_step, Names, Reads, BadPeer, ClientStep, Ended, Outcome, Fetch, Local, ReadCall, Stage, Store, StoreCall, Task, Way}
 use Rattle.kept_promise.proofs.StepCases.{some_call}
 

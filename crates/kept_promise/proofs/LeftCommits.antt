@@ -4,13 +4,13 @@ use Rattle.std.proofs.lemmas.List.{length-append}
 use Rattle.server_core.specs.State as server
 use Rattle.server_core.specs.Closing as closing
 use Rattle.server_core.specs.Step as stepping
-use Rattle.open_close.specs.State as client
+use Rattle.client_state.specs.State as client
 use Rattle.open_close.specs.Step.{writes as writes_local}
 use Rattle.register_model.specs.declared.op.Word.TheVariants as words
-use Rattle.kept_promise.proofs.Common.{not, cond, filter, ◌==◌, Command, parse_of, Message, makes_change, got_if, stands, connect, has_room, Change, File, may_ask, command_step, ended_by, ClientStep, Ended, Task, Opening, Word, word_of, Core, Seat, Session, Event, Event.Joins, Event.Does, Event.Serves, Event.Hears, Event.Settles, Event.Cuts, Event.Hangs, CoreStep, numbered, with_numbered, server_waiting, session_of, serves_if, serves, is_newest, hears_if, hears_at, hears, commanded_session, commanded_sessions, does, joins_as, joins, settles, cut_session, cuts_if, cuts, hangs_if, hangs, happens, closing_with, Moment, unless, Call, Call.Commit, Ask, Told, Queue, ask_message, Loss, Loss.Nothing, Loss.Down_of, Loss.Up_of, no_queue}
+use Rattle.kept_promise.proofs.Common.{not, cond, filter, ◌==◌, Command, parse_of, Message, makes_change, got_if, stands, connect, has_room, Change, may_ask, command_step, ended_by, ClientStep, Ended, Task, Opening, Word, word_of, Core, Seat, Session, Event, Event.Joins, Event.Does, Event.Serves, Event.Hears, Event.Settles, Event.Cuts, Event.Hangs, CoreStep, numbered, with_numbered, server_waiting, session_of, serves_if, serves, is_newest, hears_if, hears_at, hears, commanded_session, commanded_sessions, does, joins_as, joins, settles, cut_session, cuts_if, cuts, hangs_if, hangs, happens, closing_with, Moment, unless, Call, Call.Commit, Ask, Told, Queue, ask_message, Loss, Loss.Nothing, Loss.Down_of, Loss.Up_of, no_queue, Wanted}
 use Rattle.trace_replay.specs.Core.{Loss.Made}
 use Rattle.kept_promise.proofs.StepCases.{command_cases}
-use Rattle.kept_promise.proofs.CallsKeep.{IsCommitCall, Waits, got_if_keeps}
+use Rattle.kept_promise.proofs.CallsKeep.{IsCommitCall, IsOfFiles, is_of_files, Waits, got_if_keeps}
 use Rattle.kept_promise.proofs.Statements.{CallFits}
 use Rattle.kept_promise.proofs.Lists.{some_is, nothing_there, same_or_not, set_count, of_appended, of_replaced, true_and_false}
 use Rattle.kept_promise.proofs.Keys.{own}
@@ -22,6 +22,7 @@ use Rattle.kept_promise.proofs.Leading.{Sends, ups_put_in, ups_put, downs_put_in
 use Rattle.kept_promise.proofs.RunsCarried.{book_at, Finds, Step}
 use Rattle.kept_promise.proofs.Commits.{own_more, own_there}
 use Rattle.kept_promise.proofs.Takes.{commits_tail}
+use Rattle.server_core.specs.declared.change.Wanted.TheVariants as wanted
 
 -- ---- the queues after an event
 
@@ -91,7 +92,7 @@ abbrev IsSilent : client.State × ClientStep → Type 0
 IsSilent r = (r.1.send ≡ []) × ((e : Ended) × (r.1.ended ≡ Some e))
 
 not_joined : (s : client.State) → s.linked ≡ false → may_ask s ≡ false
-not_joined s e = ap (λ (b : Bool). elim b as (λ (x : Bool). Bool) [ true ↦ Rattle.open_close.specs.Step.has_xids s.next | false ↦ false ]) e
+not_joined s e = ap (λ (b : Bool). elim b as (λ (x : Bool). Bool) [ true ↦ Rattle.client_state.specs.Ending.has_xids s.next | false ↦ false ]) e
 
 command_silent : (s : client.State) (d : Command) (now : ℕ) → s.linked ≡ false → IsSilent (command_step s d now)
 command_silent s d now off = command_cases IsSilent s d now (record {
@@ -123,8 +124,8 @@ closing_stays c place w o e is = ap (closing_with c place w) is ∙ by w
 
 -- ---- what waits at the server
 
-got_waits : (s : server.State) (n now : ℕ) (m : Message) (b : Bool) → Waits s.waiting n (IsCommitCall m) (got_if s b n m now).0.waiting
-got_waits s n now m b = got_if_keeps (λ r. Waits s.waiting n (IsCommitCall m) r.waiting) s n m now (λ temps waiting index moment w. w) b
+got_waits : (s : server.State) (n now : ℕ) (m : Message) (b : Bool) → IsOfFiles m → Waits s.waiting n (IsCommitCall m) (got_if s b n m now).0.waiting
+got_waits s n now m b plain = got_if_keeps (λ r. Waits s.waiting n (IsCommitCall m) r.waiting) s n m now plain (λ temps waiting index moment w. w) b
 
 -- ---- changes of a session
 
@@ -263,11 +264,11 @@ leaves_settles k qs mid now same = leaves_plain k qs mid _ (were_same k) same re
   where
     by : (cs : List Change) → k.server.waiting ≡ cs → (n : ℕ) → length (own n (closing.settles k.server now cs).0.waiting) ≤ length (own n k.server.waiting)
     by [] e n = omega arith
-    by (c ∷ cs) e n = made (server.file_at k.server.files c.file)
+    by (c ∷ cs) e n = made c.what
       where
-        made : (o : Option File) → length (own n (makes_change (closing.at (record k.server { waiting = cs }) now) c o).0.waiting) ≤ length (own n k.server.waiting)
-        made None = let w = ap (λ ws. length (own n ws)) e in let l = own_less n c cs in omega (arith, w, l)
-        made (Some f) = let w = ap (λ ws. length (own n ws)) e in let l = own_less n c cs in omega (arith, w, l)
+        made : (a : Wanted) → length (own n (makes_change (closing.at (record k.server { waiting = cs }) now) c a).0.waiting) ≤ length (own n k.server.waiting)
+        made (wanted.Content x) = let w = ap (λ ws. length (own n ws)) e in let l = own_less n c cs in omega (arith, w, l)
+        made (wanted.Asked a) = let w = ap (λ ws. length (own n ws)) e in let l = own_less n c cs in omega (arith, w, l)
 
 cut_silent : (t : Option Task) (e : Ended) → (ended_by t e).send ≡ []
 cut_silent None e = refl
@@ -378,7 +379,7 @@ leaves_serves laws opening all k qs mid m now bytes kept f =
     let c = laws.calls f.1.xid f.1.call fits.0 in
     let parsed : parse_of server_waiting bytes ≡ Ok (ask_message f.1) = ap (parse_of server_waiting) f.5 ∙ laws.again server_waiting (ask_message f.1) c.0.0 c.1 in
     let got_as : serves k m now bytes (Some x.0) ≡ serves_if k m now x.0 (Ok (ask_message f.1)) = ap (serves_if k m now x.0) parsed in
-    subst (λ (o : Option Session). Leaves k qs mid (serves k m now bytes o)) (sym x.1) (subst (Leaves k qs mid) (sym got_as) (by x.0 x.1 (got_waits k.server m now (ask_message f.1) (stands k.server m))))
+    subst (λ (o : Option Session). Leaves k qs mid (serves k m now bytes o)) (sym x.1) (subst (Leaves k qs mid) (sym got_as) (by x.0 x.1 (got_waits k.server m now (ask_message f.1) (stands k.server m) (is_of_files f.1))))
   where
     with_count : (xs : List Queue) (i : ℕ) (x : Queue) → length (with_numbered xs i x) ≡ length xs
     with_count xs zero x = refl

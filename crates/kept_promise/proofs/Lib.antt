@@ -13,6 +13,7 @@ pub mod MetLog
 pub mod OwnLog
 pub mod OpsAfter
 pub mod OwnedRuns
+pub mod Making
 pub mod Marks
 pub mod Rights
 pub mod Growth
@@ -27,6 +28,9 @@ pub mod Caches
 pub mod CallsKeep
 pub mod Alike
 pub mod Later
+pub mod TreeCalls
+pub mod TreeOpens
+pub mod Trees
 pub mod Turns
 pub mod Leading
 pub mod Rests

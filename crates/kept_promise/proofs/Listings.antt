@@ -3,10 +3,10 @@ use Rattle.std.proofs.Common.{◌⊎◌, inl, inr, ◌≡◌, ℕ, zero, suc, �
 use Rattle.chunk_index.specs.Index.{key_of, place_of}
 use Rattle.chunk_places.specs.Places.{indexed}
 use Rattle.client_cache.specs.Cache.{with_content}
-use Rattle.open_close.specs.Caching.{bytes_there, from_index, found_all}
-use Rattle.open_close.specs.State as client
-use Rattle.open_close.specs.declared.step.Outcome.TheVariants as outcome
-use Rattle.open_close.specs.declared.task.Stage.TheVariants as stage
+use Rattle.file_open.specs.Caching.{bytes_there, from_index, found_all}
+use Rattle.client_state.specs.State as client
+use Rattle.client_state.specs.declared.step.Outcome.TheVariants as outcome
+use Rattle.client_state.specs.declared.task.Stage.TheVariants as stage
 use Rattle.register_model.specs.declared.op.Outcome.TheVariants as told
 use Rattle.register_model.specs.declared.op.Word.TheVariants as words
 use Rattle.kept_promise.proofs.Common.{nat_tests, slice_get, slice_set, ◌==◌, ◌&&◌, nat_lt, Contains, sha1, chunks_of, chunk_bytes, Chunk, Pending, read_pending, no_counts, is_none, is_here, reads_from, reads_chunk, reads_all, looked_up, read_at, slots_bytes, idle, opened_with, reads_on, reads_if, Entries, Indexed, ClientStep, ends, ended_op, Reads, Fetch, Local, ReadCall, Stage, local_at_itself, local_at_another, content_of, Op, Traffic, TakenCall, Core, Session, has_point, point_if, counted, hashed_of, Book, HadContent, Or, value_at, Call.Read, Told, Queue}

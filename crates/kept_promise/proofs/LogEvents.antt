@@ -5,12 +5,12 @@ use Rattle.server_core.specs.State as server
 use Rattle.server_core.specs.declared.event.Event.TheVariants as event
 use Rattle.server_core.specs.declared.event.Told.{Told as Announced}
 use Rattle.server_core.specs.declared.event.Told.TheVariants as announced
-use Rattle.open_close.specs.Closing.{make_call}
-use Rattle.open_close.specs.Looking.{reading_by, with_file, reading_if, reading}
-use Rattle.open_close.specs.State as client
-use Rattle.open_close.specs.declared.step.BadPeer.TheVariants as bad
-use Rattle.open_close.specs.declared.step.Outcome.TheVariants as outcome
-use Rattle.open_close.specs.declared.task.Stage.TheVariants as stage
+use Rattle.file_close.specs.Closing.{make_call}
+use Rattle.file_open.specs.Looking.{reading_by, with_file, reading_if, reading}
+use Rattle.client_state.specs.State as client
+use Rattle.client_state.specs.declared.step.BadPeer.TheVariants as bad
+use Rattle.client_state.specs.declared.step.Outcome.TheVariants as outcome
+use Rattle.client_state.specs.declared.task.Stage.TheVariants as stage
 use Rattle.register_model.specs.declared.op.Outcome.{Outcome as History}
 use Rattle.register_model.specs.declared.op.Outcome.TheVariants as told
 use Rattle.register_model.specs.declared.op.Word.TheVariants as words
@@ -558,7 +558,7 @@ logs_event P E all laws fits past rest opening k qs (Hangs n) mid after s h = lo
 -- whatever each step of a client keeps is carried
 pub carried_logs : (P : List Moment → Going) (E : List Moment → Ending) → ((all : List Moment) → LogLaws all (P all) (E all)) → FitLaws → Carried (λ all past opening k qs. LogsAt (P all) (E all) past k)
 carried_logs P E laws fits = record {
-  first = λ all opening files changes count kept. record { by = tt; jobs = λ i seat j o here is at. nothing_there o at; each = λ p o at. nothing_there o at };
+  first = λ all opening tree count kept. record { by = tt; jobs = λ i seat j o here is at. nothing_there o at; each = λ p o at. nothing_there o at };
   steps = λ all past rest opening k qs e mid after s h. logs_event (P all) (E all) all (laws all) fits past rest opening k qs e mid after s h;
   adjusts = λ all past opening k qs index seats same h. logs_kept (P all) (E all) past k.steps k.seats seats k.ops same h;
 }

@@ -1,6 +1,6 @@
 -- What was said for operations, in order, and what is true of an operation by that: as a run goes on it stays true of those that nothing is said for.
 use Rattle.std.proofs.Common.{◌⊎◌, inl, inr, ◌≡◌, ℕ, ◌+◌, ◌<◌, ◌≤◌, List, [], ◌∷◌, ◌++◌, length, Option, Some, None, Bool, true, false, refl, sym, ap, ◌∙◌, subst, arith, append-nil}
-use Rattle.open_close.specs.State as client
+use Rattle.client_state.specs.State as client
 use Rattle.register_model.specs.declared.op.Outcome.{Outcome}
 use Rattle.trace_replay.specs.Traffic.{deals_if}
 use Rattle.kept_promise.proofs.Common.{slice_get, Message, ClientStep, Stage, Task, Op, Word, TakenCall, op_after, place_after, Seat, numbered, with_numbered, ops_with, happens, Moment, step_of, client_of, taken_by, given_by, is_in, Deal, deals_with, deals_in, deals_of}

@@ -1,24 +1,27 @@
 -- A run carries that each change of the journal was made at a moment at which the server was told to make one, that it was the first that waited then,
 -- and whose close it is; and that a settling makes the first that waits.
-use Rattle.std.proofs.Common.{inl, inr, ◌≡◌, ℕ, ◌+◌, List, [], ◌∷◌, ◌++◌, length, Option, Some, None, Result, Ok, Err, Bool, true, false, refl, sym, ap, ◌∙◌, subst, arith, append-nil, replicate, IsSome}
+use Rattle.std.proofs.Common.{inl, inr, ◌≡◌, ℕ, ◌+◌, List, [], ◌∷◌, ◌++◌, length, Option, Some, None, Result, Ok, Err, Bool, true, false, refl, sym, ap, ◌∙◌, subst, arith, append-nil, replicate}
 use Rattle.server_core.specs.Closing.{at as at_reading, settles as server_settles}
 use Rattle.server_core.specs.State as server
 use Rattle.server_core.specs.Step.{hangs_if as server_hangs_if}
-use Rattle.open_close.specs.State as client
+use Rattle.client_state.specs.State as client
 use Rattle.register_model.specs.declared.op.Word.TheVariants as words
 use Rattle.trace_replay.specs.Faithful.{IsSettled, SettlesFirst}
-use Rattle.kept_promise.proofs.Common.{Contains-push_cases, slice_get, slice_set, Contains, parse_of, WireFault, Message, entry_of, makes_change, connect, has_room, stands, Change, ServerStep, File, Entry, ClientStep, Ended, Op, Opening, Value, content_of, TakenCall, has_point, op_after, Core, Seat, Session, Event, Event.Joins, Event.Does, Event.Serves, Event.Hears, Event.Settles, Event.Cuts, Event.Hangs, CoreStep, numbered, server_waiting, serves_if, serves, joins_as, joins, does, cuts_if, cuts, hangs_if, hangs, ops_with, settles, happens, Moment, step_of, Book, Queue}
+use Rattle.kept_promise.proofs.Common.{Contains-push_cases, slice_get, slice_set, Contains, parse_of, WireFault, Message, makes_change, connect, has_room, stands, Change, ServerStep, File, Entry, ClientStep, Ended, Op, Opening, content_of, TakenCall, has_point, op_after, Core, Seat, Session, Event, Event.Joins, Event.Does, Event.Serves, Event.Hears, Event.Settles, Event.Cuts, Event.Hangs, CoreStep, numbered, server_waiting, serves_if, serves, joins_as, joins, does, cuts_if, cuts, hangs_if, hangs, ops_with, settles, happens, Moment, step_of, Book, Queue, ask_message}
 use Rattle.kept_promise.proofs.Lists.{some_is, nothing_there, at_end, at_replaced, kept_appended, of_appended, same_or_not, set_else}
 use Rattle.kept_promise.proofs.Turns.{also_numbered}
 use Rattle.kept_promise.proofs.Facts.{IsKept, FileIs}
 use Rattle.kept_promise.proofs.RunsCarried.{book_at, moment, Step, Carried}
-use Rattle.kept_promise.proofs.Actors.{heard_at}
-use Rattle.kept_promise.proofs.CallsKeep.{got_keeps}
+use Rattle.kept_promise.proofs.Actors.{heard_at, serves_read}
+use Rattle.kept_promise.proofs.Fits.{FitLaws}
+use Rattle.kept_promise.proofs.CallsKeep.{is_of_files, got_keeps}
 use Rattle.kept_promise.proofs.Promised.{own_there}
 use Rattle.kept_promise.proofs.Rights.{IsRight}
 use Rattle.kept_promise.proofs.VersionRuns.{close_not_opened}
 use Rattle.kept_promise.proofs.LogEvents.{value_stays}
 use Rattle.kept_promise.proofs.Growth.{or_map}
+use Rattle.kept_promise.proofs.Messages.{content_wanted}
+use Rattle.kept_promise.proofs.Making.{entry_of, made_change, target_there, made_is}
 
 -- ---- what becomes of operations that have a point
 
@@ -65,33 +68,32 @@ Quietly k t = (t.core.entries ≡ k.entries) × (t.core.server.journal ≡ k.ser
 left_rights : (all : List Moment) (opening : List Opening) (k : Core) (qs : List Queue) → IsKept (book_at opening k all) k qs → (j : ℕ) (r : Op) → slice_get k.ops j ≡ Some r → IsRight (book_at opening k all) r
 left_rights all opening k qs kept j r at = kept.sound.rights j r at
 
-quiet_event : (all past rest : List Moment) (opening : List Opening) (k : Core) (qs : List Queue) (e : Event) (mid after : List Queue) → Step all past rest opening k qs e mid after → ((now : ℕ) → e ≡ Settles now → ⊥) → Quietly k (happens k e)
-quiet_event all past rest opening k qs (Joins c) mid after s none = subst (λ (o : Option Seat). Quietly k (joins k c o)) (sym s.finds.1) (by s.finds.0 (has_room k.server))
+quiet_event : FitLaws → (all past rest : List Moment) (opening : List Opening) (k : Core) (qs : List Queue) (e : Event) (mid after : List Queue) → Step all past rest opening k qs e mid after → ((now : ℕ) → e ≡ Settles now → ⊥) → Quietly k (happens k e)
+quiet_event laws all past rest opening k qs (Joins c) mid after s none = subst (λ (o : Option Seat). Quietly k (joins k c o)) (sym s.finds.1) (by s.finds.0 (has_room k.server))
   where
     by : (seat : Seat) (b : Bool) → (let r = connect k.server b in Quietly k (joins_as k c seat r.0 r.1.told))
     by seat true = (refl, refl, same_points k.ops)
     by seat false = (refl, refl, same_points k.ops)
-quiet_event all past rest opening k qs (Does c now d) mid after s none = subst (λ (o : Option Seat). Quietly k (does k c now d o)) (sym s.finds.1) (refl, refl, more_points k.ops _)
-quiet_event all past rest opening k qs (Serves n now bytes) mid after s none = by (numbered k.sessions n)
+quiet_event laws all past rest opening k qs (Does c now d) mid after s none = subst (λ (o : Option Seat). Quietly k (does k c now d o)) (sym s.finds.1) (refl, refl, more_points k.ops _)
+quiet_event laws all past rest opening k qs (Serves n now bytes) mid after s none = by (numbered k.sessions n)
   where
+    m : Message
+    m = ask_message s.finds.1
+
     by : (x : Option Session) → Quietly k (serves k n now bytes x)
     by None = (refl, refl, same_points k.ops)
-    by (Some x) = parsed (parse_of server_waiting bytes)
-      where
-        parsed : (m : Result Message WireFault) → Quietly k (serves_if k n now x m)
-        parsed (Ok m) = (refl, got_keeps (λ z. z.journal ≡ k.server.journal) k.server n m now (λ temps waiting index moment w. refl), same_points k.ops)
-        parsed (Err e) = (refl, refl, same_points k.ops)
-quiet_event all past rest opening k qs (Hears n now bytes) mid after s none =
+    by (Some x) = subst (λ (r : Result Message WireFault). Quietly k (serves_if k n now x r)) (sym (serves_read laws (book_at opening k all) k qs n now bytes mid s.kept s.finds)) (refl, got_keeps (λ z. z.journal ≡ k.server.journal) k.server n m now (is_of_files s.finds.1) (λ temps waiting index moment w. refl), same_points k.ops)
+quiet_event laws all past rest opening k qs (Hears n now bytes) mid after s none =
     let h = heard_at (book_at opening k all) k qs n now bytes mid s.kept s.finds in
     let rights = subst (λ (t : CoreStep). (j : ℕ) (r : Op) → slice_get t.core.ops j ≡ Some r → IsRight (book_at opening (happens k (Hears n now bytes)).core all) r) h.hears_is (left_rights all opening (happens k (Hears n now bytes)).core after s.left) in
     subst (λ (t : CoreStep). Quietly k t) (sym h.hears_is) (refl, refl, acted_points (book_at opening (happens k (Hears n now bytes)).core all) k.ops h.seat.place _ _ (k.steps + 1) _ rights)
-quiet_event all past rest opening k qs (Settles now) mid after s none = absurd (none now refl)
-quiet_event all past rest opening k qs (Cuts c) mid after s none = subst (λ (o : Option Seat). Quietly k (cuts k c o)) (sym s.finds.1) (by s.finds.0.client.linked (subst (λ (o : Option Seat). (j : ℕ) (r : Op) → slice_get (cuts k c o).core.ops j ≡ Some r → IsRight (book_at opening (happens k (Cuts c)).core all) r) s.finds.1 (left_rights all opening (happens k (Cuts c)).core after s.left)))
+quiet_event laws all past rest opening k qs (Settles now) mid after s none = absurd (none now refl)
+quiet_event laws all past rest opening k qs (Cuts c) mid after s none = subst (λ (o : Option Seat). Quietly k (cuts k c o)) (sym s.finds.1) (by s.finds.0.client.linked (subst (λ (o : Option Seat). (j : ℕ) (r : Op) → slice_get (cuts k c o).core.ops j ≡ Some r → IsRight (book_at opening (happens k (Cuts c)).core all) r) s.finds.1 (left_rights all opening (happens k (Cuts c)).core after s.left)))
   where
     by : (b : Bool) → ((j : ℕ) (r : Op) → slice_get (cuts_if k c s.finds.0 b).core.ops j ≡ Some r → IsRight (book_at opening (happens k (Cuts c)).core all) r) → Quietly k (cuts_if k c s.finds.0 b)
     by true rights = (refl, refl, acted_points (book_at opening (happens k (Cuts c)).core all) k.ops s.finds.0.place _ _ (k.steps + 1) _ rights)
     by false rights = (refl, refl, same_points k.ops)
-quiet_event all past rest opening k qs (Hangs n) mid after s none = by (numbered k.sessions n)
+quiet_event laws all past rest opening k qs (Hangs n) mid after s none = by (numbered k.sessions n)
   where
     gone : (b : Bool) → (server_hangs_if k.server b n).0.journal ≡ k.server.journal
     gone true = refl
@@ -136,6 +138,8 @@ settled_later opening all k l i p journal points s =
       op_is = r.1;
       word_is = r.3;
       point_is = r.4;
+      content = s.content;
+      what_is = s.what_is;
       value_is = or_map (book_at opening l all) _ _ (λ e. r.5 ∙ e) s.value_is;
       owner = s.owner ∙ sym r.2;
       closing = s.closing;
@@ -184,7 +188,7 @@ made_settling all past rest opening k qs now mid after s h = by k.server.waiting
       ]);
     }
 
-    made : (c : Change) (cs : List Change) (f : File) → k.server.waiting ≡ c ∷ cs → server.file_at k.server.files c.file ≡ Some f → AreMade opening all (past ++ moment k (Settles now) ∷ []) (left_by k (makes_change (at_reading (record k.server { waiting = cs }) now) c (Some f)))
+    made : (c : Change) (cs : List Change) (f : File) → k.server.waiting ≡ c ∷ cs → server.file_at k.server.tree c.file ≡ Some f → AreMade opening all (past ++ moment k (Settles now) ∷ []) (left_by k (made_change (at_reading (record k.server { waiting = cs }) now) c (content_wanted c.what) f))
     made c cs f e there =
         let first : slice_get k.server.waiting 0 ≡ Some c = ap (λ (l : List Change). slice_get l 0) e in
         let home = kept.home 0 c first in
@@ -195,13 +199,12 @@ made_settling all past rest opening k qs now mid after s h = by k.server.waiting
         let old = x.old pending.place pending.known in
         let op : Op = record pending.op { point = Some (k.steps + 1) } in
         let made_op : slice_get (slice_set k.ops pending.place op) pending.place ≡ Some op = at_replaced k.ops pending.place op pending.op pending.there in
-        let ops_are : (left_by k (makes_change (at_reading (record k.server { waiting = cs }) now) c (Some f))).ops ≡ slice_set k.ops pending.place op =
+        let ops_are : (left_by k (made_change (at_reading (record k.server { waiting = cs }) now) c (content_wanted c.what) f)).ops ≡ slice_set k.ops pending.place op =
         ap (Rattle.trace_replay.specs.Core.settled_ops k.ops 1 (k.steps + 1)) home.1 ∙ ap (λ l. Rattle.trace_replay.specs.Ops.pointed_at k.ops l (k.steps + 1)) pending.known ∙ ap (Rattle.trace_replay.specs.Ops.pointed k.ops pending.place (k.steps + 1)) pending.there in
-        let held = subst (FileIs (book_at opening k all) c.file) there (kept.server.held c.file) in
-        let points : KeepsPoints k.ops (left_by k (makes_change (at_reading (record k.server { waiting = cs }) now) c (Some f))).ops = subst (KeepsPoints k.ops) (sym ops_are) (pointed_points k.ops pending.place (k.steps + 1) pending.op pending.there pending.unmade.1) in
+        let points : KeepsPoints k.ops (left_by k (made_change (at_reading (record k.server { waiting = cs }) now) c (content_wanted c.what) f)).ops = subst (KeepsPoints k.ops) (sym ops_are) (pointed_points k.ops pending.place (k.steps + 1) pending.op pending.there pending.unmade.1) in
         record {
           settled = λ i p at. elim (of_appended k.entries (k.steps + 1) i p at) [
-            | inr was ↦ settled_later opening all k (left_by k (makes_change (at_reading (record k.server { waiting = cs }) now) c (Some f))) i p (λ y had. kept_appended k.server.journal (entry_of c f) i y had) points (h.settled i p was)
+            | inr was ↦ settled_later opening all k (left_by k (made_change (at_reading (record k.server { waiting = cs }) now) c (content_wanted c.what) f)) i p (λ y had. kept_appended k.server.journal (entry_of c (content_wanted c.what) f) i y had) points (h.settled i p was)
             | inl last ↦ record {
               moment = moment k (Settles now);
               there = here;
@@ -211,10 +214,10 @@ made_settling all past rest opening k qs now mid after s h = by k.server.waiting
               number_is = sym count ∙ sym last.0;
               change = c;
               first = first;
-              entry = entry_of c f;
-              entry_is = ap (slice_get (k.server.journal ++ entry_of c f ∷ [])) (last.0 ∙ count) ∙ at_end k.server.journal (entry_of c f);
+              entry = entry_of c (content_wanted c.what) f;
+              entry_is = ap (slice_get (k.server.journal ++ entry_of c (content_wanted c.what) f ∷ [])) (last.0 ∙ count) ∙ at_end k.server.journal (entry_of c (content_wanted c.what) f);
               kind_is = refl;
-              file_is = held.0;
+              file_is = refl;
               session_is = refl;
               session = home.0;
               on = home.1;
@@ -223,6 +226,8 @@ made_settling all past rest opening k qs now mid after s h = by k.server.waiting
               op_is = ap (λ (l : List Op). slice_get l pending.place) ops_are ∙ made_op;
               word_is = pending.unmade.0;
               point_is = ap (λ n. Some n) (sym last.1);
+              content = content_wanted c.what;
+              what_is = kept.server.commits 0 c first;
               value_is = pending.value_is;
               owner = sym old.2 ∙ ap (λ (z : Op). z.client) (some_is old.0 pending.op (sym old.1 ∙ pending.there));
               closing = pending.known;
@@ -234,36 +239,27 @@ made_settling all past rest opening k qs now mid after s h = by k.server.waiting
           ];
         }
 
-    found : (c : Change) (cs : List Change) → k.server.waiting ≡ c ∷ cs → (g : Option File) → server.file_at k.server.files c.file ≡ g → AreMade opening all (past ++ moment k (Settles now) ∷ []) (left_by k (makes_change (at_reading (record k.server { waiting = cs }) now) c g))
-    found c cs e (Some f) there = made c cs f e there
-    found c cs e None there =
-        let known = kept.server.targets 0 c (ap (λ (l : List Change). slice_get l 0) e) in
-        let gone : FileIs (book_at opening k all) c.file None = subst (FileIs (book_at opening k all) c.file) there (kept.server.held c.file) in
-        absurd (not_there (content_of opening c.file) gone.0 known)
-      where
-        not_there : (v : Value) → v ≡ None → IsSome v → ⊥
-        not_there None e h = absurd cc
-        not_there (Some x) e h = nothing_there x (sym e)
-
     by : (w : List Change) → k.server.waiting ≡ w → AreMade opening all (past ++ moment k (Settles now) ∷ []) (left_by k (server_settles k.server now w))
     by [] e = still [] e refl
-    by (c ∷ cs) e = found c cs e (server.file_at k.server.files c.file) refl
+    by (c ∷ cs) e =
+        let f = target_there (book_at opening k all) k.server c cs kept.server e in
+        subst (λ (r : server.State × ServerStep). AreMade opening all (past ++ moment k (Settles now) ∷ []) (left_by k r)) (sym (made_is (book_at opening k all) k.server now c cs f.0 kept.server e f.1)) (made c cs f.0 e f.1)
 
-settled_event : (all past rest : List Moment) (opening : List Opening) (k : Core) (qs : List Queue) (e : Event) (mid after : List Queue) → Step all past rest opening k qs e mid after → AreMade opening all past k → AreMade opening all (past ++ moment k e ∷ []) (happens k e).core
-settled_event all past rest opening k qs (Settles now) mid after s h = made_settling all past rest opening k qs now mid after s h
-settled_event all past rest opening k qs (Joins c) mid after s h = made_quietly opening all past k (Joins c) (λ n z. absurd cc) (quiet_event all past rest opening k qs (Joins c) mid after s (λ n z. absurd cc)) h
-settled_event all past rest opening k qs (Does c now d) mid after s h = made_quietly opening all past k (Does c now d) (λ n z. absurd cc) (quiet_event all past rest opening k qs (Does c now d) mid after s (λ n z. absurd cc)) h
-settled_event all past rest opening k qs (Serves n now bytes) mid after s h = made_quietly opening all past k (Serves n now bytes) (λ n z. absurd cc) (quiet_event all past rest opening k qs (Serves n now bytes) mid after s (λ n z. absurd cc)) h
-settled_event all past rest opening k qs (Hears n now bytes) mid after s h = made_quietly opening all past k (Hears n now bytes) (λ n z. absurd cc) (quiet_event all past rest opening k qs (Hears n now bytes) mid after s (λ n z. absurd cc)) h
-settled_event all past rest opening k qs (Cuts c) mid after s h = made_quietly opening all past k (Cuts c) (λ n z. absurd cc) (quiet_event all past rest opening k qs (Cuts c) mid after s (λ n z. absurd cc)) h
-settled_event all past rest opening k qs (Hangs n) mid after s h = made_quietly opening all past k (Hangs n) (λ n z. absurd cc) (quiet_event all past rest opening k qs (Hangs n) mid after s (λ n z. absurd cc)) h
+settled_event : FitLaws → (all past rest : List Moment) (opening : List Opening) (k : Core) (qs : List Queue) (e : Event) (mid after : List Queue) → Step all past rest opening k qs e mid after → AreMade opening all past k → AreMade opening all (past ++ moment k e ∷ []) (happens k e).core
+settled_event laws all past rest opening k qs (Settles now) mid after s h = made_settling all past rest opening k qs now mid after s h
+settled_event laws all past rest opening k qs (Joins c) mid after s h = made_quietly opening all past k (Joins c) (λ n z. absurd cc) (quiet_event laws all past rest opening k qs (Joins c) mid after s (λ n z. absurd cc)) h
+settled_event laws all past rest opening k qs (Does c now d) mid after s h = made_quietly opening all past k (Does c now d) (λ n z. absurd cc) (quiet_event laws all past rest opening k qs (Does c now d) mid after s (λ n z. absurd cc)) h
+settled_event laws all past rest opening k qs (Serves n now bytes) mid after s h = made_quietly opening all past k (Serves n now bytes) (λ n z. absurd cc) (quiet_event laws all past rest opening k qs (Serves n now bytes) mid after s (λ n z. absurd cc)) h
+settled_event laws all past rest opening k qs (Hears n now bytes) mid after s h = made_quietly opening all past k (Hears n now bytes) (λ n z. absurd cc) (quiet_event laws all past rest opening k qs (Hears n now bytes) mid after s (λ n z. absurd cc)) h
+settled_event laws all past rest opening k qs (Cuts c) mid after s h = made_quietly opening all past k (Cuts c) (λ n z. absurd cc) (quiet_event laws all past rest opening k qs (Cuts c) mid after s (λ n z. absurd cc)) h
+settled_event laws all past rest opening k qs (Hangs n) mid after s h = made_quietly opening all past k (Hangs n) (λ n z. absurd cc) (quiet_event laws all past rest opening k qs (Hangs n) mid after s (λ n z. absurd cc)) h
 
 abbrev pub AllSettled : (all past : List Moment) → List Opening → Core → List Queue → Type 0
 AllSettled all past opening k qs = AreMade opening all past k
 
-pub carried_settled : Carried AllSettled
-carried_settled = record {
-  first = λ all opening files changes count kept. record { settled = λ i p at. nothing_there p at; first = λ m now c there is at. (let lt = there.1 in absurd (omega (arith, lt))) };
-  steps = λ all past rest opening k qs e mid after s h. settled_event all past rest opening k qs e mid after s h;
+pub carried_settled : FitLaws → Carried AllSettled
+carried_settled laws = record {
+  first = λ all opening tree count kept. record { settled = λ i p at. nothing_there p at; first = λ m now c there is at. (let lt = there.1 in absurd (omega (arith, lt))) };
+  steps = λ all past rest opening k qs e mid after s h. settled_event laws all past rest opening k qs e mid after s h;
   adjusts = λ all past opening k qs index seats same h. record { settled = h.settled; first = h.first };
 }

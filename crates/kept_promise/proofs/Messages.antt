@@ -4,11 +4,12 @@ use Rattle.hash_calls.specs.declared.call.Leased.{Leased}
 use Rattle.xdr_codec.specs.declared.status.Status.TheVariants as status
 use Rattle.hash_calls.specs.declared.message.Lb.TheVariants as lb
 use Rattle.wire.specs.declared.message.Body.TheVariants as body
-use Rattle.open_close.specs.declared.task.Stage.TheVariants as stage
+use Rattle.client_state.specs.declared.task.Stage.TheVariants as stage
 use Rattle.register_model.specs.declared.op.Word.TheVariants as words
 use Rattle.trace_replay.specs.Causes.{TakesCall}
-use Rattle.kept_promise.proofs.Common.{handle_bytes, Body, slice_get, cond, Status, Collides, ◌==◌, Contains, chunk_bytes, end_of, chunks_of, Chunk, Answer, Done, Failed, Attr, Committed, Hashes, HashRange, Piece, Range, hashes_of, piece_of, told_chunks, File, read_at, Fetch, ReadCall, Stage, Store, StoreCall, Task, Value, content_of, Op, Word, TakenCall, Seat, taken_at, hashed_of, sha1, Book, Or, value_at, version_at, Tried, Call, Call.Lease, Call.Hash, Call.Read, Call.Make, Call.Name, Call.Send, Call.Commit, Reply, Reply.Versioned, Reply.Hashed, Reply.Bytes, Reply.Changed, Ask, Told}
+use Rattle.kept_promise.proofs.Common.{handle_bytes, Body, slice_get, cond, Status, Collides, ◌==◌, Contains, chunk_bytes, end_of, chunks_of, Chunk, Answer, Done, Failed, Attr, Committed, Hashes, HashRange, Piece, Range, hashes_of, piece_of, told_chunks, File, read_at, Fetch, ReadCall, Stage, Store, StoreCall, Task, Value, content_of, Op, Word, TakenCall, Seat, taken_at, hashed_of, sha1, Book, Or, value_at, version_at, Tried, Call, Call.Lease, Call.Hash, Call.Read, Call.Make, Call.Name, Call.Send, Call.Commit, Reply, Reply.Versioned, Reply.Hashed, Reply.Bytes, Reply.Changed, Ask, Told, Wanted}
 use Rattle.kept_promise.proofs.Rights.{IsHeld, IsUnmade, IsMade}
+use Rattle.server_core.specs.declared.change.Wanted.TheVariants as wanted
 
 -- ---- the operation under way
 
@@ -248,6 +249,11 @@ abbrev pub HasFetch : Book → List TakenCall → Option Job → Type 0
 HasFetch book taken job = (j : Job) → job ≡ Some j → FetchOf book taken j j.stage
 
 -- ---- a change on its way
+
+-- the content that a commit which waits is to store
+abbrev pub content_wanted : Wanted → List ℕ
+content_wanted (wanted.Content content) = content
+content_wanted (wanted.Asked a) = []
 
 -- a change is on its way, as a call or as one that waits: it is that of the close which the session remembers, with its value, bytes that were known by
 -- their digest apart

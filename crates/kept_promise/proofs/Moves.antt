@@ -4,7 +4,7 @@ use Rattle.wire.specs.Message.{program_of}
 use Rattle.wire.specs.declared.message.Program.TheVariants as program
 use Rattle.hash_calls.specs.declared.message.LbProc.TheVariants as lb_proc
 use Rattle.nfs3_calls.specs.declared.message.NfsProc.TheVariants as nfs_proc
-use Rattle.open_close.specs.State as client
+use Rattle.client_state.specs.State as client
 use Rattle.kept_promise.proofs.Common.{slice_get, not, cond, ◌==◌, IsExpected, waiting, Pending, Program, Change, without_call, Reply, Reply.Versioned, Reply.Hashed, Reply.Bytes, Reply.Made, Reply.Named, Reply.Stored, Reply.Changed, Ask, Told, Queue, reply_program, reply_body, told_message}
 use Rattle.kept_promise.proofs.Lists.{some_is, nothing_there}
 use Rattle.kept_promise.proofs.Keys.{times, times_append, code_of, pending_key, told_key, ask_key, change_key, own, found_by, there_by, key_xid, key_code}

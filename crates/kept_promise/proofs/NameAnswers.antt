@@ -16,14 +16,19 @@ use Rattle.server_core.specs.declared.event.Told.{Told as Announced}
 use Rattle.server_core.specs.declared.event.Told.TheVariants as announced
 use Rattle.server_core.specs.declared.event.Event.TheVariants as event
 use Rattle.trace_replay.specs.Saving.{name_call, name_told, name_answer}
-use Rattle.kept_promise.proofs.Common.{nat_lt, if◌then◌else◌, ◌==◌, ◌||◌, list_any, Contains, Contains-push_cases, Contains-append_cases, Answer, Done, Failed, Status, Body, Message, WireFault, parse_of, Temp, size_most, temp_at, room_fault, piece_fault, assembled, without_temp, Node, root, file, node_of, File, Change, server_step, called, got_if, stands, at, makes, makes_unless, makes_change, names, names_unless, names_bytes, bytes_known, cond_fault, writes_unless, commits, commits_to, commits_whole, has_waiting, is_full, Core, Seat, Session, Event, Event.Joins, Event.Does, Event.Serves, Event.Hears, Event.Settles, Event.Cuts, Event.Hangs, CoreStep, numbered, server_waiting, is_newest, serves_if, serves, does, joins_as, joins, hears, hears_at, hears_if, cuts_if, cuts, hangs_if, hangs, happens}
+use Rattle.kept_promise.proofs.Common.{nat_lt, if◌then◌else◌, ◌==◌, ◌||◌, list_any, Contains, Contains-push_cases, Contains-append_cases, Answer, Done, Failed, Status, Body, Message, WireFault, parse_of, Temp, size_most, temp_at, room_fault, piece_fault, assembled, without_temp, Node, directory, file, node_of, File, Change, server_step, called, got_if, stands, at, makes, makes_unless, makes_change, names, names_unless, names_bytes, bytes_known, cond_fault, writes_unless, commits, commits_to, commits_whole, has_waiting, is_full, Core, Seat, Session, Event, Event.Joins, Event.Does, Event.Serves, Event.Hears, Event.Settles, Event.Cuts, Event.Hangs, CoreStep, numbered, server_waiting, is_newest, serves_if, serves, does, joins_as, joins, hears, hears_at, hears_if, cuts_if, cuts, hangs_if, hangs, happens, Wanted, Tree}
 use Rattle.kept_promise.proofs.Lists.{nothing_there}
+use Rattle.server_core.specs.declared.change.Wanted.TheVariants as wanted
+use Rattle.server_core.specs.Step.{asks, asks_tree}
+use Rattle.tree_calls.specs.Waiting.{calls}
+use Rattle.tree_calls.specs.declared.asked.Outcome.{Outcome}
+use Rattle.tree_calls.specs.declared.asked.Outcome.TheVariants.{Answered, Waits as ToWait}
 
 -- ---- what a CONDWRITE comes to
 
 -- the bytes that a server knows for it
 abbrev pub known_in : server.State → CondPiece → Option (List ℕ)
-known_in s a = bytes_known s.files a (place_of s.index.pairs (digest_key a.digest))
+known_in s a = bytes_known s.tree a (place_of s.index.pairs (digest_key a.digest))
 
 -- its temporary file can't take the bytes, or the answer says whether they are known
 abbrev pub ComesTo : server.State → CondPiece → Option Temp → Answer Unit Unit → Type 0
@@ -107,10 +112,10 @@ other_sent (s ∷ ss) n xid r h c = elim (Contains-append_cases (s ∷ []) ss (r
 
 commits_other : (s : server.State) (n xid size : ℕ) (t : Temp) (nd : Result Node Status) → AreOther (commits_to s n xid size t nd).1.send
 commits_other s n xid size t (Err e) = (tt, tt)
-commits_other s n xid size t (Ok root) = (tt, tt)
+commits_other s n xid size t (Ok directory) = (tt, tt)
 commits_other s n xid size t (Ok (file f)) = by (nat_lt size_most size)
   where
-    waits : (content : List ℕ) (a b : Bool) → AreOther (if a then answers s n xid (lb.CommitTmpAnswer (Failed status.Jukebox tt)) else if b then answers s n xid (lb.CommitTmpAnswer (Failed status.NoSpc tt)) else (record s { waiting = s.waiting ++ record { session = n; xid = xid; file = f.id; content = content } ∷ [] }, sends [])).1.send
+    waits : (content : List ℕ) (a b : Bool) → AreOther (if a then answers s n xid (lb.CommitTmpAnswer (Failed status.Jukebox tt)) else if b then answers s n xid (lb.CommitTmpAnswer (Failed status.NoSpc tt)) else (record s { waiting = s.waiting ++ record { session = n; xid = xid; file = f.id; what = wanted.Content content } ∷ [] }, sends [])).1.send
     waits content true b = (tt, tt)
     waits content false true = (tt, tt)
     waits content false false = tt
@@ -123,13 +128,21 @@ commits_other s n xid size t (Ok (file f)) = by (nat_lt size_most size)
     by true = (tt, tt)
     by false = whole (assembled t size)
 
+outcome_other : (s : server.State) (n xid : ℕ) (p : Tree × Option Outcome) → AreOther (asks_tree s n xid p).1.send
+outcome_other s n xid p = by p.1
+  where
+    by : (o : Option Outcome) → AreOther (asks (record s { tree = p.0 }) n xid o).1.send
+    by None = (tt, tt)
+    by (Some (Answered d)) = (tt, tt)
+    by (Some (ToWait a)) = tt
+
 -- what a call comes to: a CONDWRITE, or another
 abbrev Answers : server.State → (n xid : ℕ) → Body → List Sent → Type 0
 Answers s n xid b send = ((a : CondPiece) × (b ≡ body.Lb (lb.CondWrite a)) × Says s n xid a (temp_at s.temps n a.fd) send) ⊎ AreOther send
 
 call_answers : (s : server.State) (n xid : ℕ) (b : Body) → Answers s n xid b (called s n xid b).1.send
 call_answers s n xid (body.Lb (lb.CondWrite a)) = inl (a, refl, names_say s n xid a (temp_at s.temps n a.fd))
-call_answers s n xid (body.Lb (lb.MkTmpFile a)) = inr (by (node_of s.files a.handle))
+call_answers s n xid (body.Lb (lb.MkTmpFile a)) = inr (by (node_of s.tree a.handle))
   where
     room : (f : File) (o : Option Status) → AreOther (makes_unless s n xid a.fd f.id o).1.send
     room f (Some e) = (tt, tt)
@@ -137,7 +150,7 @@ call_answers s n xid (body.Lb (lb.MkTmpFile a)) = inr (by (node_of s.files a.han
 
     by : (nd : Result Node Status) → AreOther (makes s n xid a.fd nd).1.send
     by (Err e) = (tt, tt)
-    by (Ok root) = (tt, tt)
+    by (Ok directory) = (tt, tt)
     by (Ok (file f)) = room f (room_fault s.temps n a.fd)
 call_answers s n xid (body.Lb (lb.TmpWrite a)) = inr (by (temp_at s.temps n a.fd) (piece_fault (temp_at s.temps n a.fd) a.offset (length a.bytes)))
   where
@@ -149,8 +162,10 @@ call_answers s n xid (body.Lb (lb.CommitTmp a)) = inr (by (temp_at s.temps n a.f
   where
     by : (t : Option Temp) → AreOther (commits s n xid a t).1.send
     by None = (tt, tt)
-    by (Some t) = commits_other (record s { temps = without_temp s.temps n a.fd }) n xid a.size t (node_of s.files a.handle)
+    by (Some t) = commits_other (record s { temps = without_temp s.temps n a.fd }) n xid a.size t (node_of s.tree a.handle)
+call_answers s n xid (body.Nfs nfs.Null) = inr (tt, tt)
 call_answers s n xid (body.Nfs (nfs.Read a)) = inr (tt, tt)
+call_answers s n xid (body.Nfs m) = inr (outcome_other s n xid (calls s.tree (server.held s.waiting) (has_waiting s.waiting n) m))
 call_answers s n xid b = inr (tt, tt)
 
 -- ---- of any event
@@ -243,13 +258,13 @@ name_taken k (Hears m now bytes) = by (numbered k.sessions m)
     by (Some x) = here x.owner (numbered k.seats x.owner)
 name_taken k (Settles now) = quietly k (Settles now) _ (by k.server.waiting)
   where
-    made : (s : server.State) (c : Change) (o : Option File) → AreOther (makes_change s c o).1.send
-    made s c None = (tt, tt)
-    made s c (Some f) = (tt, tt)
+    made : (s : server.State) (c : Change) (a : Wanted) → AreOther (makes_change s c a).1.send
+    made s c (wanted.Content x) = (tt, tt)
+    made s c (wanted.Asked a) = (tt, tt)
 
     by : (ws : List Change) → AreOther (server_settles k.server now ws).1.send
     by [] = tt
-    by (c ∷ cs) = made (at (record k.server { waiting = cs }) now) c (server.file_at k.server.files c.file)
+    by (c ∷ cs) = made (at (record k.server { waiting = cs }) now) c c.what
 name_taken k (Cuts c) = by (numbered k.seats c)
   where
     linked : (seat : Seat) (b : Bool) → SentBy k (Cuts c) (cuts_if k c seat b)

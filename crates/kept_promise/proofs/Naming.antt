@@ -1,6 +1,6 @@
 -- CONDWRITEs that go out, in chunk order.
 use Rattle.std.proofs.Common.{◌≡◌, ℕ, zero, suc, ◌+◌, ◌<◌, ◌≤◌, List, [], ◌∷◌, ◌++◌, length, Option, Some, None, refl, sym, ap, ◌∙◌, subst, arith, append_assoc, append-nil, map}
-use Rattle.open_close.specs.declared.task.Way.TheVariants as way
+use Rattle.client_state.specs.declared.task.Way.TheVariants as way
 use Rattle.kept_promise.proofs.Common.{slice_get, cond, ◌==◌, Chunk, Pending, store_pending, Names, names_next, names_more, Store, StoreCall, Call.Name, Ask, ask_message}
 use Rattle.kept_promise.proofs.Lists.{some_is, nothing_there, within}
 use Rattle.kept_promise.proofs.Keys.{times}

@@ -3,8 +3,8 @@ use Rattle.std.proofs.Common.{inl, inr, ◌≡◌, ℕ, zero, suc, ◌+◌, ◌-
 use Rattle.wire.specs.declared.message.Message.TheVariants as message
 use Rattle.wire.specs.declared.message.RpcRefusal.TheVariants as refusal
 use Rattle.server_core.specs.State as server
-use Rattle.open_close.specs.State as client
-use Rattle.open_close.specs.declared.step.Outcome.TheVariants as outcome
+use Rattle.client_state.specs.State as client
+use Rattle.client_state.specs.declared.step.Outcome.TheVariants as outcome
 use Rattle.trace_replay.specs.Core.{taken_of as session_taken}
 use Rattle.trace_replay.specs.Numbered.{numbers_among, numbers_if, numbers_by, numbers_of, CountOn}
 use Rattle.kept_promise.proofs.Common.{nat_tests, ◌==◌, slice_get, Chunk, Command, Body, Message, Pending, RpcRefusal, WireFault, parse_of, names_from, names_all, names_next, calls_most, cond_call, commit_call, reads_from, reads_chunk, read_call, server_step, connect, has_room, command_step, got_step, got_fault, took_if, drops, denied, denied_if, idle, took, ended_by, Names, Reads, ClientStep, Ended, Fetch, Stage, Store, Task, Opening, Word, word_of, calls_among, Core, Seat, Session, Event, Event.Joins, Event.Does, Event.Serves, Event.Hears, Event.Settles, Event.Cuts, Event.Hangs, CoreStep, new_seat, new_session, joined, numbered, with_numbered, session_of, commanded_sessions, cut_session, is_newest, acted, does, joins_as, joins, cuts_if, cuts, hangs_if, hangs, serves, serves_if, server_waiting, happens, Moment, Book, Queue}
@@ -311,7 +311,7 @@ AllNumbered all past opening k qs = At past k
 
 pub carried_numbered : Carried AllNumbered
 carried_numbered = record {
-  first = λ all opening files changes count kept. record { each = λ n. tt; next = λ i n seat at on. nothing_on i n seat count at on; none = λ n lt. refl };
+  first = λ all opening tree count kept. record { each = λ n. tt; next = λ i n seat at on. nothing_on i n seat count at on; none = λ n lt. refl };
   steps = λ all past rest opening k qs e mid after s h. numbers_event all past rest opening k qs e mid after s h;
   adjusts = λ all past opening k qs index seats same h. record {
     each = h.each;

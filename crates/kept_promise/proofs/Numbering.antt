@@ -11,12 +11,12 @@ use Rattle.wire.specs.declared.message.RpcRefusal.TheVariants as refusal
 use Rattle.chunk_index.specs.Index.{Indexed}
 use Rattle.client_cache.specs.Cache.{Entries, reserved, content_of}
 use Rattle.client_cache.specs.declared.kept.Content.{Content}
-use Rattle.open_close.specs.Caching.{content_in, found_all}
-use Rattle.open_close.specs.Opening.{reads_chunk, looked_up}
-use Rattle.open_close.specs.State as client
-use Rattle.open_close.specs.declared.step.Outcome.TheVariants as outcome
-use Rattle.open_close.specs.declared.task.Stage.TheVariants as stage
-use Rattle.open_close.specs.declared.task.Way.TheVariants as way
+use Rattle.file_open.specs.Caching.{content_in, found_all}
+use Rattle.file_open.specs.Opening.{reads_chunk, looked_up}
+use Rattle.client_state.specs.State as client
+use Rattle.client_state.specs.declared.step.Outcome.TheVariants as outcome
+use Rattle.client_state.specs.declared.task.Stage.TheVariants as stage
+use Rattle.client_state.specs.declared.task.Way.TheVariants as way
 use Rattle.trace_replay.specs.Trail.{call_number}
 use Rattle.kept_promise.proofs.Common.{slice_get, ◌==◌, nat_lt, if◌then◌else◌, Chunk, content_length, content_bytes, Command, Answer, Done, Failed, Hashes, Piece, Body, Message, Pending, RpcRefusal, WireFault, names_from, names_next, names_more, names_all, is_stored, store_of, store_at, answered, local_most, written_size, written, truncated, calls_most, fetch_of, with_hashes, listed, reads_from, reads_more, reads_all, is_here, read_at, fault_in, other_version, with_bytes, Broken, broken_of, is_open, may_ask, asks_file, asks_kept, uses_kept, told_lease, opens_if, opens, on_local, too_big, done_with, edits, writes, truncates, reads, abandons, asks_temp, closes, command_step, idle, reads_if, reads_on, lists_on, told_shape, told_version, told_hashes, told_first, retries, misfits, told_bytes, told_chunk, told_piece, goes_if, goes_on, told_temp, sends_whole, told_named, told_whole, told_way, told_stored, denied, took, drops, took_if, denied_if, got_fault, got_step, ends, Names, Reads, BadPeer, ClientStep, Fetch, Local, ReadCall, Stage, Store, StoreCall, Task, Way, Moment, calls_among, sent_if, calls_by, calls_from}
 use Rattle.kept_promise.proofs.StepCases.{reads_keep}
@@ -40,7 +40,7 @@ reads_number cache index k file next r h = reads_keep (Asks next) cache index fi
   where
     one : (q : Reads) (c : Chunk) (o : Option (List ℕ)) → Asks next q → Asks next (reads_chunk file q c o)
     one q c (Some bytes) g = g
-    one q c None g = let m = among_more q.send (Rattle.open_close.specs.Opening.read_call q.next file c) in omega (arith, g, m)
+    one q c None g = let m = among_more q.send (Rattle.file_open.specs.Opening.read_call q.next file c) in omega (arith, g, m)
 
 names_number : (k : ℕ) (n : Names) → (names_more k n).next + calls_among n.send ≡ n.next + calls_among (names_more k n).send
 names_number zero n = refl
@@ -50,7 +50,7 @@ names_number (suc k) n = by (slice_get n.store.chunks n.store.named) (λ q. name
     by None go = go n
     by (Some c) go =
         let h = go (names_next n (Some c)) in
-        let m = among_more n.send (Rattle.open_close.specs.Closing.cond_call n.next n.store.temp c) in
+        let m = among_more n.send (Rattle.file_close.specs.Closing.cond_call n.next n.store.temp c) in
         omega (arith, h, m)
 
 reads_on_number : (s : client.State) (calls : List Pending) (file xid : ℕ) (f : Fetch) (bytes : ℕ) → Numbers s (reads_on s calls file xid f bytes)
@@ -81,7 +81,7 @@ hashes_number s calls file xid f (Done h) = by (h.version == f.version)
   where
     by : (same : Bool) → Numbers s (told_version s calls file xid f h same)
     by true = shape_number s calls file xid f h (broken_of f h)
-    by false = retries_number s calls file xid (nat_lt f.tries Rattle.open_close.specs.Opening.tries_most) f h.version 0
+    by false = retries_number s calls file xid (nat_lt f.tries Rattle.client_state.specs.Limits.tries_most) f h.version 0
 
 first_numbers : (s : client.State) (calls : List Pending) (file xid tries : ℕ) (a : Answer Hashes Unit) → Numbers s (told_first s calls file xid tries a)
 first_numbers s calls file xid tries (Failed t u) = omega arith
@@ -96,7 +96,7 @@ lease_number s calls file xid (Failed t u) = omega arith
 lease_number s calls file xid (Done l) = kept_number s calls file xid l.version (content_in l.version (content_of s.cache file))
 
 misfits_number : (s : client.State) (calls : List Pending) (file xid : ℕ) (f : Fetch) (b : BadPeer) (bytes : ℕ) (o : Option ℕ) → Numbers s (misfits s calls file xid f b bytes o)
-misfits_number s calls file xid f b bytes (Some version) = retries_number s calls file xid (nat_lt f.tries Rattle.open_close.specs.Opening.tries_most) f version bytes
+misfits_number s calls file xid f b bytes (Some version) = retries_number s calls file xid (nat_lt f.tries Rattle.client_state.specs.Limits.tries_most) f version bytes
 misfits_number s calls file xid f b bytes None = omega arith
 
 bytes_number : (s : client.State) (calls : List Pending) (file xid : ℕ) (f : Fetch) (c : ReadCall) (piece : Piece) (o : Option BadPeer) → Numbers s (told_bytes s calls file xid f c piece o)
@@ -118,7 +118,7 @@ goes_number s file content st = by (is_stored (names_all st s.next).store)
     by true =
         let n : Names = names_all st s.next in
         let h = names_number (calls_most - length st.under) (names_from st s.next) in
-        let m = among_more n.send (Rattle.open_close.specs.Closing.commit_call n.next n.store.temp file (length content)) in
+        let m = among_more n.send (Rattle.file_close.specs.Closing.commit_call n.next n.store.temp file (length content)) in
         omega (arith, h, m)
     by false = let h = names_number (calls_most - length st.under) (names_from st s.next) in omega (arith, h)
 

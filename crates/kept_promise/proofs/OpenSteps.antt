@@ -2,11 +2,11 @@
 use Rattle.std.proofs.Common.{inl, inr, ◌≡◌, ℕ, zero, suc, ◌+◌, ◌*◌, ◌<◌, ◌≤◌, List, [], ◌∷◌, ◌++◌, length, Option, Some, None, Bool, true, false, refl, sym, ap, ◌∙◌, subst, arith, eqb-true, eq-eqb, replicate, map, IsSome}
 use Rattle.client_cache.specs.Cache.{content_of}
 use Rattle.hash_calls.specs.declared.call.Leased.{Leased}
-use Rattle.open_close.specs.Caching.{content_in}
-use Rattle.open_close.specs.Looking.{listed_if, listed_by, reading_by}
+use Rattle.file_open.specs.Caching.{content_in}
+use Rattle.file_open.specs.Looking.{listed_if, listed_by, reading_by}
 use Rattle.server_core.specs.State as server
-use Rattle.open_close.specs.State as client
-use Rattle.open_close.specs.declared.task.Stage.TheVariants as stage
+use Rattle.client_state.specs.State as client
+use Rattle.client_state.specs.declared.task.Stage.TheVariants as stage
 use Rattle.register_model.specs.declared.op.Word.TheVariants as words
 use Rattle.kept_promise.proofs.Common.{nat_tests, slice_get, cond, ◌==◌, chunks_of, end_of, Answer, Done, Failed, Status, Hashes, File, read_pending, fetch_of, with_hashes, listed, read_at, broken_of, idle, told_first, told_hashes, told_version, told_shape, lists_on, told_lease, uses_kept, if◌then◌else◌, Content, Pending, Fetch, ReadCall, Stage, Value, Core, Session, hashed_of, Book, value_at, Reply.Hashed, Reply.Versioned, Told, Queue, reply_program, reply_body}
 use Rattle.kept_promise.proofs.Lists.{some_is, nothing_there}
@@ -223,7 +223,7 @@ comes_listing book k qs n x q t ts j g f a at e looked = by a e (answer_at book 
     left = xids_at book k qs n x q t ts j g (stage.Listing t.xid f) at
 
     refuses : (s : Status) → HashTold book x.taken j t.xid (end_of f.chunks) (Failed s tt) → ⊥
-    refuses s (inl dir) = one_known (server.file_at k.server.files j.file) (g.kept.server.held j.file)
+    refuses s (inl dir) = one_known (server.file_at k.server.tree j.file) (g.kept.server.held j.file)
       where
         one_known : (o : Option File) → FileIs book j.file o → ⊥
         one_known None b = not_some (subst (λ (v : Value). IsSome v) b.0 fact.0.known)

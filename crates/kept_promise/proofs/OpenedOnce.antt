@@ -1,8 +1,8 @@
 -- A run carries that an open which got its content, and began more than one attempt, had its file change between its begin and its end; and what opens
 -- counted by that.
 use Rattle.std.proofs.Common.{inl, inr, ◌≡◌, ℕ, ◌+◌, ◌<◌, ◌≤◌, List, [], ◌∷◌, ◌++◌, length, Option, Some, None, Ok, Bool, true, false, refl, sym, ap, ◌∙◌, subst, arith, map}
-use Rattle.open_close.specs.State as client
-use Rattle.open_close.specs.declared.task.Stage.TheVariants as stage
+use Rattle.client_state.specs.State as client
+use Rattle.client_state.specs.declared.task.Stage.TheVariants as stage
 use Rattle.register_model.specs.declared.op.Outcome.TheVariants as told
 use Rattle.register_model.specs.declared.op.Word.TheVariants as words
 use Rattle.trace_replay.specs.Core.{taken_of as session_taken}
@@ -304,7 +304,7 @@ IsMet all past opening k qs = Once all past opening k
 
 pub carried_once : FitLaws → Carried IsMet
 carried_once laws = record {
-  first = λ all opening files changes count kept. record { met = (met_carried laws).first all opening files changes count kept; once = λ p len digest o at e. nothing_there o at };
+  first = λ all opening tree count kept. record { met = (met_carried laws).first all opening tree count kept; once = λ p len digest o at e. nothing_there o at };
   steps = λ all past rest opening k qs e mid after s h. record { met = (met_carried laws).steps all past rest opening k qs e mid after s h.met; once = once_event laws all past rest opening k qs e mid after s h };
   adjusts = λ all past opening k qs index seats same h. record { met = (met_carried laws).adjusts all past opening k qs index seats same h.met; once = λ p len digest o at is. (let w = h.once p len digest o at is in record { end = w.end; end_is = w.end_is; by = w.by; once = w.once; called = called_as (book_at opening k all) (book_at opening (adjusted_core k index seats) all) past past o o (λ z c. c) refl refl (λ p is. is) refl w.called }) };
 }

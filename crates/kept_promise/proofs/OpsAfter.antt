@@ -4,8 +4,8 @@ use Rattle.server_core.specs.State as server
 use Rattle.server_core.specs.declared.event.Event.TheVariants as event
 use Rattle.server_core.specs.declared.event.Told.{Told as Announced}
 use Rattle.server_core.specs.declared.event.Told.TheVariants as announced
-use Rattle.open_close.specs.State as client
-use Rattle.open_close.specs.declared.step.Outcome.TheVariants as outcome
+use Rattle.client_state.specs.State as client
+use Rattle.client_state.specs.declared.step.Outcome.TheVariants as outcome
 use Rattle.register_model.specs.declared.op.Outcome.TheVariants as told
 use Rattle.trace_replay.specs.Core.{taken_of as session_taken}
 use Rattle.kept_promise.proofs.Common.{nat_tests, ◌==◌, ◌&&◌, nat_lt, option_map_or, slice_get, slice_set, changes, Book, ops_after, server_step, command_step, got_step, ended_by, ClientStep, Ended, Task, Op, Opening, TakenCall, op_after, Core, Seat, Event, Event.Joins, Event.Does, Event.Serves, Event.Hears, Event.Settles, Event.Cuts, Event.Hangs, CoreStep, numbered, session_of, ops_with, does, joins_as, joins, cuts_if, cuts, happens, Moment, Queue, parse_of}

@@ -1,6 +1,6 @@
 -- A client takes an answer: what else is on its way is to other calls, and stays in order as its operation goes on or ends.
 use Rattle.std.proofs.Common.{eqb-true, ◌⊎◌, inl, inr, ◌≡◌, ℕ, zero, suc, ◌<◌, ◌≤◌, List, [], ◌∷◌, ◌++◌, Option, Some, None, Bool, true, false, refl, sym, ap, ◌∙◌, subst, arith, eq-eqb, append-nil, map, IsSome}
-use Rattle.open_close.specs.declared.task.Stage.TheVariants as stage
+use Rattle.client_state.specs.declared.task.Stage.TheVariants as stage
 use Rattle.register_model.specs.declared.op.Word.TheVariants as words
 use Rattle.kept_promise.proofs.Common.{slice_get, cond, ◌==◌, Pending, Program, Temp, Change, Failed, Stage, Store, StoreCall, content_of, Seat, unless, Book, Call, Call.Make, Call.Name, Call.Send, Call.Commit, Reply, Reply.Made, Reply.Named, Reply.Stored, Reply.Changed, Ask, Told, Queue, call_program, reply_program}
 use Rattle.kept_promise.proofs.Lists.{some_is, nothing_there}

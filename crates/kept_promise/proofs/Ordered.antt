@@ -1,6 +1,6 @@
 -- Calls and answers of closes stay in order: as a run grows, where none is of the operation under way, and as the first call is taken.
 use Rattle.std.proofs.Common.{inl, inr, ◌≡◌, ℕ, zero, suc, ◌<◌, ◌≤◌, List, [], ◌∷◌, ◌++◌, Option, Some, None, Bool, true, false, length, refl, sym, ap, ◌∙◌, subst, arith, IsSome}
-use Rattle.open_close.specs.declared.task.Stage.TheVariants as stage
+use Rattle.client_state.specs.declared.task.Stage.TheVariants as stage
 use Rattle.register_model.specs.declared.op.Word.TheVariants as words
 use Rattle.trace_replay.specs.Causes.{WaitsFor}
 use Rattle.kept_promise.proofs.Common.{Done, Failed, Temp, temp_at, is_full, Stage, Store, content_of, Opening, Op, Seat, unless, Book, step_of, Call, Call.Lease, Call.Hash, Call.Read, Call.Make, Call.Name, Call.Send, Call.Commit, Reply, Reply.Versioned, Reply.Hashed, Reply.Bytes, Reply.Made, Reply.Named, Reply.Stored, Reply.Changed, Ask, Told, Queue}

@@ -6,10 +6,10 @@ use Rattle.hash_calls.specs.declared.call.Commit.{Commit as Commit_call}
 use Rattle.hash_calls.specs.declared.message.Lb.TheVariants as lb
 use Rattle.wire.specs.declared.message.Body.TheVariants as body
 use Rattle.wire.specs.declared.message.Message.TheVariants as message
-use Rattle.open_close.specs.State as client
+use Rattle.client_state.specs.State as client
 use Rattle.trace_replay.specs.Causes.{WaitsFor}
-use Rattle.open_close.specs.declared.task.Stage.TheVariants as stage
-use Rattle.open_close.specs.declared.task.Way.TheVariants as way
+use Rattle.client_state.specs.declared.task.Stage.TheVariants as stage
+use Rattle.client_state.specs.declared.task.Way.TheVariants as way
 use Rattle.register_model.specs.declared.op.Word.TheVariants as words
 use Rattle.kept_promise.proofs.Common.{slice_get, Contains, chunks_of, chunk_bytes, Chunk, Done, Failed, parse_of, is_full, Temp, store_at, Stage, Store, StoreCall, Way, content_of, Op, Seat, Event.Serves, server_waiting, Moment, step_of, Book, Call, Call.Make, Call.Name, Call.Send, Call.Commit, Reply, Reply.Made, Reply.Named, Reply.Stored, Reply.Changed, Ask, Told, Queue}
 use Rattle.kept_promise.proofs.Statements.{PiecesOf, SameShape}

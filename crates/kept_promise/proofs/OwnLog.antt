@@ -5,8 +5,8 @@ use Rattle.hash_calls.specs.declared.message.Lb.TheVariants as lb
 use Rattle.nfs3_calls.specs.declared.message.Nfs.TheVariants as nfs
 use Rattle.wire.specs.declared.message.Body.TheVariants as body
 use Rattle.wire.specs.declared.message.Message.TheVariants as message
-use Rattle.open_close.specs.State as client
-use Rattle.open_close.specs.declared.task.Stage.TheVariants as stage
+use Rattle.client_state.specs.State as client
+use Rattle.client_state.specs.declared.task.Stage.TheVariants as stage
 use Rattle.register_model.specs.declared.op.Word.TheVariants as words
 use Rattle.trace_replay.specs.Traffic.{IsFetchCall, IsStoreCall, AreOwn, named_in}
 use Rattle.kept_promise.proofs.Common.{chunks_of, Chunk, Body, Message, Pending, cond_call, commit_call, names_from, names_all, calls_most, read_call, reads_from, reads_chunk, with_hashes, idle, forgets, tries_anew, lists_on, reads_if, goes_if, sends_whole, took, Reads, ClientStep, Ended, Fetch, Stage, Store, Task, Op, Word, TakenCall, op_after, no_traffic, Moment, Deal, Deal.Took, Deal.Found, Deal.Sent, deals_with, deals_of, CountsOwn, first_number, Book}
@@ -105,7 +105,7 @@ sends_cases s calls file v st x b h same = record {
   whole = λ old c k at unknown none found name chunk.
       let close = ap stage_word at in
       let chunks : old.chunks ≡ chunks_of v = subst (λ (t : Stage). StageChunks t v) at h in
-      closing close (sends_whole s file x (client.local_bytes s.opened file) (Rattle.open_close.specs.Closing.answered old x) c (Some k)) (
+      closing close (sends_whole s file x (client.local_bytes s.opened file) (Rattle.file_close.specs.Closing.answered old x) c (Some k)) (
         (λ u running task. subst (λ (z : Task). (stage_word z.stage ≡ words.Close) × StageChunks z.stage v) (some_is _ u task) (refl, chunks)),
         (tt, tt),
       );

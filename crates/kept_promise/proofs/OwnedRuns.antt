@@ -1,9 +1,9 @@
 -- A run carries that whatever a client sends or takes is for an operation that it has under way.
 use Rattle.std.proofs.Common.{◌⊎◌, inl, inr, ◌≡◌, ℕ, ◌+◌, ◌≤◌, List, [], ◌∷◌, ◌++◌, length, Option, Some, None, Bool, true, false, Ok, refl, sym, ap, ◌∙◌, subst, arith}
-use Rattle.open_close.specs.State as client
+use Rattle.client_state.specs.State as client
 use Rattle.trace_replay.specs.Core.{taken_of as session_taken}
 use Rattle.trace_replay.specs.Traffic.{IsFor}
-use Rattle.open_close.specs.Looking.{reading}
+use Rattle.file_open.specs.Looking.{reading}
 use Rattle.trace_replay.specs.Trail.{given_in, given_by_message}
 use Rattle.kept_promise.proofs.Common.{Contains-push_cases, slice_get, slice_set, Contains, command_step, got_step, got_message, drops, ClientStep, Task, Op, Opening, word_of, file_of, value_at_begin, TakenCall, op_after, Core, Seat, Event, Event.Joins, Event.Does, Event.Serves, Event.Hears, Event.Settles, Event.Cuts, Event.Hangs, CoreStep, numbered, session_of, ops_after, ops_with, acted, does, happens, Moment, step_of, client_of, owner_in, wanted_if, wanted_by, taken_by, given_by, is_in, deals_with, Book, Queue, told_message}
 use Rattle.kept_promise.proofs.Lists.{at_end, at_replaced}
@@ -123,7 +123,7 @@ AllOwned all past opening k qs = OwnedAt past k
 
 pub carried_owned : FitLaws → Carried AllOwned
 carried_owned fits = record {
-  first = λ all opening files changes count kept. record { by = λ m there. (let lt = there.1 in absurd (omega (arith, lt))); each = λ m there. (let lt = there.1 in absurd (omega (arith, lt))) };
+  first = λ all opening tree count kept. record { by = λ m there. (let lt = there.1 in absurd (omega (arith, lt))); each = λ m there. (let lt = there.1 in absurd (omega (arith, lt))) };
   steps = λ all past rest opening k qs e mid after s h.
       let w = ops_after_event all past rest opening k qs e mid after s in
       let said = says fits all past rest opening k qs e mid after s in

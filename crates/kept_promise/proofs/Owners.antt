@@ -1,7 +1,7 @@
 -- What the owners of the sessions are, and the stage, once a line was run.
 use Rattle.std.proofs.Common.{◌≡◌, ℕ, zero, suc, List, [], ◌∷◌, ◌++◌, length, Option, Some, None, Bool, true, false, refl, sym, ap, ◌∙◌, Result, Ok, Err, map, take}
 use Rattle.trace_text.specs.declared.line.Who.TheVariants as who
-use Rattle.open_close.specs.State as client
+use Rattle.client_state.specs.State as client
 use Rattle.trace_replay.specs.Core.{with_client, adjusted}
 use Rattle.trace_replay.specs.World.{adjusts}
 use Rattle.trace_replay.specs.declared.adjusting.Adjustment.{Adjustment}

@@ -4,7 +4,7 @@ use Rattle.xdr_codec.specs.declared.status.Status.TheVariants as status
 use Rattle.hash_calls.specs.declared.message.Lb.TheVariants as lb
 use Rattle.wire.specs.declared.message.Body.TheVariants as body
 use Rattle.wire.specs.declared.message.Message.TheVariants as message
-use Rattle.open_close.specs.declared.task.Way.TheVariants as way
+use Rattle.client_state.specs.declared.task.Way.TheVariants as way
 use Rattle.trace_replay.specs.Traffic.{unknown_number, unknown_in}
 use Rattle.trace_replay.specs.Owing.{Owing, asked_at, without_asked, owed_by, owing_with, owing_from, Pays, Answers, PaysAll}
 use Rattle.kept_promise.proofs.Common.{Deal.Sent, ◌==◌, not, cond, slice_get, Chunk, Failed, Body, Message, temp_call, without_store, store_at, StoreCall, Way, Deal, Deal.Took}

@@ -41,7 +41,7 @@ use Rattle.kept_promise.proofs.Promised.{AreWords, no_fault, legal_kept, holds_f
 
 pub carried_both : (P Q : Fact) → Carried P → Carried Q → Carried (λ all past opening k qs. P all past opening k qs × Q all past opening k qs)
 carried_both P Q p q = record {
-  first = λ all opening files changes count kept. (p.first all opening files changes count kept, q.first all opening files changes count kept);
+  first = λ all opening tree count kept. (p.first all opening tree count kept, q.first all opening tree count kept);
   steps = λ all past rest opening k qs e mid after s h. (p.steps all past rest opening k qs e mid after s h.0, q.steps all past rest opening k qs e mid after s h.1);
   adjusts = λ all past opening k qs index seats same h. (p.adjusts all past opening k qs index seats same h.0, q.adjusts all past opening k qs index seats same h.1);
 }
@@ -79,11 +79,11 @@ told_carried =
     carried_both Follows (λ all past opening k qs. Stored all past opening k qs × (Versions all past opening k qs × (Changes all past opening k qs × Logs all past opening k qs))) carried_follow
     (carried_both Stored (λ all past opening k qs. Versions all past opening k qs × (Changes all past opening k qs × Logs all past opening k qs)) (carried_stored fit_laws)
     (carried_both Versions (λ all past opening k qs. Changes all past opening k qs × Logs all past opening k qs) (carried_versions fit_laws)
-    (carried_both Changes Logs (carried_both AllSettled (λ all past opening k qs. AllOwned all past opening k qs × AllNumbered all past opening k qs) carried_settled (carried_both AllOwned AllNumbered (carried_owned fit_laws) carried_numbered)) logs_carried)))
+    (carried_both Changes Logs (carried_both AllSettled (λ all past opening k qs. AllOwned all past opening k qs × AllNumbered all past opening k qs) (carried_settled fit_laws) (carried_both AllOwned AllNumbered (carried_owned fit_laws) carried_numbered)) logs_carried)))
 
 used_carried : Carried Used
 used_carried = record {
-  first = λ all opening files changes count kept. (told_carried.first all opening files changes count kept, record { by = λ m there. (let lt = there.1 in absurd (omega (arith, lt))); leased = λ m there. (let lt = there.1 in absurd (omega (arith, lt))); each = λ m there. (let lt = there.1 in absurd (omega (arith, lt))) });
+  first = λ all opening tree count kept. (told_carried.first all opening tree count kept, record { by = λ m there. (let lt = there.1 in absurd (omega (arith, lt))); leased = λ m there. (let lt = there.1 in absurd (omega (arith, lt))); each = λ m there. (let lt = there.1 in absurd (omega (arith, lt))) });
   steps = λ all past rest opening k qs e mid after s h.
       let told = told_carried.steps all past rest opening k qs e mid after s h.0 in
       let said = told.1.1.1.0.1.0.by (moment k e) (Contains-append_right past (moment k e ∷ []) (moment k e) (Contains-push [] (moment k e))) in

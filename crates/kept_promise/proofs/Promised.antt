@@ -19,6 +19,7 @@ use Rattle.kept_promise.proofs.History.{closes_alone}
 use Rattle.kept_promise.proofs.Growth.{or_map}
 use Rattle.kept_promise.proofs.Facts.{FileIs, IsServer, IsKept}
 use Rattle.kept_promise.proofs.Turns.{also_numbered}
+use Rattle.kept_promise.proofs.Messages.{content_wanted}
 
 -- ---- an operation ended as it may
 
@@ -136,7 +137,7 @@ closes_by book sound f p k o at e = by o.point refl (changes o.word) refl e
 
 -- a file that a close replaced is in the tree
 close_there : (book : Book) (s : server.State) → IsSound book → IsServer book s → (k p : ℕ) (o : Op) → slice_get book.ops k ≡ Some o → o.word ≡ words.Close → o.point ≡ Some p → IsSome (content_of book.opening o.file)
-close_there book s sound held k p o at close point = by (server.file_at s.files o.file) (held.held o.file)
+close_there book s sound held k p o at close point = by (server.file_at s.tree o.file) (held.held o.file)
   where
     le : p < book.steps + 1
     le = let h = ((sound.rights k o at).pointed p point).1 in omega (arith, h)
@@ -211,7 +212,7 @@ legal_kept book k qs kept are apart = record {
 -- ---- what the server holds
 
 pub holds_files : (book : Book) (w : World) (qs : List Queue) → book.steps ≡ w.core.steps → IsKept book w.core qs → HoldsFiles book w
-holds_files book w qs now kept = λ file. by file (server.file_at w.core.server.files file) ((kept.server).held file)
+holds_files book w qs now kept = λ file. by file (server.file_at w.core.server.tree file) ((kept.server).held file)
   where
     by : (file : ℕ) (g : Option File) → FileIs book file g → HoldsFile book w file g (value_at book file (w.core.steps + 1))
     by file None h = subst (HoldsFile book w file None) (sym (ap (λ n. value_at book file (n + 1)) (sym now) ∙ h.1)) tt
@@ -286,6 +287,8 @@ holds_values book w qs kept stored = record {
         file_is = pending.file_is;
         untold = untold_is pending.op.outcome pending.unmade.2;
         pointless = pending.unmade.1;
+        content = content_wanted c.what;
+        what_is = kept.server.commits i c at;
         size_is = pending.size_is;
         value_is = pending.value_is;
         traffic_is = stored c.session pending.place there.0 home.0 pending.op c home.1 pending.known at_ there.1;

@@ -4,8 +4,8 @@ use Rattle.hash_calls.specs.declared.message.Lb.TheVariants as lb
 use Rattle.nfs3_calls.specs.declared.message.Nfs.TheVariants as nfs
 use Rattle.wire.specs.declared.message.Body.TheVariants as body
 use Rattle.wire.specs.declared.message.Message.TheVariants as message
-use Rattle.open_close.specs.Caching.{from_index}
-use Rattle.open_close.specs.State as client
+use Rattle.file_open.specs.Caching.{from_index}
+use Rattle.client_state.specs.State as client
 use Rattle.trace_replay.specs.Fetches.{Fetched, no_fetch, begins_by, fetch_with, fetch_from, last_fetch, over_if, over_from, is_same, chosen_if, chosen, ReachesFirst, AllReach, EachReaches, lengths_of}
 use Rattle.trace_replay.specs.Trail.{place_of, given_if, given_of}
 use Rattle.kept_promise.proofs.Common.{Entries, Indexed, Deal.Sent, Deal.Found, nat_tests, ◌==◌, is_some, not, cond, slice_get, Chunk, Done, end_of, chunks_from, Body, Message, hash_call, read_call, reads_chunk, reads_from, read_at, without_read, Reads, Fetch, ReadCall, Deal, Deal.Took}

@@ -44,7 +44,7 @@ reads_run cache index file k start = reads_keep (Ran file start) cache index fil
   send_is = sym (append-nil start.send);
 })
   where
-    more : (r : Reads) (c : Chunk) (o : Option (List ℕ)) → Ran file start r → slice_get r.fetch.chunks r.fetch.asked ≡ Some c → Rattle.open_close.specs.Caching.from_index cache index c ≡ o → Ran file start (reads_chunk file r c o)
+    more : (r : Reads) (c : Chunk) (o : Option (List ℕ)) → Ran file start r → slice_get r.fetch.chunks r.fetch.asked ≡ Some c → Rattle.file_open.specs.Caching.from_index cache index c ≡ o → Ran file start (reads_chunk file r c o)
     more r c (Some bytes) h at found =
         let le = h.further in
         record {

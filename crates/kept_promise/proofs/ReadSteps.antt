@@ -2,10 +2,10 @@
 use Rattle.std.proofs.Common.{inl, inr, ◌≡◌, ℕ, zero, suc, ◌+◌, ◌<◌, ◌≤◌, List, [], ◌∷◌, ◌++◌, length, Option, Some, None, Bool, true, false, refl, sym, ap, ◌∙◌, subst, arith, eqb-true, eq-eqb, ne_eqb, map}
 use native.Mathlib.Nat.{div-add-mod'}
 use Rattle.std.proofs.lemmas.Slice.Eq.{bytes_eq-Decides}
-use Rattle.open_close.specs.State as client
-use Rattle.open_close.specs.Looking.{taken_if, taken_at, taken_by, reading_by}
-use Rattle.open_close.specs.Opening.{fault_in_digest}
-use Rattle.open_close.specs.declared.task.Stage.TheVariants as stage
+use Rattle.client_state.specs.State as client
+use Rattle.file_open.specs.Looking.{taken_if, taken_at, taken_by, reading_by}
+use Rattle.file_open.specs.Opening.{fault_in_digest}
+use Rattle.client_state.specs.declared.task.Stage.TheVariants as stage
 use Rattle.register_model.specs.declared.op.Word.TheVariants as words
 use Rattle.kept_promise.proofs.Common.{shown_version, nat_tests, slice_get, slice_set, not, cond, ◌==◌, nat_le, bytes_eq, Contains, sha1, chunks_of, chunk_bytes, Chunk, Done, Piece, Pending, attr_of, piece_bytes, File, read_pending, without_call, read_at, without_read, fault_in, other_version, with_bytes, idle, told_piece, told_chunk, told_bytes, misfits, BadPeer, Fetch, ReadCall, Core, Session, hashed_of, Book, Or, Reply.Bytes, Told, Queue, reply_program, reply_body}
 use Rattle.kept_promise.proofs.Lists.{some_is, nothing_there, same_or_not, within, of_replaced, else_replaced, set_count}

@@ -17,11 +17,12 @@ use Rattle.trace_replay.specs.declared.turn.Turn.TheVariants as turn
 use Rattle.trace_replay.specs.Timed.{Timed, Times, no_times, down_timing, pass_timing, timing_of, read_by, times_with, with_times, times_if, timed_by, timed_turn, timed_start, accepted_from}
 use Rattle.trace_replay.specs.Readings.{said, said_by, owners_by, timings_from, timings_of}
 use Rattle.trace_replay.specs.Run.{refused}
-use Rattle.kept_promise.proofs.Common.{nat_le, nat_lt, lines_of, Part, line_of, Line, LineFault, Grammar, Refused, Turn, has_name, Core, Seat, numbered, World, start, line_most, sessions_most, asks_if, sized, named, joins_if, joins_within, event_asks, asks_at, asks, asked, asked_by, turned, ended, in_header, run_from, run, owners_of, accepted, KeepsClocks}
+use Rattle.kept_promise.proofs.Common.{nat_le, nat_lt, lines_of, Part, line_of, Line, LineFault, Grammar, Refused, Turn, Core, Seat, numbered, World, start, line_most, sessions_most, asks_if, sized, named, joins_if, joins_within, event_asks, asks_at, asks, asked, asked_by, turned, ended, in_header, run_from, run, owners_of, accepted, KeepsClocks, can_open}
 use Rattle.kept_promise.proofs.Statements.{ClocksKeepTheRule}
 use Rattle.kept_promise.proofs.Owners.{stage_after, owners_after, MayTurn, turned_to}
 use Rattle.kept_promise.proofs.RunsResults.{asking, turn_is, refused_line, no_world, ran_by}
 use Rattle.kept_promise.proofs.RunsAsked.{within}
+use Rattle.trace_replay.specs.declared.opening.TheConstants.{ROOT}
 
 -- What holds of each world of a run, before the line of this number, which was read: the server has room for the session of each join that
 -- is asked for.
@@ -140,15 +141,15 @@ sized_on os false false name content t e = goes os stage.Files (line.File name c
 sized_on os _ _ name content t e = refused_line _ t e
 
 named_on : (os : List ℕ) (b : Bool) (size : ℕ) (name : List ℕ) (content : List Part) (t : Turn) → named b size name content ≡ asking t → GoesOn os stage.Files (line.File name content) t
-named_on os true size name content t e = refused_line Grammar t e
-named_on os false size name content t e = sized_on os _ _ name content t e
+named_on os false size name content t e = refused_line Grammar t e
+named_on os true size name content t e = sized_on os _ _ name content t e
 
 at_stage : (os : List ℕ) (w : World) (s : Stage) (l : Line) (t : Turn) → asks_at w s l ≡ asking t → GoesOn os s l t
 at_stage os w stage.Version line.Version t e = goes os stage.Version line.Version (turn.At stage.Term) t e (record { from = λ xs h. h; owners = refl })
 at_stage os w stage.Term (line.Term n) t e = goes os stage.Term (line.Term n) (turn.At stage.Drift) t e (record { from = λ xs h. (n, h.0, h.1, ap (λ (ys : List Timing). timing.Term n ∷ ys) h.2); owners = refl })
 at_stage os w stage.Drift (line.Drift n) t e = goes os stage.Drift (line.Drift n) (turn.At stage.Clients) t e (record { from = λ xs h. (n, h.0, ap (λ (ys : List Timing). timing.Drift n ∷ ys) h.1); owners = refl })
 at_stage os w stage.Clients (line.Clients n) t e = goes os stage.Clients (line.Clients n) (turn.Clients n) t e (record { from = λ xs h. h; owners = refl })
-at_stage os w stage.Files (line.File name content) t e = named_on os (has_name w.names name) w.size name content t e
+at_stage os w stage.Files (line.File name content) t e = named_on os (can_open w.core.server.tree ROOT name) w.size name content t e
 at_stage os w stage.Files l t e = event_on os stage.Files w.core l t (λ xs h. h) e
 at_stage os w stage.Events l t e = event_on os stage.Events w.core l t (λ xs h. h) e
 at_stage os w s l t e = refused_line Grammar t e

@@ -65,7 +65,7 @@ IsMade book place v = (o : Op) × (p : ℕ) × (slice_get book.ops place ≡ Som
 pub record IsHeld (moments : List Moment) (f : ℕ) (g : File) : Type 0 where
   pub at : Moment
   pub there : Contains moments at
-  pub held : server.file_at at.before.server.files f ≡ Some g
+  pub held : server.file_at at.before.server.tree f ≡ Some g
 
 -- in one version a file has one content
 abbrev pub AreAlike : List Moment → Type 0

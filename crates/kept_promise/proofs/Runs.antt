@@ -12,11 +12,12 @@ use Rattle.kept_promise.proofs.RunsEvents.{Fact}
 use Rattle.kept_promise.proofs.RunsLines.{line_fits, allowed, within_lines}
 use Rattle.kept_promise.proofs.RunsTurns.{IsFirst, Before, first_stands, may_turn, before_next}
 use Rattle.kept_promise.proofs.RunsResults.{no_world, ended_is, ran_by, moments_by}
+use Rattle.file_tree.specs.Tree.{empty as root_alone}
 
 -- ---- the start
 
 first_is : IsFirst 1 start []
-first_is = record { files = []; changes = 0; count = 0; core_is = refl; wires_is = refl; tree = no_tree; past_is = refl; few = omega arith }
+first_is = record { tree = root_alone; count = 0; core_is = refl; wires_is = refl; is_tree = no_tree; size = refl; past_is = refl; few = omega arith }
 
 before_first : (P : Fact) → Carried P → (all : List Moment) → AreAlike all → Before P 1 all [] start
 before_first P carried all alike = record { stands = first_stands P carried 1 all [] start alike first_is; few = omega arith; first = λ early. first_is }
@@ -58,7 +59,7 @@ abbrev pub Plain : Fact
 Plain all past opening k qs = Unit {0}
 
 pub plain_carried : Carried Plain
-plain_carried = record { first = λ all opening files changes count kept. tt; steps = λ all past rest opening k qs e mid after step holds. tt; adjusts = λ all past opening k qs index seats same holds. tt }
+plain_carried = record { first = λ all opening tree count kept. tt; steps = λ all past rest opening k qs e mid after step holds. tt; adjusts = λ all past opening k qs index seats same holds. tt }
 
 pub kept_run : KeptLaws → FitLaws → (input : List ℕ) (w : World) → run input ≡ Ok w → Stands Plain (moments input) (moments input) w
 kept_run laws fits input w e = carried_run Plain laws fits plain_carried input w e

@@ -5,8 +5,9 @@ use Rattle.trace_replay.specs.declared.adjusting.Adjustment.TheVariants as adjus
 use Rattle.trace_replay.specs.declared.stage.Stage.{Stage}
 use Rattle.trace_replay.specs.declared.stage.Stage.TheVariants as stage
 use Rattle.trace_replay.specs.declared.turn.Turn.TheVariants as turn
-use Rattle.kept_promise.proofs.Common.{nat_lt, nat_le, Part, Line, LineFault, Grammar, Turn, has_name, Core, Seat, numbered, World, line_most, sessions_most, asks_if, sized, named, joins_if, joins_within, event_asks, asks_at, asks, asks_within, asked}
+use Rattle.kept_promise.proofs.Common.{nat_lt, nat_le, Part, Line, LineFault, Grammar, Turn, Core, Seat, numbered, World, line_most, sessions_most, asks_if, sized, named, joins_if, joins_within, event_asks, asks_at, asks, asks_within, asked, can_open}
 use Rattle.kept_promise.proofs.RunsResults.{asking, refused_line}
+use Rattle.trace_replay.specs.declared.opening.TheConstants.{ROOT}
 
 abbrev pub turn_of : Line → Turn
 turn_of line.Skipped = turn.Skip
@@ -62,15 +63,15 @@ sized_turn false false u t e = turn_is u t e
 sized_turn _ _ u t e = refused_line _ t e
 
 named_turn : (b : Bool) (size : ℕ) (name : List ℕ) (content : List Part) (t : Turn) → named b size name content ≡ asking t → t ≡ turn.File name content
-named_turn true size name content t e = refused_line Grammar t e
-named_turn false size name content t e = sized_turn _ _ (turn.File name content) t e
+named_turn false size name content t e = refused_line Grammar t e
+named_turn true size name content t e = sized_turn _ _ (turn.File name content) t e
 
 stage_turn : (w : World) (s : Stage) (l : Line) (t : Turn) → asks_at w s l ≡ asking t → t ≡ turn_of l
 stage_turn w stage.Version line.Version t e = turn_is (turn.At stage.Term) t e
 stage_turn w stage.Term (line.Term n) t e = turn_is (turn.At stage.Drift) t e
 stage_turn w stage.Drift (line.Drift n) t e = turn_is (turn.At stage.Clients) t e
 stage_turn w stage.Clients (line.Clients n) t e = turn_is (turn.Clients n) t e
-stage_turn w stage.Files (line.File name content) t e = named_turn (has_name w.names name) w.size name content t e
+stage_turn w stage.Files (line.File name content) t e = named_turn (can_open w.core.server.tree ROOT name) w.size name content t e
 stage_turn w stage.Files l t e = event_turn w.core l t e
 stage_turn w stage.Events l t e = event_turn w.core l t e
 stage_turn w s l t e = refused_line Grammar t e

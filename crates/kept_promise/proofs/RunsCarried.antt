@@ -1,7 +1,7 @@
 -- What a run carries, event by event: what the laws of events give before and after each, and what is asked of any further fact.
 use Rattle.std.proofs.Common.{◌≡◌, ℕ, ◌<◌, List, [], ◌∷◌, ◌++◌, length, Some, false, replicate}
 use Rattle.server_core.specs.State as server
-use Rattle.kept_promise.proofs.Common.{message_spell, Indexed, File, Opening, file_of, Core, Seat, new_seat, Session, Event, Event.Joins, Event.Does, Event.Serves, Event.Hears, Event.Settles, Event.Cuts, Event.Hangs, numbered, with_numbered, happens, World, Moment, Book, book_of, Ask, Told, Queue, ask_message, told_message}
+use Rattle.kept_promise.proofs.Common.{message_spell, Indexed, Opening, file_of, Core, Seat, new_seat, Session, Event, Event.Joins, Event.Does, Event.Serves, Event.Hears, Event.Settles, Event.Cuts, Event.Hangs, numbered, with_numbered, happens, World, Moment, Book, book_of, Ask, Told, Queue, ask_message, told_message, Tree}
 use Rattle.kept_promise.proofs.Facts.{IsKept}
 use Rattle.kept_promise.proofs.Adjusts.{SameSeats, adjusted_core}
 use Rattle.kept_promise.proofs.Rounds.{AreRested}
@@ -25,9 +25,9 @@ abbrev pub book_at : List Opening → Core → (all : List Moment) → Book
 book_at opening k all = record { opening = opening; ops = k.ops; steps = k.steps; journal = k.server.journal; entries = k.entries; moments = all }
 
 -- the two ends before the first event
-abbrev pub first_core : (files : List (ℕ × File)) → (changes count : ℕ) → Core
-first_core files changes count = record {
-  server = record server.empty { files = files; changes = changes };
+abbrev pub first_core : Tree → (count : ℕ) → Core
+first_core tree count = record {
+  server = record server.empty { tree = tree };
   seats = replicate count new_seat;
   sessions = [];
   steps = 0;
@@ -65,8 +65,8 @@ pub record Step (all past rest : List Moment) (opening : List Opening) (k : Core
 -- A further fact, of all moments of a run, of those that are past, and of the two ends and what is on its way then. It is to hold before
 -- the first event, and to be kept by each.
 pub record Carried (P : (all past : List Moment) → List Opening → Core → List Queue → Type 0) : Type 0 where
-  pub first : (all : List Moment) (opening : List Opening) (files : List (ℕ × File)) (changes count : ℕ) → IsKept (book_at opening (first_core files changes count) all) (first_core files changes count) []
-      → P all [] opening (first_core files changes count) []
+  pub first : (all : List Moment) (opening : List Opening) (tree : Tree) (count : ℕ) → IsKept (book_at opening (first_core tree count) all) (first_core tree count) []
+      → P all [] opening (first_core tree count) []
   pub steps : (all past rest : List Moment) (opening : List Opening) (k : Core) (qs : List Queue) (e : Event) (mid after : List Queue) → Step all past rest opening k qs e mid after → P all past opening k qs
       → P all (past ++ moment k e ∷ []) opening (happens k e).core after
   -- another index, or other contents that are kept, change nothing of it

@@ -1,12 +1,18 @@
 -- The two ends before the first event: the files are those of the opening tree, and nothing happened.
-use Rattle.std.proofs.Common.{◌⊎◌, inl, inr, ◌≡◌, ℕ, zero, suc, ◌+◌, ◌<◌, ◌≤◌, List, [], ◌∷◌, ◌++◌, length, max, Option, Some, None, Bool, true, false, refl, sym, ap, ◌∙◌, subst, arith, eq-eqb, ne_eqb, replicate}
+use Rattle.std.proofs.Common.{◌⊎◌, inl, inr, ◌≡◌, ℕ, zero, suc, ◌+◌, ◌<◌, ◌≤◌, List, [], ◌∷◌, ◌++◌, length, Option, Some, None, Bool, true, false, refl, sym, ap, ◌∙◌, subst, arith, eq-eqb, ne_eqb, replicate}
 use Rattle.server_core.specs.State as server
-use Rattle.kept_promise.proofs.Common.{slice_get, find, option_map, cond, ◌==◌, File, content_of, Opening, Seat, new_seat, numbered, Moment, Book}
+use Rattle.kept_promise.proofs.Common.{slice_get, find, option_map, cond, ◌==◌, File, content_of, Opening, Seat, new_seat, numbered, Moment, Book, Tree, can_open, nat_tests, if◌then◌else◌}
 use Rattle.kept_promise.proofs.Lists.{some_is, nothing_there, same_or_not, count_more}
-use Rattle.kept_promise.proofs.Shelf.{found_put, found_else}
 use Rattle.kept_promise.proofs.Rights.{AreAlike}
 use Rattle.kept_promise.proofs.Facts.{FileIs, IsServer, IsSeat, IsKept}
 use Rattle.kept_promise.proofs.RunsCarried.{book_at, first_core}
+use Rattle.tree_nodes.specs.Nodes.{with_id}
+use Rattle.tree_nodes.specs.declared.node.Body.TheVariants.{File as Plain}
+use Rattle.file_tree.specs.Opening.{opens}
+use Rattle.file_tree.specs.Tree.{contents_size, root as root_of, empty as root_alone}
+use Rattle.trace_replay.specs.declared.opening.TheConstants.{ROOT}
+use Rattle.kept_promise.proofs.Trees.{IsBounded, given}
+use Rattle.kept_promise.proofs.TreeOpens.{IsPlain, IsOpened, opens_file}
 
 -- ---- the opening tree
 
@@ -15,18 +21,32 @@ abbrev pub IsOpening : List Opening → (file : ℕ) → Option File → Type 0
 IsOpening opening f None = content_of opening f ≡ None
 IsOpening opening f (Some g) = (g.id ≡ f) × (1 < f) × (f < 18446744073709551616) × (content_of opening f ≡ Some g.content) × (g.version ≡ 1) × (length g.content ≤ 67108864)
 
-pub record IsTree (opening : List Opening) (files : List (ℕ × File)) (changes : ℕ) : Type 0 where
-  pub held : (f : ℕ) → IsOpening opening f (server.file_at files f)
+pub record IsTree (opening : List Opening) (t : Tree) : Type 0 where
+  pub held : (f : ℕ) → IsOpening opening f (server.file_at t f)
   -- the ids are those from 2 on
+  pub next : t.next ≡ length opening + 2
   pub below : (f : ℕ) → length opening + 2 ≤ f → content_of opening f ≡ None
-  pub versions : (f : ℕ) (g : File) → server.file_at files f ≡ Some g → g.version ≤ changes
-  pub most : changes ≤ 1
+  pub bounded : IsBounded t
+  pub plain : IsPlain t
 
-pub no_tree : IsTree [] [] 0
-no_tree = record { held = λ f. refl; below = λ f le. refl; versions = λ f g e. nothing_there g e; most = omega arith }
+pub no_tree : IsTree [] root_alone
+no_tree = record {
+  held = λ f. nothing f (f == 1) refl;
+  next = refl;
+  below = λ f le. refl;
+  bounded = record { count = omega arith; next = omega arith; each = (record { id = omega arith; version = omega arith; content = omega arith }, tt); apart = (tt, tt); size = omega arith };
+  plain = record { root = refl; only = λ f apart none. other f apart };
+}
+  where
+    other : (f : ℕ) → (f ≡ 1 → ⊥) → with_id root_alone.nodes f ≡ None
+    other f apart = ap (λ (b : Bool). if b then Some (root_of 0) else None) (ne_eqb 1 f (λ e. apart (sym e)))
 
-abbrev pub opening_file : Opening → File
-opening_file o = record { id = o.file; version = 1; content = o.content }
+    nothing : (f : ℕ) (b : Bool) → (f == 1) ≡ b → IsOpening [] f (server.file_at root_alone f)
+    nothing f true e = let one : f ≡ 1 = grind (arith, nat_tests, e) in subst (λ (i : ℕ). IsOpening [] i (server.file_at root_alone i)) (sym one) refl
+    nothing f false e = subst (IsOpening [] f) (sym (ap server.file_of_node (other f (λ one. differ one e)))) refl
+      where
+        differ : f ≡ 1 → (f == 1) ≡ false → ⊥
+        differ one e = let z : (f == 1) ≡ true = grind (arith, nat_tests, one) in absurd cc
 
 -- ---- one file more
 
@@ -59,44 +79,40 @@ content_else os o f none apart = content_more os o f ∙ ap (λ (z : Option (Lis
 content_stays : (os : List Opening) (o : Opening) (f : ℕ) (x : List ℕ) → content_of os f ≡ Some x → content_of (os ++ o ∷ []) f ≡ Some x
 content_stays os o f x is = content_more os o f ∙ ap (λ (z : Option (List ℕ)). or_else z (content_of (o ∷ []) f)) is
 
-pub tree_more : (opening : List Opening) (files : List (ℕ × File)) (changes : ℕ) (o : Opening) → o.file ≡ length opening + 2 → length opening + 2 < 18446744073709551616 → length o.content ≤ 67108864 → IsTree opening files changes
-    → IsTree (opening ++ o ∷ []) (server.with_file files (opening_file o)) (max changes 1)
-tree_more opening files changes o is few size t = record {
-  held = λ f. held f (same_or_not f o.file);
+pub tree_more : (opening : List Opening) (t : Tree) (name content : List ℕ) → can_open t ROOT name ≡ true → length opening + 2 < 65540 → length content ≤ 67108864 → contents_size t.nodes + length content ≤ 1073741824 → IsTree opening t
+    → IsTree (opening ++ record { file = t.next; content = content } ∷ []) (opens t ROOT name (Plain content))
+tree_more opening t name content can few size small h = record {
+  held = λ f. held f (same_or_not f t.next);
+  next = (let a = more.next in let b = h.next in let c = count_more opening o in omega (arith, a, b, c));
   below = λ f le. below f (subst (λ (z : ℕ). z + 2 ≤ f) (count_more opening o) le);
-  versions = λ f g at. versions f g at (same_or_not f o.file);
-  most = most;
+  bounded = more.bounded h.bounded (omega (arith, few, is)) size small;
+  plain = more.plain h.plain;
 }
   where
-    none : content_of opening o.file ≡ None
-    none = t.below o.file (omega (arith, is))
+    o : Opening
+    o = record { file = t.next; content = content }
 
-    stays : (f : ℕ) → (f ≡ o.file → ⊥) → (x : Option File) → IsOpening opening f x → IsOpening (opening ++ o ∷ []) f x
+    is : t.next ≡ length opening + 2
+    is = h.next
+
+    more : IsOpened t (opens t ROOT name (Plain content)) content
+    more = opens_file t ROOT name content (given t h.bounded) can
+
+    none : content_of opening t.next ≡ None
+    none = h.below t.next (omega (arith, is))
+
+    stays : (f : ℕ) → (f ≡ t.next → ⊥) → (x : Option File) → IsOpening opening f x → IsOpening (opening ++ o ∷ []) f x
     stays f apart None h = content_else opening o f h (λ e. apart (sym e))
     stays f apart (Some g) h = (h.0, h.1, h.2, content_stays opening o f g.content h.3, h.4, h.5)
 
-    held : (f : ℕ) → ((f ≡ o.file) ⊎ (f ≡ o.file → ⊥)) → IsOpening (opening ++ o ∷ []) f (server.file_at (server.with_file files (opening_file o)) f)
+    held : (f : ℕ) → ((f ≡ t.next) ⊎ (f ≡ t.next → ⊥)) → IsOpening (opening ++ o ∷ []) f (server.file_at (opens t ROOT name (Plain content)) f)
     held f (inl same) =
-        subst (IsOpening (opening ++ o ∷ []) f) (ap (λ (z : ℕ). Some (opening_file o)) same ∙ sym (ap (server.file_at (server.with_file files (opening_file o))) same ∙ found_put files o.file (opening_file o)))
-        (sym same, omega (arith, same, is), omega (arith, same, is, few), content_own opening o f (ap (content_of opening) same ∙ none) (sym same), refl, size)
-    held f (inr apart) = subst (IsOpening (opening ++ o ∷ []) f) (sym (found_else files o.file f (opening_file o) apart)) (stays f apart (server.file_at files f) (t.held f))
+        subst (λ (i : ℕ). IsOpening (opening ++ o ∷ []) i (server.file_at (opens t ROOT name (Plain content)) i)) (sym same) (subst (IsOpening (opening ++ o ∷ []) t.next) (sym more.own)
+        (refl, omega (arith, is), omega (arith, is, few), content_own opening o t.next none refl, refl, size))
+    held f (inr apart) = subst (IsOpening (opening ++ o ∷ []) f) (sym (more.others f apart)) (stays f apart (server.file_at t f) (h.held f))
 
     below : (f : ℕ) → suc (length opening) + 2 ≤ f → content_of (opening ++ o ∷ []) f ≡ None
-    below f le = content_else opening o f (t.below f (omega (arith, le))) (λ e. omega (arith, e, le, is))
-
-    most_of : (c : ℕ) → c ≤ 1 → max c 1 ≡ 1
-    most_of (suc (suc c)) le = absurd (omega (arith, le))
-    most_of _ le = refl
-
-    most : max changes 1 ≤ 1
-    most = let e = most_of changes t.most in omega (arith, e)
-
-    versions : (f : ℕ) (g : File) → server.file_at (server.with_file files (opening_file o)) f ≡ Some g → ((f ≡ o.file) ⊎ (f ≡ o.file → ⊥)) → g.version ≤ max changes 1
-    versions f g at (inl same) =
-        let own : g ≡ opening_file o = some_is g (opening_file o) (sym at ∙ ap (server.file_at (server.with_file files (opening_file o))) same ∙ found_put files o.file (opening_file o)) in
-        let v : g.version ≡ 1 = ap (λ (z : File). z.version) own in
-        let e = most_of changes t.most in omega (arith, v, e)
-    versions f g at (inr apart) = let v = t.versions f g (sym (found_else files o.file f (opening_file o) apart) ∙ at) in let e = most_of changes t.most in let m = t.most in omega (arith, v, e, m)
+    below f le = content_else opening o f (h.below f (omega (arith, le))) (λ e. omega (arith, e, le, is))
 
 -- ---- what is kept of it
 
@@ -133,17 +149,20 @@ seat_first book i = record {
     by : false ≡ true → ⊥
     by e = cc
 
-server_first : (opening : List Opening) (files : List (ℕ × File)) (changes count : ℕ) (all : List Moment) → IsTree opening files changes → IsServer (book_at opening (first_core files changes count) all) (first_core files changes count).server
-server_first opening files changes count all t = record {
-  held = λ f. held f (server.file_at files f) (t.held f);
-  versions = t.versions;
-  changes = let m = t.most in omega (arith, m);
+server_first : (opening : List Opening) (tree : Tree) (count : ℕ) (all : List Moment) → IsTree opening tree → IsServer (book_at opening (first_core tree count) all) (first_core tree count).server
+server_first opening tree count all t = record {
+  held = λ f. held f (server.file_at tree f) (t.held f);
+  bounded = t.bounded;
+  plain = t.plain;
+  commits = λ i c e. no_element i c e;
+  changes = let m = t.bounded.count in omega (arith, m);
+  bytes = let m = t.bounded.size in omega (arith, m);
   lengths = λ i c e. no_element i c e;
   targets = λ i c e. no_element i c e;
   xids = λ i c e. no_element i c e;
 }
   where
-    held : (f : ℕ) (x : Option File) → IsOpening opening f x → FileIs (book_at opening (first_core files changes count) all) f x
+    held : (f : ℕ) (x : Option File) → IsOpening opening f x → FileIs (book_at opening (first_core tree count) all) f x
     held f None h = (h, h)
     held f (Some g) h = (h.0, h.1, h.2, ap (λ (z : Option (List ℕ)). is_there z) h.3, record { value = g.content; is = h.3; size = refl; same = inl refl }, sym h.4, h.5)
       where
@@ -151,8 +170,8 @@ server_first opening files changes count all t = record {
         is_there None = false
         is_there (Some x) = true
 
-pub kept_first : (opening : List Opening) (files : List (ℕ × File)) (changes count : ℕ) (all : List Moment) → AreAlike all → IsTree opening files changes → IsKept (book_at opening (first_core files changes count) all) (first_core files changes count) []
-kept_first opening files changes count all alike t = record {
+pub kept_first : (opening : List Opening) (tree : Tree) (count : ℕ) (all : List Moment) → AreAlike all → IsTree opening tree → IsKept (book_at opening (first_core tree count) all) (first_core tree count) []
+kept_first opening tree count all alike t = record {
   ops = refl;
   steps = refl;
   journal = refl;
@@ -163,10 +182,10 @@ kept_first opening files changes count all alike t = record {
     past = λ i p e. no_element i p e;
     alike = alike;
   };
-  server = server_first opening files changes count all t;
+  server = server_first opening tree count all t;
   made = (refl, refl);
   sessions = λ n x q e f. no_numbered n x e;
-  seats = λ i seat e. subst (IsSeat (book_at opening (first_core files changes count) all) [] i) (sym (all_new count i seat e)) (seat_first (book_at opening (first_core files changes count) all) i);
+  seats = λ i seat e. subst (IsSeat (book_at opening (first_core tree count) all) [] i) (sym (all_new count i seat e)) (seat_first (book_at opening (first_core tree count) all) i);
   running = λ p o e f. no_element p o e;
   closings = λ m n p x y e f g h. no_numbered m x e;
   home = λ i c e. no_element i c e;

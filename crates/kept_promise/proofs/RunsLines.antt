@@ -14,8 +14,9 @@ use Rattle.trace_replay.specs.declared.stage.Stage.TheVariants as stage
 use Rattle.trace_replay.specs.declared.turn.Turn.TheVariants as turn
 use Rattle.trace_replay.specs.Commands as commands
 use Rattle.trace_replay.specs.Run.{file_most, tree_most, is_there}
-use Rattle.kept_promise.proofs.Common.{nat_tests, nat_lt, nat_le, if◌then◌else◌, bytes_eq, content_length, Command, Part, line_of, Line, LineFault, Grammar, Turn, has_name, Seat, Session, numbered, World, line_most, sessions_most, asks_if, sized, named, joins_if, joins_within, event_asks, asks_at, asks, asks_within, asked}
+use Rattle.kept_promise.proofs.Common.{nat_tests, nat_lt, nat_le, if◌then◌else◌, bytes_eq, content_length, Command, Part, line_of, Line, LineFault, Grammar, Turn, Seat, Session, numbered, World, line_most, sessions_most, asks_if, sized, named, joins_if, joins_within, event_asks, asks_at, asks, asks_within, asked, can_open}
 use Rattle.kept_promise.proofs.RunsResults.{asking, turn_is, refused_line}
+use Rattle.trace_replay.specs.declared.opening.TheConstants.{ROOT}
 
 -- ---- numbers of a text
 
@@ -204,10 +205,14 @@ is_early stage.Events = false
 is_early s = true
 
 -- what a turn finds
+-- the name is free, and the content within the limits of a file, and of the tree
+abbrev pub MayOpen : World → List ℕ → List Part → Type 0
+MayOpen w name content = (can_open w.core.server.tree ROOT name ≡ true) × (content_length content ≤ 67108864) × (w.size + content_length content ≤ 1073741824)
+
 abbrev pub Allows : World → Turn → Type 0
 Allows w (turn.At s) = is_early w.stage ≡ true
 Allows w (turn.Clients n) = is_early w.stage ≡ true
-Allows w (turn.File name content) = (is_early w.stage ≡ true) × (content_length content ≤ 67108864)
+Allows w (turn.File name content) = (is_early w.stage ≡ true) × MayOpen w name content
 Allows w (turn.Join c) = (seat : Seat) × (numbered w.core.seats c ≡ Some seat) × (seat.client.linked ≡ false) × (length w.core.server.sessions < 64)
 Allows w (turn.Do c now d) = (seat : Seat) × (numbered w.core.seats c ≡ Some seat) × IsSmall d
 Allows w (turn.Cut c) = (seat : Seat) × (numbered w.core.seats c ≡ Some seat)
@@ -255,20 +260,20 @@ event_on w (line.Clear u) t fits e = goes_if w _ (turn.Adjust (adjustment.Clear 
 event_on w (line.Evict c file) t fits e = goes_if w _ (turn.Adjust (adjustment.Evict c file)) t e tt
 event_on w l t fits e = refused_line Grammar t e
 
-named_on : (w : World) (s : Stage) (b : Bool) (size : ℕ) (name : List ℕ) (content : List Part) (t : Turn) → w.stage ≡ s → is_early s ≡ true → named b size name content ≡ asking t → Allows w t
-named_on w s true size name content t at early e = refused_line Grammar t e
-named_on w s false size name content t at early e = by (nat_lt file_most (content_length content)) (nat_lt tree_most (size + content_length content)) refl e
+named_on : (w : World) (s : Stage) (b : Bool) (name : List ℕ) (content : List Part) (t : Turn) → w.stage ≡ s → is_early s ≡ true → can_open w.core.server.tree ROOT name ≡ b → named b w.size name content ≡ asking t → Allows w t
+named_on w s false name content t at early free e = refused_line Grammar t e
+named_on w s true name content t at early free e = by (nat_lt file_most (content_length content)) (nat_lt tree_most (w.size + content_length content)) refl refl e
   where
-    by : (long much : Bool) → nat_lt file_most (content_length content) ≡ long → sized long much (turn.File name content) ≡ asking t → Allows w t
-    by false false is e = goes w (turn.File name content) t e (ap is_early at ∙ early, grind (arith, nat_tests, is))
-    by _ _ is e = refused_line _ t e
+    by : (long much : Bool) → nat_lt file_most (content_length content) ≡ long → nat_lt tree_most (w.size + content_length content) ≡ much → sized long much (turn.File name content) ≡ asking t → Allows w t
+    by false false is all e = goes w (turn.File name content) t e (ap is_early at ∙ early, (free, grind (arith, nat_tests, is), grind (arith, nat_tests, all)))
+    by _ _ is all e = refused_line _ t e
 
 at_stage : (w : World) (s : Stage) (l : Line) (t : Turn) → w.stage ≡ s → LineFits l → asks_at w s l ≡ asking t → Allows w t
 at_stage w stage.Version line.Version t at fits e = goes w (turn.At stage.Term) t e (ap is_early at)
 at_stage w stage.Term (line.Term n) t at fits e = goes w (turn.At stage.Drift) t e (ap is_early at)
 at_stage w stage.Drift (line.Drift n) t at fits e = goes w (turn.At stage.Clients) t e (ap is_early at)
 at_stage w stage.Clients (line.Clients n) t at fits e = goes w (turn.Clients n) t e (ap is_early at)
-at_stage w stage.Files (line.File name content) t at fits e = named_on w stage.Files (has_name w.names name) w.size name content t at refl e
+at_stage w stage.Files (line.File name content) t at fits e = named_on w stage.Files (can_open w.core.server.tree ROOT name) name content t at refl refl e
 at_stage w stage.Files l t at fits e = event_on w l t fits e
 at_stage w stage.Events l t at fits e = event_on w l t fits e
 at_stage w s l t at fits e = refused_line Grammar t e

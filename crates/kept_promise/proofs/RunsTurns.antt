@@ -1,11 +1,11 @@
 -- One line of a run: what stands before it stands behind it, with its moments among those that are past.
-use Rattle.std.proofs.Common.{◌≡◌, ℕ, zero, suc, ◌+◌, ◌<◌, ◌≤◌, List, [], ◌∷◌, ◌++◌, length, max, Some, Bool, true, false, refl, sym, ap, ◌∙◌, subst, arith, append-nil, map, replicate}
+use Rattle.std.proofs.Common.{◌≡◌, ℕ, zero, suc, ◌+◌, ◌<◌, ◌≤◌, List, [], ◌∷◌, ◌++◌, length, Some, Bool, true, false, refl, sym, ap, ◌∙◌, subst, arith, append-nil, map, replicate}
 use Rattle.server_core.specs.State as server
 use Rattle.trace_replay.specs.declared.stage.Stage.{Stage}
 use Rattle.trace_replay.specs.declared.stage.Stage.TheVariants as stage
 use Rattle.trace_replay.specs.declared.turn.Turn.TheVariants as turn
 use Rattle.trace_replay.specs.Run.{with_file, with_clients}
-use Rattle.kept_promise.proofs.Common.{nat_tests, nat_lt, ◌&&◌, content_length, content_bytes, Part, content_size, File, Opening, Turn, Core, new_seat, Session, Event.Joins, Event.Does, Event.Settles, Event.Cuts, Event.Hangs, numbered, World, adjusts, Wire, up_length, down_length, at_events, count_of, turned, owners_of, Moment, turn_moments}
+use Rattle.kept_promise.proofs.Common.{nat_tests, nat_lt, ◌&&◌, content_length, content_bytes, Part, content_size, File, Turn, Core, new_seat, Session, Event.Joins, Event.Does, Event.Settles, Event.Cuts, Event.Hangs, numbered, World, adjusts, Wire, up_length, down_length, at_events, count_of, turned, owners_of, Moment, turn_moments, Tree, can_open}
 use Rattle.kept_promise.proofs.Lists.{nothing_there, count_more}
 use Rattle.trace_replay.specs.declared.adjusting.Adjustment.{Adjustment}
 use Rattle.kept_promise.proofs.Rights.{AreAlike}
@@ -16,20 +16,29 @@ use Rattle.kept_promise.proofs.Leading.{CarryAll}
 use Rattle.kept_promise.proofs.Rounds.{AreRested}
 use Rattle.kept_promise.proofs.Owners.{owners_after, MayTurn, turned_to}
 use Rattle.kept_promise.proofs.RunsCarried.{KeptLaws, book_at, first_core, Carried, Stands}
-use Rattle.kept_promise.proofs.RunsFirst.{IsTree, opening_file, tree_more, kept_first}
+use Rattle.kept_promise.proofs.RunsFirst.{IsTree, tree_more, kept_first}
 use Rattle.kept_promise.proofs.RunsEvents.{Fact, event_stands}
 use Rattle.kept_promise.proofs.RunsDeliveries.{up_stands, down_stands, passes_stand}
 use Rattle.kept_promise.proofs.RunsLines.{is_early, Allows}
+use Rattle.tree_nodes.specs.declared.node.Body.TheVariants.{File as Plain}
+use Rattle.file_tree.specs.Opening.{opens}
+use Rattle.file_tree.specs.Tree.{contents_size}
+use Rattle.server_core.specs.Step.{opens_with}
+use Rattle.trace_replay.specs.declared.opening.TheConstants.{ROOT}
+use Rattle.kept_promise.proofs.Trees.{given}
+use Rattle.kept_promise.proofs.TreeOpens.{opens_file}
+use Rattle.kept_promise.proofs.RunsLines.{MayOpen}
 
 -- ---- before the first event
 
 pub record IsFirst (n : ℕ) (w : World) (past : List Moment) : Type 0 where
-  pub files : List (ℕ × File)
-  pub changes : ℕ
+  pub tree : Tree
   pub count : ℕ
-  pub core_is : w.core ≡ first_core files changes count
+  pub core_is : w.core ≡ first_core tree count
   pub wires_is : w.wires ≡ []
-  pub tree : IsTree w.opening files changes
+  pub is_tree : IsTree w.opening tree
+  -- the bytes of the files are counted
+  pub size : w.size ≡ contents_size tree.nodes
   pub past_is : past ≡ []
   pub few : length w.opening < n
 
@@ -51,13 +60,13 @@ rested_none wires e = subst AreRested (sym e) (λ k q f. nothing_there q f)
 
 pub first_stands : (P : Fact) → Carried P → (n : ℕ) (all past : List Moment) (w : World) → AreAlike all → IsFirst n w past → Stands P all past w
 first_stands P carried n all past w alike f =
-    let kept = kept_first w.opening f.files f.changes f.count all alike f.tree in
+    let kept = kept_first w.opening f.tree f.count all alike f.is_tree in
     record {
       queues = [];
       kept = subst (λ (k : Core). IsKept (book_at w.opening k all) k []) (sym f.core_is) kept;
       carry = carry_none w.wires f.wires_is;
       rested = rested_none w.wires f.wires_is;
-      more = subst (λ (k : Core). P all past w.opening k []) (sym f.core_is) (subst (λ (z : List Moment). P all z w.opening (first_core f.files f.changes f.count) []) (sym f.past_is) (carried.first all w.opening f.files f.changes f.count kept));
+      more = subst (λ (k : Core). P all past w.opening k []) (sym f.core_is) (subst (λ (z : List Moment). P all z w.opening (first_core f.tree f.count) []) (sym f.past_is) (carried.first all w.opening f.tree f.count kept));
     }
 
 -- ---- the sessions
@@ -100,33 +109,41 @@ no_more past = append-nil past
 
 clients_first : (n m : ℕ) (w : World) (past : List Moment) → IsFirst n w past → IsFirst (n + 1) (with_clients w m) (past ++ [])
 clients_first n m w past f = record {
-  files = f.files;
-  changes = f.changes;
+  tree = f.tree;
   count = m;
   core_is = ap (λ (k : Core). record k { seats = replicate m new_seat }) f.core_is;
   wires_is = f.wires_is;
-  tree = f.tree;
+  is_tree = f.is_tree;
+  size = f.size;
   past_is = no_more past ∙ f.past_is;
   few = let e = f.few in omega (arith, e);
 }
 
-file_first : (n : ℕ) (w : World) (name : List ℕ) (content : List Part) (past : List Moment) → n ≤ 65536 → content_length content ≤ 67108864 → IsFirst n w past → IsFirst (n + 1) (with_file w name (content_bytes content)) (past ++ [])
-file_first n w name content past le size f =
-    let o : Opening = record { file = length w.opening + 2; content = content_bytes content } in
+file_first : (n : ℕ) (w : World) (name : List ℕ) (content : List Part) (past : List Moment) → n ≤ 65536 → MayOpen w name content → IsFirst n w past → IsFirst (n + 1) (with_file w name (content_bytes content)) (past ++ [])
+file_first n w name content past le may f =
+    let bytes = content_bytes content in
     let few = f.few in
+    let e = content_size content in
+    let long = may.1 in
+    let much = may.2 in
+    let size = f.size in
+    let server_is : w.core.server.tree ≡ f.tree = ap (λ (k : Core). k.server.tree) f.core_is in
+    let can : can_open f.tree ROOT name ≡ true = ap (λ (t : Tree). can_open t ROOT name) (sym server_is) ∙ may.0 in
+    let more = opens_file f.tree ROOT name bytes (given f.tree f.is_tree.bounded) can in
+    let counted = more.size in
     record {
-      files = server.with_file f.files (opening_file o);
-      changes = max f.changes 1;
+      tree = opens f.tree ROOT name (Plain bytes);
       count = f.count;
-      core_is = ap (λ (k : Core). record k { server = Rattle.server_core.specs.Step.opens_with k.server (opening_file o) }) f.core_is;
+      core_is = ap (λ (k : Core). record k { server = opens_with k.server ROOT name (Plain bytes) }) f.core_is;
       wires_is = f.wires_is;
-      tree = tree_more w.opening f.files f.changes o refl (omega (arith, few, le)) (let e = content_size content in omega (arith, e, size)) f.tree;
+      is_tree = subst (λ (i : ℕ). IsTree (w.opening ++ record { file = i; content = bytes } ∷ []) (opens f.tree ROOT name (Plain bytes))) (ap (λ (t : Tree). t.next) (sym server_is)) (tree_more w.opening f.tree name bytes can (omega (arith, few, le)) (omega (arith, e, long)) (omega (arith, e, much, size)) f.is_tree);
+      size = omega (arith, counted, size);
       past_is = no_more past ∙ f.past_is;
-      few = let c = count_more w.opening o in omega (arith, few, c);
+      few = let c = count_more w.opening (record { file = w.core.server.tree.next; content = bytes }) in omega (arith, few, c);
     }
 
 stage_first : (n : ℕ) (w : World) (s : Stage) (past : List Moment) → IsFirst n w past → IsFirst (n + 1) (record w { stage = s }) (past ++ [])
-stage_first n w s past f = record { files = f.files; changes = f.changes; count = f.count; core_is = f.core_is; wires_is = f.wires_is; tree = f.tree; past_is = no_more past ∙ f.past_is; few = let e = f.few in omega (arith, e) }
+stage_first n w s past f = record { tree = f.tree; count = f.count; core_is = f.core_is; wires_is = f.wires_is; is_tree = f.is_tree; size = f.size; past_is = no_more past ∙ f.past_is; few = let e = f.few in omega (arith, e) }
 
 not_early : {A : Type 0} (s : Stage) → s ≡ stage.Events → is_early s ≡ true → A
 not_early s e early = absurd (by (sym (ap is_early e) ∙ early))

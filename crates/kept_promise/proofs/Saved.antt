@@ -8,7 +8,7 @@ use Rattle.wire.specs.declared.message.Message.TheVariants as message
 use Rattle.xdr_codec.specs.declared.status.Status.TheVariants as status
 use Rattle.command_text.specs.declared.command.Command.TheVariants as command
 use Rattle.client_cache.specs.Cache.{content_of, reserved}
-use Rattle.open_close.specs.State as client
+use Rattle.client_state.specs.State as client
 use Rattle.trace_replay.specs.Saving.{name_call, name_told, name_answer, known_at, AnswersName, TakesName, SentBefore, TakesTold, ToldOf, AreTold, AllKnown, first_call, AsksFirst}
 use Rattle.trace_replay.specs.Traffic.{unknown_in, unknown_number, deals_if}
 use Rattle.kept_promise.proofs.Common.{Contains, Contains-append_left, Contains-append_right, Contains-push, Contains-push_cases, not, Answer, Done, Failed, Status, Command, Body, Message, WireFault, parse_of, temp_at, cond_fault, at, got_if, stands, opens, opens_if, asks_file, asks_kept, may_ask, is_open, command_step, Content, Task, Op, Opening, Core, Seat, Session, Event, Event.Joins, Event.Does, Event.Serves, Event.Hears, Event.Settles, Event.Cuts, Event.Hangs, numbered, server_waiting, serves_if, serves, does, happens, Moment, step_of, client_of, owner_in, wanted_if, wanted_by, taken_by, given_by, is_in, Deal, Deal.Took, Deal.Found, Deal.Sent, deals_with, deals_in, deals_of, Book, Queue, Ask, Reply, Reply.Named, ask_message, told_message, reply_body}
@@ -269,7 +269,7 @@ pub record AllSaved (all past : List Moment) (opening : List Opening) (k : Core)
 
 pub carried_saved : FitLaws → Carried AllSaved
 carried_saved fits = record {
-  first = λ all opening files changes count kept. record { sent = λ n q at. none_numbered n q at; called = λ n q at. none_numbered n q at; each = λ m there. (let lt = there.1 in absurd (omega (arith, lt))) };
+  first = λ all opening tree count kept. record { sent = λ n q at. none_numbered n q at; called = λ n q at. none_numbered n q at; each = λ m there. (let lt = there.1 in absurd (omega (arith, lt))) };
   steps = λ all past rest opening k qs e mid after s h. record {
     sent = subst (DownsSent (past ++ moment k e ∷ []) (happens k e).core.steps) (sym s.after_is) (sent_after past k qs mid e s.sends s.finds (ops_after_event all past rest opening k qs e mid after s).1 h.sent);
     called = subst (UpsSent (past ++ moment k e ∷ []) (happens k e).core.steps) (sym s.after_is) (called_after past k qs mid e s.sends s.finds (ops_after_event all past rest opening k qs e mid after s).1 h.called);

@@ -2,7 +2,7 @@
 use Rattle.std.proofs.Common.{◌≡◌, ℕ, zero, suc, ◌+◌, ◌<◌, List, [], ◌∷◌, Some, None, false, refl, sym, ap, ◌∙◌, subst, map, Ok}
 use Rattle.std.proofs.lemmas.Nat.{from_be_bytes-to_be_bytes_8}
 use Rattle.server_core.specs.Answers.{node_named}
-use Rattle.kept_promise.proofs.Common.{slice_get, Contains, Contains-append_left, Contains-append_right, Contains-push, handle_bytes, message_spell, MessageFits, parse_of, node_of, Indexed, Temp, File, Core, Session, CoreStep, Loss.Nothing, numbered, with_numbered, server_waiting, Book, Reply, Ask, Told, Queue, ask_message, told_message}
+use Rattle.kept_promise.proofs.Common.{slice_get, Contains, Contains-append_left, Contains-append_right, Contains-push, handle_bytes, message_spell, MessageFits, parse_of, node_of, Indexed, Temp, Core, Session, CoreStep, Loss.Nothing, numbered, with_numbered, server_waiting, Book, Reply, Ask, Told, Queue, ask_message, told_message, Tree}
 use Rattle.kept_promise.proofs.Statements.{CallFits, IsPlain}
 use Rattle.kept_promise.proofs.Lists.{some_is, nothing_there}
 use Rattle.kept_promise.proofs.History.{onward}
@@ -14,8 +14,8 @@ use Rattle.kept_promise.proofs.Leading.{Leads, sent_message, downs_put_in}
 
 -- ---- what is found under this file system's own handles
 
-pub own_node : (files : List (ℕ × File)) (f : ℕ) → f < 18446744073709551616 → node_of files (handle_bytes f) ≡ node_named files (Some f)
-own_node files f small = ap (node_named files) (ap (λ (n : ℕ). Some n) (from_be_bytes-to_be_bytes_8 f small))
+pub own_node : (t : Tree) (f : ℕ) → f < 18446744073709551616 → node_of t (handle_bytes f) ≡ node_named t (Some f)
+own_node t f small = ap (node_named t) (ap (λ (n : ℕ). Some n) (from_be_bytes-to_be_bytes_8 f small))
 
 -- ---- the message comes whole
 

@@ -1,18 +1,18 @@
 -- The first change that waits is made, and its session told.
-use Rattle.std.proofs.Common.{inl, inr, ◌≡◌, ℕ, suc, ◌+◌, ◌≤◌, List, [], ◌∷◌, ◌++◌, length, replicate, Option, Some, None, Bool, true, false, refl, sym, ap, ◌∙◌, subst, arith, eq-eqb, ne_eqb, append-nil, map, IsSome}
+use Rattle.std.proofs.Common.{inl, inr, ◌≡◌, ℕ, suc, ◌+◌, ◌≤◌, List, [], ◌∷◌, ◌++◌, length, replicate, Option, Some, None, Bool, true, false, refl, sym, ap, ◌∙◌, subst, arith, eq-eqb, ne_eqb, append-nil, map}
 use Rattle.server_core.specs.State as server
-use Rattle.server_core.specs.Closing.{changed}
+use Rattle.file_tree.specs.Step.{replaced}
 use Rattle.server_core.specs.Closing as closing
 use Rattle.server_core.specs.declared.event.Told.TheVariants as told_
-use Rattle.open_close.specs.State as client
+use Rattle.client_state.specs.State as client
 use Rattle.hash_calls.specs.declared.message.LbProc.TheVariants as lb_proc
 use Rattle.wire.specs.declared.message.Program.TheVariants as program
-use Rattle.open_close.specs.declared.task.Stage.TheVariants as stage
+use Rattle.client_state.specs.declared.task.Stage.TheVariants as stage
 use Rattle.register_model.specs.declared.op.Outcome.TheVariants as told
-use Rattle.kept_promise.proofs.Common.{slice_get, slice_set, cond, ◌==◌, sha1, Done, Failed, MessageFits, at, entry_of, makes_change, Change, ServerStep, File, Entry, Fetch, Stage, Value, content_of, Op, Core, Seat, Session, CoreStep, quiet, numbered, with_numbered, settled_ops, settled_by, pointed, pointed_at, unless, Book, Or, value_at, version_at, Reply, Reply.Versioned, Reply.Hashed, Reply.Bytes, Reply.Made, Reply.Named, Reply.Stored, Reply.Changed, Told, Queue, told_message, reply_program}
+use Rattle.kept_promise.proofs.Common.{slice_get, slice_set, cond, ◌==◌, sha1, Done, Failed, MessageFits, at, makes_change, Change, ServerStep, File, Entry, Fetch, Stage, content_of, Op, Core, Seat, Session, CoreStep, quiet, numbered, with_numbered, settled_ops, settled_by, pointed, pointed_at, unless, Book, Or, value_at, version_at, Reply, Reply.Versioned, Reply.Hashed, Reply.Bytes, Reply.Made, Reply.Named, Reply.Stored, Reply.Changed, Told, Queue, told_message, reply_program, Tree}
 use Rattle.kept_promise.proofs.Lists.{some_is, nothing_there, same_or_not, at_end, at_replaced, of_replaced}
 use Rattle.kept_promise.proofs.Keys.{times, times_append, times_head, own, on_way, key, change_key, ask_key, told_key}
-use Rattle.kept_promise.proofs.Messages.{Job, job, hash_offset, FetchOf, CommitTold, AllTolds, IsAnswer, AnswerOf, IsPending, CloseOf}
+use Rattle.kept_promise.proofs.Messages.{Job, job, hash_offset, FetchOf, CommitTold, AllTolds, IsAnswer, AnswerOf, IsPending, CloseOf, content_wanted}
 use Rattle.kept_promise.proofs.Rights.{IsSound, IsUnmade, IsMade}
 use Rattle.kept_promise.proofs.Marks.{marks}
 use Rattle.kept_promise.proofs.Growth.{Grows, or_map, value_alike, version_alike, made_later}
@@ -22,12 +22,14 @@ use Rattle.kept_promise.proofs.Taken.{tolds_append, times_map_append}
 use Rattle.kept_promise.proofs.Turns.{around_same, around_with, also_numbered, turned_core, kept_turn}
 use Rattle.kept_promise.proofs.Fits.{FitLaws}
 use Rattle.kept_promise.proofs.Ordered.{orderly_later, orderly_told}
-use Rattle.kept_promise.proofs.Shelf.{found_put, found_else}
 use Rattle.kept_promise.proofs.OrderSteps.{keys_once}
 use Rattle.kept_promise.proofs.Facts.{IsValue, FileIs, IsTalk, IsKept, commits_in}
 use Rattle.kept_promise.proofs.Leading.{Leads, downs_put_in, downs_put, KeptSettles}
 use Rattle.kept_promise.proofs.Cuts.{leads_idle}
 use Rattle.kept_promise.proofs.Steps.{no_commits}
+use Rattle.kept_promise.proofs.Trees.{replaced_own, replaced_other, replaced_size, replaced_bounded, file_bounded}
+use Rattle.kept_promise.proofs.TreeOpens.{replaced_plain}
+use Rattle.kept_promise.proofs.Making.{entry_of, made_change, target_there, room_there, made_is}
 
 -- ---- a change that waits, in front
 
@@ -44,19 +46,19 @@ abbrev made_book : Book → Entry → (j : ℕ) → Op → Book
 made_book book e j o = entered book (slice_set book.ops j (made_op book o)) e
 
 -- what the tree has of each file, once one got this content
-held_made : (book : Book) (e : Entry) (j : ℕ) (o : Op) (files : List (ℕ × File)) (g : File) (x : List ℕ) → slice_get book.ops j ≡ Some o → IsUnmade o → IsSound book → o.file ≡ g.id → length o.value ≡ length x → Or book (o.value ≡ x) → length x ≤ 67108864 → ((f : ℕ) → FileIs book f (server.file_at files f)) → server.file_at files g.id ≡ Some g
-    → (f : ℕ) → FileIs (made_book book e j o) f (server.file_at (server.with_file files (changed g x)) f)
-held_made book e j o files g x there_ unmade sound mine size same short held there f = elim (same_or_not f g.id) [
+held_made : (book : Book) (e : Entry) (j : ℕ) (o : Op) (t : Tree) (id : ℕ) (g : File) (x : List ℕ) → slice_get book.ops j ≡ Some o → IsUnmade o → IsSound book → o.file ≡ id → length o.value ≡ length x → Or book (o.value ≡ x) → length x ≤ 67108864 → ((f : ℕ) → FileIs book f (server.file_at t f)) → server.file_at t id ≡ Some g
+    → (f : ℕ) → FileIs (made_book book e j o) f (server.file_at (replaced t id (g.version + 1) x) f)
+held_made book e j o t id g x there_ unmade sound mine size same short held there f = elim (same_or_not f id) [
   | inl here ↦
-      let was : FileIs book g.id (Some g) = subst (FileIs book g.id) there (held g.id) in
+      let was : FileIs book id (Some g) = subst (FileIs book id) there (held id) in
       let value = subst (λ n. value_at (made_book book e j o) o.file n ≡ Some o.value) two (value_now book e j o there_ unmade sound) in
       let version = subst (λ n. version_at (made_book book e j o) o.file n ≡ version_at book o.file (book.steps + 1) + 1) two (version_now book e j o there_ unmade sound) in
-      let now : IsValue (made_book book e j o) g.id x = record { value = o.value; is = ap (λ z. value_at (made_book book e j o) z (book.steps + 1 + 1)) (sym mine) ∙ value; size = size; same = same } in
-      let own : FileIs (made_book book e j o) g.id (Some (changed g x)) = (refl, was.1, was.2, was.3, now, ap (λ z. version_at (made_book book e j o) z (book.steps + 1 + 1)) (sym mine) ∙ version ∙ ap (λ z. version_at book z (book.steps + 1) + 1) mine ∙ ap (λ z. z + 1) was.5, short) in
-      subst (λ (z : ℕ). FileIs (made_book book e j o) z (server.file_at (server.with_file files (changed g x)) z)) (sym here) (subst (FileIs (made_book book e j o) g.id) (sym (found_put files g.id (changed g x))) own)
+      let now : IsValue (made_book book e j o) id x = record { value = o.value; is = ap (λ z. value_at (made_book book e j o) z (book.steps + 1 + 1)) (sym mine) ∙ value; size = size; same = same } in
+      let own : FileIs (made_book book e j o) id (Some (record g { version = g.version + 1; content = x })) = (was.0, was.1, was.2, was.3, now, ap (λ z. version_at (made_book book e j o) z (book.steps + 1 + 1)) (sym mine) ∙ version ∙ ap (λ z. version_at book z (book.steps + 1) + 1) mine ∙ ap (λ z. z + 1) was.5, short) in
+      subst (λ (z : ℕ). FileIs (made_book book e j o) z (server.file_at (replaced t id (g.version + 1) x) z)) (sym here) (subst (FileIs (made_book book e j o) id) (sym (replaced_own t id (g.version + 1) x g there)) own)
   | inr apart ↦
       let marks_ : marks f (book.steps + 1 + 1) (slice_set book.ops j (made_op book o)) ≡ marks f (book.steps + 1) book.ops = subst (λ n. marks f n (slice_set book.ops j (made_op book o)) ≡ marks f (book.steps + 1) book.ops) two (marks_else book j o f there_ unmade (λ q. apart (sym q ∙ mine)) sound) in
-      subst (FileIs (made_book book e j o) f) (sym (found_else files g.id f (changed g x) apart)) (others (server.file_at files f) (held f) (value_alike book (made_book book e j o) f (book.steps + 1 + 1) (book.steps + 1) refl marks_) (version_alike book (made_book book e j o) f (book.steps + 1 + 1) (book.steps + 1) marks_))
+      subst (FileIs (made_book book e j o) f) (sym (replaced_other t id (g.version + 1) x f apart)) (others (server.file_at t f) (held f) (value_alike book (made_book book e j o) f (book.steps + 1 + 1) (book.steps + 1) refl marks_) (version_alike book (made_book book e j o) f (book.steps + 1 + 1) (book.steps + 1) marks_))
 ]
   where
     two : book.steps + 2 ≡ book.steps + 1 + 1
@@ -65,17 +67,6 @@ held_made book e j o files g x there_ unmade sound mine size same short held the
     others : (z : Option File) → FileIs book f z → value_at (made_book book e j o) f (book.steps + 1 + 1) ≡ value_at book f (book.steps + 1) → version_at (made_book book e j o) f (book.steps + 1 + 1) ≡ version_at book f (book.steps + 1) → FileIs (made_book book e j o) f z
     others None h v w = (h.0, v ∙ h.1)
     others (Some z) h v w = (h.0, h.1, h.2, h.3, record { value = h.4.value; is = v ∙ h.4.is; size = h.4.size; same = h.4.same }, w ∙ h.5, h.6)
-
--- a change to a file that is there leaves each version within the changes
-versions_made : (files : List (ℕ × File)) (g : File) (content : List ℕ) (changes : ℕ) → ((f : ℕ) (z : File) → server.file_at files f ≡ Some z → z.version ≤ changes) → server.file_at files g.id ≡ Some g → (f : ℕ) (z : File) → server.file_at (server.with_file files (changed g content)) f ≡ Some z → z.version ≤ changes + 1
-versions_made files g content changes h there f z e = elim (same_or_not f g.id) [
-  | inl here ↦
-      let is : changed g content ≡ z = some_is (changed g content) z (sym (found_put files g.id (changed g content)) ∙ ap (server.file_at (server.with_file files (changed g content))) (sym here) ∙ e) in
-      let a : g.version ≤ changes = h g.id g there in
-      let b : g.version + 1 ≡ z.version = ap (λ (v : File). v.version) is in
-      omega (arith, a, b)
-  | inr apart ↦ let a = h f z (sym (found_else files g.id f (changed g content) apart) ∙ e) in omega (arith, a)
-]
 
 -- ---- the session
 
@@ -177,25 +168,23 @@ fewer_waiting s c cs e i d f = ap (λ (l : List Change). slice_get l (suc i)) e 
 
 -- the server, once a change was made
 abbrev settled_server : server.State → (now : ℕ) → Change → List Change → File → server.State
-settled_server s now c cs f = (makes_change (at (record s { waiting = cs }) now) c (Some f)).0
+settled_server s now c cs f = (made_change (at (record s { waiting = cs }) now) c (content_wanted c.what) f).0
 
-settled_now : FitLaws → (book : Book) (k : Core) (qs : List Queue) (now : ℕ) (c : Change) (cs : List Change) (f : File) (x : Session) (q : Queue) (j : ℕ) (o : Op) → (kept : IsKept book k qs) → k.server.waiting ≡ c ∷ cs → server.file_at k.server.files c.file ≡ Some f → (here : numbered k.sessions c.session ≡ Some x) → x.hung ≡ false → (is : numbered qs c.session ≡ Some q)
-    → (pending : IsPending book x.closing x.cut (job (kept.sessions c.session x q here is).seat) c.xid c.file c.content) → pending.place ≡ j → pending.op ≡ o
-    → IsKept (made_book book (entry_of c f) j o) (turned_core (made_book book (entry_of c f) j o) (settled_server k.server now c cs f) k.seats k.sessions) (with_numbered qs c.session (record q { downs = unless x.cut q.downs (answer c (f.version + 1) ∷ []) }))
+settled_now : FitLaws → (book : Book) (k : Core) (qs : List Queue) (now : ℕ) (c : Change) (cs : List Change) (f : File) (x : Session) (q : Queue) (j : ℕ) (o : Op) → (kept : IsKept book k qs) → k.server.waiting ≡ c ∷ cs → server.file_at k.server.tree c.file ≡ Some f → (here : numbered k.sessions c.session ≡ Some x) → x.hung ≡ false → (is : numbered qs c.session ≡ Some q)
+    → (pending : IsPending book x.closing x.cut (job (kept.sessions c.session x q here is).seat) c.xid c.file (content_wanted c.what)) → pending.place ≡ j → pending.op ≡ o
+    → IsKept (made_book book (entry_of c (content_wanted c.what) f) j o) (turned_core (made_book book (entry_of c (content_wanted c.what) f) j o) (settled_server k.server now c cs f) k.seats k.sessions) (with_numbered qs c.session (record q { downs = unless x.cut q.downs (answer c (f.version + 1) ∷ []) }))
 settled_now laws book k qs now c cs f x q j o kept waits there here unhung is pending place_is op_is =
     let n : ℕ = c.session in
     let h = kept.sessions n x q here is in
-    let e : Entry = entry_of c f in
+    let e : Entry = entry_of c (content_wanted c.what) f in
     let at_ : slice_get book.ops j ≡ Some o = subst (λ (z : ℕ). slice_get book.ops z ≡ Some o) place_is (pending.there ∙ ap (λ (z : Op). Some z) op_is) in
     let known : x.closing ≡ Some j = pending.known ∙ ap (λ (z : ℕ). Some z) place_is in
     let unmade : IsUnmade o = subst IsUnmade op_is pending.unmade in
     let file_is : o.file ≡ c.file = ap (λ (z : Op). z.file) (sym op_is) ∙ pending.file_is in
-    let size : length o.value ≡ length c.content = ap (λ (z : Op). length z.value) (sym op_is) ∙ pending.size_is in
-    let same : Or book (o.value ≡ c.content) = subst (λ (z : Op). Or book (z.value ≡ c.content)) op_is pending.value_is in
+    let size : length o.value ≡ length (content_wanted c.what) = ap (λ (z : Op). length z.value) (sym op_is) ∙ pending.size_is in
+    let same : Or book (o.value ≡ (content_wanted c.what)) = subst (λ (z : Op). Or book (z.value ≡ (content_wanted c.what))) op_is pending.value_is in
     let own_file : FileIs book c.file (Some f) = subst (FileIs book c.file) there (kept.server.held c.file) in
-    let id_is : f.id ≡ c.file = own_file.0 in
-    let mine : o.file ≡ f.id = file_is ∙ sym id_is in
-    let tells : IsEntryOf book o e = record { file = mine; len = size; digest = or_map book _ _ (λ q. ap sha1 q) same; version = ap (λ (z : ℕ). z + 1) (sym own_file.5 ∙ ap (λ (z : ℕ). version_at book z (book.steps + 1)) (sym id_is)) } in
+    let tells : IsEntryOf book o e = record { file = file_is; len = size; digest = or_map book _ _ (λ q. ap sha1 q) same; version = ap (λ (z : ℕ). z + 1) (sym own_file.5) } in
     let goes = goes_made book e j o tells at_ unmade kept.sound in
     let g = goes.grows in
     let more = made_book book e j o in
@@ -206,9 +195,12 @@ settled_now laws book k qs now c cs f x q j o kept waits there here unhung is pe
     let first : own n k.server.waiting ≡ c ∷ own n cs = ap (own n) waits ∙ own_first c cs in
     let alone : (commits_in q.ups ≡ 0) × (length (own n cs) ≡ 0) = (let a = h.single in let b = ap length first in (omega (arith, a, b), omega (arith, a, b))) in
     let none : own n cs ≡ [] = empty_is (own n cs) alone.1 in
-    let short : length c.content ≤ 67108864 = kept.server.lengths 0 c (ap (λ (l : List Change). slice_get l 0) waits) in
-    let same_id : server.file_at k.server.files f.id ≡ Some f = ap (server.file_at k.server.files) id_is ∙ there in
-    let held : (z : ℕ) → FileIs more z (server.file_at r.files z) = λ z. held_made book e j o k.server.files f c.content at_ unmade kept.sound mine size same short kept.server.held same_id z in
+    let short : length (content_wanted c.what) ≤ 67108864 = kept.server.lengths 0 c (ap (λ (l : List Change). slice_get l 0) waits) in
+    let room = room_there book k.server c cs kept.server waits in
+    let held : (z : ℕ) → FileIs more z (server.file_at r.tree z) = λ z. held_made book e j o k.server.tree c.file f (content_wanted c.what) at_ unmade kept.sound file_is size same short kept.server.held there z in
+    let entries = room.count in
+    let sizes = replaced_size k.server.tree c.file (f.version + 1) (content_wanted c.what) f kept.server.bounded there in
+    let small = room.small in
     let made : IsMade more j version = (
       made_op book o,
       book.steps + 1,
@@ -221,7 +213,7 @@ settled_now laws book k qs now c cs f x q j o kept waits there here unhung is pe
         entry = e;
         step_is = at_end book.entries (book.steps + 1);
         entry_is = ap (slice_get (book.journal ++ e ∷ [])) kept.sound.journal.count ∙ at_end book.journal e;
-        file_is = sym mine;
+        file_is = sym file_is;
         version_is = refl;
         len_is = sym size;
         digest_is = or_map book _ _ (λ q. ap sha1 (sym q)) same;
@@ -238,8 +230,11 @@ settled_now laws book k qs now c cs f x q j o kept waits there here unhung is pe
       goes = goes;
       server = record {
         held = held;
-        versions = versions_made k.server.files f c.content k.server.changes kept.server.versions same_id;
-        changes = (let a = kept.server.changes in let b = ap length waits in omega (arith, a, b));
+        bounded = replaced_bounded k.server.tree c.file (content_wanted c.what) f there (omega (arith, entries)) short (omega (arith, small)) kept.server.bounded;
+        plain = replaced_plain k.server.tree c.file (f.version + 1) (content_wanted c.what) f there kept.server.plain;
+        commits = λ i d z. kept.server.commits (suc i) d (fewer_waiting k.server c cs waits i d z);
+        changes = omega (arith, entries);
+        bytes = omega (arith, sizes, small);
         lengths = λ i d z. kept.server.lengths (suc i) d (fewer_waiting k.server c cs waits i d z);
         targets = λ i d z. kept.server.targets (suc i) d (fewer_waiting k.server c cs waits i d z);
         xids = λ i d z. kept.server.xids (suc i) d (fewer_waiting k.server c cs waits i d z);
@@ -258,7 +253,7 @@ settled_now laws book k qs now c cs f x q j o kept waits there here unhung is pe
         lost = h.lost;
         stands_is = h.stands_is;
         ups_fit = h.ups_fit;
-        downs_fit = downs_fit_more x.cut h.downs_fit (laws.plain c.xid (Changed (Done (record { version = version; term = 0 }))) (kept.server.xids 0 c (ap (λ (l : List Change). slice_get l 0) waits)) (let a = kept.server.versions c.file f there in let b = kept.server.changes in let d = ap length waits in omega (arith, a, b, d), refl));
+        downs_fit = downs_fit_more x.cut h.downs_fit (laws.plain c.xid (Changed (Done (record { version = version; term = 0 }))) (kept.server.xids 0 c (ap (λ (l : List Change). slice_get l 0) waits)) (let a = (file_bounded k.server.tree c.file f kept.server.bounded there).0 in omega (arith, a, entries), refl));
         talk = λ uncut. subst (λ (b : Bool). IsTalk more n cs x (record q { downs = unless b q.downs (t ∷ []) }) h.seat) (sym uncut) (settled_talk book e j o n c cs x q h.seat version g (own_first c cs) (committing uncut) made (subst (λ (l : List Change). IsTalk book n l x q h.seat) waits (h.talk uncut)));
         contents = h.contents;
         lengths = h.lengths;
@@ -301,20 +296,20 @@ settled_now laws book k qs now c cs f x q j o kept waits there here unhung is pe
 
     close_made : (more : Book) → x.cut ≡ false → (i : Job) → job (kept.sessions c.session x q here is).seat ≡ Some i
         → CloseOf book x.closing (kept.sessions c.session x q here is).contents (kept.sessions c.session x q here is).seat.client.next_temp i (client.local_bytes (kept.sessions c.session x q here is).seat.client.opened i.file) i.stage
-        → CloseOf (made_book book (entry_of c f) j o) x.closing (kept.sessions c.session x q here is).contents (kept.sessions c.session x q here is).seat.client.next_temp i (client.local_bytes (kept.sessions c.session x q here is).seat.client.opened i.file) i.stage
+        → CloseOf (made_book book (entry_of c (content_wanted c.what) f) j o) x.closing (kept.sessions c.session x q here is).contents (kept.sessions c.session x q here is).seat.client.next_temp i (client.local_bytes (kept.sessions c.session x q here is).seat.client.opened i.file) i.stage
     close_made more uncut i w h =
         let own : Job = record { place = j; file = c.file; stage = stage.Committing c.xid } in
         let same : own ≡ i = some_is own i (sym (committing uncut) ∙ w) in
         committed i (sym (ap (λ (z : Job). z.stage) same)) (sym (ap (λ (z : Job). z.place) same)) h
       where
         committed : (i : Job) → i.stage ≡ stage.Committing c.xid → i.place ≡ j → CloseOf book x.closing (kept.sessions c.session x q here is).contents (kept.sessions c.session x q here is).seat.client.next_temp i (client.local_bytes (kept.sessions c.session x q here is).seat.client.opened i.file) i.stage
-            → CloseOf (made_book book (entry_of c f) j o) x.closing (kept.sessions c.session x q here is).contents (kept.sessions c.session x q here is).seat.client.next_temp i (client.local_bytes (kept.sessions c.session x q here is).seat.client.opened i.file) i.stage
+            → CloseOf (made_book book (entry_of c (content_wanted c.what) f) j o) x.closing (kept.sessions c.session x q here is).contents (kept.sessions c.session x q here is).seat.client.next_temp i (client.local_bytes (kept.sessions c.session x q here is).seat.client.opened i.file) i.stage
         committed i s p h =
             let v = client.local_bytes (kept.sessions c.session x q here is).seat.client.opened i.file in
             let old : CloseOf book x.closing (kept.sessions c.session x q here is).contents (kept.sessions c.session x q here is).seat.client.next_temp i v (stage.Committing c.xid) = subst (λ (z : Stage). CloseOf book x.closing (kept.sessions c.session x q here is).contents (kept.sessions c.session x q here is).seat.client.next_temp i v z) s h in
-            let g = grows_made book (entry_of c f) j o kept.sound.journal.count pending_there pending_unmade in
+            let g = grows_made book (entry_of c (content_wanted c.what) f) j o kept.sound.journal.count pending_there pending_unmade in
             let r = g.each i.place old.0 old.1 in
-            subst (λ (z : Stage). CloseOf (made_book book (entry_of c f) j o) x.closing (kept.sessions c.session x q here is).contents (kept.sessions c.session x q here is).seat.client.next_temp i v z) (sym s) (r.0, r.1, r.2.word ∙ old.2, r.2.value old.2 ∙ old.3)
+            subst (λ (z : Stage). CloseOf (made_book book (entry_of c (content_wanted c.what) f) j o) x.closing (kept.sessions c.session x q here is).contents (kept.sessions c.session x q here is).seat.client.next_temp i v z) (sym s) (r.0, r.1, r.2.word ∙ old.2, r.2.value old.2 ∙ old.3)
 
     still_runs : (z : ℕ) (u : Op) → slice_get (slice_set book.ops j (made_op book o)) z ≡ Some u → u.outcome ≡ told.Running → (e : Seat) × (g : Job) × (numbered k.seats u.client ≡ Some e) × (job e ≡ Some g) × (g.place ≡ z)
     still_runs z u w run = elim (of_replaced book.ops j (made_op book o) z u w) [
@@ -337,7 +332,7 @@ settled_core book more k r ops entries a b c =
 queue_told : (sessions : List Session) (qs : List Queue) (n : ℕ) (x : Session) (q : Queue) (t : Told) → numbered sessions n ≡ Some x → numbered qs n ≡ Some q → downs_put sessions qs ((n, t) ∷ []) ≡ with_numbered qs n (record q { downs = unless x.cut q.downs (t ∷ []) })
 queue_told sessions qs n x q t at is = ap (λ (o : Option Session). downs_put_in qs (n, t) o (numbered qs n)) at ∙ ap (λ (o : Option Queue). downs_put_in qs (n, t) (Some x) o) is
 
-settled_leads : FitLaws → (book : Book) (k : Core) (qs : List Queue) (now : ℕ) (c : Change) (cs : List Change) (f : File) → IsKept book k qs → k.server.waiting ≡ c ∷ cs → server.file_at k.server.files c.file ≡ Some f → Leads book qs (settled_by_step k (makes_change (at (record k.server { waiting = cs }) now) c (Some f)))
+settled_leads : FitLaws → (book : Book) (k : Core) (qs : List Queue) (now : ℕ) (c : Change) (cs : List Change) (f : File) → IsKept book k qs → k.server.waiting ≡ c ∷ cs → server.file_at k.server.tree c.file ≡ Some f → Leads book qs (settled_by_step k (made_change (at (record k.server { waiting = cs }) now) c (content_wanted c.what) f))
 settled_leads laws book k qs now c cs f kept waits there =
     let n : ℕ = c.session in
     let home = kept.home 0 c (ap (λ (l : List Change). slice_get l 0) waits) in
@@ -348,7 +343,7 @@ settled_leads laws book k qs now c cs f kept waits there =
     let j : ℕ = pending.place in
     let o : Op = pending.op in
     let t : Told = answer c (f.version + 1) in
-    let more = made_book book (entry_of c f) j o in
+    let more = made_book book (entry_of c (content_wanted c.what) f) j o in
     let now_kept = settled_now laws book k qs now c cs f x q.0 j o kept waits there home.1 home.2 q.1 pending refl refl in
     let ops_is : settled_by k 1 (told_.Settled n c.xid) ≡ more.ops =
     ap (λ (z : Option Session). settled_ops k.ops 1 (k.steps + 1) z) home.1
@@ -363,24 +358,14 @@ settled_leads laws book k qs now c cs f kept waits there =
       more = more;
       moments = refl;
       opening = refl;
-      kept = subst (λ (z : List Queue). IsKept more (settled_by_step k (makes_change (at (record k.server { waiting = cs }) now) c (Some f))).core z) (sym (queue_told k.sessions qs n x q.0 t home.1 q.1)) (subst (λ (z : Core). IsKept more z (with_numbered qs n (record q.0 { downs = unless x.cut q.0.downs (t ∷ []) }))) core now_kept);
+      kept = subst (λ (z : List Queue). IsKept more (settled_by_step k (made_change (at (record k.server { waiting = cs }) now) c (content_wanted c.what) f)).core z) (sym (queue_told k.sessions qs n x q.0 t home.1 q.1)) (subst (λ (z : Core). IsKept more z (with_numbered qs n (record q.0 { downs = unless x.cut q.0.downs (t ∷ []) }))) core now_kept);
     }
-
--- the file of a change that waits is there
-settled_found : FitLaws → (book : Book) (k : Core) (qs : List Queue) (now : ℕ) (c : Change) (cs : List Change) → IsKept book k qs → k.server.waiting ≡ c ∷ cs → (g : Option File) → server.file_at k.server.files c.file ≡ g → Leads book qs (settled_by_step k (makes_change (at (record k.server { waiting = cs }) now) c g))
-settled_found laws book k qs now c cs kept waits (Some f) there = settled_leads laws book k qs now c cs f kept waits there
-settled_found laws book k qs now c cs kept waits None there =
-    let known = kept.server.targets 0 c (ap (λ (l : List Change). slice_get l 0) waits) in
-    let gone : FileIs book c.file None = subst (FileIs book c.file) there (kept.server.held c.file) in
-    absurd (not_there (content_of book.opening c.file) gone.0 known)
-  where
-    not_there : (v : Value) → v ≡ None → IsSome v → ⊥
-    not_there None e h = absurd cc
-    not_there (Some x) e h = nothing_there x (sym e)
 
 settled_waiting : FitLaws → (book : Book) (k : Core) (qs : List Queue) (now : ℕ) → IsKept book k qs → (waiting : List Change) → k.server.waiting ≡ waiting → Leads book qs (settled_by_step k (closing.settles k.server now waiting))
 settled_waiting laws book k qs now kept [] e = subst (λ (es : List ℕ). Leads book qs (quiet (record k { steps = k.steps + 1; entries = es }))) (sym (append-nil k.entries)) (leads_idle book k qs kept)
-settled_waiting laws book k qs now kept (c ∷ cs) e = settled_found laws book k qs now c cs kept e (server.file_at k.server.files c.file) refl
+settled_waiting laws book k qs now kept (c ∷ cs) e =
+    let f = target_there book k.server c cs kept.server e in
+    subst (λ (r : server.State × ServerStep). Leads book qs (settled_by_step k r)) (sym (made_is book k.server now c cs f.0 kept.server e f.1)) (settled_leads laws book k qs now c cs f.0 kept e f.1)
 
 pub kept_settles : FitLaws → KeptSettles
 kept_settles laws = λ book k qs now kept noted. settled_waiting laws book k qs now kept k.server.waiting refl

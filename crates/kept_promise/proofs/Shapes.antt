@@ -4,8 +4,8 @@ use Rattle.hash_calls.specs.declared.message.Lb.TheVariants as lb
 use Rattle.nfs3_calls.specs.declared.message.Nfs.TheVariants as nfs
 use Rattle.wire.specs.declared.message.Body.TheVariants as body
 use Rattle.wire.specs.declared.message.Message.TheVariants as message
-use Rattle.open_close.specs.declared.step.Outcome.TheVariants as outcome
-use Rattle.open_close.specs.declared.task.Stage.TheVariants as stage
+use Rattle.client_state.specs.declared.step.Outcome.TheVariants as outcome
+use Rattle.client_state.specs.declared.task.Stage.TheVariants as stage
 use Rattle.kept_promise.proofs.Common.{◌==◌, Chunk, Command, Done, Hashes, Body, Pending, reads_chunk, reads_from, State, pending, calls_of, has_call, command_step, idle, took, drops, took_if, got_message, Reads, ClientStep, Ended, Outcome, Fetch, Stage, Task}
 use Rattle.kept_promise.proofs.Lists.{nothing_there}
 use Rattle.kept_promise.proofs.StepCases.{reads_keep, IsOpenedBy, JustEnds, FetchIn, FetchNow, FetchNow.all_told, FetchNow.one_came, reads_of, took_cases, IsPlain, command_cases}

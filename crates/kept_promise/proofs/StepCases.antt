@@ -11,16 +11,19 @@ use Rattle.wire.specs.declared.message.Message.TheVariants as message
 use Rattle.chunk_index.specs.Index.{Indexed}
 use Rattle.client_cache.specs.Cache.{Entries, reserved, content_of}
 use Rattle.client_cache.specs.declared.kept.Content.{Content}
-use Rattle.open_close.specs.Caching.{content_in, from_index, found_all}
-use Rattle.open_close.specs.Looking.{listed_if, listed_by, taken_if, taken_at, taken_by, reading_by, with_file}
-use Rattle.open_close.specs.Opening.{calls_most, reads_chunk, looked_up}
-use Rattle.open_close.specs.Shape.{or_else, file_limit, pairs_most}
-use Rattle.open_close.specs.Step.{changes, closed, asks_kept, asks_file, uses_kept, told_lease}
-use Rattle.open_close.specs.State.{with_local, without_local}
-use Rattle.open_close.specs.declared.step.BadPeer.TheVariants as bad
-use Rattle.open_close.specs.declared.step.Outcome.TheVariants as outcome
-use Rattle.open_close.specs.declared.task.Stage.TheVariants as stage
-use Rattle.open_close.specs.declared.task.Way.TheVariants as way
+use Rattle.file_open.specs.Caching.{content_in, from_index, found_all}
+use Rattle.file_open.specs.Looking.{listed_if, listed_by, taken_if, taken_at, taken_by, reading_by, with_file}
+use Rattle.client_state.specs.Limits.{calls_most}
+use Rattle.file_open.specs.Opening.{reads_chunk, looked_up}
+use Rattle.file_open.specs.Shape.{or_else, pairs_most}
+use Rattle.client_state.specs.Limits.{file_limit}
+use Rattle.file_open.specs.Fetching.{changes, asks_kept, asks_file, uses_kept, told_lease}
+use Rattle.file_close.specs.Storing.{closed}
+use Rattle.client_state.specs.State.{with_local, without_local}
+use Rattle.client_state.specs.declared.step.BadPeer.TheVariants as bad
+use Rattle.client_state.specs.declared.step.Outcome.TheVariants as outcome
+use Rattle.client_state.specs.declared.task.Stage.TheVariants as stage
+use Rattle.client_state.specs.declared.task.Way.TheVariants as way
 use Rattle.register_model.specs.declared.op.Word.TheVariants as words
 use Rattle.trace_replay.specs.Trail.{given_in}
 use Rattle.kept_promise.proofs.Common.{nat_tests, ◌==◌, ◌&&◌, not, if◌then◌else◌, sha1, end_from, end_of, slice_get, nat_lt, Chunk, content_length, content_bytes, Command, Answer, Done, Failed, Status, Hashes, Pair, Piece, Body, Pending, names_next, names_more, names_all, is_stored, store_of, store_at, answered, ends, local_most, written_size, written, truncated, tries_most, fetch_of, with_hashes, listed, reads_next, reads_more, reads_all, is_here, read_at, fault_in, other_version, with_bytes, Broken, broken_if, broken_pair, broken_pairs, chunks_from, with_pairs, broken_sum, broken_of, State, local_at, local_bytes, part_of, bad_peer, refused, tries_anew, retries, reads_if, reads_on, lists_on, told_shape, told_version, told_hashes, misfits, told_bytes, told_chunk, told_piece, goes_if, goes_on, sends_whole, told_named, told_way, told_stored, forgets, idle, took, is_open, may_ask, opens_if, opens, on_local, too_big, done_with, edits, writes, truncates, abandons, asks_temp, closes, command_step, Names, Reads, BadPeer, ClientStep, Ended, Outcome, Fetch, Local, ReadCall, Stage, Store, StoreCall, Task, Way, Word, no_counts, taken_traffic}

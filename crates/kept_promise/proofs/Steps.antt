@@ -1,7 +1,7 @@
 -- A client takes an answer that its operation waits for: it goes on, or the operation ends. What each of both has to show.
 use Rattle.std.proofs.Common.{◌⊎◌, inl, inr, ◌≡◌, ℕ, suc, ◌+◌, ◌<◌, ◌≤◌, List, [], ◌∷◌, ◌++◌, length, Option, Some, None, Bool, true, false, refl, sym, ap, ◌∙◌, subst, arith, map, IsSome}
-use Rattle.open_close.specs.State as client
-use Rattle.open_close.specs.declared.task.Stage.TheVariants as stage
+use Rattle.client_state.specs.State as client
+use Rattle.client_state.specs.declared.task.Stage.TheVariants as stage
 use Rattle.register_model.specs.declared.op.Outcome.{Outcome}
 use Rattle.register_model.specs.declared.op.Outcome.TheVariants as told
 use Rattle.register_model.specs.declared.op.Word.TheVariants as words

@@ -71,7 +71,7 @@ count_more first last to (x ∷ ms) m h is e = (h.0, count_more (first + steps_b
 
 pub carried_count : Carried (λ all past opening k qs. AreCounted 0 past k.steps)
 carried_count = record {
-  first = λ all opening files changes count kept. refl;
+  first = λ all opening tree count kept. refl;
   steps = λ all past rest opening k qs e mid after s h. count_more 0 k.steps (happens k e).core.steps past (moment k e) h refl (happens_count all past rest opening k qs e mid after s);
   adjusts = λ all past opening k qs index seats same h. h;
 }

@@ -1,7 +1,7 @@
 -- A call of a store that the operation under way waits for: its chunk, and that it is alone with its xid.
 use Rattle.std.proofs.Common.{◌≡◌, ℕ, ◌<◌, ◌≤◌, List, [], ◌∷◌, length, Some, false, refl, sym, ap, ◌∙◌, subst, arith, map}
 use Rattle.server_core.specs.State as server
-use Rattle.open_close.specs.State as client
+use Rattle.client_state.specs.State as client
 use Rattle.kept_promise.proofs.Common.{slice_get, chunks_of, Pending, store_pending, Stage, Store, StoreCall, Way, Seat, Session, Book, Queue}
 use Rattle.kept_promise.proofs.Keys.{times}
 use Rattle.kept_promise.proofs.OrderSteps.{place_once}

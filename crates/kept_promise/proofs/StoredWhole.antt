@@ -4,8 +4,8 @@ use Rattle.hash_calls.specs.declared.message.Lb.TheVariants as lb
 use Rattle.nfs3_calls.specs.declared.message.Nfs.TheVariants as nfs
 use Rattle.wire.specs.declared.message.Body.TheVariants as body
 use Rattle.wire.specs.declared.message.Message.TheVariants as message
-use Rattle.open_close.specs.State as client
-use Rattle.open_close.specs.declared.task.Stage.TheVariants as stage
+use Rattle.client_state.specs.State as client
+use Rattle.client_state.specs.declared.task.Stage.TheVariants as stage
 use Rattle.register_model.specs.declared.op.Outcome.{Outcome as History}
 use Rattle.register_model.specs.declared.op.Word.TheVariants as words
 use Rattle.trace_replay.specs.Core.{taken_of as session_taken}
@@ -14,7 +14,7 @@ use Rattle.trace_replay.specs.Traffic.{traffic_of, commit_number, commits_in as 
 use Rattle.kept_promise.proofs.Common.{slice_get, Change, cut, ClientStep, Ended, Outcome, changes, Op, Opening, Word, TakenCall, has_point, point_if, op_after, Core, Seat, Session, Event, numbered, session_of, ops_with, happens, Moment, sent_in, sent_of, SentCommit, Book, Message, Call, Call.Commit, Ask, Queue, Contains-append_left, Said, Deal, Deal.Took, Deal.Found, Deal.Sent, deals_of, stored_traffic}
 use Rattle.kept_promise.proofs.Lists.{some_is, nothing_there, within, of_replaced, of_appended}
 use Rattle.kept_promise.proofs.Keys.{own}
-use Rattle.kept_promise.proofs.Messages.{job, AllAsks, IsCommit, CommitOf, IsPending}
+use Rattle.kept_promise.proofs.Messages.{job, AllAsks, IsCommit, CommitOf, IsPending, content_wanted}
 use Rattle.kept_promise.proofs.History.{closes_alone}
 use Rattle.kept_promise.proofs.Fits.{FitLaws}
 use Rattle.kept_promise.proofs.Turns.{also_numbered}
@@ -61,7 +61,7 @@ on_its_way book seats k n x q h lt = by (own n k.server.waiting) refl
         one _ all lt later = later lt
 
     by : (cs : List Change) → own n k.server.waiting ≡ cs → (xid file : ℕ) × (v : List ℕ) × IsPending book x.closing x.cut (job h.seat) xid file v
-    by (c ∷ cs) e = (c.xid, c.file, c.content, h.pending 0 c (ap (λ (l : List Change). slice_get l 0) e))
+    by (c ∷ cs) e = (c.xid, c.file, content_wanted c.what, h.pending 0 c (ap (λ (l : List Change). slice_get l 0) e))
     by [] e = asked q.ups h.commits (let z = ap length e in omega (arith, lt, z))
 
 -- as long as the owner is there, its job tells that it has sent its COMMITTMP
@@ -175,9 +175,9 @@ closes_carried laws = carried_logs (λ all. ClosesBy) (λ all. CloseNamed) close
 
 pub carried_stored : FitLaws → Carried Stored
 carried_stored laws = record {
-  first = λ all opening files changes count kept. record {
-    counted = carried_counts.first all opening files changes count kept;
-    closes = (closes_carried laws).first all opening files changes count kept;
+  first = λ all opening tree count kept. record {
+    counted = carried_counts.first all opening tree count kept;
+    closes = (closes_carried laws).first all opening tree count kept;
     waits = λ n p x q o at is is_cut known lt there. nothing_there o there;
     made = λ p q o at close point. nothing_there o at;
   };

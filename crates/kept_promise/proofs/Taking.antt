@@ -2,8 +2,8 @@
 use Rattle.std.proofs.Common.{inl, inr, ◌≡◌, ℕ, zero, suc, ◌+◌, ◌<◌, ◌≤◌, List, [], ◌∷◌, length, Option, Some, None, Bool, true, false, refl, sym, ap, ◌∙◌, subst, arith, eqb-true, map}
 use Rattle.hash_calls.specs.declared.message.Lb.TheVariants as lb
 use Rattle.wire.specs.declared.message.Body.TheVariants as body
-use Rattle.open_close.specs.State as client
-use Rattle.open_close.specs.declared.task.Stage.TheVariants as stage
+use Rattle.client_state.specs.State as client
+use Rattle.client_state.specs.declared.task.Stage.TheVariants as stage
 use Rattle.register_model.specs.declared.op.Outcome.TheVariants as told
 use Rattle.register_model.specs.declared.op.Word.TheVariants as words
 use Rattle.kept_promise.proofs.Common.{nat_tests, ◌==◌, ◌&&◌, ◌||◌, nat_lt, cond, not, slice_get, slice_set, filter, option_map_or, chunks_of, Chunk, Done, Hashes, Body, Pending, ClientStep, Fetch, ReadCall, Stage, without_read, with_hashes, fetch_of, end_of, content_of, changes, changed_before, latest, value_after, Op, Opening, TakenCall, op_after, ops_after, ops_with, Book, value_at, Tried, Reply, Reply.Hashed, reply_body}
@@ -200,15 +200,15 @@ fetched_now book taken closing j x r sound fetch answer own f bytes (all_told g 
     told : AnswerOf book taken closing (Some j) x (Hashed (Done h))
     told = subst (AnswerOf book taken closing (Some j) x) (hashed_is r h is) answer
 
-    whole : (g : Fetch) → IsFetch book taken j g → IsHashed book taken j x (end_of g.chunks) h → h.version ≡ g.version → IsWhole book taken j (Rattle.open_close.specs.Opening.listed (with_hashes g h))
+    whole : (g : Fetch) → IsFetch book taken j g → IsHashed book taken j x (end_of g.chunks) h → h.version ≡ g.version → IsWhole book taken j (Rattle.file_open.specs.Opening.listed (with_hashes g h))
     whole g fact hashed same = let n = fetch_next book taken j x g h sound fact hashed same in (fetch_slots book taken j (with_hashes g h) _ _ n.fetch, n.whole eof)
 
-    by : FetchIn j.stage x h g → IsWhole book taken j (Rattle.open_close.specs.Opening.listed (with_hashes g h))
+    by : FetchIn j.stage x h g → IsWhole book taken j (Rattle.file_open.specs.Opening.listed (with_hashes g h))
     by (inl (tries, y, st, e)) =
         let mine : (y == x) ≡ true = or_none (y == x) (ap (λ z. client.has_call (client.pending_in z) x) (sym st) ∙ own) in
         let t = told j 0 refl (ap (λ z. hash_offset z x) st ∙ ap (λ b. cond b (Some 0) None) mine) in
         let first = fetch_first book taken j x tries h t.0 (subst (TriedBy book taken j x) st t.1) in
-        subst (λ (z : Fetch). IsWhole book taken j (Rattle.open_close.specs.Opening.listed (with_hashes z h))) (sym e) (whole (fetch_of tries x h) first t.0 refl)
+        subst (λ (z : Fetch). IsWhole book taken j (Rattle.file_open.specs.Opening.listed (with_hashes z h))) (sym e) (whole (fetch_of tries x h) first t.0 refl)
     by (inr (y, st)) =
         let mine : (y == x) ≡ true = or_none (y == x) (ap (λ z. client.has_call (client.pending_in z) x) (sym st) ∙ own) in
         let t = told j (end_of g.chunks) refl (ap (λ z. hash_offset z x) st ∙ ap (λ b. cond b (Some (end_of g.chunks)) None) mine) in

@@ -1,8 +1,8 @@
 -- A client takes an answer that its operation waits for: by its stage, what comes of it.
 use Rattle.std.proofs.Common.{◌≡◌, ℕ, zero, suc, ◌<◌, ◌≤◌, List, [], ◌∷◌, length, Option, Some, true, refl, sym, ap, ◌∙◌, subst, arith, map}
-use Rattle.open_close.specs.State as client
-use Rattle.open_close.specs.declared.task.Stage.TheVariants as stage
-use Rattle.open_close.specs.declared.task.Way.TheVariants as way
+use Rattle.client_state.specs.State as client
+use Rattle.client_state.specs.declared.task.Stage.TheVariants as stage
+use Rattle.client_state.specs.declared.task.Way.TheVariants as way
 use Rattle.kept_promise.proofs.Common.{slice_get, Contains, Chunk, Answer, Done, Failed, Attr, Committed, Piece, Body, Pending, has_call, store_pending, read_pending, store_at, answered, read_at, idle, took, told_way, told_stored, Fetch, ReadCall, Stage, Store, StoreCall, Way, Core, Session, hashed_of, Book, Reply, Reply.Bytes, Reply.Changed, Told, Queue, reply_body, reply_program}
 use Rattle.kept_promise.proofs.Lists.{some_is, nothing_there, there_at}
 use Rattle.kept_promise.proofs.Keys.{times, code_of}

@@ -2,14 +2,14 @@
 use Rattle.std.proofs.Common.{inl, inr, ◌≡◌, ℕ, ◌+◌, ◌<◌, List, [], ◌∷◌, ◌++◌, Option, Some, None, Bool, true, false, refl, sym, ap, ◌∙◌, subst, arith, eqb-true, eq-eqb, map, IsSome, Result, Ok, Err}
 use Rattle.xdr_codec.specs.declared.status.Status.TheVariants as status
 use Rattle.server_core.specs.State as server
-use Rattle.server_core.specs.Answers.{file_node, hash_answer, lease_answer, read_answer}
+use Rattle.server_core.specs.Answers.{node_named, hash_answer, lease_answer, read_answer}
 use Rattle.server_core.specs.Hashed.{bytes_told}
 use Rattle.wire.specs.declared.message.Message.TheVariants as message
-use Rattle.open_close.specs.State as client
-use Rattle.open_close.specs.declared.task.Stage.TheVariants as stage
+use Rattle.client_state.specs.State as client
+use Rattle.client_state.specs.declared.task.Stage.TheVariants as stage
 use Rattle.trace_replay.specs.Causes.{TakesCall}
 use Rattle.trace_replay.specs.Trail.{served_hashed}
-use Rattle.kept_promise.proofs.Common.{slice_get, cond, ◌==◌, ◌||◌, Contains, end_of, parse_of, server_waiting, Body, Op, Task, chunk_bytes, Chunk, handle_bytes, Failed, Status, HashRange, Range, message_spell, MessageFits, Node, root, file, node_of, told_chunks, hashes_of, piece_of, leased_of, File, Fetch, Stage, Value, content_of, TakenCall, Core, Seat, Session, Event.Serves, numbered, hashed_of, Book, value_at, version_at, Call.Lease, Call.Hash, Call.Read, Reply, Reply.Versioned, Reply.Hashed, Reply.Bytes, Ask, Queue, ask_message, told_message}
+use Rattle.kept_promise.proofs.Common.{slice_get, cond, ◌==◌, ◌||◌, Contains, end_of, parse_of, server_waiting, Body, Op, Task, chunk_bytes, Chunk, handle_bytes, Failed, Status, HashRange, Range, message_spell, MessageFits, Node, directory, file, node_of, told_chunks, hashes_of, piece_of, leased_of, File, Fetch, Stage, Value, content_of, TakenCall, Core, Seat, Session, Event.Serves, numbered, hashed_of, Book, value_at, version_at, Call.Lease, Call.Hash, Call.Read, Reply, Reply.Versioned, Reply.Hashed, Reply.Bytes, Ask, Queue, ask_message, told_message, Tree}
 use Rattle.kept_promise.proofs.Statements.{CallFits}
 use Rattle.kept_promise.proofs.Lists.{some_is, nothing_there}
 use Rattle.kept_promise.proofs.Messages.{Job, job, job_of, lease_body, hash_body, AllAsks, Rising, IsAsked, hash_offset, IsTold, IsHashed, RefusedTold, HashTold, IsLeased, LeaseTold, IsRead, ReadTold, TriedBy, AnswerOf, IsFetch, IsReading, FetchOf, range_from}
@@ -21,27 +21,23 @@ use Rattle.kept_promise.proofs.Fits.{FitLaws}
 use Rattle.kept_promise.proofs.Facts.{FileIs, IsServer, IsTalk, IsKept}
 use Rattle.kept_promise.proofs.Serves.{own_node, contains_at, map_at, parsed}
 use Rattle.kept_promise.proofs.Leading.{IsNoted}
+use Rattle.kept_promise.proofs.Trees.{file_bounded}
+use Rattle.kept_promise.proofs.TreeOpens.{IsPlain, Named, the_root, nobody, a_file, named_in}
 
 -- ---- what a name stands for
 
-pub data Found (files : List (ℕ × File)) (f : ℕ) : Type 0 where
-  is_root : f ≡ 1 → node_of files (handle_bytes f) ≡ Ok root → Found files f
-  is_gone : server.file_at files f ≡ None → node_of files (handle_bytes f) ≡ Err status.Stale → Found files f
-  is_file : (g : File) → server.file_at files f ≡ Some g → node_of files (handle_bytes f) ≡ Ok (file g) → Found files f
+pub data Found (t : Tree) (f : ℕ) : Type 0 where
+  is_root : f ≡ 1 → node_of t (handle_bytes f) ≡ Ok directory → Found t f
+  is_gone : server.file_at t f ≡ None → node_of t (handle_bytes f) ≡ Err status.Stale → Found t f
+  is_file : (g : File) → server.file_at t f ≡ Some g → node_of t (handle_bytes f) ≡ Ok (file g) → Found t f
 
-abbrev named_by : List (ℕ × File) → ℕ → Bool → Result Node Status
-named_by files f b = elim b [ true ↦ Ok root | false ↦ file_node (server.file_at files f) ]
-
-found_in : (files : List (ℕ × File)) (f : ℕ) (o : Option File) → f < 18446744073709551616 → (f == 1) ≡ false → server.file_at files f ≡ o → Found files f
-found_in files f None lt other e = is_gone e (own_node files f lt ∙ ap (named_by files f) other ∙ ap file_node e)
-found_in files f (Some g) lt other e = is_file g e (own_node files f lt ∙ ap (named_by files f) other ∙ ap file_node e)
-
-found_by : (files : List (ℕ × File)) (f : ℕ) (b : Bool) → f < 18446744073709551616 → (f == 1) ≡ b → Found files f
-found_by files f true lt e = is_root (eqb-true f 1 e) (own_node files f lt ∙ ap (named_by files f) e)
-found_by files f false lt e = found_in files f (server.file_at files f) lt e refl
-
-pub looked : (files : List (ℕ × File)) (f : ℕ) → f < 18446744073709551616 → Found files f
-looked files f lt = found_by files f (f == 1) lt refl
+pub looked : (t : Tree) (f : ℕ) → IsPlain t → f < 18446744073709551616 → Found t f
+looked t f plain lt = by (named_in t f plain)
+  where
+    by : Named t f → Found t f
+    by (the_root one e) = is_root one (own_node t f lt ∙ e)
+    by (nobody none apart e) = is_gone none (own_node t f lt ∙ e)
+    by (a_file g at e) = is_file g at (own_node t f lt ∙ e)
 
 pub not_some : IsSome {T = List ℕ} None → ⊥
 not_some e = absurd cc
@@ -147,50 +143,50 @@ tried_now book k qs n x q a us c j (stage.Listing y f) o waits call kept was tal
 tried_now book k qs n x q a us c j _ o waits call kept was talk e is at = tt
 
 -- what the server has of a file then
-pub held_now : (book : Book) (k : Core) (n now : ℕ) (a : Ask) (i f : ℕ) (g : File) → IsNoted book k (Serves n now (message_spell (ask_message a))) → i ≡ f → server.file_at k.server.files f ≡ Some g → IsHeld book.moments i g
-held_now book k n now a i f g noted same there = record { at = record { before = k; event = Serves n now (message_spell (ask_message a)) }; there = noted.there; held = ap (server.file_at k.server.files) same ∙ there }
+pub held_now : (book : Book) (k : Core) (n now : ℕ) (a : Ask) (i f : ℕ) (g : File) → IsNoted book k (Serves n now (message_spell (ask_message a))) → i ≡ f → server.file_at k.server.tree f ≡ Some g → IsHeld book.moments i g
+held_now book k n now a i f g noted same there = record { at = record { before = k; event = Serves n now (message_spell (ask_message a)) }; there = noted.there; held = ap (server.file_at k.server.tree) same ∙ there }
 
 -- the root is there
-no_root : (files : List (ℕ × File)) (f : ℕ) → f < 18446744073709551616 → f ≡ 1 → node_of files (handle_bytes f) ≡ Err status.Stale → ⊥
-no_root files f small one at = root_is (sym (own_node files f small ∙ ap (named_by files f) (eq-eqb f 1 one)) ∙ at)
+no_root : (t : Tree) (f : ℕ) → IsPlain t → f < 18446744073709551616 → f ≡ 1 → node_of t (handle_bytes f) ≡ Err status.Stale → ⊥
+no_root t f plain small one at = root_is (sym (own_node t f small ∙ ap (λ (i : ℕ). node_named t (Some i)) one ∙ plain.root) ∙ at)
   where
-    root_is : (let r : Result Node Status = Ok root in r ≡ Err status.Stale) → ⊥
+    root_is : (let r : Result Node Status = Ok directory in r ≡ Err status.Stale) → ⊥
     root_is e = absurd cc
 
 -- a file that is not in the tree
 gone_told : (book : Book) (k : Core) (qs : List Queue) (n : ℕ) (x : Session) (q : Queue) (a : Ask) (f : ℕ) (us : List Ask) (c : Seat) (j : Job) → IsKept book k qs → numbered k.seats x.owner ≡ Some c → IsTalk book n k.server.waiting x q c → q.ups ≡ a ∷ us → job c ≡ Some j
-    → f < 18446744073709551616 → j.file ≡ f → server.file_at k.server.files f ≡ None → node_of k.server.files (handle_bytes f) ≡ Err status.Stale → RefusedTold (onward book 1 book.ops) (with_taken x a.xid (book.steps + 1)) j a.xid status.Stale
+    → f < 18446744073709551616 → j.file ≡ f → server.file_at k.server.tree f ≡ None → node_of k.server.tree (handle_bytes f) ≡ Err status.Stale → RefusedTold (onward book 1 book.ops) (with_taken x a.xid (book.steps + 1)) j a.xid status.Stale
 gone_told book k qs n x q a f us c j kept was talk e is small same none at =
     let held = subst (FileIs book f) none (kept.server.held f) in
-    inr ((refl, λ one. no_root k.server.files f small (sym same ∙ one) at), ap (content_of book.opening) same ∙ held.0, (version_at book j.file (book.steps + 1), told_now book k qs n x q a us c j None (version_at book j.file (book.steps + 1)) kept was talk e is (ap (λ (i : ℕ). value_at book i (book.steps + 1)) same ∙ held.1) refl))
+    inr ((refl, λ one. no_root k.server.tree f kept.server.plain small (sym same ∙ one) at), ap (content_of book.opening) same ∙ held.0, (version_at book j.file (book.steps + 1), told_now book k qs n x q a us c j None (version_at book j.file (book.steps + 1)) kept was talk e is (ap (λ (i : ℕ). value_at book i (book.steps + 1)) same ∙ held.1) refl))
 
 -- ---- a GETLEASE
 
-abbrev pub lease_reply : List (ℕ × File) → (f : ℕ) → Reply
-lease_reply files f = Versioned (lease_answer (node_of files (handle_bytes f)))
+abbrev pub lease_reply : Tree → (f : ℕ) → Reply
+lease_reply t f = Versioned (lease_answer (node_of t (handle_bytes f)))
 
-pub lease_reply_fits : FitLaws → (book : Book) (s : server.State) (xid f : ℕ) → IsServer book s → xid < 4294967296 → f < 18446744073709551616 → MessageFits (told_message (record { xid = xid; reply = lease_reply s.files f }))
-lease_reply_fits laws book s xid f h x lt = by (looked s.files f lt)
+pub lease_reply_fits : FitLaws → (book : Book) (s : server.State) (xid f : ℕ) → IsServer book s → xid < 4294967296 → f < 18446744073709551616 → MessageFits (told_message (record { xid = xid; reply = lease_reply s.tree f }))
+lease_reply_fits laws book s xid f h x lt = by (looked s.tree f h.plain lt)
   where
-    by : Found s.files f → MessageFits (told_message (record { xid = xid; reply = lease_reply s.files f }))
+    by : Found s.tree f → MessageFits (told_message (record { xid = xid; reply = lease_reply s.tree f }))
     by (is_root one e) = subst (λ (node : Result Node Status). MessageFits (told_message (record { xid = xid; reply = Versioned (lease_answer node) }))) (sym e) (laws.plain xid (Versioned (Failed status.IsDir tt)) x tt)
     by (is_gone none e) = subst (λ (node : Result Node Status). MessageFits (told_message (record { xid = xid; reply = Versioned (lease_answer node) }))) (sym e) (laws.plain xid (Versioned (Failed status.Stale tt)) x tt)
     by (is_file g at e) =
         let b = subst (FileIs book f) at (h.held f) in
-        let v = h.versions f g at in
+        let v = (file_bounded s.tree f g h.bounded at).0 in
         let c = h.changes in
         let id = b.0 in
         let small = b.2 in
         subst (λ (node : Result Node Status). MessageFits (told_message (record { xid = xid; reply = Versioned (lease_answer node) }))) (sym e) (laws.leases xid g x (omega (arith, id, small), omega (arith, v, c), b.6))
 
 pub lease_told : FitLaws → (book : Book) (k : Core) (qs : List Queue) (n now : ℕ) (x : Session) (q : Queue) (xid f : ℕ) (us : List Ask) (c : Seat) → IsKept book k qs → numbered k.seats x.owner ≡ Some c → c.session ≡ Some n → IsTalk book n k.server.waiting x q c → q.ups ≡ record { xid = xid; call = Lease f } ∷ us → CallFits xid (Lease f)
-    → IsNoted book k (Serves n now (message_spell (ask_message (record { xid = xid; call = Lease f })))) → AnswerOf (onward book 1 book.ops) (with_taken x xid (book.steps + 1)) x.closing (job c) xid (lease_reply k.server.files f)
-lease_told laws book k qs n now x q xid f us c kept was here talk e fits noted = λ j is at. by j is at ((subst (AllAsks (IsAsked (job c))) e talk.asked).0 j is at) (looked k.server.files f fits.1)
+    → IsNoted book k (Serves n now (message_spell (ask_message (record { xid = xid; call = Lease f })))) → AnswerOf (onward book 1 book.ops) (with_taken x xid (book.steps + 1)) x.closing (job c) xid (lease_reply k.server.tree f)
+lease_told laws book k qs n now x q xid f us c kept was here talk e fits noted = λ j is at. by j is at ((subst (AllAsks (IsAsked (job c))) e talk.asked).0 j is at) (looked k.server.tree f kept.server.plain fits.1)
   where
     a : Ask
     a = record { xid = xid; call = Lease f }
 
-    by : (j : Job) → job c ≡ Some j → j.stage ≡ stage.Asking xid → j.file ≡ f → Found k.server.files f → LeaseTold (onward book 1 book.ops) (with_taken x xid (book.steps + 1)) j xid (lease_answer (node_of k.server.files (handle_bytes f)))
+    by : (j : Job) → job c ≡ Some j → j.stage ≡ stage.Asking xid → j.file ≡ f → Found k.server.tree f → LeaseTold (onward book 1 book.ops) (with_taken x xid (book.steps + 1)) j xid (lease_answer (node_of k.server.tree (handle_bytes f)))
     by j is asks same (is_root one at) = subst (λ (node : Result Node Status). LeaseTold (onward book 1 book.ops) (with_taken x xid (book.steps + 1)) j xid (lease_answer node)) (sym at) (inl (refl, same ∙ one))
     by j is asks same (is_gone none at) = subst (λ (node : Result Node Status). LeaseTold (onward book 1 book.ops) (with_taken x xid (book.steps + 1)) j xid (lease_answer node)) (sym at) (gone_told book k qs n x q a f us c j kept was talk e is fits.1 same none at)
     by j is asks same (is_file g there at) =
@@ -219,27 +215,27 @@ lease_told laws book k qs n now x q xid f us c kept was here talk e fits noted =
 abbrev pub hash_range : (f offset : ℕ) → HashRange
 hash_range f offset = record { handle = handle_bytes f; offset = offset; count = 4294967295 }
 
-abbrev pub hash_reply : List (ℕ × File) → (f offset : ℕ) → Reply
-hash_reply files f offset = Hashed (hash_answer (node_of files (handle_bytes f)) (hash_range f offset))
+abbrev pub hash_reply : Tree → (f offset : ℕ) → Reply
+hash_reply t f offset = Hashed (hash_answer (node_of t (handle_bytes f)) (hash_range f offset))
 
-pub hash_reply_fits : FitLaws → (book : Book) (s : server.State) (xid f offset : ℕ) → IsServer book s → xid < 4294967296 → f < 18446744073709551616 → MessageFits (told_message (record { xid = xid; reply = hash_reply s.files f offset }))
-hash_reply_fits laws book s xid f offset h x lt = by (looked s.files f lt)
+pub hash_reply_fits : FitLaws → (book : Book) (s : server.State) (xid f offset : ℕ) → IsServer book s → xid < 4294967296 → f < 18446744073709551616 → MessageFits (told_message (record { xid = xid; reply = hash_reply s.tree f offset }))
+hash_reply_fits laws book s xid f offset h x lt = by (looked s.tree f h.plain lt)
   where
-    by : Found s.files f → MessageFits (told_message (record { xid = xid; reply = hash_reply s.files f offset }))
+    by : Found s.tree f → MessageFits (told_message (record { xid = xid; reply = hash_reply s.tree f offset }))
     by (is_root one e) = subst (λ (node : Result Node Status). MessageFits (told_message (record { xid = xid; reply = Hashed (hash_answer node (hash_range f offset)) }))) (sym e) (laws.plain xid (Hashed (Failed status.IsDir tt)) x tt)
     by (is_gone none e) = subst (λ (node : Result Node Status). MessageFits (told_message (record { xid = xid; reply = Hashed (hash_answer node (hash_range f offset)) }))) (sym e) (laws.plain xid (Hashed (Failed status.Stale tt)) x tt)
     by (is_file g at e) =
         let b = subst (FileIs book f) at (h.held f) in
-        let v = h.versions f g at in
+        let v = (file_bounded s.tree f g h.bounded at).0 in
         let c = h.changes in
         let id = b.0 in
         let small = b.2 in
         subst (λ (node : Result Node Status). MessageFits (told_message (record { xid = xid; reply = Hashed (hash_answer node (hash_range f offset)) }))) (sym e) (laws.hashes xid g (handle_bytes f) offset x (omega (arith, id, small), omega (arith, v, c), b.6))
 
 pub hash_told : FitLaws → (book : Book) (k : Core) (qs : List Queue) (n now : ℕ) (x : Session) (q : Queue) (xid f offset : ℕ) (us : List Ask) (c : Seat) → IsKept book k qs → numbered k.seats x.owner ≡ Some c → c.session ≡ Some n → IsTalk book n k.server.waiting x q c → q.ups ≡ record { xid = xid; call = Hash f offset } ∷ us → CallFits xid (Hash f offset)
-    → IsNoted book k (Serves n now (message_spell (ask_message (record { xid = xid; call = Hash f offset })))) → AnswerOf (onward book 1 book.ops) (with_taken x xid (book.steps + 1)) x.closing (job c) xid (hash_reply k.server.files f offset)
+    → IsNoted book k (Serves n now (message_spell (ask_message (record { xid = xid; call = Hash f offset })))) → AnswerOf (onward book 1 book.ops) (with_taken x xid (book.steps + 1)) x.closing (job c) xid (hash_reply k.server.tree f offset)
 hash_told laws book k qs n now x q xid f offset us c kept was here talk e fits noted = λ j o is waits. (
-  by j o is (asks j o is waits) (looked k.server.files f fits.1),
+  by j o is (asks j o is waits) (looked k.server.tree f kept.server.plain fits.1),
   tried_now book k qs n x q (record { xid = xid; call = Hash f offset }) us c j j.stage o waits (calls j o is waits) kept was talk e is refl,
 )
   where
@@ -253,7 +249,7 @@ hash_told laws book k qs n now x q xid f offset us c kept was here talk e fits n
         (subst (λ (y : ℕ). TakesCall (onward book 1 book.ops) z.client (book.steps + 1) xid (hash_body f y)) (sym same.1)
         (takes_now book k qs n now x (record { xid = xid; call = Hash f offset }) c j (hash_body f offset) kept was here is (hash_waits j.stage xid o waits) noted (parsed laws (record { xid = xid; call = Hash f offset }) fits) z at))
 
-    by : (j : Job) (o : ℕ) → job c ≡ Some j → (j.file ≡ f) × (o ≡ offset) → Found k.server.files f → HashTold (onward book 1 book.ops) (with_taken x xid (book.steps + 1)) j xid o (hash_answer (node_of k.server.files (handle_bytes f)) (hash_range f offset))
+    by : (j : Job) (o : ℕ) → job c ≡ Some j → (j.file ≡ f) × (o ≡ offset) → Found k.server.tree f → HashTold (onward book 1 book.ops) (with_taken x xid (book.steps + 1)) j xid o (hash_answer (node_of k.server.tree (handle_bytes f)) (hash_range f offset))
     by j o is same (is_root one at) = subst (λ (node : Result Node Status). HashTold (onward book 1 book.ops) (with_taken x xid (book.steps + 1)) j xid o (hash_answer node (hash_range f offset))) (sym at) (inl (refl, same.0 ∙ one))
     by j o is same (is_gone none at) = subst (λ (node : Result Node Status). HashTold (onward book 1 book.ops) (with_taken x xid (book.steps + 1)) j xid o (hash_answer node (hash_range f offset))) (sym at) (gone_told book k qs n x q (record { xid = xid; call = Hash f offset }) f us c j kept was talk e is fits.1 same.0 none at)
     by j o is same (is_file g there at) =
@@ -276,29 +272,29 @@ hash_told laws book k qs n now x q xid f offset us c kept was here talk e fits n
 abbrev pub read_range : (f : ℕ) → Chunk → Range
 read_range f d = record { handle = handle_bytes f; offset = d.start; count = d.len }
 
-abbrev pub read_reply : List (ℕ × File) → (f : ℕ) → Chunk → Reply
-read_reply files f d = Bytes (read_answer (node_of files (handle_bytes f)) (read_range f d))
+abbrev pub read_reply : Tree → (f : ℕ) → Chunk → Reply
+read_reply t f d = Bytes (read_answer (node_of t (handle_bytes f)) (read_range f d))
 
-pub read_reply_fits : FitLaws → (book : Book) (s : server.State) (xid f : ℕ) (d : Chunk) → IsServer book s → xid < 4294967296 → f < 18446744073709551616 → MessageFits (told_message (record { xid = xid; reply = read_reply s.files f d }))
-read_reply_fits laws book s xid f d h x lt = by (looked s.files f lt)
+pub read_reply_fits : FitLaws → (book : Book) (s : server.State) (xid f : ℕ) (d : Chunk) → IsServer book s → xid < 4294967296 → f < 18446744073709551616 → MessageFits (told_message (record { xid = xid; reply = read_reply s.tree f d }))
+read_reply_fits laws book s xid f d h x lt = by (looked s.tree f h.plain lt)
   where
-    by : Found s.files f → MessageFits (told_message (record { xid = xid; reply = read_reply s.files f d }))
+    by : Found s.tree f → MessageFits (told_message (record { xid = xid; reply = read_reply s.tree f d }))
     by (is_root one e) = subst (λ (node : Result Node Status). MessageFits (told_message (record { xid = xid; reply = Bytes (read_answer node (read_range f d)) }))) (sym e) (laws.plain xid (Bytes (Failed status.Inval None)) x tt)
     by (is_gone none e) = subst (λ (node : Result Node Status). MessageFits (told_message (record { xid = xid; reply = Bytes (read_answer node (read_range f d)) }))) (sym e) (laws.plain xid (Bytes (Failed status.Stale None)) x tt)
     by (is_file g at e) =
         let b = subst (FileIs book f) at (h.held f) in
-        let v = h.versions f g at in
+        let v = (file_bounded s.tree f g h.bounded at).0 in
         let c = h.changes in
         let id = b.0 in
         let small = b.2 in
         subst (λ (node : Result Node Status). MessageFits (told_message (record { xid = xid; reply = Bytes (read_answer node (read_range f d)) }))) (sym e) (laws.reads xid g (handle_bytes f) d.start d.len x (omega (arith, id, small), omega (arith, v, c), b.6))
 
 pub read_told : (book : Book) (k : Core) (qs : List Queue) (n now : ℕ) (x : Session) (q : Queue) (xid f : ℕ) (d : Chunk) (us : List Ask) (c : Seat) → IsKept book k qs → numbered k.seats x.owner ≡ Some c → IsTalk book n k.server.waiting x q c → q.ups ≡ record { xid = xid; call = Read f d } ∷ us → f < 18446744073709551616 → IsNoted book k (Serves n now (message_spell (ask_message (record { xid = xid; call = Read f d }))))
-    → AnswerOf (onward book 1 book.ops) (with_taken x xid (book.steps + 1)) x.closing (job c) xid (read_reply k.server.files f d)
-read_told book k qs n now x q xid f d us c kept was talk e small noted = λ j g w is at waits. by j g w is at ((subst (AllAsks (IsAsked (job c))) e talk.asked).0 j w is waits) (subst (FetchOf book x.taken j) at (talk.fetch j is)) (looked k.server.files f small)
+    → AnswerOf (onward book 1 book.ops) (with_taken x xid (book.steps + 1)) x.closing (job c) xid (read_reply k.server.tree f d)
+read_told book k qs n now x q xid f d us c kept was talk e small noted = λ j g w is at waits. by j g w is at ((subst (AllAsks (IsAsked (job c))) e talk.asked).0 j w is waits) (subst (FetchOf book x.taken j) at (talk.fetch j is)) (looked k.server.tree f kept.server.plain small)
   where
-    by : (j : Job) (g : Fetch) (w : Chunk) → job c ≡ Some j → j.stage ≡ stage.Reading g → (j.file ≡ f) × (w ≡ d) → ((h : IsFetch book x.taken j g) × IsReading book h.file.content g) → Found k.server.files f → ReadTold (onward book 1 book.ops) (with_taken x xid (book.steps + 1)) j g.first w (read_answer (node_of k.server.files (handle_bytes f)) (read_range f d))
-    by j g w is at same h (is_root one e2) = absurd (by_held (server.file_at k.server.files f) (kept.server.held f))
+    by : (j : Job) (g : Fetch) (w : Chunk) → job c ≡ Some j → j.stage ≡ stage.Reading g → (j.file ≡ f) × (w ≡ d) → ((h : IsFetch book x.taken j g) × IsReading book h.file.content g) → Found k.server.tree f → ReadTold (onward book 1 book.ops) (with_taken x xid (book.steps + 1)) j g.first w (read_answer (node_of k.server.tree (handle_bytes f)) (read_range f d))
+    by j g w is at same h (is_root one e2) = absurd (by_held (server.file_at k.server.tree f) (kept.server.held f))
       where
         by_held : (o : Option File) → FileIs book f o → ⊥
         by_held None b = not_some (subst (λ (v : Value). IsSome v) b.0 (subst (λ (i : ℕ). IsSome (content_of book.opening i)) same.0 h.0.known))

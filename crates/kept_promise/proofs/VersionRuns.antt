@@ -7,9 +7,9 @@ use Rattle.server_core.specs.State as server
 use Rattle.server_core.specs.declared.event.Event.TheVariants as event
 use Rattle.server_core.specs.declared.event.Told.{Told as Announced}
 use Rattle.server_core.specs.declared.event.Told.TheVariants as announced
-use Rattle.open_close.specs.State as client
-use Rattle.open_close.specs.declared.step.Outcome.TheVariants as outcome
-use Rattle.open_close.specs.declared.task.Stage.TheVariants as stage
+use Rattle.client_state.specs.State as client
+use Rattle.client_state.specs.declared.step.Outcome.TheVariants as outcome
+use Rattle.client_state.specs.declared.task.Stage.TheVariants as stage
 use Rattle.register_model.specs.declared.op.Outcome.{Outcome as History}
 use Rattle.register_model.specs.declared.op.Outcome.TheVariants as told
 use Rattle.register_model.specs.declared.op.Word.TheVariants as words
@@ -17,7 +17,7 @@ use Rattle.trace_replay.specs.Ops.{taken_on}
 use Rattle.trace_replay.specs.Core.{taken_of as session_taken}
 use Rattle.trace_replay.specs.Trail.{taken_of}
 use Rattle.trace_replay.specs.Faithful.{Carries, OpensVersion}
-use Rattle.kept_promise.proofs.Common.{nat_tests, Contains-append_left, Contains-append_right, Contains-append_cases, Contains-push, ◌==◌, ◌&&◌, ◌||◌, nat_lt, nat_le, slice_get, slice_set, cond, find, Contains, option_map_or, Command, Done, Hashes, parse_of, WireFault, Message, makes_change, Change, File, server_step, has_call, pending, command_step, got_step, ended_by, joined, ClientStep, Ended, Outcome, Stage, Task, changes, changed_before, Op, Opening, TakenCall, word_of, told_of, has_point, point_if, op_after, begun, taken_at, place_after, place_with, pointed, pointed_at, Core, Seat, Session, Event, Event.Joins, Event.Does, Event.Serves, Event.Hears, Event.Settles, Event.Cuts, Event.Hangs, CoreStep, numbered, with_numbered, new_session, taken_with, commanded_session, commanded_sessions, cut_session, server_waiting, serves_if, serves, session_of, ops_after, ops_with, acted, does, joins_as, joins, settled_ops, settled_by, settles, cuts_if, cuts, hangs_if, hangs, happens, Moment, Said, all_said, owner_in, client_of, wanted_if, wanted_by, taken_by, Book, version_at, until, TellsVersion, Reply, Reply.Versioned, Reply.Hashed, Reply.Bytes, Told, Queue, reply_body, told_message}
+use Rattle.kept_promise.proofs.Common.{nat_tests, Contains-append_left, Contains-append_right, Contains-append_cases, Contains-push, ◌==◌, ◌&&◌, ◌||◌, nat_lt, nat_le, slice_get, slice_set, cond, find, Contains, option_map_or, Command, Done, Hashes, parse_of, WireFault, Message, makes_change, Change, File, server_step, has_call, pending, command_step, got_step, ended_by, joined, ClientStep, Ended, Outcome, Stage, Task, changes, changed_before, Op, Opening, TakenCall, word_of, told_of, has_point, point_if, op_after, begun, taken_at, place_after, place_with, pointed, pointed_at, Core, Seat, Session, Event, Event.Joins, Event.Does, Event.Serves, Event.Hears, Event.Settles, Event.Cuts, Event.Hangs, CoreStep, numbered, with_numbered, new_session, taken_with, commanded_session, commanded_sessions, cut_session, server_waiting, serves_if, serves, session_of, ops_after, ops_with, acted, does, joins_as, joins, settled_ops, settled_by, settles, cuts_if, cuts, hangs_if, hangs, happens, Moment, Said, all_said, owner_in, client_of, wanted_if, wanted_by, taken_by, Book, version_at, until, TellsVersion, Reply, Reply.Versioned, Reply.Hashed, Reply.Bytes, Told, Queue, reply_body, told_message, ServerStep}
 use Rattle.kept_promise.proofs.Lists.{some_is, nothing_there, at_end, same_or_not, of_replaced, of_appended, kept_appended, at_replaced, set_else, false_and_true}
 use Rattle.kept_promise.proofs.Marks.{unpointed}
 use Rattle.kept_promise.proofs.Messages.{Job, job, job_of, AllTolds, AllUnder, hash_offset, IsTold, IsHashed, IsLeased, AnswerOf, IsAnswer}
@@ -37,6 +37,8 @@ use Rattle.kept_promise.proofs.Shapes.{TaskGood, OutcomeGood, EndGood, Good, Too
 use Rattle.kept_promise.proofs.Versions.{of_numbered, version_in, count_replaced, count_appended, CameTo, Since, Attempt, Untold, takens, JobVersion, HaveVersions, Alike, alike_same, Extends, extends_same, came_alike, since_alike, job_alike, JobCame, versions_onward}
 use Rattle.kept_promise.proofs.Taking.{versions_after}
 use Rattle.kept_promise.proofs.CommandOps.{made_by, made_later, made_pointless, last_right, old_jobs}
+use Rattle.kept_promise.proofs.Messages.{content_wanted}
+use Rattle.kept_promise.proofs.Making.{made_change, target_there, made_is}
 
 abbrev pub VersionsAt : (past : List Moment) → Core → Type 0
 VersionsAt past k = HaveVersions (taken_of past) k.sessions k.seats k.ops
@@ -164,9 +166,8 @@ Settled k ops = (ops ≡ k.ops) ⊎ ((place : ℕ) × (o : Op) × (slice_get k.o
 pub settled_are : (book : Book) (k : Core) (qs : List Queue) (now : ℕ) → IsKept book k qs → Settled k (settles k now).core.ops
 settled_are book k qs now kept = by k.server.waiting refl
   where
-    made : (cs : List Change) (c : Change) → k.server.waiting ≡ c ∷ cs → (f : Option File) → Settled k (settled_by k (makes_change (at_reading (record k.server { waiting = cs }) now) c f).1.entries (makes_change (at_reading (record k.server { waiting = cs }) now) c f).1.told)
-    made cs c e None = inl refl
-    made cs c e (Some f) =
+    made : (cs : List Change) (c : Change) → k.server.waiting ≡ c ∷ cs → (f : File) → (let r = made_change (at_reading (record k.server { waiting = cs }) now) c (content_wanted c.what) f in Settled k (settled_by k r.1.entries r.1.told))
+    made cs c e f =
         let first : slice_get k.server.waiting 0 ≡ Some c = ap (λ (l : List Change). slice_get l 0) e in
         let home = kept.home 0 c first in
         let q = also_numbered k.sessions qs c.session home.0 kept.made.1 home.1 in
@@ -184,7 +185,9 @@ settled_are book k qs now kept = by k.server.waiting refl
 
     by : (w : List Change) → k.server.waiting ≡ w → Settled k (settled_by k (Rattle.server_core.specs.Closing.settles k.server now w).1.entries (Rattle.server_core.specs.Closing.settles k.server now w).1.told)
     by [] e = inl refl
-    by (c ∷ cs) e = made cs c e (server.file_at k.server.files c.file)
+    by (c ∷ cs) e =
+        let f = target_there book k.server c cs kept.server e in
+        subst (λ (r : server.State × ServerStep). Settled k (settled_by k r.1.entries r.1.told)) (sym (made_is book k.server now c cs f.0 kept.server e f.1)) (made cs c e f.0)
 
 -- a close has ended as no open
 pub close_not_opened : (book : Book) (o : Op) (len : ℕ) (digest : List ℕ) → IsRight book o → o.word ≡ words.Close → o.outcome ≡ told.Opened len digest → ⊥
@@ -638,7 +641,7 @@ Versions all past opening k qs = CountedAt past k × VersionsAt past k
 
 pub carried_versions : FitLaws → Carried Versions
 carried_versions laws = record {
-  first = λ all opening files changes count kept. (carried_counts.first all opening files changes count kept, record { jobs = λ i seat j o here is at. nothing_there o at; opened = λ p len q digest o at e point. nothing_there o at });
+  first = λ all opening tree count kept. (carried_counts.first all opening tree count kept, record { jobs = λ i seat j o here is at. nothing_there o at; opened = λ p len q digest o at e point. nothing_there o at });
   steps = λ all past rest opening k qs e mid after s h. (carried_counts.steps all past rest opening k qs e mid after s h.0, subst (λ z. HaveVersions z (happens k e).core.sessions (happens k e).core.seats (happens k e).core.ops) (taken_more past (moment k e)) (versions_event laws all past rest opening k qs e mid after s h.0 h.1));
   adjusts = λ all past opening k qs index seats same h. (
     h.0,

@@ -17,8 +17,8 @@ use Rattle.wire.specs.declared.message.Message.{Message}
 use Rattle.wire.specs.declared.message.Message.TheVariants as message
 use Rattle.wire.specs.declared.message.Program.{Program}
 use Rattle.wire.specs.declared.message.Program.TheVariants as program
-use Rattle.open_close.specs.Opening.{lease_call, hash_call, read_call}
-use Rattle.open_close.specs.Closing.{make_call, cond_call, commit_call}
+use Rattle.file_open.specs.Opening.{lease_call, hash_call, read_call}
+use Rattle.file_close.specs.Closing.{make_call, cond_call, commit_call}
 use Rattle.trace_replay.specs.World.{Wire, bytes_of}
 
 -- ---- calls and answers

@@ -4,7 +4,7 @@ use Rattle.rpc_record.specs.Records.{Unread, nothing_read}
 use Rattle.wire.specs.Message.{MessageFits}
 use Rattle.wire.specs.Parse.{IsExpected}
 use Rattle.wire.specs.declared.message.Message.{Message}
-use Rattle.open_close.specs.State.{waiting_of}
+use Rattle.client_state.specs.State.{waiting_of}
 use Rattle.open_close.specs.Step.{got_step}
 use Rattle.trace_replay.specs.Core.{Core, Seat, Session, CoreStep, numbered, with_numbered, server_waiting, server_got, acted}
 use Rattle.trace_replay.specs.World.{World, Wire, bytes_of, routed}

@@ -1,0 +1,300 @@
+-- The tree that a run opens with, in which the root is the only directory, and what its ids name.
+use Rattle.std.proofs.Common.{◌≡◌, ℕ, ◌+◌, ◌<◌, ◌≤◌, List, [], ◌∷◌, length, map, Option, Some, None, Result, Ok, Err, Bool, true, false, ◌==◌, refl, sym, ap, ◌∙◌, subst, arith, if◌then◌else◌}
+use Rattle.std.specs.List.{AllByRecursion}
+use Rattle.std.specs.Option.{option_map}
+use Rattle.std.proofs.lemmas.Bool.Decides.{nat_tests}
+use Rattle.xdr_codec.specs.declared.status.Status.{Status}
+use Rattle.xdr_codec.specs.declared.status.Status.TheVariants as status
+use Rattle.tree_nodes.specs.declared.node.Node.{Node}
+use Rattle.tree_nodes.specs.declared.node.Body.{Body}
+use Rattle.tree_nodes.specs.declared.node.Body.TheVariants.{Directory, File as Plain}
+use Rattle.tree_nodes.specs.Nodes.{with_id, with_node}
+use Rattle.tree_nodes.proofs.Lists.{with_id_with, with_id_changed}
+use Rattle.file_tree.specs.Tree.{Tree, is_directory, content_of, contents_size}
+use Rattle.file_tree.specs.Step.{file_most, tree_most, replaced}
+use Rattle.file_tree.specs.Opening.{can_open, counted_at, with_change, with_next, opened, opens}
+use Rattle.file_tree.specs.View.{IsNodeBounded, AreIdsApart}
+use Rattle.file_tree.proofs.Limits.{all_map, all_with, size_with}
+use Rattle.server_core.specs.Answers.{directory, file, node_with, node_found, node_named, Node as ServerNode}
+use Rattle.server_core.specs.State.{File, file_of_body, file_of_node, file_at}
+use Rattle.kept_promise.proofs.Trees.{IsBounded, IsGiven, given, below_next, next_free, given_with, with_files, refill, replaced_own, replaced_other}
+
+-- ---- the opening tree
+
+counted_id : (v : ℕ) (n : Node) → (counted_at v n).id ≡ n.id
+counted_id v n = by (is_directory n.body)
+  where
+    by : (b : Bool) → (if b then record n { version = v } else n).id ≡ n.id
+    by true = refl
+    by false = refl
+
+counted_body : (v : ℕ) (n : Node) → (counted_at v n).body ≡ n.body
+counted_body v n = by (is_directory n.body)
+  where
+    by : (b : Bool) → (if b then record n { version = v } else n).body ≡ n.body
+    by true = refl
+    by false = refl
+
+counted_file : (v : ℕ) (n : Node) → file_of_node (Some (counted_at v n)) ≡ file_of_node (Some n)
+counted_file v n = by n.body refl
+  where
+    by : (b : Body) → n.body ≡ b → file_of_node (Some (counted_at v n)) ≡ file_of_node (Some n)
+    by Directory e = ap (file_of_body (counted_at v n)) (counted_body v n ∙ e) ∙ sym (ap (file_of_body n) e)
+    by (Plain c) e = ap (λ (z : Body). file_of_node (Some (if is_directory z then record n { version = v } else n))) e
+
+counted_found : (v : ℕ) (ns : List Node) (id : ℕ) → with_id (map (counted_at v) ns) id ≡ option_map (counted_at v) (with_id ns id)
+counted_found v [] id = refl
+counted_found v (n ∷ ns) id = ap (λ (i : ℕ). if i == id then Some (counted_at v n) else with_id (map (counted_at v) ns) id) (counted_id v n) ∙ by (n.id == id) (counted_found v ns id)
+  where
+    by : (b : Bool) → with_id (map (counted_at v) ns) id ≡ option_map (counted_at v) (with_id ns id) → (if b then Some (counted_at v n) else with_id (map (counted_at v) ns) id) ≡ option_map (counted_at v) (if b then Some n else with_id ns id)
+    by true later = refl
+    by false later = later
+
+counted_size : (v : ℕ) (ns : List Node) → contents_size (map (counted_at v) ns) ≡ contents_size ns
+counted_size v [] = refl
+counted_size v (n ∷ ns) = let a : length (content_of (counted_at v n).body) ≡ length (content_of n.body) = ap (λ (z : Body). length (content_of z)) (counted_body v n) in let b = counted_size v ns in omega (arith, a, b)
+
+counted_apart : (v : ℕ) (ns : List Node) → AreIdsApart ns → AreIdsApart (map (counted_at v) ns)
+counted_apart v [] h = tt
+counted_apart v (n ∷ ns) h = (by ns h.0, counted_apart v ns h.1)
+  where
+    by : (ms : List Node) → AllByRecursion (λ (m : Node). (n.id == m.id) ≡ false) ms → AllByRecursion (λ (m : Node). ((counted_at v n).id == m.id) ≡ false) (map (counted_at v) ms)
+    by [] all = tt
+    by (m ∷ ms) all = (ap (λ (i : ℕ). i == (counted_at v m).id) (counted_id v n) ∙ ap (λ (i : ℕ). n.id == i) (counted_id v m) ∙ all.0, by ms all.1)
+
+counted_all : (P Q : Node → Type 0) (v : ℕ) → ((n : Node) → P n → Q (counted_at v n)) → (ns : List Node) → AllByRecursion P ns → AllByRecursion Q (map (counted_at v) ns)
+counted_all P Q v f [] all = tt
+counted_all P Q v f (n ∷ ns) all = (f n all.0, counted_all P Q v f ns all.1)
+
+-- where there is a file, there was a change: no file is another for that
+record IsCounted (t u : Tree) : Type 0 where
+  files : (f : ℕ) → file_at u f ≡ file_at t f
+  gone : (f : ℕ) → with_id t.nodes f ≡ None → with_id u.nodes f ≡ None
+  body : (f : ℕ) (n : Node) → with_id t.nodes f ≡ Some n → (m : Node) × (with_id u.nodes f ≡ Some m) × (m.body ≡ n.body)
+  bounded : IsBounded t → IsBounded u
+  given : IsGiven t → IsGiven u
+  next : u.next ≡ t.next
+  size : contents_size u.nodes ≡ contents_size t.nodes
+  positive : 1 ≤ u.changes
+
+counted_tree : (t : Tree) → IsCounted t (with_change t)
+counted_tree t = by (t.changes == 0) refl
+  where
+    files_of : (f : ℕ) (o : Option Node) → file_of_node (option_map (counted_at 1) o) ≡ file_of_node o
+    files_of f None = refl
+    files_of f (Some n) = counted_file 1 n
+
+    version : (n : Node) → n.version ≤ 0 → (b : Bool) → (if b then record n { version = 1 } else n).version ≤ 1
+    version n le true = omega arith
+    version n le false = omega (arith, le)
+
+    by : (b : Bool) → (t.changes == 0) ≡ b → IsCounted t (if b then record { nodes = map (counted_at 1) t.nodes; next = t.next; changes = 1 } else t)
+    by false e = record {
+      files = λ f. refl;
+      gone = λ f z. z;
+      body = λ f n z. (n, z, refl);
+      bounded = λ h. h;
+      given = λ h. h;
+      next = refl;
+      size = refl;
+      positive = grind (arith, nat_tests, e);
+    }
+    by true e =
+        let none : t.changes ≡ 0 = grind (arith, nat_tests, e) in
+        record {
+          files = λ f. ap file_of_node (counted_found 1 t.nodes f) ∙ files_of f (with_id t.nodes f);
+          gone = λ f z. counted_found 1 t.nodes f ∙ ap (option_map (counted_at 1)) z;
+          body = λ f n z. (counted_at 1 n, counted_found 1 t.nodes f ∙ ap (option_map (counted_at 1)) z, counted_body 1 n);
+          bounded = λ h. record {
+            count = omega arith;
+            next = (let a = h.next in omega (arith, a, none));
+            each = counted_all (IsNodeBounded t.next t.changes) (IsNodeBounded t.next 1) 1 (λ n b. record { id = subst (λ (i : ℕ). i < t.next) (sym (counted_id 1 n)) b.id; version = version n (let a = b.version in omega (arith, a, none)) (is_directory n.body); content = subst (λ (z : Body). length (content_of z) ≤ file_most) (sym (counted_body 1 n)) b.content }) t.nodes h.each;
+            apart = counted_apart 1 t.nodes h.apart;
+            size = subst (λ (z : ℕ). z ≤ tree_most) (sym (counted_size 1 t.nodes)) h.size;
+          };
+          given = λ h. record { below = counted_all (λ (n : Node). n.id < t.next) (λ (n : Node). n.id < t.next) 1 (λ n lt. subst (λ (i : ℕ). i < t.next) (sym (counted_id 1 n)) lt) t.nodes h.below; apart = counted_apart 1 t.nodes h.apart };
+          next = refl;
+          size = counted_size 1 t.nodes;
+          positive = omega arith;
+        }
+
+abbrev pub opening_node : Tree → ℕ → List ℕ → List ℕ → Node
+opening_node t dir name content = record { id = t.next; parent = dir; name = name; version = 1; body = Plain content }
+
+abbrev pub opening_file : ℕ → List ℕ → File
+opening_file id content = record { id = id; version = 1; content = content }
+
+-- only the root is a directory
+pub record IsPlain (t : Tree) : Type 0 where
+  pub root : node_found (with_id t.nodes 1) ≡ Ok directory
+  pub only : (f : ℕ) → (f ≡ 1 → ⊥) → file_at t f ≡ None → with_id t.nodes f ≡ None
+
+-- the tree with a file more
+pub record IsOpened (t u : Tree) (content : List ℕ) : Type 0 where
+  pub next : u.next ≡ t.next + 1
+  pub own : file_at u t.next ≡ Some (opening_file t.next content)
+  pub others : (f : ℕ) → (f ≡ t.next → ⊥) → file_at u f ≡ file_at t f
+  pub size : contents_size u.nodes ≡ contents_size t.nodes + length content
+  pub given : IsGiven u
+  pub plain : IsPlain t → IsPlain u
+  pub bounded : IsBounded t → t.next < 9223372036854775808 → length content ≤ file_most → contents_size t.nodes + length content ≤ tree_most → IsBounded u
+
+root_there : (t : Tree) → IsPlain t → (n : Node) × (with_id t.nodes 1 ≡ Some n)
+root_there t p = by (with_id t.nodes 1) refl p.root
+  where
+    by : (o : Option Node) → with_id t.nodes 1 ≡ o → node_found o ≡ Ok directory → (n : Node) × (with_id t.nodes 1 ≡ Some n)
+    by None e is = absurd cc
+    by (Some n) e is = (n, e)
+
+opened_tree : (t : Tree) (dir : ℕ) (name content : List ℕ) → IsGiven t → IsOpened t (opened t dir name (Plain content)) content
+opened_tree t dir name content h = record {
+  next = ap (λ (i : ℕ). i + 1) c.next;
+  own = found t.next ∙ ap (λ (b : Bool). if b then file_of_node (Some n) else file_at u t.next) (self t.next c.next) ∙ ap (λ (i : ℕ). Some (opening_file i content)) c.next;
+  others = λ f apart. found f ∙ ap (λ (b : Bool). if b then file_of_node (Some n) else file_at u f) (other f apart) ∙ c.files f;
+  size = let a = size_with u.nodes n in let b = c.size in omega (arith, a, b);
+  given = record { below = g.0; apart = g.1 };
+  plain = plain;
+  bounded = bounded;
+}
+  where
+    u : Tree
+    u = with_change t
+
+    c : IsCounted t u
+    c = counted_tree t
+
+    n : Node
+    n = opening_node u dir name content
+
+    free : with_id u.nodes u.next ≡ None
+    free = next_free u (c.given h)
+
+    g : AllByRecursion (λ (m : Node). m.id < u.next + 1) (with_node u.nodes n) × AreIdsApart (with_node u.nodes n)
+    g = given_with u.nodes u.next n refl (c.given h).below (c.given h).apart
+
+    self : (i : ℕ) → (with_change t).next ≡ i → ((with_change t).next == i) ≡ true
+    self i e = grind (arith, nat_tests, e)
+
+    found : (f : ℕ) → file_of_node (with_id (with_node u.nodes n) f) ≡ (if u.next == f then file_of_node (Some n) else file_at u f)
+    found f = with_files u.nodes n f free
+
+    other : (f : ℕ) → (f ≡ t.next → ⊥) → (u.next == f) ≡ false
+    other f apart = by (u.next == f) refl
+      where
+        by : (b : Bool) → (u.next == f) ≡ b → b ≡ false
+        by true e = absurd (apart (let same : u.next ≡ f = grind (arith, nat_tests, e) in sym same ∙ c.next))
+        by false e = refl
+
+    place : (f : ℕ) → with_id (with_node u.nodes n) f ≡ (if u.next == f then Some n else with_id u.nodes f)
+    place f = with_id_with u.nodes n f free
+
+    plain : IsPlain t → IsPlain (with_next u dir name 1 (Plain content))
+    plain p =
+        let r = root_there t p in
+        let q = c.body 1 r.0 r.1 in
+        let lt = below_next t 1 r.0 h r.1 in
+        let s : node_found (Some r.0) ≡ Ok directory = ap node_found (sym r.1) ∙ p.root in
+        record {
+          root = ap node_found (place 1 ∙ ap (λ (b : Bool). if b then Some n else with_id u.nodes 1) (other 1 (λ e. omega (arith, e, lt))) ∙ q.1) ∙ directory_of_body r.0 q.0 r.0.body q.2 refl s;
+          only = λ f apart none. place f ∙ only p f apart (u.next == f) refl (sym (found f) ∙ none);
+        }
+      where
+        directory_of_body : (a b : Node) (z : Body) → b.body ≡ a.body → a.body ≡ z → node_found (Some a) ≡ Ok directory → node_found (Some b) ≡ Ok directory
+        directory_of_body a b Directory e f is = ap (λ (z : Body). let r : Result ServerNode Status = Ok (node_with b z) in r) (e ∙ f)
+        directory_of_body a b (Plain x) e f is = absurd (no (sym (ap (λ (z : Body). let r : Result ServerNode Status = Ok (node_with a z) in r) f) ∙ is))
+          where
+            no : (let r : Result ServerNode Status = Ok (node_with a (Plain x)) in r ≡ Ok directory) → ⊥
+            no e = absurd cc
+
+        only : IsPlain t → (f : ℕ) → (f ≡ 1 → ⊥) → (b : Bool) → (u.next == f) ≡ b → (if b then file_of_node (Some n) else file_at u f) ≡ None → (if b then Some n else with_id u.nodes f) ≡ None
+        only p f apart true e none = absurd (no none)
+          where
+            no : Some (opening_file u.next content) ≡ None → ⊥
+            no e = absurd cc
+        only p f apart false e none = c.gone f (p.only f apart (sym (c.files f) ∙ none))
+
+    bounded : IsBounded t → t.next < 9223372036854775808 → length content ≤ file_most → contents_size t.nodes + length content ≤ tree_most → IsBounded (with_next u dir name 1 (Plain content))
+    bounded b few short small =
+        let l = c.bounded b in
+        let positive = c.positive in
+        record {
+          count = l.count;
+          next = (let e = c.next in omega (arith, few, e));
+          each = all_with (IsNodeBounded (u.next + 1) u.changes) u.nodes n (all_map (IsNodeBounded u.next u.changes) (IsNodeBounded (u.next + 1) u.changes) (λ m d. record { id = (let a = d.id in omega (arith, a)); version = d.version; content = d.content }) u.nodes l.each) (record { id = omega arith; version = positive; content = short });
+          apart = g.1;
+          size = let e = size_with u.nodes n in let d = c.size in omega (arith, e, d, small);
+        }
+
+pub opens_file : (t : Tree) (dir : ℕ) (name content : List ℕ) → IsGiven t → can_open t dir name ≡ true → IsOpened t (opens t dir name (Plain content)) content
+opens_file t dir name content h can = subst (λ (b : Bool). IsOpened t (if b then opened t dir name (Plain content) else t) content) (sym can) (opened_tree t dir name content h)
+
+-- ---- what a handle of this file system names
+
+pub data Named (t : Tree) (f : ℕ) : Type 0 where
+  the_root : f ≡ 1 → node_named t (Some f) ≡ Ok directory → Named t f
+  nobody : file_at t f ≡ None → (f ≡ 1 → ⊥) → node_named t (Some f) ≡ Err status.Stale → Named t f
+  a_file : (g : File) → file_at t f ≡ Some g → node_named t (Some f) ≡ Ok (file g) → Named t f
+
+pub named_in : (t : Tree) (f : ℕ) → IsPlain t → Named t f
+named_in t f p = by (f == 1) refl (with_id t.nodes f) refl
+  where
+    file_by : (n : Node) (b : Body) → n.body ≡ b → with_id t.nodes f ≡ Some n → (f ≡ 1 → ⊥) → Named t f
+    file_by n Directory e at apart = absurd (no (sym at ∙ p.only f apart (ap file_of_node at ∙ ap (file_of_body n) e)))
+      where
+        no : Some n ≡ None → ⊥
+        no e = absurd cc
+    file_by n (Plain x) e at apart = a_file (record { id = n.id; version = n.version; content = x }) (ap file_of_node at ∙ ap (file_of_body n) e) (ap node_found at ∙ ap (λ (z : Body). let r : Result ServerNode Status = Ok (node_with n z) in r) e)
+
+    by : (b : Bool) → (f == 1) ≡ b → (o : Option Node) → with_id t.nodes f ≡ o → Named t f
+    by true e o at = let one : f ≡ 1 = grind (arith, nat_tests, e) in the_root one (ap (λ (i : ℕ). node_found (with_id t.nodes i)) one ∙ p.root)
+    by false e None at = nobody (ap file_of_node at) (λ one. differ one e) (ap node_found at)
+      where
+        differ : f ≡ 1 → (f == 1) ≡ false → ⊥
+        differ one e = let z : (f == 1) ≡ true = grind (arith, nat_tests, one) in absurd cc
+    by false e (Some n) at = file_by n n.body refl at (λ one. differ one e)
+      where
+        differ : f ≡ 1 → (f == 1) ≡ false → ⊥
+        differ one e = let z : (f == 1) ≡ true = grind (arith, nat_tests, one) in absurd cc
+
+pub replaced_plain : (t : Tree) (id version : ℕ) (content : List ℕ) (g : File) → file_at t id ≡ Some g → IsPlain t → IsPlain (replaced t id version content)
+replaced_plain t id version content g at p = record {
+  root = ap node_found (with_id_changed (refill version content) (λ m. refl) t.nodes id 1 ∙ ap (λ (b : Bool). if b then option_map (refill version content) (with_id t.nodes 1) else with_id t.nodes 1) not_root) ∙ p.root;
+  only = λ f apart none. with_id_changed (refill version content) (λ m. refl) t.nodes id f ∙ by f apart (id == f) refl none;
+}
+  where
+    no_root : id ≡ 1 → ⊥
+    no_root one = none_of (with_id t.nodes 1) p.root (ap (λ (i : ℕ). file_at t i) (sym one) ∙ at)
+      where
+        body_of : (n : Node) (b : Body) → n.body ≡ b → node_found (Some n) ≡ Ok directory → file_of_node (Some n) ≡ Some g → ⊥
+        body_of n Directory e is some = no (sym (ap (file_of_body n) e) ∙ some)
+          where
+            no : None ≡ Some g → ⊥
+            no e = absurd cc
+        body_of n (Plain x) e is some = no (sym (ap (λ (z : Body). let r : Result ServerNode Status = Ok (node_with n z) in r) e) ∙ is)
+          where
+            no : (let r : Result ServerNode Status = Ok (node_with n (Plain x)) in r ≡ Ok directory) → ⊥
+            no e = absurd cc
+
+        none_of : (o : Option Node) → node_found o ≡ Ok directory → file_of_node o ≡ Some g → ⊥
+        none_of None is some = absurd cc
+        none_of (Some n) is some = body_of n n.body refl is some
+
+    not_root : (id == 1) ≡ false
+    not_root = by_root (id == 1) refl
+      where
+        by_root : (b : Bool) → (id == 1) ≡ b → b ≡ false
+        by_root true e = absurd (no_root (grind (arith, nat_tests, e)))
+        by_root false e = refl
+
+    by : (f : ℕ) → (f ≡ 1 → ⊥) → (b : Bool) → (id == f) ≡ b → file_at (replaced t id version content) f ≡ None → (if b then option_map (refill version content) (with_id t.nodes f) else with_id t.nodes f) ≡ None
+    by f apart true e none = absurd (no (sym (replaced_own t id version content g at) ∙ ap (file_at (replaced t id version content)) same ∙ none))
+      where
+        same : id ≡ f
+        same = grind (arith, nat_tests, e)
+
+        no : Some (record g { version = version; content = content }) ≡ None → ⊥
+        no e = absurd cc
+    by f apart false e none = p.only f apart (sym (replaced_other t id version content f (λ same. differ same e)) ∙ none)
+      where
+        differ : f ≡ id → (id == f) ≡ false → ⊥
+        differ same e = let z : (id == f) ≡ true = grind (arith, nat_tests, same) in absurd cc
