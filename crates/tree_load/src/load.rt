@@ -1,0 +1,70 @@
+//! Loading a tree (`load` in `specs/Load.antt`).
+
+ghost use Rattle.std.specs.Prelude.{◌≡◌, [], ◌∷◌, length, drop, IfOk, None, Some, Option};
+ghost use Rattle.file_tree.specs.Kept.{IsKept};
+ghost use Rattle.store.specs.declared.record.Kept.TheVariants as kept;
+ghost use Rattle.tree_load.specs.Load.{load, fault, first_head, loaded_tree};
+ghost use Rattle.tree_load.specs.Loads.{Loads};
+
+use crate::error::LoadError;
+use crate::{making, rules};
+use file_tree::tree::Tree;
+use std::alloc::{AllocError, Global};
+use store::record::{Head, Kept};
+use tree_nodes::nodes::Nodes;
+
+// The head that is the first record, if it is one.
+fn first_head(records: &[Kept]) -> Option<Head>
+    ensures { result ≡ first_head records.now }
+{
+    match records.first() {
+        Some(Kept::Head(head)) => Some(*head),
+        Some(Kept::Node(_) | Kept::Content(_)) | None => None,
+    }
+}
+
+// Which record is the first that breaks a rule, where this head is the first.
+#[tactic(auto, using(crate::proofs::Loading::some_record, crate::proofs::Loading::fault_well, crate::proofs::Loading::fault_head))]
+fn fault(alloc: Global, head: Head, records: &[Kept]) -> Result<Option<usize>, AllocError>
+    requires { first_head records.now ≡ Some head }
+    ensures { IfOk result (λ o. o ≡ fault head (drop 1 records.now)) }
+{
+    if !rules::is_head_well(head) {
+        return Ok(Some(0));
+    }
+    let known = rules::learn(alloc, records)?;
+    Ok(rules::first_fault(head, records, &known))
+}
+
+// The tree of records that break no rule.
+#[tactic(auto, using(crate::proofs::Loading::ids_of, crate::proofs::Loading::apart_of, crate::proofs::Loading::below_of, crate::proofs::Loading::limits_of, crate::proofs::Loading::tree_is))]
+fn tree_of(alloc: Global, head: Head, records: Vec<Kept>) -> Result<Tree, AllocError>
+    requires head { first_head records.items ≡ Some head }
+    requires well { fault head (drop 1 records.items) ≡ None }
+    ensures { IfOk result (λ t. t.tree ≡ loaded_tree head records.items) }
+{
+    let nodes = making::nodes_of(alloc, head, records)?;
+    let nodes = Nodes::from_list(alloc, nodes, head.next)?;
+    Ok(Tree::from_nodes(alloc, nodes, head.changes))
+}
+
+/// The tree of these records; an empty list is the root alone. Else the first record that breaks a
+/// rule is named, or memory ran out.
+#[tactic(auto, using(crate::proofs::Loading::load_none, crate::proofs::Loading::load_headless, crate::proofs::Loading::load_bad, crate::proofs::Loading::load_good, crate::proofs::Loading::kept_none, crate::proofs::Loading::kept_good))]
+pub fn load(alloc: Global, records: Vec<Kept>) -> Result<Tree, LoadError>
+    ensures exact { Loads (load records.items) result }
+    ensures kept { IfOk result (λ t. IsKept records.items t.tree) }
+{
+    if records.is_empty() {
+        let tree = Tree::new(alloc)?;
+        return Ok(tree);
+    }
+    let Some(head) = first_head(records.as_slice()) else {
+        return Err(LoadError::BadRecord { which: 0 });
+    };
+    if let Some(which) = fault(alloc, head, records.as_slice())? {
+        return Err(LoadError::BadRecord { which });
+    }
+    let tree = tree_of(alloc, head, records)?;
+    Ok(tree)
+}
