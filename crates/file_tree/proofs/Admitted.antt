@@ -16,11 +16,11 @@ use Rattle.file_tree.specs.Names.{spelt, undotted}
 use Rattle.file_tree.specs.Tree.{Tree, is_directory, contents_size, node_of, or_stale, directory_or, file_or, directory_of, or_no_entry, or_taken}
 use Rattle.file_tree.specs.Step.{changes_most, file_most, tree_most, spared, spared_bytes, within_file, create_found, create_mode, may_create, create_plan, nothing, may_mkdir, may_remove, remove_plan, remove_done, or_not_empty, may_rmdir, rmdir_plan, Target, itself, over, or_within, may_replace, rename_over, is_same, planned_found, rename_plan, planned, may_replace_content, replace_plan, IsPlannedMove}
 
-bind_ok : {A B : Type 0} (r : Result A Status) (f : A → Result B Status) (y : B) → (r >>= f) ≡ Ok y → (x : A) × (r ≡ Ok x) × (f x ≡ Ok y)
+pub bind_ok : {A B : Type 0} (r : Result A Status) (f : A → Result B Status) (y : B) → (r >>= f) ≡ Ok y → (x : A) × (r ≡ Ok x) × (f x ≡ Ok y)
 bind_ok (Ok x) f y e = (x, refl, e)
 bind_ok (Err s) f y e = absurd cc
 
-ok_is : {A : Type 0} (x y : A) → ◌≡◌ {A = Result A Status} (Ok x) (Ok y) → x ≡ y
+pub ok_is : {A : Type 0} (x y : A) → ◌≡◌ {A = Result A Status} (Ok x) (Ok y) → x ≡ y
 ok_is {A} x y e = ap (λ r. or_else r) e
   where
     or_else : Result A Status → A
@@ -58,7 +58,7 @@ entry_ok : (o : Option Node) (n : Node) → or_no_entry o ≡ Ok n → o ≡ Som
 entry_ok None n e = absurd cc
 entry_ok (Some m) n e = ap Some (ok_is m n e)
 
-stale_ok : (o : Option Node) (n : Node) → or_stale o ≡ Ok n → o ≡ Some n
+pub stale_ok : (o : Option Node) (n : Node) → or_stale o ≡ Ok n → o ≡ Some n
 stale_ok None n e = absurd cc
 stale_ok (Some m) n e = ap Some (ok_is m n e)
 
@@ -78,7 +78,7 @@ is_file_ok s n m e = file_if (is_directory n.body) e
 
 -- ---- CREATE
 
-none_is : (o : Option Node) → option_map nothing o ≡ None → o ≡ None
+pub none_is : (o : Option Node) → option_map nothing o ≡ None → o ≡ None
 none_is None e = refl
 none_is (Some n) e = absurd cc
 

@@ -6,3 +6,4 @@ pub mod Limits
 pub mod Openings
 pub mod Pages
 pub mod States
+pub mod Stored

@@ -1,7 +1,7 @@
 //! The calls that change a tree (`specs/Step.antt`).
 
 ghost use Rattle.std.specs.Prelude.{◌≡◌, ◌+◌, ◌<◌, ◌≤◌, [], IfOk};
-ghost use Rattle.file_tree.specs.Step.{create, mkdir, remove, rmdir, rename, replace, remove_plan, rmdir_plan, rename_plan, IsPlannedMove, may, may_create, may_remove, may_rmdir, may_replace_content};
+ghost use Rattle.file_tree.specs.Step.{create, mkdir, remove, rmdir, rename, replace, remove_plan, rmdir_plan, rename_plan, replace_plan, IsPlannedMove, may, may_create, may_remove, may_rmdir, may_replace_content};
 ghost use Rattle.file_tree.specs.Chain.{refused};
 ghost use Rattle.file_tree.specs.Reading.{lookup, attr, read, list, Answers};
 ghost use Rattle.file_tree.specs.State.{state_of, IsState};
@@ -15,6 +15,7 @@ use crate::{answers, listing, plans};
 use lb_base::items::Name;
 use nfs3_calls::call::Piece;
 use nfs3_calls::listing::Listing;
+use store::record::Head;
 use tree_nodes::content::Content;
 use tree_nodes::node::{Body, Node};
 use xdr_codec::attr::Attr;
@@ -150,6 +151,39 @@ pub fn replace(
     let entry = answers::commit_entry(id, version, &content);
     tree.refill(id, version, content);
     Ok(answers::one(id, version, entry))
+}
+
+/// The version that a file of a tree comes to by a content of so many bytes.
+#[tactic(auto, using(crate::proofs::Limits::bounds))]
+pub fn plan_replace(tree: &TreeState, held: Held, id: u64, len: u64) -> Result<u64, Status>
+    requires { IsState tree.now }
+    ensures { result ≡ replace_plan (state_of tree.now) held id len }
+{
+    plans::replace(&tree.nodes, tree.changes, tree.bytes, held, id, len)
+}
+
+/// What a store's head says once a node was made.
+#[tactic(auto, using(crate::proofs::Limits::bounds))]
+pub fn head_made(tree: &TreeState) -> Head
+    requires { IsState tree.now }
+    ensures { result ≡ record { next = tree.now.nodes.next + 1; changes = tree.now.changes + 1 } }
+{
+    Head {
+        next: tree.nodes.next() + 1,
+        changes: tree.changes + 1,
+    }
+}
+
+/// What a store's head says once so many changes more were made.
+#[tactic(auto, using(crate::proofs::Limits::bounds))]
+pub fn head_changed(tree: &TreeState, count: u8) -> Head
+    requires { IsState tree.now }
+    ensures { result ≡ record { next = tree.now.nodes.next; changes = tree.now.changes + count } }
+{
+    Head {
+        next: tree.nodes.next(),
+        changes: tree.changes + u64::from(count),
+    }
 }
 
 /// RENAME, once nothing blocks it. It takes no memory.

@@ -7,7 +7,7 @@ ghost use Rattle.tree_nodes.specs.Nodes.{with_id};
 ghost use Rattle.file_tree.specs.Opening.{can_open, opens};
 ghost use Rattle.file_tree.specs.Tree.{empty, content_of, contents_size};
 ghost use Rattle.file_tree.specs.Reading.{lookup, attr, version, content, chunks, read, list, stands_for, Answers};
-ghost use Rattle.file_tree.specs.Step.{create, mkdir, remove, rmdir, rename, replace, may, create_plan, may_mkdir, remove_plan, rmdir_plan, rename_plan, file_most};
+ghost use Rattle.file_tree.specs.Step.{create, mkdir, remove, rmdir, rename, replace, may, create_plan, may_mkdir, remove_plan, rmdir_plan, rename_plan, replace_plan, file_most};
 ghost use Rattle.file_tree.specs.View.{lent_list, tree_of, IsWithinLimits};
 
 use crate::call::{Call, Changed, CreateMode, Held, Planned, Standing};
@@ -98,6 +98,20 @@ impl Tree {
             next: self.state.nodes.next(),
             changes: self.state.changes,
         }
+    }
+
+    /// What a store's head says once a node was made. It takes no memory.
+    pub fn head_made(&self) -> Head
+        ensures { result ≡ record { next = self.now.tree.next + 1; changes = self.now.tree.changes + 1 } }
+    {
+        steps::head_made(&self.state)
+    }
+
+    /// What a store's head says once so many changes more were made. It takes no memory.
+    pub fn head_changed(&self, count: u8) -> Head
+        ensures { result ≡ record { next = self.now.tree.next; changes = self.now.tree.changes + count } }
+    {
+        steps::head_changed(&self.state, count)
     }
 
     /// How many bytes all contents have. It takes no memory.
@@ -211,6 +225,14 @@ impl Tree {
         ensures { result ≡ rmdir_plan self.now.tree held dir name.now }
     {
         steps::plan_rmdir(&self.state, held, dir, name)
+    }
+
+    /// The version that a file comes to by a content of so many bytes. It changes nothing and takes no
+    /// memory.
+    pub fn plan_replace(&self, id: u64, len: u64, held: Held) -> Result<u64, Status>
+        ensures { result ≡ replace_plan self.now.tree held id len }
+    {
+        steps::plan_replace(&self.state, held, id, len)
     }
 
     /// What RENAME comes to. It changes nothing and takes no memory.

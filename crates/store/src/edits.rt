@@ -58,7 +58,7 @@ pub fn copy_of(alloc: Global, one: &Kept) -> Result<Kept, AllocError>
             }))
         }
         Kept::Content(content) => {
-            let bytes = content.bytes.try_clone(alloc)?;
+            let bytes = content.bytes.share()?;
             Ok(Kept::Content(ContentRecord {
                 id: content.id,
                 version: content.version,

@@ -1,6 +1,7 @@
 //! What a store keeps, and how it is changed.
 
-use lb_base::items::{Bytes, Name};
+use lb_base::items::Name;
+use shared_bytes::SharedBytes;
 
 /// What a node is.
 #[derive(Clone, Copy, Debug, PartialEq, Eq, Drop)]
@@ -34,7 +35,8 @@ pub struct ContentRecord {
     /// The file's id.
     pub id: u64,
     pub version: u64,
-    pub bytes: Bytes,
+    /// Its bytes, which a tree may own too.
+    pub bytes: SharedBytes,
 }
 
 /// A record that a store keeps.

@@ -1,5 +1,5 @@
 -- The pieces of a temporary file of which the first lie in one list of bytes.
-use Rattle.std.proofs.Common.{◌≡◌, refl, sym, ap, subst, ◌∙◌, ◌⊎◌, inl, inr, ℕ, ◌+◌, ◌<◌, ◌≤◌, List, [], ◌∷◌, ◌++◌, length, take, drop, Some, None, Bool, true, false, true≢false, append_assoc, length-append, zero-add, arith}
+use Rattle.std.proofs.Common.{◌≡◌, refl, sym, ap, subst, ◌∙◌, ◌⊎◌, inl, inr, ℕ, ◌+◌, ◌<◌, ◌≤◌, List, [], ◌∷◌, ◌++◌, length, take, drop, Some, None, Bool, true, false, true≢false, append_assoc, append-nil, length-append, zero-add, arith}
 use Rattle.std.specs.Prelude.{nat_lt, ◌&&◌, ◌||◌, is_some, slice_get}
 use Rattle.std.specs.BTreeMap.{insert_entry}
 use Rattle.std.specs.List.{list_any}
@@ -39,6 +39,10 @@ laid_bytes at bytes (n ∷ ns) rest h =
 -- the bytes of all pieces are those of the list, and those of the others
 pub bytes_of_laid : (front ns : List ℕ) (rest : List Piece) → AreLengthsOf front ns → all_bytes (laid front ns rest) ≡ front ++ all_bytes rest
 bytes_of_laid front ns rest h = laid_bytes 0 front ns rest h
+
+-- where all lie in the list, they are its bytes
+pub all_gathered : (front ns : List ℕ) (rest : List Piece) → AreLengthsOf front ns → rest ≡ [] → all_bytes (laid front ns rest) ≡ front
+all_gathered front ns rest h none = bytes_of_laid front ns rest h ∙ ap (λ (ps : List Piece). front ++ all_bytes ps) none ∙ append-nil front
 
 -- ---- a piece that goes behind those of the list
 

@@ -1,6 +1,6 @@
 -- How the pieces of a temporary file lie: the first of them in one list of bytes, from 0 on, as far as each begins where the one
 -- before it ends, and the others by their places.
-use Rattle.std.specs.Prelude.{◌≡◌, ℕ, ◌+◌, ◌≤◌, List, [], ◌∷◌, ◌++◌, length, take, drop, ⊤}
+use Rattle.std.specs.Prelude.{◌≡◌, ℕ, ◌+◌, ◌≤◌, List, [], ◌∷◌, ◌++◌, length, take, drop, Option, Some, None, ⊤}
 use Rattle.temp_files.specs.Pieces.{Piece}
 
 -- bytes from a place on, cut into pieces of these lengths
@@ -21,3 +21,8 @@ laid front lengths rest = cut_up 0 front lengths ++ rest
 abbrev pub IsNext : (at room : ℕ) → List Piece → Type 0
 IsNext at room [] = ⊤
 IsNext at room (p ∷ ps) = (p.0 ≡ at) × (at + length p.1 ≤ room)
+
+-- the bytes of the first pieces: those that are shared, where some are, and else its own
+abbrev pub front_bytes : Option (List ℕ) → (own : List ℕ) → List ℕ
+front_bytes None own = own
+front_bytes (Some shared) own = shared

@@ -6,6 +6,8 @@
 #![tactic(auto)]
 
 pub mod fault;
+mod front;
+pub mod gathering;
 pub mod pieces;
 pub mod temp;
 pub mod temps;

@@ -1,39 +1,35 @@
 //! The pieces of one temporary file. `specs/Pieces.antt` says which may be put, and what all of them
 //! come to; `specs/Laid.antt` how they lie.
 
-ghost use Rattle.std.specs.Prelude.{◌≡◌, ◌+◌, ◌<◌, ◌≤◌, ◌++◌, [], None, IsTrue, IfOk, OnOk, OnErr, IsErrOf, length, is_some, vec_capacity};
+ghost use Rattle.std.specs.Prelude.{◌≡◌, ◌<◌, ◌++◌, [], None, IfOk, OnOk, OnErr, IsErrOf, length, is_some};
 ghost use Rattle.std.specs.List.{list_any};
 ghost use Rattle.temp_files.specs.declared.fault.TempErr.TheVariants as refusal;
-ghost use Rattle.temp_files.specs.Laid.{AreLengthsOf, IsNext, laid};
 ghost use Rattle.temp_files.specs.Pieces.{StandApart, overlaps, range_fault, and_piece, joined, all_bytes};
 ghost use Rattle.temp_files.specs.Temps.{Tells};
 
 use crate::fault::TempErr;
+use crate::front::Front;
+use crate::gathering::Placed;
 use lb_base::items::Bytes;
+use shared_bytes::SharedBytes;
 use std::alloc::{AllocError, Global};
 use std::collections::BTreeMap;
 use std::marker::Model;
-use std::mem;
 
 /// No temporary file reaches further, in bytes.
 pub const SIZE_MOST: u64 = limits::FILE_MOST;
-
-/// From so many pieces on they are gathered at the front.
-const GATHERED_FROM: usize = 64;
-
-/// Pieces by the places of their first bytes.
-pub type Placed = BTreeMap<u64, Bytes>;
 
 /// Pieces of which no two meet. Contracts see a list of them, by the places of their first bytes.
 ///
 /// Few pieces lie in a map. Of many, the first lie in one vector, the front, as far as each begins
 /// where the one before it ends. Its room, for the largest content, is taken once, so it never
 /// grows, and where all pieces have come it is the content: each byte is moved once, and none is held
-/// twice. Room that was never written to isn't held.
+/// twice. Room that was never written to isn't held. The content is given by owners of it, the front
+/// among them, so that whatever fails each piece stays what it was.
 #[derive(Drop)]
 pub struct Pieces {
     /// The bytes of the first pieces, from 0 on.
-    front: Vec<u8>,
+    front: Front,
     /// How many bytes each of these pieces has.
     lengths: Vec<usize>,
     /// The other pieces.
@@ -47,9 +43,9 @@ impl Model for Pieces {
 
     ghost Value = { List Piece };
 
-    ghost view = { λ p. laid p.front.items p.lengths.items p.rest.entries };
+    ghost view = { λ p. laid p.front p.lengths.items p.rest.entries };
 
-    ghost invariant = { λ p. AreLengthsOf p.front.items p.lengths.items × StandApart 0 (laid p.front.items p.lengths.items p.rest.entries) };
+    ghost invariant = { λ p. AreLengthsOf p.front p.lengths.items × StandApart 0 (laid p.front p.lengths.items p.rest.entries) };
 }
 
 /// Whether one of the pieces meets the range from `start` up to `end`. Of pieces that stand apart
@@ -100,113 +96,13 @@ fn cover(front: u64, pieces: &Placed, size: u64) -> bool
     end == size
 }
 
-/// Whether the first of the pieces begins where the front ends, and the front has room for it.
-fn is_next(front: &Vec<u8>, rest: &Placed) -> bool
-    ensures { IsTrue result → IsNext (length front.now.items) (vec_capacity front.now) rest.now.entries }
-{
-    let Some((at, bytes)) = rest.first_key_value() else {
-        return false;
-    };
-    if *at != front.len() as u64 {
-        return false;
-    }
-    bytes.len() <= front.capacity() - front.len()
-}
-
-/// Moves the first of the pieces, which begins where the front ends, into the front's room.
-fn move_first(front: &mut Vec<u8>, lengths: &mut Vec<usize>, rest: &mut Placed)
-    requires lengths { AreLengthsOf front.old.items lengths.old.items }
-    requires next { IsNext (length front.old.items) (vec_capacity front.old) rest.old.entries }
-    requires room { length lengths.old.items < vec_capacity lengths.old }
-    ensures lengths { AreLengthsOf front.new.items lengths.new.items }
-    ensures same { laid front.new.items lengths.new.items rest.new.entries ≡ laid front.old.items lengths.old.items rest.old.entries }
-{
-    match rest.pop_first() {
-        Some((_at, bytes)) => {
-            lengths.push_reserved(bytes.len());
-            match front.extend_from_slice(bytes.as_slice()) {
-                Ok(()) => {}
-                Err(_) => unreachable!(),
-            }
-        }
-        None => {}
-    }
-}
-
-/// Moves the first of the pieces to the front, where it begins where the front ends and there is
-/// room for it, and for its length.
-fn gather_one(front: &mut Vec<u8>, lengths: &mut Vec<usize>, rest: &mut Placed)
-    requires { AreLengthsOf front.old.items lengths.old.items }
-    ensures lengths { AreLengthsOf front.new.items lengths.new.items }
-    ensures same { laid front.new.items lengths.new.items rest.new.entries ≡ laid front.old.items lengths.old.items rest.old.entries }
-{
-    if is_next(front, rest) {
-        match lengths.reserve(1) {
-            Ok(()) => move_first(front, lengths, rest),
-            Err(_) => {}
-        }
-    }
-}
-
-/// Takes the front's room, once there are many pieces. Where there is no memory for it, they stay
-/// where they are.
-fn make_room(front: &mut Vec<u8>, rest: &Placed)
-    ensures { front.new.items ≡ front.old.items }
-{
-    if front.capacity() == 0 && rest.len() >= GATHERED_FROM {
-        match front.reserve_exact(SIZE_MOST as usize) {
-            Ok(()) => {}
-            Err(_) => {}
-        }
-    }
-}
-
-/// Moves two pieces at most to the front: the one that was put last, and one of those that wait
-/// behind the front. So those that came early are moved too, and no call takes longer where more
-/// of them wait.
-fn gather(front: &mut Vec<u8>, lengths: &mut Vec<usize>, rest: &mut Placed)
-    requires { AreLengthsOf front.old.items lengths.old.items }
-    ensures lengths { AreLengthsOf front.new.items lengths.new.items }
-    ensures same { laid front.new.items lengths.new.items rest.new.entries ≡ laid front.old.items lengths.old.items rest.old.entries }
-{
-    make_room(front, rest);
-    gather_one(front, lengths, rest);
-    gather_one(front, lengths, rest);
-}
-
-/// The bytes of all pieces behind those that are there. Each piece is let go as soon as its bytes are
-/// moved, so that they are never all held twice.
-fn move_all(pieces: Placed, mut whole: Vec<u8>) -> Vec<u8>
-    requires { length whole.items + length (all_bytes pieces.entries) ≤ vec_capacity whole }
-    ensures { result.items ≡ whole.items ++ all_bytes pieces.entries }
-{
-    for (_at, bytes) in pieces {
-        match whole.extend_from_slice(bytes.as_slice()) {
-            Ok(()) => {}
-            Err(_) => unreachable!(),
-        }
-    }
-    whole
-}
-
-/// The bytes of the front, and of the pieces behind it, for which it has room. Room that is left
-/// over goes back.
-fn join(front: Vec<u8>, rest: Placed) -> Bytes
-    requires { length front.items + length (all_bytes rest.entries) ≤ vec_capacity front }
-    ensures { result ≡ front.items ++ all_bytes rest.entries }
-{
-    let mut whole = move_all(rest, front);
-    whole.shrink_to_fit();
-    Bytes::from_vec(whole)
-}
-
 impl Pieces {
     /// No pieces. It takes no memory.
     pub fn new(alloc: Global) -> Pieces
         ensures { result ≡ [] }
     {
         Pieces {
-            front: Vec::new(alloc),
+            front: Front::new(alloc),
             lengths: Vec::new(alloc),
             rest: BTreeMap::new(alloc),
         }
@@ -239,7 +135,7 @@ impl Pieces {
         ensures err { OnErr result (self.new ≡ self.old) }
     {
         self.rest.insert(offset, bytes)?;
-        gather(&mut self.front, &mut self.lengths, &mut self.rest);
+        self.front.gather(&mut self.lengths, &mut self.rest);
         Ok(())
     }
 
@@ -258,18 +154,15 @@ impl Pieces {
         (self.front.as_slice(), &self.rest)
     }
 
-    /// Takes all pieces out, and gives their bytes, one behind the other; `count` is how many these
-    /// are. Memory is taken first, and then each piece let go as its bytes are moved. The one error
-    /// is want of memory, and all then stays as it was.
-    pub fn take(&mut self, alloc: Global, count: usize) -> Result<Bytes, AllocError>
-        requires { length (all_bytes self.old) ≡ count }
-        ensures ok { IfOk result (λ bytes. bytes ≡ all_bytes self.old) }
-        ensures err { OnErr result (self.new ≡ self.old) }
+    /// An owner of the bytes of all pieces, one behind the other, where each begins where the one
+    /// before it ends; `count` is how many these are. Memory that they lack is taken first, and then
+    /// each piece let go as its bytes are moved. The one error is want of memory; all stays as it was.
+    pub fn share(&mut self, alloc: Global, count: usize) -> Result<SharedBytes, AllocError>
+        ensures bytes { IfOk result (λ bytes. bytes ≡ all_bytes self.old) }
+        ensures same { self.new ≡ self.old }
     {
-        self.front.reserve_exact(count - self.front.len())?;
-        let front = mem::replace(&mut self.front, Vec::new(alloc));
-        let rest = mem::replace(&mut self.rest, BTreeMap::new(alloc));
-        self.lengths.clear();
-        Ok(join(front, rest))
+        self.front
+            .gather_all(alloc, &mut self.lengths, &mut self.rest, count)?;
+        self.front.share(alloc)
     }
 }

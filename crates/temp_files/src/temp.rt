@@ -7,8 +7,10 @@ ghost use Rattle.temp_files.specs.Pieces.{StandApart, range_fault, all_bytes};
 ghost use Rattle.temp_files.specs.Temps.{assembled, empty_temp, with_piece, Tells};
 
 use crate::fault::TempErr;
-use crate::pieces::{Pieces, Placed};
+use crate::gathering::Placed;
+use crate::pieces::Pieces;
 use lb_base::items::Bytes;
+use shared_bytes::SharedBytes;
 use std::alloc::{AllocError, Global};
 use std::marker::Model;
 
@@ -88,13 +90,13 @@ impl Temp {
         self.pieces.parts()
     }
 
-    /// Takes all pieces out, and gives their bytes, one behind the other; `count` is how many these
-    /// are. The one error is want of memory, and the temporary file then stays as it was.
-    pub fn take(&mut self, alloc: Global, count: usize) -> Result<Bytes, AllocError>
-        requires { length (all_bytes self.old.pieces) ≡ count }
-        ensures ok { IfOk result (λ bytes. bytes ≡ all_bytes self.old.pieces) }
-        ensures err { OnErr result (self.new ≡ self.old) }
+    /// An owner of the bytes of all pieces, one behind the other, where each begins where the one
+    /// before it ends; `count` is how many these are. The one error is want of memory; all stays as
+    /// it was.
+    pub fn share(&mut self, alloc: Global, count: usize) -> Result<SharedBytes, AllocError>
+        ensures bytes { IfOk result (λ bytes. bytes ≡ all_bytes self.old.pieces) }
+        ensures same { self.new ≡ self.old }
     {
-        self.pieces.take(alloc, count)
+        self.pieces.share(alloc, count)
     }
 }

@@ -6,7 +6,7 @@ ghost use Rattle.std.specs.BTreeMap.Range.{entries_between};
 ghost use Rattle.std.specs.declared.ops.Bound.TheVariants.{Included};
 ghost use Rattle.std.specs.List.{All};
 ghost use Rattle.std.specs.Ordering.{nat_cmp};
-ghost use Rattle.std.specs.Option.{option_copied};
+ghost use Rattle.std.specs.Option.{option_copied, option_map};
 ghost use Rattle.temp_files.specs.declared.fault.TempErr.TheVariants as refusal;
 ghost use Rattle.temp_files.specs.Covered.{ComesTo};
 ghost use Rattle.temp_files.specs.Pieces.{StandApart};
@@ -16,6 +16,7 @@ use crate::fault::TempErr;
 use crate::pieces::SIZE_MOST;
 use crate::temp::Temp;
 use lb_base::items::Bytes;
+use shared_bytes::SharedBytes;
 use std::alloc::{AllocError, Global};
 use std::collections::BTreeMap;
 use std::marker::Model;
@@ -122,57 +123,59 @@ fn covers(temps: &Keyed, session: u32, fd: u32, size: u64) -> Result<bool, TempE
     }
 }
 
-/// Takes all pieces out of a temporary file whose pieces cover 0 to the size, and gives their bytes.
-/// The one error is want of memory, and all then stays as it was.
-fn take_pieces(
+/// An owner of the content of a temporary file whose pieces cover 0 to the size. The one error is want
+/// of memory; all stays as it was.
+fn share_of(
     alloc: Global,
     temps: &mut Keyed,
     session: u32,
     fd: u32,
     size: u64,
-) -> Result<Bytes, AllocError>
+) -> Result<SharedBytes, AllocError>
     requires { is_some (whole_of (temp_at temps.old.entries session fd) size) ≡ true }
     ensures exact { IfOk result (λ bytes. Some bytes ≡ whole_of (temp_at temps.old.entries session fd) size) }
-    ensures others { without_temp temps.new.entries session fd ≡ without_temp temps.old.entries session fd }
-    ensures err { OnErr result (temps.new.entries ≡ temps.old.entries) }
+    ensures same { temps.new.entries ≡ temps.old.entries }
 {
     match temps.get_mut(&key_of(session, fd)) {
-        Some(temp) => temp.take(alloc, size as usize),
+        Some(temp) => temp.share(alloc, size as usize),
         None => unreachable!(),
     }
 }
 
-/// Takes out a temporary file whose pieces cover 0 to the size, and gives their bytes. The one error
-/// is want of memory, and all then stays as it was.
+/// Takes out a temporary file whose pieces cover 0 to the size, and gives two owners of its content.
+/// The one error is want of memory, and all then stays as it was.
 fn take_whole(
     alloc: Global,
     temps: &mut Keyed,
     session: u32,
     fd: u32,
     size: u64,
-) -> Result<Bytes, AllocError>
+) -> Result<(SharedBytes, SharedBytes), AllocError>
     requires { is_some (whole_of (temp_at temps.old.entries session fd) size) ≡ true }
-    ensures exact { IfOk result (λ bytes. Some bytes ≡ whole_of (temp_at temps.old.entries session fd) size) }
+    ensures exact { IfOk result (λ p. Some p.0 ≡ whole_of (temp_at temps.old.entries session fd) size) }
+    ensures again { IfOk result (λ p. p.1 ≡ p.0) }
     ensures ended { OnOk result (temps.new.entries ≡ without_temp temps.old.entries session fd) }
     ensures err { OnErr result (temps.new.entries ≡ temps.old.entries) }
 {
-    let bytes = take_pieces(alloc, temps, session, fd, size)?;
+    let first = share_of(alloc, temps, session, fd, size)?;
+    let second = first.share()?;
     temps.remove(&key_of(session, fd));
-    Ok(bytes)
+    Ok((first, second))
 }
 
-/// Takes out a temporary file, and gives its whole content where there is one.
+/// Takes out a temporary file, and gives two owners of its whole content where there is one.
 fn take(
     alloc: Global,
     temps: &mut Keyed,
     session: u32,
     fd: u32,
     size: u64,
-) -> Result<Option<Bytes>, TempErr>
+) -> Result<Option<(SharedBytes, SharedBytes)>, TempErr>
     requires { All IsTempKeyed temps.old.entries }
     ensures told { Tells result (size_fault (temp_at temps.old.entries session fd) size) }
-    ensures exact { IfOk result (λ whole. whole ≡ whole_of (temp_at temps.old.entries session fd) size) }
-    ensures covered { IfOk result (ComesTo (pieces_of (temp_at temps.old.entries session fd)) size) }
+    ensures exact { IfOk result (λ whole. option_map (λ p. p.0) whole ≡ whole_of (temp_at temps.old.entries session fd) size) }
+    ensures again { IfOk result (λ whole. option_map (λ p. p.1) whole ≡ option_map (λ p. p.0) whole) }
+    ensures covered { IfOk result (λ whole. ComesTo (pieces_of (temp_at temps.old.entries session fd)) size (option_map (λ p. p.0) whole)) }
     ensures ended { OnOk result (temps.new.entries ≡ without_temp temps.old.entries session fd) }
     ensures err { OnErr result (temps.new.entries ≡ temps.old.entries) }
     ensures keyed { All IsTempKeyed temps.new.entries }
@@ -262,14 +265,21 @@ impl Temps {
         Ok(())
     }
 
-    /// Ends a temporary file, and gives its whole content, where its pieces cover 0 to the size once
-    /// each and nothing beyond, and else none: `BadFd` where there is no such file, `FBig` where the
-    /// size is beyond 67,108,864 bytes. Memory that the content lacks is taken first, and then each
-    /// piece let go as its bytes are moved. All stays as it was where the call is refused.
-    pub fn take(&mut self, session: u32, fd: u32, size: u64) -> Result<Option<Bytes>, TempErr>
+    /// Ends a temporary file, and gives two owners of its whole content, where its pieces cover 0 to
+    /// the size once each and nothing beyond, and else none: `BadFd` where there is no such file,
+    /// `FBig` where the size is beyond 67,108,864 bytes. Memory that the content lacks is taken first,
+    /// and then each piece let go as its bytes are moved. All stays as it was where the call is
+    /// refused.
+    pub fn take(
+        &mut self,
+        session: u32,
+        fd: u32,
+        size: u64,
+    ) -> Result<Option<(SharedBytes, SharedBytes)>, TempErr>
         ensures told { Tells result (size_fault (temp_at self.old session fd) size) }
-        ensures exact { IfOk result (λ whole. whole ≡ whole_of (temp_at self.old session fd) size) }
-        ensures covered { IfOk result (ComesTo (pieces_of (temp_at self.old session fd)) size) }
+        ensures exact { IfOk result (λ whole. option_map (λ p. p.0) whole ≡ whole_of (temp_at self.old session fd) size) }
+        ensures again { IfOk result (λ whole. option_map (λ p. p.1) whole ≡ option_map (λ p. p.0) whole) }
+        ensures covered { IfOk result (λ whole. ComesTo (pieces_of (temp_at self.old session fd)) size (option_map (λ p. p.0) whole)) }
         ensures ended { OnOk result (self.new ≡ without_temp self.old session fd) }
         ensures err { OnErr result (self.new ≡ self.old) }
     {

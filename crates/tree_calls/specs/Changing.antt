@@ -1,5 +1,5 @@
 -- What the calls do at once that change a tree (RFC 1813, sections 3.3.8, 9, 13 and 14), and what the journal gets.
-use Rattle.std.specs.Prelude.{ℕ, List, Option, Some, None, Result, Ok, Err}
+use Rattle.std.specs.Prelude.{ℕ, List, Option, Some, None, Result, Ok, Err, Bool, false}
 use Rattle.std.specs.Option.{option_map}
 use Rattle.xdr_codec.specs.Handle.{handle_bytes}
 use Rattle.xdr_codec.specs.declared.answer.Answer.TheVariants as answer
@@ -20,6 +20,7 @@ use Rattle.file_tree.specs.declared.call.Changed.{Changed}
 use Rattle.file_tree.specs.declared.call.CreateMode.{CreateMode}
 use Rattle.file_tree.specs.declared.call.CreateMode.TheVariants as mode
 use Rattle.file_tree.specs.declared.call.Held.{Held}
+use Rattle.stored_tree.specs.Stores.{stored}
 use Rattle.tree_calls.specs.declared.asked.Done.{Done}
 
 -- ---- a directory before and after (RFC 1813, section 2.6: wcc_data)
@@ -87,19 +88,33 @@ abbrev pub renamed : Option Before → Option Before → (dir to : ℕ) → List
 renamed a b dir to nodes (Ok c) = did c (nfs.RenameAnswer (answer.Done (record { from = both_sides a nodes dir; to = both_sides b nodes to })))
 renamed a b dir to nodes (Err s) = refused_rename s
 
--- ---- a step of the tree, and its answer
+-- ---- a step of the tree under its store, and its answer; fault: whether the store fails, if it is asked
 
 abbrev pub with_done : (List Node → Result Changed Status → Done) → Tree × Result Changed Status → Tree × Done
 with_done f p = (p.0, f p.0.nodes p.1)
 
+abbrev pub creates_under : Tree → Held → Bool → ℕ → List ℕ → CreateMode → Tree × Done
+creates_under t held fault dir name m = with_done (created (before t.nodes dir) dir) (stored fault t (create t held dir name m))
+
+abbrev pub mkdirs_under : Tree → Held → Bool → ℕ → List ℕ → Tree × Done
+mkdirs_under t held fault dir name = with_done (made_directory (before t.nodes dir) dir) (stored fault t (mkdir t held dir name))
+
+abbrev pub rmdirs_under : Tree → Held → Bool → ℕ → List ℕ → Tree × Done
+rmdirs_under t held fault dir name = with_done (removed_directory (before t.nodes dir) dir) (stored fault t (rmdir t held dir name))
+
+abbrev pub renames_under : Tree → Held → Bool → ℕ → List ℕ → ℕ → List ℕ → Tree × Done
+renames_under t held fault dir name to to_name = with_done (renamed (before t.nodes dir) (before t.nodes to) dir to) (stored fault t (rename t held dir name to to_name))
+
+-- ---- where the store doesn't fail
+
 abbrev pub creates : Tree → Held → ℕ → List ℕ → CreateMode → Tree × Done
-creates t held dir name m = with_done (created (before t.nodes dir) dir) (create t held dir name m)
+creates t held dir name m = creates_under t held false dir name m
 
 abbrev pub mkdirs : Tree → Held → ℕ → List ℕ → Tree × Done
-mkdirs t held dir name = with_done (made_directory (before t.nodes dir) dir) (mkdir t held dir name)
+mkdirs t held dir name = mkdirs_under t held false dir name
 
 abbrev pub rmdirs : Tree → Held → ℕ → List ℕ → Tree × Done
-rmdirs t held dir name = with_done (removed_directory (before t.nodes dir) dir) (rmdir t held dir name)
+rmdirs t held dir name = rmdirs_under t held false dir name
 
 abbrev pub renames : Tree → Held → ℕ → List ℕ → ℕ → List ℕ → Tree × Done
-renames t held dir name to to_name = with_done (renamed (before t.nodes dir) (before t.nodes to) dir to) (rename t held dir name to to_name)
+renames t held dir name to to_name = renames_under t held false dir name to to_name

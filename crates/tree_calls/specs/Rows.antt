@@ -8,7 +8,7 @@ use Rattle.xdr_codec.specs.declared.attr.Attr.{Attr}
 use Rattle.xdr_codec.specs.declared.attr.Kind.TheVariants as attr_kind
 use Rattle.xdr_codec.specs.declared.attr.Time.{Time}
 use Rattle.xdr_codec.specs.declared.status.Status.{Status}
-use Rattle.xdr_codec.specs.declared.status.Status.TheVariants.{NoEnt, Acces, Exist, NotDir, IsDir, Inval, NoSpc, NameTooLong, NotEmpty, Stale, BadHandle, BadCookie, NotSupp, TooSmall, Jukebox}
+use Rattle.xdr_codec.specs.declared.status.Status.TheVariants.{NoEnt, Acces, Exist, NotDir, IsDir, Inval, NoSpc, NameTooLong, NotEmpty, Stale, BadHandle, BadCookie, NotSupp, TooSmall, Jukebox, Io}
 use Rattle.nfs3_calls.specs.declared.making.HowMade.{HowMade}
 use Rattle.nfs3_calls.specs.declared.making.HowMade.TheVariants.{Unchecked, Guarded, Exclusive}
 use Rattle.nfs3_calls.specs.declared.making.SetAttr.{SetAttr}
@@ -29,7 +29,7 @@ use Rattle.tree_calls.specs.declared.asked.Asked.TheVariants as asked
 use Rattle.tree_calls.specs.declared.asked.Outcome.{Outcome}
 use Rattle.tree_calls.specs.declared.asked.Outcome.TheVariants as outcome
 use Rattle.tree_calls.specs.Telling.{told, leased, answer_of}
-use Rattle.tree_calls.specs.Waiting.{calls, settles, commits, file_of}
+use Rattle.tree_calls.specs.Waiting.{calls, settles, commits, calls_under, settles_under, commits_under, file_of}
 
 -- ---- a tree: a file "a", a directory "d" that has a directory "s" and a file "x", and an empty directory "e"
 
@@ -297,3 +297,22 @@ row_committed = refl
 
 row_commit_gone : commits (remove tree none 3 (codes "x")).0 none 4 (codes "new") 9 ≡ ((remove tree none 3 (codes "x")).0, record { answer = answer.Failed Stale tt; entry = None })
 row_commit_gone = refl
+
+-- ---- a store that fails: what would be done is told IO, and nothing is done; what is refused, waits or changes nothing is as ever
+
+abbrev come_failing : Held → Bool → List Nfs → List Brief
+come_failing held busy ms = map (λ (m : Nfs). outcome_short (calls_under tree held busy true m).1) ms
+
+row_fault : come_failing none false (makes (at 1 (codes "n")) (Guarded kept) ∷ makes (at 1 (codes "a")) (Unchecked kept) ∷ makes (at 1 (codes "a")) (Guarded kept) ∷ makes_directory (at 3 (codes "n")) ∷ nfs.RmDir (at 1 (codes "e")) ∷ nfs.RmDir (at 1 (codes "d")) ∷ moves (at 1 (codes "a")) (at 1 (codes "a")) ∷ moves (at 1 (codes "a")) (at 1 (codes "n")) ∷ moves (at 1 (codes "e")) (at 3 (codes "s")) ∷ moves (at 1 (codes "a")) (at 3 (codes "x")) ∷ nfs.Remove (at 1 (codes "a")) ∷ nfs.GetAttr (handle_bytes 2) ∷ []) ≡ refused Io ∷ done ∷ refused Exist ∷ refused Io ∷ refused Io ∷ refused NotEmpty ∷ done ∷ refused Io ∷ refused Io ∷ waits 4 ∷ waits 2 ∷ done ∷ []
+row_fault = refl
+
+row_fault_changes_nothing : ((calls_under tree none false true (makes (at 1 (codes "n")) (Guarded kept))).0 ≡ tree) × (settles_under tree none true removes_a ≡ (tree, record { answer = nfs.RemoveAnswer (answer.Failed Io (record { before = None; after = None })); first = None; second = None })) × (commits_under tree none true 4 (codes "new") 9 ≡ (tree, record { answer = answer.Failed Io tt; entry = None }))
+row_fault_changes_nothing = (refl, refl, refl)
+
+-- what changed meanwhile comes before the store
+row_fault_again : map (λ (t : Tree). told_short (settles_under t none true moves_a).1.answer) meanwhile ≡ refused Io ∷ refused Jukebox ∷ refused Jukebox ∷ refused Stale ∷ refused Jukebox ∷ refused Stale ∷ refused Io ∷ refused Jukebox ∷ []
+row_fault_again = refl
+
+-- the tree that no node was made in is as before, so that the next node still gets the id 2
+row_fault_first : calls_under empty none false true (makes (at 1 (codes "a")) (Guarded kept)) ≡ (empty, Some (outcome.Answered (record { answer = nfs.CreateAnswer (answer.Failed Io (record { before = None; after = None })); first = None; second = None })))
+row_fault_first = refl

@@ -17,6 +17,7 @@ use Rattle.file_tree.specs.declared.call.Planned.{Planned}
 use Rattle.file_tree.specs.declared.call.Planned.TheVariants as planned
 use Rattle.file_tree.specs.declared.call.Spot.{Spot}
 use Rattle.file_tree.specs.declared.call.Standing.{Standing}
+use Rattle.stored_tree.specs.Stores.{stored}
 use Rattle.tree_calls.specs.declared.asked.Asked.{Asked}
 use Rattle.tree_calls.specs.declared.asked.Asked.TheVariants as asked
 use Rattle.tree_calls.specs.declared.asked.Committing.{Committing}
@@ -26,7 +27,7 @@ use Rattle.tree_calls.specs.declared.asked.Outcome.TheVariants.{Answered, Waits}
 use Rattle.tree_calls.specs.declared.asked.Removing.{Removing}
 use Rattle.tree_calls.specs.declared.asked.Renaming.{Renaming}
 use Rattle.tree_calls.specs.Telling.{id_of, told, TakesTold}
-use Rattle.tree_calls.specs.Changing.{before, no_side, said, mode_of, removed, refused_rename, with_done, creates, mkdirs, rmdirs, renames}
+use Rattle.tree_calls.specs.Changing.{before, no_side, said, mode_of, removed, refused_rename, with_done, creates_under, mkdirs_under, rmdirs_under, renames_under}
 
 -- ---- what waits
 
@@ -80,24 +81,27 @@ is_node id (Some n) = n.id == id
 abbrev pub still : List Node → Spot → ℕ → Result Unit Status
 still nodes s id = if is_node id (stands_for nodes s.dir s.name) then Ok tt else Err status.Jukebox
 
+abbrev pub spot_of : ℕ → List ℕ → Spot
+spot_of dir name = record { dir = dir; name = name }
+
 abbrev pub remove_again : List Node → Removing → Result Unit Status
 remove_again nodes r = version nodes r.file >>= λ _. still nodes r.spot r.file
 
 abbrev pub rename_again : List Node → Renaming → Result Unit Status
 rename_again nodes r = version nodes r.file >>= λ _. still nodes r.from r.node >>= λ _. still nodes r.to r.file
 
-abbrev pub removes_if : Tree → Held → Spot → Result Unit Status → Tree × Done
-removes_if t held s (Err e) = (t, said (nfs.RemoveAnswer (answer.Failed e no_side)))
-removes_if t held s (Ok u) = with_done (removed (before t.nodes s.dir) s.dir) (remove t held s.dir s.name)
+abbrev pub removes_if_under : Tree → Held → Bool → Spot → Result Unit Status → Tree × Done
+removes_if_under t held fault s (Err e) = (t, said (nfs.RemoveAnswer (answer.Failed e no_side)))
+removes_if_under t held fault s (Ok u) = with_done (removed (before t.nodes s.dir) s.dir) (stored fault t (remove t held s.dir s.name))
 
-abbrev pub renames_if : Tree → Held → Spot → Spot → Result Unit Status → Tree × Done
-renames_if t held s to (Err e) = (t, refused_rename e)
-renames_if t held s to (Ok u) = renames t held s.dir s.name to.dir to.name
+abbrev pub renames_if_under : Tree → Held → Bool → Spot → Spot → Result Unit Status → Tree × Done
+renames_if_under t held fault s to (Err e) = (t, refused_rename e)
+renames_if_under t held fault s to (Ok u) = renames_under t held fault s.dir s.name to.dir to.name
 
--- held is what the other changes that wait will need
-abbrev pub settles : Tree → Held → Asked → Tree × Done
-settles t held (asked.Remove r) = removes_if t held r.spot (remove_again t.nodes r)
-settles t held (asked.Rename r) = renames_if t held r.from r.to (rename_again t.nodes r)
+-- held is what the other changes that wait will need; fault: whether the store fails, if it is asked
+abbrev pub settles_under : Tree → Held → Bool → Asked → Tree × Done
+settles_under t held fault (asked.Remove r) = removes_if_under t held fault r.spot (remove_again t.nodes r)
+settles_under t held fault (asked.Rename r) = renames_if_under t held fault r.from r.to (rename_again t.nodes r)
 
 -- ---- COMMITTMP, whose file is STALE where it's gone
 
@@ -108,25 +112,22 @@ committed term (Err s) = record { answer = answer.Failed s tt; entry = None }
 abbrev pub with_committed : ℕ → Tree × Result Changed Status → Tree × Committing
 with_committed term p = (p.0, committed term p.1)
 
-abbrev pub commits : Tree → Held → ℕ → List ℕ → ℕ → Tree × Committing
-commits t held file content term = with_committed term (replace t held file content)
+abbrev pub commits_under : Tree → Held → Bool → ℕ → List ℕ → ℕ → Tree × Committing
+commits_under t held fault file content term = with_committed term (stored fault t (replace t held file content))
 
 -- ---- any call, in the directory that its handle names
 
-abbrev pub creates_in : Tree → Held → NewFile → Result ℕ Status → Tree × Done
-creates_in t held f (Err s) = (t, said (nfs.CreateAnswer (answer.Failed s no_side)))
-creates_in t held f (Ok dir) = creates t held dir f.place.name (mode_of f.how)
+abbrev pub creates_in_under : Tree → Held → Bool → NewFile → Result ℕ Status → Tree × Done
+creates_in_under t held fault f (Err s) = (t, said (nfs.CreateAnswer (answer.Failed s no_side)))
+creates_in_under t held fault f (Ok dir) = creates_under t held fault dir f.place.name (mode_of f.how)
 
-abbrev pub mkdirs_in : Tree → Held → List ℕ → Result ℕ Status → Tree × Done
-mkdirs_in t held name (Err s) = (t, said (nfs.MkDirAnswer (answer.Failed s no_side)))
-mkdirs_in t held name (Ok dir) = mkdirs t held dir name
+abbrev pub mkdirs_in_under : Tree → Held → Bool → List ℕ → Result ℕ Status → Tree × Done
+mkdirs_in_under t held fault name (Err s) = (t, said (nfs.MkDirAnswer (answer.Failed s no_side)))
+mkdirs_in_under t held fault name (Ok dir) = mkdirs_under t held fault dir name
 
-abbrev pub rmdirs_in : Tree → Held → List ℕ → Result ℕ Status → Tree × Done
-rmdirs_in t held name (Err s) = (t, said (nfs.RmDirAnswer (answer.Failed s no_side)))
-rmdirs_in t held name (Ok dir) = rmdirs t held dir name
-
-abbrev pub spot_of : ℕ → List ℕ → Spot
-spot_of dir name = record { dir = dir; name = name }
+abbrev pub rmdirs_in_under : Tree → Held → Bool → List ℕ → Result ℕ Status → Tree × Done
+rmdirs_in_under t held fault name (Err s) = (t, said (nfs.RmDirAnswer (answer.Failed s no_side)))
+rmdirs_in_under t held fault name (Ok dir) = rmdirs_under t held fault dir name
 
 abbrev pub removing : ℕ → List ℕ → Result ℕ Status → Outcome
 removing dir name (Err s) = Answered (said (nfs.RemoveAnswer (answer.Failed s no_side)))
@@ -142,19 +143,19 @@ removes_in t held busy name (Ok dir) = removing dir name (asks_remove t held bus
 abbrev pub answered : Tree × Done → Tree × Outcome
 answered p = (p.0, Answered p.1)
 
-abbrev pub renaming : Tree → Held → ℕ → List ℕ → ℕ → List ℕ → Result (Option (ℕ × ℕ)) Status → Tree × Outcome
-renaming t held dir name to to_name (Err s) = (t, Answered (refused_rename s))
-renaming t held dir name to to_name (Ok None) = answered (renames t held dir name to to_name)
-renaming t held dir name to to_name (Ok (Some p)) = (t, Waits (asked.Rename (record { from = spot_of dir name; to = spot_of to to_name; node = p.0; file = p.1 })))
+abbrev pub renaming_under : Tree → Held → Bool → ℕ → List ℕ → ℕ → List ℕ → Result (Option (ℕ × ℕ)) Status → Tree × Outcome
+renaming_under t held fault dir name to to_name (Err s) = (t, Answered (refused_rename s))
+renaming_under t held fault dir name to to_name (Ok None) = answered (renames_under t held fault dir name to to_name)
+renaming_under t held fault dir name to to_name (Ok (Some p)) = (t, Waits (asked.Rename (record { from = spot_of dir name; to = spot_of to to_name; node = p.0; file = p.1 })))
 
 abbrev pub asks_rename : Tree → Held → Bool → ℕ → List ℕ → ℕ → List ℕ → Result (Option (ℕ × ℕ)) Status
 asks_rename t held busy dir name to to_name = rename_comes busy (stands_for t.nodes to to_name) (rename_plan t held dir name to to_name)
 
 -- the form of both handles comes first
-abbrev pub renames_in : Tree → Held → Bool → List ℕ → List ℕ → Result ℕ Status → Result ℕ Status → Tree × Outcome
-renames_in t held busy name to_name (Ok dir) (Ok to) = renaming t held dir name to to_name (asks_rename t held busy dir name to to_name)
-renames_in t held busy name to_name (Ok dir) (Err s) = (t, Answered (refused_rename s))
-renames_in t held busy name to_name (Err s) to = (t, Answered (refused_rename s))
+abbrev pub renames_in_under : Tree → Held → Bool → Bool → List ℕ → List ℕ → Result ℕ Status → Result ℕ Status → Tree × Outcome
+renames_in_under t held busy fault name to_name (Ok dir) (Ok to) = renaming_under t held fault dir name to to_name (asks_rename t held busy dir name to to_name)
+renames_in_under t held busy fault name to_name (Ok dir) (Err s) = (t, Answered (refused_rename s))
+renames_in_under t held busy fault name to_name (Err s) to = (t, Answered (refused_rename s))
 
 abbrev pub some : Tree × Outcome → Tree × Option Outcome
 some p = (p.0, Some p.1)
@@ -173,13 +174,13 @@ changes (nfs.Rename r) = true
 changes m = false
 
 -- Of a message that is no call nothing comes. busy: a change of the session waits.
-abbrev pub calls : Tree → Held → Bool → Nfs → Tree × Option Outcome
-calls t held busy (nfs.Create f) = some (answered (creates_in t held f (id_of f.place.dir)))
-calls t held busy (nfs.MkDir d) = some (answered (mkdirs_in t held d.place.name (id_of d.place.dir)))
-calls t held busy (nfs.Remove p) = (t, Some (removes_in t held busy p.name (id_of p.dir)))
-calls t held busy (nfs.RmDir p) = some (answered (rmdirs_in t held p.name (id_of p.dir)))
-calls t held busy (nfs.Rename r) = some (renames_in t held busy r.from.name r.to.name (id_of r.from.dir) (id_of r.to.dir))
-calls t held busy m = (t, told_outcome (told t.nodes m))
+abbrev pub calls_under : Tree → Held → Bool → Bool → Nfs → Tree × Option Outcome
+calls_under t held busy fault (nfs.Create f) = some (answered (creates_in_under t held fault f (id_of f.place.dir)))
+calls_under t held busy fault (nfs.MkDir d) = some (answered (mkdirs_in_under t held fault d.place.name (id_of d.place.dir)))
+calls_under t held busy fault (nfs.Remove p) = (t, Some (removes_in t held busy p.name (id_of p.dir)))
+calls_under t held busy fault (nfs.RmDir p) = some (answered (rmdirs_in_under t held fault p.name (id_of p.dir)))
+calls_under t held busy fault (nfs.Rename r) = some (renames_in_under t held busy fault r.from.name r.to.name (id_of r.from.dir) (id_of r.to.dir))
+calls_under t held busy fault m = (t, told_outcome (told t.nodes m))
 
 -- whether a call that may change the tree isn't refused: it may then make entries, at once or once it has waited
 abbrev pub enters : Tree → Held → Bool → Nfs → Bool
@@ -190,11 +191,43 @@ enters t held busy (nfs.RmDir p) = is_ok (id_of p.dir >>= λ dir. rmdir_plan t h
 enters t held busy (nfs.Rename r) = is_ok (id_of r.from.dir >>= λ dir. id_of r.to.dir >>= λ to. asks_rename t held busy dir r.from.name to r.to.name)
 enters t held busy m = false
 
--- memory is taken by calls that aren't refused, and of those that change the tree not by RMDIR
+-- memory is taken by calls that aren't refused
 abbrev pub Takes : Tree → Held → Bool → Nfs → Type 0
 Takes t held busy (nfs.Create f) = IsOk (id_of f.place.dir >>= λ dir. create_plan t held dir f.place.name (mode_of f.how))
 Takes t held busy (nfs.MkDir d) = IsOk (id_of d.place.dir >>= λ dir. may_mkdir t held dir d.place.name)
 Takes t held busy (nfs.Remove p) = IsOk (id_of p.dir >>= λ dir. asks_remove t held busy dir p.name)
-Takes t held busy (nfs.RmDir p) = ⊥
+Takes t held busy (nfs.RmDir p) = IsOk (id_of p.dir >>= λ dir. rmdir_plan t held dir p.name)
 Takes t held busy (nfs.Rename r) = IsOk (id_of r.from.dir >>= λ dir. id_of r.to.dir >>= λ to. asks_rename t held busy dir r.from.name to r.to.name)
 Takes t held busy m = TakesTold t.nodes m
+
+-- ---- where the store doesn't fail
+
+abbrev pub removes_if : Tree → Held → Spot → Result Unit Status → Tree × Done
+removes_if t held s r = removes_if_under t held false s r
+
+abbrev pub renames_if : Tree → Held → Spot → Spot → Result Unit Status → Tree × Done
+renames_if t held s to r = renames_if_under t held false s to r
+
+abbrev pub settles : Tree → Held → Asked → Tree × Done
+settles t held a = settles_under t held false a
+
+abbrev pub commits : Tree → Held → ℕ → List ℕ → ℕ → Tree × Committing
+commits t held file content term = commits_under t held false file content term
+
+abbrev pub creates_in : Tree → Held → NewFile → Result ℕ Status → Tree × Done
+creates_in t held f r = creates_in_under t held false f r
+
+abbrev pub mkdirs_in : Tree → Held → List ℕ → Result ℕ Status → Tree × Done
+mkdirs_in t held name r = mkdirs_in_under t held false name r
+
+abbrev pub rmdirs_in : Tree → Held → List ℕ → Result ℕ Status → Tree × Done
+rmdirs_in t held name r = rmdirs_in_under t held false name r
+
+abbrev pub renaming : Tree → Held → ℕ → List ℕ → ℕ → List ℕ → Result (Option (ℕ × ℕ)) Status → Tree × Outcome
+renaming t held dir name to to_name r = renaming_under t held false dir name to to_name r
+
+abbrev pub renames_in : Tree → Held → Bool → List ℕ → List ℕ → Result ℕ Status → Result ℕ Status → Tree × Outcome
+renames_in t held busy name to_name dir to = renames_in_under t held busy false name to_name dir to
+
+abbrev pub calls : Tree → Held → Bool → Nfs → Tree × Option Outcome
+calls t held busy m = calls_under t held busy false m

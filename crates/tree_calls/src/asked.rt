@@ -1,12 +1,16 @@
 //! What a call comes to: `specs/Waiting.antt`.
 
-ghost use Rattle.std.specs.Prelude.{◌≡◌};
-ghost use Rattle.tree_calls.specs.Waiting.{file_of, entries_of};
+ghost use Rattle.std.specs.Prelude.{◌≡◌, IfOk};
+ghost use Rattle.tree_calls.specs.Waiting.{file_of, entries_of, spot_of};
 
 use file_tree::call::Spot;
 use file_tree::entry::Entry;
 use hash_calls::call::Committed;
+use lb_base::items::Name;
 use nfs3_calls::message::Nfs;
+use std::alloc::{AllocError, Global};
+use std::marker::Model;
+use stored_tree::pair::NamePair;
 use xdr_codec::answer::Answer;
 
 /// What a call was answered, and the entries of the journal that it made, in their order.
@@ -25,11 +29,60 @@ pub struct Removing {
     pub file: u64,
 }
 
+/// A name in a directory that a node is to get, and a store is to keep: it comes twice. Contracts see
+/// the name in its directory.
+#[derive(Drop, Debug)]
+pub struct NewSpot {
+    dir: u64,
+    name: NamePair,
+}
+
+impl Model for NewSpot {
+    ghost use Rattle.file_tree.specs.declared.call.Spot.{Spot};
+
+    ghost Value = { Spot };
+
+    ghost view = { λ s. record { dir = s.dir; name = s.name } };
+}
+
+impl NewSpot {
+    /// A name in a directory. The one error is want of memory.
+    pub fn new(alloc: Global, dir: u64, name: &Name) -> Result<NewSpot, AllocError>
+        ensures { IfOk result (λ s. s ≡ spot_of dir name.now) }
+    {
+        let name = NamePair::copy_of(alloc, name)?;
+        Ok(NewSpot { dir, name })
+    }
+
+    /// The directory's id.
+    pub fn dir(&self) -> u64
+        ensures { result ≡ self.now.dir }
+    {
+        self.dir
+    }
+
+    /// The name.
+    pub fn name(&self) -> &[u8]
+        ensures { result.now ≡ self.now.name }
+    {
+        self.name.as_slice()
+    }
+
+    /// The directory's id, and the name twice.
+    pub fn split(self) -> (u64, NamePair)
+        ensures dir { result.0 ≡ self.dir }
+        ensures name { result.1 ≡ self.name }
+    {
+        let NewSpot { dir, name } = self;
+        (dir, name)
+    }
+}
+
 /// A node that is to get the name of a file, which goes.
 #[derive(Drop, Debug)]
 pub struct Renaming {
     pub from: Spot,
-    pub to: Spot,
+    pub to: NewSpot,
     /// The id of the node that the first name stood for.
     pub node: u64,
     /// The id of the file that the second name stood for.

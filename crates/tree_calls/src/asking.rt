@@ -1,14 +1,16 @@
 //! REMOVE and RENAME on arrival: whether they are refused, done at once, or wait
 //! (`specs/Waiting.antt`).
 
-ghost use Rattle.std.specs.Prelude.{◌≡◌, IfOk, OnErr, IsOk};
+ghost use Rattle.std.specs.Prelude.{◌≡◌, ◌+◌, ◌≤◌, IfOk, OnErr, IsOk};
 ghost use Rattle.xdr_codec.specs.declared.answer.Answer.TheVariants as answer;
 ghost use Rattle.nfs3_calls.specs.declared.message.Nfs.TheVariants as nfs;
+ghost use Rattle.stored_tree.specs.Stores.{Keeps};
+ghost use Rattle.tree_calls.specs.Calling.{IsCalled, places_of};
 ghost use Rattle.tree_calls.specs.Changing.{no_side, said};
-ghost use Rattle.tree_calls.specs.Waiting.{busy_first, remove_comes, is_over_file, over_comes, rename_comes, removing, asks_remove, renaming, asks_rename};
+ghost use Rattle.tree_calls.specs.Waiting.{busy_first, remove_comes, is_over_file, over_comes, rename_comes, removing, asks_remove, renaming_under, asks_rename};
 
-use crate::asked::{Asked, Done, Outcome, Removing, Renaming};
-use crate::changing;
+use crate::asked::{Asked, Done, NewSpot, Outcome, Removing, Renaming};
+use crate::changing::{self, places};
 use crate::naming::spot_of;
 use crate::sides::{no_side, said};
 use file_tree::call::{Changed, Held, Planned, Standing};
@@ -16,6 +18,8 @@ use file_tree::tree::Tree;
 use lb_base::items::Name;
 use nfs3_calls::message::Nfs;
 use std::alloc::{AllocError, Global};
+use store::store::Store;
+use stored_tree::pair::NamePair;
 use xdr_codec::answer::Answer;
 use xdr_codec::status::Status;
 
@@ -115,9 +119,10 @@ pub fn asks_remove(
 }
 
 /// REMOVE in a directory. The one error is want of memory, where the call waits.
-pub fn remove(
+pub fn remove<S: Store>(
     alloc: Global,
     tree: &Tree,
+    store: &mut S,
     held: Held,
     busy: bool,
     dir: u64,
@@ -125,11 +130,16 @@ pub fn remove(
 ) -> Result<Outcome, AllocError>
     ensures ok { IfOk result (λ o. o ≡ removing dir name.now (asks_remove tree.now.tree held busy dir name.now)) }
     ensures takes { OnErr result (IsOk (asks_remove tree.now.tree held busy dir name.now)) }
+    ensures records { S.records store.new ≡ S.records store.old }
+    ensures spare { held.entries ≤ S.spare store.old → held.entries ≤ S.spare store.new }
+    ensures place { IfOk result (λ o. held.entries ≤ S.spare store.old → held.entries + places_of o ≤ S.spare store.new) }
+    ensures later { S.faults store.old ≤ S.faults store.new }
 {
     match asks_remove(tree, held, busy, dir, name.as_slice()) {
         Err(status) => Ok(Outcome::Answered(refuse_remove(status))),
         Ok(file) => {
             let spot = spot_of(alloc, dir, name)?;
+            store.reserve(places(held, 1)?)?;
             Ok(Outcome::Waits(Asked::Remove(Removing { spot, file })))
         }
     }
@@ -153,10 +163,11 @@ pub fn asks_rename(
 
 /// RENAME in a directory. The one error is want of memory, where the call is not refused, and the
 /// tree is then as it was.
-#[tactic(auto, using(crate::proofs::Steps::renamed_now))]
-pub fn rename(
+#[tactic(auto, using(crate::proofs::Steps::renamed_now, crate::proofs::Steps::renaming_refused, crate::proofs::Steps::renaming_waits, crate::proofs::Steps::kept_ready, crate::proofs::Steps::kept_same))]
+pub fn rename<S: Store>(
     alloc: Global,
     tree: &mut Tree,
+    store: &mut S,
     held: Held,
     busy: bool,
     dir: u64,
@@ -164,8 +175,12 @@ pub fn rename(
     to: u64,
     to_name: &Name,
 ) -> Result<Outcome, AllocError>
-    ensures ok { IfOk result (λ o. renaming tree.old.tree held dir name.now to to_name.now (asks_rename tree.old.tree held busy dir name.now to to_name.now) ≡ (tree.new.tree, o)) }
+    ensures ok { IfOk result (λ o. IsCalled (S.faults store.old) (S.faults store.new) (λ fault. renaming_under tree.old.tree held fault dir name.now to to_name.now (asks_rename tree.old.tree held busy dir name.now to to_name.now)) (tree.new.tree, o)) }
     ensures err { OnErr result (tree.new.tree ≡ tree.old.tree) }
+    ensures keeps { Keeps (S.records store.old) tree.old.tree (S.records store.new) tree.new.tree }
+    ensures spare { held.entries ≤ S.spare store.old → held.entries ≤ S.spare store.new }
+    ensures later { S.faults store.old ≤ S.faults store.new }
+    ensures place { IfOk result (λ o. held.entries ≤ S.spare store.old → held.entries + places_of o ≤ S.spare store.new) }
     ensures takes { OnErr result (IsOk (asks_rename tree.old.tree held busy dir name.now to to_name.now)) }
 {
     let comes = asks_rename(
@@ -180,13 +195,15 @@ pub fn rename(
     match comes {
         Err(status) => Ok(Outcome::Answered(changing::refuse_rename(status))),
         Ok(None) => {
-            let to_name = to_name.try_clone(alloc)?;
-            let done = changing::rename(tree, held, dir, name.as_slice(), to, to_name);
+            let to_name = NamePair::copy_of(alloc, to_name)?;
+            store.reserve(places(held, 2)?)?;
+            let done = changing::rename(tree, store, held, dir, name.as_slice(), to, to_name);
             Ok(Outcome::Answered(done))
         }
         Ok(Some((node, file))) => {
             let from = spot_of(alloc, dir, name)?;
-            let to = spot_of(alloc, to, to_name)?;
+            let to = NewSpot::new(alloc, to, to_name)?;
+            store.reserve(places(held, 2)?)?;
             Ok(Outcome::Waits(Asked::Rename(Renaming {
                 from,
                 to,

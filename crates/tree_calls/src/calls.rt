@@ -1,9 +1,11 @@
 //! Any call of NFS (`calls` in `specs/Waiting.antt`).
 
-ghost use Rattle.std.specs.Prelude.{◌≡◌, Bool, false, IfOk, OnErr};
+ghost use Rattle.std.specs.Prelude.{◌≡◌, ◌+◌, ◌≤◌, Bool, false, IfOk, OnErr};
 ghost use Rattle.file_tree.specs.declared.call.Held.{Held};
+ghost use Rattle.stored_tree.specs.Stores.{Keeps};
+ghost use Rattle.tree_calls.specs.Calling.{IsCalled, places_of, places_of_call};
 ghost use Rattle.tree_calls.specs.Telling.{id_of, told, TakesTold};
-ghost use Rattle.tree_calls.specs.Waiting.{creates_in, mkdirs_in, rmdirs_in, removes_in, renames_in, told_outcome, changes, calls, Takes};
+ghost use Rattle.tree_calls.specs.Waiting.{creates_in_under, mkdirs_in_under, rmdirs_in_under, removes_in, renames_in_under, told_outcome, changes, calls_under, Takes};
 ghost use Rattle.nfs3_calls.specs.declared.message.Nfs.TheVariants as nfs;
 
 use crate::asked::{Done, Outcome};
@@ -17,65 +19,108 @@ use nfs3_calls::making::{NewDir, NewFile};
 use nfs3_calls::message::Nfs;
 use nfs3_calls::place::{Place, Rename};
 use std::alloc::{AllocError, Global};
+use store::store::Store;
 
-fn create(alloc: Global, tree: &mut Tree, held: Held, new: &NewFile) -> Result<Done, AllocError>
-    ensures ok { IfOk result (λ o. creates_in tree.old.tree held new.now (id_of new.now.place.dir) ≡ (tree.new.tree, o)) }
+#[tactic(auto, using(crate::proofs::Steps::create_misnamed, crate::proofs::Steps::kept_same))]
+fn create<S: Store>(
+    alloc: Global,
+    tree: &mut Tree,
+    store: &mut S,
+    held: Held,
+    new: &NewFile,
+) -> Result<Done, AllocError>
+    ensures ok { IfOk result (λ o. IsCalled (S.faults store.old) (S.faults store.new) (λ fault. creates_in_under tree.old.tree held fault new.now (id_of new.now.place.dir)) (tree.new.tree, o)) }
     ensures err { OnErr result (tree.new.tree ≡ tree.old.tree) }
     ensures takes { OnErr result (Takes tree.old.tree held false (nfs.Create new.now)) }
+    ensures keeps { Keeps (S.records store.old) tree.old.tree (S.records store.new) tree.new.tree }
+    ensures spare { held.entries ≤ S.spare store.old → held.entries ≤ S.spare store.new }
+    ensures later { S.faults store.old ≤ S.faults store.new }
 {
     let mode = changing::mode_of(&new.how);
     match id_of(&new.place.dir) {
-        Ok(dir) => changing::create(alloc, tree, held, dir, &new.place.name, mode),
+        Ok(dir) => changing::create(alloc, tree, store, held, dir, &new.place.name, mode),
         Err(status) => Ok(changing::refuse_create(status)),
     }
 }
 
-fn mkdir(alloc: Global, tree: &mut Tree, held: Held, new: &NewDir) -> Result<Done, AllocError>
-    ensures ok { IfOk result (λ o. mkdirs_in tree.old.tree held new.now.place.name (id_of new.now.place.dir) ≡ (tree.new.tree, o)) }
+#[tactic(auto, using(crate::proofs::Steps::mkdir_misnamed, crate::proofs::Steps::kept_same))]
+fn mkdir<S: Store>(
+    alloc: Global,
+    tree: &mut Tree,
+    store: &mut S,
+    held: Held,
+    new: &NewDir,
+) -> Result<Done, AllocError>
+    ensures ok { IfOk result (λ o. IsCalled (S.faults store.old) (S.faults store.new) (λ fault. mkdirs_in_under tree.old.tree held fault new.now.place.name (id_of new.now.place.dir)) (tree.new.tree, o)) }
     ensures err { OnErr result (tree.new.tree ≡ tree.old.tree) }
     ensures takes { OnErr result (Takes tree.old.tree held false (nfs.MkDir new.now)) }
+    ensures keeps { Keeps (S.records store.old) tree.old.tree (S.records store.new) tree.new.tree }
+    ensures spare { held.entries ≤ S.spare store.old → held.entries ≤ S.spare store.new }
+    ensures later { S.faults store.old ≤ S.faults store.new }
 {
     match id_of(&new.place.dir) {
-        Ok(dir) => changing::mkdir(alloc, tree, held, dir, &new.place.name),
+        Ok(dir) => changing::mkdir(alloc, tree, store, held, dir, &new.place.name),
         Err(status) => Ok(changing::refuse_mkdir(status)),
     }
 }
 
-fn rmdir(tree: &mut Tree, held: Held, place: &Place) -> Done
-    ensures { rmdirs_in tree.old.tree held place.now.name (id_of place.now.dir) ≡ (tree.new.tree, result) }
+#[tactic(auto, using(crate::proofs::Steps::rmdir_misnamed, crate::proofs::Steps::kept_same))]
+fn rmdir<S: Store>(
+    tree: &mut Tree,
+    store: &mut S,
+    held: Held,
+    place: &Place,
+) -> Result<Done, AllocError>
+    ensures ok { IfOk result (λ o. IsCalled (S.faults store.old) (S.faults store.new) (λ fault. rmdirs_in_under tree.old.tree held fault place.now.name (id_of place.now.dir)) (tree.new.tree, o)) }
+    ensures err { OnErr result (tree.new.tree ≡ tree.old.tree) }
+    ensures takes { OnErr result (Takes tree.old.tree held false (nfs.RmDir place.now)) }
+    ensures keeps { Keeps (S.records store.old) tree.old.tree (S.records store.new) tree.new.tree }
+    ensures spare { held.entries ≤ S.spare store.old → held.entries ≤ S.spare store.new }
+    ensures later { S.faults store.old ≤ S.faults store.new }
 {
     match id_of(&place.dir) {
-        Ok(dir) => changing::rmdir(tree, held, dir, place.name.as_slice()),
-        Err(status) => changing::refuse_rmdir(status),
+        Ok(dir) => changing::rmdir(tree, store, held, dir, place.name.as_slice()),
+        Err(status) => Ok(changing::refuse_rmdir(status)),
     }
 }
 
-fn remove(
+fn remove<S: Store>(
     alloc: Global,
     tree: &Tree,
+    store: &mut S,
     held: Held,
     busy: bool,
     place: &Place,
 ) -> Result<Outcome, AllocError>
     ensures ok { IfOk result (λ o. o ≡ removes_in tree.now.tree held busy place.now.name (id_of place.now.dir)) }
     ensures takes { OnErr result (Takes tree.now.tree held busy (nfs.Remove place.now)) }
+    ensures records { S.records store.new ≡ S.records store.old }
+    ensures spare { held.entries ≤ S.spare store.old → held.entries ≤ S.spare store.new }
+    ensures place { IfOk result (λ o. held.entries ≤ S.spare store.old → held.entries + places_of o ≤ S.spare store.new) }
+    ensures later { S.faults store.old ≤ S.faults store.new }
 {
     match id_of(&place.dir) {
-        Ok(dir) => asking::remove(alloc, tree, held, busy, dir, &place.name),
+        Ok(dir) => asking::remove(alloc, tree, store, held, busy, dir, &place.name),
         Err(status) => Ok(Outcome::Answered(refuse_remove(status))),
     }
 }
 
-fn rename(
+#[tactic(auto, using(crate::proofs::Steps::rename_misnamed, crate::proofs::Steps::rename_to_misnamed, crate::proofs::Steps::kept_same))]
+fn rename<S: Store>(
     alloc: Global,
     tree: &mut Tree,
+    store: &mut S,
     held: Held,
     busy: bool,
     rename: &Rename,
 ) -> Result<Outcome, AllocError>
-    ensures ok { IfOk result (λ o. renames_in tree.old.tree held busy rename.now.from.name rename.now.to.name (id_of rename.now.from.dir) (id_of rename.now.to.dir) ≡ (tree.new.tree, o)) }
+    ensures ok { IfOk result (λ o. IsCalled (S.faults store.old) (S.faults store.new) (λ fault. renames_in_under tree.old.tree held busy fault rename.now.from.name rename.now.to.name (id_of rename.now.from.dir) (id_of rename.now.to.dir)) (tree.new.tree, o)) }
     ensures err { OnErr result (tree.new.tree ≡ tree.old.tree) }
     ensures takes { OnErr result (Takes tree.old.tree held busy (nfs.Rename rename.now)) }
+    ensures keeps { Keeps (S.records store.old) tree.old.tree (S.records store.new) tree.new.tree }
+    ensures spare { held.entries ≤ S.spare store.old → held.entries ≤ S.spare store.new }
+    ensures later { S.faults store.old ≤ S.faults store.new }
+    ensures place { IfOk result (λ o. held.entries ≤ S.spare store.old → held.entries + places_of o ≤ S.spare store.new) }
 {
     let dir = match id_of(&rename.from.dir) {
         Ok(dir) => dir,
@@ -86,6 +131,7 @@ fn rename(
             asking::rename(
                 alloc,
                 tree,
+                store,
                 held,
                 busy,
                 dir,
@@ -109,11 +155,12 @@ fn told(alloc: Global, tree: &Tree, call: &Nfs) -> Result<Option<Outcome>, Alloc
 }
 
 /// What a message comes to that changes nothing.
-#[tactic(auto, using(crate::proofs::Steps::told_calls, crate::proofs::Steps::told_takes))]
+#[tactic(auto, using(crate::proofs::Steps::told_calls, crate::proofs::Steps::told_takes, crate::proofs::Steps::told_waits))]
 fn unchanging(alloc: Global, tree: &Tree, call: &Nfs) -> Result<Option<Outcome>, AllocError>
     requires { changes call.now ≡ false }
-    ensures ok { (held : Held) (busy : Bool) → IfOk result (λ o. calls tree.now.tree held busy call.now ≡ (tree.now.tree, o)) }
+    ensures ok { (held : Held) (busy fault : Bool) → IfOk result (λ o. calls_under tree.now.tree held busy fault call.now ≡ (tree.now.tree, o)) }
     ensures takes { (held : Held) (busy : Bool) → OnErr result (Takes tree.now.tree held busy call.now) }
+    ensures nothing { IfOk result (λ o. places_of_call o ≡ 0) }
 {
     told(alloc, tree, call)
 }
@@ -122,33 +169,41 @@ fn unchanging(alloc: Global, tree: &Tree, call: &Nfs) -> Result<Option<Outcome>,
 /// waits or not; nothing where the message is no call. The one error is want of memory, where the
 /// call is not refused, and the tree is then as it was.
 #[tactic(auto, using(crate::proofs::Steps::some_answered, crate::proofs::Steps::some_outcome))]
-pub fn call(
+pub fn call<S: Store>(
     alloc: Global,
     tree: &mut Tree,
+    store: &mut S,
     call: &Nfs,
     held: Held,
     busy: bool,
 ) -> Result<Option<Outcome>, AllocError>
-    ensures ok { IfOk result (λ o. calls tree.old.tree held busy call.now ≡ (tree.new.tree, o)) }
+    ensures ok { IfOk result (λ o. IsCalled (S.faults store.old) (S.faults store.new) (λ fault. calls_under tree.old.tree held busy fault call.now) (tree.new.tree, o)) }
     ensures err { OnErr result (tree.new.tree ≡ tree.old.tree) }
     ensures takes { OnErr result (Takes tree.old.tree held busy call.now) }
+    ensures keeps { Keeps (S.records store.old) tree.old.tree (S.records store.new) tree.new.tree }
+    ensures spare { held.entries ≤ S.spare store.old → held.entries ≤ S.spare store.new }
+    ensures later { S.faults store.old ≤ S.faults store.new }
+    ensures place { IfOk result (λ o. held.entries ≤ S.spare store.old → held.entries + places_of_call o ≤ S.spare store.new) }
 {
     match call {
         Nfs::Create(new) => {
-            let done = create(alloc, tree, held, new)?;
+            let done = create(alloc, tree, store, held, new)?;
             Ok(Some(Outcome::Answered(done)))
         }
         Nfs::MkDir(new) => {
-            let done = mkdir(alloc, tree, held, new)?;
+            let done = mkdir(alloc, tree, store, held, new)?;
             Ok(Some(Outcome::Answered(done)))
         }
         Nfs::Remove(place) => {
-            let outcome = remove(alloc, tree, held, busy, place)?;
+            let outcome = remove(alloc, tree, store, held, busy, place)?;
             Ok(Some(outcome))
         }
-        Nfs::RmDir(place) => Ok(Some(Outcome::Answered(rmdir(tree, held, place)))),
+        Nfs::RmDir(place) => {
+            let done = rmdir(tree, store, held, place)?;
+            Ok(Some(Outcome::Answered(done)))
+        }
         Nfs::Rename(names) => {
-            let outcome = rename(alloc, tree, held, busy, names)?;
+            let outcome = rename(alloc, tree, store, held, busy, names)?;
             Ok(Some(outcome))
         }
         _ => unchanging(alloc, tree, call),

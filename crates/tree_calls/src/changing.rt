@@ -1,12 +1,14 @@
 //! The calls that change the tree at once: CREATE, MKDIR, RMDIR, and RENAME that is not over a file
 //! (`specs/Changing.antt`).
 
-ghost use Rattle.std.specs.Prelude.{◌≡◌, ◌<◌, Some, None, Ok, IfOk, OnOk, OnErr, IsOk};
+ghost use Rattle.std.specs.Prelude.{◌≡◌, ◌+◌, ◌<◌, ◌≤◌, Some, None, Ok, IfOk, OnOk, OnErr, IsOk};
 ghost use Rattle.xdr_codec.specs.Handle.{handle_bytes};
 ghost use Rattle.xdr_codec.specs.declared.answer.Answer.TheVariants as answer;
 ghost use Rattle.nfs3_calls.specs.declared.message.Nfs.TheVariants as nfs;
-ghost use Rattle.file_tree.specs.Step.{create_plan, may_mkdir};
-ghost use Rattle.tree_calls.specs.Changing.{before, no_side, said, made_of, created, made_directory, mode_of, removed_directory, refused_rename, renamed, creates, mkdirs, rmdirs, renames};
+ghost use Rattle.file_tree.specs.Step.{create_plan, may_mkdir, rmdir_plan};
+ghost use Rattle.stored_tree.specs.Stores.{Keeps};
+ghost use Rattle.tree_calls.specs.Calling.{IsCalled};
+ghost use Rattle.tree_calls.specs.Changing.{before, no_side, said, made_of, created, made_directory, mode_of, removed_directory, refused_rename, renamed, creates_under, mkdirs_under, rmdirs_under, renames_under};
 
 use crate::asked::Done;
 use crate::sides::{before, both_sides, did, known, no_side, said};
@@ -17,6 +19,9 @@ use nfs3_calls::change::{Before, Moved};
 use nfs3_calls::making::{HowMade, Made};
 use nfs3_calls::message::Nfs;
 use std::alloc::{AllocError, Global};
+use store::store::Store;
+use stored_tree::pair::NamePair;
+use stored_tree::steps;
 use xdr_codec::answer::Answer;
 use xdr_codec::handle::Handle;
 use xdr_codec::status::Status;
@@ -44,17 +49,39 @@ fn made_of(tree: &Tree, before: Option<Before>, dir: u64, handle: Handle, change
     }
 }
 
-/// What a node that is to be made needs: its handle, a copy of its name, and a place in the tree,
-/// which is as it was. The one error is want of memory.
-fn prepared(alloc: Global, tree: &mut Tree, name: &Name) -> Result<(Handle, Name), AllocError>
+/// How many places a store needs for all changes that wait, one an entry, and for so many more. The
+/// one error is want of memory, as which a number beyond 32 bits counts too.
+pub fn places(held: Held, more: u8) -> Result<u32, AllocError>
+    ensures { IfOk result (λ n. n ≡ held.entries + more) }
+{
+    if held.entries > u64::from(u32::MAX - 255) {
+        return Err(AllocError);
+    }
+    Ok(held.entries as u32 + u32::from(more))
+}
+
+/// What a node that is to be made needs: its handle, its name twice, a place in the tree and two in
+/// the store, which both are as they were. The one error is want of memory.
+fn prepared<S: Store>(
+    alloc: Global,
+    tree: &mut Tree,
+    store: &mut S,
+    held: Held,
+    name: &Name,
+) -> Result<(Handle, NamePair), AllocError>
     ensures handle { IfOk result (λ p. p.0 ≡ handle_bytes tree.old.tree.next) }
     ensures name { IfOk result (λ p. p.1 ≡ name.now) }
     ensures room { OnOk result (0 < tree.new.room) }
+    ensures spare { OnOk result (held.entries + 2 ≤ S.spare store.new) }
+    ensures more { S.spare store.old ≤ S.spare store.new }
+    ensures records { S.records store.new ≡ S.records store.old }
+    ensures later { S.faults store.old ≤ S.faults store.new }
     ensures tree { tree.new.tree ≡ tree.old.tree }
 {
     let handle = Handle::of_file(alloc, tree.head().next)?;
-    let name = name.try_clone(alloc)?;
+    let name = NamePair::copy_of(alloc, name)?;
     tree.reserve(1)?;
+    store.reserve(places(held, 2)?)?;
     Ok((handle, name))
 }
 
@@ -96,43 +123,51 @@ fn find_file(alloc: Global, tree: &Tree, dir: u64, there: Changed) -> Result<Don
 
 /// CREATE of a file that is to be made. The one error is want of memory, and the tree is then as it
 /// was.
-#[tactic(auto, using(crate::proofs::Steps::file_made, crate::proofs::Steps::file_id))]
-fn make_file(
+#[tactic(auto, using(crate::proofs::Steps::file_made, crate::proofs::Steps::file_id, crate::proofs::Steps::kept_ready, crate::proofs::Steps::kept_same))]
+fn make_file<S: Store>(
     alloc: Global,
     tree: &mut Tree,
+    store: &mut S,
     held: Held,
     dir: u64,
     name: &Name,
     mode: CreateMode,
 ) -> Result<Done, AllocError>
     requires { create_plan tree.old.tree held dir name.now mode ≡ Ok None }
-    ensures ok { IfOk result (λ o. creates tree.old.tree held dir name.now mode ≡ (tree.new.tree, o)) }
+    ensures ok { IfOk result (λ o. IsCalled (S.faults store.old) (S.faults store.new) (λ fault. creates_under tree.old.tree held fault dir name.now mode) (tree.new.tree, o)) }
     ensures err { OnErr result (tree.new.tree ≡ tree.old.tree) }
+    ensures keeps { Keeps (S.records store.old) tree.old.tree (S.records store.new) tree.new.tree }
+    ensures spare { held.entries ≤ S.spare store.old → held.entries ≤ S.spare store.new }
+    ensures later { S.faults store.old ≤ S.faults store.new }
 {
-    let (handle, name) = prepared(alloc, tree, name)?;
+    let (handle, name) = prepared(alloc, tree, store, held, name)?;
     let before = before(tree, dir);
-    let outcome = tree.create(dir, name, mode, held);
+    let outcome = steps::create(tree, store, dir, name, mode, held);
     Ok(created(tree, before, dir, handle, outcome))
 }
 
 /// CREATE in a directory. The one error is want of memory, where the call is not refused, and the
 /// tree is then as it was.
-#[tactic(auto, using(crate::proofs::Steps::create_refused, crate::proofs::Steps::create_there))]
-pub fn create(
+#[tactic(auto, using(crate::proofs::Steps::create_refused, crate::proofs::Steps::create_there, crate::proofs::Steps::kept_same))]
+pub fn create<S: Store>(
     alloc: Global,
     tree: &mut Tree,
+    store: &mut S,
     held: Held,
     dir: u64,
     name: &Name,
     mode: CreateMode,
 ) -> Result<Done, AllocError>
-    ensures ok { IfOk result (λ o. creates tree.old.tree held dir name.now mode ≡ (tree.new.tree, o)) }
+    ensures ok { IfOk result (λ o. IsCalled (S.faults store.old) (S.faults store.new) (λ fault. creates_under tree.old.tree held fault dir name.now mode) (tree.new.tree, o)) }
     ensures err { OnErr result (tree.new.tree ≡ tree.old.tree) }
+    ensures keeps { Keeps (S.records store.old) tree.old.tree (S.records store.new) tree.new.tree }
+    ensures spare { held.entries ≤ S.spare store.old → held.entries ≤ S.spare store.new }
+    ensures later { S.faults store.old ≤ S.faults store.new }
     ensures takes { OnErr result (IsOk (create_plan tree.old.tree held dir name.now mode)) }
 {
     match tree.plan_create(dir, name.as_slice(), mode, held) {
         Ok(Some(there)) => find_file(alloc, tree, dir, there),
-        Ok(None) => make_file(alloc, tree, held, dir, name, mode),
+        Ok(None) => make_file(alloc, tree, store, held, dir, name, mode),
         Err(status) => Ok(refuse_create(status)),
     }
 }
@@ -166,40 +201,48 @@ fn made_directory(
 
 /// MKDIR of a directory that is to be made. The one error is want of memory, and the tree is then as
 /// it was.
-#[tactic(auto, using(crate::proofs::Steps::directory_made, crate::proofs::Steps::directory_id))]
-fn make_directory(
+#[tactic(auto, using(crate::proofs::Steps::directory_made, crate::proofs::Steps::directory_id, crate::proofs::Steps::kept_ready, crate::proofs::Steps::kept_same))]
+fn make_directory<S: Store>(
     alloc: Global,
     tree: &mut Tree,
+    store: &mut S,
     held: Held,
     dir: u64,
     name: &Name,
 ) -> Result<Done, AllocError>
     requires { may_mkdir tree.old.tree held dir name.now ≡ Ok tt }
-    ensures ok { IfOk result (λ o. mkdirs tree.old.tree held dir name.now ≡ (tree.new.tree, o)) }
+    ensures ok { IfOk result (λ o. IsCalled (S.faults store.old) (S.faults store.new) (λ fault. mkdirs_under tree.old.tree held fault dir name.now) (tree.new.tree, o)) }
     ensures err { OnErr result (tree.new.tree ≡ tree.old.tree) }
+    ensures keeps { Keeps (S.records store.old) tree.old.tree (S.records store.new) tree.new.tree }
+    ensures spare { held.entries ≤ S.spare store.old → held.entries ≤ S.spare store.new }
+    ensures later { S.faults store.old ≤ S.faults store.new }
 {
-    let (handle, name) = prepared(alloc, tree, name)?;
+    let (handle, name) = prepared(alloc, tree, store, held, name)?;
     let before = before(tree, dir);
-    let outcome = tree.mkdir(dir, name, held);
+    let outcome = steps::mkdir(tree, store, dir, name, held);
     Ok(made_directory(tree, before, dir, handle, outcome))
 }
 
 /// MKDIR in a directory. The one error is want of memory, where the call is not refused, and the
 /// tree is then as it was.
-#[tactic(auto, using(crate::proofs::Steps::mkdir_refused))]
-pub fn mkdir(
+#[tactic(auto, using(crate::proofs::Steps::mkdir_refused, crate::proofs::Steps::kept_same))]
+pub fn mkdir<S: Store>(
     alloc: Global,
     tree: &mut Tree,
+    store: &mut S,
     held: Held,
     dir: u64,
     name: &Name,
 ) -> Result<Done, AllocError>
-    ensures ok { IfOk result (λ o. mkdirs tree.old.tree held dir name.now ≡ (tree.new.tree, o)) }
+    ensures ok { IfOk result (λ o. IsCalled (S.faults store.old) (S.faults store.new) (λ fault. mkdirs_under tree.old.tree held fault dir name.now) (tree.new.tree, o)) }
     ensures err { OnErr result (tree.new.tree ≡ tree.old.tree) }
+    ensures keeps { Keeps (S.records store.old) tree.old.tree (S.records store.new) tree.new.tree }
+    ensures spare { held.entries ≤ S.spare store.old → held.entries ≤ S.spare store.new }
+    ensures later { S.faults store.old ≤ S.faults store.new }
     ensures takes { OnErr result (IsOk (may_mkdir tree.old.tree held dir name.now)) }
 {
     match tree.plan_mkdir(dir, name.as_slice(), held) {
-        Ok(()) => make_directory(alloc, tree, held, dir, name),
+        Ok(()) => make_directory(alloc, tree, store, held, dir, name),
         Err(status) => Ok(refuse_mkdir(status)),
     }
 }
@@ -228,14 +271,50 @@ fn removed_directory(
     }
 }
 
-/// RMDIR in a directory. It takes no memory.
+// RMDIR of a directory that may go, for which the store has a place.
 #[tactic(auto, using(crate::proofs::Steps::rmdir_step))]
-pub fn rmdir(tree: &mut Tree, held: Held, dir: u64, name: &[u8]) -> Done
-    ensures { rmdirs tree.old.tree held dir name.now ≡ (tree.new.tree, result) }
+fn remove_directory<S: Store>(
+    tree: &mut Tree,
+    store: &mut S,
+    held: Held,
+    dir: u64,
+    name: &[u8],
+) -> Done
+    requires { held.entries + 1 ≤ S.spare store.old }
+    ensures done { IsCalled (S.faults store.old) (S.faults store.new) (λ fault. rmdirs_under tree.old.tree held fault dir name.now) (tree.new.tree, result) }
+    ensures keeps { Keeps (S.records store.old) tree.old.tree (S.records store.new) tree.new.tree }
+    ensures spare { held.entries ≤ S.spare store.new }
+    ensures later { S.faults store.old ≤ S.faults store.new }
 {
     let before = before(tree, dir);
-    let outcome = tree.rmdir(dir, name, held);
+    let outcome = steps::rmdir(tree, store, dir, name, held);
     removed_directory(tree, before, dir, outcome)
+}
+
+/// RMDIR in a directory. The one error is want of memory for the store's place, where the call is
+/// not refused, and the tree is then as it was.
+#[tactic(auto, using(crate::proofs::Steps::rmdir_refused, crate::proofs::Steps::called_ready, crate::proofs::Steps::kept_ready, crate::proofs::Steps::kept_same))]
+pub fn rmdir<S: Store>(
+    tree: &mut Tree,
+    store: &mut S,
+    held: Held,
+    dir: u64,
+    name: &[u8],
+) -> Result<Done, AllocError>
+    ensures ok { IfOk result (λ o. IsCalled (S.faults store.old) (S.faults store.new) (λ fault. rmdirs_under tree.old.tree held fault dir name.now) (tree.new.tree, o)) }
+    ensures err { OnErr result (tree.new.tree ≡ tree.old.tree) }
+    ensures keeps { Keeps (S.records store.old) tree.old.tree (S.records store.new) tree.new.tree }
+    ensures spare { held.entries ≤ S.spare store.old → held.entries ≤ S.spare store.new }
+    ensures later { S.faults store.old ≤ S.faults store.new }
+    ensures takes { OnErr result (IsOk (rmdir_plan tree.old.tree held dir name.now)) }
+{
+    match tree.plan_rmdir(dir, name, held) {
+        Ok(_) => {
+            store.reserve(places(held, 1)?)?;
+            Ok(remove_directory(tree, store, held, dir, name))
+        }
+        Err(status) => Ok(refuse_rmdir(status)),
+    }
 }
 
 /// The answer to a RENAME that is refused.
@@ -270,12 +349,24 @@ fn renamed(
     }
 }
 
-/// RENAME of a name in a directory to another. It takes no memory.
+/// RENAME of a name in a directory to another, for which the store has two places. It takes no memory.
 #[tactic(auto, using(crate::proofs::Steps::renamed_step))]
-pub fn rename(tree: &mut Tree, held: Held, dir: u64, name: &[u8], to: u64, to_name: Name) -> Done
-    ensures { renames tree.old.tree held dir name.now to to_name ≡ (tree.new.tree, result) }
+pub fn rename<S: Store>(
+    tree: &mut Tree,
+    store: &mut S,
+    held: Held,
+    dir: u64,
+    name: &[u8],
+    to: u64,
+    to_name: NamePair,
+) -> Done
+    requires { held.entries + 2 ≤ S.spare store.old }
+    ensures done { IsCalled (S.faults store.old) (S.faults store.new) (λ fault. renames_under tree.old.tree held fault dir name.now to to_name) (tree.new.tree, result) }
+    ensures keeps { Keeps (S.records store.old) tree.old.tree (S.records store.new) tree.new.tree }
+    ensures spare { held.entries ≤ S.spare store.new }
+    ensures later { S.faults store.old ≤ S.faults store.new }
 {
     let sides = (before(tree, dir), before(tree, to));
-    let outcome = tree.rename(dir, name, to, to_name, held);
+    let outcome = steps::rename(tree, store, dir, name, to, to_name, held);
     renamed(tree, sides, dir, to, outcome)
 }

@@ -1,9 +1,11 @@
 //! What waited, once nothing blocks it (`settles` and `commits` in `specs/Waiting.antt`). None of
 //! this takes memory.
 
-ghost use Rattle.std.specs.Prelude.{◌≡◌, Ok};
+ghost use Rattle.std.specs.Prelude.{◌≡◌, ◌+◌, ◌≤◌, Ok};
+ghost use Rattle.stored_tree.specs.Stores.{Keeps};
+ghost use Rattle.tree_calls.specs.Calling.{IsCalled};
 ghost use Rattle.tree_calls.specs.Changing.{before, removed};
-ghost use Rattle.tree_calls.specs.Waiting.{is_node, still, remove_again, rename_again, removes_if, renames_if, settles, committed, commits};
+ghost use Rattle.tree_calls.specs.Waiting.{is_node, still, remove_again, rename_again, removes_if_under, renames_if_under, settles_under, committed, commits_under, spot_of, entries_of};
 
 use crate::asked::{Asked, Committing, Done, Removing, Renaming};
 use crate::asking::refuse_remove;
@@ -14,6 +16,9 @@ use file_tree::tree::Tree;
 use hash_calls::call::Committed;
 use nfs3_calls::change::Before;
 use nfs3_calls::message::Nfs;
+use shared_bytes::SharedBytes;
+use store::store::Store;
+use stored_tree::steps;
 use tree_nodes::content::Content;
 use xdr_codec::answer::Answer;
 use xdr_codec::status::Status;
@@ -28,10 +33,10 @@ fn is_node(id: u64, found: Option<Standing>) -> bool
 }
 
 // Whether a name still stands for a node.
-fn still(tree: &Tree, spot: &Spot, id: u64) -> Result<(), Status>
-    ensures { result ≡ still tree.now.tree.nodes spot.now id }
+fn still(tree: &Tree, dir: u64, name: &[u8], id: u64) -> Result<(), Status>
+    ensures { result ≡ still tree.now.tree.nodes (spot_of dir name.now) id }
 {
-    if is_node(id, tree.stands_for(spot.dir, spot.name.as_slice())) {
+    if is_node(id, tree.stands_for(dir, name)) {
         Ok(())
     } else {
         Err(Status::Jukebox)
@@ -42,15 +47,18 @@ fn remove_again(tree: &Tree, removing: &Removing) -> Result<(), Status>
     ensures { result ≡ remove_again tree.now.tree.nodes removing.now }
 {
     let _version = tree.version(removing.file)?;
-    still(tree, &removing.spot, removing.file)
+    let spot = &removing.spot;
+    still(tree, spot.dir, spot.name.as_slice(), removing.file)
 }
 
 fn rename_again(tree: &Tree, renaming: &Renaming) -> Result<(), Status>
     ensures { result ≡ rename_again tree.now.tree.nodes renaming.now }
 {
     let _version = tree.version(renaming.file)?;
-    still(tree, &renaming.from, renaming.node)?;
-    still(tree, &renaming.to, renaming.file)
+    let from = &renaming.from;
+    still(tree, from.dir, from.name.as_slice(), renaming.node)?;
+    let to = &renaming.to;
+    still(tree, to.dir(), to.name(), renaming.file)
 }
 
 fn removed(tree: &Tree, before: Option<Before>, dir: u64, outcome: Result<Changed, Status>) -> Done
@@ -67,42 +75,70 @@ fn removed(tree: &Tree, before: Option<Before>, dir: u64, outcome: Result<Change
 
 // REMOVE of the file of a name, which was checked again.
 #[tactic(auto, using(crate::proofs::Steps::removed_step))]
-fn remove(tree: &mut Tree, spot: &Spot, held: Held) -> Done
-    ensures { removes_if tree.old.tree held spot.now (Ok tt) ≡ (tree.new.tree, result) }
+fn remove<S: Store>(tree: &mut Tree, store: &mut S, spot: &Spot, held: Held) -> Done
+    requires { held.entries + 1 ≤ S.spare store.old }
+    ensures done { IsCalled (S.faults store.old) (S.faults store.new) (λ fault. removes_if_under tree.old.tree held fault spot.now (Ok tt)) (tree.new.tree, result) }
+    ensures keeps { Keeps (S.records store.old) tree.old.tree (S.records store.new) tree.new.tree }
+    ensures spare { held.entries ≤ S.spare store.new }
+    ensures later { S.faults store.old ≤ S.faults store.new }
 {
     let before = before(tree, spot.dir);
-    let outcome = tree.remove(spot.dir, spot.name.as_slice(), held);
+    let outcome = steps::remove(tree, store, spot.dir, spot.name.as_slice(), held);
     removed(tree, before, spot.dir, outcome)
 }
 
-fn settle_remove(tree: &mut Tree, removing: &Removing, held: Held) -> Done
-    ensures { removes_if tree.old.tree held removing.now.spot (remove_again tree.old.tree.nodes removing.now) ≡ (tree.new.tree, result) }
+#[tactic(auto, using(crate::proofs::Steps::remove_again_refused, crate::proofs::Steps::remove_checked, crate::proofs::Steps::kept_same))]
+fn settle_remove<S: Store>(tree: &mut Tree, store: &mut S, removing: &Removing, held: Held) -> Done
+    requires { held.entries + 1 ≤ S.spare store.old }
+    ensures done { IsCalled (S.faults store.old) (S.faults store.new) (λ fault. removes_if_under tree.old.tree held fault removing.now.spot (remove_again tree.old.tree.nodes removing.now)) (tree.new.tree, result) }
+    ensures keeps { Keeps (S.records store.old) tree.old.tree (S.records store.new) tree.new.tree }
+    ensures spare { held.entries ≤ S.spare store.new }
+    ensures later { S.faults store.old ≤ S.faults store.new }
 {
     match remove_again(tree, removing) {
-        Ok(()) => remove(tree, &removing.spot, held),
+        Ok(()) => remove(tree, store, &removing.spot, held),
         Err(status) => refuse_remove(status),
     }
 }
 
-fn settle_rename(tree: &mut Tree, renaming: Renaming, held: Held) -> Done
-    ensures { renames_if tree.old.tree held renaming.from renaming.to (rename_again tree.old.tree.nodes renaming) ≡ (tree.new.tree, result) }
+#[tactic(auto, using(crate::proofs::Steps::rename_again_refused, crate::proofs::Steps::rename_checked, crate::proofs::Steps::kept_same))]
+fn settle_rename<S: Store>(tree: &mut Tree, store: &mut S, renaming: Renaming, held: Held) -> Done
+    requires { held.entries + 2 ≤ S.spare store.old }
+    ensures done { IsCalled (S.faults store.old) (S.faults store.new) (λ fault. renames_if_under tree.old.tree held fault renaming.from renaming.to (rename_again tree.old.tree.nodes renaming)) (tree.new.tree, result) }
+    ensures keeps { Keeps (S.records store.old) tree.old.tree (S.records store.new) tree.new.tree }
+    ensures spare { held.entries ≤ S.spare store.new }
+    ensures later { S.faults store.old ≤ S.faults store.new }
 {
     match rename_again(tree, &renaming) {
         Ok(()) => {
             let Renaming { from, to, .. } = renaming;
-            changing::rename(tree, held, from.dir, from.name.as_slice(), to.dir, to.name)
+            let (to, to_name) = to.split();
+            changing::rename(
+                tree,
+                store,
+                held,
+                from.dir,
+                from.name.as_slice(),
+                to,
+                to_name,
+            )
         }
         Err(status) => changing::refuse_rename(status),
     }
 }
 
-/// Makes a change that waited, if all is as it was when it came. It takes no memory.
-pub fn settle(tree: &mut Tree, asked: Asked, held: Held) -> Done
-    ensures { settles tree.old.tree held asked ≡ (tree.new.tree, result) }
+/// Makes a change that waited, if all is as it was when it came. The store has a place for each of its
+/// entries. It takes no memory.
+pub fn settle<S: Store>(tree: &mut Tree, store: &mut S, asked: Asked, held: Held) -> Done
+    requires { held.entries + entries_of asked ≤ S.spare store.old }
+    ensures done { IsCalled (S.faults store.old) (S.faults store.new) (λ fault. settles_under tree.old.tree held fault asked) (tree.new.tree, result) }
+    ensures keeps { Keeps (S.records store.old) tree.old.tree (S.records store.new) tree.new.tree }
+    ensures spare { held.entries ≤ S.spare store.new }
+    ensures later { S.faults store.old ≤ S.faults store.new }
 {
     match asked {
-        Asked::Remove(removing) => settle_remove(tree, &removing, held),
-        Asked::Rename(renaming) => settle_rename(tree, renaming, held),
+        Asked::Remove(removing) => settle_remove(tree, store, &removing, held),
+        Asked::Rename(renaming) => settle_rename(tree, store, renaming, held),
     }
 }
 
@@ -125,11 +161,24 @@ fn committed(term: u32, outcome: Result<Changed, Status>) -> Committing
 }
 
 /// Gives a file a content that waited, if the file is there; the answer tells how long a lease
-/// holds. It takes no memory.
+/// holds. The store gets another owner of its bytes. It takes no memory.
 #[tactic(auto, using(crate::proofs::Steps::committed_step))]
-pub fn commit(tree: &mut Tree, file: u64, content: Content, held: Held, term: u32) -> Committing
-    ensures { commits tree.old.tree held file content term ≡ (tree.new.tree, result) }
+pub fn commit<S: Store>(
+    tree: &mut Tree,
+    store: &mut S,
+    file: u64,
+    content: Content,
+    copy: SharedBytes,
+    held: Held,
+    term: u32,
+) -> Committing
+    requires copy { copy ≡ content }
+    requires spare { held.entries + 1 ≤ S.spare store.old }
+    ensures done { IsCalled (S.faults store.old) (S.faults store.new) (λ fault. commits_under tree.old.tree held fault file content term) (tree.new.tree, result) }
+    ensures keeps { Keeps (S.records store.old) tree.old.tree (S.records store.new) tree.new.tree }
+    ensures spare { held.entries ≤ S.spare store.new }
+    ensures later { S.faults store.old ≤ S.faults store.new }
 {
-    let outcome = tree.replace(file, content, held);
+    let outcome = steps::replace(tree, store, file, content, copy, held);
     committed(term, outcome)
 }

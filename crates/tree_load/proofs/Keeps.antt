@@ -17,9 +17,10 @@ use Rattle.tree_nodes.specs.Nodes.{with_id, with_nodes}
 use Rattle.tree_nodes.specs.declared.node.Node.{Node}
 use Rattle.tree_nodes.specs.declared.node.Body.TheVariants.{Directory, File}
 use Rattle.file_tree.specs.Kept.{node_record, node_records, body_records, content_records, AreRecordsOf, IsKept}
-use Rattle.file_tree.specs.Tree.{Tree, root, empty}
+use Rattle.file_tree.specs.Storing.{IsStored}
+use Rattle.file_tree.specs.Tree.{Tree, root}
 use Rattle.tree_load.proofs.Climbs.{IsFirst, first_is}
-use Rattle.tree_load.proofs.Whole.{NodeFacts, node_facts, ContentFacts, content_facts, well_first, at_both, later_ids, loaded_is, tree_apart, none_behind}
+use Rattle.tree_load.proofs.Whole.{NodeFacts, node_facts, ContentFacts, content_facts, well_first, at_both, later_ids, loaded_is, tree_apart, tree_whole, none_behind}
 use Rattle.tree_load.specs.Load.{first_node, first_content, place_of, is_at, is_before, is_directory_kind, content_fits, is_its_files, is_node_well, is_content_well, is_well, first_fault, fault, content_found, node_with, loaded_node, loaded_nodes, loaded_tree}
 use Rattle.tree_load.specs.Making.{node_list}
 
@@ -247,7 +248,7 @@ module _ (h : Head) (rs : List Kept) (none : first_fault h (kept.Head h ∷ rs) 
       id_contents h all id 1 0 rs none ∙ agree id (first_node 1 rs id) (first_content 1 rs id) refl refl ∙ ap content_records (sym (with_id_first h all 1 rs id))
       ∙ sym (ap (λ b. content_records (if b then Some (root h.changes) else with_id (loaded_nodes h all rs) id)) root_is)
 
-pub loaded_kept : (h : Head) (rs : List Kept) → fault h rs ≡ None → IsKept (kept.Head h ∷ rs) (loaded_tree h (kept.Head h ∷ rs))
+loaded_kept : (h : Head) (rs : List Kept) → fault h rs ≡ None → IsKept (kept.Head h ∷ rs) (loaded_tree h (kept.Head h ∷ rs))
 loaded_kept h rs well =
     let none = (none_behind h rs well).1 in
     let found = λ (id : ℕ). found_all (root h.changes ∷ loaded_nodes h (kept.Head h ∷ rs) rs) id (tree_apart h rs well) in
@@ -261,5 +262,5 @@ loaded_kept h rs well =
       },
     )
 
-pub empty_kept : IsKept [] empty
-empty_kept = inl (refl, refl)
+pub loaded_stored : (h : Head) (rs : List Kept) → fault h rs ≡ None → IsStored (kept.Head h ∷ rs) (loaded_tree h (kept.Head h ∷ rs))
+loaded_stored h rs well = (tree_whole h rs well, loaded_kept h rs well)

@@ -1,16 +1,19 @@
 -- What loading comes to.
-use Rattle.std.proofs.Common.{◌≡◌, ℕ, zero, suc, ◌+◌, ◌<◌, List, [], ◌∷◌, map, length, drop, Option, Some, None, Result, Ok, Err, Bool, true, false, refl, sym, ap, ◌∙◌, subst, arith, if◌then◌else◌}
+use Rattle.std.proofs.Common.{◌≡◌, ℕ, zero, suc, ◌+◌, ◌<◌, List, [], ◌∷◌, map, length, drop, Option, Some, None, Result, Ok, Err, Bool, true, false, ◌==◌, refl, sym, ap, ◌∙◌, subst, arith, if◌then◌else◌}
+use mathlib.Core.Bool.{true≢false}
 use Rattle.std.specs.List.{AllByRecursion}
+use Rattle.std.proofs.lemmas.Bool.Decides.{nat_tests}
 use Rattle.store.specs.declared.record.Head.{Head}
 use Rattle.store.specs.declared.record.Kept.{Kept}
 use Rattle.store.specs.declared.record.Kept.TheVariants as kept
 use Rattle.tree_nodes.specs.Nodes.{with_nodes, AreApart}
 use Rattle.tree_nodes.specs.View.{NodesState}
 use Rattle.tree_nodes.specs.declared.node.Node.{Node}
-use Rattle.file_tree.specs.Kept.{IsKept}
+use Rattle.file_tree.proofs.Stored.{empty_stored}
+use Rattle.file_tree.specs.Storing.{IsStored}
 use Rattle.file_tree.specs.Tree.{Tree, root, empty}
 use Rattle.file_tree.specs.View.{tree_of, IsWithinLimits}
-use Rattle.tree_load.proofs.Keeps.{loaded_kept, empty_kept}
+use Rattle.tree_load.proofs.Keeps.{loaded_stored}
 use Rattle.tree_load.proofs.Whole.{made_are, records_apart, tree_apart, tree_below, tree_limits}
 use Rattle.tree_load.specs.Load.{first_head, is_head_well, first_fault, fault, loaded_nodes, loaded_tree, load}
 use Rattle.tree_load.specs.Making.{node_list, content_with, node_by, AreIdsApart}
@@ -100,11 +103,16 @@ pub load_good : (records : List Kept) (h : Head) (t : Tree) → first_head recor
 unfolding load_if
 load_good records h t is well same = load_is records h is ∙ ap (λ o. load_if h records o) well ∙ ap (λ z. Ok z) (sym same)
 
-pub kept_none : (records : List Kept) (t : Tree) → records ≡ [] → t ≡ empty → IsKept records t
-kept_none records t none same = subst (λ rs. IsKept rs t) (sym none) (subst (λ z. IsKept [] z) (sym same) empty_kept)
+stored_none : (records : List Kept) (t : Tree) → records ≡ [] → t ≡ empty → IsStored records t
+stored_none records t none same = subst (λ rs. IsStored rs t) (sym none) (subst (λ z. IsStored [] z) (sym same) empty_stored)
 
-pub kept_good : (records : List Kept) (h : Head) (t : Tree) → first_head records ≡ Some h → fault h (drop 1 records) ≡ None → t ≡ loaded_tree h records → IsKept records t
-kept_good records h t is well same =
+-- len: how many records a vector has
+pub stored_no : (records : List Kept) (len : ℕ) (t : Tree) → len ≡ length records → true ≡ (len == 0) → t ≡ empty → IsStored records t
+stored_no [] len t long none same = stored_none [] t refl same
+stored_no (r ∷ rs) len t long none same = let other : (len == 0) ≡ false = grind (arith, nat_tests, long) in absurd (true≢false (none ∙ other))
+
+pub stored_good : (records : List Kept) (h : Head) (t : Tree) → first_head records ≡ Some h → fault h (drop 1 records) ≡ None → t ≡ loaded_tree h records → IsStored records t
+stored_good records h t is well same =
     let all = kept.Head h ∷ drop 1 records in
     let there : loaded_tree h all ≡ t = ap (λ z. loaded_tree h z) (sym (head_first records h is)) ∙ sym same in
-    subst (λ rs. IsKept rs t) (sym (head_first records h is)) (subst (λ z. IsKept all z) there (loaded_kept h (drop 1 records) well))
+    subst (λ rs. IsStored rs t) (sym (head_first records h is)) (subst (λ z. IsStored all z) there (loaded_stored h (drop 1 records) well))

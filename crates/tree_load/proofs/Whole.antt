@@ -11,7 +11,7 @@ use Rattle.store.specs.declared.record.Kept.TheVariants as kept
 use Rattle.store.specs.declared.record.NodeKind.{NodeKind}
 use Rattle.store.specs.declared.record.NodeKind.TheVariants as node_kind
 use Rattle.store.specs.declared.record.NodeRecord.{NodeRecord}
-use Rattle.tree_nodes.proofs.Gathering.{AreNew, new_first, new_moved}
+use Rattle.tree_nodes.proofs.Gathering.{AreNew, new_first, new_moved, found_all}
 use Rattle.tree_nodes.proofs.Lists.{all_with}
 use Rattle.tree_nodes.proofs.Order.{is_named, named_is, not_true}
 use Rattle.tree_nodes.specs.Nodes.{with_node, with_nodes, Differ, AreApart}
@@ -20,6 +20,7 @@ use Rattle.tree_nodes.specs.declared.node.Node.{Node}
 use Rattle.tree_nodes.specs.declared.node.Body.TheVariants.{Directory, File}
 use Rattle.file_tree.proofs.Limits.{apart_with, size_with}
 use Rattle.file_tree.specs.Step.{changes_most, file_most, tree_most}
+use Rattle.file_tree.specs.Storing.{AreWhole}
 use Rattle.file_tree.specs.Tree.{root, content_of, contents_size}
 use Rattle.file_tree.specs.View.{IsNodeBounded, IsWithinLimits}
 use Rattle.file_tree.specs.View as view
@@ -383,3 +384,11 @@ module _ (h : Head) (rs : List Kept) (well : fault h rs ≡ None) where
         apart = subst view.AreIdsApart (sym nodes_are) (apart_nodes [] nodes tt (new_first nodes tree_apart));
         size = subst (λ n. n ≤ tree_most) (sym (ap contents_size nodes_are ∙ size_nodes [] nodes ∙ zero_plus (contents_size nodes))) size_small;
       }
+
+  -- no id stands twice, each is below the next, and the root is there
+  pub tree_whole : AreWhole (with_nodes [] nodes) h.next
+  tree_whole = record {
+    apart = apart_nodes [] nodes tt (new_first nodes tree_apart);
+    below = all_nodes (λ n. n.id < h.next) [] nodes tt tree_below;
+    rooted = (root h.changes, found_all nodes 1 tree_apart, refl);
+  }

@@ -1,7 +1,7 @@
 //! Loading a tree (`load` in `specs/Load.antt`).
 
 ghost use Rattle.std.specs.Prelude.{◌≡◌, [], ◌∷◌, length, drop, IfOk, None, Some, Option};
-ghost use Rattle.file_tree.specs.Kept.{IsKept};
+ghost use Rattle.file_tree.specs.Storing.{IsStored};
 ghost use Rattle.store.specs.declared.record.Kept.TheVariants as kept;
 ghost use Rattle.tree_load.specs.Load.{load, fault, first_head, loaded_tree};
 ghost use Rattle.tree_load.specs.Loads.{Loads};
@@ -50,10 +50,10 @@ fn tree_of(alloc: Global, head: Head, records: Vec<Kept>) -> Result<Tree, AllocE
 
 /// The tree of these records; an empty list is the root alone. Else the first record that breaks a
 /// rule is named, or memory ran out.
-#[tactic(auto, using(crate::proofs::Loading::load_none, crate::proofs::Loading::load_headless, crate::proofs::Loading::load_bad, crate::proofs::Loading::load_good, crate::proofs::Loading::kept_none, crate::proofs::Loading::kept_good))]
+#[tactic(auto, using(crate::proofs::Loading::load_none, crate::proofs::Loading::load_headless, crate::proofs::Loading::load_bad, crate::proofs::Loading::load_good))]
 pub fn load(alloc: Global, records: Vec<Kept>) -> Result<Tree, LoadError>
     ensures exact { Loads (load records.items) result }
-    ensures kept { IfOk result (λ t. IsKept records.items t.tree) }
+    ensures stored { IfOk result (λ t. IsStored records.items t.tree) }
 {
     if records.is_empty() {
         let tree = Tree::new(alloc)?;

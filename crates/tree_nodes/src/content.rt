@@ -5,14 +5,16 @@ ghost use Rattle.sha1.specs.Sha1.{sha1};
 ghost use Rattle.chunk_cut.specs.Chunks.{chunks_of};
 
 use chunk_cut::chunk::Chunk;
-use lb_base::items::{Bytes, Items};
+use lb_base::items::Items;
+use shared_bytes::SharedBytes;
 use std::alloc::{AllocError, Global};
 use std::marker::Model;
 
-/// The bytes of a file, cut into chunks and hashed once, when they came. Contracts see the bytes.
+/// The bytes of a file, cut into chunks and hashed once, when they came. A store may own them too.
+/// Contracts see the bytes.
 #[derive(Drop, Debug)]
 pub struct Content {
-    bytes: Bytes,
+    bytes: SharedBytes,
     chunks: Items<Chunk>,
     digest: [u8; 20],
 }
@@ -35,14 +37,14 @@ impl Content {
         ensures { result ≡ [] }
     {
         Content {
-            bytes: Items::new(alloc),
+            bytes: SharedBytes::empty(),
             chunks: Items::new(alloc),
             digest: chunk_cut::digest(&[]),
         }
     }
 
     /// A content of these bytes. The one error is want of memory.
-    pub fn new(alloc: Global, bytes: Bytes) -> Result<Content, AllocError>
+    pub fn new(alloc: Global, bytes: SharedBytes) -> Result<Content, AllocError>
         ensures { IfOk result (λ c. c ≡ bytes) }
     {
         let chunks = chunk_cut::cut(alloc, bytes.as_slice())?;
@@ -50,7 +52,7 @@ impl Content {
     }
 
     /// A content of these bytes, whose chunks were cut before. It takes no memory.
-    pub fn with_chunks(bytes: Bytes, chunks: Items<Chunk>) -> Content
+    pub fn with_chunks(bytes: SharedBytes, chunks: Items<Chunk>) -> Content
         requires { chunks ≡ chunks_of bytes }
         ensures { result ≡ bytes }
     {
@@ -80,7 +82,7 @@ impl Content {
     pub fn is_empty(&self) -> bool
         ensures { IsTrue result ↔ (self.now ≡ []) }
     {
-        self.bytes.is_empty()
+        self.as_slice().is_empty()
     }
 
     /// The chunks, in order, each with its start.

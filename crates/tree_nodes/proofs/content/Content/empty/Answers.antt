@@ -4,4 +4,4 @@ use Rattle.tree_nodes.proofs.content.Content.empty.Goals as goal
 
 pub invariant_of-result : goal.invariant_of-result
 unfolding closed_ends
-invariant_of-result c = rw (c.new.ensures, c.new-2.ensures) (refl, c.digest.ensures)
+invariant_of-result c = rw (c.new.ensures, c.empty.ensures) (refl, c.digest.ensures)

@@ -2,7 +2,7 @@ use Rattle.std.proofs.Common.{◌≡◌, ℕ, List, [], ◌∷◌, ◌++◌, ◌
 use Rattle.temp_files.specs.Laid.{laid}
 use Rattle.temp_files.specs.Pieces.{Piece}
 use Rattle.temp_files.proofs.Laying.{laid_same, lengths_with}
-use Rattle.temp_files.proofs.pieces.move_first.Goals as goal
+use Rattle.temp_files.proofs.gathering.move_first.Goals as goal
 
 pub returns-in-Ok-clause-lengths : goal.returns-in-Ok-clause-lengths
 returns-in-Ok-clause-lengths c =

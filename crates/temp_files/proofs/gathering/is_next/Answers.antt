@@ -1,7 +1,7 @@
 use Rattle.std.proofs.Common.{arith}
 use Rattle.std.proofs.lemmas.Bool.{leb-true}
 use Rattle.temp_files.proofs.Laying.{next_is}
-use Rattle.temp_files.proofs.pieces.is_next.Goals as goal
+use Rattle.temp_files.proofs.gathering.is_next.Goals as goal
 
 pub returns : goal.returns
 returns c = λ fits.

@@ -1,0 +1,55 @@
+-- Steps of a tree that a store is asked for first.
+use Rattle.std.specs.Prelude.{◌≡◌, ℕ, List, Option, Some, None, Result, Ok, Err, Bool, true, false, ◌==◌, if◌then◌else◌}
+use Rattle.lb_base.specs.Causes.{Rose}
+use Rattle.xdr_codec.specs.declared.status.Status.{Status}
+use Rattle.xdr_codec.specs.declared.status.Status.TheVariants as status
+use Rattle.store.specs.declared.record.Kept.{Kept}
+use Rattle.store.specs.declared.record.NodeKind.{NodeKind}
+use Rattle.store.specs.declared.record.NodeKind.TheVariants as node_kind
+use Rattle.tree_nodes.specs.declared.node.Node.{Node}
+use Rattle.file_tree.specs.Storing.{kind_of, IsStored}
+use Rattle.file_tree.specs.Tree.{Tree}
+use Rattle.file_tree.specs.declared.call.Changed.{Changed}
+
+-- ---- where the store fails, nothing is done, and IO is told; of a step that counts no change no store is asked
+
+abbrev pub fails : Tree → Tree × Result Changed Status → Result Changed Status → Tree × Result Changed Status
+fails t p (Err s) = p
+fails t p (Ok c) = if p.0.changes == t.changes then p else (t, Err status.Io)
+
+-- the step p of the tree t; fault: whether the store fails, if it is asked
+abbrev pub stored : Bool → Tree → Tree × Result Changed Status → Tree × Result Changed Status
+stored false t p = p
+stored true t p = fails t p p.1
+
+-- ---- what a caller knows
+
+-- a store that failed has counted it
+abbrev pub IsFault : Bool → ℕ → ℕ → Type 0
+IsFault false before after = Unit {0}
+IsFault true before after = Rose before after
+
+-- the tree and the answer are those of the step, where the store failed or didn't
+pub record IsStep (before after : ℕ) (t : Tree) (p q : Tree × Result Changed Status) : Type 0 where
+  pub fault : Bool
+  pub cause : IsFault fault before after
+  pub is : stored fault t p ≡ q
+
+-- a store that tells its records, and kept the tree, keeps the tree that is left
+abbrev pub Keeps : Option (List Kept) → Tree → Option (List Kept) → Tree → Type 0
+Keeps None t new u = new ≡ None
+Keeps (Some records) t new u = (later : List Kept) × (new ≡ Some later) × (IsStored records t → IsStored later u)
+
+-- ---- the record of a node that gets another name
+
+abbrev pub kind_if : Bool → NodeKind
+kind_if true = node_kind.File
+kind_if false = node_kind.Directory
+
+abbrev pub kind_found : Option Node → NodeKind
+kind_found None = node_kind.Directory
+kind_found (Some n) = kind_of n.body
+
+abbrev pub id_found : Option Node → ℕ
+id_found None = 0
+id_found (Some n) = n.id

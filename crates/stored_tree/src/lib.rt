@@ -1,0 +1,8 @@
+//! The steps of a tree with the store that keeps it: the store is asked first, and where it fails
+//! the tree stays as it is. `specs/Stores.antt` says what a step comes to then, and what the store
+//! keeps; the steps themselves are defined in `file_tree`.
+#![tactic(auto)]
+
+mod asking;
+pub mod pair;
+pub mod steps;
