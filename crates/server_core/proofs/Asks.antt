@@ -1,6 +1,6 @@
 -- The calls of NFS: what GETLEASE and READ tell of a file, and what a call leaves that has no memory taken for it.
-use Rattle.std.proofs.Common.{◌≡◌, refl, sym, ap, ◌∙◌, subst, ℕ, ◌+◌, ◌≤◌, List, [], ◌∷◌, ◌++◌, length, Option, Some, None, Result, Ok, Err, Bool, true, false, true≢false, arith, inl, inr}
-use Rattle.std.specs.Prelude.{is_ok, vec_capacity}
+use Rattle.std.proofs.Common.{◌≡◌, refl, sym, ap, ◌∙◌, subst, ℕ, ◌+◌, ◌≤◌, List, length, Option, Some, None, Result, Ok, Err, Bool, true, false, true≢false, arith}
+use Rattle.std.specs.Prelude.{is_ok}
 use Rattle.std.proofs.lemmas.List.{append-nil}
 use Rattle.xdr_codec.specs.Handle.{file_of}
 use Rattle.xdr_codec.specs.declared.status.Status.{Status}
@@ -27,7 +27,9 @@ use Rattle.file_tree.specs.declared.call.Held.{Held}
 use Rattle.file_tree.specs.declared.entry.Entry.{Entry as TreeEntry}
 use Rattle.tree_calls.specs.Telling.{id_of, or_bad_handle, answer_of, piece, leased, told}
 use Rattle.tree_calls.specs.Changing.{before, with_done, mode_of, created as created_answer, made_directory, removed_directory}
-use Rattle.tree_calls.specs.Waiting.{calls, enters, asks_remove, asks_rename, removes_in, removing, renames_in, renaming, told_outcome, creates_in, mkdirs_in, rmdirs_in}
+use Rattle.stored_tree.specs.Stores.{stored}
+use Rattle.tree_calls.specs.Calling.{IsCalled}
+use Rattle.tree_calls.specs.Waiting.{calls_under, enters, asks_remove, asks_rename, removes_in, removing, renames_in_under, renaming_under, told_outcome, creates_in_under, mkdirs_in_under, rmdirs_in_under}
 use Rattle.tree_calls.specs.declared.asked.Done.{Done}
 use Rattle.tree_calls.specs.declared.asked.Outcome.{Outcome}
 use Rattle.tree_calls.specs.declared.asked.Outcome.TheVariants.{Answered, Waits}
@@ -37,7 +39,8 @@ use Rattle.server_core.specs.declared.state.ServerState.{ServerState}
 use Rattle.server_core.specs.Answers.{node_with, node_found, node_named, node_of, lease_answer, read_answer}
 use Rattle.server_core.specs.Closing.{to, has_waiting, count_of, one_if}
 use Rattle.server_core.specs.State.{State, held}
-use Rattle.server_core.specs.Step.{called, asks, asks_tree}
+use Rattle.server_core.specs.Served.{IsServed}
+use Rattle.server_core.specs.Step.{called_under, asks, asks_tree}
 use Rattle.server_core.specs.View.{IsBounded, HasRoom, RoomFor}
 
 -- ---- READ, as the tree's calls have it
@@ -99,20 +102,27 @@ told_as s session xid m n is =
     ap (λ (x : Nfs). (s, to session (message.Answer xid (body.Nfs x)))) (sym is)
     ∙ ap (λ (l : List Entry). (record s { journal = l }, to session (message.Answer xid (body.Nfs n)))) (sym (append-nil s.journal))
 
-pub called_asks : (s : State) (session xid : ℕ) (m : Nfs) → called s session xid (body.Nfs m) ≡ asks_tree s session xid (calls s.tree (held s.waiting) (has_waiting s.waiting session) m)
-called_asks s session xid nfs.Null = told_as s session xid nfs.NullAnswer nfs.NullAnswer refl
-called_asks s session xid (nfs.Read r) = told_as s session xid (nfs.ReadAnswer (read_answer (node_of s.tree r.handle) r)) (nfs.ReadAnswer (answer_of None (piece s.tree.nodes r))) (ap (λ x. nfs.ReadAnswer x) (read_told s.tree r))
-called_asks s session xid m = refl
+pub called_asks : (s : State) (fault : Bool) (session xid : ℕ) (m : Nfs) → called_under s fault session xid (body.Nfs m) ≡ asks_tree s session xid (calls_under s.tree (held s.waiting) (has_waiting s.waiting session) fault m)
+called_asks s fault session xid nfs.Null = told_as s session xid nfs.NullAnswer nfs.NullAnswer refl
+called_asks s fault session xid (nfs.Read r) = told_as s session xid (nfs.ReadAnswer (read_answer (node_of s.tree r.handle) r)) (nfs.ReadAnswer (answer_of None (piece s.tree.nodes r))) (ap (λ x. nfs.ReadAnswer x) (read_told s.tree r))
+called_asks s fault session xid m = refl
 
 -- the same by what was found of the changes that wait, and by what the tree makes of the call
-pub called_by : (s new : State) (session xid : ℕ) (m : Nfs) (h : Held) (busy : Bool) (t : Tree) (o : Option Outcome) (step : ServerStep)
-    → h ≡ held s.waiting → busy ≡ has_waiting s.waiting session → calls s.tree h busy m ≡ (t, o) → asks (record s { tree = t }) session xid o ≡ (new, step) → called s session xid (body.Nfs m) ≡ (new, step)
-called_by s new session xid m h busy t o step needs has done made =
-    called_asks s session xid m
-    ∙ ap (λ (x : Held). asks_tree s session xid (calls s.tree x (has_waiting s.waiting session) m)) (sym needs)
-    ∙ ap (λ (b : Bool). asks_tree s session xid (calls s.tree h b m)) (sym has)
+called_by : (s new : State) (fault : Bool) (session xid : ℕ) (m : Nfs) (h : Held) (busy : Bool) (t : Tree) (o : Option Outcome) (step : ServerStep)
+    → h ≡ held s.waiting → busy ≡ has_waiting s.waiting session → calls_under s.tree h busy fault m ≡ (t, o) → asks (record s { tree = t }) session xid o ≡ (new, step) → called_under s fault session xid (body.Nfs m) ≡ (new, step)
+called_by s new fault session xid m h busy t o step needs has done made =
+    called_asks s fault session xid m
+    ∙ ap (λ (x : Held). asks_tree s session xid (calls_under s.tree x (has_waiting s.waiting session) fault m)) (sym needs)
+    ∙ ap (λ (b : Bool). asks_tree s session xid (calls_under s.tree h b fault m)) (sym has)
     ∙ ap (λ (p : Tree × Option Outcome). asks_tree s session xid p) done
     ∙ made
+
+-- where the store failed or didn't
+pub served_by : (before after : ℕ) (s new : State) (session xid : ℕ) (m : Nfs) (h : Held) (busy : Bool) (t : Tree) (o : Option Outcome) (step : ServerStep)
+    → h ≡ held s.waiting → busy ≡ has_waiting s.waiting session → IsCalled before after (λ fault. calls_under s.tree h busy fault m) (t, o) → asks (record s { tree = t }) session xid o ≡ (new, step)
+    → IsServed before after (λ fault. called_under s fault session xid (body.Nfs m)) (new, step)
+served_by before after s new session xid m h busy t o step needs has done made =
+    record { fault = done.fault; cause = done.cause; is = called_by s new done.fault session xid m h busy t o step needs has done.is made }
 
 -- ---- a call that is refused, or changes nothing, makes no entry and doesn't wait
 
@@ -125,36 +135,48 @@ quiet_told : (o : Option Nfs) → IsQuiet (told_outcome o)
 quiet_told None = tt
 quiet_told (Some m) = (refl, refl)
 
-module _ (t : Tree) (h : Held) (busy : Bool) where
-  quiet_made : (b : Option Before) (dir : ℕ) (name : List ℕ) (p : Result (Option Changed) Status) → is_ok p ≡ false → IsQuiet (Some (Answered (with_done (created_answer b dir) (created t dir name p)).1))
-  quiet_made b dir name (Err s) e = (refl, refl)
+-- a step that is refused is so whatever the store does
+same_refused : (fault : Bool) (t : Tree) (s : Status) → stored fault t (t, Err s) ≡ (t, Err s)
+same_refused false t s = refl
+same_refused true t s = refl
+
+module _ (t : Tree) (h : Held) (busy fault : Bool) where
+  abbrev Step : Type 0
+  Step = Tree × Result Changed Status
+
+  -- the entries of what is said of a step
+  abbrev said_of : (List TreeNode → Result Changed Status → Done) → Step → Option Outcome
+  said_of f p = Some (Answered (with_done f p).1)
+
+  quiet_made : (b : Option Before) (dir : ℕ) (name : List ℕ) (p : Result (Option Changed) Status) → is_ok p ≡ false → IsQuiet (said_of (created_answer b dir) (stored fault t (created t dir name p)))
+  quiet_made b dir name (Err s) e = subst (λ (p : Step). IsQuiet (said_of (created_answer b dir) p)) (sym (same_refused fault t s)) (refl, refl)
   quiet_made b dir name (Ok o) e = absurd (true≢false e)
 
-  quiet_directory : (b : Option Before) (dir : ℕ) (name : List ℕ) (p : Result Unit Status) → is_ok p ≡ false → IsQuiet (Some (Answered (with_done (made_directory b dir) (mkdir_if t dir name p)).1))
-  quiet_directory b dir name (Err s) e = (refl, refl)
+  quiet_directory : (b : Option Before) (dir : ℕ) (name : List ℕ) (p : Result Unit Status) → is_ok p ≡ false → IsQuiet (said_of (made_directory b dir) (stored fault t (mkdir_if t dir name p)))
+  quiet_directory b dir name (Err s) e = subst (λ (p : Step). IsQuiet (said_of (made_directory b dir) p)) (sym (same_refused fault t s)) (refl, refl)
   quiet_directory b dir name (Ok o) e = absurd (true≢false e)
 
-  quiet_gone : (b : Option Before) (dir : ℕ) (p : Result Changed Status) → is_ok p ≡ false → IsQuiet (Some (Answered (with_done (removed_directory b dir) (remove_if t dir p)).1))
-  quiet_gone b dir (Err s) e = (refl, refl)
+  quiet_gone : (b : Option Before) (dir : ℕ) (p : Result Changed Status) → is_ok p ≡ false → IsQuiet (said_of (removed_directory b dir) (stored fault t (remove_if t dir p)))
+  quiet_gone b dir (Err s) e = subst (λ (p : Step). IsQuiet (said_of (removed_directory b dir) p)) (sym (same_refused fault t s)) (refl, refl)
   quiet_gone b dir (Ok o) e = absurd (true≢false e)
 
   quiet_removing : (dir : ℕ) (name : List ℕ) (p : Result ℕ Status) → is_ok p ≡ false → IsQuiet (Some (removing dir name p))
   quiet_removing dir name (Err s) e = (refl, refl)
   quiet_removing dir name (Ok o) e = absurd (true≢false e)
 
-  quiet_renaming : (dir : ℕ) (name : List ℕ) (to : ℕ) (to_name : List ℕ) (p : Result (Option (ℕ × ℕ)) Status) → is_ok p ≡ false → IsQuiet (Some (renaming t h dir name to to_name p).1)
+  quiet_renaming : (dir : ℕ) (name : List ℕ) (to : ℕ) (to_name : List ℕ) (p : Result (Option (ℕ × ℕ)) Status) → is_ok p ≡ false → IsQuiet (Some (renaming_under t h fault dir name to to_name p).1)
   quiet_renaming dir name to to_name (Err s) e = (refl, refl)
   quiet_renaming dir name to to_name (Ok o) e = absurd (true≢false e)
 
-  pub quiet : (m : Nfs) → enters t h busy m ≡ false → IsQuiet (calls t h busy m).1
+  pub quiet : (m : Nfs) → enters t h busy m ≡ false → IsQuiet (calls_under t h busy fault m).1
   quiet (nfs.Create f) e = by (id_of f.place.dir) e
     where
-      by : (r : Result ℕ Status) → is_ok (r >>= λ dir. create_plan t h dir f.place.name (mode_of f.how)) ≡ false → IsQuiet (Some (Answered (creates_in t h f r).1))
+      by : (r : Result ℕ Status) → is_ok (r >>= λ dir. create_plan t h dir f.place.name (mode_of f.how)) ≡ false → IsQuiet (Some (Answered (creates_in_under t h fault f r).1))
       by (Err s) g = (refl, refl)
       by (Ok dir) g = quiet_made (before t.nodes dir) dir f.place.name (create_plan t h dir f.place.name (mode_of f.how)) g
   quiet (nfs.MkDir d) e = by (id_of d.place.dir) e
     where
-      by : (r : Result ℕ Status) → is_ok (r >>= λ dir. may_mkdir t h dir d.place.name) ≡ false → IsQuiet (Some (Answered (mkdirs_in t h d.place.name r).1))
+      by : (r : Result ℕ Status) → is_ok (r >>= λ dir. may_mkdir t h dir d.place.name) ≡ false → IsQuiet (Some (Answered (mkdirs_in_under t h fault d.place.name r).1))
       by (Err s) g = (refl, refl)
       by (Ok dir) g = quiet_directory (before t.nodes dir) dir d.place.name (may_mkdir t h dir d.place.name) g
   quiet (nfs.Remove p) e = by (id_of p.dir) e
@@ -164,12 +186,12 @@ module _ (t : Tree) (h : Held) (busy : Bool) where
       by (Ok dir) g = quiet_removing dir p.name (asks_remove t h busy dir p.name) g
   quiet (nfs.RmDir p) e = by (id_of p.dir) e
     where
-      by : (r : Result ℕ Status) → is_ok (r >>= λ dir. rmdir_plan t h dir p.name) ≡ false → IsQuiet (Some (Answered (rmdirs_in t h p.name r).1))
+      by : (r : Result ℕ Status) → is_ok (r >>= λ dir. rmdir_plan t h dir p.name) ≡ false → IsQuiet (Some (Answered (rmdirs_in_under t h fault p.name r).1))
       by (Err s) g = (refl, refl)
       by (Ok dir) g = quiet_gone (before t.nodes dir) dir (rmdir_plan t h dir p.name) g
   quiet (nfs.Rename r) e = by (id_of r.from.dir) (id_of r.to.dir) e
     where
-      by : (a b : Result ℕ Status) → is_ok (a >>= λ dir. b >>= λ to. asks_rename t h busy dir r.from.name to r.to.name) ≡ false → IsQuiet (Some (renames_in t h busy r.from.name r.to.name a b).1)
+      by : (a b : Result ℕ Status) → is_ok (a >>= λ dir. b >>= λ to. asks_rename t h busy dir r.from.name to r.to.name) ≡ false → IsQuiet (Some (renames_in_under t h busy fault r.from.name r.to.name a b).1)
       by (Err s) b g = (refl, refl)
       by (Ok dir) (Err s) g = (refl, refl)
       by (Ok dir) (Ok to) g = quiet_renaming dir r.from.name to r.to.name (asks_rename t h busy dir r.from.name to r.to.name) g
@@ -196,9 +218,14 @@ room_quiet s None b q = tt
 room_quiet s (Some (Answered d)) b q = omega (arith, b.room, ap one_if q.0, ap one_if q.1)
 room_quiet s (Some (Waits a)) b q = absurd q
 
-pub room_for : (s : ServerState) (t t' : Tree) (h : Held) (busy : Bool) (m : Nfs) (o : Option Outcome) → IsBounded s → (enters t h busy m ≡ true → HasRoom s) → calls t h busy m ≡ (t', o) → RoomFor s o
-room_for s t t' h busy m o bounded room done = by (enters t h busy m) refl
+pub room_for : (before after : ℕ) (s : ServerState) (t t' : Tree) (h : Held) (busy : Bool) (m : Nfs) (o : Option Outcome) → IsBounded s → (enters t h busy m ≡ true → HasRoom s) → IsCalled before after (λ fault. calls_under t h busy fault m) (t', o) → RoomFor s o
+room_for before after s t t' h busy m o bounded room done = by (enters t h busy m) refl
   where
     by : (b : Bool) → enters t h busy m ≡ b → RoomFor s o
     by true is = room_if s o (room is)
-    by false is = room_quiet s o bounded (subst IsQuiet (ap (λ (p : Tree × Option Outcome). p.1) done) (quiet t h busy m is))
+    by false is = room_quiet s o bounded (subst IsQuiet (ap (λ (p : Tree × Option Outcome). p.1) done.is) (quiet t h busy done.fault m is))
+
+-- ---- what waits has its places in the store
+
+pub room_waits : (entries more spare : ℕ) → entries + more ≤ spare → (now : ℕ) → now ≡ entries + more → now ≤ spare
+room_waits entries more spare le now is = omega (arith, le, is)

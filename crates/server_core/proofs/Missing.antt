@@ -1,8 +1,9 @@
 -- What a step does that met want of memory, or did not: of a GETHASH and a change that is made, whose chunks enter the index; and event by event.
-use Rattle.std.proofs.Common.{◌≡◌, refl, sym, ap, ◌∙◌, subst, ℕ, ◌+◌, ◌<◌, List, [], ◌∷◌, ◌++◌, length, None, Bool, true, false, inl, inr, arith}
-use Rattle.std.specs.Prelude.{Result, max, remove, slice_index_or}
+use Rattle.std.proofs.Common.{◌≡◌, refl, sym, ap, ◌∙◌, subst, ℕ, ◌<◌, List, [], ◌∷◌, ◌++◌, length, None, Bool, true, false, inl, inr, arith}
+use Rattle.std.specs.Prelude.{Result, Ok, Err, ◌==◌, if◌then◌else◌, max, remove, slice_index_or}
 use Rattle.chunk_index.specs.Index.{Indexed}
 use Rattle.xdr_codec.specs.declared.status.Status.{Status}
+use Rattle.xdr_codec.specs.declared.status.Status.TheVariants as status
 use Rattle.xdr_codec.specs.declared.answer.Answer.{Answer}
 use Rattle.hash_calls.specs.declared.call.HashRange.{HashRange}
 use Rattle.hash_calls.specs.declared.call.Hashes.{Hashes}
@@ -15,15 +16,20 @@ use Rattle.server_core.specs.declared.event.Event.{Event}
 use Rattle.server_core.specs.declared.event.Event.TheVariants as event
 use Rattle.server_core.specs.declared.event.ServerStep.{ServerStep}
 use Rattle.file_tree.specs.Tree.{Tree}
+use Rattle.file_tree.specs.Step.{replace}
+use Rattle.file_tree.specs.declared.call.Changed.{Changed}
 use Rattle.file_tree.specs.declared.call.Held.{Held}
-use Rattle.tree_calls.specs.Waiting.{commits as tree_commits, settles as tree_settles}
+use Rattle.stored_tree.specs.Stores.{stored}
+use Rattle.tree_calls.specs.Calling.{IsCalled}
+use Rattle.tree_calls.specs.Waiting.{with_committed, commits as tree_commits, commits_under as tree_commits_under, settles_under as tree_settles_under}
 use Rattle.tree_calls.specs.declared.asked.Asked.{Asked}
 use Rattle.tree_calls.specs.declared.asked.Committing.{Committing}
 use Rattle.tree_calls.specs.declared.asked.Done.{Done}
 use Rattle.server_core.specs.declared.change.Wanted.TheVariants as wanted
 use Rattle.server_core.specs.declared.journal.Entry.{Entry}
 use Rattle.server_core.specs.Answers.{Node, hash_answer, chunks_told}
-use Rattle.server_core.specs.Closing.{to, at, entries_by, count_of, index_with, committed_by, settled_by, told_change, makes_change, settles}
+use Rattle.server_core.specs.Closing.{to, at, entries_by, count_of, index_with, committed_by, settled_by, told_change, makes_change, makes_change_under, settles, settles_under}
+use Rattle.server_core.specs.Served.{IsServed}
 use Rattle.server_core.specs.State.{State, Change, held}
 use Rattle.server_core.specs.Step.{with_told, tells_hashes, got_if, stands, change_entered, chunks_got, chunks_of_change, chunks_if, chunks_called, has_room, missed_step, IsLacking, Lacks, MissesCall, Misses, nothing, lacks}
 
@@ -59,13 +65,12 @@ committed_state s t journal index = record s { tree = t; journal = journal; inde
 abbrev committed_body : Committing → Body
 committed_body d = body.Lb (lb.CommitTmpAnswer d.answer)
 
-pub committed_all : (s : State) (c : Change) (content : List ℕ) (h : Held) (t : Tree) (d : Committing) (journal : List Entry) (index : Indexed) (entries : ℕ) (left : Bool) (o : ServerStep)
-    → h ≡ held s.waiting → tree_commits s.tree h c.file content 0 ≡ (t, d) → journal ≡ s.journal ++ entries_by c.session d.entry None → index ≡ index_with s.index c.file content d.answer
+committed_by_all : (s : State) (fault : Bool) (c : Change) (content : List ℕ) (h : Held) (t : Tree) (d : Committing) (journal : List Entry) (index : Indexed) (entries : ℕ) (left : Bool) (o : ServerStep)
+    → h ≡ held s.waiting → tree_commits_under s.tree h fault c.file content 0 ≡ (t, d) → journal ≡ s.journal ++ entries_by c.session d.entry None → index ≡ index_with s.index c.file content d.answer
     → entries ≡ count_of d.entry None → o ≡ told_change c entries (body.Lb (lb.CommitTmpAnswer d.answer)) → left ≡ false
-    → makes_change s c (wanted.Content content) ≡ (record s { tree = t; journal = journal; index = index }, record o { missed = left })
-committed_all s c content h t d journal index entries left o needs done entered places counts said none =
-    let after : List Entry = s.journal ++ entries_by c.session d.entry None in
-    ap (λ (x : Held). committed_by s c content (tree_commits s.tree x c.file content 0)) (sym needs)
+    → makes_change_under s fault c (wanted.Content content) ≡ (record s { tree = t; journal = journal; index = index }, record o { missed = left })
+committed_by_all s fault c content h t d journal index entries left o needs done entered places counts said none =
+    ap (λ (x : Held). committed_by s c content (tree_commits_under s.tree x fault c.file content 0)) (sym needs)
     ∙ ap (λ (p : Tree × Committing). committed_by s c content p) done
     ∙ ap (λ (l : List Entry). (committed_state s t l (index_with s.index c.file content d.answer), told_change c (count_of d.entry None) (committed_body d))) (sym entered)
     ∙ ap (λ (i : Indexed). (committed_state s t journal i, told_change c (count_of d.entry None) (committed_body d))) (sym places)
@@ -73,11 +78,36 @@ committed_all s c content h t d journal index entries left o needs done entered 
     ∙ ap (λ (x : ServerStep). (committed_state s t journal index, record x { missed = false })) (sym said)
     ∙ ap (λ (b : Bool). (committed_state s t journal index, record o { missed = b })) (sym none)
 
-pub committed_some : (s : State) (c : Change) (content : List ℕ) (h : Held) (t : Tree) (d : Committing) (journal : List Entry) (index : Indexed) (entries : ℕ) (left : Bool) (o : ServerStep)
-    → h ≡ held s.waiting → tree_commits s.tree h c.file content 0 ≡ (t, d) → journal ≡ s.journal ++ entries_by c.session d.entry None → IsLacking s.index (chunks_got c.file content d.answer) index
+pub committed_all : (before after : ℕ) (s : State) (c : Change) (content : List ℕ) (h : Held) (t : Tree) (d : Committing) (journal : List Entry) (index : Indexed) (entries : ℕ) (left : Bool) (o : ServerStep)
+    → h ≡ held s.waiting → IsCalled before after (λ fault. tree_commits_under s.tree h fault c.file content 0) (t, d) → journal ≡ s.journal ++ entries_by c.session d.entry None → index ≡ index_with s.index c.file content d.answer
+    → entries ≡ count_of d.entry None → o ≡ told_change c entries (body.Lb (lb.CommitTmpAnswer d.answer)) → left ≡ false
+    → IsServed before after (λ fault. makes_change_under s fault c (wanted.Content content)) (record s { tree = t; journal = journal; index = index }, record o { missed = left })
+committed_all before after s c content h t d journal index entries left o needs done entered places counts said none =
+    record { fault = done.fault; cause = done.cause; is = committed_by_all s done.fault c content h t d journal index entries left o needs done.is entered places counts said none }
+
+abbrev answered : Tree × Result Changed Status → Tree × Committing
+answered p = with_committed 0 p
+
+-- places are left out only where the content was got, and then the store didn't fail
+got_unfailed : (fault : Bool) (s : State) (h : Held) (id : ℕ) (content : List ℕ) (t : Tree) (d : Committing) (index new : Indexed) → tree_commits_under s.tree h fault id content 0 ≡ (t, d) → IsLacking index (chunks_got id content d.answer) new
+    → tree_commits s.tree h id content 0 ≡ (t, d)
+got_unfailed false s h id content t d index new done lack = done
+got_unfailed true s h id content t d index new done lack = by (replace s.tree h id content) done
+  where
+    by : (p : Tree × Result Changed Status) → answered (stored true s.tree p) ≡ (t, d) → answered p ≡ (t, d)
+    by (u, Err e) is = is
+    by (u, Ok c) is = by_changes (u.changes == s.tree.changes) is
+      where
+        by_changes : (b : Bool) → answered (if b then (u, Ok c) else (s.tree, Err status.Io)) ≡ (t, d) → answered (u, Ok c) ≡ (t, d)
+        by_changes true k = k
+        by_changes false k = absurd (subst (λ (q : Tree × Committing). IsLacking index (chunks_got id content q.1.answer) new) (sym k) lack)
+
+pub committed_some : (before after : ℕ) (s : State) (c : Change) (content : List ℕ) (h : Held) (t : Tree) (d : Committing) (journal : List Entry) (index : Indexed) (entries : ℕ) (left : Bool) (o : ServerStep)
+    → h ≡ held s.waiting → IsCalled before after (λ fault. tree_commits_under s.tree h fault c.file content 0) (t, d) → journal ≡ s.journal ++ entries_by c.session d.entry None → IsLacking s.index (chunks_got c.file content d.answer) index
     → entries ≡ count_of d.entry None → o ≡ told_change c entries (body.Lb (lb.CommitTmpAnswer d.answer)) → left ≡ true
     → Lacks s.index (change_entered s.tree s.waiting c (wanted.Content content)) (makes_change s c (wanted.Content content)) (record s { tree = t; journal = journal; index = index }) (record o { missed = left })
-committed_some s c content h t d journal index entries left o needs done entered lack counts said some =
+committed_some before after s c content h t d journal index entries left o needs called entered lack counts said some =
+    let done = got_unfailed called.fault s h c.file content t d s.index index called.is lack in
     subst (λ (p : Tree × Committing). Lacks s.index (chunks_got c.file content p.1.answer) (committed_by s c content p) (committed_state s t journal index) (record o { missed = left }))
     (sym (ap (λ (x : Held). tree_commits s.tree x c.file content 0) (sym needs) ∙ done)) (
       index,
@@ -89,15 +119,21 @@ committed_some s c content h t d journal index entries left o needs done entered
     )
 
 -- a REMOVE or RENAME
-pub settled_all : (s : State) (c : Change) (a : Asked) (h : Held) (t : Tree) (d : Done) (journal : List Entry) (entries : ℕ) (o : ServerStep)
-    → h ≡ held s.waiting → tree_settles s.tree h a ≡ (t, d) → journal ≡ s.journal ++ entries_by c.session d.first d.second → entries ≡ count_of d.first d.second
-    → o ≡ told_change c entries (body.Nfs d.answer) → makes_change s c (wanted.Asked a) ≡ (record s { tree = t; journal = journal }, o)
-settled_all s c a h t d journal entries o needs done entered counts said =
-    ap (λ (x : Held). settled_by s c (tree_settles s.tree x a)) (sym needs)
+settled_by_all : (s : State) (fault : Bool) (c : Change) (a : Asked) (h : Held) (t : Tree) (d : Done) (journal : List Entry) (entries : ℕ) (o : ServerStep)
+    → h ≡ held s.waiting → tree_settles_under s.tree h fault a ≡ (t, d) → journal ≡ s.journal ++ entries_by c.session d.first d.second → entries ≡ count_of d.first d.second
+    → o ≡ told_change c entries (body.Nfs d.answer) → makes_change_under s fault c (wanted.Asked a) ≡ (record s { tree = t; journal = journal }, o)
+settled_by_all s fault c a h t d journal entries o needs done entered counts said =
+    ap (λ (x : Held). settled_by s c (tree_settles_under s.tree x fault a)) (sym needs)
     ∙ ap (λ (p : Tree × Done). settled_by s c p) done
     ∙ ap (λ (l : List Entry). (record s { tree = t; journal = l }, told_change c (count_of d.first d.second) (body.Nfs d.answer))) (sym entered)
     ∙ ap (λ (n : ℕ). (record s { tree = t; journal = journal }, told_change c n (body.Nfs d.answer))) (sym counts)
     ∙ ap (λ (x : ServerStep). (record s { tree = t; journal = journal }, x)) (sym said)
+
+pub settled_all : (before after : ℕ) (s : State) (c : Change) (a : Asked) (h : Held) (t : Tree) (d : Done) (journal : List Entry) (entries : ℕ) (o : ServerStep)
+    → h ≡ held s.waiting → IsCalled before after (λ fault. tree_settles_under s.tree h fault a) (t, d) → journal ≡ s.journal ++ entries_by c.session d.first d.second → entries ≡ count_of d.first d.second
+    → o ≡ told_change c entries (body.Nfs d.answer) → IsServed before after (λ fault. makes_change_under s fault c (wanted.Asked a)) (record s { tree = t; journal = journal }, o)
+settled_all before after s c a h t d journal entries o needs done entered counts said =
+    record { fault = done.fault; cause = done.cause; is = settled_by_all s done.fault c a h t d journal entries o needs done.is entered counts said }
 
 -- ---- the change that came first
 
@@ -106,12 +142,15 @@ pub first_of : (waiting rest : List Change) (c : Change) → 0 < length waiting 
 first_of [] rest c some first behind = absurd (omega (arith, some))
 first_of (d ∷ ds) rest c some first behind = ap (λ (x : Change). x ∷ ds) (sym first) ∙ ap (λ (l : List Change). c ∷ l) (sym behind)
 
-pub settles_all : (s new : State) (now moment : ℕ) (c : Change) (rest : List Change) (o : ServerStep) → s.waiting ≡ c ∷ rest → moment ≡ max s.moment now
-    → makes_change (record s { moment = moment; waiting = rest }) c c.what ≡ (new, o) → settles s now s.waiting ≡ (new, o)
-settles_all s new now moment c rest o first later made =
-    ap (λ (l : List Change). settles s now l) first
-    ∙ ap (λ (m : ℕ). makes_change (record s { moment = m; waiting = rest }) c c.what) (sym later)
-    ∙ made
+pub settles_all : (before after : ℕ) (s new : State) (now moment : ℕ) (c : Change) (rest : List Change) (o : ServerStep) → s.waiting ≡ c ∷ rest → moment ≡ max s.moment now
+    → IsServed before after (λ fault. makes_change_under (record s { moment = moment; waiting = rest }) fault c c.what) (new, o) → IsServed before after (λ fault. settles_under s fault now s.waiting) (new, o)
+settles_all before after s new now moment c rest o first later made = record {
+  fault = made.fault;
+  cause = made.cause;
+  is = ap (λ (l : List Change). settles_under s made.fault now l) first
+      ∙ ap (λ (m : ℕ). makes_change_under (record s { moment = m; waiting = rest }) made.fault c c.what) (sym later)
+      ∙ made.is;
+}
 
 pub settles_some : (s new : State) (now moment : ℕ) (c : Change) (rest : List Change) (o : ServerStep) → s.waiting ≡ c ∷ rest → moment ≡ max s.moment now
     → Lacks s.index (change_entered s.tree rest c c.what) (makes_change (record s { moment = moment; waiting = rest }) c c.what) new o

@@ -1,5 +1,5 @@
 -- What the changes that wait need, in a loop over them.
-use Rattle.std.proofs.Common.{◌≡◌, ℕ, zero, suc, ◌+◌, ◌<◌, ◌≤◌, List, [], ◌∷◌, length, drop, slice_index_or, arith, subst, sym, refl}
+use Rattle.std.proofs.Common.{◌≡◌, ℕ, zero, suc, ◌+◌, ◌<◌, ◌≤◌, List, [], ◌∷◌, ◌++◌, length, drop, slice_index_or, arith, subst, sym, refl}
 use Rattle.tree_calls.specs.Waiting.{entries_of}
 use Rattle.tree_calls.specs.declared.asked.Asked.{Asked}
 use Rattle.tree_calls.specs.declared.asked.Asked.TheVariants as asked
@@ -52,3 +52,8 @@ bytes_none [] zero le = refl
 bytes_none [] (suc i) le = refl
 bytes_none (y ∷ ys) zero le = absurd (omega (arith, le))
 bytes_none (y ∷ ys) (suc i) le = bytes_none ys i (omega (arith, le))
+
+-- one more behind them
+pub entries_more : (waiting : List Change) (c : Change) → entries_held (waiting ++ c ∷ []) ≡ entries_held waiting + entries_wanted c.what
+entries_more [] c = search arith
+entries_more (w ∷ ws) c = omega (arith, entries_more ws c)

@@ -33,7 +33,7 @@ use Rattle.server_core.specs.Indexing.{wanted_bytes, with_digest}
 use Rattle.server_core.specs.State.{State, Change, file_at, held, entries_held, bytes_held}
 use Rattle.file_tree.specs.Tree.{Tree}
 use Rattle.file_tree.specs.declared.entry.Entry.{Entry as TreeEntry}
-use Rattle.tree_calls.specs.Waiting.{commits as tree_commits, settles as tree_settles}
+use Rattle.tree_calls.specs.Waiting.{commits_under as tree_commits_under, settles_under as tree_settles_under}
 use Rattle.tree_calls.specs.declared.asked.Committing.{Committing}
 use Rattle.tree_calls.specs.declared.asked.Done.{Done as Outcome}
 
@@ -195,12 +195,20 @@ committed_by s c content p = (record s { tree = p.0; journal = s.journal ++ entr
 abbrev pub settled_by : State → Change → Tree × Outcome → State × ServerStep
 settled_by s c p = (record s { tree = p.0; journal = s.journal ++ entries_by c.session p.1.first p.1.second }, told_change c (count_of p.1.first p.1.second) (body.Nfs p.1.answer))
 
--- The change is made if all is as it was when it came (`specs/Waiting.antt` of `tree_calls`). What the others that wait need is left free.
-abbrev pub makes_change : State → Change → Wanted → State × ServerStep
-makes_change s c (wanted.Content content) = committed_by s c content (tree_commits s.tree (held s.waiting) c.file content 0)
-makes_change s c (wanted.Asked a) = settled_by s c (tree_settles s.tree (held s.waiting) a)
+-- The change is made if all is as it was when it came (`specs/Waiting.antt` of `tree_calls`). What the others that wait need is left free. fault: whether the
+-- store fails, if it is asked; the change is then answered IO, and has left the queue for good.
+abbrev pub makes_change_under : State → (fault : Bool) → Change → Wanted → State × ServerStep
+makes_change_under s fault c (wanted.Content content) = committed_by s c content (tree_commits_under s.tree (held s.waiting) fault c.file content 0)
+makes_change_under s fault c (wanted.Asked a) = settled_by s c (tree_settles_under s.tree (held s.waiting) fault a)
 
 -- The change that came first is made: no lease stands, so nothing blocks it. Where none waits nothing changes.
+abbrev pub settles_under : State → (fault : Bool) → ℕ → List Change → State × ServerStep
+settles_under s fault now [] = (s, record { send = []; told = told.NotReady; entries = 0; missed = false })
+settles_under s fault now (c ∷ cs) = makes_change_under (at (record s { waiting = cs }) now) fault c c.what
+
+-- where the store doesn't fail
+abbrev pub makes_change : State → Change → Wanted → State × ServerStep
+makes_change s c w = makes_change_under s false c w
+
 abbrev pub settles : State → ℕ → List Change → State × ServerStep
-settles s now [] = (s, record { send = []; told = told.NotReady; entries = 0; missed = false })
-settles s now (c ∷ cs) = makes_change (at (record s { waiting = cs }) now) c c.what
+settles s now cs = settles_under s false now cs

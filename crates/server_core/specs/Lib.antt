@@ -5,7 +5,9 @@ pub mod Answers
 pub mod Closing
 pub mod Asking
 pub mod Step
+pub mod Served
 pub mod View
 pub mod Rows
 pub mod IndexRows
+pub mod NamingRows
 pub mod Hashed

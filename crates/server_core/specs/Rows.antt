@@ -18,13 +18,13 @@ use Rattle.server_core.specs.declared.event.Event.{Event}
 use Rattle.server_core.specs.declared.event.Event.TheVariants as event
 use Rattle.server_core.specs.declared.event.ServerStep.{ServerStep}
 use Rattle.server_core.specs.declared.event.Told.TheVariants as told
-use Rattle.tree_nodes.specs.declared.node.Body.TheVariants.{Directory, File as Content}
+use Rattle.tree_nodes.specs.declared.node.Body.TheVariants.{File as Content}
 use Rattle.file_tree.specs.declared.entry.EntryKind.TheVariants as entry
 use Rattle.file_tree.specs.Tree.{root}
 use Rattle.server_core.specs.Answers.{attr_of, hashes_of}
 use Rattle.server_core.specs.Closing.{sends, to}
 use Rattle.server_core.specs.State.{State, File, empty}
-use Rattle.server_core.specs.Step.{server_step, opens_with}
+use Rattle.server_core.specs.Step.{server_step, server_step_under, opens_with}
 
 -- ---- a run
 
@@ -177,3 +177,9 @@ second_change = refl
 -- 64 sessions stand at once
 sessions : steps (after empty (replicate 64 event.Connect)) (event.Connect ∷ event.Hang 5 ∷ event.Connect ∷ []) ≡ (record (sends []) { told = told.Full } ∷ sends [] ∷ record (sends []) { told = told.Session 65 } ∷ [])
 sessions = refl
+
+-- ---- a store that fails
+
+-- the file keeps its content, the index gets no place and the journal no entry, and the change has left the queue
+failed : (server_step_under (after tree (gives 1 (codes "x"))) true (event.Settle 7)) ≡ (record tree { moment = 7 }, record (to 1 (message.Answer 3 (body.Lb (lb.CommitTmpAnswer (Failed status.Io tt))))) { told = told.Settled 1 3 })
+failed = refl

@@ -1,5 +1,7 @@
 -- What a server is.
 use Rattle.std.specs.Prelude.{ℕ, ◌+◌, List, [], ◌∷◌, length, Option, Some, None}
+use Rattle.chunk_cut.specs.Chunks.{chunks_of}
+use Rattle.chunk_cut.specs.declared.chunk.Chunk.{Chunk}
 use Rattle.tree_nodes.specs.declared.node.Node.{Node}
 use Rattle.tree_nodes.specs.declared.node.Body.{Body}
 use Rattle.tree_nodes.specs.declared.node.Body.TheVariants.{Directory, File as Content}
@@ -56,6 +58,11 @@ file_of_node (Some n) = file_of_body n n.body
 -- the file with the id; none where a directory has it, or nothing
 abbrev pub file_at : Tree → ℕ → Option File
 file_at t id = file_of_node (with_id t.nodes id)
+
+-- the file of an id and its chunks, where there is one
+abbrev pub chunks_at : ℕ → Option File → Option (ℕ × List Chunk)
+chunks_at id None = None
+chunks_at id (Some f) = Some (id, chunks_of f.content)
 
 -- ---- what waits
 

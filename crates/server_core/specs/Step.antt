@@ -1,6 +1,6 @@
 -- One event of the server.
-use Rattle.std.specs.Prelude.{◌≡◌, ◌⊎◌, ℕ, ◌+◌, ◌<◌, ◌≤◌, ◌^◌, [], ◌∷◌, ◌++◌, List, length, max, Option, Some, None, IsSome, Result, Ok, Bool, true, false, ◌&&◌, ◌==◌, nat_lt, filter, not}
-use Rattle.limits.specs.declared.TheConstants.{SESSIONS_MOST, SESSIONS_EVER_MOST, FILE_MOST}
+use Rattle.std.specs.Prelude.{◌≡◌, ◌⊎◌, ℕ, ◌+◌, ◌<◌, ◌^◌, [], ◌∷◌, ◌++◌, List, length, Option, Some, None, IsSome, Result, Ok, Bool, true, false, ◌&&◌, ◌==◌, nat_lt, filter, not}
+use Rattle.limits.specs.declared.TheConstants.{SESSIONS_MOST, SESSIONS_EVER_MOST}
 use Rattle.std.specs.List.{list_any}
 use Rattle.xdr_codec.specs.declared.status.Status.{Status}
 use Rattle.xdr_codec.specs.declared.answer.Answer.{Answer}
@@ -25,17 +25,17 @@ use Rattle.server_core.specs.declared.event.ServerStep.{ServerStep}
 use Rattle.server_core.specs.declared.event.Told.TheVariants as told
 use Rattle.server_core.specs.declared.change.Wanted.{Wanted}
 use Rattle.server_core.specs.declared.change.Wanted.TheVariants as wanted
-use Rattle.server_core.specs.State.{State, Change, held}
+use Rattle.server_core.specs.State.{State, Change, empty, held}
 use Rattle.tree_nodes.specs.declared.node.Body.{Body as NodeBody}
 use Rattle.file_tree.specs.Opening.{opens}
 use Rattle.file_tree.specs.Tree.{Tree}
-use Rattle.tree_calls.specs.Waiting.{calls, enters, file_of, Takes, commits as tree_commits}
+use Rattle.tree_calls.specs.Waiting.{calls_under, enters, file_of, Takes, commits as tree_commits}
 use Rattle.tree_calls.specs.declared.asked.Done.{Done}
 use Rattle.tree_calls.specs.declared.asked.Outcome.{Outcome}
 use Rattle.tree_calls.specs.declared.asked.Outcome.TheVariants.{Answered, Waits}
 use Rattle.server_core.specs.Answers.{Node, file, node_of, lease_answer, hash_answer, chunks_told, read_answer}
 use Rattle.server_core.specs.Asking.{CanWait}
-use Rattle.server_core.specs.Closing.{sends, to, at, has_waiting, entries_by, count_of, makes, writes, names, cond_fault, bytes_known, looked_up, commits, settles}
+use Rattle.server_core.specs.Closing.{sends, to, at, has_waiting, entries_by, count_of, makes, writes, names, cond_fault, bytes_known, looked_up, commits, settles_under}
 use Rattle.chunk_places.specs.Places.{indexed, LeavesSome}
 
 -- ---- a message
@@ -67,33 +67,33 @@ abbrev pub asks_tree : State → (session xid : ℕ) → Tree × Option Outcome 
 asks_tree s session xid p = asks (record s { tree = p.0 }) session xid p.1
 
 -- What a call of a session does. One of these programs that the server doesn't do yet is refused, as a procedure that it doesn't have
--- (RFC 5531 section 9).
-abbrev pub called : State → (session xid : ℕ) → Body → State × ServerStep
-called s session xid (body.Lb lb.Null) = says s session xid (body.Lb lb.NullAnswer)
-called s session xid (body.Lb (lb.GetLease handle)) = says s session xid (body.Lb (lb.GetLeaseAnswer (lease_answer (node_of s.tree handle))))
-called s session xid (body.Lb (lb.GetHash r)) = tells_hashes s session xid r (node_of s.tree r.handle)
-called s session xid (body.Lb (lb.MkTmpFile a)) = makes s session xid a.fd (node_of s.tree a.handle)
-called s session xid (body.Lb (lb.TmpWrite a)) = writes s session xid a (temp_at s.temps session a.fd)
-called s session xid (body.Lb (lb.CondWrite a)) = names s session xid a (temp_at s.temps session a.fd)
-called s session xid (body.Lb (lb.CommitTmp a)) = commits s session xid a (temp_at s.temps session a.fd)
-called s session xid (body.Nfs nfs.Null) = says s session xid (body.Nfs nfs.NullAnswer)
-called s session xid (body.Nfs (nfs.Read r)) = says s session xid (body.Nfs (nfs.ReadAnswer (read_answer (node_of s.tree r.handle) r)))
-called s session xid (body.Nfs m) = asks_tree s session xid (calls s.tree (held s.waiting) (has_waiting s.waiting session) m)
-called s session xid _ = (s, to session (message.Refuse xid refusal.ProcUnavail))
+-- (RFC 5531 section 9). fault: whether the store fails, if it is asked.
+abbrev pub called_under : State → (fault : Bool) → (session xid : ℕ) → Body → State × ServerStep
+called_under s fault session xid (body.Lb lb.Null) = says s session xid (body.Lb lb.NullAnswer)
+called_under s fault session xid (body.Lb (lb.GetLease handle)) = says s session xid (body.Lb (lb.GetLeaseAnswer (lease_answer (node_of s.tree handle))))
+called_under s fault session xid (body.Lb (lb.GetHash r)) = tells_hashes s session xid r (node_of s.tree r.handle)
+called_under s fault session xid (body.Lb (lb.MkTmpFile a)) = makes s session xid a.fd (node_of s.tree a.handle)
+called_under s fault session xid (body.Lb (lb.TmpWrite a)) = writes s session xid a (temp_at s.temps session a.fd)
+called_under s fault session xid (body.Lb (lb.CondWrite a)) = names s session xid a (temp_at s.temps session a.fd)
+called_under s fault session xid (body.Lb (lb.CommitTmp a)) = commits s session xid a (temp_at s.temps session a.fd)
+called_under s fault session xid (body.Nfs nfs.Null) = says s session xid (body.Nfs nfs.NullAnswer)
+called_under s fault session xid (body.Nfs (nfs.Read r)) = says s session xid (body.Nfs (nfs.ReadAnswer (read_answer (node_of s.tree r.handle) r)))
+called_under s fault session xid (body.Nfs m) = asks_tree s session xid (calls_under s.tree (held s.waiting) (has_waiting s.waiting session) fault m)
+called_under s fault session xid _ = (s, to session (message.Refuse xid refusal.ProcUnavail))
 
 -- a call is done, and an unfit one refused; the server has asked for nothing, so an answer to it changes nothing
-abbrev pub got : State → (session : ℕ) → Message → State × ServerStep
-got s session (message.Call xid b) = called s session xid b
-got s session (message.Unfit xid why) = (s, to session (message.Refuse xid why))
-got s session (message.Answer xid b) = (s, sends [])
-got s session (message.Refuse xid why) = (s, sends [])
+abbrev pub got_under : State → (fault : Bool) → (session : ℕ) → Message → State × ServerStep
+got_under s fault session (message.Call xid b) = called_under s fault session xid b
+got_under s fault session (message.Unfit xid why) = (s, to session (message.Refuse xid why))
+got_under s fault session (message.Answer xid b) = (s, sends [])
+got_under s fault session (message.Refuse xid why) = (s, sends [])
 
 abbrev pub stands : State → ℕ → Bool
 stands s session = list_any (λ k. k == session) s.sessions
 
-abbrev pub got_if : State → Bool → ℕ → Message → ℕ → State × ServerStep
-got_if s true session m now = got (at s now) session m
-got_if s false session m now = (s, sends [])
+abbrev pub got_if_under : State → (fault : Bool) → Bool → ℕ → Message → ℕ → State × ServerStep
+got_if_under s fault true session m now = got_under (at s now) fault session m
+got_if_under s fault false session m now = (s, sends [])
 
 -- ---- a connection
 
@@ -118,11 +118,28 @@ hangs_if s false session = (s, sends [])
 -- ---- any event
 
 -- an event of a session that does not stand changes nothing
+abbrev pub server_step_under : State → (fault : Bool) → Event → State × ServerStep
+server_step_under s fault event.Connect = connect s (has_room s)
+server_step_under s fault (event.Got session m now) = got_if_under s fault (stands s session) session m now
+server_step_under s fault (event.Settle now) = settles_under s fault now s.waiting
+server_step_under s fault (event.Hang session) = hangs_if s (stands s session) session
+
+-- where the store doesn't fail
+abbrev pub called : State → (session xid : ℕ) → Body → State × ServerStep
+called s session xid b = called_under s false session xid b
+
+abbrev pub got : State → (session : ℕ) → Message → State × ServerStep
+got s session m = got_under s false session m
+
+abbrev pub got_if : State → Bool → ℕ → Message → ℕ → State × ServerStep
+got_if s there session m now = got_if_under s false there session m now
+
 abbrev pub server_step : State → Event → State × ServerStep
-server_step s event.Connect = connect s (has_room s)
-server_step s (event.Got session m now) = got_if s (stands s session) session m now
-server_step s (event.Settle now) = settles s now s.waiting
-server_step s (event.Hang session) = hangs_if s (stands s session) session
+server_step s e = server_step_under s false e
+
+-- a server over a tree, with no session
+abbrev pub with_tree : Tree → State
+with_tree t = record empty { tree = t }
 
 -- a node that the tree opens with; what can't be opened changes nothing
 abbrev pub opens_with : State → (dir : ℕ) → (name : List ℕ) → NodeBody → State

@@ -1,5 +1,5 @@
 -- The server's fields as a state, and what always holds of them.
-use Rattle.std.specs.Prelude.{ℕ, ◌+◌, ◌≤◌, Option, Some, None, length, vec_capacity}
+use Rattle.std.specs.Prelude.{◌+◌, ◌≤◌, Option, Some, None, length, vec_capacity}
 use Rattle.server_core.specs.declared.state.ServerState.{ServerState}
 use Rattle.tree_calls.specs.declared.asked.Outcome.{Outcome}
 use Rattle.tree_calls.specs.declared.asked.Outcome.TheVariants.{Answered, Waits}

@@ -11,11 +11,11 @@ ghost use Rattle.temp_files.specs.Temps.{temp_at, with_more, without_temp, room_
 ghost use Rattle.server_core.specs.Answers.{node_of};
 ghost use Rattle.server_core.specs.Asking.{target_in, commit_target, CanWait, admits};
 ghost use Rattle.server_core.specs.Closing.{to, makes, writes, names, looked_up, commits, cond_fault, is_full, tree_most};
-ghost use Rattle.server_core.specs.State.{waiting_size, size_wanted};
+ghost use Rattle.server_core.specs.State.{entries_held, waiting_size, size_wanted};
 ghost use Rattle.server_core.specs.Step.{IsFile, TakesMemory};
 ghost use Rattle.server_core.specs.View.{state_of, IsBounded, HasRoom};
 
-use crate::change::{Change, Wanted};
+use crate::change::{Change, ContentPair, Wanted};
 use crate::event::ServerStep;
 use crate::state::ServerState;
 use crate::steps::{answer, nothing};
@@ -24,12 +24,14 @@ use crate::{answers, indexing};
 use hash_calls::call::{Commit, CondPiece, NewTemp, TempPiece};
 use hash_calls::message::Lb;
 use lb_base::items::Bytes;
-use limits::{CHANGES_MOST, FILE_MOST, PIECE_MOST, SESSIONS_MOST, TREE_MOST};
+use limits::{CHANGES_MOST, FILE_MOST, PIECE_MOST, TREE_MOST};
 use std::alloc::{AllocError, Global};
 use std::mem;
+use store::store::Store;
 use temp_files::fault::TempErr;
 use temp_files::temp::Temp;
 use temp_files::temps::Temps;
+use tree_calls::changing::places;
 use tree_nodes::content::Content;
 use wire::message::Body;
 use xdr_codec::answer::Answer;
@@ -89,15 +91,15 @@ fn named(alloc: Global, session: u32, xid: u32, told: Answer<(), ()>) -> ServerS
     answer(alloc, session, xid, Body::Lb(Lb::CondWriteAnswer(told)))
 }
 
-/// The content that a temporary file comes to, with its chunks. The temporary file ends. Its chunks are
-/// cut while it stands, so that memory is there for all before its first piece is let go. The one
-/// error is want of memory, and all then stays as it was.
+/// The content that a temporary file comes to, with its chunks, and once more for the store. The
+/// temporary file ends. Its chunks are cut while it stands, so that memory is there for all before its
+/// first piece is let go. The one error is want of memory, and all then stays as it was.
 fn take_content(
     alloc: Global,
     temps: &mut Temps,
     session: u32,
     commit: &Commit,
-) -> Result<Content, AllocError>
+) -> Result<ContentPair, AllocError>
     requires size { commit.now.size ≤ size_most }
     requires whole { is_some (whole_of (temp_at temps.old session commit.now.fd) commit.now.size) ≡ true }
     ensures content { IfOk result (λ content. Some content ≡ whole_of (temp_at temps.old session commit.now.fd) commit.now.size) }
@@ -110,7 +112,11 @@ fn take_content(
     let (front, pieces) = temp.parts();
     let chunks = answers::cut_pieces(alloc, front, pieces)?;
     match temps.take(session, commit.fd, commit.size) {
-        Ok(Some(bytes)) => Ok(Content::with_chunks(bytes, chunks)),
+        Ok(Some(both)) => {
+            let (bytes, copy) = both;
+            let content = Content::with_chunks(bytes, chunks);
+            Ok(ContentPair::new(content, copy))
+        }
         Ok(None) => unreachable!(),
         Err(_) => Err(AllocError),
     }
@@ -151,6 +157,8 @@ impl ServerState {
         ensures err { OnErr result (state_of self.new ≡ state_of self.old) }
         ensures takes { OnErr result (IsFile (node_of (state_of self.old).tree new.now.handle) × (room_fault (state_of self.old).temps session new.now.fd ≡ None)) }
         ensures bounded { IsBounded self.new }
+        ensures tree { self.new.tree ≡ self.old.tree }
+        ensures waiting { self.new.waiting.items ≡ self.old.waiting.items }
     {
         let target = match answers::target_in(&self.tree, &new.handle) {
             Ok(id) => id,
@@ -179,6 +187,8 @@ impl ServerState {
         ensures err { OnErr result (state_of self.new ≡ state_of self.old) }
         ensures takes { OnErr result (piece_fault (temp_at (state_of self.old).temps session piece.old.fd) piece.old.offset (length piece.old.bytes) ≡ None) }
         ensures bounded { IsBounded self.new }
+        ensures tree { self.new.tree ≡ self.old.tree }
+        ensures waiting { self.new.waiting.items ≡ self.old.waiting.items }
     {
         let bytes = mem::replace(&mut piece.bytes, Bytes::new(alloc));
         match self.temps.put(session, piece.fd, piece.offset, bytes) {
@@ -204,6 +214,8 @@ impl ServerState {
         ensures err { OnErr result (state_of self.new ≡ looked_up (state_of self.old) piece.now) }
         ensures takes { OnErr result (TakesMemory (state_of self.old) session (body.Lb (lb.CondWrite piece.now))) }
         ensures bounded { IsBounded self.new }
+        ensures tree { self.new.tree ≡ self.old.tree }
+        ensures waiting { self.new.waiting.items ≡ self.old.waiting.items }
     {
         match cond_fault(&self.temps, session, piece) {
             Some(status) => Ok(named(alloc, session, xid, Answer::Failed(status, ()))),
@@ -226,6 +238,8 @@ impl ServerState {
         ensures err { OnErr result (state_of self.new ≡ looked_up (state_of self.old) piece.now) }
         ensures takes { OnErr result (TakesMemory (state_of self.old) session (body.Lb (lb.CondWrite piece.now))) }
         ensures bounded { IsBounded self.new }
+        ensures tree { self.new.tree ≡ self.old.tree }
+        ensures waiting { self.new.waiting.items ≡ self.old.waiting.items }
     {
         match indexing::look_up(&mut self.index, &self.tree, piece) {
             Some(bytes) => {
@@ -241,19 +255,25 @@ impl ServerState {
 
     /// A COMMITTMP. Whether it can be done is found first, and memory taken only where it can. An
     /// `Err` changes nothing.
-    pub fn commit(
+    pub fn commit<S: Store>(
         &mut self,
         alloc: Global,
+        store: &mut S,
         session: u32,
         xid: u32,
         commit: &Commit,
     ) -> Result<ServerStep, AllocError>
-        requires { IsBounded self.old }
+        requires bounded { IsBounded self.old }
+        requires spare { entries_held self.old.waiting.items ≤ S.spare store.old }
         ensures ok { IfOk result (λ o. commits (state_of self.old) session xid commit.now (temp_at (state_of self.old).temps session commit.now.fd) ≡ (state_of self.new, o)) }
         ensures done { IfOk result (λ o. o.missed ≡ false) }
         ensures err { OnErr result (state_of self.new ≡ state_of self.old) }
         ensures takes { OnErr result (CanWait (state_of self.old) session commit.now (temp_at (state_of self.old).temps session commit.now.fd)) }
         ensures bounded { IsBounded self.new }
+        ensures tree { self.new.tree ≡ self.old.tree }
+        ensures records { S.records store.new ≡ S.records store.old }
+        ensures spare { entries_held self.new.waiting.items ≤ S.spare store.new }
+        ensures later { S.faults store.old ≤ S.faults store.new }
     {
         let Some(temp) = self.temps.find(session, commit.fd) else {
             return Ok(refuse_commit(alloc, session, xid, Status::BadFd));
@@ -265,15 +285,16 @@ impl ServerState {
                 return Ok(refuse_commit(alloc, session, xid, status));
             }
         };
-        self.admit(alloc, session, xid, file, commit)?;
+        self.admit(alloc, store, session, xid, file, commit)?;
         Ok(nothing(alloc))
     }
 
     /// What a temporary file comes to waits from now on as the next content of a file, and the
     /// temporary file ends. An `Err` changes nothing.
-    fn admit(
+    fn admit<S: Store>(
         &mut self,
         alloc: Global,
+        store: &mut S,
         session: u32,
         xid: u32,
         file: u64,
@@ -283,11 +304,17 @@ impl ServerState {
         requires size { commit.now.size ≤ size_most }
         requires whole { is_some (whole_of (temp_at (state_of self.old).temps session commit.now.fd) commit.now.size) ≡ true }
         requires room { is_full (state_of self.old) commit.now.size ≡ false }
+        requires spare { entries_held self.old.waiting.items ≤ S.spare store.old }
         ensures ok { (content : List ℕ) → Some content ≡ whole_of (temp_at (state_of self.old).temps session commit.now.fd) commit.now.size → OnOk result (state_of self.new ≡ admits (state_of self.old) session xid file commit.now.fd content) }
         ensures err { OnErr result (state_of self.new ≡ state_of self.old) }
         ensures bounded { IsBounded self.new }
+        ensures tree { self.new.tree ≡ self.old.tree }
+        ensures records { S.records store.new ≡ S.records store.old }
+        ensures spare { entries_held self.new.waiting.items ≤ S.spare store.new }
+        ensures later { S.faults store.old ≤ S.faults store.new }
     {
         self.reserve()?;
+        store.reserve(places(held(&self.waiting), 1)?)?;
         let content = take_content(alloc, &mut self.temps, session, commit)?;
         self.wait(Change {
             session,
@@ -341,12 +368,10 @@ impl ServerState {
         ensures same { state_of self.new ≡ state_of self.old }
         ensures bounded { IsBounded self.new }
         ensures room { OnOk result (HasRoom self.new) }
+        ensures tree { self.new.tree ≡ self.old.tree }
+        ensures waiting { self.new.waiting.items ≡ self.old.waiting.items }
     {
-        // a session has one change that waits at most
         let waiting = self.waiting.len();
-        if waiting > SESSIONS_MOST {
-            return Err(AllocError);
-        }
         self.journal.reserve(waiting + waiting + 2)?;
         self.waiting.reserve(1)?;
         Ok(())
@@ -358,6 +383,8 @@ impl ServerState {
         requires size { waiting_size self.old.waiting.items + size_wanted change.what ≤ tree_most }
         requires room { HasRoom self.old }
         ensures waits { state_of self.new ≡ record (state_of self.old) { waiting = (state_of self.old).waiting ++ change ∷ [] } }
+        ensures tree { self.new.tree ≡ self.old.tree }
+        ensures waiting { self.new.waiting.items ≡ self.old.waiting.items ++ change ∷ [] }
         ensures bounded { IsBounded self.new }
     {
         self.waiting.push_reserved(change);

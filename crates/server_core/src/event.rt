@@ -43,7 +43,7 @@ pub enum Told {
     /// There was no memory for a further session.
     Memory,
     /// A change left the queue: the session that asked for it, under this xid. It was made, or its
-    /// file is gone.
+    /// file is gone, or a name stands for another node.
     Settled { session: u32, xid: u32 },
     /// No change waits that can be made.
     NotReady,

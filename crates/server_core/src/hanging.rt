@@ -1,6 +1,7 @@
 //! What goes with a session whose connection is lost. `hangs` in `specs/Step.antt` says it.
 
-ghost use Rattle.std.specs.Prelude.{◌≡◌, ◌==◌, filter, not, false};
+ghost use Rattle.std.specs.Prelude.{◌≡◌, ◌==◌, ◌≤◌, filter, not, false};
+ghost use Rattle.server_core.specs.State.{entries_held};
 ghost use Rattle.server_core.specs.Step.{stands, hangs, hangs_if};
 ghost use Rattle.server_core.specs.View.{state_of, IsBounded};
 
@@ -31,6 +32,8 @@ impl ServerState {
         ensures exact { hangs_if (state_of self.old) (stands (state_of self.old) session) session ≡ (state_of self.new, result) }
         ensures done { result.missed ≡ false }
         ensures bounded { IsBounded self.new }
+        ensures tree { self.new.tree ≡ self.old.tree }
+        ensures fewer { entries_held self.new.waiting.items ≤ entries_held self.old.waiting.items }
     {
         if stands(&self.sessions, session) {
             self.let_go(session);
@@ -43,6 +46,8 @@ impl ServerState {
         requires { IsBounded self.old }
         ensures exact { state_of self.new ≡ hangs (state_of self.old) session }
         ensures bounded { IsBounded self.new }
+        ensures tree { self.new.tree ≡ self.old.tree }
+        ensures fewer { entries_held self.new.waiting.items ≤ entries_held self.old.waiting.items }
     {
         withdraw(&mut self.waiting, session);
         self.temps.drop_session(session);

@@ -17,4 +17,5 @@ pub mod server;
 mod settling;
 mod state;
 mod steps;
+mod unkept;
 mod waiting;

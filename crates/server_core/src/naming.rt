@@ -4,8 +4,12 @@
 ghost use Rattle.std.specs.Prelude.{◌≡◌, ◌≤◌, ◌+◌, length, vec_capacity, IfOk, OnOk, OnErr, false, true};
 ghost use Rattle.wire.specs.declared.message.Body.TheVariants as body;
 ghost use Rattle.server_core.specs.Closing.{count_of};
-ghost use Rattle.server_core.specs.Step.{called, does, asks, TakesMemory};
+ghost use Rattle.server_core.specs.Served.{IsServed};
+ghost use Rattle.server_core.specs.State.{entries_held};
+ghost use Rattle.server_core.specs.Step.{called_under, does, asks, TakesMemory};
 ghost use Rattle.server_core.specs.View.{state_of, IsBounded, HasRoom, RoomFor};
+ghost use Rattle.stored_tree.specs.Stores.{Keeps};
+ghost use Rattle.tree_calls.specs.Calling.{places_of_call};
 ghost use Rattle.tree_calls.specs.Waiting.{enters};
 
 use crate::change::{Change, Wanted};
@@ -17,6 +21,7 @@ use crate::waiting::{has_waiting, held};
 use file_tree::call::Held;
 use nfs3_calls::message::Nfs;
 use std::alloc::{AllocError, Global};
+use store::store::Store;
 use tree_calls::asked::{Done, Outcome};
 use tree_calls::{calls, entering};
 use wire::message::{Body, RpcRefusal};
@@ -24,24 +29,29 @@ use wire::message::{Body, RpcRefusal};
 impl ServerState {
     /// A call of NFS. Memory is taken for its entries only where it is not refused. An `Err` changes
     /// nothing.
-    pub fn call_nfs(
+    pub fn call_nfs<S: Store>(
         &mut self,
         alloc: Global,
+        store: &mut S,
         session: u32,
         xid: u32,
         call: &Nfs,
     ) -> Result<ServerStep, AllocError>
-        requires { IsBounded self.old }
-        ensures ok { IfOk result (λ o. called (state_of self.old) session xid (body.Nfs call.now) ≡ (state_of self.new, o)) }
+        requires bounded { IsBounded self.old }
+        requires spare { entries_held self.old.waiting.items ≤ S.spare store.old }
+        ensures ok { IfOk result (λ o. IsServed (S.faults store.old) (S.faults store.new) (λ fault. called_under (state_of self.old) fault session xid (body.Nfs call.now)) (state_of self.new, o)) }
         ensures done { IfOk result (λ o. o.missed ≡ false) }
         ensures err { OnErr result (state_of self.new ≡ state_of self.old) }
         ensures takes { OnErr result (TakesMemory (state_of self.old) session (body.Nfs call.now)) }
         ensures bounded { IsBounded self.new }
+        ensures keeps { Keeps (S.records store.old) self.old.tree.tree (S.records store.new) self.new.tree.tree }
+        ensures spare { entries_held self.new.waiting.items ≤ S.spare store.new }
+        ensures later { S.faults store.old ≤ S.faults store.new }
     {
         let held = held(&self.waiting);
         let busy = has_waiting(&self.waiting, session);
         self.reserve_for(call, held, busy)?;
-        let outcome = calls::call(alloc, &mut self.tree, call, held, busy)?;
+        let outcome = calls::call(alloc, &mut self.tree, store, call, held, busy)?;
         Ok(self.take_outcome(alloc, session, xid, outcome))
     }
 
@@ -52,6 +62,8 @@ impl ServerState {
         ensures bounded { IsBounded self.new }
         ensures room { OnOk result (enters self.old.tree.tree held busy call.now ≡ true → HasRoom self.new) }
         ensures takes { OnErr result (enters self.old.tree.tree held busy call.now ≡ true) }
+        ensures tree { self.new.tree ≡ self.old.tree }
+        ensures waiting { self.new.waiting.items ≡ self.old.waiting.items }
     {
         if entering::enters(&self.tree, call, held, busy) {
             self.reserve()?;
@@ -72,6 +84,8 @@ impl ServerState {
         ensures exact { asks (state_of self.old) session xid outcome ≡ (state_of self.new, result) }
         ensures done { result.missed ≡ false }
         ensures bounded { IsBounded self.new }
+        ensures tree { self.new.tree ≡ self.old.tree }
+        ensures entries { entries_held self.new.waiting.items ≡ entries_held self.old.waiting.items + places_of_call outcome }
     {
         match outcome {
             None => refuse(alloc, session, xid, RpcRefusal::ProcUnavail),
@@ -97,6 +111,8 @@ impl ServerState {
         ensures exact { does (state_of self.old) session xid done ≡ (state_of self.new, result) }
         ensures done { result.missed ≡ false }
         ensures bounded { IsBounded self.new }
+        ensures tree { self.new.tree ≡ self.old.tree }
+        ensures waiting { self.new.waiting.items ≡ self.old.waiting.items }
     {
         let Done {
             answer: told,

@@ -1,15 +1,18 @@
 //! The server. `specs/State.antt` says what it is, and `specs/Step.antt` what it does.
 
-ghost use Rattle.std.specs.Prelude.{◌≡◌, length, false, true, IfOk, OnOk, OnErr};
+ghost use Rattle.std.specs.Prelude.{◌≡◌, ◌≤◌, length, false, true, IfOk, OnOk, OnErr};
 ghost use Rattle.server_core.specs.Closing.{has_waiting};
-ghost use Rattle.server_core.specs.State.{empty};
-ghost use Rattle.server_core.specs.Step.{server_step, opens_with, forges, clears_index, IsTimed, Misses};
+ghost use Rattle.server_core.specs.Served.{IsServed};
+ghost use Rattle.server_core.specs.State.{empty, entries_held};
+ghost use Rattle.server_core.specs.Step.{server_step, server_step_under, with_tree, opens_with, forges, clears_index, IsTimed, Misses};
+ghost use Rattle.stored_tree.specs.Stores.{Keeps};
 ghost use Rattle.file_tree.specs.Opening.{can_open};
 ghost use Rattle.file_tree.specs.Reading.{stands_for};
 
 use crate::event::{Event, ServerStep};
 use crate::journal::Entry;
 use crate::state::ServerState;
+use crate::unkept::NoStore;
 use crate::waiting::has_waiting;
 use chunk_index::place::Place;
 use file_tree::call::Standing;
@@ -17,6 +20,7 @@ use file_tree::tree::Tree;
 use lb_base::items::Name;
 use std::alloc::{AllocError, Global};
 use std::marker::Model;
+use store::store::Store;
 use temp_files::temps::Temps;
 use tree_nodes::node::Body;
 
@@ -44,6 +48,13 @@ impl Server {
         ensures { IfOk result (λ server. server ≡ empty) }
     {
         let tree = Tree::new(alloc)?;
+        Server::with_tree(alloc, tree)
+    }
+
+    /// A server over a tree, with no session. The one error is want of memory.
+    pub fn with_tree(alloc: Global, tree: Tree) -> Result<Server, AllocError>
+        ensures { IfOk result (λ server. server ≡ with_tree tree.tree) }
+    {
         let index = chunk_places::empty(alloc)?;
         Ok(Server {
             state: ServerState {
@@ -138,16 +149,33 @@ impl Server {
         self.state.sessions.len()
     }
 
-    /// One event, whose reading of the clock is below 2^63. Where memory is wanting the step says
-    /// so: a call is answered SYSTEM_ERR and a connection told so, and all stays as it was, but for
-    /// the moment of the reading and a look-up; or all is done but that places are left out of the
-    /// index of chunks. A change that waits is always made, and a connection always lost.
-    pub fn step(&mut self, alloc: Global, event: Event) -> ServerStep
+    /// One event, whose reading of the clock is below 2^63. Each change is given to the store before
+    /// it is made, and before its answer goes out; where the store fails the answer is IO, and nothing
+    /// has changed but that a change that waited is gone. Where memory is wanting the step says so: a
+    /// call is answered SYSTEM_ERR and a connection told so, and all stays as it was, but for the
+    /// moment of the reading and a look-up; or all is done but that places are left out of the index of
+    /// chunks. A change that waits is made without memory, and a connection lost.
+    pub fn step<S: Store>(&mut self, alloc: Global, store: &mut S, event: Event) -> ServerStep
+        requires timed { IsTimed event }
+        requires spare { entries_held self.old.waiting ≤ S.spare store.old }
+        ensures exact { result.missed ≡ false → IsServed (S.faults store.old) (S.faults store.new) (λ fault. server_step_under self.old fault event) (self.new, result) }
+        ensures missed { result.missed ≡ true → Misses self.old event self.new result }
+        ensures keeps { Keeps (S.records store.old) self.old.tree (S.records store.new) self.new.tree }
+        ensures spare { entries_held self.new.waiting ≤ S.spare store.new }
+        ensures later { S.faults store.old ≤ S.faults store.new }
+    {
+        let step = self.state.step(alloc, store, event);
+        step
+    }
+
+    /// One event on a server that no store keeps. Else it is `step`.
+    pub fn step_unkept(&mut self, alloc: Global, event: Event) -> ServerStep
         requires { IsTimed event }
         ensures exact { result.missed ≡ false → server_step self.old event ≡ (self.new, result) }
         ensures missed { result.missed ≡ true → Misses self.old event self.new result }
     {
-        let step = self.state.step(alloc, event);
+        let mut store = NoStore;
+        let step = self.state.step(alloc, &mut store, event);
         step
     }
 }

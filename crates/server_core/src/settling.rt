@@ -2,30 +2,36 @@
 
 ghost use Rattle.std.specs.Prelude.{◌≡◌, ℕ, ◌+◌, ◌≤◌, ◌∷◌, ◌++◌, [], length, false, true, vec_capacity};
 ghost use Rattle.wire.specs.declared.message.Message.TheVariants as message;
-ghost use Rattle.tree_calls.specs.Waiting.{commits as tree_commits};
-ghost use Rattle.server_core.specs.Closing.{settles, makes_change, index_with, entered_by, one_if, entries_by, count_of};
-ghost use Rattle.server_core.specs.Step.{Lacks, IsLacking, chunks_got, chunks_of_change, change_entered};
+ghost use Rattle.stored_tree.specs.Stores.{Keeps};
+ghost use Rattle.tree_calls.specs.Calling.{IsCalled};
+ghost use Rattle.tree_calls.specs.Waiting.{commits_under, entries_of};
+ghost use Rattle.server_core.specs.Closing.{settles, settles_under, makes_change, makes_change_under, index_with, entered_by, one_if, entries_by, count_of};
+ghost use Rattle.server_core.specs.Served.{IsServed};
+ghost use Rattle.server_core.specs.State.{chunks_at, file_at, entries_held, entries_wanted};
+ghost use Rattle.server_core.specs.Step.{with_told, Lacks, IsLacking, chunks_got, chunks_of_change, change_entered};
 ghost use Rattle.server_core.specs.View.{state_of, IsBounded, IsSettling};
 ghost use Rattle.server_core.specs.declared.event.Told.TheVariants as told;
 ghost use Rattle.server_core.specs.declared.change.Wanted.TheVariants as wanted;
 
-use crate::change::{Change, Wanted};
+use crate::change::{Change, ContentPair, Wanted};
 use crate::event::{Sent, ServerStep, Told};
 use crate::journal::Entry;
 use crate::state::ServerState;
 use crate::steps;
 use crate::waiting::held;
 use chunk_index::index::Index;
-use file_tree::call::{Call, Held};
+use file_tree::call::Held;
 use file_tree::entry::Entry as TreeEntry;
 use file_tree::tree::Tree;
 use hash_calls::message::Lb;
 use send_list::SendList;
 use std::alloc::Global;
+use store::store::Store;
 use tree_calls::asked::{Asked, Committing, Done};
 use tree_calls::settling;
-use tree_nodes::content::Content;
+use tree_nodes::node::Body as NodeBody;
 use wire::message::{Body, Message};
+use xdr_codec::answer::Answer;
 
 /// A place of the journal is taken for an entry, if there is one; says how many were.
 fn enter(journal: &mut Vec<Entry>, session: u32, entry: Option<TreeEntry>) -> u32
@@ -81,51 +87,79 @@ fn tell_change(alloc: Global, session: u32, xid: u32, entries: u32, body: Body) 
     }
 }
 
-/// Gives a file a content that waited, and enters the places of its chunks, if the file is there. The
-/// index gets them first, since the tree then has the content.
-fn commit(
+/// Puts the chunks of a file into the index. A place for which memory is wanting is left out; says
+/// whether one was.
+fn enter_content(index: &mut Index, tree: &Tree, file: u64) -> bool
+    ensures all { result ≡ false → index.new ≡ with_told index.old (chunks_at file (file_at tree.now.tree file)) }
+    ensures lacks { result ≡ true → IsLacking index.old (chunks_at file (file_at tree.now.tree file)) index.new }
+{
+    let Some(node) = tree.node(file) else {
+        return false;
+    };
+    match &node.body {
+        NodeBody::Directory => false,
+        NodeBody::File(content) => chunk_places::enter(index, file, content.chunks()),
+    }
+}
+
+/// Gives a file a content that waited, if the file is there and the store keeps it; then the places of
+/// its chunks enter the index.
+fn commit<S: Store>(
     tree: &mut Tree,
+    store: &mut S,
     index: &mut Index,
     file: u64,
-    content: Content,
+    content: ContentPair,
     held: Held,
 ) -> (Committing, bool)
-    ensures tree { tree_commits tree.old.tree held file content 0 ≡ (tree.new.tree, result.0) }
+    requires { held.entries + 1 ≤ S.spare store.old }
+    ensures done { IsCalled (S.faults store.old) (S.faults store.new) (λ fault. commits_under tree.old.tree held fault file content 0) (tree.new.tree, result.0) }
     ensures all { result.1 ≡ false → index.new ≡ index_with index.old file content result.0.answer }
     ensures lacks { result.1 ≡ true → IsLacking index.old (chunks_got file content result.0.answer) index.new }
+    ensures keeps { Keeps (S.records store.old) tree.old.tree (S.records store.new) tree.new.tree }
+    ensures spare { held.entries ≤ S.spare store.new }
+    ensures later { S.faults store.old ≤ S.faults store.new }
 {
-    let call = Call::Replace(file, content.len() as u64);
-    let left_out = match tree.check(&call, held) {
-        Ok(()) => chunk_places::enter(index, file, content.chunks()),
-        Err(_) => false,
+    let (content, copy) = content.split();
+    let done = settling::commit(tree, store, file, content, copy, held, 0);
+    let left_out = match &done.answer {
+        Answer::Done(_) => enter_content(index, tree, file),
+        Answer::Failed(..) => false,
     };
-    drop(call);
-    (settling::commit(tree, file, content, held, 0), left_out)
+    (done, left_out)
 }
 
 impl ServerState {
     /// The change that came first is made, if one waits. Places of its chunks for which memory is
     /// wanting are left out of the index, and nothing else.
-    pub fn settle(&mut self, alloc: Global, now: u64) -> ServerStep
-        requires { IsBounded self.old }
-        ensures exact { result.missed ≡ false → settles (state_of self.old) now (state_of self.old).waiting ≡ (state_of self.new, result) }
+    pub fn settle<S: Store>(&mut self, alloc: Global, store: &mut S, now: u64) -> ServerStep
+        requires bounded { IsBounded self.old }
+        requires spare { entries_held self.old.waiting.items ≤ S.spare store.old }
+        ensures exact { result.missed ≡ false → IsServed (S.faults store.old) (S.faults store.new) (λ fault. settles_under (state_of self.old) fault now (state_of self.old).waiting) (state_of self.new, result) }
         ensures lacks { result.missed ≡ true → Lacks (state_of self.old).index (chunks_of_change (state_of self.old) (state_of self.old).waiting) (settles (state_of self.old) now (state_of self.old).waiting) (state_of self.new) result }
         ensures bounded { IsBounded self.new }
+        ensures keeps { Keeps (S.records store.old) self.old.tree.tree (S.records store.new) self.new.tree.tree }
+        ensures spare { entries_held self.new.waiting.items ≤ S.spare store.new }
+        ensures later { S.faults store.old ≤ S.faults store.new }
     {
         if self.waiting.is_empty() {
             return steps::tell(alloc, Told::NotReady);
         }
         self.moment = self.moment.max(now);
         let change = self.waiting.remove(0);
-        self.make_change(alloc, change)
+        self.make_change(alloc, store, change)
     }
 
     /// A change that has left the queue is made, if all is as it was when it came.
-    fn make_change(&mut self, alloc: Global, change: Change) -> ServerStep
-        requires { IsSettling self.old }
-        ensures exact { result.missed ≡ false → makes_change (state_of self.old) change change.what ≡ (state_of self.new, result) }
+    fn make_change<S: Store>(&mut self, alloc: Global, store: &mut S, change: Change) -> ServerStep
+        requires settling { IsSettling self.old }
+        requires spare { entries_held self.old.waiting.items + entries_wanted change.what ≤ S.spare store.old }
+        ensures exact { result.missed ≡ false → IsServed (S.faults store.old) (S.faults store.new) (λ fault. makes_change_under (state_of self.old) fault change change.what) (state_of self.new, result) }
         ensures lacks { result.missed ≡ true → Lacks (state_of self.old).index (change_entered (state_of self.old).tree (state_of self.old).waiting change change.what) (makes_change (state_of self.old) change change.what) (state_of self.new) result }
         ensures bounded { IsBounded self.new }
+        ensures keeps { Keeps (S.records store.old) self.old.tree.tree (S.records store.new) self.new.tree.tree }
+        ensures spare { entries_held self.new.waiting.items ≤ S.spare store.new }
+        ensures later { S.faults store.old ≤ S.faults store.new }
     {
         let Change {
             session,
@@ -134,27 +168,34 @@ impl ServerState {
             what,
         } = change;
         match what {
-            Wanted::Content(content) => self.commit_waiting(alloc, session, xid, file, content),
-            Wanted::Asked(asked) => self.settle_asked(alloc, session, xid, asked),
+            Wanted::Content(content) => self.commit_waiting(
+                alloc, store, session, xid, file, content,
+            ),
+            Wanted::Asked(asked) => self.settle_asked(alloc, store, session, xid, asked),
         }
     }
 
     /// A COMMITTMP is made.
-    fn commit_waiting(
+    fn commit_waiting<S: Store>(
         &mut self,
         alloc: Global,
+        store: &mut S,
         session: u32,
         xid: u32,
         file: u64,
-        content: Content,
+        content: ContentPair,
     ) -> ServerStep
-        requires { IsSettling self.old }
-        ensures exact { result.missed ≡ false → makes_change (state_of self.old) (record { session = session; xid = xid; file = file; what = wanted.Content content }) (wanted.Content content) ≡ (state_of self.new, result) }
+        requires settling { IsSettling self.old }
+        requires spare { entries_held self.old.waiting.items + 1 ≤ S.spare store.old }
+        ensures exact { result.missed ≡ false → IsServed (S.faults store.old) (S.faults store.new) (λ fault. makes_change_under (state_of self.old) fault (record { session = session; xid = xid; file = file; what = wanted.Content content }) (wanted.Content content)) (state_of self.new, result) }
         ensures lacks { result.missed ≡ true → Lacks (state_of self.old).index (change_entered (state_of self.old).tree (state_of self.old).waiting (record { session = session; xid = xid; file = file; what = wanted.Content content }) (wanted.Content content)) (makes_change (state_of self.old) (record { session = session; xid = xid; file = file; what = wanted.Content content }) (wanted.Content content)) (state_of self.new) result }
         ensures bounded { IsBounded self.new }
+        ensures keeps { Keeps (S.records store.old) self.old.tree.tree (S.records store.new) self.new.tree.tree }
+        ensures spare { entries_held self.new.waiting.items ≤ S.spare store.new }
+        ensures later { S.faults store.old ≤ S.faults store.new }
     {
         let held = held(&self.waiting);
-        let (done, left_out) = commit(&mut self.tree, &mut self.index, file, content, held);
+        let (done, left_out) = commit(&mut self.tree, store, &mut self.index, file, content, held);
         let entries = enter_both(&mut self.journal, session, done.entry, None);
         let body = Body::Lb(Lb::CommitTmpAnswer(done.answer));
         let mut step = tell_change(alloc, session, xid, entries, body);
@@ -163,18 +204,29 @@ impl ServerState {
     }
 
     /// A REMOVE, or a RENAME over a file, is made.
-    fn settle_asked(&mut self, alloc: Global, session: u32, xid: u32, asked: Asked) -> ServerStep
-        requires { IsSettling self.old }
-        ensures exact { (id : ℕ) → makes_change (state_of self.old) (record { session = session; xid = xid; file = id; what = wanted.Asked asked }) (wanted.Asked asked) ≡ (state_of self.new, result) }
+    fn settle_asked<S: Store>(
+        &mut self,
+        alloc: Global,
+        store: &mut S,
+        session: u32,
+        xid: u32,
+        asked: Asked,
+    ) -> ServerStep
+        requires settling { IsSettling self.old }
+        requires spare { entries_held self.old.waiting.items + entries_of asked ≤ S.spare store.old }
+        ensures exact { (id : ℕ) → IsServed (S.faults store.old) (S.faults store.new) (λ fault. makes_change_under (state_of self.old) fault (record { session = session; xid = xid; file = id; what = wanted.Asked asked }) (wanted.Asked asked)) (state_of self.new, result) }
         ensures done { result.missed ≡ false }
         ensures bounded { IsBounded self.new }
+        ensures keeps { Keeps (S.records store.old) self.old.tree.tree (S.records store.new) self.new.tree.tree }
+        ensures spare { entries_held self.new.waiting.items ≤ S.spare store.new }
+        ensures later { S.faults store.old ≤ S.faults store.new }
     {
         let held = held(&self.waiting);
         let Done {
             answer,
             first,
             second,
-        } = settling::settle(&mut self.tree, asked, held);
+        } = settling::settle(&mut self.tree, store, asked, held);
         let entries = enter_both(&mut self.journal, session, first, second);
         tell_change(alloc, session, xid, entries, Body::Nfs(answer))
     }

@@ -1,7 +1,7 @@
 //! The server's fields, and one event on them. `specs/View.antt` says which state they are, and
 //! `specs/Step.antt` what an event does.
 
-ghost use Rattle.std.specs.Prelude.{◌≡◌, ◌==◌, ◌<◌, ◌^◌, [], ◌∷◌, ◌++◌, OnOk, OnErr, IfOk, false, true};
+ghost use Rattle.std.specs.Prelude.{◌≡◌, ◌==◌, ◌<◌, ◌≤◌, ◌^◌, [], ◌∷◌, ◌++◌, OnOk, OnErr, IfOk, false, true};
 ghost use Rattle.std.specs.List.{list_any};
 ghost use Rattle.hash_calls.specs.declared.message.Lb.TheVariants as lb;
 ghost use Rattle.wire.specs.declared.message.Body.TheVariants as body;
@@ -9,7 +9,10 @@ ghost use Rattle.wire.specs.declared.message.Message.TheVariants as message;
 ghost use Rattle.wire.specs.declared.message.RpcRefusal.TheVariants as refusal;
 ghost use Rattle.server_core.specs.Closing.{at, sends, to};
 ghost use Rattle.server_core.specs.Answers.{node_of, chunks_told};
-ghost use Rattle.server_core.specs.Step.{server_step, called, got, got_if, stands, connect, has_room, opens_with, tells_hashes, chunks_called, IsTimed, missed_call, TakesMemory, Lacks, MissesCall, Misses};
+ghost use Rattle.stored_tree.specs.Stores.{Keeps};
+ghost use Rattle.server_core.specs.Served.{IsServed};
+ghost use Rattle.server_core.specs.State.{entries_held};
+ghost use Rattle.server_core.specs.Step.{server_step_under, called, called_under, got_if_under, stands, connect, has_room, opens_with, tells_hashes, chunks_called, IsTimed, missed_call, TakesMemory, Lacks, MissesCall, Misses};
 ghost use Rattle.server_core.specs.View.{state_of, IsBounded};
 ghost use Rattle.server_core.specs.declared.event.Event.TheVariants as event;
 ghost use Rattle.server_core.specs.declared.event.Told.TheVariants as told;
@@ -26,6 +29,7 @@ use hash_calls::message::Lb;
 use lb_base::items::Name;
 use limits::{SESSIONS_EVER_MOST, SESSIONS_MOST};
 use std::alloc::{AllocError, Global};
+use store::store::Store;
 use temp_files::temps::Temps;
 use tree_calls::telling;
 use tree_nodes::node::Body as NodeBody;
@@ -72,12 +76,16 @@ impl ServerState {
     }
 
     /// One event.
-    pub fn step(&mut self, alloc: Global, event: Event) -> ServerStep
+    pub fn step<S: Store>(&mut self, alloc: Global, store: &mut S, event: Event) -> ServerStep
         requires bounded { IsBounded self.old }
         requires timed { IsTimed event }
-        ensures exact { result.missed ≡ false → server_step (state_of self.old) event ≡ (state_of self.new, result) }
+        requires spare { entries_held self.old.waiting.items ≤ S.spare store.old }
+        ensures exact { result.missed ≡ false → IsServed (S.faults store.old) (S.faults store.new) (λ fault. server_step_under (state_of self.old) fault event) (state_of self.new, result) }
         ensures missed { result.missed ≡ true → Misses (state_of self.old) event (state_of self.new) result }
         ensures bounded { IsBounded self.new }
+        ensures keeps { Keeps (S.records store.old) self.old.tree.tree (S.records store.new) self.new.tree.tree }
+        ensures spare { entries_held self.new.waiting.items ≤ S.spare store.new }
+        ensures later { S.faults store.old ≤ S.faults store.new }
     {
         match event {
             Event::Connect => self.connect(alloc),
@@ -86,11 +94,11 @@ impl ServerState {
                 mut message,
                 now,
             } => {
-                let step = self.got(alloc, session, &mut message, now);
+                let step = self.got(alloc, store, session, &mut message, now);
                 drop(message);
                 step
             }
-            Event::Settle { now } => self.settle(alloc, now),
+            Event::Settle { now } => self.settle(alloc, store, now),
             Event::Hang { session } => self.hang(alloc, session),
         }
     }
@@ -103,6 +111,8 @@ impl ServerState {
         ensures said { result.missed ≡ true → result ≡ record (sends []) { told = told.Memory; missed = true } }
         ensures sure { result.missed ≡ true → has_room (state_of self.old) ≡ true }
         ensures bounded { IsBounded self.new }
+        ensures tree { self.new.tree ≡ self.old.tree }
+        ensures waiting { self.new.waiting.items ≡ self.old.waiting.items }
     {
         if self.sessions.len() >= SESSIONS_MOST
             || u64::from(self.sessions_made) >= SESSIONS_EVER_MOST
@@ -118,18 +128,29 @@ impl ServerState {
     }
 
     /// A message of a session.
-    fn got(&mut self, alloc: Global, session: u32, message: &mut Message, now: u64) -> ServerStep
-        requires { IsBounded self.old }
-        ensures exact { result.missed ≡ false → got_if (state_of self.old) (stands (state_of self.old) session) session message.old now ≡ (state_of self.new, result) }
+    fn got<S: Store>(
+        &mut self,
+        alloc: Global,
+        store: &mut S,
+        session: u32,
+        message: &mut Message,
+        now: u64,
+    ) -> ServerStep
+        requires bounded { IsBounded self.old }
+        requires spare { entries_held self.old.waiting.items ≤ S.spare store.old }
+        ensures exact { result.missed ≡ false → IsServed (S.faults store.old) (S.faults store.new) (λ fault. got_if_under (state_of self.old) fault (stands (state_of self.old) session) session message.old now) (state_of self.new, result) }
         ensures missed { result.missed ≡ true → Misses (state_of self.old) (event.Got session message.old now) (state_of self.new) result }
         ensures bounded { IsBounded self.new }
+        ensures keeps { Keeps (S.records store.old) self.old.tree.tree (S.records store.new) self.new.tree.tree }
+        ensures spare { entries_held self.new.waiting.items ≤ S.spare store.new }
+        ensures later { S.faults store.old ≤ S.faults store.new }
     {
         if !stands(&self.sessions, session) {
             return steps::nothing(alloc);
         }
         self.moment = self.moment.max(now);
         match message {
-            Message::Call(xid, body) => self.call(alloc, session, *xid, body),
+            Message::Call(xid, body) => self.call(alloc, store, session, *xid, body),
             Message::Unfit(xid, why) => refuse(alloc, session, *xid, *why),
             Message::Answer(..) | Message::Refuse(..) => steps::nothing(alloc),
         }
@@ -137,13 +158,24 @@ impl ServerState {
 
     /// A call of a session that stands. Where memory is wanting it is refused, and all stays as it
     /// was, but for a look-up; or places are left out of the index.
-    fn call(&mut self, alloc: Global, session: u32, xid: u32, body: &mut Body) -> ServerStep
-        requires { IsBounded self.old }
-        ensures exact { result.missed ≡ false → called (state_of self.old) session xid body.old ≡ (state_of self.new, result) }
+    fn call<S: Store>(
+        &mut self,
+        alloc: Global,
+        store: &mut S,
+        session: u32,
+        xid: u32,
+        body: &mut Body,
+    ) -> ServerStep
+        requires bounded { IsBounded self.old }
+        requires spare { entries_held self.old.waiting.items ≤ S.spare store.old }
+        ensures exact { result.missed ≡ false → IsServed (S.faults store.old) (S.faults store.new) (λ fault. called_under (state_of self.old) fault session xid body.old) (state_of self.new, result) }
         ensures missed { result.missed ≡ true → MissesCall (state_of self.old) session xid body.old (state_of self.new) result }
         ensures bounded { IsBounded self.new }
+        ensures keeps { Keeps (S.records store.old) self.old.tree.tree (S.records store.new) self.new.tree.tree }
+        ensures spare { entries_held self.new.waiting.items ≤ S.spare store.new }
+        ensures later { S.faults store.old ≤ S.faults store.new }
     {
-        match self.try_call(alloc, session, xid, body) {
+        match self.try_call(alloc, store, session, xid, body) {
             Ok(step) => step,
             Err(_) => steps::miss_call(alloc, session, xid),
         }
@@ -151,41 +183,52 @@ impl ServerState {
 
     /// A call of a session that stands. An `Err` changes nothing, but for a
     /// look-up.
-    fn try_call(
+    fn try_call<S: Store>(
         &mut self,
         alloc: Global,
+        store: &mut S,
         session: u32,
         xid: u32,
         body: &mut Body,
     ) -> Result<ServerStep, AllocError>
-        requires { IsBounded self.old }
-        ensures ok { IfOk result (λ o. o.missed ≡ false → called (state_of self.old) session xid body.old ≡ (state_of self.new, o)) }
+        requires bounded { IsBounded self.old }
+        requires spare { entries_held self.old.waiting.items ≤ S.spare store.old }
+        ensures ok { IfOk result (λ o. o.missed ≡ false → IsServed (S.faults store.old) (S.faults store.new) (λ fault. called_under (state_of self.old) fault session xid body.old) (state_of self.new, o)) }
         ensures lacks { IfOk result (λ o. o.missed ≡ true → Lacks (state_of self.old).index (chunks_called (state_of self.old) body.old) (called (state_of self.old) session xid body.old) (state_of self.new) o) }
         ensures err { OnErr result (state_of self.new ≡ missed_call (state_of self.old) body.old) }
         ensures takes { OnErr result (TakesMemory (state_of self.old) session body.old) }
         ensures bounded { IsBounded self.new }
+        ensures keeps { Keeps (S.records store.old) self.old.tree.tree (S.records store.new) self.new.tree.tree }
+        ensures spare { entries_held self.new.waiting.items ≤ S.spare store.new }
+        ensures later { S.faults store.old ≤ S.faults store.new }
     {
         match body {
-            Body::Lb(call) => self.call_lbfs(alloc, session, xid, call),
-            Body::Nfs(call) => self.call_nfs(alloc, session, xid, call),
+            Body::Lb(call) => self.call_lbfs(alloc, store, session, xid, call),
+            Body::Nfs(call) => self.call_nfs(alloc, store, session, xid, call),
             Body::Back(_) => Ok(refuse(alloc, session, xid, RpcRefusal::ProcUnavail)),
         }
     }
 
-    /// A call of LBFS. An `Err` changes nothing, but for a look-up.
-    fn call_lbfs(
+    /// A call of LBFS: it changes no tree. An `Err` changes nothing, but for a look-up.
+    fn call_lbfs<S: Store>(
         &mut self,
         alloc: Global,
+        store: &mut S,
         session: u32,
         xid: u32,
         call: &mut Lb,
     ) -> Result<ServerStep, AllocError>
-        requires { IsBounded self.old }
+        requires bounded { IsBounded self.old }
+        requires spare { entries_held self.old.waiting.items ≤ S.spare store.old }
         ensures ok { IfOk result (λ o. o.missed ≡ false → called (state_of self.old) session xid (body.Lb call.old) ≡ (state_of self.new, o)) }
         ensures lacks { IfOk result (λ o. o.missed ≡ true → Lacks (state_of self.old).index (chunks_called (state_of self.old) (body.Lb call.old)) (called (state_of self.old) session xid (body.Lb call.old)) (state_of self.new) o) }
         ensures err { OnErr result (state_of self.new ≡ missed_call (state_of self.old) (body.Lb call.old)) }
         ensures takes { OnErr result (TakesMemory (state_of self.old) session (body.Lb call.old)) }
         ensures bounded { IsBounded self.new }
+        ensures tree { self.new.tree ≡ self.old.tree }
+        ensures records { S.records store.new ≡ S.records store.old }
+        ensures spare { entries_held self.new.waiting.items ≤ S.spare store.new }
+        ensures later { S.faults store.old ≤ S.faults store.new }
     {
         match call {
             Lb::Null => Ok(answer(alloc, session, xid, Body::Lb(Lb::NullAnswer))),
@@ -194,7 +237,7 @@ impl ServerState {
             Lb::MkTmpFile(new) => self.make_temp(alloc, session, xid, new),
             Lb::TmpWrite(piece) => self.write_temp(alloc, session, xid, piece),
             Lb::CondWrite(piece) => self.cond_write(alloc, session, xid, piece),
-            Lb::CommitTmp(commit) => self.commit(alloc, session, xid, commit),
+            Lb::CommitTmp(commit) => self.commit(alloc, store, session, xid, commit),
             _ => Ok(refuse(alloc, session, xid, RpcRefusal::ProcUnavail)),
         }
     }
@@ -223,6 +266,8 @@ impl ServerState {
         ensures err { OnErr result (state_of self.new ≡ state_of self.old) }
         ensures takes { OnErr result (TakesMemory (state_of self.old) session (body.Lb (lb.GetHash range.now))) }
         ensures bounded { IsBounded self.new }
+        ensures tree { self.new.tree ≡ self.old.tree }
+        ensures waiting { self.new.waiting.items ≡ self.old.waiting.items }
     {
         let told = hashes::hash_answer(alloc, &self.tree, range)?;
         let left_out = hashes::enter_told(&mut self.index, &self.tree, range);

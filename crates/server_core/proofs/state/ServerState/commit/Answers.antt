@@ -9,20 +9,20 @@ use Rattle.server_core.proofs.Closes.{commit_refused, commit_taken, target_fits,
 use Rattle.server_core.proofs.state.ServerState.commit.Goals as goal
 
 pub returns-in-Err-clause-ok : goal.returns-in-Err-clause-ok
-returns-in-Err-clause-ok c =
+returns-in-Err-clause-ok g c =
     let s = state_of c.args.self.now in
     let at : temp_at s.temps c.args.session c.args.commit.now.fd ≡ Some c.in-Some.temp.now = sym c.find.ensures ∙ ap option_copied c.in-Some.is in
     commit_refused s c.args.session c.args.xid c.args.commit.now c.in-Some.temp.now c.in-Err.status c.end.new.self c.refuse_commit-in-Err.result
     at (sym c.commit_target.ensures ∙ c.in-Err.is) c.end.ensures c.refuse_commit-in-Err.ensures
 
 pub admit-requires-clause-size : goal.admit-requires-clause-size
-admit-requires-clause-size c =
+admit-requires-clause-size g c =
     let s = state_of c.args.self.now in
     let commit = c.args.commit.now in
     (target_fits s c.args.session commit.size c.in-Some.temp.now (target_in (node_of s.tree commit.handle)) c.in-Ok.file (sym c.commit_target.ensures ∙ c.in-Ok.is)).0
 
 pub admit-requires-clause-whole : goal.admit-requires-clause-whole
-admit-requires-clause-whole c =
+admit-requires-clause-whole g c =
     let s = state_of c.args.self.now in
     let commit = c.args.commit.now in
     let at : temp_at s.temps c.args.session commit.fd ≡ Some c.in-Some.temp.now = sym c.find.ensures ∙ ap option_copied c.in-Some.is in
@@ -30,13 +30,13 @@ admit-requires-clause-whole c =
     ∙ (target_fits s c.args.session commit.size c.in-Some.temp.now (target_in (node_of s.tree commit.handle)) c.in-Ok.file (sym c.commit_target.ensures ∙ c.in-Ok.is)).1
 
 pub admit-requires-clause-room : goal.admit-requires-clause-room
-admit-requires-clause-room c =
+admit-requires-clause-room g c =
     let s = state_of c.args.self.now in
     let commit = c.args.commit.now in
     (target_fits s c.args.session commit.size c.in-Some.temp.now (target_in (node_of s.tree commit.handle)) c.in-Ok.file (sym c.commit_target.ensures ∙ c.in-Ok.is)).2
 
 pub returns-clause-ok : goal.returns-clause-ok
-returns-clause-ok c =
+returns-clause-ok g c =
     let s = state_of c.args.self.now in
     let commit = c.args.commit.now in
     let t = c.in-Some.temp.now in
