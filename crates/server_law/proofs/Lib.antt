@@ -1,0 +1,6 @@
+pub mod Calls
+pub mod Changes
+pub mod Facts
+pub mod Steps
+pub mod TreeCalls
+pub mod Trees

@@ -1,0 +1,217 @@
+-- At each step of the server its tree holds what its journal says.
+use Rattle.std.proofs.Common.{◌≡◌, refl, sym, ap, ◌∙◌, subst, ℕ, List, [], ◌∷◌, ◌++◌, length, Option, Some, None, Result, Ok, Err, Bool, true, false, if◌then◌else◌}
+use Rattle.std.specs.Prelude.{nat_lt}
+use Rattle.std.proofs.lemmas.List.{append-nil}
+use Rattle.xdr_codec.specs.declared.status.Status.{Status}
+use Rattle.xdr_codec.specs.declared.status.Status.TheVariants as status
+use Rattle.xdr_codec.specs.declared.answer.Answer.TheVariants.{Failed}
+use Rattle.hash_calls.specs.declared.call.Commit.{Commit}
+use Rattle.hash_calls.specs.declared.call.CondPiece.{CondPiece}
+use Rattle.hash_calls.specs.declared.call.TempPiece.{TempPiece}
+use Rattle.hash_calls.specs.declared.message.Lb.TheVariants as lb
+use Rattle.nfs3_calls.specs.declared.message.Nfs.{Nfs}
+use Rattle.nfs3_calls.specs.declared.message.Nfs.TheVariants as nfs
+use Rattle.wire.specs.declared.message.Body.{Body}
+use Rattle.wire.specs.declared.message.Body.TheVariants as body
+use Rattle.wire.specs.declared.message.Message.{Message}
+use Rattle.wire.specs.declared.message.Message.TheVariants as message
+use Rattle.temp_files.specs.Pieces.{size_most}
+use Rattle.temp_files.specs.Temps.{Temp, temp_at, room_fault, piece_fault, without_temp, assembled}
+use Rattle.file_tree.specs.Tree.{Tree}
+use Rattle.file_tree.specs.declared.entry.Entry.{Entry as TreeEntry}
+use Rattle.tree_calls.specs.declared.asked.Outcome.{Outcome}
+use Rattle.tree_calls.specs.declared.asked.Outcome.TheVariants.{Answered, Waits}
+use Rattle.tree_calls.specs.Waiting.{calls, commits as tree_commits, settles as tree_settles}
+use Rattle.server_core.specs.declared.change.Wanted.{Wanted}
+use Rattle.server_core.specs.declared.change.Wanted.TheVariants as wanted
+use Rattle.server_core.specs.declared.event.Event.{Event}
+use Rattle.server_core.specs.declared.event.Event.TheVariants as event
+use Rattle.server_core.specs.declared.journal.Entry.{Entry}
+use Rattle.server_core.specs.Answers.{Node, directory, file, node_of}
+use Rattle.server_core.specs.Closing.{answers, sends, at, entries_by, has_waiting, is_full, makes, makes_unless, writes, writes_unless, names, names_unless, names_bytes, looked_up, bytes_known, cond_fault, commits, commits_to, commits_whole, makes_change, settles}
+use Rattle.server_core.specs.declared.change.Change.{Change}
+use Rattle.server_core.specs.State.{State, held}
+use Rattle.server_core.specs.Step.{connect, has_room, called, asks, asks_tree, got, got_if, stands, hangs_if, server_step}
+use Rattle.server_law.specs.Facts.{Fact, fact_at, fact_after, facts_after, IsNext, AreNext, IsTold, Holds}
+use Rattle.server_law.proofs.Calls.{TellsOutcome, tells_calls, tells_settles, tells_commits}
+use Rattle.server_law.proofs.Facts.{IsTelling}
+use Rattle.server_law.proofs.TreeCalls.{calls_keep, settles_keep, commits_keep}
+use Rattle.server_law.proofs.Trees.{IsGiven}
+
+-- ---- entries more
+
+facts_more : (id : ℕ) (o : Option Fact) (xs ys : List Entry) → facts_after id o (xs ++ ys) ≡ facts_after id (facts_after id o xs) ys
+facts_more id o [] ys = refl
+facts_more id o (x ∷ xs) ys = facts_more id (fact_after id o x) xs ys
+
+next_more : (before : ℕ → Option Fact) (xs ys : List Entry) → AreNext before xs → AreNext (λ id. facts_after id (before id) xs) ys → AreNext before (xs ++ ys)
+next_more before [] ys a b = b
+next_more before (x ∷ xs) ys a b = (a.0, next_more (λ id. fact_after id (before id) x) xs ys a.1 b)
+
+-- one whose tree and journal are the same
+same : (opening : Tree) (s n : State) → n.tree ≡ s.tree → n.journal ≡ s.journal → Holds opening s → Holds opening n
+same opening s n a b h = record {
+  told = record {
+    facts = λ id. ap (λ (t : Tree). fact_at t id) a ∙ h.told.facts id ∙ ap (λ (es : List Entry). facts_after id (fact_at opening id) es) (sym b);
+    versions = subst (λ (es : List Entry). AreNext (fact_at opening) es) (sym b) h.told.versions;
+  };
+  given = subst IsGiven (sym a) h.given;
+}
+
+more : (opening : Tree) (s n : State) (session : ℕ) (first second : Option TreeEntry) → IsTelling s.tree session first second n.tree → n.journal ≡ s.journal ++ entries_by session first second → IsGiven n.tree → Holds opening s → Holds opening n
+more opening s n session first second t b given h = record {
+  told = record {
+    facts = λ id.
+        t.facts id
+        ∙ ap (λ (o : Option Fact). facts_after id o (entries_by session first second)) (h.told.facts id)
+        ∙ sym (facts_more id (fact_at opening id) s.journal (entries_by session first second))
+        ∙ ap (λ (es : List Entry). facts_after id (fact_at opening id) es) (sym b);
+    versions = subst (λ (es : List Entry). AreNext (fact_at opening) es) (sym b)
+        (next_more (fact_at opening) s.journal (entries_by session first second) h.told.versions
+        (subst (λ (f : ℕ → Option Fact). AreNext f (entries_by session first second)) (λ i id. h.told.facts id i) t.versions));
+  };
+  given = given;
+}
+
+-- ---- the calls of LBFS leave both
+
+module _ (opening : Tree) (s : State) (h : Holds opening s) where
+  kept : (n : State) → n.tree ≡ s.tree → n.journal ≡ s.journal → Holds opening n
+  kept n a b = same opening s n a b h
+
+  makes_kept : (session xid fd : ℕ) (n : Result Node Status) → Holds opening (makes s session xid fd n).0
+  makes_kept session xid fd (Err e) = h
+  makes_kept session xid fd (Ok directory) = h
+  makes_kept session xid fd (Ok (file f)) = by (room_fault s.temps session fd)
+    where
+      by : (o : Option Status) → Holds opening (makes_unless s session xid fd f.id o).0
+      by (Some e) = h
+      by None = kept (makes_unless s session xid fd f.id None).0 refl refl
+
+  writes_kept : (session xid : ℕ) (a : TempPiece) (t : Option Temp) → Holds opening (writes s session xid a t).0
+  writes_kept session xid a t = by t (piece_fault t a.offset (length a.bytes))
+    where
+      by : (t : Option Temp) (o : Option Status) → Holds opening (writes_unless s session xid a t o).0
+      by (Some t) None = kept (writes_unless s session xid a (Some t) None).0 refl refl
+      by (Some t) (Some e) = h
+      by None o = h
+
+  names_kept : (session xid : ℕ) (a : CondPiece) (t : Option Temp) → Holds opening (names s session xid a t).0
+  names_kept session xid a t = by (cond_fault a t)
+    where
+      bytes_kept : (t : Option Temp) (o : Option (List ℕ)) → Holds opening (names_bytes (looked_up s a) session xid a t o).0
+      bytes_kept (Some t) (Some bytes) = kept (names_bytes (looked_up s a) session xid a (Some t) (Some bytes)).0 refl refl
+      bytes_kept (Some t) None = kept (looked_up s a) refl refl
+      bytes_kept None o = kept (looked_up s a) refl refl
+
+      by : (o : Option Status) → Holds opening (names_unless s session xid a t o).0
+      by (Some e) = h
+      by None = bytes_kept t _
+
+  whole_kept : (n : State) → Holds opening n → (session xid id : ℕ) (o : Option (List ℕ)) → Holds opening (commits_whole n session xid id o).0
+  whole_kept n g session xid id None = g
+  whole_kept n g session xid id (Some content) = by (has_waiting n.waiting session) (is_full n (length content))
+    where
+      waits : State
+      waits = record n { waiting = n.waiting ++ record { session = session; xid = xid; file = id; what = wanted.Content content } ∷ [] }
+
+      by : (b c : Bool) → Holds opening (if b then answers n session xid (lb.CommitTmpAnswer (Failed status.Jukebox tt)) else if c then answers n session xid (lb.CommitTmpAnswer (Failed status.NoSpc tt)) else (waits, sends [])).0
+      by true c = g
+      by false true = g
+      by false false = same opening n waits refl refl g
+
+  commits_kept : (session xid : ℕ) (a : Commit) (t : Option Temp) → Holds opening (commits s session xid a t).0
+  commits_kept session xid a None = h
+  commits_kept session xid a (Some t) = by (node_of s.tree a.handle)
+    where
+      left : State
+      left = record s { temps = without_temp s.temps session a.fd }
+
+      g : Holds opening left
+      g = kept left refl refl
+
+      sized : (id : ℕ) (b : Bool) → Holds opening (if b then answers left session xid (lb.CommitTmpAnswer (Failed status.FBig tt)) else commits_whole left session xid id (assembled t a.size)).0
+      sized id true = g
+      sized id false = whole_kept left g session xid id (assembled t a.size)
+
+      by : (n : Result Node Status) → Holds opening (commits_to left session xid a.size t n).0
+      by (Err e) = g
+      by (Ok directory) = g
+      by (Ok (file f)) = sized f.id (nat_lt size_most a.size)
+
+  -- ---- those of NFS
+
+  asks_told : (session xid : ℕ) (t : Tree) (o : Option Outcome) → TellsOutcome s.tree session t o → IsGiven t → Holds opening (asks (record s { tree = t }) session xid o).0
+  asks_told session xid t None tells given = more opening s (record s { tree = t }) session None None tells (sym (append-nil s.journal)) given h
+  asks_told session xid t (Some (Answered d)) tells given = more opening s (asks (record s { tree = t }) session xid (Some (Answered d))).0 session d.first d.second tells refl given h
+  asks_told session xid t (Some (Waits a)) tells given = more opening s (asks (record s { tree = t }) session xid (Some (Waits a))).0 session None None tells (sym (append-nil s.journal)) given h
+
+  calls_told : (session xid : ℕ) (m : Nfs) → Holds opening (asks_tree s session xid (calls s.tree (held s.waiting) (has_waiting s.waiting session) m)).0
+  calls_told session xid m =
+      let p : Tree × Option Outcome = calls s.tree (held s.waiting) (has_waiting s.waiting session) m in
+      asks_told session xid p.0 p.1 (tells_calls s.tree session (held s.waiting) h.given (has_waiting s.waiting session) m) (calls_keep s.tree (held s.waiting) (has_waiting s.waiting session) m h.given).0
+
+  -- ---- any call
+
+  called_told : (session xid : ℕ) (b : Body) → Holds opening (called s session xid b).0
+  called_told session xid (body.Lb (lb.GetHash r)) = kept (called s session xid (body.Lb (lb.GetHash r))).0 refl refl
+  called_told session xid (body.Lb (lb.MkTmpFile a)) = makes_kept session xid a.fd (node_of s.tree a.handle)
+  called_told session xid (body.Lb (lb.TmpWrite a)) = writes_kept session xid a (temp_at s.temps session a.fd)
+  called_told session xid (body.Lb (lb.CondWrite a)) = names_kept session xid a (temp_at s.temps session a.fd)
+  called_told session xid (body.Lb (lb.CommitTmp a)) = commits_kept session xid a (temp_at s.temps session a.fd)
+  called_told session xid (body.Lb m) = h
+  called_told session xid (body.Nfs nfs.Null) = h
+  called_told session xid (body.Nfs (nfs.Read r)) = h
+  called_told session xid (body.Nfs m) = calls_told session xid m
+  called_told session xid (body.Back m) = h
+
+  got_told : (session : ℕ) (m : Message) → Holds opening (got s session m).0
+  got_told session (message.Call xid b) = called_told session xid b
+  got_told session (message.Unfit xid why) = h
+  got_told session (message.Answer xid b) = h
+  got_told session (message.Refuse xid why) = h
+
+  -- ---- a change that waited
+
+  change_told : (c : Change) (w : Wanted) → Holds opening (makes_change s c w).0
+  change_told c (wanted.Content content) =
+      more opening s (makes_change s c (wanted.Content content)).0 c.session (tree_commits s.tree (held s.waiting) c.file content 0).1.entry None (tells_commits s.tree c.session (held s.waiting) h.given c.file content 0) refl (commits_keep s.tree (held s.waiting) c.file content 0 h.given).0 h
+  change_told c (wanted.Asked a) =
+      more opening s (makes_change s c (wanted.Asked a)).0 c.session (tree_settles s.tree (held s.waiting) a).1.first (tree_settles s.tree (held s.waiting) a).1.second (tells_settles s.tree c.session (held s.waiting) h.given a) refl (settles_keep s.tree (held s.waiting) a h.given).0 h
+
+-- ---- any event
+
+-- a moment, and what waits, are no part of it
+settle_told : (opening : Tree) (s : State) (now : ℕ) (ws : List Change) → Holds opening s → Holds opening (settles s now ws).0
+settle_told opening s now [] h = h
+settle_told opening s now (c ∷ cs) h =
+    let n : State = at (record s { waiting = cs }) now in
+    change_told opening n (same opening s n refl refl h) c c.what
+
+pub step_told : (opening : Tree) (s : State) (e : Event) → Holds opening s → Holds opening (server_step s e).0
+step_told opening s event.Connect h = by (has_room s)
+  where
+    by : (b : Bool) → Holds opening (connect s b).0
+    by true = same opening s (connect s true).0 refl refl h
+    by false = h
+step_told opening s (event.Got session m now) h = by (stands s session)
+  where
+    by : (b : Bool) → Holds opening (got_if s b session m now).0
+    by true = got_told opening (at s now) (same opening s (at s now) refl refl h) session m
+    by false = h
+step_told opening s (event.Settle now) h = settle_told opening s now s.waiting h
+step_told opening s (event.Hang session) h = by (stands s session)
+  where
+    by : (b : Bool) → Holds opening (hangs_if s b session).0
+    by true = same opening s (hangs_if s true session).0 refl refl h
+    by false = h
+
+-- before any entry a tree holds what it opened with
+pub opening_told : (s : State) → s.journal ≡ [] → IsGiven s.tree → Holds s.tree s
+opening_told s none given = record {
+  told = record {
+    facts = λ id. ap (λ (es : List Entry). facts_after id (fact_at s.tree id) es) (sym none);
+    versions = subst (λ (es : List Entry). AreNext (fact_at s.tree) es) (sym none) tt;
+  };
+  given = given;
+}

@@ -1,0 +1,5 @@
+//! The law of the server alone: what its tree holds is what its journal says. `specs/Facts.antt` has
+//! the definitions; there is no code.
+#![tactic(auto)]
+
+pub mod law;
