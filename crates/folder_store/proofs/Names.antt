@@ -1,0 +1,11 @@
+-- The names of records' files.
+use Rattle.std.proofs.Common.{◌≡◌, ℕ, Option, Some, refl, ap}
+use Rattle.command_text.proofs.Decimals.{number_again}
+use Rattle.folder_store.specs.declared.naming.Which.{Which}
+use Rattle.folder_store.specs.declared.naming.Which.TheVariants as which
+use Rattle.folder_store.specs.Folder.{name_of, which_of, lettered_by, IsWord}
+
+pub name_again : (one : Which) → IsWord one → which_of (name_of one) ≡ Some one
+name_again which.Head fits = refl
+name_again (which.Node id) fits = ap (λ (o : Option ℕ). lettered_by 110 o) (number_again id fits)
+name_again (which.Content id) fits = ap (λ (o : Option ℕ). lettered_by 99 o) (number_again id fits)

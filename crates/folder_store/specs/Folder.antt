@@ -1,0 +1,77 @@
+-- The files of a store's folder: their names, and their bytes. Numbers have their highest byte first.
+use Rattle.std.specs.Prelude.{ℕ, List, [], ◌∷◌, ◌++◌, ◌<◌, ◌^◌, length, take, drop, Option, Some, None, nat_lt, nat_eq, ◌==◌, if◌then◌else◌, bytes_eq, codes, decimal}
+use Rattle.std.specs.Int.{w32, w64, to_be_bytes, from_be_bytes}
+use Rattle.command_text.specs.Fields.{number_of}
+use Rattle.store.specs.declared.record.Head.{Head}
+use Rattle.store.specs.declared.record.NodeKind.{NodeKind}
+use Rattle.store.specs.declared.record.NodeKind.TheVariants as kind
+use Rattle.store.specs.declared.record.NodeRecord.{NodeRecord}
+use Rattle.store.specs.declared.record.ContentRecord.{ContentRecord}
+use Rattle.folder_store.specs.declared.naming.Which.{Which}
+use Rattle.folder_store.specs.declared.naming.Which.TheVariants as which
+
+-- ---- names
+
+abbrev pub name_of : Which → List ℕ
+name_of which.Head = codes "head"
+name_of (which.Node id) = codes "n" ++ decimal id
+name_of (which.Content id) = codes "c" ++ decimal id
+
+-- the record that a letter and an id tell
+abbrev pub lettered_by : ℕ → Option ℕ → Option Which
+lettered_by letter None = None
+lettered_by letter (Some id) = if letter == 110 then Some (which.Node id) else if letter == 99 then Some (which.Content id) else None
+
+-- a letter, and behind it an id
+abbrev pub lettered : ℕ → List ℕ → Option Which
+lettered letter digits = lettered_by letter (number_of digits)
+
+abbrev pub lettered_in : List ℕ → Option Which
+lettered_in [] = None
+lettered_in (c ∷ cs) = lettered c cs
+
+-- the record whose file has this name; any other name is none's
+abbrev pub which_of : List ℕ → Option Which
+which_of name = if bytes_eq name (codes "head") then Some which.Head else lettered_in name
+
+-- an id has 64 bits
+abbrev pub IsWord : Which → Type 0
+IsWord which.Head = Unit {0}
+IsWord (which.Node id) = id < 2 ^ 64
+IsWord (which.Content id) = id < 2 ^ 64
+
+-- ---- bytes
+
+abbrev pub kind_number : NodeKind → ℕ
+kind_number kind.File = 1
+kind_number kind.Directory = 2
+
+abbrev pub kind_in : ℕ → Option NodeKind
+kind_in n = if n == 1 then Some kind.File else if n == 2 then Some kind.Directory else None
+
+abbrev pub head_bytes : Head → List ℕ
+head_bytes h = to_be_bytes w64 h.next ++ to_be_bytes w64 h.changes
+
+abbrev pub node_bytes : NodeRecord → List ℕ
+node_bytes n = to_be_bytes w64 n.parent ++ (to_be_bytes w32 (kind_number n.kind) ++ n.name)
+
+abbrev pub content_bytes : ContentRecord → List ℕ
+content_bytes c = to_be_bytes w64 c.version ++ c.bytes
+
+-- the number in the first eight bytes
+abbrev pub word_in : List ℕ → ℕ
+word_in bytes = from_be_bytes w64 (take 8 bytes)
+
+-- the record of which these are the bytes; the name tells its id
+abbrev pub head_in : List ℕ → Option Head
+head_in bytes = if nat_eq (length bytes) 16 then Some (record { next = word_in bytes; changes = word_in (drop 8 bytes) }) else None
+
+abbrev pub node_of_kind : ℕ → List ℕ → Option NodeKind → Option NodeRecord
+node_of_kind id bytes None = None
+node_of_kind id bytes (Some k) = Some (record { id = id; parent = word_in bytes; kind = k; name = drop 4 (drop 8 bytes) })
+
+abbrev pub node_in : ℕ → List ℕ → Option NodeRecord
+node_in id bytes = if nat_lt (length bytes) 12 then None else node_of_kind id bytes (kind_in (from_be_bytes w32 (take 4 (drop 8 bytes))))
+
+abbrev pub content_in : ℕ → List ℕ → Option ContentRecord
+content_in id bytes = if nat_lt (length bytes) 8 then None else Some (record { id = id; version = word_in bytes; bytes = drop 8 bytes })

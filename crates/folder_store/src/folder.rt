@@ -1,0 +1,281 @@
+//! A store in a folder of the host. It tells nothing of its records; what is proved is that each
+//! fault is counted.
+
+ghost use Rattle.std.specs.Prelude.{◌≡◌, ℕ, ◌≤◌, None};
+
+use crate::format::{content_in, head_in, node_in, put_content, put_head, put_node};
+use crate::naming::{Which, held_by, put_name};
+use crate::redo::{Paths, carry_out};
+use lb_base::faults::one_more;
+use lb_base::source::{Failed, ReadError, read_all};
+use lb_base::streams::StreamSource;
+use limits::FILE_MOST;
+use std::alloc::{AllocError, Global};
+use std::fmt::Write as WriteText;
+use std::io::{ErrorKind, Write};
+use std::rt::Files;
+use std::{fs, io};
+use store::record::{Change, Head, Kept};
+use store::store::{Store, StoreErr};
+
+/// The most bytes of a file of the folder: a content, and its version.
+const READ_MOST: usize = FILE_MOST as usize + 8;
+
+/// How many bytes the list of a change has at most: three lines.
+const LIST_ROOM: usize = 128;
+
+/// A store in a folder.
+#[derive(Drop)]
+pub struct FolderStore<R> {
+    rt: R,
+    /// The folder, once it was loaded.
+    folder: Option<Folder>,
+    spare: u32,
+    faults: u64,
+}
+
+/// A folder that was loaded.
+#[derive(Drop)]
+struct Folder {
+    paths: Paths,
+    /// What the change does that is being written, or that was made last.
+    list: String,
+    /// Whether the change that was made last may not have been carried out to its end.
+    unfinished: bool,
+}
+
+impl<R> FolderStore<R> {
+    /// A store with no fault so far, of whichever folder is loaded first.
+    pub fn new(rt: R) -> FolderStore<R>
+        ensures { (result.spare ≡ 0) × (result.faults ≡ 0) }
+    {
+        FolderStore {
+            rt,
+            folder: None,
+            spare: 0,
+            faults: 0,
+        }
+    }
+}
+
+fn is_want(error: io::Error) -> StoreErr {
+    if error.kind() == ErrorKind::OutOfMemory {
+        return StoreErr::Memory;
+    }
+    StoreErr::Failed
+}
+
+/// The bytes of the file that is named, if it is there.
+fn read_named<R: Files>(rt: &R, alloc: Global, paths: &Paths) -> Result<Option<Vec<u8>>, StoreErr> {
+    let file = match fs::open(rt, paths.at()) {
+        Ok(file) => file,
+        Err(error) if error.kind() == ErrorKind::NotFound => return Ok(None),
+        Err(error) => return Err(is_want(error)),
+    };
+    let mut source = StreamSource::new(file);
+    match read_all(alloc, READ_MOST, &mut source) {
+        Ok(bytes) => Ok(Some(bytes)),
+        Err(ReadError::Memory) => Err(StoreErr::Memory),
+        Err(ReadError::Fault | ReadError::TooLong) => Err(StoreErr::Failed),
+    }
+}
+
+/// The record that these bytes of its file say.
+fn record_in(alloc: Global, which: Which, bytes: Vec<u8>) -> Result<Option<Kept>, AllocError> {
+    match which {
+        Which::Head => Ok(head_in(&bytes).map(Kept::Head)),
+        Which::Node(id) => match node_in(alloc, id, &bytes)? {
+            Some(node) => Ok(Some(Kept::Node(node))),
+            None => Ok(None),
+        },
+        Which::Content(id) => match content_in(alloc, id, bytes)? {
+            Some(content) => Ok(Some(Kept::Content(content))),
+            None => Ok(None),
+        },
+    }
+}
+
+fn read_record<R: Files>(
+    rt: &R,
+    alloc: Global,
+    paths: &mut Paths,
+    which: Which,
+) -> Result<Kept, StoreErr> {
+    paths.name(which)?;
+    let Some(bytes) = read_named(rt, alloc, paths)? else {
+        return Err(StoreErr::Failed);
+    };
+    match record_in(alloc, which, bytes)? {
+        Some(record) => Ok(record),
+        None => Err(StoreErr::Failed),
+    }
+}
+
+/// The records that the folder has files of, in the order in which it is loaded.
+fn records_there<R: Files + AllocGlobal + Clone + Drop>(
+    rt: &R,
+    alloc: Global,
+    folder: &str,
+) -> io::Result<Vec<Which>> {
+    let mut found = Vec::new(alloc);
+    for entry in fs::read_dir(rt, folder)? {
+        let entry = entry?;
+        if let Some(one) = held_by(entry.file_name().as_bytes()) {
+            found.push(one)?;
+        }
+    }
+    found.sort()?;
+    Ok(found)
+}
+
+/// Carries out a change that was made when the program ended.
+fn finish<R: Files>(rt: &R, alloc: Global, paths: &mut Paths) -> Result<(), StoreErr> {
+    paths.name_list()?;
+    let Some(list) = read_named(rt, alloc, paths)? else {
+        return Ok(());
+    };
+    match carry_out(rt, paths, &list) {
+        Ok(()) => Ok(()),
+        Err(error) => Err(is_want(error)),
+    }
+}
+
+fn load_folder<R: Files + AllocGlobal + Clone + Drop>(
+    rt: &R,
+    alloc: Global,
+    place: &str,
+) -> Result<(Folder, Vec<Kept>), StoreErr> {
+    let mut paths = Paths::new(alloc, place)?;
+    finish(rt, alloc, &mut paths)?;
+    let there = match records_there(rt, alloc, paths.folder()) {
+        Ok(there) => there,
+        Err(error) => return Err(is_want(error)),
+    };
+    let mut records = Vec::new(alloc);
+    for which in there.iter() {
+        let record = read_record(rt, alloc, &mut paths, *which)?;
+        match records.push(record) {
+            Ok(()) => {}
+            Err(_) => return Err(StoreErr::Memory),
+        }
+    }
+    let mut list = String::new(alloc);
+    list.reserve(LIST_ROOM)?;
+    let folder = Folder {
+        paths,
+        list,
+        unfinished: false,
+    };
+    Ok((folder, records))
+}
+
+impl Folder {
+    /// Names a file that the change makes, and opens it beside the one that it replaces.
+    fn create<R: Files>(&mut self, rt: &R, which: Which) -> io::Result<R::File> {
+        self.list.push_str("+")?;
+        put_name(&mut self.list, which)?;
+        self.list.push_str("\n")?;
+        self.paths.name(which)?;
+        fs::create(rt, self.paths.beside())
+    }
+
+    fn write_change<R: Files>(&mut self, rt: &R, change: &Change) -> io::Result<()> {
+        match change {
+            Change::Node(node) => {
+                let mut file = self.create(rt, Which::Node(node.id))?;
+                put_node(&mut file, node)
+            }
+            Change::Content(content) => {
+                let mut file = self.create(rt, Which::Content(content.id))?;
+                put_content(&mut file, content)
+            }
+            Change::Drop(id) => {
+                let id = *id;
+                writeln!(&mut self.list, "-{id}")?;
+                Ok(())
+            }
+        }
+    }
+
+    fn write_head<R: Files>(&mut self, rt: &R, head: Head) -> io::Result<()> {
+        let mut file = self.create(rt, Which::Head)?;
+        put_head(&mut file, head)
+    }
+
+    /// Makes the change: its list becomes the folder's, by one renaming.
+    fn make<R: Files>(&mut self, rt: &R) -> io::Result<()> {
+        self.paths.name_list()?;
+        let mut file = fs::create(rt, self.paths.beside())?;
+        file.write_all(self.list.as_str().as_bytes())?;
+        drop(file);
+        fs::rename(rt, self.paths.beside(), self.paths.at())
+    }
+
+    /// Carries out the change that was made last.
+    fn carry_out<R: Files>(&mut self, rt: &R) -> io::Result<()> {
+        let done = carry_out(rt, &mut self.paths, self.list.as_str().as_bytes());
+        self.unfinished = done.is_err();
+        done
+    }
+
+    /// Makes a change, or leaves the records as they were.
+    fn apply<R: Files>(
+        &mut self,
+        rt: &R,
+        head: Head,
+        first: &Change,
+        second: &Option<Change>,
+    ) -> io::Result<()> {
+        if self.unfinished {
+            self.carry_out(rt)?;
+        }
+        self.list.clear();
+        self.write_change(rt, first)?;
+        if let Some(second) = second {
+            self.write_change(rt, second)?;
+        }
+        self.write_head(rt, head)?;
+        self.make(rt)?;
+        // It is made. What can't be done now is done before the next change, or when the folder is
+        // loaded.
+        let _later = self.carry_out(rt);
+        Ok(())
+    }
+}
+
+impl<R: Files + AllocGlobal + Clone + Drop> Store for FolderStore<R> {
+    ghost records = { λ _. None };
+
+    ghost spare = { λ s. s.spare };
+
+    ghost faults = { λ s. s.faults };
+
+    fn load(&mut self, alloc: Global, place: &str) -> Result<Vec<Kept>, StoreErr> {
+        match load_folder(&self.rt, alloc, place) {
+            Ok((folder, records)) => {
+                self.folder = Some(folder);
+                Ok(records)
+            }
+            Err(StoreErr::Failed) => {
+                self.faults = one_more(self.faults);
+                Err(StoreErr::Failed)
+            }
+            Err(StoreErr::Memory) => Err(StoreErr::Memory),
+        }
+    }
+
+    fn reserve(&mut self, count: u32) -> Result<(), AllocError> {
+        self.spare = self.spare.max(count);
+        Ok(())
+    }
+
+    fn apply(&mut self, head: Head, first: Change, second: Option<Change>) -> Result<(), Failed> {
+        if let Some(folder) = &mut self.folder {
+            if folder.apply(&self.rt, head, &first, &second).is_ok() {
+                return Ok(());
+            }
+        }
+        self.faults = one_more(self.faults);
+        Err(Failed)
+    }
+}

@@ -1,0 +1,134 @@
+//! The bytes of a record in its file. `specs/Folder.antt` states them.
+
+ghost use Rattle.std.specs.Prelude.{◌≡◌, ◌≤◌, ◌^◌, List, ℕ, length, drop, IfOk, OnOk};
+ghost use Rattle.std.specs.Io.KnownBytes.{Appends};
+ghost use Rattle.folder_store.specs.Folder.{head_bytes, node_bytes, content_bytes, head_in, node_in, content_in, word_in, kind_number, kind_in};
+
+use lb_base::items::Items;
+use shared_bytes::SharedBytes;
+use std::alloc::{AllocError, Global};
+use std::io;
+use std::io::Write;
+use store::record::{ContentRecord, Head, NodeKind, NodeRecord};
+
+fn kind_number(kind: NodeKind) -> u32
+    ensures { result ≡ kind_number kind }
+{
+    match kind {
+        NodeKind::File => 1,
+        NodeKind::Directory => 2,
+    }
+}
+
+fn kind_in(number: u32) -> Option<NodeKind>
+    ensures { result ≡ kind_in number }
+{
+    match number {
+        1 => Some(NodeKind::File),
+        2 => Some(NodeKind::Directory),
+        _ => None,
+    }
+}
+
+/// Writes the head's bytes.
+pub fn put_head<W: Write>(out: &mut W, head: Head) -> io::Result<()>
+    ensures { OnOk result (Appends (W.contents out.old) (W.contents out.new) (head_bytes head)) }
+{
+    out.write_all(&head.next.to_be_bytes())?;
+    out.write_all(&head.changes.to_be_bytes())
+}
+
+/// Writes a node's bytes.
+pub fn put_node<W: Write>(out: &mut W, node: &NodeRecord) -> io::Result<()>
+    ensures { OnOk result (Appends (W.contents out.old) (W.contents out.new) (node_bytes node.now)) }
+{
+    let kind = kind_number(node.kind);
+    out.write_all(&node.parent.to_be_bytes())?;
+    out.write_all(&kind.to_be_bytes())?;
+    out.write_all(node.name.as_slice())
+}
+
+/// Writes a content's bytes.
+pub fn put_content<W: Write>(out: &mut W, content: &ContentRecord) -> io::Result<()>
+    ensures { OnOk result (Appends (W.contents out.old) (W.contents out.new) (content_bytes content.now)) }
+{
+    out.write_all(&content.version.to_be_bytes())?;
+    out.write_all(content.bytes.as_slice())
+}
+
+/// The number in eight bytes.
+fn word(bytes: &[u8]) -> u64
+    requires { 8 ≤ length bytes.now }
+    ensures { result ≡ word_in bytes.now }
+{
+    let front = bytes.split_at(8).0;
+    u64::from_be_bytes([
+        front[0], front[1], front[2], front[3], front[4], front[5], front[6], front[7],
+    ])
+}
+
+/// The head of which these are the bytes.
+pub fn head_in(bytes: &[u8]) -> Option<Head>
+    ensures { result ≡ head_in bytes.now }
+{
+    if bytes.len() != 16 {
+        return None;
+    }
+    let changes = bytes.split_at(8).1;
+    Some(Head {
+        next: word(bytes),
+        changes: word(changes),
+    })
+}
+
+/// The node of which these are the bytes. The one error is want of memory.
+pub fn node_in(alloc: Global, id: u64, bytes: &[u8]) -> Result<Option<NodeRecord>, AllocError>
+    ensures { IfOk result (λ node. node ≡ node_in id bytes.now) }
+{
+    if bytes.len() < 12 {
+        return Ok(None);
+    }
+    let behind = bytes.split_at(8).1;
+    let (number, name) = behind.split_at(4);
+    let number = u32::from_be_bytes([number[0], number[1], number[2], number[3]]);
+    let Some(kind) = kind_in(number) else {
+        return Ok(None);
+    };
+    let name = Items::copy_of(alloc, name)?;
+    Ok(Some(NodeRecord {
+        id,
+        parent: word(bytes),
+        kind,
+        name,
+    }))
+}
+
+/// Forgets the first eight bytes; those behind them move to the front.
+fn forget_word(bytes: &mut Vec<u8>)
+    requires { 8 ≤ length bytes.old.items }
+    ensures { bytes.new.items ≡ drop 8 bytes.old.items }
+{
+    let left = bytes.len() - 8;
+    bytes.copy_within(8.., 0);
+    bytes.truncate(left);
+}
+
+/// The content of which these are the bytes. The one error is want of memory.
+pub fn content_in(
+    alloc: Global,
+    id: u64,
+    bytes: Vec<u8>,
+) -> Result<Option<ContentRecord>, AllocError>
+    ensures { IfOk result (λ content. content ≡ content_in id bytes.items) }
+{
+    if bytes.len() < 8 {
+        return Ok(None);
+    }
+    let mut bytes = bytes;
+    let version = word(&bytes);
+    forget_word(&mut bytes);
+    match SharedBytes::new(alloc, Items::from_vec(bytes)) {
+        Ok(bytes) => Ok(Some(ContentRecord { id, version, bytes })),
+        Err(_) => Err(AllocError),
+    }
+}

@@ -1,0 +1,10 @@
+//! What holds of the files of a store's folder. `specs/Folder.antt` states it.
+
+ghost use Rattle.std.specs.Prelude.{◌≡◌, Some};
+ghost use Rattle.folder_store.specs.Folder.{name_of, which_of, IsWord};
+ghost use Rattle.folder_store.specs.declared.naming.Which.{Which};
+
+/// The name of a record's file tells the record, so no two records have one file.
+pub fn a_name_tells_its_record()
+    ensures { (one : Which) → IsWord one → which_of (name_of one) ≡ Some one }
+{}

@@ -1,0 +1,134 @@
+//! What a change does to the files of the folder, as a list that is carried out again, from its
+//! beginning, where the program ended in the middle of it.
+//!
+//! A change writes each file that it makes beside the one that it replaces. Then the list becomes
+//! the file `change`, by one renaming: from then on the change is made. Each line of the list is a
+//! renaming or a removal; whatever was done already is passed over. At last the list goes.
+
+use crate::naming::{Which, held_by, put_name};
+use command_text::fields::number;
+use std::alloc::{AllocError, Global};
+use std::io::ErrorKind;
+use std::rt::Files;
+use std::{fs, io};
+
+/// Stands behind the name of a file that is not in its place yet.
+const BESIDE: &str = "~";
+
+/// The name of the list.
+const CHANGE: &str = "change";
+
+/// How many bytes a name has at most: a letter, twenty digits, and what stands behind them.
+const NAME_ROOM: usize = 32;
+
+/// The paths of the folder's files. They have room for the longest, so that naming one takes no
+/// memory.
+#[derive(Drop)]
+pub struct Paths {
+    folder: String,
+    at: String,
+    beside: String,
+}
+
+/// A text of these bytes, with room for a name behind them.
+fn roomy(alloc: Global, text: &str) -> Result<String, AllocError> {
+    let mut copy = String::from_str(alloc, text)?;
+    copy.reserve(NAME_ROOM)?;
+    Ok(copy)
+}
+
+impl Paths {
+    /// The paths of the folder at a place. The one error is want of memory.
+    pub fn new(alloc: Global, place: &str) -> Result<Paths, AllocError> {
+        let mut folder = roomy(alloc, place)?;
+        folder.push_str("/")?;
+        Ok(Paths {
+            at: roomy(alloc, folder.as_str())?,
+            beside: roomy(alloc, folder.as_str())?,
+            folder,
+        })
+    }
+
+    /// The folder.
+    pub fn folder(&self) -> &str {
+        self.folder.as_str()
+    }
+
+    /// The path that was named last.
+    pub fn at(&self) -> &str {
+        self.at.as_str()
+    }
+
+    /// The path beside it.
+    pub fn beside(&self) -> &str {
+        self.beside.as_str()
+    }
+
+    /// Names a record's file.
+    pub fn name(&mut self, which: Which) -> Result<(), AllocError> {
+        self.begin()?;
+        put_name(&mut self.at, which)?;
+        put_name(&mut self.beside, which)?;
+        self.beside.push_str(BESIDE)
+    }
+
+    /// Names the list.
+    pub fn name_list(&mut self) -> Result<(), AllocError> {
+        self.begin()?;
+        self.at.push_str(CHANGE)?;
+        self.beside.push_str(CHANGE)?;
+        self.beside.push_str(BESIDE)
+    }
+
+    fn begin(&mut self) -> Result<(), AllocError> {
+        self.at.clear();
+        self.beside.clear();
+        self.at.push_str(self.folder.as_str())?;
+        self.beside.push_str(self.folder.as_str())
+    }
+}
+
+/// A file that isn't there any more is as good as done.
+fn done_or_gone(done: io::Result<()>) -> io::Result<()> {
+    match done {
+        Err(error) if error.kind() == ErrorKind::NotFound => Ok(()),
+        other => other,
+    }
+}
+
+fn put_in_place<R: Files>(rt: &R, paths: &mut Paths, which: Which) -> io::Result<()> {
+    paths.name(which)?;
+    done_or_gone(fs::rename(rt, paths.beside(), paths.at()))
+}
+
+fn remove<R: Files>(rt: &R, paths: &mut Paths, which: Which) -> io::Result<()> {
+    paths.name(which)?;
+    done_or_gone(fs::remove_file(rt, paths.at()))
+}
+
+/// Carries out a line of the list: `+NAME` puts a file in its place, `-ID` removes a node's.
+fn carry_out_line<R: Files>(rt: &R, paths: &mut Paths, line: &[u8]) -> io::Result<()> {
+    let Some((sign, text)) = line.split_first() else {
+        return Ok(());
+    };
+    if *sign == b'+' {
+        return match held_by(text) {
+            Some(which) => put_in_place(rt, paths, which),
+            None => Ok(()),
+        };
+    }
+    let Some(id) = number(text) else {
+        return Ok(());
+    };
+    remove(rt, paths, Which::Node(id))?;
+    remove(rt, paths, Which::Content(id))
+}
+
+/// Carries out a list that is made, and takes it away.
+pub fn carry_out<R: Files>(rt: &R, paths: &mut Paths, list: &[u8]) -> io::Result<()> {
+    for line in list.split(|byte| *byte == b'\n') {
+        carry_out_line(rt, paths, line)?;
+    }
+    paths.name_list()?;
+    done_or_gone(fs::remove_file(rt, paths.at()))
+}
