@@ -19,6 +19,7 @@ stage_there cache other file (stage.Reading f) h = evicted_there cache other fil
 stage_there cache other file (stage.Making xid temp) h = tt
 stage_there cache other file (stage.Storing st) h = tt
 stage_there cache other file (stage.Committing xid) h = evicted_there cache other file h
+stage_there cache other file (stage.Walking xid w) h = tt
 
 -- a file whose entry is there has one at any stage
 pub entry_there : (cache : Entries) (file : ℕ) (p : Stage) → IsThere cache file → StageIsThere cache file p
@@ -29,6 +30,7 @@ entry_there cache file (stage.Reading f) h = h
 entry_there cache file (stage.Making xid temp) h = tt
 entry_there cache file (stage.Storing st) h = tt
 entry_there cache file (stage.Committing xid) h = h
+entry_there cache file (stage.Walking xid w) h = tt
 
 -- where a content is dropped the file under way still has its entry
 pub task_there : (cache : Entries) (other : ℕ) (t : Option Task) → TaskIsThere cache t → TaskIsThere (without_content cache other) t

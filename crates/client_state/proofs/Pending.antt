@@ -1,16 +1,17 @@
 -- The calls that wait: those of the operation under way, and behind them those that are forgotten.
-use Rattle.std.proofs.Common.{◌≡◌, refl, sym, ap, ◌∙◌, ℕ, ◌≤◌, ◌==◌, List, [], ◌∷◌, ◌++◌, length, take, drop, Bool, true, false, not, arith}
-use Rattle.std.specs.Prelude.{None, cond, ◌||◌}
+use Rattle.std.proofs.Common.{◌≡◌, refl, sym, ap, subst, ◌∙◌, ℕ, ◌≤◌, ◌==◌, List, [], ◌∷◌, ◌++◌, length, take, drop, Bool, true, false, not, arith}
+use Rattle.std.specs.Prelude.{Option, None, cond, ◌||◌}
 use Rattle.std.proofs.Math.Seq.{drop-append_seam, take-append_seam}
-use Rattle.std.proofs.lemmas.List.{length-append}
+use Rattle.std.proofs.lemmas.List.{length-append, length-drop}
 use Rattle.std.proofs.lemmas.List.Elements.{filter-append}
 use Rattle.wire.specs.declared.message.Pending.{Pending}
 use Rattle.client_state.specs.declared.state.ClientState.{ClientState}
-use Rattle.client_state.specs.State.{pending, has_call, without_call}
+use Rattle.client_state.specs.State.{State, pending, has_call, without_call}
 use Rattle.std.specs.List.{All}
 use Rattle.chunk_index.specs.Index.{Indexed}
 use Rattle.client_cache.specs.Cache.{Entries}
-use Rattle.client_state.specs.View.{TaskIsThere, IsKeptBounded, IsHeld, IsSound}
+use Rattle.client_state.specs.View.{whole_of, TaskIsThere, TaskIsWithin, TaskHasXids, IsKeptBounded, IsHeld, IsSound}
+use Rattle.client_state.specs.declared.task.Task.{Task}
 
 pub drop_front : (xs ys : List Pending) (n : ℕ) → n ≡ length xs → drop n (xs ++ ys) ≡ ys
 drop_front xs ys n e = ap (λ k. drop k (xs ++ ys)) e ∙ drop-append_seam xs ys
@@ -44,6 +45,23 @@ others_stay own calls n xid e is other =
 -- with no operation under way the state is held
 pub held_of : (s : ClientState) → IsSound s → s.task ≡ None → IsHeld s
 held_of s h e = record { base = h.base; task = e }
+
+-- and it is sound again, where nothing was changed
+pub sound_again : (s t : ClientState) → IsSound s → s.task ≡ None → IsHeld t → whole_of t ≡ whole_of s → IsSound t
+sound_again s t h idle k e =
+    let calls : t.waiting.calls ≡ s.waiting.calls = ap (λ (w : State × List Pending). w.1) e in
+    let left : drop t.own t.waiting.calls ≡ drop s.own s.waiting.calls = ap (λ (w : State × List Pending). w.0.forgotten) e in
+    let all : s.waiting.calls ≡ drop s.own s.waiting.calls = h.calls ∙ ap (λ (o : Option Task). pending o ++ drop s.own s.waiting.calls) idle in
+    let same : drop t.own t.waiting.calls ≡ t.waiting.calls = left ∙ (sym all ∙ sym calls) in
+    let none : t.own ≡ 0 = (let n = length-drop t.own t.waiting.calls in let m : length (drop t.own t.waiting.calls) ≡ length t.waiting.calls = ap length same in let le = k.base.own in omega (arith, n, m, le)) in
+    record {
+      base = k.base;
+      calls = sym same ∙ ap (λ (o : Option Task). pending o ++ drop t.own t.waiting.calls) (sym k.task);
+      own = none ∙ ap (λ (o : Option Task). length (pending o)) (sym k.task);
+      xids = subst (λ (o : Option Task). TaskHasXids t.next o) (sym k.task) tt;
+      within = subst TaskIsWithin (sym k.task) tt;
+      there = subst (λ (o : Option Task). TaskIsThere t.cache o) (sym k.task) tt;
+    }
 
 -- another index, or another cache, is held as well
 pub held_index : (s : ClientState) (index : Indexed) → IsHeld s → IsHeld (record s { index = index })

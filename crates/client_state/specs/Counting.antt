@@ -12,7 +12,7 @@ no_counts = record { cond_writes = 0; temp_writes = 0; reads = 0; bytes = 0 }
 
 -- these messages go out
 abbrev pub sends : List Message → Counts → ClientStep
-sends send counts = record { send = send; ended = None; counts = counts; missed = false }
+sends send counts = record { send = send; ended = None; counts = counts; found = None; missed = false }
 
 abbrev pub nothing_done : ClientStep
 nothing_done = sends [] no_counts
@@ -27,13 +27,13 @@ sends_reads send bytes = sends send (record no_counts { reads = length send; byt
 
 -- the operation ends so, resting on the call with this xid, after so many bytes of a READ came
 abbrev pub ends : Outcome → (xid bytes : ℕ) → ClientStep
-ends o xid bytes = record { send = []; ended = Some (record { outcome = o; rests_on = xid }); counts = record no_counts { bytes = bytes }; missed = false }
+ends o xid bytes = record { send = []; ended = Some (record { outcome = o; rests_on = xid }); counts = record no_counts { bytes = bytes }; found = None; missed = false }
 
 -- ---- want of memory
 
 -- what is done where memory ran out, and what ends by it
 abbrev pub misses : Option Ended → ClientStep
-misses ended = record { send = []; ended = ended; counts = no_counts; missed = true }
+misses ended = record { send = []; ended = ended; counts = no_counts; found = None; missed = true }
 
 abbrev pub by_memory : Ended
 by_memory = record { outcome = outcome.Memory; rests_on = 0 }

@@ -1,10 +1,12 @@
 -- When an operation may begin, and how one ends.
-use Rattle.std.specs.Prelude.{ℕ, List, [], Option, Some, None, Bool, true, false, nat_lt, is_some}
+use Rattle.std.specs.Prelude.{ℕ, ◌+◌, ◌&&◌, List, [], Option, Some, None, Bool, true, false, nat_lt, is_some}
 use Rattle.xdr_codec.specs.declared.status.Status.{Status}
 use Rattle.wire.specs.declared.message.Pending.{Pending}
 use Rattle.wire.specs.declared.message.RpcRefusal.TheVariants as refusal
 use Rattle.wire.specs.declared.message.RpcRefusal.{RpcRefusal}
+use Rattle.path_calls.specs.declared.walk.Walk.{Walk}
 use Rattle.client_state.specs.Counting.{nothing_done, ends}
+use Rattle.client_state.specs.View.{walk_left}
 use Rattle.client_state.specs.State.{State, local_at, without_call}
 use Rattle.client_state.specs.declared.step.BadPeer.TheVariants as bad
 use Rattle.client_state.specs.declared.step.BadPeer.{BadPeer}
@@ -25,6 +27,10 @@ has_xids next = nat_lt next 4293967297
 
 abbrev pub may_ask : State → Bool
 may_ask s = elim s.linked [ true ↦ has_xids s.next | false ↦ false ]
+
+-- a command on names begins only where each call that it may send has an xid, too
+abbrev pub may_walk : State → Walk → Bool
+may_walk s w = may_ask s && nat_lt (s.next + 1 + walk_left w) 4294967296
 
 -- an operation under way comes before all else, and then that the file isn't open
 abbrev pub on_local : State → Option Task → Option Local → (Local → State × ClientStep) → State × ClientStep

@@ -2,5 +2,5 @@ pub mod State
 pub mod Local
 pub mod Counting
 pub mod Limits
-pub mod Ending
 pub mod View
+pub mod Ending

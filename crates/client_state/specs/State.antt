@@ -7,7 +7,9 @@ use Rattle.std.specs.Ordering.{nat_cmp}
 use Rattle.std.specs.Prelude.{ℕ, List, [], ◌∷◌, ◌++◌, map, filter, not, Option, Some, None, Bool, false, ◌==◌, option_map, unwrap_or, true}
 use Rattle.hash_calls.specs.declared.message.LbProc.TheVariants as lb_proc
 use Rattle.hash_calls.specs.declared.message.LbProc.{LbProc}
-use Rattle.nfs3_calls.specs.declared.message.NfsProc.TheVariants as nfs_proc
+use Rattle.nfs3_calls.specs.declared.message.NfsProc.TheVariants as nfs
+use Rattle.nfs3_calls.specs.Nfs.{nfs_proc}
+use Rattle.nfs3_calls.specs.declared.message.NfsProc.{NfsProc}
 use Rattle.wire.specs.declared.message.Pending.{Pending}
 use Rattle.wire.specs.declared.message.Program.TheVariants as program
 use Rattle.wire.specs.declared.message.Side.TheVariants as side
@@ -16,6 +18,7 @@ use Rattle.chunk_index.specs.Index.{Indexed, put, cleared}
 use Rattle.chunk_index.specs.declared.place.Place.{Place}
 use Rattle.chunk_places.specs.Places.{no_index}
 use Rattle.client_cache.specs.Cache.{Entries, without_content}
+use Rattle.path_calls.specs.Walk.{next_call}
 use Rattle.client_state.specs.declared.task.Local.{Local}
 use Rattle.client_state.specs.declared.task.ReadCall.{ReadCall}
 use Rattle.client_state.specs.declared.task.Stage.TheVariants as stage
@@ -89,7 +92,7 @@ is_none [] = true
 is_none (x ∷ xs) = false
 
 abbrev pub read_pending : ReadCall → Pending
-read_pending c = record { xid = c.xid; program = program.Nfs nfs_proc.Read }
+read_pending c = record { xid = c.xid; program = program.Nfs nfs.Read }
 
 abbrev pub way_proc : Way → LbProc
 way_proc way.Named = lb_proc.CondWrite
@@ -101,6 +104,9 @@ store_pending c = record { xid = c.xid; program = program.Lb (way_proc c.way) }
 abbrev pub lb_pending : LbProc → (xid : ℕ) → List Pending
 lb_pending p xid = record { xid = xid; program = program.Lb p } ∷ []
 
+abbrev pub nfs_pending : NfsProc → (xid : ℕ) → List Pending
+nfs_pending p xid = record { xid = xid; program = program.Nfs p } ∷ []
+
 abbrev pub pending_in : Stage → List Pending
 pending_in (stage.Asking xid) = lb_pending lb_proc.GetLease xid
 pending_in (stage.Hashing tries xid) = lb_pending lb_proc.GetHash xid
@@ -109,6 +115,7 @@ pending_in (stage.Reading f) = map read_pending f.under
 pending_in (stage.Making xid temp) = lb_pending lb_proc.MkTmpFile xid
 pending_in (stage.Storing st) = map store_pending st.under
 pending_in (stage.Committing xid) = lb_pending lb_proc.CommitTmp xid
+pending_in (stage.Walking xid walk) = nfs_pending (nfs_proc (next_call walk)) xid
 
 -- those of the operation under way
 abbrev pub pending : Option Task → List Pending

@@ -9,6 +9,10 @@ use Rattle.wire.specs.declared.message.Side.TheVariants as side
 use Rattle.client_cache.specs.Cache.{Entries, kept_of}
 use Rattle.client_cache.specs.declared.kept.Content.{Content}
 use Rattle.client_cache.specs.declared.kept.Kept.{Kept}
+use Rattle.path_calls.specs.Walk.{calls_left as calls_behind}
+use Rattle.path_calls.specs.declared.walk.Goal.{Goal}
+use Rattle.path_calls.specs.declared.walk.Goal.TheVariants as goal
+use Rattle.path_calls.specs.declared.walk.Walk.{Walk}
 use Rattle.client_state.specs.Limits.{tries_most, file_limit, chunk_least, chunk_most}
 use Rattle.client_state.specs.State.{State, IsRising, pending}
 use Rattle.client_state.specs.declared.state.ClientState.{ClientState}
@@ -101,6 +105,15 @@ calls_after_all (c ∷ cs) = calls_after c.way + calls_after_all cs
 abbrev pub store_left : Store → ℕ
 store_left st = 2 * (length st.chunks - st.named) + calls_after_all st.under + 1
 
+-- the calls of the open that may follow: a GETLEASE, and all attempts
+abbrev pub open_left : Goal → ℕ
+open_left (goal.Find name) = 2 + attempt_most + later_left 1
+open_left g = 0
+
+-- the most calls that a walk may still send behind its next one
+abbrev pub walk_left : Walk → ℕ
+walk_left w = calls_behind w + open_left w.goal
+
 abbrev pub calls_left : Stage → ℕ
 calls_left (stage.Asking xid) = 1 + attempt_most + later_left 1
 calls_left (stage.Hashing tries xid) = attempt_most + later_left tries
@@ -109,6 +122,7 @@ calls_left (stage.Reading f) = length f.chunks - f.asked + 1 + later_left f.trie
 calls_left (stage.Making xid temp) = attempt_most
 calls_left (stage.Storing st) = store_left st
 calls_left (stage.Committing xid) = 0
+calls_left (stage.Walking xid w) = walk_left w
 
 -- each call that an operation may still send has an xid
 abbrev pub HasXids : ℕ → Stage → Type 0
@@ -128,6 +142,7 @@ IsThere cache file = IsSome (kept_of cache file)
 abbrev pub StageIsThere : Entries → (file : ℕ) → Stage → Type 0
 StageIsThere cache file (stage.Making xid temp) = Unit {0}
 StageIsThere cache file (stage.Storing st) = Unit {0}
+StageIsThere cache file (stage.Walking xid w) = Unit {0}
 StageIsThere cache file p = IsThere cache file
 
 abbrev pub TaskIsThere : Entries → Option Task → Type 0

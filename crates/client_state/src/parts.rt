@@ -39,6 +39,7 @@ pub fn sends(send: SendList<Message>, counts: Counts) -> ClientStep
         send,
         ended: None,
         counts,
+        found: None,
         missed: false,
     }
 }
@@ -73,6 +74,7 @@ pub fn ends(alloc: Global, outcome: Outcome, rests_on: u32, bytes: u64) -> Clien
             bytes,
             ..no_counts()
         },
+        found: None,
         missed: false,
     }
 }

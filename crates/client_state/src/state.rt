@@ -2,11 +2,11 @@
 //! says which state they are, and what always holds of them.
 
 ghost use Rattle.limits.specs.declared.TheConstants.{FILE_MOST};
-ghost use Rattle.std.specs.Prelude.{◌≡◌, ◌+◌, ◌<◌, ◌≤◌, ◌++◌, [], length, map, None, Some, IfOk, OnOk, OnErr, false, true};
+ghost use Rattle.std.specs.Prelude.{◌≡◌, ◌^◌, ◌+◌, ◌<◌, ◌≤◌, ◌++◌, [], length, map, None, Some, IfOk, OnOk, OnErr, false, true};
 ghost use Rattle.client_cache.specs.Cache.{reserved};
 ghost use Rattle.client_state.specs.State.{State, evicted, forged, index_cleared, read_pending, pending, pending_in, has_call, with_local, without_local, local_bytes};
-ghost use Rattle.client_state.specs.Ending.{bad_peer, refused, denied, drops, unawaited, unknown, cut, cut_off, joined, forgets, idle, may_ask};
-ghost use Rattle.client_state.specs.View.{state_of, whole_of, IsBase, IsHeld, IsSound, IsThere, StageIsThere, HasXids, IsWithin};
+ghost use Rattle.client_state.specs.Ending.{bad_peer, refused, denied, drops, unawaited, unknown, cut, cut_off, joined, forgets, idle, may_ask, may_walk};
+ghost use Rattle.client_state.specs.View.{state_of, whole_of, IsBase, IsHeld, IsSound, IsThere, StageIsThere, HasXids, IsWithin, open_left, walk_left};
 ghost use Rattle.client_state.specs.declared.task.Stage.TheVariants as stage;
 
 use crate::step::{BadPeer, ClientStep, Outcome};
@@ -16,6 +16,7 @@ use chunk_index::index::{Index, Key};
 use chunk_index::place::Place;
 use client_cache::cache::Cache;
 use lb_base::items::Items;
+use path_calls::walk::{Goal, Walk};
 use shared_bytes::SharedBytes;
 use std::alloc::{AllocError, Global};
 use std::collections::BTreeMap;
@@ -25,6 +26,12 @@ use xdr_codec::status::Status;
 
 /// An operation begins only below this xid: 1,000,000 are left then.
 pub const XID_END: u32 = 4_293_967_297;
+
+/// A session has so many xids, with 0.
+const XIDS: u128 = 4_294_967_296;
+
+/// A walk that leads to a file may be followed by so many calls of its open.
+const OPEN_CALLS_MOST: u128 = 262_162;
 
 /// A client's fields.
 #[derive(Drop)]
@@ -65,12 +72,37 @@ fn with_forgotten(
     Ok((Items::from_vec(calls), own))
 }
 
+/// The most calls of the open that may follow.
+fn open_left(goal: &Goal) -> u128
+    ensures { result ≡ open_left goal.now }
+{
+    match goal {
+        Goal::Find(_) => OPEN_CALLS_MOST,
+        _ => 0,
+    }
+}
+
+/// The most calls that a walk may still send behind its next one.
+fn walk_left(walk: &Walk) -> u128
+    ensures left { result ≡ walk_left walk.now }
+    ensures small { result < 2 ^ 127 }
+{
+    walk.calls_left() + open_left(&walk.goal)
+}
+
 impl ClientState {
     /// Whether an operation may begin: a connection is joined, and has enough xids.
     pub fn may_ask(&self) -> bool
         ensures { result ≡ may_ask (state_of self.now) }
     {
         self.linked && self.next < XID_END
+    }
+
+    /// Whether a command on names may begin with this walk: each call that it may send has an xid, too.
+    pub fn may_walk(&self, walk: &Walk) -> bool
+        ensures { result ≡ may_walk (state_of self.now) walk.now }
+    {
+        self.may_ask() && u128::from(self.next) + 1 + walk_left(walk) < XIDS
     }
 
     /// The calls of the operation under way.

@@ -1,8 +1,10 @@
 //! What a client does in one step: what it sends, how the operation under way ended, and what is
 //! counted. `specs/Counting.antt` has the plain ones.
 
+use lb_base::items::{Items, Name};
 use send_list::SendList;
 use wire::message::Message;
+use xdr_codec::attr::Kind;
 use xdr_codec::digest::Digest;
 use xdr_codec::status::Status;
 
@@ -44,6 +46,15 @@ pub enum Outcome {
     },
     /// It was done, and has nothing to tell.
     Done,
+    /// The names in a directory, in its order.
+    Names(Items<Name>),
+    /// What the last name of a path stands for: its id, its kind, its version, and its length.
+    Seen {
+        id: u64,
+        kind: Kind,
+        version: u64,
+        len: u64,
+    },
     /// An operation is under way already.
     Busy,
     /// The file isn't open.
@@ -60,7 +71,8 @@ pub enum Outcome {
         first: u64,
         last: u64,
     },
-    /// No connection is joined, or it has fewer than 1,000,000 xids left.
+    /// No connection is joined, or it has too few xids left: 1,000,000 for any operation, and as many as
+    /// a command on names may need. A listing that needs too many pages ends so too.
     NoLink,
     /// The server answered this status.
     Refused(Status),
@@ -77,8 +89,8 @@ pub enum Outcome {
 pub struct Ended {
     pub outcome: Outcome,
     /// The call's xid: the first GETHASH of the last attempt for Opened, the call that was answered for
-    /// Closed and Refused. 0 where it rests on no call: what the client tells by itself, and Lost,
-    /// Changed, PeerMemory, BadPeer and Memory.
+    /// Closed, Refused, and whatever ends a command on names. 0 where it rests on no call: what the client
+    /// tells by itself, and Lost, Changed, PeerMemory, BadPeer and Memory.
     pub rests_on: u32,
 }
 
@@ -103,6 +115,8 @@ pub struct ClientStep {
     /// How the operation under way ended, if it did.
     pub ended: Option<Ended>,
     pub counts: Counts,
+    /// The id that the path of an open or of a look was found to stand for, in the step that found it.
+    pub found: Option<u64>,
     /// Whether memory ran out: then the operation under way ended with Memory.
     pub missed: bool,
 }

@@ -2,6 +2,7 @@
 
 use chunk_cut::chunk::Chunk;
 use lb_base::items::{Bytes, Items};
+use path_calls::walk::Walk;
 use shared_bytes::SharedBytes;
 
 /// What a client has of an open file. It stands under the file's id.
@@ -100,11 +101,17 @@ pub enum Stage {
     Storing(Store),
     /// A close: a COMMITTMP with this xid is under way.
     Committing(u32),
+    /// A command on names: the next call of its walk is under way.
+    Walking {
+        xid: u32,
+        walk: Walk,
+    },
 }
 
-/// An open or a close under way.
+/// An operation under way: an open, a close, or a command on names.
 #[derive(Drop)]
 pub struct Task {
+    /// The file that is opened or closed. 0 while names are looked up.
     pub file: u64,
     pub stage: Stage,
 }

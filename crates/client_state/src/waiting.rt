@@ -3,7 +3,7 @@
 ghost use Rattle.std.specs.Prelude.{◌≡◌, ◌∷◌, map, take, IfOk};
 ghost use Rattle.hash_calls.specs.declared.message.LbProc.TheVariants as lb_proc;
 ghost use Rattle.wire.specs.declared.message.Program.TheVariants as program;
-ghost use Rattle.client_state.specs.State.{read_pending, store_pending, lb_pending, pending_in, has_call, without_call};
+ghost use Rattle.client_state.specs.State.{read_pending, store_pending, lb_pending, nfs_pending, pending_in, has_call, without_call};
 
 use crate::task::{ReadCall, Stage, StoreCall, Way};
 use hash_calls::message::LbProc;
@@ -70,6 +70,18 @@ fn lb_pending(alloc: Global, procedure: LbProc, xid: u32) -> Result<Vec<Pending>
     Ok(calls)
 }
 
+/// One call of NFS that waits.
+fn nfs_pending(alloc: Global, procedure: NfsProc, xid: u32) -> Result<Vec<Pending>, AllocError>
+    ensures { IfOk result (λ ps. ps.items ≡ nfs_pending procedure xid) }
+{
+    let mut calls = Vec::new(alloc);
+    calls.push(Pending {
+        xid,
+        program: Program::Nfs(procedure),
+    })?;
+    Ok(calls)
+}
+
 /// The calls that wait in a stage.
 pub fn pending_in(alloc: Global, stage: &Stage) -> Result<Vec<Pending>, AllocError>
     ensures { IfOk result (λ ps. ps.items ≡ pending_in stage.now) }
@@ -82,6 +94,7 @@ pub fn pending_in(alloc: Global, stage: &Stage) -> Result<Vec<Pending>, AllocErr
         Stage::Making { xid, temp: _ } => lb_pending(alloc, LbProc::MkTmpFile, *xid),
         Stage::Storing(store) => stores_pending(alloc, store.under.as_slice()),
         Stage::Committing(xid) => lb_pending(alloc, LbProc::CommitTmp, *xid),
+        Stage::Walking { xid, walk } => nfs_pending(alloc, walk.procedure(), *xid),
     }
 }
 

@@ -2,10 +2,9 @@
 use Rattle.std.proofs.Common.{ℕ, suc, List, ◌++◌, length, Option, Some, None}
 use Rattle.std.specs.Borrow.{Bor}
 use Rattle.command_text.specs.Fields.{◌>>=◌}
-use Rattle.command_text.specs.declared.content.Part.{Part}
 
 -- the parts that were read, and those that are still read
-abbrev pub ahead : List Part → Option (List Part) → Option (List Part)
+abbrev pub ahead : {A : Type 0} → List A → Option (List A) → Option (List A)
 ahead front parts = parts >>= λ ps. Some (front ++ ps)
 
 -- how much is left to read

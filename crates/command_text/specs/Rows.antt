@@ -1,10 +1,13 @@
 -- Worked words, commands and contents.
-use Rattle.std.specs.Prelude.{◌≡◌, ℕ, List, [], ◌∷◌, ◌++◌, Option, Some, None, refl, codes, replicate, map}
+use Rattle.std.specs.Prelude.{◌≡◌, ℕ, zero, suc, length, List, [], ◌∷◌, ◌++◌, Option, Some, None, refl, codes, replicate, map}
 use Rattle.hex.specs.Hex.{decode_pairs}
 use Rattle.command_text.specs.declared.command.Command.{Command}
-use Rattle.command_text.specs.declared.command.Command.TheVariants.{Open, Write, Trunc, Read, Close, Abandon}
+use Rattle.command_text.specs.declared.command.Command.TheVariants.{Open, Write, Trunc, Read, Close, Abandon, Named}
 use Rattle.command_text.specs.declared.content.Part.TheVariants.{Bytes, Zeros, Marks, Random}
+use Rattle.command_text.specs.declared.path.PathCommand.TheVariants.{Find, Look, LookRoot, List as Lists, Make, MakeDir, Remove, RemoveDir, Rename}
+use Rattle.command_text.specs.declared.path.Spot.{Spot}
 use Rattle.command_text.specs.Commands.{command_of}
+use Rattle.command_text.specs.Paths.{spot_of}
 use Rattle.command_text.specs.Content.{mark, random_bytes, content_bytes, content_length}
 use Rattle.command_text.specs.Fields.{content_of, name_of}
 use Rattle.command_text.specs.Parts.{lines_of, words_of}
@@ -103,5 +106,36 @@ commands : said (codes "open #3" ∷ codes "write #3 4 t:ab+z:5" ∷ codes "writ
 commands = refl
 
 -- no command
-refused_commands : said (codes "" ∷ codes "open" ∷ codes "open 3" ∷ codes "open #3 #4" ∷ codes " open #3" ∷ codes "Open #3" ∷ codes "write #3 4" ∷ codes "trunc #3" ∷ codes "read #3 4" ∷ codes "close" ∷ codes "abandoned #3" ∷ codes "list #3" ∷ []) ≡ replicate 12 None
+refused_commands : said (codes "" ∷ codes "open" ∷ codes "open #3 #4" ∷ codes " open #3" ∷ codes "Open #3" ∷ codes "write #3 4" ∷ codes "trunc #3" ∷ codes "read #3 4" ∷ codes "close" ∷ codes "abandoned #3" ∷ codes "list #3" ∷ []) ≡ replicate 11 None
 refused_commands = refl
+
+-- ---- commands on names
+
+abbrev a_in_d : Spot
+a_in_d = record { dirs = codes "d" ∷ []; name = codes "a" }
+
+abbrev a_at_root : Spot
+a_at_root = record { dirs = []; name = codes "a" }
+
+named : said (codes "open d/a" ∷ codes "make a" ∷ codes "mkdir d/a" ∷ codes "remove a" ∷ codes "rmdir a" ∷ codes "rename a d/a" ∷ codes "list /" ∷ codes "list d" ∷ codes "look /" ∷ codes "look d/a" ∷ []) ≡ (Some (Named (Find a_in_d)) ∷ Some (Named (Make a_at_root)) ∷ Some (Named (MakeDir a_in_d)) ∷ Some (Named (Remove a_at_root)) ∷ Some (Named (RemoveDir a_at_root)) ∷ Some (Named (Rename a_at_root a_in_d)) ∷ Some (Named (Lists [])) ∷ Some (Named (Lists (codes "d" ∷ []))) ∷ Some (Named LookRoot) ∷ Some (Named (Look a_in_d)) ∷ [])
+named = refl
+
+-- the root where a name is wanted, empty names, `.` and `..`, a name too few or too many
+refused_names : said (codes "open /" ∷ codes "make /" ∷ codes "make /a" ∷ codes "make a/" ∷ codes "make a//b" ∷ codes "make ." ∷ codes "make a/.." ∷ codes "rename a" ∷ codes "rename a b c" ∷ codes "rename / a" ∷ codes "list" ∷ codes "look a b" ∷ codes "rmdir /" ∷ []) ≡ replicate 13 None
+refused_names = refl
+
+-- how many names are before the last
+abbrev dirs_or : Option Spot → List (List ℕ)
+dirs_or None = []
+dirs_or (Some s) = s.dirs
+
+-- 64 names, and 65
+abbrev path_of_names : (count : ℕ) → List ℕ
+path_of_names zero = codes "a"
+path_of_names (suc n) = codes "a/" ++ path_of_names n
+
+longest_path : length (dirs_or (spot_of (path_of_names 63))) ≡ 63
+longest_path = refl
+
+longer_path : spot_of (path_of_names 64) ≡ None
+longer_path = refl

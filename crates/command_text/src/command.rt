@@ -1,21 +1,22 @@
 //! A command of a client, and how it is read from words: `command_of` of `specs/Commands.antt`.
 
-ghost use Rattle.std.specs.Prelude.{◌≡◌, false, None, bytes_eq, codes, MatchOption};
-ghost use Rattle.command_text.specs.Commands.{open_of, write_with, write_of, trunc_of, read_of, close_of, abandon_of, command_of};
+ghost use Rattle.std.specs.Prelude.{◌≡◌, None, MatchOption};
+ghost use Rattle.command_text.specs.Commands.{write_with, write_of, trunc_of, read_of, close_of, abandon_of, command_of};
 ghost use Rattle.command_text.specs.Fields.{content_of};
 ghost use Rattle.command_text.specs.Reading.{Gives};
 
 use crate::content::Content;
 use crate::line_err::LineErr;
 use crate::parts::Words;
-use crate::{fields, pieces};
+use crate::path::PathCommand;
+use crate::{fields, naming, pieces};
 use std::alloc::Global;
 
 /// A command of a client. Offsets, sizes and counts are in bytes; they and the ids are any numbers
 /// of 64 bits. Whether the file is open and what then comes of it is the client's business.
 #[derive(Debug, Drop)]
 pub enum Command {
-    /// `open #ID`: opens the file with this id.
+    /// `open #ID`: opens the file with this id. (`open PATH` is a command on names.)
     Open(u64),
     /// `write #ID OFFSET CONTENT`: puts the content into the open file, from the offset on. The
     /// content may be of any length, also none, and its bytes are not built yet.
@@ -39,15 +40,8 @@ pub enum Command {
     Close(u64),
     /// `abandon #ID`: closes the open file, and forgets what was written.
     Abandon(u64),
-}
-
-/// `open #ID`.
-fn open(words: &mut Words) -> Option<Command>
-    ensures { result ≡ open_of words.old }
-{
-    let place = words.next()?;
-    words.end()?;
-    Some(Command::Open(fields::id(place)?))
+    /// A command on names.
+    Named(PathCommand),
 }
 
 /// The file and the offset of a write, and the word of its content.
@@ -119,36 +113,26 @@ fn abandon(words: &mut Words) -> Option<Command>
     Some(Command::Abandon(fields::id(place)?))
 }
 
-/// A command other than a write that begins with this word.
-fn small_command(word: &[u8], words: &mut Words) -> Option<Command>
-    requires { bytes_eq word.now (codes "write") ≡ false }
-    ensures { result ≡ command_of word.now words.old }
-{
-    if word == b"open".as_slice() {
-        open(words)
-    } else if word == b"trunc".as_slice() {
-        trunc(words)
-    } else if word == b"read".as_slice() {
-        read(words)
-    } else if word == b"close".as_slice() {
-        close(words)
-    } else if word == b"abandon".as_slice() {
-        abandon(words)
-    } else {
-        None
-    }
-}
-
 impl Command {
     /// Reads a command that begins with this word, in time linear in the length of its words. The
     /// error is `BadLine` where it is not in the grammar, or `Memory`.
     pub fn read(alloc: Global, word: &[u8], words: &mut Words) -> Result<Command, LineErr>
         ensures { Gives result (command_of word.now words.old) }
     {
-        if word == b"write".as_slice() {
+        if word == b"open".as_slice() {
+            naming::open(alloc, words)
+        } else if word == b"write".as_slice() {
             write(alloc, words)
+        } else if word == b"trunc".as_slice() {
+            trunc(words).ok_or(LineErr::BadLine)
+        } else if word == b"read".as_slice() {
+            read(words).ok_or(LineErr::BadLine)
+        } else if word == b"close".as_slice() {
+            close(words).ok_or(LineErr::BadLine)
+        } else if word == b"abandon".as_slice() {
+            abandon(words).ok_or(LineErr::BadLine)
         } else {
-            small_command(word, words).ok_or(LineErr::BadLine)
+            naming::command(alloc, word, words)
         }
     }
 }

@@ -2,7 +2,7 @@
 //! and the commands that they say. Traces have such commands behind a client and a reading of its
 //! clock, and scripts a command a line.
 //!
-//! `specs/Parts.antt`, `specs/Fields.antt` and `specs/Commands.antt` have the grammar, and
+//! `specs/Parts.antt`, `specs/Fields.antt`, `specs/Paths.antt` and `specs/Commands.antt` have the grammar, and
 //! `specs/Content.antt` what a content's parts stand for.
 #![tactic(auto)]
 
@@ -11,5 +11,7 @@ pub mod content;
 pub mod fields;
 pub mod laws;
 pub mod line_err;
+mod naming;
 pub mod parts;
+pub mod path;
 pub mod pieces;

@@ -1,7 +1,6 @@
 -- A step that was to come, whether places are wanting in the index or not.
-use Rattle.std.proofs.Common.{◌≡◌, sym, ap, subst, ◌∙◌, ℕ, List, Bool, true, false}
+use Rattle.std.proofs.Common.{◌≡◌, sym, ap, subst, ◌∙◌, ℕ, Bool, true, false}
 use Rattle.std.specs.Prelude.{Option, Some, Result, Ok, Err, IfOk}
-use Rattle.chunk_cut.specs.declared.chunk.Chunk.{Chunk}
 use Rattle.chunk_index.specs.Index.{Indexed}
 use Rattle.chunk_places.specs.Places.{indexed, LeavesSome}
 use Rattle.wire.specs.declared.message.Message.{Message}
@@ -9,7 +8,7 @@ use Rattle.file_open.specs.Caching.{found_all}
 use Rattle.client_state.specs.Counting.{sends_one}
 use Rattle.file_open.specs.Looking.{Entering}
 use Rattle.client_state.specs.State.{State}
-use Rattle.file_open.specs.Fetching.{Comes, Lacks, with_index}
+use Rattle.file_open.specs.Fetching.{Comes, with_index}
 use Rattle.client_state.specs.declared.step.ClientStep.{ClientStep}
 
 apart : false ≡ true → ⊥

@@ -1,7 +1,7 @@
 //! The opens of files whose content is kept: its version is asked for, and where the file has it still
 //! the content is open again. `specs/Caching.antt` and `specs/Fetching.antt` say how.
 
-ghost use Rattle.std.specs.Prelude.{◌≡◌, ◌<◌, ◌≤◌, length, None, Some, is_some, IfOk, OnOk, OnErr, false, true};
+ghost use Rattle.std.specs.Prelude.{◌≡◌, ◌+◌, ◌≤◌, length, None, Some, is_some, IfOk, OnOk, OnErr, false, true};
 ghost use Rattle.client_cache.specs.Cache.{content_of, with_content};
 ghost use Rattle.file_open.specs.Fetching.{asks_file, uses_kept};
 ghost use Rattle.client_state.specs.View.{state_of, whole_of, IsHeld, IsSound, IsThere, HasXids};
@@ -29,14 +29,14 @@ pub fn ask_version(
     state: &mut ClientState,
     file: u64,
 ) -> Result<ClientStep, AllocError>
-    requires sound { IsSound state.old }
-    requires idle { state.old.task ≡ None }
-    requires xids { state.old.next < 4293967297 }
+    requires held { IsHeld state.old }
+    requires xids { HasXids (state.old.next + 1) (stage.Asking 0) }
     requires kept { is_some (content_of state.old.cache file) ≡ true }
     ensures ok { IfOk result (λ a. asks_file (state_of state.old) file true ≡ (state_of state.new, a)) }
     ensures done { IfOk result (λ a. a.missed ≡ false) }
-    ensures err { OnErr result (state_of state.new ≡ state_of state.old) }
-    ensures sound { IsSound state.new }
+    ensures err { OnErr result (whole_of state.new ≡ whole_of state.old) }
+    ensures sound { OnOk result (IsSound state.new) }
+    ensures held { OnErr result (IsHeld state.new) }
 {
     let xid = state.next;
     let handle = Handle::of_file(alloc, file)?;

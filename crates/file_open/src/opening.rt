@@ -32,7 +32,7 @@ use xdr_codec::handle::Handle;
 const TRIES_MOST: u32 = limits::ATTEMPTS_MOST;
 
 /// A command to open a file. An `Err` changes nothing, and comes only where the file is asked for.
-#[tactic(auto, using(client_state::proofs::Pending::held_of))]
+#[tactic(auto, using(client_state::proofs::Pending::held_of, client_state::proofs::Pending::sound_again))]
 pub fn open(alloc: Global, state: &mut ClientState, file: u64) -> Result<ClientStep, AllocError>
     requires { IsSound state.old }
     ensures ok { IfOk result (λ a. opens (state_of state.old) file state.old.task ≡ (state_of state.new, a)) }
@@ -55,14 +55,14 @@ pub fn open(alloc: Global, state: &mut ClientState, file: u64) -> Result<ClientS
 
 /// The file is asked for: by its version where a content is kept, else by its chunks. An `Err`
 /// changes nothing.
-fn ask_file(alloc: Global, state: &mut ClientState, file: u64) -> Result<ClientStep, AllocError>
-    requires sound { IsSound state.old }
-    requires idle { state.old.task ≡ None }
-    requires xids { state.old.next < 4293967297 }
+pub fn ask_file(alloc: Global, state: &mut ClientState, file: u64) -> Result<ClientStep, AllocError>
+    requires held { IsHeld state.old }
+    requires xids { HasXids (state.old.next + 1) (stage.Asking 0) }
     ensures ok { IfOk result (λ a. asks_file (state_of state.old) file true ≡ (state_of state.new, a)) }
     ensures done { IfOk result (λ a. a.missed ≡ false) }
-    ensures err { OnErr result (state_of state.new ≡ state_of state.old) }
-    ensures sound { IsSound state.new }
+    ensures err { OnErr result (whole_of state.new ≡ whole_of state.old) }
+    ensures sound { OnOk result (IsSound state.new) }
+    ensures held { OnErr result (IsHeld state.new) }
 {
     if caching::is_kept(&state.cache, file) {
         kept::ask_version(alloc, state, file)
@@ -73,14 +73,14 @@ fn ask_file(alloc: Global, state: &mut ClientState, file: u64) -> Result<ClientS
 
 /// The first attempt begins. An `Err` changes nothing.
 fn ask_hashes(alloc: Global, state: &mut ClientState, file: u64) -> Result<ClientStep, AllocError>
-    requires sound { IsSound state.old }
-    requires idle { state.old.task ≡ None }
-    requires xids { state.old.next < 4293967297 }
+    requires held { IsHeld state.old }
+    requires xids { HasXids (state.old.next + 1) (stage.Asking 0) }
     requires kept { is_some (content_of state.old.cache file) ≡ false }
     ensures ok { IfOk result (λ a. asks_file (state_of state.old) file true ≡ (state_of state.new, a)) }
     ensures done { IfOk result (λ a. a.missed ≡ false) }
-    ensures err { OnErr result (state_of state.new ≡ state_of state.old) }
-    ensures sound { IsSound state.new }
+    ensures err { OnErr result (whole_of state.new ≡ whole_of state.old) }
+    ensures sound { OnOk result (IsSound state.new) }
+    ensures held { OnErr result (IsHeld state.new) }
 {
     let xid = state.next;
     let handle = Handle::of_file(alloc, file)?;
@@ -91,20 +91,19 @@ fn ask_hashes(alloc: Global, state: &mut ClientState, file: u64) -> Result<Clien
 
 /// An open begins with the call of the next xid: the file has an entry in the cache, at its
 /// front. An `Err` changes nothing.
-#[tactic(auto, using(client_state::proofs::Pending::held_of))]
 pub fn begin(
     alloc: Global,
     state: &mut ClientState,
     file: u64,
     stage: Stage,
 ) -> Result<(), AllocError>
-    requires sound { IsSound state.old }
-    requires idle { state.old.task ≡ None }
+    requires held { IsHeld state.old }
     requires xids { HasXids (state.old.next + 1) stage }
     requires within { IsWithin stage }
     ensures ok { OnOk result (state_of state.new ≡ record (state_of state.old) { next = state.old.next + 1; task = Some (record { file = file; stage = stage }); cache = reserved state.old.cache file }) }
-    ensures err { OnErr result (state_of state.new ≡ state_of state.old) }
-    ensures sound { IsSound state.new }
+    ensures err { OnErr result (whole_of state.new ≡ whole_of state.old) }
+    ensures sound { OnOk result (IsSound state.new) }
+    ensures held { OnErr result (IsHeld state.new) }
 {
     state.wait_there(alloc, file, stage, state.next + 1)
 }

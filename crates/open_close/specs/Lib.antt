@@ -1,3 +1,4 @@
+pub mod Walking
 pub mod Step
 pub mod Hashed
 pub mod Rows

@@ -1,5 +1,5 @@
 -- Worked sessions.
-use Rattle.std.specs.Prelude.{◌≡◌, ℕ, List, [], ◌∷◌, refl, codes, Option, Some, None, Ok, Bool, true, false}
+use Rattle.std.specs.Prelude.{◌≡◌, ℕ, ◌+◌, List, [], ◌∷◌, refl, codes, Option, Some, None, Ok, Bool, true, false}
 use Rattle.sha1.specs.Sha1.{sha1, digest_bytes, hash_after, compress, rounds, schedule, first_words}
 use Rattle.chunk_cut.specs.Search.{next_end, closed_ends}
 use Rattle.chunk_cut.specs.declared.chunk.Chunk.{Chunk}
@@ -16,6 +16,14 @@ use Rattle.wire.specs.declared.message.Body.TheVariants as body
 use Rattle.wire.specs.declared.message.Message.{Message}
 use Rattle.wire.specs.declared.message.Message.TheVariants as message
 use Rattle.wire.specs.declared.message.RpcRefusal.TheVariants as refusal
+use Rattle.command_text.specs.declared.path.PathCommand.{PathCommand}
+use Rattle.command_text.specs.declared.path.PathCommand.TheVariants as path
+use Rattle.command_text.specs.declared.path.Spot.{Spot}
+use Rattle.nfs3_calls.specs.declared.listing.Entry.{Entry}
+use Rattle.nfs3_calls.specs.declared.message.Nfs.{Nfs}
+use Rattle.path_calls.specs.Walk.{begun, no_pages, place, create_call, rename_call, page_call}
+use Rattle.path_calls.specs.declared.walk.Walk.{Walk}
+use Rattle.xdr_codec.specs.Handle.{handle_bytes}
 use Rattle.client_state.specs.declared.step.BadPeer.TheVariants as bad
 use Rattle.client_state.specs.declared.step.ClientStep.{ClientStep}
 use Rattle.client_state.specs.declared.step.Outcome.TheVariants as outcome
@@ -278,3 +286,86 @@ at_the_end = refl
 looked_up_before : enters_at (after seen (Does (command.Open 3) ∷ [])) (hashes_are 3 1 1 (pair_of (codes "a") 1 ∷ []) true) ≡ Some (record { looked = chunk_of 0 (codes "a") 1 ∷ []; file = 3; chunks = chunk_of 0 (codes "a") 1 ∷ [] })
 unfolding calls_most fronted key_of sha1 digest_bytes hash_after compress rounds schedule first_words
 looked_up_before = refl
+
+-- ---- commands on names
+
+abbrev at_root : List ℕ → Spot
+at_root name = record { dirs = []; name = name }
+
+-- in the directory "d" of the root
+abbrev below : List ℕ → Spot
+below name = record { dirs = codes "d" ∷ []; name = name }
+
+abbrev named : PathCommand → Event
+named c = Does (command.Named c)
+
+abbrev calls : (xid : ℕ) → Nfs → ClientStep
+calls xid call = sends_one (message.Call xid (body.Nfs call)) 0
+
+abbrev answers : (xid : ℕ) → Nfs → Event
+answers xid a = Gets (message.Answer xid (body.Nfs a))
+
+-- a name stands for this id
+abbrev found_is : (xid id : ℕ) → Event
+found_is xid id = answers xid (nfs.LookupAnswer (Done (record { handle = handle_bytes id; attr = Some (attr_in 7); dir = None })))
+
+-- a step in which a path was found to stand for this id
+abbrev finds : (id : ℕ) → ClientStep → ClientStep
+finds id a = record a { found = Some id }
+
+abbrev walking : (xid : ℕ) → Walk → State
+walking xid w = record (joined start) { next = xid + 1; task = Some (record { file = 0; stage = stage.Walking xid w }) }
+
+-- each name is looked up in the one before it, and the file of the last is fetched as one of its id
+opens_path : steps (joined start) (named (path.Find (below (codes "f"))) ∷ found_is 1 2 ∷ found_is 2 5 ∷ hashes_are 3 1 0 [] true ∷ []) ≡ (calls 1 (nfs.Lookup (place 1 (codes "d"))) ∷ calls 2 (nfs.Lookup (place 2 (codes "f"))) ∷ finds 5 (sends_one (hash_call 3 5 0) 0) ∷ ends (outcome.Opened 5 0 (sha1 [])) 3 0 ∷ [])
+unfolding calls_most
+opens_path = refl
+
+-- while names are looked up no file is known, and another command finds an operation under way
+looks_up : (after (joined start) (named (path.Find (below (codes "f"))) ∷ []) ≡ walking 1 (begun (path.Find (below (codes "f"))))) × (steps (joined start) (named (path.Find (below (codes "f"))) ∷ named (path.List []) ∷ []) ≡ (calls 1 (nfs.Lookup (place 1 (codes "d"))) ∷ ends outcome.Busy 0 0 ∷ []))
+looks_up = (refl, refl)
+
+-- that a file is open already is told behind the look-ups
+already_open : steps opened (named (path.Find (at_root (codes "f"))) ∷ found_is 1 2 ∷ []) ≡ (calls 1 (nfs.Lookup (place 1 (codes "f"))) ∷ finds 2 (ends outcome.AlreadyOpen 0 0) ∷ [])
+already_open = refl
+
+-- a content that is kept is asked for by its version
+opens_kept : steps seen (named (path.Find (at_root (codes "f"))) ∷ found_is 3 2 ∷ leased_are 4 1 ∷ []) ≡ (calls 3 (nfs.Lookup (place 1 (codes "f"))) ∷ finds 2 (sends_one (lease_call 4 2) 0) ∷ opens_as 2 4 ∷ [])
+unfolding calls_most fronted key_of sha1 digest_bytes hash_after compress rounds schedule first_words
+opens_kept = refl
+
+-- in the root no name is looked up before
+makes_at_once : steps (joined start) (named (path.Make (at_root (codes "f"))) ∷ answers 1 (nfs.CreateAnswer (Failed status.Exist (record { before = None; after = None }))) ∷ []) ≡ (calls 1 (create_call 1 (codes "f")) ∷ ends (outcome.Refused status.Exist) 1 0 ∷ [])
+makes_at_once = refl
+
+renames_at_once : steps (joined start) (named (path.Rename (at_root (codes "a")) (at_root (codes "b"))) ∷ []) ≡ (calls 1 (rename_call 1 (codes "a") 1 (codes "b")) ∷ [])
+renames_at_once = refl
+
+looks_at_root : steps (joined start) (named path.LookRoot ∷ answers 1 (nfs.GetAttrAnswer (Done (attr_in 7))) ∷ []) ≡ (calls 1 (nfs.GetAttr (handle_bytes 1)) ∷ ends (outcome.Seen 1 kind.File 7 0) 1 0 ∷ [])
+looks_at_root = refl
+
+-- what a name stands for, and the root has none
+looks_at_name : steps (joined start) (named (path.Look (at_root (codes "f"))) ∷ found_is 1 5 ∷ []) ≡ (calls 1 (nfs.Lookup (place 1 (codes "f"))) ∷ finds 5 (ends (outcome.Seen 5 kind.File 7 0) 1 0) ∷ [])
+looks_at_name = refl
+
+abbrev page_is : (xid : ℕ) → List Entry → (eof : Bool) → Event
+page_is xid entries eof = answers xid (nfs.ReadDirAnswer (Done (record { attr = None; verifier = 7; entries = entries; eof = eof })))
+
+-- a listing goes on where its last page ended
+lists : steps (joined start) (named (path.List []) ∷ page_is 1 (record { fileid = 2; name = codes "a"; cookie = 9 } ∷ []) false ∷ page_is 2 (record { fileid = 3; name = codes "b"; cookie = 10 } ∷ []) true ∷ []) ≡ (calls 1 (page_call 1 no_pages) ∷ calls 2 (page_call 1 (record { names = codes "a" ∷ []; count = 1; cookie = 9; verifier = 7 })) ∷ ends (outcome.Names (codes "a" ∷ codes "b" ∷ [])) 2 0 ∷ [])
+lists = refl
+
+-- a page without an entry that isn't the last is the peer's fault, and so is an answer to another call of names
+page_of_nothing : steps (joined start) (named (path.List []) ∷ page_is 1 [] false ∷ []) ≡ (calls 1 (page_call 1 no_pages) ∷ ends (outcome.BadPeer (bad.Shape 0 1)) 0 0 ∷ [])
+page_of_nothing = refl
+
+other_answer : steps (joined start) (named (path.Make (at_root (codes "f"))) ∷ answers 1 (nfs.MkDirAnswer (Failed status.Exist (record { before = None; after = None }))) ∷ []) ≡ (calls 1 (create_call 1 (codes "f")) ∷ ends (outcome.BadPeer (bad.UnknownXid 1)) 0 0 ∷ [])
+other_answer = refl
+
+-- a lost connection ends it, and what is answered late is answered to nobody
+lost_names : steps (joined start) (named (path.List (codes "d" ∷ [])) ∷ Cut ∷ named (path.List []) ∷ []) ≡ (calls 1 (nfs.Lookup (place 1 (codes "d"))) ∷ ends outcome.Lost 0 0 ∷ ends outcome.NoLink 0 0 ∷ [])
+lost_names = refl
+
+-- it begins only where 1,000,000 xids are left, and as many as it may need
+few_xids : steps (record (joined start) { next = 4293967297 }) (named path.LookRoot ∷ []) ≡ (ends outcome.NoLink 0 0 ∷ [])
+few_xids = refl

@@ -33,6 +33,7 @@ use Rattle.file_open.specs.Looking.{entering}
 use Rattle.file_open.specs.Opening.{read_at}
 use Rattle.file_close.specs.Closing.{store_at}
 use Rattle.file_close.specs.Storing.{closes, told_temp, told_stored, closed}
+use Rattle.open_close.specs.Walking.{walks, is_its, told_walk, MayMissWalk}
 
 -- ---- commands on an open file
 
@@ -67,6 +68,7 @@ command_step s (command.Trunc file size) now = on_local s s.task (local_at s.ope
 command_step s (command.Read file offset count) now = on_local s s.task (local_at s.opened file) (reads s offset count)
 command_step s (command.Close file) now = on_local s s.task (local_at s.opened file) (closes s file)
 command_step s (command.Abandon file) now = on_local s s.task (local_at s.opened file) (abandons s file)
+command_step s (command.Named c) now = walks s c s.task
 
 -- ---- a message
 
@@ -81,6 +83,7 @@ took s calls file (stage.Making asked temp) xid (body.Lb (lb.MkTmpFileAnswer a))
 took s calls file (stage.Storing st) xid b = told_stored s calls file xid (local_bytes s.opened file) st b (store_at st.under xid)
 took s calls file (stage.Committing asked) xid (body.Lb (lb.CommitTmpAnswer (Failed status u))) = refused s calls xid status
 took s calls file (stage.Committing asked) xid (body.Lb (lb.CommitTmpAnswer (Done c))) = closed s calls file xid c.version (local_bytes s.opened file)
+took s calls file (stage.Walking asked w) xid (body.Nfs a) = told_walk s calls xid w a (is_its w a)
 took s calls file p xid b = unknown s xid
 
 abbrev pub took_if : State → Option Task → (xid : ℕ) → Body → (is_own : Bool) → State × ClientStep
@@ -126,6 +129,7 @@ MayMissCommand s (command.Trunc file size) = MayMissOn s.task (local_at s.opened
 MayMissCommand s (command.Read file offset count) = ⊥
 MayMissCommand s (command.Close file) = MayMissOn s.task (local_at s.opened file) (λ l. may_ask s ≡ true)
 MayMissCommand s (command.Abandon file) = ⊥
+MayMissCommand s (command.Named c) = MayMissWalk s c s.task
 
 -- what is left where memory ran out at what came: the operation under way has ended by it
 abbrev pub missed_at : State → Result Message WireFault → State

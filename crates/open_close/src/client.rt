@@ -52,6 +52,7 @@ fn missed(alloc: Global) -> ClientStep
             rests_on: 0,
         }),
         counts: parts::no_counts(),
+        found: None,
         missed: true,
     }
 }
@@ -168,10 +169,18 @@ impl Client {
         self.state.linked
     }
 
-    /// The local content of an open file; none where it isn't open. It takes no memory.
-    pub fn local(&self, file: u64) -> Option<&SharedBytes>
+    /// An owner of the local content of an open file, of which others can be made; none where it isn't
+    /// open. It takes no memory.
+    pub fn shared_local(&self, file: u64) -> Option<&SharedBytes>
         ensures { option_copied result ≡ option_map (λ l. l.bytes) (local_at self.now.opened file) }
     {
         parts::find_local(&self.state.opened, file).map(|l| &l.bytes)
+    }
+
+    /// The local content of an open file; none where it isn't open. It takes no memory.
+    pub fn local(&self, file: u64) -> Option<&[u8]>
+        ensures { option_copied result ≡ option_map (λ l. l.bytes) (local_at self.now.opened file) }
+    {
+        parts::find_local(&self.state.opened, file).map(|l| l.bytes.as_slice())
     }
 }

@@ -10,3 +10,4 @@ mod answers;
 pub mod client;
 mod commands;
 mod taking;
+mod walking;

@@ -8,7 +8,7 @@ ghost use Rattle.open_close.specs.Step.{took, command_step, got_message, got_fau
 ghost use Rattle.client_state.specs.View.{state_of, whole_of, IsHeld, IsSound, HasXids, IsWithin, StageIsThere};
 ghost use Rattle.wire.specs.declared.message.Message.TheVariants as message;
 
-use crate::{answers, commands};
+use crate::{answers, commands, walking};
 use client_state::state::ClientState;
 use client_state::step::{BadPeer, ClientStep};
 use client_state::task::{Stage, Task};
@@ -53,6 +53,7 @@ pub fn command(
         } => Ok(commands::read_part(alloc, state, file, offset, count)),
         Command::Close(file) => closing::close(alloc, state, file),
         Command::Abandon(file) => Ok(commands::abandon(alloc, state, file)),
+        Command::Named(command) => walking::walk(alloc, state, command),
     }
 }
 
@@ -100,6 +101,7 @@ fn took(
         Stage::Making { xid: _, temp } => answers::took_temp(alloc, state, file, temp, xid, body),
         Stage::Storing(store) => answers::took_stored(alloc, state, file, store, xid, body),
         Stage::Committing(_) => Ok(answers::took_commit(alloc, state, file, xid, body)),
+        Stage::Walking { xid: _, walk } => walking::took_walk(alloc, state, file, walk, xid, body),
     }
 }
 

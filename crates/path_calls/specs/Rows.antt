@@ -14,8 +14,8 @@ use Rattle.nfs3_calls.specs.declared.message.Nfs.TheVariants as nfs
 use Rattle.path_calls.specs.declared.answers.Ended.TheVariants as ended
 use Rattle.path_calls.specs.declared.answers.Told.{Told}
 use Rattle.path_calls.specs.declared.answers.Told.TheVariants as told
-use Rattle.path_calls.specs.declared.command.PathCommand.TheVariants as command
-use Rattle.path_calls.specs.declared.command.Spot.{Spot}
+use Rattle.command_text.specs.declared.path.PathCommand.TheVariants as command
+use Rattle.command_text.specs.declared.path.Spot.{Spot}
 use Rattle.path_calls.specs.declared.walk.Goal.TheVariants as goal
 use Rattle.path_calls.specs.declared.walk.Walk.{Walk}
 use Rattle.path_calls.specs.Walk.{begun, next_call, place, keeps_all, rename_call, create_call, page_call, no_pages}

@@ -18,11 +18,7 @@ use Rattle.path_calls.specs.declared.walk.Goal.{Goal}
 use Rattle.path_calls.specs.declared.walk.Goal.TheVariants as goal
 use Rattle.path_calls.specs.declared.walk.Pages.{Pages}
 use Rattle.path_calls.specs.declared.walk.Walk.{Walk}
-use Rattle.path_calls.specs.Walk.{arrives}
-
--- so many READDIRs are sent for one listing
-abbrev pub pages_most : ℕ
-pages_most = 900000
+use Rattle.path_calls.specs.Walk.{arrives, pages_most}
 
 -- a number was wanted, and none came
 abbrev pub lacks : Told

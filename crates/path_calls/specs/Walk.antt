@@ -1,5 +1,5 @@
 -- Which calls a command on names asks for, one after the other.
-use Rattle.std.specs.Prelude.{ℕ, List, [], ◌∷◌, None}
+use Rattle.std.specs.Prelude.{ℕ, ◌+◌, ◌-◌, List, [], ◌∷◌, length, None}
 use Rattle.limits.specs.declared.TheConstants.{LISTING_MOST}
 use Rattle.xdr_codec.specs.Handle.{handle_bytes}
 use Rattle.nfs3_calls.specs.declared.message.Nfs.{Nfs}
@@ -8,8 +8,8 @@ use Rattle.nfs3_calls.specs.declared.place.Place.{Place}
 use Rattle.nfs3_calls.specs.declared.making.HowMade.TheVariants as how
 use Rattle.nfs3_calls.specs.declared.making.SetAttr.{SetAttr}
 use Rattle.nfs3_calls.specs.declared.making.SetTime.TheVariants as set_time
-use Rattle.path_calls.specs.declared.command.PathCommand.{PathCommand}
-use Rattle.path_calls.specs.declared.command.PathCommand.TheVariants as command
+use Rattle.command_text.specs.declared.path.PathCommand.{PathCommand}
+use Rattle.command_text.specs.declared.path.PathCommand.TheVariants as command
 use Rattle.path_calls.specs.declared.walk.Goal.{Goal}
 use Rattle.path_calls.specs.declared.walk.Goal.TheVariants as goal
 use Rattle.path_calls.specs.declared.walk.Pages.{Pages}
@@ -91,3 +91,19 @@ call_at dir (n ∷ ns) g = nfs.Lookup (place dir n)
 
 abbrev pub next_call : Walk → Nfs
 next_call w = call_at w.dir w.left w.goal
+
+-- ---- how many calls it may still send
+
+-- a listing sends so many READDIRs at most
+abbrev pub pages_most : ℕ
+pages_most = 900000
+
+-- behind its look-ups and the goal's own call
+abbrev pub goal_left : Goal → ℕ
+goal_left (goal.List p) = pages_most - p.count
+goal_left (goal.RenameFrom name to) = length to.dirs
+goal_left g = 0
+
+-- behind its next call, at most
+abbrev pub calls_left : Walk → ℕ
+calls_left w = length w.left + goal_left w.goal

@@ -2,11 +2,11 @@
 
 ghost use Rattle.std.specs.Prelude.{◌≡◌, ◌+◌, ◌<◌, ◌++◌, IfOk, OnOk, map, nat_le};
 ghost use Rattle.xdr_codec.specs.Handle.{file_of};
-ghost use Rattle.path_calls.specs.Walk.{arrived, arrives};
-ghost use Rattle.path_calls.specs.Told.{lacks, goes_down, finds, shown_version, seen, sees, told_goal, told_found, last_cookie, with_page, asks_page, more_pages, lists_on, told_page, told_attr, refused, changed_by, plainly_told, walk_told, pages_most};
+ghost use Rattle.path_calls.specs.Walk.{arrived, arrives, pages_most};
+ghost use Rattle.path_calls.specs.Told.{lacks, goes_down, finds, shown_version, seen, sees, told_goal, told_found, last_cookie, with_page, asks_page, more_pages, lists_on, told_page, told_attr, refused, changed_by, plainly_told, walk_told};
 
-use crate::command::Path;
 use crate::walk::{Goal, Pages, Walk, from_root};
+use command_text::path::Path;
 use lb_base::items::{Items, Name};
 use nfs3_calls::listing::{Entry, Listing};
 use nfs3_calls::message::Nfs;

@@ -1,14 +1,16 @@
 //! The next call of a walk, as `specs/Walk.antt` writes it.
 
-ghost use Rattle.std.specs.Prelude.{◌≡◌, IfOk};
-ghost use Rattle.path_calls.specs.Walk.{place, keeps_all, page_call, create_call, make_dir_call, rename_call, goal_call, next_call};
+ghost use Rattle.std.specs.Prelude.{◌≡◌, ◌<◌, ◌^◌, ℕ, IfOk};
+ghost use Rattle.path_calls.specs.Walk.{place, keeps_all, page_call, create_call, make_dir_call, rename_call, goal_call, next_call, goal_left, calls_left};
+ghost use Rattle.nfs3_calls.specs.Nfs.{nfs_proc};
 
+use crate::answers::PAGES_MOST;
 use crate::walk::{Goal, Pages, Walk};
 use lb_base::items::Name;
 use limits::LISTING_MOST;
 use nfs3_calls::listing::ListRange;
 use nfs3_calls::making::{HowMade, NewDir, NewFile, SetAttr, SetTime};
-use nfs3_calls::message::Nfs;
+use nfs3_calls::message::{Nfs, NfsProc};
 use nfs3_calls::place::{Place, Rename};
 use std::alloc::{AllocError, Global};
 use xdr_codec::handle::Handle;
@@ -98,6 +100,34 @@ fn goal_call(alloc: Global, dir: u64, goal: &Goal) -> Result<Nfs, AllocError>
     }
 }
 
+/// The procedure of the call for what is asked for in a directory.
+fn goal_procedure(goal: &Goal) -> NfsProc
+    ensures { (dir : ℕ) → result ≡ nfs_proc (goal_call dir goal.now) }
+{
+    match goal {
+        Goal::Find(_) | Goal::Look(_) | Goal::RenameFrom(_, _) => NfsProc::Lookup,
+        Goal::LookRoot => NfsProc::GetAttr,
+        Goal::List(_) => NfsProc::ReadDir,
+        Goal::Make(_) => NfsProc::Create,
+        Goal::MakeDir(_) => NfsProc::MkDir,
+        Goal::Remove(_) => NfsProc::Remove,
+        Goal::RemoveDir(_) => NfsProc::RmDir,
+        Goal::RenameTo(_, _, _) => NfsProc::Rename,
+    }
+}
+
+/// How many calls may come behind the look-ups of a walk and its goal's own call.
+fn goal_left(goal: &Goal) -> u128
+    ensures left { result ≡ goal_left goal.now }
+    ensures small { result < 2 ^ 64 }
+{
+    match goal {
+        Goal::List(pages) => u128::from(PAGES_MOST.saturating_sub(pages.count)),
+        Goal::RenameFrom(_, to) => to.dirs.len() as u128,
+        _ => 0,
+    }
+}
+
 impl Walk {
     /// Its next call. The one error is want of memory.
     pub fn next_call(&self, alloc: Global) -> Result<Nfs, AllocError>
@@ -107,5 +137,23 @@ impl Walk {
             Some(name) => Ok(Nfs::Lookup(place(alloc, self.dir, name)?)),
             None => goal_call(alloc, self.dir, &self.goal),
         }
+    }
+    /// The procedure of its next call.
+    pub fn procedure(&self) -> NfsProc
+        ensures { result ≡ nfs_proc (next_call self.now) }
+    {
+        if self.left.is_empty() {
+            goal_procedure(&self.goal)
+        } else {
+            NfsProc::Lookup
+        }
+    }
+
+    /// How many calls it may still send behind its next one, at most.
+    pub fn calls_left(&self) -> u128
+        ensures left { result ≡ calls_left self.now }
+        ensures small { result < 2 ^ 66 }
+    {
+        self.left.len() as u128 + goal_left(&self.goal)
     }
 }

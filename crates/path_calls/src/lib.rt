@@ -7,5 +7,4 @@
 
 pub mod answers;
 mod calls;
-pub mod command;
 pub mod walk;

@@ -4,7 +4,7 @@ ghost use Rattle.std.specs.Prelude.{◌≡◌};
 ghost use Rattle.path_calls.specs.Walk.{from_root, begun};
 
 use crate::answers;
-use crate::command::{Path, PathCommand, Spot};
+use command_text::path::{Path, PathCommand, Spot};
 use lb_base::items::{Items, Name};
 use std::alloc::Global;
 

@@ -1,6 +1,6 @@
 use Rattle.std.proofs.Common.{◌≡◌, ap, subst, ◌∙◌, IfOk, List, ℕ}
 use Rattle.file_close.specs.Closing.{store_of}
-use Rattle.client_state.specs.State.{State, local_bytes}
+use Rattle.client_state.specs.State.{local_bytes}
 use Rattle.file_close.specs.Storing.{goes_on}
 use Rattle.client_state.specs.View.{state_of}
 use Rattle.client_state.specs.declared.step.ClientStep.{ClientStep}

@@ -1,4 +1,4 @@
-use Rattle.std.proofs.Common.{◌≡◌, ◌-◌, ap, subst, ◌∙◌, List, take, drop}
+use Rattle.std.proofs.Common.{◌-◌, ap, subst, ◌∙◌, List, take, drop}
 use Rattle.chunk_cut.specs.declared.chunk.Chunk.{Chunk}
 use Rattle.chunk_index.specs.Index.{Indexed}
 use Rattle.chunk_places.specs.Places.{indexed, LeavesSome}

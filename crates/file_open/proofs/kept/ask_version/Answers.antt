@@ -1,4 +1,4 @@
-use Rattle.std.proofs.Common.{◌≡◌, ◌+◌, ap, ◌∙◌, ℕ, List}
+use Rattle.std.proofs.Common.{◌+◌, ap, ◌∙◌, ℕ, List}
 use Rattle.std.specs.Prelude.{Some}
 use Rattle.client_cache.specs.Cache.{reserved, content_of}
 use Rattle.hash_calls.specs.declared.message.Lb.TheVariants as lb

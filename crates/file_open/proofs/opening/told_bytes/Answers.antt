@@ -1,4 +1,4 @@
-use Rattle.std.proofs.Common.{◌≡◌, ◌==◌, ℕ, List, length, sym, ap, subst, ◌∙◌, IfOk}
+use Rattle.std.proofs.Common.{◌≡◌, ◌==◌, ℕ, List, length, ap, subst, ◌∙◌, IfOk}
 use Rattle.std.specs.Prelude.{Option, Some, None}
 use Rattle.file_open.specs.Looking.{with_file, taken_if, entering_by}
 use Rattle.file_open.specs.Opening.{fault_in}

@@ -1,4 +1,4 @@
-use Rattle.std.proofs.Common.{◌≡◌, sym, ap, ◌∙◌}
+use Rattle.std.proofs.Common.{sym, ap, ◌∙◌}
 use Rattle.file_open.specs.Shape.{Broken, broken_of}
 use Rattle.client_state.specs.State.{State}
 use Rattle.file_open.specs.Fetching.{told_shape}

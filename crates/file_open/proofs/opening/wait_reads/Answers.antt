@@ -1,4 +1,4 @@
-use Rattle.std.proofs.Common.{◌≡◌, ◌-◌, sym, ap, ◌∙◌, take, drop}
+use Rattle.std.proofs.Common.{◌-◌, sym, ap, ◌∙◌, take, drop}
 use Rattle.std.specs.Prelude.{Some}
 use Rattle.chunk_index.specs.Index.{Indexed}
 use Rattle.file_open.specs.Caching.{found_all}

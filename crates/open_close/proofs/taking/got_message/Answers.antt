@@ -1,4 +1,4 @@
-use Rattle.std.proofs.Common.{◌≡◌, rules, ap, false}
+use Rattle.std.proofs.Common.{◌≡◌, rules, ap}
 use Rattle.open_close.specs.Step.{got_message}
 use Rattle.client_state.specs.View.{state_of}
 use Rattle.client_state.specs.declared.step.ClientStep.{ClientStep}

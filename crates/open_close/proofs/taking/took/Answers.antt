@@ -32,3 +32,10 @@ returns-in-Committing-clause-ok c =
     let t = c.args.task in
     let so : took (state_of s) s.waiting.calls t.file t.stage c.args.xid c.args.body.now ≡ (state_of c.took_commit.new.state, c.took_commit.result) = search rules in
     comes_so s.index (took (state_of s) s.waiting.calls t.file t.stage c.args.xid c.args.body.now) (state_of c.took_commit.new.state) c.took_commit.result so c.took_commit.ensures.done
+
+pub returns-in-Walking-clause-ok : goal.returns-in-Walking-clause-ok
+returns-in-Walking-clause-ok c =
+    let s = c.args.state.now in
+    let t = c.args.task in
+    let so : IfOk c.took_walk.result (λ (a : ClientStep). took (state_of s) s.waiting.calls t.file t.stage c.args.xid c.args.body.now ≡ (state_of c.took_walk.new.state, a)) = search rules in
+    comes_ok c.took_walk.result s.index _ (took (state_of s) s.waiting.calls t.file t.stage c.args.xid c.args.body.now) (state_of c.took_walk.new.state) so c.took_walk.ensures.done

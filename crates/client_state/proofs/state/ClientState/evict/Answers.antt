@@ -1,4 +1,4 @@
-use Rattle.std.proofs.Common.{◌≡◌, sym, subst}
+use Rattle.std.proofs.Common.{sym, subst}
 use Rattle.std.specs.List.{All}
 use Rattle.client_cache.specs.Cache.{Entries}
 use Rattle.client_state.specs.View.{IsKeptBounded, TaskIsThere}

@@ -1,8 +1,7 @@
-use Rattle.std.proofs.Common.{◌≡◌, sym, ap, subst, ◌∙◌}
+use Rattle.std.proofs.Common.{sym, ap, subst, ◌∙◌}
 use Rattle.std.specs.Prelude.{Some}
 use Rattle.std.specs.List.{All}
 use Rattle.client_cache.specs.Cache.{Entries}
-use Rattle.client_state.specs.State.{State}
 use Rattle.client_state.specs.View.{state_of, IsKeptBounded}
 use Rattle.client_state.proofs.Keeping.{bounded_reserved, entry_there}
 use Rattle.client_state.proofs.Pending.{held_cache}
