@@ -63,8 +63,8 @@ fn put_names(alloc: Global, out: &mut String, names: &Items<Name>) -> Result<(),
     Ok(())
 }
 
-/// How an operation ended.
-fn put_outcome(alloc: Global, out: &mut String, ended: &Outcome) -> Result<(), AllocError>
+/// How an operation ended. The one error is want of memory.
+pub fn put_outcome(alloc: Global, out: &mut String, ended: &Outcome) -> Result<(), AllocError>
     ensures { OnOk result (string_bytes out.new ≡ string_bytes out.old ++ outcome_text ended.now) }
 {
     match ended {
