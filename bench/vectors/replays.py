@@ -2,11 +2,12 @@
 """Replays traces apart from the program, by what each line does, and looks over the examples:
 
     bench/vectors/replays.py [--without-indexes] [--mend] FILE ..
-    bench/vectors/replays.py [--without-indexes] --random SECONDS PROGRAM [SEED]
+    bench/vectors/replays.py [--without-indexes] [--names] --random SECONDS PROGRAM [SEED]
 
 FILE is NAME.trace (with NAME.out) or NAME.rows. Each history is compared with the one that is wanted;
 --mend writes what came here in its place. With --random the traces of bench/random-traces are replayed
-here and by the program, from the seed on, 1 where not said otherwise, for so many seconds. What is
+here and by the program, from the seed on, 1 where not said otherwise, for so many seconds; with --names
+they have directories and commands on names too (name_traces.py). What is
 refused, and words other than 'replay', are left alone. Messages have their sizes but not their bytes;
 nothing of the clocks is looked at. The status is 1 where a history differs.
 """
@@ -21,6 +22,8 @@ from collections import OrderedDict, deque
 
 sys.path.insert(0, __file__.rsplit("/", 1)[0])
 from generated_rows import chunk_end, random_bytes
+from name_traces import with_names
+from names import FAILURE, Served, Tree, Walks
 
 CALLS, TRIES, PAIRS, FILE_MOST, TREE_MOST = 16, 4, 1024, 1 << 26, 1 << 30
 INDEXES = "--without-indexes" not in sys.argv
@@ -134,9 +137,10 @@ class Client:
         self.xid, self.calls = 0, {}
 
 
-class World:
+class World(Served, Walks):
     def __init__(self):
-        self.step, self.files, self.versions, self.ops = 0, {}, {}, []
+        self.step, self.tree, self.ops = 0, Tree(), []
+        self.files, self.versions = self.tree.files, self.tree.versions
         self.sessions, self.clients, self.waiting, self.temps = [], [], [], {}
         self.index, self.journal = Index(), 0
 
@@ -177,9 +181,13 @@ class World:
     def serve(self, number, xid, kind, rest):
         session = self.sessions[number - 1]
         session.taken[xid] = self.step
-        if kind in ("lease", "hash", "read", "make"):
+        if kind in FAILURE:
+            return self.serve_name(number, xid, kind, rest)
+        if kind in ("lease", "hash", "read", "make", "commit"):
             file = rest[0]
-            if file == 1:
+            if kind == "commit" and file not in self.files:
+                self.temps.pop((number, rest[1]))
+            if file in self.tree.directories:
                 return self.say(number, xid, 8 if kind == "read" else 4, "failed", 21)
             if file not in self.files:
                 return self.say(number, xid, 8 if kind == "read" else 4, "failed", 70)
@@ -209,17 +217,23 @@ class World:
         else:
             pieces = self.temps.pop((number, rest[1]))
             whole = b"".join(pieces[k] for k in sorted(pieces))
-            self.waiting.append((number, xid, rest[0], whole))
+            self.waiting.append((number, xid, "commit", (rest[0], whole)))
 
     def settle(self):
         self.step += 1
         if not self.waiting:
             return
-        number, xid, file, whole = self.waiting.pop(0)
+        number, xid, kind, change = self.waiting.pop(0)
+        if kind != "commit":
+            return self.settle_name(number, xid, kind, *change)
+        file, whole = change
+        if file not in self.files:
+            return self.say(number, xid, 4, "failed", 70)
+        self.tree.changes += 1
         self.files[file], self.versions[file] = whole, self.versions[file] + 1
         self.index.enter(file, chunks(whole))
         self.journal += 1
-        self.sessions[number - 1].closing.point = self.step
+        self.changed(number, file)
         self.say(number, xid, 16, "done", self.versions[file], len(whole))
 
     def hang(self, number):
@@ -251,7 +265,7 @@ class World:
         if op is not client.op or stage != client.stage:
             return
         if said[0] == "failed":
-            return self.end(client, f"Refused {said[1]}", xid if said[1] == 70 else None)
+            return self.end(client, f"Refused {said[1]}", xid if said[1] == 70 and op.word == "open" else None)
         getattr(self, "took_" + kind)(client, xid, rest, said)
 
     def took_lease(self, client, xid, rest, said):
@@ -359,25 +373,27 @@ class World:
 
     def command(self, client, word, args):
         self.step += 1
-        file = int(args[0][1:])
+        file = int(args[0][1:]) if args[0].startswith("#") else 0
         op = Op(client.number, word, file, self.step)
         self.ops.append(op)
         mine = client.opened.get(file)
         if client.op:
             op.out = "Busy"
+        elif not args[0].startswith("#"):
+            if client.linked:
+                client.op, client.stage = op, len(self.ops) * 8
+                if word in ("make", "remove", "rename"):
+                    self.sessions[client.session - 1].closing = op
+                return self.walk(client, word, args)
+            op.out = "NoLink"
         elif word == "open":
             if mine is not None:
                 op.out = "AlreadyOpen"
             elif not client.linked:
                 op.out = "NoLink"
             else:
-                client.op, client.stage, client.tries = op, (op,), 1
-                client.stage = len(self.ops) * 8
-                if file in client.kept:
-                    self.ask(client, "lease", 20, file)
-                else:
-                    self.ask_hashes(client)
-                return
+                client.op, client.stage = op, len(self.ops) * 8
+                return self.open_file(client)
         elif mine is None:
             op.out = "NotOpen"
         elif word == "close":
@@ -397,6 +413,13 @@ class World:
         else:
             op.out = self.change(client, file, mine, word, args)
         op.end = self.step
+
+    def open_file(self, client):
+        client.tries = 1
+        if client.op.file in client.kept:
+            self.ask(client, "lease", 20, client.op.file)
+        else:
+            self.ask_hashes(client)
 
     def change(self, client, file, mine, word, args):
         at = int(args[1])
@@ -424,9 +447,8 @@ class World:
         kind = words[0]
         if kind == "clients":
             self.clients = [Client(n + 1) for n in range(int(words[1]))]
-        elif kind == "file":
-            self.files[len(self.files) + 2] = content(words[2])
-            self.versions[len(self.versions) + 2] = 1
+        elif kind in ("dir", "file"):
+            self.tree.opens(words[1], content(words[2]) if kind == "file" else None)
         elif kind == "join":
             client = self.clients[int(words[1]) - 1]
             self.step += 2
@@ -530,9 +552,10 @@ def random_ones(seconds, program, seed):
     loader = importlib.machinery.SourceFileLoader("random_traces", path)
     makers = importlib.util.module_from_spec(importlib.util.spec_from_loader("random_traces", loader))
     loader.exec_module(makers)
+    maker = with_names(makers.Maker) if "--names" in sys.argv else makers.Maker
     until, first, same, refused, steps = time.time() + seconds, seed, 0, 0, 0
     while time.time() < until:
-        lines = makers.Maker(seed).trace().lines
+        lines = maker(seed).trace().lines
         ran = subprocess.run([program, "replay"], input=("\n".join(lines) + "\n").encode(), capture_output=True, check=False)
         wanted = ran.stdout.decode().split("\n")[:-1]
         if ran.returncode:

@@ -1,6 +1,6 @@
 -- The lines in front of the blocks are taken: the header, eight files, and four clients that join.
 use Rattle.std.proofs.Common.{◌≡◌, ◌⊎◌, inl, inr, ℕ, zero, suc, ◌+◌, ◌*◌, ◌%◌, ◌^◌, ◌<◌, ◌≤◌, List, [], ◌∷◌, ◌++◌, length, Option, Some, None, Bool, true, false, codes, decimal, refl, sym, subst, ap, ◌∙◌, arith}
-use Rattle.std.specs.Prelude.{Result, Ok, Err, map, nat_le, nat_lt, replicate, ◌&&◌}
+use Rattle.std.specs.Prelude.{Result, Ok, Err, map, nat_le, nat_lt, replicate, ◌&&◌, if◌then◌else◌}
 use Rattle.std.specs.Fmt.{digits}
 use Rattle.std.proofs.lemmas.Bool.Decides.{nat_tests}
 use Rattle.clock_rule.specs.Keeping.{at_first, and_reading}
@@ -8,9 +8,10 @@ use Rattle.clock_rule.specs.declared.rule.Reading.TheVariants as reads
 use Rattle.command_text.specs.Content.{content_bytes}
 use Rattle.command_text.specs.declared.content.Part.{Part}
 use Rattle.command_text.specs.declared.content.Part.TheVariants.{Random}
-use Rattle.command_text.specs.Fields.{name_of}
+use Rattle.command_text.specs.Paths.{spot_of}
 use Rattle.command_text.proofs.Contents.{content_size}
 use Rattle.trace_text.specs.Grammar.{line_of}
+use Rattle.trace_text.specs.declared.line.Line.{Line}
 use Rattle.trace_text.specs.declared.line.Line.TheVariants as line
 use Rattle.trace_text.specs.declared.refusal.LineFault.{LineFault}
 use Rattle.trace_text.specs.declared.refusal.LineFault.TheVariants.{Grammar}
@@ -27,11 +28,11 @@ use Rattle.trace_replay.specs.declared.turn.Turn.{Turn}
 use Rattle.trace_replay.specs.declared.turn.Turn.TheVariants as turn
 use Rattle.trace_replay.specs.Core.{Core, Seat, Session, new_seat, new_session, numbered, with_numbered, Event.Joins, joins, joins_as, happens}
 use Rattle.trace_replay.specs.World.{World, start}
-use Rattle.trace_replay.specs.Run.{line_most, file_most, tree_most, sessions_most, sized, named, joins_if, joins_within, event_asks, asks_at, asks, at_events, with_clients, turned}
+use Rattle.trace_replay.specs.Run.{line_most, file_most, tree_most, sessions_most, place_for, sized, file_asks, joins_if, joins_within, event_asks, asks_at, asks, at_events, with_clients, turned}
 use Rattle.trace_replay.specs.Timed.{Timed, Times, read_by, times_with, timing_of, owners_of, timed_start, timed_turn}
 use Rattle.trace_replay.proofs.Going.{applied_then}
 use Rattle.trace_generator.specs.Lines.{header, file_line, join_line, opening_lines}
-use Rattle.generated_traces.proofs.Spelled.{file_said}
+use Rattle.generated_traces.proofs.Spelled.{root_spot, file_said}
 use Rattle.generated_traces.proofs.Ticks.{Ticks, ticks_first, both_later, both_read}
 use Rattle.generated_traces.proofs.Steps.{there_at, Goes, Stands, Leads, no_lines, line_first, taken}
 
@@ -65,24 +66,27 @@ abbrev bytes : (seed number : ℕ) → List ℕ
 bytes seed number = content_bytes (content seed number)
 
 abbrev file_turn : (seed number : ℕ) → Turn
-file_turn seed number = turn.File (name number) (content seed number)
+file_turn seed number = turn.File ROOT (name number) (content seed number)
 
-file_asked : (v : Timed) (seed number : ℕ) (tree : Tree) (size : ℕ) → Filed v tree size → can_open tree ROOT (name number) ≡ true → size + 9000 ≤ tree_most → asks v.world (line.File (name number) (content seed number)) ≡ Ok (file_turn seed number)
+abbrev file_said_as : (seed number : ℕ) → Line
+file_said_as seed number = line.File (root_spot (name number)) (content seed number)
+
+file_asked : (v : Timed) (seed number : ℕ) (tree : Tree) (size : ℕ) → Filed v tree size → can_open tree ROOT (name number) ≡ true → size + 9000 ≤ tree_most → asks v.world (file_said_as seed number) ≡ Ok (file_turn seed number)
 file_asked v seed number tree size h free room =
     let within : nat_lt tree_most (size + 9000) ≡ false = grind (arith, nat_tests, room) in
-    ap (λ (s : Stage). asks_at v.world s (line.File (name number) (content seed number))) h.stage
-    ∙ ap (λ (t : Tree). named (can_open t ROOT (name number)) v.world.size (name number) (content seed number)) h.tree
-    ∙ ap (λ (b : Bool). named b v.world.size (name number) (content seed number)) free
+    ap (λ (s : Stage). asks_at v.world s (file_said_as seed number)) h.stage
+    ∙ ap (λ (t : Tree). file_asks (place_for t (root_spot (name number))) v.world.size (name number) (content seed number)) h.tree
+    ∙ ap (λ (b : Bool). file_asks (if b then Some ROOT else None) v.world.size (name number) (content seed number)) free
     ∙ ap (λ (n : ℕ). sized (nat_lt file_most 9000) (nat_lt tree_most (n + 9000)) (file_turn seed number)) h.size
     ∙ ap (λ (b : Bool). sized (nat_lt file_most 9000) b (file_turn seed number)) within
 
-file_then : (v : Timed) (n seed number later until : ℕ) (tree : Tree) (size : ℕ) (lines : List (List ℕ)) → Filed v tree size → number < 2 ^ 64 → name_of (name number) ≡ Some (name number) → can_open tree ROOT (name number) ≡ true → size + 9000 ≤ tree_most → n ≤ line_most
+file_then : (v : Timed) (n seed number later until : ℕ) (tree : Tree) (size : ℕ) (lines : List (List ℕ)) → Filed v tree size → number < 2 ^ 64 → spot_of (name number) ≡ Some (root_spot (name number)) → can_open tree ROOT (name number) ≡ true → size + 9000 ≤ tree_most → n ≤ line_most
     → ((w : Timed) → Filed w (opens tree ROOT (name number) (File (bytes seed number))) (size + 9000) → Leads w (n + 1) lines later until) → Leads v n (file_line seed number ∷ lines) later until
 file_then v n seed number later until tree size lines h small called free room few next =
     let w : Timed = timed_turn v (file_turn seed number, v.times) in
     let below : (seed + number) % 2 ^ 64 < 2 ^ 64 = omega arith in
     line_first v w n (file_line seed number) lines later until
-    (taken v n (file_line seed number) (line.File (name number) (content seed number)) (file_turn seed number) v.times (file_said number ((seed + number) % 2 ^ 64) small called below) few (file_asked v seed number tree size h free room) refl)
+    (taken v n (file_line seed number) (file_said_as seed number) (file_turn seed number) v.times (file_said number ((seed + number) % 2 ^ 64) small called below) few (file_asked v seed number tree size h free room) refl)
     (next w (record {
       stage = h.stage;
       tree = ap (λ (t : Tree). opens t ROOT (name number) (File (bytes seed number))) h.tree;
@@ -200,7 +204,7 @@ abbrev seeded : (seed : ℕ) → ℕ → Tree
 seeded seed k = tree_of (bytes seed) k
 
 IsNew : ℕ → Type 0
-IsNew k = (name_of (name (suc k)) ≡ Some (name (suc k))) × ((contents : ℕ → List ℕ) → can_open (tree_of contents k) ROOT (name (suc k)) ≡ true)
+IsNew k = (spot_of (name (suc k)) ≡ Some (root_spot (name (suc k)))) × ((contents : ℕ → List ℕ) → can_open (tree_of contents k) ROOT (name (suc k)) ≡ true)
 
 new_names : ((IsNew 0 × IsNew 1) × (IsNew 2 × IsNew 3)) × ((IsNew 4 × IsNew 5) × (IsNew 6 × IsNew 7))
 unfolding digits IsNew

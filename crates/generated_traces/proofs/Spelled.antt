@@ -6,13 +6,15 @@ use Rattle.std.specs.Char.{is_ascii_alphanumeric}
 use Rattle.std.proofs.lemmas.Bool.Decides.{nat_tests}
 use Rattle.std.proofs.lemmas.Fmt.{decimal_nonempty}
 use Rattle.std.proofs.lemmas.List.Elements.{All-weaker}
-use Rattle.command_text.specs.Commands.{command_of}
+use Rattle.command_text.specs.Commands.{open_at, command_of}
 use Rattle.command_text.specs.declared.command.Command.{Command}
 use Rattle.command_text.specs.declared.command.Command.TheVariants.{Open, Write, Close, Abandon}
 use Rattle.command_text.specs.declared.content.Part.{Part}
 use Rattle.command_text.specs.declared.content.Part.TheVariants.{Bytes, Random}
-use Rattle.command_text.specs.Fields.{◌>>=◌, number_of, number_within, is_letter, is_text, name_of, text_of, count_of, random_of, part_of, parts_of, content_of, id_of}
+use Rattle.command_text.specs.Fields.{◌>>=◌, number_of, number_within, is_letter, is_text, text_of, count_of, random_of, part_of, parts_of, content_of, id_of}
 use Rattle.command_text.specs.Parts.{cut_at, words_of}
+use Rattle.command_text.specs.Paths.{spot_of}
+use Rattle.command_text.specs.declared.path.Spot.{Spot}
 use Rattle.command_text.proofs.Decimals.{number_again}
 use Rattle.trace_text.specs.Grammar.{is_skipped, do_with, line_of, line_from, said_by, do_of, pass_of, settle_of, file_of}
 use Rattle.trace_text.specs.Fields.{reading_of}
@@ -126,7 +128,7 @@ file_word : (file : ℕ) → file < 2 ^ 64 → words_of (35 ∷ decimal file) �
 file_word file f = ap (onto_first 35) (word_last file f)
 
 pub open_said : (client time file : ℕ) → client < 2 ^ 64 → time < 2 ^ 63 → file < 2 ^ 64 → line_of (do_line client time (on_file (codes "open") file)) ≡ Some (line.Do client time (Open file))
-open_said client time file c t f = do_said client time (on_file (codes "open") file) (codes "open") ((35 ∷ decimal file) ∷ []) (Open file) c t (ap (λ ws. codes "open" ∷ ws) (file_word file f)) (ap (λ (o : Option ℕ). o >>= λ n. Some (Open n)) (id_again file f))
+open_said client time file c t f = do_said client time (on_file (codes "open") file) (codes "open") ((35 ∷ decimal file) ∷ []) (Open file) c t (ap (λ ws. codes "open" ∷ ws) (file_word file f)) (ap (open_at (35 ∷ decimal file)) (id_again file f))
 
 pub close_said : (client time file : ℕ) → client < 2 ^ 64 → time < 2 ^ 63 → file < 2 ^ 64 → line_of (do_line client time (on_file (codes "close") file)) ≡ Some (line.Do client time (Close file))
 close_said client time file c t f = do_said client time (on_file (codes "close") file) (codes "close") ((35 ∷ decimal file) ∷ []) (Close file) c t (ap (λ ws. codes "close" ∷ ws) (file_word file f)) (ap (λ (o : Option ℕ). o >>= λ n. Some (Close n)) (id_again file f))
@@ -206,11 +208,15 @@ random_content n fits =
 file_words : (number seed : ℕ) → number < 2 ^ 64 → seed < 2 ^ 64 → words_of (file_text number seed) ≡ codes "file" ∷ (102 ∷ decimal number) ∷ (codes "r:" ++ (decimal seed ++ codes ":9000")) ∷ []
 file_words number seed m s = ap words_of (file_pieces number seed) ∙ ap (λ ws. codes "file" ∷ ws) (ap (onto_first 102) (word_then number _ m) ∙ ap (λ ws. (102 ∷ decimal number) ∷ ws) (ap onto_seed (word_with seed (codes ":9000") s no_space)))
 
-abbrev file_with : Option (List ℕ) → Option (List Part) → Option Line
-file_with name content = name >>= λ n. content >>= λ c. Some (line.File n c)
+abbrev file_with : Option Spot → Option (List Part) → Option Line
+file_with spot content = spot >>= λ s. content >>= λ c. Some (line.File s c)
 
-pub file_said : (number seed : ℕ) → number < 2 ^ 64 → name_of (102 ∷ decimal number) ≡ Some (102 ∷ decimal number) → seed < 2 ^ 64 → line_of (file_text number seed) ≡ Some (line.File (102 ∷ decimal number) (Random seed 9000 ∷ []))
+-- a name in the root
+abbrev pub root_spot : List ℕ → Spot
+root_spot name = record { dirs = []; name = name }
+
+pub file_said : (number seed : ℕ) → number < 2 ^ 64 → spot_of (102 ∷ decimal number) ≡ Some (root_spot (102 ∷ decimal number)) → seed < 2 ^ 64 → line_of (file_text number seed) ≡ Some (line.File (root_spot (102 ∷ decimal number)) (Random seed 9000 ∷ []))
 file_said number seed m named s =
     says (file_text number seed) (codes "file" ∷ (102 ∷ decimal number) ∷ (codes "r:" ++ (decimal seed ++ codes ":9000")) ∷ []) (ap is_skipped (file_pieces number seed) ∙ plain 102 (codes "ile f" ++ (decimal number ++ 32 ∷ (codes "r:" ++ (decimal seed ++ codes ":9000")))) refl) (file_words number seed m s)
-    ∙ ap (λ (o : Option (List ℕ)). file_with o (content_of (codes "r:" ++ (decimal seed ++ codes ":9000")))) named
-    ∙ ap (file_with (Some (102 ∷ decimal number))) (random_content seed s)
+    ∙ ap (λ (o : Option Spot). file_with o (content_of (codes "r:" ++ (decimal seed ++ codes ":9000")))) named
+    ∙ ap (file_with (Some (root_spot (102 ∷ decimal number)))) (random_content seed s)

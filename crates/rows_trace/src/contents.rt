@@ -26,7 +26,7 @@ pub fn content_of(alloc: Global, word: &str) -> Result<Option<Content>, AllocErr
     match Line::read(alloc, line.as_bytes()) {
         Ok(
             Line::File {
-                name: _name,
+                spot: _spot,
                 content,
             },
         ) => Ok(Some(content)),

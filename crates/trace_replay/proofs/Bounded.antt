@@ -2,6 +2,8 @@
 use Rattle.std.proofs.Common.{◌≡◌, ℕ, List, Option, Some, None, Bool, true, false, sym, subst, length}
 use Rattle.std.specs.Prelude.{nat_lt, nat_le, Result, Ok, Err, IfOk}
 use Rattle.command_text.specs.Content.{content_length}
+use Rattle.command_text.specs.declared.command.Command.{Command}
+use Rattle.command_text.specs.declared.command.Command.TheVariants as command
 use Rattle.command_text.specs.declared.content.Part.{Part}
 use Rattle.trace_text.specs.Reading.{IsTimely}
 use Rattle.trace_text.specs.declared.line.Line.{Line}
@@ -13,11 +15,9 @@ use Rattle.trace_replay.specs.declared.stage.Stage.TheVariants as stage
 use Rattle.trace_replay.specs.declared.adjusting.Adjustment.TheVariants as adjustment
 use Rattle.trace_replay.specs.declared.turn.Turn.{Turn}
 use Rattle.trace_replay.specs.declared.turn.Turn.TheVariants as turn
-use Rattle.file_tree.specs.Opening.{can_open}
-use Rattle.trace_replay.specs.declared.opening.TheConstants.{ROOT}
 use Rattle.trace_replay.specs.Core.{Core, Seat, numbered}
 use Rattle.trace_replay.specs.World.{World}
-use Rattle.trace_replay.specs.Run.{line_most, file_most, asks_if, sized, named, joins_within, joins_if, event_asks, asks_at, asks, asks_within, asked}
+use Rattle.trace_replay.specs.Run.{line_most, file_most, asks_if, place_for, sized, file_asks, directory_asks, joins_within, joins_if, do_asks, event_asks, asks_at, asks, asks_within, asked}
 use Rattle.trace_replay.specs.Turns.{IsTurnBounded}
 
 abbrev asking : Turn → Result Turn LineFault
@@ -55,9 +55,13 @@ joining : (standing c : ℕ) (o : Option Seat) (t : Turn) → joins_if standing 
 joining standing c None t e = refused_line Grammar t e
 joining standing c (Some seat) t e = unless_linked seat.client.linked _ c t e
 
+doing : (k : Core) (c now : ℕ) (d : Command) (t : Turn) → do_asks k c now d ≡ asking t → IsTurnBounded t
+doing k c now (command.Named named) t e = refused_line Grammar t e
+doing k c now d t e = when _ (turn.Do c now d) t tt e
+
 event : (k : Core) (l : Line) (t : Turn) → IsTimely l → event_asks k l ≡ asking t → IsTurnBounded t
 event k (line.Join c r s) t h e = joining (length k.server.sessions) c (numbered k.seats c) t e
-event k (line.Do c r d) t h e = when _ (turn.Do c r d) t tt e
+event k (line.Do c r d) t h e = doing k c r d t e
 event k (line.Up n a s) t h e = when _ (turn.Up n a s) t h e
 event k (line.Down n a r) t h e = when _ (turn.Down n a r) t tt e
 event k (line.Settle s) t h e = taken (turn.Settle s) t h e
@@ -69,17 +73,22 @@ event k (line.Clear w) t h e = when _ (turn.Adjust (adjustment.Clear w)) t tt e
 event k (line.Evict c file) t h e = when _ (turn.Adjust (adjustment.Evict c file)) t tt e
 event k l t h e = refused_line Grammar t e
 
-of_size : (long much : Bool) (name : List ℕ) (content : List Part) (t : Turn) → sized long much (turn.File name content) ≡ asking t → IsTurnBounded t
-of_size true much name content t e = refused_line _ t e
-of_size false true name content t e = refused_line _ t e
-of_size false false name content t e = taken (turn.File name content) t tt e
+of_size : (long much : Bool) (dir : ℕ) (name : List ℕ) (content : List Part) (t : Turn) → sized long much (turn.File dir name content) ≡ asking t → IsTurnBounded t
+of_size true much dir name content t e = refused_line _ t e
+of_size false true dir name content t e = refused_line _ t e
+of_size false false dir name content t e = taken (turn.File dir name content) t tt e
 
-file : (is_free : Bool) (size : ℕ) (name : List ℕ) (content : List Part) (t : Turn) → named is_free size name content ≡ asking t → IsTurnBounded t
-file false size name content t e = refused_line Grammar t e
-file true size name content t e = of_size (nat_lt file_most (content_length content)) _ name content t e
+file : (place : Option ℕ) (size : ℕ) (name : List ℕ) (content : List Part) (t : Turn) → file_asks place size name content ≡ asking t → IsTurnBounded t
+file None size name content t e = refused_line Grammar t e
+file (Some dir) size name content t e = of_size (nat_lt file_most (content_length content)) _ dir name content t e
+
+directory : (place : Option ℕ) (name : List ℕ) (t : Turn) → directory_asks place name ≡ asking t → IsTurnBounded t
+directory None name t e = refused_line Grammar t e
+directory (Some dir) name t e = taken (turn.Dir dir name) t tt e
 
 at_files : (w : World) (l : Line) (t : Turn) → IsTimely l → asks_at w stage.Files l ≡ asking t → IsTurnBounded t
-at_files w (line.File name content) t h e = file (can_open w.core.server.tree ROOT name) w.size name content t e
+at_files w (line.Dir spot) t h e = directory (place_for w.core.server.tree spot) spot.name t e
+at_files w (line.File spot content) t h e = file (place_for w.core.server.tree spot) w.size spot.name content t e
 at_files w l t h e = event w.core l t h e
 
 at_version : (w : World) (l : Line) (t : Turn) → asks_at w stage.Version l ≡ asking t → IsTurnBounded t

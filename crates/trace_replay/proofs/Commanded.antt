@@ -4,6 +4,8 @@ use Rattle.std.specs.Prelude.{slice_get, slice_set}
 use native.Mathlib.Numerals.{unary_clauses}
 use Rattle.command_text.specs.declared.command.Command.{Command}
 use Rattle.command_text.specs.declared.command.Command.TheVariants as command
+use Rattle.command_text.specs.declared.path.PathCommand.{PathCommand}
+use Rattle.command_text.specs.declared.path.PathCommand.TheVariants as path
 use Rattle.client_state.specs.State as client
 use Rattle.client_state.specs.State.{local_at}
 use Rattle.open_close.specs.Step.{command_step}
@@ -12,9 +14,10 @@ use Rattle.file_close.specs.Storing.{closes, asks_temp}
 use Rattle.client_state.specs.declared.task.Local.{Local}
 use Rattle.client_state.specs.declared.task.Task.{Task}
 use Rattle.client_state.specs.declared.step.ClientStep.{ClientStep}
+use Rattle.client_state.specs.declared.step.Ended.{Ended}
 use Rattle.register_model.specs.declared.op.Op.{Op}
 use Rattle.register_model.specs.declared.op.Word.TheVariants as word
-use Rattle.trace_replay.specs.Commands.{word_of, file_of, value_at_begin}
+use Rattle.trace_replay.specs.Commands.{path_word, word_of, file_of, value_at_begin}
 use Rattle.trace_replay.specs.Core.{Core, Seat, Session, CoreStep, Loss.Nothing, with_numbered, session_of, commanded_sessions, does}
 use Rattle.trace_replay.specs.View.{loss_of}
 use Rattle.trace_replay.specs.declared.core_step.Loss.TheVariants as lost
@@ -37,6 +40,18 @@ left k first seats sessions ops acts = record {
 seat_set : (seats : List Seat) (place : ℕ) (seat : Seat) → with_numbered seats (place + 1) seat ≡ slice_set seats place seat
 seat_set seats place seat = simp unary_clauses refl
 
+-- what a command on names begins has no content to store
+names_store_nothing : (s t : client.State) (k : PathCommand) (file : ℕ) (e : Option Ended) → value_at_begin t (path_word k) file e ≡ value_at_begin s (path_word k) file e
+names_store_nothing s t (path.Find spot) file e = refl
+names_store_nothing s t (path.Look spot) file e = refl
+names_store_nothing s t path.LookRoot file e = refl
+names_store_nothing s t (path.List names) file e = refl
+names_store_nothing s t (path.Make spot) file e = refl
+names_store_nothing s t (path.MakeDir spot) file e = refl
+names_store_nothing s t (path.Remove spot) file e = refl
+names_store_nothing s t (path.RemoveDir spot) file e = refl
+names_store_nothing s t (path.Rename spot over) file e = refl
+
 -- a close that goes on leaves the local content as it was
 value_stays : (s : client.State) (command : Command) (now : ℕ) → value_at_begin (command_step s command now).0 (word_of command) (file_of command) (command_step s command now).1.ended ≡ value_at_begin s (word_of command) (file_of command) (command_step s command now).1.ended
 value_stays s (command.Open file) now = refl
@@ -44,6 +59,7 @@ value_stays s (command.Write file offset content) now = refl
 value_stays s (command.Trunc file size) now = refl
 value_stays s (command.Read file offset count) now = refl
 value_stays s (command.Abandon file) now = refl
+value_stays s (command.Named k) now = names_store_nothing s (command_step s (command.Named k) now).0 k 0 (command_step s (command.Named k) now).1.ended
 value_stays s (command.Close file) now = by s.task (local_at s.opened file)
   where
     asks : (b : Bool) → value_at_begin (asks_temp s file b).0 word.Close file (asks_temp s file b).1.ended ≡ value_at_begin s word.Close file (asks_temp s file b).1.ended

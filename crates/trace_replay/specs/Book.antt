@@ -1,5 +1,5 @@
 -- What the promise and its proof speak of when they speak of the past: the files at first, the operations, the journal, and the moments.
-use Rattle.std.specs.Prelude.{◌≡◌, ℕ, ◌+◌, ◌≤◌, ◌<◌, List, length, filter, ◌⊎◌, Option, Some, Contains}
+use Rattle.std.specs.Prelude.{◌≡◌, ℕ, ◌+◌, ◌≤◌, ◌<◌, List, length, filter, ◌⊎◌, Option, Some, None, Contains}
 use Rattle.sha1.specs.Sha1.{sha1}
 use Rattle.server_core.specs.declared.journal.Entry.{Entry}
 use Rattle.register_model.specs.Register as register
@@ -29,9 +29,14 @@ history book = record { opening = book.opening; ops = book.ops; steps = book.ste
 abbrev pub value_at : Book → (file moment : ℕ) → Value
 value_at book file moment = register.value_at (history book) file moment
 
--- its version then: 1 at first, and one more with each change
+-- the version of a file that was there at first, and of one that wasn't
+abbrev pub first_version : Value → ℕ
+first_version None = 0
+first_version (Some content) = 1
+
+-- its version then: one more with each change, of which the first may have made it
 abbrev pub version_at : Book → (file moment : ℕ) → ℕ
-version_at book file moment = length (filter (changed_before file moment) book.ops) + 1
+version_at book file moment = length (filter (changed_before file moment) book.ops) + first_version (register.value_at_first (history book) file)
 
 -- ---- digests
 

@@ -5,6 +5,11 @@ use Rattle.sha1.specs.Sha1.{sha1}
 use Rattle.command_text.specs.Content.{content_length, content_bytes}
 use Rattle.command_text.specs.declared.command.Command.{Command}
 use Rattle.command_text.specs.declared.command.Command.TheVariants as command
+use Rattle.command_text.specs.declared.path.PathCommand.{PathCommand}
+use Rattle.command_text.specs.declared.path.PathCommand.TheVariants as path
+use Rattle.command_text.specs.declared.path.Spot.{Spot}
+use Rattle.tree_nodes.specs.declared.node.Node.{Node}
+use Rattle.file_tree.specs.Tree.{directory_of}
 use Rattle.hash_calls.specs.declared.call.Commit.{Commit}
 use Rattle.hash_calls.specs.declared.message.Lb.TheVariants as lb
 use Rattle.wire.specs.Parse.{parse_of}
@@ -15,14 +20,14 @@ use Rattle.client_state.specs.State.{pending, has_call}
 use Rattle.client_state.specs.Local.{local_most, written_size, written, truncated, part_of}
 use Rattle.server_core.specs.Closing.{is_full}
 use Rattle.server_core.specs.declared.journal.Entry.{Entry}
-use Rattle.register_model.specs.Register.{Absent, content_of}
+use Rattle.register_model.specs.Register.{Absent}
 use Rattle.register_model.specs.declared.op.Op.{Op}
 use Rattle.register_model.specs.declared.op.Outcome.{Outcome}
 use Rattle.register_model.specs.declared.op.Outcome.TheVariants as told
 use Rattle.trace_replay.specs.Core.{Seat, Event.Cuts, Event.Serves, numbered, server_waiting}
-use Rattle.trace_replay.specs.Commands.{file_of}
 use Rattle.trace_replay.specs.Trail.{Deed, Moment, step_of}
 use Rattle.trace_replay.specs.Book.{Book, Or, value_at, version_at}
+use Rattle.trace_replay.specs.Naming.{tree_at, IsInside, FindsFile, IsSeen, IsRootSeen, IsListed, ListsTooLong, NameDone, IsRefused}
 
 -- ---- local contents
 
@@ -30,14 +35,16 @@ use Rattle.trace_replay.specs.Book.{Book, Or, value_at, version_at}
 -- write and a trunc that were done change it, and an abandon that was done, or a close that replaced the file, ends it.
 abbrev pub leaves : Command → Outcome → (value : List ℕ) → Option (List ℕ) → Option (List ℕ)
 leaves (command.Open f) (told.Opened len digest) value l = Some value
+leaves (command.Named (path.Find s)) (told.Opened len digest) value l = Some value
 leaves (command.Write f offset content) told.Done value l = option_map (λ x. written x offset (content_bytes content)) l
 leaves (command.Trunc f size) told.Done value l = option_map (λ x. truncated x size) l
 leaves (command.Abandon f) told.Done value l = None
 leaves (command.Close f) (told.Closed version len digest) value l = None
 leaves k o value l = l
 
+-- of the file that its operation has: one on names has that which its path led to
 abbrev pub after_one : (client file : ℕ) → Deed → Op → Option (List ℕ) → Option (List ℕ)
-after_one client file d o l = if (d.client == client) && (file_of d.command == file) then leaves d.command o.outcome o.value l else l
+after_one client file d o l = if (d.client == client) && (o.file == file) then leaves d.command o.outcome o.value l else l
 
 -- a client's local content of a file after these commands, whose operations these are; none where the file is not open there
 abbrev pub local_from : (client file : ℕ) → Option (List ℕ) → List Deed → List Op → Option (List ℕ)
@@ -81,10 +88,12 @@ open_answer asks (command.Trunc f size) x = Some (sized_outcome size)
 open_answer asks (command.Read f offset count) x = Some (told.Piece (length (part_of x offset count)) (sha1 (part_of x offset count)))
 open_answer asks (command.Abandon f) x = Some told.Done
 open_answer asks (command.Close f) x = unless_asks asks
+open_answer asks (command.Named k) x = unless_asks asks
 
 -- of one on a file that isn't open
 abbrev pub shut_answer : (asks : Bool) → Command → Option Outcome
 shut_answer asks (command.Open f) = unless_asks asks
+shut_answer asks (command.Named k) = unless_asks asks
 shut_answer asks k = Some told.NotOpen
 
 abbrev pub free_answer : (asks : Bool) → Command → Option (List ℕ) → Option Outcome
@@ -126,9 +135,8 @@ pub record TakesCall (book : Book) (client step xid : ℕ) (call : Body) : Type 
   pub parsed : parse_of server_waiting bytes ≡ Ok (message.Call xid call)
   pub waits : WaitsFor moment client session xid
 
--- an open of a file of the tree got the content that its file had at its point (`HasPoint` says which step that is)
+-- an open got the content that its file had at its point (`HasPoint` says which step that is)
 pub record IsOpened (book : Book) (file : ℕ) (o : Op) (len : ℕ) (digest : List ℕ) : Type 0 where
-  pub there : IsSome (content_of book.opening file)
   pub length_is : len ≡ length o.value
   pub digest_is : digest ≡ sha1 o.value
   pub point : ℕ
@@ -181,14 +189,26 @@ pub record IsLost (book : Book) (o : Op) : Type 0 where
   pub step_is : step_of moment ≡ end
   pub event_is : moment.event ≡ Cuts o.client
 
--- An open was refused by the server: of the root, which is a directory, by 21 (NFS3ERR_ISDIR of RFC 1813), and of a file that is not in
--- the tree by 70 (NFS3ERR_STALE), with a point.
+-- at a moment within an operation an id was that of a directory
+pub record IsDirectory (book : Book) (o : Op) (id : ℕ) : Type 0 where
+  pub moment : Moment
+  pub there : Contains book.moments moment
+  pub inside : IsInside o o.begin (step_of moment)
+  pub node : Node
+  pub node_is : directory_of (tree_at moment).nodes id ≡ Ok node
+
+-- An open was refused by the server: of a directory by 21 (NFS3ERR_ISDIR of RFC 1813), and of a file that is not in the tree by 70 (NFS3ERR_STALE), with a
+-- point.
 abbrev pub IsOpenRefused : Book → (file : ℕ) → Op → (status : ℕ) → Type 0
-IsOpenRefused book file o status = ((status ≡ 21) × (file ≡ 1)) ⊎ ((status ≡ 70) × (file ≡ 1 → ⊥) × (content_of book.opening file ≡ Absent) × ((p : ℕ) × Within o p × (value_at book file p ≡ Absent)))
+IsOpenRefused book file o status = ((status ≡ 21) × IsDirectory book o file) ⊎ ((status ≡ 70) × ((p : ℕ) × Within o p × (value_at book file p ≡ Absent)))
+
+-- One of a path was refused so, or a look-up was: then it has no file, and where a directory was gone (70) its point is the step in which that was found.
+abbrev pub IsPathRefused : Book → Op → Spot → (status : ℕ) → Type 0
+IsPathRefused book o s status = (FindsFile book o s × IsOpenRefused book o.file o status) ⊎ ((o.file ≡ 0) × IsRefused book o status × (status ≡ 70 → (p : ℕ) × Within o p))
 
 -- A close was refused by the server for want of room, by 28 (NFS3ERR_NOSPC of RFC 1813): when its COMMITTMP was taken, within it, one
--- more change, or its bytes beside those of the tree, had no place. It takes no effect. No close is refused for anything else.
-pub record IsCloseRefused (book : Book) (o : Op) (status : ℕ) : Type 0 where
+-- more change, or its bytes beside those of the tree, had no place. It takes no effect.
+pub record HasNoRoom (book : Book) (o : Op) (status : ℕ) : Type 0 where
   pub status_is : status ≡ 28
   pub pointless : o.point ≡ None
   pub end : ℕ
@@ -209,6 +229,34 @@ pub record IsCloseRefused (book : Book) (o : Op) (status : ℕ) : Type 0 where
   pub waits : WaitsFor moment o.client session xid
   pub full : is_full moment.before.server (length o.value) ≡ true
 
+-- One was refused by 70 (NFS3ERR_STALE), since its file was gone at a moment within it. It takes no effect.
+pub record IsGone (book : Book) (o : Op) (status : ℕ) : Type 0 where
+  pub status_is : status ≡ 70
+  pub pointless : o.point ≡ None
+  pub step : ℕ
+  pub inside : IsInside o o.begin step
+  pub value_is : value_at book o.file step ≡ Absent
+
+-- No close is refused for anything else.
+abbrev pub IsCloseRefused : Book → Op → (status : ℕ) → Type 0
+IsCloseRefused book o status = HasNoRoom book o status ⊎ IsGone book o status
+
+-- The cause of how an operation on names ended, or goes on, that asked the server. One that makes, removes or renames has no point where it was refused.
+abbrev pub NamedCause : Book → PathCommand → Op → Outcome → Type 0
+NamedCause book (path.Find s) o (told.Opened len digest) = FindsFile book o s × IsOpened book o.file o len digest
+NamedCause book (path.Find s) o told.AlreadyOpen = FindsFile book o s × (o.point ≡ None)
+NamedCause book (path.Find s) o (told.Changed first last) = FindsFile book o s × IsChanged book o.file o first last
+NamedCause book (path.Find s) o (told.Refused status) = IsPathRefused book o s status
+NamedCause book (path.Look s) o (told.Seen id kind version len) = IsSeen book o s id kind version len × (o.file ≡ id)
+NamedCause book path.LookRoot o (told.Seen id kind version len) = IsRootSeen book o id kind version len × (o.file ≡ 0)
+NamedCause book (path.List p) o (told.Names list) = IsListed book o p list
+NamedCause book (path.List p) o told.NoLink = ListsTooLong book o
+NamedCause book k o told.Done = NameDone book o k
+NamedCause book k o (told.Refused status) = IsRefused book o status × (o.point ≡ None)
+NamedCause book k o told.Lost = IsLost book o
+NamedCause book k o told.Running = o.end ≡ None
+NamedCause book k o outcome = ⊥
+
 -- the cause of how an operation ended, or goes on, that asked the server
 abbrev pub HasCause : Book → Command → Op → Outcome → Type 0
 HasCause book (command.Open f) o (told.Opened len digest) = IsOpened book f o len digest
@@ -220,4 +268,5 @@ HasCause book (command.Close f) o (told.Closed version len digest) = IsClosed bo
 HasCause book (command.Close f) o (told.Refused status) = IsCloseRefused book o status
 HasCause book (command.Close f) o told.Lost = IsLost book o
 HasCause book (command.Close f) o told.Running = o.end ≡ None
+HasCause book (command.Named k) o outcome = NamedCause book k o outcome
 HasCause book k o outcome = ⊥

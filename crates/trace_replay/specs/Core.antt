@@ -1,6 +1,6 @@
 -- The two ends of a trace and what the history tells of them, apart from the bytes between them. Each step here is one of the
 -- core, and answers the messages that it sends: how they come to the other end is the business of the world.
-use Rattle.std.specs.Prelude.{ℕ, zero, suc, ◌+◌, List, [], ◌∷◌, ◌++◌, length, replicate, Option, Some, None, Result, Ok, Err, Bool, true, false, not, ◌&&◌, ◌==◌, slice_get, slice_set}
+use Rattle.std.specs.Prelude.{ℕ, zero, suc, ◌+◌, List, [], ◌∷◌, ◌++◌, drop, length, replicate, Option, Some, None, Result, Ok, Err, Bool, true, false, not, ◌&&◌, ◌==◌, slice_get, slice_set}
 use Rattle.wire.specs.Parse.{parse_of}
 use Rattle.wire.specs.declared.message.Message.{Message}
 use Rattle.wire.specs.declared.message.Message.TheVariants as message
@@ -14,6 +14,7 @@ use Rattle.server_core.specs.declared.event.Event.TheVariants as event
 use Rattle.server_core.specs.declared.event.Sent.{Sent}
 use Rattle.server_core.specs.declared.event.ServerStep.{ServerStep}
 use Rattle.server_core.specs.declared.event.Told.{Told}
+use Rattle.server_core.specs.declared.journal.Entry.{Entry}
 use Rattle.server_core.specs.declared.event.Told.TheVariants as told
 use Rattle.client_state.specs.State as client
 use Rattle.open_close.specs.Step.{command_step, got_step}
@@ -26,7 +27,7 @@ use Rattle.trace_replay.specs.declared.adjusting.Adjustment.{Adjustment}
 use Rattle.trace_replay.specs.declared.adjusting.Adjustment.TheVariants as adjustment
 use Rattle.trace_replay.specs.declared.taken_call.TakenCall.{TakenCall}
 use Rattle.trace_replay.specs.Commands.{word_of, file_of, value_at_begin}
-use Rattle.trace_replay.specs.Ops.{begun, op_after, place_after, place_with, taken_on, closing_with, pointed_at}
+use Rattle.trace_replay.specs.Ops.{begun, op_after, place_after, place_with, taken_on, closing_with, changed_file, pointed_at}
 
 -- ---- numbers from 1
 
@@ -52,7 +53,7 @@ abbrev pub new_seat : Seat
 new_seat = record { client = client.start; session = None; place = None }
 
 -- what is kept of a session beside the bytes on their way: its client, the calls of the operation under way that the server took, the
--- place of the last close that sent calls on it, and whether an end saw the connection lost
+-- place of the last operation that sent calls on it and may change a file, and whether an end saw the connection lost
 pub record Session : Type 0 where
   pub owner : ℕ
   pub taken : List TakenCall
@@ -109,6 +110,12 @@ quiet k = record { core = k; loss = Nothing; session = None; up = []; down = [] 
 abbrev pub idles : Core → CoreStep
 idles k = quiet (record k { steps = k.steps + 1 })
 
+-- ---- the journal
+
+-- the entries that the journal has in one state beyond those that it has in another, before
+abbrev pub entries_since : server.State → server.State → List Entry
+entries_since before after = drop (length before.journal) after.journal
+
 -- ---- the server's end
 
 -- the server asks for nothing, so nothing waits there
@@ -120,7 +127,8 @@ abbrev pub taken_with : List TakenCall → Message → ℕ → List TakenCall
 taken_with taken (message.Call xid body) step = taken ++ record { xid = xid; step = step } ∷ []
 taken_with taken _ step = taken
 
--- a session's message is taken by the server, at a reading of its clock
+-- A session's message is taken by the server, at a reading of its clock. A change that doesn't wait is made at once, and is that of the session's last
+-- operation that may change a file.
 abbrev pub server_got : Core → (number now : ℕ) → Session → Message → CoreStep
 server_got k number now x m =
     let r = server_step k.server (event.Got number m now) in
@@ -128,6 +136,8 @@ server_got k number now x m =
       steps = k.steps + 1;
       server = r.0;
       sessions = with_numbered k.sessions number (record x { taken = taken_with x.taken m (k.steps + 1) });
+      ops = pointed_at k.ops x.closing (k.steps + 1) (changed_file (entries_since k.server r.0));
+      entries = k.entries ++ replicate r.1.entries (k.steps + 1);
     })) { down = r.1.send }
 
 -- bytes that are no message change nothing at the server
@@ -246,14 +256,14 @@ joins k number (Some seat) = let r = server_step k.server event.Connect in joins
 
 -- ---- a change that waits is made
 
--- the operation whose change was made has its point there: the last close that sent calls on the change's session
-abbrev pub settled_ops : List Op → (made step : ℕ) → Option Session → List Op
-settled_ops ops (suc n) step (Some x) = pointed_at ops x.closing step
-settled_ops ops made step x = ops
+-- the operation whose change was made has its point there: the last that sent calls on the change's session and may change a file
+abbrev pub settled_ops : List Op → (step : ℕ) → (changed : Option ℕ) → Option Session → List Op
+settled_ops ops step changed (Some x) = pointed_at ops x.closing step changed
+settled_ops ops step changed None = ops
 
-abbrev pub settled_by : Core → (made : ℕ) → Told → List Op
-settled_by k made (told.Settled session xid) = settled_ops k.ops made (k.steps + 1) (numbered k.sessions session)
-settled_by k made _ = k.ops
+abbrev pub settled_by : Core → (changed : Option ℕ) → Told → List Op
+settled_by k changed (told.Settled session xid) = settled_ops k.ops (k.steps + 1) changed (numbered k.sessions session)
+settled_by k changed _ = k.ops
 
 abbrev pub settles : Core → (now : ℕ) → CoreStep
 settles k now =
@@ -261,7 +271,7 @@ settles k now =
     record (quiet (record k {
       steps = k.steps + 1;
       server = r.0;
-      ops = settled_by k r.1.entries r.1.told;
+      ops = settled_by k (changed_file (entries_since k.server r.0)) r.1.told;
       entries = k.entries ++ replicate r.1.entries (k.steps + 1);
     })) { down = r.1.send }
 

@@ -1,5 +1,5 @@
 -- When the history of a run is faithful to its trace.
-use Rattle.std.specs.Prelude.{◌≡◌, ℕ, zero, suc, ◌+◌, ◌*◌, ◌<◌, ◌≤◌, List, length, ◌⊎◌, Bool, true, false, not, Option, Some, None, is_some, Contains, slice_get, map}
+use Rattle.std.specs.Prelude.{◌≡◌, ℕ, zero, suc, ◌+◌, ◌*◌, ◌<◌, ◌≤◌, List, [], length, drop, ◌⊎◌, Bool, true, false, not, Option, Some, None, IsSome, is_some, unwrap_or, Contains, slice_get, map}
 use Rattle.sha1.specs.Sha1.{sha1}
 use Rattle.command_text.specs.Parts.{lines_of}
 use Rattle.command_text.specs.declared.command.Command.{Command}
@@ -15,17 +15,22 @@ use Rattle.client_state.specs.Limits.{calls_most}
 use Rattle.server_core.specs.declared.change.Change.{Change}
 use Rattle.server_core.specs.declared.change.Wanted.TheVariants as wanted
 use Rattle.server_core.specs.declared.journal.Entry.{Entry}
+use Rattle.file_tree.specs.declared.entry.EntryKind.{EntryKind}
 use Rattle.file_tree.specs.declared.entry.EntryKind.TheVariants as kind
-use Rattle.register_model.specs.Register.{changes}
+use Rattle.xdr_codec.specs.declared.status.Status.{Status}
+use Rattle.register_model.specs.Register.{changes, value_from}
+use Rattle.register_model.specs.declared.op.Word.{Word}
 use Rattle.register_model.specs.declared.op.Op.{Op}
 use Rattle.register_model.specs.declared.op.Outcome.{Outcome}
 use Rattle.register_model.specs.declared.op.Outcome.TheVariants as told
 use Rattle.register_model.specs.declared.op.Word.TheVariants as word
-use Rattle.trace_replay.specs.Ops.{no_traffic}
+use Rattle.trace_replay.specs.Ops.{no_traffic, is_of_file}
+use Rattle.trace_replay.specs.Naming.{failed_by, refusal_of}
+use Rattle.trace_replay.specs.Walking.{AreCalls}
 use Rattle.trace_replay.specs.Commands.{word_of, file_of}
-use Rattle.trace_replay.specs.Core.{Session, Event.Settles, Event.Cuts, numbered}
+use Rattle.trace_replay.specs.Core.{Session, Event.Settles, Event.Cuts, numbered, happens}
 use Rattle.trace_replay.specs.Trail.{Deed, Moment, Said, AreCounted, told_of, events_of, deeds_of, told_in, openings_of, commands_of, step_of, sent_of, taken_of}
-use Rattle.trace_replay.specs.Traffic.{is_of, attempts_of, traffic_of, stored_traffic, CountsOwn, SentCommit, AttemptsEnd, AttemptsMet, deals_of, IsFor, AreOwn, NamesChunks}
+use Rattle.trace_replay.specs.Traffic.{is_of, attempts_of, traffic_of, stored_traffic, CountsOwn, SentCommit, AttemptsEnd, AttemptsMet, deals_of, IsFor, NamesChunks}
 use Rattle.trace_replay.specs.Fetches.{EachReaches, GotBy, last_fetch, read_traffic}
 use Rattle.trace_replay.specs.Owing.{owes_nothing, PaysAll}
 use Rattle.trace_replay.specs.Numbered.{numbers_of, CountOn}
@@ -38,10 +43,23 @@ abbrev pub is_running : Outcome → Bool
 is_running told.Running = true
 is_running _ = false
 
+-- an open whose path led to a file was told that it is open just where it was
+abbrev pub FindsOpen : Outcome → Option (List ℕ) → Type 0
+FindsOpen told.AlreadyOpen l = IsSome l
+FindsOpen (told.Opened len digest) l = l ≡ None
+FindsOpen outcome l = Unit {0}
+
 -- a close is to store the local content that its client had when it began
 abbrev pub StoresLocal : Command → Op → Option (List ℕ) → Type 0
 StoresLocal (command.Close f) o l = l ≡ Some o.value
+StoresLocal (command.Named k) o l = FindsOpen o.outcome l
 StoresLocal k o l = Unit {0}
+
+-- the file of an operation is that of the command's id; one on names has a file by its cause, if it asked the server
+abbrev pub HasFile : Command → Op → (own : Option Outcome) → Type 0
+HasFile (command.Named k) o (Some own) = o.file ≡ 0
+HasFile (command.Named k) o None = Unit {0}
+HasFile k o own = o.file ≡ file_of k
 
 -- What became of a command, where its client had this local content of the file before: it was answered by the client itself, in its own
 -- step, exactly where that has an answer; else the operation went to the server, and ended by what came of it.
@@ -53,7 +71,7 @@ CameTo book d o l None = HasCause book d.command o o.outcome × StoresLocal d.co
 pub record IsDone (book : Book) (d : Deed) (o : Op) (l : Option (List ℕ)) : Type 0 where
   pub client : o.client ≡ d.client
   pub word : o.word ≡ word_of d.command
-  pub file : o.file ≡ file_of d.command
+  pub file : HasFile d.command o (own_answer (is_busy book.ops o) (can_ask d.joined d.calls) d.command l)
   pub begin : o.begin ≡ d.begin
   -- no step sends more calls than one operation may have under way
   pub few : d.calls ≤ calls_most * d.begin
@@ -126,16 +144,29 @@ pub record OpenedBy (book : Book) (o : Op) : Type 0 where
 
 -- ---- the journal
 
--- the changes in the server's journal are those of the closes that have a point, one for one and in order
+-- an operation of this word makes an entry of this kind
+abbrev pub IsKind : Word → EntryKind → Type 0
+IsKind word.Close k = k ≡ kind.Commit
+IsKind word.Make k = k ≡ kind.Make
+IsKind word.Remove k = k ≡ kind.Remove
+IsKind word.Rename k = k ≡ kind.Remove
+IsKind w k = ⊥
+
+-- what a change leaves of its file, no bytes where it goes
+abbrev pub left_by : Op → List ℕ
+left_by o = unwrap_or (value_from o.word o.value) []
+
+-- the changes of files in the server's journal are those of the operations that have a point as a change, one for one and in order
 pub record HasJournal (book : Book) : Type 0 where
-  -- each change has its step, and the steps rise
+  -- each entry has its step, and the steps rise; of the entries of one step one at most is of a file
   pub count : length book.entries ≡ length book.journal
-  pub rising : (i j p q : ℕ) → i < j → slice_get book.entries i ≡ Some p → slice_get book.entries j ≡ Some q → p < q
-  -- each was made at the point of a close, of its file, with its value, in the version after that of the file before
-  pub made : (i p : ℕ) (e : Entry) → slice_get book.entries i ≡ Some p → slice_get book.journal i ≡ Some e
-      → (k : ℕ) × (o : Op) × (slice_get book.ops k ≡ Some o) × (changes o.word ≡ true) × (o.point ≡ Some p) × (o.file ≡ e.file) × (length o.value ≡ e.len) × Or book (sha1 o.value ≡ e.sha1) × (e.version ≡ version_at book e.file p + 1)
+  pub rising : (i j p q : ℕ) → i < j → slice_get book.entries i ≡ Some p → slice_get book.entries j ≡ Some q → p ≤ q
+  pub apart : (i j p q : ℕ) (d e : Entry) → i < j → slice_get book.entries i ≡ Some p → slice_get book.entries j ≡ Some q → slice_get book.journal i ≡ Some d → slice_get book.journal j ≡ Some e → is_of_file d.kind ≡ true → is_of_file e.kind ≡ true → p < q
+  -- each of a file was made at the point of an operation, of its file, with what that left of it, in the version after that of the file before
+  pub made : (i p : ℕ) (e : Entry) → slice_get book.entries i ≡ Some p → slice_get book.journal i ≡ Some e → is_of_file e.kind ≡ true
+      → (k : ℕ) × (o : Op) × (slice_get book.ops k ≡ Some o) × IsKind o.word e.kind × (o.point ≡ Some p) × (o.file ≡ e.file) × (length (left_by o) ≡ e.len) × Or book (sha1 (left_by o) ≡ e.sha1) × (e.version ≡ version_at book e.file p + 1)
   -- and each operation that has a point as a change made one
-  pub only : (k p : ℕ) (o : Op) → slice_get book.ops k ≡ Some o → changes o.word ≡ true → o.point ≡ Some p → (i : ℕ) × (slice_get book.entries i ≡ Some p)
+  pub only : (k p : ℕ) (o : Op) → slice_get book.ops k ≡ Some o → changes o.word ≡ true → o.point ≡ Some p → (i : ℕ) × (e : Entry) × (slice_get book.entries i ≡ Some p) × (slice_get book.journal i ≡ Some e) × (is_of_file e.kind ≡ true)
   -- which no other operation made: none has the same point
   pub once : (k m p : ℕ) (o q : Op) → slice_get book.ops k ≡ Some o → slice_get book.ops m ≡ Some q → changes o.word ≡ true → o.point ≡ Some p → q.point ≡ Some p → k ≡ m
 
@@ -169,9 +200,19 @@ pub record IsSettled (book : Book) (number step : ℕ) : Type 0 where
   pub owner : session.owner ≡ op.client
   pub closing : session.closing ≡ Some place
 
--- where changes wait, a settling makes the one that came first, in its own step
+-- why an answer to what waited refuses, if it does
+abbrev pub change_refusal : Message → Option Status
+change_refusal (message.Answer xid (body.Lb (lb.CommitTmpAnswer a))) = failed_by a
+change_refusal (message.Answer xid (body.Nfs m)) = refusal_of m
+change_refusal m = None
+
+-- The change was made in this step, as the journal's next; or its session was told why it was not.
+abbrev pub IsMadeOrRefused : Book → Moment → Change → Type 0
+IsMadeOrRefused book m c = (slice_get book.entries (length m.before.server.journal) ≡ Some (step_of m)) ⊎ ((answer : Message) × (s : Status) × Contains (happens m.before m.event).down (record { session = c.session; message = answer }) × (change_refusal answer ≡ Some s))
+
+-- where changes wait, a settling takes the one that came first, and no other
 abbrev pub SettlesFirst : Book → Type 0
-SettlesFirst book = (m : Moment) (now : ℕ) (c : Change) → Contains book.moments m → m.event ≡ Settles now → slice_get m.before.server.waiting 0 ≡ Some c → slice_get book.entries (length m.before.server.journal) ≡ Some (step_of m)
+SettlesFirst book = (m : Moment) (now : ℕ) (c : Change) → Contains book.moments m → m.event ≡ Settles now → slice_get m.before.server.waiting 0 ≡ Some c → ((happens m.before m.event).core.server.waiting ≡ drop 1 m.before.server.waiting) × IsMadeOrRefused book m c
 
 -- ---- all of it
 
@@ -186,10 +227,10 @@ pub record IsFaithful (input : List ℕ) (book : Book) : Type 0 where
   -- each command has its one operation, in order
   pub count : length book.ops ≡ length (deeds_of book.moments)
   pub done : (k : ℕ) (d : Deed) (o : Op) → slice_get (deeds_of book.moments) k ≡ Some d → slice_get book.ops k ≡ Some o
-      → IsDone book d o (local_before (deeds_of book.moments) book.ops k d.client (file_of d.command))
+      → IsDone book d o (local_before (deeds_of book.moments) book.ops k d.client o.file)
   pub cuts : CutsEnd book
   pub journal : HasJournal book
-  pub settled : (i p : ℕ) → slice_get book.entries i ≡ Some p → IsSettled book i p
+  pub settled : (i p : ℕ) (e : Entry) → slice_get book.entries i ≡ Some p → slice_get book.journal i ≡ Some e → e.kind ≡ kind.Commit → IsSettled book i p
   pub settles : SettlesFirst book
   -- an open that got its content has its point by its GETLEASE, if it began no attempt, and else by the first GETHASH of one
   pub points : (k : ℕ) (o : Op) → slice_get book.ops k ≡ Some o → OpensAt book o o.outcome
@@ -205,7 +246,7 @@ pub record IsFaithful (input : List ℕ) (book : Book) : Type 0 where
   pub met : (k : ℕ) (o : Op) → slice_get book.ops k ≡ Some o → o.word ≡ word.Open → AttemptsMet o (deals_of o book.moments)
   -- nothing is sent or taken but for an operation, and what is sent for one are its own calls
   pub owned : (m : Moment) → Contains book.moments m → IsFor book.ops m
-  pub calls : (k : ℕ) (o : Op) → slice_get book.ops k ≡ Some o → AreOwn o.word o.file o.value (deals_of o book.moments)
+  pub calls : (k : ℕ) (d : Deed) (o : Op) → slice_get (deeds_of book.moments) k ≡ Some d → slice_get book.ops k ≡ Some o → AreCalls d.command o (deals_of o book.moments)
   -- the calls that go up a session are numbered from 1 on, in order: no two have one number, also where its client left it
   pub numbered : (session : ℕ) → CountOn 1 (numbers_of session book.moments)
   -- what a client answers by itself counts nothing
@@ -222,4 +263,4 @@ pub record IsFaithful (input : List ℕ) (book : Book) : Type 0 where
   pub paid : (k : ℕ) (o : Op) → slice_get book.ops k ≡ Some o → o.word ≡ word.Close → PaysAll o.value owes_nothing (deals_of o book.moments)
   pub stored : (k : ℕ) (o : Op) → slice_get book.ops k ≡ Some o → SentCommit o (sent_of book.moments) → o.traffic ≡ stored_traffic o.value (deals_of o book.moments)
   -- and each that replaced its file had sent it
-  pub made : (k p : ℕ) (o : Op) → slice_get book.ops k ≡ Some o → changes o.word ≡ true → o.point ≡ Some p → SentCommit o (sent_of book.moments)
+  pub made : (k p : ℕ) (o : Op) → slice_get book.ops k ≡ Some o → o.word ≡ word.Close → o.point ≡ Some p → SentCommit o (sent_of book.moments)

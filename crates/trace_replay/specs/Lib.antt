@@ -15,8 +15,11 @@ pub mod Trail
 pub mod Book
 pub mod Causes
 pub mod Rows
+pub mod NameRows
 pub mod TrailRows
 pub mod Traffic
+pub mod Naming
+pub mod Walking
 pub mod Fetches
 pub mod Owing
 pub mod Numbered

@@ -1,51 +1,26 @@
 -- What becomes of operations.
-use Rattle.std.specs.Prelude.{ℕ, ◌+◌, List, [], ◌∷◌, find, Option, Some, None, Bool, true, false, ◌==◌, slice_get, slice_set}
+use Rattle.std.specs.Prelude.{ℕ, ◌+◌, List, [], ◌∷◌, find, Option, Some, None, Bool, true, false, ◌==◌, if◌then◌else◌, slice_get, slice_set}
 use Rattle.std.specs.Option.{option_map}
-use Rattle.xdr_codec.specs.Status.{status_number}
 use Rattle.xdr_codec.specs.declared.status.Status.TheVariants as status
 use Rattle.client_state.specs.State as client
 use Rattle.client_state.specs.declared.step.ClientStep.{ClientStep}
-use Rattle.client_state.specs.declared.step.BadPeer.{BadPeer}
-use Rattle.client_state.specs.declared.step.BadPeer.TheVariants as bad
 use Rattle.client_state.specs.declared.step.Counts.{Counts}
 use Rattle.client_state.specs.declared.step.Ended.{Ended}
 use Rattle.client_state.specs.declared.step.Outcome.{Outcome}
 use Rattle.client_state.specs.declared.step.Outcome.TheVariants as outcome
+use Rattle.server_core.specs.declared.journal.Entry.{Entry}
+use Rattle.file_tree.specs.declared.entry.EntryKind.{EntryKind}
+use Rattle.file_tree.specs.declared.entry.EntryKind.TheVariants as kind
+use Rattle.register_model.specs.Register.{changes}
 use Rattle.register_model.specs.declared.op.Op.{Op}
-use Rattle.register_model.specs.declared.op.Outcome.{Outcome as Told}
 use Rattle.register_model.specs.declared.op.Outcome.TheVariants as told
 use Rattle.register_model.specs.declared.op.Traffic.{Traffic}
 use Rattle.register_model.specs.declared.op.Word.{Word}
 use Rattle.register_model.specs.declared.op.Word.TheVariants as word
 use Rattle.trace_replay.specs.declared.taken_call.TakenCall.{TakenCall}
+pub use Rattle.told_outcome.specs.Told.{fault_number, told_of}
 
 -- ---- how one ends
-
--- the number of a peer's fault in a history
-abbrev pub fault_number : BadPeer → ℕ
-fault_number (bad.Garbage at) = 1
-fault_number (bad.UnknownXid xid) = 2
-fault_number (bad.Digest got wanted) = 3
-fault_number (bad.Denied code) = 4
-fault_number (bad.Shape got wanted) = 5
-
--- an outcome as the history tells it
-abbrev pub told_of : Outcome → Told
-told_of (outcome.Opened file len sha1) = told.Opened len sha1
-told_of (outcome.Piece len sha1) = told.Piece len sha1
-told_of (outcome.Closed file version len sha1) = told.Closed version len sha1
-told_of outcome.Done = told.Done
-told_of outcome.Busy = told.Busy
-told_of outcome.NotOpen = told.NotOpen
-told_of outcome.AlreadyOpen = told.AlreadyOpen
-told_of (outcome.TooBig size) = told.TooBig size
-told_of outcome.Lost = told.Lost
-told_of (outcome.Changed first last) = told.Changed first last
-told_of outcome.NoLink = told.NoLink
-told_of (outcome.Refused status) = told.Refused (status_number status)
-told_of outcome.PeerMemory = told.PeerMemory
-told_of (outcome.BadPeer fault) = told.BadPeer (fault_number fault)
-told_of outcome.Memory = told.Memory
 
 -- whether an open that ended so read or missed its file at one moment
 abbrev pub has_point : Word → Outcome → Bool
@@ -77,9 +52,14 @@ abbrev pub op_ended : Op → client.State → List TakenCall → (step : ℕ) �
 op_ended o c taken step None = o
 op_ended o c taken step (Some e) = ended_op o c taken step e
 
+-- the file of an operation whose path was found to stand for this, if it was found in a step
+abbrev pub file_with : (file : ℕ) → (found : Option ℕ) → ℕ
+file_with file None = file
+file_with file (Some id) = id
+
 -- an operation after a step of its client, which did this
 abbrev pub op_after : Op → client.State → List TakenCall → (step : ℕ) → ClientStep → Op
-op_after o c taken step acts = op_ended (record o { traffic = counted o.traffic acts.counts }) c taken step acts.ended
+op_after o c taken step acts = op_ended (record o { file = file_with o.file acts.found; traffic = counted o.traffic acts.counts }) c taken step acts.ended
 
 -- ---- one begins
 
@@ -107,16 +87,28 @@ abbrev pub taken_on : Option ℕ → List TakenCall → List TakenCall
 taken_on None taken = []
 taken_on (Some p) taken = taken
 
--- the last close that sent calls, after a command whose own operation is at this place
+-- the last operation that sent calls and may change a file, after a command whose own operation is at this place
 abbrev pub closing_with : Option ℕ → (place : ℕ) → Word → Option Ended → Option ℕ
-closing_with closing place word.Close None = Some place
-closing_with closing place w ended = closing
+closing_with closing place what None = if changes what then Some place else closing
+closing_with closing place what (Some e) = closing
 
--- the close at a place has its point where its change was made
-abbrev pub pointed : List Op → (place step : ℕ) → Option Op → List Op
-pointed ops place step None = ops
-pointed ops place step (Some o) = slice_set ops place (record o { point = Some step })
+-- ---- a change is made
 
-abbrev pub pointed_at : List Op → Option ℕ → (step : ℕ) → List Op
-pointed_at ops None step = ops
-pointed_at ops (Some place) step = pointed ops place step (slice_get ops place)
+-- whether an entry of the journal is about a file's content, and not about a name
+abbrev pub is_of_file : EntryKind → Bool
+is_of_file kind.Name = false
+is_of_file k = true
+
+-- the first file whose content these entries are about
+abbrev pub changed_file : List Entry → Option ℕ
+changed_file es = option_map (λ e. e.file) (find (λ e. is_of_file e.kind) es)
+
+-- the operation at a place changed this file in this step, which is its point
+abbrev pub pointed : List Op → (place file step : ℕ) → Option Op → List Op
+pointed ops place file step None = ops
+pointed ops place file step (Some o) = slice_set ops place (record o { file = file; point = Some step })
+
+-- the same of the operation at a place, if there is one, where a file was changed
+abbrev pub pointed_at : List Op → Option ℕ → (step : ℕ) → (changed : Option ℕ) → List Op
+pointed_at ops (Some place) step (Some file) = pointed ops place file step (slice_get ops place)
+pointed_at ops place step changed = ops

@@ -24,6 +24,7 @@ use Rattle.trace_replay.specs.World.{World, start, history_of}
 use Rattle.trace_replay.specs.declared.stage.Stage.TheVariants as stage
 use Rattle.trace_replay.specs.declared.turn.Turn.TheVariants as turn
 use Rattle.command_text.specs.declared.content.Part.TheVariants.{Zeros}
+use Rattle.command_text.specs.declared.path.Spot.{Spot}
 use Rattle.trace_text.specs.declared.line.Line.TheVariants as line
 use Rattle.trace_text.specs.declared.refusal.Limit.TheVariants as limit
 use Rattle.trace_text.specs.declared.refusal.LineFault.TheVariants.{Limit}
@@ -314,8 +315,11 @@ whose_index = refl
 abbrev full : World
 full = record start { stage = stage.Files; size = 1073741823 }
 
-pub tree_edge : asked full 9 (line.File (codes "a") (Zeros 1 ∷ [])) ≡ Ok (turn.File (codes "a") (Zeros 1 ∷ []))
+abbrev at_root : Spot
+at_root = record { dirs = []; name = codes "a" }
+
+pub tree_edge : asked full 9 (line.File at_root (Zeros 1 ∷ [])) ≡ Ok (turn.File 1 (codes "a") (Zeros 1 ∷ []))
 tree_edge = refl
 
-pub tree_limit : asked full 9 (line.File (codes "a") (Zeros 2 ∷ [])) ≡ Err (Limit limit.Tree)
+pub tree_limit : asked full 9 (line.File at_root (Zeros 2 ∷ [])) ≡ Err (Limit limit.Tree)
 tree_limit = refl

@@ -1,9 +1,12 @@
 -- A trace run line by line.
-use Rattle.std.specs.Prelude.{ℕ, zero, suc, ◌+◌, List, [], ◌∷◌, ◌++◌, length, replicate, Option, Some, None, Result, Ok, Err, Bool, true, false, not, ◌&&◌, nat_lt, nat_le}
+use Rattle.std.specs.Prelude.{ℕ, zero, suc, ◌+◌, List, [], ◌∷◌, ◌++◌, length, replicate, Option, Some, None, Result, Ok, Err, Bool, true, false, not, ◌&&◌, nat_lt, nat_le, if◌then◌else◌}
 use Rattle.limits.specs.declared.TheConstants.{FILE_MOST, LINES_MOST, SESSIONS_MOST, TREE_MOST}
 use Rattle.command_text.specs.Content.{content_length, content_bytes}
+use Rattle.command_text.specs.declared.command.Command.{Command}
+use Rattle.command_text.specs.declared.command.Command.TheVariants as command
 use Rattle.command_text.specs.declared.content.Part.{Part}
 use Rattle.command_text.specs.Parts.{lines_of}
+use Rattle.command_text.specs.declared.path.Spot.{Spot}
 use Rattle.trace_text.specs.Grammar.{line_of}
 use Rattle.trace_text.specs.declared.line.Amount.{Amount}
 use Rattle.trace_text.specs.declared.line.Amount.TheVariants as amount
@@ -16,7 +19,11 @@ use Rattle.trace_text.specs.declared.refusal.LineFault.{LineFault}
 use Rattle.trace_text.specs.declared.refusal.LineFault.TheVariants.{Grammar, Limit}
 use Rattle.server_core.specs.Step.{opens_with}
 use Rattle.file_tree.specs.Opening.{can_open}
-use Rattle.tree_nodes.specs.declared.node.Body.TheVariants.{File}
+use Rattle.file_tree.specs.Reading.{stands_for}
+use Rattle.file_tree.specs.Tree.{Tree}
+use Rattle.tree_nodes.specs.declared.node.Node.{Node}
+use Rattle.tree_nodes.specs.declared.node.Body.{Body}
+use Rattle.tree_nodes.specs.declared.node.Body.TheVariants.{Directory, File}
 use Rattle.trace_replay.specs.declared.opening.TheConstants.{ROOT}
 use Rattle.trace_replay.specs.declared.fault.Refused.{Refused}
 use Rattle.trace_replay.specs.declared.stage.Stage.{Stage}
@@ -47,13 +54,31 @@ sessions_most = SESSIONS_MOST
 
 -- ---- the opening tree
 
--- a file of the root, which gets the tree's next id, and version 1
-abbrev pub with_file : World → List ℕ → List ℕ → World
-with_file w name content = record w {
-  opening = w.opening ++ record { file = w.core.server.tree.next; content = content } ∷ [];
-  size = w.size + length content;
-  core = record w.core { server = opens_with w.core.server ROOT name (File content) };
-}
+-- the tree opens with one node more, of this name in the directory of an id; it gets the tree's next id
+abbrev pub with_node : World → (dir : ℕ) → List ℕ → Body → World
+with_node w dir name body = record w { core = record w.core { server = opens_with w.core.server dir name body } }
+
+-- a directory
+abbrev pub with_directory : World → (dir : ℕ) → List ℕ → World
+with_directory w dir name = with_node w dir name Directory
+
+-- a file, which has version 1
+abbrev pub with_file : World → (dir : ℕ) → List ℕ → List ℕ → World
+with_file w dir name content = with_node (record w { opening = w.opening ++ record { file = w.core.server.tree.next; content = content } ∷ []; size = w.size + length content }) dir name (File content)
+
+-- the id of what these names lead to, from a directory on, if there is such a file or directory
+abbrev pub led_to : List Node → (dir : ℕ) → List (List ℕ) → Option ℕ
+led_to nodes dir [] = Some dir
+led_to nodes dir (n ∷ ns) = elim (stands_for nodes dir n) [ None ↦ None | Some found ↦ led_to nodes found.id ns ]
+
+-- the directory of that id, where the name is free in it
+abbrev pub free_in : Tree → List ℕ → Option ℕ → Option ℕ
+free_in t name None = None
+free_in t name (Some dir) = if can_open t dir name then Some dir else None
+
+-- the directory in which the name of a spot is free, if there is one
+abbrev pub place_for : Tree → Spot → Option ℕ
+place_for t s = free_in t s.name (led_to t.nodes ROOT s.dirs)
 
 -- so many clients, none of which has joined
 abbrev pub with_clients : World → (count : ℕ) → World
@@ -71,10 +96,15 @@ sized true is_much t = Err (Limit limit.File)
 sized false true t = Err (Limit limit.Tree)
 sized false false t = Ok t
 
--- a file whose name is free
-abbrev pub named : (is_free : Bool) (size : ℕ) → List ℕ → List Part → Result Turn LineFault
-named false size name content = Err Grammar
-named true size name content = sized (nat_lt file_most (content_length content)) (nat_lt tree_most (size + content_length content)) (turn.File name content)
+-- a file whose name is free, in the directory of an id
+abbrev pub file_asks : (place : Option ℕ) (size : ℕ) → List ℕ → List Part → Result Turn LineFault
+file_asks None size name content = Err Grammar
+file_asks (Some dir) size name content = sized (nat_lt file_most (content_length content)) (nat_lt tree_most (size + content_length content)) (turn.File dir name content)
+
+-- a directory whose name is free, in that of an id
+abbrev pub directory_asks : (place : Option ℕ) → List ℕ → Result Turn LineFault
+directory_asks None name = Err Grammar
+directory_asks (Some dir) name = Ok (turn.Dir dir name)
 
 -- a client that isn't joined joins, where a further session can stand
 abbrev pub joins_within : (has_room : Bool) → (client : ℕ) → Result Turn LineFault
@@ -101,10 +131,15 @@ adjust_asks k (line.Clear w) = asks_if (has_index k w) (turn.Adjust (adjustment.
 adjust_asks k (line.Evict c file) = asks_if (is_there (numbered k.seats c)) (turn.Adjust (adjustment.Evict c file))
 adjust_asks k _ = Err Grammar
 
+-- a command of a client that is there, on a file: none on names is taken yet
+abbrev pub do_asks : Core → (client now : ℕ) → Command → Result Turn LineFault
+do_asks k c now (command.Named n) = Err Grammar
+do_asks k c now d = asks_if (is_there (numbered k.seats c)) (turn.Do c now d)
+
 -- An event names a client and a session that are there.
 abbrev pub event_asks : Core → Line → Result Turn LineFault
 event_asks k (line.Join c r s) = joins_if (length k.server.sessions) c (numbered k.seats c)
-event_asks k (line.Do c r command) = asks_if (is_there (numbered k.seats c)) (turn.Do c r command)
+event_asks k (line.Do c r d) = do_asks k c r d
 event_asks k (line.Up n a s) = asks_if (is_there (numbered k.sessions n)) (turn.Up n a s)
 event_asks k (line.Down n a r) = asks_if (is_there (numbered k.sessions n)) (turn.Down n a r)
 event_asks k (line.Settle s) = Ok (turn.Settle s)
@@ -119,7 +154,8 @@ asks_at w stage.Version line.Version = Ok (turn.At stage.Term)
 asks_at w stage.Term (line.Term t) = Ok (turn.At stage.Drift)
 asks_at w stage.Drift (line.Drift d) = Ok (turn.At stage.Clients)
 asks_at w stage.Clients (line.Clients n) = Ok (turn.Clients n)
-asks_at w stage.Files (line.File name content) = named (can_open w.core.server.tree ROOT name) w.size name content
+asks_at w stage.Files (line.Dir spot) = directory_asks (place_for w.core.server.tree spot) spot.name
+asks_at w stage.Files (line.File spot content) = file_asks (place_for w.core.server.tree spot) w.size spot.name content
 asks_at w stage.Files l = event_asks w.core l
 asks_at w stage.Events l = event_asks w.core l
 asks_at w s l = Err Grammar
@@ -154,7 +190,8 @@ abbrev pub turned : World → Turn → World
 turned w turn.Skip = w
 turned w (turn.At s) = record w { stage = s }
 turned w (turn.Clients n) = with_clients w n
-turned w (turn.File name content) = with_file w name (content_bytes content)
+turned w (turn.Dir dir name) = with_directory w dir name
+turned w (turn.File dir name content) = with_file w dir name (content_bytes content)
 turned w (turn.Join c) = happened (at_events w) (Joins c)
 turned w (turn.Do c now command) = happened (at_events w) (Does c now command)
 turned w (turn.Up n a now) = up_some (at_events w) n (count_of a (up_length (numbered w.wires n))) now

@@ -19,7 +19,9 @@ use Rattle.register_model.specs.declared.op.Outcome.TheVariants as told
 use Rattle.register_model.specs.declared.op.Word.TheVariants as word
 use Rattle.server_core.specs.State.{File, file_at}
 use Rattle.server_core.specs.declared.change.Change.{Change}
+use Rattle.server_core.specs.declared.change.Wanted.{Wanted}
 use Rattle.server_core.specs.declared.change.Wanted.TheVariants as wanted
+use Rattle.tree_calls.specs.declared.asked.Asked.TheVariants as asked
 use Rattle.trace_replay.specs.declared.fault.Refused.{Refused}
 use Rattle.trace_replay.specs.declared.fault.TraceErr.{TraceErr}
 use Rattle.trace_replay.specs.declared.fault.TraceErr.TheVariants as errors
@@ -41,22 +43,27 @@ abbrev pub Gives : Result History TraceErr → Result World Refused → Type 0
 Gives (Ok h) ran = (w : World) × (ran ≡ Ok w) × (h ≡ history_of w)
 Gives (Err e) ran = Fails e ran
 
--- A change that waits is to give its file a content, the one that its close is to store: that of the value of a close that is still running, or
--- was lost, which had sent all of its traffic. It came on a session of the close's client that the server did not see lost, and it is of the last close that
--- sent calls there.
+-- What a change that waits is to make: a close's value, of a close that had sent all of its traffic; or that its file goes, by a remove, or by a rename over it.
+abbrev pub IsWanted : Book → Op → Wanted → Type 0
+IsWanted book o (wanted.Content content) = (o.word ≡ word.Close) × (length o.value ≡ length content) × Or book (o.value ≡ content) × (o.traffic ≡ stored_traffic o.value (deals_of o book.moments))
+IsWanted book o (wanted.Asked (asked.Remove r)) = o.word ≡ word.Remove
+IsWanted book o (wanted.Asked (asked.Rename r)) = o.word ≡ word.Rename
+
+-- the file of the operation is the one that waits to be changed; one on names has it once its change is made
+abbrev pub HasTarget : Op → Wanted → (file : ℕ) → Type 0
+HasTarget o (wanted.Content content) file = o.file ≡ file
+HasTarget o (wanted.Asked a) file = o.file ≡ 0
+
+-- A change that waits is that of an operation that is still running, or was lost. It came on a session of the operation's client that the server did not see lost,
+-- and it is of the last operation that sent calls there and may change a file.
 pub record HoldsValue (book : Book) (w : World) (c : Change) : Type 0 where
   pub place : ℕ
   pub op : Op
   pub there : slice_get w.core.ops place ≡ Some op
-  pub word_is : op.word ≡ word.Close
-  pub file_is : op.file ≡ c.file
+  pub wanted_is : IsWanted book op c.what
+  pub file_is : HasTarget op c.what c.file
   pub untold : (op.outcome ≡ told.Running) ⊎ (op.outcome ≡ told.Lost)
   pub pointless : op.point ≡ None
-  pub content : List ℕ
-  pub what_is : c.what ≡ wanted.Content content
-  pub size_is : length op.value ≡ length content
-  pub value_is : Or book (op.value ≡ content)
-  pub traffic_is : op.traffic ≡ stored_traffic op.value (deals_of op book.moments)
   pub session : Session
   pub session_is : numbered w.core.sessions c.session ≡ Some session
   pub stands : session.hung ≡ false
@@ -94,6 +101,14 @@ IsServed (message.Call xid (body.Lb (lb.TmpWrite a))) = Unit {0}
 IsServed (message.Call xid (body.Lb (lb.CondWrite a))) = Unit {0}
 IsServed (message.Call xid (body.Lb (lb.CommitTmp a))) = Unit {0}
 IsServed (message.Call xid (body.Nfs (nfs.Read a))) = Unit {0}
+IsServed (message.Call xid (body.Nfs (nfs.GetAttr a))) = Unit {0}
+IsServed (message.Call xid (body.Nfs (nfs.Lookup a))) = Unit {0}
+IsServed (message.Call xid (body.Nfs (nfs.ReadDir a))) = Unit {0}
+IsServed (message.Call xid (body.Nfs (nfs.Create a))) = Unit {0}
+IsServed (message.Call xid (body.Nfs (nfs.MkDir a))) = Unit {0}
+IsServed (message.Call xid (body.Nfs (nfs.Remove a))) = Unit {0}
+IsServed (message.Call xid (body.Nfs (nfs.RmDir a))) = Unit {0}
+IsServed (message.Call xid (body.Nfs (nfs.Rename a))) = Unit {0}
 IsServed m = ⊥
 
 -- an answer to one of these calls

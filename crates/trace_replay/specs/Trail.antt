@@ -87,17 +87,25 @@ moments input = moments_from start 1 (lines_of input)
 
 -- ---- what the lines say
 
--- the files that a trace opens with, of which so many stand before: each `file` line's, by ids from 2
-abbrev pub opening_by : (count : ℕ) → Option Line → List Opening
-opening_by count (Some (line.File name content)) = record { file = count + 2; content = content_bytes content } ∷ []
-opening_by count _ = []
+-- how many files and directories a line opens
+abbrev pub opened_by : Option Line → ℕ
+opened_by (Some (line.Dir spot)) = 1
+opened_by (Some (line.File spot content)) = 1
+opened_by _ = 0
 
-abbrev pub openings_from : (count : ℕ) → List (List ℕ) → List Opening
-openings_from count [] = []
-openings_from count (l ∷ ls) = let first : List Opening = opening_by count (line_of l) in first ++ openings_from (count + length first) ls
+-- the file that a line opens, if it opens one, whose id is the next
+abbrev pub opening_by : (next : ℕ) → Option Line → List Opening
+opening_by next (Some (line.File spot content)) = record { file = next; content = content_bytes content } ∷ []
+opening_by next _ = []
 
+-- the files that a trace opens with: each `file` line's, by ids in the order of `dir` and `file` lines
+abbrev pub openings_from : (next : ℕ) → List (List ℕ) → List Opening
+openings_from next [] = []
+openings_from next (l ∷ ls) = opening_by next (line_of l) ++ openings_from (next + opened_by (line_of l)) ls
+
+-- the root has the id 1
 abbrev pub openings_of : List (List ℕ) → List Opening
-openings_of ls = openings_from 0 ls
+openings_of ls = openings_from 2 ls
 
 -- the events that a line tells: all but deliveries
 abbrev pub event_by : Option Line → List Event

@@ -21,7 +21,8 @@ abbrev pub stage_after : Stage → Turn → Stage
 stage_after s turn.Skip = s
 stage_after s (turn.At next) = next
 stage_after s (turn.Clients count) = stage.Files
-stage_after s (turn.File name content) = s
+stage_after s (turn.Dir dir name) = s
+stage_after s (turn.File dir name content) = s
 stage_after s _ = stage.Events
 
 -- a line in place was applied

@@ -2,7 +2,7 @@
 
 ghost use Rattle.std.specs.Prelude.{◌≡◌, ◌+◌, IfOk, OnOk, length};
 ghost use Rattle.command_text.specs.Content.{content_bytes};
-ghost use Rattle.trace_replay.specs.Run.{with_file, with_clients, turned};
+ghost use Rattle.trace_replay.specs.Run.{with_file, with_directory, with_clients, turned};
 ghost use Rattle.trace_replay.specs.Turns.{IsTurnBounded};
 ghost use Rattle.trace_replay.specs.WorldView.{world_of};
 
@@ -10,7 +10,8 @@ use crate::opening::OpeningFile;
 use crate::state::WorldState;
 use crate::turn::{Turn, stage_after};
 use command_text::content::{Content, build};
-use lb_base::items::Bytes;
+use lb_base::items::{Bytes, Name};
+use shared_bytes::SharedBytes;
 use std::alloc::{AllocError, Global};
 use tree_nodes::content::Content as Whole;
 use tree_nodes::node::Body;
@@ -23,33 +24,40 @@ fn size_with(size: u64, content: &Bytes) -> Result<u64, AllocError>
 }
 
 impl WorldState {
-    /// A file of the root gets the tree's next id, and version 1. Its content is here as bytes, for
+    /// A file gets the tree's next id, and version 1. Its content is here as bytes, for
     /// the server, and in parts.
     fn with_file(
         &mut self,
         alloc: Global,
-        name: Bytes,
+        dir: u64,
+        name: Name,
         bytes: Bytes,
         content: Content,
     ) -> Result<(), AllocError>
         requires { bytes ≡ content_bytes content }
-        ensures { OnOk result (world_of self.new ≡ with_file (world_of self.old) name (content_bytes content)) }
+        ensures { OnOk result (world_of self.new ≡ with_file (world_of self.old) dir name (content_bytes content)) }
     {
         let size = size_with(self.size, &bytes)?;
         let id = self.core.server.next_id();
-        let whole = Whole::new(alloc, bytes)?;
-        self.core.open(name, Body::File(whole))?;
+        let whole = Whole::new(alloc, SharedBytes::new(alloc, bytes)?)?;
+        self.core.open(dir, name, Body::File(whole))?;
         self.opening.push(OpeningFile::new(id, content))?;
         self.size = size;
         Ok(())
     }
 
     /// A file of this name and content.
-    fn builds(&mut self, alloc: Global, name: Bytes, content: Content) -> Result<(), AllocError>
-        ensures { OnOk result (world_of self.new ≡ with_file (world_of self.old) name (content_bytes content)) }
+    fn builds(
+        &mut self,
+        alloc: Global,
+        dir: u64,
+        name: Name,
+        content: Content,
+    ) -> Result<(), AllocError>
+        ensures { OnOk result (world_of self.new ≡ with_file (world_of self.old) dir name (content_bytes content)) }
     {
         let bytes = build(alloc, &content)?;
-        self.with_file(alloc, name, bytes, content)
+        self.with_file(alloc, dir, name, bytes, content)
     }
 
     /// What a line in place asks for.
@@ -61,7 +69,8 @@ impl WorldState {
         match turn {
             Turn::Skip | Turn::At(_) => Ok(()),
             Turn::Clients(count) => self.core.seat_all(alloc, count),
-            Turn::File { name, content } => self.builds(alloc, name, content),
+            Turn::Dir { dir, name } => self.core.open(dir, name, Body::Directory),
+            Turn::File { dir, name, content } => self.builds(alloc, dir, name, content),
             Turn::Join(client) => self.joins(alloc, client),
             Turn::Do {
                 client,

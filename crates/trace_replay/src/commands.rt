@@ -3,14 +3,31 @@
 
 ghost use Rattle.std.specs.Prelude.{◌≡◌, IfOk};
 ghost use Rattle.client_state.specs.State.{local_bytes};
-ghost use Rattle.trace_replay.specs.Commands.{word_of, file_of, value_at_begin};
+ghost use Rattle.trace_replay.specs.Commands.{path_word, word_of, file_of, value_at_begin};
 
 use client_state::step::Ended;
 use command_text::command::Command;
+use command_text::path::PathCommand;
 use open_close::client::Client;
 use register_model::op::Word;
 use shared_bytes::SharedBytes;
 use std::alloc::AllocError;
+
+/// What a command on names is called.
+fn path_word(command: &PathCommand) -> Word
+    ensures { result ≡ path_word command.now }
+{
+    match command {
+        PathCommand::Find(_) => Word::Open,
+        PathCommand::Look(_) | PathCommand::LookRoot => Word::Look,
+        PathCommand::List(_) => Word::List,
+        PathCommand::Make(_) => Word::Make,
+        PathCommand::MakeDir(_) => Word::Mkdir,
+        PathCommand::Remove(_) => Word::Remove,
+        PathCommand::RemoveDir(_) => Word::Rmdir,
+        PathCommand::Rename(_, _) => Word::Rename,
+    }
+}
 
 /// What a command is called.
 pub fn word_of(command: &Command) -> Word
@@ -23,10 +40,11 @@ pub fn word_of(command: &Command) -> Word
         Command::Read { .. } => Word::Read,
         Command::Close(_) => Word::Close,
         Command::Abandon(_) => Word::Abandon,
+        Command::Named(command) => path_word(command),
     }
 }
 
-/// The id of the file that it is on.
+/// The id of the file that it names; 0 where it has names in place of one.
 pub fn file_of(command: &Command) -> u64
     ensures { result ≡ file_of command.now }
 {
@@ -35,6 +53,7 @@ pub fn file_of(command: &Command) -> u64
         Command::Write { file, .. } => *file,
         Command::Trunc { file, .. } => *file,
         Command::Read { file, .. } => *file,
+        Command::Named(_) => 0,
     }
 }
 
@@ -42,7 +61,7 @@ pub fn file_of(command: &Command) -> u64
 pub fn local_bytes(client: &Client, file: u64) -> Result<SharedBytes, AllocError>
     ensures { IfOk result (λ bytes. bytes ≡ local_bytes client.now.opened file) }
 {
-    match client.local(file) {
+    match client.shared_local(file) {
         Some(bytes) => bytes.share(),
         None => Ok(SharedBytes::empty()),
     }

@@ -81,7 +81,7 @@ pub fn cuts(alloc: Global, core: &mut Core, client: u64) -> Result<CoreStep, All
 fn hang(alloc: Global, server: &mut Server, session: u32) -> Result<(), AllocError>
     ensures { OnOk result (server.new ≡ (server_step server.old (event.Hang session)).0) }
 {
-    let step = server.step(alloc, Event::Hang { session });
+    let step = server.step_unkept(alloc, Event::Hang { session });
     let missed = step.missed;
     drop(step);
     if missed {

@@ -20,7 +20,7 @@ fn connect(alloc: Global, server: &mut Server) -> Result<Told, AllocError>
     ensures server { OnOk result ((server_step server.old event.Connect).0 ≡ server.new) }
     ensures told { IfOk result (λ told. (server_step server.old event.Connect).1.told ≡ told) }
 {
-    let step = server.step(alloc, Event::Connect);
+    let step = server.step_unkept(alloc, Event::Connect);
     let told = step.told;
     let missed = step.missed;
     drop(step);

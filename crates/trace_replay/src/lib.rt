@@ -22,6 +22,7 @@ mod opening;
 mod ops;
 mod outbox;
 mod parsing;
+mod paths;
 mod places;
 mod queue;
 pub mod run;

@@ -1,76 +1,23 @@
 //! The operations of a history, as the steps of their clients make them. `specs/Ops.antt` says what
 //! becomes of them.
 
-ghost use Rattle.std.specs.Prelude.{◌≡◌, ◌==◌, find, slice_get, IfOk, OnOk};
+ghost use Rattle.std.specs.Prelude.{◌≡◌, ◌==◌, drop, find, slice_get, IfOk, OnOk};
 ghost use Rattle.std.specs.Option.{option_copied};
 ghost use Rattle.trace_replay.specs.Core.{ops_after, ops_with};
-ghost use Rattle.trace_replay.specs.Ops.{fault_number, told_of, has_point, taken_at, point_if, value_of, counted, ended_op, op_after, begun, pointed, pointed_at};
+ghost use Rattle.trace_replay.specs.Ops.{has_point, taken_at, point_if, value_of, counted, ended_op, file_with, op_after, begun, is_of_file, changed_file, pointed, pointed_at};
 
 use crate::commands::local_bytes;
 use crate::taken_call::TakenCall;
 use client_state::step;
-use client_state::step::{BadPeer, ClientStep, Counts, Ended};
-use lb_base::items::Bytes;
+use client_state::step::{ClientStep, Counts, Ended};
+use file_tree::entry::EntryKind;
 use open_close::client::Client;
 use register_model::op::{Op, Outcome, Traffic, Word};
+use server_core::journal::Entry;
 use shared_bytes::SharedBytes;
 use std::alloc::{AllocError, Global};
-use xdr_codec::status;
+use told_outcome::told_of;
 use xdr_codec::status::Status;
-
-/// The number of a peer's fault in a history.
-fn fault_number(fault: &BadPeer) -> u32
-    ensures { result ≡ fault_number fault.now }
-{
-    match fault {
-        BadPeer::Garbage { .. } => 1,
-        BadPeer::UnknownXid { .. } => 2,
-        BadPeer::Digest { .. } => 3,
-        BadPeer::Denied { .. } => 4,
-        BadPeer::Shape { .. } => 5,
-    }
-}
-
-/// An outcome as the history tells it.
-fn told_of(alloc: Global, outcome: &step::Outcome) -> Result<Outcome, AllocError>
-    ensures { IfOk result (λ told. told ≡ told_of outcome.now) }
-{
-    Ok(match outcome {
-        step::Outcome::Opened { len, sha1, .. } => Outcome::Opened {
-            len: *len,
-            sha1: Bytes::copy_of(alloc, sha1)?,
-        },
-        step::Outcome::Piece { len, sha1 } => Outcome::Piece {
-            len: *len,
-            sha1: Bytes::copy_of(alloc, sha1)?,
-        },
-        step::Outcome::Closed {
-            version,
-            len,
-            sha1,
-            ..
-        } => Outcome::Closed {
-            version: *version,
-            len: *len,
-            sha1: Bytes::copy_of(alloc, sha1)?,
-        },
-        step::Outcome::Done => Outcome::Done,
-        step::Outcome::Busy => Outcome::Busy,
-        step::Outcome::NotOpen => Outcome::NotOpen,
-        step::Outcome::AlreadyOpen => Outcome::AlreadyOpen,
-        step::Outcome::TooBig(size) => Outcome::TooBig(*size),
-        step::Outcome::Lost => Outcome::Lost,
-        step::Outcome::Changed { first, last } => Outcome::Changed {
-            first: *first,
-            last: *last,
-        },
-        step::Outcome::NoLink => Outcome::NoLink,
-        step::Outcome::Refused(status) => Outcome::Refused(status::number(*status)),
-        step::Outcome::PeerMemory => Outcome::PeerMemory,
-        step::Outcome::BadPeer(fault) => Outcome::BadPeer(fault_number(fault)),
-        step::Outcome::Memory => Outcome::Memory,
-    })
-}
 
 /// Whether an open that ended so read or missed its file at one moment.
 fn has_point(word: Word, outcome: &step::Outcome) -> bool
@@ -99,7 +46,7 @@ fn taken_at(taken: &[TakenCall], xid: u32) -> Option<u64>
     find_taken(taken, xid).map(|t| t.step)
 }
 
-/// The point that an operation has by its end; that of a close is the step at which its change was
+/// The point that an operation has by its end; that of a change is the step at which it was
 /// made.
 fn point_of(word: Word, point: Option<u64>, ended: &Ended, taken: &[TakenCall]) -> Option<u64>
     ensures { result ≡ point_if (has_point word ended.now.outcome) taken.now ended.now.rests_on point }
@@ -191,6 +138,16 @@ fn end(
     Ok(())
 }
 
+/// The file of an operation whose path was found to stand for this, if it was found in a step.
+fn file_with(file: u64, found: Option<u64>) -> u64
+    ensures { result ≡ file_with file found }
+{
+    match found {
+        None => file,
+        Some(id) => id,
+    }
+}
+
 /// What becomes of an operation in a step of its client.
 pub fn note(
     alloc: Global,
@@ -202,6 +159,7 @@ pub fn note(
 ) -> Result<(), AllocError>
     ensures { OnOk result (op.new ≡ op_after op.old client.now taken.now step acts.now) }
 {
+    op.file = file_with(op.file, acts.found);
     op.traffic = counted(op.traffic, acts.counts)?;
     match &acts.ended {
         None => Ok(()),
@@ -245,22 +203,56 @@ pub fn note_with(
     }
 }
 
-/// The operation of this place, if there is one, has its point at this step.
-fn point(ops: &mut Vec<Op>, place: usize, step: u64)
-    ensures { ops.new.items ≡ pointed ops.old.items place step (slice_get ops.old.items place) }
+/// Whether an entry is about a file's content, and not about a name.
+fn is_of_file(kind: EntryKind) -> bool
+    ensures { result ≡ is_of_file kind }
+{
+    !matches!(kind, EntryKind::Name)
+}
+
+/// The first entry that is about a file's content.
+fn first_of_file(entries: &[Entry]) -> Option<&Entry>
+    ensures { option_copied result ≡ find (λ e. is_of_file e.kind) entries.now }
+{
+    entries.iter().find(|e| is_of_file(e.kind))
+}
+
+/// The entries from a place on.
+fn entries_from(entries: &[Entry], place: usize) -> &[Entry]
+    ensures { result.now ≡ drop place entries.now }
+{
+    if place < entries.len() {
+        &entries[place..]
+    } else {
+        &[]
+    }
+}
+
+/// The first file whose content the entries from a place on are about.
+pub fn changed_from(entries: &[Entry], place: usize) -> Option<u64>
+    ensures { result ≡ changed_file (drop place entries.now) }
+{
+    first_of_file(entries_from(entries, place)).map(|e| e.file)
+}
+
+/// The operation of this place, if there is one, changed this file in this step, which is its point.
+fn point(ops: &mut Vec<Op>, place: usize, file: u64, step: u64)
+    ensures { ops.new.items ≡ pointed ops.old.items place file step (slice_get ops.old.items place) }
 {
     if ops.len() <= place {
         return;
     }
-    ops[place].point = Some(step);
+    let op = &mut ops[place];
+    op.file = file;
+    op.point = Some(step);
 }
 
-/// The close at this place has its point where its change was made.
-pub fn point_at(ops: &mut Vec<Op>, closing: Option<usize>, step: u64)
-    ensures { ops.new.items ≡ pointed_at ops.old.items closing step }
+/// The operation at a place, if there is one, changed a file in this step, if one was changed.
+pub fn point_at(ops: &mut Vec<Op>, place: Option<usize>, step: u64, changed: Option<u64>)
+    ensures { ops.new.items ≡ pointed_at ops.old.items place step changed }
 {
-    match closing {
-        None => (),
-        Some(place) => point(ops, place, step),
+    match (place, changed) {
+        (Some(place), Some(file)) => point(ops, place, file, step),
+        _ => (),
     }
 }

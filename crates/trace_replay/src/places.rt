@@ -27,8 +27,8 @@ pub fn place_with(running: Option<usize>, place: usize, ended: &Option<Ended>) -
     }
 }
 
-/// The place of the last close that sent calls, after a command whose own operation is at this
-/// place.
+/// The place of the last operation that sent calls and may change a file, after a command whose own
+/// operation is at this place.
 pub fn closing_with(
     closing: Option<usize>,
     place: usize,
@@ -37,11 +37,8 @@ pub fn closing_with(
 ) -> Option<usize>
     ensures { result ≡ closing_with closing place word ended.now }
 {
-    match word {
-        Word::Close => match ended {
-            None => Some(place),
-            Some(_) => closing,
-        },
+    match ended {
+        None if word.changes() => Some(place),
         _ => closing,
     }
 }

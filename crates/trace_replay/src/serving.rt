@@ -1,13 +1,16 @@
 //! A record comes to the server. `serves` in `specs/Core.antt` says what that makes of the two ends.
 
-ghost use Rattle.std.specs.Prelude.{◌≡◌, ◌+◌, ◌<◌, ◌^◌, length, slice_get, slice_set, IfOk, IfSome, OnOk};
+ghost use Rattle.std.specs.Prelude.{◌≡◌, ◌+◌, ◌<◌, ◌^◌, ◌++◌, drop, length, replicate, slice_get, slice_set, IfOk, IfSome, OnOk};
+ghost use Rattle.trace_replay.specs.Ops.{changed_file, pointed_at};
 ghost use Rattle.trace_replay.specs.Core.{server_waiting, taken_with, server_got, serves, numbered};
 ghost use Rattle.trace_replay.specs.View.{core_of, core_step_of};
 
 use crate::core_step::CoreStep;
 use crate::numbered::place_of;
+use crate::ops::{changed_from, point_at};
 use crate::parsing::parse_record;
 use crate::session::short_number;
+use crate::settling::enter;
 use crate::world_core::{Core, count_on};
 use lb_base::items::Items;
 use server_core::event::Event;
@@ -33,6 +36,18 @@ fn note(core: &mut Core, place: usize, message: &Message) -> Result<(), AllocErr
     core.sessions[place].remember(message, step)?;
     core.steps = step;
     Ok(())
+}
+
+/// The operation of this session that changed a file has its point at this step, and each entry that
+/// the journal has behind those before this place has this step.
+fn enter_at(core: &mut Core, place: usize, before: usize, made: u32) -> Result<(), AllocError>
+    requires { place < length core.old.sessions.items }
+    ensures { OnOk result (IfSome (slice_get core.old.sessions.items place) (λ x. core_of core.new ≡ record (core_of core.old) { ops = pointed_at core.old.ops.items x.closing core.old.steps (changed_file (drop before core.old.server.journal)); entries = core.old.entries.items ++ replicate made core.old.steps })) }
+{
+    let changed = changed_from(core.server.journal(), before);
+    let closing = core.sessions[place].closing;
+    point_at(&mut core.ops, closing, core.steps, changed);
+    enter(&mut core.entries, made, core.steps)
 }
 
 /// The server takes a message of the session at this place, at this reading of its clock.
@@ -66,12 +81,19 @@ fn got(
         message,
         now,
     };
-    let step = core.server.step(alloc, event);
+    let before = core.server.journal().len();
+    let step = core.server.step_unkept(alloc, event);
     if step.missed {
         drop(step);
         return Err(AllocError);
     }
-    Ok(CoreStep::served(alloc, step))
+    match enter_at(core, place, before, step.entries) {
+        Ok(()) => Ok(CoreStep::served(alloc, step)),
+        Err(error) => {
+            drop(step);
+            Err(error)
+        }
+    }
 }
 
 /// The server takes a record of the session at this place, at this reading of its clock. Bytes that

@@ -20,7 +20,7 @@ pub struct Session {
     pub owner: u64,
     /// The calls of the operation under way that the server took.
     pub taken: Vec<TakenCall>,
-    /// The place of the last close that sent calls on it.
+    /// The place of the last operation that sent calls on it and may change a file.
     pub closing: Option<usize>,
     /// Whether the client saw the connection lost.
     pub cut: bool,

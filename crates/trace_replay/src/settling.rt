@@ -7,32 +7,35 @@ ghost use Rattle.trace_replay.specs.View.{core_of, core_step_of};
 
 use crate::core_step::CoreStep;
 use crate::numbered::place_of;
-use crate::ops::point_at;
+use crate::ops::{changed_from, point_at};
 use crate::session::Session;
 use crate::world_core::{Core, count_on};
 use register_model::op::Op;
 use server_core::event::{Event, Told};
 use std::alloc::{AllocError, Global};
 
-/// Where a change was made, the last close that sent calls on its session has its point at this
-/// step.
-fn settle_session(ops: &mut Vec<Op>, sessions: &[Session], made: u32, session: u32, step: u64)
-    ensures { ops.new.items ≡ settled_ops ops.old.items made step (numbered sessions.now session) }
+/// Where a file was changed, the last operation that sent calls on its session and may change one
+/// has its point at this step.
+fn settle_session(
+    ops: &mut Vec<Op>,
+    sessions: &[Session],
+    session: u32,
+    step: u64,
+    changed: Option<u64>,
+)
+    ensures { ops.new.items ≡ settled_ops ops.old.items step changed (numbered sessions.now session) }
 {
-    if made == 0 {
-        return;
-    }
     match place_of(sessions.len(), u64::from(session)) {
         Some(place) => {
             let own = &sessions[place];
-            point_at(ops, own.closing, step)
+            point_at(ops, own.closing, step, changed)
         }
         None => (),
     }
 }
 
 /// Adds the step of each change that was made.
-fn enter(entries: &mut Vec<u64>, made: u32, step: u64) -> Result<(), AllocError>
+pub fn enter(entries: &mut Vec<u64>, made: u32, step: u64) -> Result<(), AllocError>
     ensures { OnOk result (entries.new.items ≡ entries.old.items ++ replicate made step) }
 {
     for _i in 0..made {
@@ -49,14 +52,16 @@ pub fn settles(alloc: Global, core: &mut Core, now: u64) -> Result<CoreStep, All
 {
     let at = count_on(core.steps, 1)?;
     core.steps = at;
-    let step = core.server.step(alloc, Event::Settle { now });
+    let before = core.server.journal().len();
+    let step = core.server.step_unkept(alloc, Event::Settle { now });
     if step.missed {
         drop(step);
         return Err(AllocError);
     }
     match step.told {
         Told::Settled { session, .. } => {
-            settle_session(&mut core.ops, &core.sessions, step.entries, session, at)
+            let changed = changed_from(core.server.journal(), before);
+            settle_session(&mut core.ops, &core.sessions, session, at, changed)
         }
         _ => (),
     }

@@ -99,7 +99,8 @@ pub fn timing_of(sessions: &Vec<Session>, line: &Line) -> Timing
         Line::Settle { server } => Timing::Reads(Reading::Server(*server)),
         Line::Cut { client, at } => of_client(*client, *at),
         Line::Hang { server, .. } => Timing::Reads(Reading::Server(*server)),
-        Line::Skipped | Line::Version | Line::Clients(_) | Line::File { .. } => Timing::Nothing,
+        Line::Skipped | Line::Version | Line::Clients(_) => Timing::Nothing,
+        Line::Dir(_) | Line::File { .. } => Timing::Nothing,
         Line::Forge { .. } | Line::Clear(_) | Line::Evict { .. } => Timing::Nothing,
     }
 }

@@ -1,12 +1,10 @@
 //! What a line of a trace asks for, and which lines are refused. `specs/Run.antt` says so of each.
 
-ghost use Rattle.std.specs.Prelude.{◌≡◌, true, false, nat_lt, nat_le, IfOk};
+ghost use Rattle.std.specs.Prelude.{◌≡◌, true, nat_lt, nat_le, IfOk, Some};
 ghost use Rattle.trace_text.specs.Reading.{IsTimely};
-ghost use Rattle.file_tree.specs.Opening.{can_open};
-ghost use Rattle.trace_replay.specs.declared.opening.TheConstants.{ROOT};
 ghost use Rattle.trace_replay.specs.Core.{numbered};
 ghost use Rattle.trace_replay.specs.World.{World};
-ghost use Rattle.trace_replay.specs.Run.{is_there, has_index, asks_if, named, joins_within, joins_if, adjust_asks, event_asks, asks_at, asks, asks_within, asked, in_header};
+ghost use Rattle.trace_replay.specs.Run.{is_there, has_index, asks_if, do_asks, place_for, file_asks, directory_asks, joins_within, joins_if, adjust_asks, event_asks, asks_at, asks, asks_within, asked, in_header};
 ghost use Rattle.trace_replay.specs.Turns.{IsTurnBounded, stage_after};
 ghost use Rattle.trace_replay.specs.View.{core_of};
 ghost use Rattle.trace_replay.specs.WorldView.{world_of};
@@ -16,7 +14,7 @@ ghost use Rattle.trace_replay.specs.declared.turn.Turn.TheVariants as turn;
 
 use crate::adjusting::Adjustment;
 use crate::numbered::place_of;
-use crate::opening::ROOT;
+use crate::paths::place_for;
 use crate::seat::Seat;
 use crate::stage::Stage;
 use crate::state::WorldState;
@@ -24,7 +22,8 @@ use crate::world_core::Core;
 use chunk_index::place::Place;
 use command_text::command::Command;
 use command_text::content::{Content, length_within};
-use lb_base::items::Bytes;
+use command_text::path::Spot;
+use lb_base::items::Name;
 use limits::{FILE_MOST, LINES_MOST, SESSIONS_MOST, TREE_MOST};
 use trace_text::line::{Amount, Line, Who};
 use trace_text::refusal::{Limit, LineFault};
@@ -39,9 +38,15 @@ pub enum Turn {
     At(Stage),
     /// So many clients.
     Clients(u64),
-    /// A file of the root.
+    /// A directory, of this name in the directory of an id.
+    Dir {
+        dir: u64,
+        name: Name,
+    },
+    /// A file, of this name in the directory of an id.
     File {
-        name: Bytes,
+        dir: u64,
+        name: Name,
         content: Content,
     },
     /// The client joins.
@@ -86,7 +91,7 @@ pub fn stage_after(stage: Stage, turn: &Turn) -> Stage
     ensures { result ≡ stage_after stage turn.now }
 {
     match turn {
-        Turn::Skip | Turn::File { .. } => stage,
+        Turn::Skip | Turn::Dir { .. } | Turn::File { .. } => stage,
         Turn::At(next) => *next,
         Turn::Clients(_) => Stage::Files,
         _ => Stage::Events,
@@ -131,8 +136,8 @@ fn header_asks(stage: Stage, line: &Line) -> Result<Turn, LineFault>
 }
 
 /// A content within the limits of a file, and of the tree, which has so many bytes already.
-fn sized(name: Bytes, content: Content, size: u64) -> Result<Turn, LineFault>
-    ensures { result ≡ named true size name content }
+fn sized(dir: u64, name: Name, content: Content, size: u64) -> Result<Turn, LineFault>
+    ensures { result ≡ file_asks (Some dir) size name content }
 {
     let Some(len) = length_within(&content, FILE_MOST) else {
         return Err(LineFault::Limit(Limit::File));
@@ -140,17 +145,29 @@ fn sized(name: Bytes, content: Content, size: u64) -> Result<Turn, LineFault>
     if size > TREE_MOST || TREE_MOST - size < len {
         return Err(LineFault::Limit(Limit::Tree));
     }
-    Ok(Turn::File { name, content })
+    Ok(Turn::File { dir, name, content })
 }
 
 /// What a file asks for: its name is free, and its content within the limits.
-fn file_asks(core: &Core, size: u64, name: Bytes, content: Content) -> Result<Turn, LineFault>
-    ensures { result ≡ named (can_open (core_of core.now).server.tree ROOT name) size name content }
+fn file_asks(core: &Core, size: u64, spot: Spot, content: Content) -> Result<Turn, LineFault>
+    ensures { result ≡ file_asks (place_for (core_of core.now).server.tree spot) size spot.name content }
 {
-    if core.server.can_open(ROOT, name.as_slice()) {
-        sized(name, content, size)
-    } else {
-        Err(LineFault::Grammar)
+    match place_for(&core.server, &spot) {
+        Some(dir) => sized(dir, spot.name, content, size),
+        None => Err(LineFault::Grammar),
+    }
+}
+
+/// What a directory asks for: its name is free.
+fn directory_asks(core: &Core, spot: Spot) -> Result<Turn, LineFault>
+    ensures { result ≡ directory_asks (place_for (core_of core.now).server.tree spot) spot.name }
+{
+    match place_for(&core.server, &spot) {
+        Some(dir) => Ok(Turn::Dir {
+            dir,
+            name: spot.name,
+        }),
+        None => Err(LineFault::Grammar),
     }
 }
 
@@ -192,16 +209,25 @@ fn has_session(core: &Core, session: u64) -> bool
     place_of(core.sessions.len(), session).is_some()
 }
 
-/// A client that is there does what it is told to.
+/// A client that is there does what it is told to, if that is a command on a file: one on names is no
+/// line of a trace yet.
 fn do_asks(core: &Core, client: u64, now: u64, command: Command) -> Result<Turn, LineFault>
-    ensures { result ≡ asks_if (is_there (numbered (core_of core.now).seats client)) (turn.Do client now command) }
+    ensures { result ≡ do_asks (core_of core.now) client now command }
 {
-    let turn = Turn::Do {
-        client,
-        now,
-        command,
-    };
-    asks_if(has_client(core, client), turn)
+    match command {
+        Command::Named(named) => {
+            drop(named);
+            Err(LineFault::Grammar)
+        }
+        command => {
+            let turn = Turn::Do {
+                client,
+                now,
+                command,
+            };
+            asks_if(has_client(core, client), turn)
+        }
+    }
 }
 
 /// Bytes go up a session that was made.
@@ -344,7 +370,8 @@ fn files_asks(world: &WorldState, line: Line) -> Result<Turn, LineFault>
     ensures { result ≡ asks_at (world_of world.now) stage.Files line }
 {
     match line {
-        Line::File { name, content } => file_asks(&world.core, world.size, name, content),
+        Line::Dir(spot) => directory_asks(&world.core, spot),
+        Line::File { spot, content } => file_asks(&world.core, world.size, spot, content),
         line => event_asks(&world.core, line),
     }
 }

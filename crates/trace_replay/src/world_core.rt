@@ -4,12 +4,10 @@
 ghost use Rattle.std.specs.Prelude.{◌≡◌, ◌+◌, ◌<◌, ◌^◌, [], ◌++◌, replicate, IfOk, OnOk};
 ghost use Rattle.server_core.specs.State.{empty};
 ghost use Rattle.server_core.specs.Step.{opens_with};
-ghost use Rattle.trace_replay.specs.declared.opening.TheConstants.{ROOT};
 ghost use Rattle.trace_replay.specs.Core.{new_seat, happens, Event.Joins, Event.Does, Event.Serves, Event.Hears, Event.Settles, Event.Cuts, Event.Hangs};
 ghost use Rattle.trace_replay.specs.View.{core_of, core_step_of};
 
 use crate::core_step::CoreStep;
-use crate::opening::ROOT;
 use crate::seat::Seat;
 use crate::session::Session;
 use crate::{commanding, disconnecting, hearing, joining, serving, settling};
@@ -68,12 +66,12 @@ impl Core {
         })
     }
 
-    /// The tree opens with a file or directory of the root, where its name is free. The one error is
+    /// The tree opens with a file or directory of this name, where that is free in the directory. The one error is
     /// want of memory, and all then stays as it was.
-    pub fn open(&mut self, name: Name, body: Body) -> Result<(), AllocError>
-        ensures { OnOk result (core_of self.new ≡ record (core_of self.old) { server = opens_with (core_of self.old).server ROOT name body }) }
+    pub fn open(&mut self, dir: u64, name: Name, body: Body) -> Result<(), AllocError>
+        ensures { OnOk result (core_of self.new ≡ record (core_of self.old) { server = opens_with (core_of self.old).server dir name body }) }
     {
-        self.server.open(ROOT, name, body)
+        self.server.open(dir, name, body)
     }
 
     /// So many clients, none of which has joined. The one error is want of memory.

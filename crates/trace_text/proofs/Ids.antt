@@ -2,20 +2,26 @@
 use Rattle.std.proofs.Common.{◌≡◌, ℕ, ◌<◌, ◌-◌, ◌^◌, List, [], ◌∷◌, Option, Some, None, Bool, true, false, take, drop, refl, arith, subst}
 use Rattle.std.specs.Prelude.{cond, Result, Ok, Err, IfOk, ◌&&◌, codes, bytes_eq, nat_lt, nat_le}
 use Rattle.std.proofs.lemmas.Bool.Decides.{nat_tests}
-use Rattle.command_text.specs.Commands.{open_of, write_of, trunc_of, read_of, close_of, abandon_of, command_of}
-use Rattle.command_text.specs.Fields.{◌>>=◌, value_from, value_of, is_decimal, number_of, number_within, name_of, content_of, id_of}
+use Rattle.command_text.specs.Commands.{open_of, write_of, trunc_of, read_of, close_of, abandon_of, find_of, open_at, one_spot, spot_command, rename_of, list_of, look_of, path_command_of, command_of}
+use Rattle.command_text.specs.Fields.{◌>>=◌, value_from, value_of, is_decimal, number_of, number_within, content_of, id_of}
+use Rattle.command_text.specs.Paths.{spot_of, path_of}
 use Rattle.command_text.specs.Reading.{Gives}
 use Rattle.trace_text.specs.Fields.{reading_of, amount_of, who_of, key_of}
-use Rattle.trace_text.specs.Grammar.{version_of, term_of, drift_of, clients_of, file_of, join_of, do_of, up_of, down_of, pass_of, settle_of, cut_of, hang_of, forge_of, clear_of, evict_of, event_from, line_from, said_by, is_skipped, line_of}
+use Rattle.trace_text.specs.Grammar.{version_of, term_of, drift_of, clients_of, dir_of, file_of, join_of, do_of, up_of, down_of, pass_of, settle_of, cut_of, hang_of, forge_of, clear_of, evict_of, event_from, line_from, said_by, is_skipped, line_of}
 use Rattle.command_text.specs.Parts.{words_of}
 use Rattle.trace_text.specs.Reading.{IsTimely}
 use Rattle.command_text.specs.declared.line_err.LineErr.{LineErr}
 use Rattle.command_text.specs.declared.command.Command.{Command}
-use Rattle.command_text.specs.declared.command.Command.TheVariants.{Open, Write, Trunc, Read, Close, Abandon}
+use Rattle.command_text.specs.declared.command.Command.TheVariants.{Open, Write, Trunc, Read, Close, Abandon, Named}
+use Rattle.command_text.specs.declared.path.PathCommand.{PathCommand}
+use Rattle.command_text.specs.declared.path.PathCommand.TheVariants.{Find, Look, LookRoot, List as Lists, Make, MakeDir, Remove, RemoveDir, Rename}
+use Rattle.command_text.specs.declared.path.Spot.{Spot}
 use Rattle.trace_text.specs.declared.line.Line.{Line}
-use Rattle.trace_text.specs.declared.line.Line.TheVariants.{Version, Term, Drift, Clients, File, Join, Do, Up, Down, Pass, Settle, Cut, Hang, Forge, Clear, Evict, Skipped}
+use Rattle.trace_text.specs.declared.line.Line.TheVariants.{Version, Term, Drift, Clients, Dir, File, Join, Do, Up, Down, Pass, Settle, Cut, Hang, Forge, Clear, Evict, Skipped}
+use Rattle.trace_text.proofs.Found.{Of, of_it, of_then, of_either, of_any}
+use Rattle.trace_text.proofs.ShortNames.{AreShort, IsShortSpot, AreNamesShort, short_spot, short_path}
 
--- the numbers in a command have at most 64 bits
+-- the numbers in a command have at most 64 bits, and its names 255 bytes each
 abbrev pub IsSmall : Command → Type 0
 IsSmall (Open id) = id < 2 ^ 64
 IsSmall (Write id offset content) = (id < 2 ^ 64) × (offset < 2 ^ 64)
@@ -23,32 +29,14 @@ IsSmall (Trunc id size) = (id < 2 ^ 64) × (size < 2 ^ 64)
 IsSmall (Read id offset count) = (id < 2 ^ 64) × (offset < 2 ^ 64) × (count < 2 ^ 64)
 IsSmall (Close id) = id < 2 ^ 64
 IsSmall (Abandon id) = id < 2 ^ 64
+IsSmall (Named k) = AreNamesShort k
 
--- the numbers in the command of a line, if it has one, have at most 64 bits, and the server's reading that it brings to a step 63
+-- the numbers in the command of a line, if it has one, have at most 64 bits, and the server's reading that it brings to a step 63; its names have at most 255 bytes each
 abbrev pub IsFit : Line → Type 0
 IsFit (Do client at command) = IsSmall command
+IsFit (Dir s) = IsShortSpot s
+IsFit (File s content) = IsShortSpot s
 IsFit line = IsTimely line
-
--- ---- a fact of what is there, if anything is
-
-abbrev Of : {A : Type 0} → (A → Type 0) → Option A → Type 0
-Of P None = Unit {0}
-Of P (Some a) = P a
-
-of_it : {A : Type 0} (P : A → Type 0) (o : Option A) (a : A) → Of P o → o ≡ Some a → P a
-of_it P o a h e = subst (λ x. Of P x) e h
-
-of_then : {A B : Type 0} (P : A → Type 0) (Q : B → Type 0) (o : Option A) (f : A → Option B) → Of P o → ((a : A) → P a → Of Q (f a)) → Of Q (o >>= f)
-of_then P Q None f h go = tt
-of_then P Q (Some a) f h go = go a h
-
-of_either : {A : Type 0} (P : A → Type 0) (b : Bool) (x y : Option A) → Of P x → Of P y → Of P (cond b x y)
-of_either P true x y h k = h
-of_either P false x y h k = k
-
-of_any : {A : Type 0} (o : Option A) → Of (λ a. Unit {0}) o
-of_any None = tt
-of_any (Some a) = tt
 
 -- ---- fields
 
@@ -101,10 +89,15 @@ of_clients [] = tt
 of_clients (v ∷ []) = of_then (λ a. Unit {0}) IsFit (number_within 1 16 v) (λ n. Some (Clients n)) (of_any (number_within 1 16 v)) (λ a h. tt)
 of_clients (v ∷ w ∷ ws) = tt
 
+of_dir : (ws : List (List ℕ)) → Of IsFit (dir_of ws)
+of_dir [] = tt
+of_dir (v ∷ []) = of_then IsShortSpot IsFit (spot_of v) (λ s. Some (Dir s)) (short_spot v) (λ s h. h)
+of_dir (v ∷ w ∷ ws) = tt
+
 of_file : (ws : List (List ℕ)) → Of IsFit (file_of ws)
 of_file [] = tt
 of_file (v ∷ []) = tt
-of_file (v ∷ w ∷ []) = of_then (λ a. Unit {0}) IsFit (name_of v) (λ n. content_of w >>= λ c. Some (File n c)) (of_any (name_of v)) (λ n h. of_then (λ a. Unit {0}) IsFit (content_of w) (λ c. Some (File n c)) (of_any (content_of w)) (λ c i. tt))
+of_file (v ∷ w ∷ []) = of_then IsShortSpot IsFit (spot_of v) (λ s. content_of w >>= λ c. Some (File s c)) (short_spot v) (λ s h. of_then (λ a. Unit {0}) IsFit (content_of w) (λ c. Some (File s c)) (of_any (content_of w)) (λ c i. h))
 of_file (v ∷ w ∷ x ∷ ws) = tt
 
 of_join : (ws : List (List ℕ)) → Of IsFit (join_of ws)
@@ -114,9 +107,16 @@ of_join (v ∷ w ∷ []) = tt
 of_join (v ∷ w ∷ x ∷ []) = of_then (λ a. Unit {0}) IsFit (number_of v) _ (of_any (number_of v)) (λ c h. of_then (λ a. Unit {0}) IsFit (reading_of w) _ (of_any (reading_of w)) (λ a i. of_then (λ a. Unit {0}) IsFit (reading_of x) (λ s. Some (Join c a s)) (of_any (reading_of x)) (λ s j. tt)))
 of_join (v ∷ w ∷ x ∷ y ∷ ws) = tt
 
+of_find : (word : List ℕ) → Of IsSmall (find_of word)
+of_find word = of_then IsShortSpot IsSmall (spot_of word) (λ s. Some (Named (Find s))) (short_spot word) (λ s h. h)
+
+of_open_at : (word : List ℕ) (o : Option ℕ) → Of (λ n. n < 2 ^ 64) o → Of IsSmall (open_at word o)
+of_open_at word (Some n) h = h
+of_open_at word None h = of_find word
+
 of_open : (ws : List (List ℕ)) → Of IsSmall (open_of ws)
 of_open [] = tt
-of_open (v ∷ []) = of_then (λ n. n < 2 ^ 64) IsSmall (id_of v) (λ n. Some (Open n)) (of_id v) (λ n h. h)
+of_open (v ∷ []) = of_open_at v (id_of v) (of_id v)
 of_open (v ∷ w ∷ ws) = tt
 
 of_write : (ws : List (List ℕ)) → Of IsSmall (write_of ws)
@@ -149,10 +149,40 @@ of_abandon [] = tt
 of_abandon (v ∷ []) = of_then (λ n. n < 2 ^ 64) IsSmall (id_of v) (λ n. Some (Abandon n)) (of_id v) (λ n h. h)
 of_abandon (v ∷ w ∷ ws) = tt
 
+of_one : (ws : List (List ℕ)) → Of IsShortSpot (one_spot ws)
+of_one [] = tt
+of_one (v ∷ []) = short_spot v
+of_one (v ∷ w ∷ ws) = tt
+
+of_spot : (k : Spot → PathCommand) (ws : List (List ℕ)) → ((s : Spot) → IsShortSpot s → AreNamesShort (k s)) → Of IsSmall (spot_command k ws)
+of_spot k ws short = of_then IsShortSpot IsSmall (one_spot ws) (λ s. Some (Named (k s))) (of_one ws) short
+
+of_rename : (ws : List (List ℕ)) → Of IsSmall (rename_of ws)
+of_rename [] = tt
+of_rename (v ∷ []) = tt
+of_rename (v ∷ w ∷ []) = of_then IsShortSpot IsSmall (spot_of v) (λ f. spot_of w >>= λ t. Some (Named (Rename f t))) (short_spot v) (λ f h. of_then IsShortSpot IsSmall (spot_of w) (λ t. Some (Named (Rename f t))) (short_spot w) (λ t i. (h, i)))
+of_rename (v ∷ w ∷ x ∷ ws) = tt
+
+of_list : (ws : List (List ℕ)) → Of IsSmall (list_of ws)
+of_list [] = tt
+of_list (v ∷ []) = of_then AreShort IsSmall (path_of v) (λ p. Some (Named (Lists p))) (short_path v) (λ p h. h)
+of_list (v ∷ w ∷ ws) = tt
+
+of_look : (ws : List (List ℕ)) → Of IsSmall (look_of ws)
+of_look [] = tt
+of_look (v ∷ []) = of_either IsSmall (bytes_eq v (codes "/")) (Some (Named LookRoot)) (spot_of v >>= λ s. Some (Named (Look s))) tt (of_then IsShortSpot IsSmall (spot_of v) (λ s. Some (Named (Look s))) (short_spot v) (λ s h. h))
+of_look (v ∷ w ∷ ws) = tt
+
+of_named : (word : List ℕ) (ws : List (List ℕ)) → Of IsSmall (path_command_of word ws)
+of_named word ws =
+    of_either IsSmall (bytes_eq word (codes "make")) _ _ (of_spot Make ws (λ s h. h)) (of_either IsSmall (bytes_eq word (codes "mkdir")) _ _ (of_spot MakeDir ws (λ s h. h)) (of_either IsSmall (bytes_eq word (codes "remove")) _ _ (of_spot Remove ws (λ s h. h))
+    (of_either IsSmall (bytes_eq word (codes "rmdir")) _ _ (of_spot RemoveDir ws (λ s h. h)) (of_either IsSmall (bytes_eq word (codes "rename")) _ _ (of_rename ws) (of_either IsSmall (bytes_eq word (codes "list")) _ _ (of_list ws)
+    (of_either IsSmall (bytes_eq word (codes "look")) (look_of ws) None (of_look ws) tt))))))
+
 of_command : (word : List ℕ) (ws : List (List ℕ)) → Of IsSmall (command_of word ws)
 of_command word ws =
     of_either IsSmall (bytes_eq word (codes "open")) _ _ (of_open ws) (of_either IsSmall (bytes_eq word (codes "write")) _ _ (of_write ws) (of_either IsSmall (bytes_eq word (codes "trunc")) _ _ (of_trunc ws)
-    (of_either IsSmall (bytes_eq word (codes "read")) _ _ (of_read ws) (of_either IsSmall (bytes_eq word (codes "close")) _ _ (of_close ws) (of_either IsSmall (bytes_eq word (codes "abandon")) (abandon_of ws) None (of_abandon ws) tt)))))
+    (of_either IsSmall (bytes_eq word (codes "read")) _ _ (of_read ws) (of_either IsSmall (bytes_eq word (codes "close")) _ _ (of_close ws) (of_either IsSmall (bytes_eq word (codes "abandon")) (abandon_of ws) (path_command_of word ws) (of_abandon ws) (of_named word ws))))))
 
 of_do : (ws : List (List ℕ)) → Of IsFit (do_of ws)
 of_do [] = tt
@@ -230,7 +260,7 @@ of_event kind ws =
 of_kind : (kind : List ℕ) (ws : List (List ℕ)) → Of IsFit (line_from kind ws)
 of_kind kind ws =
     of_either IsFit (bytes_eq kind (codes "lbfs-trace")) _ _ (of_version ws) (of_either IsFit (bytes_eq kind (codes "term")) _ _ (of_term ws) (of_either IsFit (bytes_eq kind (codes "drift")) _ _ (of_drift ws)
-    (of_either IsFit (bytes_eq kind (codes "clients")) _ _ (of_clients ws) (of_either IsFit (bytes_eq kind (codes "file")) (file_of ws) (event_from kind ws) (of_file ws) (of_event kind ws)))))
+    (of_either IsFit (bytes_eq kind (codes "clients")) _ _ (of_clients ws) (of_either IsFit (bytes_eq kind (codes "dir")) _ _ (of_dir ws) (of_either IsFit (bytes_eq kind (codes "file")) (file_of ws) (event_from kind ws) (of_file ws) (of_event kind ws))))))
 
 of_said : (ws : List (List ℕ)) → Of IsFit (said_by ws)
 of_said [] = tt
@@ -246,6 +276,8 @@ fit_line line said e = of_it IsFit (line_of line) said (of_line line) e
 -- a line that fits is timely
 timely : (said : Line) → IsFit said → IsTimely said
 timely (Do client at command) h = tt
+timely (Dir s) h = tt
+timely (File s content) h = tt
 timely said h = h
 
 pub timely_line : (line : List ℕ) (said : Line) → line_of line ≡ Some said → IsTimely said

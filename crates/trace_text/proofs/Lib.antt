@@ -1,2 +1,4 @@
+pub mod Found
+pub mod ShortNames
 pub mod Ids
 pub mod Hex

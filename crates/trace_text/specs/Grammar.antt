@@ -3,9 +3,10 @@ use Rattle.std.specs.Prelude.{ℕ, List, [], ◌∷◌, Bool, ◌||◌, ◌==◌
 use Rattle.limits.specs.declared.TheConstants.{TERM_MOST, DRIFT_MOST, CLIENTS_MOST}
 use Rattle.command_text.specs.Commands.{command_of}
 use Rattle.command_text.specs.declared.command.Command.{Command}
-use Rattle.command_text.specs.Fields.{◌>>=◌, number_of, number_within, name_of, content_of}
+use Rattle.command_text.specs.Fields.{◌>>=◌, number_of, number_within, content_of}
+use Rattle.command_text.specs.Paths.{spot_of}
 use Rattle.trace_text.specs.declared.line.Line.{Line}
-use Rattle.trace_text.specs.declared.line.Line.TheVariants.{Version, Term, Drift, Clients, File, Join, Do, Up, Down, Pass, Settle, Cut, Hang, Forge, Clear, Evict, Skipped}
+use Rattle.trace_text.specs.declared.line.Line.TheVariants.{Version, Term, Drift, Clients, Dir, File, Join, Do, Up, Down, Pass, Settle, Cut, Hang, Forge, Clear, Evict, Skipped}
 use Rattle.trace_text.specs.Fields.{reading_of, amount_of, who_of, key_of}
 use Rattle.command_text.specs.Parts.{words_of}
 
@@ -29,9 +30,14 @@ abbrev pub clients_of : List (List ℕ) → Option Line
 clients_of (count ∷ []) = number_within 1 CLIENTS_MOST count >>= λ n. Some (Clients n)
 clients_of words = None
 
--- file NAME CONTENT
+-- dir PATH, which isn't `/`
+abbrev pub dir_of : List (List ℕ) → Option Line
+dir_of (path ∷ []) = spot_of path >>= λ s. Some (Dir s)
+dir_of words = None
+
+-- file PATH CONTENT, where the path isn't `/`
 abbrev pub file_of : List (List ℕ) → Option Line
-file_of (name ∷ content ∷ []) = name_of name >>= λ n. content_of content >>= λ c. Some (File n c)
+file_of (path ∷ content ∷ []) = spot_of path >>= λ s. content_of content >>= λ c. Some (File s c)
 file_of words = None
 
 -- join C c s
@@ -122,6 +128,7 @@ line_from kind words =
     else if bytes_eq kind (codes "term") then term_of words
     else if bytes_eq kind (codes "drift") then drift_of words
     else if bytes_eq kind (codes "clients") then clients_of words
+    else if bytes_eq kind (codes "dir") then dir_of words
     else if bytes_eq kind (codes "file") then file_of words
     else event_from kind words
 

@@ -5,9 +5,11 @@ use Rattle.clock_rule.specs.declared.rule.ClockFault.TheVariants as clock
 use Rattle.command_text.specs.declared.content.Part.TheVariants.{Bytes, Zeros}
 use Rattle.trace_text.specs.declared.line.Amount.TheVariants as amount
 use Rattle.trace_text.specs.declared.line.Who.TheVariants as who
-use Rattle.command_text.specs.declared.command.Command.TheVariants.{Open, Write, Trunc, Read, Close, Abandon}
+use Rattle.command_text.specs.declared.command.Command.TheVariants.{Open, Write, Trunc, Read, Close, Abandon, Named}
+use Rattle.command_text.specs.declared.path.PathCommand.TheVariants.{Find, Look, LookRoot, List as Lists, Make, MakeDir, Remove, RemoveDir, Rename}
+use Rattle.command_text.specs.declared.path.Spot.{Spot}
 use Rattle.trace_text.specs.declared.line.Line.{Line}
-use Rattle.trace_text.specs.declared.line.Line.TheVariants.{Version, Term, Drift, Clients, File, Join, Do, Up, Down, Pass, Settle, Cut, Hang, Forge, Clear, Evict, Skipped}
+use Rattle.trace_text.specs.declared.line.Line.TheVariants.{Version, Term, Drift, Clients, Dir, File, Join, Do, Up, Down, Pass, Settle, Cut, Hang, Forge, Clear, Evict, Skipped}
 use Rattle.trace_text.specs.declared.refusal.Limit.TheVariants.{Lines, Tree, Sessions}
 use Rattle.trace_text.specs.declared.refusal.Limit.TheVariants.{File as OfFile}
 use Rattle.trace_text.specs.declared.refusal.LineFault.TheVariants.{Grammar, Limit, Clock}
@@ -20,12 +22,18 @@ use Rattle.trace_text.specs.Refusals.{refusal_of}
 abbrev said : List (List ℕ) → List (Option Line)
 said lines = map line_of lines
 
+abbrev root_name : List ℕ → Spot
+root_name name = record { dirs = []; name = name }
+
+abbrev b_in_a : Spot
+b_in_a = record { dirs = codes "a" ∷ []; name = codes "b" }
+
 -- a whole trace
-trace : said (lines_of (codes "lbfs-trace 1\nterm 60000\ndrift 100\nclients 1\nfile a t:abc\njoin 1 0 0\ndo 1 0 open #2\npass 1 4 0 0\n")) ≡ (Some Version ∷ Some (Term 60000) ∷ Some (Drift 100) ∷ Some (Clients 1) ∷ Some (File (codes "a") (Bytes (codes "abc") ∷ [])) ∷ Some (Join 1 0 0) ∷ Some (Do 1 0 (Open 2)) ∷ Some (Pass 1 4 0 0) ∷ [])
+trace : said (lines_of (codes "lbfs-trace 1\nterm 60000\ndrift 100\nclients 1\nfile a t:abc\njoin 1 0 0\ndo 1 0 open #2\npass 1 4 0 0\n")) ≡ (Some Version ∷ Some (Term 60000) ∷ Some (Drift 100) ∷ Some (Clients 1) ∷ Some (File (root_name (codes "a")) (Bytes (codes "abc") ∷ [])) ∷ Some (Join 1 0 0) ∷ Some (Do 1 0 (Open 2)) ∷ Some (Pass 1 4 0 0) ∷ [])
 trace = refl
 
 -- lines at the edges of the grammar
-taken : said (codes "term 1" ∷ codes "term 3600000" ∷ codes "drift 0" ∷ codes "drift 3600000" ∷ codes "clients 16" ∷ codes "file ... -" ∷ codes "file a-Z_0.9 t:." ∷ codes "join 18446744073709551615 9223372036854775807 0" ∷ codes "do 0 0 open #0" ∷ codes "pass 0 18446744073709551615 0 9223372036854775807" ∷ []) ≡ (Some (Term 1) ∷ Some (Term 3600000) ∷ Some (Drift 0) ∷ Some (Drift 3600000) ∷ Some (Clients 16) ∷ Some (File (codes "...") []) ∷ Some (File (codes "a-Z_0.9") (Bytes (codes ".") ∷ [])) ∷ Some (Join 18446744073709551615 9223372036854775807 0) ∷ Some (Do 0 0 (Open 0)) ∷ Some (Pass 0 18446744073709551615 0 9223372036854775807) ∷ [])
+taken : said (codes "term 1" ∷ codes "term 3600000" ∷ codes "drift 0" ∷ codes "drift 3600000" ∷ codes "clients 16" ∷ codes "file ... -" ∷ codes "file a-Z_0.9 t:." ∷ codes "join 18446744073709551615 9223372036854775807 0" ∷ codes "do 0 0 open #0" ∷ codes "pass 0 18446744073709551615 0 9223372036854775807" ∷ []) ≡ (Some (Term 1) ∷ Some (Term 3600000) ∷ Some (Drift 0) ∷ Some (Drift 3600000) ∷ Some (Clients 16) ∷ Some (File (root_name (codes "...")) []) ∷ Some (File (root_name (codes "a-Z_0.9")) (Bytes (codes ".") ∷ [])) ∷ Some (Join 18446744073709551615 9223372036854775807 0) ∷ Some (Do 0 0 (Open 0)) ∷ Some (Pass 0 18446744073709551615 0 9223372036854775807) ∷ [])
 taken = refl
 
 -- each command of a client
@@ -33,6 +41,14 @@ commands : said (codes "do 1 2 open #3" ∷ codes "do 1 2 write #3 4 t:ab+z:5" �
 commands = refl
 
 -- its edges
+-- each command on names
+commands_on_names : said (codes "do 1 2 open a/b/c" ∷ codes "do 1 2 open 2" ∷ codes "do 1 2 make a" ∷ codes "do 1 2 mkdir a/b" ∷ codes "do 1 2 remove a" ∷ codes "do 1 2 rmdir a" ∷ codes "do 1 2 rename a a/b" ∷ codes "do 1 2 list /" ∷ codes "do 1 2 list a" ∷ codes "do 1 2 look /" ∷ codes "do 1 2 look a" ∷ []) ≡ (Some (Do 1 2 (Named (Find (record { dirs = codes "a" ∷ codes "b" ∷ []; name = codes "c" })))) ∷ Some (Do 1 2 (Named (Find (root_name (codes "2"))))) ∷ Some (Do 1 2 (Named (Make (root_name (codes "a"))))) ∷ Some (Do 1 2 (Named (MakeDir b_in_a))) ∷ Some (Do 1 2 (Named (Remove (root_name (codes "a"))))) ∷ Some (Do 1 2 (Named (RemoveDir (root_name (codes "a"))))) ∷ Some (Do 1 2 (Named (Rename (root_name (codes "a")) b_in_a))) ∷ Some (Do 1 2 (Named (Lists []))) ∷ Some (Do 1 2 (Named (Lists (codes "a" ∷ [])))) ∷ Some (Do 1 2 (Named LookRoot)) ∷ Some (Do 1 2 (Named (Look (root_name (codes "a"))))) ∷ [])
+commands_on_names = refl
+
+-- files and directories that are there from the start
+opening : said (codes "dir a" ∷ codes "dir a/b" ∷ codes "file a/b -" ∷ codes "file ... z:1" ∷ []) ≡ (Some (Dir (root_name (codes "a"))) ∷ Some (Dir b_in_a) ∷ Some (File b_in_a []) ∷ Some (File (root_name (codes "...")) (Zeros 1 ∷ [])) ∷ [])
+opening = refl
+
 commands_at_edges : said (codes "do 0 0 write #0 0 -" ∷ codes "do 0 9223372036854775807 write #18446744073709551615 18446744073709551615 z:18446744073709551615" ∷ codes "do 0 0 trunc #0 0" ∷ codes "do 0 0 trunc #18446744073709551615 18446744073709551615" ∷ codes "do 0 0 read #0 0 0" ∷ codes "do 0 0 read #18446744073709551615 18446744073709551615 18446744073709551615" ∷ codes "do 0 0 close #18446744073709551615" ∷ codes "do 0 0 abandon #0" ∷ []) ≡ (Some (Do 0 0 (Write 0 0 [])) ∷ Some (Do 0 9223372036854775807 (Write 18446744073709551615 18446744073709551615 (Zeros 18446744073709551615 ∷ []))) ∷ Some (Do 0 0 (Trunc 0 0)) ∷ Some (Do 0 0 (Trunc 18446744073709551615 18446744073709551615)) ∷ Some (Do 0 0 (Read 0 0 0)) ∷ Some (Do 0 0 (Read 18446744073709551615 18446744073709551615 18446744073709551615)) ∷ Some (Do 0 0 (Close 18446744073709551615)) ∷ Some (Do 0 0 (Abandon 0)) ∷ [])
 commands_at_edges = refl
 
@@ -51,10 +67,13 @@ refused = refl
 refused_number : said (codes "term 01" ∷ codes "drift 00" ∷ codes "drift +1" ∷ codes "drift -0" ∷ codes "drift 1a" ∷ codes "drift 0x1" ∷ codes "term 0" ∷ codes "term 3600001" ∷ codes "drift 3600001" ∷ codes "clients 0" ∷ codes "clients 17" ∷ codes "join 18446744073709551616 0 0" ∷ codes "join 1 9223372036854775808 0" ∷ codes "join 1 0 9223372036854775808" ∷ codes "pass 1 18446744073709551616 0 0" ∷ codes "lbfs-trace 2" ∷ codes "lbfs-trace 01" ∷ []) ≡ replicate 17 None
 refused_number = refl
 
-refused_file : said (codes "file a" ∷ codes "file  -" ∷ codes "file . -" ∷ codes "file .. -" ∷ codes "file a/b -" ∷ codes "file a~ -" ∷ codes "file a --" ∷ codes "file a t:" ∷ codes "file a t" ∷ codes "file a abc" ∷ codes "file a t:a b" ∷ []) ≡ replicate 11 None
+refused_file : said (codes "file a" ∷ codes "file  -" ∷ codes "file . -" ∷ codes "file .. -" ∷ codes "file / -" ∷ codes "file /a -" ∷ codes "file a/ -" ∷ codes "file a//b -" ∷ codes "file a/. -" ∷ codes "file a~ -" ∷ codes "file a --" ∷ codes "file a t:" ∷ codes "file a t" ∷ codes "file a abc" ∷ codes "file a t:a b" ∷ []) ≡ replicate 15 None
 refused_file = refl
 
-refused_event : said (codes "join 1 0" ∷ codes "join 1 0 0 0" ∷ codes "do 1 0" ∷ codes "do 1 0 open" ∷ codes "do 1 0 open 2" ∷ codes "do 1 0 open #" ∷ codes "do 1 0 open #02" ∷ codes "do 1 0 open ##2" ∷ codes "do 1 0 open #2 #3" ∷ codes "do 1 0 Open #2" ∷ codes "pass 1 4 0" ∷ codes "pass 1 4 0 0 0" ∷ []) ≡ replicate 12 None
+refused_directory : said (codes "dir" ∷ codes "dir /" ∷ codes "dir ." ∷ codes "dir a/.." ∷ codes "dir a b" ∷ codes "dir  " ∷ codes "dir a -" ∷ []) ≡ replicate 7 None
+refused_directory = refl
+
+refused_event : said (codes "join 1 0" ∷ codes "join 1 0 0 0" ∷ codes "do 1 0" ∷ codes "do 1 0 open" ∷ codes "do 1 0 open /" ∷ codes "do 1 0 open #" ∷ codes "do 1 0 open #02" ∷ codes "do 1 0 open ##2" ∷ codes "do 1 0 open #2 #3" ∷ codes "do 1 0 Open #2" ∷ codes "pass 1 4 0" ∷ codes "pass 1 4 0 0 0" ∷ []) ≡ replicate 12 None
 refused_event = refl
 
 -- no command

@@ -1,17 +1,15 @@
 //! Each kind of line, from the words behind its first: the lines that say what there is at first.
 //! The rule is `line_from` of `specs/Grammar.antt`.
 
-ghost use Rattle.std.specs.Prelude.{◌≡◌, false, true, [], ◌∷◌, None, bytes_eq, codes, MatchOption};
-ghost use Rattle.command_text.specs.Fields.{is_name};
+ghost use Rattle.std.specs.Prelude.{◌≡◌, false, [], ◌∷◌, None, bytes_eq, codes, MatchOption};
 ghost use Rattle.command_text.specs.Reading.{Gives};
-ghost use Rattle.trace_text.specs.Grammar.{version_of, term_of, drift_of, clients_of, file_of, line_from};
+ghost use Rattle.trace_text.specs.Grammar.{version_of, term_of, drift_of, clients_of, dir_of, file_of, line_from};
 
 use crate::events::{command_line, event};
 use crate::line::Line;
 use command_text::line_err::LineErr;
 use command_text::parts::Words;
-use command_text::{fields, pieces};
-use lb_base::items::Name;
+use command_text::{fields, path, pieces};
 use limits::{CLIENTS_MOST, DRIFT_MOST, TERM_MOST};
 use std::alloc::Global;
 
@@ -55,34 +53,46 @@ fn clients(words: &mut Words) -> Option<Line>
     Some(Line::Clients(fields::number_within(1, CLIENTS_MOST, count)?))
 }
 
-/// The words of a file's name and content.
-fn file_words<'a>(words: &mut Words<'a>) -> Option<(&'a [u8], &'a [u8])>
-    ensures { MatchOption result (file_of words.old ≡ None) (λ p. (words.old ≡ p.0.now ∷ p.1.now ∷ []) × (is_name p.0.now ≡ true)) }
+/// The word of a directory's path.
+fn dir_word<'a>(words: &mut Words<'a>) -> Option<&'a [u8]>
+    ensures { MatchOption result (dir_of words.old ≡ None) (λ p. words.old ≡ p.now ∷ []) }
 {
-    let name = words.next()?;
-    let content = words.next()?;
+    let path = words.next()?;
     words.end()?;
-    if fields::is_name(name) {
-        Some((name, content))
-    } else {
-        None
-    }
+    Some(path)
 }
 
-/// `file NAME CONTENT`.
+/// `dir PATH`.
+fn dir(alloc: Global, words: &mut Words) -> Result<Line, LineErr>
+    ensures { Gives result (dir_of words.old) }
+{
+    let path = dir_word(words).ok_or(LineErr::BadLine)?;
+    Ok(Line::Dir(path::read_spot(alloc, path)?))
+}
+
+/// The words of a file's path and content.
+fn file_words<'a>(words: &mut Words<'a>) -> Option<(&'a [u8], &'a [u8])>
+    ensures { MatchOption result (file_of words.old ≡ None) (λ p. words.old ≡ p.0.now ∷ p.1.now ∷ []) }
+{
+    let path = words.next()?;
+    let content = words.next()?;
+    words.end()?;
+    Some((path, content))
+}
+
+/// `file PATH CONTENT`.
 fn file(alloc: Global, words: &mut Words) -> Result<Line, LineErr>
     ensures { Gives result (file_of words.old) }
 {
-    let (name, content) = file_words(words).ok_or(LineErr::BadLine)?;
+    let (path, content) = file_words(words).ok_or(LineErr::BadLine)?;
+    let spot = path::read_spot(alloc, path)?;
     let content = pieces::content(alloc, content)?;
-    Ok(Line::File {
-        name: Name::copy_of(alloc, name)?,
-        content,
-    })
+    Ok(Line::File { spot, content })
 }
 
-/// A line without a content that begins with this word.
+/// A line without a path, a content or a command that begins with this word.
 fn read_small(kind: &[u8], words: &mut Words) -> Option<Line>
+    requires dir { bytes_eq kind.now (codes "dir") ≡ false }
     requires file { bytes_eq kind.now (codes "file") ≡ false }
     requires command { bytes_eq kind.now (codes "do") ≡ false }
     ensures { result ≡ line_from kind.now words.old }
@@ -104,7 +114,9 @@ fn read_small(kind: &[u8], words: &mut Words) -> Option<Line>
 pub(crate) fn read_kind(alloc: Global, kind: &[u8], words: &mut Words) -> Result<Line, LineErr>
     ensures { Gives result (line_from kind.now words.old) }
 {
-    if kind == b"file".as_slice() {
+    if kind == b"dir".as_slice() {
+        dir(alloc, words)
+    } else if kind == b"file".as_slice() {
         file(alloc, words)
     } else if kind == b"do".as_slice() {
         command_line(alloc, words)

@@ -10,7 +10,7 @@ use command_text::command::Command;
 use command_text::content::Content;
 use command_text::line_err::LineErr;
 use command_text::parts::Words;
-use lb_base::items::Name;
+use command_text::path::Spot;
 use std::alloc::Global;
 
 /// How many bytes of a queue are delivered.
@@ -44,10 +44,13 @@ pub enum Line {
     Drift(u64),
     /// `clients N`: how many clients there are, 1 to 16.
     Clients(u64),
-    /// `file NAME CONTENT`: a file that is there from the start, in the root. The name has 1 to 255
-    /// bytes; the content may be of any length, and its bytes are not built yet.
+    /// `dir PATH`: a directory that is there from the start. Whether the directory that it stands in
+    /// is there, and its name is free, is the business of the world.
+    Dir(Spot),
+    /// `file PATH CONTENT`: a file that is there from the start, in a directory as `dir` has it. The
+    /// content may be of any length, and its bytes are not built yet.
     File {
-        name: Name,
+        spot: Spot,
         content: Content,
     },
     /// `join C c s`: the client gets a session.

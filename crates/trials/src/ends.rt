@@ -6,6 +6,7 @@ use hash_calls::message::Lb;
 use lb_base::items::{Bytes, Items, Name};
 use server_core::event::{Event, ServerStep, Told};
 use server_core::server::Server;
+use shared_bytes::SharedBytes;
 use std::alloc::{AllocError, Global};
 use std::test::Fail;
 use tree_nodes::content::Content;
@@ -54,7 +55,7 @@ fn end_of(step: &ServerStep) -> End {
 
 /// A connection is made.
 fn connected(alloc: Global, server: &mut Server) -> End {
-    let step = server.step(alloc, Event::Connect);
+    let step = server.step_unkept(alloc, Event::Connect);
     let end = end_of(&step);
     drop(step);
     end
@@ -67,7 +68,7 @@ fn called(alloc: Global, server: &mut Server, call: Lb) -> End {
         message: Message::Call(7, Body::Lb(call)),
         now: 0,
     };
-    let step = server.step(alloc, event);
+    let step = server.step_unkept(alloc, event);
     let end = end_of(&step);
     drop(step);
     end
@@ -102,7 +103,8 @@ fn zeros(alloc: Global, count: usize) -> Result<Bytes, AllocError> {
 /// 16 files of 67,108,864 bytes: all that a tree may have.
 fn fill(alloc: Global, server: &mut Server) -> Result<(), AllocError> {
     for letter in b'a'..b'q' {
-        let content = Content::new(alloc, zeros(alloc, 67_108_864)?)?;
+        let bytes = SharedBytes::new(alloc, zeros(alloc, 67_108_864)?)?;
+        let content = Content::new(alloc, bytes)?;
         let name = Name::copy_of(alloc, &[letter])?;
         server.open(1, name, NodeBody::File(content))?;
     }
@@ -139,7 +141,7 @@ fn committed(alloc: Global, server: &mut Server, size: u64) -> Result<End, Alloc
 
 /// How the session 1's calls end, one behind the other: a change of one byte, and one of no bytes.
 fn changes(alloc: Global, server: &mut Server) -> Result<[End; 5], AllocError> {
-    drop(server.step(alloc, Event::Connect));
+    drop(server.step_unkept(alloc, Event::Connect));
     Ok([
         made(alloc, server)?,
         written(alloc, server, b"a")?,

@@ -17,7 +17,7 @@ fn long_line(alloc: Global, begin: &[u8], letter: u8, count: usize) -> Result<Ve
 fn content_of(alloc: Global, line: &[u8]) -> Result<usize, LineErr> {
     match Line::read(alloc, line)? {
         Line::File {
-            name: _name,
+            spot: _spot,
             content,
         } => Ok(build(alloc, &content)?.len()),
         _ => Err(LineErr::BadLine),
