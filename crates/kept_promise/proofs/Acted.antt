@@ -8,6 +8,7 @@ use Rattle.kept_promise.proofs.History.{onward, grows_becomes}
 use Rattle.kept_promise.proofs.Later.{cached_later}
 use Rattle.kept_promise.proofs.Turns.{Around, around_with, turned_core}
 use Rattle.kept_promise.proofs.Facts.{IsOf, IsKept}
+use Rattle.kept_promise.proofs.Found.{op_found}
 use Rattle.kept_promise.proofs.Leading.{Leads, ups_put, ups_put_in}
 use Rattle.kept_promise.proofs.Cuts.{cut_core}
 use Rattle.kept_promise.proofs.Heard.{put_up}
@@ -97,26 +98,26 @@ ops_now book i seat j of c taken acts is =
     ap (λ (p : Option ℕ). ops_with book.ops p c taken (book.steps + 1) acts) (place_of seat j is)
     ∙ ap (λ (o : Option Op). ops_after book.ops j.place o c taken (book.steps + 1) acts) of.there
 
-leads_goes : (book : Book) (k : Core) (qs : List Queue) (n : ℕ) (x : Session) (q : Queue) (t : Told) (ts : List Told) (j : Job) (g : Here book k qs n x q t ts j) (c : client.State) (acts : ClientStep) → GoesTo book k qs n x q t ts j g c acts → Leads book (rest_down qs n q ts) (acted k x.owner (session_at book k qs n x q t ts j g).seat c acts)
-leads_goes book k qs n x q t ts j g c acts w =
+leads_goes : (book : Book) (k : Core) (qs : List Queue) (n : ℕ) (x : Session) (q : Queue) (t : Told) (ts : List Told) (j : Job) (g : Here book k qs n x q t ts j) (c : client.State) (acts : ClientStep) → acts.found ≡ None → GoesTo book k qs n x q t ts j g c acts → Leads book (rest_down qs n q ts) (acted k x.owner (session_at book k qs n x q t ts j g).seat c acts)
+leads_goes book k qs n x q t ts j g c acts none w =
     let h = session_at book k qs n x q t ts j g in
     let of = job_op book k qs x h.seat j g.kept h.owner g.job_is in
     let tr = counted of.op.traffic acts.counts in
-    let ops_is = ops_now book x.owner h.seat j of c x.taken acts g.job_is ∙ ap (λ (e : Option Ended). slice_set book.ops j.place (op_ended (counting of.op tr) c x.taken (book.steps + 1) e)) w.ended_is in
+    let ops_is = ops_now book x.owner h.seat j of c x.taken acts g.job_is ∙ ap (slice_set book.ops j.place) (op_found of.op c x.taken (book.steps + 1) acts none) ∙ ap (λ (e : Option Ended). slice_set book.ops j.place (op_ended (counting of.op tr) c x.taken (book.steps + 1) e)) w.ended_is in
     let place_is = ap (place_after h.seat.place) w.ended_is ∙ place_of h.seat j g.job_is in
     leads_acted book k qs n x q ts h.seat c acts (Some j.place) (slice_set book.ops j.place (counting of.op tr)) w.asks g.kept g.at g.is h.owner (h.here g.uncut).0 place_is ops_is w.send_is
     (λ seats after around queues. kept_goes book k qs n x q t ts j g w.to w.next w.forgotten w.asks w.cache w.index tr seats after w.shows w.cached (subst (λ (s : client.State). Around k.seats seats x.owner (record h.seat { client = s; place = Some j.place })) w.state_is around) queues)
 
-leads_ends : (book : Book) (k : Core) (qs : List Queue) (n : ℕ) (x : Session) (q : Queue) (t : Told) (ts : List Told) (j : Job) (g : Here book k qs n x q t ts j) (c : client.State) (acts : ClientStep) → EndsIn book k qs n x q t ts j g c acts → Leads book (rest_down qs n q ts) (acted k x.owner (session_at book k qs n x q t ts j g).seat c acts)
-leads_ends book k qs n x q t ts j g c acts w =
+leads_ends : (book : Book) (k : Core) (qs : List Queue) (n : ℕ) (x : Session) (q : Queue) (t : Told) (ts : List Told) (j : Job) (g : Here book k qs n x q t ts j) (c : client.State) (acts : ClientStep) → acts.found ≡ None → EndsIn book k qs n x q t ts j g c acts → Leads book (rest_down qs n q ts) (acted k x.owner (session_at book k qs n x q t ts j g).seat c acts)
+leads_ends book k qs n x q t ts j g c acts none w =
     let h = session_at book k qs n x q t ts j g in
     let of = job_op book k qs x h.seat j g.kept h.owner g.job_is in
     let tr = counted of.op.traffic acts.counts in
-    let ops_is = ops_now book x.owner h.seat j of c x.taken acts g.job_is ∙ ap (λ (e : Option Ended). slice_set book.ops j.place (op_ended (counting of.op tr) c x.taken (book.steps + 1) e)) w.ended_is ∙ ap (slice_set book.ops j.place) w.op_is in
+    let ops_is = ops_now book x.owner h.seat j of c x.taken acts g.job_is ∙ ap (slice_set book.ops j.place) (op_found of.op c x.taken (book.steps + 1) acts none) ∙ ap (λ (e : Option Ended). slice_set book.ops j.place (op_ended (counting of.op tr) c x.taken (book.steps + 1) e)) w.ended_is ∙ ap (slice_set book.ops j.place) w.op_is in
     let place_is = ap (place_after h.seat.place) w.ended_is in
     leads_acted book k qs n x q ts h.seat c acts None (slice_set book.ops j.place w.op) [] g.kept g.at g.is h.owner (h.here g.uncut).0 place_is ops_is w.send_is
     (λ seats after around queues. kept_stops book k qs n x q t ts j g w.op w.made w.opened w.forgotten w.cache w.index seats after w.shows (elim w.cached [ inl old ↦ cached_later book (onward book 1 (slice_set book.ops j.place w.op)) w.made (Some j.place) w.cache (grows_becomes book 1 w.made (Some j.place) j.place of.op w.op of.there w.shows.becomes) old | inr new ↦ new ]) (subst (λ (s : client.State). Around k.seats seats x.owner (record h.seat { client = s; place = None })) w.state_is around) queues)
 
-pub leads_comes : (book : Book) (k : Core) (qs : List Queue) (n : ℕ) (x : Session) (q : Queue) (t : Told) (ts : List Told) (j : Job) (g : Here book k qs n x q t ts j) (r : client.State × ClientStep) → Comes book k qs n x q t ts j g r → Leads book (rest_down qs n q ts) (acted k x.owner (session_at book k qs n x q t ts j g).seat r.0 r.1)
-leads_comes book k qs n x q t ts j g r (inl goes) = leads_goes book k qs n x q t ts j g r.0 r.1 goes
-leads_comes book k qs n x q t ts j g r (inr ends) = leads_ends book k qs n x q t ts j g r.0 r.1 ends
+pub leads_comes : (book : Book) (k : Core) (qs : List Queue) (n : ℕ) (x : Session) (q : Queue) (t : Told) (ts : List Told) (j : Job) (g : Here book k qs n x q t ts j) (r : client.State × ClientStep) → r.1.found ≡ None → Comes book k qs n x q t ts j g r → Leads book (rest_down qs n q ts) (acted k x.owner (session_at book k qs n x q t ts j g).seat r.0 r.1)
+leads_comes book k qs n x q t ts j g r none (inl goes) = leads_goes book k qs n x q t ts j g r.0 r.1 none goes
+leads_comes book k qs n x q t ts j g r none (inr ends) = leads_ends book k qs n x q t ts j g r.0 r.1 none ends

@@ -1,6 +1,7 @@
 -- A step of a client that hears an answer, or sees its connection lost: what becomes of its operation, and of its local contents.
 use Rattle.std.proofs.Common.{◌⊎◌, inl, inr, ◌≡◌, ℕ, ◌+◌, ◌<◌, List, [], Option, Some, None, refl, sym, ap, ◌∙◌, subst}
 use Rattle.command_text.specs.declared.command.Command.TheVariants as command
+use Rattle.command_text.specs.declared.path.PathCommand.TheVariants as path
 use Rattle.client_state.specs.State as client
 use Rattle.client_state.specs.declared.step.Outcome.TheVariants as outcome
 use Rattle.register_model.specs.declared.op.Outcome.{Outcome as Told}
@@ -15,6 +16,8 @@ use Rattle.kept_promise.proofs.Facts.{IsMatched}
 use Rattle.kept_promise.proofs.Leaving.{EndsWith, Leaves}
 use Rattle.kept_promise.proofs.Locally.{Idles, other_client, other_file, its_own, leaves_alike, leaves_none, idles_by, local_same, local_late}
 use Rattle.kept_promise.proofs.Deeds.{also_there, FromServer, IsDeed, local_of, HasLocals, HasDeeds, Moved, moved_same, AllMoved, all_same, deeds_moved, busy_behind}
+use Rattle.kept_promise.proofs.PathNames.{IsSmall}
+use Rattle.kept_promise.proofs.Found.{op_found}
 
 -- ---- one operation of a list becomes another
 
@@ -37,8 +40,8 @@ set_same c f l ds ops p d o r at is same = local_same c f l ds ops (slice_set op
   | inr else ↦ λ z. ap (λ (u : Op). after_one c f e u z) (some_is s q (sym else.1 ∙ b))
 ])
 
-pub set_alike : (c f : ℕ) (ds : List Deed) (ops : List Op) (p : ℕ) (d : Deed) (o r : Op) → slice_get ds p ≡ Some d → slice_get ops p ≡ Some o → r.outcome ≡ o.outcome → r.value ≡ o.value → local_from c f None ds (slice_set ops p r) ≡ local_from c f None ds ops
-set_alike c f ds ops p d o r at is a b = set_same c f None ds ops p d o r at is (leaves_alike c f d o r a b)
+pub set_alike : (c f : ℕ) (ds : List Deed) (ops : List Op) (p : ℕ) (d : Deed) (o r : Op) → slice_get ds p ≡ Some d → slice_get ops p ≡ Some o → r.file ≡ o.file → r.outcome ≡ o.outcome → r.value ≡ o.value → local_from c f None ds (slice_set ops p r) ≡ local_from c f None ds ops
+set_alike c f ds ops p d o r at is g a b = set_same c f None ds ops p d o r at is (leaves_alike c f d o r g a b)
 
 set_else : (c f : ℕ) (ds : List Deed) (ops : List Op) (p : ℕ) (d : Deed) (o r : Op) → slice_get ds p ≡ Some d → slice_get ops p ≡ Some o → (d.client ≡ c → ⊥) → local_from c f None ds (slice_set ops p r) ≡ local_from c f None ds ops
 set_else c f ds ops p d o r at is apart = set_same c f None ds ops p d o r at is (λ z. other_client c f d r apart z ∙ sym (other_client c f d o apart z))
@@ -58,6 +61,8 @@ stays_so k outcome.Lost opened after file v l h a b = (h, by k)
     by (command.Read f offset count) = refl
     by (command.Close f) = refl
     by (command.Abandon f) = refl
+    by (command.Named (path.Find t)) = refl
+    by (command.Named t) = refl
 stays_so k (outcome.Changed m n) opened after file v l h a b = (h, by k)
   where
     by : (k : Command) → leaves k (told.Changed m n) v l ≡ l
@@ -67,6 +72,8 @@ stays_so k (outcome.Changed m n) opened after file v l h a b = (h, by k)
     by (command.Read f offset count) = refl
     by (command.Close f) = refl
     by (command.Abandon f) = refl
+    by (command.Named (path.Find t)) = refl
+    by (command.Named t) = refl
 stays_so k (outcome.Refused t) opened after file v l h a b = (h, by k (told_of (outcome.Refused t)) refl)
   where
     by : (k : Command) (u : Told) → told_of (outcome.Refused t) ≡ u → leaves k (told_of (outcome.Refused t)) v l ≡ l
@@ -76,6 +83,8 @@ stays_so k (outcome.Refused t) opened after file v l h a b = (h, by k (told_of (
     by (command.Read f offset count) u e = refl
     by (command.Close f) u e = refl
     by (command.Abandon f) u e = refl
+    by (command.Named (path.Find s)) u e = refl
+    by (command.Named s) u e = refl
 stays_so k outcome.PeerMemory opened after file v l h a b = (h, by k)
   where
     by : (k : Command) → leaves k told.PeerMemory v l ≡ l
@@ -85,6 +94,8 @@ stays_so k outcome.PeerMemory opened after file v l h a b = (h, by k)
     by (command.Read f offset count) = refl
     by (command.Close f) = refl
     by (command.Abandon f) = refl
+    by (command.Named (path.Find t)) = refl
+    by (command.Named t) = refl
 stays_so k (outcome.BadPeer fault) opened after file v l h a b = (h, by k)
   where
     by : (k : Command) → leaves k (told_of (outcome.BadPeer fault)) v l ≡ l
@@ -94,6 +105,8 @@ stays_so k (outcome.BadPeer fault) opened after file v l h a b = (h, by k)
     by (command.Read f offset count) = refl
     by (command.Close f) = refl
     by (command.Abandon f) = refl
+    by (command.Named (path.Find t)) = refl
+    by (command.Named t) = refl
 stays_so k outcome.Memory opened after file v l h a b = (h, by k)
   where
     by : (k : Command) → leaves k told.Memory v l ≡ l
@@ -103,6 +116,30 @@ stays_so k outcome.Memory opened after file v l h a b = (h, by k)
     by (command.Read f offset count) = refl
     by (command.Close f) = refl
     by (command.Abandon f) = refl
+    by (command.Named (path.Find t)) = refl
+    by (command.Named t) = refl
+stays_so k (outcome.Names names) opened after file v l h a b = (h, by k)
+  where
+    by : (k : Command) → leaves k (told.Names names) v l ≡ l
+    by (command.Open f) = refl
+    by (command.Write f offset content) = refl
+    by (command.Trunc f size) = refl
+    by (command.Read f offset count) = refl
+    by (command.Close f) = refl
+    by (command.Abandon f) = refl
+    by (command.Named (path.Find t)) = refl
+    by (command.Named t) = refl
+stays_so k (outcome.Seen id kind version len) opened after file v l h a b = (h, by k)
+  where
+    by : (k : Command) → leaves k (told_of (outcome.Seen id kind version len)) v l ≡ l
+    by (command.Open f) = refl
+    by (command.Write f offset content) = refl
+    by (command.Trunc f size) = refl
+    by (command.Read f offset count) = refl
+    by (command.Close f) = refl
+    by (command.Abandon f) = refl
+    by (command.Named (path.Find t)) = refl
+    by (command.Named t) = refl
 stays_so k _ opened after file v l h a b = absurd h
 
 from_server : (u : Outcome) (opened after : List (ℕ × Local)) (file : ℕ) → EndsWith opened after file u → FromServer (told_of u)
@@ -142,20 +179,24 @@ which (outcome.Changed m n) = inr (inr ((λ n d e. absurd cc), λ w n d e. absur
 which (outcome.Refused t) = inr (inr ((λ n d e. absurd cc), λ w n d e. absurd cc))
 which outcome.PeerMemory = inr (inr ((λ n d e. absurd cc), λ w n d e. absurd cc))
 which (outcome.BadPeer fault) = inr (inr ((λ n d e. absurd cc), λ w n d e. absurd cc))
+which (outcome.Names names) = inr (inr ((λ n d e. absurd cc), λ w n d e. absurd cc))
+which (outcome.Seen id kind version len) = inr (inr ((λ n d e. absurd cc), λ w n d e. absurd cc))
 which outcome.Memory = inr (inr ((λ n d e. absurd cc), λ w n d e. absurd cc))
 
 abbrev bytes_at : List (ℕ × Local) → (file : ℕ) → Option (List ℕ)
 bytes_at opened f = option_map (λ (l : Local). l.bytes) (client.local_at opened f)
 
-opened_here : (k : Command) (old now : List (ℕ × Local)) (file g n : ℕ) (d : List ℕ) (l : Local) → word_of k ≡ words.Open → g ≡ file → now ≡ client.with_local old file l → bytes_at now file ≡ leaves k (told.Opened n d) (client.local_bytes now g) (bytes_at old file)
-opened_here (command.Open f) old now file g n d l w same is =
+opened_here : (k : Command) (old now : List (ℕ × Local)) (file g n : ℕ) (d : List ℕ) (l : Local) → IsSmall k → word_of k ≡ words.Open → g ≡ file → now ≡ client.with_local old file l → bytes_at now file ≡ leaves k (told.Opened n d) (client.local_bytes now g) (bytes_at old file)
+opened_here (command.Open f) old now file g n d l small w same is =
     let at : bytes_at now file ≡ Some l.bytes = ap (λ z. bytes_at z file) is ∙ ap (option_map (λ (z : Local). z.bytes)) (local_at_itself old file l) in
     at ∙ ap (λ z. Some z) (sym (ap (client.local_bytes now) same ∙ ap (λ o. unwrap_or o []) at))
-opened_here _ old now file g n d l w same is = absurd cc
+opened_here (command.Named k) old now file g n d l small w same is = absurd small
+opened_here _ old now file g n d l small w same is = absurd cc
 
-closed_here : (k : Command) (old now : List (ℕ × Local)) (file v n : ℕ) (d value : List ℕ) → word_of k ≡ words.Close → now ≡ client.without_local old file → bytes_at now file ≡ leaves k (told.Closed v n d) value (bytes_at old file)
-closed_here (command.Close f) old now file v n d value w is = ap (λ z. bytes_at z file) is ∙ ap (option_map (λ (z : Local). z.bytes)) (without_at_itself old file)
-closed_here _ old now file v n d value w is = absurd cc
+closed_here : (k : Command) (old now : List (ℕ × Local)) (file v n : ℕ) (d value : List ℕ) → IsSmall k → word_of k ≡ words.Close → now ≡ client.without_local old file → bytes_at now file ≡ leaves k (told.Closed v n d) value (bytes_at old file)
+closed_here (command.Close f) old now file v n d value small w is = ap (λ z. bytes_at z file) is ∙ ap (option_map (λ (z : Local). z.bytes)) (without_at_itself old file)
+closed_here (command.Named k) old now file v n d value small w is = absurd small
+closed_here _ old now file v n d value small w is = absurd cc
 
 -- the words of what was got and replaced
 abbrev pub HasWord : Word → Told → Type 0
@@ -164,14 +205,14 @@ HasWord w (told.Closed v n d) = w ≡ words.Close
 HasWord w u = Unit {0}
 
 -- of the operation's file
-ended_here : (k : Command) (old : List (ℕ × Local)) (s : client.State) (file : ℕ) (v : List ℕ) (u : Outcome) → EndsWith old s.opened file u → HasWord (word_of k) (told_of u) → bytes_at s.opened file ≡ leaves k (told_of u) (value_of v s u) (bytes_at old file)
-ended_here k old s file v u h w = by (which u)
+ended_here : (k : Command) (old : List (ℕ × Local)) (s : client.State) (file : ℕ) (v : List ℕ) (u : Outcome) → IsSmall k → EndsWith old s.opened file u → HasWord (word_of k) (told_of u) → bytes_at s.opened file ≡ leaves k (told_of u) (value_of v s u) (bytes_at old file)
+ended_here k old s file v u small h w = by (which u)
   where
     got : (g n : ℕ) (d : List ℕ) → EndsWith old s.opened file (outcome.Opened g n d) → HasWord (word_of k) (told.Opened n d) → bytes_at s.opened file ≡ leaves k (told.Opened n d) (client.local_bytes s.opened g) (bytes_at old file)
-    got g n d h w = opened_here k old s.opened file g n d h.1.0 w h.0 h.1.1
+    got g n d h w = opened_here k old s.opened file g n d h.1.0 small w h.0 h.1.1
 
     replaced : (g m n : ℕ) (d : List ℕ) → EndsWith old s.opened file (outcome.Closed g m n d) → HasWord (word_of k) (told.Closed m n d) → bytes_at s.opened file ≡ leaves k (told.Closed m n d) v (bytes_at old file)
-    replaced g m n d h w = closed_here k old s.opened file m n d v w h.1
+    replaced g m n d h w = closed_here k old s.opened file m n d v small w h.1
 
     by : Which u → bytes_at s.opened file ≡ leaves k (told_of u) (value_of v s u) (bytes_at old file)
     by (inl z) = subst (λ (x : Outcome). bytes_at s.opened file ≡ leaves k (told_of x) (value_of v s x) (bytes_at old file)) (sym z.3) (got z.0 z.1 z.2 (subst (EndsWith old s.opened file) z.3 h) (subst (λ (x : Outcome). HasWord (word_of k) (told_of x)) z.3 w))
@@ -239,6 +280,7 @@ pub record StepLeaves (ds : List Deed) (k : Core) (rs : List Op) (seats : List S
 
 -- what a step of a client that has its operation at this place is to show
 pub record Acts (k : Core) (c : ℕ) (seat : Seat) (t : client.State) (acts : ClientStep) : Type 0 where
+  pub found : acts.found ≡ None
   pub here : numbered k.seats c ≡ Some seat
   pub matched : IsMatched seat
   pub begins : (i : ℕ) (o : Op) → slice_get k.ops i ≡ Some o → o.begin < k.steps + 1
@@ -258,8 +300,8 @@ goes_on ds k c p seat t acts place o r h a at m u v opened =
       moved = moved;
       deeds = deeds_moved (k.steps + 1) ds k.ops (slice_set k.ops p r) k.seats (with_numbered k.seats c (record seat { client = t; place = place })) h a.begins moved
           (locals_with ds (slice_set k.ops p r) k.seats c seat (record seat { client = t; place = place }) a.here
-          (λ f. ap (λ (l : List (ℕ × Local)). bytes_at l f) opened ∙ h.locals c seat a.here f ∙ sym (set_alike c f ds k.ops p d.0 o r d.1 at u v))
-          (λ z e apart is f. h.locals z e is f ∙ sym (set_alike z f ds k.ops p d.0 o r d.1 at u v)));
+          (λ f. ap (λ (l : List (ℕ × Local)). bytes_at l f) opened ∙ h.locals c seat a.here f ∙ sym (set_alike c f ds k.ops p d.0 o r d.1 at m.file u v))
+          (λ z e apart is f. h.locals z e is f ∙ sym (set_alike z f ds k.ops p d.0 o r d.1 at m.file u v)));
     }
 
 -- one ends
@@ -279,19 +321,19 @@ one_ends ds k c p seat t acts place o taken e h a at mine running under ends wor
       moved = moved;
       deeds = deeds_moved (k.steps + 1) ds k.ops (slice_set k.ops p r) k.seats (with_numbered k.seats c (record seat { client = t; place = place })) h a.begins moved
           (locals_with ds (slice_set k.ops p r) k.seats c seat (record seat { client = t; place = place }) a.here
-          (λ f. own d.0 r f of deed refl refl ∙ sym (local_late c f None ds k.ops p d.0 o r d.1 at (idles_by c f d.0 o (λ l. leaves_none d.0.command o.outcome o.value l (inl running))) (λ i x q lt b s. subst (λ (z : ℕ). Idles z f x q) mine (busy_behind ds k.ops p o f h.rising h.each at under i x q lt b s))))
+          (λ f. own d.0 r f of deed refl refl refl ∙ sym (local_late c f None ds k.ops p d.0 o r d.1 at (idles_by c f d.0 o (λ l. leaves_none d.0.command o.outcome o.value l (inl running))) (λ i x q lt b s. subst (λ (z : ℕ). Idles z f x q) mine (busy_behind ds k.ops p o f h.rising h.each at under i x q lt b s))))
           (λ z x apart is f. h.locals z x is f ∙ sym (set_else z f ds k.ops p d.0 o r d.1 at (λ same. apart (sym same ∙ of)))));
     }
   where
-    own : (d : Deed) (r : Op) (f : ℕ) → d.client ≡ c → IsDeed ds k.ops p d o → r.outcome ≡ told_of e.outcome → r.value ≡ value_of o.value t e.outcome → local_of t f ≡ after_one c f d r (local_from c f None ds k.ops)
-    own d r f of deed u v = elim (same_or_not f o.file) [
-      | inr apart ↦ ended_else seat.client.opened t.opened o.file f e.outcome ends apart ∙ h.locals c seat a.here f ∙ sym (other_file c f d r (λ same. apart (sym same ∙ sym deed.file)) (local_from c f None ds k.ops))
+    own : (d : Deed) (r : Op) (f : ℕ) → d.client ≡ c → IsDeed ds k.ops p d o → r.file ≡ o.file → r.outcome ≡ told_of e.outcome → r.value ≡ value_of o.value t e.outcome → local_of t f ≡ after_one c f d r (local_from c f None ds k.ops)
+    own d r f of deed g u v = elim (same_or_not f o.file) [
+      | inr apart ↦ ended_else seat.client.opened t.opened o.file f e.outcome ends apart ∙ h.locals c seat a.here f ∙ sym (other_file c f d r (λ same. apart (sym same ∙ g)) (local_from c f None ds k.ops))
       | inl same ↦
           ap (bytes_at t.opened) same
-          ∙ ended_here d.command seat.client.opened t o.file o.value e.outcome ends (subst (λ (w : Word). HasWord w (told_of e.outcome)) deed.word word)
+          ∙ ended_here d.command seat.client.opened t o.file o.value e.outcome deed.small ends (subst (λ (w : Word). HasWord w (told_of e.outcome)) deed.word word)
           ∙ ap (λ (x : ℕ). leaves d.command (told_of e.outcome) (value_of o.value t e.outcome) (bytes_at seat.client.opened x)) (sym same)
           ∙ ap (leaves d.command (told_of e.outcome) (value_of o.value t e.outcome)) (h.locals c seat a.here f)
-          ∙ sym (its_own c f d r (local_from c f None ds k.ops) of (sym deed.file ∙ sym same)
+          ∙ sym (its_own c f d r (local_from c f None ds k.ops) of (g ∙ sym same)
           ∙ ap (λ (x : Told). leaves d.command x r.value (local_from c f None ds k.ops)) u ∙ ap (λ (x : List ℕ). leaves d.command (told_of e.outcome) x (local_from c f None ds k.ops)) v)
     ]
 
@@ -320,12 +362,12 @@ by_place ds k c seat t acts h a (Some p) (Some x) e f m words =
         → StepLeaves ds k (slice_set k.ops p (op_after o t taken (k.steps + 1) acts)) (with_numbered k.seats c (record seat { client = t; place = place_after (Some p) acts.ended }))
     by o at mine file running under taken None is leaves word =
         let r : Op = record o { traffic = counted o.traffic acts.counts } in
-        let r_is : op_after o t taken (k.steps + 1) acts ≡ r = ap (λ (z : Option Ended). Rattle.trace_replay.specs.Ops.op_ended r t taken (k.steps + 1) z) is in
+        let r_is : op_after o t taken (k.steps + 1) acts ≡ r = op_found o t taken (k.steps + 1) acts a.found ∙ ap (λ (z : Option Ended). Rattle.trace_replay.specs.Ops.op_ended r t taken (k.steps + 1) z) is in
         subst (λ (z : Op). StepLeaves ds k (slice_set k.ops p z) (with_numbered k.seats c (record seat { client = t; place = place_after (Some p) acts.ended }))) (sym r_is)
         (goes_on ds k c p seat t acts (place_after (Some p) acts.ended) o r h a at (record { client = refl; word = refl; file = refl; begin = refl; value = λ w. refl; ended = λ n b. (b, refl, refl, λ w. refl); ends = λ n. inl n; asked = λ b. b }) refl refl (subst (Leaves seat.client.opened t.opened o.file) is leaves))
     by o at mine file running under taken (Some e) is leaves word =
         let q : Op = record o { traffic = counted o.traffic acts.counts } in
-        let r_is : op_after o t taken (k.steps + 1) acts ≡ ended_op q t taken (k.steps + 1) e = ap (λ (z : Option Ended). Rattle.trace_replay.specs.Ops.op_ended q t taken (k.steps + 1) z) is in
+        let r_is : op_after o t taken (k.steps + 1) acts ≡ ended_op q t taken (k.steps + 1) e = op_found o t taken (k.steps + 1) acts a.found ∙ ap (λ (z : Option Ended). Rattle.trace_replay.specs.Ops.op_ended q t taken (k.steps + 1) z) is in
         subst (λ (z : Op). StepLeaves ds k (slice_set k.ops p z) (with_numbered k.seats c (record seat { client = t; place = place_after (Some p) acts.ended }))) (sym r_is)
         (one_ends ds k c p seat t acts (place_after (Some p) acts.ended) o taken e h a at mine running under (subst (Leaves seat.client.opened t.opened o.file) is leaves) (subst (λ (z : Op). HasWord z.word z.outcome) r_is word) (counted o.traffic acts.counts))
 by_place ds k c seat t acts h a None (Some x) e f (inl m) words = nothing_there x (sym m.1 ∙ f)

@@ -4,7 +4,7 @@ use Rattle.client_state.specs.State as client
 use Rattle.register_model.specs.declared.op.Outcome.{Outcome}
 use Rattle.register_model.specs.declared.op.Outcome.TheVariants as told
 use Rattle.trace_replay.specs.Trail.{given_by_message, given_by_record, given_from}
-use Rattle.kept_promise.proofs.Common.{nat_tests, ◌==◌, ◌&&◌, nat_le, slice_get, is_some, not, MessageFits, message_spell, parse_of, WireFault, Message, got_step, Task, Op, Core, Seat, Session, Event.Hears, is_newest, acted, hears, hears_at, hears_if, numbered, happens, wanted_by, taken_if, taken_from, taken_by, given_by, until, Book, is_running, Told, Queue, told_message, Event.Serves, server_waiting, Ask, ask_message}
+use Rattle.kept_promise.proofs.Common.{nat_tests, ◌==◌, ◌&&◌, nat_le, slice_get, is_some, not, MessageFits, message_spell, parse_of, WireFault, Message, got_step, Task, Op, Core, Seat, Session, Event.Hears, is_newest, acted, hears, hears_at, hears_if, numbered, happens, wanted_by, taken_if, taken_from, taken_by, given_by, until, Book, is_running, Told, Queue, told_message, Event.Serves, server_waiting, ask_message}
 use Rattle.kept_promise.proofs.Lists.{some_is, nothing_there, same_or_not}
 use Rattle.kept_promise.proofs.Messages.{Job, job, job_of, AllTolds, AllAsks}
 use Rattle.kept_promise.proofs.Fits.{FitLaws}

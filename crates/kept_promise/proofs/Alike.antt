@@ -1,10 +1,9 @@
 -- In one version a file has one content, at all moments of a run: the server changes a file's content only with its version, whatever it is asked.
-use Rattle.std.proofs.Common.{◌⊎◌, inl, inr, ◌≡◌, ℕ, zero, suc, ◌+◌, ◌<◌, List, [], ◌∷◌, ◌++◌, length, append-nil, append_assoc, Option, Some, None, Result, Ok, Err, Bool, true, false, refl, sym, ap, ◌∙◌, subst, arith}
+use Rattle.std.proofs.Common.{inl, inr, ◌≡◌, ℕ, zero, suc, ◌+◌, List, [], ◌∷◌, ◌++◌, append-nil, append_assoc, Option, Some, None, Result, Ok, Err, Bool, true, false, refl, sym, ap, ◌∙◌, subst, arith}
 use Rattle.server_core.specs.State as server
 use Rattle.server_core.specs.Closing.{settles as server_settles}
 use Rattle.server_core.specs.declared.change.Wanted.TheVariants as wanted
 use Rattle.tree_calls.specs.Waiting.{commits, settles as tree_settles}
-use Rattle.trace_replay.specs.declared.opening.TheConstants.{ROOT}
 use Rattle.server_core.specs.declared.event.Told.{Told as Announced}
 use Rattle.server_core.specs.declared.event.Told.TheVariants as announced
 use Rattle.trace_replay.specs.declared.stage.Stage.{Stage as Part}
@@ -15,13 +14,12 @@ use Rattle.trace_text.specs.declared.line.Who.TheVariants as who
 use Rattle.trace_replay.specs.declared.adjusting.Adjustment.{Adjustment}
 use Rattle.trace_replay.specs.declared.adjusting.Adjustment.TheVariants as adjustment
 use Rattle.trace_replay.specs.Core.{adjusted, with_client}
-use Rattle.trace_replay.specs.Run.{with_file}
 use Rattle.kept_promise.proofs.Common.{Contains, Contains-push_cases, parse_of, WireFault, Message, content_bytes, Command, is_newest, stands, has_room, connect, at, makes_change, lines_of, line_of, Line, LineFault, Turn, Event, Event.Joins, Event.Does, Event.Serves, Event.Hears, Event.Settles, Event.Cuts, Event.Hangs, File, Change, Core, Seat, Session, numbered, server_waiting, serves_if, serves, does, hears_at, hears_if, hears, joins_as, joins, settles, cuts_if, cuts, hangs_if, hangs, happens, World, Wire, start, happened, all_happened, up_taken, up_events, up_at, up_length, up_all, down_taken, down_events, down_at, down_length, round, is_still, passes, asked, asked_by, at_events, count_of, turned, Moment, moments_of, up_moments_at, down_moments_at, round_moments, passes_moments, turn_moments, moments_from, moments, Wanted, Tree}
-use Rattle.kept_promise.proofs.Lists.{some_is, same_or_not}
+use Rattle.kept_promise.proofs.Lists.{some_is}
 use Rattle.kept_promise.proofs.Rights.{AreAlike}
-use Rattle.kept_promise.proofs.Trees.{IsGiven, IsSince, IsLater, later_join, Keeps, keeps_same, file_below}
-use Rattle.kept_promise.proofs.TreeCalls.{commits_keep, settles_keep}
-use Rattle.kept_promise.proofs.TreeOpens.{opens_file}
+use Rattle.server_law.proofs.Trees.{IsGiven, IsSince, IsLater, later_join, Keeps, keeps_same, file_below}
+use Rattle.server_law.proofs.TreeCalls.{commits_keep, settles_keep}
+use Rattle.kept_promise.proofs.TreeOpens.{opens_file, opens_directory}
 use Rattle.kept_promise.proofs.CallsKeep.{got_tree}
 use Rattle.kept_promise.proofs.RunsResults.{moments_by}
 use Rattle.kept_promise.proofs.RunsLines.{is_early, Allows, allowed, line_fits}
@@ -243,7 +241,8 @@ pub rises_next : (past : List Moment) (w : World) (t : Turn) → Allows w t → 
 rises_next past w turn.Skip f h = rises_same past w h
 rises_next past w (turn.At s) f h = rises_early past w (record w { stage = s }) (λ n. n) (h.early f) h
 rises_next past w (turn.Clients m) f h = rises_early past w (turned w (turn.Clients m)) (λ n. n) (h.early f) h
-rises_next past w (turn.File name content) f h = rises_early past w (turned w (turn.File name content)) (λ n. (opens_file w.core.server.tree ROOT name (content_bytes content) n f.1.0).given) (h.early f.0) h
+rises_next past w (turn.Dir dir name) f h = rises_early past w (turned w (turn.Dir dir name)) (λ n. (opens_directory w.core.server.tree dir name n f.1).given) (h.early f.0) h
+rises_next past w (turn.File dir name content) f h = rises_early past w (turned w (turn.File dir name content)) (λ n. (opens_file w.core.server.tree dir name (content_bytes content) n f.1.0).given) (h.early f.0) h
 rises_next past w (turn.Join c) f h = (rises_all past (at_events w) (Joins c ∷ []) (begins past w h)).0
 rises_next past w (turn.Do c now d) f h = (rises_all past (at_events w) (Does c now d ∷ []) (begins past w h)).0
 rises_next past w (turn.Up n a now) f h = (rises_up past (at_events w) n (count_of a (up_length (numbered w.wires n))) now (numbered w.wires n) (begins past w h)).0

@@ -1,6 +1,8 @@
 -- What a client's step for a command says: its own answer, and what it leaves of the local content, or that it asks the server.
 use Rattle.std.proofs.Common.{◌≡◌, ℕ, zero, suc, ◌+◌, ◌≤◌, List, [], ◌∷◌, length, Option, Some, None, Bool, true, false, refl, sym, ap, ◌∙◌, subst, arith}
 use Rattle.command_text.specs.declared.command.Command.TheVariants as command
+use Rattle.command_text.specs.declared.path.PathCommand.TheVariants as path
+use Rattle.open_close.specs.Walking.{walks}
 use Rattle.client_cache.specs.Cache.{reserved, content_of}
 use Rattle.client_cache.specs.declared.kept.Content.{Content}
 use Rattle.client_state.specs.State as client
@@ -12,6 +14,7 @@ use Rattle.kept_promise.proofs.Common.{nat_tests, ◌==◌, nat_lt, is_some, opt
 use Rattle.kept_promise.proofs.Does.{own_ended}
 use Rattle.kept_promise.proofs.StepCases.{some_call}
 use Rattle.kept_promise.proofs.Deeds.{local_of}
+use Rattle.kept_promise.proofs.PathNames.{IsSmall}
 
 -- ---- what is said
 
@@ -158,13 +161,13 @@ closed_answer s file l at = ask (may_ask s)
 -- ---- any command
 
 -- with nothing under way
-pub free_answers : (s : client.State) (d : Command) (now : ℕ) → s.task ≡ None → IsAnswered s d (command_step s d now)
-free_answers s (command.Open file) now free = opened_answer s file free
-free_answers s (command.Write file offset content) now free = local_one s (command.Write file offset content) file (writes s file offset content) free refl refl (λ v l. refl) (λ l e at. wrote s file offset content l at)
-free_answers s (command.Trunc file size) now free = local_one s (command.Trunc file size) file (truncates s file size) free refl refl (λ v l. refl) (λ l e at. edited s (command.Trunc file size) file l size (truncated l.bytes size) refl at (λ v. refl) (λ n v x. refl))
-free_answers s (command.Read file offset count) now free = local_one s (command.Read file offset count) file (reads s offset count) free refl refl (λ v l. refl) (λ l e at. (stays s, so s (command.Read file offset count) (outcome.Piece (length (part_of l.bytes offset count)) (sha1 (part_of l.bytes offset count))) (told.Piece (length (part_of l.bytes offset count)) (sha1 (part_of l.bytes offset count))) refl (λ v. refl) (λ v l. refl)))
-free_answers s (command.Close file) now free = local_one s (command.Close file) file (closes s file) free refl refl (λ v l. refl) (λ l e at. closed_answer s file l at)
-free_answers s (command.Abandon file) now free = local_one s (command.Abandon file) file (abandons s file) free refl refl (λ v l. refl) (λ l e at. (
+pub free_answers : (s : client.State) (d : Command) (now : ℕ) → IsSmall d → s.task ≡ None → IsAnswered s d (command_step s d now)
+free_answers s (command.Open file) now small free = opened_answer s file free
+free_answers s (command.Write file offset content) now small free = local_one s (command.Write file offset content) file (writes s file offset content) free refl refl (λ v l. refl) (λ l e at. wrote s file offset content l at)
+free_answers s (command.Trunc file size) now small free = local_one s (command.Trunc file size) file (truncates s file size) free refl refl (λ v l. refl) (λ l e at. edited s (command.Trunc file size) file l size (truncated l.bytes size) refl at (λ v. refl) (λ n v x. refl))
+free_answers s (command.Read file offset count) now small free = local_one s (command.Read file offset count) file (reads s offset count) free refl refl (λ v l. refl) (λ l e at. (stays s, so s (command.Read file offset count) (outcome.Piece (length (part_of l.bytes offset count)) (sha1 (part_of l.bytes offset count))) (told.Piece (length (part_of l.bytes offset count)) (sha1 (part_of l.bytes offset count))) refl (λ v. refl) (λ v l. refl)))
+free_answers s (command.Close file) now small free = local_one s (command.Close file) file (closes s file) free refl refl (λ v l. refl) (λ l e at. closed_answer s file l at)
+free_answers s (command.Abandon file) now small free = local_one s (command.Abandon file) file (abandons s file) free refl refl (λ v l. refl) (λ l e at. (
   (omega arith, refl),
   record {
     outcome = outcome.Done;
@@ -175,6 +178,7 @@ free_answers s (command.Abandon file) now free = local_one s (command.Abandon fi
     others = λ f apart. ap (option_map (λ (z : Local). z.bytes)) (without_at_another s.opened file f apart);
   },
 ))
+free_answers s (command.Named k) now small free = absurd small
 
 -- with an operation under way it is busy
 busy_by : (s : client.State) (d : Command) (t : Task) (now : ℕ) → s.task ≡ Some t → command_step s d now ≡ (s, ends outcome.Busy 0 0)
@@ -184,6 +188,7 @@ busy_by s (command.Trunc file size) t now e = ap (λ z. on_local s z (client.loc
 busy_by s (command.Read file offset count) t now e = ap (λ z. on_local s z (client.local_at s.opened file) (reads s offset count)) e
 busy_by s (command.Close file) t now e = ap (λ z. on_local s z (client.local_at s.opened file) (closes s file)) e
 busy_by s (command.Abandon file) t now e = ap (λ z. on_local s z (client.local_at s.opened file) (abandons s file)) e
+busy_by s (command.Named k) t now e = ap (walks s k) e
 
 busy_leaves : (d : Command) (v : List ℕ) (l : Option (List ℕ)) → leaves d told.Busy v l ≡ l
 busy_leaves (command.Open file) v l = refl
@@ -192,6 +197,8 @@ busy_leaves (command.Trunc file size) v l = refl
 busy_leaves (command.Read file offset count) v l = refl
 busy_leaves (command.Close file) v l = refl
 busy_leaves (command.Abandon file) v l = refl
+busy_leaves (command.Named (path.Find t)) v l = refl
+busy_leaves (command.Named t) v l = refl
 
-pub busy_answers : (s : client.State) (d : Command) (t : Task) (now : ℕ) → s.task ≡ Some t → (let r = command_step s d now in Stays s r.0 × AnswersBy s d r (Some told.Busy))
-busy_answers s d t now e = subst (λ (r : client.State × ClientStep). Stays s r.0 × AnswersBy s d r (Some told.Busy)) (sym (busy_by s d t now e)) (stays s, so s d outcome.Busy told.Busy refl (λ v. refl) (busy_leaves d))
+pub busy_answers : (s : client.State) (d : Command) (t : Task) (now : ℕ) → IsSmall d → s.task ≡ Some t → (let r = command_step s d now in Stays s r.0 × AnswersBy s d r (Some told.Busy))
+busy_answers s d t now small e = subst (λ (r : client.State × ClientStep). Stays s r.0 × AnswersBy s d r (Some told.Busy)) (sym (busy_by s d t now e)) (stays s, so s d outcome.Busy told.Busy refl (λ v. refl) (busy_leaves d))

@@ -2,6 +2,7 @@
 -- moment, and nothing else; and what any message leaves of the tree.
 use Rattle.std.proofs.Common.{◌⊎◌, inl, inr, ◌≡◌, refl, ℕ, List, ◌∷◌, ◌++◌, [], length, Option, Some, None, Result, Ok, Err, Bool, true, false, sym, subst}
 use Rattle.hash_calls.specs.declared.message.Lb.TheVariants as lb
+use Rattle.nfs3_calls.specs.declared.message.Nfs.{Nfs}
 use Rattle.nfs3_calls.specs.declared.message.Nfs.TheVariants as nfs
 use Rattle.wire.specs.declared.message.Body.TheVariants as body
 use Rattle.wire.specs.declared.message.Message.TheVariants as message
@@ -16,8 +17,11 @@ use Rattle.server_core.specs.Step.{asks, asks_tree}
 use Rattle.tree_calls.specs.Waiting.{calls}
 use Rattle.tree_calls.specs.declared.asked.Outcome.{Outcome}
 use Rattle.tree_calls.specs.declared.asked.Outcome.TheVariants.{Answered, Waits as ToWait}
-use Rattle.kept_promise.proofs.Trees.{Keeps, keeps_same}
-use Rattle.kept_promise.proofs.TreeCalls.{calls_keep}
+use Rattle.server_law.proofs.Trees.{Keeps, keeps_same}
+use Rattle.kept_promise.proofs.TreeBounds.{Stays, stays_same, calls_stays}
+use Rattle.server_law.proofs.TreeCalls.{calls_keep}
+use Rattle.kept_promise.proofs.TreeNameCalls.{calls_dirs}
+use Rattle.kept_promise.proofs.TreeNames.{KeepsDirs, dirs_same}
 
 abbrev pub IsCommitCall : Message → Type 0
 IsCommitCall (message.Call xid (body.Lb (lb.CommitTmp a))) = Unit {0}
@@ -130,18 +134,31 @@ outcome_tree s session xid p = by p.1
     by (Some (Answered d)) = refl
     by (Some (ToWait a)) = refl
 
-called_tree : (s : server.State) (session xid : ℕ) (b : Body) → Keeps s.tree (called s session xid b).0.tree
-called_tree s session xid (body.Nfs nfs.Null) = keeps_same s.tree
-called_tree s session xid (body.Nfs (nfs.Read r)) = keeps_same s.tree
-called_tree s session xid (body.Nfs m) = subst (Keeps s.tree) (sym (outcome_tree s session xid (calls s.tree (server.held s.waiting) (has_waiting s.waiting session) m))) (calls_keep s.tree (server.held s.waiting) (has_waiting s.waiting session) m)
-called_tree s session xid b = called_keeps (λ z. Keeps s.tree z.tree) s session xid b tt (λ temps waiting index moment w. keeps_same s.tree)
+-- what a server's tree keeps by the calls on it, it keeps whatever comes
+called_any : (s : server.State) (session xid : ℕ) (b : Body) (R : Tree → Type 0) → R s.tree → ((busy : Bool) (m : Nfs) → R (calls s.tree (server.held s.waiting) busy m).0) → R (called s session xid b).0.tree
+called_any s session xid (body.Nfs nfs.Null) R same step = same
+called_any s session xid (body.Nfs (nfs.Read r)) R same step = same
+called_any s session xid (body.Nfs m) R same step = subst R (sym (outcome_tree s session xid (calls s.tree (server.held s.waiting) (has_waiting s.waiting session) m))) (step (has_waiting s.waiting session) m)
+called_any s session xid b R same step = called_keeps (λ z. R z.tree) s session xid b tt (λ temps waiting index moment w. same)
 
-pub got_tree : (s : server.State) (session : ℕ) (m : Message) (now : ℕ) → Keeps s.tree (server_step s (event.Got session m now)).0.tree
-got_tree s session m now = by m (stands s session)
+pub got_any : (s : server.State) (session : ℕ) (m : Message) (now : ℕ) (R : Tree → Type 0) → R s.tree → ((busy : Bool) (c : Nfs) → R (calls s.tree (server.held s.waiting) busy c).0) → R (server_step s (event.Got session m now)).0.tree
+got_any s session m now R same step = by m (stands s session)
   where
-    by : (m : Message) (b : Bool) → Keeps s.tree (got_if s b session m now).0.tree
-    by (message.Call xid b) true = called_tree (at s now) session xid b
-    by (message.Unfit xid why) true = keeps_same s.tree
-    by (message.Answer xid b) true = keeps_same s.tree
-    by (message.Refuse xid why) true = keeps_same s.tree
-    by m false = keeps_same s.tree
+    by : (m : Message) (b : Bool) → R (got_if s b session m now).0.tree
+    by (message.Call xid b) true = called_any (at s now) session xid b R same step
+    by (message.Unfit xid why) true = same
+    by (message.Answer xid b) true = same
+    by (message.Refuse xid why) true = same
+    by m false = same
+
+-- ids stay, and files are as they were, later, or gone
+pub got_tree : (s : server.State) (session : ℕ) (m : Message) (now : ℕ) → Keeps s.tree (server_step s (event.Got session m now)).0.tree
+got_tree s session m now = got_any s session m now (Keeps s.tree) (keeps_same s.tree) (λ busy c. calls_keep s.tree (server.held s.waiting) busy c)
+
+-- directories have their names, or later versions
+pub got_dirs : (s : server.State) (session : ℕ) (m : Message) (now : ℕ) → KeepsDirs s.tree (server_step s (event.Got session m now)).0.tree
+got_dirs s session m now = got_any s session m now (KeepsDirs s.tree) (dirs_same s.tree) (λ busy c. calls_dirs s.tree (server.held s.waiting) busy c)
+
+-- the limits, and the room of what waits, are kept
+pub got_room : (s : server.State) (session : ℕ) (m : Message) (now : ℕ) → Stays (server.held s.waiting) s.tree (server_step s (event.Got session m now)).0.tree
+got_room s session m now = got_any s session m now (Stays (server.held s.waiting) s.tree) (stays_same (server.held s.waiting) s.tree) (λ busy c. calls_stays s.tree (server.held s.waiting) busy c)

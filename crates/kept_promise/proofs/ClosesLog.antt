@@ -19,7 +19,7 @@ use Rattle.kept_promise.proofs.Messages.{Job, stage_word}
 use Rattle.kept_promise.proofs.CountedRuns.{no_fault_after}
 use Rattle.kept_promise.proofs.Counted.{traffic_is}
 use Rattle.kept_promise.proofs.VersionRuns.{close_not_opened, word_after}
-use Rattle.kept_promise.proofs.StepCases.{IsFault, IsUnknown, bytes_came, names_keep, StoreIn, open_and_close, OfCloses, of_closes, took_cases}
+use Rattle.kept_promise.proofs.StepCases.{IsFault, IsUnknown, bytes_came, names_keep, StoreIn, open_and_close, OfCloses, of_closes, took_cases, IsOfFile, fetch_known}
 use Rattle.kept_promise.proofs.Paying.{owing_join, pays_join, pays_end, pays_whole, asked_of, asked_more, asked_whole, asked_without, asked_found, owing_at, plain_pays, whole_pays, owing_plain}
 use Rattle.kept_promise.proofs.Logs.{Going, Ending}
 use Rattle.kept_promise.proofs.LogSums.{sent_more, named_join, made_join, commits_join, came_in, came_join, none_came, asked_in, counts_log, commit_log, whole_number, whole_in}
@@ -256,8 +256,11 @@ closes_heard book more taken j o p s x b a log h = record {
     log2 : List Deal
     log2 = log ++ deals_with (message.Answer x b ∷ []) (found_in s j.file j.stage x b) (took (idle s) (client.calls_of s) j.file j.stage x b).1.send
 
+    known : IsOfFile j.stage
+    known = fetch_known book taken j j.stage a.taking.fetch
+
     left : Leaves log x b o.value j.stage (found_in s j.file j.stage x b) (took (idle s) (client.calls_of s) j.file j.stage x b)
-    left = took_cases (Leaves log x b o.value j.stage) (idle s) (client.calls_of s) j.file j.stage x b (of_closes (Leaves log x b o.value j.stage) (idle s) (client.calls_of s) j.file j.stage x b (leaves_cases log (idle s) j.file o.value j.stage x b (subst (λ f. ClosesBy log f o.value j.stage) a.taking.file h) a.value))
+    left = took_cases (Leaves log x b o.value j.stage) (idle s) (client.calls_of s) j.file j.stage x b known (of_closes (Leaves log x b o.value j.stage) (idle s) (client.calls_of s) j.file j.stage x b known (leaves_cases log (idle s) j.file o.value j.stage x b (subst (λ f. ClosesBy log f o.value j.stage) a.taking.file h) a.value))
 
     running_value : (e : Option Ended) → e ≡ None → (op_after o r.0 taken (book.steps + 1) (record r.1 { ended = e })).value ≡ o.value
     running_value None is = refl

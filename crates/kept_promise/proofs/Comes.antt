@@ -10,6 +10,9 @@ use Rattle.kept_promise.proofs.Common.{refused, slice_get, slice_set, not, Pendi
 use Rattle.kept_promise.proofs.Lists.{some_is, nothing_there, false_and_true}
 use Rattle.kept_promise.proofs.Messages.{Job, stage_word, IsTold, RefusedTold}
 use Rattle.kept_promise.proofs.Rights.{is_remote, Caused, RefusedBy, open_not_close}
+use Rattle.file_tree.specs.Tree.{directory_of}
+use Rattle.trace_replay.specs.Causes.{IsDirectory}
+use Rattle.trace_replay.specs.Naming.{tree_at}
 use Rattle.kept_promise.proofs.Growth.{Grows, value_later}
 use Rattle.kept_promise.proofs.History.{onward, Becomes, grows_becomes}
 use Rattle.kept_promise.proofs.Facts.{Cached, IsSession, IsOf}
@@ -155,7 +158,7 @@ comes_refused book k qs n x q t ts j g s word quiet (inl dir) = subst (λ z. Com
   forgotten = client.without_call (client.calls_of c) t.xid;
   cache = c.cache;
   index = c.index;
-  shows = stops_open book k qs n x q t ts j g tr of.op.point (told.Refused 21) of.op.value c.opened quiet word refl (λ m e. inl e) (λ more grows steps. by more of.op.word w (inl (refl, of.file ∙ dir.1))) (g.kept.seats x.owner h.seat h.owner).opened;
+  shows = stops_open book k qs n x q t ts j g tr of.op.point (told.Refused 21) of.op.value c.opened quiet word refl (λ m e. inl e) (λ more grows steps. by more of.op.word w (inl (refl, inside more grows))) (g.kept.seats x.owner h.seat h.owner).opened;
   cached = inl (g.kept.seats x.owner h.seat h.owner).kept;
   state_is = refl;
   send_is = refl;
@@ -181,10 +184,25 @@ comes_refused book k qs n x q t ts j g s word quiet (inl dir) = subst (λ z. Com
     r : Op
     r = open_op of.op tr (book.steps + 1) of.op.point (told.Refused 21) of.op.value
 
+    after : of.op.begin ≤ dir.1.moment
+    after = subst (λ (o : Op). o.begin ≤ dir.1.moment) (some_is dir.1.op of.op (sym dir.1.there ∙ of.there)) dir.1.after
+
+    inside : (more : Book) → Grows book more None (Some j.place) → IsDirectory more r of.op.file
+    inside more grows =
+        let is = dir.1.step_is in
+        let past = dir.1.past in
+        record {
+          moment = dir.1.at;
+          there = grows.happened dir.1.at dir.1.noted;
+          inside = (omega (arith, after, is), λ e q. let end = some_is (book.steps + 1) e q in omega (arith, past, is, end));
+          node = dir.1.node;
+          node_is = ap (directory_of (tree_at dir.1.at).nodes) of.file ∙ dir.1.node_is;
+        }
+
     by : (more : Book) (v : Word) → v ≡ words.Open → IsOpenRefused more of.op.file r 21 → RefusedBy more r v 21
     by more words.Open e i = i
     by more _ e i = absurd cc
-comes_refused book k qs n x q t ts j g s word quiet (inr stale) = subst (λ z. Comes book k qs n x q t ts j g (refused_at (client_at book k qs n x q t ts j g) t.xid z)) (sym stale.0.0) (inr (record {
+comes_refused book k qs n x q t ts j g s word quiet (inr stale) = subst (λ z. Comes book k qs n x q t ts j g (refused_at (client_at book k qs n x q t ts j g) t.xid z)) (sym stale.0) (inr (record {
   op = r;
   ended = record { outcome = outcome.Refused status.Stale; rests_on = t.xid };
   made = None;
@@ -192,17 +210,15 @@ comes_refused book k qs n x q t ts j g s word quiet (inr stale) = subst (λ z. C
   forgotten = client.without_call (client.calls_of c) t.xid;
   cache = c.cache;
   index = c.index;
-  shows = stops_open book k qs n x q t ts j g tr (Some m) (told.Refused 70) of.op.value c.opened quiet word refl (told_point book k qs n x q t ts j g t.xid None stale.2.0 stale.2.1) (λ more grows steps. by more of.op.word w (inr (
+  shows = stops_open book k qs n x q t ts j g tr (Some m) (told.Refused 70) of.op.value c.opened quiet word refl (told_point book k qs n x q t ts j g t.xid None stale.1.0 stale.1.1) (λ more grows steps. by more of.op.word w (inr (
     refl,
-    λ one. stale.0.1 (sym of.file ∙ one),
-    ap (content_of more.opening) of.file ∙ ap (λ l. content_of l j.file) grows.opening ∙ stale.1,
-    (m, (refl, after, (book.steps + 1, refl, omega (arith, past))), ap (λ f. value_at more f m) of.file ∙ value_later book more None (Some j.place) j.file m grows (omega (arith, past)) ∙ stale.2.1.value),
+    (m, (refl, after, (book.steps + 1, refl, omega (arith, past))), ap (λ f. value_at more f m) of.file ∙ value_later book more None (Some j.place) j.file m grows (omega (arith, past)) ∙ stale.1.1.value),
   ))) (g.kept.seats x.owner h.seat h.owner).opened;
   cached = inl (g.kept.seats x.owner h.seat h.owner).kept;
   state_is = refl;
   send_is = refl;
   ended_is = refl;
-  op_is = ap (λ v. open_op of.op tr (book.steps + 1) (point_if (has_point v (outcome.Refused status.Stale)) x.taken t.xid of.op.point) (told.Refused 70) of.op.value) w ∙ ap (λ p. open_op of.op tr (book.steps + 1) p (told.Refused 70) of.op.value) stale.2.1.was;
+  op_is = ap (λ v. open_op of.op tr (book.steps + 1) (point_if (has_point v (outcome.Refused status.Stale)) x.taken t.xid of.op.point) (told.Refused 70) of.op.value) w ∙ ap (λ p. open_op of.op tr (book.steps + 1) p (told.Refused 70) of.op.value) stale.1.1.was;
 }))
   where
     h : IsSession book k.seats k.server n x q
@@ -221,13 +237,13 @@ comes_refused book k qs n x q t ts j g s word quiet (inr stale) = subst (λ z. C
     tr = counted of.op.traffic no_counts
 
     m : ℕ
-    m = stale.2.1.moment
+    m = stale.1.1.moment
 
     past : m ≤ book.steps
-    past = stale.2.1.past
+    past = stale.1.1.past
 
     after : of.op.begin ≤ m
-    after = subst (λ (o : Op). o.begin ≤ m) (some_is stale.2.1.op of.op (sym stale.2.1.there ∙ of.there)) stale.2.1.after
+    after = subst (λ (o : Op). o.begin ≤ m) (some_is stale.1.1.op of.op (sym stale.1.1.there ∙ of.there)) stale.1.1.after
 
     r : Op
     r = open_op of.op tr (book.steps + 1) (Some m) (told.Refused 70) of.op.value

@@ -74,24 +74,25 @@ turn_tells w _ = refl
 
 -- ---- of a line
 
-line_tells : (l : Line) → turn_told (turn_of l) ≡ event_by (Some l)
-line_tells line.Skipped = refl
-line_tells line.Version = refl
-line_tells (line.Term n) = refl
-line_tells (line.Drift n) = refl
-line_tells (line.Clients n) = refl
-line_tells (line.File name content) = refl
-line_tells (line.Join m r at) = refl
-line_tells (line.Do m r d) = refl
-line_tells (line.Up n a at) = refl
-line_tells (line.Down n a r) = refl
-line_tells (line.Settle at) = refl
-line_tells (line.Cut m r) = refl
-line_tells (line.Hang n at) = refl
-line_tells (line.Pass n rounds at r) = refl
-line_tells (line.Forge w key file offset count) = refl
-line_tells (line.Clear w) = refl
-line_tells (line.Evict m file) = refl
+line_tells : (dir : ℕ) (l : Line) → turn_told (turn_of dir l) ≡ event_by (Some l)
+line_tells dir line.Skipped = refl
+line_tells dir line.Version = refl
+line_tells dir (line.Term n) = refl
+line_tells dir (line.Drift n) = refl
+line_tells dir (line.Clients n) = refl
+line_tells dir (line.Dir spot) = refl
+line_tells dir (line.File spot content) = refl
+line_tells dir (line.Join m r at) = refl
+line_tells dir (line.Do m r d) = refl
+line_tells dir (line.Up n a at) = refl
+line_tells dir (line.Down n a r) = refl
+line_tells dir (line.Settle at) = refl
+line_tells dir (line.Cut m r) = refl
+line_tells dir (line.Hang n at) = refl
+line_tells dir (line.Pass n rounds at r) = refl
+line_tells dir (line.Forge w key file offset count) = refl
+line_tells dir (line.Clear w) = refl
+line_tells dir (line.Evict m file) = refl
 
 -- ---- of all lines
 
@@ -105,7 +106,7 @@ lines_tell n w v (l ∷ ls) e = by_line (line_of l) (λ t. lines_tell (n + 1) (t
     by_turn : (x : Line) (r : Result Turn LineFault) → asked w n x ≡ r → Later n w v ls → ran_by w n ls r ≡ Ok v → told_of (moments_by w n ls r) ≡ event_by (Some x) ++ events_of ls
     by_turn x (Err f) is go e = no_world _ v e
     by_turn x (Ok t) is go e =
-        both_told (turn_moments w t) (moments_from (turned w t) (n + 1) ls) (event_by (Some x)) (events_of ls) (turn_tells w t ∙ ap turn_told (asked_turn w n x t is) ∙ line_tells x) (go t e)
+        both_told (turn_moments w t) (moments_from (turned w t) (n + 1) ls) (event_by (Some x)) (events_of ls) (turn_tells w t ∙ ap turn_told (asked_turn w n x t is).1 ∙ line_tells (asked_turn w n x t is).0 x) (go t e)
 
     by_line : (o : Option Line) → Later n w v ls → ran_by w n ls (asked_by w n o) ≡ Ok v → told_of (moments_by w n ls (asked_by w n o)) ≡ event_by o ++ events_of ls
     by_line None go e = no_world _ v e
@@ -141,7 +142,8 @@ lines_told (l ∷ ls) = by (line_of l) ∙ ap (λ (z : List Told). command_by (l
     by_line (line.Term n) = refl
     by_line (line.Drift n) = refl
     by_line (line.Clients n) = refl
-    by_line (line.File name content) = refl
+    by_line (line.Dir spot) = refl
+    by_line (line.File spot content) = refl
     by_line (line.Join m r at) = refl
     by_line (line.Do m r d) = refl
     by_line (line.Up n a at) = refl

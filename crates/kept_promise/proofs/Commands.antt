@@ -3,6 +3,7 @@ use Rattle.std.proofs.Common.{inl, inr, ◌≡◌, ℕ, zero, suc, ◌+◌, ◌<
 use Rattle.command_text.specs.declared.command.Command.TheVariants as command
 use Rattle.client_cache.specs.Cache.{reserved, content_of as kept_of}
 use Rattle.client_state.specs.State as client
+use Rattle.open_close.specs.Walking.{walks}
 use Rattle.client_state.specs.declared.step.Outcome.TheVariants as outcome
 use Rattle.client_state.specs.declared.task.Stage.TheVariants as stage
 use Rattle.client_state.proofs.Edits.{written_length, truncated_length}
@@ -13,6 +14,7 @@ use Rattle.kept_promise.proofs.Messages.{Job, job, job_of}
 use Rattle.kept_promise.proofs.Rights.{IsRight}
 use Rattle.kept_promise.proofs.History.{onward}
 use Rattle.kept_promise.proofs.Turns.{around_with, also_numbered}
+use Rattle.kept_promise.proofs.PathNames.{IsSmall}
 use Rattle.kept_promise.proofs.Facts.{IsMatched, IsKept}
 use Rattle.kept_promise.proofs.Leading.{Leads, KeptDoes, ups_put_in, ups_put}
 use Rattle.kept_promise.proofs.Hangs.{leads_quiet}
@@ -165,10 +167,10 @@ begun_right more c w file value step remote now = record {
 
 -- it begins: the queue, the session and the seat are as its step leaves them
 leads_begins : (book : Book) (k : Core) (qs : List Queue) (c : ℕ) (seat : Seat) (w : Word) (file : ℕ) (value : List ℕ) (cache : Entries) (temp : ℕ) (s : Stage) (a : Ask) (acts : ClientStep) → (g : Idle book k qs c seat) → (l : Linked book k qs c seat)
-    → acts.send ≡ ask_message a ∷ [] → acts.ended ≡ None → Rattle.trace_replay.specs.Ops.counted (record { cond = 0; tmp = 0; read = 0; «data» = 0 }) acts.counts ≡ record { cond = 0; tmp = 0; read = 0; «data» = 0 }
+    → acts.send ≡ ask_message a ∷ [] → acts.ended ≡ None → acts.found ≡ None → Rattle.trace_replay.specs.Ops.counted (record { cond = 0; tmp = 0; read = 0; «data» = 0 }) acts.counts ≡ record { cond = 0; tmp = 0; read = 0; «data» = 0 }
     → ((closing : Option ℕ) → closing ≡ Rattle.trace_replay.specs.Ops.closing_with l.session.closing (length book.ops) w None → Starts book (record k { sessions = with_numbered k.sessions l.number (cleared l.session) }) qs c l.number (cleared l.session) l.queue seat (begun c w file value (k.steps + 1)) cache temp file s a closing value)
     → Answers book k qs c seat w file value (begun_client seat.client cache temp file s, acts)
-leads_begins book k qs c seat w file value cache temp s a acts g l send ended counts starts =
+leads_begins book k qs c seat w file value cache temp s a acts g l send ended none counts starts =
     let n = l.number in
     let x = l.session in
     let q = l.queue in
@@ -189,7 +191,7 @@ leads_begins book k qs c seat w file value cache temp s a acts g l send ended co
     let last = around_with k.sessions n x y f.at in
     let now = kept_begins book free_k qs c n (cleared x) q seat new cache temp file s a closing value seats sessions after ready (starts closing refl) (around_with k.seats c seat d g.here) (record { there = last.there; others = λ m apart. last.others m apart ∙ sym (first.others m apart); count = last.count ∙ sym first.count }) (around_with qs n q (record { ups = ups; downs = q.downs }) f.is) in
     let place : length book.ops ≡ length k.ops = ap (λ (z : List Op). length z) g.kept.ops in
-    let op_is : op_after new (begun_client seat.client cache temp file s) [] (k.steps + 1) acts ≡ new = op_same acts.ended ended in
+    let op_is : op_after new (begun_client seat.client cache temp file s) [] (k.steps + 1) acts ≡ new = op_same acts.found acts.ended none ended in
     let core = cut_core book more k k.server seats sessions (k.ops ++ new ∷ []) (ap (λ z. z + 1) g.kept.steps) (ap (λ (z : List Op). z ++ new ∷ []) g.kept.ops) g.kept.entries in
     let one = subst (λ (z : Core). IsKept more z after) core now in
     record {
@@ -200,9 +202,10 @@ leads_begins book k qs c seat w file value cache temp s a acts g l send ended co
       kept = shape more acts.ended ended op_is place one;
     }
   where
-    op_same : (e : Option Rattle.client_state.specs.declared.step.Ended.Ended) → e ≡ None → Rattle.trace_replay.specs.Ops.op_ended (record (begun c w file value (k.steps + 1)) { traffic = Rattle.trace_replay.specs.Ops.counted (record { cond = 0; tmp = 0; read = 0; «data» = 0 }) acts.counts }) (begun_client seat.client cache temp file s) [] (k.steps + 1) e ≡ begun c w file value (k.steps + 1)
-    op_same None e = ap (λ t. record (begun c w file value (k.steps + 1)) { traffic = t }) counts
-    op_same (Some e) is = absurd cc
+    op_same : (u : Option ℕ) (e : Option Rattle.client_state.specs.declared.step.Ended.Ended) → u ≡ None → e ≡ None → Rattle.trace_replay.specs.Ops.op_ended (record (begun c w file value (k.steps + 1)) { file = Rattle.trace_replay.specs.Ops.file_with file u; traffic = Rattle.trace_replay.specs.Ops.counted (record { cond = 0; tmp = 0; read = 0; «data» = 0 }) acts.counts }) (begun_client seat.client cache temp file s) [] (k.steps + 1) e ≡ begun c w file value (k.steps + 1)
+    op_same None None q e = ap (λ t. record (begun c w file value (k.steps + 1)) { traffic = t }) counts
+    op_same None (Some e) q is = absurd cc
+    op_same (Some i) e q is = absurd cc
 
     -- the sessions, the seats, the operations and the queues, as the step says them
     shape : (more : Book) (e : Option Rattle.client_state.specs.declared.step.Ended.Ended) → acts.ended ≡ None → op_after (begun c w file value (k.steps + 1)) (begun_client seat.client cache temp file s) [] (k.steps + 1) acts ≡ begun c w file value (k.steps + 1) → length book.ops ≡ length k.ops
@@ -232,7 +235,7 @@ open_begins book k qs c seat file fits g l room =
     let a : Ask = record { xid = s.next; call = Hash file 0 } in
     let was = (g.kept.seats c seat g.here).next in
     let steps = g.kept.steps in
-    leads_begins book k qs c seat words.Open file [] (reserved s.cache file) s.next_temp (stage.Hashing 1 s.next) a (tries_anew (record s { cache = reserved s.cache file }) file 1 0).1 g l refl refl refl (λ closing is. record {
+    leads_begins book k qs c seat words.Open file [] (reserved s.cache file) s.next_temp (stage.Hashing 1 s.next) a (tries_anew (record s { cache = reserved s.cache file }) file 1 0).1 g l refl refl refl refl (λ closing is. record {
       first = hash_first s.next file;
       of_client = refl;
       word = refl;
@@ -279,7 +282,7 @@ lease_begins book k qs c seat file v fits g l room =
     let a : Ask = record { xid = s.next; call = Lease file } in
     let was = (g.kept.seats c seat g.here).next in
     let steps = g.kept.steps in
-    leads_begins book k qs c seat words.Open file [] (reserved s.cache file) s.next_temp (stage.Asking s.next) a (asks_kept (record s { cache = reserved s.cache file }) file (Some v)).1 g l refl refl refl (λ closing is. record {
+    leads_begins book k qs c seat words.Open file [] (reserved s.cache file) s.next_temp (stage.Asking s.next) a (asks_kept (record s { cache = reserved s.cache file }) file (Some v)).1 g l refl refl refl refl (λ closing is. record {
       first = lease_first s.next file;
       of_client = refl;
       word = refl;
@@ -340,7 +343,7 @@ close_begins book k qs c seat file v g l at room =
     let value = client.local_bytes s.opened file in
     let new = begun c words.Close file value (k.steps + 1) in
     let bytes : value ≡ v.bytes = ap (λ (o : Option Local). Rattle.std.specs.Prelude.unwrap_or (Rattle.std.specs.Prelude.option_map (λ z. z.bytes) o) []) at in
-    leads_begins book k qs c seat words.Close file value s.cache (s.next_temp + 1) (stage.Making s.next s.next_temp) a (asks_temp s file true).1 g l refl refl refl (λ closing is. record {
+    leads_begins book k qs c seat words.Close file value s.cache (s.next_temp + 1) (stage.Making s.next s.next_temp) a (asks_temp s file true).1 g l refl refl refl refl (λ closing is. record {
       first = make_first s.next s.next_temp file;
       of_client = refl;
       word = refl;
@@ -382,12 +385,13 @@ closed_new book k qs c seat file g = subst (λ (t : Option Task). AnswersClose b
 
 -- ---- any command
 
-idle_does : (book : Book) (k : Core) (qs : List Queue) (c now : ℕ) (seat : Seat) (d : Command) → file_of d < 18446744073709551616 → Idle book k qs c seat → Answers book k qs c seat (word_of d) (file_of d) (value_at_begin seat.client (word_of d) (file_of d) (command_step seat.client d now).1.ended) (command_step seat.client d now)
+idle_does : (book : Book) (k : Core) (qs : List Queue) (c now : ℕ) (seat : Seat) (d : Command) → IsSmall d → Idle book k qs c seat → Answers book k qs c seat (word_of d) (file_of d) (value_at_begin seat.client (word_of d) (file_of d) (command_step seat.client d now).1.ended) (command_step seat.client d now)
 idle_does book k qs c now seat (command.Open file) fits g = opened_new book k qs c seat file fits g
 idle_does book k qs c now seat (command.Write file offset content) fits g = local_one book k qs c seat words.Write file [] (writes seat.client file offset content) g (λ l at. wrote book k qs c seat file offset content [] l g at)
 idle_does book k qs c now seat (command.Trunc file size) fits g = local_one book k qs c seat words.Trunc file [] (truncates seat.client file size) g (λ l at. edited book k qs c seat words.Trunc file [] l size (truncated l.bytes size) g at (truncated_length l.bytes size))
 idle_does book k qs c now seat (command.Read file offset count) fits g = local_one book k qs c seat words.Read file [] (reads seat.client offset count) g (λ l at. own_same book k qs c seat words.Read file [] (outcome.Piece (length (part_of l.bytes offset count)) (sha1 (part_of l.bytes offset count))) tt g)
 idle_does book k qs c now seat (command.Close file) fits g = closed_new book k qs c seat file g
+idle_does book k qs c now seat (command.Named n) fits g = absurd fits
 idle_does book k qs c now seat (command.Abandon file) fits g = local_one book k qs c seat words.Abandon file [] (abandons seat.client file) g (λ l at. own_with book k qs c seat words.Abandon file [] (client.without_local seat.client.opened file) outcome.Done tt g (gone book k qs c seat file g))
 
 busy_step : (s : client.State) (t : Task) (d : Command) (now : ℕ) → s.task ≡ Some t → command_step s d now ≡ (s, ends outcome.Busy 0 0)
@@ -397,8 +401,9 @@ busy_step s t (command.Trunc file size) now e = ap (λ z. on_local s z (client.l
 busy_step s t (command.Read file offset count) now e = ap (λ z. on_local s z (client.local_at s.opened file) (reads s offset count)) e
 busy_step s t (command.Close file) now e = ap (λ z. on_local s z (client.local_at s.opened file) (closes s file)) e
 busy_step s t (command.Abandon file) now e = ap (λ z. on_local s z (client.local_at s.opened file) (abandons s file)) e
+busy_step s t (command.Named k) now e = ap (walks s k) e
 
-does_as : (book : Book) (k : Core) (qs : List Queue) (c now : ℕ) (seat : Seat) (d : Command) → file_of d < 18446744073709551616 → IsKept book k qs → numbered k.seats c ≡ Some seat → (place : Option ℕ) (task : Option Task) → seat.place ≡ place → seat.client.task ≡ task → IsMatched seat
+does_as : (book : Book) (k : Core) (qs : List Queue) (c now : ℕ) (seat : Seat) (d : Command) → IsSmall d → IsKept book k qs → numbered k.seats c ≡ Some seat → (place : Option ℕ) (task : Option Task) → seat.place ≡ place → seat.client.task ≡ task → IsMatched seat
     → Leads book qs (commanded_as k c seat place seat.session (session_of k.sessions seat.session) (word_of d) (file_of d) (value_at_begin seat.client (word_of d) (file_of d) (command_step seat.client d now).1.ended) (command_step seat.client d now).0 (command_step seat.client d now).1)
 does_as book k qs c now seat d fits kept here None None e f m = idle_does book k qs c now seat d fits (record { kept = kept; here = here; place = e; task = f; free = ap (λ (p : Option ℕ). job_of p seat.client.task) e })
 does_as book k qs c now seat d fits kept here (Some p) (Some t) e f m =
@@ -412,6 +417,6 @@ does_as book k qs c now seat d fits kept here (Some p) None e f (inr m) = nothin
 pub kept_does : KeptDoes
 kept_does = λ book k qs c now d fits kept noted. by book k qs c now d fits kept (numbered k.seats c) refl
   where
-    by : (book : Book) (k : Core) (qs : List Queue) (c now : ℕ) (d : Command) → file_of d < 18446744073709551616 → IsKept book k qs → (o : Option Seat) → numbered k.seats c ≡ o → Leads book qs (does k c now d o)
+    by : (book : Book) (k : Core) (qs : List Queue) (c now : ℕ) (d : Command) → IsSmall d → IsKept book k qs → (o : Option Seat) → numbered k.seats c ≡ o → Leads book qs (does k c now d o)
     by book k qs c now d fits kept None at = leads_quiet book k qs kept
     by book k qs c now d fits kept (Some seat) at = does_as book k qs c now seat d fits kept at seat.place seat.client.task refl refl (kept.seats c seat at).matched

@@ -27,12 +27,12 @@ use Rattle.kept_promise.proofs.Fills.{file_there}
 use Rattle.kept_promise.proofs.Facts.{FileIs, IsSession, IsKept, commits_in}
 use Rattle.kept_promise.proofs.Takes.{took, file_still}
 use Rattle.kept_promise.proofs.Serves.{answered, parsed}
-use Rattle.kept_promise.proofs.Tells.{Found, is_root, is_gone, is_file, looked, waits_in}
+use Rattle.kept_promise.proofs.Tells.{Found, is_directory, is_gone, is_file, looked, waits_in}
 use Rattle.kept_promise.proofs.Shelves.{of_removed, of_lookup, joined_alike, joined_is}
 use Rattle.kept_promise.proofs.Calls.{Given, session_in, first_fits, rest_of, leads_by, served, held_at, place_at, rest_above}
 use Rattle.kept_promise.proofs.Leading.{Leads}
 use Rattle.server_core.specs.declared.change.Wanted.TheVariants as what
-use Rattle.kept_promise.proofs.TreeCalls.{entries_more, sizes_more}
+use Rattle.server_law.proofs.TreeCalls.{entries_more, sizes_more}
 
 -- ---- it is refused
 
@@ -147,7 +147,6 @@ kept_waits book k qs n now x q xid m f size us temps content sessions after g we
       server = record {
         held = λ i. file_still book more None None i (server.file_at k.server.tree i) grows (still_same book 1 kept.sound) (kept.server.held i);
         bounded = kept.server.bounded;
-        plain = kept.server.plain;
         commits = λ i u at. elim (of_appended k.server.waiting d i u at) [
           | inl new ↦ subst (λ (z : Change). z.what ≡ what.Content (content_wanted z.what)) (sym new.1) refl
           | inr old ↦ kept.server.commits i u old
@@ -419,7 +418,7 @@ serve_commit laws book k qs n now x q xid m f size us g = by (temp_at k.server.t
         whole id t (assembled t size) found refl same known (λ c is. joined_is (hashed_of book.moments) (h.contents m) t.pieces c parts (ap (λ (z : ℕ). joined 0 z t.pieces) (sym sized_is) ∙ is))
 
     nodes : (t : Temp) → temp_at k.server.temps n m ≡ Some t → Found k.server.tree f → Leads book (rest_of qs n q us) (served k n x xid (commits_to (record (at k.server now) { temps = left }) n xid size t (node_of k.server.tree (handle_bytes f))))
-    nodes t found (is_root one e) = subst (λ (nd : Result Node Status). Leads book (rest_of qs n q us) (served k n x xid (commits_to (record (at k.server now) { temps = left }) n xid size t nd))) (sym e) (ends status.IsDir (λ uncut. absurd (not_root (ready uncut).file (sym e ∙ (ready uncut).node))))
+    nodes t found (is_directory d there none e) = subst (λ (nd : Result Node Status). Leads book (rest_of qs n q us) (served k n x xid (commits_to (record (at k.server now) { temps = left }) n xid size t nd))) (sym e) (ends status.IsDir (λ uncut. absurd (not_root (ready uncut).file (sym e ∙ (ready uncut).node))))
       where
         not_root : (z : File) → ◌≡◌ {A = Result Node Status} (Ok directory) (Ok (file z)) → ⊥
         not_root z q = absurd cc
@@ -431,4 +430,4 @@ serve_commit laws book k qs n now x q xid m f size us g = by (temp_at k.server.t
 
     by : (o : Option Temp) → temp_at k.server.temps n m ≡ o → Leads book (rest_of qs n q us) (served k n x xid (commits (at k.server now) n xid (record { fd = m; handle = handle_bytes f; size = size }) o))
     by None found = fails status.BadFd (λ uncut. let r = ready uncut in nothing_there r.temp (sym found ∙ r.found))
-    by (Some t) found = nodes t found (looked k.server.tree f g.kept.server.plain (first_fits book k qs n now x q a us g).2)
+    by (Some t) found = nodes t found (looked k.server.tree f (first_fits book k qs n now x q a us g).2)

@@ -106,7 +106,7 @@ pub use Rattle.trace_replay.specs.Delivery.{all_happened, up_at, down_at, up_len
 pub use Rattle.trace_replay.specs.Faithful.{is_running, StoresLocal, CameTo, IsDone, HasJournal, OpenedBy, TellsVersion}
 pub use Rattle.trace_replay.specs.Ops.{op_after, counted, has_point, point_if, place_after, told_of, no_traffic, begun, place_with, taken_at, value_of, ended_op, pointed, pointed_at, op_ended, closing_with}
 pub use Rattle.trace_replay.specs.Readings.{KeepsClocks}
-pub use Rattle.trace_replay.specs.Run.{turned, run, asked, run_from, at_events, count_of, asked_by, line_most, sessions_most, asks_if, sized, named, joins_if, joins_within, event_asks, asks_at, asks, in_header, ended, asks_within}
+pub use Rattle.trace_replay.specs.Run.{turned, run, asked, run_from, at_events, count_of, asked_by, line_most, sessions_most, asks_if, sized, joins_if, joins_within, event_asks, asks_at, asks, in_header, ended, asks_within}
 pub use Rattle.trace_replay.specs.Timed.{owners_of, accepted}
 pub use Rattle.trace_replay.specs.Traffic.{Deal, deals_with, Deal.Sent, deals_of, Deal.Took, Deal.Found, stored_traffic, until, is_of, SentCommit, sent_traffic, taken_traffic, both, is_in, deals_in, CountsOwn, is_commit, number_if, first_number}
 pub use Rattle.trace_replay.specs.Trail.{Moment, hashed_of, owner_in, Deed, step_of, Said, all_said, client_of, wanted_by, taken_by, deeds_of, turn_moments, moments, sent_of, deed_by, moments_from, hashed_by, wanted_if, taken_if, taken_from, deeds_from, moments_of, up_moments_at, up_moments, down_moments_at, down_moments, round_moments, passes_moments, sent_in, joined_by, joined_from, calls_among, sent_if, calls_by, calls_from, given_by}

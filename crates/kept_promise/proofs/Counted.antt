@@ -175,27 +175,28 @@ counted_quiet ss rs m n ops le h =
     subst (λ z. AreCounted z (rs ++ []) n ops) (sym (append-nil ss)) (subst (λ z. AreCounted ss z n ops) (sym (append-nil rs)) (record { sent_by = said_later m n ss le h.sent_by; taken_by = said_later m n rs le h.taken_by; counts = h.counts; silent = h.silent }))
 
 -- an operation gets its point
-pub counted_pointed : (ss rs : List Said) (n step : ℕ) (ops : List Op) (place : Option ℕ) → AreCounted ss rs n ops → AreCounted ss rs n (pointed_at ops place step)
-counted_pointed ss rs n step ops None h = h
-counted_pointed ss rs n step ops (Some place) h = by (slice_get ops place) refl
+pub counted_pointed : (ss rs : List Said) (n step : ℕ) (ops : List Op) (place changed : Option ℕ) → AreCounted ss rs n ops → AreCounted ss rs n (pointed_at ops place step changed)
+counted_pointed ss rs n step ops None changed h = h
+counted_pointed ss rs n step ops (Some place) None h = h
+counted_pointed ss rs n step ops (Some place) (Some file) h = by (slice_get ops place) refl
   where
-    by : (q : Option Op) → slice_get ops place ≡ q → AreCounted ss rs n (pointed ops place step q)
+    by : (q : Option Op) → slice_get ops place ≡ q → AreCounted ss rs n (pointed ops place file step q)
     by None e = h
     by (Some q) e = record {
       sent_by = h.sent_by;
       taken_by = h.taken_by;
-      counts = λ p o at. elim (of_replaced ops place (record q { point = Some step }) p o at) [
+      counts = λ p o at. elim (of_replaced ops place (record q { file = file; point = Some step }) p o at) [
         | inl new ↦ subst (λ (z : Op). z.traffic ≡ traffic_of z ss rs) (sym new.1) (h.counts place q e ∙ same q)
         | inr old ↦ h.counts p o old.1
       ];
-      silent = λ p o at. elim (of_replaced ops place (record q { point = Some step }) p o at) [
+      silent = λ p o at. elim (of_replaced ops place (record q { file = file; point = Some step }) p o at) [
         | inl new ↦ subst (λ (z : Op). z.end ≡ Some z.begin → z.traffic ≡ no_traffic) (sym new.1) (h.silent place q e)
         | inr old ↦ h.silent p o old.1
       ];
     }
       where
-        same : (q : Op) → traffic_of q ss rs ≡ traffic_of (record q { point = Some step }) ss rs
-        same q = sym (ap (λ z. both z (taken_for (record q { point = Some step }) rs)) (sent_alike n q (record q { point = Some step }) ss (λ s c le. refl) h.sent_by) ∙ ap (both (sent_for q ss)) (taken_alike n q (record q { point = Some step }) rs (λ s c le. refl) h.taken_by))
+        same : (q : Op) → traffic_of q ss rs ≡ traffic_of (record q { file = file; point = Some step }) ss rs
+        same q = sym (ap (λ z. both z (taken_for (record q { file = file; point = Some step }) rs)) (sent_alike n q (record q { file = file; point = Some step }) ss (λ s c le. refl) h.sent_by) ∙ ap (both (sent_for q ss)) (taken_alike n q (record q { file = file; point = Some step }) rs (λ s c le. refl) h.taken_by))
 
 -- ---- a client goes on with its operation
 

@@ -1,5 +1,5 @@
 -- A run carries that each operation counts what its client sent and took for it.
-use Rattle.std.proofs.Common.{inl, inr, ◌≡◌, ℕ, suc, ◌+◌, List, [], ◌∷◌, ◌++◌, Option, Some, None, Result, Ok, Err, Bool, true, false, refl, sym, ap, ◌∙◌, subst, arith}
+use Rattle.std.proofs.Common.{inl, inr, ◌≡◌, ℕ, ◌+◌, List, [], ◌∷◌, ◌++◌, Option, Some, None, Result, Ok, Err, Bool, true, false, refl, sym, ap, ◌∙◌, subst, arith}
 use Rattle.std.proofs.lemmas.List.{flat_map_more}
 use Rattle.server_core.specs.State as server
 use Rattle.server_core.specs.declared.event.Event.TheVariants as event
@@ -7,9 +7,9 @@ use Rattle.server_core.specs.declared.event.Told.{Told}
 use Rattle.server_core.specs.declared.event.Told.TheVariants as told
 use Rattle.client_state.specs.State as client
 use Rattle.client_state.specs.declared.step.Outcome.TheVariants as outcome
-use Rattle.trace_replay.specs.Core.{taken_of as session_taken}
+use Rattle.trace_replay.specs.Core.{taken_of as session_taken, entries_since}
 use Rattle.trace_replay.specs.Trail.{taken_in, taken_of}
-use Rattle.kept_promise.proofs.Common.{slice_get, Command, parse_of, Message, WireFault, server_step, no_counts, command_step, got_step, ended_by, cut, BadPeer, ClientStep, Ended, Outcome, Task, Op, Opening, TakenCall, no_traffic, counted, op_after, ended_op, told_of, Core, Seat, Session, Event, Event.Joins, Event.Does, Event.Serves, Event.Hears, Event.Settles, Event.Cuts, Event.Hangs, CoreStep, numbered, server_waiting, serves_if, serves, session_of, ops_after, ops_with, does, joins_as, joins, settled_ops, settled_by, settles, cuts_if, cuts, hangs_if, hangs, happens, Moment, all_said, owner_in, client_of, sent_in, sent_of, wanted_by, taken_if, taken_from, taken_by, Book, Queue}
+use Rattle.kept_promise.proofs.Common.{slice_get, Command, parse_of, Message, WireFault, server_step, no_counts, command_step, got_step, ended_by, cut, BadPeer, ClientStep, Ended, Outcome, Task, Op, Opening, TakenCall, no_traffic, counted, op_after, ended_op, told_of, Core, Seat, Session, Event, Event.Joins, Event.Does, Event.Serves, Event.Hears, Event.Settles, Event.Cuts, Event.Hangs, CoreStep, numbered, server_waiting, serves_if, serves, session_of, ops_after, ops_with, does, joins_as, joins, settled_ops, settled_by, settles, cuts_if, cuts, hangs_if, hangs, happens, Moment, all_said, owner_in, client_of, sent_in, sent_of, wanted_by, taken_if, taken_from, taken_by, Book, Queue, pointed_at}
 use Rattle.kept_promise.proofs.Lists.{nothing_there, at_replaced}
 use Rattle.kept_promise.proofs.Rights.{IsRight, Caused}
 use Rattle.kept_promise.proofs.Facts.{IsKept}
@@ -19,14 +19,16 @@ use Rattle.kept_promise.proofs.StepCases.{IsFault, command_cases}
 use Rattle.kept_promise.proofs.Counted.{AreCounted, counted_quiet, counted_pointed, counted_acts, counted_begins}
 use Rattle.kept_promise.proofs.Actors.{acts_alone, Heard, heard_at, newest_is}
 use Rattle.kept_promise.proofs.CommandOps.{made_by, made_later, made_silent}
+use Rattle.kept_promise.proofs.PathNames.{IsSmall}
+use Rattle.trace_replay.specs.Ops.{file_with, changed_file}
 
 -- ---- what a command sends counts nothing
 
 abbrev pub IsSilent : client.State × ClientStep → Type 0
 IsSilent r = (sent_sum r.1.send ≡ no_traffic) × (r.1.counts ≡ no_counts)
 
-pub silent_command : (s : client.State) (d : Command) (now : ℕ) → IsSilent (command_step s d now)
-silent_command s d now = command_cases IsSilent s d now (record { busy = λ t is. (refl, refl); answers = λ free opened o plain. (refl, refl); fetches = λ file is free may. (refl, refl); asks = λ file c is free may at. (refl, refl); closes = λ file l is free may at. (refl, refl) })
+pub silent_command : (s : client.State) (d : Command) (now : ℕ) → IsSmall d → IsSilent (command_step s d now)
+silent_command s d now small = command_cases IsSilent s d now (record { busy = λ t is. (refl, refl); answers = λ free opened o plain. (refl, refl); fetches = λ file is free may. (refl, refl); asks = λ file c is free may at. (refl, refl); closes = λ file l is free may at. (refl, refl); walks = λ c is free may. absurd (subst IsSmall is small) })
 
 -- ---- one more moment
 
@@ -54,7 +56,9 @@ counted_serves past k n now bytes None h = counted_quiet (sent_of past) (taken_o
 counted_serves past k n now bytes (Some x) h = by (parse_of server_waiting bytes)
   where
     by : (m : Result Message WireFault) → CountedBy past k (Serves n now bytes) (serves_if k n now x m)
-    by (Ok m) = counted_quiet (sent_of past) (taken_of past) k.steps (k.steps + 1) k.ops (omega arith) h
+    by (Ok m) =
+        let changed = changed_file (entries_since k.server (server_step k.server (event.Got n m now)).0) in
+        counted_quiet (sent_of past) (taken_of past) k.steps (k.steps + 1) (pointed_at k.ops x.closing (k.steps + 1) changed) (omega arith) (counted_pointed (sent_of past) (taken_of past) k.steps (k.steps + 1) k.ops x.closing changed h)
     by (Err e) = counted_quiet (sent_of past) (taken_of past) k.steps (k.steps + 1) k.ops (omega arith) h
 
 counted_hangs : (past : List Moment) (k : Core) (n : ℕ) (x : Option Session) → CountedAt past k → CountedBy past k (Hangs n) (hangs k n x)
@@ -68,18 +72,18 @@ counted_hangs past k n (Some x) h = by x.hung
 counted_settles : (past : List Moment) (k : Core) (now : ℕ) → CountedAt past k → CountedBy past k (Settles now) (settles k now)
 counted_settles past k now h =
     let r = server_step k.server (event.Settle now) in
-    by r.1.told r.1.entries
+    by r.1.told (changed_file (entries_since k.server r.0))
   where
     quietly : (ops : List Op) → AreCounted (sent_of past) (taken_of past) k.steps ops → AreCounted (sent_of past ++ []) (taken_of past ++ []) (k.steps + 1) ops
     quietly ops c = counted_quiet (sent_of past) (taken_of past) k.steps (k.steps + 1) ops (omega arith) c
 
-    there : (made : ℕ) (x : Option Session) → AreCounted (sent_of past) (taken_of past) k.steps (settled_ops k.ops made (k.steps + 1) x)
-    there (suc n) (Some x) = counted_pointed (sent_of past) (taken_of past) k.steps (k.steps + 1) k.ops x.closing h
-    there _ _ = h
+    there : (changed : Option ℕ) (x : Option Session) → AreCounted (sent_of past) (taken_of past) k.steps (settled_ops k.ops (k.steps + 1) changed x)
+    there changed (Some x) = counted_pointed (sent_of past) (taken_of past) k.steps (k.steps + 1) k.ops x.closing changed h
+    there changed None = h
 
-    by : (o : Told) (made : ℕ) → AreCounted (sent_of past ++ []) (taken_of past ++ []) (k.steps + 1) (settled_by k made o)
-    by (told.Settled session xid) made = quietly (settled_ops k.ops made (k.steps + 1) (numbered k.sessions session)) (there made (numbered k.sessions session))
-    by _ made = quietly k.ops h
+    by : (o : Told) (changed : Option ℕ) → AreCounted (sent_of past ++ []) (taken_of past ++ []) (k.steps + 1) (settled_by k changed o)
+    by (told.Settled session xid) changed = quietly (settled_ops k.ops (k.steps + 1) changed (numbered k.sessions session)) (there changed (numbered k.sessions session))
+    by _ changed = quietly k.ops h
 
 -- ---- events of a client
 
@@ -94,18 +98,18 @@ counted_cuts book past k qs c seat kept here h true = by seat.client.task
     by None = counted_acts (sent_of past) (taken_of past) k.steps c k.ops seat.place (cut seat.client).0 (session_taken (session_of k.sessions seat.session)) (ended_by None lost) [] [] (acts_alone book k qs c seat kept here) (λ p o e at. record { cond = refl; tmp = refl; read = refl; data_is = refl }) h
     by (Some t) = counted_acts (sent_of past) (taken_of past) k.steps c k.ops seat.place (cut seat.client).0 (session_taken (session_of k.sessions seat.session)) (ended_by (Some t) lost) [] [] (acts_alone book k qs c seat kept here) (λ p o e at. record { cond = refl; tmp = refl; read = refl; data_is = refl }) h
 
-counted_does : (past : List Moment) (k : Core) (c now : ℕ) (d : Command) (seat : Seat) → CountedAt past k → CountedBy past k (Does c now d) (does k c now d (Some seat))
-counted_does past k c now d seat h =
+counted_does : (past : List Moment) (k : Core) (c now : ℕ) (d : Command) (seat : Seat) → IsSmall d → CountedAt past k → CountedBy past k (Does c now d) (does k c now d (Some seat))
+counted_does past k c now d seat small h =
     let r = command_step seat.client d now in
-    let silent = silent_command seat.client d now in
+    let silent = silent_command seat.client d now small in
     counted_begins (sent_of past) (taken_of past) k.steps c k.ops (made_by k c now d seat r.0 r.1) r.1.send (made_later k c now d seat r.0 r.1 r.1.ended) (made_silent k c now d seat r.0 r.1 silent.1 r.1.ended) silent.0 h
 
 -- no peer's fault ends an operation
 pub no_fault_after : (more : Book) (o : Op) (c : client.State) (taken : List TakenCall) (step : ℕ) (acts : ClientStep) → IsRight more (op_after o c taken step acts) → IsFault acts.ended → ⊥
 no_fault_after more o c taken step acts right fault = by acts.ended right fault
   where
-    told : (e : Ended) → (f : BadPeer) → e.outcome ≡ outcome.BadPeer f → Caused more (ended_op (record o { traffic = counted o.traffic acts.counts }) c taken step e) (told_of e.outcome) → ⊥
-    told e f q h = subst (λ (u : Outcome). Caused more (ended_op (record o { traffic = counted o.traffic acts.counts }) c taken step e) (told_of u)) q h
+    told : (e : Ended) → (f : BadPeer) → e.outcome ≡ outcome.BadPeer f → Caused more (ended_op (record o { file = file_with o.file acts.found; traffic = counted o.traffic acts.counts }) c taken step e) (told_of e.outcome) → ⊥
+    told e f q h = subst (λ (u : Outcome). Caused more (ended_op (record o { file = file_with o.file acts.found; traffic = counted o.traffic acts.counts }) c taken step e) (told_of u)) q h
 
     by : (e : Option Ended) → IsRight more (op_after o c taken step (record acts { ended = e })) → IsFault e → ⊥
     by None r f = f
@@ -150,7 +154,7 @@ counted_hears book more past k qs after n now bytes mid kept h left counted_past
 
 counted_event : (all past rest : List Moment) (opening : List Opening) (k : Core) (qs : List Queue) (e : Event) (mid after : List Queue) → Step all past rest opening k qs e mid after → CountedAt past k → CountedBy past k e (happens k e)
 counted_event all past rest opening k qs (Joins c) mid after s h = subst (λ (o : Option Seat). CountedBy past k (Joins c) (joins k c o)) (sym s.finds.1) (let r = server_step k.server event.Connect in counted_joins past k c s.finds.0 r.0 r.1.told h)
-counted_event all past rest opening k qs (Does c now d) mid after s h = subst (λ (o : Option Seat). CountedBy past k (Does c now d) (does k c now d o)) (sym s.finds.1) (counted_does past k c now d s.finds.0 h)
+counted_event all past rest opening k qs (Does c now d) mid after s h = subst (λ (o : Option Seat). CountedBy past k (Does c now d) (does k c now d o)) (sym s.finds.1) (counted_does past k c now d s.finds.0 s.finds.2 h)
 counted_event all past rest opening k qs (Serves n now bytes) mid after s h = counted_serves past k n now bytes (numbered k.sessions n) h
 counted_event all past rest opening k qs (Hears n now bytes) mid after s h = counted_hears (book_at opening k all) (book_at opening (happens k (Hears n now bytes)).core all) past k qs after n now bytes mid s.kept (heard_at (book_at opening k all) k qs n now bytes mid s.kept s.finds) s.left h
 counted_event all past rest opening k qs (Settles now) mid after s h = counted_settles past k now h

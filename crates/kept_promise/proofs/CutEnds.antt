@@ -11,6 +11,8 @@ use Rattle.kept_promise.proofs.RunsCarried.{book_at, moment, Step, Carried}
 use Rattle.kept_promise.proofs.Deeds.{also_there, Moved, AllMoved}
 use Rattle.kept_promise.proofs.Doing.{without_end}
 use Rattle.kept_promise.proofs.Following.{IsFollowed, OpsAfter, goes, followed_first, followed_adjusted}
+use Rattle.trace_replay.specs.Ops.{file_with}
+use Rattle.kept_promise.proofs.Fits.{FitLaws}
 
 -- ---- what is carried
 
@@ -42,7 +44,7 @@ ends_by_cut opening all k qs c seat kept here b linked i o r at mine under is =
     lost : Ended
     lost = record { outcome = outcome.Lost; rests_on = 0 }
 
-    lost_so : (taken : List TakenCall) (e : Option Ended) → e ≡ Some lost → (let z = op_ended (record o { traffic = counted o.traffic (cut seat.client).1.counts }) (cut seat.client).0 taken (k.steps + 1) e in (z.end ≡ Some (k.steps + 1)) × (z.outcome ≡ told.Lost))
+    lost_so : (taken : List TakenCall) (e : Option Ended) → e ≡ Some lost → (let z = op_ended (record o { file = file_with o.file (cut seat.client).1.found; traffic = counted o.traffic (cut seat.client).1.counts }) (cut seat.client).0 taken (k.steps + 1) e in (z.end ≡ Some (k.steps + 1)) × (z.outcome ≡ told.Lost))
     lost_so taken (Some x) e = (refl, ap (λ (y : Ended). Rattle.trace_replay.specs.Ops.told_of y.outcome) (some_is x lost e))
     lost_so taken None e = nothing_there lost e
 
@@ -86,8 +88,8 @@ cut_moment all past rest opening k qs c mid after s moved i r at mine =
     ended o was m (Some n) z = let le = ((s.kept.sound.rights i o was).past n z).1 in (n, (m.ended n z).0, inl (omega (arith, le)))
     ended o was m None z = let w = there (numbered k.seats c) refl at o was (sym m.client ∙ mine) z in (k.steps + 1, w.0, inr (refl, w.1))
 
-new_moment : (all past rest : List Moment) (opening : List Opening) (k : Core) (qs : List Queue) (e : Event) (mid after : List Queue) → Step all past rest opening k qs e mid after → IsFollowed past k → (c i : ℕ) (r : Op) → e ≡ Cuts c → slice_get (happens k e).core.ops i ≡ Some r → r.client ≡ c → HasEnded (moment k e) r
-new_moment all past rest opening k qs (Cuts d) mid after s h c i r e at mine = cut_moment all past rest opening k qs d mid after s ((goes all past rest opening k qs (Cuts d) mid after s h).moved refl) i r at (mine ∙ sym same)
+new_moment : FitLaws → (all past rest : List Moment) (opening : List Opening) (k : Core) (qs : List Queue) (e : Event) (mid after : List Queue) → Step all past rest opening k qs e mid after → IsFollowed past k → (c i : ℕ) (r : Op) → e ≡ Cuts c → slice_get (happens k e).core.ops i ≡ Some r → r.client ≡ c → HasEnded (moment k e) r
+new_moment laws all past rest opening k qs (Cuts d) mid after s h c i r e at mine = cut_moment all past rest opening k qs d mid after s ((goes laws all past rest opening k qs (Cuts d) mid after s h).moved refl) i r at (mine ∙ sym same)
   where
     number : Event → ℕ
     number (Cuts n) = n
@@ -95,11 +97,11 @@ new_moment all past rest opening k qs (Cuts d) mid after s h c i r e at mine = c
 
     same : d ≡ c
     same = ap number e
-new_moment all past rest opening k qs _ mid after s h c i r e at mine = absurd cc
+new_moment laws all past rest opening k qs _ mid after s h c i r e at mine = absurd cc
 
-pub cuts_go : (all past rest : List Moment) (opening : List Opening) (k : Core) (qs : List Queue) (e : Event) (mid after : List Queue) → Step all past rest opening k qs e mid after → IsFollowed past k → HasCuts past k → HasCuts (past ++ moment k e ∷ []) (happens k e).core
-cuts_go all past rest opening k qs e mid after s f h =
-    let g = goes all past rest opening k qs e mid after s f in
+pub cuts_go : FitLaws → (all past rest : List Moment) (opening : List Opening) (k : Core) (qs : List Queue) (e : Event) (mid after : List Queue) → Step all past rest opening k qs e mid after → IsFollowed past k → HasCuts past k → HasCuts (past ++ moment k e ∷ []) (happens k e).core
+cuts_go laws all past rest opening k qs e mid after s f h =
+    let g = goes laws all past rest opening k qs e mid after s f in
     let passes = g.passes in
     record {
       late = λ m there. elim (Contains-push_cases past (moment k e) m there) [
@@ -108,7 +110,7 @@ cuts_go all past rest opening k qs e mid after s f h =
       ];
       cuts = λ m c i r there is at mine before. elim (Contains-push_cases past (moment k e) m there) [
         | inl old ↦ old_moment past k (happens k e).core.ops m c i r h g.ops old is at mine before
-        | inr new ↦ subst (λ (z : Moment). HasEnded z r) new (new_moment all past rest opening k qs e mid after s f c i r (ap (λ (z : Moment). z.event) new ∙ is) at mine)
+        | inr new ↦ subst (λ (z : Moment). HasEnded z r) new (new_moment laws all past rest opening k qs e mid after s f c i r (ap (λ (z : Moment). z.event) new ∙ is) at mine)
       ];
     }
 
@@ -117,13 +119,13 @@ pub record AreFollowed (past : List Moment) (k : Core) : Type 0 where
   pub followed : IsFollowed past k
   pub cuts : HasCuts past k
 
-pub carried_follow : Carried (λ all past opening k qs. AreFollowed past k)
-carried_follow = record {
+pub carried_follow : FitLaws → Carried (λ all past opening k qs. AreFollowed past k)
+carried_follow laws = record {
   first = λ all opening tree count kept. record {
     followed = followed_first tree count;
     cuts = record { late = λ m there. let lt = there.1 in absurd (omega (arith, lt)); cuts = λ m c i o there is at. nothing_there o at };
   };
-  steps = λ all past rest opening k qs e mid after s h. record { followed = (goes all past rest opening k qs e mid after s h.followed).followed; cuts = cuts_go all past rest opening k qs e mid after s h.followed h.cuts };
+  steps = λ all past rest opening k qs e mid after s h. record { followed = (goes laws all past rest opening k qs e mid after s h.followed).followed; cuts = cuts_go laws all past rest opening k qs e mid after s h.followed h.cuts };
   adjusts = λ all past opening k qs index seats same h. record { followed = followed_adjusted past k index seats same h.followed; cuts = record { late = h.cuts.late; cuts = h.cuts.cuts } };
 }
 

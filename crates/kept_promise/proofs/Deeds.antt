@@ -9,6 +9,7 @@ use Rattle.register_model.specs.declared.op.Word.TheVariants as words
 use Rattle.kept_promise.proofs.Common.{nat_tests, slice_get, nat_lt, option_map, Command, Local, Op, word_of, file_of, Seat, numbered, Deed, can_ask, lasts, is_busy, local_from, local_before, own_answer, after_one, StoresLocal}
 use Rattle.kept_promise.proofs.Lists.{some_is, nothing_there, same_or_not, of_appended, within, take_before, take_whole}
 use Rattle.kept_promise.proofs.Locally.{Idles, other_client, leaves_alike, leaves_none, idles_by, local_same, local_more, in_taken, keeps, busy_by, free_each, busy_same, busy_more, keeps_is, keeps_if, keeps_not}
+use Rattle.kept_promise.proofs.PathNames.{IsSmall}
 
 -- ---- what is said
 
@@ -29,6 +30,8 @@ Came d o l (Some own) = (o.outcome ≡ own) × (o.end ≡ Some o.begin) × (o.wo
 Came d o l None = StoresLocal d.command o l × FromServer o.outcome
 
 pub record IsDeed (ds : List Deed) (ops : List Op) (i : ℕ) (d : Deed) (o : Op) : Type 0 where
+  -- it is on no names
+  pub small : IsSmall d.command
   pub client : o.client ≡ d.client
   pub word : o.word ≡ word_of d.command
   pub file : o.file ≡ file_of d.command
@@ -117,17 +120,18 @@ take_count (suc n) [] (y ∷ ys) e = absurd (omega (arith, e))
 take_count (suc n) (x ∷ xs) [] e = absurd (omega (arith, e))
 take_count (suc n) (x ∷ xs) (y ∷ ys) e = ap suc (take_count n xs ys (omega (arith, e)))
 
-came_moved : (step : ℕ) (d : Deed) (o r : Op) (l : Option (List ℕ)) (x : Option Outcome) → o.word ≡ word_of d.command → Moved step o r → Came d o l x → Came d r l x
-came_moved step d o r l (Some own) w m h = let e = m.ended o.begin h.1 in (e.1 ∙ h.0, e.0 ∙ ap (λ n. Some n) (sym m.begin), λ z. e.3 (sym m.word ∙ z) ∙ h.2 (sym m.word ∙ z))
-came_moved step d o r l None w m h = (stores d.command w h.0, m.asked h.1)
+came_moved : (step : ℕ) (d : Deed) (o r : Op) (l : Option (List ℕ)) (x : Option Outcome) → IsSmall d.command → o.word ≡ word_of d.command → Moved step o r → Came d o l x → Came d r l x
+came_moved step d o r l (Some own) small w m h = let e = m.ended o.begin h.1 in (e.1 ∙ h.0, e.0 ∙ ap (λ n. Some n) (sym m.begin), λ z. e.3 (sym m.word ∙ z) ∙ h.2 (sym m.word ∙ z))
+came_moved step d o r l None small w m h = (stores d.command small w h.0, m.asked h.1)
   where
-    stores : (k : Command) → o.word ≡ word_of k → StoresLocal k o l → StoresLocal k r l
-    stores (command.Close f) w s = s ∙ ap (λ z. Some z) (sym (m.value w))
-    stores (command.Open f) w s = s
-    stores (command.Write f offset content) w s = s
-    stores (command.Trunc f size) w s = s
-    stores (command.Read f offset count) w s = s
-    stores (command.Abandon f) w s = s
+    stores : (k : Command) → IsSmall k → o.word ≡ word_of k → StoresLocal k o l → StoresLocal k r l
+    stores (command.Close f) small w s = s ∙ ap (λ z. Some z) (sym (m.value w))
+    stores (command.Open f) small w s = s
+    stores (command.Write f offset content) small w s = s
+    stores (command.Trunc f size) small w s = s
+    stores (command.Read f offset count) small w s = s
+    stores (command.Abandon f) small w s = s
+    stores (command.Named t) small w s = absurd small
 
 -- where a client was free all that it had begun before had ended
 local_before_same : (step : ℕ) (ds : List Deed) (ops rs : List Op) (i : ℕ) (d : Deed) (o : Op) (f : ℕ) → Rises ops → AreDeeds ds ops → AllMoved step ops rs → slice_get ds i ≡ Some d → slice_get ops i ≡ Some o → is_busy ops o ≡ false → local_before ds rs i d.client f ≡ local_before ds ops i d.client f
@@ -148,7 +152,7 @@ local_before_same step ds ops rs i d o f rising each moved at is free = local_sa
           where
             not_both : (b : Bool) → b ≡ true → b ≡ false → ⊥
             not_both b e d = absurd cc
-        by e q r m own first (Some z) n not = let k = m.ended z n in leaves_alike d.client f e q r k.1 k.2
+        by e q r m own first (Some z) n not = let k = m.ended z n in leaves_alike d.client f e q r m.file k.1 k.2
 
 each_moved : (step : ℕ) (ds : List Deed) (ops rs : List Op) → length ops ≡ length ds → Rises ops → AreDeeds ds ops → ((i : ℕ) (o : Op) → slice_get ops i ≡ Some o → o.begin < step) → AllMoved step ops rs → AreDeeds ds rs
 each_moved step ds ops rs count rising each past moved i d r at is =
@@ -158,6 +162,7 @@ each_moved step ds ops rs count rising each past moved i d r at is =
     let m = moved.each i o r w.1 is in
     let busy : is_busy rs r ≡ is_busy ops o = busy_same ops rs o r (sym moved.count) (λ j p q a b. keeps_same step o r p q (past i o w.1) m (moved.each j p q a b)) in
     record {
+      small = h.small;
       client = m.client ∙ h.client;
       word = m.word ∙ h.word;
       file = m.file ∙ h.file;
@@ -168,10 +173,10 @@ each_moved step ds ops rs count rising each past moved i d r at is =
     by : (o : Op) (h : IsDeed ds ops i d o) → Moved step o r → slice_get ops i ≡ Some o → (b : Bool) → is_busy ops o ≡ b
         → Came d o (local_before ds ops i d.client (file_of d.command)) (own_answer b (can_ask d.joined d.calls) d.command (local_before ds ops i d.client (file_of d.command)))
         → Came d r (local_before ds rs i d.client (file_of d.command)) (own_answer b (can_ask d.joined d.calls) d.command (local_before ds rs i d.client (file_of d.command)))
-    by o h m there true e c = came_moved step d o r (local_before ds ops i d.client (file_of d.command)) (Some told.Busy) h.word m c
+    by o h m there true e c = came_moved step d o r (local_before ds ops i d.client (file_of d.command)) (Some told.Busy) h.small h.word m c
     by o h m there false e c =
         subst (λ (l : Option (List ℕ)). Came d r l (own_answer false (can_ask d.joined d.calls) d.command l)) (sym (local_before_same step ds ops rs i d o (file_of d.command) rising each moved at there e))
-        (came_moved step d o r (local_before ds ops i d.client (file_of d.command)) (own_answer false (can_ask d.joined d.calls) d.command (local_before ds ops i d.client (file_of d.command))) h.word m c)
+        (came_moved step d o r (local_before ds ops i d.client (file_of d.command)) (own_answer false (can_ask d.joined d.calls) d.command (local_before ds ops i d.client (file_of d.command))) h.small h.word m c)
 
 pub deeds_moved : (step : ℕ) (ds : List Deed) (ops rs : List Op) (seats others : List Seat) → HasDeeds ds ops seats → ((i : ℕ) (o : Op) → slice_get ops i ≡ Some o → o.begin < step) → AllMoved step ops rs → HasLocals ds rs others → HasDeeds ds rs others
 deeds_moved step ds ops rs seats others h past moved locals = record {
@@ -203,6 +208,7 @@ busy_behind ds ops p o f rising each at under i e q lt a b = elim (same_or_not e
 
 -- what a new operation is to be, where its client has this local content of the file
 pub record IsNew (ds : List Deed) (ops : List Op) (d : Deed) (o : Op) : Type 0 where
+  pub small : IsSmall d.command
   pub client : o.client ≡ d.client
   pub word : o.word ≡ word_of d.command
   pub file : o.file ≡ file_of d.command
@@ -248,6 +254,7 @@ deeds_added ds ops seats others d new h past fresh locals = record {
 
     the_new : IsDeed (ds ++ d ∷ []) (ops ++ new ∷ []) (length ops) d new
     the_new = record {
+      small = fresh.small;
       client = fresh.client;
       word = fresh.word;
       file = fresh.file;
@@ -258,6 +265,7 @@ deeds_added ds ops seats others d new h past fresh locals = record {
 
     was : (i : ℕ) (e : Deed) (o : Op) → slice_get ops i ≡ Some o → IsDeed ds ops i e o → IsDeed (ds ++ d ∷ []) (ops ++ new ∷ []) i e o
     was i e o at k = record {
+      small = k.small;
       client = k.client;
       word = k.word;
       file = k.file;

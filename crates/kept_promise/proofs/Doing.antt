@@ -14,6 +14,8 @@ use Rattle.kept_promise.proofs.Does.{own_ended}
 use Rattle.kept_promise.proofs.Locally.{other_client, other_file, its_own, leaves_none, busy_by, free_by, keeps, keeps_is, keeps_if}
 use Rattle.kept_promise.proofs.Deeds.{Came, local_of, HasDeeds, deeds_added}
 use Rattle.kept_promise.proofs.Answering.{AnswersBy, ValueIs, Stays, free_answers, busy_answers}
+use Rattle.kept_promise.proofs.PathNames.{IsSmall}
+use Rattle.kept_promise.proofs.Found.{op_found, command_finds}
 
 -- ---- what runs
 
@@ -83,19 +85,19 @@ asks_by s joined calls link next = ap (λ b. can_ask b calls) (sym link) ∙ by 
 abbrev pub new_op : (c : ℕ) → Word → (file : ℕ) → (value : List ℕ) → (step : ℕ) → client.State × ClientStep → Op
 new_op c w file value step r = op_after (begun c w file value step) r.0 [] step r.1
 
-new_ended : (c : ℕ) (w : Word) (file : ℕ) (value : List ℕ) (step : ℕ) (r : client.State × ClientStep) (e : Option Ended) → r.1.ended ≡ e → new_op c w file value step r ≡ op_ended (record (begun c w file value step) { traffic = counted (begun c w file value step).traffic r.1.counts }) r.0 [] step e
-new_ended c w file value step r e is = ap (λ (z : Option Ended). op_ended (record (begun c w file value step) { traffic = counted (begun c w file value step).traffic r.1.counts }) r.0 [] step z) is
+new_ended : (c : ℕ) (w : Word) (file : ℕ) (value : List ℕ) (step : ℕ) (r : client.State × ClientStep) (e : Option Ended) → r.1.found ≡ None → r.1.ended ≡ e → new_op c w file value step r ≡ op_ended (record (begun c w file value step) { traffic = counted (begun c w file value step).traffic r.1.counts }) r.0 [] step e
+new_ended c w file value step r e none is = op_found (begun c w file value step) r.0 [] step r.1 none ∙ ap (λ (z : Option Ended). op_ended (record (begun c w file value step) { traffic = counted (begun c w file value step).traffic r.1.counts }) r.0 [] step z) is
 
 -- whatever it is
-pub fixed : (c : ℕ) (w : Word) (file : ℕ) (value : List ℕ) (step : ℕ) (r : client.State × ClientStep) → (let o = new_op c w file value step r in (o.client ≡ c) × (o.word ≡ w) × (o.file ≡ file) × (o.begin ≡ step))
-fixed c w file value step r = by r.1.ended refl
+pub fixed : (c : ℕ) (w : Word) (file : ℕ) (value : List ℕ) (step : ℕ) (r : client.State × ClientStep) → r.1.found ≡ None → (let o = new_op c w file value step r in (o.client ≡ c) × (o.word ≡ w) × (o.file ≡ file) × (o.begin ≡ step))
+fixed c w file value step r none = by r.1.ended refl
   where
     q : Op
     q = record (begun c w file value step) { traffic = counted (begun c w file value step).traffic r.1.counts }
 
     by : (e : Option Ended) → r.1.ended ≡ e → (let o = new_op c w file value step r in (o.client ≡ c) × (o.word ≡ w) × (o.file ≡ file) × (o.begin ≡ step))
-    by None e = subst (λ (o : Op). (o.client ≡ c) × (o.word ≡ w) × (o.file ≡ file) × (o.begin ≡ step)) (sym (new_ended c w file value step r None e)) (refl, refl, refl, refl)
-    by (Some x) e = subst (λ (o : Op). (o.client ≡ c) × (o.word ≡ w) × (o.file ≡ file) × (o.begin ≡ step)) (sym (new_ended c w file value step r (Some x) e)) (refl, refl, refl, refl)
+    by None e = subst (λ (o : Op). (o.client ≡ c) × (o.word ≡ w) × (o.file ≡ file) × (o.begin ≡ step)) (sym (new_ended c w file value step r None none e)) (refl, refl, refl, refl)
+    by (Some x) e = subst (λ (o : Op). (o.client ≡ c) × (o.word ≡ w) × (o.file ≡ file) × (o.begin ≡ step)) (sym (new_ended c w file value step r (Some x) none e)) (refl, refl, refl, refl)
 
 no_point : (b : Bool) (xid : ℕ) → point_if b [] xid None ≡ None
 no_point true xid = refl
@@ -107,22 +109,22 @@ record IsOne (s : client.State) (d : Deed) (new : Op) (r : client.State × Clien
   pub here : local_of r.0 (file_of d.command) ≡ leaves d.command new.outcome new.value (local_of s (file_of d.command))
   pub others : (f : ℕ) → (f ≡ file_of d.command → ⊥) → local_of r.0 f ≡ local_of s f
 
-one_new : (c step : ℕ) (s : client.State) (d : Deed) (r : client.State × ClientStep) (x : Option Told) → AnswersBy s d.command r x → IsOne s d (new_op c (word_of d.command) (file_of d.command) (value_at_begin s (word_of d.command) (file_of d.command) r.1.ended) step r) r x
-one_new c step s d r (Some own) h =
+one_new : (c step : ℕ) (s : client.State) (d : Deed) (r : client.State × ClientStep) (x : Option Told) → IsSmall d.command → r.1.found ≡ None → AnswersBy s d.command r x → IsOne s d (new_op c (word_of d.command) (file_of d.command) (value_at_begin s (word_of d.command) (file_of d.command) r.1.ended) step r) r x
+one_new c step s d r (Some own) small none h =
     let w = word_of d.command in
     let v = value_at_begin s (word_of d.command) (file_of d.command) r.1.ended in
     let q : Op = record (begun c w (file_of d.command) v step) { traffic = counted (begun c w (file_of d.command) v step).traffic r.1.counts } in
-    subst (λ (o : Op). IsOne s d o r (Some own)) (sym (new_ended c w (file_of d.command) v step r (Some (own_ended h.outcome)) h.ended)) (record {
+    subst (λ (o : Op). IsOne s d o r (Some own)) (sym (new_ended c w (file_of d.command) v step r (Some (own_ended h.outcome)) none h.ended)) (record {
       came = (h.told_is, refl, λ z. no_point (has_point w h.outcome) 0);
       here = h.here (value_of v r.0 h.outcome) ∙ ap (λ (u : Told). leaves d.command u (value_of v r.0 h.outcome) (local_of s (file_of d.command))) (sym h.told_is);
       others = h.others;
     })
-one_new c step s d r None h =
+one_new c step s d r None small none h =
     let w = word_of d.command in
     let v = value_at_begin s (word_of d.command) (file_of d.command) r.1.ended in
     let q : Op = record (begun c w (file_of d.command) v step) { traffic = counted (begun c w (file_of d.command) v step).traffic r.1.counts } in
-    subst (λ (o : Op). IsOne s d o r None) (sym (new_ended c w (file_of d.command) v step r None h.0)) (record {
-      came = (subst (λ (e : Option Ended). StoresLocal d.command (record (begun c w (file_of d.command) (value_at_begin s w (file_of d.command) e) step) { traffic = counted (begun c w (file_of d.command) (value_at_begin s w (file_of d.command) e) step).traffic r.1.counts }) (local_of s (file_of d.command))) (sym h.0) (stores d.command h.2), tt);
+    subst (λ (o : Op). IsOne s d o r None) (sym (new_ended c w (file_of d.command) v step r None none h.0)) (record {
+      came = (subst (λ (e : Option Ended). StoresLocal d.command (record (begun c w (file_of d.command) (value_at_begin s w (file_of d.command) e) step) { traffic = counted (begun c w (file_of d.command) (value_at_begin s w (file_of d.command) e) step).traffic r.1.counts }) (local_of s (file_of d.command))) (sym h.0) (stores d.command small h.2), tt);
       here = same (file_of d.command) ∙ sym (leaves_none d.command told.Running v (local_of s (file_of d.command)) (inl refl));
       others = λ f apart. same f;
     })
@@ -130,13 +132,14 @@ one_new c step s d r None h =
     same : (f : ℕ) → local_of r.0 f ≡ local_of s f
     same f = ap (λ (l : List (ℕ × Local)). Rattle.std.specs.Prelude.option_map (λ (z : Local). z.bytes) (client.local_at l f)) h.1
 
-    stores : (k : Command) → ValueIs s k → StoresLocal k (record (begun c (word_of k) (file_of k) (value_at_begin s (word_of k) (file_of k) None) step) { traffic = counted (begun c (word_of k) (file_of k) (value_at_begin s (word_of k) (file_of k) None) step).traffic r.1.counts }) (local_of s (file_of k))
-    stores (command.Close f) v = v
-    stores (command.Open f) v = tt
-    stores (command.Write f offset content) v = tt
-    stores (command.Trunc f size) v = tt
-    stores (command.Read f offset count) v = tt
-    stores (command.Abandon f) v = tt
+    stores : (k : Command) → IsSmall k → ValueIs s k → StoresLocal k (record (begun c (word_of k) (file_of k) (value_at_begin s (word_of k) (file_of k) None) step) { traffic = counted (begun c (word_of k) (file_of k) (value_at_begin s (word_of k) (file_of k) None) step).traffic r.1.counts }) (local_of s (file_of k))
+    stores (command.Close f) small v = v
+    stores (command.Open f) small v = tt
+    stores (command.Write f offset content) small v = tt
+    stores (command.Trunc f size) small v = tt
+    stores (command.Read f offset count) small v = tt
+    stores (command.Abandon f) small v = tt
+    stores (command.Named k) small v = absurd small
 
 -- ---- the step
 
@@ -144,14 +147,15 @@ pub record IsDoneSo (ds : List Deed) (k : Core) (c : ℕ) (seat : Seat) (d : Dee
   pub deeds : HasDeeds (ds ++ d ∷ []) (k.ops ++ new_op c (word_of d.command) (file_of d.command) (value_at_begin seat.client (word_of d.command) (file_of d.command) r.1.ended) (k.steps + 1) r ∷ []) (with_numbered k.seats c (record seat { client = r.0; place = place }))
   pub stays : Stays seat.client r.0
 
-does_by : (ds : List Deed) (k : Core) (c : ℕ) (seat : Seat) (d : Deed) (r : client.State × ClientStep) (place : Option ℕ) (b : Bool) → HasDeeds ds k.ops k.seats → numbered k.seats c ≡ Some seat → ((i : ℕ) (o : Op) → slice_get k.ops i ≡ Some o → o.begin < k.steps + 1) → d.client ≡ c → d.begin ≡ k.steps + 1
+does_by : (ds : List Deed) (k : Core) (c : ℕ) (seat : Seat) (d : Deed) (r : client.State × ClientStep) (place : Option ℕ) (b : Bool) → IsSmall d.command → r.1.found ≡ None → HasDeeds ds k.ops k.seats → numbered k.seats c ≡ Some seat → ((i : ℕ) (o : Op) → slice_get k.ops i ≡ Some o → o.begin < k.steps + 1) → d.client ≡ c → d.begin ≡ k.steps + 1
     → can_ask d.joined d.calls ≡ may_ask seat.client → is_busy k.ops (new_op c (word_of d.command) (file_of d.command) (value_at_begin seat.client (word_of d.command) (file_of d.command) r.1.ended) (k.steps + 1) r) ≡ b
     → Stays seat.client r.0 × AnswersBy seat.client d.command r (own_answer b (may_ask seat.client) d.command (local_of seat.client (file_of d.command))) → IsDoneSo ds k c seat d r place
-does_by ds k c seat d r place b h here begins mine starts may busy answers =
-    let f = fixed c (word_of d.command) (file_of d.command) (value_at_begin seat.client (word_of d.command) (file_of d.command) r.1.ended) (k.steps + 1) r in
+does_by ds k c seat d r place b small none h here begins mine starts may busy answers =
+    let f = fixed c (word_of d.command) (file_of d.command) (value_at_begin seat.client (word_of d.command) (file_of d.command) r.1.ended) (k.steps + 1) r none in
     record {
       stays = answers.0;
       deeds = deeds_added ds k.ops k.seats (with_numbered k.seats c (record seat { client = r.0; place = place })) d new h (λ i o at. let lt = begins i o at in let n = f.3 in omega (arith, lt, n)) (record {
+        small = small;
         client = f.0 ∙ sym mine;
         word = f.1;
         file = f.2;
@@ -171,18 +175,21 @@ does_by ds k c seat d r place b h here begins mine starts may busy answers =
     new = new_op c (word_of d.command) (file_of d.command) (value_at_begin seat.client (word_of d.command) (file_of d.command) r.1.ended) (k.steps + 1) r
 
     one : IsOne seat.client d new r (own_answer b (may_ask seat.client) d.command (local_of seat.client (file_of d.command)))
-    one = one_new c (k.steps + 1) seat.client d r (own_answer b (may_ask seat.client) d.command (local_of seat.client (file_of d.command))) answers.1
+    one = one_new c (k.steps + 1) seat.client d r (own_answer b (may_ask seat.client) d.command (local_of seat.client (file_of d.command))) small none answers.1
+
+    file_is : new.file ≡ file_of d.command
+    file_is = (fixed c (word_of d.command) (file_of d.command) (value_at_begin seat.client (word_of d.command) (file_of d.command) r.1.ended) (k.steps + 1) r none).2
 
     its : (g : ℕ) → ((g ≡ file_of d.command) ⊎ (g ≡ file_of d.command → ⊥)) → local_of r.0 g ≡ after_one c g d new (local_from c g None ds k.ops)
-    its g (inl same) = ap (local_of r.0) same ∙ one.here ∙ ap (λ (x : ℕ). leaves d.command new.outcome new.value (local_of seat.client x)) (sym same) ∙ ap (leaves d.command new.outcome new.value) (h.locals c seat here g) ∙ sym (its_own c g d new (local_from c g None ds k.ops) mine (sym same))
-    its g (inr apart) = one.others g apart ∙ h.locals c seat here g ∙ sym (other_file c g d new (λ same. apart (sym same)) (local_from c g None ds k.ops))
+    its g (inl same) = ap (local_of r.0) same ∙ one.here ∙ ap (λ (x : ℕ). leaves d.command new.outcome new.value (local_of seat.client x)) (sym same) ∙ ap (leaves d.command new.outcome new.value) (h.locals c seat here g) ∙ sym (its_own c g d new (local_from c g None ds k.ops) mine (file_is ∙ sym same))
+    its g (inr apart) = one.others g apart ∙ h.locals c seat here g ∙ sym (other_file c g d new (λ same. apart (sym same ∙ file_is)) (local_from c g None ds k.ops))
 
     around : Rattle.kept_promise.proofs.Turns.Around k.seats (with_numbered k.seats c (record seat { client = r.0; place = place })) c (record seat { client = r.0; place = place })
     around = around_with k.seats c seat (record seat { client = r.0; place = place }) here
 
-pub does_follows : (book : Book) (ds : List Deed) (k : Core) (qs : List Queue) (c now : ℕ) (seat : Seat) (d : Deed) (place : Option ℕ) → IsKept book k qs → book.ops ≡ k.ops → book.steps ≡ k.steps → HasDeeds ds k.ops k.seats → numbered k.seats c ≡ Some seat → ((i : ℕ) (o : Op) → slice_get k.ops i ≡ Some o → o.begin < k.steps + 1) → d.client ≡ c → d.begin ≡ k.steps + 1
+pub does_follows : (book : Book) (ds : List Deed) (k : Core) (qs : List Queue) (c now : ℕ) (seat : Seat) (d : Deed) (place : Option ℕ) → IsSmall d.command → IsKept book k qs → book.ops ≡ k.ops → book.steps ≡ k.steps → HasDeeds ds k.ops k.seats → numbered k.seats c ≡ Some seat → ((i : ℕ) (o : Op) → slice_get k.ops i ≡ Some o → o.begin < k.steps + 1) → d.client ≡ c → d.begin ≡ k.steps + 1
     → can_ask d.joined d.calls ≡ may_ask seat.client → IsDoneSo ds k c seat d (command_step seat.client d.command now) place
-does_follows book ds k qs c now seat d place kept ops steps h here begins mine starts may = by seat.place seat.client.task refl refl (kept.seats c seat here).matched
+does_follows book ds k qs c now seat d place small kept ops steps h here begins mine starts may = by seat.place seat.client.task refl refl (kept.seats c seat here).matched
   where
     r : client.State × ClientStep
     r = command_step seat.client d.command now
@@ -190,14 +197,17 @@ does_follows book ds k qs c now seat d place kept ops steps h here begins mine s
     new : Op
     new = new_op c (word_of d.command) (file_of d.command) (value_at_begin seat.client (word_of d.command) (file_of d.command) r.1.ended) (k.steps + 1) r
 
+    none : (command_step seat.client d.command now).1.found ≡ None
+    none = command_finds seat.client d.command now small
+
     f : (let o = new_op c (word_of d.command) (file_of d.command) (value_at_begin seat.client (word_of d.command) (file_of d.command) (command_step seat.client d.command now).1.ended) (k.steps + 1) (command_step seat.client d.command now) in (o.client ≡ c) × (o.word ≡ word_of d.command) × (o.file ≡ file_of d.command) × (o.begin ≡ k.steps + 1))
-    f = fixed c (word_of d.command) (file_of d.command) (value_at_begin seat.client (word_of d.command) (file_of d.command) (command_step seat.client d.command now).1.ended) (k.steps + 1) (command_step seat.client d.command now)
+    f = fixed c (word_of d.command) (file_of d.command) (value_at_begin seat.client (word_of d.command) (file_of d.command) (command_step seat.client d.command now).1.ended) (k.steps + 1) (command_step seat.client d.command now) none
 
     by : (p : Option ℕ) (task : Option Task) → seat.place ≡ p → seat.client.task ≡ task → IsMatched seat → IsDoneSo ds k c seat d (command_step seat.client d.command now) place
-    by None None e g m = does_by ds k c seat d r place false h here begins mine starts may (is_free book k qs c seat new kept ops steps here (ap (λ (z : Option ℕ). job_of z seat.client.task) e) f.0 f.3) (free_answers seat.client d.command now g)
+    by None None e g m = does_by ds k c seat d r place false small none h here begins mine starts may (is_free book k qs c seat new kept ops steps here (ap (λ (z : Option ℕ). job_of z seat.client.task) e) f.0 f.3) (free_answers seat.client d.command now small g)
     by (Some p) (Some t) e g m =
         let j : Job = record { place = p; file = t.file; stage = t.stage } in
-        does_by ds k c seat d r place true h here begins mine starts may (is_occupied book k qs c seat j new kept ops steps here (ap (λ (z : Option ℕ). job_of z seat.client.task) e ∙ ap (job_of (Some p)) g) f.0 f.3) (busy_answers seat.client d.command t now g)
+        does_by ds k c seat d r place true small none h here begins mine starts may (is_occupied book k qs c seat j new kept ops steps here (ap (λ (z : Option ℕ). job_of z seat.client.task) e ∙ ap (job_of (Some p)) g) f.0 f.3) (busy_answers seat.client d.command t now small g)
     by None (Some x) e g (inl m) = nothing_there x (sym m.1 ∙ g)
     by None (Some x) e g (inr m) = nothing_there m.0 (sym (ap (λ (p : Option ℕ). job_of p seat.client.task) e) ∙ m.1)
     by (Some p) None e g (inl m) = nothing_there p (sym m.0 ∙ e)

@@ -1,10 +1,12 @@
 -- Each command has its operation, which came to what its client answered, or to what the server's answers led to.
-use Rattle.std.proofs.Common.{◌≡◌, ℕ, ◌*◌, ◌≤◌, zero, suc, List, length, Option, Some, None, Bool, true, false, refl, sym, ap, ◌∙◌, subst}
+use Rattle.std.proofs.Common.{inl, ◌≡◌, ℕ, ◌*◌, ◌≤◌, zero, suc, List, length, Option, Some, None, Bool, true, false, refl, sym, ap, ◌∙◌, subst}
 use Rattle.command_text.specs.declared.command.Command.TheVariants as command
 use Rattle.register_model.specs.declared.op.Outcome.{Outcome}
 use Rattle.register_model.specs.declared.op.Outcome.TheVariants as told
 use Rattle.register_model.specs.declared.op.Word.TheVariants as words
 use Rattle.kept_promise.proofs.Common.{slice_get, nat_lt, if◌then◌else◌, content_length, Command, local_most, written_size, is_closed, is_untold, Op, Word, word_of, file_of, World, calls_most, Moment, Deed, deeds_of, Book, book_of, can_ask, IsOpened, IsClosed, IsChanged, IsOpenRefused, HasCause, is_busy, local_before, own_answer, unless_asks, write_outcome, sized_outcome, CameTo, IsDone, Queue}
+use Rattle.trace_replay.specs.Faithful.{HasFile}
+use Rattle.kept_promise.proofs.PathNames.{IsSmall}
 use Rattle.kept_promise.proofs.Rights.{is_remote, RefusedBy, Caused, IsRight}
 use Rattle.kept_promise.proofs.Facts.{IsKept}
 use Rattle.kept_promise.proofs.Deeds.{FromServer, Came, IsDeed}
@@ -37,20 +39,21 @@ asks_plain : (k : Command) (b : Bool) → AsksRemote k → IsPlain k (unless_ask
 asks_plain k true h = h
 asks_plain k false h = (refl, refl)
 
-own_plain : (busy asks : Bool) (k : Command) (l : Option (List ℕ)) → IsPlain k (own_answer busy asks k l)
-own_plain true asks k l = (refl, refl)
-own_plain false asks (command.Open f) None = asks_plain (command.Open f) asks tt
-own_plain false asks (command.Write f offset content) None = (refl, refl)
-own_plain false asks (command.Trunc f size) None = (refl, refl)
-own_plain false asks (command.Read f offset count) None = (refl, refl)
-own_plain false asks (command.Close f) None = (refl, refl)
-own_plain false asks (command.Abandon f) None = (refl, refl)
-own_plain false asks (command.Open f) (Some x) = (refl, refl)
-own_plain false asks (command.Write f offset content) (Some x) = written_plain (command.Write f offset content) (length x) offset (content_length content)
-own_plain false asks (command.Trunc f size) (Some x) = sized_plain (command.Trunc f size) size
-own_plain false asks (command.Read f offset count) (Some x) = (refl, refl)
-own_plain false asks (command.Close f) (Some x) = asks_plain (command.Close f) asks tt
-own_plain false asks (command.Abandon f) (Some x) = (refl, refl)
+own_plain : (busy asks : Bool) (k : Command) (l : Option (List ℕ)) → IsSmall k → IsPlain k (own_answer busy asks k l)
+own_plain true asks k l small = (refl, refl)
+own_plain false asks (command.Named n) l small = absurd small
+own_plain false asks (command.Open f) None small = asks_plain (command.Open f) asks tt
+own_plain false asks (command.Write f offset content) None small = (refl, refl)
+own_plain false asks (command.Trunc f size) None small = (refl, refl)
+own_plain false asks (command.Read f offset count) None small = (refl, refl)
+own_plain false asks (command.Close f) None small = (refl, refl)
+own_plain false asks (command.Abandon f) None small = (refl, refl)
+own_plain false asks (command.Open f) (Some x) small = (refl, refl)
+own_plain false asks (command.Write f offset content) (Some x) small = written_plain (command.Write f offset content) (length x) offset (content_length content)
+own_plain false asks (command.Trunc f size) (Some x) small = sized_plain (command.Trunc f size) size
+own_plain false asks (command.Read f offset count) (Some x) small = (refl, refl)
+own_plain false asks (command.Close f) (Some x) small = asks_plain (command.Close f) asks tt
+own_plain false asks (command.Abandon f) (Some x) small = (refl, refl)
 
 -- ---- causes
 
@@ -79,7 +82,7 @@ open_cause book f o (told.Seen a b c d) w e s h = h
 
 close_cause : (book : Book) (f : ℕ) (o : Op) (u : Outcome) → o.word ≡ words.Close → o.file ≡ f → FromServer u → Caused book o u → HasCause book (command.Close f) o u
 close_cause book f o (told.Closed v n d) w e s h = subst (λ (x : ℕ). IsClosed book x o v n d) e h.1
-close_cause book f o (told.Refused t) w e s h = subst (λ (x : Word). RefusedBy book o x t) w h
+close_cause book f o (told.Refused t) w e s h = inl (subst (λ (x : Word). RefusedBy book o x t) w h)
 close_cause book f o told.Lost w e s h = h.1
 close_cause book f o told.Running w e s h = h.1
 close_cause book f o (told.Opened n d) w e s h = absurd (apart (sym h.0 ∙ w))
@@ -110,6 +113,7 @@ has_cause book (command.Write f offset content) o a w e s h = absurd a
 has_cause book (command.Trunc f size) o a w e s h = absurd a
 has_cause book (command.Read f offset count) o a w e s h = absurd a
 has_cause book (command.Abandon f) o a w e s h = absurd a
+has_cause book (command.Named n) o a w e s h = absurd a
 
 -- ---- a command's operation
 
@@ -136,14 +140,18 @@ came_to : (book : Book) (d : Deed) (o : Op) (l : Option (List ℕ)) (x : Option 
 came_to book d o l (Some own) right w e plain c = (c.0, c.1, pointless book o own right c.0 plain c.2)
 came_to book d o l None right w e plain c = (has_cause book d.command o plain w e c.1 right.cause, c.0)
 
+has_file : (k : Command) (o : Op) (own : Option Outcome) → IsSmall k → o.file ≡ file_of k → HasFile k o own
+has_file (command.Named n) o own small e = absurd small
+has_file k o own small e = e
+
 pub is_done : (book : Book) (ds : List Deed) (i : ℕ) (d : Deed) (o : Op) → d.calls ≤ calls_most * d.begin → IsRight book o → IsDeed ds book.ops i d o → IsDone book d o (local_before ds book.ops i d.client (file_of d.command))
 is_done book ds i d o few right h = record {
   client = h.client;
   word = h.word;
-  file = h.file;
+  file = has_file d.command o (own_answer (is_busy book.ops o) (can_ask d.joined d.calls) d.command (local_before ds book.ops i d.client (file_of d.command))) h.small h.file;
   begin = h.begin;
   few = few;
-  came_to = came_to book d o (local_before ds book.ops i d.client (file_of d.command)) (own_answer (is_busy book.ops o) (can_ask d.joined d.calls) d.command (local_before ds book.ops i d.client (file_of d.command))) right h.word h.file (own_plain (is_busy book.ops o) (can_ask d.joined d.calls) d.command (local_before ds book.ops i d.client (file_of d.command))) h.came;
+  came_to = came_to book d o (local_before ds book.ops i d.client (file_of d.command)) (own_answer (is_busy book.ops o) (can_ask d.joined d.calls) d.command (local_before ds book.ops i d.client (file_of d.command))) right h.word h.file (own_plain (is_busy book.ops o) (can_ask d.joined d.calls) d.command (local_before ds book.ops i d.client (file_of d.command)) h.small) h.came;
   end = right.ends;
   order = λ e at. (right.past e at).0;
 }
@@ -153,5 +161,5 @@ pub deeds_counted : (w : World) (all : List Moment) → IsFollowed all w.core �
 deeds_counted w all h = h.deeds.count
 
 pub deeds_done : (w : World) (all : List Moment) (qs : List Queue) → IsKept (book_of w all) w.core qs → IsFollowed all w.core → (k : ℕ) (d : Deed) (o : Op) → slice_get (deeds_of all) k ≡ Some d → slice_get w.core.ops k ≡ Some o
-    → IsDone (book_of w all) d o (local_before (deeds_of all) w.core.ops k d.client (file_of d.command))
-deeds_done w all qs kept h k d o at is = is_done (book_of w all) (deeds_of all) k d o (h.few k d at) (kept.sound.rights k o is) (h.deeds.each k d o at is)
+    → IsDone (book_of w all) d o (local_before (deeds_of all) w.core.ops k d.client o.file)
+deeds_done w all qs kept h k d o at is = subst (λ (f : ℕ). IsDone (book_of w all) d o (local_before (deeds_of all) w.core.ops k d.client f)) (sym (h.deeds.each k d o at is).file) (is_done (book_of w all) (deeds_of all) k d o (h.few k d at) (kept.sound.rights k o is) (h.deeds.each k d o at is))

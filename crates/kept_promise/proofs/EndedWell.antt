@@ -4,6 +4,7 @@ use Rattle.command_text.specs.declared.command.Command.TheVariants as command
 use Rattle.register_model.specs.declared.op.Outcome.{Outcome}
 use Rattle.register_model.specs.declared.op.Outcome.TheVariants as told
 use Rattle.trace_replay.specs.Complete.{IsUncut, EndsWell}
+use Rattle.kept_promise.proofs.PathNames.{IsSmall}
 use Rattle.kept_promise.proofs.Common.{Command, Op, Deed, Book, can_ask, IsLost, HasCause, is_busy, own_answer, CameTo, IsDone}
 
 -- a client that saw no connection lost since its operation began did not end it so
@@ -29,22 +30,24 @@ opened_well book f o _ lost runs h = absurd h
 
 closed_well : (book : Book) (f : ℕ) (x : List ℕ) (o : Op) (outcome : Outcome) → (IsLost book o → ⊥) → (o.end ≡ None → ⊥) → HasCause book (command.Close f) o outcome → EndsWell (command.Close f) (Some x) outcome
 closed_well book f x o (told.Closed version len digest) lost runs h = tt
-closed_well book f x o (told.Refused status) lost runs h = h.status_is
+closed_well book f x o (told.Refused status) lost runs (inl h) = inl h.status_is
+closed_well book f x o (told.Refused status) lost runs (inr h) = inr h.status_is
 closed_well book f x o told.Lost lost runs h = absurd (lost h)
 closed_well book f x o told.Running lost runs h = absurd (runs h)
 closed_well book f x o _ lost runs h = absurd h
 
-came_well : (book : Book) (d : Deed) (o : Op) (l : Option (List ℕ)) (k : Command) → d.command ≡ k → (IsLost book o → ⊥) → (o.end ≡ None → ⊥) → CameTo book (record d { command = k }) o l (own_answer false true k l) → EndsWell k l o.outcome
-came_well book d o None (command.Open f) e lost runs h = opened_well book f o o.outcome lost runs h.0
-came_well book d o (Some x) (command.Open f) e lost runs h = tt
-came_well book d o None (command.Close f) e lost runs h = tt
-came_well book d o (Some x) (command.Close f) e lost runs h = closed_well book f x o o.outcome lost runs h.0
-came_well book d o l (command.Write f offset content) e lost runs h = tt
-came_well book d o l (command.Trunc f size) e lost runs h = tt
-came_well book d o l (command.Read f offset count) e lost runs h = tt
-came_well book d o l (command.Abandon f) e lost runs h = tt
+came_well : (book : Book) (d : Deed) (o : Op) (l : Option (List ℕ)) (k : Command) → IsSmall k → d.command ≡ k → (IsLost book o → ⊥) → (o.end ≡ None → ⊥) → CameTo book (record d { command = k }) o l (own_answer false true k l) → EndsWell k l o.outcome
+came_well book d o l (command.Named n) small e lost runs h = absurd small
+came_well book d o None (command.Open f) small e lost runs h = opened_well book f o o.outcome lost runs h.0
+came_well book d o (Some x) (command.Open f) small e lost runs h = tt
+came_well book d o None (command.Close f) small e lost runs h = tt
+came_well book d o (Some x) (command.Close f) small e lost runs h = closed_well book f x o o.outcome lost runs h.0
+came_well book d o l (command.Write f offset content) small e lost runs h = tt
+came_well book d o l (command.Trunc f size) small e lost runs h = tt
+came_well book d o l (command.Read f offset count) small e lost runs h = tt
+came_well book d o l (command.Abandon f) small e lost runs h = tt
 
-pub ends_well : (book : Book) (d : Deed) (o : Op) (l : Option (List ℕ)) → IsDone book d o l → IsSome o.end → can_ask d.joined d.calls ≡ true → is_busy book.ops o ≡ false → IsUncut book o → EndsWell d.command l o.outcome
-ends_well book d o l h ended asks free uncut =
+pub ends_well : (book : Book) (d : Deed) (o : Op) (l : Option (List ℕ)) → IsSmall d.command → IsDone book d o l → IsSome o.end → can_ask d.joined d.calls ≡ true → is_busy book.ops o ≡ false → IsUncut book o → EndsWell d.command l o.outcome
+ends_well book d o l small h ended asks free uncut =
     let came : CameTo book d o l (own_answer false true d.command l) = subst (λ (b : Bool). CameTo book d o l (own_answer false b d.command l)) asks (subst (λ (b : Bool). CameTo book d o l (own_answer b (can_ask d.joined d.calls) d.command l)) free h.came_to) in
-    came_well book d o l d.command refl (not_lost book o uncut h.order) (some_end o.end ended) came
+    came_well book d o l d.command small refl (not_lost book o uncut h.order) (some_end o.end ended) came

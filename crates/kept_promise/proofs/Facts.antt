@@ -15,8 +15,7 @@ use Rattle.kept_promise.proofs.Rights.{IsSound}
 use Rattle.kept_promise.proofs.Shelf.{IsShelf}
 use Rattle.kept_promise.proofs.Orderly.{Orderly}
 use Rattle.server_core.specs.declared.change.Wanted.TheVariants as wanted
-use Rattle.kept_promise.proofs.Trees.{IsBounded}
-use Rattle.kept_promise.proofs.TreeOpens.{IsPlain}
+use Rattle.server_law.proofs.Trees.{IsBounded}
 
 -- ---- xids
 
@@ -33,6 +32,8 @@ HasXids next (stage.Reading f) = (spare : ℕ) × (f.tries + spare ≡ 4) × (ne
 HasXids next (stage.Making x temp) = next + 80002 ≤ 4294967296
 HasXids next (stage.Storing st) = next + 80001 + names_in st.under ≤ 4294967296 + 2 * st.named
 HasXids next (stage.Committing x) = next ≤ 4294967296
+-- no command on names is given: a walk is not under way
+HasXids next (stage.Walking x w) = ⊥
 
 -- ---- a session whose owner is there
 
@@ -132,9 +133,8 @@ FileIs book f (Some g) = (g.id ≡ f) × (1 < f) × (f < 18446744073709551616) �
 
 pub record IsServer (book : Book) (s : server.State) : Type 0 where
   pub held : (f : ℕ) → FileIs book f (server.file_at s.tree f)
-  -- its tree is within the limits, and the root is its only directory
+  -- its tree is within the limits
   pub bounded : IsBounded s.tree
-  pub plain : IsPlain s.tree
   -- each change that waits is a commit, and has its room
   pub commits : (i : ℕ) (c : Change) → slice_get s.waiting i ≡ Some c → c.what ≡ wanted.Content (content_wanted c.what)
   pub changes : s.tree.changes + server.entries_held s.waiting ≤ 4294967295

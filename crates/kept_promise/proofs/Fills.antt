@@ -13,16 +13,16 @@ use Rattle.kept_promise.proofs.Shelves.{fault_alike, put_alike}
 use Rattle.kept_promise.proofs.Orderly.{UpSend, known_reply, DownKnown, Holds}
 use Rattle.kept_promise.proofs.Ordered.{known_more}
 use Rattle.kept_promise.proofs.Facts.{FileIs, IsServer}
-use Rattle.kept_promise.proofs.Tells.{Found, is_root, is_gone, is_file, looked, not_some}
+use Rattle.kept_promise.proofs.Tells.{Found, is_directory, is_gone, is_file, looked, not_some}
 
 -- ---- the file is in the tree
 
 pub file_there : (book : Book) (s : server.State) (f : ℕ) → IsServer book s → IsSome (content_of book.opening f) → f < 18446744073709551616 → (z : File) × (server.file_at s.tree f ≡ Some z) × (node_of s.tree (handle_bytes f) ≡ Ok (file z))
-file_there book s f h known lt = by (server.file_at s.tree f) refl (h.held f) (looked s.tree f h.plain lt)
+file_there book s f h known lt = by (server.file_at s.tree f) refl (h.held f) (looked s.tree f lt)
   where
     by : (o : Option File) → server.file_at s.tree f ≡ o → FileIs book f o → Found s.tree f → (z : File) × (server.file_at s.tree f ≡ Some z) × (node_of s.tree (handle_bytes f) ≡ Ok (file z))
     by None e is found = absurd (not_some (subst IsSome is.0 known))
-    by (Some z) e is (is_root one n) = let lt1 = is.1 in absurd (omega (arith, one, lt1))
+    by (Some z) e is (is_directory d there none n) = nothing_there z (sym none ∙ e)
     by (Some z) e is (is_gone none n) = nothing_there z (sym none ∙ e)
     by (Some z) e is (is_file g there n) = (g, there, n)
 

@@ -1,20 +1,21 @@
 -- The commands of a run and their operations are carried through its events.
-use Rattle.std.proofs.Common.{◌⊎◌, inl, inr, ◌≡◌, ℕ, zero, suc, ◌+◌, ◌*◌, ◌<◌, ◌≤◌, List, [], ◌∷◌, ◌++◌, length, Option, Some, None, Bool, true, false, refl, sym, ap, ◌∙◌, subst, arith, append-nil, eq-eqb, ne_eqb, replicate, Result, Ok, Err}
+use Rattle.std.proofs.Common.{◌⊎◌, inl, inr, ◌≡◌, ℕ, zero, suc, ◌+◌, ◌*◌, ◌<◌, ◌≤◌, List, [], ◌∷◌, ◌++◌, length, Option, Some, None, Bool, true, false, refl, sym, ap, ◌∙◌, subst, arith, append-nil, eq-eqb, ne_eqb, replicate, Result}
 use Rattle.server_core.specs.State as server
 use Rattle.server_core.specs.Closing as closing
+use Rattle.server_core.specs.declared.event.Told.TheVariants as announced
 use Rattle.client_state.specs.State as client
 use Rattle.client_state.specs.declared.step.Outcome.TheVariants as outcome
 use Rattle.register_model.specs.declared.op.Word.TheVariants as words
-use Rattle.trace_replay.specs.Core.{hears_by}
+use Rattle.trace_replay.specs.Core.{hears_by, entries_since}
 use Rattle.client_state.specs.Limits.{calls_most}
-use Rattle.kept_promise.proofs.Common.{nat_tests, Indexed, slice_get, slice_set, ◌==◌, nat_lt, Command, parse_of, Message, WireFault, connect, has_room, Change, ServerStep, File, command_step, got_step, joined, cut, ended_by, ClientStep, Ended, Task, Op, Opening, word_of, file_of, value_at_begin, Core, Seat, new_seat, Session, Event, Event.Joins, Event.Does, Event.Serves, Event.Hears, Event.Settles, Event.Cuts, Event.Hangs, CoreStep, numbered, with_numbered, server_waiting, serves_if, serves, acted, is_newest, hears_if, hears_at, hears, does, joins_as, joins, settled_ops, settled_by, cuts_if, cuts, hangs_if, hangs, happens, pointed, pointed_at, place_with, Moment, Deed, deed_by, deeds_of, joined_by, joined_from, owner_in, client_of, calls_among, sent_if, calls_by, calls_from, Book, Queue, Tree}
+use Rattle.kept_promise.proofs.Common.{nat_tests, Indexed, slice_get, slice_set, ◌==◌, nat_lt, Command, parse_of, Message, WireFault, connect, has_room, Change, ServerStep, File, command_step, got_step, joined, cut, ended_by, ClientStep, Ended, Task, Op, Opening, word_of, file_of, value_at_begin, Core, Seat, new_seat, Session, Event, Event.Joins, Event.Does, Event.Serves, Event.Hears, Event.Settles, Event.Cuts, Event.Hangs, CoreStep, numbered, with_numbered, acted, is_newest, hears_if, hears_at, hears, does, joins_as, joins, settled_ops, settled_by, cuts_if, cuts, hangs_if, hangs, happens, pointed, pointed_at, place_with, Moment, Deed, deed_by, deeds_of, joined_by, joined_from, owner_in, client_of, calls_among, sent_if, calls_by, calls_from, Book, Queue, Tree}
 use Rattle.kept_promise.proofs.Lists.{some_is, nothing_there, same_or_not, of_appended}
 use Rattle.kept_promise.proofs.Keys.{own}
 use Rattle.kept_promise.proofs.Rights.{IsUnmade}
 use Rattle.kept_promise.proofs.Turns.{around_with, also_numbered}
 use Rattle.kept_promise.proofs.Facts.{IsKept}
 use Rattle.kept_promise.proofs.Adjusts.{SameSeats, adjusted_core}
-use Rattle.kept_promise.proofs.RunsCarried.{book_at, first_core, moment, Step, Carried}
+use Rattle.kept_promise.proofs.RunsCarried.{book_at, first_core, moment, Step, Carried, Finds}
 use Rattle.kept_promise.proofs.Leaving.{Leaves, step_left, step_idle}
 use Rattle.kept_promise.proofs.Numbering.{got_number, command_number, calls_more, no_calls, other_calls, own_calls}
 use Rattle.kept_promise.proofs.Locally.{deeds_more, joined_more}
@@ -22,7 +23,13 @@ use Rattle.kept_promise.proofs.Deeds.{also_there, local_of, HasDeeds, Moved, All
 use Rattle.kept_promise.proofs.Acting.{all_set, set_alike, HasWord, caused_word, locals_with, Acts, acted_follows}
 use Rattle.kept_promise.proofs.Doing.{with_end, asks_by, new_op, fixed, does_follows}
 use Rattle.kept_promise.proofs.Messages.{content_wanted}
-use Rattle.kept_promise.proofs.Making.{made_change, target_there, made_is}
+use Rattle.kept_promise.proofs.Making.{made_change, target_there, made_is, entry_of}
+use Rattle.kept_promise.proofs.Found.{no_walk, got_finds, cut_finds, command_finds}
+use Rattle.kept_promise.proofs.PathNames.{IsSmall}
+use Rattle.kept_promise.proofs.ServesFiles.{one_since}
+use Rattle.kept_promise.proofs.ServesQuietly.{serves_quiet}
+use Rattle.kept_promise.proofs.Fits.{FitLaws}
+use Rattle.trace_replay.specs.Ops.{changed_file}
 
 -- ---- what is carried
 
@@ -105,14 +112,6 @@ goes_same past k e after h none still silent ops seats passes =
     (λ c seat at. let n = h.next c seat (ap (λ l. numbered l c) (sym seats) ∙ at) in omega (arith, n, passes))
     (λ c seat at. h.calls c seat (ap (λ l. numbered l c) (sym seats) ∙ at) ∙ ap (λ n. n + 1) (sym (silent c (calls_from c 0 past))))
 
-serves_same : (k : Core) (n now : ℕ) (bytes : List ℕ) (o : Option Session) → (let t = serves k n now bytes o in (t.core.ops ≡ k.ops) × (t.core.seats ≡ k.seats) × (k.steps ≤ t.core.steps) × (t.up ≡ []))
-serves_same k n now bytes None = (refl, refl, omega arith, refl)
-serves_same k n now bytes (Some x) = by (parse_of server_waiting bytes)
-  where
-    by : (m : Result Message WireFault) → (let t = serves_if k n now x m in (t.core.ops ≡ k.ops) × (t.core.seats ≡ k.seats) × (k.steps ≤ t.core.steps) × (t.up ≡ []))
-    by (Ok m) = (refl, refl, omega arith, refl)
-    by (Err e) = (refl, refl, omega arith, refl)
-
 hangs_same : (k : Core) (n : ℕ) (o : Option Session) → (let t = hangs k n o in (t.core.ops ≡ k.ops) × (t.core.seats ≡ k.seats) × (k.steps ≤ t.core.steps) × (t.up ≡ []))
 hangs_same k n None = (refl, refl, omega arith, refl)
 hangs_same k n (Some x) = by x.hung
@@ -121,8 +120,10 @@ hangs_same k n (Some x) = by x.hung
     by true = (refl, refl, omega arith, refl)
     by false = (refl, refl, omega arith, refl)
 
-goes_serves : (past : List Moment) (k : Core) (n now : ℕ) (bytes : List ℕ) → IsFollowed past k → Goes past k (Serves n now bytes) (happens k (Serves n now bytes)).core
-goes_serves past k n now bytes h = let s = serves_same k n now bytes (numbered k.sessions n) in goes_same past k (Serves n now bytes) (happens k (Serves n now bytes)).core h refl (λ c b. refl) (λ c m. no_calls c 0 m (happens k (Serves n now bytes)).up s.3) s.0 s.1 s.2
+goes_serves : FitLaws → (past : List Moment) (opening : List Opening) (all : List Moment) (k : Core) (qs : List Queue) (n now : ℕ) (bytes : List ℕ) (mid : List Queue) → IsKept (book_at opening k all) k qs → Finds k qs (Serves n now bytes) mid → IsFollowed past k → Goes past k (Serves n now bytes) (happens k (Serves n now bytes)).core
+goes_serves laws past opening all k qs n now bytes mid kept finds h =
+    let s = serves_quiet laws (book_at opening k all) k qs n now bytes mid kept finds in
+    goes_same past k (Serves n now bytes) (happens k (Serves n now bytes)).core h refl (λ c b. refl) (λ c m. no_calls c 0 m (happens k (Serves n now bytes)).up s.up) s.ops s.seats s.passes
 
 goes_hangs : (past : List Moment) (k : Core) (n : ℕ) → IsFollowed past k → Goes past k (Hangs n) (happens k (Hangs n)).core
 goes_hangs past k n h = let s = hangs_same k n (numbered k.sessions n) in goes_same past k (Hangs n) (happens k (Hangs n)).core h refl (λ c b. refl) (λ c m. no_calls c 0 m (happens k (Hangs n)).up s.3) s.0 s.1 s.2
@@ -172,11 +173,11 @@ goes_joins past opening all k qs c seat kept h at made few =
 -- ---- a change is made
 
 -- whatever is settled is the close that its session remembers, which has no point yet
-settled_moves : (opening : List Opening) (all : List Moment) (k : Core) (qs : List Queue) (now : ℕ) → IsKept (book_at opening k all) k qs → (o : List Change) → k.server.waiting ≡ o → (let r = closing.settles k.server now o in (settled_by k r.1.entries r.1.told ≡ k.ops) ⊎ ((p : ℕ) × (q : Op) × (slice_get k.ops p ≡ Some q) × IsUnmade q × (settled_by k r.1.entries r.1.told ≡ slice_set k.ops p (record q { point = Some (k.steps + 1) }))))
+settled_moves : (opening : List Opening) (all : List Moment) (k : Core) (qs : List Queue) (now : ℕ) → IsKept (book_at opening k all) k qs → (o : List Change) → k.server.waiting ≡ o → (let r = closing.settles k.server now o in (settled_by k (changed_file (entries_since k.server r.0)) r.1.told ≡ k.ops) ⊎ ((p : ℕ) × (q : Op) × (slice_get k.ops p ≡ Some q) × IsUnmade q × (settled_by k (changed_file (entries_since k.server r.0)) r.1.told ≡ slice_set k.ops p (record q { point = Some (k.steps + 1) }))))
 settled_moves opening all k qs now kept [] e = inl refl
 settled_moves opening all k qs now kept (c ∷ cs) e =
     let f = target_there (book_at opening k all) k.server c cs kept.server e in
-    subst (λ (r : server.State × ServerStep). (settled_by k r.1.entries r.1.told ≡ k.ops) ⊎ ((p : ℕ) × (q : Op) × (slice_get k.ops p ≡ Some q) × IsUnmade q × (settled_by k r.1.entries r.1.told ≡ slice_set k.ops p (record q { point = Some (k.steps + 1) })))) (sym (made_is (book_at opening k all) k.server now c cs f.0 kept.server e f.1)) (by f.0)
+    subst (λ (r : server.State × ServerStep). (settled_by k (changed_file (entries_since k.server r.0)) r.1.told ≡ k.ops) ⊎ ((p : ℕ) × (q : Op) × (slice_get k.ops p ≡ Some q) × IsUnmade q × (settled_by k (changed_file (entries_since k.server r.0)) r.1.told ≡ slice_set k.ops p (record q { point = Some (k.steps + 1) })))) (sym (made_is (book_at opening k all) k.server now c cs f.0 kept.server e f.1)) (by f.0)
   where
     home : (x : Session) × (numbered k.sessions c.session ≡ Some x) × (x.hung ≡ false)
     home = kept.home 0 c (ap (λ (l : List Change). slice_get l 0) e)
@@ -184,7 +185,7 @@ settled_moves opening all k qs now kept (c ∷ cs) e =
     own_first : own c.session (c ∷ cs) ≡ c ∷ own c.session cs
     own_first = ap (λ b. Rattle.std.specs.Prelude.cond b (c ∷ own c.session cs) (own c.session cs)) (eq-eqb c.session c.session refl)
 
-    by : (f : File) → (let r = made_change (closing.at (record k.server { waiting = cs }) now) c (content_wanted c.what) f in (settled_by k r.1.entries r.1.told ≡ k.ops) ⊎ ((p : ℕ) × (q : Op) × (slice_get k.ops p ≡ Some q) × IsUnmade q × (settled_by k r.1.entries r.1.told ≡ slice_set k.ops p (record q { point = Some (k.steps + 1) }))))
+    by : (f : File) → (let r = made_change (closing.at (record k.server { waiting = cs }) now) c (content_wanted c.what) f in (settled_by k (changed_file (entries_since k.server r.0)) r.1.told ≡ k.ops) ⊎ ((p : ℕ) × (q : Op) × (slice_get k.ops p ≡ Some q) × IsUnmade q × (settled_by k (changed_file (entries_since k.server r.0)) r.1.told ≡ slice_set k.ops p (record q { point = Some (k.steps + 1) }))))
     by f =
         let x = home.0 in
         let q = also_numbered k.sessions qs c.session x kept.made.1 home.1 in
@@ -195,7 +196,11 @@ settled_moves opening all k qs now kept (c ∷ cs) e =
           p.op,
           p.there,
           p.unmade,
-          ap (λ (z : Option Session). settled_ops k.ops 1 (k.steps + 1) z) home.1 ∙ ap (λ (z : Option ℕ). pointed_at k.ops z (k.steps + 1)) p.known ∙ ap (λ (z : Option Op). pointed k.ops p.place (k.steps + 1) z) p.there,
+          ap (λ (z : Option ℕ). settled_by k z (announced.Settled c.session c.xid)) (one_since k.server (made_change (closing.at (record k.server { waiting = cs }) now) c (content_wanted c.what) f).0 (entry_of c (content_wanted c.what) f) refl)
+              ∙ ap (settled_ops k.ops (k.steps + 1) (Some c.file)) home.1
+              ∙ ap (λ (z : Option ℕ). pointed_at k.ops z (k.steps + 1) (Some c.file)) p.known
+              ∙ ap (pointed k.ops p.place c.file (k.steps + 1)) p.there
+              ∙ ap (λ (g : ℕ). slice_set k.ops p.place (record p.op { file = g; point = Some (k.steps + 1) })) (sym p.file_is),
         )
 
 -- one operation of the same outcome and value takes the place of another
@@ -205,7 +210,7 @@ unfolding calls_most
 goes_set past opening all k qs e after p q r kept h none still silent at m u v ops seats passes =
     let moved = all_set (k.steps + 1) k.ops p q r at m in
     let d = also_there k.ops (deeds_of past) p q (sym h.deeds.count) at in
-    let now = deeds_moved (k.steps + 1) (deeds_of past) k.ops (slice_set k.ops p r) k.seats k.seats h.deeds (begins opening k all qs kept) moved (λ c seat is f. h.deeds.locals c seat is f ∙ sym (set_alike c f (deeds_of past) k.ops p d.0 q r d.1 at u v)) in
+    let now = deeds_moved (k.steps + 1) (deeds_of past) k.ops (slice_set k.ops p r) k.seats k.seats h.deeds (begins opening k all qs kept) moved (λ c seat is f. h.deeds.locals c seat is f ∙ sym (set_alike c f (deeds_of past) k.ops p d.0 q r d.1 at m.file u v)) in
     goes_by past k e after h none (subst (AllMoved (k.steps + 1) k.ops) (sym ops) moved) (subst (λ (l : List Seat). HasDeeds (deeds_of past) after.ops l) (sym seats) (subst (λ (l : List Op). HasDeeds (deeds_of past) l k.seats) (sym ops) now)) passes
     (λ c seat is. h.joined c seat (ap (λ l. numbered l c) (sym seats) ∙ is) ∙ sym (still c (joined_from c false past)))
     (λ c seat is. let n = h.next c seat (ap (λ l. numbered l c) (sym seats) ∙ is) in omega (arith, n, passes))
@@ -231,11 +236,12 @@ goes_settles past opening all k qs now kept h = by (settled_moves opening all k 
 ops_words : (opening : List Opening) (after : Core) (all : List Moment) (qs : List Queue) → IsKept (book_at opening after all) after qs → (i : ℕ) (r : Op) → slice_get after.ops i ≡ Some r → HasWord r.word r.outcome
 ops_words opening after all qs kept i r at = caused_word (book_at opening after all) r r.outcome (kept.sound.rights i r at).cause
 
-acts_by : (opening : List Opening) (all : List Moment) (k : Core) (qs : List Queue) (c : ℕ) (seat : Seat) (t : client.State) (acts : ClientStep) → IsKept (book_at opening k all) k qs → numbered k.seats c ≡ Some seat → (seat.client.task ≡ None → (t.opened ≡ seat.client.opened) × (acts.ended ≡ None))
+acts_by : (opening : List Opening) (all : List Moment) (k : Core) (qs : List Queue) (c : ℕ) (seat : Seat) (t : client.State) (acts : ClientStep) → acts.found ≡ None → IsKept (book_at opening k all) k qs → numbered k.seats c ≡ Some seat → (seat.client.task ≡ None → (t.opened ≡ seat.client.opened) × (acts.ended ≡ None))
     → ((x : Task) → seat.client.task ≡ Some x → Leaves seat.client.opened t.opened x.file acts.ended) → ((i : ℕ) (r : Op) → slice_get (acted k c seat t acts).core.ops i ≡ Some r → HasWord r.word r.outcome) → Acts k c seat t acts
-acts_by opening all k qs c seat t acts kept here idle busy word =
+acts_by opening all k qs c seat t acts found kept here idle busy word =
     let s = kept.seats c seat here in
     record {
+      found = found;
       here = here;
       matched = s.matched;
       begins = begins opening k all qs kept;
@@ -284,7 +290,7 @@ goes_cuts : (past : List Moment) (opening : List Opening) (all : List Moment) (k
 unfolding calls_most
 goes_cuts past opening all k qs after c seat kept h here true e left =
     let r = cut seat.client in
-    let a = acts_by opening all k qs c seat r.0 r.1 kept here (λ f. (refl, ended_idle seat.client.task _ f)) (λ x f. ended_busy seat.client.opened x.file seat.client.task x f) (ops_words opening (cuts_if k c seat true).core all after left) in
+    let a = acts_by opening all k qs c seat r.0 r.1 (cut_finds seat.client) kept here (λ f. (refl, ended_idle seat.client.task _ f)) (λ x f. ended_busy seat.client.opened x.file seat.client.task x f) (ops_words opening (cuts_if k c seat true).core all after left) in
     let f = acted_follows (deeds_of past) k c seat r.0 r.1 h.deeds a in
     let now : Seat = record seat { client = r.0; place = Rattle.trace_replay.specs.Ops.place_after seat.place r.1.ended } in
     goes_by past k (Cuts c) (cuts_if k c seat true).core h refl f.moved f.deeds (omega arith) (cuts_off past c k.seats seat now h.joined here refl)
@@ -334,7 +340,8 @@ heard_by : (past : List Moment) (opening : List Opening) (all : List Moment) (k 
 heard_by past opening all k qs after n now c bytes seat kept h here owner is_by left =
     let m = parse_of (client.waiting_of seat.client) bytes in
     let r = got_step seat.client m now in
-    let a = acts_by opening all k qs c seat r.0 r.1 kept here (λ f. let i = step_idle seat.client m now f in (i.1, i.2)) (λ x f. (step_left seat.client m now x f).1) (ops_words opening (hears_by k c now seat bytes).core all after left) in
+    let none = no_walk (book_at opening k all) k qs c seat kept here in
+    let a = acts_by opening all k qs c seat r.0 r.1 (got_finds seat.client m now none) kept here (λ f. let i = step_idle seat.client m now f in (i.1, i.2)) (λ x f. (step_left seat.client m now x f (none x f)).1) (ops_words opening (hears_by k c now seat bytes).core all after left) in
     let f = acted_follows (deeds_of past) k c seat r.0 r.1 h.deeds a in
     let then : Seat = record seat { client = r.0; place = Rattle.trace_replay.specs.Ops.place_after seat.place r.1.ended } in
     let around = around_with k.seats c seat then here in
@@ -363,7 +370,7 @@ heard_by past opening all k qs after n now c bytes seat kept h here owner is_by 
 
     more : (m : Result Message WireFault) (task : Option Task) → seat.client.task ≡ task → (got_step seat.client m now).0.next ≤ seat.client.next + calls_most
     more m None e = let i = (step_idle seat.client m now e).0 in omega (arith, i)
-    more m (Some t) e = (step_left seat.client m now t e).0
+    more m (Some t) e = (step_left seat.client m now t e (no_walk (book_at opening k all) k qs c seat kept here t e)).0
 
 -- what nobody hears sends nothing
 unheard : (k : Core) (n now : ℕ) (bytes : List ℕ) → (happens k (Hears n now bytes)).up ≡ [] → (z m : ℕ) → calls_by z m (moment k (Hears n now bytes)) ≡ m
@@ -386,9 +393,9 @@ goes_hears past opening all k qs after n now bytes kept h (Some x) at left = by_
 
 -- ---- a command
 
-goes_does : (past : List Moment) (opening : List Opening) (all : List Moment) (k : Core) (qs : List Queue) (c now : ℕ) (d : Command) (seat : Seat) → IsKept (book_at opening k all) k qs → IsFollowed past k → numbered k.seats c ≡ Some seat → Goes past k (Does c now d) (does k c now d (Some seat)).core
+goes_does : (past : List Moment) (opening : List Opening) (all : List Moment) (k : Core) (qs : List Queue) (c now : ℕ) (d : Command) (seat : Seat) → IsSmall d → IsKept (book_at opening k all) k qs → IsFollowed past k → numbered k.seats c ≡ Some seat → Goes past k (Does c now d) (does k c now d (Some seat)).core
 unfolding calls_most
-goes_does past opening all k qs c now d seat kept h here =
+goes_does past opening all k qs c now d seat small kept h here =
     let deed : Deed = record { client = c; command = d; begin = k.steps + 1; joined = joined_from c false past; calls = calls_from c 0 past } in
     let r = command_step seat.client d now in
     let place = place_with seat.place (length k.ops) r.1.ended in
@@ -396,7 +403,7 @@ goes_does past opening all k qs c now d seat kept h here =
     let then : Seat = record seat { client = r.0; place = place } in
     let around = around_with k.seats c seat then here in
     let may = asks_by seat.client (joined_from c false past) (calls_from c 0 past) (h.joined c seat here) (h.calls c seat here) in
-    let f = does_follows (book_at opening k all) (deeds_of past) k qs c now seat deed place kept refl refl h.deeds here (begins opening k all qs kept) refl refl may in
+    let f = does_follows (book_at opening k all) (deeds_of past) k qs c now seat deed place small kept refl refl h.deeds here (begins opening k all qs kept) refl refl may in
     let nexts = f.stays.0 in
     record {
       followed = record {
@@ -430,7 +437,7 @@ goes_does past opening all k qs c now d seat kept h here =
           | inl last ↦ subst (λ (z : Deed). z.calls ≤ calls_most * z.begin) (sym last.1) (let n = h.next c seat here in let m = h.calls c seat here in omega (arith, n, m))
         ]);
       };
-      ops = inr (new_op c (word_of d) (file_of d) (value_at_begin seat.client (word_of d) (file_of d) (command_step seat.client d now).1.ended) (k.steps + 1) r, refl, (fixed c (word_of d) (file_of d) (value_at_begin seat.client (word_of d) (file_of d) (command_step seat.client d now).1.ended) (k.steps + 1) r).3);
+      ops = inr (new_op c (word_of d) (file_of d) (value_at_begin seat.client (word_of d) (file_of d) (command_step seat.client d now).1.ended) (k.steps + 1) r, refl, (fixed c (word_of d) (file_of d) (value_at_begin seat.client (word_of d) (file_of d) (command_step seat.client d now).1.ended) (k.steps + 1) r (command_finds seat.client d now small)).3);
       moved = λ z. absurd cc;
       passes = omega arith;
     }
@@ -440,18 +447,18 @@ goes_does past opening all k qs c now d seat kept h here =
 
 -- ---- any event
 
-pub goes : (all past rest : List Moment) (opening : List Opening) (k : Core) (qs : List Queue) (e : Event) (mid after : List Queue) → Step all past rest opening k qs e mid after → IsFollowed past k → Goes past k e (happens k e).core
-goes all past rest opening k qs (Joins c) mid after s h = let f = s.finds in goes_joins past opening all k qs c f.0 s.kept h f.1 f.3 f.4
-goes all past rest opening k qs (Does c now d) mid after s h = let f = s.finds in subst (λ (o : Option Seat). Goes past k (Does c now d) (does k c now d o).core) (sym f.1) (goes_does past opening all k qs c now d f.0 s.kept h f.1)
-goes all past rest opening k qs (Serves n now bytes) mid after s h = goes_serves past k n now bytes h
-goes all past rest opening k qs (Hears n now bytes) mid after s h = goes_hears past opening all k qs after n now bytes s.kept h (numbered k.sessions n) refl s.left
-goes all past rest opening k qs (Settles now) mid after s h = goes_settles past opening all k qs now s.kept h
-goes all past rest opening k qs (Cuts c) mid after s h = by (numbered k.seats c) s.finds.1 s.left
+pub goes : FitLaws → (all past rest : List Moment) (opening : List Opening) (k : Core) (qs : List Queue) (e : Event) (mid after : List Queue) → Step all past rest opening k qs e mid after → IsFollowed past k → Goes past k e (happens k e).core
+goes laws all past rest opening k qs (Joins c) mid after s h = let f = s.finds in goes_joins past opening all k qs c f.0 s.kept h f.1 f.3 f.4
+goes laws all past rest opening k qs (Does c now d) mid after s h = let f = s.finds in subst (λ (o : Option Seat). Goes past k (Does c now d) (does k c now d o).core) (sym f.1) (goes_does past opening all k qs c now d f.0 f.2 s.kept h f.1)
+goes laws all past rest opening k qs (Serves n now bytes) mid after s h = goes_serves laws past opening all k qs n now bytes mid s.kept s.finds h
+goes laws all past rest opening k qs (Hears n now bytes) mid after s h = goes_hears past opening all k qs after n now bytes s.kept h (numbered k.sessions n) refl s.left
+goes laws all past rest opening k qs (Settles now) mid after s h = goes_settles past opening all k qs now s.kept h
+goes laws all past rest opening k qs (Cuts c) mid after s h = by (numbered k.seats c) s.finds.1 s.left
   where
     by : (o : Option Seat) → o ≡ Some s.finds.0 → IsKept (book_at opening (cuts k c o).core all) (cuts k c o).core after → Goes past k (Cuts c) (cuts k c o).core
     by None e left = nothing_there s.finds.0 e
     by (Some seat) e left = goes_cuts past opening all k qs after c seat s.kept h (s.finds.1 ∙ sym e) seat.client.linked refl left
-goes all past rest opening k qs (Hangs n) mid after s h = goes_hangs past k n h
+goes laws all past rest opening k qs (Hangs n) mid after s h = goes_hangs past k n h
 
 -- it looks at no index, and at nothing that is kept
 pub followed_adjusted : (past : List Moment) (k : Core) (index : Indexed) (seats : List Seat) → SameSeats k.seats seats → IsFollowed past k → IsFollowed past (adjusted_core k index seats)
@@ -463,9 +470,9 @@ followed_adjusted past k index seats same h = record {
   few = h.few;
 }
 
-pub carried_deeds : Carried (λ all past opening k qs. IsFollowed past k)
-carried_deeds = record {
+pub carried_deeds : FitLaws → Carried (λ all past opening k qs. IsFollowed past k)
+carried_deeds laws = record {
   first = λ all opening tree count kept. followed_first tree count;
-  steps = λ all past rest opening k qs e mid after s h. (goes all past rest opening k qs e mid after s h).followed;
+  steps = λ all past rest opening k qs e mid after s h. (goes laws all past rest opening k qs e mid after s h).followed;
   adjusts = λ all past opening k qs index seats same h. followed_adjusted past k index seats same h;
 }

@@ -4,6 +4,7 @@ use Rattle.std.proofs.lemmas.Slice.Eq.{bytes_eq-Decides}
 use Rattle.register_model.specs.declared.op.Outcome.{Outcome}
 use Rattle.register_model.specs.declared.op.Outcome.TheVariants as told
 use Rattle.register_model.specs.declared.op.Word.TheVariants as words
+use Rattle.trace_replay.specs.Book.{first_version}
 use Rattle.trace_replay.specs.Causes.{WaitsFor, TakesCall}
 use Rattle.kept_promise.proofs.Common.{Body, slice_get, bytes_eq, Contains, sha1, Entry, File, Value, content_of, Op, Opening, Word, Moment, hashed_of, Book, Or, Collides, history, value_at, version_at, Tried, IsEntered}
 use Rattle.kept_promise.proofs.Lists.{false_and_true}
@@ -46,21 +47,21 @@ seen_in opening f ms = left_by (content_of opening f) (latest_mark ms)
 pub value_seen : (book : Book) (f p : ℕ) → value_at book f p ≡ seen_in book.opening f (marks f p book.ops)
 value_seen book f p = value_is (history book) f p
 
-pub version_seen : (book : Book) (f p : ℕ) → version_at book f p ≡ length (marks f p book.ops) + 1
-version_seen book f p = ap (λ n. n + 1) (sym (count_is f p book.ops))
+pub version_seen : (book : Book) (f p : ℕ) → version_at book f p ≡ length (marks f p book.ops) + first_version (content_of book.opening f)
+version_seen book f p = ap (λ n. n + first_version (content_of book.opening f)) (sym (count_is f p book.ops))
 
 -- the same marks at two moments, of two books
 pub value_alike : (book more : Book) (f p q : ℕ) → more.opening ≡ book.opening → marks f p more.ops ≡ marks f q book.ops → value_at more f p ≡ value_at book f q
 value_alike book more f p q o e = value_seen more f p ∙ ap (λ l. seen_in l f (marks f p more.ops)) o ∙ ap (seen_in book.opening f) e ∙ sym (value_seen book f q)
 
-pub version_alike : (book more : Book) (f p q : ℕ) → marks f p more.ops ≡ marks f q book.ops → version_at more f p ≡ version_at book f q
-version_alike book more f p q e = version_seen more f p ∙ ap (λ ms. length ms + 1) e ∙ sym (version_seen book f q)
+pub version_alike : (book more : Book) (f p q : ℕ) → more.opening ≡ book.opening → marks f p more.ops ≡ marks f q book.ops → version_at more f p ≡ version_at book f q
+version_alike book more f p q o e = version_seen more f p ∙ ap (λ (l : List Opening). length (marks f p more.ops) + first_version (content_of l f)) o ∙ ap (λ ms. length ms + first_version (content_of book.opening f)) e ∙ sym (version_seen book f q)
 
 pub value_later : (book more : Book) (made ended : Option ℕ) (f p : ℕ) → Grows book more made ended → p ≤ book.steps + 1 → value_at more f p ≡ value_at book f p
 value_later book more made ended f p g le = value_alike book more f p p g.opening (g.values f p le)
 
 pub version_later : (book more : Book) (made ended : Option ℕ) (f p : ℕ) → Grows book more made ended → p ≤ book.steps + 1 → version_at more f p ≡ version_at book f p
-version_later book more made ended f p g le = version_alike book more f p p (g.values f p le)
+version_later book more made ended f p g le = version_alike book more f p p g.opening (g.values f p le)
 
 -- ---- what rests on digests
 
@@ -116,8 +117,8 @@ pub takes_later : (book more : Book) (made ended : Option ℕ) (c d step xid : �
 takes_later book more made ended c d step xid call g same h = record { moment = h.moment; there = g.happened h.moment h.there; step_is = h.step_is; session = h.session; now = h.now; bytes = h.bytes; event_is = h.event_is; parsed = h.parsed; waits = subst (λ (z : ℕ). WaitsFor h.moment z h.session xid) (sym same) h.waits }
 
 refused_later : (book more : Book) (made ended : Option ℕ) (o : Op) (w : Word) (s : ℕ) → Grows book more made ended → ((p : ℕ) → o.point ≡ Some p → p ≤ book.steps) → RefusedBy book o w s → RefusedBy more o w s
-refused_later book more made ended o words.Open s g past (inl h) = inl h
-refused_later book more made ended o words.Open s g past (inr h) = inr (h.0, h.1, ap (λ (l : List Opening). content_of l o.file) g.opening ∙ h.2, (h.3.0, h.3.1, value_later book more made ended o.file h.3.0 g (let le = past h.3.0 h.3.1.0 in omega (arith, le)) ∙ h.3.2))
+refused_later book more made ended o words.Open s g past (inl h) = inl (h.0, record { moment = h.1.moment; there = g.happened h.1.moment h.1.there; inside = h.1.inside; node = h.1.node; node_is = h.1.node_is })
+refused_later book more made ended o words.Open s g past (inr h) = inr (h.0, (h.1.0, h.1.1, value_later book more made ended o.file h.1.0 g (let le = past h.1.0 h.1.1.0 in omega (arith, le)) ∙ h.1.2))
 refused_later book more made ended o words.Close s g past h = record { status_is = h.status_is; pointless = h.pointless; end = h.end; end_is = h.end_is; moment = h.moment; there = g.happened h.moment h.there; session = h.session; now = h.now; bytes = h.bytes; event_is = h.event_is; xid = h.xid; call = h.call; parsed = h.parsed; size = h.size; after = h.after; before = h.before; waits = h.waits; full = h.full }
 refused_later book more made ended o _ s g past h = h
 
@@ -126,12 +127,12 @@ cause_later book more made ended o (told.Opened len digest) g r h = (
   h.0,
   record {
     length_is = h.1.length_is;
-    there = subst (λ (l : List Opening). IsSome (content_of l o.file)) (sym g.opening) h.1.there;
     digest_is = h.1.digest_is;
     point = h.1.point;
     within = h.1.within;
     value_is = or_later book more made ended _ _ g (λ e. value_later book more made ended o.file h.1.point g (let lt = (r.pointed h.1.point h.1.within.0).1 in omega (arith, lt)) ∙ e) h.1.value_is;
   },
+  subst (λ (l : List Opening). IsSome (content_of l o.file)) (sym g.opening) h.2,
 )
 cause_later book more made ended o (told.Refused s) g r h = refused_later book more made ended o o.word s g (λ p e. (r.pointed p e).1) h
 cause_later book more made ended o (told.Changed v w) g r h =

@@ -18,7 +18,7 @@ use Rattle.kept_promise.proofs.Facts.{FileIs, IsServer, IsTalk, IsKept}
 use Rattle.kept_promise.proofs.Leading.{Leads, ups_lost, KeptHangs}
 use Rattle.kept_promise.proofs.Takes.{file_still}
 use Rattle.kept_promise.proofs.Chunks.{is_other}
-use Rattle.kept_promise.proofs.TreeCalls.{fewer_need}
+use Rattle.server_law.proofs.TreeCalls.{fewer_need}
 
 -- ---- what the server still has of other sessions
 
@@ -90,7 +90,6 @@ server_hung : (book : Book) (s : server.State) (n : ℕ) → (kept : IsServer bo
 server_hung book s n kept held = record {
   held = held;
   bounded = kept.bounded;
-  plain = kept.plain;
   commits = λ i c e. let r = left_there n s.waiting i c e in kept.commits r.0.0 c r.0.1;
   changes = let a = kept.changes in let b = (fewer_need (λ d. not (d.session == n)) s.waiting).0 in omega (arith, a, b);
   bytes = let a = kept.bytes in let b = (fewer_need (λ d. not (d.session == n)) s.waiting).1 in omega (arith, a, b);

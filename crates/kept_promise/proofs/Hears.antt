@@ -21,6 +21,7 @@ use Rattle.kept_promise.proofs.Caches.{found_noted}
 use Rattle.kept_promise.proofs.Listings.{Looked, reads_at}
 use Rattle.kept_promise.proofs.Takings.{Noted, own_of, comes_taken}
 use Rattle.kept_promise.proofs.Acted.{rest_down, leads_comes}
+use Rattle.kept_promise.proofs.Found.{took_finds, of_fetch}
 use Rattle.kept_promise.proofs.Drops.{has_there, forgotten_there, leads_drops}
 use Rattle.kept_promise.proofs.Leading.{IsNoted, Leads, KeptHears}
 
@@ -103,6 +104,7 @@ waited book k qs n now x q t ts j g noted read task own =
     let split = times_map_append (λ (c : Pending). c.xid) t.xid (client.pending_in j.stage) h.seat.client.forgotten in
     let calls = ap (λ (l : List Pending). times t.xid (map (λ (c : Pending). c.xid) l)) (calls_are h.seat j g.job_is) in
     leads_comes book k qs n x q t ts j g (took (idle h.seat.client) (client.calls_of h.seat.client) j.file j.stage t.xid (reply_body t.reply))
+    (took_finds (idle h.seat.client) (client.calls_of h.seat.client) j.file j.stage t.xid (reply_body t.reply) (of_fetch book x.taken j j.stage ((h.talk g.uncut).fetch j g.job_is)))
     (comes_taken book k qs n x q t ts j g j.stage refl mine.0 mine.1 (omega (arith, all, split, calls))
     (λ f is. notes book k n now x h.seat t j.file f noted g.at h.owner (h.here g.uncut).0 read (task ∙ ap (λ (s : Stage). Some (record { file = j.file; stage = s })) is) (subst (λ (s : Stage). has_call (client.pending_in s) t.xid ≡ true) is own))
     (λ u is i d b at there. noted_is b (found_hashed h.seat.client now t j.file j.stage u task own is i d b at there))

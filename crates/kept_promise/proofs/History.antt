@@ -3,10 +3,12 @@ use Rattle.std.proofs.Common.{◌⊎◌, inl, inr, ◌≡◌, ℕ, suc, ◌+◌,
 use Rattle.register_model.specs.declared.op.Outcome.{Outcome}
 use Rattle.register_model.specs.declared.op.Outcome.TheVariants as told
 use Rattle.register_model.specs.declared.op.Word.TheVariants as words
-use Rattle.kept_promise.proofs.Common.{slice_get, slice_set, not, is_some, sha1, Entry, changes, changed_before, value_from, is_lost, is_untold, content_of, Op, Word, Book, Or, value_at, version_at, is_running, HasJournal}
+use Rattle.file_tree.specs.declared.entry.EntryKind.TheVariants as kind
+use Rattle.trace_replay.specs.Book.{first_version}
+use Rattle.kept_promise.proofs.Common.{slice_get, slice_set, not, is_some, sha1, Entry, changes, changed_before, value_from, is_lost, is_untold, content_of, Op, Word, Book, Or, value_at, version_at, is_running}
 use Rattle.kept_promise.proofs.Lists.{some_is, nothing_there, at_end, within, of_appended, kept_appended, of_replaced, at_replaced, else_replaced, count_more, true_and_false}
 use Rattle.kept_promise.proofs.Marks.{marks, mark_of, left_by, ArePast, unpointed, unchanging, made_before, marks_appended, marks_neither, marks_same, marks_before, marks_elsewhere, marks_later, marks_made, all_below, inserted_count, inserted_latest}
-use Rattle.kept_promise.proofs.Rights.{is_remote, Caused, IsRight, IsSound, IsUnmade}
+use Rattle.kept_promise.proofs.Rights.{HasCommits, is_remote, Caused, IsRight, IsSound, IsUnmade}
 use Rattle.kept_promise.proofs.Growth.{Follows, follows_same, Grows, or_later, value_seen, version_seen, version_later, right_later}
 
 -- so many steps later, with these operations
@@ -49,10 +51,11 @@ close_is w c (inl e) = absurd (open_not (ap changes (sym e) ∙ c))
     open_not e = absurd cc
 close_is w c (inr e) = e
 
-journal_grown : (book : Book) (n : ℕ) (ops : List Op) (made ended : Option ℕ) → Grows book (onward book n ops) made ended → WasThere book ops → ((k : ℕ) (o : Op) → slice_get book.ops k ≡ Some o → changes o.word ≡ true → (p : ℕ) → o.point ≡ Some p → o.word ≡ words.Close) → IsSound book → HasJournal (onward book n ops)
+journal_grown : (book : Book) (n : ℕ) (ops : List Op) (made ended : Option ℕ) → Grows book (onward book n ops) made ended → WasThere book ops → ((k : ℕ) (o : Op) → slice_get book.ops k ≡ Some o → changes o.word ≡ true → (p : ℕ) → o.point ≡ Some p → o.word ≡ words.Close) → IsSound book → HasCommits (onward book n ops)
 journal_grown book n ops made ended g was closes sound = record {
   count = sound.journal.count;
   rising = sound.journal.rising;
+  kinds = sound.journal.kinds;
   made = λ i p e at is.
       let m = sound.journal.made i p e at is in
       let o : Op = m.1 in
@@ -192,6 +195,7 @@ made_op book o = record o { point = Some (book.steps + 1) }
 
 -- the journal's entry tells of it
 pub record IsEntryOf (book : Book) (o : Op) (e : Entry) : Type 0 where
+  pub kind_is : e.kind ≡ kind.Commit
   pub file : o.file ≡ e.file
   pub len : length o.value ≡ e.len
   pub digest : Or book (sha1 o.value ≡ e.sha1)
@@ -257,6 +261,10 @@ goes_made book e j o tells at u sound = record {
           | inl new ↦ let x = new.0 in let y = within book.entries k q there in absurd (omega (arith, x, y, lt))
           | inr old ↦ sound.journal.rising i k p q lt old there
         ]
+      ];
+      kinds = λ i d b. elim (of_appended book.journal e i d b) [
+        | inl last ↦ ap (λ (z : Entry). z.kind) last.1 ∙ tells.kind_is
+        | inr old ↦ sound.journal.kinds i d old
       ];
       made = λ i p d a b. elim (of_appended book.entries (book.steps + 1) i p a) [
         | inl last ↦
@@ -328,14 +336,18 @@ value_now book e j o at u sound =
     ∙ ap (left_by (content_of book.opening o.file)) (inserted_latest (mark_of (made_op book o)) (marks o.file (book.steps + 2) book.ops) (marks o.file (book.steps + 2) (slice_set book.ops j (made_op book o))) i (all_below o.file (book.steps + 2) (book.steps + 1) book.ops (omega arith) (points_past book sound)))
     ∙ ap (λ w. value_from w o.value) u.0
 
+one_more : (n first : ℕ) → suc n + first ≡ (n + first) + 1
+one_more n first = omega arith
+
 pub version_now : (book : Book) (e : Entry) (j : ℕ) (o : Op) → slice_get book.ops j ≡ Some o → IsUnmade o → IsSound book → version_at (entered book (slice_set book.ops j (made_op book o)) e) o.file (book.steps + 2) ≡ version_at book o.file (book.steps + 1) + 1
 version_now book e j o at u sound =
     let more = entered book (slice_set book.ops j (made_op book o)) e in
+    let first : ℕ = first_version (content_of book.opening o.file) in
     let i = marks_made o.file (book.steps + 2) book.ops j o (made_op book o) at u.1 (made_changes book o u) in
     version_seen more o.file (book.steps + 2)
-    ∙ ap (λ n. n + 1) (inserted_count (mark_of (made_op book o)) (marks o.file (book.steps + 2) book.ops) (marks o.file (book.steps + 2) (slice_set book.ops j (made_op book o))) i)
-    ∙ ap (λ ms. suc (length ms) + 1) (marks_later o.file (book.steps + 1) (book.steps + 2) (book.steps + 1) book.ops (points_past book sound) (omega arith) (omega arith))
-    ∙ (let n : suc (length (marks o.file (book.steps + 1) book.ops)) + 1 ≡ (length (marks o.file (book.steps + 1) book.ops) + 1) + 1 = omega arith in n)
+    ∙ ap (λ n. n + first) (inserted_count (mark_of (made_op book o)) (marks o.file (book.steps + 2) book.ops) (marks o.file (book.steps + 2) (slice_set book.ops j (made_op book o))) i)
+    ∙ ap (λ ms. suc (length ms) + first) (marks_later o.file (book.steps + 1) (book.steps + 2) (book.steps + 1) book.ops (points_past book sound) (omega arith) (omega arith))
+    ∙ one_more (length (marks o.file (book.steps + 1) book.ops)) first
     ∙ ap (λ n. n + 1) (sym (version_seen book o.file (book.steps + 1)))
 
 pub marks_else : (book : Book) (j : ℕ) (o : Op) (f : ℕ) → slice_get book.ops j ≡ Some o → IsUnmade o → (o.file ≡ f → ⊥) → IsSound book → marks f (book.steps + 2) (slice_set book.ops j (made_op book o)) ≡ marks f (book.steps + 1) book.ops

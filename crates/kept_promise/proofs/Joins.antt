@@ -122,7 +122,7 @@ joined_now book k qs c n seat kept number at unlinked =
       journal = kept.journal;
       entries = refl;
       sound = (goes_same book 2 kept.sound).sound;
-      server = record { held = λ f. file_still book more None None f (server.file_at s.tree f) g (still_same book 2 kept.sound) (kept.server.held f); bounded = kept.server.bounded; plain = kept.server.plain; commits = kept.server.commits; changes = kept.server.changes; bytes = kept.server.bytes; lengths = kept.server.lengths; targets = kept.server.targets; xids = kept.server.xids };
+      server = record { held = λ f. file_still book more None None f (server.file_at s.tree f) g (still_same book 2 kept.sound) (kept.server.held f); bounded = kept.server.bounded; commits = kept.server.commits; changes = kept.server.changes; bytes = kept.server.bytes; lengths = kept.server.lengths; targets = kept.server.targets; xids = kept.server.xids };
       made = (let a = count_more k.sessions (new_session c) in omega (arith, a, made), count_more qs no_queue ∙ ap suc kept.made.1 ∙ sym (count_more k.sessions (new_session c)));
       sessions = λ m z p f h. elim (of_new k.sessions (new_session c) m z f) [
         | inl new ↦ elim (of_new qs no_queue m p h) [

@@ -60,8 +60,12 @@ trying_later book more made ended j n g h =
     record { op = r.0; there = r.1; count = h.count; tries_is = h.tries_is; tried = subst (λ (b : ℕ). Tried more j.file b h.count (more.steps + 1)) (sym r.2.begin) (tried_wider more j.file h.op.begin h.count (book.steps + 1) (more.steps + 1) (omega (arith, p)) (tried_later book more made ended j.file h.op.begin h.count (book.steps + 1) g (omega arith) h.tried)) }
 
 refused_told_later : (book more : Book) (made ended : Option ℕ) (taken : List TakenCall) (j : Job) (x : ℕ) (s : Status) → Grows book more made ended → RefusedTold book taken j x s → RefusedTold more taken j x s
-refused_told_later book more made ended taken j x s g (inl h) = inl h
-refused_told_later book more made ended taken j x s g (inr h) = inr (h.0, ap (λ (l : List Opening). content_of l j.file) g.opening ∙ h.1, (h.2.0, told_later book more made ended taken j x None h.2.0 g h.2.1))
+refused_told_later book more made ended taken j x s g (inl (is, h)) =
+    let r = g.each j.place h.op h.there in
+    let le = h.past in
+    let n = g.passes in
+    inl (is, record { at = h.at; noted = g.happened h.at h.noted; moment = h.moment; step_is = h.step_is; was = h.was; past = omega (arith, le, n); op = r.0; there = r.1; after = subst (λ (b : ℕ). b ≤ h.moment) (sym r.2.begin) h.after; node = h.node; node_is = h.node_is })
+refused_told_later book more made ended taken j x s g (inr h) = inr (h.0, (h.1.0, told_later book more made ended taken j x None h.1.0 g h.1.1))
 
 hash_later : (book more : Book) (made ended : Option ℕ) (taken : List TakenCall) (j : Job) (x o : ℕ) (a : Answer Hashes Unit) → Grows book more made ended → HashTold book taken j x o a → HashTold more taken j x o a
 hash_later book more made ended taken j x o (Failed s u) g h = refused_told_later book more made ended taken j x s g h
@@ -120,6 +124,7 @@ reading_later book more made ended x f g h = record { whole = h.whole; slots = h
 pub fetch_of_later : (book more : Book) (made ended : Option ℕ) (taken : List TakenCall) (j : Job) (s : Stage) → Grows book more made ended → FetchOf book taken j s → FetchOf more taken j s
 fetch_of_later book more made ended taken j (stage.Listing x f) g h = (fetch_later book more made ended taken j f g h.0, h.1, h.2)
 fetch_of_later book more made ended taken j (stage.Reading f) g h = (fetch_later book more made ended taken j f g h.0, reading_later book more made ended h.0.file.content f g h.1)
+fetch_of_later book more made ended taken j (stage.Walking x w) g h = h
 fetch_of_later book more made ended taken j _ g h = tt
 
 pub has_fetch_later : (book more : Book) (made ended : Option ℕ) (taken : List TakenCall) (job : Option Job) → Grows book more made ended → HasFetch book taken job → HasFetch more taken job

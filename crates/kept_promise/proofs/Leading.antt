@@ -2,7 +2,8 @@
 use Rattle.std.proofs.Common.{◌≡◌, ℕ, ◌<◌, List, [], ◌∷◌, ◌++◌, length, Option, Some, None, false, map}
 use Rattle.trace_replay.specs.Core.{Loss.Made}
 use Rattle.server_core.specs.declared.event.Sent.{Sent}
-use Rattle.kept_promise.proofs.Common.{Contains, message_spell, Command, file_of, Core, Seat, Session, Event, Event.Joins, Event.Does, Event.Serves, Event.Hears, Event.Settles, Event.Cuts, Event.Hangs, Loss, Loss.Nothing, Loss.Down_of, Loss.Up_of, CoreStep, numbered, with_numbered, happens, Wire, unless, lost_by, up_put, down_put, hashed_of, hashed_by, Book, Ask, Told, Queue, no_queue, Carries, ask_message, told_message}
+use Rattle.kept_promise.proofs.Common.{Contains, message_spell, Command, Core, Seat, Session, Event, Event.Joins, Event.Does, Event.Serves, Event.Hears, Event.Settles, Event.Cuts, Event.Hangs, Loss, Loss.Nothing, Loss.Down_of, Loss.Up_of, CoreStep, numbered, with_numbered, happens, Wire, unless, lost_by, up_put, down_put, hashed_of, hashed_by, Book, Ask, Told, Queue, no_queue, Carries, ask_message, told_message}
+use Rattle.kept_promise.proofs.PathNames.{IsSmall}
 use Rattle.kept_promise.proofs.Facts.{IsKept}
 
 -- ---- what is sent, as calls and answers
@@ -90,7 +91,7 @@ KeptSettles = (book : Book) (k : Core) (qs : List Queue) (now : ℕ) → IsKept 
 
 -- a command names a file by a number of 64 bits, as every command that was read does
 abbrev pub KeptDoes : Type 0
-KeptDoes = (book : Book) (k : Core) (qs : List Queue) (c now : ℕ) (d : Command) → file_of d < 18446744073709551616 → IsKept book k qs → IsNoted book k (Does c now d) → Leads book qs (happens k (Does c now d))
+KeptDoes = (book : Book) (k : Core) (qs : List Queue) (c now : ℕ) (d : Command) → IsSmall d → IsKept book k qs → IsNoted book k (Does c now d) → Leads book qs (happens k (Does c now d))
 
 -- the first call on its way is taken, and the first answer
 abbrev pub KeptServes : Type 0

@@ -1,5 +1,5 @@
 -- What a client hears of a GETLEASE: whose answer it is, and that it tells the version which the file had when the server took the call.
-use Rattle.std.proofs.Common.{◌⊎◌, inl, inr, ◌≡◌, ℕ, ◌+◌, ◌<◌, ◌≤◌, List, [], Option, Some, None, Ok, Bool, true, false, refl, sym, ap, ◌∙◌, subst, arith, eqb-true}
+use Rattle.std.proofs.Common.{◌⊎◌, inl, inr, ◌≡◌, ℕ, ◌+◌, ◌<◌, ◌≤◌, List, [], length, Option, Some, None, Ok, Bool, true, false, refl, sym, ap, ◌∙◌, subst, arith, eqb-true}
 use Rattle.hash_calls.specs.declared.call.Leased.{Leased}
 use Rattle.hash_calls.specs.declared.message.Lb.TheVariants as lb
 use Rattle.wire.specs.declared.message.Body.TheVariants as body
@@ -12,7 +12,8 @@ use Rattle.register_model.specs.declared.op.Outcome.TheVariants as told
 use Rattle.trace_replay.specs.Causes.{WaitsFor, TakesCall}
 use Rattle.trace_replay.specs.Core.{taken_of as session_taken}
 use Rattle.trace_replay.specs.Saving.{lease_told, LeasedAt, TellsLease}
-use Rattle.kept_promise.proofs.Common.{◌==◌, Contains, Contains-push_cases, Way, answered, slice_get, Answer, Done, Body, Message, Pending, got_step, took, took_if, told_stored, told_way, idle, ClientStep, Ended, Stage, Store, StoreCall, Task, store_at, Op, Opening, TakenCall, op_after, Core, Seat, Event, Event.Joins, Event.Does, Event.Serves, Event.Hears, Event.Settles, Event.Cuts, Event.Hangs, CoreStep, numbered, session_of, acted, happens, Moment, step_of, client_of, owner_in, wanted_if, taken_by, is_in, Book, version_at, Queue, Reply, Reply.Versioned, told_message, reply_body}
+use Rattle.trace_replay.specs.Book.{first_version}
+use Rattle.kept_promise.proofs.Common.{◌==◌, Contains, Contains-push_cases, Way, answered, slice_get, Answer, Done, Body, Message, Pending, got_step, took, took_if, told_stored, told_way, idle, ClientStep, Ended, Stage, Store, StoreCall, Task, store_at, Op, Opening, TakenCall, op_after, Core, Seat, Event, Event.Joins, Event.Does, Event.Serves, Event.Hears, Event.Settles, Event.Cuts, Event.Hangs, CoreStep, numbered, session_of, acted, happens, Moment, step_of, client_of, owner_in, wanted_if, taken_by, is_in, Book, version_at, changed_before, content_of, filter, Queue, Reply, Reply.Versioned, told_message, reply_body}
 use Rattle.kept_promise.proofs.Lists.{some_is, of_appended, of_replaced, true_and_false}
 use Rattle.kept_promise.proofs.Messages.{Job, job, lease_body, AllTolds, IsLeased, LeaseTold, AnswerOf, IsAnswer}
 use Rattle.kept_promise.proofs.Fits.{FitLaws}
@@ -27,6 +28,7 @@ use Rattle.kept_promise.proofs.VersionRuns.{own_op, or_none}
 use Rattle.kept_promise.proofs.LogEvents.{file_stays}
 use Rattle.kept_promise.proofs.Versions.{version_in}
 use Rattle.kept_promise.proofs.OpsAfter.{OpsAfter, same_versions}
+use Rattle.kept_promise.proofs.Found.{got_finds, no_walk}
 
 -- ---- whose answer it is
 
@@ -155,8 +157,8 @@ client_stays o c taken step acts = by acts.ended
     by None = refl
     by (Some e) = refl
 
-leased_after : (book more : Book) (o : Op) (c : client.State) (taken : List TakenCall) (n : ℕ) (acts : ClientStep) (m : Moment) (x version : ℕ) → ((z : Moment) → Contains book.moments z → Contains more.moments z) → ((f q : ℕ) → q ≤ n → version_at more f q ≡ version_at book f q) → step_of m ≤ n + 1 → LeasedAt book o m x version → LeasedAt more (op_after o c taken (n + 1) acts) m x version
-leased_after book more o c taken n acts m x version there versions le = leased_as book more o (op_after o c taken (n + 1) acts) m x version n there (client_stays o c taken (n + 1) acts) (file_stays o c taken (n + 1) acts) (begin_stays o c taken (n + 1) acts) versions le
+leased_after : (book more : Book) (o : Op) (c : client.State) (taken : List TakenCall) (n : ℕ) (acts : ClientStep) (m : Moment) (x version : ℕ) → acts.found ≡ None → ((z : Moment) → Contains book.moments z → Contains more.moments z) → ((f q : ℕ) → q ≤ n → version_at more f q ≡ version_at book f q) → step_of m ≤ n + 1 → LeasedAt book o m x version → LeasedAt more (op_after o c taken (n + 1) acts) m x version
+leased_after book more o c taken n acts m x version none there versions le = leased_as book more o (op_after o c taken (n + 1) acts) m x version n there (client_stays o c taken (n + 1) acts) (file_stays o c taken (n + 1) acts none) (begin_stays o c taken (n + 1) acts) versions le
 
 -- an answer that is waited for is that of the version then
 leased_by : (book : Book) (k : Core) (taken : List TakenCall) (closing : Option ℕ) (j : Job) (m : Moment) (o : Op) (x : ℕ) (l : Leased) (r : Reply) → book.ops ≡ k.ops → book.steps < step_of m → slice_get k.ops j.place ≡ Some o → o.file ≡ j.file → j.stage ≡ stage.Asking x → reply_body r ≡ body.Lb (lb.GetLeaseAnswer (Done l)) → AnswerOf book taken closing (Some j) x r → LeasedAt book o m x l.version
@@ -180,6 +182,12 @@ leased_by book k taken closing j m o x l (Versioned a) ops steps at file asking 
           version_is = ap (λ f. version_at book f h.told.moment) file ∙ h.told.version_is;
         }
 leased_by book k taken closing j m o x l r ops steps at file asking is answer = absurd cc
+
+-- of two books with one opening
+counted_so : (book more : Book) (f q : ℕ) → more.opening ≡ book.opening → version_in more.ops f q ≡ version_in book.ops f q → version_at more f q ≡ version_at book f q
+counted_so book more f q opening same =
+    let count : length (filter (changed_before f q) more.ops) ≡ length (filter (changed_before f q) book.ops) = omega (arith, same) in
+    ap (λ (z : List Opening). length (filter (changed_before f q) more.ops) + first_version (content_of z f)) opening ∙ ap (λ (n : ℕ). n + first_version (content_of book.opening f)) count
 
 leased_hears : FitLaws → (all past rest : List Moment) (opening : List Opening) (k : Core) (qs : List Queue) (n now : ℕ) (bytes : List ℕ) (mid after : List Queue) → Step all past rest opening k qs (Hears n now bytes) mid after → OpsAfter (Hears n now bytes) k (happens k (Hears n now bytes)).core.ops
     → (p : ℕ) (o : Op) → slice_get (happens k (Hears n now bytes)).core.ops p ≡ Some o → TellsLease (book_at opening (happens k (Hears n now bytes)).core all) (moment k (Hears n now bytes)) o
@@ -209,7 +217,7 @@ leased_hears fits all past rest opening k qs n now bytes mid after s grown p o a
         let answer = subst (λ z. AnswerOf (book_at opening k all) h.session.taken h.session.closing (Some w.of) z h.told.reply) xid answer in
         let old = leased_by (book_at opening k all) k h.session.taken h.session.closing w.of (moment k (Hears n now bytes)) w.old x l h.told.reply refl (omega arith) (ap (slice_get k.ops) w.place ∙ w.was) w.file w.asking (body_is h.told.xid (reply_body h.told.reply) same) answer in
         subst (λ z. LeasedAt (book_at opening (happens k (Hears n now bytes)).core all) z (moment k (Hears n now bytes)) x l.version) (sym w.is)
-        (leased_after (book_at opening k all) (book_at opening (happens k (Hears n now bytes)).core all) w.old (got_step h.seat.client (Ok (lease_told x l)) now).0 (session_taken (session_of k.sessions h.seat.session)) k.steps (got_step h.seat.client (Ok (lease_told x l)) now).1 (moment k (Hears n now bytes)) x l.version (λ z c. c) (same_versions k (Hears n now bytes) (happens k (Hears n now bytes)).core.ops grown) (omega arith) old)
+        (leased_after (book_at opening k all) (book_at opening (happens k (Hears n now bytes)).core all) w.old (got_step h.seat.client (Ok (lease_told x l)) now).0 (session_taken (session_of k.sessions h.seat.session)) k.steps (got_step h.seat.client (Ok (lease_told x l)) now).1 (moment k (Hears n now bytes)) x l.version (got_finds h.seat.client (Ok (lease_told x l)) now (no_walk (book_at opening k all) k qs h.session.owner h.seat s.kept h.owner)) (λ z c. c) (λ f q lt. counted_so (book_at opening k all) (book_at opening (happens k (Hears n now bytes)).core all) f q refl (same_versions k (Hears n now bytes) (happens k (Hears n now bytes)).core.ops grown f q lt)) (omega arith) old)
 
 -- ---- any event
 
@@ -226,11 +234,11 @@ leased_now fits all past rest opening k qs (Cuts c) mid after s grown p o at = n
 leased_now fits all past rest opening k qs (Hangs n) mid after s grown p o at = none_leased (book_at opening (happens k (Hangs n)).core all) (moment k (Hangs n)) o refl
 
 -- what is past stays
-pub leased_stays : (book more : Book) (k : Core) (qs : List Queue) (e : Event) (m : Moment) → IsKept book k qs → step_of m ≤ k.steps → OpsAfter e k more.ops → ((z : Moment) → Contains book.moments z → Contains more.moments z) → ((p : ℕ) (o : Op) → slice_get k.ops p ≡ Some o → TellsLease book m o) → (p : ℕ) (o : Op) → slice_get more.ops p ≡ Some o → TellsLease more m o
-leased_stays book more k qs e m kept le grown there h p o at = by grown
+pub leased_stays : (book more : Book) (k : Core) (qs : List Queue) (e : Event) (m : Moment) → IsKept book k qs → step_of m ≤ k.steps → OpsAfter e k more.ops → more.opening ≡ book.opening → ((z : Moment) → Contains book.moments z → Contains more.moments z) → ((p : ℕ) (o : Op) → slice_get k.ops p ≡ Some o → TellsLease book m o) → (p : ℕ) (o : Op) → slice_get more.ops p ≡ Some o → TellsLease more m o
+leased_stays book more k qs e m kept le grown opening there h p o at = by grown
   where
     versions : (f q : ℕ) → q ≤ k.steps → version_at more f q ≡ version_at book f q
-    versions f q lt = same_versions k e more.ops grown f q lt ∙ ap (λ (z : List Op). version_in z f q) (sym kept.ops)
+    versions f q lt = counted_so book more f q opening (same_versions k e more.ops grown f q lt ∙ ap (λ (z : List Op). version_in z f q) (sym kept.ops))
 
     still : (o : Op) → TellsLease book m o → TellsLease more m o
     still o h x l mine c = leased_as book more o o m x l.version k.steps there refl refl refl versions (omega (arith, le)) (h x l mine c)
@@ -246,7 +254,7 @@ leased_stays book more k qs e m kept le grown there h p o at = by grown
       | inl mine ↦ subst (TellsLease more m) (sym mine.3) (λ x l in_it c.
           let running = ((acts_alone book k qs a.index a.seat kept a.here).own p mine.0 mine.1 mine.2).1 in
           let was = sym (running_past mine.0 a.after (session_taken (session_of k.sessions a.seat.session)) k.steps a.acts running (step_of m) (client_of m.before m.event) le) ∙ in_it in
-          leased_after book more mine.0 a.after (session_taken (session_of k.sessions a.seat.session)) k.steps a.acts m x l.version there versions (omega (arith, le)) (h p mine.0 mine.2 x l was c))
+          leased_after book more mine.0 a.after (session_taken (session_of k.sessions a.seat.session)) k.steps a.acts m x l.version a.finds there versions (omega (arith, le)) (h p mine.0 mine.2 x l was c))
     ]
     by (inr (inr (inr (inl same)))) = still o (h p o (ap (λ (l : List Op). slice_get l p) (sym same) ∙ at))
     by (inr (inr (inr (inr s)))) = elim (of_replaced k.ops s.0 (record s.1 { point = Some (k.steps + 1) }) p o (ap (λ (l : List Op). slice_get l p) (sym s.4) ∙ at)) [

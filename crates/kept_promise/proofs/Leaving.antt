@@ -18,7 +18,7 @@ use Rattle.client_state.specs.declared.step.Outcome.TheVariants as outcome
 use Rattle.client_state.specs.declared.task.Stage.TheVariants as stage
 use Rattle.client_state.specs.declared.task.Way.TheVariants as way
 use Rattle.kept_promise.proofs.Common.{nat_tests, slice_get, nat_lt, if◌then◌else◌, ◌==◌, ◌&&◌, Chunk, Answer, Done, Failed, Status, Hashes, Piece, Body, Message, Pending, RpcRefusal, WireFault, names_from, names_next, names_more, names_all, is_stored, store_of, store_at, answered, calls_most, is_none, fetch_of, with_hashes, listed, reads_from, reads_next, reads_more, reads_all, is_here, read_at, fault_in, other_version, with_bytes, Broken, broken_of, idle, refused, bad_peer, reads_if, reads_on, lists_on, told_shape, told_version, told_hashes, told_first, retries, misfits, told_bytes, told_chunk, told_piece, goes_if, goes_on, told_temp, sends_whole, told_named, told_whole, told_way, told_stored, denied, took, drops, took_if, denied_if, got_message, got_fault, got_step, Names, Reads, BadPeer, ClientStep, Ended, Outcome, Fetch, Local, ReadCall, Stage, Store, StoreCall, Task, Way}
-use Rattle.kept_promise.proofs.StepCases.{some_call}
+use Rattle.kept_promise.proofs.StepCases.{some_call, IsOfFile}
 
 -- ---- what is said
 
@@ -202,17 +202,18 @@ told_stored_left s calls file xid content st b (Some c) = told_way_left s calls 
 
 -- ---- any answer
 
-took_left : (s : client.State) (calls : List Pending) (file : ℕ) (t : Stage) (xid : ℕ) (b : Body) → IsLeft s file (took s calls file t xid b)
-took_left s calls file (stage.Asking asked) xid (body.Lb (lb.GetLeaseAnswer a)) = told_lease_left s calls file xid a
-took_left s calls file (stage.Hashing tries asked) xid (body.Lb (lb.GetHashAnswer a)) = told_first_left s calls file xid tries a
-took_left s calls file (stage.Listing asked f) xid (body.Lb (lb.GetHashAnswer a)) = told_hashes_left s calls file xid f a
-took_left s calls file (stage.Reading f) xid (body.Nfs (nfs.ReadAnswer (Failed t a))) = refused_left s calls file xid t
-took_left s calls file (stage.Reading f) xid (body.Nfs (nfs.ReadAnswer (Done piece))) = told_piece_left s calls file xid f piece (read_at f.under xid)
-took_left s calls file (stage.Making asked temp) xid (body.Lb (lb.MkTmpFileAnswer a)) = told_temp_left s calls file xid temp (client.local_bytes s.opened file) a
-took_left s calls file (stage.Storing st) xid b = told_stored_left s calls file xid (client.local_bytes s.opened file) st b (store_at st.under xid)
-took_left s calls file (stage.Committing asked) xid (body.Lb (lb.CommitTmpAnswer (Failed t u))) = refused_left s calls file xid t
-took_left s calls file (stage.Committing asked) xid (body.Lb (lb.CommitTmpAnswer (Done c))) = (omega arith, (refl, refl))
-took_left s calls file p xid b = (omega arith, refl)
+took_left : (s : client.State) (calls : List Pending) (file : ℕ) (t : Stage) (xid : ℕ) (b : Body) → IsOfFile t → IsLeft s file (took s calls file t xid b)
+took_left s calls file (stage.Asking asked) xid (body.Lb (lb.GetLeaseAnswer a)) known = told_lease_left s calls file xid a
+took_left s calls file (stage.Hashing tries asked) xid (body.Lb (lb.GetHashAnswer a)) known = told_first_left s calls file xid tries a
+took_left s calls file (stage.Listing asked f) xid (body.Lb (lb.GetHashAnswer a)) known = told_hashes_left s calls file xid f a
+took_left s calls file (stage.Reading f) xid (body.Nfs (nfs.ReadAnswer (Failed t a))) known = refused_left s calls file xid t
+took_left s calls file (stage.Reading f) xid (body.Nfs (nfs.ReadAnswer (Done piece))) known = told_piece_left s calls file xid f piece (read_at f.under xid)
+took_left s calls file (stage.Making asked temp) xid (body.Lb (lb.MkTmpFileAnswer a)) known = told_temp_left s calls file xid temp (client.local_bytes s.opened file) a
+took_left s calls file (stage.Storing st) xid b known = told_stored_left s calls file xid (client.local_bytes s.opened file) st b (store_at st.under xid)
+took_left s calls file (stage.Committing asked) xid (body.Lb (lb.CommitTmpAnswer (Failed t u))) known = refused_left s calls file xid t
+took_left s calls file (stage.Committing asked) xid (body.Lb (lb.CommitTmpAnswer (Done c))) known = (omega arith, (refl, refl))
+took_left s calls file (stage.Walking asked w) xid b known = absurd known
+took_left s calls file p xid b known = (omega arith, refl)
 
 denied_left : (s : client.State) (calls : List Pending) (file xid : ℕ) (r : RpcRefusal) → IsLeft s file (denied s calls xid r)
 denied_left s calls file xid refusal.SystemErr = (omega arith, refl)
@@ -227,31 +228,36 @@ abbrev file_in : Option Task → ℕ
 file_in None = 0
 file_in (Some t) = t.file
 
-took_if_left : (s : client.State) (o : Option Task) (xid : ℕ) (b : Body) (own : Bool) → IsLeft s (file_in o) (took_if s o xid b own)
-took_if_left s (Some t) xid b true = took_left (idle s) (client.calls_of s) t.file t.stage xid b
-took_if_left s (Some t) xid b false = drops_left s (Some t) t.file xid (client.has_call s.forgotten xid)
-took_if_left s None xid b own = drops_left s None 0 xid (client.has_call s.forgotten xid)
+-- what is under way, if anything is, is no walk
+abbrev IsOnFile : Option Task → Type 0
+IsOnFile None = Unit {0}
+IsOnFile (Some t) = IsOfFile t.stage
+
+took_if_left : (s : client.State) (o : Option Task) (xid : ℕ) (b : Body) (own : Bool) → IsOnFile o → IsLeft s (file_in o) (took_if s o xid b own)
+took_if_left s (Some t) xid b true known = took_left (idle s) (client.calls_of s) t.file t.stage xid b known
+took_if_left s (Some t) xid b false known = drops_left s (Some t) t.file xid (client.has_call s.forgotten xid)
+took_if_left s None xid b own known = drops_left s None 0 xid (client.has_call s.forgotten xid)
 
 denied_if_left : (s : client.State) (o : Option Task) (xid : ℕ) (r : RpcRefusal) (own : Bool) → IsLeft s (file_in o) (denied_if s o xid r own)
 denied_if_left s (Some t) xid r true = denied_left (idle s) (client.calls_of s) t.file xid r
 denied_if_left s (Some t) xid r false = drops_left s (Some t) t.file xid (client.has_call s.forgotten xid)
 denied_if_left s None xid r own = drops_left s None 0 xid (client.has_call s.forgotten xid)
 
-got_left : (s : client.State) (o : Option Task) (m : Message) → IsLeft s (file_in o) (got_message s o m)
-got_left s o (message.Answer xid b) = took_if_left s o xid b (client.has_call (client.pending o) xid)
-got_left s o (message.Refuse xid r) = denied_if_left s o xid r (client.has_call (client.pending o) xid)
-got_left s o _ = (omega arith, refl)
+got_left : (s : client.State) (o : Option Task) (m : Message) → IsOnFile o → IsLeft s (file_in o) (got_message s o m)
+got_left s o (message.Answer xid b) known = took_if_left s o xid b (client.has_call (client.pending o) xid) known
+got_left s o (message.Refuse xid r) known = denied_if_left s o xid r (client.has_call (client.pending o) xid)
+got_left s o _ known = (omega arith, refl)
 
 fault_came_left : (s : client.State) (o : Option Task) (e : WireFault) → IsLeft s (file_in o) (got_fault s o e)
 fault_came_left s (Some t) e = (omega arith, refl)
 fault_came_left s None e = (omega arith, refl)
 
 -- whatever comes
-pub step_left : (s : client.State) (m : Result Message WireFault) (now : ℕ) (t : Task) → s.task ≡ Some t → IsLeft s t.file (got_step s m now)
-step_left s m now t e = subst (λ (o : Option Task). IsLeft s (file_in o) (got_step s m now)) e (by m)
+pub step_left : (s : client.State) (m : Result Message WireFault) (now : ℕ) (t : Task) → s.task ≡ Some t → IsOfFile t.stage → IsLeft s t.file (got_step s m now)
+step_left s m now t e known = subst (λ (o : Option Task). IsLeft s (file_in o) (got_step s m now)) e (by m)
   where
     by : (m : Result Message WireFault) → IsLeft s (file_in s.task) (got_step s m now)
-    by (Ok m) = got_left s s.task m
+    by (Ok m) = got_left s s.task m (subst IsOnFile (sym e) known)
     by (Err f) = fault_came_left s s.task f
 
 -- with nothing under way nothing ends by it

@@ -1,13 +1,14 @@
 -- A session that its client left gets no new COMMITTMP, and remembers the close that it did.
-use Rattle.std.proofs.Common.{◌⊎◌, inl, inr, ◌≡◌, ℕ, zero, suc, ◌+◌, ◌≤◌, List, [], ◌∷◌, ◌++◌, length, Option, Some, None, Bool, true, false, refl, sym, ap, ◌∙◌, subst, arith, append-nil, map, Result, Ok, Err}
+use Rattle.std.proofs.Common.{◌⊎◌, inl, inr, ◌≡◌, ℕ, zero, suc, ◌+◌, ◌≤◌, List, [], ◌∷◌, ◌++◌, length, Option, Some, None, Bool, true, false, refl, sym, ap, ◌∙◌, subst, arith, append-nil, map, Ok}
 use Rattle.std.proofs.lemmas.List.{length-append}
 use Rattle.server_core.specs.State as server
 use Rattle.server_core.specs.Closing as closing
 use Rattle.server_core.specs.Step as stepping
 use Rattle.client_state.specs.State as client
-use Rattle.open_close.specs.Step.{writes as writes_local}
 use Rattle.register_model.specs.declared.op.Word.TheVariants as words
-use Rattle.kept_promise.proofs.Common.{not, cond, filter, ◌==◌, Command, parse_of, Message, makes_change, got_if, stands, connect, has_room, Change, may_ask, command_step, ended_by, ClientStep, Ended, Task, Opening, Word, word_of, Core, Seat, Session, Event, Event.Joins, Event.Does, Event.Serves, Event.Hears, Event.Settles, Event.Cuts, Event.Hangs, CoreStep, numbered, with_numbered, server_waiting, session_of, serves_if, serves, is_newest, hears_if, hears_at, hears, commanded_session, commanded_sessions, does, joins_as, joins, settles, cut_session, cuts_if, cuts, hangs_if, hangs, happens, closing_with, Moment, unless, Call, Call.Commit, Ask, Told, Queue, ask_message, Loss, Loss.Nothing, Loss.Down_of, Loss.Up_of, no_queue, Wanted}
+use Rattle.path_calls.specs.Walk.{begun}
+use Rattle.client_state.specs.View.{walk_left}
+use Rattle.kept_promise.proofs.Common.{nat_lt, ◌&&◌, not, cond, filter, ◌==◌, Command, parse_of, Message, makes_change, got_if, stands, connect, has_room, Change, may_ask, command_step, ended_by, ClientStep, Ended, Task, Opening, Word, word_of, Core, Seat, Session, Event, Event.Joins, Event.Does, Event.Serves, Event.Hears, Event.Settles, Event.Cuts, Event.Hangs, CoreStep, numbered, with_numbered, server_waiting, session_of, serves_if, serves, is_newest, hears_if, hears_at, hears, commanded_session, commanded_sessions, does, joins_as, joins, settles, cut_session, cuts_if, cuts, hangs_if, hangs, happens, closing_with, Moment, unless, Call, Call.Commit, Ask, Told, Queue, ask_message, Loss, Loss.Nothing, Loss.Down_of, Loss.Up_of, no_queue, Wanted}
 use Rattle.trace_replay.specs.Core.{Loss.Made}
 use Rattle.kept_promise.proofs.StepCases.{command_cases}
 use Rattle.kept_promise.proofs.CallsKeep.{IsCommitCall, IsOfFiles, is_of_files, Waits, got_if_keeps}
@@ -94,12 +95,17 @@ IsSilent r = (r.1.send ≡ []) × ((e : Ended) × (r.1.ended ≡ Some e))
 not_joined : (s : client.State) → s.linked ≡ false → may_ask s ≡ false
 not_joined s e = ap (λ (b : Bool). elim b as (λ (x : Bool). Bool) [ true ↦ Rattle.client_state.specs.Ending.has_xids s.next | false ↦ false ]) e
 
+both_first : (a b : Bool) → (a && b) ≡ true → a ≡ true
+both_first true b e = refl
+both_first false b e = absurd cc
+
 command_silent : (s : client.State) (d : Command) (now : ℕ) → s.linked ≡ false → IsSilent (command_step s d now)
 command_silent s d now off = command_cases IsSilent s d now (record {
   busy = λ t is. (refl, (_, refl));
   answers = λ free opened o plain. (refl, (_, refl));
   fetches = λ file is free may. absurd (true_and_false (may_ask s) may (not_joined s off));
   asks = λ file c is free may at. absurd (true_and_false (may_ask s) may (not_joined s off));
+  walks = λ c is free may. absurd (true_and_false (may_ask s) (both_first (may_ask s) (nat_lt (s.next + 1 + walk_left (begun c)) 4294967296) may) (not_joined s off));
   closes = λ file l is free may at. absurd (true_and_false (may_ask s) may (not_joined s off));
 })
 

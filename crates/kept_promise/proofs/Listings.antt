@@ -238,13 +238,13 @@ comes_opened book k qs n x q t ts j g rests version v bytes cache index r gets c
   shows = stops_open book k qs n x q t ts j g tr (Some m) (told.Opened (length v) (sha1 v)) v opened gets.quiet gets.word refl (told_point book k qs n x q t ts j g rests (Some gets.value) version gets.told_) (λ more grows steps. (
     w,
     record {
-      there = subst (λ l. IsSome (content_of l of.op.file)) (sym grows.opening) (subst (λ (z : ℕ). IsSome (content_of book.opening z)) (sym of.file) gets.known);
       length_is = refl;
       digest_is = refl;
       point = m;
       within = (refl, after, (book.steps + 1, refl, omega (arith, past)));
       value_is = or_later book more None (Some j.place) (v ≡ gets.value) (value_at more of.op.file m ≡ Some v) grows (λ e. ap (λ z. value_at more z m) of.file ∙ value_later book more None (Some j.place) j.file m grows (omega (arith, past)) ∙ gets.told_.value ∙ ap (λ z. Some z) (sym e)) gets.value_is;
     },
+    subst (λ l. IsSome (content_of l of.op.file)) (sym grows.opening) (subst (λ (z : ℕ). IsSome (content_of book.opening z)) (sym of.file) gets.known),
   )) (λ i l e. ok i l e (same_or_not i j.file));
   cached = inl cached;
   state_is = is.state;

@@ -3,7 +3,8 @@ use Rattle.std.proofs.Common.{◌⊎◌, inl, inr, ◌≡◌, ℕ, zero, suc, �
 use Rattle.register_model.specs.declared.op.Outcome.{Outcome}
 use Rattle.register_model.specs.declared.op.Outcome.TheVariants as told
 use Rattle.command_text.specs.declared.command.Command.TheVariants as command
-use Rattle.kept_promise.proofs.Common.{nat_tests, slice_get, slice_set, ◌==◌, ◌&&◌, ◌||◌, nat_lt, if◌then◌else◌, Op, Command, file_of, Moment, Deed, step_of, deed_by, deeds_from, deeds_of, joined_by, joined_from, leaves, after_one, local_from, lasts, is_busy}
+use Rattle.command_text.specs.declared.path.PathCommand.TheVariants as path
+use Rattle.kept_promise.proofs.Common.{nat_tests, slice_get, slice_set, ◌==◌, ◌&&◌, ◌||◌, nat_lt, if◌then◌else◌, Op, Command, Moment, Deed, step_of, deed_by, deeds_from, deeds_of, joined_by, joined_from, leaves, after_one, local_from, lasts, is_busy}
 use Rattle.kept_promise.proofs.Lists.{some_is, nothing_there, true_and_false}
 
 -- ---- moments
@@ -90,28 +91,31 @@ local_more c f l _ _ d o n = absurd (omega (arith, n))
 -- ---- a command of another client, or on another file
 
 pub other_client : (c f : ℕ) (d : Deed) (o : Op) → (d.client ≡ c → ⊥) → Idles c f d o
-other_client c f d o apart l = ap (λ b. if (b && file_of d.command == f) then leaves d.command o.outcome o.value l else l) (ne_eqb d.client c apart)
+other_client c f d o apart l = ap (λ b. if (b && o.file == f) then leaves d.command o.outcome o.value l else l) (ne_eqb d.client c apart)
 
-pub other_file : (c f : ℕ) (d : Deed) (o : Op) → (file_of d.command ≡ f → ⊥) → Idles c f d o
+pub other_file : (c f : ℕ) (d : Deed) (o : Op) → (o.file ≡ f → ⊥) → Idles c f d o
 other_file c f d o apart l = by (d.client == c)
   where
-    by : (b : Bool) → (if (b && file_of d.command == f) then leaves d.command o.outcome o.value l else l) ≡ l
-    by true = ap (λ b. if b then leaves d.command o.outcome o.value l else l) (ne_eqb (file_of d.command) f apart)
+    by : (b : Bool) → (if (b && o.file == f) then leaves d.command o.outcome o.value l else l) ≡ l
+    by true = ap (λ b. if b then leaves d.command o.outcome o.value l else l) (ne_eqb o.file f apart)
     by false = refl
 
-pub its_own : (c f : ℕ) (d : Deed) (o : Op) (l : Option (List ℕ)) → d.client ≡ c → file_of d.command ≡ f → after_one c f d o l ≡ leaves d.command o.outcome o.value l
-its_own c f d o l is at = ap (λ b. if (b && file_of d.command == f) then leaves d.command o.outcome o.value l else l) (eq-eqb d.client c is) ∙ ap (λ b. if b then leaves d.command o.outcome o.value l else l) (eq-eqb (file_of d.command) f at)
+pub its_own : (c f : ℕ) (d : Deed) (o : Op) (l : Option (List ℕ)) → d.client ≡ c → o.file ≡ f → after_one c f d o l ≡ leaves d.command o.outcome o.value l
+its_own c f d o l is at = ap (λ b. if (b && o.file == f) then leaves d.command o.outcome o.value l else l) (eq-eqb d.client c is) ∙ ap (λ b. if b then leaves d.command o.outcome o.value l else l) (eq-eqb o.file f at)
 
 pub idles_by : (c f : ℕ) (d : Deed) (o : Op) → ((l : Option (List ℕ)) → leaves d.command o.outcome o.value l ≡ l) → Idles c f d o
-idles_by c f d o h l = by (d.client == c && file_of d.command == f)
+idles_by c f d o h l = by (d.client == c && o.file == f)
   where
     by : (b : Bool) → (if b then leaves d.command o.outcome o.value l else l) ≡ l
     by true = h l
     by false = refl
 
--- with the same outcome and value the same is left
-pub leaves_alike : (c f : ℕ) (d : Deed) (o r : Op) → r.outcome ≡ o.outcome → r.value ≡ o.value → LeavesSame c f d o r
-leaves_alike c f d o r a b l = ap (λ (z : Outcome). if (d.client == c && file_of d.command == f) then leaves d.command z r.value l else l) a ∙ ap (λ (z : List ℕ). if (d.client == c && file_of d.command == f) then leaves d.command o.outcome z l else l) b
+-- with the same file, outcome and value the same is left
+pub leaves_alike : (c f : ℕ) (d : Deed) (o r : Op) → r.file ≡ o.file → r.outcome ≡ o.outcome → r.value ≡ o.value → LeavesSame c f d o r
+leaves_alike c f d o r g a b l =
+    ap (λ (z : ℕ). if (d.client == c && z == f) then leaves d.command r.outcome r.value l else l) g
+    ∙ ap (λ (z : Outcome). if (d.client == c && o.file == f) then leaves d.command z r.value l else l) a
+    ∙ ap (λ (z : List ℕ). if (d.client == c && o.file == f) then leaves d.command o.outcome z l else l) b
 
 -- an operation that is not done leaves all as it was
 pub leaves_none : (k : Command) (u : Outcome) (v : List ℕ) (l : Option (List ℕ)) → (u ≡ told.Running) ⊎ (u ≡ told.Busy) → leaves k u v l ≡ l
@@ -124,6 +128,8 @@ leaves_none k u v l (inl e) = ap (λ (z : Outcome). leaves k z v l) e ∙ runnin
     running (command.Read f offset count) = refl
     running (command.Close f) = refl
     running (command.Abandon f) = refl
+    running (command.Named (path.Find t)) = refl
+    running (command.Named t) = refl
 leaves_none k u v l (inr e) = ap (λ (z : Outcome). leaves k z v l) e ∙ busy k
   where
     busy : (k : Command) → leaves k told.Busy v l ≡ l
@@ -133,6 +139,8 @@ leaves_none k u v l (inr e) = ap (λ (z : Outcome). leaves k z v l) e ∙ busy k
     busy (command.Read f offset count) = refl
     busy (command.Close f) = refl
     busy (command.Abandon f) = refl
+    busy (command.Named (path.Find t)) = refl
+    busy (command.Named t) = refl
 
 -- ---- busy clients
 

@@ -24,15 +24,19 @@ use Rattle.kept_promise.proofs.Rights.{IsRight, Caused}
 use Rattle.kept_promise.proofs.Fits.{FitLaws}
 use Rattle.kept_promise.proofs.Taken.{times_map_append}
 use Rattle.kept_promise.proofs.Facts.{IsKept, IsSession, IsMatched}
-use Rattle.kept_promise.proofs.RunsCarried.{book_at, moment, Step, Carried}
+use Rattle.kept_promise.proofs.RunsCarried.{book_at, moment, Step, Carried, Finds}
 use Rattle.kept_promise.proofs.Counted.{running_now, running_past}
 use Rattle.kept_promise.proofs.CountedRuns.{no_fault_after}
 use Rattle.kept_promise.proofs.Actors.{job_place, job_task, acts_alone, Heard, heard_at, heard_acts, heard_takes, heard_gives}
-use Rattle.kept_promise.proofs.StepCases.{FetchNow, fronts, command_cases, given_idle}
+use Rattle.kept_promise.proofs.StepCases.{FetchNow, fronts, command_cases, given_idle, IsOfFile}
 use Rattle.kept_promise.proofs.Shapes.{busy_command}
 use Rattle.kept_promise.proofs.VersionRuns.{settled_are, own_op, foreign_at}
 use Rattle.kept_promise.proofs.Taking.{IsApart, tried_from, Taking, apart_in, IsWhole, fetched_now}
 use Rattle.kept_promise.proofs.Logs.{IsSilent, Going, Ending, HaveLogs, logs_kept, deals_silent, deals_apart, deals_own, deals_more, deals_same, deals_alike, deals_early, AreAsBefore, as_before, logs_quiet, Renewed, logs_acts, logs_begins}
+use Rattle.kept_promise.proofs.Found.{file_after, took_finds, command_finds, of_fetch}
+use Rattle.kept_promise.proofs.ServesQuietly.{serves_quiet}
+use Rattle.kept_promise.proofs.PathNames.{IsSmall}
+use Rattle.trace_replay.specs.Ops.{file_with}
 
 -- ---- what is asked
 
@@ -45,12 +49,8 @@ abbrev pub IsUnchanged : History → Type 0
 IsUnchanged u = (first last : ℕ) → u ≡ told.Changed first last → ⊥
 
 -- an operation keeps its file, and its value unless it is an open that got its content
-pub file_stays : (o : Op) (c : client.State) (taken : List TakenCall) (step : ℕ) (acts : ClientStep) → (op_after o c taken step acts).file ≡ o.file
-file_stays o c taken step acts = by acts.ended
-  where
-    by : (e : Option Ended) → (op_after o c taken step (record acts { ended = e })).file ≡ o.file
-    by None = refl
-    by (Some e) = refl
+pub file_stays : (o : Op) (c : client.State) (taken : List TakenCall) (step : ℕ) (acts : ClientStep) → acts.found ≡ None → (op_after o c taken step acts).file ≡ o.file
+file_stays o c taken step acts none = file_after o c taken step acts none
 
 pub value_stays : (o : Op) (c : client.State) (taken : List TakenCall) (step : ℕ) (acts : ClientStep) → IsUnopened (op_after o c taken step acts).outcome → (op_after o c taken step acts).value ≡ o.value
 value_stays o c taken step acts un = by acts.ended un
@@ -66,6 +66,9 @@ value_stays o c taken step acts un = by acts.ended un
 -- what is known as a client takes an answer that its operation waits for, which makes this of it
 pub record Answering (book more : Book) (taken : List TakenCall) (j : Job) (o : Op) (p : ℕ) (s : client.State) (x : ℕ) (b : Body) (r : client.State × ClientStep) : Type 0 where
   pub taking : Taking book more taken j o p
+  -- which is no walk
+  pub known : IsOfFile j.stage
+  pub finds : r.1.found ≡ None
   pub apart : IsApart x j.stage
   pub fetched : (f : Fetch) (bytes : ℕ) → FetchNow j.stage x b f bytes → IsWhole book taken j f
   pub value : stage_word j.stage ≡ words.Close → o.value ≡ client.local_bytes s.opened j.file
@@ -141,13 +144,13 @@ logs_joins P E past k c seat here h = let r = server_step k.server event.Connect
     by s (announced.Session made) = logs_quiet P E past (moment k (Joins c)) k.steps (k.steps + 2) k.seats (with_numbered k.seats c (record seat { client = joined seat.client; session = Some made })) k.ops k.ops silent (omega arith) (joining made) (as_before k.ops) h
     by s _ = logs_quiet P E past (moment k (Joins c)) k.steps (k.steps + 2) k.seats k.seats k.ops k.ops silent (omega arith) (same_seats k.seats) (as_before k.ops) h
 
-pub serves_silent : (k : Core) (n now : ℕ) (bytes : List ℕ) (x : Option Session) → (let t = serves k n now bytes x in (t.up ≡ []) × (t.core.ops ≡ k.ops) × (t.core.seats ≡ k.seats) × (k.steps ≤ t.core.steps))
-serves_silent k n now bytes None = (refl, refl, refl, omega arith)
+pub serves_silent : (k : Core) (n now : ℕ) (bytes : List ℕ) (x : Option Session) → (let t = serves k n now bytes x in (t.up ≡ []) × (t.core.seats ≡ k.seats) × (k.steps ≤ t.core.steps))
+serves_silent k n now bytes None = (refl, refl, omega arith)
 serves_silent k n now bytes (Some x) = by (parse_of server_waiting bytes)
   where
-    by : (m : Result Message WireFault) → (let t = serves_if k n now x m in (t.up ≡ []) × (t.core.ops ≡ k.ops) × (t.core.seats ≡ k.seats) × (k.steps ≤ t.core.steps))
-    by (Ok m) = (refl, refl, refl, omega arith)
-    by (Err e) = (refl, refl, refl, omega arith)
+    by : (m : Result Message WireFault) → (let t = serves_if k n now x m in (t.up ≡ []) × (t.core.seats ≡ k.seats) × (k.steps ≤ t.core.steps))
+    by (Ok m) = (refl, refl, omega arith)
+    by (Err e) = (refl, refl, omega arith)
 
 pub hangs_silent : (k : Core) (n : ℕ) (x : Option Session) → (let t = hangs k n x in (t.up ≡ []) × (t.core.ops ≡ k.ops) × (t.core.seats ≡ k.seats) × (k.steps ≤ t.core.steps))
 hangs_silent k n None = (refl, refl, refl, omega arith)
@@ -157,8 +160,8 @@ hangs_silent k n (Some x) = by x.hung
     by true = (refl, refl, refl, omega arith)
     by false = (refl, refl, refl, omega arith)
 
-logs_serves : (P : Going) (E : Ending) (past : List Moment) (k : Core) (n now : ℕ) (bytes : List ℕ) → LogsAt P E past k → LogsAt P E (past ++ moment k (Serves n now bytes) ∷ []) (happens k (Serves n now bytes)).core
-logs_serves P E past k n now bytes h = let s = serves_silent k n now bytes (numbered k.sessions n) in stays P E past k (happens k (Serves n now bytes)).core (Serves n now bytes) (refl, refl, s.0) s.3 s.2 s.1 h
+logs_serves : FitLaws → (P : Going) (E : Ending) (book : Book) (past : List Moment) (k : Core) (qs : List Queue) (n now : ℕ) (bytes : List ℕ) (mid : List Queue) → IsKept book k qs → Finds k qs (Serves n now bytes) mid → LogsAt P E past k → LogsAt P E (past ++ moment k (Serves n now bytes) ∷ []) (happens k (Serves n now bytes)).core
+logs_serves laws P E book past k qs n now bytes mid kept finds h = let s = serves_quiet laws book k qs n now bytes mid kept finds in stays P E past k (happens k (Serves n now bytes)).core (Serves n now bytes) (refl, refl, s.up) s.passes s.seats s.ops h
 
 logs_hangs : (P : Going) (E : Ending) (past : List Moment) (k : Core) (n : ℕ) → LogsAt P E past k → LogsAt P E (past ++ moment k (Hangs n) ∷ []) (happens k (Hangs n)).core
 logs_hangs P E past k n h = let s = hangs_silent k n (numbered k.sessions n) in stays P E past k (happens k (Hangs n)).core (Hangs n) (refl, refl, s.0) s.3 s.2 s.1 h
@@ -259,12 +262,13 @@ IsFirst file m st = ⊥
 abbrev Asks : Command → client.State × ClientStep → Type 0
 Asks d r = (m : Message) × (st : Stage) × (r.1.ended ≡ None) × (r.1.send ≡ m ∷ []) × (r.0.task ≡ Some (record { file = file_of d; stage = st })) × (stage_word st ≡ word_of d) × IsFirst (file_of d) m st
 
-begins_free : (s : client.State) (d : Command) (now : ℕ) → s.task ≡ None → (let r = command_step s d now in Answers r ⊎ Asks d r)
-begins_free s d now free = command_cases (λ r. Answers r ⊎ Asks d r) s d now (record {
+begins_free : (s : client.State) (d : Command) (now : ℕ) → IsSmall d → s.task ≡ None → (let r = command_step s d now in Answers r ⊎ Asks d r)
+begins_free s d now small free = command_cases (λ r. Answers r ⊎ Asks d r) s d now (record {
   busy = λ t is. nothing_there t (sym free ∙ is);
   answers = λ un opened o plain. inl (refl, (_, refl));
   fetches = λ file is un may. subst (λ (c : Command). let r = asks_kept (fronts s file) file None in Answers r ⊎ Asks c r) (sym is) (inr (hash_call s.next file 0, stage.Hashing 1 s.next, refl, refl, refl, refl, (refl, refl)));
   asks = λ file kept is un may at. subst (λ (c : Command). let r = asks_kept (fronts s file) file (Some kept) in Answers r ⊎ Asks c r) (sym is) (inr (lease_call s.next file, stage.Asking s.next, refl, refl, refl, refl, refl));
+  walks = λ c is un may. absurd (subst IsSmall is small);
   closes = λ file l is un may at. subst (λ (c : Command). let r = asks_temp s file true in Answers r ⊎ Asks c r) (sym is) (inr (make_call s.next s.next_temp file, stage.Making s.next s.next_temp, refl, refl, refl, refl, refl));
 })
 
@@ -288,8 +292,8 @@ pub record IsNew (c : ℕ) (d : Command) (step : ℕ) (acts : ClientStep) (new :
   pub running : acts.ended ≡ None → new.outcome ≡ told.Running
   pub over : (e : ℕ) → new.end ≡ Some e → e ≡ step
 
-pub is_new : (c : ℕ) (d : Command) (value : List ℕ) (step : ℕ) (s : client.State) (acts : ClientStep) → IsNew c d step acts (op_after (begun c (word_of d) (file_of d) value step) s [] step acts)
-is_new c d value step s acts = by acts.ended
+pub is_new : (c : ℕ) (d : Command) (value : List ℕ) (step : ℕ) (s : client.State) (acts : ClientStep) → acts.found ≡ None → IsNew c d step acts (op_after (begun c (word_of d) (file_of d) value step) s [] step acts)
+is_new c d value step s acts none = by acts.ended
   where
     pointless : (b : Bool) (x : ℕ) → point_if b [] x None ≡ None
     pointless true x = refl
@@ -300,11 +304,11 @@ is_new c d value step s acts = by acts.ended
     here (Some e) = grind (arith, Rattle.std.proofs.lemmas.Bool.Decides.nat_tests)
 
     by : (e : Option Ended) → IsNew c d step (record acts { ended = e }) (op_after (begun c (word_of d) (file_of d) value step) s [] step (record acts { ended = e }))
-    by None = record { client = refl; word = refl; file = refl; begin = refl; point = refl; here = here None; running = λ z. refl; over = λ x z. nothing_there x z }
-    by (Some e) = record { client = refl; word = refl; file = refl; begin = refl; point = pointless (has_point (word_of d) e.outcome) e.rests_on; here = here (Some e); running = λ z. nothing_there e (sym z); over = λ x z. sym (some_is step x z) }
+    by None = record { client = refl; word = refl; file = ap (file_with (file_of d)) none; begin = refl; point = refl; here = here None; running = λ z. refl; over = λ x z. nothing_there x z }
+    by (Some e) = record { client = refl; word = refl; file = ap (file_with (file_of d)) none; begin = refl; point = pointless (has_point (word_of d) e.outcome) e.rests_on; here = here (Some e); running = λ z. nothing_there e (sym z); over = λ x z. sym (some_is step x z) }
 
-logs_does : (P : Going) (E : Ending) (all : List Moment) → LogLaws all P E → (book more : Book) (past : List Moment) (k : Core) (qs after : List Queue) (c now : ℕ) (d : Command) (seat : Seat) → IsKept book k qs → numbered k.seats c ≡ Some seat → IsKept more (does k c now d (Some seat)).core after → LogsAt P E past k → LogsAt P E (past ++ moment k (Does c now d) ∷ []) (does k c now d (Some seat)).core
-logs_does P E all laws book more past k qs after c now d seat kept here left h =
+logs_does : (P : Going) (E : Ending) (all : List Moment) → LogLaws all P E → (book more : Book) (past : List Moment) (k : Core) (qs after : List Queue) (c now : ℕ) (d : Command) (seat : Seat) → IsSmall d → IsKept book k qs → numbered k.seats c ≡ Some seat → IsKept more (does k c now d (Some seat)).core after → LogsAt P E past k → LogsAt P E (past ++ moment k (Does c now d) ∷ []) (does k c now d (Some seat)).core
+logs_does P E all laws book more past k qs after c now d seat small kept here left h =
     logs_begins P E past (moment k (Does c now d)) k.steps k.seats k.ops c (record seat { client = r.0; place = place_with seat.place (length k.ops) r.1.ended }) new refl others within_all (mine (kept.seats c seat here).matched) (each (kept.seats c seat here).matched) h
   where
     r : client.State × ClientStep
@@ -317,7 +321,7 @@ logs_does P E all laws book more past k qs after c now d seat kept here left h =
     new = op_after (begun c (word_of d) (file_of d) (value_at_begin seat.client (word_of d) (file_of d) (command_step seat.client d now).1.ended) (k.steps + 1)) (command_step seat.client d now).0 [] (k.steps + 1) (command_step seat.client d now).1
 
     is : IsNew c d (k.steps + 1) (command_step seat.client d now).1 (op_after (begun c (word_of d) (file_of d) (value_at_begin seat.client (word_of d) (file_of d) (command_step seat.client d now).1.ended) (k.steps + 1)) (command_step seat.client d now).0 [] (k.steps + 1) (command_step seat.client d now).1)
-    is = is_new c d (value_at_begin seat.client (word_of d) (file_of d) (command_step seat.client d now).1.ended) (k.steps + 1) (command_step seat.client d now).0 (command_step seat.client d now).1
+    is = is_new c d (value_at_begin seat.client (word_of d) (file_of d) (command_step seat.client d now).1.ended) (k.steps + 1) (command_step seat.client d now).0 (command_step seat.client d now).1 (command_finds seat.client d now small)
 
     sent : (happens k (Does c now d)).up ≡ (command_step seat.client d now).1.send
     sent = ap (λ (o : Option Seat). (does k c now d o).up) here
@@ -379,7 +383,7 @@ logs_does P E all laws book more past k qs after c now d seat kept here left h =
 
     each : IsMatched seat → E (deals_of (op_after (begun c (word_of d) (file_of d) (value_at_begin seat.client (word_of d) (file_of d) (command_step seat.client d now).1.ended) (k.steps + 1)) (command_step seat.client d now).0 [] (k.steps + 1) (command_step seat.client d now).1) (past ++ moment k (Does c now d) ∷ [])) new.word new.file new.value new.outcome
     each (inr m) = nothing (busy_command seat.client d now (record { file = m.0.file; stage = m.0.stage }) (job_task seat.place seat.client.task m.0 m.1)).0
-    each (inl m) = by (begins_free seat.client d now m.1)
+    each (inl m) = by (begins_free seat.client d now small m.1)
       where
         by : (let r = command_step seat.client d now in Answers r ⊎ Asks d r) → E (deals_of (op_after (begun c (word_of d) (file_of d) (value_at_begin seat.client (word_of d) (file_of d) (command_step seat.client d now).1.ended) (k.steps + 1)) (command_step seat.client d now).0 [] (k.steps + 1) (command_step seat.client d now).1) (past ++ moment k (Does c now d) ∷ [])) new.word new.file new.value new.outcome
         by (inl a) = nothing a.0
@@ -399,7 +403,7 @@ logs_does P E all laws book more past k qs after c now d seat kept here left h =
         was : (l : Option ℕ) → l ≡ Some m.0.place → job_of (place_with l (length k.ops) (command_step seat.client d now).1.ended) seat.client.task ≡ Some j → job_of l seat.client.task ≡ Some j
         was None w q = nothing_there m.0.place w
         was (Some p) w q = q
-    mine (inl m) j o is_job at = by (begins_free seat.client d now m.1)
+    mine (inl m) j o is_job at = by (begins_free seat.client d now small m.1)
       where
         none_with : (l : Option ℕ) (e : Option Ended) (x : Ended) → l ≡ None → e ≡ Some x → job_of (place_with l (length k.ops) e) (command_step seat.client d now).0.task ≡ Some j → ⊥
         none_with None None x a b q = nothing_there x b
@@ -430,10 +434,10 @@ logs_does P E all laws book more past k qs after c now d seat kept here left h =
 abbrev Comes : (P : Going) (E : Ending) (more : Book) (ops : List Op) (p : ℕ) → Op → List TakenCall → (steps : ℕ) → List Deal → client.State × ClientStep → List Message → (found : List (ℕ × ℕ)) → Type 0
 Comes P E more ops p o taken n log got ms found = more.ops ≡ slice_set ops p (op_after o got.0 taken (n + 1) got.1) → IsRight more (op_after o got.0 taken (n + 1) got.1) → After P E (log ++ deals_with ms found got.1.send) got (op_after o got.0 taken (n + 1) got.1)
 
-answered : (P : Going) (E : Ending) (all : List Moment) → LogLaws all P E → (book more : Book) (taken : List TakenCall) (j : Job) (o : Op) (p : ℕ) (c : client.State) (x : ℕ) (b : Body) (log : List Deal) → book.moments ≡ all → c.task ≡ Some (record { file = j.file; stage = j.stage }) → P log o.file o.value j.stage → E log o.word o.file o.value o.outcome
-    → ((got : client.State × ClientStep) → client.has_call (client.pending_in j.stage) x ≡ true → more.ops ≡ slice_set book.ops p (op_after o got.0 taken (book.steps + 1) got.1) → IsRight more (op_after o got.0 taken (book.steps + 1) got.1) → Answering book more taken j o p c x b got)
+answered : (P : Going) (E : Ending) (all : List Moment) → LogLaws all P E → (book more : Book) (taken : List TakenCall) (j : Job) (o : Op) (p : ℕ) (c : client.State) (x : ℕ) (b : Body) (log : List Deal) → book.moments ≡ all → IsOfFile j.stage → c.task ≡ Some (record { file = j.file; stage = j.stage }) → P log o.file o.value j.stage → E log o.word o.file o.value o.outcome
+    → ((got : client.State × ClientStep) → client.has_call (client.pending_in j.stage) x ≡ true → more.ops ≡ slice_set book.ops p (op_after o got.0 taken (book.steps + 1) got.1) → IsRight more (op_after o got.0 taken (book.steps + 1) got.1) → got.1.found ≡ None → Answering book more taken j o p c x b got)
     → Comes P E more book.ops p o taken book.steps log (got_message c c.task (message.Answer x b)) (wanted_by c (Ok (message.Answer x b))) (given_by_message c (Ok (message.Answer x b)))
-answered P E all laws book more taken j o p c x b log all_is task was each known =
+answered P E all laws book more taken j o p c x b log all_is of_file task was each known =
     subst (λ (t : Option Task). Comes P E more book.ops p o taken book.steps log (took_if c t x b (client.has_call (client.pending t) x)) (wanted_if (client.has_call (client.pending t) x) (message.Answer x b)) (given_in c (reading t (message.Answer x b)))) (sym task) (by (client.has_call (client.pending_in j.stage) x) refl)
   where
     dropped : (forgotten : Bool) → Comes P E more book.ops p o taken book.steps log (drops c (Some (record { file = j.file; stage = j.stage })) x forgotten) [] []
@@ -446,7 +450,7 @@ answered P E all laws book more taken j o p c x b log all_is task was each known
     by : (own : Bool) → client.has_call (client.pending_in j.stage) x ≡ own → Comes P E more book.ops p o taken book.steps log (took_if c (Some (record { file = j.file; stage = j.stage })) x b own) (wanted_if own (message.Answer x b)) (given_in c (reading_if (record { file = j.file; stage = j.stage }) x b own))
     by true own ops right =
         let got = took (idle c) (client.calls_of c) j.file j.stage x b in
-        subst (λ (l : List (ℕ × ℕ)). Answered P E book taken o log x b l got) (given_idle c (with_file j.file (reading_by j.stage x b))) (laws.heard book more taken j o p c x b all_is (known got own ops right) log was)
+        subst (λ (l : List (ℕ × ℕ)). Answered P E book taken o log x b l got) (given_idle c (with_file j.file (reading_by j.stage x b))) (laws.heard book more taken j o p c x b all_is (known got own ops right (took_finds (idle c) (client.calls_of c) j.file j.stage x b of_file)) log was)
     by false own ops right = dropped (client.has_call c.forgotten x) ops right
 
 logs_hears : (P : Going) (E : Ending) (all : List Moment) → LogLaws all P E → FitLaws → (opening : List Opening) (past : List Moment) (k : Core) (qs after : List Queue) (n now : ℕ) (bytes : List ℕ) (mid : List Queue) → IsKept (book_at opening k all) k qs → (h : Heard k qs n now bytes mid)
@@ -509,7 +513,9 @@ logs_hears P E all laws fits opening past k qs after n now bytes mid kept h left
         let close = subst (λ (z : Seat). CloseOf book h.session.closing s.contents z.client.next_temp j (client.local_bytes z.client.opened j.file) j.stage) same_seat (s.closes h.uncut j job_is) in
         let value = value_by book h.session.closing s.contents h.seat.client.next_temp j o (client.local_bytes h.seat.client.opened j.file) at_place j.stage close in
         let log = log_is o new (running_past o r.0 taken k.steps r.1 actor.1) (running_now o r.0 taken k.steps h.session.owner r.1 actor.0 actor.1 actor.2) in
-        let a = answered P E all laws book more taken j o p h.seat.client h.told.xid (reply_body h.told.reply) (deals_of o past) refl task (before.jobs h.session.owner h.seat j o h.owner w.1 at_place) (before.each p o at) (λ got mine ops_got right_got. record {
+        let a = answered P E all laws book more taken j o p h.seat.client h.told.xid (reply_body h.told.reply) (deals_of o past) refl (of_fetch book taken j j.stage fetch) task (before.jobs h.session.owner h.seat j o h.owner w.1 at_place) (before.each p o at) (λ got mine ops_got right_got finds. record {
+          known = of_fetch book taken j j.stage fetch;
+          finds = finds;
           taking = record { at = at_place; place = w.2; file = w.5; word = word; running = w.4; fetch = fetch; trying = trying; opening = refl };
           apart = apart;
           fetched = fetched_now book taken h.session.closing j h.told.xid h.told.reply kept.sound fetch answer mine;
@@ -531,6 +537,7 @@ logs_hears P E all laws fits opening past k qs after n now bytes mid kept h left
         value_by book closing contents m j o v at (stage.Hashing tries x) h is = absurd cc
         value_by book closing contents m j o v at (stage.Listing x f) h is = absurd cc
         value_by book closing contents m j o v at (stage.Reading f) h is = absurd cc
+        value_by book closing contents m j o v at (stage.Walking x w) h is = absurd cc
 
         log_is : (o new : Op) → Rattle.kept_promise.proofs.Counted.AlikeUpTo k.steps o new → is_in new (k.steps + 1) h.session.owner ≡ true → deals_of new (past ++ moment k (Hears n now bytes) ∷ []) ≡ deals_of o past ++ deals_with (wanted_by h.seat.client (Ok (told_message h.told))) (given_by_message h.seat.client (Ok (told_message h.told))) (got_step h.seat.client (Ok (told_message h.told)) now).1.send
         log_is o new same now_in =
@@ -548,8 +555,8 @@ logs_hears P E all laws fits opening past k qs after n now bytes mid kept h left
 
 logs_event : (P : Going) (E : Ending) (all : List Moment) → LogLaws all P E → FitLaws → (past rest : List Moment) (opening : List Opening) (k : Core) (qs : List Queue) (e : Event) (mid after : List Queue) → Step all past rest opening k qs e mid after → LogsAt P E past k → LogsAt P E (past ++ moment k e ∷ []) (happens k e).core
 logs_event P E all laws fits past rest opening k qs (Joins c) mid after s h = subst (λ (o : Option Seat). LogsAt P E (past ++ moment k (Joins c) ∷ []) (joins k c o).core) (sym s.finds.1) (logs_joins P E past k c s.finds.0 s.finds.1 h)
-logs_event P E all laws fits past rest opening k qs (Does c now d) mid after s h = subst (λ (o : Option Seat). IsKept (book_at opening (does k c now d o).core all) (does k c now d o).core after → LogsAt P E (past ++ moment k (Does c now d) ∷ []) (does k c now d o).core) (sym s.finds.1) (λ left. logs_does P E all laws (book_at opening k all) (book_at opening (does k c now d (Some s.finds.0)).core all) past k qs after c now d s.finds.0 s.kept s.finds.1 left h) s.left
-logs_event P E all laws fits past rest opening k qs (Serves n now bytes) mid after s h = logs_serves P E past k n now bytes h
+logs_event P E all laws fits past rest opening k qs (Does c now d) mid after s h = subst (λ (o : Option Seat). IsKept (book_at opening (does k c now d o).core all) (does k c now d o).core after → LogsAt P E (past ++ moment k (Does c now d) ∷ []) (does k c now d o).core) (sym s.finds.1) (λ left. logs_does P E all laws (book_at opening k all) (book_at opening (does k c now d (Some s.finds.0)).core all) past k qs after c now d s.finds.0 s.finds.2 s.kept s.finds.1 left h) s.left
+logs_event P E all laws fits past rest opening k qs (Serves n now bytes) mid after s h = logs_serves fits P E (book_at opening k all) past k qs n now bytes mid s.kept s.finds h
 logs_event P E all laws fits past rest opening k qs (Hears n now bytes) mid after s h = logs_hears P E all laws fits opening past k qs after n now bytes mid s.kept (heard_at (book_at opening k all) k qs n now bytes mid s.kept s.finds) s.left h
 logs_event P E all laws fits past rest opening k qs (Settles now) mid after s h = logs_settles P E (book_at opening k all) past k qs now s.kept h
 logs_event P E all laws fits past rest opening k qs (Cuts c) mid after s h = subst (λ (o : Option Seat). LogsAt P E (past ++ moment k (Cuts c) ∷ []) (cuts k c o).core) (sym s.finds.1) (logs_cuts P E all laws (book_at opening k all) past k qs c s.finds.0 s.kept s.finds.1 h)

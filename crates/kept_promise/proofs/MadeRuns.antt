@@ -1,20 +1,26 @@
 -- A run carries that each change of the journal was made at a moment at which the server was told to make one, that it was the first that waited then,
 -- and whose close it is; and that a settling makes the first that waits.
-use Rattle.std.proofs.Common.{inl, inr, ◌≡◌, ℕ, ◌+◌, List, [], ◌∷◌, ◌++◌, length, Option, Some, None, Result, Ok, Err, Bool, true, false, refl, sym, ap, ◌∙◌, subst, arith, append-nil, replicate}
+use Rattle.std.proofs.Common.{inl, inr, ◌≡◌, ℕ, ◌+◌, List, [], ◌∷◌, ◌++◌, length, drop, Option, Some, None, Result, Bool, true, false, refl, sym, ap, ◌∙◌, subst, arith, append-nil, replicate}
 use Rattle.server_core.specs.Closing.{at as at_reading, settles as server_settles}
 use Rattle.server_core.specs.State as server
 use Rattle.server_core.specs.Step.{hangs_if as server_hangs_if}
 use Rattle.client_state.specs.State as client
 use Rattle.register_model.specs.declared.op.Word.TheVariants as words
+use Rattle.server_core.specs.declared.change.Wanted.{Wanted}
+use Rattle.server_core.specs.declared.change.Wanted.TheVariants as wanted
+use Rattle.server_core.specs.declared.event.Told.TheVariants as announced
+use Rattle.trace_replay.specs.Core.{entries_since}
+use Rattle.trace_replay.specs.Ops.{changed_file}
 use Rattle.trace_replay.specs.Faithful.{IsSettled, SettlesFirst}
-use Rattle.kept_promise.proofs.Common.{Contains-push_cases, slice_get, slice_set, Contains, parse_of, WireFault, Message, makes_change, connect, has_room, stands, Change, ServerStep, File, Entry, ClientStep, Ended, Op, Opening, content_of, TakenCall, has_point, op_after, Core, Seat, Session, Event, Event.Joins, Event.Does, Event.Serves, Event.Hears, Event.Settles, Event.Cuts, Event.Hangs, CoreStep, numbered, server_waiting, serves_if, serves, joins_as, joins, does, cuts_if, cuts, hangs_if, hangs, ops_with, settles, happens, Moment, step_of, Book, Queue, ask_message}
+use Rattle.kept_promise.proofs.Common.{Contains-push_cases, slice_get, slice_set, Contains, WireFault, Message, makes_change, connect, has_room, stands, Change, ServerStep, File, Entry, ClientStep, Ended, Op, Opening, TakenCall, has_point, op_after, Core, Seat, Session, Event, Event.Joins, Event.Does, Event.Serves, Event.Hears, Event.Settles, Event.Cuts, Event.Hangs, CoreStep, numbered, serves_if, serves, joins_as, joins, does, cuts_if, cuts, hangs_if, hangs, ops_with, settles, happens, Moment, step_of, Book, Queue, ask_message}
 use Rattle.kept_promise.proofs.Lists.{some_is, nothing_there, at_end, at_replaced, kept_appended, of_appended, same_or_not, set_else}
 use Rattle.kept_promise.proofs.Turns.{also_numbered}
-use Rattle.kept_promise.proofs.Facts.{IsKept, FileIs}
+use Rattle.kept_promise.proofs.Facts.{IsKept}
 use Rattle.kept_promise.proofs.RunsCarried.{book_at, moment, Step, Carried}
 use Rattle.kept_promise.proofs.Actors.{heard_at, serves_read}
 use Rattle.kept_promise.proofs.Fits.{FitLaws}
 use Rattle.kept_promise.proofs.CallsKeep.{is_of_files, got_keeps}
+use Rattle.kept_promise.proofs.ServesFiles.{got_quiet, one_since}
 use Rattle.kept_promise.proofs.Promised.{own_there}
 use Rattle.kept_promise.proofs.Rights.{IsRight}
 use Rattle.kept_promise.proofs.VersionRuns.{close_not_opened}
@@ -82,7 +88,7 @@ quiet_event laws all past rest opening k qs (Serves n now bytes) mid after s non
 
     by : (x : Option Session) → Quietly k (serves k n now bytes x)
     by None = (refl, refl, same_points k.ops)
-    by (Some x) = subst (λ (r : Result Message WireFault). Quietly k (serves_if k n now x r)) (sym (serves_read laws (book_at opening k all) k qs n now bytes mid s.kept s.finds)) (refl, got_keeps (λ z. z.journal ≡ k.server.journal) k.server n m now (is_of_files s.finds.1) (λ temps waiting index moment w. refl), same_points k.ops)
+    by (Some x) = subst (λ (r : Result Message WireFault). Quietly k (serves_if k n now x r)) (sym (serves_read laws (book_at opening k all) k qs n now bytes mid s.kept s.finds)) (subst (λ (t : CoreStep). Quietly k t) (sym (got_quiet k n now x m (is_of_files s.finds.1))) (refl, got_keeps (λ z. z.journal ≡ k.server.journal) k.server n m now (is_of_files s.finds.1) (λ temps waiting index moment w. refl), same_points k.ops))
 quiet_event laws all past rest opening k qs (Hears n now bytes) mid after s none =
     let h = heard_at (book_at opening k all) k qs n now bytes mid s.kept s.finds in
     let rights = subst (λ (t : CoreStep). (j : ℕ) (r : Op) → slice_get t.core.ops j ≡ Some r → IsRight (book_at opening (happens k (Hears n now bytes)).core all) r) h.hears_is (left_rights all opening (happens k (Hears n now bytes)).core after s.left) in
@@ -109,9 +115,13 @@ quiet_event laws all past rest opening k qs (Hangs n) mid after s none = by (num
 
 -- ---- what is carried
 
+-- where changes wait, a settling makes the one that came first, in its own step
+abbrev pub MakesFirst : Book → Type 0
+MakesFirst book = (m : Moment) (now : ℕ) (c : Change) → Contains book.moments m → m.event ≡ Settles now → slice_get m.before.server.waiting 0 ≡ Some c → slice_get book.entries (length m.before.server.journal) ≡ Some (step_of m)
+
 pub record AreMade (opening : List Opening) (all past : List Moment) (k : Core) : Type 0 where
   pub settled : (i p : ℕ) → slice_get k.entries i ≡ Some p → IsSettled (book_at opening k all) i p
-  pub first : SettlesFirst (book_at opening k past)
+  pub first : MakesFirst (book_at opening k past)
 
 -- it stays once a journal has grown
 settled_later : (opening : List Opening) (all : List Moment) (k l : Core) (i p : ℕ) → ((e : Entry) → slice_get k.server.journal i ≡ Some e → slice_get l.server.journal i ≡ Some e) → KeepsPoints k.ops l.ops → IsSettled (book_at opening k all) i p → IsSettled (book_at opening l all) i p
@@ -158,12 +168,12 @@ made_quietly opening all past k e none q h = record {
 
 -- what a settling leaves, by what the server did
 abbrev left_by : Core → server.State × ServerStep → Core
-left_by k r = record k { steps = k.steps + 1; server = r.0; ops = Rattle.trace_replay.specs.Core.settled_by k r.1.entries r.1.told; entries = k.entries ++ replicate r.1.entries (k.steps + 1) }
+left_by k r = record k { steps = k.steps + 1; server = r.0; ops = Rattle.trace_replay.specs.Core.settled_by k (changed_file (entries_since k.server r.0)) r.1.told; entries = k.entries ++ replicate r.1.entries (k.steps + 1) }
 
 -- a close that had no point gets one
-pointed_points : (ops : List Op) (place step : ℕ) (o : Op) → slice_get ops place ≡ Some o → o.point ≡ None → KeepsPoints ops (slice_set ops place (record o { point = Some step }))
-pointed_points ops place step o there none j p r at word point = elim (same_or_not j place) [
-  | inr apart ↦ (r, else_at ops place j (record o { point = Some step }) apart ∙ at, refl, word, point, refl)
+pointed_points : (ops : List Op) (place file step : ℕ) (o : Op) → slice_get ops place ≡ Some o → o.point ≡ None → KeepsPoints ops (slice_set ops place (record o { file = file; point = Some step }))
+pointed_points ops place file step o there none j p r at word point = elim (same_or_not j place) [
+  | inr apart ↦ (r, else_at ops place j (record o { file = file; point = Some step }) apart ∙ at, refl, word, point, refl)
   | inl same ↦ nothing_there p (sym none ∙ ap (λ (z : Op). z.point) (some_is o r (sym there ∙ ap (slice_get ops) (sym same) ∙ at)) ∙ point)
 ]
 
@@ -197,11 +207,14 @@ made_settling all past rest opening k qs now mid after s h = by k.server.waiting
         let x = kept.sessions c.session home.0 q.0 home.1 q.1 in
         let pending = x.pending mine.0 c mine.1 in
         let old = x.old pending.place pending.known in
-        let op : Op = record pending.op { point = Some (k.steps + 1) } in
+        let op : Op = record pending.op { file = c.file; point = Some (k.steps + 1) } in
         let made_op : slice_get (slice_set k.ops pending.place op) pending.place ≡ Some op = at_replaced k.ops pending.place op pending.op pending.there in
         let ops_are : (left_by k (made_change (at_reading (record k.server { waiting = cs }) now) c (content_wanted c.what) f)).ops ≡ slice_set k.ops pending.place op =
-        ap (Rattle.trace_replay.specs.Core.settled_ops k.ops 1 (k.steps + 1)) home.1 ∙ ap (λ l. Rattle.trace_replay.specs.Ops.pointed_at k.ops l (k.steps + 1)) pending.known ∙ ap (Rattle.trace_replay.specs.Ops.pointed k.ops pending.place (k.steps + 1)) pending.there in
-        let points : KeepsPoints k.ops (left_by k (made_change (at_reading (record k.server { waiting = cs }) now) c (content_wanted c.what) f)).ops = subst (KeepsPoints k.ops) (sym ops_are) (pointed_points k.ops pending.place (k.steps + 1) pending.op pending.there pending.unmade.1) in
+        ap (λ (z : Option ℕ). Rattle.trace_replay.specs.Core.settled_by k z (announced.Settled c.session c.xid)) (one_since k.server (made_change (at_reading (record k.server { waiting = cs }) now) c (content_wanted c.what) f).0 (entry_of c (content_wanted c.what) f) refl)
+        ∙ ap (Rattle.trace_replay.specs.Core.settled_ops k.ops (k.steps + 1) (Some c.file)) home.1
+        ∙ ap (λ l. Rattle.trace_replay.specs.Ops.pointed_at k.ops l (k.steps + 1) (Some c.file)) pending.known
+        ∙ ap (Rattle.trace_replay.specs.Ops.pointed k.ops pending.place c.file (k.steps + 1)) pending.there in
+        let points : KeepsPoints k.ops (left_by k (made_change (at_reading (record k.server { waiting = cs }) now) c (content_wanted c.what) f)).ops = subst (KeepsPoints k.ops) (sym ops_are) (pointed_points k.ops pending.place c.file (k.steps + 1) pending.op pending.there pending.unmade.1) in
         record {
           settled = λ i p at. elim (of_appended k.entries (k.steps + 1) i p at) [
             | inr was ↦ settled_later opening all k (left_by k (made_change (at_reading (record k.server { waiting = cs }) now) c (content_wanted c.what) f)) i p (λ y had. kept_appended k.server.journal (entry_of c (content_wanted c.what) f) i y had) points (h.settled i p was)
@@ -263,3 +276,16 @@ carried_settled laws = record {
   steps = λ all past rest opening k qs e mid after s h. settled_event laws all past rest opening k qs e mid after s h;
   adjusts = λ all past opening k qs index seats same h. record { settled = h.settled; first = h.first };
 }
+
+-- ---- what the promise says of settlings
+
+settles_left : (s : server.State) (now : ℕ) (waiting : List Change) (c : Change) → slice_get waiting 0 ≡ Some c → (server_settles s now waiting).0.waiting ≡ drop 1 waiting
+settles_left s now [] c at = nothing_there c at
+settles_left s now (d ∷ ds) c at = by d.what
+  where
+    by : (a : Wanted) → (makes_change (at_reading (record s { waiting = ds }) now) d a).0.waiting ≡ ds
+    by (wanted.Content x) = refl
+    by (wanted.Asked a) = refl
+
+pub settles_first : (book : Book) → MakesFirst book → SettlesFirst book
+settles_first book h = λ m now c there is at. (ap (λ (e : Event). (happens m.before e).core.server.waiting) is ∙ settles_left m.before.server now m.before.server.waiting c at, inl (h m now c there is at))

@@ -1,5 +1,5 @@
 -- A commit that waits is made once it is the first: its file is there, and it has its room.
-use Rattle.std.proofs.Common.{◌≡◌, ℕ, zero, suc, ◌+◌, ◌≤◌, List, [], ◌∷◌, ◌++◌, length, Option, Some, None, refl, sym, ap, ◌∙◌, subst, arith, IsSome}
+use Rattle.std.proofs.Common.{◌≡◌, ℕ, ◌+◌, List, [], ◌∷◌, ◌++◌, length, Option, Some, None, refl, sym, ap, ◌∙◌, subst, arith, IsSome}
 use Rattle.chunk_places.specs.Places.{indexed}
 use Rattle.file_tree.specs.Step.{replaced, commit_entry}
 use Rattle.hash_calls.specs.declared.message.Lb.TheVariants as lb
@@ -9,7 +9,7 @@ use Rattle.server_core.specs.Closing.{committed_by, told_change}
 use Rattle.kept_promise.proofs.Common.{slice_get, chunks_of, Done, makes_change, at, entry_by, Change, ServerStep, File, Entry, Value, content_of, Book}
 use Rattle.kept_promise.proofs.Lists.{nothing_there}
 use Rattle.kept_promise.proofs.Messages.{content_wanted}
-use Rattle.kept_promise.proofs.TreeCalls.{HasRoom, commits_made}
+use Rattle.server_law.proofs.TreeCalls.{HasRoom, commits_made}
 use Rattle.kept_promise.proofs.Facts.{FileIs, IsServer}
 
 -- what the journal tells of it

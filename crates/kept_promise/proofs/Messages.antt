@@ -1,12 +1,16 @@
 -- What holds of a call and of an answer on its way, if its owner waits for it.
-use Rattle.std.proofs.Common.{◌≡◌, ℕ, suc, ◌+◌, ◌<◌, ◌≤◌, List, [], ◌∷◌, ◌⊎◌, Option, Some, None, Bool, false, length, take, drop, IsSome}
+use Rattle.std.proofs.Common.{◌≡◌, ℕ, suc, ◌+◌, ◌<◌, ◌≤◌, List, [], ◌∷◌, ◌⊎◌, Option, Some, None, Ok, Bool, false, length, take, drop, IsSome}
 use Rattle.hash_calls.specs.declared.call.Leased.{Leased}
 use Rattle.xdr_codec.specs.declared.status.Status.TheVariants as status
 use Rattle.hash_calls.specs.declared.message.Lb.TheVariants as lb
 use Rattle.wire.specs.declared.message.Body.TheVariants as body
 use Rattle.client_state.specs.declared.task.Stage.TheVariants as stage
 use Rattle.register_model.specs.declared.op.Word.TheVariants as words
+use Rattle.tree_nodes.specs.declared.node.Node.{Node}
+use Rattle.file_tree.specs.Tree.{directory_of}
 use Rattle.trace_replay.specs.Causes.{TakesCall}
+use Rattle.trace_replay.specs.Naming.{tree_at}
+use Rattle.trace_replay.specs.Trail.{Moment, step_of}
 use Rattle.kept_promise.proofs.Common.{handle_bytes, Body, slice_get, cond, Status, Collides, ◌==◌, Contains, chunk_bytes, end_of, chunks_of, Chunk, Answer, Done, Failed, Attr, Committed, Hashes, HashRange, Piece, Range, hashes_of, piece_of, told_chunks, File, read_at, Fetch, ReadCall, Stage, Store, StoreCall, Task, Value, content_of, Op, Word, TakenCall, Seat, taken_at, hashed_of, sha1, Book, Or, value_at, version_at, Tried, Call, Call.Lease, Call.Hash, Call.Read, Call.Make, Call.Name, Call.Send, Call.Commit, Reply, Reply.Versioned, Reply.Hashed, Reply.Bytes, Reply.Changed, Ask, Told, Wanted}
 use Rattle.kept_promise.proofs.Rights.{IsHeld, IsUnmade, IsMade}
 use Rattle.server_core.specs.declared.change.Wanted.TheVariants as wanted
@@ -149,9 +153,23 @@ pub record IsHashed (book : Book) (taken : List TakenCall) (j : Job) (xid offset
   pub known : IsSome (content_of book.opening j.file)
   pub hashed : (i : ℕ) (c : Chunk) → slice_get (told_chunks file.content (range_from offset)) i ≡ Some c → Contains (hashed_of book.moments) (chunk_bytes file.content c)
 
--- the root is a directory, and any other file that is refused wasn't there then
+-- the call with this xid was taken within the job's operation, at a moment at which its id was that of a directory
+pub record NamesDirectory (book : Book) (taken : List TakenCall) (j : Job) (xid : ℕ) : Type 0 where
+  pub at : Moment
+  pub noted : Contains book.moments at
+  pub moment : ℕ
+  pub step_is : step_of at ≡ moment
+  pub was : taken_at taken xid ≡ Some moment
+  pub past : moment ≤ book.steps
+  pub op : Op
+  pub there : slice_get book.ops j.place ≡ Some op
+  pub after : op.begin ≤ moment
+  pub node : Node
+  pub node_is : directory_of (tree_at at).nodes j.file ≡ Ok node
+
+-- what is refused was a directory then, or wasn't there
 abbrev pub RefusedTold : Book → List TakenCall → Job → (xid : ℕ) → Status → Type 0
-RefusedTold book taken j xid s = ((s ≡ status.IsDir) × (j.file ≡ 1)) ⊎ (((s ≡ status.Stale) × (j.file ≡ 1 → ⊥)) × (content_of book.opening j.file ≡ None) × ((version : ℕ) × IsTold book taken j xid None version))
+RefusedTold book taken j xid s = ((s ≡ status.IsDir) × NamesDirectory book taken j xid) ⊎ ((s ≡ status.Stale) × ((version : ℕ) × IsTold book taken j xid None version))
 
 abbrev pub HashTold : Book → List TakenCall → Job → (xid offset : ℕ) → Answer Hashes Unit → Type 0
 HashTold book taken j xid offset (Failed s u) = RefusedTold book taken j xid s
@@ -243,6 +261,8 @@ pub record IsReading (book : Book) (content : List ℕ) (f : Fetch) : Type 0 whe
 abbrev pub FetchOf : Book → List TakenCall → Job → Stage → Type 0
 FetchOf book taken j (stage.Listing x f) = IsFetch book taken j f × (f.asked ≡ 0) × (f.under ≡ [])
 FetchOf book taken j (stage.Reading f) = (h : IsFetch book taken j f) × IsReading book h.file.content f
+-- no command on names is given: a walk is not under way
+FetchOf book taken j (stage.Walking x w) = ⊥
 FetchOf book taken j _ = Unit {0}
 
 abbrev pub HasFetch : Book → List TakenCall → Option Job → Type 0

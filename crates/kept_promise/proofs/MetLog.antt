@@ -18,7 +18,7 @@ use Rattle.kept_promise.proofs.Lists.{some_is, nothing_there}
 use Rattle.kept_promise.proofs.Messages.{Job, stage_word}
 use Rattle.kept_promise.proofs.Rights.{IsRight, Caused}
 use Rattle.kept_promise.proofs.VersionRuns.{word_after}
-use Rattle.kept_promise.proofs.StepCases.{reads_keep, FetchIn, FetchNow, FetchNow.all_told, FetchNow.one_came, GaveUp, IsChangedBy, reads_of, open_and_close, OfOpens, of_opens, took_cases}
+use Rattle.kept_promise.proofs.StepCases.{reads_keep, FetchIn, FetchNow, FetchNow.all_told, FetchNow.one_came, GaveUp, IsChangedBy, reads_of, open_and_close, OfOpens, of_opens, took_cases, IsOfFile, fetch_known}
 use Rattle.kept_promise.proofs.Logs.{Going, Ending}
 use Rattle.kept_promise.proofs.LogSums.{sent_more, begins_in, attempts_log}
 use Rattle.kept_promise.proofs.LogEvents.{IsUnchanged, Answering, Answered, found_in, LogLaws}
@@ -43,6 +43,7 @@ MeetsBy log file v (stage.Asking x) = attempts_in log ≡ no_attempt
 MeetsBy log file v (stage.Hashing tries x) = Tries (attempts_in log) tries new_attempt
 MeetsBy log file v (stage.Listing x f) = Told (attempts_in log) f.tries f.version
 MeetsBy log file v (stage.Reading f) = Told (attempts_in log) f.tries f.version
+MeetsBy log file v (stage.Walking x w) = ⊥
 MeetsBy log file v st = Unit {0}
 
 abbrev pub Met : List Deal → History → Type 0
@@ -147,6 +148,7 @@ all_met log file v (stage.Asking x) p w = subst Fine (sym p) (tt, omega arith)
 all_met log file v (stage.Hashing tries x) p w = tries_fine (attempts_in log) tries new_attempt p
 all_met log file v (stage.Listing x f) p w = tries_fine (attempts_in log) f.tries _ p.1
 all_met log file v (stage.Reading f) p w = tries_fine (attempts_in log) f.tries _ p.1
+all_met log file v (stage.Walking y z) p w = absurd p
 all_met log file v st p w = absurd cc
 
 -- what a step leaves of an open
@@ -309,8 +311,11 @@ meets_heard book more taken j o p s x b a log h = record {
     log2 : List Deal
     log2 = log ++ deals_with (message.Answer x b ∷ []) (found_in s j.file j.stage x b) (took (idle s) (client.calls_of s) j.file j.stage x b).1.send
 
+    known : IsOfFile j.stage
+    known = fetch_known book taken j j.stage a.taking.fetch
+
     left : Meets log x b j.stage (found_in s j.file j.stage x b) (took (idle s) (client.calls_of s) j.file j.stage x b)
-    left = took_cases (Meets log x b j.stage) (idle s) (client.calls_of s) j.file j.stage x b (of_opens (Meets log x b j.stage) (idle s) (client.calls_of s) j.file j.stage x b (meets_cases log (idle s) (client.calls_of s) j.file o.value j.stage x b (subst (λ f. MeetsBy log f o.value j.stage) a.taking.file h)))
+    left = took_cases (Meets log x b j.stage) (idle s) (client.calls_of s) j.file j.stage x b known (of_opens (Meets log x b j.stage) (idle s) (client.calls_of s) j.file j.stage x b known (meets_cases log (idle s) (client.calls_of s) j.file o.value j.stage x b (subst (λ f. MeetsBy log f o.value j.stage) a.taking.file h)))
 
     running_not : (first last : ℕ) → told.Running ≡ told.Changed first last → ⊥
     running_not first last z = absurd cc
@@ -346,6 +351,7 @@ meets_laws all = record {
     none w file v u same = tt
 
     other : (log : List Deal) (file : ℕ) (v : List ℕ) (st : Stage) (u : History) → MeetsBy log file v st → IsUnchanged u → OpenMet log (stage_word st) file v u
+    other log file v (stage.Walking x w) u p same = absurd p
     other log file v (stage.Making x temp) u p same = tt
     other log file v (stage.Storing st) u p same = tt
     other log file v (stage.Committing x) u p same = tt

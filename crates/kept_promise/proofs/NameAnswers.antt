@@ -1,7 +1,6 @@
 -- The answer to a CONDWRITE is what the server makes of it as it takes it: that it has no such chunk exactly where it knows no bytes for it.
 use Rattle.std.proofs.Common.{◌⊎◌, inl, inr, ◌≡◌, ℕ, ◌+◌, List, [], ◌∷◌, ◌++◌, length, Option, Some, None, Result, Ok, Err, Bool, true, false, refl, sym, ap, ◌∙◌, subst, arith}
 use Rattle.hash_calls.specs.declared.call.CondPiece.{CondPiece}
-use Rattle.hash_calls.specs.declared.message.Lb.{Lb}
 use Rattle.hash_calls.specs.declared.message.Lb.TheVariants as lb
 use Rattle.nfs3_calls.specs.declared.message.Nfs.TheVariants as nfs
 use Rattle.wire.specs.declared.message.Body.TheVariants as body

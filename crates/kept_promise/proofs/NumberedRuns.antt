@@ -2,19 +2,17 @@
 use Rattle.std.proofs.Common.{inl, inr, ◌≡◌, ℕ, zero, suc, ◌+◌, ◌-◌, ◌<◌, List, [], ◌∷◌, ◌++◌, length, Option, Some, None, Result, Ok, Err, Bool, true, false, refl, sym, ap, ◌∙◌, subst, arith, append-nil, length-append, replicate}
 use Rattle.wire.specs.declared.message.Message.TheVariants as message
 use Rattle.wire.specs.declared.message.RpcRefusal.TheVariants as refusal
-use Rattle.server_core.specs.State as server
 use Rattle.client_state.specs.State as client
-use Rattle.client_state.specs.declared.step.Outcome.TheVariants as outcome
-use Rattle.trace_replay.specs.Core.{taken_of as session_taken}
 use Rattle.trace_replay.specs.Numbered.{numbers_among, numbers_if, numbers_by, numbers_of, CountOn}
-use Rattle.kept_promise.proofs.Common.{nat_tests, ◌==◌, slice_get, Chunk, Command, Body, Message, Pending, RpcRefusal, WireFault, parse_of, names_from, names_all, names_next, calls_most, cond_call, commit_call, reads_from, reads_chunk, read_call, server_step, connect, has_room, command_step, got_step, got_fault, took_if, drops, denied, denied_if, idle, took, ended_by, Names, Reads, ClientStep, Ended, Fetch, Stage, Store, Task, Opening, Word, word_of, calls_among, Core, Seat, Session, Event, Event.Joins, Event.Does, Event.Serves, Event.Hears, Event.Settles, Event.Cuts, Event.Hangs, CoreStep, new_seat, new_session, joined, numbered, with_numbered, session_of, commanded_sessions, cut_session, is_newest, acted, does, joins_as, joins, cuts_if, cuts, hangs_if, hangs, serves, serves_if, server_waiting, happens, Moment, Book, Queue}
+use Rattle.client_state.specs.declared.task.Stage.{Stage}
+use Rattle.client_state.specs.declared.task.Stage.TheVariants as stage
+use Rattle.kept_promise.proofs.Common.{nat_tests, slice_get, Chunk, Command, Body, Message, Pending, RpcRefusal, WireFault, parse_of, names_from, names_all, calls_most, reads_from, reads_chunk, connect, has_room, command_step, got_step, got_fault, took_if, drops, denied, denied_if, idle, took, Reads, ClientStep, Fetch, Stage, Store, Task, Opening, Word, word_of, calls_among, Core, Seat, Session, Event, Event.Joins, Event.Does, Event.Serves, Event.Hears, Event.Settles, Event.Cuts, Event.Hangs, CoreStep, new_seat, new_session, joined, numbered, with_numbered, session_of, commanded_sessions, cut_session, is_newest, acted, does, joins_as, joins, cuts_if, cuts, hangs_if, hangs, serves, serves_if, server_waiting, happens, Moment, Book, Queue}
 use Rattle.kept_promise.proofs.Lists.{some_is, nothing_there, set_count, within as inside}
-use Rattle.kept_promise.proofs.Adjusts.{SameSeats}
 use Rattle.kept_promise.proofs.Facts.{IsKept}
 use Rattle.kept_promise.proofs.RunsCarried.{book_at, moment, Step, Carried}
 use Rattle.kept_promise.proofs.Actors.{newest_is, heard_at}
 use Rattle.kept_promise.proofs.Versions.{of_numbered}
-use Rattle.kept_promise.proofs.StepCases.{reads_keep, names_keep, reads_of, Cases, took_cases, command_cases}
+use Rattle.kept_promise.proofs.StepCases.{reads_keep, names_keep, reads_of, Cases, took_cases, walk_cases, command_cases}
 use Rattle.kept_promise.proofs.Numbering.{got_number, command_number}
 use Rattle.kept_promise.proofs.LogEvents.{joins_silent, serves_silent, hangs_silent, cuts_silent}
 
@@ -77,6 +75,17 @@ took_numbers s calls file st x b = record {
   whole = λ old c k at unknown none found name chunk. (refl, tt);
 }
 
+answer_numbers : (s : client.State) (calls : List Pending) (file : ℕ) (st : Stage) (x : ℕ) (b : Body) → Numbers s (took s calls file st x b)
+answer_numbers s calls file (stage.Walking y w) x b = walk_cases (Numbers s) s calls file y w x b (record {
+  fault = λ f. tt;
+  asks = λ v k. (refl, tt);
+  open_already = λ id k is. tt;
+  fetches = λ id k shut none. (refl, tt);
+  leases = λ id c k shut some. (refl, tt);
+  ends = λ w e k is. tt;
+})
+answer_numbers s calls file st x b = took_cases (λ found r. Numbers s r) s calls file st x b tt (took_numbers s calls file st x b)
+
 got_numbers : (s : client.State) (m : Result Message WireFault) (now : ℕ) → Numbers s (got_step s m now)
 got_numbers s (Err e) now = by s.task
   where
@@ -91,7 +100,7 @@ got_numbers s (Ok (message.Answer x b)) now = by s.task (client.has_call (client
     dropped None false = tt
 
     by : (o : Option Task) (own : Bool) → Numbers s (took_if s o x b own)
-    by (Some t) true = took_cases (λ found r. Numbers s r) (idle s) (client.calls_of s) t.file t.stage x b (took_numbers (idle s) (client.calls_of s) t.file t.stage x b)
+    by (Some t) true = answer_numbers (idle s) (client.calls_of s) t.file t.stage x b
     by (Some t) false = dropped (Some t) (client.has_call s.forgotten x)
     by None own = dropped None (client.has_call s.forgotten x)
 got_numbers s (Ok (message.Refuse x r)) now = by s.task (client.has_call (client.pending s.task) x)
@@ -118,6 +127,7 @@ command_numbers s d now = command_cases (Numbers s) s d now (record {
   answers = λ un opened o plain. tt;
   fetches = λ file is un may. (refl, tt);
   asks = λ file kept is un may at. (refl, tt);
+  walks = λ c is un may. (refl, tt);
   closes = λ file l is un may at. (refl, tt);
 })
 
@@ -265,7 +275,7 @@ numbers_event all past rest opening k qs (Does c now d) mid after s h =
     subst (λ (t : CoreStep). At (past ++ moment k (Does c now d) ∷ []) t.core) (sym is) (acts past (moment k (Does c now d)) k.seats (length k.sessions) (length (does k c now d (Some s.finds.0)).core.sessions) c s.finds.0 (command_step s.finds.0.client d now).0 _ (does k c now d (Some s.finds.0)) is refl s.finds.1 (commanded_count k.sessions s.finds.0.session (session_of k.sessions s.finds.0.session) s.finds.0.place (length k.ops) (word_of d) (command_step s.finds.0.client d now).1) (within_at book k qs c s.finds.0 s.kept s.finds.1) (alone_at book k qs c s.finds.0 s.kept s.finds.1) (command_numbers s.finds.0.client d now) (command_number s.finds.0.client d now) h)
 numbers_event all past rest opening k qs (Serves n now bytes) mid after s h =
     let q = serves_silent k n now bytes (numbered k.sessions n) in
-    subst (λ (l : List Seat). AreNumbered (past ++ moment k (Serves n now bytes) ∷ []) l (length (happens k (Serves n now bytes)).core.sessions)) (sym q.2) (quiet past (moment k (Serves n now bytes)) k.seats k.seats (length k.sessions) (length (happens k (Serves n now bytes)).core.sessions) q.0 (count (numbered k.sessions n)) (same_seat k.seats) h)
+    subst (λ (l : List Seat). AreNumbered (past ++ moment k (Serves n now bytes) ∷ []) l (length (happens k (Serves n now bytes)).core.sessions)) (sym q.1) (quiet past (moment k (Serves n now bytes)) k.seats k.seats (length k.sessions) (length (happens k (Serves n now bytes)).core.sessions) q.0 (count (numbered k.sessions n)) (same_seat k.seats) h)
   where
     count : (o : Option Session) → length (serves k n now bytes o).core.sessions ≡ length k.sessions
     count None = refl

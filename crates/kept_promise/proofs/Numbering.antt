@@ -19,7 +19,11 @@ use Rattle.client_state.specs.declared.task.Stage.TheVariants as stage
 use Rattle.client_state.specs.declared.task.Way.TheVariants as way
 use Rattle.trace_replay.specs.Trail.{call_number}
 use Rattle.kept_promise.proofs.Common.{slice_get, ◌==◌, nat_lt, if◌then◌else◌, Chunk, content_length, content_bytes, Command, Answer, Done, Failed, Hashes, Piece, Body, Message, Pending, RpcRefusal, WireFault, names_from, names_next, names_more, names_all, is_stored, store_of, store_at, answered, local_most, written_size, written, truncated, calls_most, fetch_of, with_hashes, listed, reads_from, reads_more, reads_all, is_here, read_at, fault_in, other_version, with_bytes, Broken, broken_of, is_open, may_ask, asks_file, asks_kept, uses_kept, told_lease, opens_if, opens, on_local, too_big, done_with, edits, writes, truncates, reads, abandons, asks_temp, closes, command_step, idle, reads_if, reads_on, lists_on, told_shape, told_version, told_hashes, told_first, retries, misfits, told_bytes, told_chunk, told_piece, goes_if, goes_on, told_temp, sends_whole, told_named, told_whole, told_way, told_stored, denied, took, drops, took_if, denied_if, got_fault, got_step, ends, Names, Reads, BadPeer, ClientStep, Fetch, Local, ReadCall, Stage, Store, StoreCall, Task, Way, Moment, calls_among, sent_if, calls_by, calls_from}
-use Rattle.kept_promise.proofs.StepCases.{reads_keep}
+use Rattle.path_calls.specs.Walk.{begun}
+use Rattle.path_calls.specs.declared.walk.Walk.{Walk}
+use Rattle.client_state.specs.Ending.{may_walk}
+use Rattle.open_close.specs.Walking.{walks, walks_if}
+use Rattle.kept_promise.proofs.StepCases.{reads_keep, walk_cases}
 
 -- ---- a client's step
 
@@ -148,6 +152,16 @@ stored_number : (s : client.State) (calls : List Pending) (file xid : ℕ) (cont
 stored_number s calls file xid content st b None = omega arith
 stored_number s calls file xid content st b (Some c) = way_number s calls file xid content (answered st xid) c c.way b
 
+walk_number : (s : client.State) (calls : List Pending) (file asked : ℕ) (w : Walk) (xid : ℕ) (b : Body) → Numbers s (took s calls file (stage.Walking asked w) xid b)
+walk_number s calls file asked w xid b = walk_cases (Numbers s) s calls file asked w xid b (record {
+  fault = λ f. omega arith;
+  asks = λ v k. refl;
+  open_already = λ id k is. omega arith;
+  fetches = λ id k shut none. refl;
+  leases = λ id c k shut some. refl;
+  ends = λ w e k is. omega arith;
+})
+
 took_number : (s : client.State) (calls : List Pending) (file : ℕ) (t : Stage) (xid : ℕ) (b : Body) → Numbers s (took s calls file t xid b)
 took_number s calls file (stage.Asking asked) xid (body.Lb (lb.GetLeaseAnswer a)) = lease_number s calls file xid a
 took_number s calls file (stage.Hashing tries asked) xid (body.Lb (lb.GetHashAnswer a)) = first_numbers s calls file xid tries a
@@ -158,6 +172,7 @@ took_number s calls file (stage.Making asked temp) xid (body.Lb (lb.MkTmpFileAns
 took_number s calls file (stage.Storing st) xid b = stored_number s calls file xid (client.local_bytes s.opened file) st b (store_at st.under xid)
 took_number s calls file (stage.Committing asked) xid (body.Lb (lb.CommitTmpAnswer (Failed t u))) = omega arith
 took_number s calls file (stage.Committing asked) xid (body.Lb (lb.CommitTmpAnswer (Done c))) = omega arith
+took_number s calls file (stage.Walking asked w) xid b = walk_number s calls file asked w xid b
 took_number s calls file p xid b = omega arith
 
 drops_number : (s : client.State) (o : Option Task) (xid : ℕ) (b : Bool) → Numbers s (drops s o xid b)
@@ -235,6 +250,15 @@ command_number s (command.Close file) now = local_number s s.task (client.local_
     by : (b : Bool) → Numbers s (asks_temp s file b)
     by true = refl
     by false = omega arith
+command_number s (command.Named c) now = by s.task
+  where
+    asks : (b : Bool) → Numbers s (walks_if s (begun c) b)
+    asks true = refl
+    asks false = omega arith
+
+    by : (t : Option Task) → Numbers s (walks s c t)
+    by (Some t) = omega arith
+    by None = asks (may_walk s (begun c))
 command_number s (command.Abandon file) now = local_number s s.task (client.local_at s.opened file) (abandons s file) (λ l. omega arith)
 
 -- ---- calls that were sent

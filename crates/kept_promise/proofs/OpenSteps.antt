@@ -1,21 +1,19 @@
 -- What an open comes to by each answer that it waits for.
-use Rattle.std.proofs.Common.{inl, inr, ◌≡◌, ℕ, zero, suc, ◌+◌, ◌*◌, ◌<◌, ◌≤◌, List, [], ◌∷◌, ◌++◌, length, Option, Some, None, Bool, true, false, refl, sym, ap, ◌∙◌, subst, arith, eqb-true, eq-eqb, replicate, map, IsSome}
+use Rattle.std.proofs.Common.{inl, ◌≡◌, ℕ, zero, suc, ◌+◌, ◌*◌, ◌<◌, ◌≤◌, List, [], ◌∷◌, ◌++◌, length, Option, Some, None, Bool, true, false, refl, sym, ap, ◌∙◌, subst, arith, eqb-true, eq-eqb, replicate, map}
 use Rattle.client_cache.specs.Cache.{content_of}
 use Rattle.hash_calls.specs.declared.call.Leased.{Leased}
 use Rattle.file_open.specs.Caching.{content_in}
 use Rattle.file_open.specs.Looking.{listed_if, listed_by, reading_by}
-use Rattle.server_core.specs.State as server
 use Rattle.client_state.specs.State as client
 use Rattle.client_state.specs.declared.task.Stage.TheVariants as stage
 use Rattle.register_model.specs.declared.op.Word.TheVariants as words
-use Rattle.kept_promise.proofs.Common.{nat_tests, slice_get, cond, ◌==◌, chunks_of, end_of, Answer, Done, Failed, Status, Hashes, File, read_pending, fetch_of, with_hashes, listed, read_at, broken_of, idle, told_first, told_hashes, told_version, told_shape, lists_on, told_lease, uses_kept, if◌then◌else◌, Content, Pending, Fetch, ReadCall, Stage, Value, Core, Session, hashed_of, Book, value_at, Reply.Hashed, Reply.Versioned, Told, Queue, reply_program, reply_body}
+use Rattle.kept_promise.proofs.Common.{nat_tests, slice_get, cond, ◌==◌, chunks_of, end_of, Answer, Done, Failed, Hashes, read_pending, fetch_of, with_hashes, listed, read_at, broken_of, idle, told_first, told_hashes, told_version, told_shape, lists_on, told_lease, uses_kept, if◌then◌else◌, Content, Pending, Fetch, ReadCall, Stage, Core, Session, hashed_of, Book, value_at, Reply.Hashed, Reply.Versioned, Told, Queue, reply_program, reply_body}
 use Rattle.kept_promise.proofs.Lists.{some_is, nothing_there}
 use Rattle.kept_promise.proofs.Keys.{times}
 use Rattle.kept_promise.proofs.Messages.{Job, job, stage_word, AllTolds, hash_offset, AnswerOf, IsAnswer, HashTold, IsHashed, IsLeased, LeaseTold, IsAfter, IsTried, Trying, TriedBy, IsFetch, FetchOf}
 use Rattle.kept_promise.proofs.Growth.{or_map}
-use Rattle.kept_promise.proofs.Facts.{FileIs, HasXids, IsSession, IsOf}
+use Rattle.kept_promise.proofs.Facts.{HasXids, IsSession, IsOf}
 use Rattle.kept_promise.proofs.Chunks.{row_of, sum_sound}
-use Rattle.kept_promise.proofs.Tells.{not_some}
 use Rattle.kept_promise.proofs.Heard.{Moves, told_pending}
 use Rattle.kept_promise.proofs.Moves.{told_there, moves_single, moves_retries}
 use Rattle.kept_promise.proofs.Steps.{Here, session_at, Quiet, job_op, on}
@@ -222,16 +220,8 @@ comes_listing book k qs n x q t ts j g f a at e looked = by a e (answer_at book 
     left : (spare : ℕ) × (f.tries + spare ≡ 4) × (c.next + 100000 * spare + 80000 ≤ 4294967296 + length f.chunks)
     left = xids_at book k qs n x q t ts j g (stage.Listing t.xid f) at
 
-    refuses : (s : Status) → HashTold book x.taken j t.xid (end_of f.chunks) (Failed s tt) → ⊥
-    refuses s (inl dir) = one_known (server.file_at k.server.tree j.file) (g.kept.server.held j.file)
-      where
-        one_known : (o : Option File) → FileIs book j.file o → ⊥
-        one_known None b = not_some (subst (λ (v : Value). IsSome v) b.0 fact.0.known)
-        one_known (Some u) b = let lt = b.1 in let one = dir.1 in omega (arith, lt, one)
-    refuses s (inr stale) = not_some (subst (λ (v : Value). IsSome v) stale.1 fact.0.known)
-
     by : (a : Answer Hashes Unit) → t.reply ≡ Hashed a → HashTold book x.taken j t.xid (end_of f.chunks) a → Comes book k qs n x q t ts j g (told_hashes (idle c) (client.calls_of c) j.file t.xid f a)
-    by (Failed s tt) e told = absurd (refuses s told)
+    by (Failed s tt) e told = comes_refused book k qs n x q t ts j g s word quiet told
     by (Done h) e told = by_version (h.version == f.version) refl
       where
         differ : (m v : ℕ) → (m == v) ≡ false → m ≡ v → ⊥

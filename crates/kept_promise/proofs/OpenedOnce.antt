@@ -9,7 +9,7 @@ use Rattle.trace_replay.specs.Core.{taken_of as session_taken}
 use Rattle.trace_replay.specs.Faithful.{OpenedBy}
 use Rattle.trace_replay.specs.Traffic.{attempts_in, no_attempt}
 use Rattle.trace_replay.specs.Trail.{given_by_message}
-use Rattle.kept_promise.proofs.Common.{Deal.Sent, hashed_of, Deal.Took, Deal.Found, nat_tests, ◌==◌, ◌&&◌, nat_le, nat_lt, slice_get, slice_set, Body, Message, Pending, got_step, idle, took_if, drops, ClientStep, Ended, Stage, State, Task, changes, until, Op, Opening, TakenCall, op_after, Core, Event, Event.Hears, CoreStep, numbered, session_of, ops_after, ops_with, acted, happens, Moment, client_of, owner_in, wanted_by, taken_by, given_by, is_in, Deal, deals_with, deals_in, deals_of, Book, Queue, version_at, told_message}
+use Rattle.kept_promise.proofs.Common.{Deal.Sent, hashed_of, Deal.Took, Deal.Found, nat_tests, ◌==◌, ◌&&◌, nat_le, nat_lt, slice_get, slice_set, Body, Message, Pending, got_step, idle, took_if, drops, ClientStep, Ended, Stage, State, Task, until, Op, Opening, TakenCall, op_after, Core, Event, Event.Hears, CoreStep, numbered, session_of, ops_after, ops_with, acted, happens, Moment, client_of, owner_in, wanted_by, taken_by, given_by, is_in, Deal, deals_with, deals_in, deals_of, Book, Queue, version_at, told_message}
 use Rattle.kept_promise.proofs.Lists.{some_is, nothing_there, at_replaced}
 use Rattle.kept_promise.proofs.Messages.{Job, job, stage_word, AllTolds, AnswerOf, IsAnswer, FetchOf, IsTrying}
 use Rattle.kept_promise.proofs.Rights.{Caused}
@@ -31,6 +31,7 @@ use Rattle.kept_promise.proofs.Taking.{Moved, version_later, versions_after, tri
 use Rattle.kept_promise.proofs.Logs.{deals_apart, deals_own, deals_more, deals_same, deals_pointed, deals_alike}
 use Rattle.kept_promise.proofs.LogSums.{begins_in, sum_join, sum_took, IsSum}
 use Rattle.kept_promise.proofs.LogEvents.{LogsAt, carried_logs}
+use Rattle.kept_promise.proofs.Found.{NoWalk, got_finds, seat_walks}
 use Rattle.kept_promise.proofs.MetLog.{MeetsBy, OpenMet, meets_laws, Tries, count_of, begun_count}
 use Rattle.kept_promise.proofs.OwnLog.{OpOwn}
 use Rattle.kept_promise.proofs.OpensLog.{OpenRead, last_most, once_is}
@@ -108,10 +109,10 @@ quiet_drops s o x true d e = refl
 quiet_drops s (Some t) x false d e = refl
 quiet_drops s None x false d e = refl
 
-quiet_answer : (s : State) (o : Option Task) (x : ℕ) (b : Body) (own : Bool) → IsQuiet (took_if s o x b own)
-quiet_answer s (Some t) x b true = took_cases (λ found r. IsQuiet r) (idle s) (client.calls_of s) t.file t.stage x b (quiet_cases (idle s) (client.calls_of s) t.file t.stage x b)
-quiet_answer s (Some t) x b false = quiet_drops s (Some t) x (client.has_call s.forgotten x)
-quiet_answer s None x b own = quiet_drops s None x (client.has_call s.forgotten x)
+quiet_answer : (s : State) (o : Option Task) → NoWalk o → (x : ℕ) (b : Body) (own : Bool) → IsQuiet (took_if s o x b own)
+quiet_answer s (Some t) none x b true = took_cases (λ found r. IsQuiet r) (idle s) (client.calls_of s) t.file t.stage x b (none t refl) (quiet_cases (idle s) (client.calls_of s) t.file t.stage x b)
+quiet_answer s (Some t) none x b false = quiet_drops s (Some t) x (client.has_call s.forgotten x)
+quiet_answer s None none x b own = quiet_drops s None x (client.has_call s.forgotten x)
 
 -- attempts that began, by the stage
 begun_by : (log : List Deal) (file : ℕ) (v : List ℕ) (st : Stage) → MeetsBy log file v st → stage_word st ≡ words.Open → 1 < begins_in log → 1 < tries_of st
@@ -132,13 +133,14 @@ begun_by log file v st h word lt = by st h word
     by (stage.Making x temp) h w = absurd cc
     by (stage.Storing st) h w = absurd cc
     by (stage.Committing x) h w = absurd cc
+    by (stage.Walking x walk) h w = absurd h
 
 once_hears : FitLaws → (all past : List Moment) (opening : List Opening) (k : Core) (qs after : List Queue) (n now : ℕ) (bytes : List ℕ) (mid : List Queue) → IsKept (book_at opening k all) k qs → (h : Heard k qs n now bytes mid) → IsKept (book_at opening (happens k (Hears n now bytes)).core all) (happens k (Hears n now bytes)).core after
     → LogsAt MeetsBy OpenMet past k → OnceAt all past opening k → OnceAt all (past ++ moment k (Hears n now bytes) ∷ []) opening (happens k (Hears n now bytes)).core
 once_hears fits all past opening k qs after n now bytes mid kept h left met before =
     subst (λ (t : CoreStep). OnceAt all (past ++ moment k (Hears n now bytes) ∷ []) opening t.core) (sym turned)
     (λ p len digest q at is. elim (ops_shape k.ops h.seat.place r.0 taken (k.steps + 1) r.1 p q at) [
-      | inr old ↦ stays all past opening k (Hears n now bytes) (acted k h.session.owner h.seat r.0 r.1).core q (omega arith) (λ f m le. versions_after k.ops h.seat.place r.0 taken (k.steps + 1) r.1 f m) (before p len digest q old.1 is)
+      | inr old ↦ stays all past opening k (Hears n now bytes) (acted k h.session.owner h.seat r.0 r.1).core q (omega arith) (λ f m le. versions_after k.ops h.seat.place r.0 taken (k.steps + 1) r.1 finds f m) (before p len digest q old.1 is)
       | inl new ↦ subst (IsOnce (past ++ moment k (Hears n now bytes) ∷ []) (book_at opening (acted k h.session.owner h.seat r.0 r.1).core all)) (sym new.3) (ended p len digest new.0 new.1 new.2 (ap (λ (z : Op). z.outcome) (sym new.3) ∙ is))
     ])
   where
@@ -150,6 +152,9 @@ once_hears fits all past opening k qs after n now bytes mid kept h left met befo
 
     r : State × ClientStep
     r = got_step h.seat.client (Ok (told_message h.told)) now
+
+    finds : r.1.found ≡ None
+    finds = got_finds h.seat.client (Ok (told_message h.told)) now (seat_walks book k.sessions h.session.owner h.seat (kept.seats h.session.owner h.seat h.owner))
 
     taken : List TakenCall
     taken = session_taken (session_of k.sessions h.seat.session)
@@ -204,7 +209,7 @@ once_hears fits all past opening k qs after n now bytes mid kept h left met befo
           where
             by : (l : Option Ended) → (got_step h.seat.client (Ok (told_message h.told)) now).1.ended ≡ l → (op_after o r.0 taken (k.steps + 1) (record r.1 { ended = l })).outcome ≡ told.Opened len digest → (got_step h.seat.client (Ok (told_message h.told)) now).1.send ≡ []
             by None f z = absurd (running (sym w.4 ∙ z))
-            by (Some x) f z = quiet_answer h.seat.client h.seat.client.task h.told.xid (Rattle.kept_promise.proofs.Common.reply_body h.told.reply) (client.has_call (client.pending h.seat.client.task) h.told.xid) x f
+            by (Some x) f z = quiet_answer h.seat.client h.seat.client.task (seat_walks book k.sessions h.session.owner h.seat (kept.seats h.session.owner h.seat h.owner)) h.told.xid (Rattle.kept_promise.proofs.Common.reply_body h.told.reply) (client.has_call (client.pending h.seat.client.task) h.told.xid) x f
 
         job_is : job s.seat ≡ Some w.0
         job_is = ap job same_seat ∙ w.1
@@ -244,7 +249,7 @@ once_hears fits all past opening k qs after n now bytes mid kept h left met befo
             omega (arith, a, b, c, d, none)
 
         called : CalledAt (book_at opening (acted k h.session.owner h.seat (got_step h.seat.client (Ok (told_message h.told)) now).0 (got_step h.seat.client (Ok (told_message h.told)) now).1).core all) (past ++ moment k (Hears n now bytes) ∷ []) (op_after o (got_step h.seat.client (Ok (told_message h.told)) now).0 (session_taken (session_of k.sessions h.seat.session)) (k.steps + 1) (got_step h.seat.client (Ok (told_message h.told)) now).1)
-        called = called_as (book_at opening k all) (book_at opening (acted k h.session.owner h.seat r.0 r.1).core all) past (past ++ moment k (Hears n now bytes) ∷ []) (record o { point = new.point }) new (λ z c. c) (client_stays o r.0 taken (k.steps + 1) r.1) (file_stays o r.0 taken (k.steps + 1) r.1) (λ q z. z)
+        called = called_as (book_at opening k all) (book_at opening (acted k h.session.owner h.seat r.0 r.1).core all) past (past ++ moment k (Hears n now bytes) ∷ []) (record o { point = new.point }) new (λ z c. c) (client_stays o r.0 taken (k.steps + 1) r.1) (file_stays o r.0 taken (k.steps + 1) r.1 finds) (λ q z. z)
             (begun ∙ ap begins_in (sym (deals_pointed o new.point past)))
             (point_now (book_at opening k all) past o w.0 r.0 taken (k.steps + 1) r.1 len digest there w.5 w.4 open_word stage_open (met.jobs h.session.owner h.seat w.0 o h.owner w.1 there) is (rests_on (book_at opening k all) taken h.session.closing h.told w.0 h.seat.client now (job_task h.seat.place h.seat.client.task w.0 w.1) fetch answer))
 
@@ -272,13 +277,9 @@ once_hears fits all past opening k qs after n now bytes mid kept h left met befo
             let none = ap (λ (ms : List Message). begins_in (map Sent ms)) silent in
             let more_ = begun_by (deals_of o past) o.file o.value j.stage (met.jobs h.session.owner h.seat j o h.owner w.1 at_place) open_ (omega (arith, lt, a, b, c, d, none)) in
             let m = moved_by book taken j o at_place trying fetch open_ more_ in
-            subst (λ f. Moved (ops_with k.ops h.seat.place r.0 taken (k.steps + 1) r.1) f new.begin (k.steps + 1)) (sym (file_is r.1.ended ∙ w.5))
-            (let begin = begin_is r.1.ended in let m1 = m.1 in (m.0, omega (arith, m1, begin), m.2, λ v. m.3 (ap (version_in k.ops j.file) (sym begin) ∙ sym (versions_after k.ops h.seat.place r.0 taken (k.steps + 1) r.1 j.file new.begin) ∙ v ∙ versions_after k.ops h.seat.place r.0 taken (k.steps + 1) r.1 j.file m.0)))
+            subst (λ f. Moved (ops_with k.ops h.seat.place r.0 taken (k.steps + 1) r.1) f new.begin (k.steps + 1)) (sym (file_stays o r.0 taken (k.steps + 1) r.1 finds ∙ w.5))
+            (let begin = begin_is r.1.ended in let m1 = m.1 in (m.0, omega (arith, m1, begin), m.2, λ v. m.3 (ap (version_in k.ops j.file) (sym begin) ∙ sym (versions_after k.ops h.seat.place r.0 taken (k.steps + 1) r.1 finds j.file new.begin) ∙ v ∙ versions_after k.ops h.seat.place r.0 taken (k.steps + 1) r.1 finds j.file m.0)))
           where
-            file_is : (l : Option Ended) → (op_after o r.0 taken (k.steps + 1) (record r.1 { ended = l })).file ≡ o.file
-            file_is None = refl
-            file_is (Some x) = refl
-
             begin_is : (l : Option Ended) → (op_after o r.0 taken (k.steps + 1) (record r.1 { ended = l })).begin ≡ o.begin
             begin_is None = refl
             begin_is (Some x) = refl
@@ -286,15 +287,15 @@ once_hears fits all past opening k qs after n now bytes mid kept h left met befo
 -- ---- any event
 
 -- at which no client hears anything
-once_quiet : (all past rest : List Moment) (opening : List Opening) (k : Core) (qs : List Queue) (e : Event) (mid after : List Queue) → Step all past rest opening k qs e mid after → (IsHears e → ⊥) → OnceAt all past opening k → OnceAt all (past ++ moment k e ∷ []) opening (happens k e).core
-once_quiet all past rest opening k qs e mid after s quiet h = λ p len digest r at is.
-    let w = ops_after_event all past rest opening k qs e mid after s in
+once_quiet : FitLaws → (all past rest : List Moment) (opening : List Opening) (k : Core) (qs : List Queue) (e : Event) (mid after : List Queue) → Step all past rest opening k qs e mid after → (IsHears e → ⊥) → OnceAt all past opening k → OnceAt all (past ++ moment k e ∷ []) opening (happens k e).core
+once_quiet laws all past rest opening k qs e mid after s quiet h = λ p len digest r at is.
+    let w = ops_after_event laws all past rest opening k qs e mid after s in
     let o = opened_before (book_at opening k all) k qs e (happens k e).core.ops s.kept quiet w.0 p len digest r at is in
     stays all past opening k e (happens k e).core r w.1 (same_versions k e (happens k e).core.ops w.0) (h p len digest r o is)
 
 once_event : FitLaws → (all past rest : List Moment) (opening : List Opening) (k : Core) (qs : List Queue) (e : Event) (mid after : List Queue) → Step all past rest opening k qs e mid after → Once all past opening k → OnceAt all (past ++ moment k e ∷ []) opening (happens k e).core
 once_event laws all past rest opening k qs (Hears n now bytes) mid after s h = once_hears laws all past opening k qs after n now bytes mid s.kept (heard_at (book_at opening k all) k qs n now bytes mid s.kept s.finds) s.left h.met h.once
-once_event laws all past rest opening k qs e mid after s h = once_quiet all past rest opening k qs e mid after s (λ z. z) h.once
+once_event laws all past rest opening k qs e mid after s h = once_quiet laws all past rest opening k qs e mid after s (λ z. z) h.once
 
 met_carried : FitLaws → Carried (λ all past opening k qs. LogsAt MeetsBy OpenMet past k)
 met_carried laws = carried_logs (λ all. MeetsBy) (λ all. OpenMet) meets_laws laws

@@ -1,6 +1,6 @@
 -- A run carries what opens read: in each attempt each chunk that was looked up was given by the index, or a READ went out for it, in order; and one that
 -- got its content reached all chunks by its last attempt.
-use Rattle.std.proofs.Common.{◌⊎◌, inl, inr, ◌≡◌, ℕ, ◌+◌, ◌-◌, ◌≤◌, List, [], ◌∷◌, ◌++◌, length, Option, Some, None, Bool, true, false, refl, sym, ap, ◌∙◌, subst, arith, length-append, map}
+use Rattle.std.proofs.Common.{◌⊎◌, inl, inr, ◌≡◌, ℕ, ◌+◌, ◌≤◌, List, [], ◌∷◌, ◌++◌, length, Option, Some, None, Bool, true, false, refl, sym, ap, ◌∙◌, subst, arith, length-append, map}
 use Rattle.hash_calls.specs.declared.message.Lb.TheVariants as lb
 use Rattle.nfs3_calls.specs.declared.message.Nfs.TheVariants as nfs
 use Rattle.wire.specs.declared.message.Body.TheVariants as body
@@ -19,7 +19,7 @@ use Rattle.kept_promise.proofs.Rights.{Caused}
 use Rattle.kept_promise.proofs.VersionRuns.{opened_by, word_after}
 use Rattle.kept_promise.proofs.Counted.{traffic_is}
 use Rattle.kept_promise.proofs.Taking.{Taking, IsApart, same_value}
-use Rattle.kept_promise.proofs.StepCases.{bytes_came, IsOpenedBy, JustEnds, FetchIn, FetchNow, FetchNow.all_told, FetchNow.one_came, GaveUp, reads_of, given, open_and_close, OfOpens, of_opens, took_cases}
+use Rattle.kept_promise.proofs.StepCases.{bytes_came, IsOpenedBy, JustEnds, FetchIn, FetchNow, FetchNow.all_told, FetchNow.one_came, GaveUp, reads_of, given, open_and_close, OfOpens, of_opens, took_cases, IsOfFile, fetch_known}
 use Rattle.kept_promise.proofs.Logs.{Going, Ending}
 use Rattle.kept_promise.proofs.LogSums.{came_in, came_join, asked_in, read_number, begins_in, sum_join, IsSum}
 use Rattle.kept_promise.proofs.LogEvents.{IsUnopened, Answering, Answered, found_in, LogLaws, file_stays}
@@ -34,6 +34,7 @@ OpensBy log file v (stage.Asking x) = IsBare log × (last_fetch log ≡ no_fetch
 OpensBy log file v (stage.Hashing tries x) = (last_fetch log ≡ no_fetch) × OneFetch log
 OpensBy log file v (stage.Listing x f) = (last_fetch log ≡ told_only f.chunks) × OneFetch log × (f.asked ≡ 0) × (f.under ≡ [])
 OpensBy log file v (stage.Reading f) = Reached (last_fetch log) f.chunks f.asked f.under × OneFetch log
+OpensBy log file v (stage.Walking x w) = ⊥
 OpensBy log file v st = Unit {0}
 
 abbrev pub EachOpen : Word → List Deal → Type 0
@@ -53,6 +54,7 @@ any_reached log file v (stage.Asking x) h w = (h.2, first_told (last_fetch log) 
 any_reached log file v (stage.Hashing tries x) h w = (h.1.over, first_told (last_fetch log) [] h.0)
 any_reached log file v (stage.Listing x f) h w = (h.1.over, first_told (last_fetch log) f.chunks h.0)
 any_reached log file v (stage.Reading f) h w = (h.1.over, first_reached (last_fetch log) f.chunks f.asked f.under h.0)
+any_reached log file v (stage.Walking y z) h w = absurd h
 any_reached log file v st h w = absurd cc
 
 -- ---- an answer
@@ -339,8 +341,11 @@ opens_heard book more taken j o p s x b a log h = record {
     log2 : List Deal
     log2 = log ++ deals_with (message.Answer x b ∷ []) (found_in s j.file j.stage x b) (took (idle s) (client.calls_of s) j.file j.stage x b).1.send
 
+    known : IsOfFile j.stage
+    known = fetch_known book taken j j.stage a.taking.fetch
+
     gets : Gets log x b j.stage (found_in s j.file j.stage x b) (took (idle s) (client.calls_of s) j.file j.stage x b)
-    gets = took_cases (Gets log x b j.stage) (idle s) (client.calls_of s) j.file j.stage x b (of_opens (Gets log x b j.stage) (idle s) (client.calls_of s) j.file j.stage x b (gets_cases log (idle s) (client.calls_of s) j.file o.value j.stage x b (subst (λ f. OpensBy log f o.value j.stage) a.taking.file h) a.apart))
+    gets = took_cases (Gets log x b j.stage) (idle s) (client.calls_of s) j.file j.stage x b known (of_opens (Gets log x b j.stage) (idle s) (client.calls_of s) j.file j.stage x b known (gets_cases log (idle s) (client.calls_of s) j.file o.value j.stage x b (subst (λ f. OpensBy log f o.value j.stage) a.taking.file h) a.apart))
 
     point_is : (l : Option Ended) (e : Ended) (file len : ℕ) (digest : List ℕ) (q : ℕ) → l ≡ Some e → e.outcome ≡ outcome.Opened file len digest → o.word ≡ words.Open → (op_after o r.0 taken (book.steps + 1) (record r.1 { ended = l })).point ≡ Some q → taken_at taken e.rests_on ≡ Some q
     point_is None e file len digest q is opened word point = nothing_there e is
@@ -371,7 +376,7 @@ opens_heard book more taken j o p s x b a log h = record {
           | inl bare ↦ inl bare
           | inr (f, bytes, now, one, all, rests) ↦
               let h = a.fetched f bytes now in
-              let c = opened_content book more taken j o new p len digest f a.taking a.ops a.moments cause.0 (file_stays o r.0 taken (book.steps + 1) r.1) cause.1 (sym a.taking.word ∙ word) h.0 (λ q at. ap (taken_at taken) (sym rests) ∙ point_is r.1.ended e opened.0 len digest q is opened.1 word at) in
+              let c = opened_content book more taken j o new p len digest f a.taking a.ops a.moments cause.0 (file_stays o r.0 taken (book.steps + 1) r.1 a.finds) cause.1 (sym a.taking.word ∙ word) h.0 (λ q at. ap (taken_at taken) (sym rests) ∙ point_is r.1.ended e opened.0 len digest q is opened.1 word at) in
               inr (
                 one,
                 (

@@ -21,7 +21,10 @@ use Rattle.kept_promise.proofs.Versions.{version_in, count_replaced, count_appen
 use Rattle.kept_promise.proofs.Taking.{versions_after}
 use Rattle.kept_promise.proofs.CommandOps.{made_by, made_later, made_pointless, last_right}
 use Rattle.kept_promise.proofs.VersionRuns.{Settled, settled_are, own_op, close_not_opened}
-use Rattle.kept_promise.proofs.LogEvents.{serves_silent, hangs_silent}
+use Rattle.kept_promise.proofs.LogEvents.{hangs_silent}
+use Rattle.kept_promise.proofs.Found.{got_finds, no_walk, cut_finds}
+use Rattle.kept_promise.proofs.ServesQuietly.{serves_quiet}
+use Rattle.kept_promise.proofs.Fits.{FitLaws}
 
 abbrev pub IsHears : Event → Type 0
 IsHears (Hears n now bytes) = Unit {0}
@@ -42,6 +45,7 @@ pub record IsActed (e : Event) (k : Core) (ops : List Op) : Type 0 where
   pub here : numbered k.seats index ≡ Some seat
   pub after : client.State
   pub acts : ClientStep
+  pub finds : acts.found ≡ None
   pub is : ops ≡ ops_with k.ops seat.place after (session_taken (session_of k.sessions seat.session)) (k.steps + 1) acts
   pub unopened : IsHears e ⊎ ((o : Op) (len : ℕ) (digest : List ℕ) → o.outcome ≡ told.Running → (op_after o after (session_taken (session_of k.sessions seat.session)) (k.steps + 1) acts).outcome ≡ told.Opened len digest → ⊥)
 
@@ -57,13 +61,13 @@ running_not len digest z = absurd cc
 lost_not : (len : ℕ) (digest : List ℕ) → told.Lost ≡ told.Opened len digest → ⊥
 lost_not len digest z = absurd cc
 
-pub ops_after_event : (all past rest : List Moment) (opening : List Opening) (k : Core) (qs : List Queue) (e : Event) (mid after : List Queue) → Step all past rest opening k qs e mid after → Becomes e k (happens k e)
-ops_after_event all past rest opening k qs (Joins c) mid after s = subst (λ (o : Option Seat). Becomes (Joins c) k (joins k c o)) (sym s.finds.1) (by s.finds.0 (server_step k.server event.Connect).0 (server_step k.server event.Connect).1.told)
+pub ops_after_event : FitLaws → (all past rest : List Moment) (opening : List Opening) (k : Core) (qs : List Queue) (e : Event) (mid after : List Queue) → Step all past rest opening k qs e mid after → Becomes e k (happens k e)
+ops_after_event laws all past rest opening k qs (Joins c) mid after s = subst (λ (o : Option Seat). Becomes (Joins c) k (joins k c o)) (sym s.finds.1) (by s.finds.0 (server_step k.server event.Connect).0 (server_step k.server event.Connect).1.told)
   where
     by : (seat : Seat) (s : server.State) (o : Announced) → Becomes (Joins c) k (joins_as k c seat s o)
     by seat s (announced.Session made) = (inl refl, omega arith)
     by seat s _ = (inl refl, omega arith)
-ops_after_event all past rest opening k qs (Does c now d) mid after s = subst (λ (o : Option Seat). IsKept (book_at opening (does k c now d o).core all) (does k c now d o).core after → Becomes (Does c now d) k (does k c now d o)) (sym s.finds.1) begins s.left
+ops_after_event laws all past rest opening k qs (Does c now d) mid after s = subst (λ (o : Option Seat). IsKept (book_at opening (does k c now d o).core all) (does k c now d o).core after → Becomes (Does c now d) k (does k c now d o)) (sym s.finds.1) begins s.left
   where
     begins : IsKept (book_at opening (does k c now d (Some s.finds.0)).core all) (does k c now d (Some s.finds.0)).core after → Becomes (Does c now d) k (does k c now d (Some s.finds.0))
     begins left =
@@ -81,13 +85,13 @@ ops_after_event all past rest opening k qs (Does c now d) mid after s = subst (�
           })),
           omega arith,
         )
-ops_after_event all past rest opening k qs (Serves n now bytes) mid after s = let q = serves_silent k n now bytes (numbered k.sessions n) in (inl q.1, q.3)
-ops_after_event all past rest opening k qs (Hears n now bytes) mid after s =
+ops_after_event laws all past rest opening k qs (Serves n now bytes) mid after s = let q = serves_quiet laws (book_at opening k all) k qs n now bytes mid s.kept s.finds in (inl q.ops, q.passes)
+ops_after_event laws all past rest opening k qs (Hears n now bytes) mid after s =
     let h = heard_at (book_at opening k all) k qs n now bytes mid s.kept s.finds in
     let r = got_step h.seat.client (parse_of (client.waiting_of h.seat.client) bytes) now in
-    (inr (inr (inl (record { index = h.session.owner; seat = h.seat; here = h.owner; after = r.0; acts = r.1; is = ap (λ (t : CoreStep). t.core.ops) h.hears_is; unopened = inl tt }))), (let n = ap (λ (t : CoreStep). t.core.steps) h.hears_is in omega (arith, n)))
-ops_after_event all past rest opening k qs (Settles now) mid after s = (inr (inr (inr (settled_are (book_at opening k all) k qs now s.kept))), omega arith)
-ops_after_event all past rest opening k qs (Cuts c) mid after s = subst (λ (o : Option Seat). Becomes (Cuts c) k (cuts k c o)) (sym s.finds.1) (by s.finds.0.client.linked)
+    (inr (inr (inl (record { index = h.session.owner; seat = h.seat; here = h.owner; after = r.0; acts = r.1; finds = got_finds h.seat.client (parse_of (client.waiting_of h.seat.client) bytes) now (no_walk (book_at opening k all) k qs h.session.owner h.seat s.kept h.owner); is = ap (λ (t : CoreStep). t.core.ops) h.hears_is; unopened = inl tt }))), (let n = ap (λ (t : CoreStep). t.core.steps) h.hears_is in omega (arith, n)))
+ops_after_event laws all past rest opening k qs (Settles now) mid after s = (inr (inr (inr (settled_are (book_at opening k all) k qs now s.kept))), omega arith)
+ops_after_event laws all past rest opening k qs (Cuts c) mid after s = subst (λ (o : Option Seat). Becomes (Cuts c) k (cuts k c o)) (sym s.finds.1) (by s.finds.0.client.linked)
   where
     lost : Ended
     lost = record { outcome = outcome.Lost; rests_on = 0 }
@@ -104,8 +108,8 @@ ops_after_event all past rest opening k qs (Cuts c) mid after s = subst (λ (o :
 
     by : (b : Bool) → Becomes (Cuts c) k (cuts_if k c s.finds.0 b)
     by false = (inl refl, omega arith)
-    by true = (inr (inr (inl (record { index = c; seat = s.finds.0; here = s.finds.1; after = gone; acts = ended_by s.finds.0.client.task lost; is = refl; unopened = inr (never s.finds.0.client.task) }))), omega arith)
-ops_after_event all past rest opening k qs (Hangs n) mid after s = let q = hangs_silent k n (numbered k.sessions n) in (inl q.1, q.3)
+    by true = (inr (inr (inl (record { index = c; seat = s.finds.0; here = s.finds.1; after = gone; acts = ended_by s.finds.0.client.task lost; finds = cut_finds s.finds.0.client; is = refl; unopened = inr (never s.finds.0.client.task) }))), omega arith)
+ops_after_event laws all past rest opening k qs (Hangs n) mid after s = let q = hangs_silent k n (numbered k.sessions n) in (inl q.1, q.3)
 
 -- ---- what stays
 
@@ -146,7 +150,7 @@ same_versions k e ops by f q le = shown by
     shown : OpsAfter e k ops → version_in ops f q ≡ version_in k.ops f q
     shown (inl same) = ap (λ (l : List Op). version_in l f q) same
     shown (inr (inl n)) = ap (λ (l : List Op). version_in l f q) n.is ∙ ap (λ z. z + 1) (count_appended f q k.ops n.new (unpointed f q n.new n.pointless))
-    shown (inr (inr (inl a))) = ap (λ (l : List Op). version_in l f q) a.is ∙ versions_after k.ops a.seat.place a.after (session_taken (session_of k.sessions a.seat.session)) (k.steps + 1) a.acts f q
+    shown (inr (inr (inl a))) = ap (λ (l : List Op). version_in l f q) a.is ∙ versions_after k.ops a.seat.place a.after (session_taken (session_of k.sessions a.seat.session)) (k.steps + 1) a.acts a.finds f q
     shown (inr (inr (inr (inl same)))) = ap (λ (l : List Op). version_in l f q) same
     shown (inr (inr (inr (inr s)))) = ap (λ (l : List Op). version_in l f q) s.4 ∙ ap (λ z. z + 1) (count_replaced f q k.ops s.0 s.1 (record s.1 { point = Some (k.steps + 1) }) s.2 (
         ap (λ b. (changes s.1.word && (s.1.file == f)) && b) (let t : nat_lt (k.steps + 1) q ≡ false = grind (arith, nat_tests, le) in t) ∙ ap (λ z. (changes s.1.word && (s.1.file == f)) && option_map_or (λ x. nat_lt x q) z false) (sym s.3.1)))

@@ -14,7 +14,7 @@ use Rattle.kept_promise.proofs.Lists.{some_is, nothing_there}
 use Rattle.kept_promise.proofs.Messages.{Job, stage_word}
 use Rattle.kept_promise.proofs.Counted.{traffic_is}
 use Rattle.kept_promise.proofs.VersionRuns.{close_not_opened, word_after}
-use Rattle.kept_promise.proofs.StepCases.{reads_keep, names_keep, JustEnds, StoreIn, reads_of, looked, in_open, now_open, either_word, Cases, took_cases}
+use Rattle.kept_promise.proofs.StepCases.{reads_keep, names_keep, JustEnds, StoreIn, reads_of, looked, in_open, now_open, either_word, Cases, took_cases, fetch_known}
 use Rattle.kept_promise.proofs.Logs.{Going, Ending}
 use Rattle.kept_promise.proofs.LogSums.{sent_more, asked_in, read_number, begins_in, IsSum, whole_in}
 use Rattle.kept_promise.proofs.LogEvents.{Answering, Answered, found_in, LogLaws, value_stays, file_stays}
@@ -37,6 +37,16 @@ IsBare w log = log ≡ []
 
 abbrev pub OpOwn : Ending
 OpOwn log w file v u = AreOwn w file v log × IsBare w log
+
+of_stage : (st : Stage) (l : List Deal) → IsBare (stage_word st) l
+of_stage (stage.Asking x) l = tt
+of_stage (stage.Hashing tries x) l = tt
+of_stage (stage.Listing x f) l = tt
+of_stage (stage.Reading f) l = tt
+of_stage (stage.Making x temp) l = tt
+of_stage (stage.Storing w) l = tt
+of_stage (stage.Committing x) l = tt
+of_stage (stage.Walking x w) l = tt
 
 -- ---- logs joined
 
@@ -144,7 +154,7 @@ own_heard book more taken j o p s x b a log h = record {
     log2 = log ++ deals_with (message.Answer x b ∷ []) (found_in s j.file j.stage x b) (took (idle s) (client.calls_of s) j.file j.stage x b).1.send
 
     sends : Sends (stage_word j.stage) j.file o.value (took (idle s) (client.calls_of s) j.file j.stage x b)
-    sends = took_cases (λ found r. Sends (stage_word j.stage) j.file o.value r) (idle s) (client.calls_of s) j.file j.stage x b (sends_cases (idle s) (client.calls_of s) j.file o.value j.stage x b h.1 a.value)
+    sends = took_cases (λ found r. Sends (stage_word j.stage) j.file o.value r) (idle s) (client.calls_of s) j.file j.stage x b (fetch_known book taken j j.stage a.taking.fetch) (sends_cases (idle s) (client.calls_of s) j.file o.value j.stage x b h.1 a.value)
 
     running_value : (e : Option Ended) → e ≡ None → (op_after o r.0 taken (book.steps + 1) (record r.1 { ended = e })).value ≡ o.value
     running_value None is = refl
@@ -155,13 +165,13 @@ own_heard book more taken j o p s x b a log h = record {
         (own_join (stage_word j.stage) o.file o.value (map Found (found_in s j.file j.stage x b)) (map Sent r.1.send) (own_found (stage_word j.stage) o.file o.value (found_in s j.file j.stage x b)) (subst (λ f. AreOwn (stage_word j.stage) f o.value (map Sent r.1.send)) (sym a.taking.file) sends.1)))
 
     each : AreOwn o.word (op_after o r.0 taken (book.steps + 1) r.1).file (op_after o r.0 taken (book.steps + 1) r.1).value log2
-    each = subst (λ f. AreOwn o.word f (op_after o r.0 taken (book.steps + 1) r.1).value log2) (sym (file_stays o r.0 taken (book.steps + 1) r.1)) (elim (either_word j.stage) [
+    each = subst (λ f. AreOwn o.word f (op_after o r.0 taken (book.steps + 1) r.1).value log2) (sym (file_stays o r.0 taken (book.steps + 1) r.1 a.finds)) (elim (either_word j.stage (fetch_known book taken j j.stage a.taking.fetch)) [
       | inl open_ ↦ (let w : o.word ≡ words.Open = a.taking.word ∙ open_ in subst (λ z. AreOwn z o.file (op_after o r.0 taken (book.steps + 1) r.1).value log2) (sym w) (open_own o.file o.value (op_after o r.0 taken (book.steps + 1) r.1).value log2 (subst (λ z. AreOwn z o.file o.value log2) w all)))
       | inr close ↦ (let w : o.word ≡ words.Close = a.taking.word ∙ close in subst (λ v. AreOwn o.word o.file v log2) (sym (value_stays o r.0 taken (book.steps + 1) r.1 (λ len digest z. close_not_opened more (op_after o r.0 taken (book.steps + 1) r.1) len digest a.right (word_after o r.0 taken (book.steps + 1) r.1 ∙ w) z))) all)
     ])
 
     bare : (st : Stage) (l : List Deal) → IsBare (stage_word st) l
-    bare st l = elim (either_word st) [ inl open_ ↦ subst (λ w. IsBare w l) (sym open_) tt | inr close ↦ subst (λ w. IsBare w l) (sym close) tt ]
+    bare st l = of_stage st l
 
 pub own_laws : (all : List Moment) → LogLaws all OwnBy OpOwn
 own_laws all = record {
@@ -179,7 +189,7 @@ own_laws all = record {
     none w = refl
 
     other : (st : Stage) (l : List Deal) → IsBare (stage_word st) l
-    other st l = elim (either_word st) [ inl open_ ↦ subst (λ w. IsBare w l) (sym open_) tt | inr close ↦ subst (λ w. IsBare w l) (sym close) tt ]
+    other st l = of_stage st l
 
 -- ---- what it makes of the promise
 

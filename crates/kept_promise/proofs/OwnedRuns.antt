@@ -15,7 +15,9 @@ use Rattle.kept_promise.proofs.Actors.{job_place, acts_alone, Heard, heard_at, h
 use Rattle.kept_promise.proofs.CommandOps.{made_by}
 use Rattle.kept_promise.proofs.OpsAfter.{StayIn, ops_after_event, stays_in}
 use Rattle.kept_promise.proofs.Logs.{IsSilent}
-use Rattle.kept_promise.proofs.LogEvents.{is_new, joins_silent, serves_silent, hangs_silent, cuts_silent}
+use Rattle.kept_promise.proofs.LogEvents.{is_new, joins_silent, hangs_silent, cuts_silent}
+use Rattle.kept_promise.proofs.Found.{command_finds}
+use Rattle.kept_promise.proofs.ServesQuietly.{serves_quiet}
 
 -- ---- what is carried
 
@@ -110,9 +112,9 @@ says fits all past rest opening k qs (Joins c) mid after s = inl (joins_silent k
 says fits all past rest opening k qs (Does c now d) mid after s = subst (λ (o : Option Seat). Says (moment k (Does c now d)) (does k c now d o).core) (sym s.finds.1) (
     let r = command_step s.finds.0.client d now in
     let new : Op = made_by k c now d s.finds.0 r.0 r.1 in
-    inr (omega arith, (length k.ops, new, at_end k.ops new, (is_new c d (value_at_begin s.finds.0.client (word_of d) (file_of d) r.1.ended) (k.steps + 1) r.0 r.1).here))
+    inr (omega arith, (length k.ops, new, at_end k.ops new, (is_new c d (value_at_begin s.finds.0.client (word_of d) (file_of d) r.1.ended) (k.steps + 1) r.0 r.1 (command_finds s.finds.0.client d now s.finds.2)).here))
     )
-says fits all past rest opening k qs (Serves n now bytes) mid after s = inl (refl, refl, (serves_silent k n now bytes (numbered k.sessions n)).0)
+says fits all past rest opening k qs (Serves n now bytes) mid after s = inl (refl, refl, (serves_quiet fits (book_at opening k all) k qs n now bytes mid s.kept s.finds).up)
 says fits all past rest opening k qs (Hears n now bytes) mid after s = says_hears fits (book_at opening k all) k qs n now bytes mid s.kept (heard_at (book_at opening k all) k qs n now bytes mid s.kept s.finds)
 says fits all past rest opening k qs (Settles now) mid after s = inl (refl, refl, refl)
 says fits all past rest opening k qs (Cuts c) mid after s = inl (cuts_silent k c)
@@ -125,7 +127,7 @@ pub carried_owned : FitLaws → Carried AllOwned
 carried_owned fits = record {
   first = λ all opening tree count kept. record { by = λ m there. (let lt = there.1 in absurd (omega (arith, lt))); each = λ m there. (let lt = there.1 in absurd (omega (arith, lt))) };
   steps = λ all past rest opening k qs e mid after s h.
-      let w = ops_after_event all past rest opening k qs e mid after s in
+      let w = ops_after_event fits all past rest opening k qs e mid after s in
       let said = says fits all past rest opening k qs e mid after s in
       owned_more past (moment k e) k.steps (happens k e).core.steps k.ops (happens k e).core.ops w.1 (elim said [ inl silent ↦ inr silent | inr has ↦ inl has.0 ]) (elim said [ inl silent ↦ inl silent | inr has ↦ inr has.1 ]) (stays_in (book_at opening k all) k qs e (happens k e).core.ops s.kept w.0) h;
   adjusts = λ all past opening k qs index seats same h. h;

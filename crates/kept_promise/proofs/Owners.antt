@@ -171,7 +171,8 @@ abbrev pub stage_after : Stage → Turn → Stage
 stage_after s turn.Skip = s
 stage_after s (turn.At t) = t
 stage_after s (turn.Clients n) = stage.Files
-stage_after s (turn.File name content) = s
+stage_after s (turn.Dir dir name) = s
+stage_after s (turn.File dir name content) = s
 stage_after s t = stage.Events
 
 abbrev pub owners_after : (owners : List ℕ) → (joins : Bool) → Turn → List ℕ

@@ -99,6 +99,7 @@ first_of log file v st h word book taken j x served = by st h word served
     by (stage.Making y temp) h w served = absurd cc
     by (stage.Storing store) h w served = absurd cc
     by (stage.Committing y) h w served = absurd cc
+    by (stage.Walking y walk) h w served = absurd h
 
 -- where an open ends so
 pub point_now : (book : Book) (past : List Moment) (o : Op) (j : Job) (c : State) (taken : List TakenCall) (step : ℕ) (acts : ClientStep) (len : ℕ) (digest : List ℕ) → slice_get book.ops j.place ≡ Some o → o.file ≡ j.file → o.outcome ≡ told.Running → o.word ≡ words.Open → stage_word j.stage ≡ words.Open → MeetsBy (deals_of o past) o.file o.value j.stage

@@ -1,9 +1,9 @@
 -- The promise, of every trace that is accepted.
-use Rattle.std.proofs.Common.{◌≡◌, ℕ, suc, List, [], ◌∷◌, Some, refl, sym, subst, arith, Ok}
+use Rattle.std.proofs.Common.{◌≡◌, ℕ, suc, List, [], ◌∷◌, Some, refl, sym, subst, arith, Ok, ap, true}
 use Rattle.register_model.specs.declared.op.Outcome.TheVariants as told
 use Rattle.register_model.specs.declared.op.Word.TheVariants as words
 use Rattle.trace_replay.specs.Traces.{IsKeptPromise}
-use Rattle.kept_promise.proofs.Common.{Contains-append_right, Contains-push, World, Op, slice_get, passes, run, accepted, Moment, deeds_of, moments, hashed_of, book_of, rounds}
+use Rattle.kept_promise.proofs.Common.{Contains-append_right, Contains-push, World, Op, slice_get, passes, run, accepted, Moment, deeds_of, moments, hashed_of, book_of, rounds, changes, deals_of}
 use Rattle.kept_promise.proofs.Statements.{ClocksKeepTheRule}
 use Rattle.kept_promise.proofs.Turns.{also_numbered}
 use Rattle.kept_promise.proofs.Rounds.{passes_are_rounds}
@@ -19,7 +19,8 @@ use Rattle.kept_promise.proofs.Done.{deeds_counted, deeds_done}
 use Rattle.kept_promise.proofs.CutEnds.{AreFollowed, carried_follow, cuts_end}
 use Rattle.kept_promise.proofs.StoredWhole.{Stored, carried_stored, has_stored, have_stored, made_sent}
 use Rattle.kept_promise.proofs.VersionRuns.{Versions, carried_versions, opens_version}
-use Rattle.kept_promise.proofs.MadeRuns.{AllSettled, carried_settled}
+use Rattle.kept_promise.proofs.MadeRuns.{AllSettled, carried_settled, settles_first}
+use Rattle.kept_promise.proofs.SmallDeeds.{SmallDeeds, carried_small}
 use Rattle.kept_promise.proofs.OwnedRuns.{AllOwned, carried_owned, is_for}
 use Rattle.kept_promise.proofs.NumberedRuns.{AllNumbered, carried_numbered}
 use Rattle.kept_promise.proofs.LogSums.{counts_log}
@@ -35,7 +36,7 @@ use Rattle.kept_promise.proofs.Completed.{completes}
 use Rattle.kept_promise.proofs.EndedWell.{ends_well}
 use Rattle.kept_promise.proofs.KeptUsed.{UsedAt, used_event}
 use Rattle.kept_promise.proofs.Saved.{AllSaved, carried_saved, none_unknown}
-use Rattle.kept_promise.proofs.Promised.{AreWords, no_fault, legal_kept, holds_files, holds_contents, holds_values}
+use Rattle.kept_promise.proofs.Promised.{AreWords, no_fault, legal_kept, holds_files, holds_contents, holds_values, has_journal, own_calls}
 
 -- ---- facts that are carried together
 
@@ -72,11 +73,11 @@ Used all past opening k qs = Told all past opening k qs × UsedAt all past openi
 
 -- all that is carried
 abbrev More : Fact
-More all past opening k qs = Used all past opening k qs × AllSaved all past opening k qs
+More all past opening k qs = Used all past opening k qs × (AllSaved all past opening k qs × SmallDeeds all past opening k qs)
 
 told_carried : Carried Told
 told_carried =
-    carried_both Follows (λ all past opening k qs. Stored all past opening k qs × (Versions all past opening k qs × (Changes all past opening k qs × Logs all past opening k qs))) carried_follow
+    carried_both Follows (λ all past opening k qs. Stored all past opening k qs × (Versions all past opening k qs × (Changes all past opening k qs × Logs all past opening k qs))) (carried_follow fit_laws)
     (carried_both Stored (λ all past opening k qs. Versions all past opening k qs × (Changes all past opening k qs × Logs all past opening k qs)) (carried_stored fit_laws)
     (carried_both Versions (λ all past opening k qs. Changes all past opening k qs × Logs all past opening k qs) (carried_versions fit_laws)
     (carried_both Changes Logs (carried_both AllSettled (λ all past opening k qs. AllOwned all past opening k qs × AllNumbered all past opening k qs) (carried_settled fit_laws) (carried_both AllOwned AllNumbered (carried_owned fit_laws) carried_numbered)) logs_carried)))
@@ -92,14 +93,17 @@ used_carried = record {
 }
 
 more_carried : Carried More
-more_carried = carried_both Used AllSaved used_carried (carried_saved fit_laws)
+more_carried = carried_both Used (λ all past opening k qs. AllSaved all past opening k qs × SmallDeeds all past opening k qs) used_carried (carried_both AllSaved SmallDeeds (carried_saved fit_laws) carried_small)
 
 -- ---- the promise of what a run leaves
+
+close_changes : (o : Op) → o.word ≡ words.Close → changes o.word ≡ true
+close_changes o close = ap changes close
 
 are_words : (w : World) (all : List Moment) (h : Stands More all all w) → AreWords w.core.ops
 are_words w all h = λ i o at.
     let d = also_numbered w.core.ops (deeds_of all) (suc i) o (sym (deeds_counted w all h.more.0.0.0.followed)) at in
-    (d.0.command, (deeds_done w all h.queues h.kept h.more.0.0.0.followed i d.0 o d.1 at).word)
+    (d.0.command, (deeds_done w all h.queues h.kept h.more.0.0.0.followed i d.0 o d.1 at).word, h.more.1.1 i d.0 d.1)
 
 promise_of : (input : List ℕ) (w : World) → run input ≡ Ok w → Stands More (moments input) (moments input) w → IsKeptPromise input w
 promise_of input w ran h =
@@ -117,9 +121,9 @@ promise_of input w ran h =
         count = deeds_counted w all h.more.0.0.0.followed;
         done = deeds_done w all h.queues h.kept h.more.0.0.0.followed;
         cuts = cuts_end w all h.more.0.0.0.cuts;
-        journal = h.kept.sound.journal;
-        settled = changes.0.settled;
-        settles = changes.0.first;
+        journal = has_journal (book_of w all) h.kept.sound;
+        settled = λ i p e at is kind. changes.0.settled i p at;
+        settles = settles_first (book_of w all) changes.0.first;
         points = λ k o at. opens_at (book_of w all) o (λ len digest is. (logs.1.0.once k len digest o at is).called);
         versions = opens_version (book_of w all) w.core h.queues h.kept versions.1;
         no_fault = no_fault (book_of w all) h.kept.sound;
@@ -128,7 +132,7 @@ promise_of input w ran h =
         attempts = λ k o at. attempts_end (book_of w all) all o (h.kept.sound.rights k o at) (logs.1.0.met.each k o at) (logs.1.1.each k o at);
         met = λ k o at open_. attempts_met all o open_ (logs.1.0.met.each k o at);
         owned = λ m there. is_for w.core.ops m (changes.1.0.each m there);
-        calls = λ k o at. (logs.1.1.each k o at).0;
+        calls = λ k d o at is. own_calls d.command o (deals_of o all) (h.more.1.1 k d at) (logs.1.1.each k o is).0;
         numbered = λ n. changes.1.1.each n;
         silent = stored.counted.silent;
         opened = λ k len digest o at is. opened_once (book_of w all) o len digest is (open_word k o len digest at is) (counts_log o all (stored.counted.counts k o at)) (logs.1.1.each k o at) (logs.0.each k o at) (logs.1.0.once k len digest o at is);
@@ -137,19 +141,19 @@ promise_of input w ran h =
         named = λ k o at close. names_chunks all o close (stored.closes.each k o at);
         paid = λ k o at close. pays_all all o close (stored.closes.each k o at);
         stored = λ k o at sent. has_stored all o (stored.counted.counts k o at) (stored.closes.each k o at) (logs.1.1.each k o at) sent;
-        made = made_sent (book_of w all) all w.opening w.core h.queues h.kept stored;
+        made = λ k p o at close point. made_sent (book_of w all) all w.opening w.core h.queues h.kept stored k p o at (close_changes o close) point;
       };
       legal = legal_kept (book_of w all) w.core h.queues h.kept (are_words w all h);
       complete = record {
         ended = completes fit_laws w all h.queues h.kept h.carry h.rested;
         well = λ k d o was at alone asks free uncut.
-            ends_well (book_of w all) d o _ (deeds_done w all h.queues h.kept h.more.0.0.0.followed k d o was at) (completes fit_laws w all h.queues h.kept h.carry h.rested k o at alone) asks free uncut;
+            ends_well (book_of w all) d o _ (h.more.1.1 k d was) (deeds_done w all h.queues h.kept h.more.0.0.0.followed k d o was at) (completes fit_laws w all h.queues h.kept h.carry h.rested k o at alone) asks free uncut;
       };
       saving = record {
-        known = λ m there. (h.more.1.each m there).0;
-        told = λ m there. (h.more.1.each m there).1;
-        saved = λ k o at close known. saves_all all o close (stored.closes.each k o at) (stored.counted.counts k o at) (none_unknown all o (λ m there. (h.more.1.each m there).1) known);
-        asked = λ m there. (h.more.1.each m there).2;
+        known = λ m there. (h.more.1.0.each m there).0;
+        told = λ m there. (h.more.1.0.each m there).1;
+        saved = λ k o at close known. saves_all all o close (stored.closes.each k o at) (stored.counted.counts k o at) (none_unknown all o (λ m there. (h.more.1.0.each m there).1) known);
+        asked = λ m there. (h.more.1.0.each m there).2;
         leased = λ m k o there at. h.more.0.1.leased m there k o at;
         used = λ m k o there at. h.more.0.1.each m there k o at;
       };

@@ -9,17 +9,21 @@ use Rattle.register_model.specs.declared.op.Outcome.{Outcome}
 use Rattle.register_model.specs.declared.op.Outcome.TheVariants as told
 use Rattle.register_model.specs.declared.op.Word.TheVariants as words
 use Rattle.trace_replay.specs.Book.{AreApart}
-use Rattle.trace_replay.specs.Traces.{HoldsValues, HoldsFile, HoldsFiles, HoldsContents}
-use Rattle.kept_promise.proofs.Common.{nat_tests, ◌==◌, ◌&&◌, ◌||◌, nat_lt, All, slice_get, cond, option_map_or, Command, Change, File, Value, changes, changed_before, value_from, content_of, is_closed, is_untold, Op, Word, word_of, Core, Session, numbered, World, hashed_of, stored_traffic, deals_of, Moment, Book, Or, history, value_at, version_at, IsOpenRefused, Queue}
+use Rattle.trace_replay.specs.Faithful.{IsKind, left_by as left_of}
+use Rattle.trace_replay.specs.Ops.{is_of_file}
+use Rattle.trace_replay.specs.Traffic.{AreOwn}
+use Rattle.trace_replay.specs.Walking.{AreCalls}
+use Rattle.trace_replay.specs.Traces.{IsWanted, HasTarget, HoldsValues, HoldsFile, HoldsFiles, HoldsContents}
+use Rattle.kept_promise.proofs.Common.{nat_tests, ◌==◌, ◌&&◌, ◌||◌, nat_lt, All, slice_get, cond, option_map_or, Command, Change, File, Value, changes, changed_before, value_from, content_of, is_closed, is_untold, Op, Word, word_of, Core, Session, numbered, World, hashed_of, stored_traffic, deals_of, Moment, Book, Or, history, value_at, version_at, IsOpenRefused, Queue, Wanted, HasJournal, sha1, unwrap_or, Deal}
 use Rattle.kept_promise.proofs.Lists.{some_is, nothing_there, within}
 use Rattle.kept_promise.proofs.Marks.{Mark, marks, mark_of, marks_cons, with_mark, latest_mark, later_mark, left_by, value_is, made_before}
 use Rattle.kept_promise.proofs.Keys.{own}
-use Rattle.kept_promise.proofs.Rights.{Caused, RefusedBy, IsRight, IsSound}
+use Rattle.kept_promise.proofs.Rights.{Caused, RefusedBy, IsRight, IsSound, HasCommits}
 use Rattle.kept_promise.proofs.History.{closes_alone}
 use Rattle.kept_promise.proofs.Growth.{or_map}
+use Rattle.kept_promise.proofs.PathNames.{IsSmall}
 use Rattle.kept_promise.proofs.Facts.{FileIs, IsServer, IsKept}
 use Rattle.kept_promise.proofs.Turns.{also_numbered}
-use Rattle.kept_promise.proofs.Messages.{content_wanted}
 
 -- ---- an operation ended as it may
 
@@ -62,7 +66,7 @@ finds_gone book o r = λ is_open stale. by o.outcome r.cause stale is_open
   where
     gone : (status : ℕ) → IsOpenRefused book o.file o status → (status == 70) ≡ true → (p : ℕ) × (o.point ≡ Some p) × (value_at book o.file p ≡ Absent)
     gone status (inl h) e = let is = h.0 in absurd (grind (arith, nat_tests, is, e))
-    gone status (inr h) e = (h.3.0, h.3.1.0, h.3.2)
+    gone status (inr h) e = (h.1.0, h.1.1.0, h.1.2)
 
     by : (u : Outcome) → Caused book o u → is_stale u ≡ true → o.word ≡ words.Open → (p : ℕ) × (o.point ≡ Some p) × (value_at book o.file p ≡ Absent)
     by (told.Refused status) h e is_open = gone status (subst (λ (w : Word). RefusedBy book o w status) is_open h) e
@@ -167,16 +171,17 @@ value_there book sound f p known = subst (λ (v : Value). IsSome v) (sym (value_
 
 -- ---- words
 
--- each operation is of a command
+-- each operation is of a command on a file
 abbrev pub AreWords : List Op → Type 0
-AreWords ops = (k : ℕ) (o : Op) → slice_get ops k ≡ Some o → (d : Command) × (o.word ≡ word_of d)
+AreWords ops = (k : ℕ) (o : Op) → slice_get ops k ≡ Some o → (d : Command) × (o.word ≡ word_of d) × IsSmall d
 
 abbrev Kind : Word → Type 0
 Kind w = (w ≡ words.Close) ⊎ ((changes w ≡ false) × ((file : ℕ) (u : Outcome) → register.success w file u ≡ false))
 
-kind_of : (d : Command) → Kind (word_of d)
-kind_of (command.Close f) = inl refl
-kind_of _ = inr (refl, λ file u. refl)
+kind_of : (d : Command) → IsSmall d → Kind (word_of d)
+kind_of (command.Close f) small = inl refl
+kind_of (command.Named k) small = absurd small
+kind_of _ small = inr (refl, λ file u. refl)
 
 closed_is : (o : Op) → o.word ≡ words.Close → register.succeeded o ≡ is_closed o.outcome
 closed_is o e = ap (λ (x : Word). register.success x o.file o.outcome) e
@@ -207,7 +212,35 @@ legal_kept book k qs kept are apart = record {
 }
   where
     kind_at : (i : ℕ) (o : Op) → slice_get book.ops i ≡ Some o → Kind o.word
-    kind_at i o at = let d = are i o at in subst Kind (sym d.1) (kind_of d.0)
+    kind_at i o at = let d = are i o at in subst Kind (sym d.1) (kind_of d.0 d.2)
+
+-- ---- the journal, and calls
+
+-- the entries are those of closes, which the promise tells of any change
+pub has_journal : (book : Book) → IsSound book → HasJournal book
+has_journal book sound = record {
+  count = h.count;
+  rising = λ i j p q lt a b. let up = h.rising i j p q lt a b in omega (arith, up);
+  apart = λ i j p q d e lt a b c f g t. h.rising i j p q lt a b;
+  made = λ i p e at is file.
+      let m = h.made i p e at is in
+      let close : m.1.word ≡ words.Close = closes_alone book sound m.0 m.1 m.2 m.3 p m.4 in
+      let left : left_of m.1 ≡ m.1.value = ap (λ (w : Word). unwrap_or (value_from w m.1.value) []) close in
+      (m.0, m.1, m.2, subst (λ (w : Word). IsKind w e.kind) (sym close) (h.kinds i e is), m.4, m.5, ap length left ∙ m.6, or_map book _ _ (λ q. ap sha1 left ∙ q) m.7, m.8);
+  only = λ k p o at change point.
+      let i = h.only k p o at change point in
+      let e = also_numbered book.entries book.journal (suc i.0) p (sym h.count) i.1 in
+      (i.0, e.0, i.1, e.1, ap is_of_file (h.kinds i.0 e.0 e.1));
+  once = h.once;
+}
+  where
+    h : HasCommits book
+    h = sound.journal
+
+-- what was said for a command on a file is its operation's own
+pub own_calls : (d : Command) (o : Op) (ds : List Deal) → IsSmall d → AreOwn o.word o.file o.value ds → AreCalls d o ds
+own_calls (command.Named k) o ds small own = absurd small
+own_calls _ o ds small own = own
 
 -- ---- what the server holds
 
@@ -283,15 +316,10 @@ holds_values book w qs kept stored = record {
         place = pending.place;
         op = pending.op;
         there = at_;
-        word_is = pending.unmade.0;
-        file_is = pending.file_is;
+        wanted_is = subst (IsWanted book pending.op) (sym (kept.server.commits i c at)) (pending.unmade.0, pending.size_is, pending.value_is, stored c.session pending.place there.0 home.0 pending.op c home.1 pending.known at_ there.1);
+        file_is = subst (λ (a : Wanted). HasTarget pending.op a c.file) (sym (kept.server.commits i c at)) pending.file_is;
         untold = untold_is pending.op.outcome pending.unmade.2;
         pointless = pending.unmade.1;
-        content = content_wanted c.what;
-        what_is = kept.server.commits i c at;
-        size_is = pending.size_is;
-        value_is = pending.value_is;
-        traffic_is = stored c.session pending.place there.0 home.0 pending.op c home.1 pending.known at_ there.1;
         session = home.0;
         session_is = home.1;
         stands = home.2;

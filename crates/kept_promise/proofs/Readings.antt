@@ -7,6 +7,9 @@ use Rattle.clock_rule.specs.declared.rule.ClockFault.{ClockFault}
 use Rattle.clock_rule.specs.declared.rule.Reading.{Reading}
 use Rattle.clock_rule.specs.declared.rule.Reading.TheVariants as reads
 use Rattle.clock_rule.proofs.Whole.{taken_whole}
+use Rattle.command_text.specs.declared.command.Command.{Command}
+use Rattle.command_text.specs.declared.command.Command.TheVariants as command
+use Rattle.command_text.specs.declared.path.Spot.{Spot}
 use Rattle.trace_text.specs.declared.line.Line.TheVariants as line
 use Rattle.trace_replay.specs.declared.adjusting.Adjustment.TheVariants as adjustment
 use Rattle.trace_replay.specs.declared.stage.Stage.{Stage}
@@ -16,13 +19,12 @@ use Rattle.trace_replay.specs.declared.timing.Timing.TheVariants as timing
 use Rattle.trace_replay.specs.declared.turn.Turn.TheVariants as turn
 use Rattle.trace_replay.specs.Timed.{Timed, Times, no_times, down_timing, pass_timing, timing_of, read_by, times_with, with_times, times_if, timed_by, timed_turn, timed_start, accepted_from}
 use Rattle.trace_replay.specs.Readings.{said, said_by, owners_by, timings_from, timings_of}
-use Rattle.trace_replay.specs.Run.{refused}
-use Rattle.kept_promise.proofs.Common.{nat_le, nat_lt, lines_of, Part, line_of, Line, LineFault, Grammar, Refused, Turn, Core, Seat, numbered, World, start, line_most, sessions_most, asks_if, sized, named, joins_if, joins_within, event_asks, asks_at, asks, asked, asked_by, turned, ended, in_header, run_from, run, owners_of, accepted, KeepsClocks, can_open}
+use Rattle.trace_replay.specs.Run.{refused, do_asks, place_for, file_asks, directory_asks}
+use Rattle.kept_promise.proofs.Common.{nat_le, nat_lt, lines_of, Part, line_of, Line, LineFault, Grammar, Refused, Turn, Core, Seat, numbered, World, start, line_most, sessions_most, asks_if, sized, joins_if, joins_within, event_asks, asks_at, asks, asked, asked_by, turned, ended, in_header, run_from, run, owners_of, accepted, KeepsClocks}
 use Rattle.kept_promise.proofs.Statements.{ClocksKeepTheRule}
 use Rattle.kept_promise.proofs.Owners.{stage_after, owners_after, MayTurn, turned_to}
 use Rattle.kept_promise.proofs.RunsResults.{asking, turn_is, refused_line, no_world, ran_by}
 use Rattle.kept_promise.proofs.RunsAsked.{within}
-use Rattle.trace_replay.specs.declared.opening.TheConstants.{ROOT}
 
 -- What holds of each world of a run, before the line of this number, which was read: the server has room for the session of each join that
 -- is asked for.
@@ -121,10 +123,14 @@ joins_on os standing c (Some seat) s l t e h = by seat.client.linked (nat_lt sta
     by false true e = goes os s l (turn.Join c) t e h
     by false false e = refused_line _ t e
 
+does_on : (os : List ℕ) (s : Stage) (k : Core) (c r : ℕ) (x : Command) (t : Turn) → ((xs : List Timing) → AreReadings xs → AreFrom s xs) → do_asks k c r x ≡ asking t → GoesOn os s (line.Do c r x) t
+does_on os s k c r (command.Named n) t here e = refused_line Grammar t e
+does_on os s k c r x t here e = goes_if os _ s (line.Do c r x) (turn.Do c r x) t e (record { from = λ xs h. here (timing.Reads (reads.Client c r) ∷ xs) (one_more _ xs h); owners = refl })
+
 -- an event, where events may come
 event_on : (os : List ℕ) (s : Stage) (k : Core) (l : Line) (t : Turn) → ((xs : List Timing) → AreReadings xs → AreFrom s xs) → event_asks k l ≡ asking t → GoesOn os s l t
 event_on os s k (line.Join c r at) t here e = joins_on os _ c (numbered k.seats c) s (line.Join c r at) t e (record { from = λ xs h. here (timing.Reads (reads.Both at c r) ∷ xs) (one_more _ xs h); owners = refl })
-event_on os s k (line.Do c r x) t here e = goes_if os _ s (line.Do c r x) (turn.Do c r x) t e (record { from = λ xs h. here (timing.Reads (reads.Client c r) ∷ xs) (one_more _ xs h); owners = refl })
+event_on os s k (line.Do c r x) t here e = does_on os s k c r x t here e
 event_on os s k (line.Up n a at) t here e = goes_if os _ s (line.Up n a at) (turn.Up n a at) t e (record { from = λ xs h. here (timing.Reads (reads.Server at) ∷ xs) (one_more _ xs h); owners = refl })
 event_on os s k (line.Down n a r) t here e = goes_if os _ s (line.Down n a r) (turn.Down n a r) t e (record { from = λ xs h. here (said (down_timing r (numbered os n)) ++ xs) (down_more r (numbered os n) xs h); owners = refl })
 event_on os s k (line.Settle at) t here e = goes os s (line.Settle at) (turn.Settle at) t e (record { from = λ xs h. here (timing.Reads (reads.Server at) ∷ xs) (one_more _ xs h); owners = refl })
@@ -136,20 +142,25 @@ event_on os s k (line.Clear u) t here e = goes_if os _ s (line.Clear u) (turn.Ad
 event_on os s k (line.Evict c file) t here e = goes_if os _ s (line.Evict c file) (turn.Adjust (adjustment.Evict c file)) t e (record { from = λ xs h. here xs h; owners = refl })
 event_on os s k l t here e = refused_line Grammar t e
 
-sized_on : (os : List ℕ) (long much : Bool) (name : List ℕ) (content : List Part) (t : Turn) → sized long much (turn.File name content) ≡ asking t → GoesOn os stage.Files (line.File name content) t
-sized_on os false false name content t e = goes os stage.Files (line.File name content) (turn.File name content) t e (record { from = λ xs h. h; owners = refl })
-sized_on os _ _ name content t e = refused_line _ t e
+directory_on : (os : List ℕ) (spot : Spot) (o : Option ℕ) (t : Turn) → directory_asks o spot.name ≡ asking t → GoesOn os stage.Files (line.Dir spot) t
+directory_on os spot None t e = refused_line Grammar t e
+directory_on os spot (Some dir) t e = goes os stage.Files (line.Dir spot) (turn.Dir dir spot.name) t e (record { from = λ xs h. h; owners = refl })
 
-named_on : (os : List ℕ) (b : Bool) (size : ℕ) (name : List ℕ) (content : List Part) (t : Turn) → named b size name content ≡ asking t → GoesOn os stage.Files (line.File name content) t
-named_on os false size name content t e = refused_line Grammar t e
-named_on os true size name content t e = sized_on os _ _ name content t e
+sized_on : (os : List ℕ) (long much : Bool) (spot : Spot) (dir : ℕ) (content : List Part) (t : Turn) → sized long much (turn.File dir spot.name content) ≡ asking t → GoesOn os stage.Files (line.File spot content) t
+sized_on os false false spot dir content t e = goes os stage.Files (line.File spot content) (turn.File dir spot.name content) t e (record { from = λ xs h. h; owners = refl })
+sized_on os _ _ spot dir content t e = refused_line _ t e
+
+file_on : (os : List ℕ) (spot : Spot) (size : ℕ) (content : List Part) (o : Option ℕ) (t : Turn) → file_asks o size spot.name content ≡ asking t → GoesOn os stage.Files (line.File spot content) t
+file_on os spot size content None t e = refused_line Grammar t e
+file_on os spot size content (Some dir) t e = sized_on os _ _ spot dir content t e
 
 at_stage : (os : List ℕ) (w : World) (s : Stage) (l : Line) (t : Turn) → asks_at w s l ≡ asking t → GoesOn os s l t
 at_stage os w stage.Version line.Version t e = goes os stage.Version line.Version (turn.At stage.Term) t e (record { from = λ xs h. h; owners = refl })
 at_stage os w stage.Term (line.Term n) t e = goes os stage.Term (line.Term n) (turn.At stage.Drift) t e (record { from = λ xs h. (n, h.0, h.1, ap (λ (ys : List Timing). timing.Term n ∷ ys) h.2); owners = refl })
 at_stage os w stage.Drift (line.Drift n) t e = goes os stage.Drift (line.Drift n) (turn.At stage.Clients) t e (record { from = λ xs h. (n, h.0, ap (λ (ys : List Timing). timing.Drift n ∷ ys) h.1); owners = refl })
 at_stage os w stage.Clients (line.Clients n) t e = goes os stage.Clients (line.Clients n) (turn.Clients n) t e (record { from = λ xs h. h; owners = refl })
-at_stage os w stage.Files (line.File name content) t e = named_on os (can_open w.core.server.tree ROOT name) w.size name content t e
+at_stage os w stage.Files (line.Dir spot) t e = directory_on os spot (place_for w.core.server.tree spot) t e
+at_stage os w stage.Files (line.File spot content) t e = file_on os spot w.size content (place_for w.core.server.tree spot) t e
 at_stage os w stage.Files l t e = event_on os stage.Files w.core l t (λ xs h. h) e
 at_stage os w stage.Events l t e = event_on os stage.Events w.core l t (λ xs h. h) e
 at_stage os w s l t e = refused_line Grammar t e

@@ -1,7 +1,8 @@
 -- What a run carries, event by event: what the laws of events give before and after each, and what is asked of any further fact.
 use Rattle.std.proofs.Common.{◌≡◌, ℕ, ◌<◌, List, [], ◌∷◌, ◌++◌, length, Some, false, replicate}
 use Rattle.server_core.specs.State as server
-use Rattle.kept_promise.proofs.Common.{message_spell, Indexed, Opening, file_of, Core, Seat, new_seat, Session, Event, Event.Joins, Event.Does, Event.Serves, Event.Hears, Event.Settles, Event.Cuts, Event.Hangs, numbered, with_numbered, happens, World, Moment, Book, book_of, Ask, Told, Queue, ask_message, told_message, Tree}
+use Rattle.kept_promise.proofs.Common.{message_spell, Indexed, Opening, Core, Seat, new_seat, Session, Event, Event.Joins, Event.Does, Event.Serves, Event.Hears, Event.Settles, Event.Cuts, Event.Hangs, numbered, with_numbered, happens, World, Moment, Book, book_of, Ask, Told, Queue, ask_message, told_message, Tree}
+use Rattle.kept_promise.proofs.PathNames.{IsSmall}
 use Rattle.kept_promise.proofs.Facts.{IsKept}
 use Rattle.kept_promise.proofs.Adjusts.{SameSeats, adjusted_core}
 use Rattle.kept_promise.proofs.Rounds.{AreRested}
@@ -44,7 +45,7 @@ moment k e = record { before = k; event = e }
 -- is taken off its queue.
 abbrev pub Finds : Core → List Queue → Event → (mid : List Queue) → Type 0
 Finds k qs (Joins c) mid = (seat : Seat) × (numbered k.seats c ≡ Some seat) × (seat.client.linked ≡ false) × (k.server.sessions_made < 4294967295) × (length k.server.sessions < 64) × (mid ≡ qs)
-Finds k qs (Does c now d) mid = (seat : Seat) × (numbered k.seats c ≡ Some seat) × (file_of d < 18446744073709551616) × (mid ≡ qs)
+Finds k qs (Does c now d) mid = (seat : Seat) × (numbered k.seats c ≡ Some seat) × IsSmall d × (mid ≡ qs)
 Finds k qs (Serves n now bytes) mid = (q : Queue) × (a : Ask) × (us : List Ask) × (numbered qs n ≡ Some q) × (q.ups ≡ a ∷ us) × (bytes ≡ message_spell (ask_message a)) × (mid ≡ with_numbered qs n (record q { ups = us }))
 Finds k qs (Hears n now bytes) mid = (q : Queue) × (t : Told) × (ts : List Told) × (numbered qs n ≡ Some q) × (q.downs ≡ t ∷ ts) × (bytes ≡ message_spell (told_message t)) × (mid ≡ with_numbered qs n (record q { downs = ts }))
 Finds k qs (Settles now) mid = mid ≡ qs

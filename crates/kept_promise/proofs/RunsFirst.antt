@@ -2,17 +2,17 @@
 use Rattle.std.proofs.Common.{◌⊎◌, inl, inr, ◌≡◌, ℕ, zero, suc, ◌+◌, ◌<◌, ◌≤◌, List, [], ◌∷◌, ◌++◌, length, Option, Some, None, Bool, true, false, refl, sym, ap, ◌∙◌, subst, arith, eq-eqb, ne_eqb, replicate}
 use Rattle.server_core.specs.State as server
 use Rattle.kept_promise.proofs.Common.{slice_get, find, option_map, cond, ◌==◌, File, content_of, Opening, Seat, new_seat, numbered, Moment, Book, Tree, can_open, nat_tests, if◌then◌else◌}
-use Rattle.kept_promise.proofs.Lists.{some_is, nothing_there, same_or_not, count_more}
+use Rattle.kept_promise.proofs.Lists.{some_is, nothing_there, same_or_not}
 use Rattle.kept_promise.proofs.Rights.{AreAlike}
 use Rattle.kept_promise.proofs.Facts.{FileIs, IsServer, IsSeat, IsKept}
 use Rattle.kept_promise.proofs.RunsCarried.{book_at, first_core}
 use Rattle.tree_nodes.specs.Nodes.{with_id}
-use Rattle.tree_nodes.specs.declared.node.Body.TheVariants.{File as Plain}
+use Rattle.tree_nodes.specs.declared.node.Body.TheVariants.{Directory, File as Plain}
 use Rattle.file_tree.specs.Opening.{opens}
 use Rattle.file_tree.specs.Tree.{contents_size, root as root_of, empty as root_alone}
-use Rattle.trace_replay.specs.declared.opening.TheConstants.{ROOT}
-use Rattle.kept_promise.proofs.Trees.{IsBounded, given}
-use Rattle.kept_promise.proofs.TreeOpens.{IsPlain, IsOpened, opens_file}
+use Rattle.trace_replay.specs.Book.{first_version}
+use Rattle.server_law.proofs.Trees.{IsBounded, given}
+use Rattle.kept_promise.proofs.TreeOpens.{IsOpened, IsWidened, opens_file, opens_directory}
 
 -- ---- the opening tree
 
@@ -23,19 +23,17 @@ IsOpening opening f (Some g) = (g.id ≡ f) × (1 < f) × (f < 18446744073709551
 
 pub record IsTree (opening : List Opening) (t : Tree) : Type 0 where
   pub held : (f : ℕ) → IsOpening opening f (server.file_at t f)
-  -- the ids are those from 2 on
-  pub next : t.next ≡ length opening + 2
-  pub below : (f : ℕ) → length opening + 2 ≤ f → content_of opening f ≡ None
+  -- the root has the id 1, and no file has one that is still to be given
+  pub above : 1 < t.next
+  pub below : (f : ℕ) → t.next ≤ f → content_of opening f ≡ None
   pub bounded : IsBounded t
-  pub plain : IsPlain t
 
 pub no_tree : IsTree [] root_alone
 no_tree = record {
   held = λ f. nothing f (f == 1) refl;
-  next = refl;
+  above = omega arith;
   below = λ f le. refl;
   bounded = record { count = omega arith; next = omega arith; each = (record { id = omega arith; version = omega arith; content = omega arith }, tt); apart = (tt, tt); size = omega arith };
-  plain = record { root = refl; only = λ f apart none. other f apart };
 }
   where
     other : (f : ℕ) → (f ≡ 1 → ⊥) → with_id root_alone.nodes f ≡ None
@@ -79,40 +77,52 @@ content_else os o f none apart = content_more os o f ∙ ap (λ (z : Option (Lis
 content_stays : (os : List Opening) (o : Opening) (f : ℕ) (x : List ℕ) → content_of os f ≡ Some x → content_of (os ++ o ∷ []) f ≡ Some x
 content_stays os o f x is = content_more os o f ∙ ap (λ (z : Option (List ℕ)). or_else z (content_of (o ∷ []) f)) is
 
-pub tree_more : (opening : List Opening) (t : Tree) (name content : List ℕ) → can_open t ROOT name ≡ true → length opening + 2 < 65540 → length content ≤ 67108864 → contents_size t.nodes + length content ≤ 1073741824 → IsTree opening t
-    → IsTree (opening ++ record { file = t.next; content = content } ∷ []) (opens t ROOT name (Plain content))
-tree_more opening t name content can few size small h = record {
+pub tree_more : (opening : List Opening) (t : Tree) (dir : ℕ) (name content : List ℕ) → can_open t dir name ≡ true → t.next < 65540 → length content ≤ 67108864 → contents_size t.nodes + length content ≤ 1073741824 → IsTree opening t
+    → IsTree (opening ++ record { file = t.next; content = content } ∷ []) (opens t dir name (Plain content))
+tree_more opening t dir name content can few size small h = record {
   held = λ f. held f (same_or_not f t.next);
-  next = (let a = more.next in let b = h.next in let c = count_more opening o in omega (arith, a, b, c));
-  below = λ f le. below f (subst (λ (z : ℕ). z + 2 ≤ f) (count_more opening o) le);
-  bounded = more.bounded h.bounded (omega (arith, few, is)) size small;
-  plain = more.plain h.plain;
+  above = (let a = more.next in let b = h.above in omega (arith, a, b));
+  below = λ f le. below f (let a = more.next in omega (arith, a, le));
+  bounded = more.bounded h.bounded (omega (arith, few)) size small;
 }
   where
     o : Opening
     o = record { file = t.next; content = content }
 
-    is : t.next ≡ length opening + 2
-    is = h.next
+    above : 1 < t.next
+    above = h.above
 
-    more : IsOpened t (opens t ROOT name (Plain content)) content
-    more = opens_file t ROOT name content (given t h.bounded) can
+    more : IsOpened t (opens t dir name (Plain content)) content
+    more = opens_file t dir name content (given t h.bounded) can
 
     none : content_of opening t.next ≡ None
-    none = h.below t.next (omega (arith, is))
+    none = h.below t.next (omega arith)
 
     stays : (f : ℕ) → (f ≡ t.next → ⊥) → (x : Option File) → IsOpening opening f x → IsOpening (opening ++ o ∷ []) f x
     stays f apart None h = content_else opening o f h (λ e. apart (sym e))
     stays f apart (Some g) h = (h.0, h.1, h.2, content_stays opening o f g.content h.3, h.4, h.5)
 
-    held : (f : ℕ) → ((f ≡ t.next) ⊎ (f ≡ t.next → ⊥)) → IsOpening (opening ++ o ∷ []) f (server.file_at (opens t ROOT name (Plain content)) f)
+    held : (f : ℕ) → ((f ≡ t.next) ⊎ (f ≡ t.next → ⊥)) → IsOpening (opening ++ o ∷ []) f (server.file_at (opens t dir name (Plain content)) f)
     held f (inl same) =
-        subst (λ (i : ℕ). IsOpening (opening ++ o ∷ []) i (server.file_at (opens t ROOT name (Plain content)) i)) (sym same) (subst (IsOpening (opening ++ o ∷ []) t.next) (sym more.own)
-        (refl, omega (arith, is), omega (arith, is, few), content_own opening o t.next none refl, refl, size))
+        subst (λ (i : ℕ). IsOpening (opening ++ o ∷ []) i (server.file_at (opens t dir name (Plain content)) i)) (sym same) (subst (IsOpening (opening ++ o ∷ []) t.next) (sym more.own)
+        (refl, above, omega (arith, few), content_own opening o t.next none refl, refl, size))
     held f (inr apart) = subst (IsOpening (opening ++ o ∷ []) f) (sym (more.others f apart)) (stays f apart (server.file_at t f) (h.held f))
 
-    below : (f : ℕ) → suc (length opening) + 2 ≤ f → content_of (opening ++ o ∷ []) f ≡ None
-    below f le = content_else opening o f (h.below f (omega (arith, le))) (λ e. omega (arith, e, le, is))
+    below : (f : ℕ) → t.next + 1 ≤ f → content_of (opening ++ o ∷ []) f ≡ None
+    below f le = content_else opening o f (h.below f (omega (arith, le))) (λ e. omega (arith, e, le))
+
+-- ---- one directory more
+
+pub tree_wider : (opening : List Opening) (t : Tree) (dir : ℕ) (name : List ℕ) → can_open t dir name ≡ true → t.next < 65540 → IsTree opening t → IsTree opening (opens t dir name Directory)
+tree_wider opening t dir name can few h = record {
+  held = λ f. subst (IsOpening opening f) (sym (more.files f)) (h.held f);
+  above = (let a = more.next in let b = h.above in omega (arith, a, b));
+  below = λ f le. h.below f (let a = more.next in omega (arith, a, le));
+  bounded = more.bounded h.bounded (omega (arith, few));
+}
+  where
+    more : IsWidened t (opens t dir name Directory)
+    more = opens_directory t dir name (given t h.bounded) can
 
 -- ---- what is kept of it
 
@@ -153,7 +163,6 @@ server_first : (opening : List Opening) (tree : Tree) (count : ℕ) (all : List 
 server_first opening tree count all t = record {
   held = λ f. held f (server.file_at tree f) (t.held f);
   bounded = t.bounded;
-  plain = t.plain;
   commits = λ i c e. no_element i c e;
   changes = let m = t.bounded.count in omega (arith, m);
   bytes = let m = t.bounded.size in omega (arith, m);
@@ -164,7 +173,7 @@ server_first opening tree count all t = record {
   where
     held : (f : ℕ) (x : Option File) → IsOpening opening f x → FileIs (book_at opening (first_core tree count) all) f x
     held f None h = (h, h)
-    held f (Some g) h = (h.0, h.1, h.2, ap (λ (z : Option (List ℕ)). is_there z) h.3, record { value = g.content; is = h.3; size = refl; same = inl refl }, sym h.4, h.5)
+    held f (Some g) h = (h.0, h.1, h.2, ap (λ (z : Option (List ℕ)). is_there z) h.3, record { value = g.content; is = h.3; size = refl; same = inl refl }, ap (λ (z : Option (List ℕ)). 0 + first_version z) h.3 ∙ sym h.4, h.5)
       where
         is_there : Option (List ℕ) → Bool
         is_there None = false
@@ -178,7 +187,7 @@ kept_first opening tree count all alike t = record {
   entries = refl;
   sound = record {
     rights = λ k o e. no_element k o e;
-    journal = record { count = refl; rising = λ i j p q lt e f. no_element i p e; made = λ i p e f g. no_element i p f; only = λ k p o e f g. no_element k o e; once = λ k m p o q e f c g h. no_element k o e };
+    journal = record { count = refl; rising = λ i j p q lt e f. no_element i p e; kinds = λ i e f. no_element i e f; made = λ i p e f g. no_element i p f; only = λ k p o e f g. no_element k o e; once = λ k m p o q e f c g h. no_element k o e };
     past = λ i p e. no_element i p e;
     alike = alike;
   };

@@ -1,49 +1,29 @@
 -- What a line that is taken asks for: it names what is there, within the limits, and its numbers are of 64 bits.
-use Rattle.std.proofs.Common.{◌≡◌, ℕ, ◌+◌, ◌^◌, ◌<◌, ◌≤◌, List, [], ◌∷◌, length, Option, Some, None, Bool, true, false, refl, ap, ◌∙◌, subst, arith, Result, Ok, Err, drop, take}
+use Rattle.std.proofs.Common.{◌≡◌, ℕ, ◌+◌, ◌^◌, ◌<◌, ◌≤◌, List, [], ◌∷◌, length, Option, Some, None, Bool, true, false, refl, sym, ap, ◌∙◌, subst, arith, Result, Ok, Err, drop, take}
 use Rattle.std.specs.Prelude.{codes}
-use Rattle.command_text.specs.Commands.{command_of, open_of, write_of, trunc_of, read_of, close_of, abandon_of}
-use Rattle.command_text.specs.Fields.{◌>>=◌, value_from, is_decimal, value_of, number_of, number_within, name_of, content_of, id_of}
+use Rattle.command_text.specs.Commands.{command_of, open_of, open_at, write_of, trunc_of, read_of, close_of, abandon_of, path_command_of}
+use Rattle.command_text.specs.Fields.{value_from, is_decimal, value_of, number_of, number_within, content_of, id_of}
 use Rattle.command_text.specs.Parts.{words_of}
+use Rattle.command_text.specs.Paths.{spot_of}
 use Rattle.command_text.specs.declared.command.Command.TheVariants as command
+use Rattle.command_text.specs.declared.path.Spot.{Spot}
 use Rattle.trace_text.specs.Fields.{reading_of, amount_of, who_of, key_of}
-use Rattle.trace_text.specs.Grammar.{version_of, term_of, drift_of, clients_of, file_of, join_of, do_of, up_of, down_of, pass_of, settle_of, cut_of, hang_of, forge_of, clear_of, evict_of, event_from, line_from, said_by, is_skipped}
+use Rattle.trace_text.specs.Grammar.{version_of, term_of, drift_of, clients_of, dir_of, file_of, join_of, do_of, up_of, down_of, pass_of, settle_of, cut_of, hang_of, forge_of, clear_of, evict_of, event_from, line_from, said_by, is_skipped}
 use Rattle.trace_text.specs.declared.line.Line.TheVariants as line
 use Rattle.trace_replay.specs.declared.adjusting.Adjustment.TheVariants as adjustment
 use Rattle.trace_replay.specs.declared.stage.Stage.{Stage}
 use Rattle.trace_replay.specs.declared.stage.Stage.TheVariants as stage
 use Rattle.trace_replay.specs.declared.turn.Turn.TheVariants as turn
-use Rattle.trace_replay.specs.Commands as commands
-use Rattle.trace_replay.specs.Run.{file_most, tree_most, is_there}
-use Rattle.kept_promise.proofs.Common.{nat_tests, nat_lt, nat_le, if◌then◌else◌, bytes_eq, content_length, Command, Part, line_of, Line, LineFault, Grammar, Turn, Seat, Session, numbered, World, line_most, sessions_most, asks_if, sized, named, joins_if, joins_within, event_asks, asks_at, asks, asks_within, asked, can_open}
+use Rattle.trace_replay.specs.Run.{file_most, tree_most, is_there, do_asks, place_for, free_in, led_to, file_asks, directory_asks}
+use Rattle.kept_promise.proofs.Common.{nat_tests, nat_lt, nat_le, if◌then◌else◌, bytes_eq, content_length, Command, Part, line_of, Line, LineFault, Grammar, Turn, Seat, Session, numbered, World, line_most, sessions_most, asks_if, sized, joins_if, joins_within, event_asks, asks_at, asks, asks_within, asked, can_open}
+use Rattle.kept_promise.proofs.Parsed.{Gives, gives_some, gives_none, gives_if, gives_after, gives_then}
+use Rattle.kept_promise.proofs.PathNames.{IsNamed, IsPlain, IsSmall, find_named, path_command_named}
 use Rattle.kept_promise.proofs.RunsResults.{asking, turn_is, refused_line}
+use Rattle.kept_promise.proofs.Lists.{some_is, nothing_there}
+use Rattle.file_tree.specs.Tree.{Tree}
 use Rattle.trace_replay.specs.declared.opening.TheConstants.{ROOT}
 
 -- ---- numbers of a text
-
--- what is read, if anything, is such
-abbrev Gives : {A : Type 0} → (A → Type 0) → Option A → Type 0
-Gives P o = (x : _) → o ≡ Some x → P x
-
-gives_some : {A : Type 0} (P : A → Type 0) (x : A) → P x → Gives P (Some x)
-gives_some P x h y e = subst P (by e) h
-  where
-    by : Some x ≡ Some y → x ≡ y
-    by q = cc
-
-gives_none : {A : Type 0} (P : A → Type 0) → Gives P None
-gives_none P y e = absurd cc
-
-gives_if : {A : Type 0} (P : A → Type 0) (b : Bool) (x y : Option A) → Gives P x → Gives P y → Gives P (if b then x else y)
-gives_if P true x y g h = g
-gives_if P false x y g h = h
-
-gives_after : {A B : Type 0} (Q : A → Type 0) (P : B → Type 0) (o : Option A) (f : A → Option B) → Gives Q o → ((x : A) → Q x → Gives P (f x)) → Gives P (o >>= f)
-gives_after Q P None f g h = gives_none P
-gives_after Q P (Some x) f g h = h x (g x refl)
-
-gives_then : {A B : Type 0} (P : B → Type 0) (o : Option A) (f : A → Option B) → ((x : A) → Gives P (f x)) → Gives P (o >>= f)
-gives_then P None f h = gives_none P
-gives_then P (Some x) f h = h x
 
 small_of : (v : ℕ) (b : Bool) → nat_lt v (2 ^ 64) ≡ b → Gives (λ n. n < 18446744073709551616) (if b then Some v else None)
 small_of v true e = gives_some (λ n. n < 18446744073709551616) v (grind (arith, nat_tests, e))
@@ -57,53 +37,61 @@ id_small word = gives_if (λ n. n < 18446744073709551616) (bytes_eq (take 1 word
 
 -- ---- a command that was read
 
-abbrev pub IsSmall : Command → Type 0
-IsSmall d = commands.file_of d < 18446744073709551616
+named_small : (o : Option Command) → Gives IsNamed o → Gives IsPlain o
+named_small o h d e = by d (h d e)
+  where
+    by : (d : Command) → IsNamed d → IsPlain d
+    by (command.Named k) names = names
+    by d none = absurd none
 
-open_small : (words : List (List ℕ)) → Gives IsSmall (open_of words)
-open_small (place ∷ []) = gives_after (λ n. n < 18446744073709551616) IsSmall (id_of place) _ (id_small place) (λ n h. gives_some IsSmall (command.Open n) h)
-open_small _ = gives_none IsSmall
+open_small : (words : List (List ℕ)) → Gives IsPlain (open_of words)
+open_small (place ∷ []) = by (id_of place) (id_small place)
+  where
+    by : (o : Option ℕ) → Gives (λ n. n < 18446744073709551616) o → Gives IsPlain (open_at place o)
+    by (Some n) h = gives_some IsPlain (command.Open n) (h n refl)
+    by None h = named_small (open_at place None) (find_named place)
+open_small _ = gives_none IsPlain
 
-close_small : (words : List (List ℕ)) → Gives IsSmall (close_of words)
-close_small (place ∷ []) = gives_after (λ n. n < 18446744073709551616) IsSmall (id_of place) _ (id_small place) (λ n h. gives_some IsSmall (command.Close n) h)
-close_small _ = gives_none IsSmall
+close_small : (words : List (List ℕ)) → Gives IsPlain (close_of words)
+close_small (place ∷ []) = gives_after (λ n. n < 18446744073709551616) IsPlain (id_of place) _ (id_small place) (λ n h. gives_some IsPlain (command.Close n) h)
+close_small _ = gives_none IsPlain
 
-abandon_small : (words : List (List ℕ)) → Gives IsSmall (abandon_of words)
-abandon_small (place ∷ []) = gives_after (λ n. n < 18446744073709551616) IsSmall (id_of place) _ (id_small place) (λ n h. gives_some IsSmall (command.Abandon n) h)
-abandon_small _ = gives_none IsSmall
+abandon_small : (words : List (List ℕ)) → Gives IsPlain (abandon_of words)
+abandon_small (place ∷ []) = gives_after (λ n. n < 18446744073709551616) IsPlain (id_of place) _ (id_small place) (λ n h. gives_some IsPlain (command.Abandon n) h)
+abandon_small _ = gives_none IsPlain
 
-write_small : (words : List (List ℕ)) → Gives IsSmall (write_of words)
+write_small : (words : List (List ℕ)) → Gives IsPlain (write_of words)
 write_small (place ∷ offset ∷ content ∷ []) =
-    gives_after (λ n. n < 18446744073709551616) IsSmall (id_of place) _ (id_small place) (λ f h. gives_then IsSmall (number_of offset) _ (λ o. gives_then IsSmall (content_of content) _ (λ c. gives_some IsSmall (command.Write f o c) h)))
-write_small _ = gives_none IsSmall
+    gives_after (λ n. n < 18446744073709551616) IsPlain (id_of place) _ (id_small place) (λ f h. gives_then IsPlain (number_of offset) _ (λ o. gives_then IsPlain (content_of content) _ (λ c. gives_some IsPlain (command.Write f o c) h)))
+write_small _ = gives_none IsPlain
 
-trunc_small : (words : List (List ℕ)) → Gives IsSmall (trunc_of words)
-trunc_small (place ∷ size ∷ []) = gives_after (λ n. n < 18446744073709551616) IsSmall (id_of place) _ (id_small place) (λ f h. gives_then IsSmall (number_of size) _ (λ n. gives_some IsSmall (command.Trunc f n) h))
-trunc_small _ = gives_none IsSmall
+trunc_small : (words : List (List ℕ)) → Gives IsPlain (trunc_of words)
+trunc_small (place ∷ size ∷ []) = gives_after (λ n. n < 18446744073709551616) IsPlain (id_of place) _ (id_small place) (λ f h. gives_then IsPlain (number_of size) _ (λ n. gives_some IsPlain (command.Trunc f n) h))
+trunc_small _ = gives_none IsPlain
 
-read_small : (words : List (List ℕ)) → Gives IsSmall (read_of words)
+read_small : (words : List (List ℕ)) → Gives IsPlain (read_of words)
 read_small (place ∷ offset ∷ count ∷ []) =
-    gives_after (λ n. n < 18446744073709551616) IsSmall (id_of place) _ (id_small place) (λ f h. gives_then IsSmall (number_of offset) _ (λ o. gives_then IsSmall (number_of count) _ (λ n. gives_some IsSmall (command.Read f o n) h)))
-read_small _ = gives_none IsSmall
+    gives_after (λ n. n < 18446744073709551616) IsPlain (id_of place) _ (id_small place) (λ f h. gives_then IsPlain (number_of offset) _ (λ o. gives_then IsPlain (number_of count) _ (λ n. gives_some IsPlain (command.Read f o n) h)))
+read_small _ = gives_none IsPlain
 
-command_small : (word : List ℕ) (words : List (List ℕ)) → Gives IsSmall (command_of word words)
+command_small : (word : List ℕ) (words : List (List ℕ)) → Gives IsPlain (command_of word words)
 command_small word words =
-    gives_if IsSmall (bytes_eq word (codes "open")) _ _ (open_small words)
-    (gives_if IsSmall (bytes_eq word (codes "write")) _ _ (write_small words)
-    (gives_if IsSmall (bytes_eq word (codes "trunc")) _ _ (trunc_small words)
-    (gives_if IsSmall (bytes_eq word (codes "read")) _ _ (read_small words)
-    (gives_if IsSmall (bytes_eq word (codes "close")) _ _ (close_small words)
-    (gives_if IsSmall (bytes_eq word (codes "abandon")) _ _ (abandon_small words) (gives_none IsSmall))))))
+    gives_if IsPlain (bytes_eq word (codes "open")) _ _ (open_small words)
+    (gives_if IsPlain (bytes_eq word (codes "write")) _ _ (write_small words)
+    (gives_if IsPlain (bytes_eq word (codes "trunc")) _ _ (trunc_small words)
+    (gives_if IsPlain (bytes_eq word (codes "read")) _ _ (read_small words)
+    (gives_if IsPlain (bytes_eq word (codes "close")) _ _ (close_small words)
+    (gives_if IsPlain (bytes_eq word (codes "abandon")) _ _ (abandon_small words) (named_small (path_command_of word words) (path_command_named word words)))))))
 
 -- ---- a line that was read
 
 abbrev pub LineFits : Line → Type 0
-LineFits (line.Do c r d) = IsSmall d
+LineFits (line.Do c r d) = IsPlain d
 LineFits l = Unit {0}
 
 do_fits : (words : List (List ℕ)) → Gives LineFits (do_of words)
 do_fits (client ∷ at ∷ word ∷ words) =
-    gives_then LineFits (number_of client) _ (λ c. gives_then LineFits (reading_of at) _ (λ a. gives_after IsSmall LineFits (command_of word words) _ (command_small word words) (λ d h. gives_some LineFits (line.Do c a d) h)))
+    gives_then LineFits (number_of client) _ (λ c. gives_then LineFits (reading_of at) _ (λ a. gives_after IsPlain LineFits (command_of word words) _ (command_small word words) (λ d h. gives_some LineFits (line.Do c a d) h)))
 do_fits _ = gives_none LineFits
 
 version_fits : (words : List (List ℕ)) → Gives LineFits (version_of words)
@@ -123,8 +111,12 @@ clients_fits (v ∷ []) = gives_then LineFits (number_within 1 16 v) _ (λ n. gi
 clients_fits _ = gives_none LineFits
 
 file_fits : (words : List (List ℕ)) → Gives LineFits (file_of words)
-file_fits (name ∷ content ∷ []) = gives_then LineFits (name_of name) _ (λ n. gives_then LineFits (content_of content) _ (λ c. gives_some LineFits (line.File n c) tt))
+file_fits (path ∷ content ∷ []) = gives_then LineFits (spot_of path) _ (λ s. gives_then LineFits (content_of content) _ (λ c. gives_some LineFits (line.File s c) tt))
 file_fits _ = gives_none LineFits
+
+dir_fits : (words : List (List ℕ)) → Gives LineFits (dir_of words)
+dir_fits (path ∷ []) = gives_then LineFits (spot_of path) _ (λ s. gives_some LineFits (line.Dir s) tt)
+dir_fits _ = gives_none LineFits
 
 join_fits : (words : List (List ℕ)) → Gives LineFits (join_of words)
 join_fits (a ∷ b ∷ c ∷ []) = gives_then LineFits (number_of a) _ (λ x. gives_then LineFits (reading_of b) _ (λ y. gives_then LineFits (reading_of c) _ (λ z. gives_some LineFits (line.Join x y z) tt)))
@@ -188,7 +180,8 @@ words_fit kind words =
     (gives_if LineFits (bytes_eq kind (codes "term")) _ _ (term_fits words)
     (gives_if LineFits (bytes_eq kind (codes "drift")) _ _ (drift_fits words)
     (gives_if LineFits (bytes_eq kind (codes "clients")) _ _ (clients_fits words)
-    (gives_if LineFits (bytes_eq kind (codes "file")) _ _ (file_fits words) (event_fits kind words)))))
+    (gives_if LineFits (bytes_eq kind (codes "dir")) _ _ (dir_fits words)
+    (gives_if LineFits (bytes_eq kind (codes "file")) _ _ (file_fits words) (event_fits kind words))))))
 
 said_fits : (words : List (List ℕ)) → Gives LineFits (said_by words)
 said_fits [] = gives_none LineFits
@@ -204,15 +197,20 @@ abbrev pub is_early : Stage → Bool
 is_early stage.Events = false
 is_early s = true
 
--- what a turn finds
--- the name is free, and the content within the limits of a file, and of the tree
-abbrev pub MayOpen : World → List ℕ → List Part → Type 0
-MayOpen w name content = (can_open w.core.server.tree ROOT name ≡ true) × (content_length content ≤ 67108864) × (w.size + content_length content ≤ 1073741824)
+-- the directory is there, and the name is free in it
+abbrev pub IsFree : World → (dir : ℕ) → List ℕ → Type 0
+IsFree w dir name = can_open w.core.server.tree dir name ≡ true
 
+-- and the content within the limits of a file, and of the tree
+abbrev pub MayOpen : World → (dir : ℕ) → List ℕ → List Part → Type 0
+MayOpen w dir name content = IsFree w dir name × (content_length content ≤ 67108864) × (w.size + content_length content ≤ 1073741824)
+
+-- what a turn finds
 abbrev pub Allows : World → Turn → Type 0
 Allows w (turn.At s) = is_early w.stage ≡ true
 Allows w (turn.Clients n) = is_early w.stage ≡ true
-Allows w (turn.File name content) = (is_early w.stage ≡ true) × MayOpen w name content
+Allows w (turn.Dir dir name) = (is_early w.stage ≡ true) × IsFree w dir name
+Allows w (turn.File dir name content) = (is_early w.stage ≡ true) × MayOpen w dir name content
 Allows w (turn.Join c) = (seat : Seat) × (numbered w.core.seats c ≡ Some seat) × (seat.client.linked ≡ false) × (length w.core.server.sessions < 64)
 Allows w (turn.Do c now d) = (seat : Seat) × (numbered w.core.seats c ≡ Some seat) × IsSmall d
 Allows w (turn.Cut c) = (seat : Seat) × (numbered w.core.seats c ≡ Some seat)
@@ -246,9 +244,14 @@ joins_on w c t e = by (numbered w.core.seats c) refl e
     by None at e = refused_line Grammar t e
     by (Some seat) at e = by_seat seat at seat.client.linked refl e
 
+-- a command on names is refused
+does_on : (w : World) (c r : ℕ) (d : Command) (t : Turn) → IsPlain d → do_asks w.core c r d ≡ asking t → Allows w t
+does_on w c r (command.Named k) t fits e = refused_line Grammar t e
+does_on w c r d t fits e = goes_there w (numbered w.core.seats c) (turn.Do c r d) t e (λ x at. (x, at, fits))
+
 event_on : (w : World) (l : Line) (t : Turn) → LineFits l → event_asks w.core l ≡ asking t → Allows w t
 event_on w (line.Join c r at) t fits e = joins_on w c t e
-event_on w (line.Do c r d) t fits e = goes_there w (numbered w.core.seats c) (turn.Do c r d) t e (λ x at. (x, at, fits))
+event_on w (line.Do c r d) t fits e = does_on w c r d t fits e
 event_on w (line.Up n a at) t fits e = goes_if w _ (turn.Up n a at) t e tt
 event_on w (line.Down n a r) t fits e = goes_if w _ (turn.Down n a r) t e tt
 event_on w (line.Settle at) t fits e = goes w (turn.Settle at) t e tt
@@ -260,12 +263,24 @@ event_on w (line.Clear u) t fits e = goes_if w _ (turn.Adjust (adjustment.Clear 
 event_on w (line.Evict c file) t fits e = goes_if w _ (turn.Adjust (adjustment.Evict c file)) t e tt
 event_on w l t fits e = refused_line Grammar t e
 
-named_on : (w : World) (s : Stage) (b : Bool) (name : List ℕ) (content : List Part) (t : Turn) → w.stage ≡ s → is_early s ≡ true → can_open w.core.server.tree ROOT name ≡ b → named b w.size name content ≡ asking t → Allows w t
-named_on w s false name content t at early free e = refused_line Grammar t e
-named_on w s true name content t at early free e = by (nat_lt file_most (content_length content)) (nat_lt tree_most (w.size + content_length content)) refl refl e
+free_place : (t : Tree) (name : List ℕ) (o : Option ℕ) (dir : ℕ) → free_in t name o ≡ Some dir → can_open t dir name ≡ true
+free_place t name None dir e = nothing_there dir e
+free_place t name (Some d) dir e = by (can_open t d name) refl e
   where
-    by : (long much : Bool) → nat_lt file_most (content_length content) ≡ long → nat_lt tree_most (w.size + content_length content) ≡ much → sized long much (turn.File name content) ≡ asking t → Allows w t
-    by false false is all e = goes w (turn.File name content) t e (ap is_early at ∙ early, (free, grind (arith, nat_tests, is), grind (arith, nat_tests, all)))
+    by : (b : Bool) → can_open t d name ≡ b → (if b then Some d else None) ≡ Some dir → can_open t dir name ≡ true
+    by true free e = ap (λ (i : ℕ). can_open t i name) (sym (some_is d dir e)) ∙ free
+    by false free e = nothing_there dir e
+
+directory_on : (w : World) (spot : Spot) (o : Option ℕ) (t : Turn) → is_early w.stage ≡ true → place_for w.core.server.tree spot ≡ o → directory_asks o spot.name ≡ asking t → Allows w t
+directory_on w spot None t early at e = refused_line Grammar t e
+directory_on w spot (Some dir) t early at e = goes w (turn.Dir dir spot.name) t e (early, free_place w.core.server.tree spot.name (led_to w.core.server.tree.nodes ROOT spot.dirs) dir at)
+
+file_on : (w : World) (spot : Spot) (content : List Part) (o : Option ℕ) (t : Turn) → is_early w.stage ≡ true → place_for w.core.server.tree spot ≡ o → file_asks o w.size spot.name content ≡ asking t → Allows w t
+file_on w spot content None t early at e = refused_line Grammar t e
+file_on w spot content (Some dir) t early at e = by (nat_lt file_most (content_length content)) (nat_lt tree_most (w.size + content_length content)) refl refl e
+  where
+    by : (long much : Bool) → nat_lt file_most (content_length content) ≡ long → nat_lt tree_most (w.size + content_length content) ≡ much → sized long much (turn.File dir spot.name content) ≡ asking t → Allows w t
+    by false false is all e = goes w (turn.File dir spot.name content) t e (early, (free_place w.core.server.tree spot.name (led_to w.core.server.tree.nodes ROOT spot.dirs) dir at, grind (arith, nat_tests, is), grind (arith, nat_tests, all)))
     by _ _ is all e = refused_line _ t e
 
 at_stage : (w : World) (s : Stage) (l : Line) (t : Turn) → w.stage ≡ s → LineFits l → asks_at w s l ≡ asking t → Allows w t
@@ -273,7 +288,8 @@ at_stage w stage.Version line.Version t at fits e = goes w (turn.At stage.Term) 
 at_stage w stage.Term (line.Term n) t at fits e = goes w (turn.At stage.Drift) t e (ap is_early at)
 at_stage w stage.Drift (line.Drift n) t at fits e = goes w (turn.At stage.Clients) t e (ap is_early at)
 at_stage w stage.Clients (line.Clients n) t at fits e = goes w (turn.Clients n) t e (ap is_early at)
-at_stage w stage.Files (line.File name content) t at fits e = named_on w stage.Files (can_open w.core.server.tree ROOT name) name content t at refl refl e
+at_stage w stage.Files (line.Dir spot) t at fits e = directory_on w spot (place_for w.core.server.tree spot) t (ap is_early at) refl e
+at_stage w stage.Files (line.File spot content) t at fits e = file_on w spot content (place_for w.core.server.tree spot) t (ap is_early at) refl e
 at_stage w stage.Files l t at fits e = event_on w l t fits e
 at_stage w stage.Events l t at fits e = event_on w l t fits e
 at_stage w s l t at fits e = refused_line Grammar t e

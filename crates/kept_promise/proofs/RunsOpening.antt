@@ -1,17 +1,15 @@
 -- What a run opens with is what the `file` lines say.
-use Rattle.std.proofs.Common.{◌≡◌, ℕ, zero, suc, ◌+◌, List, [], ◌∷◌, ◌++◌, length, Option, Some, None, Bool, true, false, refl, sym, ap, ◌∙◌, arith, append-nil, append_assoc, length-append, Result, Ok, Err}
+use Rattle.std.proofs.Common.{◌≡◌, ℕ, zero, suc, ◌+◌, List, [], ◌∷◌, ◌++◌, Option, Some, None, Bool, true, false, refl, sym, ap, ◌∙◌, arith, append-nil, append_assoc, Result, Ok, Err}
 use Rattle.trace_text.specs.declared.line.Line.TheVariants as line
 use Rattle.trace_replay.specs.declared.turn.Turn.TheVariants as turn
-use Rattle.trace_replay.specs.Trail.{opening_by, openings_from, openings_of}
+use Rattle.trace_replay.specs.Trail.{opened_by, opening_by, openings_from, openings_of}
 use Rattle.kept_promise.proofs.Common.{content_bytes, lines_of, Opening, line_of, Line, LineFault, Turn, Event, numbered, World, Wire, start, happened, all_happened, up_taken, up_events, up_at, down_taken, down_events, down_at, up_length, down_length, up_all, round, is_still, passes, asked, asked_by, at_events, count_of, turned, in_header, run_from, run}
 use Rattle.kept_promise.proofs.RunsAsked.{turn_of, asked_turn}
 use Rattle.kept_promise.proofs.RunsResults.{no_world, ended_is, ran_by}
 use Rattle.trace_replay.specs.declared.stage.Stage.{Stage}
 use Rattle.trace_replay.specs.declared.stage.Stage.TheVariants as stage
-use Rattle.trace_replay.specs.declared.opening.TheConstants.{ROOT}
-use Rattle.kept_promise.proofs.Lists.{count_more}
-use Rattle.kept_promise.proofs.Trees.{IsGiven}
-use Rattle.kept_promise.proofs.TreeOpens.{opens_file}
+use Rattle.server_law.proofs.Trees.{IsGiven}
+use Rattle.kept_promise.proofs.TreeOpens.{opens_file, opens_directory}
 use Rattle.kept_promise.proofs.Owners.{turned_to}
 use Rattle.kept_promise.proofs.RunsLines.{is_early, Allows, allowed, line_fits}
 
@@ -44,16 +42,23 @@ passes_same (suc k) w n server at = by (is_still w n) (passes_same k (round w n 
 
 -- ---- what a line adds
 
-abbrev added : (count : ℕ) → Turn → List Opening
-added count (turn.File name content) = record { file = count + 2; content = content_bytes content } ∷ []
-added count t = []
+-- by a turn, where this is the next id
+abbrev added : (next : ℕ) → Turn → List Opening
+added next (turn.File dir name content) = record { file = next; content = content_bytes content } ∷ []
+added next t = []
+
+-- how many files and directories
+abbrev count_added : Turn → ℕ
+count_added (turn.Dir dir name) = 1
+count_added (turn.File dir name content) = 1
+count_added t = 0
 
 no_more : (w v : World) → v.opening ≡ w.opening → v.opening ≡ w.opening ++ []
 no_more w v e = e ∙ sym (append-nil w.opening)
 
--- before the first event the next id is that behind the files so far
-abbrev HasNext : World → Type 0
-HasNext w = is_early w.stage ≡ true → IsGiven w.core.server.tree × (w.core.server.tree.next ≡ length w.opening + 2)
+-- before the first event the tree's next id is that which the lines count to
+abbrev HasNext : (next : ℕ) → World → Type 0
+HasNext next w = is_early w.stage ≡ true → IsGiven w.core.server.tree × (w.core.server.tree.next ≡ next)
 
 not_early : {A : Type 0} (s : Stage) → s ≡ stage.Events → is_early s ≡ true → A
 not_early s e early = absurd (by (sym (ap is_early e) ∙ early))
@@ -61,80 +66,106 @@ not_early s e early = absurd (by (sym (ap is_early e) ∙ early))
     by : false ≡ true → ⊥
     by h = cc
 
-next_turned : (w : World) (t : Turn) → Allows w t → HasNext w → HasNext (turned w t)
-next_turned w turn.Skip f h = h
-next_turned w (turn.At s) f h = λ early. h f
-next_turned w (turn.Clients m) f h = λ early. h f
-next_turned w (turn.File name content) f h = λ early.
-    let was = h f.0 in
-    let bytes = content_bytes content in
-    let more = opens_file w.core.server.tree ROOT name bytes was.0 f.1.0 in
-    let a = more.next in
-    let b = was.1 in
-    let c = count_more w.opening (record { file = w.core.server.tree.next; content = bytes }) in
-    (more.given, omega (arith, a, b, c))
-next_turned w (turn.Join c) f h = λ early. not_early (turned w (turn.Join c)).stage refl early
-next_turned w (turn.Do c now d) f h = λ early. not_early (turned w (turn.Do c now d)).stage (turned_to w (turn.Do c now d) tt).stage early
-next_turned w (turn.Up m a now) f h = λ early. not_early (turned w (turn.Up m a now)).stage (turned_to w (turn.Up m a now) tt).stage early
-next_turned w (turn.Down m a now) f h = λ early. not_early (turned w (turn.Down m a now)).stage (turned_to w (turn.Down m a now) tt).stage early
-next_turned w (turn.Settle now) f h = λ early. not_early (turned w (turn.Settle now)).stage (turned_to w (turn.Settle now) tt).stage early
-next_turned w (turn.Cut c) f h = λ early. not_early (turned w (turn.Cut c)).stage (turned_to w (turn.Cut c) tt).stage early
-next_turned w (turn.Hang m) f h = λ early. not_early (turned w (turn.Hang m)).stage (turned_to w (turn.Hang m) tt).stage early
-next_turned w (turn.Pass m k server at) f h = λ early. not_early (turned w (turn.Pass m k server at)).stage (turned_to w (turn.Pass m k server at) tt).stage early
-next_turned w (turn.Adjust a) f h = λ early. not_early (turned w (turn.Adjust a)).stage (turned_to w (turn.Adjust a) tt).stage early
+next_stays : (next : ℕ) (w : World) → IsGiven w.core.server.tree × (w.core.server.tree.next ≡ next) → IsGiven w.core.server.tree × (w.core.server.tree.next ≡ next + 0)
+next_stays next w h = let is = h.1 in (h.0, omega (arith, is))
 
-next_first : HasNext start
+next_turned : (next : ℕ) (w : World) (t : Turn) → Allows w t → HasNext next w → HasNext (next + count_added t) (turned w t)
+next_turned next w turn.Skip f h = λ early. next_stays next w (h early)
+next_turned next w (turn.At s) f h = λ early. next_stays next w (h f)
+next_turned next w (turn.Clients m) f h = λ early. next_stays next w (h f)
+next_turned next w (turn.Dir dir name) f h = λ early.
+    let was = h f.0 in
+    let more = opens_directory w.core.server.tree dir name was.0 f.1 in
+    (more.given, more.next ∙ ap (λ (i : ℕ). i + 1) was.1)
+next_turned next w (turn.File dir name content) f h = λ early.
+    let was = h f.0 in
+    let more = opens_file w.core.server.tree dir name (content_bytes content) was.0 f.1.0 in
+    (more.given, more.next ∙ ap (λ (i : ℕ). i + 1) was.1)
+next_turned next w (turn.Join c) f h = λ early. not_early (turned w (turn.Join c)).stage refl early
+next_turned next w (turn.Do c now d) f h = λ early. not_early (turned w (turn.Do c now d)).stage (turned_to w (turn.Do c now d) tt).stage early
+next_turned next w (turn.Up m a now) f h = λ early. not_early (turned w (turn.Up m a now)).stage (turned_to w (turn.Up m a now) tt).stage early
+next_turned next w (turn.Down m a now) f h = λ early. not_early (turned w (turn.Down m a now)).stage (turned_to w (turn.Down m a now) tt).stage early
+next_turned next w (turn.Settle now) f h = λ early. not_early (turned w (turn.Settle now)).stage (turned_to w (turn.Settle now) tt).stage early
+next_turned next w (turn.Cut c) f h = λ early. not_early (turned w (turn.Cut c)).stage (turned_to w (turn.Cut c) tt).stage early
+next_turned next w (turn.Hang m) f h = λ early. not_early (turned w (turn.Hang m)).stage (turned_to w (turn.Hang m) tt).stage early
+next_turned next w (turn.Pass m k server at) f h = λ early. not_early (turned w (turn.Pass m k server at)).stage (turned_to w (turn.Pass m k server at) tt).stage early
+next_turned next w (turn.Adjust a) f h = λ early. not_early (turned w (turn.Adjust a)).stage (turned_to w (turn.Adjust a) tt).stage early
+
+next_first : HasNext 2 start
 next_first = λ early. (record { below = (omega arith, tt); apart = (tt, tt) }, refl)
 
-turn_adds : (w : World) (t : Turn) → Allows w t → HasNext w → (turned w t).opening ≡ w.opening ++ added (length w.opening) t
-turn_adds w (turn.File name content) f h = ap (λ (i : ℕ). w.opening ++ record { file = i; content = content_bytes content } ∷ []) (h f.0).1
-turn_adds w (turn.Up n a now) f h = no_more w (turned w (turn.Up n a now)) (up_same (at_events w) n (count_of a (up_length (numbered w.wires n))) now (numbered w.wires n))
-turn_adds w (turn.Down n a now) f h = no_more w (turned w (turn.Down n a now)) (down_same (at_events w) n (count_of a (down_length (numbered w.wires n))) now (numbered w.wires n))
-turn_adds w (turn.Pass n k server at) f h = no_more w (turned w (turn.Pass n k server at)) (passes_same k (at_events w) n server at)
-turn_adds w _ f h = no_more w w refl
+turn_adds : (next : ℕ) (w : World) (t : Turn) → Allows w t → HasNext next w → (turned w t).opening ≡ w.opening ++ added next t
+turn_adds next w (turn.File dir name content) f h = ap (λ (i : ℕ). w.opening ++ record { file = i; content = content_bytes content } ∷ []) (h f.0).1
+turn_adds next w (turn.Up n a now) f h = no_more w (turned w (turn.Up n a now)) (up_same (at_events w) n (count_of a (up_length (numbered w.wires n))) now (numbered w.wires n))
+turn_adds next w (turn.Down n a now) f h = no_more w (turned w (turn.Down n a now)) (down_same (at_events w) n (count_of a (down_length (numbered w.wires n))) now (numbered w.wires n))
+turn_adds next w (turn.Pass n k server at) f h = no_more w (turned w (turn.Pass n k server at)) (passes_same k (at_events w) n server at)
+turn_adds next w _ f h = no_more w w refl
 
-line_adds : (c : ℕ) (l : Line) → added c (turn_of l) ≡ opening_by c (Some l)
-line_adds c line.Skipped = refl
-line_adds c line.Version = refl
-line_adds c (line.Term n) = refl
-line_adds c (line.Drift n) = refl
-line_adds c (line.Clients n) = refl
-line_adds c (line.File name content) = refl
-line_adds c (line.Join m r at) = refl
-line_adds c (line.Do m r d) = refl
-line_adds c (line.Up n a at) = refl
-line_adds c (line.Down n a r) = refl
-line_adds c (line.Settle at) = refl
-line_adds c (line.Cut m r) = refl
-line_adds c (line.Hang n at) = refl
-line_adds c (line.Pass n rounds at r) = refl
-line_adds c (line.Forge w key file offset count) = refl
-line_adds c (line.Clear w) = refl
-line_adds c (line.Evict m file) = refl
+line_adds : (c dir : ℕ) (l : Line) → added c (turn_of dir l) ≡ opening_by c (Some l)
+line_adds c dir line.Skipped = refl
+line_adds c dir line.Version = refl
+line_adds c dir (line.Term n) = refl
+line_adds c dir (line.Drift n) = refl
+line_adds c dir (line.Clients n) = refl
+line_adds c dir (line.Dir spot) = refl
+line_adds c dir (line.File spot content) = refl
+line_adds c dir (line.Join m r at) = refl
+line_adds c dir (line.Do m r d) = refl
+line_adds c dir (line.Up n a at) = refl
+line_adds c dir (line.Down n a r) = refl
+line_adds c dir (line.Settle at) = refl
+line_adds c dir (line.Cut m r) = refl
+line_adds c dir (line.Hang n at) = refl
+line_adds c dir (line.Pass n rounds at r) = refl
+line_adds c dir (line.Forge w key file offset count) = refl
+line_adds c dir (line.Clear w) = refl
+line_adds c dir (line.Evict m file) = refl
+
+line_counts : (dir : ℕ) (l : Line) → count_added (turn_of dir l) ≡ opened_by (Some l)
+line_counts dir line.Skipped = refl
+line_counts dir line.Version = refl
+line_counts dir (line.Term n) = refl
+line_counts dir (line.Drift n) = refl
+line_counts dir (line.Clients n) = refl
+line_counts dir (line.Dir spot) = refl
+line_counts dir (line.File spot content) = refl
+line_counts dir (line.Join m r at) = refl
+line_counts dir (line.Do m r d) = refl
+line_counts dir (line.Up n a at) = refl
+line_counts dir (line.Down n a r) = refl
+line_counts dir (line.Settle at) = refl
+line_counts dir (line.Cut m r) = refl
+line_counts dir (line.Hang n at) = refl
+line_counts dir (line.Pass n rounds at r) = refl
+line_counts dir (line.Forge w key file offset count) = refl
+line_counts dir (line.Clear w) = refl
+line_counts dir (line.Evict m file) = refl
 
 -- ---- all lines
 
-abbrev behind : (count : ℕ) → (first : List Opening) → List (List ℕ) → List Opening
-behind count first ls = first ++ openings_from (count + length first) ls
+abbrev behind : (next : ℕ) → Option Line → List (List ℕ) → List Opening
+behind next o ls = opening_by next o ++ openings_from (next + opened_by o) ls
 
-lines_add : (n : ℕ) (w v : World) (ls : List (List ℕ)) → HasNext w → run_from w n ls ≡ Ok v → v.opening ≡ w.opening ++ openings_from (length w.opening) ls
-lines_add n w v [] h e = ap (λ (z : World). z.opening) (sym (ended_is w v n (in_header w.stage) e)) ∙ sym (append-nil w.opening)
-lines_add n w v (l ∷ ls) h e = by_line (line_of l) refl (λ t next. lines_add (n + 1) (turned w t) v ls next) e
+lines_add : (next n : ℕ) (w v : World) (ls : List (List ℕ)) → HasNext next w → run_from w n ls ≡ Ok v → v.opening ≡ w.opening ++ openings_from next ls
+lines_add next n w v [] h e = ap (λ (z : World). z.opening) (sym (ended_is w v n (in_header w.stage) e)) ∙ sym (append-nil w.opening)
+lines_add next n w v (l ∷ ls) h e = by_line (line_of l) refl (λ more t has. lines_add more (n + 1) (turned w t) v ls has) e
   where
-    by_turn : (x : Line) → line_of l ≡ Some x → (r : Result Turn LineFault) → asked w n x ≡ r → ((t : Turn) → HasNext (turned w t) → run_from (turned w t) (n + 1) ls ≡ Ok v → v.opening ≡ (turned w t).opening ++ openings_from (length (turned w t).opening) ls) → ran_by w n ls r ≡ Ok v → v.opening ≡ w.opening ++ behind (length w.opening) (opening_by (length w.opening) (Some x)) ls
+    by_turn : (x : Line) → line_of l ≡ Some x → (r : Result Turn LineFault) → asked w n x ≡ r → ((more : ℕ) (t : Turn) → HasNext more (turned w t) → run_from (turned w t) (n + 1) ls ≡ Ok v → v.opening ≡ (turned w t).opening ++ openings_from more ls) → ran_by w n ls r ≡ Ok v → v.opening ≡ w.opening ++ behind next (Some x) ls
     by_turn x read (Err f) is go e = no_world _ v e
     by_turn x read (Ok t) is go e =
-        let first : List Opening = opening_by (length w.opening) (Some x) in
+        let first : List Opening = opening_by next (Some x) in
         let may = allowed w n x t (line_fits l x read) is in
-        let adds : (turned w t).opening ≡ w.opening ++ first = turn_adds w t may h ∙ ap (λ (z : List Opening). w.opening ++ z) (ap (added (length w.opening)) (asked_turn w n x t is) ∙ line_adds (length w.opening) x) in
-        go t (next_turned w t may h) e
-        ∙ ap (λ (z : List Opening). z ++ openings_from (length z) ls) adds
-        ∙ ap (λ (c : ℕ). (w.opening ++ first) ++ openings_from c ls) (length-append w.opening first)
-        ∙ append_assoc w.opening first (openings_from (length w.opening + length first) ls)
+        let asks = asked_turn w n x t is in
+        let adds : (turned w t).opening ≡ w.opening ++ first = turn_adds next w t may h ∙ ap (λ (z : List Opening). w.opening ++ z) (ap (added next) asks.1 ∙ line_adds next asks.0 x) in
+        let counts : count_added t ≡ opened_by (Some x) = ap count_added asks.1 ∙ line_counts asks.0 x in
+        go (next + count_added t) t (next_turned next w t may h) e
+        ∙ ap (λ (z : List Opening). z ++ openings_from (next + count_added t) ls) adds
+        ∙ ap (λ (c : ℕ). (w.opening ++ first) ++ openings_from (next + c) ls) counts
+        ∙ append_assoc w.opening first (openings_from (next + opened_by (Some x)) ls)
 
-    by_line : (o : Option Line) → line_of l ≡ o → ((t : Turn) → HasNext (turned w t) → run_from (turned w t) (n + 1) ls ≡ Ok v → v.opening ≡ (turned w t).opening ++ openings_from (length (turned w t).opening) ls) → ran_by w n ls (asked_by w n o) ≡ Ok v → v.opening ≡ w.opening ++ behind (length w.opening) (opening_by (length w.opening) o) ls
+    by_line : (o : Option Line) → line_of l ≡ o → ((more : ℕ) (t : Turn) → HasNext more (turned w t) → run_from (turned w t) (n + 1) ls ≡ Ok v → v.opening ≡ (turned w t).opening ++ openings_from more ls) → ran_by w n ls (asked_by w n o) ≡ Ok v → v.opening ≡ w.opening ++ behind next o ls
     by_line None read go e = no_world _ v e
     by_line (Some x) read go e = by_turn x read (asked w n x) refl go e
 
 pub opening_said : (input : List ℕ) (w : World) → run input ≡ Ok w → w.opening ≡ openings_of (lines_of input)
-opening_said input w e = lines_add 1 start w (lines_of input) next_first e
+opening_said input w e = lines_add 2 1 start w (lines_of input) next_first e

@@ -4,8 +4,8 @@ use Rattle.server_core.specs.State as server
 use Rattle.trace_replay.specs.declared.stage.Stage.{Stage}
 use Rattle.trace_replay.specs.declared.stage.Stage.TheVariants as stage
 use Rattle.trace_replay.specs.declared.turn.Turn.TheVariants as turn
-use Rattle.trace_replay.specs.Run.{with_file, with_clients}
-use Rattle.kept_promise.proofs.Common.{nat_tests, nat_lt, ◌&&◌, content_length, content_bytes, Part, content_size, File, Turn, Core, new_seat, Session, Event.Joins, Event.Does, Event.Settles, Event.Cuts, Event.Hangs, numbered, World, adjusts, Wire, up_length, down_length, at_events, count_of, turned, owners_of, Moment, turn_moments, Tree, can_open}
+use Rattle.trace_replay.specs.Run.{with_file, with_directory, with_clients}
+use Rattle.kept_promise.proofs.Common.{nat_tests, nat_lt, ◌&&◌, content_bytes, Part, content_size, Turn, Core, new_seat, Session, Event.Joins, Event.Does, Event.Settles, Event.Cuts, Event.Hangs, numbered, World, adjusts, Wire, up_length, down_length, at_events, count_of, turned, owners_of, Moment, turn_moments, Tree, can_open}
 use Rattle.kept_promise.proofs.Lists.{nothing_there, count_more}
 use Rattle.trace_replay.specs.declared.adjusting.Adjustment.{Adjustment}
 use Rattle.kept_promise.proofs.Rights.{AreAlike}
@@ -16,18 +16,17 @@ use Rattle.kept_promise.proofs.Leading.{CarryAll}
 use Rattle.kept_promise.proofs.Rounds.{AreRested}
 use Rattle.kept_promise.proofs.Owners.{owners_after, MayTurn, turned_to}
 use Rattle.kept_promise.proofs.RunsCarried.{KeptLaws, book_at, first_core, Carried, Stands}
-use Rattle.kept_promise.proofs.RunsFirst.{IsTree, tree_more, kept_first}
+use Rattle.kept_promise.proofs.RunsFirst.{IsTree, tree_more, tree_wider, kept_first}
 use Rattle.kept_promise.proofs.RunsEvents.{Fact, event_stands}
 use Rattle.kept_promise.proofs.RunsDeliveries.{up_stands, down_stands, passes_stand}
 use Rattle.kept_promise.proofs.RunsLines.{is_early, Allows}
-use Rattle.tree_nodes.specs.declared.node.Body.TheVariants.{File as Plain}
+use Rattle.tree_nodes.specs.declared.node.Body.TheVariants.{Directory, File as Plain}
 use Rattle.file_tree.specs.Opening.{opens}
 use Rattle.file_tree.specs.Tree.{contents_size}
 use Rattle.server_core.specs.Step.{opens_with}
-use Rattle.trace_replay.specs.declared.opening.TheConstants.{ROOT}
-use Rattle.kept_promise.proofs.Trees.{given}
-use Rattle.kept_promise.proofs.TreeOpens.{opens_file}
-use Rattle.kept_promise.proofs.RunsLines.{MayOpen}
+use Rattle.server_law.proofs.Trees.{given}
+use Rattle.kept_promise.proofs.TreeOpens.{opens_file, opens_directory}
+use Rattle.kept_promise.proofs.RunsLines.{IsFree, MayOpen}
 
 -- ---- before the first event
 
@@ -40,7 +39,7 @@ pub record IsFirst (n : ℕ) (w : World) (past : List Moment) : Type 0 where
   -- the bytes of the files are counted
   pub size : w.size ≡ contents_size tree.nodes
   pub past_is : past ≡ []
-  pub few : length w.opening < n
+  pub few : tree.next ≤ n + 1
 
 -- what stands before the line of this number
 pub record Before (P : Fact) (n : ℕ) (all past : List Moment) (w : World) : Type 0 where
@@ -119,8 +118,8 @@ clients_first n m w past f = record {
   few = let e = f.few in omega (arith, e);
 }
 
-file_first : (n : ℕ) (w : World) (name : List ℕ) (content : List Part) (past : List Moment) → n ≤ 65536 → MayOpen w name content → IsFirst n w past → IsFirst (n + 1) (with_file w name (content_bytes content)) (past ++ [])
-file_first n w name content past le may f =
+file_first : (n : ℕ) (w : World) (dir : ℕ) (name : List ℕ) (content : List Part) (past : List Moment) → n ≤ 65536 → MayOpen w dir name content → IsFirst n w past → IsFirst (n + 1) (with_file w dir name (content_bytes content)) (past ++ [])
+file_first n w dir name content past le may f =
     let bytes = content_bytes content in
     let few = f.few in
     let e = content_size content in
@@ -128,18 +127,35 @@ file_first n w name content past le may f =
     let much = may.2 in
     let size = f.size in
     let server_is : w.core.server.tree ≡ f.tree = ap (λ (k : Core). k.server.tree) f.core_is in
-    let can : can_open f.tree ROOT name ≡ true = ap (λ (t : Tree). can_open t ROOT name) (sym server_is) ∙ may.0 in
-    let more = opens_file f.tree ROOT name bytes (given f.tree f.is_tree.bounded) can in
+    let can : can_open f.tree dir name ≡ true = ap (λ (t : Tree). can_open t dir name) (sym server_is) ∙ may.0 in
+    let more = opens_file f.tree dir name bytes (given f.tree f.is_tree.bounded) can in
     let counted = more.size in
     record {
-      tree = opens f.tree ROOT name (Plain bytes);
+      tree = opens f.tree dir name (Plain bytes);
       count = f.count;
-      core_is = ap (λ (k : Core). record k { server = opens_with k.server ROOT name (Plain bytes) }) f.core_is;
+      core_is = ap (λ (k : Core). record k { server = opens_with k.server dir name (Plain bytes) }) f.core_is;
       wires_is = f.wires_is;
-      is_tree = subst (λ (i : ℕ). IsTree (w.opening ++ record { file = i; content = bytes } ∷ []) (opens f.tree ROOT name (Plain bytes))) (ap (λ (t : Tree). t.next) (sym server_is)) (tree_more w.opening f.tree name bytes can (omega (arith, few, le)) (omega (arith, e, long)) (omega (arith, e, much, size)) f.is_tree);
+      is_tree = subst (λ (i : ℕ). IsTree (w.opening ++ record { file = i; content = bytes } ∷ []) (opens f.tree dir name (Plain bytes))) (ap (λ (t : Tree). t.next) (sym server_is)) (tree_more w.opening f.tree dir name bytes can (omega (arith, few, le)) (omega (arith, e, long)) (omega (arith, e, much, size)) f.is_tree);
       size = omega (arith, counted, size);
       past_is = no_more past ∙ f.past_is;
-      few = let c = count_more w.opening (record { file = w.core.server.tree.next; content = bytes }) in omega (arith, few, c);
+      few = (let next = more.next in omega (arith, few, next));
+    }
+
+directory_first : (n : ℕ) (w : World) (dir : ℕ) (name : List ℕ) (past : List Moment) → n ≤ 65536 → IsFree w dir name → IsFirst n w past → IsFirst (n + 1) (with_directory w dir name) (past ++ [])
+directory_first n w dir name past le may f =
+    let few = f.few in
+    let server_is : w.core.server.tree ≡ f.tree = ap (λ (k : Core). k.server.tree) f.core_is in
+    let can : can_open f.tree dir name ≡ true = ap (λ (t : Tree). can_open t dir name) (sym server_is) ∙ may in
+    let more = opens_directory f.tree dir name (given f.tree f.is_tree.bounded) can in
+    record {
+      tree = opens f.tree dir name Directory;
+      count = f.count;
+      core_is = ap (λ (k : Core). record k { server = opens_with k.server dir name Directory }) f.core_is;
+      wires_is = f.wires_is;
+      is_tree = tree_wider w.opening f.tree dir name can (omega (arith, few, le)) f.is_tree;
+      size = f.size ∙ sym more.size;
+      past_is = no_more past ∙ f.past_is;
+      few = (let next = more.next in omega (arith, few, next));
     }
 
 stage_first : (n : ℕ) (w : World) (s : Stage) (past : List Moment) → IsFirst n w past → IsFirst (n + 1) (record w { stage = s }) (past ++ [])
@@ -155,7 +171,8 @@ first_turned : (n : ℕ) (w : World) (t : Turn) (past : List Moment) → MayTurn
 first_turned n w turn.Skip past may le f h early = stage_first n w w.stage past (h early)
 first_turned n w (turn.At s) past may le f h early = stage_first n w s past (h f)
 first_turned n w (turn.Clients m) past may le f h early = clients_first n m w past (h f)
-first_turned n w (turn.File name content) past may le f h early = file_first n w name content past le f.1 (h f.0)
+first_turned n w (turn.Dir dir name) past may le f h early = directory_first n w dir name past le f.1 (h f.0)
+first_turned n w (turn.File dir name content) past may le f h early = file_first n w dir name content past le f.1 (h f.0)
 first_turned n w (turn.Join c) past may le f h early = not_early (turned w (turn.Join c)).stage (turned_to w (turn.Join c) may).stage early
 first_turned n w (turn.Do c now d) past may le f h early = not_early (turned w (turn.Do c now d)).stage (turned_to w (turn.Do c now d) may).stage early
 first_turned n w (turn.Up m a now) past may le f h early = not_early (turned w (turn.Up m a now)).stage (turned_to w (turn.Up m a now) may).stage early
@@ -192,7 +209,8 @@ stands_turned : (P : Fact) → KeptLaws → FitLaws → Carried P → (n : ℕ) 
 stands_turned P l fits carried n all past rest w turn.Skip le f h split = idle_stands P all past w h.stands
 stands_turned P l fits carried n all past rest w (turn.At s) le f h split = idle_stands P all past (record w { stage = s }) (same_stands P all past w s h.stands)
 stands_turned P l fits carried n all past rest w (turn.Clients m) le f h split = first_stands P carried (n + 1) all (past ++ []) (with_clients w m) h.stands.kept.sound.alike (clients_first n m w past (h.first f))
-stands_turned P l fits carried n all past rest w (turn.File name content) le f h split = first_stands P carried (n + 1) all (past ++ []) (with_file w name (content_bytes content)) h.stands.kept.sound.alike (file_first n w name content past le f.1 (h.first f.0))
+stands_turned P l fits carried n all past rest w (turn.Dir dir name) le f h split = first_stands P carried (n + 1) all (past ++ []) (with_directory w dir name) h.stands.kept.sound.alike (directory_first n w dir name past le f.1 (h.first f.0))
+stands_turned P l fits carried n all past rest w (turn.File dir name content) le f h split = first_stands P carried (n + 1) all (past ++ []) (with_file w dir name (content_bytes content)) h.stands.kept.sound.alike (file_first n w dir name content past le f.1 (h.first f.0))
 stands_turned P l fits carried n all past rest w (turn.Join c) le f h split =
     event_stands P l carried all past rest (at_events w) (Joins c) (same_stands P all past w stage.Events h.stands) split (f.0, f.1, f.2, made_small P n all past w h le, f.3, refl)
 stands_turned P l fits carried n all past rest w (turn.Do c now d) le f h split = event_stands P l carried all past rest (at_events w) (Does c now d) (same_stands P all past w stage.Events h.stands) split (f.0, f.1, f.2, refl)

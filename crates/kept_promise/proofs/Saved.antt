@@ -271,8 +271,8 @@ pub carried_saved : FitLaws → Carried AllSaved
 carried_saved fits = record {
   first = λ all opening tree count kept. record { sent = λ n q at. none_numbered n q at; called = λ n q at. none_numbered n q at; each = λ m there. (let lt = there.1 in absurd (omega (arith, lt))) };
   steps = λ all past rest opening k qs e mid after s h. record {
-    sent = subst (DownsSent (past ++ moment k e ∷ []) (happens k e).core.steps) (sym s.after_is) (sent_after past k qs mid e s.sends s.finds (ops_after_event all past rest opening k qs e mid after s).1 h.sent);
-    called = subst (UpsSent (past ++ moment k e ∷ []) (happens k e).core.steps) (sym s.after_is) (called_after past k qs mid e s.sends s.finds (ops_after_event all past rest opening k qs e mid after s).1 h.called);
+    sent = subst (DownsSent (past ++ moment k e ∷ []) (happens k e).core.steps) (sym s.after_is) (sent_after past k qs mid e s.sends s.finds (ops_after_event fits all past rest opening k qs e mid after s).1 h.sent);
+    called = subst (UpsSent (past ++ moment k e ∷ []) (happens k e).core.steps) (sym s.after_is) (called_after past k qs mid e s.sends s.finds (ops_after_event fits all past rest opening k qs e mid after s).1 h.called);
     each = λ m there. elim (Contains-push_cases past (moment k e) m there) [
       | inl old ↦ h.each m old
       | inr new ↦ subst (Saves all) new (saves fits all past rest opening k qs e mid after s h.sent h.called (λ z old. (h.each z old).3))

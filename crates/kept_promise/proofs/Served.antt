@@ -7,6 +7,8 @@ use Rattle.kept_promise.proofs.Serves.{parsed}
 use Rattle.kept_promise.proofs.Calls.{Given, session_in, first_fits, rest_of, serve_lease, serve_hash, serve_read, serve_make, serve_send}
 use Rattle.kept_promise.proofs.Knowing.{serve_name}
 use Rattle.kept_promise.proofs.Commits.{serve_commit}
+use Rattle.kept_promise.proofs.CallsKeep.{is_of_files}
+use Rattle.kept_promise.proofs.ServesFiles.{got_quiet}
 use Rattle.kept_promise.proofs.Leading.{Leads, KeptServes}
 
 -- what the server does for a message, where its session stands or not
@@ -44,5 +46,5 @@ kept_serves laws book k qs n now q a us kept is e noted = by (also_numbered qs k
         let bytes = message_spell (ask_message a) in
         let standing : stands k.server n ≡ true = h.stands_is ∙ ap not g.unhung in
         let is_turned : happens k (Serves n now bytes) ≡ got_by k n now x.0 (ask_message a) true =
-        ap (serves k n now bytes) x.1 ∙ ap (serves_if k n now x.0) (parsed laws a (first_fits book k qs n now x.0 q a us g)) ∙ ap (got_by k n now x.0 (ask_message a)) standing in
+        ap (serves k n now bytes) x.1 ∙ ap (serves_if k n now x.0) (parsed laws a (first_fits book k qs n now x.0 q a us g)) ∙ got_quiet k n now x.0 (ask_message a) (is_of_files a) ∙ ap (got_by k n now x.0 (ask_message a)) standing in
         subst (Leads book (rest_of qs n q us)) (sym is_turned) (serve_call laws book k qs n now x.0 q a.xid a.call us g)

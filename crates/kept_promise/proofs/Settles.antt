@@ -9,7 +9,7 @@ use Rattle.hash_calls.specs.declared.message.LbProc.TheVariants as lb_proc
 use Rattle.wire.specs.declared.message.Program.TheVariants as program
 use Rattle.client_state.specs.declared.task.Stage.TheVariants as stage
 use Rattle.register_model.specs.declared.op.Outcome.TheVariants as told
-use Rattle.kept_promise.proofs.Common.{slice_get, slice_set, cond, ◌==◌, sha1, Done, Failed, MessageFits, at, makes_change, Change, ServerStep, File, Entry, Fetch, Stage, content_of, Op, Core, Seat, Session, CoreStep, quiet, numbered, with_numbered, settled_ops, settled_by, pointed, pointed_at, unless, Book, Or, value_at, version_at, Reply, Reply.Versioned, Reply.Hashed, Reply.Bytes, Reply.Made, Reply.Named, Reply.Stored, Reply.Changed, Told, Queue, told_message, reply_program, Tree}
+use Rattle.kept_promise.proofs.Common.{slice_get, slice_set, cond, ◌==◌, sha1, Done, Failed, MessageFits, at, Change, ServerStep, File, Entry, Fetch, Stage, Op, Core, Seat, Session, CoreStep, quiet, numbered, with_numbered, settled_ops, settled_by, pointed, pointed_at, unless, Book, Or, value_at, version_at, Reply, Reply.Versioned, Reply.Hashed, Reply.Bytes, Reply.Made, Reply.Named, Reply.Stored, Reply.Changed, Told, Queue, told_message, reply_program, Tree}
 use Rattle.kept_promise.proofs.Lists.{some_is, nothing_there, same_or_not, at_end, at_replaced, of_replaced}
 use Rattle.kept_promise.proofs.Keys.{times, times_append, times_head, own, on_way, key, change_key, ask_key, told_key}
 use Rattle.kept_promise.proofs.Messages.{Job, job, hash_offset, FetchOf, CommitTold, AllTolds, IsAnswer, AnswerOf, IsPending, CloseOf, content_wanted}
@@ -17,6 +17,9 @@ use Rattle.kept_promise.proofs.Rights.{IsSound, IsUnmade, IsMade}
 use Rattle.kept_promise.proofs.Marks.{marks}
 use Rattle.kept_promise.proofs.Growth.{Grows, or_map, value_alike, version_alike, made_later}
 use Rattle.kept_promise.proofs.History.{entered, made_op, IsEntryOf, grows_made, goes_made, value_now, version_now, marks_else}
+use Rattle.trace_replay.specs.Core.{entries_since}
+use Rattle.trace_replay.specs.Ops.{changed_file}
+use Rattle.kept_promise.proofs.ServesFiles.{one_since}
 use Rattle.kept_promise.proofs.Later.{seat_later}
 use Rattle.kept_promise.proofs.Taken.{tolds_append, times_map_append}
 use Rattle.kept_promise.proofs.Turns.{around_same, around_with, also_numbered, turned_core, kept_turn}
@@ -27,8 +30,7 @@ use Rattle.kept_promise.proofs.Facts.{IsValue, FileIs, IsTalk, IsKept, commits_i
 use Rattle.kept_promise.proofs.Leading.{Leads, downs_put_in, downs_put, KeptSettles}
 use Rattle.kept_promise.proofs.Cuts.{leads_idle}
 use Rattle.kept_promise.proofs.Steps.{no_commits}
-use Rattle.kept_promise.proofs.Trees.{replaced_own, replaced_other, replaced_size, replaced_bounded, file_bounded}
-use Rattle.kept_promise.proofs.TreeOpens.{replaced_plain}
+use Rattle.server_law.proofs.Trees.{replaced_own, replaced_other, replaced_size, replaced_bounded, file_bounded}
 use Rattle.kept_promise.proofs.Making.{entry_of, made_change, target_there, room_there, made_is}
 
 -- ---- a change that waits, in front
@@ -58,7 +60,7 @@ held_made book e j o t id g x there_ unmade sound mine size same short held ther
       subst (λ (z : ℕ). FileIs (made_book book e j o) z (server.file_at (replaced t id (g.version + 1) x) z)) (sym here) (subst (FileIs (made_book book e j o) id) (sym (replaced_own t id (g.version + 1) x g there)) own)
   | inr apart ↦
       let marks_ : marks f (book.steps + 1 + 1) (slice_set book.ops j (made_op book o)) ≡ marks f (book.steps + 1) book.ops = subst (λ n. marks f n (slice_set book.ops j (made_op book o)) ≡ marks f (book.steps + 1) book.ops) two (marks_else book j o f there_ unmade (λ q. apart (sym q ∙ mine)) sound) in
-      subst (FileIs (made_book book e j o) f) (sym (replaced_other t id (g.version + 1) x f apart)) (others (server.file_at t f) (held f) (value_alike book (made_book book e j o) f (book.steps + 1 + 1) (book.steps + 1) refl marks_) (version_alike book (made_book book e j o) f (book.steps + 1 + 1) (book.steps + 1) marks_))
+      subst (FileIs (made_book book e j o) f) (sym (replaced_other t id (g.version + 1) x f apart)) (others (server.file_at t f) (held f) (value_alike book (made_book book e j o) f (book.steps + 1 + 1) (book.steps + 1) refl marks_) (version_alike book (made_book book e j o) f (book.steps + 1 + 1) (book.steps + 1) refl marks_))
 ]
   where
     two : book.steps + 2 ≡ book.steps + 1 + 1
@@ -184,7 +186,7 @@ settled_now laws book k qs now c cs f x q j o kept waits there here unhung is pe
     let size : length o.value ≡ length (content_wanted c.what) = ap (λ (z : Op). length z.value) (sym op_is) ∙ pending.size_is in
     let same : Or book (o.value ≡ (content_wanted c.what)) = subst (λ (z : Op). Or book (z.value ≡ (content_wanted c.what))) op_is pending.value_is in
     let own_file : FileIs book c.file (Some f) = subst (FileIs book c.file) there (kept.server.held c.file) in
-    let tells : IsEntryOf book o e = record { file = file_is; len = size; digest = or_map book _ _ (λ q. ap sha1 q) same; version = ap (λ (z : ℕ). z + 1) (sym own_file.5) } in
+    let tells : IsEntryOf book o e = record { kind_is = refl; file = file_is; len = size; digest = or_map book _ _ (λ q. ap sha1 q) same; version = ap (λ (z : ℕ). z + 1) (sym own_file.5) } in
     let goes = goes_made book e j o tells at_ unmade kept.sound in
     let g = goes.grows in
     let more = made_book book e j o in
@@ -231,7 +233,6 @@ settled_now laws book k qs now c cs f x q j o kept waits there here unhung is pe
       server = record {
         held = held;
         bounded = replaced_bounded k.server.tree c.file (content_wanted c.what) f there (omega (arith, entries)) short (omega (arith, small)) kept.server.bounded;
-        plain = replaced_plain k.server.tree c.file (f.version + 1) (content_wanted c.what) f there kept.server.plain;
         commits = λ i d z. kept.server.commits (suc i) d (fewer_waiting k.server c cs waits i d z);
         changes = omega (arith, entries);
         bytes = omega (arith, sizes, small);
@@ -321,7 +322,7 @@ settled_now laws book k qs now c cs f x q j o kept waits there here unhung is pe
 
 -- what a settling leaves, by what the server did
 abbrev settled_by_step : Core → server.State × ServerStep → CoreStep
-settled_by_step k r = record (quiet (record k { steps = k.steps + 1; server = r.0; ops = settled_by k r.1.entries r.1.told; entries = k.entries ++ replicate r.1.entries (k.steps + 1) })) { down = r.1.send }
+settled_by_step k r = record (quiet (record k { steps = k.steps + 1; server = r.0; ops = settled_by k (changed_file (entries_since k.server r.0)) r.1.told; entries = k.entries ++ replicate r.1.entries (k.steps + 1) })) { down = r.1.send }
 
 settled_core : (book more : Book) (k : Core) (r : server.State) (ops : List Op) (entries : List ℕ) → more.steps ≡ k.steps + 1 → more.ops ≡ ops → more.entries ≡ entries → turned_core more r k.seats k.sessions ≡ record { server = r; seats = k.seats; sessions = k.sessions; steps = k.steps + 1; ops = ops; entries = entries }
 settled_core book more k r ops entries a b c =
@@ -345,14 +346,17 @@ settled_leads laws book k qs now c cs f kept waits there =
     let t : Told = answer c (f.version + 1) in
     let more = made_book book (entry_of c (content_wanted c.what) f) j o in
     let now_kept = settled_now laws book k qs now c cs f x q.0 j o kept waits there home.1 home.2 q.1 pending refl refl in
-    let ops_is : settled_by k 1 (told_.Settled n c.xid) ≡ more.ops =
-    ap (λ (z : Option Session). settled_ops k.ops 1 (k.steps + 1) z) home.1
-    ∙ ap (λ (z : Option ℕ). pointed_at k.ops z (k.steps + 1)) pending.known
-    ∙ ap (λ (os : List Op). pointed_at os (Some j) (k.steps + 1)) (sym kept.ops)
-    ∙ ap (λ (z : Option Op). pointed book.ops j (k.steps + 1) z) pending.there
-    ∙ ap (λ (s : ℕ). slice_set book.ops j (record o { point = Some (s + 1) })) (sym kept.steps) in
+    let changed : Option ℕ = changed_file (entries_since k.server (settled_server k.server now c cs f)) in
+    let ops_is : settled_by k changed (told_.Settled n c.xid) ≡ more.ops =
+    ap (λ (z : Option ℕ). settled_by k z (told_.Settled n c.xid)) (one_since k.server (settled_server k.server now c cs f) (entry_of c (content_wanted c.what) f) refl)
+    ∙ ap (λ (z : Option Session). settled_ops k.ops (k.steps + 1) (Some c.file) z) home.1
+    ∙ ap (λ (z : Option ℕ). pointed_at k.ops z (k.steps + 1) (Some c.file)) pending.known
+    ∙ ap (λ (os : List Op). pointed_at os (Some j) (k.steps + 1) (Some c.file)) (sym kept.ops)
+    ∙ ap (λ (z : Option Op). pointed book.ops j c.file (k.steps + 1) z) pending.there
+    ∙ ap (λ (s : ℕ). slice_set book.ops j (record o { file = c.file; point = Some (s + 1) })) (sym kept.steps)
+    ∙ ap (λ (g : ℕ). slice_set book.ops j (record o { file = g; point = Some (book.steps + 1) })) (sym pending.file_is) in
     let entries_is : more.entries ≡ k.entries ++ (k.steps + 1) ∷ [] = ap (λ (es : List ℕ). es ++ (book.steps + 1) ∷ []) kept.entries ∙ ap (λ (s : ℕ). k.entries ++ (s + 1) ∷ []) kept.steps in
-    let core = settled_core book more k (settled_server k.server now c cs f) (settled_by k 1 (told_.Settled n c.xid)) (k.entries ++ (k.steps + 1) ∷ []) (ap (λ s. s + 1) kept.steps) (sym ops_is) entries_is in
+    let core = settled_core book more k (settled_server k.server now c cs f) (settled_by k changed (told_.Settled n c.xid)) (k.entries ++ (k.steps + 1) ∷ []) (ap (λ s. s + 1) kept.steps) (sym ops_is) entries_is in
     record {
       sends = record { asks = []; up_is = refl; tolds = (n, t) ∷ []; down_is = refl };
       more = more;

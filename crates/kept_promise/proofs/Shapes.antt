@@ -8,7 +8,10 @@ use Rattle.client_state.specs.declared.step.Outcome.TheVariants as outcome
 use Rattle.client_state.specs.declared.task.Stage.TheVariants as stage
 use Rattle.kept_promise.proofs.Common.{◌==◌, Chunk, Command, Done, Hashes, Body, Pending, reads_chunk, reads_from, State, pending, calls_of, has_call, command_step, idle, took, drops, took_if, got_message, Reads, ClientStep, Ended, Outcome, Fetch, Stage, Task}
 use Rattle.kept_promise.proofs.Lists.{nothing_there}
-use Rattle.kept_promise.proofs.StepCases.{reads_keep, IsOpenedBy, JustEnds, FetchIn, FetchNow, FetchNow.all_told, FetchNow.one_came, reads_of, took_cases, IsPlain, command_cases}
+use Rattle.path_calls.specs.declared.answers.Ended.{Ended as WalkEnd}
+use Rattle.path_calls.specs.declared.answers.Ended.TheVariants as walk_end
+use Rattle.open_close.specs.Walking.{outcome_of}
+use Rattle.kept_promise.proofs.StepCases.{reads_keep, IsOpenedBy, JustEnds, FetchIn, FetchNow, FetchNow.all_told, FetchNow.one_came, reads_of, took_cases, IsPlain, command_cases, walk_cases}
 
 -- ---- what is true of an attempt
 
@@ -73,7 +76,22 @@ good_ends Q R x b r e = (subst (TaskGood Q R) (sym e.task) tt, subst (EndGood Q)
     by o un = tt
 
 good_took : (Q : ℕ → ℕ → Type 0) (R : ℕ → Type 0) (s : State) (fresh : R s.next) (calls : List Pending) (file : ℕ) (st : Stage) (xid : ℕ) (b : Body) → TookIn Q st xid b → Good Q R (took s calls file st xid b)
-good_took Q R s fresh calls file st x b q = took_cases (λ found r. Good Q R r) s calls file st x b (record {
+good_took Q R s fresh calls file (stage.Walking y w) x b q = walk_cases (Good Q R) s calls file y w x b (record {
+  fault = λ f. (tt, tt);
+  asks = λ v k. (tt, tt);
+  open_already = λ id k is. (tt, tt);
+  fetches = λ id k shut none. (fresh, tt);
+  leases = λ id c k shut some. (fresh, tt);
+  ends = λ w e k is. (tt, by e);
+})
+  where
+    by : (e : WalkEnd) → OutcomeGood Q (outcome_of e) x
+    by walk_end.Done = tt
+    by (walk_end.Names names) = tt
+    by (walk_end.Seen id kind version len) = tt
+    by (walk_end.Refused status) = tt
+    by walk_end.NoLink = tt
+good_took Q R s fresh calls file st x b q = took_cases (λ found r. Good Q R r) s calls file st x b tt (record {
   ends = λ r e unchanged came. good_ends Q R x b r e;
   changed = λ r f version e open_ gave last is. good_ends Q R x b r e;
   uses = λ y l bytes at is kept. (tt, (l.version, subst (TookIn Q (stage.Asking y) x) is (subst (λ z. TookIn Q z x b) at q)));
@@ -108,6 +126,7 @@ good_command Q R s fresh d now q = command_cases (Good Q R) s d now (record {
   answers = λ free opened o plain. (q, by o plain);
   fetches = λ file is free may. (fresh, tt);
   asks = λ file c is free may at. (fresh, tt);
+  walks = λ c is free may. (tt, tt);
   closes = λ file l is free may at. (tt, tt);
 })
   where
@@ -122,5 +141,6 @@ busy_command s d now t e = command_cases (λ r. (r.1.send ≡ []) × (r.0 ≡ s)
   answers = λ free opened o plain. nothing_there t (sym free ∙ e);
   fetches = λ file is free may. nothing_there t (sym free ∙ e);
   asks = λ file c is free may at. nothing_there t (sym free ∙ e);
+  walks = λ c is free may. nothing_there t (sym free ∙ e);
   closes = λ file l is free may at. nothing_there t (sym free ∙ e);
 })

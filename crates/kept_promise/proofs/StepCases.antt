@@ -2,10 +2,20 @@
 -- is true of the calls that go out in it, one by one.
 use Rattle.std.proofs.Common.{◌⊎◌, inl, inr, ◌≡◌, ℕ, zero, suc, ◌+◌, ◌<◌, ◌≤◌, List, [], ◌∷◌, ◌++◌, length, Option, Some, None, Bool, true, false, refl, sym, ap, ◌∙◌, subst, arith}
 use Rattle.command_text.specs.declared.command.Command.TheVariants as command
+use Rattle.command_text.specs.declared.path.PathCommand.{PathCommand}
 use Rattle.xdr_codec.specs.declared.status.Status.TheVariants as status
 use Rattle.hash_calls.specs.declared.call.Leased.{Leased}
 use Rattle.hash_calls.specs.declared.message.Lb.TheVariants as lb
 use Rattle.nfs3_calls.specs.declared.message.Nfs.TheVariants as nfs
+use Rattle.nfs3_calls.specs.declared.message.Nfs.{Nfs}
+use Rattle.path_calls.specs.Walk.{begun as walk_begun}
+use Rattle.path_calls.specs.Told.{walk_told}
+use Rattle.path_calls.specs.declared.answers.Ended.{Ended as WalkEnd}
+use Rattle.path_calls.specs.declared.answers.Told.{Told as WalkTold}
+use Rattle.path_calls.specs.declared.answers.Told.TheVariants as walk_told_as
+use Rattle.path_calls.specs.declared.walk.Walk.{Walk}
+use Rattle.open_close.specs.Walking.{asks_next, walks_if, walks, finding, finds_if, outcome_of, is_look, seen_in, walked, is_its, told_walk}
+use Rattle.client_state.specs.Ending.{may_walk}
 use Rattle.wire.specs.declared.message.Body.TheVariants as body
 use Rattle.wire.specs.declared.message.Message.TheVariants as message
 use Rattle.chunk_index.specs.Index.{Indexed}
@@ -28,7 +38,8 @@ use Rattle.register_model.specs.declared.op.Word.TheVariants as words
 use Rattle.trace_replay.specs.Trail.{given_in}
 use Rattle.kept_promise.proofs.Common.{nat_tests, ◌==◌, ◌&&◌, not, if◌then◌else◌, sha1, end_from, end_of, slice_get, nat_lt, Chunk, content_length, content_bytes, Command, Answer, Done, Failed, Status, Hashes, Pair, Piece, Body, Pending, names_next, names_more, names_all, is_stored, store_of, store_at, answered, ends, local_most, written_size, written, truncated, tries_most, fetch_of, with_hashes, listed, reads_next, reads_more, reads_all, is_here, read_at, fault_in, other_version, with_bytes, Broken, broken_if, broken_pair, broken_pairs, chunks_from, with_pairs, broken_sum, broken_of, State, local_at, local_bytes, part_of, bad_peer, refused, tries_anew, retries, reads_if, reads_on, lists_on, told_shape, told_version, told_hashes, misfits, told_bytes, told_chunk, told_piece, goes_if, goes_on, sends_whole, told_named, told_way, told_stored, forgets, idle, took, is_open, may_ask, opens_if, opens, on_local, too_big, done_with, edits, writes, truncates, abandons, asks_temp, closes, command_step, Names, Reads, BadPeer, ClientStep, Ended, Outcome, Fetch, Local, ReadCall, Stage, Store, StoreCall, Task, Way, Word, no_counts, taken_traffic}
 use Rattle.kept_promise.proofs.Lists.{some_is, nothing_there}
-use Rattle.kept_promise.proofs.Messages.{stage_word}
+use Rattle.kept_promise.proofs.Common.{Book, TakenCall}
+use Rattle.kept_promise.proofs.Messages.{Job, FetchOf, stage_word}
 
 -- ---- calls that go out one by one
 
@@ -328,27 +339,44 @@ leased Z s calls file y x l cases = by (content_in l.version (content_of s.cache
     by (Some bytes) e = cases.uses y l bytes refl refl e
     by None e = cases.fetches y l refl refl
 
+-- a stage of an open or a close of a file that is known
+abbrev pub IsOfFile : Stage → Type 0
+IsOfFile (stage.Walking y w) = ⊥
+IsOfFile st = Unit {0}
+
+-- no walk is under way
+pub fetch_known : (book : Book) (taken : List TakenCall) (j : Job) (st : Stage) → FetchOf book taken j st → IsOfFile st
+fetch_known book taken j (stage.Walking y w) h = h
+fetch_known book taken j (stage.Asking y) h = tt
+fetch_known book taken j (stage.Hashing tries y) h = tt
+fetch_known book taken j (stage.Listing y f) h = tt
+fetch_known book taken j (stage.Reading f) h = tt
+fetch_known book taken j (stage.Making y temp) h = tt
+fetch_known book taken j (stage.Storing w) h = tt
+fetch_known book taken j (stage.Committing y) h = tt
+
 -- whatever holds of each holds of what an answer makes, beside the chunks that the index gives then
-pub took_cases : (Z : List (ℕ × ℕ) → State × ClientStep → Type 0) (s : State) (calls : List Pending) (file : ℕ) (st : Stage) (x : ℕ) (b : Body) → Cases Z s calls file st x b → Z (given_in s (with_file file (reading_by st x b))) (took s calls file st x b)
-took_cases Z s calls file (stage.Asking y) x (body.Lb (lb.GetLeaseAnswer (Done l))) cases = leased Z s calls file y x l cases
-took_cases Z s calls file (stage.Asking y) x (body.Lb (lb.GetLeaseAnswer (Failed t u))) cases = plain Z s calls file (stage.Asking y) x (body.Lb (lb.GetLeaseAnswer (Failed t u))) cases t (λ z. z) refl
-took_cases Z s calls file (stage.Hashing tries y) x (body.Lb (lb.GetHashAnswer (Done h))) cases = hashed Z s calls file (stage.Hashing tries y) x h cases refl (fetch_of tries x h) (inl (tries, y, refl, refl))
-took_cases Z s calls file (stage.Hashing tries y) x (body.Lb (lb.GetHashAnswer (Failed t u))) cases = plain Z s calls file (stage.Hashing tries y) x (body.Lb (lb.GetHashAnswer (Failed t u))) cases t (λ z. z) refl
-took_cases Z s calls file (stage.Listing y f) x (body.Lb (lb.GetHashAnswer (Done h))) cases = hashed Z s calls file (stage.Listing y f) x h cases refl f (inr (y, refl))
-took_cases Z s calls file (stage.Listing y f) x (body.Lb (lb.GetHashAnswer (Failed t u))) cases = plain Z s calls file (stage.Listing y f) x (body.Lb (lb.GetHashAnswer (Failed t u))) cases t (λ z. z) refl
-took_cases Z s calls file (stage.Reading f) x (body.Nfs (nfs.ReadAnswer (Failed t a))) cases = plain Z s calls file (stage.Reading f) x (body.Nfs (nfs.ReadAnswer (Failed t a))) cases t (λ z. z) refl
-took_cases Z s calls file (stage.Reading f) x (body.Nfs (nfs.ReadAnswer (Done p))) cases = read Z s calls file f x p cases
-took_cases Z s calls file (stage.Making y temp) x (body.Lb (lb.MkTmpFileAnswer (Done u))) cases = goes Z s calls file (stage.Making y temp) x (body.Lb (lb.MkTmpFileAnswer (Done u))) cases (store_of temp (local_bytes s.opened file)) (inl (y, temp, refl, refl)) (λ z. z) refl
-took_cases Z s calls file (stage.Making y temp) x (body.Lb (lb.MkTmpFileAnswer (Failed t u))) cases = plain Z s calls file (stage.Making y temp) x (body.Lb (lb.MkTmpFileAnswer (Failed t u))) cases t (λ z. z) refl
-took_cases Z s calls file (stage.Storing old) x b cases = stored Z s calls file old x b cases
-took_cases Z s calls file (stage.Committing y) x (body.Lb (lb.CommitTmpAnswer (Failed t u))) cases = plain Z s calls file (stage.Committing y) x (body.Lb (lb.CommitTmpAnswer (Failed t u))) cases t (λ z. z) refl
-took_cases Z s calls file (stage.Committing y) x (body.Lb (lb.CommitTmpAnswer (Done c))) cases =
+pub took_cases : (Z : List (ℕ × ℕ) → State × ClientStep → Type 0) (s : State) (calls : List Pending) (file : ℕ) (st : Stage) (x : ℕ) (b : Body) → IsOfFile st → Cases Z s calls file st x b → Z (given_in s (with_file file (reading_by st x b))) (took s calls file st x b)
+took_cases Z s calls file (stage.Walking y w) x b known cases = absurd known
+took_cases Z s calls file (stage.Asking y) x (body.Lb (lb.GetLeaseAnswer (Done l))) known cases = leased Z s calls file y x l cases
+took_cases Z s calls file (stage.Asking y) x (body.Lb (lb.GetLeaseAnswer (Failed t u))) known cases = plain Z s calls file (stage.Asking y) x (body.Lb (lb.GetLeaseAnswer (Failed t u))) cases t (λ z. z) refl
+took_cases Z s calls file (stage.Hashing tries y) x (body.Lb (lb.GetHashAnswer (Done h))) known cases = hashed Z s calls file (stage.Hashing tries y) x h cases refl (fetch_of tries x h) (inl (tries, y, refl, refl))
+took_cases Z s calls file (stage.Hashing tries y) x (body.Lb (lb.GetHashAnswer (Failed t u))) known cases = plain Z s calls file (stage.Hashing tries y) x (body.Lb (lb.GetHashAnswer (Failed t u))) cases t (λ z. z) refl
+took_cases Z s calls file (stage.Listing y f) x (body.Lb (lb.GetHashAnswer (Done h))) known cases = hashed Z s calls file (stage.Listing y f) x h cases refl f (inr (y, refl))
+took_cases Z s calls file (stage.Listing y f) x (body.Lb (lb.GetHashAnswer (Failed t u))) known cases = plain Z s calls file (stage.Listing y f) x (body.Lb (lb.GetHashAnswer (Failed t u))) cases t (λ z. z) refl
+took_cases Z s calls file (stage.Reading f) x (body.Nfs (nfs.ReadAnswer (Failed t a))) known cases = plain Z s calls file (stage.Reading f) x (body.Nfs (nfs.ReadAnswer (Failed t a))) cases t (λ z. z) refl
+took_cases Z s calls file (stage.Reading f) x (body.Nfs (nfs.ReadAnswer (Done p))) known cases = read Z s calls file f x p cases
+took_cases Z s calls file (stage.Making y temp) x (body.Lb (lb.MkTmpFileAnswer (Done u))) known cases = goes Z s calls file (stage.Making y temp) x (body.Lb (lb.MkTmpFileAnswer (Done u))) cases (store_of temp (local_bytes s.opened file)) (inl (y, temp, refl, refl)) (λ z. z) refl
+took_cases Z s calls file (stage.Making y temp) x (body.Lb (lb.MkTmpFileAnswer (Failed t u))) known cases = plain Z s calls file (stage.Making y temp) x (body.Lb (lb.MkTmpFileAnswer (Failed t u))) cases t (λ z. z) refl
+took_cases Z s calls file (stage.Storing old) x b known cases = stored Z s calls file old x b cases
+took_cases Z s calls file (stage.Committing y) x (body.Lb (lb.CommitTmpAnswer (Failed t u))) known cases = plain Z s calls file (stage.Committing y) x (body.Lb (lb.CommitTmpAnswer (Failed t u))) cases t (λ z. z) refl
+took_cases Z s calls file (stage.Committing y) x (body.Lb (lb.CommitTmpAnswer (Done c))) known cases =
     let r = closed s calls file x c.version (local_bytes s.opened file) in
     cases.ends r (record { sent = refl; bytes = 0; counts = refl; task = refl; ended = _; ended_is = refl; unopened = λ z. z; known = inr ((λ z. z), refl) }) (not_changed r _ refl (closed_not file c.version (length (local_bytes s.opened file)) (sha1 (local_bytes s.opened file)))) (inr refl)
   where
     closed_not : (file version len : ℕ) (digest : List ℕ) (first last : ℕ) → outcome.Closed file version len digest ≡ outcome.Changed first last → ⊥
     closed_not file version len digest first last z = absurd cc
-took_cases Z s calls file st x b cases = fault Z s calls file st x b cases (bad.UnknownXid x) 0
+took_cases Z s calls file st x b known cases = fault Z s calls file st x b cases (bad.UnknownXid x) 0
 
 -- ---- where only opens matter, or only closes
 
@@ -370,6 +398,58 @@ open_and_close w a b = apart (sym a ∙ b)
     apart : words.Open ≡ words.Close → ⊥
     apart e = cc
 
+-- ---- a walk
+
+-- the file's entry is in front
+abbrev pub fronts : State → (file : ℕ) → State
+fronts s file = record s { cache = reserved s.cache file }
+
+-- an answer to the call of a walk, and what comes of it
+pub record Walks (st : Stage) (b : Body) (t : WalkTold) : Type 0 where
+  pub asked : ℕ
+  pub walk : Walk
+  pub answer : Nfs
+  pub stage_is : st ≡ stage.Walking asked walk
+  pub body_is : b ≡ body.Nfs answer
+  pub its : is_its walk answer ≡ true
+  pub told_is : walk_told walk answer ≡ t
+
+-- what holds of each of them
+pub record WalkCases (Z : State × ClientStep → Type 0) (s : State) (calls : List Pending) (st : Stage) (x : ℕ) (b : Body) : Type 0 where
+  pub fault : (f : BadPeer) → Z (bad_peer s f 0)
+  -- the next call goes out
+  pub asks : (v : Walk) → Walks st b (walk_told_as.Asks v) → Z (asks_next s v)
+  -- the name that was to be opened stands for a file: that is open, or the open goes on as one of it
+  pub open_already : (id : ℕ) → Walks st b (walk_told_as.Finds id) → is_open s.opened id ≡ true → Z (finding id (forgets s calls x, ends outcome.AlreadyOpen 0 0))
+  pub fetches : (id : ℕ) → Walks st b (walk_told_as.Finds id) → is_open s.opened id ≡ false → content_of s.cache id ≡ None → Z (finding id (asks_kept (fronts s id) id None))
+  pub leases : (id : ℕ) (c : Content) → Walks st b (walk_told_as.Finds id) → is_open s.opened id ≡ false → content_of s.cache id ≡ Some c → Z (finding id (asks_kept (fronts s id) id (Some c)))
+  -- it was the last call
+  pub ends : (w : Walk) (e : WalkEnd) (k : Walks st b (walk_told_as.Ends e)) → k.walk ≡ w → Z (forgets s calls x, record (ends (outcome_of e) x 0) { found = seen_in (is_look w.goal) e })
+
+-- whatever holds of each holds of what an answer makes of a walk
+pub walk_cases : (Z : State × ClientStep → Type 0) (s : State) (calls : List Pending) (file y : ℕ) (w : Walk) (x : ℕ) (b : Body) → WalkCases Z s calls (stage.Walking y w) x b → Z (took s calls file (stage.Walking y w) x b)
+walk_cases Z s calls file y w x (body.Nfs a) h = own (is_its w a) refl
+  where
+    kept : (id : ℕ) → walk_told w a ≡ walk_told_as.Finds id → is_its w a ≡ true → is_open s.opened id ≡ false → (o : Option Content) → content_of s.cache id ≡ o → Z (finding id (asks_kept (fronts s id) id o))
+    kept id is own shut None e = h.fetches id (record { asked = y; walk = w; answer = a; stage_is = refl; body_is = refl; its = own; told_is = is }) shut e
+    kept id is own shut (Some c) e = h.leases id c (record { asked = y; walk = w; answer = a; stage_is = refl; body_is = refl; its = own; told_is = is }) shut e
+
+    finds : (id : ℕ) → walk_told w a ≡ walk_told_as.Finds id → is_its w a ≡ true → (o : Bool) → is_open s.opened id ≡ o → Z (finds_if s calls x id o)
+    finds id is own true e = h.open_already id (record { asked = y; walk = w; answer = a; stage_is = refl; body_is = refl; its = own; told_is = is }) e
+    finds id is own false e = kept id is own e (content_of s.cache id) refl
+
+    by : is_its w a ≡ true → (t : WalkTold) → walk_told w a ≡ t → Z (walked s calls x (is_look w.goal) t)
+    by own (walk_told_as.Asks v) is = h.asks v (record { asked = y; walk = w; answer = a; stage_is = refl; body_is = refl; its = own; told_is = is })
+    by own (walk_told_as.Finds id) is = finds id is own (is_open s.opened id) refl
+    by own (walk_told_as.Ends e) is = h.ends w e (record { asked = y; walk = w; answer = a; stage_is = refl; body_is = refl; its = own; told_is = is }) refl
+    by own (walk_told_as.Shape got wanted) is = h.fault (bad.Shape got wanted)
+    by own walk_told_as.Other is = h.fault (bad.UnknownXid x)
+
+    own : (t : Bool) → is_its w a ≡ t → Z (told_walk s calls x w a t)
+    own true e = by e (walk_told w a) refl
+    own false e = h.fault (bad.UnknownXid x)
+walk_cases Z s calls file y w x b h = h.fault (bad.UnknownXid x)
+
 -- its operation goes on as one with this word, if it does
 abbrev pub GoesOn : Word → State × ClientStep → Type 0
 GoesOn w r = (u : Task) → r.1.ended ≡ None → r.0.task ≡ Some u → stage_word u.stage ≡ w
@@ -387,18 +467,19 @@ pub record OfCloses (Z : List (ℕ × ℕ) → State × ClientStep → Type 0) (
   pub commits : (w : Store) → StoreIn st x (local_bytes s.opened file) w → (IsUnknown b → ⊥) → bytes_came x b ≡ 0 → is_stored (names_all w s.next).store ≡ true → Z [] (goes_if s file (local_bytes s.opened file) (names_all w s.next) true)
   pub whole : (old : Store) (c : StoreCall) (k : Chunk) → st ≡ stage.Storing old → IsUnknown b → bytes_came x b ≡ 0 → store_at old.under x ≡ Some c → c.way ≡ way.Named → slice_get old.chunks c.index ≡ Some k → Z [] (sends_whole s file x (local_bytes s.opened file) (answered old x) c (Some k))
 
-pub either_word : (st : Stage) → (stage_word st ≡ words.Open) ⊎ (stage_word st ≡ words.Close)
-either_word (stage.Asking x) = inl refl
-either_word (stage.Hashing tries x) = inl refl
-either_word (stage.Listing x f) = inl refl
-either_word (stage.Reading f) = inl refl
-either_word (stage.Making x temp) = inr refl
-either_word (stage.Storing w) = inr refl
-either_word (stage.Committing x) = inr refl
+pub either_word : (st : Stage) → IsOfFile st → (stage_word st ≡ words.Open) ⊎ (stage_word st ≡ words.Close)
+either_word (stage.Asking x) known = inl refl
+either_word (stage.Hashing tries x) known = inl refl
+either_word (stage.Listing x f) known = inl refl
+either_word (stage.Reading f) known = inl refl
+either_word (stage.Making x temp) known = inr refl
+either_word (stage.Storing w) known = inr refl
+either_word (stage.Committing x) known = inr refl
+either_word (stage.Walking y w) known = absurd known
 
-pub of_closes : (Z : List (ℕ × ℕ) → State × ClientStep → Type 0) (s : State) (calls : List Pending) (file : ℕ) (st : Stage) (x : ℕ) (b : Body) → OfCloses Z s file st x b → Cases Z s calls file st x b
-of_closes Z s calls file st x b h = record {
-  ends = λ r e unchanged came. elim (either_word st) [ inl open_ ↦ h.opens open_ [] r (goes_none words.Open r e.ended e.ended_is) | inr close ↦ h.ends close r e came ];
+pub of_closes : (Z : List (ℕ × ℕ) → State × ClientStep → Type 0) (s : State) (calls : List Pending) (file : ℕ) (st : Stage) (x : ℕ) (b : Body) → IsOfFile st → OfCloses Z s file st x b → Cases Z s calls file st x b
+of_closes Z s calls file st x b known h = record {
+  ends = λ r e unchanged came. elim (either_word st known) [ inl open_ ↦ h.opens open_ [] r (goes_none words.Open r e.ended e.ended_is) | inr close ↦ h.ends close r e came ];
   changed = λ r f version e open_ gave last is. h.opens open_ [] r (goes_none words.Open r e.ended e.ended_is);
   uses = λ y l bytes at is kept. h.opens (ap stage_word at) [] (uses_kept s calls file x l.version (Some bytes)) (goes_none words.Open (uses_kept s calls file x l.version (Some bytes)) _ refl);
   fetches = λ y l at is. h.opens (ap stage_word at) [] (tries_anew (forgets s calls x) file 1 0) (goes_with words.Open (tries_anew (forgets s calls x) file 1 0) _ refl refl);
@@ -423,9 +504,9 @@ pub record OfOpens (Z : List (ℕ × ℕ) → State × ClientStep → Type 0) (s
   pub reads : (f : Fetch) (bytes : ℕ) → FetchNow st x b f bytes → is_here (reads_of s file f).fetch ≡ false → Z (given s file f) (reads_if (looked s file f) calls file x (reads_of s file f) bytes false)
   pub opens : (f : Fetch) (bytes : ℕ) → FetchNow st x b f bytes → is_here (reads_of s file f).fetch ≡ true → Z (given s file f) (reads_if (looked s file f) calls file x (reads_of s file f) bytes true)
 
-pub of_opens : (Z : List (ℕ × ℕ) → State × ClientStep → Type 0) (s : State) (calls : List Pending) (file : ℕ) (st : Stage) (x : ℕ) (b : Body) → OfOpens Z s calls file st x b → Cases Z s calls file st x b
-of_opens Z s calls file st x b h = record {
-  ends = λ r e unchanged came. elim (either_word st) [
+pub of_opens : (Z : List (ℕ × ℕ) → State × ClientStep → Type 0) (s : State) (calls : List Pending) (file : ℕ) (st : Stage) (x : ℕ) (b : Body) → IsOfFile st → OfOpens Z s calls file st x b → Cases Z s calls file st x b
+of_opens Z s calls file st x b known h = record {
+  ends = λ r e unchanged came. elim (either_word st known) [
     | inl open_ ↦ h.ends open_ r e unchanged
     | inr close ↦ h.closes close r (goes_none words.Close r e.ended e.ended_is) (λ d is opened. e.unopened (subst (λ (z : Ended). IsOpenedBy z.outcome) (some_is d e.ended (sym is ∙ e.ended_is)) opened)) unchanged
   ];
@@ -452,15 +533,12 @@ IsPlain (outcome.Refused s) = ⊥
 IsPlain (outcome.BadPeer f) = ⊥
 IsPlain o = Unit {0}
 
--- the file's entry is in front
-abbrev pub fronts : State → (file : ℕ) → State
-fronts s file = record s { cache = reserved s.cache file }
-
 pub record Begins (Z : State × ClientStep → Type 0) (s : State) (d : Command) : Type 0 where
   pub busy : (t : Task) → s.task ≡ Some t → Z (s, ends outcome.Busy 0 0)
   pub answers : s.task ≡ None → (opened : List (ℕ × Local)) (o : Outcome) → IsPlain o → Z (record s { opened = opened }, ends o 0 0)
   pub fetches : (file : ℕ) → d ≡ command.Open file → s.task ≡ None → may_ask s ≡ true → Z (asks_kept (fronts s file) file None)
   pub asks : (file : ℕ) (c : Content) → d ≡ command.Open file → s.task ≡ None → may_ask s ≡ true → content_of s.cache file ≡ Some c → Z (asks_kept (fronts s file) file (Some c))
+  pub walks : (c : PathCommand) → d ≡ command.Named c → s.task ≡ None → may_walk s (walk_begun c) ≡ true → Z (asks_next s (walk_begun c))
   pub closes : (file : ℕ) (l : Local) → d ≡ command.Close file → s.task ≡ None → may_ask s ≡ true → local_at s.opened file ≡ Some l → Z (asks_temp s file true)
 
 edited : (Z : State × ClientStep → Type 0) (s : State) (d : Command) → Begins Z s d → s.task ≡ None → (file : ℕ) (l : Local) (size : ℕ) (content : List ℕ) → Z (edits s file l size content)
@@ -507,3 +585,12 @@ command_cases Z s (command.Close file) now h = begun Z s (command.Close file) h 
     by free l at true may = h.closes file l refl free may at
     by free l at false may = h.answers free s.opened outcome.NoLink tt
 command_cases Z s (command.Abandon file) now h = begun Z s (command.Abandon file) h s.task refl (local_at s.opened file) (abandons s file) (λ free l at. h.answers free (without_local s.opened file) outcome.Done tt)
+command_cases Z s (command.Named c) now h = by s.task refl
+  where
+    asks : s.task ≡ None → (b : Bool) → may_walk s (walk_begun c) ≡ b → Z (walks_if s (walk_begun c) b)
+    asks free true may = h.walks c refl free may
+    asks free false may = h.answers free s.opened outcome.NoLink tt
+
+    by : (t : Option Task) → s.task ≡ t → Z (walks s c t)
+    by (Some t) is = h.busy t is
+    by None is = asks is (may_walk s (walk_begun c)) refl

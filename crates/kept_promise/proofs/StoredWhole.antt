@@ -117,8 +117,8 @@ came_acts book k qs i seat c taken acts kept here = λ p r at. elim (ops_shape k
       subst (Came k p) (sym new.3) (inl (new.0, new.2, running_past new.0 c taken k.steps acts running.1, same_word new.0 c taken (k.steps + 1) acts, close_point new.0 c taken (k.steps + 1) acts))
 ]
 
-came_event : (all past rest : List Moment) (opening : List Opening) (k : Core) (qs : List Queue) (e : Event) (mid after : List Queue) → Step all past rest opening k qs e mid after → AllCame k (happens k e).core.ops
-came_event all past rest opening k qs e mid after s = by (ops_after_event all past rest opening k qs e mid after s).0
+came_event : FitLaws → (all past rest : List Moment) (opening : List Opening) (k : Core) (qs : List Queue) (e : Event) (mid after : List Queue) → Step all past rest opening k qs e mid after → AllCame k (happens k e).core.ops
+came_event laws all past rest opening k qs e mid after s = by (ops_after_event laws all past rest opening k qs e mid after s).0
   where
     by : OpsAfter e k (happens k e).core.ops → AllCame k (happens k e).core.ops
     by (inl same) = subst (AllCame k) (sym same) (came_same k)
@@ -153,13 +153,13 @@ waits_event laws all past rest opening k qs e mid after s h = λ n p y r o at is
     let le = w.5 in
     let old = (s.kept.sessions n x q w.2 w.3).old p (sym w.4 ∙ known) in
     let sent = waits_before (book_at opening k all) past k qs s.kept h.closes h.waits x.cut n p x q old.0 w.2 w.3 refl (sym w.4 ∙ known) (omega (arith, le, lt)) old.1 in
-    let follows = stays_in (book_at opening k all) k qs e (happens k e).core.ops s.kept (ops_after_event all past rest opening k qs e mid after s).0 p old.0 old.1 in
+    let follows = stays_in (book_at opening k all) k qs e (happens k e).core.ops s.kept (ops_after_event laws all past rest opening k qs e mid after s).0 p old.0 old.1 in
     let same : follows.0 ≡ o = some_is follows.0 o (sym follows.1 ∙ there) in
     subst (λ l. SentCommit o l) (sent_more past (moment k e)) (commit_more o (sent_of past) (sent_in (moment k e)) (subst (λ (z : Op). SentCommit z (sent_of past)) same (commit_kept k.steps old.0 follows.0 (sent_of past) follows.2 h.counted.sent_by sent)))
 
 made_event : FitLaws → (all past rest : List Moment) (opening : List Opening) (k : Core) (qs : List Queue) (e : Event) (mid after : List Queue) → Step all past rest opening k qs e mid after → Stored all past opening k qs → MadeAt (past ++ moment k e ∷ []) (happens k e).core
 made_event laws all past rest opening k qs e mid after s h = λ p q r at close point.
-    subst (λ l. SentCommit r l) (sent_more past (moment k e)) (commit_more r (sent_of past) (sent_in (moment k e)) (elim (came_event all past rest opening k qs e mid after s p r at) [
+    subst (λ l. SentCommit r l) (sent_more past (moment k e)) (commit_more r (sent_of past) (sent_in (moment k e)) (elim (came_event laws all past rest opening k qs e mid after s p r at) [
       | inl was ↦ commit_kept k.steps was.0 r (sent_of past) was.2 h.counted.sent_by (h.made p q was.0 was.1 (was.3 ∙ close) (sym (was.4 close) ∙ point))
       | inr rest ↦ elim rest [
         | inl none ↦ nothing_there q (sym none ∙ point)

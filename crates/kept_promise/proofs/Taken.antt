@@ -43,8 +43,8 @@ tried_found : (book : Book) (taken after : List TakenCall) (j : Job) (x n : ℕ)
 tried_found book taken after j x n f h = record { moment = h.moment; was = f x h.moment h.was; past = h.past; op = h.op; there = h.there; count = h.count; tries_is = h.tries_is; tried = h.tried; call = served_found book taken after j x (hash_body j.file 0) f h.call }
 
 refused_found : (book : Book) (taken after : List TakenCall) (j : Job) (x : ℕ) (s : Status) → Finds taken after → RefusedTold book taken j x s → RefusedTold book after j x s
-refused_found book taken after j x s f (inl h) = inl h
-refused_found book taken after j x s f (inr h) = inr (h.0, h.1, (h.2.0, told_found book taken after j x None h.2.0 f h.2.1))
+refused_found book taken after j x s f (inl (is, h)) = inl (is, record { at = h.at; noted = h.noted; moment = h.moment; step_is = h.step_is; was = f x h.moment h.was; past = h.past; op = h.op; there = h.there; after = h.after; node = h.node; node_is = h.node_is })
+refused_found book taken after j x s f (inr h) = inr (h.0, (h.1.0, told_found book taken after j x None h.1.0 f h.1.1))
 
 hash_found : (book : Book) (taken after : List TakenCall) (j : Job) (x o : ℕ) (a : Answer Hashes Unit) → Finds taken after → HashTold book taken j x o a → HashTold book after j x o a
 hash_found book taken after j x o (Failed s u) f h = refused_found book taken after j x s f h
@@ -79,6 +79,7 @@ fetch_found book taken after j g f h = record { file = h.file; held = h.held; ve
 fetch_of_found : (book : Book) (taken after : List TakenCall) (j : Job) (s : Stage) → Finds taken after → FetchOf book taken j s → FetchOf book after j s
 fetch_of_found book taken after j (stage.Listing x g) f h = (fetch_found book taken after j g f h.0, h.1, h.2)
 fetch_of_found book taken after j (stage.Reading g) f h = (fetch_found book taken after j g f h.0, h.1)
+fetch_of_found book taken after j (stage.Walking x w) f h = h
 fetch_of_found book taken after j _ f h = tt
 
 pub has_fetch_found : (book : Book) (taken after : List TakenCall) (job : Option Job) → Finds taken after → HasFetch book taken job → HasFetch book after job

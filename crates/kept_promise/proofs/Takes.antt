@@ -25,10 +25,10 @@ value_still book more made ended f x g same h = record { value = h.value; is = s
 
 pub file_still : (book more : Book) (made ended : Option ℕ) (f : ℕ) (g : Option File) → Grows book more made ended → Still book more → FileIs book f g → FileIs more f g
 file_still book more made ended f None grows still h = (ap (λ l. content_of l f) grows.opening ∙ h.0, value_alike book more f (more.steps + 1) (book.steps + 1) grows.opening (still f) ∙ h.1)
-file_still book more made ended f (Some g) grows still h = (h.0, h.1, h.2, subst (λ l. IsSome (content_of l f)) (sym grows.opening) h.3, value_still book more made ended f g.content grows (value_alike book more f (more.steps + 1) (book.steps + 1) grows.opening (still f)) h.4, version_alike book more f (more.steps + 1) (book.steps + 1) (still f) ∙ h.5, h.6)
+file_still book more made ended f (Some g) grows still h = (h.0, h.1, h.2, subst (λ l. IsSome (content_of l f)) (sym grows.opening) h.3, value_still book more made ended f g.content grows (value_alike book more f (more.steps + 1) (book.steps + 1) grows.opening (still f)) h.4, version_alike book more f (more.steps + 1) (book.steps + 1) grows.opening (still f) ∙ h.5, h.6)
 
 pub server_still : (book more : Book) (made ended : Option ℕ) (s : server.State) (moment : ℕ) (temps : List (ℕ × Temp)) (index : Indexed) → Grows book more made ended → Still book more → IsServer book s → IsServer more (record s { moment = moment; temps = temps; index = index })
-server_still book more made ended s moment temps index grows still h = record { held = λ f. file_still book more made ended f (server.file_at s.tree f) grows still (h.held f); bounded = h.bounded; plain = h.plain; commits = h.commits; changes = h.changes; bytes = h.bytes; lengths = h.lengths; targets = λ i c e. subst (λ l. IsSome (content_of l c.file)) (sym grows.opening) (h.targets i c e); xids = h.xids }
+server_still book more made ended s moment temps index grows still h = record { held = λ f. file_still book more made ended f (server.file_at s.tree f) grows still (h.held f); bounded = h.bounded; commits = h.commits; changes = h.changes; bytes = h.bytes; lengths = h.lengths; targets = λ i c e. subst (λ l. IsSome (content_of l c.file)) (sym grows.opening) (h.targets i c e); xids = h.xids }
 
 -- ---- a session that took a call
 

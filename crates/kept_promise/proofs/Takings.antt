@@ -101,6 +101,7 @@ comes_taken book k qs n x q t ts j g (stage.Reading f) at i here once noted look
     read_code [] i t e = nothing_there (told_pending t) e
     read_code (u ∷ us) zero t e = code_is (read_pending u) t (some_is (read_pending u) (told_pending t) e)
     read_code (u ∷ us) (suc i) t e = read_code us i t e
+comes_taken book k qs n x q t ts j g (stage.Walking y w) at i here once noted looked = absurd (subst (FetchOf book x.taken j) at (((session_at book k qs n x q t ts j g).talk g.uncut).fetch j g.job_is))
 comes_taken book k qs n x q t ts j g (stage.Making y temp) at i here once noted looked =
     let p = single _ i t here in
     let r = made_reply t.reply (code_is _ t p) in

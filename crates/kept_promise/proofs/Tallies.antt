@@ -5,7 +5,13 @@ use Rattle.wire.specs.declared.message.Body.TheVariants as body
 use Rattle.wire.specs.declared.message.Message.TheVariants as message
 use Rattle.wire.specs.declared.message.RpcRefusal.TheVariants as refusal
 use Rattle.kept_promise.proofs.Common.{Chunk, Done, Body, Message, Pending, RpcRefusal, WireFault, cond_call, commit_call, names_from, names_all, calls_most, read_call, reads_chunk, reads_from, State, local_bytes, pending, calls_of, has_call, idle, denied, took, drops, took_if, denied_if, got_message, got_fault, got_step, Reads, ClientStep, Counts, Fetch, Stage, Store, Task, Traffic, no_traffic, wanted_if, wanted_by, sent_traffic, taken_traffic, both}
-use Rattle.kept_promise.proofs.StepCases.{reads_keep, names_keep, IsFault, bytes_came, JustEnds, FetchNow, FetchNow.all_told, FetchNow.one_came, reads_of, Cases, took_cases}
+use Rattle.kept_promise.proofs.StepCases.{reads_keep, names_keep, IsFault, bytes_came, JustEnds, FetchNow, FetchNow.all_told, FetchNow.one_came, reads_of, Cases, took_cases, Walks, walk_cases}
+use Rattle.path_calls.specs.Walk.{next_call}
+use Rattle.path_calls.specs.declared.answers.Told.{Told as WalkTold}
+use Rattle.path_calls.specs.declared.answers.Told.TheVariants as walk_told_as
+use Rattle.path_calls.specs.declared.walk.Walk.{Walk}
+use Rattle.client_state.specs.declared.task.Stage.TheVariants as stage
+use Rattle.kept_promise.proofs.WalkMessages.{call_counts, answer_counts}
 
 -- ---- sums
 
@@ -161,12 +167,38 @@ tally_drops s task xid true = inl (record { cond = refl; tmp = refl; read = refl
 tally_drops s (Some t) xid false = inr (_, refl)
 tally_drops s None xid false = inl (record { cond = refl; tmp = refl; read = refl; data_is = refl })
 
+walk_answer : (s : State) (calls : List Pending) (file y : ℕ) (w : Walk) (x : ℕ) (b : Body) → Tallies (bytes_came x b) (took s calls file (stage.Walking y w) x b)
+walk_answer s calls file y w x b = walk_cases (Tallies (bytes_came x b)) s calls file y w x b (record {
+  fault = λ f. inr (f, refl);
+  asks = λ v k.
+      let z = came (walk_told_as.Asks v) k in
+      let e = call_counts s.next v in
+      let d : (sent_traffic (message.Call s.next (body.Nfs (next_call v)))).«data» ≡ 0 = ap (λ (t : Traffic). t.«data») e in
+      inl (record {
+        cond = sym (ap (λ (t : Traffic). (both t no_traffic).cond) e);
+        tmp = sym (ap (λ (t : Traffic). (both t no_traffic).tmp) e);
+        read = sym (ap (λ (t : Traffic). (both t no_traffic).read) e);
+        data_is = omega (arith, z, d);
+      });
+  open_already = λ id k is. let z = came (walk_told_as.Finds id) k in inl (record { cond = refl; tmp = refl; read = refl; data_is = omega (arith, z) });
+  fetches = λ id k shut none. let z = came (walk_told_as.Finds id) k in inl (record { cond = refl; tmp = refl; read = refl; data_is = omega (arith, z) });
+  leases = λ id c k shut some. let z = came (walk_told_as.Finds id) k in inl (record { cond = refl; tmp = refl; read = refl; data_is = omega (arith, z) });
+  ends = λ v e k is. let z = came (walk_told_as.Ends e) k in inl (record { cond = refl; tmp = refl; read = refl; data_is = omega (arith, z) });
+})
+  where
+    came : (t : WalkTold) → Walks (stage.Walking y w) b t → bytes_came x b ≡ 0
+    came t k = ap (bytes_came x) k.body_is ∙ ap (λ (z : Traffic). z.«data») (answer_counts x k.walk k.answer k.its)
+
+tally_took : (s : State) (calls : List Pending) (file : ℕ) (st : Stage) (x : ℕ) (b : Body) → Tallies (bytes_came x b) (took s calls file st x b)
+tally_took s calls file (stage.Walking y w) x b = walk_answer s calls file y w x b
+tally_took s calls file st x b = took_cases (λ found r. Tallies (bytes_came x b) r) s calls file st x b tt (tally_cases s calls file st x b)
+
 tally_answer : (s : State) (task : Option Task) (xid : ℕ) (b : Body) → Tallies (taken_sum (wanted_if (has_call (pending task) xid) (message.Answer xid b))).«data» (took_if s task xid b (has_call (pending task) xid))
 tally_answer s None xid b = tally_drops s None xid (has_call s.forgotten xid)
 tally_answer s (Some t) xid b = by (has_call (pending (Some t)) xid)
   where
     by : (own : Bool) → Tallies (taken_sum (wanted_if own (message.Answer xid b))).«data» (took_if s (Some t) xid b own)
-    by true = same _ _ (omega arith) (took_cases (λ found r. Tallies (bytes_came xid b) r) (idle s) (calls_of s) t.file t.stage xid b (tally_cases (idle s) (calls_of s) t.file t.stage xid b))
+    by true = same _ _ (omega arith) (tally_took (idle s) (calls_of s) t.file t.stage xid b)
       where
         same : (m n : ℕ) → m ≡ n → Tallies m (took (idle s) (calls_of s) t.file t.stage xid b) → Tallies n (took (idle s) (calls_of s) t.file t.stage xid b)
         same m n e h = subst (λ z. Tallies z (took (idle s) (calls_of s) t.file t.stage xid b)) e h

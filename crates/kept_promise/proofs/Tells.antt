@@ -1,8 +1,10 @@
 -- What the server tells of a file when it takes a GETHASH or a READ, and what other calls come to.
-use Rattle.std.proofs.Common.{inl, inr, ◌≡◌, ℕ, ◌+◌, ◌<◌, List, [], ◌∷◌, ◌++◌, Option, Some, None, Bool, true, false, refl, sym, ap, ◌∙◌, subst, arith, eqb-true, eq-eqb, map, IsSome, Result, Ok, Err}
+use Rattle.std.proofs.Common.{inl, inr, ◌≡◌, ℕ, ◌+◌, ◌<◌, List, [], ◌∷◌, ◌++◌, Option, Some, None, Bool, true, false, refl, sym, ap, ◌∙◌, subst, arith, eq-eqb, map, IsSome, Result, Ok, Err}
 use Rattle.xdr_codec.specs.declared.status.Status.TheVariants as status
 use Rattle.server_core.specs.State as server
-use Rattle.server_core.specs.Answers.{node_named, hash_answer, lease_answer, read_answer}
+use Rattle.tree_nodes.specs.declared.node.Node.{Node as TreeNode}
+use Rattle.file_tree.specs.Tree.{directory_of}
+use Rattle.server_core.specs.Answers.{hash_answer, lease_answer, read_answer}
 use Rattle.server_core.specs.Hashed.{bytes_told}
 use Rattle.wire.specs.declared.message.Message.TheVariants as message
 use Rattle.client_state.specs.State as client
@@ -21,22 +23,22 @@ use Rattle.kept_promise.proofs.Fits.{FitLaws}
 use Rattle.kept_promise.proofs.Facts.{FileIs, IsServer, IsTalk, IsKept}
 use Rattle.kept_promise.proofs.Serves.{own_node, contains_at, map_at, parsed}
 use Rattle.kept_promise.proofs.Leading.{IsNoted}
-use Rattle.kept_promise.proofs.Trees.{file_bounded}
-use Rattle.kept_promise.proofs.TreeOpens.{IsPlain, Named, the_root, nobody, a_file, named_in}
+use Rattle.server_law.proofs.Trees.{file_bounded}
+use Rattle.kept_promise.proofs.TreeOpens.{Named, a_directory, nobody, a_file, named_in}
 
 -- ---- what a name stands for
 
 pub data Found (t : Tree) (f : ℕ) : Type 0 where
-  is_root : f ≡ 1 → node_of t (handle_bytes f) ≡ Ok directory → Found t f
+  is_directory : (n : TreeNode) → directory_of t.nodes f ≡ Ok n → server.file_at t f ≡ None → node_of t (handle_bytes f) ≡ Ok directory → Found t f
   is_gone : server.file_at t f ≡ None → node_of t (handle_bytes f) ≡ Err status.Stale → Found t f
   is_file : (g : File) → server.file_at t f ≡ Some g → node_of t (handle_bytes f) ≡ Ok (file g) → Found t f
 
-pub looked : (t : Tree) (f : ℕ) → IsPlain t → f < 18446744073709551616 → Found t f
-looked t f plain lt = by (named_in t f plain)
+pub looked : (t : Tree) (f : ℕ) → f < 18446744073709551616 → Found t f
+looked t f lt = by (named_in t f)
   where
     by : Named t f → Found t f
-    by (the_root one e) = is_root one (own_node t f lt ∙ e)
-    by (nobody none apart e) = is_gone none (own_node t f lt ∙ e)
+    by (a_directory n there none e) = is_directory n there none (own_node t f lt ∙ e)
+    by (nobody none e) = is_gone none (own_node t f lt ∙ e)
     by (a_file g at e) = is_file g at (own_node t f lt ∙ e)
 
 pub not_some : IsSome {T = List ℕ} None → ⊥
@@ -146,19 +148,37 @@ tried_now book k qs n x q a us c j _ o waits call kept was talk e is at = tt
 pub held_now : (book : Book) (k : Core) (n now : ℕ) (a : Ask) (i f : ℕ) (g : File) → IsNoted book k (Serves n now (message_spell (ask_message a))) → i ≡ f → server.file_at k.server.tree f ≡ Some g → IsHeld book.moments i g
 held_now book k n now a i f g noted same there = record { at = record { before = k; event = Serves n now (message_spell (ask_message a)) }; there = noted.there; held = ap (server.file_at k.server.tree) same ∙ there }
 
--- the root is there
-no_root : (t : Tree) (f : ℕ) → IsPlain t → f < 18446744073709551616 → f ≡ 1 → node_of t (handle_bytes f) ≡ Err status.Stale → ⊥
-no_root t f plain small one at = root_is (sym (own_node t f small ∙ ap (λ (i : ℕ). node_named t (Some i)) one ∙ plain.root) ∙ at)
-  where
-    root_is : (let r : Result Node Status = Ok directory in r ≡ Err status.Stale) → ⊥
-    root_is e = absurd cc
+-- a directory
+directory_told : (book : Book) (k : Core) (qs : List Queue) (n now : ℕ) (x : Session) (q : Queue) (a : Ask) (f : ℕ) (us : List Ask) (c : Seat) (j : Job) (d : TreeNode) → IsKept book k qs → numbered k.seats x.owner ≡ Some c → IsTalk book n k.server.waiting x q c → q.ups ≡ a ∷ us → job c ≡ Some j
+    → IsNoted book k (Serves n now (message_spell (ask_message a))) → j.file ≡ f → directory_of k.server.tree.nodes f ≡ Ok d → RefusedTold (onward book 1 book.ops) (with_taken x a.xid (book.steps + 1)) j a.xid status.IsDir
+directory_told book k qs n now x q a f us c j d kept was talk e is noted same there =
+    let of = (kept.seats x.owner c was).task j is in
+    let begun = (kept.sound.rights j.place of.op of.there).begun in
+    let steps = kept.steps in
+    let rising = subst (λ (l : List Ask). Rising talk.floor l c.client.next) e talk.rising in
+    inl (
+      refl,
+      record {
+        at = record { before = k; event = Serves n now (message_spell (ask_message a)) };
+        noted = noted.there;
+        moment = book.steps + 1;
+        step_is = omega (arith, steps);
+        was = finds_last x.taken talk.floor (record { xid = a.xid; step = book.steps + 1 }) talk.under rising.0;
+        past = omega arith;
+        op = of.op;
+        there = of.there;
+        after = omega (arith, begun);
+        node = d;
+        node_is = ap (directory_of k.server.tree.nodes) same ∙ there;
+      },
+    )
 
 -- a file that is not in the tree
 gone_told : (book : Book) (k : Core) (qs : List Queue) (n : ℕ) (x : Session) (q : Queue) (a : Ask) (f : ℕ) (us : List Ask) (c : Seat) (j : Job) → IsKept book k qs → numbered k.seats x.owner ≡ Some c → IsTalk book n k.server.waiting x q c → q.ups ≡ a ∷ us → job c ≡ Some j
-    → f < 18446744073709551616 → j.file ≡ f → server.file_at k.server.tree f ≡ None → node_of k.server.tree (handle_bytes f) ≡ Err status.Stale → RefusedTold (onward book 1 book.ops) (with_taken x a.xid (book.steps + 1)) j a.xid status.Stale
-gone_told book k qs n x q a f us c j kept was talk e is small same none at =
+    → j.file ≡ f → server.file_at k.server.tree f ≡ None → RefusedTold (onward book 1 book.ops) (with_taken x a.xid (book.steps + 1)) j a.xid status.Stale
+gone_told book k qs n x q a f us c j kept was talk e is same none =
     let held = subst (FileIs book f) none (kept.server.held f) in
-    inr ((refl, λ one. no_root k.server.tree f kept.server.plain small (sym same ∙ one) at), ap (content_of book.opening) same ∙ held.0, (version_at book j.file (book.steps + 1), told_now book k qs n x q a us c j None (version_at book j.file (book.steps + 1)) kept was talk e is (ap (λ (i : ℕ). value_at book i (book.steps + 1)) same ∙ held.1) refl))
+    inr (refl, (version_at book j.file (book.steps + 1), told_now book k qs n x q a us c j None (version_at book j.file (book.steps + 1)) kept was talk e is (ap (λ (i : ℕ). value_at book i (book.steps + 1)) same ∙ held.1) refl))
 
 -- ---- a GETLEASE
 
@@ -166,10 +186,10 @@ abbrev pub lease_reply : Tree → (f : ℕ) → Reply
 lease_reply t f = Versioned (lease_answer (node_of t (handle_bytes f)))
 
 pub lease_reply_fits : FitLaws → (book : Book) (s : server.State) (xid f : ℕ) → IsServer book s → xid < 4294967296 → f < 18446744073709551616 → MessageFits (told_message (record { xid = xid; reply = lease_reply s.tree f }))
-lease_reply_fits laws book s xid f h x lt = by (looked s.tree f h.plain lt)
+lease_reply_fits laws book s xid f h x lt = by (looked s.tree f lt)
   where
     by : Found s.tree f → MessageFits (told_message (record { xid = xid; reply = lease_reply s.tree f }))
-    by (is_root one e) = subst (λ (node : Result Node Status). MessageFits (told_message (record { xid = xid; reply = Versioned (lease_answer node) }))) (sym e) (laws.plain xid (Versioned (Failed status.IsDir tt)) x tt)
+    by (is_directory z there none e) = subst (λ (node : Result Node Status). MessageFits (told_message (record { xid = xid; reply = Versioned (lease_answer node) }))) (sym e) (laws.plain xid (Versioned (Failed status.IsDir tt)) x tt)
     by (is_gone none e) = subst (λ (node : Result Node Status). MessageFits (told_message (record { xid = xid; reply = Versioned (lease_answer node) }))) (sym e) (laws.plain xid (Versioned (Failed status.Stale tt)) x tt)
     by (is_file g at e) =
         let b = subst (FileIs book f) at (h.held f) in
@@ -181,14 +201,14 @@ lease_reply_fits laws book s xid f h x lt = by (looked s.tree f h.plain lt)
 
 pub lease_told : FitLaws → (book : Book) (k : Core) (qs : List Queue) (n now : ℕ) (x : Session) (q : Queue) (xid f : ℕ) (us : List Ask) (c : Seat) → IsKept book k qs → numbered k.seats x.owner ≡ Some c → c.session ≡ Some n → IsTalk book n k.server.waiting x q c → q.ups ≡ record { xid = xid; call = Lease f } ∷ us → CallFits xid (Lease f)
     → IsNoted book k (Serves n now (message_spell (ask_message (record { xid = xid; call = Lease f })))) → AnswerOf (onward book 1 book.ops) (with_taken x xid (book.steps + 1)) x.closing (job c) xid (lease_reply k.server.tree f)
-lease_told laws book k qs n now x q xid f us c kept was here talk e fits noted = λ j is at. by j is at ((subst (AllAsks (IsAsked (job c))) e talk.asked).0 j is at) (looked k.server.tree f kept.server.plain fits.1)
+lease_told laws book k qs n now x q xid f us c kept was here talk e fits noted = λ j is at. by j is at ((subst (AllAsks (IsAsked (job c))) e talk.asked).0 j is at) (looked k.server.tree f fits.1)
   where
     a : Ask
     a = record { xid = xid; call = Lease f }
 
     by : (j : Job) → job c ≡ Some j → j.stage ≡ stage.Asking xid → j.file ≡ f → Found k.server.tree f → LeaseTold (onward book 1 book.ops) (with_taken x xid (book.steps + 1)) j xid (lease_answer (node_of k.server.tree (handle_bytes f)))
-    by j is asks same (is_root one at) = subst (λ (node : Result Node Status). LeaseTold (onward book 1 book.ops) (with_taken x xid (book.steps + 1)) j xid (lease_answer node)) (sym at) (inl (refl, same ∙ one))
-    by j is asks same (is_gone none at) = subst (λ (node : Result Node Status). LeaseTold (onward book 1 book.ops) (with_taken x xid (book.steps + 1)) j xid (lease_answer node)) (sym at) (gone_told book k qs n x q a f us c j kept was talk e is fits.1 same none at)
+    by j is asks same (is_directory d there none at) = subst (λ (node : Result Node Status). LeaseTold (onward book 1 book.ops) (with_taken x xid (book.steps + 1)) j xid (lease_answer node)) (sym at) (directory_told book k qs n now x q a f us c j d kept was talk e is noted same there)
+    by j is asks same (is_gone none at) = subst (λ (node : Result Node Status). LeaseTold (onward book 1 book.ops) (with_taken x xid (book.steps + 1)) j xid (lease_answer node)) (sym at) (gone_told book k qs n x q a f us c j kept was talk e is same none)
     by j is asks same (is_file g there at) =
         let held = subst (FileIs book f) there (kept.server.held f) in
         let shown : IsLeased (onward book 1 book.ops) (with_taken x xid (book.steps + 1)) j xid (leased_of g) = record {
@@ -219,10 +239,10 @@ abbrev pub hash_reply : Tree → (f offset : ℕ) → Reply
 hash_reply t f offset = Hashed (hash_answer (node_of t (handle_bytes f)) (hash_range f offset))
 
 pub hash_reply_fits : FitLaws → (book : Book) (s : server.State) (xid f offset : ℕ) → IsServer book s → xid < 4294967296 → f < 18446744073709551616 → MessageFits (told_message (record { xid = xid; reply = hash_reply s.tree f offset }))
-hash_reply_fits laws book s xid f offset h x lt = by (looked s.tree f h.plain lt)
+hash_reply_fits laws book s xid f offset h x lt = by (looked s.tree f lt)
   where
     by : Found s.tree f → MessageFits (told_message (record { xid = xid; reply = hash_reply s.tree f offset }))
-    by (is_root one e) = subst (λ (node : Result Node Status). MessageFits (told_message (record { xid = xid; reply = Hashed (hash_answer node (hash_range f offset)) }))) (sym e) (laws.plain xid (Hashed (Failed status.IsDir tt)) x tt)
+    by (is_directory z there none e) = subst (λ (node : Result Node Status). MessageFits (told_message (record { xid = xid; reply = Hashed (hash_answer node (hash_range f offset)) }))) (sym e) (laws.plain xid (Hashed (Failed status.IsDir tt)) x tt)
     by (is_gone none e) = subst (λ (node : Result Node Status). MessageFits (told_message (record { xid = xid; reply = Hashed (hash_answer node (hash_range f offset)) }))) (sym e) (laws.plain xid (Hashed (Failed status.Stale tt)) x tt)
     by (is_file g at e) =
         let b = subst (FileIs book f) at (h.held f) in
@@ -235,7 +255,7 @@ hash_reply_fits laws book s xid f offset h x lt = by (looked s.tree f h.plain lt
 pub hash_told : FitLaws → (book : Book) (k : Core) (qs : List Queue) (n now : ℕ) (x : Session) (q : Queue) (xid f offset : ℕ) (us : List Ask) (c : Seat) → IsKept book k qs → numbered k.seats x.owner ≡ Some c → c.session ≡ Some n → IsTalk book n k.server.waiting x q c → q.ups ≡ record { xid = xid; call = Hash f offset } ∷ us → CallFits xid (Hash f offset)
     → IsNoted book k (Serves n now (message_spell (ask_message (record { xid = xid; call = Hash f offset })))) → AnswerOf (onward book 1 book.ops) (with_taken x xid (book.steps + 1)) x.closing (job c) xid (hash_reply k.server.tree f offset)
 hash_told laws book k qs n now x q xid f offset us c kept was here talk e fits noted = λ j o is waits. (
-  by j o is (asks j o is waits) (looked k.server.tree f kept.server.plain fits.1),
+  by j o is (asks j o is waits) (looked k.server.tree f fits.1),
   tried_now book k qs n x q (record { xid = xid; call = Hash f offset }) us c j j.stage o waits (calls j o is waits) kept was talk e is refl,
 )
   where
@@ -250,8 +270,8 @@ hash_told laws book k qs n now x q xid f offset us c kept was here talk e fits n
         (takes_now book k qs n now x (record { xid = xid; call = Hash f offset }) c j (hash_body f offset) kept was here is (hash_waits j.stage xid o waits) noted (parsed laws (record { xid = xid; call = Hash f offset }) fits) z at))
 
     by : (j : Job) (o : ℕ) → job c ≡ Some j → (j.file ≡ f) × (o ≡ offset) → Found k.server.tree f → HashTold (onward book 1 book.ops) (with_taken x xid (book.steps + 1)) j xid o (hash_answer (node_of k.server.tree (handle_bytes f)) (hash_range f offset))
-    by j o is same (is_root one at) = subst (λ (node : Result Node Status). HashTold (onward book 1 book.ops) (with_taken x xid (book.steps + 1)) j xid o (hash_answer node (hash_range f offset))) (sym at) (inl (refl, same.0 ∙ one))
-    by j o is same (is_gone none at) = subst (λ (node : Result Node Status). HashTold (onward book 1 book.ops) (with_taken x xid (book.steps + 1)) j xid o (hash_answer node (hash_range f offset))) (sym at) (gone_told book k qs n x q (record { xid = xid; call = Hash f offset }) f us c j kept was talk e is fits.1 same.0 none at)
+    by j o is same (is_directory d there none at) = subst (λ (node : Result Node Status). HashTold (onward book 1 book.ops) (with_taken x xid (book.steps + 1)) j xid o (hash_answer node (hash_range f offset))) (sym at) (directory_told book k qs n now x q (record { xid = xid; call = Hash f offset }) f us c j d kept was talk e is noted same.0 there)
+    by j o is same (is_gone none at) = subst (λ (node : Result Node Status). HashTold (onward book 1 book.ops) (with_taken x xid (book.steps + 1)) j xid o (hash_answer node (hash_range f offset))) (sym at) (gone_told book k qs n x q (record { xid = xid; call = Hash f offset }) f us c j kept was talk e is same.0 none)
     by j o is same (is_file g there at) =
         let held = subst (FileIs book f) there (kept.server.held f) in
         let noted_bytes : (i : ℕ) (d : Chunk) → slice_get (told_chunks g.content (range_from offset)) i ≡ Some d → Contains (hashed_of book.moments) (chunk_bytes g.content d) = λ i d w. noted.hashed (chunk_bytes g.content d) (subst (λ (l : List (List ℕ)). Contains l (chunk_bytes g.content d)) (sym (ap (served_hashed k n) (parsed laws (record { xid = xid; call = Hash f offset }) fits) ∙ ap (λ node. bytes_told node (hash_range f offset)) at)) (contains_at (map (chunk_bytes g.content) (told_chunks g.content (hash_range f offset))) i (chunk_bytes g.content d) (map_at (chunk_bytes g.content) (told_chunks g.content (hash_range f offset)) i d w))) in
@@ -276,10 +296,10 @@ abbrev pub read_reply : Tree → (f : ℕ) → Chunk → Reply
 read_reply t f d = Bytes (read_answer (node_of t (handle_bytes f)) (read_range f d))
 
 pub read_reply_fits : FitLaws → (book : Book) (s : server.State) (xid f : ℕ) (d : Chunk) → IsServer book s → xid < 4294967296 → f < 18446744073709551616 → MessageFits (told_message (record { xid = xid; reply = read_reply s.tree f d }))
-read_reply_fits laws book s xid f d h x lt = by (looked s.tree f h.plain lt)
+read_reply_fits laws book s xid f d h x lt = by (looked s.tree f lt)
   where
     by : Found s.tree f → MessageFits (told_message (record { xid = xid; reply = read_reply s.tree f d }))
-    by (is_root one e) = subst (λ (node : Result Node Status). MessageFits (told_message (record { xid = xid; reply = Bytes (read_answer node (read_range f d)) }))) (sym e) (laws.plain xid (Bytes (Failed status.Inval None)) x tt)
+    by (is_directory z there none e) = subst (λ (node : Result Node Status). MessageFits (told_message (record { xid = xid; reply = Bytes (read_answer node (read_range f d)) }))) (sym e) (laws.plain xid (Bytes (Failed status.Inval None)) x tt)
     by (is_gone none e) = subst (λ (node : Result Node Status). MessageFits (told_message (record { xid = xid; reply = Bytes (read_answer node (read_range f d)) }))) (sym e) (laws.plain xid (Bytes (Failed status.Stale None)) x tt)
     by (is_file g at e) =
         let b = subst (FileIs book f) at (h.held f) in
@@ -291,14 +311,10 @@ read_reply_fits laws book s xid f d h x lt = by (looked s.tree f h.plain lt)
 
 pub read_told : (book : Book) (k : Core) (qs : List Queue) (n now : ℕ) (x : Session) (q : Queue) (xid f : ℕ) (d : Chunk) (us : List Ask) (c : Seat) → IsKept book k qs → numbered k.seats x.owner ≡ Some c → IsTalk book n k.server.waiting x q c → q.ups ≡ record { xid = xid; call = Read f d } ∷ us → f < 18446744073709551616 → IsNoted book k (Serves n now (message_spell (ask_message (record { xid = xid; call = Read f d }))))
     → AnswerOf (onward book 1 book.ops) (with_taken x xid (book.steps + 1)) x.closing (job c) xid (read_reply k.server.tree f d)
-read_told book k qs n now x q xid f d us c kept was talk e small noted = λ j g w is at waits. by j g w is at ((subst (AllAsks (IsAsked (job c))) e talk.asked).0 j w is waits) (subst (FetchOf book x.taken j) at (talk.fetch j is)) (looked k.server.tree f kept.server.plain small)
+read_told book k qs n now x q xid f d us c kept was talk e small noted = λ j g w is at waits. by j g w is at ((subst (AllAsks (IsAsked (job c))) e talk.asked).0 j w is waits) (subst (FetchOf book x.taken j) at (talk.fetch j is)) (looked k.server.tree f small)
   where
     by : (j : Job) (g : Fetch) (w : Chunk) → job c ≡ Some j → j.stage ≡ stage.Reading g → (j.file ≡ f) × (w ≡ d) → ((h : IsFetch book x.taken j g) × IsReading book h.file.content g) → Found k.server.tree f → ReadTold (onward book 1 book.ops) (with_taken x xid (book.steps + 1)) j g.first w (read_answer (node_of k.server.tree (handle_bytes f)) (read_range f d))
-    by j g w is at same h (is_root one e2) = absurd (by_held (server.file_at k.server.tree f) (kept.server.held f))
-      where
-        by_held : (o : Option File) → FileIs book f o → ⊥
-        by_held None b = not_some (subst (λ (v : Value). IsSome v) b.0 (subst (λ (i : ℕ). IsSome (content_of book.opening i)) same.0 h.0.known))
-        by_held (Some z) b = let lt = b.1 in omega (arith, lt, one)
+    by j g w is at same h (is_directory z there none e2) = absurd (not_some (subst (λ (v : Value). IsSome v) (subst (FileIs book f) none (kept.server.held f)).0 (subst (λ (i : ℕ). IsSome (content_of book.opening i)) same.0 h.0.known)))
     by j g w is at same h (is_gone none e2) = absurd (not_some (subst (λ (v : Value). IsSome v) (subst (FileIs book f) none (kept.server.held f)).0 (subst (λ (i : ℕ). IsSome (content_of book.opening i)) same.0 h.0.known)))
     by j g w is at same h (is_file z there e2) =
         let held = subst (FileIs book f) there (kept.server.held f) in

@@ -1,4 +1,4 @@
--- The tree that a run opens with, in which the root is the only directory, and what its ids name.
+-- The tree that a run opens with, and what the ids of a tree name.
 use Rattle.std.proofs.Common.{◌≡◌, ℕ, ◌+◌, ◌<◌, ◌≤◌, List, [], ◌∷◌, length, map, Option, Some, None, Result, Ok, Err, Bool, true, false, ◌==◌, refl, sym, ap, ◌∙◌, subst, arith, if◌then◌else◌}
 use Rattle.std.specs.List.{AllByRecursion}
 use Rattle.std.specs.Option.{option_map}
@@ -9,15 +9,15 @@ use Rattle.tree_nodes.specs.declared.node.Node.{Node}
 use Rattle.tree_nodes.specs.declared.node.Body.{Body}
 use Rattle.tree_nodes.specs.declared.node.Body.TheVariants.{Directory, File as Plain}
 use Rattle.tree_nodes.specs.Nodes.{with_id, with_node}
-use Rattle.tree_nodes.proofs.Lists.{with_id_with, with_id_changed}
-use Rattle.file_tree.specs.Tree.{Tree, is_directory, content_of, contents_size}
-use Rattle.file_tree.specs.Step.{file_most, tree_most, replaced}
+use Rattle.file_tree.specs.Chain.{◌>>=◌}
+use Rattle.file_tree.specs.Tree.{Tree, is_directory, directory_of, directory_or, or_stale, content_of, contents_size}
+use Rattle.file_tree.specs.Step.{file_most, tree_most}
 use Rattle.file_tree.specs.Opening.{can_open, counted_at, with_change, with_next, opened, opens}
 use Rattle.file_tree.specs.View.{IsNodeBounded, AreIdsApart}
 use Rattle.file_tree.proofs.Limits.{all_map, all_with, size_with}
 use Rattle.server_core.specs.Answers.{directory, file, node_with, node_found, node_named, Node as ServerNode}
 use Rattle.server_core.specs.State.{File, file_of_body, file_of_node, file_at}
-use Rattle.kept_promise.proofs.Trees.{IsBounded, IsGiven, given, below_next, next_free, given_with, with_files, refill, replaced_own, replaced_other}
+use Rattle.server_law.proofs.Trees.{IsBounded, IsGiven, given, next_free, given_with, with_files}
 
 -- ---- the opening tree
 
@@ -124,11 +124,6 @@ opening_node t dir name content = record { id = t.next; parent = dir; name = nam
 abbrev pub opening_file : ℕ → List ℕ → File
 opening_file id content = record { id = id; version = 1; content = content }
 
--- only the root is a directory
-pub record IsPlain (t : Tree) : Type 0 where
-  pub root : node_found (with_id t.nodes 1) ≡ Ok directory
-  pub only : (f : ℕ) → (f ≡ 1 → ⊥) → file_at t f ≡ None → with_id t.nodes f ≡ None
-
 -- the tree with a file more
 pub record IsOpened (t u : Tree) (content : List ℕ) : Type 0 where
   pub next : u.next ≡ t.next + 1
@@ -136,15 +131,7 @@ pub record IsOpened (t u : Tree) (content : List ℕ) : Type 0 where
   pub others : (f : ℕ) → (f ≡ t.next → ⊥) → file_at u f ≡ file_at t f
   pub size : contents_size u.nodes ≡ contents_size t.nodes + length content
   pub given : IsGiven u
-  pub plain : IsPlain t → IsPlain u
   pub bounded : IsBounded t → t.next < 9223372036854775808 → length content ≤ file_most → contents_size t.nodes + length content ≤ tree_most → IsBounded u
-
-root_there : (t : Tree) → IsPlain t → (n : Node) × (with_id t.nodes 1 ≡ Some n)
-root_there t p = by (with_id t.nodes 1) refl p.root
-  where
-    by : (o : Option Node) → with_id t.nodes 1 ≡ o → node_found o ≡ Ok directory → (n : Node) × (with_id t.nodes 1 ≡ Some n)
-    by None e is = absurd cc
-    by (Some n) e is = (n, e)
 
 opened_tree : (t : Tree) (dir : ℕ) (name content : List ℕ) → IsGiven t → IsOpened t (opened t dir name (Plain content)) content
 opened_tree t dir name content h = record {
@@ -153,7 +140,6 @@ opened_tree t dir name content h = record {
   others = λ f apart. found f ∙ ap (λ (b : Bool). if b then file_of_node (Some n) else file_at u f) (other f apart) ∙ c.files f;
   size = let a = size_with u.nodes n in let b = c.size in omega (arith, a, b);
   given = record { below = g.0; apart = g.1 };
-  plain = plain;
   bounded = bounded;
 }
   where
@@ -185,34 +171,6 @@ opened_tree t dir name content h = record {
         by true e = absurd (apart (let same : u.next ≡ f = grind (arith, nat_tests, e) in sym same ∙ c.next))
         by false e = refl
 
-    place : (f : ℕ) → with_id (with_node u.nodes n) f ≡ (if u.next == f then Some n else with_id u.nodes f)
-    place f = with_id_with u.nodes n f free
-
-    plain : IsPlain t → IsPlain (with_next u dir name 1 (Plain content))
-    plain p =
-        let r = root_there t p in
-        let q = c.body 1 r.0 r.1 in
-        let lt = below_next t 1 r.0 h r.1 in
-        let s : node_found (Some r.0) ≡ Ok directory = ap node_found (sym r.1) ∙ p.root in
-        record {
-          root = ap node_found (place 1 ∙ ap (λ (b : Bool). if b then Some n else with_id u.nodes 1) (other 1 (λ e. omega (arith, e, lt))) ∙ q.1) ∙ directory_of_body r.0 q.0 r.0.body q.2 refl s;
-          only = λ f apart none. place f ∙ only p f apart (u.next == f) refl (sym (found f) ∙ none);
-        }
-      where
-        directory_of_body : (a b : Node) (z : Body) → b.body ≡ a.body → a.body ≡ z → node_found (Some a) ≡ Ok directory → node_found (Some b) ≡ Ok directory
-        directory_of_body a b Directory e f is = ap (λ (z : Body). let r : Result ServerNode Status = Ok (node_with b z) in r) (e ∙ f)
-        directory_of_body a b (Plain x) e f is = absurd (no (sym (ap (λ (z : Body). let r : Result ServerNode Status = Ok (node_with a z) in r) f) ∙ is))
-          where
-            no : (let r : Result ServerNode Status = Ok (node_with a (Plain x)) in r ≡ Ok directory) → ⊥
-            no e = absurd cc
-
-        only : IsPlain t → (f : ℕ) → (f ≡ 1 → ⊥) → (b : Bool) → (u.next == f) ≡ b → (if b then file_of_node (Some n) else file_at u f) ≡ None → (if b then Some n else with_id u.nodes f) ≡ None
-        only p f apart true e none = absurd (no none)
-          where
-            no : Some (opening_file u.next content) ≡ None → ⊥
-            no e = absurd cc
-        only p f apart false e none = c.gone f (p.only f apart (sym (c.files f) ∙ none))
-
     bounded : IsBounded t → t.next < 9223372036854775808 → length content ≤ file_most → contents_size t.nodes + length content ≤ tree_most → IsBounded (with_next u dir name 1 (Plain content))
     bounded b few short small =
         let l = c.bounded b in
@@ -228,73 +186,59 @@ opened_tree t dir name content h = record {
 pub opens_file : (t : Tree) (dir : ℕ) (name content : List ℕ) → IsGiven t → can_open t dir name ≡ true → IsOpened t (opens t dir name (Plain content)) content
 opens_file t dir name content h can = subst (λ (b : Bool). IsOpened t (if b then opened t dir name (Plain content) else t) content) (sym can) (opened_tree t dir name content h)
 
+-- the tree with a directory more
+pub record IsWidened (t u : Tree) : Type 0 where
+  pub next : u.next ≡ t.next + 1
+  pub files : (f : ℕ) → file_at u f ≡ file_at t f
+  pub size : contents_size u.nodes ≡ contents_size t.nodes
+  pub given : IsGiven u
+  pub bounded : IsBounded t → t.next < 9223372036854775808 → IsBounded u
+
+widened_tree : (t : Tree) (dir : ℕ) (name : List ℕ) → IsGiven t → IsWidened t (opened t dir name Directory)
+widened_tree t dir name h = record {
+  next = refl;
+  files = λ f. with_files t.nodes n f free ∙ by f (t.next == f) refl;
+  size = let e = size_with t.nodes n in omega (arith, e);
+  given = record { below = g.0; apart = g.1 };
+  bounded = λ b few. record {
+    count = b.count;
+    next = omega (arith, few);
+    each = all_with (IsNodeBounded (t.next + 1) t.changes) t.nodes n (all_map (IsNodeBounded t.next t.changes) (IsNodeBounded (t.next + 1) t.changes) (λ m d. record { id = (let a = d.id in omega (arith, a)); version = d.version; content = d.content }) t.nodes b.each) (record { id = omega arith; version = omega arith; content = omega arith });
+    apart = g.1;
+    size = let e = size_with t.nodes n in let small = b.size in omega (arith, e, small);
+  };
+}
+  where
+    n : Node
+    n = record { id = t.next; parent = dir; name = name; version = t.changes; body = Directory }
+
+    free : with_id t.nodes t.next ≡ None
+    free = next_free t h
+
+    g : AllByRecursion (λ (m : Node). m.id < t.next + 1) (with_node t.nodes n) × AreIdsApart (with_node t.nodes n)
+    g = given_with t.nodes t.next n refl h.below h.apart
+
+    by : (f : ℕ) (b : Bool) → (t.next == f) ≡ b → (if b then file_of_node (Some n) else file_at t f) ≡ file_at t f
+    by f true e = let same : t.next ≡ f = grind (arith, nat_tests, e) in sym (ap file_of_node free) ∙ ap (file_at t) same
+    by f false e = refl
+
+pub opens_directory : (t : Tree) (dir : ℕ) (name : List ℕ) → IsGiven t → can_open t dir name ≡ true → IsWidened t (opens t dir name Directory)
+opens_directory t dir name h can = subst (λ (b : Bool). IsWidened t (if b then opened t dir name Directory else t)) (sym can) (widened_tree t dir name h)
+
 -- ---- what a handle of this file system names
 
 pub data Named (t : Tree) (f : ℕ) : Type 0 where
-  the_root : f ≡ 1 → node_named t (Some f) ≡ Ok directory → Named t f
-  nobody : file_at t f ≡ None → (f ≡ 1 → ⊥) → node_named t (Some f) ≡ Err status.Stale → Named t f
+  a_directory : (n : Node) → directory_of t.nodes f ≡ Ok n → file_at t f ≡ None → node_named t (Some f) ≡ Ok directory → Named t f
+  nobody : file_at t f ≡ None → node_named t (Some f) ≡ Err status.Stale → Named t f
   a_file : (g : File) → file_at t f ≡ Some g → node_named t (Some f) ≡ Ok (file g) → Named t f
 
-pub named_in : (t : Tree) (f : ℕ) → IsPlain t → Named t f
-named_in t f p = by (f == 1) refl (with_id t.nodes f) refl
+pub named_in : (t : Tree) (f : ℕ) → Named t f
+named_in t f = by (with_id t.nodes f) refl
   where
-    file_by : (n : Node) (b : Body) → n.body ≡ b → with_id t.nodes f ≡ Some n → (f ≡ 1 → ⊥) → Named t f
-    file_by n Directory e at apart = absurd (no (sym at ∙ p.only f apart (ap file_of_node at ∙ ap (file_of_body n) e)))
-      where
-        no : Some n ≡ None → ⊥
-        no e = absurd cc
-    file_by n (Plain x) e at apart = a_file (record { id = n.id; version = n.version; content = x }) (ap file_of_node at ∙ ap (file_of_body n) e) (ap node_found at ∙ ap (λ (z : Body). let r : Result ServerNode Status = Ok (node_with n z) in r) e)
+    file_by : (n : Node) (b : Body) → n.body ≡ b → with_id t.nodes f ≡ Some n → Named t f
+    file_by n Directory e at = a_directory n (ap (λ (o : Option Node). or_stale o >>= directory_or status.NotDir) at ∙ ap (λ (z : Body). let r : Result Node Status = if is_directory z then Ok n else Err status.NotDir in r) e) (ap file_of_node at ∙ ap (file_of_body n) e) (ap node_found at ∙ ap (λ (z : Body). let r : Result ServerNode Status = Ok (node_with n z) in r) e)
+    file_by n (Plain x) e at = a_file (record { id = n.id; version = n.version; content = x }) (ap file_of_node at ∙ ap (file_of_body n) e) (ap node_found at ∙ ap (λ (z : Body). let r : Result ServerNode Status = Ok (node_with n z) in r) e)
 
-    by : (b : Bool) → (f == 1) ≡ b → (o : Option Node) → with_id t.nodes f ≡ o → Named t f
-    by true e o at = let one : f ≡ 1 = grind (arith, nat_tests, e) in the_root one (ap (λ (i : ℕ). node_found (with_id t.nodes i)) one ∙ p.root)
-    by false e None at = nobody (ap file_of_node at) (λ one. differ one e) (ap node_found at)
-      where
-        differ : f ≡ 1 → (f == 1) ≡ false → ⊥
-        differ one e = let z : (f == 1) ≡ true = grind (arith, nat_tests, one) in absurd cc
-    by false e (Some n) at = file_by n n.body refl at (λ one. differ one e)
-      where
-        differ : f ≡ 1 → (f == 1) ≡ false → ⊥
-        differ one e = let z : (f == 1) ≡ true = grind (arith, nat_tests, one) in absurd cc
-
-pub replaced_plain : (t : Tree) (id version : ℕ) (content : List ℕ) (g : File) → file_at t id ≡ Some g → IsPlain t → IsPlain (replaced t id version content)
-replaced_plain t id version content g at p = record {
-  root = ap node_found (with_id_changed (refill version content) (λ m. refl) t.nodes id 1 ∙ ap (λ (b : Bool). if b then option_map (refill version content) (with_id t.nodes 1) else with_id t.nodes 1) not_root) ∙ p.root;
-  only = λ f apart none. with_id_changed (refill version content) (λ m. refl) t.nodes id f ∙ by f apart (id == f) refl none;
-}
-  where
-    no_root : id ≡ 1 → ⊥
-    no_root one = none_of (with_id t.nodes 1) p.root (ap (λ (i : ℕ). file_at t i) (sym one) ∙ at)
-      where
-        body_of : (n : Node) (b : Body) → n.body ≡ b → node_found (Some n) ≡ Ok directory → file_of_node (Some n) ≡ Some g → ⊥
-        body_of n Directory e is some = no (sym (ap (file_of_body n) e) ∙ some)
-          where
-            no : None ≡ Some g → ⊥
-            no e = absurd cc
-        body_of n (Plain x) e is some = no (sym (ap (λ (z : Body). let r : Result ServerNode Status = Ok (node_with n z) in r) e) ∙ is)
-          where
-            no : (let r : Result ServerNode Status = Ok (node_with n (Plain x)) in r ≡ Ok directory) → ⊥
-            no e = absurd cc
-
-        none_of : (o : Option Node) → node_found o ≡ Ok directory → file_of_node o ≡ Some g → ⊥
-        none_of None is some = absurd cc
-        none_of (Some n) is some = body_of n n.body refl is some
-
-    not_root : (id == 1) ≡ false
-    not_root = by_root (id == 1) refl
-      where
-        by_root : (b : Bool) → (id == 1) ≡ b → b ≡ false
-        by_root true e = absurd (no_root (grind (arith, nat_tests, e)))
-        by_root false e = refl
-
-    by : (f : ℕ) → (f ≡ 1 → ⊥) → (b : Bool) → (id == f) ≡ b → file_at (replaced t id version content) f ≡ None → (if b then option_map (refill version content) (with_id t.nodes f) else with_id t.nodes f) ≡ None
-    by f apart true e none = absurd (no (sym (replaced_own t id version content g at) ∙ ap (file_at (replaced t id version content)) same ∙ none))
-      where
-        same : id ≡ f
-        same = grind (arith, nat_tests, e)
-
-        no : Some (record g { version = version; content = content }) ≡ None → ⊥
-        no e = absurd cc
-    by f apart false e none = p.only f apart (sym (replaced_other t id version content f (λ same. differ same e)) ∙ none)
-      where
-        differ : f ≡ id → (id == f) ≡ false → ⊥
-        differ same e = let z : (id == f) ≡ true = grind (arith, nat_tests, same) in absurd cc
+    by : (o : Option Node) → with_id t.nodes f ≡ o → Named t f
+    by None at = nobody (ap file_of_node at) (ap node_found at)
+    by (Some n) at = file_by n n.body refl at

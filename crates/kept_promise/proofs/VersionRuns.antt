@@ -1,5 +1,5 @@
 -- A run carries that each open gave the content of a version that came to its client.
-use Rattle.std.proofs.Common.{◌⊎◌, inl, inr, ◌≡◌, ℕ, ◌+◌, ◌<◌, ◌≤◌, List, [], ◌∷◌, ◌++◌, zero, suc, length, Option, Some, None, Result, Ok, Err, Bool, true, false, refl, sym, ap, ◌∙◌, subst, arith, append-nil, eqb-true, eq-eqb}
+use Rattle.std.proofs.Common.{◌⊎◌, inl, inr, ◌≡◌, ℕ, ◌+◌, ◌<◌, ◌≤◌, List, [], ◌∷◌, ◌++◌, zero, suc, length, Option, Some, None, Result, Ok, Bool, true, false, refl, sym, ap, ◌∙◌, subst, arith, append-nil, eqb-true, eq-eqb, IsSome}
 use Rattle.std.specs.Option.{option_map}
 use Rattle.wire.specs.declared.message.Message.TheVariants as message
 use Rattle.server_core.specs.Closing.{at as at_reading}
@@ -17,7 +17,7 @@ use Rattle.trace_replay.specs.Ops.{taken_on}
 use Rattle.trace_replay.specs.Core.{taken_of as session_taken}
 use Rattle.trace_replay.specs.Trail.{taken_of}
 use Rattle.trace_replay.specs.Faithful.{Carries, OpensVersion}
-use Rattle.kept_promise.proofs.Common.{nat_tests, Contains-append_left, Contains-append_right, Contains-append_cases, Contains-push, ◌==◌, ◌&&◌, ◌||◌, nat_lt, nat_le, slice_get, slice_set, cond, find, Contains, option_map_or, Command, Done, Hashes, parse_of, WireFault, Message, makes_change, Change, File, server_step, has_call, pending, command_step, got_step, ended_by, joined, ClientStep, Ended, Outcome, Stage, Task, changes, changed_before, Op, Opening, TakenCall, word_of, told_of, has_point, point_if, op_after, begun, taken_at, place_after, place_with, pointed, pointed_at, Core, Seat, Session, Event, Event.Joins, Event.Does, Event.Serves, Event.Hears, Event.Settles, Event.Cuts, Event.Hangs, CoreStep, numbered, with_numbered, new_session, taken_with, commanded_session, commanded_sessions, cut_session, server_waiting, serves_if, serves, session_of, ops_after, ops_with, acted, does, joins_as, joins, settled_ops, settled_by, settles, cuts_if, cuts, hangs_if, hangs, happens, Moment, Said, all_said, owner_in, client_of, wanted_if, wanted_by, taken_by, Book, version_at, until, TellsVersion, Reply, Reply.Versioned, Reply.Hashed, Reply.Bytes, Told, Queue, reply_body, told_message, ServerStep}
+use Rattle.kept_promise.proofs.Common.{nat_tests, Contains-append_left, Contains-append_right, Contains-append_cases, Contains-push, ◌==◌, ◌&&◌, ◌||◌, nat_lt, nat_le, slice_get, slice_set, cond, find, Contains, option_map_or, Command, Done, Hashes, parse_of, WireFault, Message, Change, File, server_step, has_call, pending, command_step, got_step, ended_by, joined, ClientStep, Ended, Outcome, Stage, Task, changes, changed_before, Op, Opening, TakenCall, word_of, told_of, has_point, point_if, op_after, begun, taken_at, place_after, place_with, pointed, pointed_at, Core, Seat, Session, Event, Event.Joins, Event.Does, Event.Serves, Event.Hears, Event.Settles, Event.Cuts, Event.Hangs, CoreStep, numbered, with_numbered, new_session, taken_with, commanded_session, commanded_sessions, cut_session, server_waiting, serves_if, serves, session_of, ops_after, ops_with, acted, does, joins_as, joins, settled_ops, settled_by, settles, cuts_if, cuts, hangs_if, hangs, happens, Moment, Said, all_said, owner_in, client_of, wanted_if, wanted_by, taken_by, Book, version_at, until, TellsVersion, Reply, Reply.Versioned, Reply.Hashed, Reply.Bytes, Told, Queue, reply_body, told_message, ServerStep, content_of, ask_message}
 use Rattle.kept_promise.proofs.Lists.{some_is, nothing_there, at_end, same_or_not, of_replaced, of_appended, kept_appended, at_replaced, set_else, false_and_true}
 use Rattle.kept_promise.proofs.Marks.{unpointed}
 use Rattle.kept_promise.proofs.Messages.{Job, job, job_of, AllTolds, AllUnder, hash_offset, IsTold, IsHashed, IsLeased, AnswerOf, IsAnswer}
@@ -31,14 +31,19 @@ use Rattle.kept_promise.proofs.Facts.{IsKept, IsSession, IsMatched}
 use Rattle.kept_promise.proofs.RunsCarried.{book_at, moment, Step, Carried}
 use Rattle.kept_promise.proofs.Counted.{IsActor, first_or_rest, said_by, said_at, early, of_step, SaidBy, said_later, said_append, said_now, AlikeUpTo}
 use Rattle.kept_promise.proofs.JobFacts.{ops_shape, job_after}
-use Rattle.kept_promise.proofs.Actors.{acts_alone, job_place, job_task, placed, Heard, heard_at, heard_acts, heard_takes}
+use Rattle.kept_promise.proofs.Actors.{acts_alone, job_place, job_task, placed, Heard, heard_at, heard_acts, heard_takes, serves_read}
 use Rattle.kept_promise.proofs.CountedRuns.{CountedAt, carried_counts, taken_more}
 use Rattle.kept_promise.proofs.Shapes.{TaskGood, OutcomeGood, EndGood, Good, TookIn, TaskTook, good_answer, good_command, busy_command}
-use Rattle.kept_promise.proofs.Versions.{of_numbered, version_in, count_replaced, count_appended, CameTo, Since, Attempt, Untold, takens, JobVersion, HaveVersions, Alike, alike_same, Extends, extends_same, came_alike, since_alike, job_alike, JobCame, versions_onward}
+use Rattle.trace_replay.specs.Core.{entries_since}
+use Rattle.trace_replay.specs.Ops.{changed_file, file_with}
+use Rattle.kept_promise.proofs.CallsKeep.{IsOfFiles, is_of_files}
+use Rattle.kept_promise.proofs.ServesFiles.{quiet_got, got_quiet, one_since}
+use Rattle.kept_promise.proofs.Found.{got_finds, seat_walks}
+use Rattle.kept_promise.proofs.Versions.{version_of_first, of_numbered, version_in, count_replaced, count_appended, CameTo, Since, Attempt, Untold, takens, JobVersion, HaveVersions, Alike, alike_same, Extends, extends_same, came_alike, since_alike, job_alike, JobCame, versions_onward}
 use Rattle.kept_promise.proofs.Taking.{versions_after}
 use Rattle.kept_promise.proofs.CommandOps.{made_by, made_later, made_pointless, last_right, old_jobs}
 use Rattle.kept_promise.proofs.Messages.{content_wanted}
-use Rattle.kept_promise.proofs.Making.{made_change, target_there, made_is}
+use Rattle.kept_promise.proofs.Making.{made_change, target_there, made_is, entry_of}
 
 abbrev pub VersionsAt : (past : List Moment) → Core → Type 0
 VersionsAt past k = HaveVersions (taken_of past) k.sessions k.seats k.ops
@@ -135,17 +140,16 @@ versions_joins book past k qs c seat s (announced.Session made) kept here free c
     idle (Some l) = ap (job_of (Some l)) none
 versions_joins book past k qs c seat s _ kept here free counted h = unsaid (taken_of past) k.sessions k.seats k.ops h
 
-versions_serves : (past : List Moment) (k : Core) (n now : ℕ) (bytes : List ℕ) (x : Option Session) → numbered k.sessions n ≡ x → CountedAt past k → VersionsAt past k → VersionsBy past k (Serves n now bytes) (serves k n now bytes x)
-versions_serves past k n now bytes None is counted h = unsaid (taken_of past) k.sessions k.seats k.ops h
-versions_serves past k n now bytes (Some x) is counted h = by (parse_of server_waiting bytes)
+versions_serves : (past : List Moment) (k : Core) (n now : ℕ) (bytes : List ℕ) (m : Message) (x : Option Session) → parse_of server_waiting bytes ≡ Ok m → IsOfFiles m → numbered k.sessions n ≡ x → CountedAt past k → VersionsAt past k → VersionsBy past k (Serves n now bytes) (serves k n now bytes x)
+versions_serves past k n now bytes m None read plain is counted h = unsaid (taken_of past) k.sessions k.seats k.ops h
+versions_serves past k n now bytes m (Some x) read plain is counted h = subst (λ (r : Result Message WireFault). VersionsBy past k (Serves n now bytes) (serves_if k n now x r)) (sym read) (subst (VersionsBy past k (Serves n now bytes)) (sym (got_quiet k n now x m plain)) left)
   where
     called : (m : Message) → Extends k.steps x.taken (taken_with x.taken m (k.steps + 1))
     called (message.Call xid body) = taken_more_at k.steps x.taken (record { xid = xid; step = k.steps + 1 }) (omega arith)
     called _ = extends_same k.steps x.taken
 
-    by : (m : Result Message WireFault) → VersionsBy past k (Serves n now bytes) (serves_if k n now x m)
-    by (Err e) = unsaid (taken_of past) k.sessions k.seats k.ops h
-    by (Ok m) = unsaid (taken_of past) (with_numbered k.sessions n (record x { taken = taken_with x.taken m (k.steps + 1) })) k.seats k.ops (versions_sessions k.steps (taken_of past) k.sessions (with_numbered k.sessions n (record x { taken = taken_with x.taken m (k.steps + 1) })) k.seats k.ops counted.taken_by (λ i z here. takens_with k.steps n k.sessions x (record x { taken = taken_with x.taken m (k.steps + 1) }) z.session is (called m)) h)
+    left : VersionsBy past k (Serves n now bytes) (quiet_got k n now x m)
+    left = unsaid (taken_of past) (with_numbered k.sessions n (record x { taken = taken_with x.taken m (k.steps + 1) })) k.seats k.ops (versions_sessions k.steps (taken_of past) k.sessions (with_numbered k.sessions n (record x { taken = taken_with x.taken m (k.steps + 1) })) k.seats k.ops counted.taken_by (λ i z here. takens_with k.steps n k.sessions x (record x { taken = taken_with x.taken m (k.steps + 1) }) z.session is (called m)) h)
 
 versions_hangs : (past : List Moment) (k : Core) (n : ℕ) (x : Option Session) → numbered k.sessions n ≡ x → CountedAt past k → VersionsAt past k → VersionsBy past k (Hangs n) (hangs k n x)
 versions_hangs past k n None is counted h = unsaid (taken_of past) k.sessions k.seats k.ops h
@@ -166,7 +170,7 @@ Settled k ops = (ops ≡ k.ops) ⊎ ((place : ℕ) × (o : Op) × (slice_get k.o
 pub settled_are : (book : Book) (k : Core) (qs : List Queue) (now : ℕ) → IsKept book k qs → Settled k (settles k now).core.ops
 settled_are book k qs now kept = by k.server.waiting refl
   where
-    made : (cs : List Change) (c : Change) → k.server.waiting ≡ c ∷ cs → (f : File) → (let r = made_change (at_reading (record k.server { waiting = cs }) now) c (content_wanted c.what) f in Settled k (settled_by k r.1.entries r.1.told))
+    made : (cs : List Change) (c : Change) → k.server.waiting ≡ c ∷ cs → (f : File) → (let r = made_change (at_reading (record k.server { waiting = cs }) now) c (content_wanted c.what) f in Settled k (settled_by k (changed_file (entries_since k.server r.0)) r.1.told))
     made cs c e f =
         let first : slice_get k.server.waiting 0 ≡ Some c = ap (λ (l : List Change). slice_get l 0) e in
         let home = kept.home 0 c first in
@@ -179,15 +183,19 @@ settled_are book k qs now kept = by k.server.waiting refl
           pending.op,
           there,
           pending.unmade,
-          ap (settled_ops k.ops 1 (k.steps + 1)) home.1 ∙ ap (λ l. pointed_at k.ops l (k.steps + 1)) pending.known ∙ ap (pointed k.ops pending.place (k.steps + 1)) there,
+          ap (λ (z : Option ℕ). settled_by k z (announced.Settled c.session c.xid)) (one_since k.server (made_change (at_reading (record k.server { waiting = cs }) now) c (content_wanted c.what) f).0 (entry_of c (content_wanted c.what) f) refl)
+              ∙ ap (settled_ops k.ops (k.steps + 1) (Some c.file)) home.1
+              ∙ ap (λ l. pointed_at k.ops l (k.steps + 1) (Some c.file)) pending.known
+              ∙ ap (pointed k.ops pending.place c.file (k.steps + 1)) there
+              ∙ ap (λ (g : ℕ). slice_set k.ops pending.place (record pending.op { file = g; point = Some (k.steps + 1) })) (sym pending.file_is),
           (c.session, mine.0, home.0, c, home.1, pending.known, mine.1),
         )
 
-    by : (w : List Change) → k.server.waiting ≡ w → Settled k (settled_by k (Rattle.server_core.specs.Closing.settles k.server now w).1.entries (Rattle.server_core.specs.Closing.settles k.server now w).1.told)
+    by : (w : List Change) → k.server.waiting ≡ w → (let r = Rattle.server_core.specs.Closing.settles k.server now w in Settled k (settled_by k (changed_file (entries_since k.server r.0)) r.1.told))
     by [] e = inl refl
     by (c ∷ cs) e =
         let f = target_there book k.server c cs kept.server e in
-        subst (λ (r : server.State × ServerStep). Settled k (settled_by k r.1.entries r.1.told)) (sym (made_is book k.server now c cs f.0 kept.server e f.1)) (made cs c e f.0)
+        subst (λ (r : server.State × ServerStep). Settled k (settled_by k (changed_file (entries_since k.server r.0)) r.1.told)) (sym (made_is book k.server now c cs f.0 kept.server e f.1)) (made cs c e f.0)
 
 -- a close has ended as no open
 pub close_not_opened : (book : Book) (o : Op) (len : ℕ) (digest : List ℕ) → IsRight book o → o.word ≡ words.Close → o.outcome ≡ told.Opened len digest → ⊥
@@ -299,10 +307,10 @@ alike_after n said o r past file same = record {
   back = λ s c e. (c, sym (same s.step s.client (said_by n said s past c)) ∙ e);
 }
 
-file_after : (o : Op) (c : client.State) (taken : List TakenCall) (step : ℕ) (acts : ClientStep) → (op_after o c taken step acts).file ≡ o.file
-file_after o c taken step acts = by acts.ended
+file_after : (o : Op) (c : client.State) (taken : List TakenCall) (step : ℕ) (acts : ClientStep) → acts.found ≡ None → (op_after o c taken step acts).file ≡ o.file
+file_after o c taken step acts none = by acts.ended ∙ ap (file_with o.file) none
   where
-    by : (e : Option Ended) → (op_after o c taken step (record acts { ended = e })).file ≡ o.file
+    by : (e : Option Ended) → (op_after o c taken step (record acts { ended = e })).file ≡ file_with o.file acts.found
     by None = refl
     by (Some e) = refl
 
@@ -339,6 +347,10 @@ versions_cuts book past k qs c seat kept here counted h true = unsaid (taken_of 
         newest None = extends_same k.steps (takens k.sessions z)
         newest (Some m) = at m (numbered k.sessions m) refl
 
+    ended_none : (t : Option Task) → (ended_by t lost).found ≡ None
+    ended_none None = refl
+    ended_none (Some u) = refl
+
     not_opened : (t : Option Task) (o : Op) → o.outcome ≡ told.Running → (len : ℕ) (digest : List ℕ) → (op_after o gone taken (k.steps + 1) (ended_by t lost)).outcome ≡ told.Opened len digest → ⊥
     not_opened None o run len digest z = running_not (sym run ∙ z)
       where
@@ -347,7 +359,7 @@ versions_cuts book past k qs c seat kept here counted h true = unsaid (taken_of 
     not_opened (Some u) o run len digest z = absurd cc
 
     by : (t : Option Task) → HaveVersions (taken_of past) (cut_session k.sessions seat.session (session_of k.sessions seat.session)) (with_numbered k.seats c (gone_seat t)) (ops_with k.ops seat.place gone taken (k.steps + 1) (ended_by t lost))
-    by t = versions_onward k.steps (taken_of past) (taken_of past) k.sessions (cut_session k.sessions seat.session (session_of k.sessions seat.session)) k.seats (with_numbered k.seats c (gone_seat t)) k.ops (ops_with k.ops seat.place gone taken (k.steps + 1) (ended_by t lost)) counted.taken_by (λ f q le. versions_after k.ops seat.place gone taken (k.steps + 1) (ended_by t lost) f q)
+    by t = versions_onward k.steps (taken_of past) (taken_of past) k.sessions (cut_session k.sessions seat.session (session_of k.sessions seat.session)) k.seats (with_numbered k.seats c (gone_seat t)) k.ops (ops_with k.ops seat.place gone taken (k.steps + 1) (ended_by t lost)) counted.taken_by (λ f q le. versions_after k.ops seat.place gone taken (k.steps + 1) (ended_by t lost) (ended_none t) f q)
         (λ i z j r there is at. elim (of_numbered k.seats c (gone_seat t) i z there) [
           | inl mine ↦ nothing_there j (sym (no_job (place_after seat.place (ended_by t lost).ended)) ∙ ap job (sym mine.1) ∙ is)
           | inr other ↦ elim (ops_shape k.ops seat.place gone taken (k.steps + 1) (ended_by t lost) j.place r at) [
@@ -481,16 +493,16 @@ attempt_more said ops taken o s v x carries (q, was, version, (z, there, of, lt,
 )
 
 -- what it has by the answer to its first call
-attempt_first : (book : Book) (k : Core) (said : List Said) (i : ℕ) (taken : List TakenCall) (t : Told) (j : Job) (o : Op) → book.ops ≡ k.ops → book.steps ≡ k.steps → o.file ≡ j.file → o.client ≡ i → o.end ≡ None → o.begin ≤ k.steps → (y version : ℕ) (v : List ℕ) → (y == t.xid) ≡ true → IsTold book taken j t.xid (Some v) version → Carries version (told_message t)
+attempt_first : (book : Book) (k : Core) (said : List Said) (i : ℕ) (taken : List TakenCall) (t : Told) (j : Job) (o : Op) → book.ops ≡ k.ops → book.steps ≡ k.steps → o.file ≡ j.file → o.client ≡ i → o.end ≡ None → o.begin ≤ k.steps → (y version : ℕ) (v : List ℕ) → (y == t.xid) ≡ true → IsTold book taken j t.xid (Some v) version → IsSome (content_of book.opening j.file) → Carries version (told_message t)
     → Untold said taken o y → Attempt (said ++ record { step = k.steps + 1; client = i; message = told_message t } ∷ []) k.ops taken o version t.xid
-attempt_first book k said i taken t j o ops steps file mine none begun y version v own told carries old =
+attempt_first book k said i taken t j o ops steps file mine none begun y version v own told known carries old =
     let q = told.moment in
     let s : Said = record { step = k.steps + 1; client = i; message = told_message t } in
     let past = told.past in
     let same_xid : y ≡ t.xid = grind (arith, nat_tests, own) in (
       q,
       told.was,
-      ap (λ l. version_in l o.file q) (sym ops) ∙ ap (λ z. version_in book.ops z q) file ∙ told.version_is,
+      ap (λ l. version_in l o.file q) (sym ops) ∙ ap (λ z. version_in book.ops z q) file ∙ sym (version_of_first book j.file q known) ∙ told.version_is,
       (s, Contains-append_right said (s ∷ []) s (Contains-push [] s), open_now o k.steps i mine none begun, omega (arith, past, steps), carries),
       λ w here of late tells. elim (one_more said s w here) [
         | inl was ↦ absurd (old q (ap (taken_at taken) same_xid ∙ told.was) w was of late tells)
@@ -503,12 +515,12 @@ took_in : (book : Book) (k : Core) (said : List Said) (i : ℕ) (taken : List Ta
 took_in book k said i taken closing t j o ops steps file mine none begun has answer (stage.Asking y) at (Versioned (Done l)) is old =
     let own : (y == t.xid) ≡ true = or_none (y == t.xid) (ap (λ z. has_call (client.pending_in z) t.xid) (sym at) ∙ has) in
     let h : IsLeased book taken j t.xid l = subst (AnswerOf book taken closing (Some j) t.xid) is answer j refl (at ∙ ap (λ z. stage.Asking z) (eqb-true y t.xid own)) in
-    attempt_first book k said i taken t j o ops steps file mine none begun y l.version h.value own h.told (subst (λ m. Carries l.version m) (sym (same_reply t (Versioned (Done l)) is)) refl) old
+    attempt_first book k said i taken t j o ops steps file mine none begun y l.version h.value own h.told h.known (subst (λ m. Carries l.version m) (sym (same_reply t (Versioned (Done l)) is)) refl) old
 took_in book k said i taken closing t j o ops steps file mine none begun has answer (stage.Hashing tries y) at (Hashed (Done g)) is old =
     let own : (y == t.xid) ≡ true = or_none (y == t.xid) (ap (λ z. has_call (client.pending_in z) t.xid) (sym at) ∙ has) in
     let told = subst (AnswerOf book taken closing (Some j) t.xid) is answer j 0 refl (ap (λ s. hash_offset s t.xid) at ∙ ap (λ b. cond b (Some 0) None) own) in
     let h : IsHashed book taken j t.xid 0 g = told.0 in
-    attempt_first book k said i taken t j o ops steps file mine none begun y g.version h.value own (subst (IsTold book taken j t.xid (Some h.value)) (sym (ap (λ (z : Hashes). z.version) h.is)) h.told) (subst (λ m. Carries g.version m) (sym (same_reply t (Hashed (Done g)) is)) refl) old
+    attempt_first book k said i taken t j o ops steps file mine none begun y g.version h.value own (subst (IsTold book taken j t.xid (Some h.value)) (sym (ap (λ (z : Hashes). z.version) h.is)) h.told) h.known (subst (λ m. Carries g.version m) (sym (same_reply t (Hashed (Done g)) is)) refl) old
 took_in book k said i taken closing t j o ops steps file mine none begun has answer (stage.Listing y f) at (Hashed (Done g)) is old = λ same.
     attempt_more said k.ops taken o (record { step = k.steps + 1; client = i; message = told_message t }) f.version f.first (λ hashes. subst (λ m. Carries f.version m) (sym (same_reply t (Hashed (Done g)) is)) (eqb-true g.version f.version same)) old
 took_in book k said i taken closing t j o ops steps file mine none begun has answer (stage.Reading f) at (Bytes (Done p)) is old =
@@ -520,7 +532,7 @@ versions_hears laws book more past k qs after n now bytes mid kept h left counte
     subst (VersionsBy past k (Hears n now bytes)) (sym turned)
     (subst (λ i. HaveVersions (taken_of past ++ all_said (k.steps + 1) i (taken_by k i (Hears n now bytes))) k.sessions (with_numbered k.seats h.session.owner new) (ops_with k.ops h.seat.place r.0 taken (k.steps + 1) r.1)) (sym owner)
     (subst (λ l. HaveVersions (taken_of past ++ all_said (k.steps + 1) h.session.owner l) k.sessions (with_numbered k.seats h.session.owner new) (ops_with k.ops h.seat.place r.0 taken (k.steps + 1) r.1)) (sym (heard_takes laws book k qs n now bytes mid kept h))
-    (versions_onward k.steps (taken_of past) said k.sessions k.sessions k.seats (with_numbered k.seats h.session.owner new) k.ops (ops_with k.ops h.seat.place r.0 taken (k.steps + 1) r.1) counted.taken_by (λ f q le. versions_after k.ops h.seat.place r.0 taken (k.steps + 1) r.1 f q)
+    (versions_onward k.steps (taken_of past) said k.sessions k.sessions k.seats (with_numbered k.seats h.session.owner new) k.ops (ops_with k.ops h.seat.place r.0 taken (k.steps + 1) r.1) counted.taken_by (λ f q le. versions_after k.ops h.seat.place r.0 taken (k.steps + 1) r.1 finds f q)
     (λ i z j o there is at. elim (of_numbered k.seats h.session.owner new i z there) [
       | inr other ↦ elim (ops_shape k.ops h.seat.place r.0 taken (k.steps + 1) r.1 j.place o at) [
         | inl mine ↦ absurd (foreign_at book k qs h.session.owner h.seat kept h.owner i z j mine.0 other.1 is mine.2 other.0 mine.1)
@@ -566,6 +578,9 @@ versions_hears laws book more past k qs after n now bytes mid kept h left counte
     same_seat : s.seat ≡ h.seat
     same_seat = some_is s.seat h.seat (sym s.owner ∙ h.owner)
 
+    finds : r.1.found ≡ None
+    finds = got_finds h.seat.client (Ok (told_message h.told)) now (seat_walks book k.sessions h.session.owner h.seat (kept.seats h.session.owner h.seat h.owner))
+
     said_past : SaidBy (k.steps + 1) said
     said_past = said_append (k.steps + 1) (taken_of past) (all_said (k.steps + 1) h.session.owner (wanted_by h.seat.client (Ok (told_message h.told)))) (said_later k.steps (k.steps + 1) (taken_of past) (omega arith) counted.taken_by) (said_now (k.steps + 1) h.session.owner (wanted_by h.seat.client (Ok (told_message h.told))))
 
@@ -590,10 +605,10 @@ versions_hears laws book more past k qs after n now bytes mid kept h left counte
 
     -- and in its new form
     alike : (p : ℕ) (o : Op) → h.seat.place ≡ Some p → slice_get k.ops p ≡ Some o → Alike said said o (op_after o r.0 taken (k.steps + 1) r.1)
-    alike p o e at = alike_after (k.steps + 1) said o (op_after o r.0 taken (k.steps + 1) r.1) said_past (file_after o r.0 taken (k.steps + 1) r.1) (running_upto o r.0 taken k.steps r.1 (actor.own p o e at).1)
+    alike p o e at = alike_after (k.steps + 1) said o (op_after o r.0 taken (k.steps + 1) r.1) said_past (file_after o r.0 taken (k.steps + 1) r.1 finds) (running_upto o r.0 taken k.steps r.1 (actor.own p o e at).1)
 
     own_job : (p : ℕ) (o : Op) → h.seat.place ≡ Some p → slice_get k.ops p ≡ Some o → (j : Job) → r.0.task ≡ Some (record { file = j.file; stage = j.stage }) → JobVersion said (ops_with k.ops h.seat.place r.0 taken (k.steps + 1) r.1) taken (op_after o r.0 taken (k.steps + 1) r.1) j.stage
-    own_job p o e at j task = job_alike (k.steps + 1) said said k.ops (ops_with k.ops h.seat.place r.0 taken (k.steps + 1) r.1) taken taken o (op_after o r.0 taken (k.steps + 1) r.1) j.stage said_past (alike p o e at) (extends_same (k.steps + 1) taken) (λ f q le. versions_after k.ops h.seat.place r.0 taken (k.steps + 1) r.1 f q) (subst (TaskGood (Attempt said k.ops taken o) (Untold said taken o)) task (good p o e at).0)
+    own_job p o e at j task = job_alike (k.steps + 1) said said k.ops (ops_with k.ops h.seat.place r.0 taken (k.steps + 1) r.1) taken taken o (op_after o r.0 taken (k.steps + 1) r.1) j.stage said_past (alike p o e at) (extends_same (k.steps + 1) taken) (λ f q le. versions_after k.ops h.seat.place r.0 taken (k.steps + 1) r.1 finds f q) (subst (TaskGood (Attempt said k.ops taken o) (Untold said taken o)) task (good p o e at).0)
 
     ended : (p : ℕ) (o : Op) → h.seat.place ≡ Some p → slice_get k.ops p ≡ Some o → (len q : ℕ) (digest : List ℕ) → (op_after o r.0 taken (k.steps + 1) r.1).outcome ≡ told.Opened len digest → (op_after o r.0 taken (k.steps + 1) r.1).point ≡ Some q
         → CameTo said (op_after o r.0 taken (k.steps + 1) r.1) q (version_in (ops_with k.ops h.seat.place r.0 taken (k.steps + 1) r.1) (op_after o r.0 taken (k.steps + 1) r.1).file q) × Since said (op_after o r.0 taken (k.steps + 1) r.1) q (version_in (ops_with k.ops h.seat.place r.0 taken (k.steps + 1) r.1) (op_after o r.0 taken (k.steps + 1) r.1).file q)
@@ -605,7 +620,7 @@ versions_hears laws book more past k qs after n now bytes mid kept h left counte
         let running = (own_op book k qs h.session.owner h.seat p o kept h.owner e at).4 in
         let a = by word running r.1.ended (good p o e at).1 opened point in
         let same = alike p o e at in
-        let version = ap (λ f. version_in (ops_with k.ops h.seat.place r.0 taken (k.steps + 1) r.1) f q) same.file ∙ versions_after k.ops h.seat.place r.0 taken (k.steps + 1) r.1 o.file q ∙ a.1 in
+        let version = ap (λ f. version_in (ops_with k.ops h.seat.place r.0 taken (k.steps + 1) r.1) f q) same.file ∙ versions_after k.ops h.seat.place r.0 taken (k.steps + 1) r.1 finds o.file q ∙ a.1 in
         subst (λ v. CameTo said (op_after o r.0 taken (k.steps + 1) r.1) q v × Since said (op_after o r.0 taken (k.steps + 1) r.1) q v) (sym version) (came_alike said said o (op_after o r.0 taken (k.steps + 1) r.1) q a.0 same a.2, since_alike said said o (op_after o r.0 taken (k.steps + 1) r.1) q a.0 same a.3)
       where
         ends : (x : ℕ) (u : Outcome) (file : ℕ) → u ≡ outcome.Opened file len digest → OutcomeGood (Attempt said k.ops taken o) u x → (v : ℕ) × Attempt said k.ops taken o v x
@@ -630,7 +645,7 @@ versions_hears laws book more past k qs after n now bytes mid kept h left counte
 versions_event : FitLaws → (all past rest : List Moment) (opening : List Opening) (k : Core) (qs : List Queue) (e : Event) (mid after : List Queue) → Step all past rest opening k qs e mid after → CountedAt past k → VersionsAt past k → VersionsBy past k e (happens k e)
 versions_event laws all past rest opening k qs (Joins c) mid after s counted h = subst (λ (o : Option Seat). VersionsBy past k (Joins c) (joins k c o)) (sym s.finds.1) (let r = server_step k.server event.Connect in versions_joins (book_at opening k all) past k qs c s.finds.0 r.0 r.1.told s.kept s.finds.1 s.finds.2 counted h)
 versions_event laws all past rest opening k qs (Does c now d) mid after s counted h = subst (λ (o : Option Seat). IsKept (book_at opening (does k c now d o).core all) (does k c now d o).core after → VersionsBy past k (Does c now d) (does k c now d o)) (sym s.finds.1) (λ left. versions_does (book_at opening k all) (book_at opening (does k c now d (Some s.finds.0)).core all) past k qs after c now d s.finds.0 s.kept s.finds.1 left counted h) s.left
-versions_event laws all past rest opening k qs (Serves n now bytes) mid after s counted h = versions_serves past k n now bytes (numbered k.sessions n) refl counted h
+versions_event laws all past rest opening k qs (Serves n now bytes) mid after s counted h = versions_serves past k n now bytes (ask_message s.finds.1) (numbered k.sessions n) (serves_read laws (book_at opening k all) k qs n now bytes mid s.kept s.finds) (is_of_files s.finds.1) refl counted h
 versions_event laws all past rest opening k qs (Hears n now bytes) mid after s counted h = versions_hears laws (book_at opening k all) (book_at opening (happens k (Hears n now bytes)).core all) past k qs after n now bytes mid s.kept (heard_at (book_at opening k all) k qs n now bytes mid s.kept s.finds) s.left counted h
 versions_event laws all past rest opening k qs (Settles now) mid after s counted h = versions_settles (book_at opening k all) past k qs now s.kept counted h
 versions_event laws all past rest opening k qs (Cuts c) mid after s counted h = subst (λ (o : Option Seat). VersionsBy past k (Cuts c) (cuts k c o)) (sym s.finds.1) (versions_cuts (book_at opening k all) past k qs c s.finds.0 s.kept s.finds.1 counted h s.finds.0.client.linked)
@@ -661,7 +676,7 @@ opens_version book k qs kept h p o at = by o.outcome refl (kept.sound.rights p o
     by (told.Opened len digest) e cause =
         let point = cause.1.point in
         let w = h.opened p len point digest o (ap (λ (l : List Op). slice_get l p) (sym kept.ops) ∙ at) e cause.1.within.0 in
-        let version : version_at book o.file point ≡ version_in k.ops o.file point = ap (λ l. version_in l o.file point) kept.ops in
+        let version : version_at book o.file point ≡ version_in k.ops o.file point = version_of_first book o.file point cause.2 ∙ ap (λ l. version_in l o.file point) kept.ops in
         let v = subst (λ v. CameTo (taken_of book.moments) o point v × Since (taken_of book.moments) o point v) (sym version) w in
         record { point = point; point_is = cause.1.within.0; some = v.0; all = v.1 }
     by _ e cause = tt

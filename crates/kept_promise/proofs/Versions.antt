@@ -1,12 +1,13 @@
 -- An open that ended gave the content of a version that an answer to a GETHASH of its carried, as a run goes on.
-use Rattle.std.proofs.Common.{◌⊎◌, inl, inr, ◌≡◌, ℕ, zero, suc, ◌+◌, ◌<◌, ◌≤◌, List, [], ◌∷◌, ◌++◌, length, Option, Some, None, Bool, true, false, refl, sym, ap, ◌∙◌, subst, arith}
+use Rattle.std.proofs.Common.{◌⊎◌, inl, inr, ◌≡◌, ℕ, zero, suc, ◌+◌, ◌<◌, ◌≤◌, List, [], ◌∷◌, ◌++◌, length, Option, Some, None, Bool, true, false, refl, sym, ap, ◌∙◌, subst, arith, IsSome}
 use Rattle.client_state.specs.State as client
 use Rattle.client_state.specs.declared.task.Stage.TheVariants as stage
 use Rattle.register_model.specs.declared.op.Outcome.TheVariants as told
 use Rattle.register_model.specs.declared.op.Word.TheVariants as words
+use Rattle.trace_replay.specs.Book.{first_version}
 use Rattle.trace_replay.specs.Core.{taken_of as session_taken}
 use Rattle.trace_replay.specs.Faithful.{Carries, TellsVersion}
-use Rattle.kept_promise.proofs.Common.{◌==◌, ◌&&◌, nat_lt, slice_get, slice_set, filter, cond, Contains, option_map_or, ClientStep, Ended, Outcome, Stage, changes, changed_before, Op, Word, TakenCall, has_point, point_if, op_after, taken_at, Seat, Session, numbered, with_numbered, session_of, Said, is_of}
+use Rattle.kept_promise.proofs.Common.{◌==◌, ◌&&◌, nat_lt, slice_get, slice_set, filter, cond, Contains, option_map_or, ClientStep, Ended, Outcome, Stage, changes, changed_before, Op, Word, TakenCall, has_point, point_if, op_after, taken_at, Seat, Session, numbered, with_numbered, session_of, Said, is_of, Book, version_at, content_of, Value}
 use Rattle.kept_promise.proofs.Lists.{some_is, nothing_there, of_replaced}
 use Rattle.kept_promise.proofs.Messages.{Job, job}
 use Rattle.kept_promise.proofs.Counted.{SaidBy, said_by}
@@ -23,6 +24,14 @@ of_numbered xs _ x zero y e = nothing_there y e
 
 abbrev pub version_in : List Op → (file moment : ℕ) → ℕ
 version_in ops f p = length (filter (changed_before f p) ops) + 1
+
+-- of a file that was there at first it is the version that the history says
+pub version_of_first : (book : Book) (f p : ℕ) → IsSome (content_of book.opening f) → version_at book f p ≡ version_in book.ops f p
+version_of_first book f p known = by (content_of book.opening f) refl known
+  where
+    by : (v : Value) → content_of book.opening f ≡ v → IsSome v → version_at book f p ≡ version_in book.ops f p
+    by None e h = absurd cc
+    by (Some x) e h = ap (λ (v : Value). length (filter (changed_before f p) book.ops) + first_version v) e
 
 pub cons_count : (f p : ℕ) (o : Op) (os : List Op) → length (filter (changed_before f p) (o ∷ os)) ≡ cond (changed_before f p o) (suc (length (filter (changed_before f p) os))) (length (filter (changed_before f p) os))
 cons_count f p o os = by (changed_before f p o)
@@ -47,14 +56,14 @@ count_appended f p [] o e = cons_count f p o [] ∙ ap (λ b. cond b 1 0) e
 count_appended f p (q ∷ ops) o e = cons_count f p q (ops ++ o ∷ []) ∙ ap (λ n. cond (changed_before f p q) (suc n) n) (count_appended f p ops o e) ∙ sym (cons_count f p q ops)
 
 -- what an operation's end leaves of whether it is a change
-pub after_alike : (f p : ℕ) (o : Op) (c : client.State) (taken : List TakenCall) (step : ℕ) (acts : ClientStep) → changed_before f p (op_after o c taken step acts) ≡ changed_before f p o
-after_alike f p o c taken step acts = by acts.ended
+pub after_alike : (f p : ℕ) (o : Op) (c : client.State) (taken : List TakenCall) (step : ℕ) (acts : ClientStep) → acts.found ≡ None → changed_before f p (op_after o c taken step acts) ≡ changed_before f p o
+after_alike f p o c taken step acts none = ap (λ (z : Option ℕ). changed_before f p (op_after o c taken step (record acts { found = z }))) none ∙ by acts.ended
   where
     word : (w : Word) (u : Outcome) (x : ℕ) (t : Option ℕ) → ((changes w && (o.file == f)) && option_map_or (λ q. nat_lt q p) (point_if (has_point w u) taken x t) false) ≡ ((changes w && (o.file == f)) && option_map_or (λ q. nat_lt q p) t false)
     word words.Open u x t = refl
     word _ u x t = refl
 
-    by : (e : Option Ended) → changed_before f p (op_after o c taken step (record acts { ended = e })) ≡ changed_before f p o
+    by : (e : Option Ended) → changed_before f p (op_after o c taken step (record acts { found = None; ended = e })) ≡ changed_before f p o
     by None = refl
     by (Some e) = word o.word e.outcome e.rests_on o.point
 

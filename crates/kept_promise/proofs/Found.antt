@@ -1,0 +1,273 @@
+-- A step finds no file by a path, where its command has none and no walk is under way: its operation has the file that it began with.
+use Rattle.std.proofs.Common.{◌≡◌, ℕ, List, Option, Some, None, Ok, Err, Bool, true, false, Result, length, refl, sym, ap, ◌∙◌, subst, inl, inr}
+use Rattle.command_text.specs.declared.command.Command.TheVariants as command
+use Rattle.xdr_codec.specs.declared.status.Status.TheVariants as status
+use Rattle.hash_calls.specs.declared.message.Lb.TheVariants as lb
+use Rattle.nfs3_calls.specs.declared.message.Nfs.TheVariants as nfs
+use Rattle.wire.specs.declared.message.Body.TheVariants as body
+use Rattle.wire.specs.declared.message.Message.TheVariants as message
+use Rattle.wire.specs.declared.message.RpcRefusal.TheVariants as refusal
+use Rattle.client_cache.specs.Cache.{content_of, reserved}
+use Rattle.client_state.specs.declared.step.Outcome.TheVariants as outcome
+use Rattle.client_state.specs.declared.task.Stage.TheVariants as stage
+use Rattle.client_state.specs.declared.task.Way.TheVariants as way
+use Rattle.file_open.specs.Caching.{content_in, found_all}
+use Rattle.file_open.specs.Fetching.{changes}
+use Rattle.kept_promise.proofs.Common.{Op, TakenCall, Session, op_after, op_ended, counted, Book, Core, Seat, Queue, numbered, ends, too_big, done_with, Part, content_length, content_bytes, nat_lt, ◌==◌, if◌then◌else◌, slice_get, Answer, Done, Failed, Hashes, Leased, Piece, Body, Message, Pending, RpcRefusal, WireFault, Content, Chunk, Command, Broken, broken_of, with_hashes, listed, reads_all, is_here, looked_up, read_at, with_bytes, fault_in, other_version, fetch_of, tries_most, State, local_at, local_bytes, calls_of, pending, has_call, idle, may_ask, is_open, ended_by, cut, drops, denied, on_local, local_most, written_size, written, truncated, edits, writes, truncates, reads, abandons, opens, opens_if, asks_file, asks_kept, retries, reads_if, reads_on, lists_on, told_shape, told_version, told_hashes, told_first, uses_kept, told_lease, misfits, told_bytes, told_chunk, told_piece, store_of, store_at, answered, names_all, is_stored, goes_if, goes_on, told_temp, sends_whole, told_named, told_whole, told_way, told_stored, closes, asks_temp, command_step, took, took_if, denied_if, got_message, got_fault, got_step, BadPeer, ClientStep, Ended, Fetch, Local, ReadCall, Stage, Store, StoreCall, Task, Way}
+use Rattle.trace_replay.specs.Ops.{file_with}
+use Rattle.kept_promise.proofs.Lists.{some_is, nothing_there}
+use Rattle.kept_promise.proofs.Messages.{Job, job_of, FetchOf}
+use Rattle.kept_promise.proofs.Facts.{HasXids, IsMatched, IsSeat, IsKept}
+use Rattle.kept_promise.proofs.PathNames.{IsSmall}
+use Rattle.kept_promise.proofs.StepCases.{IsOfFile}
+
+abbrev FindsNone : State × ClientStep → Type 0
+FindsNone r = r.1.found ≡ None
+
+-- ---- an operation
+
+pub op_found : (o : Op) (c : State) (taken : List TakenCall) (step : ℕ) (acts : ClientStep) → acts.found ≡ None → op_after o c taken step acts ≡ op_ended (record o { traffic = counted o.traffic acts.counts }) c taken step acts.ended
+op_found o c taken step acts none = ap (λ (z : Option ℕ). op_ended (record o { file = file_with o.file z; traffic = counted o.traffic acts.counts }) c taken step acts.ended) none
+
+pub file_after : (o : Op) (c : State) (taken : List TakenCall) (step : ℕ) (acts : ClientStep) → acts.found ≡ None → (op_after o c taken step acts).file ≡ o.file
+file_after o c taken step acts none = ap (λ (z : Op). z.file) (op_found o c taken step acts none) ∙ by acts.ended
+  where
+    by : (e : Option Ended) → (op_ended (record o { traffic = counted o.traffic acts.counts }) c taken step e).file ≡ o.file
+    by None = refl
+    by (Some e) = refl
+
+-- ---- a command
+
+asks_none : (s : State) (file : ℕ) (b : Bool) → FindsNone (asks_file s file b)
+asks_none s file true = by (content_of s.cache file)
+  where
+    by : (o : Option Content) → FindsNone (asks_kept (record s { cache = reserved s.cache file }) file o)
+    by None = refl
+    by (Some c) = refl
+asks_none s file false = refl
+
+opens_none : (s : State) (file : ℕ) (t : Option Task) → FindsNone (opens s file t)
+opens_none s file (Some t) = refl
+opens_none s file None = by (is_open s.opened file)
+  where
+    by : (b : Bool) → FindsNone (opens_if s file b)
+    by true = refl
+    by false = asks_none s file (may_ask s)
+
+local_none : (s : State) (t : Option Task) (l : Option Local) (does : Local → State × ClientStep) → ((l : Local) → FindsNone (does l)) → FindsNone (on_local s t l does)
+local_none s (Some t) l does h = refl
+local_none s None None does h = refl
+local_none s None (Some l) does h = h l
+
+edits_none : (s : State) (file : ℕ) (l : Local) (size : ℕ) (x : List ℕ) → FindsNone (edits s file l size x)
+edits_none s file l size x = by (nat_lt local_most size)
+  where
+    by : (b : Bool) → FindsNone (if b then too_big s size else done_with s file l x)
+    by true = refl
+    by false = refl
+
+writes_none : (s : State) (file offset : ℕ) (content : List Part) (l : Local) → FindsNone (writes s file offset content l)
+writes_none s file offset content l = by (content_length content == 0)
+  where
+    by : (b : Bool) → FindsNone (if b then (s, ends outcome.Done 0 0) else edits s file l (written_size (length l.bytes) offset (content_length content)) (written l.bytes offset (content_bytes content)))
+    by true = refl
+    by false = edits_none s file l (written_size (length l.bytes) offset (content_length content)) (written l.bytes offset (content_bytes content))
+
+closes_none : (s : State) (file : ℕ) (l : Local) → FindsNone (closes s file l)
+closes_none s file l = by (may_ask s)
+  where
+    by : (b : Bool) → FindsNone (asks_temp s file b)
+    by true = refl
+    by false = refl
+
+pub command_finds : (s : State) (d : Command) (now : ℕ) → IsSmall d → (command_step s d now).1.found ≡ None
+command_finds s (command.Open file) now small = opens_none s file s.task
+command_finds s (command.Write file offset content) now small = local_none s s.task (local_at s.opened file) (writes s file offset content) (λ l. writes_none s file offset content l)
+command_finds s (command.Trunc file size) now small = local_none s s.task (local_at s.opened file) (truncates s file size) (λ l. edits_none s file l size (truncated l.bytes size))
+command_finds s (command.Read file offset count) now small = local_none s s.task (local_at s.opened file) (reads s offset count) (λ l. refl)
+command_finds s (command.Close file) now small = local_none s s.task (local_at s.opened file) (closes s file) (λ l. closes_none s file l)
+command_finds s (command.Abandon file) now small = local_none s s.task (local_at s.opened file) (abandons s file) (λ l. refl)
+command_finds s (command.Named c) now small = absurd small
+
+-- ---- an answer to an open
+
+retries_none : (s : State) (calls : List Pending) (file xid : ℕ) (f : Fetch) (version bytes : ℕ) → FindsNone (changes s calls file xid f version bytes)
+retries_none s calls file xid f version bytes = by (nat_lt f.tries tries_most)
+  where
+    by : (b : Bool) → FindsNone (retries s calls file xid b f version bytes)
+    by true = refl
+    by false = refl
+
+reads_none : (s : State) (calls : List Pending) (file xid : ℕ) (f : Fetch) (bytes : ℕ) → FindsNone (reads_on s calls file xid f bytes)
+reads_none s calls file xid f bytes = by (is_here (reads_all s.cache s.index file f s.next).fetch)
+  where
+    by : (b : Bool) → FindsNone (reads_if (record s { index = found_all s.index (looked_up f (reads_all s.cache s.index file f s.next)) }) calls file xid (reads_all s.cache s.index file f s.next) bytes b)
+    by true = refl
+    by false = refl
+
+hashes_none : (s : State) (calls : List Pending) (file xid : ℕ) (f : Fetch) (a : Answer Hashes Unit) → FindsNone (told_hashes s calls file xid f a)
+hashes_none s calls file xid f (Failed t u) = refl
+hashes_none s calls file xid f (Done h) = same (h.version == f.version)
+  where
+    lists : (b : Bool) → FindsNone (lists_on s calls file xid (with_hashes f h) b)
+    lists true = reads_none s calls file xid (listed (with_hashes f h)) 0
+    lists false = refl
+
+    shape : (b : Broken) → FindsNone (told_shape s calls file xid f h b)
+    shape None = lists h.eof
+    shape (Some b) = refl
+
+    same : (b : Bool) → FindsNone (told_version s calls file xid f h b)
+    same true = shape (broken_of f h)
+    same false = retries_none s calls file xid f h.version 0
+
+first_none : (s : State) (calls : List Pending) (file xid tries : ℕ) (a : Answer Hashes Unit) → FindsNone (told_first s calls file xid tries a)
+first_none s calls file xid tries (Failed t u) = refl
+first_none s calls file xid tries (Done h) = hashes_none s calls file xid (fetch_of tries xid h) (Done h)
+
+lease_none : (s : State) (calls : List Pending) (file xid : ℕ) (a : Answer Leased Unit) → FindsNone (told_lease s calls file xid a)
+lease_none s calls file xid (Failed t u) = refl
+lease_none s calls file xid (Done l) = by (content_in l.version (content_of s.cache file))
+  where
+    by : (o : Option (List ℕ)) → FindsNone (uses_kept s calls file xid l.version o)
+    by None = refl
+    by (Some bytes) = refl
+
+piece_none : (s : State) (calls : List Pending) (file xid : ℕ) (f : Fetch) (p : Piece) (o : Option ReadCall) → FindsNone (told_piece s calls file xid f p o)
+piece_none s calls file xid f p None = refl
+piece_none s calls file xid f p (Some c) = chunk (slice_get f.chunks c.index)
+  where
+    misfit : (b : BadPeer) (o : Option ℕ) → FindsNone (misfits s calls file xid f b (length p.bytes) o)
+    misfit b (Some v) = retries_none s calls file xid f v (length p.bytes)
+    misfit b None = refl
+
+    bytes : (o : Option BadPeer) → FindsNone (told_bytes s calls file xid f c p o)
+    bytes None = reads_none s calls file xid (with_bytes f c p.bytes) (length p.bytes)
+    bytes (Some b) = misfit b (other_version f.version p.attr)
+
+    chunk : (o : Option Chunk) → FindsNone (told_chunk s calls file xid f c p o)
+    chunk None = refl
+    chunk (Some k) = bytes (fault_in k p.bytes (length p.bytes == k.len))
+
+-- ---- an answer to a close
+
+goes_none : (s : State) (file : ℕ) (content : List ℕ) (st : Store) → FindsNone (goes_on s file content st)
+goes_none s file content st = by (is_stored (names_all st s.next).store)
+  where
+    by : (b : Bool) → FindsNone (goes_if s file content (names_all st s.next) b)
+    by true = refl
+    by false = refl
+
+temp_none : (s : State) (calls : List Pending) (file xid temp : ℕ) (content : List ℕ) (a : Answer Unit Unit) → FindsNone (told_temp s calls file xid temp content a)
+temp_none s calls file xid temp content (Failed t u) = refl
+temp_none s calls file xid temp content (Done u) = goes_none s file content (store_of temp content)
+
+named_none : (s : State) (calls : List Pending) (file xid : ℕ) (content : List ℕ) (st : Store) (c : StoreCall) (a : Answer Unit Unit) → FindsNone (told_named s calls file xid content st c a)
+named_none s calls file xid content st c (Done u) = goes_none s file content st
+named_none s calls file xid content st c (Failed status.HashNotFound u) = by (slice_get st.chunks c.index)
+  where
+    by : (o : Option Chunk) → FindsNone (sends_whole s file xid content st c o)
+    by None = refl
+    by (Some k) = refl
+named_none s calls file xid content st c (Failed t u) = refl
+
+stored_none : (s : State) (calls : List Pending) (file xid : ℕ) (content : List ℕ) (st : Store) (b : Body) (o : Option StoreCall) → FindsNone (told_stored s calls file xid content st b o)
+stored_none s calls file xid content st b None = refl
+stored_none s calls file xid content st b (Some c) = by c.way b
+  where
+    whole : (a : Answer Unit Unit) → FindsNone (told_whole s calls file xid content (answered st xid) a)
+    whole (Done u) = goes_none s file content (answered st xid)
+    whole (Failed t u) = refl
+
+    by : (w : Way) (b : Body) → FindsNone (told_way s calls file xid content (answered st xid) c w b)
+    by way.Named (body.Lb (lb.CondWriteAnswer a)) = named_none s calls file xid content (answered st xid) c a
+    by way.Whole (body.Lb (lb.TmpWriteAnswer a)) = whole a
+    by w b = refl
+
+-- ---- any answer
+
+pub took_finds : (s : State) (calls : List Pending) (file : ℕ) (st : Stage) (xid : ℕ) (b : Body) → IsOfFile st → (took s calls file st xid b).1.found ≡ None
+took_finds s calls file (stage.Asking y) xid (body.Lb (lb.GetLeaseAnswer a)) of = lease_none s calls file xid a
+took_finds s calls file (stage.Hashing tries y) xid (body.Lb (lb.GetHashAnswer a)) of = first_none s calls file xid tries a
+took_finds s calls file (stage.Listing y f) xid (body.Lb (lb.GetHashAnswer a)) of = hashes_none s calls file xid f a
+took_finds s calls file (stage.Reading f) xid (body.Nfs (nfs.ReadAnswer (Failed t a))) of = refl
+took_finds s calls file (stage.Reading f) xid (body.Nfs (nfs.ReadAnswer (Done p))) of = piece_none s calls file xid f p (read_at f.under xid)
+took_finds s calls file (stage.Making y temp) xid (body.Lb (lb.MkTmpFileAnswer a)) of = temp_none s calls file xid temp (local_bytes s.opened file) a
+took_finds s calls file (stage.Storing st) xid b of = stored_none s calls file xid (local_bytes s.opened file) st b (store_at st.under xid)
+took_finds s calls file (stage.Committing y) xid (body.Lb (lb.CommitTmpAnswer (Failed t u))) of = refl
+took_finds s calls file (stage.Committing y) xid (body.Lb (lb.CommitTmpAnswer (Done c))) of = refl
+took_finds s calls file (stage.Walking y w) xid b of = absurd of
+took_finds s calls file st xid b of = refl
+
+denied_none : (s : State) (calls : List Pending) (xid : ℕ) (r : RpcRefusal) → FindsNone (denied s calls xid r)
+denied_none s calls xid refusal.SystemErr = refl
+denied_none s calls xid r = refl
+
+drops_none : (s : State) (t : Option Task) (xid : ℕ) (b : Bool) → FindsNone (drops s t xid b)
+drops_none s t xid true = refl
+drops_none s (Some t) xid false = refl
+drops_none s None xid false = refl
+
+-- what is under way, if anything is, is no walk
+abbrev pub NoWalk : Option Task → Type 0
+NoWalk t = (u : Task) → t ≡ Some u → IsOfFile u.stage
+
+pub got_finds : (s : State) (m : Result Message WireFault) (now : ℕ) → NoWalk s.task → (got_step s m now).1.found ≡ None
+got_finds s (Err e) now none = by s.task
+  where
+    by : (t : Option Task) → FindsNone (got_fault s t e)
+    by (Some t) = refl
+    by None = refl
+got_finds s (Ok m) now none = by s.task none m
+  where
+    by : (t : Option Task) → NoWalk t → (m : Message) → FindsNone (got_message s t m)
+    by t w (message.Answer xid b) = own t w (has_call (pending t) xid)
+      where
+        own : (t : Option Task) → NoWalk t → (is_own : Bool) → FindsNone (took_if s t xid b is_own)
+        own (Some t) w true = took_finds (idle s) (calls_of s) t.file t.stage xid b (w t refl)
+        own t w is_own = drops_none s t xid (has_call s.forgotten xid)
+    by t w (message.Refuse xid r) = own t (has_call (pending t) xid)
+      where
+        own : (t : Option Task) (is_own : Bool) → FindsNone (denied_if s t xid r is_own)
+        own (Some t) true = denied_none (idle s) (calls_of s) xid r
+        own t is_own = drops_none s t xid (has_call s.forgotten xid)
+    by t w (message.Unfit xid r) = refl
+    by t w (message.Call xid b) = refl
+
+-- ---- the connection is lost
+
+pub cut_finds : (s : State) → (cut s).1.found ≡ None
+cut_finds s = by s.task
+  where
+    by : (t : Option Task) → (ended_by t (record { outcome = outcome.Lost; rests_on = 0 })).found ≡ None
+    by None = refl
+    by (Some t) = refl
+
+-- ---- what is under way
+
+pub of_fetch : (book : Book) (taken : List TakenCall) (j : Job) (st : Stage) → FetchOf book taken j st → IsOfFile st
+of_fetch book taken j (stage.Walking x w) h = absurd h
+of_fetch book taken j st h = tt
+
+pub of_xids : (next : ℕ) (st : Stage) → HasXids next st → IsOfFile st
+of_xids next (stage.Walking x w) h = absurd h
+of_xids next st h = tt
+
+-- a client has none under way: an operation that walks has no numbers
+pub seat_walks : (book : Book) (sessions : List Session) (i : ℕ) (seat : Seat) → IsSeat book sessions i seat → NoWalk seat.client.task
+seat_walks book sessions i seat h = by h.matched
+  where
+    on_file : (n : ℕ) (s : Stage) → HasXids n s → IsOfFile s
+    on_file n (stage.Walking x w) h = h
+    on_file n _ h = tt
+
+    by : IsMatched seat → NoWalk seat.client.task
+    by (inl none) = λ u e. nothing_there u (sym none.1 ∙ e)
+    by (inr (j, is)) = λ u e. subst (λ (t : Task). IsOfFile t.stage) (some_is (record { file = j.file; stage = j.stage }) u (sym (task_of seat.place seat.client.task j is) ∙ e)) (on_file seat.client.next j.stage (h.xids j is))
+      where
+        task_of : (place : Option ℕ) (task : Option Task) (j : Job) → job_of place task ≡ Some j → task ≡ Some (record { file = j.file; stage = j.stage })
+        task_of (Some p) (Some t) j e = ap (λ (z : Job). Some (record { file = z.file; stage = z.stage })) (some_is (record { place = p; file = t.file; stage = t.stage }) j e)
+        task_of _ _ j e = nothing_there j e
+
+pub no_walk : (book : Book) (k : Core) (qs : List Queue) (i : ℕ) (seat : Seat) → IsKept book k qs → numbered k.seats i ≡ Some seat → NoWalk seat.client.task
+no_walk book k qs i seat kept here = seat_walks book k.sessions i seat (kept.seats i seat here)

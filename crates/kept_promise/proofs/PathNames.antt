@@ -1,0 +1,223 @@
+-- The names of a command that was read: none is a dot or two, none is long, and there are few. So are those of its walk, as far as it comes.
+use Rattle.std.proofs.Common.{◌≡◌, ℕ, zero, suc, ◌-◌, ◌<◌, ◌≤◌, List, [], ◌∷◌, ◌++◌, length, take, drop, Some, None, Bool, true, false, not, ◌&&◌, refl, arith, nat_le, if◌then◌else◌}
+use Rattle.std.specs.Prelude.{codes, bytes_eq, slice_index_or}
+use Rattle.std.specs.List.{AllByRecursion}
+use Rattle.std.proofs.lemmas.Bool.Decides.{nat_tests}
+use Rattle.command_text.specs.Fields.{is_text, is_name, name_of}
+use Rattle.command_text.specs.Parts.{cut_at}
+use Rattle.command_text.specs.Paths.{names_of, within_path, names_in, spot_at, spot_in, spot_of, path_of}
+use Rattle.command_text.specs.Commands.{find_of, spot_command, rename_of, list_of, look_of, path_command_of}
+use Rattle.command_text.specs.declared.command.Command.{Command}
+use Rattle.command_text.specs.declared.command.Command.TheVariants as command
+use Rattle.command_text.specs.declared.path.PathCommand.{PathCommand}
+use Rattle.command_text.specs.declared.path.PathCommand.TheVariants as path
+use Rattle.command_text.specs.declared.path.Spot.{Spot}
+use Rattle.trace_replay.specs.Commands.{file_of}
+use Rattle.path_calls.specs.declared.walk.Goal.{Goal}
+use Rattle.path_calls.specs.declared.walk.Goal.TheVariants as goal
+use Rattle.path_calls.specs.declared.walk.Walk.{Walk}
+use Rattle.path_calls.specs.Walk.{begun, arrives, goal_left, calls_left}
+use Rattle.kept_promise.proofs.Parsed.{Gives, gives_some, gives_none, gives_if, gives_after}
+use Rattle.kept_promise.proofs.TreeWalks.{IsUndotted}
+
+-- ---- a name
+
+abbrev pub IsName : List ℕ → Type 0
+IsName n = IsUndotted n × (length n ≤ 255)
+
+and_true : (a b : Bool) → (a && b) ≡ true → (a ≡ true) × (b ≡ true)
+and_true true b e = (refl, e)
+and_true false b e = absurd cc
+
+not_true : (a : Bool) → not a ≡ true → a ≡ false
+not_true true e = absurd cc
+not_true false e = refl
+
+name_named : (word : List ℕ) → Gives IsName (name_of word)
+name_named word = by (is_name word) refl
+  where
+    by : (b : Bool) → is_name word ≡ b → Gives IsName (if b then Some word else None)
+    by true e =
+        let a = and_true (is_text word && nat_le (length word) 255 && not (bytes_eq word (codes "."))) (not (bytes_eq word (codes ".."))) e in
+        let b = and_true (is_text word && nat_le (length word) 255) (not (bytes_eq word (codes "."))) a.0 in
+        let c = and_true (is_text word) (nat_le (length word) 255) b.0 in
+        let short = c.1 in
+        gives_some IsName word ((not_true (bytes_eq word (codes ".")) b.1, not_true (bytes_eq word (codes "..")) a.1), grind (arith, nat_tests, short))
+    by false e = gives_none IsName
+
+-- ---- names
+
+abbrev pub AreNames : List (List ℕ) → Type 0
+AreNames ns = AllByRecursion IsName ns × (length ns ≤ 64)
+
+names_named : (words : List (List ℕ)) → Gives (AllByRecursion IsName) (names_of words)
+names_named [] = gives_some (AllByRecursion IsName) [] tt
+names_named (w ∷ ws) = gives_after IsName (AllByRecursion IsName) (name_of w) _ (name_named w) (λ n h. gives_after (AllByRecursion IsName) (AllByRecursion IsName) (names_of ws) _ (names_named ws) (λ ns hs. gives_some (AllByRecursion IsName) (n ∷ ns) (h, hs)))
+
+within_named : (names : List (List ℕ)) → AllByRecursion IsName names → Gives AreNames (within_path names)
+within_named names all = by (nat_le (length names) 64) refl
+  where
+    by : (b : Bool) → nat_le (length names) 64 ≡ b → Gives AreNames (if b then Some names else None)
+    by true e = gives_some AreNames names (all, grind (arith, nat_tests, e))
+    by false e = gives_none AreNames
+
+in_named : (word : List ℕ) → Gives AreNames (names_in word)
+in_named word = gives_after (AllByRecursion IsName) AreNames (names_of (cut_at 47 word)) within_path (names_named (cut_at 47 word)) within_named
+
+-- ---- a spot: the last of them, and those before it
+
+abbrev pub IsSpot : Spot → Type 0
+IsSpot s = AreNames s.dirs × IsName s.name
+
+all_but : {A : Type 0} (P : A → Type 0) (xs : List A) (i : ℕ) → AllByRecursion P xs → AllByRecursion P (take i xs ++ drop (suc i) xs)
+all_but P [] zero all = tt
+all_but P [] (suc i) all = tt
+all_but P (x ∷ xs) zero all = all.1
+all_but P (x ∷ xs) (suc i) all = (all.0, all_but P xs i all.1)
+
+fewer_but : {A : Type 0} (xs : List A) (i : ℕ) → length (take i xs ++ drop (suc i) xs) ≤ length xs
+fewer_but [] zero = omega arith
+fewer_but [] (suc i) = omega arith
+fewer_but (x ∷ xs) zero = omega arith
+fewer_but (x ∷ xs) (suc i) = let le = fewer_but xs i in omega (arith, le)
+
+one_of : {A : Type 0} (P : A → Type 0) (xs : List A) (i : ℕ) (d : A) → i < length xs → AllByRecursion P xs → P (slice_index_or xs i d)
+one_of P [] i d within all = absurd (omega (arith, within))
+one_of P (x ∷ xs) zero d within all = all.0
+one_of P (x ∷ xs) (suc i) d within all = one_of P xs i d (omega (arith, within)) all.1
+
+in_spot : (names : List (List ℕ)) → AreNames names → Gives IsSpot (spot_in names)
+in_spot [] h = gives_none IsSpot
+in_spot (n ∷ ns) h =
+    let few = h.1 in
+    let le = fewer_but (n ∷ ns) (length (n ∷ ns) - 1) in
+    gives_some IsSpot (spot_at (n ∷ ns)) ((all_but IsName (n ∷ ns) (length (n ∷ ns) - 1) h.0, omega (arith, few, le)), one_of IsName (n ∷ ns) (length (n ∷ ns) - 1) [] (omega arith) h.0)
+
+spot_named : (word : List ℕ) → Gives IsSpot (spot_of word)
+spot_named word = gives_after AreNames IsSpot (names_in word) spot_in (in_named word) in_spot
+
+path_named : (word : List ℕ) → Gives AreNames (path_of word)
+path_named word = gives_if AreNames (bytes_eq word (codes "/")) (Some []) (names_in word) (gives_some AreNames [] (tt, omega arith)) (in_named word)
+
+-- ---- a command
+
+abbrev pub HasNames : PathCommand → Type 0
+HasNames (path.Find s) = IsSpot s
+HasNames (path.Look s) = IsSpot s
+HasNames path.LookRoot = Unit {0}
+HasNames (path.List p) = AreNames p
+HasNames (path.Make s) = IsSpot s
+HasNames (path.MakeDir s) = IsSpot s
+HasNames (path.Remove s) = IsSpot s
+HasNames (path.RemoveDir s) = IsSpot s
+HasNames (path.Rename s t) = IsSpot s × IsSpot t
+
+-- its id has a number of 64 bits, and it is on no names
+abbrev pub IsSmall : Command → Type 0
+IsSmall (command.Named k) = ⊥
+IsSmall d = file_of d < 18446744073709551616
+
+pub file_small : (d : Command) → IsSmall d → file_of d < 18446744073709551616
+file_small (command.Named k) h = absurd h
+file_small d h = h
+
+-- its id has a number of 64 bits, or its names are names
+abbrev pub IsPlain : Command → Type 0
+IsPlain (command.Named k) = HasNames k
+IsPlain d = file_of d < 18446744073709551616
+
+-- it is one on names, which are such
+abbrev pub IsNamed : Command → Type 0
+IsNamed (command.Named k) = HasNames k
+IsNamed d = ⊥
+
+pub find_named : (word : List ℕ) → Gives IsNamed (find_of word)
+find_named word = gives_after IsSpot IsNamed (spot_of word) _ (spot_named word) (λ s h. gives_some IsNamed (command.Named (path.Find s)) h)
+
+spot_command_named : (k : Spot → PathCommand) → ((s : Spot) → IsSpot s → HasNames (k s)) → (words : List (List ℕ)) → Gives IsNamed (spot_command k words)
+spot_command_named k has [] = gives_none IsNamed
+spot_command_named k has (word ∷ []) = gives_after IsSpot IsNamed (spot_of word) _ (spot_named word) (λ s h. gives_some IsNamed (command.Named (k s)) (has s h))
+spot_command_named k has (word ∷ other ∷ words) = gives_none IsNamed
+
+rename_named : (words : List (List ℕ)) → Gives IsNamed (rename_of words)
+rename_named (from ∷ to ∷ []) = gives_after IsSpot IsNamed (spot_of from) _ (spot_named from) (λ f h. gives_after IsSpot IsNamed (spot_of to) _ (spot_named to) (λ t g. gives_some IsNamed (command.Named (path.Rename f t)) (h, g)))
+rename_named _ = gives_none IsNamed
+
+list_named : (words : List (List ℕ)) → Gives IsNamed (list_of words)
+list_named (word ∷ []) = gives_after AreNames IsNamed (path_of word) _ (path_named word) (λ p h. gives_some IsNamed (command.Named (path.List p)) h)
+list_named _ = gives_none IsNamed
+
+look_named : (words : List (List ℕ)) → Gives IsNamed (look_of words)
+look_named (word ∷ []) = gives_if IsNamed (bytes_eq word (codes "/")) _ _ (gives_some IsNamed (command.Named path.LookRoot) tt) (gives_after IsSpot IsNamed (spot_of word) _ (spot_named word) (λ s h. gives_some IsNamed (command.Named (path.Look s)) h))
+look_named _ = gives_none IsNamed
+
+pub path_command_named : (word : List ℕ) (words : List (List ℕ)) → Gives IsNamed (path_command_of word words)
+path_command_named word words =
+    gives_if IsNamed (bytes_eq word (codes "make")) _ _ (spot_command_named path.Make (λ s h. h) words)
+    (gives_if IsNamed (bytes_eq word (codes "mkdir")) _ _ (spot_command_named path.MakeDir (λ s h. h) words)
+    (gives_if IsNamed (bytes_eq word (codes "remove")) _ _ (spot_command_named path.Remove (λ s h. h) words)
+    (gives_if IsNamed (bytes_eq word (codes "rmdir")) _ _ (spot_command_named path.RemoveDir (λ s h. h) words)
+    (gives_if IsNamed (bytes_eq word (codes "rename")) _ _ (rename_named words)
+    (gives_if IsNamed (bytes_eq word (codes "list")) _ _ (list_named words)
+    (gives_if IsNamed (bytes_eq word (codes "look")) _ _ (look_named words) (gives_none IsNamed)))))))
+
+-- ---- a walk
+
+abbrev pub IsGoalNamed : Goal → Type 0
+IsGoalNamed (goal.Find n) = IsName n
+IsGoalNamed (goal.Look n) = IsName n
+IsGoalNamed goal.LookRoot = Unit {0}
+IsGoalNamed (goal.List p) = Unit {0}
+IsGoalNamed (goal.Make n) = IsName n
+IsGoalNamed (goal.MakeDir n) = IsName n
+IsGoalNamed (goal.Remove n) = IsName n
+IsGoalNamed (goal.RemoveDir n) = IsName n
+IsGoalNamed (goal.RenameFrom n to) = IsName n × IsSpot to
+IsGoalNamed (goal.RenameTo dir n to) = IsName n × IsName to
+
+-- its names are names, and of those that are left there are few
+abbrev pub IsWalkNamed : Walk → Type 0
+IsWalkNamed w = AreNames w.left × IsGoalNamed w.goal
+
+no_names : AreNames []
+no_names = (tt, omega arith)
+
+pub arrives_named : (dir : ℕ) (left : List (List ℕ)) (g : Goal) → AreNames left → IsGoalNamed g → IsWalkNamed (arrives dir left g)
+arrives_named dir (n ∷ ns) g h aim = (h, aim)
+arrives_named dir [] (goal.RenameFrom n to) h aim = (aim.1.0, (aim.0, aim.1.1))
+arrives_named dir [] (goal.Find n) h aim = (no_names, aim)
+arrives_named dir [] (goal.Look n) h aim = (no_names, aim)
+arrives_named dir [] goal.LookRoot h aim = (no_names, aim)
+arrives_named dir [] (goal.List p) h aim = (no_names, aim)
+arrives_named dir [] (goal.Make n) h aim = (no_names, aim)
+arrives_named dir [] (goal.MakeDir n) h aim = (no_names, aim)
+arrives_named dir [] (goal.Remove n) h aim = (no_names, aim)
+arrives_named dir [] (goal.RemoveDir n) h aim = (no_names, aim)
+arrives_named dir [] (goal.RenameTo from n to) h aim = (no_names, aim)
+
+pub begun_named : (k : PathCommand) → HasNames k → IsWalkNamed (begun k)
+begun_named (path.Find s) h = h
+begun_named (path.Look s) h = h
+begun_named path.LookRoot h = (no_names, tt)
+begun_named (path.List p) h = (h, tt)
+begun_named (path.Make s) h = h
+begun_named (path.MakeDir s) h = h
+begun_named (path.Remove s) h = h
+begun_named (path.RemoveDir s) h = h
+begun_named (path.Rename s t) h = arrives_named 1 s.dirs (goal.RenameFrom s.name t) h.0.0 (h.0.1, h.1)
+
+goal_short : (g : Goal) → IsGoalNamed g → goal_left g ≤ 900000
+goal_short (goal.List p) aim = omega arith
+goal_short (goal.RenameFrom n to) aim = let few = aim.1.0.1 in omega (arith, few)
+goal_short (goal.Find n) aim = omega arith
+goal_short (goal.Look n) aim = omega arith
+goal_short goal.LookRoot aim = omega arith
+goal_short (goal.Make n) aim = omega arith
+goal_short (goal.MakeDir n) aim = omega arith
+goal_short (goal.Remove n) aim = omega arith
+goal_short (goal.RemoveDir n) aim = omega arith
+goal_short (goal.RenameTo from n to) aim = omega arith
+
+-- a walk never sends many calls
+pub walk_short : (w : Walk) → IsWalkNamed w → calls_left w ≤ 900064
+walk_short w h = let few = h.0.1 in let short = goal_short w.goal h.1 in omega (arith, few, short)

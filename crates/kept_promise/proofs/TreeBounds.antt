@@ -1,0 +1,387 @@
+-- What calls on names leave of a tree's limits, and of the room that other changes hold: it's theirs afterwards as well. No call but a commit makes
+-- the contents more.
+use Rattle.std.proofs.Common.{◌≡◌, ℕ, ◌+◌, ◌≤◌, List, [], ◌∷◌, length, Option, Some, None, Result, Ok, Err, Bool, true, false, not, ◌==◌, refl, sym, ap, ◌∙◌, subst, arith, nat_lt, if◌then◌else◌, cond}
+use Rattle.std.specs.Option.{option_map}
+use Rattle.std.proofs.lemmas.Bool.Decides.{nat_tests}
+use Rattle.xdr_codec.specs.declared.status.Status.{Status}
+use Rattle.xdr_codec.specs.declared.status.Status.TheVariants as status
+use Rattle.nfs3_calls.specs.declared.message.Nfs.{Nfs}
+use Rattle.nfs3_calls.specs.declared.message.Nfs.TheVariants as nfs
+use Rattle.tree_nodes.specs.declared.node.Node.{Node}
+use Rattle.tree_nodes.specs.Nodes.{with_id, with_node, without, versioned, named}
+use Rattle.tree_nodes.proofs.Lists.{with_id_without}
+use Rattle.file_tree.specs.Chain.{◌>>=◌}
+use Rattle.file_tree.specs.Names.{spelt, undotted}
+use Rattle.file_tree.specs.Reading.{stands_for}
+use Rattle.file_tree.specs.declared.call.Changed.{Changed}
+use Rattle.file_tree.specs.declared.call.CreateMode.{CreateMode}
+use Rattle.file_tree.specs.declared.call.CreateMode.TheVariants as mode
+use Rattle.file_tree.specs.declared.call.Held.{Held}
+use Rattle.file_tree.specs.declared.call.Planned.{Planned}
+use Rattle.file_tree.specs.declared.call.Planned.TheVariants as planned
+use Rattle.file_tree.specs.Tree.{Tree, content_of, contents_size, node_of, directory_of, directory_or, file_or, or_no_entry, or_taken}
+use Rattle.file_tree.specs.Step.{changes_most, spared, made, removed, placed, moved_at, moved, nothing, create_found, create_mode, may_create, create_plan, create, created as create_made, new_file, new_directory, may_mkdir, mkdir, mkdir_if, or_not_empty, may_remove, may_rmdir, remove_done, remove_plan, remove_if, remove, rmdir_plan, rmdir, Target, itself, over, or_within, may_replace, is_same, rename_over, planned as planned_as, planned_found, rename_plan, shifted, rename_if, rename}
+use Rattle.file_tree.proofs.Limits.{counted, limits_with, limits_without, limits_versioned, limits_moved, size_with, size_same, size_without}
+use Rattle.file_tree.proofs.States.{named_id}
+use Rattle.tree_calls.specs.declared.asked.Asked.{Asked}
+use Rattle.tree_calls.specs.declared.asked.Asked.TheVariants as asked
+use Rattle.tree_calls.specs.declared.asked.Outcome.{Outcome}
+use Rattle.tree_calls.specs.declared.asked.Outcome.TheVariants.{Answered, Waits}
+use Rattle.tree_calls.specs.Telling.{id_of, told}
+use Rattle.tree_calls.specs.Changing.{mode_of}
+use Rattle.tree_calls.specs.Waiting.{entries_of, remove_comes, rename_comes, settles, removes_if, renames_if, remove_again, rename_again, calls, creates_in, mkdirs_in, rmdirs_in, removing, asks_remove, removes_in, renaming, asks_rename, renames_in, told_outcome}
+use Rattle.server_law.proofs.Trees.{nodes_of, IsBounded}
+use Rattle.server_law.proofs.TreeCalls.{bind_ok, ok_is}
+use Rattle.kept_promise.proofs.TreeTold.{entry_is}
+
+-- there is room for so many changes beside those that are held
+abbrev pub IsSpared : Tree → Held → ℕ → Type 0
+IsSpared t held n = t.changes + held.entries + n ≤ changes_most
+
+-- the limits are kept, the room that is held is there still, and no bytes came
+abbrev pub Stays : Held → Tree → Tree → Type 0
+Stays held t u = IsBounded t → IsSpared t held 0 → IsBounded u × IsSpared u held 0 × (contents_size u.nodes ≤ contents_size t.nodes)
+
+pub stays_same : (held : Held) (t : Tree) → Stays held t t
+stays_same held t h room = (h, room, omega arith)
+
+pub spared_room : (t : Tree) (held : Held) (n : ℕ) (u : Unit) → spared t.changes held n ≡ Ok u → IsSpared t held n
+spared_room t held n u e = by (nat_lt changes_most (t.changes + held.entries + n)) refl e
+  where
+    by : (b : Bool) → nat_lt changes_most (t.changes + held.entries + n) ≡ b → (let r : Result Unit Status = if b then Err status.NoSpc else Ok tt in r ≡ Ok u) → t.changes + held.entries + n ≤ changes_most
+    by true is same = absurd cc
+    by false is same = grind (arith, nat_tests, is)
+
+-- ---- the trees
+
+version_as : ℕ → Node → Node
+version_as version n = record n { version = version }
+
+versioned_size : (ns : List Node) (id version : ℕ) → contents_size (versioned ns id version) ≡ contents_size ns
+versioned_size ns id version = size_same (λ n. record n { version = version }) (λ m. refl) ns id
+
+fewer_size : (ns : List Node) (id : ℕ) → contents_size (without ns id) ≤ contents_size ns
+fewer_size [] id = omega arith
+fewer_size (m ∷ ms) id = by (not (m.id == id)) (fewer_size ms id)
+  where
+    by : (b : Bool) → contents_size (without ms id) ≤ contents_size ms → contents_size (cond b (m ∷ without ms id) (without ms id)) ≤ length (content_of m.body) + contents_size ms
+    by true le = omega (arith, le)
+    by false le = omega (arith, le)
+
+made_stays : (held : Held) (t : Tree) (n : Node) → n.id ≡ t.next → n.version ≤ t.changes + 1 → length (content_of n.body) ≡ 0 → IsSpared t held 1 → Stays held t (made t n)
+made_stays held t n id version none room h free =
+    let raised = counted (nodes_of t) t.changes (t.changes + 1) h (omega arith) (omega (arith, room)) in
+    let next = h.next in
+    let size = h.size in
+    let wide = limits_with (nodes_of t) (t.changes + 1) n 0 raised id (omega (arith, next)) version (omega (arith, none)) (omega (arith, none, size)) in
+    let same = versioned_size (with_node t.nodes n) n.parent (t.changes + 1) in
+    let more = size_with t.nodes n in
+    (limits_versioned (record { nodes = with_node t.nodes n; next = t.next + 1; room = 0 }) (t.changes + 1) n.parent (t.changes + 1) 0 wide (omega arith), omega (arith, room), omega (arith, same, more, none))
+
+removed_stays : (held : Held) (t : Tree) (dir id : ℕ) → IsSpared t held 1 → Stays held t (removed t dir id)
+removed_stays held t dir id room h free =
+    let raised = counted (nodes_of t) t.changes (t.changes + 1) h (omega arith) (omega (arith, room)) in
+    let fewer = limits_without (nodes_of t) (t.changes + 1) id 0 raised in
+    let same = versioned_size (without t.nodes id) dir (t.changes + 1) in
+    let less = fewer_size t.nodes id in
+    (limits_versioned (record { nodes = without t.nodes id; next = t.next; room = 0 }) (t.changes + 1) dir (t.changes + 1) 0 fewer (omega arith), omega (arith, room), omega (arith, same, less))
+
+-- a node of these goes under another name
+placed_stays : (t : Tree) (nodes : List Node) (changes dir : ℕ) (n : Node) (to : ℕ) (name : List ℕ) → IsBounded (record t { nodes = nodes; changes = changes }) → with_id nodes n.id ≡ Some n → IsBounded (moved_at t dir n nodes to name changes) × (contents_size (moved_at t dir n nodes to name changes).nodes ≡ contents_size nodes)
+placed_stays t nodes changes dir n to name h at =
+    let other : Node = record n { parent = to; name = name } in
+    let set = limits_moved (record { nodes = nodes; next = t.next; room = 0 }) changes n to name 0 h at in
+    let one = limits_versioned (record { nodes = placed nodes n to name; next = t.next; room = 0 }) changes dir changes 0 set (omega arith) in
+    let two = limits_versioned (record { nodes = versioned (placed nodes n to name) dir changes; next = t.next; room = 0 }) changes to changes 0 one (omega arith) in
+    let a = versioned_size (versioned (placed nodes n to name) dir changes) to changes in
+    let b = versioned_size (placed nodes n to name) dir changes in
+    let c = size_with (without nodes n.id) other in
+    let d = size_without nodes n.id n h.apart at in
+    (two, omega (arith, a, b, c, d))
+
+-- how many changes a move makes
+abbrev pub moves : Option Node → ℕ
+moves None = 1
+moves (Some m) = 2
+
+moved_stays : (held : Held) (t : Tree) (dir : ℕ) (n : Node) (o : Option Node) (to : ℕ) (name : List ℕ) → with_id t.nodes n.id ≡ Some n → ((m : Node) → o ≡ Some m → (m.id == n.id) ≡ false) → IsSpared t held (moves o) → Stays held t (moved t dir n o to name)
+moved_stays held t dir n None to name at apart room h free =
+    let raised = counted (nodes_of t) t.changes (t.changes + 1) h (omega arith) (omega (arith, room)) in
+    let p = placed_stays t t.nodes (t.changes + 1) dir n to name raised at in
+    let same = p.1 in
+    (p.0, omega (arith, room), omega (arith, same))
+moved_stays held t dir n (Some m) to name at apart room h free =
+    let raised = counted (nodes_of t) t.changes (t.changes + 2) h (omega arith) (omega (arith, room)) in
+    let fewer = limits_without (nodes_of t) (t.changes + 2) m.id 0 raised in
+    let still : with_id (without t.nodes m.id) n.id ≡ Some n = with_id_without t.nodes m.id n.id ∙ ap (λ (b : Bool). if b then None else with_id t.nodes n.id) (apart m refl) ∙ at in
+    let p = placed_stays t (without t.nodes m.id) (t.changes + 2) dir n to name fewer still in
+    let same = p.1 in
+    let less = fewer_size t.nodes m.id in
+    (p.0, omega (arith, room), omega (arith, same, less))
+
+-- ---- the calls
+
+create_room : (t : Tree) (held : Held) (dir : ℕ) (name : List ℕ) (m : CreateMode) → create_plan t held dir name m ≡ Ok None → IsSpared t held 1
+create_room t held dir name m e =
+    let p = bind_ok (may_create t held dir name m) (λ found. Ok (option_map nothing found)) None e in
+    let a = bind_ok (directory_of t.nodes dir) (λ _. spelt name >>= λ _. undotted status.Inval status.Inval name >>= λ _. create_mode t held dir name m) p.0 p.1 in
+    let b = bind_ok (spelt name) (λ _. undotted status.Inval status.Inval name >>= λ _. create_mode t held dir name m) p.0 a.2 in
+    let c = bind_ok (undotted status.Inval status.Inval name) (λ _. create_mode t held dir name m) p.0 b.2 in
+    by m p.0 c.2 (ok_is (option_map nothing p.0) None p.2)
+  where
+    found : (k : CreateMode) (o : Option Node) (f : Option Node) → create_found t.changes held k o ≡ Ok f → option_map nothing f ≡ None → IsSpared t held 1
+    found k None f e none = let s = bind_ok (spared t.changes held 1) (λ _. Ok None) f e in spared_room t held 1 s.0 s.1
+    found mode.Unchecked (Some n) f e none =
+        let s = bind_ok (file_or status.Exist n) (λ k. Ok (Some k)) f e in
+        absurd (there s.0 (ap (option_map nothing) (ok_is (Some s.0) f s.2) ∙ none))
+      where
+        there : (k : Node) → option_map nothing (Some k) ≡ None → ⊥
+        there k e = absurd cc
+    found mode.Guarded (Some n) f e none = absurd cc
+    found mode.Exclusive (Some n) f e none = absurd cc
+
+    by : (k : CreateMode) (f : Option Node) → create_mode t held dir name k ≡ Ok f → option_map nothing f ≡ None → IsSpared t held 1
+    by mode.Exclusive f e none = absurd cc
+    by mode.Guarded f e none = found mode.Guarded (named t.nodes dir name) f e none
+    by mode.Unchecked f e none = found mode.Unchecked (named t.nodes dir name) f e none
+
+create_stays : (t : Tree) (held : Held) (dir : ℕ) (name : List ℕ) (m : CreateMode) → Stays held t (create t held dir name m).0
+create_stays t held dir name m = by (create_plan t held dir name m) refl
+  where
+    by : (r : Result (Option Changed) Status) → create_plan t held dir name m ≡ r → Stays held t (create_made t dir name r).0
+    by (Err s) e = stays_same held t
+    by (Ok (Some done)) e = stays_same held t
+    by (Ok None) e = made_stays held t (new_file t dir name) refl (omega arith) refl (create_room t held dir name m e)
+
+mkdir_room : (t : Tree) (held : Held) (dir : ℕ) (name : List ℕ) (u : Unit) → may_mkdir t held dir name ≡ Ok u → IsSpared t held 1
+mkdir_room t held dir name u e =
+    let a = bind_ok (directory_of t.nodes dir) (λ _. spelt name >>= λ _. undotted status.Exist status.Exist name >>= λ _. or_taken (named t.nodes dir name) >>= λ _. spared t.changes held 1) u e in
+    let b = bind_ok (spelt name) (λ _. undotted status.Exist status.Exist name >>= λ _. or_taken (named t.nodes dir name) >>= λ _. spared t.changes held 1) u a.2 in
+    let c = bind_ok (undotted status.Exist status.Exist name) (λ _. or_taken (named t.nodes dir name) >>= λ _. spared t.changes held 1) u b.2 in
+    let d = bind_ok (or_taken (named t.nodes dir name)) (λ _. spared t.changes held 1) u c.2 in
+    spared_room t held 1 u d.2
+
+mkdir_stays : (t : Tree) (held : Held) (dir : ℕ) (name : List ℕ) → Stays held t (mkdir t held dir name).0
+mkdir_stays t held dir name = by (may_mkdir t held dir name) refl
+  where
+    by : (r : Result Unit Status) → may_mkdir t held dir name ≡ r → Stays held t (mkdir_if t dir name r).0
+    by (Err s) e = stays_same held t
+    by (Ok u) e = made_stays held t (new_directory t dir name) refl (omega arith) refl (mkdir_room t held dir name u e)
+
+pub remove_room : (t : Tree) (held : Held) (dir : ℕ) (name : List ℕ) (done : Changed) → remove_plan t held dir name ≡ Ok done → IsSpared t held 1
+remove_room t held dir name done e =
+    let p = bind_ok (may_remove t held dir name) (λ n. Ok (remove_done n)) done e in
+    let a = bind_ok (directory_of t.nodes dir) (λ _. spelt name >>= λ _. undotted status.Inval status.Inval name >>= λ _. or_no_entry (named t.nodes dir name) >>= file_or status.IsDir >>= λ n. spared t.changes held 1 >>= λ _. Ok n) p.0 p.1 in
+    let b = bind_ok (spelt name) (λ _. undotted status.Inval status.Inval name >>= λ _. or_no_entry (named t.nodes dir name) >>= file_or status.IsDir >>= λ n. spared t.changes held 1 >>= λ _. Ok n) p.0 a.2 in
+    let d = bind_ok (undotted status.Inval status.Inval name) (λ _. or_no_entry (named t.nodes dir name) >>= file_or status.IsDir >>= λ n. spared t.changes held 1 >>= λ _. Ok n) p.0 b.2 in
+    let f = bind_ok (or_no_entry (named t.nodes dir name) >>= file_or status.IsDir) (λ n. spared t.changes held 1 >>= λ _. Ok n) p.0 d.2 in
+    let h = bind_ok (spared t.changes held 1) (λ _. Ok f.0) p.0 f.2 in
+    spared_room t held 1 h.0 h.1
+
+rmdir_room : (t : Tree) (held : Held) (dir : ℕ) (name : List ℕ) (done : Changed) → rmdir_plan t held dir name ≡ Ok done → IsSpared t held 1
+rmdir_room t held dir name done e =
+    let p = bind_ok (may_rmdir t held dir name) (λ n. Ok (remove_done n)) done e in
+    let a = bind_ok (directory_of t.nodes dir) (λ _. spelt name >>= λ _. undotted status.Inval status.Exist name >>= λ _. or_no_entry (named t.nodes dir name) >>= directory_or status.NotDir >>= λ n. or_not_empty t.nodes n >>= λ _. spared t.changes held 1 >>= λ _. Ok n) p.0 p.1 in
+    let b = bind_ok (spelt name) (λ _. undotted status.Inval status.Exist name >>= λ _. or_no_entry (named t.nodes dir name) >>= directory_or status.NotDir >>= λ n. or_not_empty t.nodes n >>= λ _. spared t.changes held 1 >>= λ _. Ok n) p.0 a.2 in
+    let d = bind_ok (undotted status.Inval status.Exist name) (λ _. or_no_entry (named t.nodes dir name) >>= directory_or status.NotDir >>= λ n. or_not_empty t.nodes n >>= λ _. spared t.changes held 1 >>= λ _. Ok n) p.0 b.2 in
+    let f = bind_ok (or_no_entry (named t.nodes dir name) >>= directory_or status.NotDir) (λ n. or_not_empty t.nodes n >>= λ _. spared t.changes held 1 >>= λ _. Ok n) p.0 d.2 in
+    let h = bind_ok (or_not_empty t.nodes f.0) (λ _. spared t.changes held 1 >>= λ _. Ok f.0) p.0 f.2 in
+    let k = bind_ok (spared t.changes held 1) (λ _. Ok f.0) p.0 h.2 in
+    spared_room t held 1 k.0 k.1
+
+gone_stays : (t : Tree) (held : Held) (dir : ℕ) (r : Result Changed Status) → ((done : Changed) → r ≡ Ok done → IsSpared t held 1) → Stays held t (remove_if t dir r).0
+gone_stays t held dir (Err s) room = stays_same held t
+gone_stays t held dir (Ok done) room = removed_stays held t dir done.id (room done refl)
+
+remove_stays : (t : Tree) (held : Held) (dir : ℕ) (name : List ℕ) → Stays held t (remove t held dir name).0
+remove_stays t held dir name = gone_stays t held dir (remove_plan t held dir name) (λ done e. remove_room t held dir name done e)
+
+rmdir_stays : (t : Tree) (held : Held) (dir : ℕ) (name : List ℕ) → Stays held t (rmdir t held dir name).0
+rmdir_stays t held dir name = gone_stays t held dir (rmdir_plan t held dir name) (λ done e. rmdir_room t held dir name done e)
+
+-- ---- RENAME
+
+-- what is known of one that is planned, of a node
+abbrev pub IsMove : Tree → Held → Node → (found : Option Node) → Planned → Type 0
+IsMove t held n found (planned.Nothing done) = Unit {0}
+IsMove t held n found (planned.Free done) = (found ≡ None) × IsSpared t held 1
+IsMove t held n found (planned.Over done) = (m : Node) × (found ≡ Some m) × ((m.id == n.id) ≡ false) × IsSpared t held 2
+
+over_move : (t : Tree) (held : Held) (n : Node) (found : Option Node) (p : Planned) → is_same n found ≡ false → (rename_over t held n found >>= λ target. Ok (planned_as n target)) ≡ Ok p → IsMove t held n found p
+over_move t held n None p other e =
+    let a = bind_ok (rename_over t held n None) (λ target. Ok (planned_as n target)) p e in
+    let b = bind_ok (spared t.changes held 1) (λ _. Ok (over None)) a.0 a.1 in
+    subst (IsMove t held n None) (ap (planned_as n) (ok_is (over None) a.0 b.2) ∙ ok_is (planned_as n a.0) p a.2) (refl, spared_room t held 1 b.0 b.1)
+over_move t held n (Some m) p other e =
+    let a = bind_ok (rename_over t held n (Some m)) (λ target. Ok (planned_as n target)) p e in
+    let b = bind_ok (may_replace t.nodes n m) (λ _. spared t.changes held 2 >>= λ _. Ok (over (Some m))) a.0 a.1 in
+    let c = bind_ok (spared t.changes held 2) (λ _. Ok (over (Some m))) a.0 b.2 in
+    subst (IsMove t held n (Some m)) (ap (planned_as n) (ok_is (over (Some m)) a.0 c.2) ∙ ok_is (planned_as n a.0) p a.2) (m, refl, other, spared_room t held 2 c.0 c.1)
+
+pub move_is : (t : Tree) (held : Held) (n : Node) (to : ℕ) (found : Option Node) (p : Planned) → planned_found t held n to found ≡ Ok p → IsMove t held n found p
+move_is t held n to found p e = by (is_same n found) refl e
+  where
+    by : (b : Bool) → is_same n found ≡ b → ((let r : Result Target Status = if b then Ok itself else (or_within t.nodes n to >>= λ _. rename_over t held n found) in r) >>= λ target. Ok (planned_as n target)) ≡ Ok p → IsMove t held n found p
+    by true is same = subst (IsMove t held n found) (ok_is (planned_as n itself) p same) tt
+    by false is same =
+        let a = bind_ok (or_within t.nodes n to >>= λ _. rename_over t held n found) (λ target. Ok (planned_as n target)) p same in
+        let b = bind_ok (or_within t.nodes n to) (λ _. rename_over t held n found) a.0 a.1 in
+        over_move t held n found p is (ap (λ (r : Result Target Status). r >>= λ target. Ok (planned_as n target)) b.2 ∙ a.2)
+
+-- what a RENAME finds
+pub rename_finds : (t : Tree) (held : Held) (dir : ℕ) (name : List ℕ) (to : ℕ) (to_name : List ℕ) (p : Planned) → rename_plan t held dir name to to_name ≡ Ok p → (n : Node) × (named t.nodes dir name ≡ Some n) × (planned_found t held n to (named t.nodes to to_name) ≡ Ok p)
+rename_finds t held dir name to to_name p e =
+    let rest = λ (n : Node). planned_found t held n to (named t.nodes to to_name) in
+    let a = bind_ok (node_of t.nodes dir) (λ d. node_of t.nodes to >>= λ e. directory_or status.NotDir d >>= λ _. directory_or status.NotDir e >>= λ _. spelt name >>= λ _. undotted status.Inval status.Inval name >>= λ _. spelt to_name >>= λ _. undotted status.Inval status.Inval to_name >>= λ _. or_no_entry (named t.nodes dir name) >>= rest) p e in
+    let b = bind_ok (node_of t.nodes to) (λ e. directory_or status.NotDir a.0 >>= λ _. directory_or status.NotDir e >>= λ _. spelt name >>= λ _. undotted status.Inval status.Inval name >>= λ _. spelt to_name >>= λ _. undotted status.Inval status.Inval to_name >>= λ _. or_no_entry (named t.nodes dir name) >>= rest) p a.2 in
+    let c = bind_ok (directory_or status.NotDir a.0) (λ _. directory_or status.NotDir b.0 >>= λ _. spelt name >>= λ _. undotted status.Inval status.Inval name >>= λ _. spelt to_name >>= λ _. undotted status.Inval status.Inval to_name >>= λ _. or_no_entry (named t.nodes dir name) >>= rest) p b.2 in
+    let d = bind_ok (directory_or status.NotDir b.0) (λ _. spelt name >>= λ _. undotted status.Inval status.Inval name >>= λ _. spelt to_name >>= λ _. undotted status.Inval status.Inval to_name >>= λ _. or_no_entry (named t.nodes dir name) >>= rest) p c.2 in
+    let f = bind_ok (spelt name) (λ _. undotted status.Inval status.Inval name >>= λ _. spelt to_name >>= λ _. undotted status.Inval status.Inval to_name >>= λ _. or_no_entry (named t.nodes dir name) >>= rest) p d.2 in
+    let g = bind_ok (undotted status.Inval status.Inval name) (λ _. spelt to_name >>= λ _. undotted status.Inval status.Inval to_name >>= λ _. or_no_entry (named t.nodes dir name) >>= rest) p f.2 in
+    let h = bind_ok (spelt to_name) (λ _. undotted status.Inval status.Inval to_name >>= λ _. or_no_entry (named t.nodes dir name) >>= rest) p g.2 in
+    let k = bind_ok (undotted status.Inval status.Inval to_name) (λ _. or_no_entry (named t.nodes dir name) >>= rest) p h.2 in
+    let l = bind_ok (or_no_entry (named t.nodes dir name)) rest p k.2 in
+    (l.0, entry_is (named t.nodes dir name) l.0 l.1, l.2)
+
+rename_stays : (t : Tree) (held : Held) (dir : ℕ) (name : List ℕ) (to : ℕ) (to_name : List ℕ) → Stays held t (rename t held dir name to to_name).0
+rename_stays t held dir name to to_name = by (rename_plan t held dir name to to_name) refl
+  where
+    none_some : (m : Node) → ◌≡◌ {A = Option Node} None (Some m) → ⊥
+    none_some m e = absurd cc
+
+    free : (n : Node) (o : Option Node) → named t.nodes dir name ≡ Some n → o ≡ Some n → IsSpared t held 1 → Stays held t (shifted t dir o None to to_name)
+    free n None at same room = absurd cc
+    free n (Some k) at same room = λ h. moved_stays held t dir k None to to_name (named_id t.nodes dir name k h.apart (at ∙ sym same)) (λ m e. absurd (none_some m e)) room h
+
+    over_node : (n m : Node) (o p : Option Node) → named t.nodes dir name ≡ Some n → o ≡ Some n → p ≡ Some m → (m.id == n.id) ≡ false → IsSpared t held 2 → Stays held t (shifted t dir o p to to_name)
+    over_node n m None p at same there other room = absurd cc
+    over_node n m (Some k) None at same there other room = absurd cc
+    over_node n m (Some k) (Some l) at same there other room = λ h. moved_stays held t dir k (Some l) to to_name (named_id t.nodes dir name k h.apart (at ∙ sym same)) (λ z e. ap (λ (q : Option Node). or_false q) (sym e ∙ there) ∙ ap (λ (q : Option Node). other_of m q) same ∙ other) room h
+      where
+        or_false : Option Node → Bool
+        or_false None = false
+        or_false (Some q) = q.id == k.id
+
+        other_of : Node → Option Node → Bool
+        other_of q None = false
+        other_of q (Some r) = q.id == r.id
+
+    by : (r : Result Planned Status) → rename_plan t held dir name to to_name ≡ r → Stays held t (rename_if t dir name to to_name r).0
+    by (Err s) e = stays_same held t
+    by (Ok (planned.Nothing done)) e = stays_same held t
+    by (Ok (planned.Free done)) e =
+        let f = rename_finds t held dir name to to_name (planned.Free done) e in
+        let g = move_is t held f.0 to (named t.nodes to to_name) (planned.Free done) f.2 in
+        free f.0 (named t.nodes dir name) f.1 f.1 g.1
+    by (Ok (planned.Over done)) e =
+        let f = rename_finds t held dir name to to_name (planned.Over done) e in
+        let g = move_is t held f.0 to (named t.nodes to to_name) (planned.Over done) f.2 in
+        over_node f.0 g.0 (named t.nodes dir name) (named t.nodes to to_name) f.1 f.1 g.1 g.2 g.3
+
+-- ---- all of them
+
+pub settles_stays : (t : Tree) (held : Held) (a : Asked) → Stays held t (settles t held a).0
+settles_stays t held (asked.Remove r) = by (remove_again t.nodes r)
+  where
+    by : (o : Result Unit Status) → Stays held t (removes_if t held r.spot o).0
+    by (Err e) = stays_same held t
+    by (Ok u) = remove_stays t held r.spot.dir r.spot.name
+settles_stays t held (asked.Rename r) = by (rename_again t.nodes r)
+  where
+    by : (o : Result Unit Status) → Stays held t (renames_if t held r.from r.to o).0
+    by (Err e) = stays_same held t
+    by (Ok u) = rename_stays t held r.from.dir r.from.name r.to.dir r.to.name
+
+pub calls_stays : (t : Tree) (held : Held) (busy : Bool) (m : Nfs) → Stays held t (calls t held busy m).0
+calls_stays t held busy (nfs.Create f) = by (id_of f.place.dir)
+  where
+    by : (r : Result ℕ Status) → Stays held t (creates_in t held f r).0
+    by (Err s) = stays_same held t
+    by (Ok dir) = create_stays t held dir f.place.name (mode_of f.how)
+calls_stays t held busy (nfs.MkDir d) = by (id_of d.place.dir)
+  where
+    by : (r : Result ℕ Status) → Stays held t (mkdirs_in t held d.place.name r).0
+    by (Err s) = stays_same held t
+    by (Ok dir) = mkdir_stays t held dir d.place.name
+calls_stays t held busy (nfs.RmDir p) = by (id_of p.dir)
+  where
+    by : (r : Result ℕ Status) → Stays held t (rmdirs_in t held p.name r).0
+    by (Err s) = stays_same held t
+    by (Ok dir) = rmdir_stays t held dir p.name
+calls_stays t held busy (nfs.Rename r) = by (id_of r.from.dir) (id_of r.to.dir)
+  where
+    comes : (dir to : ℕ) (o : Result (Option (ℕ × ℕ)) Status) → Stays held t (renaming t held dir r.from.name to r.to.name o).0
+    comes dir to (Err s) = stays_same held t
+    comes dir to (Ok None) = rename_stays t held dir r.from.name to r.to.name
+    comes dir to (Ok (Some p)) = stays_same held t
+
+    by : (a b : Result ℕ Status) → Stays held t (renames_in t held busy r.from.name r.to.name a b).0
+    by (Ok dir) (Ok to) = comes dir to (asks_rename t held busy dir r.from.name to r.to.name)
+    by (Ok dir) (Err s) = stays_same held t
+    by (Err s) b = stays_same held t
+calls_stays t held busy m = stays_same held t
+
+-- ---- what comes to wait has its room beside those that wait
+
+waits_is : (a b : Asked) → ◌≡◌ {A = Option Outcome} (Some (Waits a)) (Some (Waits b)) → a ≡ b
+waits_is a b e = ap (λ o. or_else o) e
+  where
+    asked_in : Outcome → Asked
+    asked_in (Waits c) = c
+    asked_in (Answered d) = a
+
+    or_else : Option Outcome → Asked
+    or_else None = a
+    or_else (Some x) = asked_in x
+
+remove_waits : (t : Tree) (held : Held) (busy : Bool) (dir : ℕ) (name : List ℕ) (file : ℕ) → asks_remove t held busy dir name ≡ Ok file → IsSpared t held 1
+remove_waits t held busy dir name file e = by busy (remove_plan t held dir name) refl e
+  where
+    by : (b : Bool) (r : Result Changed Status) → remove_plan t held dir name ≡ r → remove_comes b r ≡ Ok file → IsSpared t held 1
+    by b (Err s) is e = absurd cc
+    by true (Ok c) is e = absurd cc
+    by false (Ok c) is e = remove_room t held dir name c is
+
+rename_waits : (t : Tree) (held : Held) (busy : Bool) (dir : ℕ) (name : List ℕ) (to : ℕ) (to_name : List ℕ) (p : ℕ × ℕ) → asks_rename t held busy dir name to to_name ≡ Ok (Some p) → IsSpared t held 2
+rename_waits t held busy dir name to to_name p e = by (rename_plan t held dir name to to_name) refl e
+  where
+    nothing_waits : ◌≡◌ {A = Result (Option (ℕ × ℕ)) Status} (Ok None) (Ok (Some p)) → ⊥
+    nothing_waits e = absurd cc
+
+    by : (r : Result Planned Status) → rename_plan t held dir name to to_name ≡ r → rename_comes busy (stands_for t.nodes to to_name) r ≡ Ok (Some p) → IsSpared t held 2
+    by (Err s) is e = absurd cc
+    by (Ok (planned.Nothing c)) is e = absurd (nothing_waits e)
+    by (Ok (planned.Free c)) is e = absurd (nothing_waits e)
+    by (Ok (planned.Over c)) is e =
+        let f = rename_finds t held dir name to to_name (planned.Over c) is in
+        (move_is t held f.0 to (named t.nodes to to_name) (planned.Over c) f.2).3
+
+told_waits : (o : Option Nfs) (a : Asked) → told_outcome o ≡ Some (Waits a) → ⊥
+told_waits None a e = absurd cc
+told_waits (Some m) a e = absurd cc
+
+pub waits_room : (t : Tree) (held : Held) (busy : Bool) (m : Nfs) (a : Asked) → (calls t held busy m).1 ≡ Some (Waits a) → IsSpared t held (entries_of a)
+waits_room t held busy (nfs.Remove p) a e = by (id_of p.dir) e
+  where
+    got : (dir : ℕ) (r : Result ℕ Status) → asks_remove t held busy dir p.name ≡ r → ◌≡◌ {A = Option Outcome} (Some (removing dir p.name r)) (Some (Waits a)) → IsSpared t held (entries_of a)
+    got dir (Err s) is e = absurd cc
+    got dir (Ok file) is e = subst (λ (z : Asked). IsSpared t held (entries_of z)) (waits_is (asked.Remove (record { spot = record { dir = dir; name = p.name }; file = file })) a e) (remove_waits t held busy dir p.name file is)
+
+    by : (r : Result ℕ Status) → ◌≡◌ {A = Option Outcome} (Some (removes_in t held busy p.name r)) (Some (Waits a)) → IsSpared t held (entries_of a)
+    by (Err s) e = absurd cc
+    by (Ok dir) e = got dir (asks_remove t held busy dir p.name) refl e
+waits_room t held busy (nfs.Rename r) a e = by (id_of r.from.dir) (id_of r.to.dir) e
+  where
+    got : (dir to : ℕ) (o : Result (Option (ℕ × ℕ)) Status) → asks_rename t held busy dir r.from.name to r.to.name ≡ o → ◌≡◌ {A = Option Outcome} (Some (renaming t held dir r.from.name to r.to.name o).1) (Some (Waits a)) → IsSpared t held (entries_of a)
+    got dir to (Err s) is e = absurd cc
+    got dir to (Ok None) is e = absurd cc
+    got dir to (Ok (Some p)) is e = subst (λ (z : Asked). IsSpared t held (entries_of z)) (waits_is (asked.Rename (record { from = record { dir = dir; name = r.from.name }; to = record { dir = to; name = r.to.name }; node = p.0; file = p.1 })) a e) (rename_waits t held busy dir r.from.name to r.to.name p is)
+
+    by : (x y : Result ℕ Status) → ◌≡◌ {A = Option Outcome} (Some (renames_in t held busy r.from.name r.to.name x y).1) (Some (Waits a)) → IsSpared t held (entries_of a)
+    by (Ok dir) (Ok to) e = got dir to (asks_rename t held busy dir r.from.name to r.to.name) refl e
+    by (Ok dir) (Err s) e = absurd cc
+    by (Err s) y e = absurd cc
+waits_room t held busy (nfs.Create f) a e = absurd cc
+waits_room t held busy (nfs.MkDir d) a e = absurd cc
+waits_room t held busy (nfs.RmDir p) a e = absurd cc
+waits_room t held busy m a e = absurd (told_waits (told t.nodes m) a e)
