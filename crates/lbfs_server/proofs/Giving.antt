@@ -1,0 +1,57 @@
+-- The records that an end of a link gave so far.
+use Rattle.std.specs.Prelude.{◌≡◌, ℕ, List, [], ◌∷◌, ◌++◌, Option, Some, None}
+use Rattle.std.proofs.Common.{refl, sym, ap, ◌∙◌, append_assoc}
+use Rattle.std.proofs.lemmas.List.{append-nil}
+use Rattle.std.specs.Io.KnownBytes.{Consumes}
+use Rattle.record_ends.specs.Ends.{Kept, coming, nothing_kept, Gives, Takes}
+use Rattle.rpc_record.specs.declared.refusal.Refusal.{Refusal}
+use Rattle.record_ends.proofs.Coming.{consumes_more}
+use Rattle.lbfs_server.specs.Ends.{IsSpoilt}
+
+-- these bytes were taken and these records were given, which stand before all that is to come
+abbrev pub Gave : Kept → List ℕ → List (List ℕ) → Kept → Type 0
+Gave old bytes records new = (more : List ℕ) → coming old (bytes ++ more) ≡ record (coming new more) { records = records ++ (coming new more).records }
+
+-- what was taken of what was to come, and what is kept of it
+pub record Taken (before after : Option (List ℕ)) (kept : Kept) : Type 0 where
+  pub bytes : List ℕ
+  pub records : List (List ℕ)
+  pub consumed : Consumes before after bytes
+  pub gave : Gave nothing_kept bytes records kept
+
+consumes_none : (a : Option (List ℕ)) → Consumes a a []
+consumes_none None = tt
+consumes_none (Some bytes) = refl
+
+pub taken_none : (a : Option (List ℕ)) → Taken a a nothing_kept
+taken_none a = record { bytes = []; records = []; consumed = consumes_none a; gave = λ more. refl }
+
+gave_more : (a b c : Kept) (xs ys : List ℕ) (rs : List (List ℕ)) (r : List ℕ) → Gave a xs rs b → Gives b ys r c → Gave a (xs ++ ys) (rs ++ r ∷ []) c
+gave_more a b c xs ys rs r first second = λ more.
+    let moved : coming a ((xs ++ ys) ++ more) ≡ coming a (xs ++ (ys ++ more)) = ap (coming a) (append_assoc xs ys more) in
+    let next : record (coming b (ys ++ more)) { records = rs ++ (coming b (ys ++ more)).records } ≡ record (coming c more) { records = rs ++ (r ∷ (coming c more).records) } = ap (λ p. record { records = rs ++ p.records; rest = p.rest; spoilt = p.spoilt }) (second more) in
+    let joined : record (coming c more) { records = rs ++ (r ∷ (coming c more).records) } ≡ record (coming c more) { records = (rs ++ r ∷ []) ++ (coming c more).records } = ap (λ z. record { records = z; rest = (coming c more).rest; spoilt = (coming c more).spoilt }) (sym (append_assoc rs (r ∷ []) (coming c more).records)) in
+    moved ∙ first (ys ++ more) ∙ next ∙ joined
+
+pub taken_more : (before between after : Option (List ℕ)) (kept new : Kept) (bytes r : List ℕ) → Taken before between kept → Consumes between after bytes → Gives kept bytes r new → Taken before after new
+taken_more before between after kept new bytes r w consumed gives = record {
+  bytes = w.bytes ++ bytes;
+  records = w.records ++ r ∷ [];
+  consumed = consumes_more before between after w.bytes bytes w.consumed consumed;
+  gave = gave_more nothing_kept kept new w.bytes bytes w.records r w.gave gives;
+}
+
+spoilt_some : (waiting : List (List ℕ)) (rest : List ℕ) (spoilt : Option Refusal) → ¬ (spoilt ≡ None) → ¬ ((coming (record { waiting = waiting; unread = record { rest = rest; spoilt = spoilt } }) []).spoilt ≡ None)
+spoilt_some waiting rest (Some why) is = λ none. cc
+spoilt_some waiting rest None is = absurd (is refl)
+
+spoilt_stays : (kept : Kept) → ¬ (kept.unread.spoilt ≡ None) → ¬ ((coming kept []).spoilt ≡ None)
+spoilt_stays kept is = spoilt_some kept.waiting kept.unread.rest kept.unread.spoilt is
+
+pub taken_spoilt : (before between after : Option (List ℕ)) (kept new : Kept) (bytes : List ℕ) → Taken before between kept → Consumes between after bytes → Takes kept bytes new → ¬ (new.unread.spoilt ≡ None) → IsSpoilt before after
+taken_spoilt before between after kept new bytes w consumed takes spoilt =
+    let all : List ℕ = w.bytes ++ bytes in
+    let whole : coming nothing_kept (w.bytes ++ (bytes ++ [])) ≡ record (coming kept (bytes ++ [])) { records = w.records ++ (coming kept (bytes ++ [])).records } = w.gave (bytes ++ []) in
+    let ended : (coming nothing_kept (w.bytes ++ (bytes ++ []))).spoilt ≡ (coming new []).spoilt = ap (λ p. p.spoilt) whole ∙ ap (λ p. p.spoilt) (takes []) in
+    let same : (coming nothing_kept (w.bytes ++ bytes)).spoilt ≡ (coming new []).spoilt = ap (λ z. (coming nothing_kept (w.bytes ++ z)).spoilt) (sym (append-nil bytes)) ∙ ended in
+    (all, consumes_more before between after w.bytes bytes w.consumed consumed, λ none. spoilt_stays new spoilt (sym same ∙ none))

@@ -1,0 +1,325 @@
+//! What the threads of a server share: the server, and what it has to say to each session.
+//! `specs/Held.antt` states what an event makes of it.
+
+ghost use Rattle.std.specs.Prelude.{◌≡◌, ℕ, ◌<◌, ◌^◌, ◌↔◌, List, [], ◌∷◌, length, IsTrue, false};
+ghost use Rattle.outboxes.specs.Boxes.{Holds, Lacks, KeepsOthers};
+ghost use Rattle.server_core.specs.Closing.{has_waiting};
+ghost use Rattle.server_core.specs.Step.{IsTimed};
+ghost use Rattle.server_core.specs.declared.event.Event.TheVariants as event;
+ghost use Rattle.wire.specs.Parse.{parse_of};
+ghost use Rattle.wire.specs.declared.message.Message.{Message};
+ghost use Rattle.lbfs_server.specs.Held.{After, Delivered, HeardOrLeft, Joined, Left, Stands, Took, Unheard, Unread, Welcomed, server_waits, settled_as};
+ghost use Rattle.lbfs_server.specs.declared.held.Went.TheVariants as went;
+
+use lb_base::items::Items;
+use outboxes::outboxes::Outboxes;
+use send_list::SendList;
+use server_core::event::{Event, Sent, ServerStep, Told};
+use server_core::server::Server;
+use std::alloc::Global;
+use wire::fault::{WireErr, WireFault};
+use wire::message::{Message, Side, Waiting};
+use wire::parse::parse;
+
+/// What came of an event.
+#[derive(Clone, Copy, Debug, PartialEq, Eq)]
+pub enum Went {
+    /// It was done, and this session stands: the one that was made or that sent a message, or whose
+    /// change was settled.
+    Open {
+        /// Its number.
+        session: u32,
+    },
+    /// No change can be made yet.
+    NotReady,
+    /// The session doesn't stand any more.
+    Closed,
+    /// No further session can stand.
+    Full,
+    /// Memory ran out; a session that should have been told something is hung.
+    Memory,
+}
+
+/// What the threads of a server share.
+#[derive(Drop)]
+pub struct Held<S> {
+    server: Server,
+    /// What keeps the server's tree from one start to the next.
+    store: S,
+    boxes: Outboxes<Message>,
+}
+
+fn both(one: bool, other: bool) -> bool
+    ensures { IsTrue result → IsTrue one × IsTrue other }
+{
+    one && other
+}
+
+/// The server has asked its clients for nothing, so no answer may come.
+fn server_waits(alloc: Global) -> Waiting
+    ensures { result ≡ server_waits }
+{
+    Waiting {
+        side: Side::Server,
+        calls: Items::new(alloc),
+    }
+}
+
+/// What came of a change that was to be made.
+fn settled_as(told: Told) -> Went
+    ensures { result ≡ settled_as told }
+{
+    match told {
+        Told::Settled { session, .. } => Went::Open { session },
+        Told::Nothing | Told::Session(_) | Told::Full | Told::Memory | Told::NotReady => {
+            Went::NotReady
+        }
+    }
+}
+
+impl<S: Drop> Held<S> {
+    /// A server and its store; there is nothing to say to any session. It takes no memory.
+    pub fn new(alloc: Global, server: Server, store: S) -> Held<S>
+        ensures server { (result.server ≡ server) × (result.store ≡ store) }
+        ensures boxes { (session : ℕ) → Lacks result.boxes session }
+    {
+        Held {
+            server,
+            store,
+            boxes: Outboxes::new(alloc),
+        }
+    }
+
+    /// Whether a session stands.
+    pub fn stands(&self, session: u32) -> bool
+        ensures some { IsTrue result → (messages : List Message) × Holds self.now.boxes session messages }
+        ensures none { result ≡ false → Lacks self.now.boxes session }
+    {
+        self.boxes.has(session)
+    }
+
+    /// Whether a session stands to which nothing is to be said.
+    pub fn is_quiet(&self, session: u32) -> bool
+        ensures { IsTrue result ↔ Holds self.now.boxes session [] }
+    {
+        self.boxes.is_quiet(session)
+    }
+
+    /// Whether a change of the session waits.
+    pub fn waits(&self, session: u32) -> bool
+        ensures { result ≡ has_waiting self.now.server.waiting session }
+    {
+        self.server.has_waiting(session)
+    }
+
+    /// How many changes were made.
+    pub fn changes_made(&self) -> usize
+        ensures { result ≡ length self.now.server.journal }
+    {
+        self.server.journal().len()
+    }
+
+    /// A session's connection is lost.
+    fn hang(&mut self, alloc: Global, session: u32)
+        ensures { Left self.old session self.new }
+    {
+        let step = self.server.step_unkept(alloc, Event::Hang { session });
+        drop(step);
+        self.boxes.close(session);
+    }
+
+    /// Puts a message into its session's box, and answers whether memory sufficed. Where it didn't
+    /// the session is hung.
+    fn put(&mut self, alloc: Global, sent: Sent) -> bool
+        ensures { Delivered self.old (sent ∷ []) result self.new }
+    {
+        let Sent { session, message } = sent;
+        match self.boxes.put(session, message) {
+            Ok(()) => true,
+            Err(_) => {
+                self.hang(alloc, session);
+                false
+            }
+        }
+    }
+
+    /// Puts messages into the boxes, and answers whether memory sufficed.
+    fn put_all(&mut self, alloc: Global, messages: Vec<Sent>) -> bool
+        ensures { Delivered self.old messages.items result self.new }
+    {
+        let mut all = true;
+        for sent in messages {
+            let put = self.put(alloc, sent);
+            all = both(all, put);
+        }
+        all
+    }
+
+    /// Puts the messages of a step into the boxes, and answers whether memory sufficed.
+    fn deliver(&mut self, alloc: Global, send: SendList<Sent>) -> bool
+        ensures { Delivered self.old send result self.new }
+    {
+        let (first, rest) = send.into_parts();
+        match first {
+            Some(sent) => {
+                let put = self.put(alloc, sent);
+                let all = self.put_all(alloc, rest.into_vec());
+                both(put, all)
+            }
+            None => self.put_all(alloc, rest.into_vec()),
+        }
+    }
+
+    /// Gives a session that was made an empty box. Where memory is wanting it is hung.
+    fn welcome(&mut self, alloc: Global, session: u32) -> Went
+        ensures { Welcomed self.old session result self.new }
+    {
+        match self.boxes.open(session) {
+            Ok(()) => Went::Open { session },
+            Err(_) => {
+                self.hang(alloc, session);
+                Went::Memory
+            }
+        }
+    }
+
+    /// A connection is made.
+    fn connect(&mut self, alloc: Global) -> Went
+        ensures { Joined self.old result self.new }
+    {
+        let step = self.server.step_unkept(alloc, Event::Connect);
+        let told = step.told;
+        drop(step);
+        match told {
+            Told::Session(session) => self.welcome(alloc, session),
+            Told::Full => Went::Full,
+            Told::Nothing | Told::Memory | Told::Settled { .. } | Told::NotReady => Went::Memory,
+        }
+    }
+
+    /// Whether a session stands.
+    fn standing(&self, session: u32) -> Went
+        ensures { Stands self.now session result × ¬ (result ≡ went.Memory) }
+    {
+        if self.boxes.has(session) {
+            Went::Open { session }
+        } else {
+            Went::Closed
+        }
+    }
+
+    /// A message of a session came.
+    fn take_message(&mut self, alloc: Global, session: u32, message: Message, now: u64) -> Went
+        requires { now < 2 ^ 63 }
+        ensures { Took self.old (event.Got session message now) result self.new }
+    {
+        let event = Event::Got {
+            session,
+            message,
+            now,
+        };
+        let ServerStep { send, .. } = self.server.step_unkept(alloc, event);
+        if self.deliver(alloc, send) {
+            self.standing(session)
+        } else {
+            Went::Memory
+        }
+    }
+
+    /// A change that waits may be made.
+    fn settle(&mut self, alloc: Global, now: u64) -> Went
+        requires { now < 2 ^ 63 }
+        ensures { Took self.old (event.Settle now) result self.new }
+    {
+        let ServerStep { send, told, .. } = self.server.step_unkept(alloc, Event::Settle { now });
+        if self.deliver(alloc, send) {
+            settled_as(told)
+        } else {
+            Went::Memory
+        }
+    }
+
+    /// One event of the server. What it sends goes into the boxes of its sessions; where memory is
+    /// wanting for that the session is hung.
+    pub fn event(&mut self, alloc: Global, event: Event) -> Went
+        requires { IsTimed event }
+        ensures { After self.old event result self.new }
+    {
+        match event {
+            Event::Connect => self.connect(alloc),
+            Event::Got {
+                session,
+                message,
+                now,
+            } => self.take_message(alloc, session, message, now),
+            Event::Settle { now } => self.settle(alloc, now),
+            Event::Hang { session } => {
+                self.hang(alloc, session);
+                Went::Closed
+            }
+        }
+    }
+
+    /// A record came that is no message.
+    fn unheard(&mut self, alloc: Global, session: u32, fault: WireFault) -> Went
+        ensures { Unheard self.old session fault result self.new }
+    {
+        match fault {
+            WireFault::UnknownXid { .. } => self.standing(session),
+            WireFault::NotRpc { .. } | WireFault::Garbage { .. } => {
+                self.hang(alloc, session);
+                Went::Closed
+            }
+        }
+    }
+
+    /// A record came of which no message was read.
+    fn unread(&mut self, alloc: Global, session: u32, error: WireErr) -> Went
+        ensures { Unread self.old session error result self.new }
+    {
+        match error {
+            WireErr::Fault(fault) => self.unheard(alloc, session, fault),
+            WireErr::Memory => {
+                self.hang(alloc, session);
+                Went::Memory
+            }
+        }
+    }
+
+    /// A record of a session came: the event of its message. A record that is no message hangs the
+    /// session, and an answer that nobody waits for is no event; want of memory hangs it too.
+    pub fn got(&mut self, alloc: Global, session: u32, bytes: &[u8], now: u64) -> Went
+        requires { now < 2 ^ 63 }
+        ensures { HeardOrLeft self.old session now (parse_of server_waits bytes.now) result self.new }
+    {
+        let expected = server_waits(alloc);
+        match parse(alloc, bytes, &expected) {
+            Ok(message) => self.take_message(alloc, session, message, now),
+            Err(error) => self.unread(alloc, session, error),
+        }
+    }
+
+    /// All that is to be said to a session, in order; nothing is left. It takes no memory.
+    pub fn take_out(&mut self, session: u32) -> Vec<Message>
+        ensures taken { (messages : List Message) → Holds self.old.boxes session messages → (result.items ≡ messages) × Holds self.new.boxes session [] }
+        ensures none { Lacks self.old.boxes session → result.items ≡ [] }
+        ensures others { KeepsOthers self.old.boxes self.new.boxes session }
+        ensures rest { (self.new.server ≡ self.old.server) × (self.new.store ≡ self.old.store) }
+    {
+        self.boxes.take(session).into_vec()
+    }
+
+    /// The store, once nobody is told anything any more.
+    pub fn into_store(self) -> S
+        ensures { result ≡ self.store }
+    {
+        let Held {
+            server,
+            store,
+            boxes,
+        } = self;
+        drop(boxes);
+        drop(server);
+        store
+    }
+}

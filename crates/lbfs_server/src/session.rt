@@ -1,0 +1,157 @@
+//! What the threads of a session do: one takes records off its link, another puts out what there is
+//! to say. Where there is one thread alone, it does both in turn.
+
+ghost use Rattle.std.specs.Prelude.{◌≡◌, ◌≤◌};
+ghost use Rattle.std.specs.Io.KnownBytes.{IsAtEnd};
+ghost use Rattle.lb_base.specs.Causes.{Rose};
+ghost use Rattle.record_ends.specs.declared.end.End.TheVariants as ends;
+ghost use Rattle.lbfs_server.specs.Ends.{IsSpoilt};
+
+use crate::gate::Gate;
+use crate::shared::Shared;
+use links::clock::Clock;
+use links::link::Link;
+use record_ends::end::End;
+use record_ends::inbox::Inbox;
+use record_ends::outgoing::put_out;
+use server_core::event::Event;
+use std::sync::Wait;
+
+/// Takes a session's records off its link, each in a turn of its own, and lets its change be made
+/// where one waits.
+fn read_on<W: Wait, S: Drop, G: Gate + Drop, L: Link, C: Clock>(
+    rt: &W,
+    shared: &Shared<S, G>,
+    session: u32,
+    link: &mut L,
+    clock: &C,
+) -> End
+    ensures ended { result ≡ ends.InputEnd → IsAtEnd (L.left link.new) }
+    ensures failed { result ≡ ends.Failed → Rose (L.faults link.old) (L.faults link.new) }
+    ensures spoilt { result ≡ ends.Spoilt → IsSpoilt (L.left link.old) (L.left link.new) }
+    ensures out { L.held link.new ≡ L.held link.old }
+    ensures later { L.faults link.old ≤ L.faults link.new }
+{
+    let mut inbox = match Inbox::new(shared.alloc()) {
+        Ok(inbox) => inbox,
+        Err(_) => return End::Memory,
+    };
+    for _turn in rt.forever() {
+        match inbox.next(shared.alloc(), link) {
+            Ok(record) => {
+                if shared.got(rt, session, record.as_slice(), clock.now()) {
+                    shared.event(rt, Event::Settle { now: clock.now() });
+                }
+            }
+            Err(end) => return end,
+        }
+    }
+    unreachable!()
+}
+
+/// Takes records off a session's link until it ends, and hangs the session then. It shuts nothing.
+///
+/// `InputEnd` comes where the input ended, `Failed` only where the link's count of faults rose, and
+/// `Spoilt` only where no record can stand behind the bytes that came.
+pub fn session_in<W: Wait, S: Drop, G: Gate + Drop, L: Link, C: Clock>(
+    rt: &W,
+    shared: &Shared<S, G>,
+    session: u32,
+    link: &mut L,
+    clock: &C,
+) -> End
+    ensures ended { result ≡ ends.InputEnd → IsAtEnd (L.left link.new) }
+    ensures failed { result ≡ ends.Failed → Rose (L.faults link.old) (L.faults link.new) }
+    ensures spoilt { result ≡ ends.Spoilt → IsSpoilt (L.left link.old) (L.left link.new) }
+    ensures out { L.held link.new ≡ L.held link.old }
+    ensures later { L.faults link.old ≤ L.faults link.new }
+{
+    let end = read_on(rt, shared, session, link, clock);
+    shared.event(rt, Event::Hang { session });
+    end
+}
+
+/// Puts out what there is to say to a session until it is gone, or its link fails; then it shuts the
+/// link.
+pub fn session_out<W: Wait, S: Drop, G: Gate + Drop, L: Link>(
+    rt: &W,
+    shared: &Shared<S, G>,
+    session: u32,
+    link: &mut L,
+) {
+    for _turn in rt.forever() {
+        let out = shared.await_out(rt, session);
+        let said = put_out(shared.alloc(), link, &out.messages);
+        if said.is_err() || !out.stands {
+            link.shut();
+            return;
+        }
+    }
+}
+
+/// Puts out what there is to say to a session, and shuts the link where the session is gone or the
+/// link failed.
+fn say<W: Wait, S: Drop, G: Gate + Drop, L: Link>(
+    rt: &W,
+    shared: &Shared<S, G>,
+    session: u32,
+    link: &mut L,
+)
+    ensures come { L.left link.new ≡ L.left link.old }
+    ensures later { L.faults link.old ≤ L.faults link.new }
+{
+    let out = shared.take_out(rt, session);
+    let said = put_out(shared.alloc(), link, &out.messages);
+    if said.is_err() || !out.stands {
+        link.shut();
+    }
+}
+
+fn both_on<W: Wait, S: Drop, G: Gate + Drop, L: Link, C: Clock>(
+    rt: &W,
+    shared: &Shared<S, G>,
+    session: u32,
+    link: &mut L,
+    clock: &C,
+) -> End
+    ensures ended { result ≡ ends.InputEnd → IsAtEnd (L.left link.new) }
+    ensures failed { result ≡ ends.Failed → Rose (L.faults link.old) (L.faults link.new) }
+    ensures spoilt { result ≡ ends.Spoilt → IsSpoilt (L.left link.old) (L.left link.new) }
+    ensures later { L.faults link.old ≤ L.faults link.new }
+{
+    let mut inbox = match Inbox::new(shared.alloc()) {
+        Ok(inbox) => inbox,
+        Err(_) => return End::Memory,
+    };
+    for _turn in rt.forever() {
+        match inbox.next(shared.alloc(), link) {
+            Ok(record) => {
+                shared.got(rt, session, record.as_slice(), clock.now());
+                shared.event(rt, Event::Settle { now: clock.now() });
+                say(rt, shared, session, link);
+            }
+            Err(end) => return end,
+        }
+    }
+    unreachable!()
+}
+
+/// A session in one thread: each record is taken, a change that waits may be made, and what there
+/// is to say is put out. It answers as `session_in` does, and has shut the link where the session
+/// was closed before its input ended.
+pub fn session_both<W: Wait, S: Drop, G: Gate + Drop, L: Link, C: Clock>(
+    rt: &W,
+    shared: &Shared<S, G>,
+    session: u32,
+    link: &mut L,
+    clock: &C,
+) -> End
+    ensures ended { result ≡ ends.InputEnd → IsAtEnd (L.left link.new) }
+    ensures failed { result ≡ ends.Failed → Rose (L.faults link.old) (L.faults link.new) }
+    ensures spoilt { result ≡ ends.Spoilt → IsSpoilt (L.left link.old) (L.left link.new) }
+    ensures later { L.faults link.old ≤ L.faults link.new }
+{
+    let end = both_on(rt, shared, session, link, clock);
+    shared.event(rt, Event::Hang { session });
+    end
+}
