@@ -1,0 +1,4 @@
+pub mod Sayings
+pub mod Leadings
+pub mod Runnings
+pub mod Worked

@@ -1,0 +1,5 @@
+use Rattle.lbfs_client.proofs.Sayings.{keeps_is}
+use Rattle.lbfs_client.proofs.fetching.keep.Goals as goal
+
+pub returns : goal.returns
+returns g c = keeps_is _ _ _ _ _ _ _ _ _ _ _ _ _ c.local.ensures c.write-wrote.ensures c.in_ok-answer.ensures c.in_ok-said.ensures

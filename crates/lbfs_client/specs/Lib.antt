@@ -1,0 +1,4 @@
+pub mod Client
+pub mod Host
+pub mod Walks
+pub mod Mounting

@@ -1,0 +1,92 @@
+//! What the client does: its own steps, as `specs/Client.antt` has them, and what one of them came to.
+
+ghost use Rattle.std.specs.Prelude.{◌≡◌, IfOk};
+ghost use Rattle.lbfs_client.specs.Client.{Takes, Hears, Goes};
+ghost use Rattle.lbfs_client.specs.Walks.{is_done, has_done, is_closed, opened_file};
+
+use crate::said::add;
+use client_state::step::{ClientStep, Ended, Outcome};
+use command_text::command::Command;
+use lb_base::items::Items;
+use open_close::client::Client;
+use std::alloc::{AllocError, Global};
+use wire::fault::WireFault;
+use wire::message::Message;
+
+/// The client takes a command.
+pub(crate) fn take(alloc: Global, client: &mut Client, command: Command, now: u64) -> ClientStep
+    ensures { Takes client.old command now client.new result }
+{
+    client.command(alloc, command, now)
+}
+
+/// The client hears what came.
+pub(crate) fn hear(
+    alloc: Global,
+    client: &mut Client,
+    message: Result<Message, WireFault>,
+    now: u64,
+) -> ClientStep
+    ensures { Hears client.old message now client.new result }
+{
+    client.got(alloc, message, now)
+}
+
+/// The client takes a command, whose messages go behind those that there are.
+pub(crate) fn go(
+    alloc: Global,
+    client: &mut Client,
+    command: Command,
+    now: u64,
+    send: &mut Items<Message>,
+) -> Result<Option<Ended>, AllocError>
+    ensures { IfOk result (λ ended. Goes client.old command now send.old client.new ended send.new) }
+{
+    let step = take(alloc, client, command, now);
+    let ClientStep {
+        send: more,
+        ended,
+        ..
+    } = step;
+    match add(alloc, send, more) {
+        Ok(()) => Ok(ended),
+        Err(want) => {
+            drop(ended);
+            Err(want)
+        }
+    }
+}
+
+/// Whether an operation was done.
+fn is_done(outcome: &Outcome) -> bool
+    ensures { result ≡ is_done outcome.now }
+{
+    matches!(outcome, Outcome::Done)
+}
+
+/// Whether an operation has ended, and was done.
+pub(crate) fn has_done(ended: &Option<Ended>) -> bool
+    ensures { result ≡ has_done ended.now }
+{
+    match ended {
+        None => false,
+        Some(ended) => is_done(&ended.outcome),
+    }
+}
+
+/// Whether a close stored its file.
+pub(crate) fn is_closed(outcome: &Outcome) -> bool
+    ensures { result ≡ is_closed outcome.now }
+{
+    matches!(outcome, Outcome::Closed { .. })
+}
+
+/// The file that an open opened.
+pub(crate) fn opened_file(outcome: &Outcome) -> Option<u64>
+    ensures { result ≡ opened_file outcome.now }
+{
+    match outcome {
+        Outcome::Opened { file, .. } => Some(*file),
+        _ => None,
+    }
+}

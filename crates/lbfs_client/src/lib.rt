@@ -1,0 +1,16 @@
+//! The command client: it runs the lines of a script, one by one, over a client of one connection.
+//!
+//! `mounted` has the client with the files of the host, and the four things that may happen to it: a
+//! line, a record that came, the end of the link, and a connection that is joined. What each comes to
+//! is `specs/Mounting.antt`; `specs/Walks.antt` says what `put` and `get` do, one operation after the
+//! other.
+#![tactic(auto)]
+
+mod commanding;
+mod fetching;
+pub mod mounted;
+mod running;
+pub mod said;
+mod storing;
+pub mod walk;
+mod walking;

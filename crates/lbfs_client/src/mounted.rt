@@ -1,0 +1,124 @@
+//! The client behind a mount, and the four things that may happen to it. `specs/Mounting.antt` says
+//! what they come to.
+
+ghost use Rattle.std.specs.Prelude.{◌≡◌, IfOk, IfErr, None};
+ghost use Rattle.client_state.specs.State.{start};
+ghost use Rattle.lbfs_client.specs.Mounting.{Runs, Receives, Stops, joined_step};
+
+use crate::running::{joined, run};
+use crate::said::Said;
+use crate::walk::Walk;
+use crate::walking::{receive, stop};
+use links::files::Files;
+use mount_text::line::MountLine;
+use open_close::client::Client;
+use record_ends::end::End;
+use std::alloc::{AllocError, Global};
+use std::marker::Model;
+
+/// A client, the files of the host, and what the line under way has left to do.
+#[derive(Drop)]
+pub struct Mounted<F: Files> {
+    files: F,
+    client: Client,
+    walk: Option<Walk>,
+}
+
+impl<F: Files> Model for Mounted<F> {
+    ghost use Rattle.lbfs_client.specs.Mounting.{Mount};
+
+    ghost Value = { Mount };
+
+    ghost view = { λ m. record { host = record { files = F.files m.files; faults = F.faults m.files }; client = m.client; walk = m.walk } };
+}
+
+impl<F: Files> Mounted<F> {
+    /// A client with no connection and no file, over these files of the host. It is refused for want
+    /// of memory alone, and the files are handed back.
+    pub fn new(alloc: Global, files: F) -> Result<Mounted<F>, F>
+        ensures ok { IfOk result (λ m. m ≡ record { host = record { files = F.files files; faults = F.faults files }; client = start; walk = None }) }
+        ensures back { IfErr result (λ f. f ≡ files) }
+    {
+        match Client::new(alloc) {
+            Ok(client) => Ok(Mounted {
+                files,
+                client,
+                walk: None,
+            }),
+            Err(_want) => Err(files),
+        }
+    }
+
+    /// A line of the script, at a reading of the client's clock in milliseconds: what is to be sent,
+    /// and the line to write where it has ended. The one error is want of memory, which is the end
+    /// of the mount.
+    pub fn line(&mut self, alloc: Global, line: MountLine, now: u64) -> Result<Said, AllocError>
+        ensures { IfOk result (λ said. Runs self.old line now self.new said) }
+    {
+        run(
+            alloc,
+            &mut self.files,
+            &mut self.client,
+            &mut self.walk,
+            line,
+            now,
+        )
+    }
+
+    /// A record came from the other end.
+    pub fn got(&mut self, alloc: Global, record: &[u8], now: u64) -> Result<Said, AllocError>
+        ensures { IfOk result (λ said. Receives self.old record.now now self.new said) }
+    {
+        receive(
+            alloc,
+            &mut self.files,
+            &mut self.client,
+            &mut self.walk,
+            record,
+            now,
+        )
+    }
+
+    /// The link has ended so, for records or for messages. Where that was for want of memory, the
+    /// answer is want of memory.
+    pub fn ended(&mut self, alloc: Global, end: End, now: u64) -> Result<Said, AllocError>
+        ensures { IfOk result (λ said. Stops self.old end now self.new said) }
+    {
+        stop(
+            alloc,
+            &mut self.files,
+            &mut self.client,
+            &mut self.walk,
+            end,
+            now,
+        )
+    }
+
+    /// A connection is joined.
+    pub fn joined(&mut self, alloc: Global) -> Result<Said, AllocError>
+        ensures { IfOk result (λ said. joined_step self.old ≡ (self.new, said)) }
+    {
+        joined(alloc, &mut self.client, &mut self.walk)
+    }
+
+    /// Whether a connection is joined. It takes no memory.
+    pub fn linked(&self) -> bool
+        ensures { result ≡ self.now.client.linked }
+    {
+        self.client.linked()
+    }
+
+    /// The files of the host, which the mount lets go.
+    pub fn into_files(self) -> F
+        ensures { self.host ≡ record { files = F.files result; faults = F.faults result } }
+    {
+        let Mounted {
+            files,
+            client,
+            walk,
+        } = self;
+        drop(client);
+        drop(walk);
+        files
+    }
+}

@@ -1,0 +1,237 @@
+//! What a line of the script comes to: `Runs` of `specs/Mounting.antt`, over the fields of a mounted
+//! client; and what becomes of it once a connection is joined.
+
+ghost use Rattle.std.specs.Prelude.{◌≡◌, IfOk, [], ◌∷◌};
+ghost use Rattle.command_text.specs.declared.content.Part.TheVariants as part;
+ghost use Rattle.lbfs_client.specs.Mounting.{Commands, Begins, unread_answer, PutsRead, PutLine, GetLine, JoinLine, Runs, is_joining, joined_walk};
+ghost use Rattle.client_state.specs.Ending.{joined};
+
+use crate::commanding::{go, take};
+use crate::fetching::read;
+use crate::said::{Said, add, says, says_step, sends};
+use crate::walk::Walk;
+use crate::walking::lead;
+use client_state::step::ClientStep;
+use command_text::command::Command;
+use command_text::content::{Content, Part};
+use lb_base::items::{Bytes, Items};
+use links::files::{Files, FilesErr};
+use mount_text::answer::Answer;
+use mount_text::line::{MountLine, Place};
+use mount_text::local::LocalName;
+use open_close::client::Client;
+use register_model::op::Outcome;
+use std::alloc::{AllocError, Global};
+
+/// A command that is all of its line.
+fn plain(alloc: Global, client: &mut Client, command: Command, now: u64) -> Result<Said, AllocError>
+    ensures { IfOk result (λ said. Commands client.old command now client.new said) }
+{
+    let step = take(alloc, client, command, now);
+    let ClientStep {
+        send: more,
+        ended,
+        ..
+    } = step;
+    let mut send = Items::new(alloc);
+    match add(alloc, &mut send, more) {
+        Ok(()) => {
+            let said = says_step(alloc, send, &ended);
+            drop(ended);
+            said
+        }
+        Err(want) => {
+            drop(ended);
+            Err(want)
+        }
+    }
+}
+
+/// A line that takes several operations opens its file.
+fn begin<F: Files>(
+    alloc: Global,
+    files: &mut F,
+    client: &mut Client,
+    walk: &mut Option<Walk>,
+    next: Walk,
+    place: Place,
+    now: u64,
+) -> Result<Said, AllocError>
+    ensures { IfOk result (λ said. Begins (record { host = record { files = F.files files.old; faults = F.faults files.old }; client = client.old; walk = walk.old }) next place now (record { host = record { files = F.files files.new; faults = F.faults files.new }; client = client.new; walk = walk.new }) said) }
+{
+    let mut send = Items::new(alloc);
+    match go(alloc, client, place.opening(), now, &mut send) {
+        Ok(ended) => {
+            *walk = Some(next);
+            let said = lead(alloc, files, client, walk, &ended, now, send);
+            drop(ended);
+            said
+        }
+        Err(want) => {
+            drop(next);
+            Err(want)
+        }
+    }
+}
+
+/// A content of these bytes.
+fn content_of(alloc: Global, bytes: Bytes) -> Result<Content, AllocError>
+    ensures { IfOk result (λ content. content ≡ part.Bytes bytes ∷ []) }
+{
+    let mut content = Items::new(alloc);
+    content.push(Part::Bytes(bytes))?;
+    Ok(content)
+}
+
+/// What is said where a file of the host wasn't read.
+fn unread_answer(error: FilesErr) -> Answer
+    ensures { result ≡ unread_answer error }
+{
+    match error {
+        FilesErr::Failed => Answer::LocalFault,
+        FilesErr::TooBig { len } => Answer::Ended(Outcome::TooBig(u128::from(len))),
+        FilesErr::Memory => Answer::Ended(Outcome::Memory),
+    }
+}
+
+/// A file of the host was read for a put, or wasn't.
+fn put_read<F: Files>(
+    alloc: Global,
+    files: &mut F,
+    client: &mut Client,
+    walk: &mut Option<Walk>,
+    place: Place,
+    read: Result<Bytes, FilesErr>,
+    now: u64,
+) -> Result<Said, AllocError>
+    ensures { IfOk result (λ said. PutsRead (record { host = record { files = F.files files.old; faults = F.faults files.old }; client = client.old; walk = walk.old }) place read now (record { host = record { files = F.files files.new; faults = F.faults files.new }; client = client.new; walk = walk.new }) said) }
+{
+    match read {
+        Ok(bytes) => {
+            let content = content_of(alloc, bytes)?;
+            let next = Walk::Opens(content);
+            let said = begin(alloc, files, client, walk, next, place, now)?;
+            Ok(said)
+        }
+        Err(error) => {
+            drop(place);
+            let said = says(alloc, Items::new(alloc), &unread_answer(error))?;
+            Ok(said)
+        }
+    }
+}
+
+/// `put LOCAL PLACE`.
+fn put<F: Files>(
+    alloc: Global,
+    files: &mut F,
+    client: &mut Client,
+    walk: &mut Option<Walk>,
+    name: &LocalName,
+    place: Place,
+    now: u64,
+) -> Result<Said, AllocError>
+    ensures { IfOk result (λ said. PutLine (record { host = record { files = F.files files.old; faults = F.faults files.old }; client = client.old; walk = walk.old }) walk.old name.now place now (record { host = record { files = F.files files.new; faults = F.faults files.new }; client = client.new; walk = walk.new }) said) }
+{
+    if walk.is_some() {
+        let said = says(alloc, Items::new(alloc), &Answer::Ended(Outcome::Busy))?;
+        return Ok(said);
+    }
+    let bytes = read(alloc, files, name);
+    let said = put_read(alloc, files, client, walk, place, bytes, now)?;
+    Ok(said)
+}
+
+/// `get PLACE LOCAL`.
+fn get<F: Files>(
+    alloc: Global,
+    files: &mut F,
+    client: &mut Client,
+    walk: &mut Option<Walk>,
+    place: Place,
+    name: LocalName,
+    now: u64,
+) -> Result<Said, AllocError>
+    ensures { IfOk result (λ said. GetLine (record { host = record { files = F.files files.old; faults = F.faults files.old }; client = client.old; walk = walk.old }) walk.old place name now (record { host = record { files = F.files files.new; faults = F.faults files.new }; client = client.new; walk = walk.new }) said) }
+{
+    if walk.is_some() {
+        let said = says(alloc, Items::new(alloc), &Answer::Ended(Outcome::Busy))?;
+        return Ok(said);
+    }
+    let said = begin(alloc, files, client, walk, Walk::Gets(name), place, now)?;
+    Ok(said)
+}
+
+/// `join`.
+fn join(alloc: Global, client: &Client, walk: &mut Option<Walk>) -> Result<Said, AllocError>
+    ensures { IfOk result (λ said. JoinLine client.now.linked walk.old walk.new said) }
+{
+    if walk.is_some() {
+        let said = says(alloc, Items::new(alloc), &Answer::Ended(Outcome::Busy))?;
+        return Ok(said);
+    }
+    if client.linked() {
+        let said = says(alloc, Items::new(alloc), &Answer::Ended(Outcome::Done))?;
+        return Ok(said);
+    }
+    *walk = Some(Walk::Joins);
+    Ok(sends(Items::new(alloc)))
+}
+
+/// A line of the script.
+pub(crate) fn run<F: Files>(
+    alloc: Global,
+    files: &mut F,
+    client: &mut Client,
+    walk: &mut Option<Walk>,
+    line: MountLine,
+    now: u64,
+) -> Result<Said, AllocError>
+    ensures { IfOk result (λ said. Runs (record { host = record { files = F.files files.old; faults = F.faults files.old }; client = client.old; walk = walk.old }) line now (record { host = record { files = F.files files.new; faults = F.faults files.new }; client = client.new; walk = walk.new }) said) }
+{
+    match line {
+        MountLine::Plain(command) => {
+            let said = plain(alloc, client, command, now)?;
+            Ok(said)
+        }
+        MountLine::Put { local, place } => {
+            let said = put(alloc, files, client, walk, &local, place, now);
+            drop(local);
+            said
+        }
+        MountLine::Get { place, local } => {
+            let said = get(alloc, files, client, walk, place, local, now)?;
+            Ok(said)
+        }
+        MountLine::Join => {
+            let said = join(alloc, client, walk)?;
+            Ok(said)
+        }
+        MountLine::Skipped => Ok(sends(Items::new(alloc))),
+    }
+}
+
+/// Whether a line waits for a connection.
+fn is_joining(walk: &Option<Walk>) -> bool
+    ensures { result ≡ is_joining walk.now }
+{
+    matches!(walk, Some(Walk::Joins))
+}
+
+/// A connection is joined, as a line may have wanted.
+pub(crate) fn joined(
+    alloc: Global,
+    client: &mut Client,
+    walk: &mut Option<Walk>,
+) -> Result<Said, AllocError>
+    ensures client { client.new ≡ joined client.old }
+    ensures said { IfOk result (λ said. joined_walk walk.old ≡ (walk.new, said)) }
+{
+    client.joined(alloc);
+    if !is_joining(walk) {
+        return Ok(sends(Items::new(alloc)));
+    }
+    *walk = None;
+    let said = says(alloc, Items::new(alloc), &Answer::Ended(Outcome::Done))?;
+    Ok(said)
+}

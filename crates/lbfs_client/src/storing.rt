@@ -1,0 +1,154 @@
+//! What a `put` does to its open file, and how a file is abandoned: `specs/Walks.antt`.
+
+ghost use Rattle.std.specs.Prelude.{◌≡◌, IfOk, None};
+ghost use Rattle.lbfs_client.specs.Walks.{Stores, Abandons, Closed, Closes, Puts, Opened};
+
+use crate::commanding::{go, has_done, is_closed, opened_file};
+use crate::said::{Said, answer_of, says, says_end, sends};
+use crate::walk::Walk;
+use client_state::step::{Ended, Outcome};
+use command_text::command::Command;
+use command_text::content::Content;
+use lb_base::items::Items;
+use mount_text::answer::Answer;
+use open_close::client::Client;
+use std::alloc::{AllocError, Global};
+use wire::message::Message;
+
+/// An open file is emptied, gets its content and is closed; what isn't done is the last.
+fn store(
+    alloc: Global,
+    client: &mut Client,
+    file: u64,
+    content: Content,
+    now: u64,
+    send: &mut Items<Message>,
+) -> Result<Option<Ended>, AllocError>
+    ensures { IfOk result (λ ended. Stores client.old file content now send.old client.new ended send.new) }
+{
+    let emptied = go(alloc, client, Command::Trunc { file, size: 0 }, now, send)?;
+    if !has_done(&emptied) {
+        drop(content);
+        return Ok(emptied);
+    }
+    drop(emptied);
+    let write = Command::Write {
+        file,
+        offset: 0,
+        content,
+    };
+    let written = go(alloc, client, write, now, send)?;
+    if !has_done(&written) {
+        return Ok(written);
+    }
+    drop(written);
+    let ended = go(alloc, client, Command::Close(file), now, send)?;
+    Ok(ended)
+}
+
+/// The file is abandoned, and this is said.
+pub(crate) fn abandon(
+    alloc: Global,
+    client: &mut Client,
+    file: u64,
+    answer: &Answer,
+    now: u64,
+    mut send: Items<Message>,
+) -> Result<Said, AllocError>
+    ensures { IfOk result (λ said. Abandons client.old file answer.now now send client.new said) }
+{
+    let gone = go(alloc, client, Command::Abandon(file), now, &mut send)?;
+    drop(gone);
+    let said = says(alloc, send, answer)?;
+    Ok(said)
+}
+
+/// The close of a put has ended so.
+pub(crate) fn closed(
+    alloc: Global,
+    client: &mut Client,
+    file: u64,
+    outcome: &Outcome,
+    now: u64,
+    send: Items<Message>,
+) -> Result<Said, AllocError>
+    ensures { IfOk result (λ said. Closed client.old file outcome.now now send client.new said) }
+{
+    if is_closed(outcome) {
+        let said = says_end(alloc, send, outcome)?;
+        return Ok(said);
+    }
+    let answer = answer_of(alloc, outcome)?;
+    let said = abandon(alloc, client, file, &answer, now, send)?;
+    Ok(said)
+}
+
+/// The close of a put is under way, or has ended.
+fn closes(
+    alloc: Global,
+    client: &mut Client,
+    walk: &mut Option<Walk>,
+    file: u64,
+    ended: &Option<Ended>,
+    now: u64,
+    send: Items<Message>,
+) -> Result<Said, AllocError>
+    requires { walk.old ≡ None }
+    ensures { IfOk result (λ said. Closes client.old file ended.now now send client.new walk.new said) }
+{
+    match ended {
+        None => {
+            *walk = Some(Walk::Closes(file));
+            Ok(sends(send))
+        }
+        Some(ended) => {
+            let said = closed(alloc, client, file, &ended.outcome, now, send)?;
+            Ok(said)
+        }
+    }
+}
+
+/// The file of a put is open, and is stored.
+fn put(
+    alloc: Global,
+    client: &mut Client,
+    walk: &mut Option<Walk>,
+    file: u64,
+    content: Content,
+    now: u64,
+    mut send: Items<Message>,
+) -> Result<Said, AllocError>
+    requires { walk.old ≡ None }
+    ensures { IfOk result (λ said. Puts client.old file content now send client.new walk.new said) }
+{
+    let ended = store(alloc, client, file, content, now, &mut send)?;
+    let said = closes(alloc, client, walk, file, &ended, now, send);
+    drop(ended);
+    said
+}
+
+/// The open of a put has ended so.
+pub(crate) fn opened(
+    alloc: Global,
+    client: &mut Client,
+    walk: &mut Option<Walk>,
+    content: Content,
+    outcome: &Outcome,
+    now: u64,
+    send: Items<Message>,
+) -> Result<Said, AllocError>
+    requires { walk.old ≡ None }
+    ensures { IfOk result (λ said. Opened client.old content outcome.now now send client.new walk.new said) }
+{
+    match opened_file(outcome) {
+        Some(file) => {
+            let said = put(alloc, client, walk, file, content, now, send)?;
+            Ok(said)
+        }
+        None => {
+            drop(content);
+            let said = says_end(alloc, send, outcome)?;
+            Ok(said)
+        }
+    }
+}

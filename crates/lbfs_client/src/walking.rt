@@ -1,0 +1,223 @@
+//! What a step of the client leads to: `specs/Mounting.antt`, over the fields of a mounted client.
+
+ghost use Rattle.std.specs.Prelude.{◌≡◌, IfOk, Some, None};
+ghost use Rattle.wire.specs.Parse.{parse_of};
+ghost use Rattle.client_state.specs.Ending.{cut};
+ghost use Rattle.lbfs_client.specs.Mounting.{Walks, Leads, Hearing, Receives, Loses, Stops};
+
+use crate::commanding;
+use crate::fetching::fetched;
+use crate::said::{Said, add, says_end, sends};
+use crate::storing::{closed, opened};
+use crate::walk::Walk;
+use client_state::step::{ClientStep, Ended, Outcome};
+use lb_base::items::Items;
+use links::files::Files;
+use open_close::client::Client;
+use record_ends::end::End;
+use std::alloc::{AllocError, Global};
+use wire::fault::{WireErr, WireFault};
+use wire::message::{Message, Waiting};
+use wire::parse::parse;
+
+/// An operation of the client has ended so, and this is what the line under way has left to do.
+fn walk_with<F: Files>(
+    alloc: Global,
+    files: &mut F,
+    client: &mut Client,
+    walk: &mut Option<Walk>,
+    held: Walk,
+    outcome: &Outcome,
+    now: u64,
+    send: Items<Message>,
+) -> Result<Said, AllocError>
+    requires { walk.old ≡ None }
+    ensures { IfOk result (λ said. Walks (record { host = record { files = F.files files.old; faults = F.faults files.old }; client = client.old; walk = Some held }) (Some held) outcome.now now send (record { host = record { files = F.files files.new; faults = F.faults files.new }; client = client.new; walk = walk.new }) said) }
+{
+    match held {
+        Walk::Joins => {
+            *walk = Some(Walk::Joins);
+            let said = says_end(alloc, send, outcome)?;
+            Ok(said)
+        }
+        Walk::Opens(content) => {
+            let said = opened(alloc, client, walk, content, outcome, now, send)?;
+            Ok(said)
+        }
+        Walk::Closes(file) => {
+            let said = closed(alloc, client, file, outcome, now, send)?;
+            Ok(said)
+        }
+        Walk::Gets(name) => {
+            let said = fetched(alloc, files, client, &name, outcome, now, send);
+            drop(name);
+            said
+        }
+    }
+}
+
+/// An operation of the client has ended so, and the line under way goes on.
+fn walk_on<F: Files>(
+    alloc: Global,
+    files: &mut F,
+    client: &mut Client,
+    walk: &mut Option<Walk>,
+    outcome: &Outcome,
+    now: u64,
+    send: Items<Message>,
+) -> Result<Said, AllocError>
+    ensures { IfOk result (λ said. Walks (record { host = record { files = F.files files.old; faults = F.faults files.old }; client = client.old; walk = walk.old }) walk.old outcome.now now send (record { host = record { files = F.files files.new; faults = F.faults files.new }; client = client.new; walk = walk.new }) said) }
+{
+    match walk.take() {
+        None => {
+            let said = says_end(alloc, send, outcome)?;
+            Ok(said)
+        }
+        Some(held) => {
+            let said = walk_with(alloc, files, client, walk, held, outcome, now, send)?;
+            Ok(said)
+        }
+    }
+}
+
+/// An operation of the client has ended, or none has.
+pub(crate) fn lead<F: Files>(
+    alloc: Global,
+    files: &mut F,
+    client: &mut Client,
+    walk: &mut Option<Walk>,
+    ended: &Option<Ended>,
+    now: u64,
+    send: Items<Message>,
+) -> Result<Said, AllocError>
+    ensures { IfOk result (λ said. Leads (record { host = record { files = F.files files.old; faults = F.faults files.old }; client = client.old; walk = walk.old }) ended.now now send (record { host = record { files = F.files files.new; faults = F.faults files.new }; client = client.new; walk = walk.new }) said) }
+{
+    match ended {
+        None => Ok(sends(send)),
+        Some(ended) => {
+            let said = walk_on(alloc, files, client, walk, &ended.outcome, now, send)?;
+            Ok(said)
+        }
+    }
+}
+
+/// The client has done a step.
+fn follow<F: Files>(
+    alloc: Global,
+    files: &mut F,
+    client: &mut Client,
+    walk: &mut Option<Walk>,
+    step: ClientStep,
+    now: u64,
+) -> Result<Said, AllocError>
+    ensures { IfOk result (λ said. Leads (record { host = record { files = F.files files.old; faults = F.faults files.old }; client = client.old; walk = walk.old }) step.ended now step.send (record { host = record { files = F.files files.new; faults = F.faults files.new }; client = client.new; walk = walk.new }) said) }
+{
+    let ClientStep {
+        send: more,
+        ended,
+        ..
+    } = step;
+    let mut send = Items::new(alloc);
+    match add(alloc, &mut send, more) {
+        Ok(()) => {
+            let said = lead(alloc, files, client, walk, &ended, now, send);
+            drop(ended);
+            said
+        }
+        Err(want) => {
+            drop(ended);
+            Err(want)
+        }
+    }
+}
+
+/// Something came from the other end.
+fn hear<F: Files>(
+    alloc: Global,
+    files: &mut F,
+    client: &mut Client,
+    walk: &mut Option<Walk>,
+    message: Result<Message, WireFault>,
+    now: u64,
+) -> Result<Said, AllocError>
+    ensures { IfOk result (λ said. Hearing (record { host = record { files = F.files files.old; faults = F.faults files.old }; client = client.old; walk = walk.old }) message now (record { host = record { files = F.files files.new; faults = F.faults files.new }; client = client.new; walk = walk.new }) said) }
+{
+    let step = commanding::hear(alloc, client, message, now);
+    let said = follow(alloc, files, client, walk, step, now)?;
+    Ok(said)
+}
+
+/// The message that a record is, or why it is none.
+fn message_of(
+    alloc: Global,
+    bytes: &[u8],
+    expected: &Waiting,
+) -> Result<Result<Message, WireFault>, AllocError>
+    ensures { IfOk result (λ message. message ≡ parse_of expected.now bytes.now) }
+{
+    match parse(alloc, bytes, expected) {
+        Ok(message) => Ok(Ok(message)),
+        Err(WireErr::Fault(fault)) => Ok(Err(fault)),
+        Err(WireErr::Memory) => Err(AllocError),
+    }
+}
+
+/// A record came.
+pub(crate) fn receive<F: Files>(
+    alloc: Global,
+    files: &mut F,
+    client: &mut Client,
+    walk: &mut Option<Walk>,
+    bytes: &[u8],
+    now: u64,
+) -> Result<Said, AllocError>
+    ensures { IfOk result (λ said. Receives (record { host = record { files = F.files files.old; faults = F.faults files.old }; client = client.old; walk = walk.old }) bytes.now now (record { host = record { files = F.files files.new; faults = F.faults files.new }; client = client.new; walk = walk.new }) said) }
+{
+    let message = message_of(alloc, bytes, client.waiting())?;
+    let said = hear(alloc, files, client, walk, message, now)?;
+    Ok(said)
+}
+
+/// The connection is lost.
+fn lose<F: Files>(
+    alloc: Global,
+    files: &mut F,
+    client: &mut Client,
+    walk: &mut Option<Walk>,
+    now: u64,
+) -> Result<Said, AllocError>
+    ensures { IfOk result (λ said. Loses (record { host = record { files = F.files files.old; faults = F.faults files.old }; client = client.old; walk = walk.old }) (cut client.old) now (record { host = record { files = F.files files.new; faults = F.faults files.new }; client = client.new; walk = walk.new }) said) }
+{
+    let step = client.cut(alloc);
+    let said = follow(alloc, files, client, walk, step, now)?;
+    Ok(said)
+}
+
+/// The link has ended so.
+pub(crate) fn stop<F: Files>(
+    alloc: Global,
+    files: &mut F,
+    client: &mut Client,
+    walk: &mut Option<Walk>,
+    end: End,
+    now: u64,
+) -> Result<Said, AllocError>
+    ensures { IfOk result (λ said. Stops (record { host = record { files = F.files files.old; faults = F.faults files.old }; client = client.old; walk = walk.old }) end now (record { host = record { files = F.files files.new; faults = F.faults files.new }; client = client.new; walk = walk.new }) said) }
+{
+    match end {
+        End::InputEnd => {
+            let said = lose(alloc, files, client, walk, now)?;
+            Ok(said)
+        }
+        End::Failed => {
+            let said = lose(alloc, files, client, walk, now)?;
+            Ok(said)
+        }
+        End::Spoilt => {
+            let spoilt = Err(WireFault::NotRpc { at: 0 });
+            let said = hear(alloc, files, client, walk, spoilt, now)?;
+            Ok(said)
+        }
+        End::Memory => Err(AllocError),
+    }
+}
