@@ -1,14 +1,14 @@
 -- What the tree makes of any call, and of what waited, leaves of its files what its entries say.
-use Rattle.std.proofs.Common.{◌≡◌, refl, ℕ, List, length, Option, Some, None, Result, Ok, Err, Bool, true, false}
+use Rattle.std.proofs.Common.{◌≡◌, refl, ℕ, List, length, Option, Some, None, Result, Ok, Err, Bool}
 use Rattle.xdr_codec.specs.declared.status.Status.{Status}
+use Rattle.xdr_codec.specs.declared.status.Status.TheVariants as status
 use Rattle.nfs3_calls.specs.declared.change.Before.{Before}
 use Rattle.nfs3_calls.specs.declared.message.Nfs.{Nfs}
 use Rattle.nfs3_calls.specs.declared.message.Nfs.TheVariants as nfs
 use Rattle.tree_nodes.specs.declared.node.Node.{Node}
 use Rattle.file_tree.specs.Tree.{Tree}
-use Rattle.file_tree.specs.Step.{create, mkdir, remove, rmdir, rename, replace_plan, replace_if}
+use Rattle.file_tree.specs.Step.{create, mkdir, remove, rmdir, rename, replace, replace_plan, replace_if}
 use Rattle.file_tree.specs.declared.call.Changed.{Changed}
-use Rattle.file_tree.specs.declared.call.CreateMode.{CreateMode}
 use Rattle.file_tree.specs.declared.call.Held.{Held}
 use Rattle.tree_calls.specs.declared.asked.Asked.{Asked}
 use Rattle.tree_calls.specs.declared.asked.Asked.TheVariants as asked
@@ -16,8 +16,10 @@ use Rattle.tree_calls.specs.declared.asked.Done.{Done}
 use Rattle.tree_calls.specs.declared.asked.Outcome.{Outcome}
 use Rattle.tree_calls.specs.declared.asked.Outcome.TheVariants.{Answered, Waits}
 use Rattle.tree_calls.specs.Telling.{id_of, told}
-use Rattle.tree_calls.specs.Changing.{before, mode_of, created, made_directory, removed_directory, removed, renamed, creates, mkdirs, rmdirs, renames}
-use Rattle.tree_calls.specs.Waiting.{told_outcome, commits, with_committed, settles, removes_if, renames_if, remove_again, rename_again, calls, creates_in, mkdirs_in, rmdirs_in, removes_in, removing, asks_remove, renaming, asks_rename, renames_in}
+use Rattle.stored_tree.specs.Stores.{stored}
+use Rattle.tree_calls.specs.Changing.{before, mode_of, created, made_directory, removed_directory, removed, renamed, with_done, renames_under}
+use Rattle.tree_calls.specs.Waiting.{told_outcome, commits_under, with_committed, settles_under, removes_if_under, renames_if_under, remove_again, rename_again, calls_under, creates_in_under, mkdirs_in_under, rmdirs_in_under, removes_in, removing, asks_remove, renaming_under, asks_rename, renames_in_under}
+use Rattle.server_law.proofs.Asked.{asked_holds}
 use Rattle.server_law.proofs.Changes.{TellsChange, tells_create, tells_mkdir, tells_remove, tells_rmdir, tells_rename}
 use Rattle.server_law.proofs.Facts.{IsTelling, tells_none, tells_replaced}
 use Rattle.server_law.proofs.TreeCalls.{replace_in}
@@ -56,31 +58,40 @@ module _ (t : Tree) (session : ℕ) (u : Tree) where
 
 -- ---- what waited
 
-module _ (t : Tree) (session : ℕ) (held : Held) (h : IsGiven t) where
-  pub tells_settles : (a : Asked) → TellsDone t session (settles t held a)
+module _ (t : Tree) (session : ℕ) (held : Held) (fault : Bool) (h : IsGiven t) where
+  -- where IO is told nothing is made
+  asked_has : (f : List Node → Result Changed Status → Done) (p : Tree × Result Changed Status) → TellsDone t session (with_done f p) → TellsDone t session (with_done f (t, Err status.Io)) → TellsDone t session (with_done f (stored fault t p))
+  asked_has f p made failed = asked_holds (λ q. TellsDone t session (with_done f q)) fault t p made failed
+
+  renames_has : (dir : ℕ) (name : List ℕ) (to : ℕ) (to_name : List ℕ) → TellsDone t session (renames_under t held fault dir name to to_name)
+  renames_has dir name to to_name =
+      let p : Tree × Result Changed Status = rename t held dir name to to_name in
+      asked_has (renamed (before t.nodes dir) (before t.nodes to) dir to) p (rename_has t session p.0 (before t.nodes dir) (before t.nodes to) dir to p.0.nodes p.1 (tells_rename t session held dir name to to_name h)) (tells_none t session)
+
+  pub tells_settles : (a : Asked) → TellsDone t session (settles_under t held fault a)
   tells_settles (asked.Remove r) = by (remove_again t.nodes r)
     where
       p : Tree × Result Changed Status
       p = remove t held r.spot.dir r.spot.name
 
-      by : (o : Result Unit Status) → TellsDone t session (removes_if t held r.spot o)
+      by : (o : Result Unit Status) → TellsDone t session (removes_if_under t held fault r.spot o)
       by (Err e) = tells_none t session
-      by (Ok v) = remove_has t session p.0 (before t.nodes r.spot.dir) r.spot.dir p.0.nodes p.1 (tells_remove t session held r.spot.dir r.spot.name h)
+      by (Ok v) = asked_has (removed (before t.nodes r.spot.dir) r.spot.dir) p (remove_has t session p.0 (before t.nodes r.spot.dir) r.spot.dir p.0.nodes p.1 (tells_remove t session held r.spot.dir r.spot.name h)) (tells_none t session)
   tells_settles (asked.Rename r) = by (rename_again t.nodes r)
     where
-      p : Tree × Result Changed Status
-      p = rename t held r.from.dir r.from.name r.to.dir r.to.name
-
-      by : (o : Result Unit Status) → TellsDone t session (renames_if t held r.from r.to o)
+      by : (o : Result Unit Status) → TellsDone t session (renames_if_under t held fault r.from r.to o)
       by (Err e) = tells_none t session
-      by (Ok v) = rename_has t session p.0 (before t.nodes r.from.dir) (before t.nodes r.to.dir) r.from.dir r.to.dir p.0.nodes p.1 (tells_rename t session held r.from.dir r.from.name r.to.dir r.to.name h)
+      by (Ok v) = renames_has r.from.dir r.from.name r.to.dir r.to.name
 
-  pub tells_commits : (id : ℕ) (content : List ℕ) (term : ℕ) → IsTelling t session (commits t held id content term).1.entry None (commits t held id content term).0
-  tells_commits id content term = by (replace_plan t held id (length content)) refl
+  tells_commit : (id : ℕ) (content : List ℕ) (term : ℕ) → IsTelling t session (with_committed term (replace t held id content)).1.entry None (replace t held id content).0
+  tells_commit id content term = by (replace_plan t held id (length content)) refl
     where
       by : (r : Result ℕ Status) → replace_plan t held id (length content) ≡ r → IsTelling t session (with_committed term (replace_if t id content r)).1.entry None (with_committed term (replace_if t id content r)).0
       by (Err s) e = tells_none t session
       by (Ok version) e = let g = replace_in t held id (length content) version e in tells_replaced t session id version content g.0 g.1 g.2
+
+  pub tells_commits : (id : ℕ) (content : List ℕ) (term : ℕ) → IsTelling t session (commits_under t held fault id content term).1.entry None (commits_under t held fault id content term).0
+  tells_commits id content term = asked_holds (λ q. IsTelling t session (with_committed term q).1.entry None q.0) fault t (replace t held id content) (tells_commit id content term) (tells_none t session)
 
   -- ---- any call
 
@@ -88,26 +99,21 @@ module _ (t : Tree) (session : ℕ) (held : Held) (h : IsGiven t) where
   told_has None = tells_none t session
   told_has (Some m) = tells_none t session
 
-  renames_has : (dir : ℕ) (name : List ℕ) (to : ℕ) (to_name : List ℕ) → TellsDone t session (renames t held dir name to to_name)
-  renames_has dir name to to_name =
-      let p : Tree × Result Changed Status = rename t held dir name to to_name in
-      rename_has t session p.0 (before t.nodes dir) (before t.nodes to) dir to p.0.nodes p.1 (tells_rename t session held dir name to to_name h)
-
-  pub tells_calls : (busy : Bool) (m : Nfs) → TellsOutcome t session (calls t held busy m).0 (calls t held busy m).1
+  pub tells_calls : (busy : Bool) (m : Nfs) → TellsOutcome t session (calls_under t held busy fault m).0 (calls_under t held busy fault m).1
   tells_calls busy (nfs.Create f) = by (id_of f.place.dir)
     where
-      by : (r : Result ℕ Status) → TellsDone t session (creates_in t held f r)
+      by : (r : Result ℕ Status) → TellsDone t session (creates_in_under t held fault f r)
       by (Err s) = tells_none t session
       by (Ok dir) =
           let p : Tree × Result Changed Status = create t held dir f.place.name (mode_of f.how) in
-          created_has t session p.0 (before t.nodes dir) dir p.0.nodes p.1 (tells_create t session held dir f.place.name (mode_of f.how) h)
+          asked_has (created (before t.nodes dir) dir) p (created_has t session p.0 (before t.nodes dir) dir p.0.nodes p.1 (tells_create t session held dir f.place.name (mode_of f.how) h)) (tells_none t session)
   tells_calls busy (nfs.MkDir d) = by (id_of d.place.dir)
     where
-      by : (r : Result ℕ Status) → TellsDone t session (mkdirs_in t held d.place.name r)
+      by : (r : Result ℕ Status) → TellsDone t session (mkdirs_in_under t held fault d.place.name r)
       by (Err s) = tells_none t session
       by (Ok dir) =
           let p : Tree × Result Changed Status = mkdir t held dir d.place.name in
-          directory_has t session p.0 (before t.nodes dir) dir p.0.nodes p.1 (tells_mkdir t session held dir d.place.name h)
+          asked_has (made_directory (before t.nodes dir) dir) p (directory_has t session p.0 (before t.nodes dir) dir p.0.nodes p.1 (tells_mkdir t session held dir d.place.name h)) (tells_none t session)
   tells_calls busy (nfs.Remove p) = by (id_of p.dir)
     where
       comes : (dir : ℕ) (o : Result ℕ Status) → TellsOutcome t session t (Some (removing dir p.name o))
@@ -119,19 +125,19 @@ module _ (t : Tree) (session : ℕ) (held : Held) (h : IsGiven t) where
       by (Ok dir) = comes dir (asks_remove t held busy dir p.name)
   tells_calls busy (nfs.RmDir p) = by (id_of p.dir)
     where
-      by : (r : Result ℕ Status) → TellsDone t session (rmdirs_in t held p.name r)
+      by : (r : Result ℕ Status) → TellsDone t session (rmdirs_in_under t held fault p.name r)
       by (Err s) = tells_none t session
       by (Ok dir) =
           let q : Tree × Result Changed Status = rmdir t held dir p.name in
-          rmdir_has t session q.0 (before t.nodes dir) dir q.0.nodes q.1 (tells_rmdir t session held dir p.name h)
+          asked_has (removed_directory (before t.nodes dir) dir) q (rmdir_has t session q.0 (before t.nodes dir) dir q.0.nodes q.1 (tells_rmdir t session held dir p.name h)) (tells_none t session)
   tells_calls busy (nfs.Rename r) = by (id_of r.from.dir) (id_of r.to.dir)
     where
-      comes : (dir to : ℕ) (o : Result (Option (ℕ × ℕ)) Status) → TellsOutcome t session (renaming t held dir r.from.name to r.to.name o).0 (Some (renaming t held dir r.from.name to r.to.name o).1)
+      comes : (dir to : ℕ) (o : Result (Option (ℕ × ℕ)) Status) → TellsOutcome t session (renaming_under t held fault dir r.from.name to r.to.name o).0 (Some (renaming_under t held fault dir r.from.name to r.to.name o).1)
       comes dir to (Err s) = tells_none t session
       comes dir to (Ok None) = renames_has dir r.from.name to r.to.name
       comes dir to (Ok (Some p)) = tells_none t session
 
-      by : (a b : Result ℕ Status) → TellsOutcome t session (renames_in t held busy r.from.name r.to.name a b).0 (Some (renames_in t held busy r.from.name r.to.name a b).1)
+      by : (a b : Result ℕ Status) → TellsOutcome t session (renames_in_under t held busy fault r.from.name r.to.name a b).0 (Some (renames_in_under t held busy fault r.from.name r.to.name a b).1)
       by (Ok dir) (Ok to) = comes dir to (asks_rename t held busy dir r.from.name to r.to.name)
       by (Ok dir) (Err s) = tells_none t session
       by (Err s) b = tells_none t session

@@ -1,15 +1,15 @@
 -- The calls that change a tree leave of its files what their entries say.
-use Rattle.std.proofs.Common.{◌≡◌, refl, sym, ap, ◌∙◌, subst, ℕ, ◌+◌, List, length, Option, Some, None, Result, Ok, Err, Bool, true, false, ◌==◌, ◌&&◌, arith, if◌then◌else◌}
+use Rattle.std.proofs.Common.{◌≡◌, refl, sym, ap, subst, ℕ, List, length, Option, Some, None, Result, Ok, Err, Bool, true, false, ◌==◌, arith, if◌then◌else◌}
 use Rattle.std.specs.Option.{option_map}
 use Rattle.std.proofs.lemmas.Bool.Decides.{nat_tests}
 use Rattle.xdr_codec.specs.declared.status.Status.{Status}
 use Rattle.xdr_codec.specs.declared.status.Status.TheVariants as status
 use Rattle.tree_nodes.specs.declared.node.Node.{Node}
-use Rattle.tree_nodes.specs.Nodes.{with_id, named}
+use Rattle.tree_nodes.specs.Nodes.{named}
 use Rattle.file_tree.specs.Chain.{◌>>=◌}
 use Rattle.file_tree.specs.Names.{spelt, undotted}
-use Rattle.file_tree.specs.Tree.{Tree, is_directory, node_of, directory_or, or_no_entry}
-use Rattle.file_tree.specs.Step.{Target, itself, over, nothing, remove_done, move_done, may_create, create_plan, created, create, may_mkdir, mkdir_if, mkdir, remove_if, remove_plan, remove, rmdir_plan, rmdir, is_same, or_within, rename_over, rename_found, planned, planned_found, rename_plan, shifted, moved, rename_if, rename, replace_plan, replace_if, replace, removed, replaced, spared, may_replace}
+use Rattle.file_tree.specs.Tree.{Tree, node_of, directory_or, or_no_entry}
+use Rattle.file_tree.specs.Step.{Target, itself, over, nothing, move_done, may_create, create_plan, created, create, may_mkdir, mkdir_if, mkdir, remove_if, remove_plan, remove, rmdir_plan, rmdir, is_same, or_within, rename_over, rename_found, planned, planned_found, rename_plan, shifted, moved, rename_if, rename, replace_plan, replace_if, replace, removed, spared, may_replace}
 use Rattle.file_tree.specs.declared.call.Changed.{Changed}
 use Rattle.file_tree.specs.declared.call.CreateMode.{CreateMode}
 use Rattle.file_tree.specs.declared.call.Held.{Held}

@@ -1,8 +1,7 @@
 -- What each change of a tree leaves of its files is what its entries say.
-use Rattle.std.proofs.Common.{◌≡◌, refl, sym, ap, ◌∙◌, subst, ℕ, ◌+◌, ◌<◌, List, [], ◌∷◌, ◌++◌, length, Option, Some, None, Result, Ok, Err, Bool, true, false, ◌==◌, arith, if◌then◌else◌}
+use Rattle.std.proofs.Common.{◌≡◌, refl, sym, ap, ◌∙◌, subst, ℕ, ◌+◌, List, [], Option, Some, None, Bool, true, false, ◌==◌, arith, if◌then◌else◌}
 use Rattle.std.specs.Option.{option_map}
 use Rattle.std.proofs.lemmas.Bool.Decides.{nat_tests}
-use Rattle.xdr_codec.specs.declared.status.Status.{Status}
 use Rattle.tree_nodes.specs.declared.node.Node.{Node}
 use Rattle.tree_nodes.specs.declared.node.Body.{Body}
 use Rattle.tree_nodes.specs.declared.node.Body.TheVariants.{Directory, File as Plain}
@@ -14,7 +13,7 @@ use Rattle.file_tree.specs.declared.entry.Entry.{Entry as TreeEntry}
 use Rattle.server_core.specs.declared.journal.Entry.{Entry}
 use Rattle.server_core.specs.Closing.{entry_by, entries_by}
 use Rattle.server_core.specs.State.{File, file_of_body, file_of_node, file_at}
-use Rattle.server_law.specs.Facts.{Fact, fact_of, fact_at, fact_by, fact_after, facts_after, IsNext, AreNext}
+use Rattle.server_law.specs.Facts.{Fact, fact_of, fact_at, fact_after, facts_after, IsNext, AreNext}
 use Rattle.server_law.proofs.Trees.{IsGiven, next_free, NoFile, made_files, removed_files, replaced_own, replaced_other, moved_at_files, without_none}
 
 -- from the one tree to the other by these entries

@@ -1,4 +1,4 @@
--- At each step of the server its tree holds what its journal says.
+-- At each step of the server its tree holds what its journal says, whatever the store does.
 use Rattle.std.proofs.Common.{◌≡◌, refl, sym, ap, ◌∙◌, subst, ℕ, List, [], ◌∷◌, ◌++◌, length, Option, Some, None, Result, Ok, Err, Bool, true, false, if◌then◌else◌}
 use Rattle.std.specs.Prelude.{nat_lt}
 use Rattle.std.proofs.lemmas.List.{append-nil}
@@ -21,21 +21,21 @@ use Rattle.file_tree.specs.Tree.{Tree}
 use Rattle.file_tree.specs.declared.entry.Entry.{Entry as TreeEntry}
 use Rattle.tree_calls.specs.declared.asked.Outcome.{Outcome}
 use Rattle.tree_calls.specs.declared.asked.Outcome.TheVariants.{Answered, Waits}
-use Rattle.tree_calls.specs.Waiting.{calls, commits as tree_commits, settles as tree_settles}
+use Rattle.tree_calls.specs.Waiting.{calls_under, commits_under as tree_commits_under, settles_under as tree_settles_under}
 use Rattle.server_core.specs.declared.change.Wanted.{Wanted}
 use Rattle.server_core.specs.declared.change.Wanted.TheVariants as wanted
 use Rattle.server_core.specs.declared.event.Event.{Event}
 use Rattle.server_core.specs.declared.event.Event.TheVariants as event
 use Rattle.server_core.specs.declared.journal.Entry.{Entry}
 use Rattle.server_core.specs.Answers.{Node, directory, file, node_of}
-use Rattle.server_core.specs.Closing.{answers, sends, at, entries_by, has_waiting, is_full, makes, makes_unless, writes, writes_unless, names, names_unless, names_bytes, looked_up, bytes_known, cond_fault, commits, commits_to, commits_whole, makes_change, settles}
+use Rattle.server_core.specs.Closing.{answers, sends, at, entries_by, has_waiting, is_full, makes, makes_unless, writes, writes_unless, names, names_unless, names_bytes, looked_up, cond_fault, commits, commits_to, commits_whole, makes_change_under, settles_under}
 use Rattle.server_core.specs.declared.change.Change.{Change}
 use Rattle.server_core.specs.State.{State, held}
-use Rattle.server_core.specs.Step.{connect, has_room, called, asks, asks_tree, got, got_if, stands, hangs_if, server_step}
-use Rattle.server_law.specs.Facts.{Fact, fact_at, fact_after, facts_after, IsNext, AreNext, IsTold, Holds}
+use Rattle.server_core.specs.Step.{connect, has_room, called_under, asks, asks_tree, got_under, got_if_under, stands, hangs_if, server_step_under}
+use Rattle.server_law.specs.Facts.{Fact, fact_at, fact_after, facts_after, AreNext, Holds}
 use Rattle.server_law.proofs.Calls.{TellsOutcome, tells_calls, tells_settles, tells_commits}
 use Rattle.server_law.proofs.Facts.{IsTelling}
-use Rattle.server_law.proofs.TreeCalls.{calls_keep, settles_keep, commits_keep}
+use Rattle.server_law.proofs.TreeCalls.{calls_keep_under, settles_keep_under, commits_keep_under}
 use Rattle.server_law.proofs.Trees.{IsGiven}
 
 -- ---- entries more
@@ -75,7 +75,7 @@ more opening s n session first second t b given h = record {
 
 -- ---- the calls of LBFS leave both
 
-module _ (opening : Tree) (s : State) (h : Holds opening s) where
+module _ (opening : Tree) (s : State) (fault : Bool) (h : Holds opening s) where
   kept : (n : State) → n.tree ≡ s.tree → n.journal ≡ s.journal → Holds opening n
   kept n a b = same opening s n a b h
 
@@ -146,15 +146,15 @@ module _ (opening : Tree) (s : State) (h : Holds opening s) where
   asks_told session xid t (Some (Answered d)) tells given = more opening s (asks (record s { tree = t }) session xid (Some (Answered d))).0 session d.first d.second tells refl given h
   asks_told session xid t (Some (Waits a)) tells given = more opening s (asks (record s { tree = t }) session xid (Some (Waits a))).0 session None None tells (sym (append-nil s.journal)) given h
 
-  calls_told : (session xid : ℕ) (m : Nfs) → Holds opening (asks_tree s session xid (calls s.tree (held s.waiting) (has_waiting s.waiting session) m)).0
+  calls_told : (session xid : ℕ) (m : Nfs) → Holds opening (asks_tree s session xid (calls_under s.tree (held s.waiting) (has_waiting s.waiting session) fault m)).0
   calls_told session xid m =
-      let p : Tree × Option Outcome = calls s.tree (held s.waiting) (has_waiting s.waiting session) m in
-      asks_told session xid p.0 p.1 (tells_calls s.tree session (held s.waiting) h.given (has_waiting s.waiting session) m) (calls_keep s.tree (held s.waiting) (has_waiting s.waiting session) m h.given).0
+      let p : Tree × Option Outcome = calls_under s.tree (held s.waiting) (has_waiting s.waiting session) fault m in
+      asks_told session xid p.0 p.1 (tells_calls s.tree session (held s.waiting) fault h.given (has_waiting s.waiting session) m) (calls_keep_under s.tree (held s.waiting) fault (has_waiting s.waiting session) m h.given).0
 
   -- ---- any call
 
-  called_told : (session xid : ℕ) (b : Body) → Holds opening (called s session xid b).0
-  called_told session xid (body.Lb (lb.GetHash r)) = kept (called s session xid (body.Lb (lb.GetHash r))).0 refl refl
+  called_told : (session xid : ℕ) (b : Body) → Holds opening (called_under s fault session xid b).0
+  called_told session xid (body.Lb (lb.GetHash r)) = kept (called_under s fault session xid (body.Lb (lb.GetHash r))).0 refl refl
   called_told session xid (body.Lb (lb.MkTmpFile a)) = makes_kept session xid a.fd (node_of s.tree a.handle)
   called_told session xid (body.Lb (lb.TmpWrite a)) = writes_kept session xid a (temp_at s.temps session a.fd)
   called_told session xid (body.Lb (lb.CondWrite a)) = names_kept session xid a (temp_at s.temps session a.fd)
@@ -165,7 +165,7 @@ module _ (opening : Tree) (s : State) (h : Holds opening s) where
   called_told session xid (body.Nfs m) = calls_told session xid m
   called_told session xid (body.Back m) = h
 
-  got_told : (session : ℕ) (m : Message) → Holds opening (got s session m).0
+  got_told : (session : ℕ) (m : Message) → Holds opening (got_under s fault session m).0
   got_told session (message.Call xid b) = called_told session xid b
   got_told session (message.Unfit xid why) = h
   got_told session (message.Answer xid b) = h
@@ -173,34 +173,34 @@ module _ (opening : Tree) (s : State) (h : Holds opening s) where
 
   -- ---- a change that waited
 
-  change_told : (c : Change) (w : Wanted) → Holds opening (makes_change s c w).0
+  change_told : (c : Change) (w : Wanted) → Holds opening (makes_change_under s fault c w).0
   change_told c (wanted.Content content) =
-      more opening s (makes_change s c (wanted.Content content)).0 c.session (tree_commits s.tree (held s.waiting) c.file content 0).1.entry None (tells_commits s.tree c.session (held s.waiting) h.given c.file content 0) refl (commits_keep s.tree (held s.waiting) c.file content 0 h.given).0 h
+      more opening s (makes_change_under s fault c (wanted.Content content)).0 c.session (tree_commits_under s.tree (held s.waiting) fault c.file content 0).1.entry None (tells_commits s.tree c.session (held s.waiting) fault h.given c.file content 0) refl (commits_keep_under s.tree (held s.waiting) fault c.file content 0 h.given).0 h
   change_told c (wanted.Asked a) =
-      more opening s (makes_change s c (wanted.Asked a)).0 c.session (tree_settles s.tree (held s.waiting) a).1.first (tree_settles s.tree (held s.waiting) a).1.second (tells_settles s.tree c.session (held s.waiting) h.given a) refl (settles_keep s.tree (held s.waiting) a h.given).0 h
+      more opening s (makes_change_under s fault c (wanted.Asked a)).0 c.session (tree_settles_under s.tree (held s.waiting) fault a).1.first (tree_settles_under s.tree (held s.waiting) fault a).1.second (tells_settles s.tree c.session (held s.waiting) fault h.given a) refl (settles_keep_under s.tree (held s.waiting) fault a h.given).0 h
 
 -- ---- any event
 
 -- a moment, and what waits, are no part of it
-settle_told : (opening : Tree) (s : State) (now : ℕ) (ws : List Change) → Holds opening s → Holds opening (settles s now ws).0
-settle_told opening s now [] h = h
-settle_told opening s now (c ∷ cs) h =
+settle_told : (opening : Tree) (s : State) (fault : Bool) (now : ℕ) (ws : List Change) → Holds opening s → Holds opening (settles_under s fault now ws).0
+settle_told opening s fault now [] h = h
+settle_told opening s fault now (c ∷ cs) h =
     let n : State = at (record s { waiting = cs }) now in
-    change_told opening n (same opening s n refl refl h) c c.what
+    change_told opening n fault (same opening s n refl refl h) c c.what
 
-pub step_told : (opening : Tree) (s : State) (e : Event) → Holds opening s → Holds opening (server_step s e).0
-step_told opening s event.Connect h = by (has_room s)
+pub step_told : (opening : Tree) (s : State) (fault : Bool) (e : Event) → Holds opening s → Holds opening (server_step_under s fault e).0
+step_told opening s fault event.Connect h = by (has_room s)
   where
     by : (b : Bool) → Holds opening (connect s b).0
     by true = same opening s (connect s true).0 refl refl h
     by false = h
-step_told opening s (event.Got session m now) h = by (stands s session)
+step_told opening s fault (event.Got session m now) h = by (stands s session)
   where
-    by : (b : Bool) → Holds opening (got_if s b session m now).0
-    by true = got_told opening (at s now) (same opening s (at s now) refl refl h) session m
+    by : (b : Bool) → Holds opening (got_if_under s fault b session m now).0
+    by true = got_told opening (at s now) fault (same opening s (at s now) refl refl h) session m
     by false = h
-step_told opening s (event.Settle now) h = settle_told opening s now s.waiting h
-step_told opening s (event.Hang session) h = by (stands s session)
+step_told opening s fault (event.Settle now) h = settle_told opening s fault now s.waiting h
+step_told opening s fault (event.Hang session) h = by (stands s session)
   where
     by : (b : Bool) → Holds opening (hangs_if s b session).0
     by true = same opening s (hangs_if s true session).0 refl refl h

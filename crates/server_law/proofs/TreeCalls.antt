@@ -18,7 +18,7 @@ use Rattle.file_tree.specs.declared.call.Held.{Held}
 use Rattle.file_tree.specs.declared.call.Planned.{Planned}
 use Rattle.file_tree.specs.declared.call.Planned.TheVariants as planned
 use Rattle.file_tree.specs.Tree.{Tree, is_directory, contents_size, node_of, or_stale, directory_or, directory_of, file_or, or_no_entry, or_taken}
-use Rattle.file_tree.specs.Step.{changes_most, file_most, tree_most, made, replaced, spared, may_create, create_plan, create_mode, nothing, create, created as create_made, new_file, new_directory, may_mkdir, mkdir, mkdir_if, may_remove, remove_done, remove_plan, remove_if, remove, may_rmdir, rmdir_plan, rmdir, or_not_empty, rename_plan, planned_found, shifted, rename_if, rename, within_file, spared_bytes, may_replace_content, replace_plan, replace_if, commit_entry}
+use Rattle.file_tree.specs.Step.{changes_most, file_most, tree_most, replaced, spared, may_create, create_plan, create_mode, nothing, create, created as create_made, new_file, new_directory, may_mkdir, mkdir, mkdir_if, may_remove, remove_done, remove_plan, remove_if, remove, may_rmdir, rmdir_plan, rmdir, or_not_empty, rename_plan, planned_found, shifted, rename_if, rename, within_file, spared_bytes, may_replace_content, replace_plan, replace_if, replace, commit_entry}
 use Rattle.file_tree.proofs.Admitted.{rename_there}
 use Rattle.file_tree.proofs.States.{named_id}
 use Rattle.nfs3_calls.specs.declared.message.Nfs.{Nfs}
@@ -28,9 +28,11 @@ use Rattle.tree_calls.specs.declared.asked.Asked.{Asked}
 use Rattle.tree_calls.specs.declared.asked.Asked.TheVariants as asked
 use Rattle.tree_calls.specs.Telling.{id_of}
 use Rattle.tree_calls.specs.Changing.{mode_of}
-use Rattle.tree_calls.specs.Waiting.{commits, with_committed, settles, removes_if, renames_if, remove_again, rename_again, calls, creates_in, mkdirs_in, rmdirs_in, renaming, asks_rename, renames_in}
+use Rattle.stored_tree.specs.Stores.{stored}
+use Rattle.tree_calls.specs.Waiting.{commits, commits_under, with_committed, settles, settles_under, removes_if_under, renames_if_under, remove_again, rename_again, calls, calls_under, creates_in_under, mkdirs_in_under, rmdirs_in_under, renaming_under, asks_rename, renames_in_under}
 use Rattle.server_core.specs.declared.change.Change.{Change}
 use Rattle.server_core.specs.State.{File, file_of_body, file_of_node, file_at, entries_wanted, size_wanted, entries_held, waiting_size}
+use Rattle.server_law.proofs.Asked.{asked_holds}
 use Rattle.server_law.proofs.Trees.{file_node, NoFile, no_file, Keeps, keeps_same, made_keeps, removed_keeps, replaced_keeps, moved_keeps}
 
 -- ---- what a call that isn't refused knows
@@ -234,48 +236,62 @@ commits_keep t held id content term = by (replace_plan t held id (length content
     by (Err s) e = keeps_same t
     by (Ok version) e = let g = replace_in t held id (length content) version e in subst (λ (v : ℕ). Keeps t (replaced t id v content)) (sym g.2) (replaced_keeps t id content g.0 g.1)
 
--- ---- any call, and REMOVE and RENAME once they're made
+pub commits_keep_under : (t : Tree) (held : Held) (fault : Bool) (id : ℕ) (content : List ℕ) (term : ℕ) → Keeps t (commits_under t held fault id content term).0
+commits_keep_under t held fault id content term = asked_holds (λ q. Keeps t q.0) fault t (replace t held id content) (commits_keep t held id content term) (keeps_same t)
 
+-- ---- any call, and REMOVE and RENAME once they're made, whatever the store does
+
+module _ (t : Tree) (held : Held) (fault : Bool) where
+  asked_keeps : (p : Tree × Result Changed Status) → Keeps t p.0 → Keeps t (stored fault t p).0
+  asked_keeps p k = asked_holds (λ q. Keeps t q.0) fault t p k (keeps_same t)
+
+  pub settles_keep_under : (a : Asked) → Keeps t (settles_under t held fault a).0
+  settles_keep_under (asked.Remove r) = by (remove_again t.nodes r)
+    where
+      by : (o : Result Unit Status) → Keeps t (removes_if_under t held fault r.spot o).0
+      by (Err e) = keeps_same t
+      by (Ok u) = asked_keeps (remove t held r.spot.dir r.spot.name) (remove_keeps t held r.spot.dir r.spot.name)
+  settles_keep_under (asked.Rename r) = by (rename_again t.nodes r)
+    where
+      by : (o : Result Unit Status) → Keeps t (renames_if_under t held fault r.from r.to o).0
+      by (Err e) = keeps_same t
+      by (Ok u) = asked_keeps (rename t held r.from.dir r.from.name r.to.dir r.to.name) (rename_keeps t held r.from.dir r.from.name r.to.dir r.to.name)
+
+  pub calls_keep_under : (busy : Bool) (m : Nfs) → Keeps t (calls_under t held busy fault m).0
+  calls_keep_under busy (nfs.Create f) = by (id_of f.place.dir)
+    where
+      by : (r : Result ℕ Status) → Keeps t (creates_in_under t held fault f r).0
+      by (Err s) = keeps_same t
+      by (Ok dir) = asked_keeps (create t held dir f.place.name (mode_of f.how)) (create_keeps t held dir f.place.name (mode_of f.how))
+  calls_keep_under busy (nfs.MkDir d) = by (id_of d.place.dir)
+    where
+      by : (r : Result ℕ Status) → Keeps t (mkdirs_in_under t held fault d.place.name r).0
+      by (Err s) = keeps_same t
+      by (Ok dir) = asked_keeps (mkdir t held dir d.place.name) (mkdir_keeps t held dir d.place.name)
+  calls_keep_under busy (nfs.RmDir p) = by (id_of p.dir)
+    where
+      by : (r : Result ℕ Status) → Keeps t (rmdirs_in_under t held fault p.name r).0
+      by (Err s) = keeps_same t
+      by (Ok dir) = asked_keeps (rmdir t held dir p.name) (rmdir_keeps t held dir p.name)
+  calls_keep_under busy (nfs.Rename r) = by (id_of r.from.dir) (id_of r.to.dir)
+    where
+      comes : (dir to : ℕ) (o : Result (Option (ℕ × ℕ)) Status) → Keeps t (renaming_under t held fault dir r.from.name to r.to.name o).0
+      comes dir to (Err s) = keeps_same t
+      comes dir to (Ok None) = asked_keeps (rename t held dir r.from.name to r.to.name) (rename_keeps t held dir r.from.name to r.to.name)
+      comes dir to (Ok (Some p)) = keeps_same t
+
+      by : (a b : Result ℕ Status) → Keeps t (renames_in_under t held busy fault r.from.name r.to.name a b).0
+      by (Ok dir) (Ok to) = comes dir to (asks_rename t held busy dir r.from.name to r.to.name)
+      by (Ok dir) (Err s) = keeps_same t
+      by (Err s) b = keeps_same t
+  calls_keep_under busy m = keeps_same t
+
+-- where it doesn't fail
 pub settles_keep : (t : Tree) (held : Held) (a : Asked) → Keeps t (settles t held a).0
-settles_keep t held (asked.Remove r) = by (remove_again t.nodes r)
-  where
-    by : (o : Result Unit Status) → Keeps t (removes_if t held r.spot o).0
-    by (Err e) = keeps_same t
-    by (Ok u) = remove_keeps t held r.spot.dir r.spot.name
-settles_keep t held (asked.Rename r) = by (rename_again t.nodes r)
-  where
-    by : (o : Result Unit Status) → Keeps t (renames_if t held r.from r.to o).0
-    by (Err e) = keeps_same t
-    by (Ok u) = rename_keeps t held r.from.dir r.from.name r.to.dir r.to.name
+settles_keep t held a = settles_keep_under t held false a
 
 pub calls_keep : (t : Tree) (held : Held) (busy : Bool) (m : Nfs) → Keeps t (calls t held busy m).0
-calls_keep t held busy (nfs.Create f) = by (id_of f.place.dir)
-  where
-    by : (r : Result ℕ Status) → Keeps t (creates_in t held f r).0
-    by (Err s) = keeps_same t
-    by (Ok dir) = create_keeps t held dir f.place.name (mode_of f.how)
-calls_keep t held busy (nfs.MkDir d) = by (id_of d.place.dir)
-  where
-    by : (r : Result ℕ Status) → Keeps t (mkdirs_in t held d.place.name r).0
-    by (Err s) = keeps_same t
-    by (Ok dir) = mkdir_keeps t held dir d.place.name
-calls_keep t held busy (nfs.RmDir p) = by (id_of p.dir)
-  where
-    by : (r : Result ℕ Status) → Keeps t (rmdirs_in t held p.name r).0
-    by (Err s) = keeps_same t
-    by (Ok dir) = rmdir_keeps t held dir p.name
-calls_keep t held busy (nfs.Rename r) = by (id_of r.from.dir) (id_of r.to.dir)
-  where
-    comes : (dir to : ℕ) (o : Result (Option (ℕ × ℕ)) Status) → Keeps t (renaming t held dir r.from.name to r.to.name o).0
-    comes dir to (Err s) = keeps_same t
-    comes dir to (Ok None) = rename_keeps t held dir r.from.name to r.to.name
-    comes dir to (Ok (Some p)) = keeps_same t
-
-    by : (a b : Result ℕ Status) → Keeps t (renames_in t held busy r.from.name r.to.name a b).0
-    by (Ok dir) (Ok to) = comes dir to (asks_rename t held busy dir r.from.name to r.to.name)
-    by (Ok dir) (Err s) = keeps_same t
-    by (Err s) b = keeps_same t
-calls_keep t held busy m = keeps_same t
+calls_keep t held busy m = calls_keep_under t held false busy m
 
 -- ---- what the changes that wait need
 

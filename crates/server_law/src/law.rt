@@ -1,17 +1,17 @@
 //! The law of the server alone (`specs/Facts.antt`).
 
-ghost use Rattle.std.specs.Prelude.{◌≡◌, ℕ, [], List};
+ghost use Rattle.std.specs.Prelude.{◌≡◌, ℕ, [], List, Bool};
 ghost use Rattle.file_tree.specs.Tree.{Tree};
 ghost use Rattle.server_core.specs.declared.event.Event.{Event};
 ghost use Rattle.server_core.specs.State.{State};
-ghost use Rattle.server_core.specs.Step.{server_step};
+ghost use Rattle.server_core.specs.Step.{server_step_under};
 ghost use Rattle.server_law.specs.Facts.{Holds, IsGiven};
 
-/// Whatever happens to a server, its tree holds of each file what the last entry of its journal says
-/// that tells of that file (a version, a length and a digest, or that it is gone), and what the
-/// opening tree had where no entry does; and along the journal a file's versions rise by one, from 1
-/// where it is made. It does nothing: a caller learns this by calling it.
+/// Whatever happens to a server, and whether its store fails or not, its tree holds of each file what
+/// the last entry of its journal says that tells of that file (a version, a length and a digest, or
+/// that it is gone), and what the opening tree had where no entry does; and along the journal a file's
+/// versions rise by one, from 1 where it is made. It does nothing: a caller learns this by calling it.
 pub fn journal_tells()
     ensures opening { (s : State) → s.journal ≡ [] → IsGiven s.tree → Holds s.tree s }
-    ensures step { (opening : Tree) (s : State) (e : Event) → Holds opening s → Holds opening (server_step s e).0 }
+    ensures step { (opening : Tree) (s : State) (fault : Bool) (e : Event) → Holds opening s → Holds opening (server_step_under s fault e).0 }
 {}

@@ -5,4 +5,4 @@ pub returns-clause-opening : goal.returns-clause-opening
 returns-clause-opening c s none given = opening_told s none given
 
 pub returns-clause-step : goal.returns-clause-step
-returns-clause-step c opening s e h = step_told opening s e h
+returns-clause-step c opening s fault e h = step_told opening s fault e h
