@@ -2,6 +2,7 @@
 use Rattle.std.specs.Prelude.{ℕ, List, [], ◌∷◌, length, Bool, ◌||◌, ◌==◌, if◌then◌else◌, nat_lt, Result, Ok, Err}
 use Rattle.std.specs.List.{list_any}
 use Rattle.std.specs.Str.{bytes_eq}
+use Rattle.limits.specs.declared.TheConstants.{NAME_MOST}
 use Rattle.xdr_codec.specs.declared.status.Status.{Status}
 use Rattle.xdr_codec.specs.declared.status.Status.TheVariants as status
 
@@ -16,9 +17,8 @@ is_dot_dot name = bytes_eq name (46 ∷ 46 ∷ [])
 abbrev pub is_misspelt : List ℕ → Bool
 is_misspelt name = (length name == 0) || list_any (λ b. (b == 47) || (b == 0)) name
 
--- a name may have 255 bytes
 abbrev pub spelt : List ℕ → Result Unit Status
-spelt name = if nat_lt 255 (length name) then Err status.NameTooLong else (if is_misspelt name then Err status.Acces else Ok tt)
+spelt name = if nat_lt NAME_MOST (length name) then Err status.NameTooLong else (if is_misspelt name then Err status.Acces else Ok tt)
 
 -- `.` is refused with the one status, and `..` with the other
 abbrev pub undotted : Status → Status → List ℕ → Result Unit Status

@@ -3,6 +3,7 @@ use Rattle.std.specs.Prelude.{◌≡◌, IsOk, ℕ, ◌+◌, ◌-◌, ◌*◌, �
 use Rattle.std.specs.Option.{option_map}
 use Rattle.chunk_cut.specs.Chunks.{chunks_of}
 use Rattle.chunk_cut.specs.declared.chunk.Chunk.{Chunk}
+use Rattle.limits.specs.declared.TheConstants.{LISTING_MOST, PIECE_MOST}
 use Rattle.file_tree.specs.Chain.{◌>>=◌}
 use Rattle.xdr_codec.specs.declared.status.Status.{Status}
 use Rattle.xdr_codec.specs.declared.status.Status.TheVariants as status
@@ -77,7 +78,7 @@ stands_for nodes dir name = option_map standing_of (named nodes dir name)
 
 -- the bytes from the offset on, at most as many as are asked for, and at most 65,536
 abbrev pub piece_bytes : List ℕ → ℕ → ℕ → List ℕ
-piece_bytes content offset count = take (min count 65536) (drop offset content)
+piece_bytes content offset count = take (min count PIECE_MOST) (drop offset content)
 
 abbrev pub piece_of : List Node → Node → ℕ → ℕ → Piece
 piece_of nodes n offset count = record {
@@ -136,7 +137,7 @@ is_bad_cookie nodes d cookie verifier = (not (cookie == 0) && not (verifier == d
 
 abbrev pub list : List Node → ℕ → ℕ → ℕ → ℕ → Result Listing Status
 list nodes dir cookie verifier count =
-    directory_of nodes dir >>= λ d. if is_bad_cookie nodes d cookie verifier then Err status.BadCookie else listed nodes d cookie (min count 65536)
+    directory_of nodes dir >>= λ d. if is_bad_cookie nodes d cookie verifier then Err status.BadCookie else listed nodes d cookie (min count LISTING_MOST)
 
 -- ---- what is answered, where memory may run out: never where the call is refused
 

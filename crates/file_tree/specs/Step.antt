@@ -3,6 +3,7 @@ use Rattle.std.specs.Prelude.{◌≡◌, ◌≤◌, IsSome, ℕ, ◌+◌, List, 
 use Rattle.file_tree.specs.Chain.{◌>>=◌, refused}
 use Rattle.std.specs.Option.{option_map}
 use Rattle.sha1.specs.Sha1.{sha1}
+use Rattle.limits.specs.declared.TheConstants.{CHANGES_MOST, FILE_MOST, TREE_MOST}
 use Rattle.xdr_codec.specs.declared.status.Status.{Status}
 use Rattle.xdr_codec.specs.declared.status.Status.TheVariants as status
 use Rattle.tree_nodes.specs.declared.node.Node.{Node}
@@ -26,15 +27,15 @@ use Rattle.file_tree.specs.Tree.{Tree, is_directory, contents_size, node_of, dir
 
 -- so many changes may ever be made
 abbrev pub changes_most : ℕ
-changes_most = 4294967295
+changes_most = CHANGES_MOST
 
 -- a file may have so many bytes
 abbrev pub file_most : ℕ
-file_most = 67108864
+file_most = FILE_MOST
 
 -- the contents, and what waits to be stored, may have so many bytes
 abbrev pub tree_most : ℕ
-tree_most = 1073741824
+tree_most = TREE_MOST
 
 -- whether so many changes more may be made
 abbrev pub spared : ℕ → Held → ℕ → Result Unit Status

@@ -8,24 +8,16 @@ ghost use Rattle.file_tree.specs.Step.{spared, spared_bytes, within_file, or_not
 ghost use Rattle.file_tree.specs.View.{lent};
 
 use crate::call::Held;
+use limits::{CHANGES_MOST, FILE_MOST, TREE_MOST};
 use tree_nodes::node::{Body, Node};
 use tree_nodes::nodes::Nodes;
 use xdr_codec::status::Status;
-
-/// So many changes may ever be made.
-const CHANGES_MOST: u128 = 4_294_967_295;
-
-/// A file may have so many bytes.
-pub const FILE_MOST: u64 = 67_108_864;
-
-/// The contents, and what waits to be stored, may have so many bytes.
-pub const TREE_MOST: u128 = 1_073_741_824;
 
 /// Whether so many changes more may be made.
 pub fn spared(changes: u64, held: Held, more: u64) -> Result<(), Status>
     ensures { result ≡ spared changes held more }
 {
-    if changes as u128 + held.entries as u128 + more as u128 > CHANGES_MOST {
+    if changes as u128 + held.entries as u128 + more as u128 > CHANGES_MOST as u128 {
         return Err(Status::NoSpc);
     }
     Ok(())
@@ -35,7 +27,7 @@ pub fn spared(changes: u64, held: Held, more: u64) -> Result<(), Status>
 pub fn spared_bytes(bytes: u64, held: Held, len: u64) -> Result<(), Status>
     ensures { result ≡ spared_bytes bytes held len }
 {
-    if bytes as u128 + held.bytes as u128 + len as u128 > TREE_MOST {
+    if bytes as u128 + held.bytes as u128 + len as u128 > TREE_MOST as u128 {
         return Err(Status::NoSpc);
     }
     Ok(())

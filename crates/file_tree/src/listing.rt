@@ -9,14 +9,12 @@ ghost use Rattle.file_tree.specs.Reading.{entry_size, page, is_too_small, listin
 use crate::error::TreeErr;
 use crate::reading;
 use lb_base::items::Items;
+use limits::LISTING_MOST;
 use nfs3_calls::listing::{Entry, Listing};
 use std::alloc::{AllocError, Global};
 use tree_nodes::node::Node;
 use tree_nodes::nodes::Nodes;
 use xdr_codec::status::Status;
-
-/// The most bytes of an answer.
-const LIST_MOST: u32 = 65536;
 
 /// How many bytes an answer takes without its entries.
 const LIST_LEAST: u32 = 104;
@@ -171,5 +169,5 @@ pub fn list(
     if is_bad_cookie(nodes, dir, cookie, verifier) {
         return Err(TreeErr::Refused(Status::BadCookie));
     }
-    listed(alloc, nodes, dir, cookie, count.min(LIST_MOST))
+    listed(alloc, nodes, dir, cookie, count.min(LISTING_MOST))
 }

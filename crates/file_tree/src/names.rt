@@ -4,10 +4,8 @@ ghost use Rattle.std.specs.Prelude.{◌≡◌, ◌==◌, ◌||◌};
 ghost use Rattle.std.specs.List.{list_any};
 ghost use Rattle.file_tree.specs.Names.{is_misspelt, spelt, undotted, is_dot, is_dot_dot};
 
+use limits::NAME_MOST;
 use xdr_codec::status::Status;
-
-// The most bytes of a name.
-const NAME_MOST: usize = 255;
 
 // Whether a slash or a zero byte is among these.
 fn has_wrong(name: &[u8]) -> bool

@@ -9,10 +9,11 @@ ghost use Rattle.file_tree.specs.Opening.{may_open, counted_at, with_change, wit
 ghost use Rattle.file_tree.specs.State.{state_of, IsState};
 ghost use Rattle.file_tree.specs.View.{is_directory_at, counted_if};
 
-use crate::checks::{self, FILE_MOST, TREE_MOST};
+use crate::checks;
 use crate::names::{spelt, undotted};
 use crate::state::{TreeState, size_of};
 use lb_base::items::Name;
+use limits::{FILE_MOST, TREE_MOST};
 use std::alloc::AllocError;
 use tree_nodes::content::Content;
 use tree_nodes::node::{Body, Node};
@@ -112,7 +113,7 @@ impl TreeState {
         ensures short { result ≡ true → len ≤ file_most }
         ensures small { result ≡ true → contents_size self.now.nodes.nodes + len ≤ tree_most }
     {
-        len <= FILE_MOST && self.bytes as u128 + len as u128 <= TREE_MOST
+        len <= FILE_MOST && self.bytes as u128 + len as u128 <= TREE_MOST as u128
     }
 
     // The next id, with a place for its node. The one error is want of memory.

@@ -16,15 +16,13 @@ use crate::names::{is_dot, is_dot_dot, spelt};
 use crate::state::TreeState;
 use chunk_cut::chunk::Chunk;
 use lb_base::items::Bytes;
+use limits::PIECE_MOST;
 use nfs3_calls::call::Piece;
 use std::alloc::Global;
 use tree_nodes::node::{Body, Node};
 use tree_nodes::nodes::Nodes;
 use xdr_codec::attr::{Attr, Kind, Time};
 use xdr_codec::status::Status;
-
-/// The most bytes that one READ gives.
-const READ_MOST: u32 = 65536;
 
 /// What LOOKUP found.
 #[derive(Clone, Copy, Debug, PartialEq, Eq, Drop)]
@@ -153,7 +151,7 @@ fn piece_bytes(content: &[u8], offset: u64, count: u32) -> &[u8]
 {
     let start = offset.min(content.len() as u64) as usize;
     let rest = &content[start..];
-    let count = rest.len().min(count.min(READ_MOST) as usize);
+    let count = rest.len().min(count.min(PIECE_MOST) as usize);
     &rest[..count]
 }
 

@@ -1,5 +1,6 @@
 -- What the calls are told that change nothing (RFC 1813, sections 3.3.0, 1, 3, 4, 6, 16 and 19), and GETLEASE of LBFS.
 use Rattle.std.specs.Prelude.{ℕ, List, Option, Some, None, Result, Ok, Err, IsOk, bit_and}
+use Rattle.limits.specs.declared.TheConstants.{FILE_MOST, LISTING_MOST, PIECE_MOST}
 use Rattle.xdr_codec.specs.Handle.{file_of, handle_bytes}
 use Rattle.xdr_codec.specs.declared.answer.Answer.{Answer}
 use Rattle.xdr_codec.specs.declared.answer.Answer.TheVariants.{Done, Failed}
@@ -58,14 +59,14 @@ piece nodes r = id_of r.handle >>= λ id. read nodes id r.offset r.count
 abbrev pub listing : List Node → ListRange → Result Listing Status
 listing nodes l = id_of l.dir >>= λ dir. list nodes dir l.cookie l.verifier l.count
 
--- READ and READDIR of 65,536 bytes, no WRITE, files of 67,108,864 bytes, times of a nanosecond, and the same answers whatever the file (FSF3_HOMOGENEOUS)
+-- READ and READDIR of their limits, no WRITE, files of theirs, times of a nanosecond, and the same answers whatever the file (FSF3_HOMOGENEOUS)
 abbrev pub info_of : Attr → FsInfo
 info_of a = record {
   attr = Some a;
-  reading = record { most = 65536; best = 65536; multiple = 1 };
+  reading = record { most = PIECE_MOST; best = PIECE_MOST; multiple = 1 };
   writing = record { most = 0; best = 0; multiple = 0 };
-  dtpref = 65536;
-  maxfilesize = 67108864;
+  dtpref = LISTING_MOST;
+  maxfilesize = FILE_MOST;
   time_delta = record { seconds = 0; nanoseconds = 1 };
   properties = 8;
 }

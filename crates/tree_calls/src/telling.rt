@@ -9,6 +9,7 @@ use crate::naming::{id_of, target};
 use file_tree::error::TreeErr;
 use file_tree::tree::Tree;
 use hash_calls::call::Leased;
+use limits::{FILE_MOST, LISTING_MOST, PIECE_MOST};
 use nfs3_calls::call::{Access, Granted, Piece, Range};
 use nfs3_calls::fs_info::{FsInfo, Sizes};
 use nfs3_calls::listing::{ListRange, Listing};
@@ -22,12 +23,6 @@ use xdr_codec::status::Status;
 
 /// The rights that there are.
 const RIGHTS: u32 = 0x3F;
-
-/// The most bytes of a READ, and of a READDIR.
-const READ_MOST: u32 = 65536;
-
-/// The most bytes of a file.
-const FILE_MOST: u64 = 67_108_864;
 
 /// Whatever the file, FSINFO gives the same (RFC 1813, section 3.3.19: FSF3_HOMOGENEOUS).
 const HOMOGENEOUS: u32 = 8;
@@ -82,8 +77,8 @@ fn info_of(attr: Attr) -> FsInfo
     FsInfo {
         attr: Some(attr),
         reading: Sizes {
-            most: READ_MOST,
-            best: READ_MOST,
+            most: PIECE_MOST,
+            best: PIECE_MOST,
             multiple: 1,
         },
         writing: Sizes {
@@ -91,7 +86,7 @@ fn info_of(attr: Attr) -> FsInfo
             best: 0,
             multiple: 0,
         },
-        dtpref: READ_MOST,
+        dtpref: LISTING_MOST,
         maxfilesize: FILE_MOST,
         time_delta: Time {
             seconds: 0,
