@@ -233,7 +233,6 @@ class Walks:
         self.open_file(client)
 
     def took_getattr(self, client, xid, rest, said):
-        client.op.file = said[1][0]
         self.end(client, "Seen " + " ".join(str(n) for n in said[1]))
 
     def took_readdir(self, client, xid, rest, said):

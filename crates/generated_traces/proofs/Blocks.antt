@@ -22,7 +22,7 @@ wide client c = omega (arith, c.1)
 
 abandon_leads : (v : Timed) (n client file offset block time : ℕ) → AreIn client file offset block time n → Stands v time time → Leads v n (abandon_lines client file time) time time
 abandon_leads v n client file offset block time h stands =
-    does_then v n time time client time time time _ (Abandon file) [] stands (abandon_said client time file (wide client h.client_is) h.time_fits h.file_fits) (λ core. refl) (omega (arith, h.few)) h.client_is (omega arith) (omega arith) (omega arith)
+    does_then v n time time client time time time _ (Abandon file) [] stands (abandon_said client time file (wide client h.client_is) h.time_fits h.file_fits) (omega (arith, h.few)) h.client_is (omega arith) (omega arith) (omega arith)
     (λ w s. no_lines w (n + 1) time time s)
 
 -- rounds in which both clocks read what they last read
@@ -35,8 +35,8 @@ change_leads v n client file offset block time h stands =
     let c : IsClient client = h.client_is in
     let t : time < 2 ^ 63 = h.time_fits in
     let few : n + 9 ≤ line_most = h.few in
-    does_then v n time time client time time time _ (Write file offset (Bytes (decimal block) ∷ [])) _ stands (write_said client time file offset block (wide client c) t h.file_fits h.offset_fits h.block_fits) (λ core. refl) (omega (arith, few)) c (omega arith) (omega arith) (omega arith)
-    (λ v1 s1. does_then v1 (n + 1) time time client time time time _ (Close file) _ s1 (close_said client time file (wide client c) t h.file_fits) (λ core. refl) (omega (arith, few)) c (omega arith) (omega arith) (omega arith)
+    does_then v n time time client time time time _ (Write file offset (Bytes (decimal block) ∷ [])) _ stands (write_said client time file offset block (wide client c) t h.file_fits h.offset_fits h.block_fits) (omega (arith, few)) c (omega arith) (omega arith) (omega arith)
+    (λ v1 s1. does_then v1 (n + 1) time time client time time time _ (Close file) _ s1 (close_said client time file (wide client c) t h.file_fits) (omega (arith, few)) c (omega arith) (omega arith) (omega arith)
     (λ v2 s2. again v2 (n + 1 + 1) client 40 time _ c (omega arith) t (omega (arith, few)) s2
     (λ v3 s3. again v3 (n + 1 + 1 + 1) 1 2 time _ (omega arith, omega arith) (omega arith) t (omega (arith, few)) s3
     (λ v4 s4. again v4 (n + 1 + 1 + 1 + 1) 2 2 time _ (omega arith, omega arith) (omega arith) t (omega (arith, few)) s4
@@ -61,6 +61,6 @@ block_leads v n server seed block stands now few lines =
     let c : IsClient (client_of q) = is_client q in
     let t : time_of block < 2 ^ 63 = omega (arith, few) in
     let f : file_of q < 2 ^ 64 = omega arith in
-    does_then v n server server (client_of q) (time_of block) (time_of block) (time_of block) _ (Open (file_of q)) _ stands (open_said (client_of q) (time_of block) (file_of q) (wide (client_of q) c) t f) (λ core. refl) (omega (arith, lines)) c (omega (arith, now)) (omega (arith, now)) (omega (arith, now))
+    does_then v n server server (client_of q) (time_of block) (time_of block) (time_of block) _ (Open (file_of q)) _ stands (open_said (client_of q) (time_of block) (file_of q) (wide (client_of q) c) t f) (omega (arith, lines)) c (omega (arith, now)) (omega (arith, now)) (omega (arith, now))
     (λ v1 s1. passes_then v1 (n + 1) server (time_of block) (client_of q) 40 (time_of block) (time_of block) (time_of block) _ _ s1 (pass_said (client_of q) 40 (time_of block) (wide (client_of q) c) (omega arith) t) (omega (arith, lines)) c (omega arith) (omega (arith, now))
     (λ v2 s2. rest_leads (q / 32 % 2 == 0) v2 (n + 1 + 1) (client_of q) (file_of q) (offset_of q) block (time_of block) (record { client_is = c; file_fits = f; offset_fits = omega arith; block_fits = omega (arith, few); time_fits = t; few = omega (arith, lines) }) s2))

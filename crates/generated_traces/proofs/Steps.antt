@@ -19,9 +19,9 @@ use Rattle.trace_replay.specs.declared.timing.Timing.{Timing}
 use Rattle.trace_replay.specs.declared.timing.Timing.TheVariants as timing
 use Rattle.trace_replay.specs.declared.turn.Turn.{Turn}
 use Rattle.trace_replay.specs.declared.turn.Turn.TheVariants as turn
-use Rattle.trace_replay.specs.Core.{Core, Session, numbered}
+use Rattle.trace_replay.specs.Core.{Session, numbered}
 use Rattle.trace_replay.specs.World.{World}
-use Rattle.trace_replay.specs.Run.{line_most, is_there, asks_if, do_asks, asks_at, asks, asks_within, at_events, turned, refused}
+use Rattle.trace_replay.specs.Run.{line_most, is_there, asks_if, asks_at, asks, asks_within, at_events, turned, refused}
 use Rattle.trace_replay.specs.Timed.{Timed, Times, timing_of, pass_timing, owners_of, read_by, times_with, with_times, times_if, timed_by, timed_turn}
 use Rattle.trace_replay.specs.Lines.{applied_from}
 use Rattle.trace_replay.proofs.Going.{applied_then}
@@ -121,18 +121,14 @@ four_sessions v server at h = sym (owner_count v.world.core.sessions) ∙ ap len
 
 -- ---- the lines of blocks
 
--- a client that is there does what this command says
-abbrev pub IsTaken : (client now : ℕ) → Command → Type 0
-IsTaken client now k = (core : Core) → do_asks core client now k ≡ asks_if (is_there (numbered core.seats client)) (turn.Do client now k)
-
 -- a command of a client
-pub does_then : (v : Timed) (n server at client now later until : ℕ) (bytes : List ℕ) (k : Command) (lines : List (List ℕ)) → Stands v server at → line_of bytes ≡ Some (line.Do client now k) → IsTaken client now k → n ≤ line_most → IsClient client → at ≤ now → server ≤ now → now ≤ server + 10
+pub does_then : (v : Timed) (n server at client now later until : ℕ) (bytes : List ℕ) (k : Command) (lines : List (List ℕ)) → Stands v server at → line_of bytes ≡ Some (line.Do client now k) → n ≤ line_most → IsClient client → at ≤ now → server ≤ now → now ≤ server + 10
     → ((w : Timed) → Stands w server now → Leads w (n + 1) lines later until) → Leads v n (bytes ∷ lines) later until
-does_then v n server at client now later until bytes k lines h said plain few c after up near next =
+does_then v n server at client now later until bytes k lines h said few c after up near next =
     let w : World = v.world in
     let t : Turn = turn.Do client now k in
     let times : Times = record v.times { clocks = and_reading v.times.clocks (reads.Client client now) } in
-    let asked : asks w (line.Do client now k) ≡ Ok t = ap (λ (s : Stage). asks_at w s (line.Do client now k)) h.stage ∙ plain w.core ∙ ap (λ (b : Bool). asks_if b t) (there w.core.seats client h.seats c) in
+    let asked : asks w (line.Do client now k) ≡ Ok t = ap (λ (s : Stage). asks_at w s (line.Do client now k)) h.stage ∙ ap (λ (b : Bool). asks_if b t) (there w.core.seats client h.seats c) in
     let clock : times_with v.times (timing_of (owners_of w) (line.Do client now k)) ≡ Ok times = ap (read_by v.times) (client_read v.times.clocks server at client now h.ticks after up near) in
     line_first v (timed_turn v (t, times)) n bytes lines later until (taken v n bytes (line.Do client now k) t times said few asked clock)
     (next (timed_turn v (t, times)) (record {

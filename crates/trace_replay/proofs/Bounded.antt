@@ -2,8 +2,6 @@
 use Rattle.std.proofs.Common.{◌≡◌, ℕ, List, Option, Some, None, Bool, true, false, sym, subst, length}
 use Rattle.std.specs.Prelude.{nat_lt, nat_le, Result, Ok, Err, IfOk}
 use Rattle.command_text.specs.Content.{content_length}
-use Rattle.command_text.specs.declared.command.Command.{Command}
-use Rattle.command_text.specs.declared.command.Command.TheVariants as command
 use Rattle.command_text.specs.declared.content.Part.{Part}
 use Rattle.trace_text.specs.Reading.{IsTimely}
 use Rattle.trace_text.specs.declared.line.Line.{Line}
@@ -17,7 +15,7 @@ use Rattle.trace_replay.specs.declared.turn.Turn.{Turn}
 use Rattle.trace_replay.specs.declared.turn.Turn.TheVariants as turn
 use Rattle.trace_replay.specs.Core.{Core, Seat, numbered}
 use Rattle.trace_replay.specs.World.{World}
-use Rattle.trace_replay.specs.Run.{line_most, file_most, asks_if, place_for, sized, file_asks, directory_asks, joins_within, joins_if, do_asks, event_asks, asks_at, asks, asks_within, asked}
+use Rattle.trace_replay.specs.Run.{line_most, file_most, asks_if, place_for, sized, file_asks, directory_asks, joins_within, joins_if, event_asks, asks_at, asks, asks_within, asked}
 use Rattle.trace_replay.specs.Turns.{IsTurnBounded}
 
 abbrev asking : Turn → Result Turn LineFault
@@ -55,13 +53,9 @@ joining : (standing c : ℕ) (o : Option Seat) (t : Turn) → joins_if standing 
 joining standing c None t e = refused_line Grammar t e
 joining standing c (Some seat) t e = unless_linked seat.client.linked _ c t e
 
-doing : (k : Core) (c now : ℕ) (d : Command) (t : Turn) → do_asks k c now d ≡ asking t → IsTurnBounded t
-doing k c now (command.Named named) t e = refused_line Grammar t e
-doing k c now d t e = when _ (turn.Do c now d) t tt e
-
 event : (k : Core) (l : Line) (t : Turn) → IsTimely l → event_asks k l ≡ asking t → IsTurnBounded t
 event k (line.Join c r s) t h e = joining (length k.server.sessions) c (numbered k.seats c) t e
-event k (line.Do c r d) t h e = doing k c r d t e
+event k (line.Do c r d) t h e = when _ (turn.Do c r d) t tt e
 event k (line.Up n a s) t h e = when _ (turn.Up n a s) t h e
 event k (line.Down n a r) t h e = when _ (turn.Down n a r) t tt e
 event k (line.Settle s) t h e = taken (turn.Settle s) t h e

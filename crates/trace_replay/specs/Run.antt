@@ -2,8 +2,6 @@
 use Rattle.std.specs.Prelude.{ℕ, zero, suc, ◌+◌, List, [], ◌∷◌, ◌++◌, length, replicate, Option, Some, None, Result, Ok, Err, Bool, true, false, not, ◌&&◌, nat_lt, nat_le, if◌then◌else◌}
 use Rattle.limits.specs.declared.TheConstants.{FILE_MOST, LINES_MOST, SESSIONS_MOST, TREE_MOST}
 use Rattle.command_text.specs.Content.{content_length, content_bytes}
-use Rattle.command_text.specs.declared.command.Command.{Command}
-use Rattle.command_text.specs.declared.command.Command.TheVariants as command
 use Rattle.command_text.specs.declared.content.Part.{Part}
 use Rattle.command_text.specs.Parts.{lines_of}
 use Rattle.command_text.specs.declared.path.Spot.{Spot}
@@ -131,15 +129,10 @@ adjust_asks k (line.Clear w) = asks_if (has_index k w) (turn.Adjust (adjustment.
 adjust_asks k (line.Evict c file) = asks_if (is_there (numbered k.seats c)) (turn.Adjust (adjustment.Evict c file))
 adjust_asks k _ = Err Grammar
 
--- a command of a client that is there, on a file: none on names is taken yet
-abbrev pub do_asks : Core → (client now : ℕ) → Command → Result Turn LineFault
-do_asks k c now (command.Named n) = Err Grammar
-do_asks k c now d = asks_if (is_there (numbered k.seats c)) (turn.Do c now d)
-
 -- An event names a client and a session that are there.
 abbrev pub event_asks : Core → Line → Result Turn LineFault
 event_asks k (line.Join c r s) = joins_if (length k.server.sessions) c (numbered k.seats c)
-event_asks k (line.Do c r d) = do_asks k c r d
+event_asks k (line.Do c r command) = asks_if (is_there (numbered k.seats c)) (turn.Do c r command)
 event_asks k (line.Up n a s) = asks_if (is_there (numbered k.sessions n)) (turn.Up n a s)
 event_asks k (line.Down n a r) = asks_if (is_there (numbered k.sessions n)) (turn.Down n a r)
 event_asks k (line.Settle s) = Ok (turn.Settle s)

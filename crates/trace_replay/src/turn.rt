@@ -4,7 +4,7 @@ ghost use Rattle.std.specs.Prelude.{◌≡◌, true, nat_lt, nat_le, IfOk, Some}
 ghost use Rattle.trace_text.specs.Reading.{IsTimely};
 ghost use Rattle.trace_replay.specs.Core.{numbered};
 ghost use Rattle.trace_replay.specs.World.{World};
-ghost use Rattle.trace_replay.specs.Run.{is_there, has_index, asks_if, do_asks, place_for, file_asks, directory_asks, joins_within, joins_if, adjust_asks, event_asks, asks_at, asks, asks_within, asked, in_header};
+ghost use Rattle.trace_replay.specs.Run.{is_there, has_index, asks_if, place_for, file_asks, directory_asks, joins_within, joins_if, adjust_asks, event_asks, asks_at, asks, asks_within, asked, in_header};
 ghost use Rattle.trace_replay.specs.Turns.{IsTurnBounded, stage_after};
 ghost use Rattle.trace_replay.specs.View.{core_of};
 ghost use Rattle.trace_replay.specs.WorldView.{world_of};
@@ -209,25 +209,16 @@ fn has_session(core: &Core, session: u64) -> bool
     place_of(core.sessions.len(), session).is_some()
 }
 
-/// A client that is there does what it is told to, if that is a command on a file: one on names is no
-/// line of a trace yet.
+/// A client that is there does what it is told to.
 fn do_asks(core: &Core, client: u64, now: u64, command: Command) -> Result<Turn, LineFault>
-    ensures { result ≡ do_asks (core_of core.now) client now command }
+    ensures { result ≡ asks_if (is_there (numbered (core_of core.now).seats client)) (turn.Do client now command) }
 {
-    match command {
-        Command::Named(named) => {
-            drop(named);
-            Err(LineFault::Grammar)
-        }
-        command => {
-            let turn = Turn::Do {
-                client,
-                now,
-                command,
-            };
-            asks_if(has_client(core, client), turn)
-        }
-    }
+    let turn = Turn::Do {
+        client,
+        now,
+        command,
+    };
+    asks_if(has_client(core, client), turn)
 }
 
 /// Bytes go up a session that was made.
