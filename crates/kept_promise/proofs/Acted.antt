@@ -93,12 +93,12 @@ place_of seat j e = by seat.place seat.client.task e
     by _ _ e = nothing_there j e
 
 -- the operation after the step
-ops_now : (book : Book) (i : ℕ) (seat : Seat) (j : Job) (of : IsOf book i j) (c : client.State) (taken : List TakenCall) (acts : ClientStep) → job seat ≡ Some j → ops_with book.ops seat.place c taken (book.steps + 1) acts ≡ slice_set book.ops j.place (op_after of.op c taken (book.steps + 1) acts)
+pub ops_now : (book : Book) (i : ℕ) (seat : Seat) (j : Job) (of : IsOf book i j) (c : client.State) (taken : List TakenCall) (acts : ClientStep) → job seat ≡ Some j → ops_with book.ops seat.place c taken (book.steps + 1) acts ≡ slice_set book.ops j.place (op_after of.op c taken (book.steps + 1) acts)
 ops_now book i seat j of c taken acts is =
     ap (λ (p : Option ℕ). ops_with book.ops p c taken (book.steps + 1) acts) (place_of seat j is)
     ∙ ap (λ (o : Option Op). ops_after book.ops j.place o c taken (book.steps + 1) acts) of.there
 
-leads_goes : (book : Book) (k : Core) (qs : List Queue) (n : ℕ) (x : Session) (q : Queue) (t : Told) (ts : List Told) (j : Job) (g : Here book k qs n x q t ts j) (c : client.State) (acts : ClientStep) → acts.found ≡ None → GoesTo book k qs n x q t ts j g c acts → Leads book (rest_down qs n q ts) (acted k x.owner (session_at book k qs n x q t ts j g).seat c acts)
+pub leads_goes : (book : Book) (k : Core) (qs : List Queue) (n : ℕ) (x : Session) (q : Queue) (t : Told) (ts : List Told) (j : Job) (g : Here book k qs n x q t ts j) (c : client.State) (acts : ClientStep) → acts.found ≡ None → GoesTo book k qs n x q t ts j g c acts → Leads book (rest_down qs n q ts) (acted k x.owner (session_at book k qs n x q t ts j g).seat c acts)
 leads_goes book k qs n x q t ts j g c acts none w =
     let h = session_at book k qs n x q t ts j g in
     let of = job_op book k qs x h.seat j g.kept h.owner g.job_is in

@@ -159,11 +159,15 @@ heard_gives laws book k qs n now bytes mid kept h = ap (given_from n bytes) h.ow
 
 -- ---- what the server reads
 
+-- the first call on its way fits
+pub serves_fits : (book : Book) (k : Core) (qs : List Queue) (n now : ℕ) (bytes : List ℕ) (mid : List Queue) → IsKept book k qs → (f : Finds k qs (Serves n now bytes) mid) → CallFits f.1.xid f.1.call
+serves_fits book k qs n now bytes mid kept f =
+    let x = also_numbered qs k.sessions n f.0 (sym kept.made.1) f.3 in
+    let s = kept.sessions n x.0 f.0 x.1 f.3 in
+    (subst (AllAsks (λ a. CallFits a.xid a.call)) f.4 s.ups_fit).0
+
 -- a record that reaches it is read as the first call on its way
 pub serves_read : FitLaws → (book : Book) (k : Core) (qs : List Queue) (n now : ℕ) (bytes : List ℕ) (mid : List Queue) → IsKept book k qs → (f : Finds k qs (Serves n now bytes) mid) → parse_of server_waiting bytes ≡ Ok (ask_message f.1)
 serves_read laws book k qs n now bytes mid kept f =
-    let x = also_numbered qs k.sessions n f.0 (sym kept.made.1) f.3 in
-    let s = kept.sessions n x.0 f.0 x.1 f.3 in
-    let fits : AllAsks (λ a. CallFits a.xid a.call) (f.1 ∷ f.2) = subst (AllAsks (λ a. CallFits a.xid a.call)) f.4 s.ups_fit in
-    let c = laws.calls f.1.xid f.1.call fits.0 in
+    let c = laws.calls f.1.xid f.1.call (serves_fits book k qs n now bytes mid kept f) in
     ap (parse_of server_waiting) f.5 ∙ laws.again server_waiting (ask_message f.1) c.0.0 c.1

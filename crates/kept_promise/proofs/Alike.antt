@@ -1,5 +1,5 @@
 -- In one version a file has one content, at all moments of a run: the server changes a file's content only with its version, whatever it is asked.
-use Rattle.std.proofs.Common.{inl, inr, ◌≡◌, ℕ, zero, suc, ◌+◌, List, [], ◌∷◌, ◌++◌, append-nil, append_assoc, Option, Some, None, Result, Ok, Err, Bool, true, false, refl, sym, ap, ◌∙◌, subst, arith}
+use Rattle.std.proofs.Common.{◌⊎◌, inl, inr, ◌≡◌, ℕ, zero, suc, ◌+◌, List, [], ◌∷◌, ◌++◌, append-nil, append_assoc, Option, Some, None, Result, Ok, Err, Bool, true, false, refl, sym, ap, ◌∙◌, subst, arith, ◌≤◌, ◌<◌}
 use Rattle.server_core.specs.State as server
 use Rattle.server_core.specs.Closing.{settles as server_settles}
 use Rattle.server_core.specs.declared.change.Wanted.TheVariants as wanted
@@ -14,13 +14,16 @@ use Rattle.trace_text.specs.declared.line.Who.TheVariants as who
 use Rattle.trace_replay.specs.declared.adjusting.Adjustment.{Adjustment}
 use Rattle.trace_replay.specs.declared.adjusting.Adjustment.TheVariants as adjustment
 use Rattle.trace_replay.specs.Core.{adjusted, with_client}
-use Rattle.kept_promise.proofs.Common.{Contains, Contains-push_cases, parse_of, WireFault, Message, content_bytes, Command, is_newest, stands, has_room, connect, at, makes_change, lines_of, line_of, Line, LineFault, Turn, Event, Event.Joins, Event.Does, Event.Serves, Event.Hears, Event.Settles, Event.Cuts, Event.Hangs, File, Change, Core, Seat, Session, numbered, server_waiting, serves_if, serves, does, hears_at, hears_if, hears, joins_as, joins, settles, cuts_if, cuts, hangs_if, hangs, happens, World, Wire, start, happened, all_happened, up_taken, up_events, up_at, up_length, up_all, down_taken, down_events, down_at, down_length, round, is_still, passes, asked, asked_by, at_events, count_of, turned, Moment, moments_of, up_moments_at, down_moments_at, round_moments, passes_moments, turn_moments, moments_from, moments, Wanted, Tree}
+use Rattle.kept_promise.proofs.Common.{Contains, Contains-push_cases, parse_of, WireFault, Message, content_bytes, Command, is_newest, stands, has_room, connect, at, makes_change, lines_of, line_of, Line, LineFault, Turn, Event, Event.Joins, Event.Does, Event.Serves, Event.Hears, Event.Settles, Event.Cuts, Event.Hangs, File, Change, Core, Seat, Session, numbered, server_waiting, serves_if, serves, does, hears_at, hears_if, hears, joins_as, joins, settles, cuts_if, cuts, hangs_if, hangs, happens, World, Wire, start, happened, all_happened, up_taken, up_events, up_at, up_length, up_all, down_taken, down_events, down_at, down_length, round, is_still, passes, asked, asked_by, at_events, count_of, turned, Moment, moments_of, up_moments_at, down_moments_at, round_moments, passes_moments, turn_moments, moments_from, moments, Wanted, Tree, step_of}
 use Rattle.kept_promise.proofs.Lists.{some_is}
 use Rattle.kept_promise.proofs.Rights.{AreAlike}
 use Rattle.server_law.proofs.Trees.{IsGiven, IsSince, IsLater, later_join, Keeps, keeps_same, file_below}
 use Rattle.server_law.proofs.TreeCalls.{commits_keep, settles_keep}
-use Rattle.kept_promise.proofs.TreeOpens.{opens_file, opens_directory}
-use Rattle.kept_promise.proofs.CallsKeep.{got_tree}
+use Rattle.tree_nodes.specs.declared.node.Body.TheVariants.{Directory, File as Plain}
+use Rattle.kept_promise.proofs.TreeOpens.{opens_file, opens_directory, opens_counted}
+use Rattle.kept_promise.proofs.CallsKeep.{got_tree, got_dirs}
+use Rattle.kept_promise.proofs.TreeNames.{IsCounted, AreDirsLater, KeepsDirs, dirs_same, dirs_join}
+use Rattle.kept_promise.proofs.TreeNameCalls.{commits_dirs, settles_dirs}
 use Rattle.kept_promise.proofs.RunsResults.{moments_by}
 use Rattle.kept_promise.proofs.RunsLines.{is_early, Allows, allowed, line_fits}
 
@@ -32,6 +35,9 @@ tree k = k.server.tree
 -- a step gives no id twice, and changes contents with versions alone
 abbrev Turns : Core → Core → Type 0
 Turns k r = Keeps (tree k) (tree r)
+
+dirs_by : (a b : Tree) → b ≡ a → KeepsDirs a b
+dirs_by a b e = subst (KeepsDirs a) (sym e) (dirs_same a)
 
 turns_same : (k r : Core) → tree r ≡ tree k → Turns k r
 turns_same k r e = subst (Keeps (tree k)) (sym e) (keeps_same (tree k))
@@ -112,13 +118,124 @@ happens_turn k (Settles now) = settles_turn k now
 happens_turn k (Cuts c) = turns_same k (cuts k c (numbered k.seats c)).core (cuts_turn k c (numbered k.seats c))
 happens_turn k (Hangs n) = turns_same k (hangs k n (numbered k.sessions n)).core (hangs_turn k n (numbered k.sessions n))
 
+-- ---- directories, and steps
+
+-- a step leaves a directory's names with its version
+happens_dirs : (k : Core) (e : Event) → KeepsDirs (tree k) (tree (happens k e).core)
+happens_dirs k (Joins c) = by (numbered k.seats c)
+  where
+    as_ : (seat : Seat) (s : server.State) (o : Announced) → s.tree ≡ tree k → KeepsDirs (tree k) (tree (joins_as k c seat s o).core)
+    as_ seat s (announced.Session n) e = dirs_by (tree k) s.tree e
+    as_ seat s _ e = dirs_by (tree k) s.tree e
+
+    room : (seat : Seat) (b : Bool) → (let r = connect k.server b in KeepsDirs (tree k) (tree (joins_as k c seat r.0 r.1.told).core))
+    room seat true = let r = connect k.server true in as_ seat r.0 r.1.told refl
+    room seat false = let r = connect k.server false in as_ seat r.0 r.1.told refl
+
+    by : (o : Option Seat) → KeepsDirs (tree k) (tree (joins k c o).core)
+    by None = dirs_same (tree k)
+    by (Some seat) = room seat (has_room k.server)
+happens_dirs k (Does c now d) = dirs_by (tree k) (tree (does k c now d (numbered k.seats c)).core) (does_turn k c now d (numbered k.seats c))
+happens_dirs k (Serves n now bytes) = by (numbered k.sessions n)
+  where
+    read : (x : Session) (r : Result Message WireFault) → KeepsDirs (tree k) (tree (serves_if k n now x r).core)
+    read x (Ok m) = got_dirs k.server n m now
+    read x (Err e) = dirs_same (tree k)
+
+    by : (o : Option Session) → KeepsDirs (tree k) (tree (serves k n now bytes o).core)
+    by None = dirs_same (tree k)
+    by (Some x) = read x (parse_of server_waiting bytes)
+happens_dirs k (Hears n now bytes) = dirs_by (tree k) (tree (hears k n now bytes (numbered k.sessions n)).core) (hears_turn k n now bytes (numbered k.sessions n))
+happens_dirs k (Settles now) = by k.server.waiting
+  where
+    made : (s : server.State) (c : Change) (a : Wanted) → s.tree ≡ tree k → KeepsDirs (tree k) (makes_change s c a).0.tree
+    made s c (wanted.Content x) e = subst (λ (t : Tree). KeepsDirs t (commits s.tree (server.held s.waiting) c.file x 0).0) e (commits_dirs s.tree (server.held s.waiting) c.file x 0)
+    made s c (wanted.Asked a) e = subst (λ (t : Tree). KeepsDirs t (tree_settles s.tree (server.held s.waiting) a).0) e (settles_dirs s.tree (server.held s.waiting) a)
+
+    by : (w : List Change) → KeepsDirs (tree k) (server_settles k.server now w).0.tree
+    by [] = dirs_same (tree k)
+    by (c ∷ cs) = made (at (record k.server { waiting = cs }) now) c c.what refl
+happens_dirs k (Cuts c) = dirs_by (tree k) (tree (cuts k c (numbered k.seats c)).core) (cuts_turn k c (numbered k.seats c))
+happens_dirs k (Hangs n) = dirs_by (tree k) (tree (hangs k n (numbered k.sessions n)).core) (hangs_turn k n (numbered k.sessions n))
+
+-- a step is made, or nothing happens
+abbrev Passes : Core → Core → Type 0
+Passes k r = (k.steps < r.steps) ⊎ (r ≡ k)
+
+happens_passes : (k : Core) (e : Event) → Passes k (happens k e).core
+happens_passes k (Joins c) = by (numbered k.seats c)
+  where
+    as_ : (seat : Seat) (s : server.State) (o : Announced) → Passes k (joins_as k c seat s o).core
+    as_ seat s (announced.Session n) = inl (omega arith)
+    as_ seat s _ = inl (omega arith)
+
+    by : (o : Option Seat) → Passes k (joins k c o).core
+    by None = inr refl
+    by (Some seat) = let r = connect k.server (has_room k.server) in as_ seat r.0 r.1.told
+happens_passes k (Does c now d) = by (numbered k.seats c)
+  where
+    by : (o : Option Seat) → Passes k (does k c now d o).core
+    by None = inr refl
+    by (Some seat) = inl (omega arith)
+happens_passes k (Serves n now bytes) = by (numbered k.sessions n)
+  where
+    read : (x : Session) (r : Result Message WireFault) → Passes k (serves_if k n now x r).core
+    read x (Ok m) = inl (omega arith)
+    read x (Err e) = inl (omega arith)
+
+    by : (o : Option Session) → Passes k (serves k n now bytes o).core
+    by None = inr refl
+    by (Some x) = read x (parse_of server_waiting bytes)
+happens_passes k (Hears n now bytes) = by (numbered k.sessions n)
+  where
+    newest : (x : Session) (s : Seat) (b : Bool) → Passes k (hears_if k x.owner now s bytes b).core
+    newest x s true = inl (omega arith)
+    newest x s false = inr refl
+
+    seat : (x : Session) (o : Option Seat) → Passes k (hears_at k n x.owner now bytes o).core
+    seat x None = inr refl
+    seat x (Some s) = newest x s (is_newest s.session n)
+
+    by : (o : Option Session) → Passes k (hears k n now bytes o).core
+    by None = inr refl
+    by (Some x) = seat x (numbered k.seats x.owner)
+happens_passes k (Settles now) = inl (omega arith)
+happens_passes k (Cuts c) = by (numbered k.seats c)
+  where
+    linked : (s : Seat) (b : Bool) → Passes k (cuts_if k c s b).core
+    linked s true = inl (omega arith)
+    linked s false = inl (omega arith)
+
+    by : (o : Option Seat) → Passes k (cuts k c o).core
+    by None = inr refl
+    by (Some s) = linked s s.client.linked
+happens_passes k (Hangs n) = by (numbered k.sessions n)
+  where
+    hung : (x : Session) (b : Bool) → Passes k (hangs_if k n x b).core
+    hung x true = inr refl
+    hung x false = inl (omega arith)
+
+    by : (o : Option Session) → Passes k (hangs k n o).core
+    by None = inr refl
+    by (Some x) = hung x x.hung
+
 -- ---- the moments of a run so far
+
+-- of two moments the tree of the later one has the directories as they were, or in later versions
+abbrev pub AreInOrder : List Moment → Type 0
+AreInOrder ms = (m e : Moment) → Contains ms m → Contains ms e → step_of e ≤ step_of m → IsGiven (tree e.before) × AreDirsLater (tree e.before) (tree m.before)
 
 pub record Rises (past : List Moment) (w : World) : Type 0 where
   given : IsGiven (tree w.core)
   before : (m : Moment) → Contains past m → IsGiven (tree m.before)
   older : (m : Moment) → Contains past m → IsLater (tree m.before) (tree w.core)
   pub alike : AreAlike past
+  counted : IsCounted (tree w.core)
+  -- each moment is of a step that isn't behind, and what directories were then they are, or they have later versions
+  steps : (m : Moment) → Contains past m → m.before.steps ≤ w.core.steps
+  same : (m : Moment) → Contains past m → m.before.steps ≡ w.core.steps → tree m.before ≡ tree w.core
+  later : (m : Moment) → Contains past m → AreDirsLater (tree m.before) (tree w.core)
+  pub dirs : AreInOrder past
   early : is_early w.stage ≡ true → past ≡ []
 
 abbrev Goes : List Moment → World → Type 0
@@ -159,6 +276,29 @@ rises_event past w e (h, at) = (
         | inr both ↦ ap (λ (z : File). z.content) (some_is g d (sym p.held ∙ ap (λ (z : Moment). server.file_at (tree z.before) f) (sym new ∙ both) ∙ q.held))
       ]
     ];
+    counted = dirs_.0;
+    steps = λ m there. elim (Contains-push_cases past now m there) [
+      | inl old ↦ (let a = h.steps m old in omega (arith, a, le))
+      | inr new ↦ subst (λ (z : Moment). z.before.steps ≤ (happens w.core e).core.steps) new le
+    ];
+    same = λ m there is. elim (Contains-push_cases past now m there) [
+      | inl old ↦ still passed m (h.steps m old) (h.same m old) is
+      | inr new ↦ subst (λ (z : Moment). z.before.steps ≡ (happens w.core e).core.steps → tree z.before ≡ tree (happens w.core e).core) new (still passed now (omega arith) (λ z. refl)) is
+    ];
+    later = λ m there. elim (Contains-push_cases past now m there) [
+      | inl old ↦ dirs_join (tree m.before) (tree w.core) (tree (happens w.core e).core) (h.older m old).next (h.later m old) dirs_.1
+      | inr new ↦ subst (λ (z : Moment). AreDirsLater (tree z.before) (tree (happens w.core e).core)) new dirs_.1
+    ];
+    dirs = λ m d p q le_. elim (Contains-push_cases past now m p) [
+      | inl old ↦ elim (Contains-push_cases past now d q) [
+        | inl also ↦ h.dirs m d old also le_
+        | inr new ↦ subst (λ (z : Moment). step_of z ≤ step_of m → IsGiven (tree z.before) × AreDirsLater (tree z.before) (tree m.before)) new (λ before_. (h.given, subst (AreDirsLater (tree w.core)) (sym (h.same m old (let a = h.steps m old in omega (arith, a, before_)))) (dirs_same (tree w.core) h.counted).1)) le_
+      ]
+      | inr new ↦ elim (Contains-push_cases past now d q) [
+        | inl also ↦ (h.before d also, subst (λ (z : Moment). AreDirsLater (tree d.before) (tree z.before)) new (h.later d also))
+        | inr both ↦ subst (λ (z : Moment). IsGiven (tree z.before) × AreDirsLater (tree z.before) (tree m.before)) both (h.given, subst (λ (z : Moment). AreDirsLater (tree w.core) (tree z.before)) new (dirs_same (tree w.core) h.counted).1)
+      ]
+    ];
     early = λ early. absurd (no_early w.stage at early);
   },
   at,
@@ -166,6 +306,19 @@ rises_event past w e (h, at) = (
   where
     now : Moment
     now = record { before = w.core; event = e }
+
+    dirs_ : IsCounted (tree (happens w.core e).core) × AreDirsLater (tree w.core) (tree (happens w.core e).core)
+    dirs_ = happens_dirs w.core e h.counted
+
+    passed : Passes w.core (happens w.core e).core
+    passed = happens_passes w.core e
+
+    le : w.core.steps ≤ (happens w.core e).core.steps
+    le = elim passed [ inl lt ↦ (omega (arith, lt)) | inr same ↦ (let s = ap (λ (z : Core). z.steps) same in omega (arith, s)) ]
+
+    still : Passes w.core (happens w.core e).core → (m : Moment) → m.before.steps ≤ w.core.steps → (m.before.steps ≡ w.core.steps → tree m.before ≡ tree w.core) → m.before.steps ≡ (happens w.core e).core.steps → tree m.before ≡ tree (happens w.core e).core
+    still (inl lt) m a same is = absurd (omega (arith, lt, a, is))
+    still (inr all) m a same is = same (is ∙ ap (λ (z : Core). z.steps) all) ∙ sym (ap tree all)
 
     turned_ : IsGiven (tree (happens w.core e).core) × IsLater (tree w.core) (tree (happens w.core e).core)
     turned_ = happens_turn w.core e h.given
@@ -181,11 +334,11 @@ rises_all past w (e ∷ es) h =
 
 rises_up : (past : List Moment) (w : World) (n count now : ℕ) (o : Option Wire) → Goes past w → Goes (past ++ up_moments_at w n count now o) (up_at w n count now o)
 rises_up past w n count now None h = rises_on past (past ++ []) w (sym (append-nil past)) h
-rises_up past w n count now (Some q) (h, at) = rises_all past (up_taken w n count q) (up_events n now count q) (record { given = h.given; before = h.before; older = h.older; alike = h.alike; early = h.early }, at)
+rises_up past w n count now (Some q) (h, at) = rises_all past (up_taken w n count q) (up_events n now count q) (record { given = h.given; before = h.before; older = h.older; alike = h.alike; counted = h.counted; steps = h.steps; same = h.same; later = h.later; dirs = h.dirs; early = h.early }, at)
 
 rises_down : (past : List Moment) (w : World) (n count now : ℕ) (o : Option Wire) → Goes past w → Goes (past ++ down_moments_at w n count now o) (down_at w n count now o)
 rises_down past w n count now None h = rises_on past (past ++ []) w (sym (append-nil past)) h
-rises_down past w n count now (Some q) (h, at) = rises_all past (down_taken w n count q) (down_events n now count q) (record { given = h.given; before = h.before; older = h.older; alike = h.alike; early = h.early }, at)
+rises_down past w n count now (Some q) (h, at) = rises_all past (down_taken w n count q) (down_events n now count q) (record { given = h.given; before = h.before; older = h.older; alike = h.alike; counted = h.counted; steps = h.steps; same = h.same; later = h.later; dirs = h.dirs; early = h.early }, at)
 
 rises_round : (past : List Moment) (w : World) (n server at : ℕ) → Goes past w → Goes (past ++ round_moments w n server at) (round w n server at)
 rises_round past w n server at h =
@@ -206,11 +359,11 @@ rises_passes (suc k) past w n server at h = by (is_still w n) (rises_passes k (p
 -- ---- a line
 
 begins : (past : List Moment) (w : World) → Rises past w → Goes past (at_events w)
-begins past w h = (record { given = h.given; before = h.before; older = h.older; alike = h.alike; early = λ e. absurd (no_early part.Events refl e) }, refl)
+begins past w h = (record { given = h.given; before = h.before; older = h.older; alike = h.alike; counted = h.counted; steps = h.steps; same = h.same; later = h.later; dirs = h.dirs; early = λ e. absurd (no_early part.Events refl e) }, refl)
 
 -- where no event came yet there is nothing to compare
-rises_early : (past : List Moment) (w v : World) → (IsGiven (tree w.core) → IsGiven (tree v.core)) → past ≡ [] → Rises past w → Rises (past ++ []) v
-rises_early past w v names none h = subst (λ (l : List Moment). Rises l v) (sym (ap (λ (l : List Moment). l ++ []) none)) (record { given = names h.given; before = λ m there. nothing_in there; older = λ m there. nothing_in there; alike = λ f g d p q same. nothing_in p.there; early = λ e. refl })
+rises_early : (past : List Moment) (w v : World) → (IsGiven (tree w.core) → IsGiven (tree v.core)) → (IsCounted (tree w.core) → IsCounted (tree v.core)) → past ≡ [] → Rises past w → Rises (past ++ []) v
+rises_early past w v names counts none h = subst (λ (l : List Moment). Rises l v) (sym (ap (λ (l : List Moment). l ++ []) none)) (record { given = names h.given; before = λ m there. nothing_in there; older = λ m there. nothing_in there; alike = λ f g d p q same. nothing_in p.there; counted = counts h.counted; steps = λ m there. nothing_in there; same = λ m there is. nothing_in there; later = λ m there. nothing_in there; dirs = λ m e p q le. nothing_in p; early = λ e. refl })
   where
     nothing_in : {A : Type 0} {m : Moment} → Contains [] m → A
     nothing_in {A} {m} there = let lt = there.1 in absurd (omega (arith, lt))
@@ -237,12 +390,31 @@ adjusted_same k (adjustment.Evict c file) = by (numbered k.seats c)
     by None = refl
     by (Some seat) = refl
 
+adjusted_steps : (k : Core) (a : Adjustment) → (adjusted k a).steps ≡ k.steps
+adjusted_steps k (adjustment.Forge who.Server key place) = refl
+adjusted_steps k (adjustment.Forge (who.Client c) key place) = by (numbered k.seats c)
+  where
+    by : (o : Option Seat) → (with_client k c (λ s. client.forged s key place) o).steps ≡ k.steps
+    by None = refl
+    by (Some seat) = refl
+adjusted_steps k (adjustment.Clear who.Server) = refl
+adjusted_steps k (adjustment.Clear (who.Client c)) = by (numbered k.seats c)
+  where
+    by : (o : Option Seat) → (with_client k c client.index_cleared o).steps ≡ k.steps
+    by None = refl
+    by (Some seat) = refl
+adjusted_steps k (adjustment.Evict c file) = by (numbered k.seats c)
+  where
+    by : (o : Option Seat) → (with_client k c (λ s. client.evicted s file) o).steps ≡ k.steps
+    by None = refl
+    by (Some seat) = refl
+
 pub rises_next : (past : List Moment) (w : World) (t : Turn) → Allows w t → Rises past w → Rises (past ++ turn_moments w t) (turned w t)
 rises_next past w turn.Skip f h = rises_same past w h
-rises_next past w (turn.At s) f h = rises_early past w (record w { stage = s }) (λ n. n) (h.early f) h
-rises_next past w (turn.Clients m) f h = rises_early past w (turned w (turn.Clients m)) (λ n. n) (h.early f) h
-rises_next past w (turn.Dir dir name) f h = rises_early past w (turned w (turn.Dir dir name)) (λ n. (opens_directory w.core.server.tree dir name n f.1).given) (h.early f.0) h
-rises_next past w (turn.File dir name content) f h = rises_early past w (turned w (turn.File dir name content)) (λ n. (opens_file w.core.server.tree dir name (content_bytes content) n f.1.0).given) (h.early f.0) h
+rises_next past w (turn.At s) f h = rises_early past w (record w { stage = s }) (λ n. n) (λ n. n) (h.early f) h
+rises_next past w (turn.Clients m) f h = rises_early past w (turned w (turn.Clients m)) (λ n. n) (λ n. n) (h.early f) h
+rises_next past w (turn.Dir dir name) f h = rises_early past w (turned w (turn.Dir dir name)) (λ n. (opens_directory w.core.server.tree dir name n f.1).given) (λ n. opens_counted w.core.server.tree dir name Directory f.1 n) (h.early f.0) h
+rises_next past w (turn.File dir name content) f h = rises_early past w (turned w (turn.File dir name content)) (λ n. (opens_file w.core.server.tree dir name (content_bytes content) n f.1.0).given) (λ n. opens_counted w.core.server.tree dir name (Plain (content_bytes content)) f.1.0 n) (h.early f.0) h
 rises_next past w (turn.Join c) f h = (rises_all past (at_events w) (Joins c ∷ []) (begins past w h)).0
 rises_next past w (turn.Do c now d) f h = (rises_all past (at_events w) (Does c now d ∷ []) (begins past w h)).0
 rises_next past w (turn.Up n a now) f h = (rises_up past (at_events w) n (count_of a (up_length (numbered w.wires n))) now (numbered w.wires n) (begins past w h)).0
@@ -254,27 +426,34 @@ rises_next past w (turn.Pass n k server at) f h = (rises_passes k past (at_event
 rises_next past w (turn.Adjust a) f h =
     let g = (begins past w h).0 in
     let same = adjusted_same w.core a in
-    rises_same past (turned w (turn.Adjust a)) (record { given = subst IsGiven (sym same) g.given; before = g.before; older = λ m there. subst (IsLater (tree m.before)) (sym same) (g.older m there); alike = g.alike; early = g.early })
+    rises_same past (turned w (turn.Adjust a)) (record { given = subst IsGiven (sym same) g.given; before = g.before; older = λ m there. subst (IsLater (tree m.before)) (sym same) (g.older m there); alike = g.alike; counted = subst IsCounted (sym same) g.counted; steps = λ m there. subst (λ (z : ℕ). m.before.steps ≤ z) (sym (adjusted_steps w.core a)) (g.steps m there); same = λ m there is. g.same m there (is ∙ adjusted_steps w.core a) ∙ sym same; later = λ m there. subst (AreDirsLater (tree m.before)) (sym same) (g.later m there); dirs = g.dirs; early = g.early })
 
 pub rises_start : Rises [] start
-rises_start = record { given = record { below = (omega arith, tt); apart = (tt, tt) }; before = λ m there. nothing_in there; older = λ m there. nothing_in there; alike = λ f g d p q same. nothing_in p.there; early = λ e. refl }
+rises_start = record { given = record { below = (omega arith, tt); apart = (tt, tt) }; before = λ m there. nothing_in there; older = λ m there. nothing_in there; alike = λ f g d p q same. nothing_in p.there; counted = record { given = record { below = (omega arith, tt); apart = (tt, tt) }; versions = (omega arith, tt) }; steps = λ m there. nothing_in there; same = λ m there is. nothing_in there; later = λ m there. nothing_in there; dirs = λ m e p q le. nothing_in p; early = λ e. refl }
   where
     nothing_in : {A : Type 0} {m : Moment} → Contains [] m → A
     nothing_in {A} {m} there = let lt = there.1 in absurd (omega (arith, lt))
 
 -- ---- a whole run
 
-rises_lines : (n : ℕ) (past : List Moment) (w : World) (ls : List (List ℕ)) → Rises past w → AreAlike (past ++ moments_from w n ls)
-rises_lines n past w [] h = subst AreAlike (sym (append-nil past)) h.alike
+abbrev Both : List Moment → Type 0
+Both ms = AreAlike ms × AreInOrder ms
+
+rises_lines : (n : ℕ) (past : List Moment) (w : World) (ls : List (List ℕ)) → Rises past w → Both (past ++ moments_from w n ls)
+rises_lines n past w [] h = subst Both (sym (append-nil past)) (h.alike, h.dirs)
 rises_lines n past w (l ∷ ls) h = by_line (line_of l) refl (λ t more g. rises_lines (n + 1) more (turned w t) ls g)
   where
-    by_turn : (x : Line) → line_of l ≡ Some x → (r : Result Turn LineFault) → asked w n x ≡ r → ((t : Turn) (more : List Moment) → Rises more (turned w t) → AreAlike (more ++ moments_from (turned w t) (n + 1) ls)) → AreAlike (past ++ moments_by w n ls r)
-    by_turn x read (Err f) is go = subst AreAlike (sym (append-nil past)) h.alike
-    by_turn x read (Ok t) is go = subst AreAlike (append_assoc past (turn_moments w t) (moments_from (turned w t) (n + 1) ls)) (go t (past ++ turn_moments w t) (rises_next past w t (allowed w n x t (line_fits l x read) is) h))
+    by_turn : (x : Line) → line_of l ≡ Some x → (r : Result Turn LineFault) → asked w n x ≡ r → ((t : Turn) (more : List Moment) → Rises more (turned w t) → Both (more ++ moments_from (turned w t) (n + 1) ls)) → Both (past ++ moments_by w n ls r)
+    by_turn x read (Err f) is go = subst Both (sym (append-nil past)) (h.alike, h.dirs)
+    by_turn x read (Ok t) is go = subst Both (append_assoc past (turn_moments w t) (moments_from (turned w t) (n + 1) ls)) (go t (past ++ turn_moments w t) (rises_next past w t (allowed w n x t (line_fits l x read) is) h))
 
-    by_line : (o : Option Line) → line_of l ≡ o → ((t : Turn) (more : List Moment) → Rises more (turned w t) → AreAlike (more ++ moments_from (turned w t) (n + 1) ls)) → AreAlike (past ++ moments_by w n ls (asked_by w n o))
-    by_line None read go = subst AreAlike (sym (append-nil past)) h.alike
+    by_line : (o : Option Line) → line_of l ≡ o → ((t : Turn) (more : List Moment) → Rises more (turned w t) → Both (more ++ moments_from (turned w t) (n + 1) ls)) → Both (past ++ moments_by w n ls (asked_by w n o))
+    by_line None read go = subst Both (sym (append-nil past)) (h.alike, h.dirs)
     by_line (Some x) read go = by_turn x read (asked w n x) refl go
 
 pub runs_alike : (input : List ℕ) → AreAlike (moments input)
-runs_alike input = rises_lines 1 [] start (lines_of input) rises_start
+runs_alike input = (rises_lines 1 [] start (lines_of input) rises_start).0
+
+-- directories keep their names in each version
+pub runs_in_order : (input : List ℕ) → AreInOrder (moments input)
+runs_in_order input = (rises_lines 1 [] start (lines_of input) rises_start).1

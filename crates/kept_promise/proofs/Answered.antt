@@ -1,9 +1,19 @@
 -- A client takes an answer to a call of its operation under way: which call it is, and what comes of it.
 use Rattle.std.proofs.Common.{◌≡◌, ℕ, zero, suc, ◌≤◌, List, [], ◌∷◌, ◌++◌, Option, Some, Bool, true, false, refl, sym, ap, ◌∙◌, subst, arith, eqb-true, eq-eqb, map}
 use Rattle.hash_calls.specs.declared.call.Leased.{Leased}
-use Rattle.kept_promise.proofs.Common.{slice_get, cond, ◌==◌, ◌||◌, Answer, Attr, Committed, Hashes, Piece, waiting, Pending, Program, has_call, store_pending, read_pending, store_at, read_at, ReadCall, StoreCall, Reply, Reply.Versioned, Reply.Hashed, Reply.Bytes, Reply.Made, Reply.Named, Reply.Stored, Reply.Changed, Told, reply_program}
+use Rattle.nfs3_calls.specs.Nfs.{nfs_proc, proc_number}
+use Rattle.nfs3_calls.specs.declared.message.NfsProc.{NfsProc}
+use Rattle.nfs3_calls.specs.declared.message.NfsProc.TheVariants as procs
+use Rattle.path_calls.specs.Walk.{call_at, next_call}
+use Rattle.path_calls.specs.declared.walk.Goal.{Goal}
+use Rattle.path_calls.specs.declared.walk.Goal.TheVariants as goal
+use Rattle.path_calls.specs.declared.walk.Walk.{Walk}
+use Rattle.open_close.specs.Walking.{is_its}
+use Rattle.wire.specs.declared.message.Program.TheVariants as program
+use Rattle.kept_promise.proofs.Common.{slice_get, cond, ◌==◌, ◌||◌, Answer, Attr, Committed, Hashes, Piece, waiting, Pending, Program, has_call, store_pending, read_pending, store_at, read_at, ReadCall, StoreCall, Reply, Reply.Versioned, Reply.Hashed, Reply.Bytes, Reply.Made, Reply.Named, Reply.Stored, Reply.Changed, Told, reply_program, Reply.Walked, NameReply, NameReply.LookedUp, NameReply.Shown, NameReply.Listed, NameReply.MadeFile, NameReply.MadeDir, NameReply.NoDir, NameReply.Gone, NameReply.Renamed, name_answer}
 use Rattle.kept_promise.proofs.Lists.{some_is, nothing_there, in_front, false_and_true}
 use Rattle.kept_promise.proofs.Keys.{times, code_of}
+use Rattle.kept_promise.proofs.PathNames.{IsAsking}
 use Rattle.kept_promise.proofs.Heard.{told_pending}
 use Rattle.kept_promise.proofs.Moves.{waits_under}
 
@@ -51,30 +61,74 @@ read_here (u ∷ us) i t e = by (u.xid == t.xid) refl i e (λ k. read_here us k 
 
 -- ---- an answer to a procedure is of its kind
 
+walked_code : (r : NameReply) → 8 ≤ code_of (reply_program (Walked r))
+walked_code (LookedUp a) = omega arith
+walked_code (Shown a) = omega arith
+walked_code (Listed a) = omega arith
+walked_code (MadeFile a) = omega arith
+walked_code (MadeDir a) = omega arith
+walked_code (NoDir a) = omega arith
+walked_code (Gone a) = omega arith
+walked_code (Renamed a) = omega arith
+
 pub lease_reply : (r : Reply) → 7 ≡ code_of (reply_program r) → (a : Answer Leased Unit) × (r ≡ Versioned a)
 lease_reply (Versioned a) e = (a, refl)
+lease_reply (Walked r) e = let far = walked_code r in absurd (omega (arith, e, far))
 lease_reply _ e = absurd (omega (arith, e))
 
 pub hash_reply : (r : Reply) → 1 ≡ code_of (reply_program r) → (a : Answer Hashes Unit) × (r ≡ Hashed a)
 hash_reply (Hashed a) e = (a, refl)
+hash_reply (Walked r) e = let far = walked_code r in absurd (omega (arith, e, far))
 hash_reply _ e = absurd (omega (arith, e))
 
 pub made_reply : (r : Reply) → 2 ≡ code_of (reply_program r) → (a : Answer Unit Unit) × (r ≡ Made a)
 made_reply (Made a) e = (a, refl)
+made_reply (Walked r) e = let far = walked_code r in absurd (omega (arith, e, far))
 made_reply _ e = absurd (omega (arith, e))
 
 pub named_reply : (r : Reply) → 3 ≡ code_of (reply_program r) → (a : Answer Unit Unit) × (r ≡ Named a)
 named_reply (Named a) e = (a, refl)
+named_reply (Walked r) e = let far = walked_code r in absurd (omega (arith, e, far))
 named_reply _ e = absurd (omega (arith, e))
 
 pub stored_reply : (r : Reply) → 4 ≡ code_of (reply_program r) → (a : Answer Unit Unit) × (r ≡ Stored a)
 stored_reply (Stored a) e = (a, refl)
+stored_reply (Walked r) e = let far = walked_code r in absurd (omega (arith, e, far))
 stored_reply _ e = absurd (omega (arith, e))
 
 pub changed_reply : (r : Reply) → 5 ≡ code_of (reply_program r) → (a : Answer Committed Unit) × (r ≡ Changed a)
 changed_reply (Changed a) e = (a, refl)
+changed_reply (Walked r) e = let far = walked_code r in absurd (omega (arith, e, far))
 changed_reply _ e = absurd (omega (arith, e))
 
 pub read_reply : (r : Reply) → 6 ≡ code_of (reply_program r) → (a : Answer Piece (Option Attr)) × (r ≡ Bytes a)
 read_reply (Bytes a) e = (a, refl)
+read_reply (Walked r) e = let far = walked_code r in absurd (omega (arith, e, far))
 read_reply _ e = absurd (omega (arith, e))
+
+-- and one to a walk
+
+pub walk_code : (dir : ℕ) (left : List (List ℕ)) (g : Goal) → IsAsking g → 8 ≤ code_of (program.Nfs (nfs_proc (call_at dir left g)))
+walk_code dir (n ∷ ns) g h = omega arith
+walk_code dir [] (goal.Find n) h = omega arith
+walk_code dir [] (goal.Look n) h = omega arith
+walk_code dir [] goal.LookRoot h = omega arith
+walk_code dir [] (goal.List p) h = omega arith
+walk_code dir [] (goal.Make n) h = omega arith
+walk_code dir [] (goal.MakeDir n) h = omega arith
+walk_code dir [] (goal.Remove n) h = omega arith
+walk_code dir [] (goal.RemoveDir n) h = omega arith
+walk_code dir [] (goal.RenameFrom n to) h = omega arith
+walk_code dir [] (goal.RenameTo from n to) h = omega arith
+
+pub walk_reply : (r : Reply) → 8 ≤ code_of (reply_program r) → (m : NameReply) × (r ≡ Walked m)
+walk_reply (Walked m) e = (m, refl)
+walk_reply _ e = absurd (omega (arith, e))
+
+nfs_part : Program → NfsProc
+nfs_part (program.Nfs p) = p
+nfs_part p = procs.Null
+
+pub walk_its : (w : Walk) (m : NameReply) → program.Nfs (nfs_proc (next_call w)) ≡ reply_program (Walked m) → is_its w (name_answer m) ≡ true
+unfolding nfs_part
+walk_its w m e = eq-eqb (proc_number (nfs_proc (name_answer m))) (proc_number (nfs_proc (next_call w))) (ap (λ (p : Program). proc_number (nfs_part p)) (sym e))

@@ -1,8 +1,14 @@
 -- What a client's step for a command says: its own answer, and what it leaves of the local content, or that it asks the server.
-use Rattle.std.proofs.Common.{◌≡◌, ℕ, zero, suc, ◌+◌, ◌≤◌, List, [], ◌∷◌, length, Option, Some, None, Bool, true, false, refl, sym, ap, ◌∙◌, subst, arith}
+use Rattle.std.proofs.Common.{◌≡◌, ℕ, zero, suc, ◌+◌, ◌≤◌, List, [], ◌∷◌, length, Option, Some, None, Bool, true, false, ◌&&◌, ◌<◌, refl, sym, ap, ◌∙◌, subst, arith}
 use Rattle.command_text.specs.declared.command.Command.TheVariants as command
 use Rattle.command_text.specs.declared.path.PathCommand.TheVariants as path
-use Rattle.open_close.specs.Walking.{walks}
+use Rattle.command_text.specs.declared.path.PathCommand.{PathCommand}
+use Rattle.open_close.specs.Walking.{walks, walks_if}
+use Rattle.path_calls.specs.Walk.{begun, arrives}
+use Rattle.path_calls.specs.declared.walk.Goal.TheVariants as goal
+use Rattle.command_text.specs.declared.path.Spot.{Spot}
+use Rattle.client_state.specs.Ending.{may_walk, has_xids}
+use Rattle.client_state.specs.View.{walk_left}
 use Rattle.client_cache.specs.Cache.{reserved, content_of}
 use Rattle.client_cache.specs.declared.kept.Content.{Content}
 use Rattle.client_state.specs.State as client
@@ -14,7 +20,7 @@ use Rattle.kept_promise.proofs.Common.{nat_tests, ◌==◌, nat_lt, is_some, opt
 use Rattle.kept_promise.proofs.Does.{own_ended}
 use Rattle.kept_promise.proofs.StepCases.{some_call}
 use Rattle.kept_promise.proofs.Deeds.{local_of}
-use Rattle.kept_promise.proofs.PathNames.{IsSmall}
+use Rattle.kept_promise.proofs.PathNames.{IsSmall, HasNames}
 
 -- ---- what is said
 
@@ -158,6 +164,59 @@ closed_answer s file l at = ask (may_ask s)
     ask true = ((let o = some_call in omega (arith, o), refl), (refl, refl, value))
     ask false = (stays s, so s (command.Close file) outcome.NoLink told.NoLink refl (λ v. refl) (λ v l. refl))
 
+-- ---- a command on names
+
+-- it may begin wherever any operation may: it sends few calls
+few_moves : (dirs : List (List ℕ)) (n : List ℕ) (to : Spot) → length dirs ≤ 64 → length to.dirs ≤ 64 → walk_left (arrives 1 dirs (goal.RenameFrom n to)) ≤ 999998
+few_moves [] n to few more = omega (arith, more)
+few_moves (d ∷ ds) n to few more = omega (arith, few, more)
+
+few_calls : (k : PathCommand) → HasNames k → walk_left (begun k) ≤ 999998
+few_calls (path.Find s) h = let few = h.0.1 in omega (arith, few)
+few_calls (path.Look s) h = let few = h.0.1 in omega (arith, few)
+few_calls path.LookRoot h = omega arith
+few_calls (path.List p) h = let few = h.1 in omega (arith, few)
+few_calls (path.Make s) h = let few = h.0.1 in omega (arith, few)
+few_calls (path.MakeDir s) h = let few = h.0.1 in omega (arith, few)
+few_calls (path.Remove s) h = let few = h.0.1 in omega (arith, few)
+few_calls (path.RemoveDir s) h = let few = h.0.1 in omega (arith, few)
+few_calls (path.Rename s t) h = few_moves s.dirs s.name t h.0.0.1 h.1.0.1
+
+walk_asks : (s : client.State) (k : PathCommand) → HasNames k → may_walk s (begun k) ≡ may_ask s
+walk_asks s k names = by (may_ask s) refl
+  where
+    room : (l : Bool) → elim l as (λ (x : Bool). Bool) [ true ↦ has_xids s.next | false ↦ false ] ≡ true → has_xids s.next ≡ true
+    room true e = e
+    room false e = absurd cc
+
+    by : (b : Bool) → may_ask s ≡ b → (b && nat_lt (s.next + 1 + walk_left (begun k)) 4294967296) ≡ b
+    by true e =
+        let few = few_calls k names in
+        let x = room s.linked e in
+        let lt : s.next < 4293967297 = grind (arith, nat_tests, x) in
+        let fits : s.next + 1 + walk_left (begun k) < 4294967296 = omega (arith, lt, few) in
+        let b : nat_lt (s.next + 1 + walk_left (begun k)) 4294967296 ≡ true = grind (arith, nat_tests, fits) in
+        b
+    by false e = refl
+
+own_named : (asks : Bool) (k : PathCommand) (l : Option (List ℕ)) → free_answer asks (command.Named k) l ≡ unless_asks asks
+own_named asks k None = refl
+own_named asks k (Some x) = refl
+
+no_link_leaves : (k : PathCommand) (v : List ℕ) (l : Option (List ℕ)) → leaves (command.Named k) told.NoLink v l ≡ l
+no_link_leaves (path.Find s) v l = refl
+no_link_leaves k v l = refl
+
+named_answer : (s : client.State) (k : PathCommand) → HasNames k → s.task ≡ None → IsAnswered s (command.Named k) (walks s k s.task)
+named_answer s k names free =
+    subst (λ (t : Option Task). IsAnswered s (command.Named k) (walks s k t)) (sym free)
+    (subst (λ (x : Option Told). (let r = walks_if s (begun k) (may_walk s (begun k)) in Stays s r.0 × AnswersBy s (command.Named k) r x)) (sym (own_named (may_ask s) k (local_of s 0)))
+    (subst (λ (b : Bool). (let r = walks_if s (begun k) (may_walk s (begun k)) in Stays s r.0 × AnswersBy s (command.Named k) r (unless_asks b))) (walk_asks s k names) (ask (may_walk s (begun k)))))
+  where
+    ask : (b : Bool) → (let r = walks_if s (begun k) b in Stays s r.0 × AnswersBy s (command.Named k) r (unless_asks b))
+    ask true = ((let o = some_call in omega (arith, o), refl), (refl, refl, tt))
+    ask false = (stays s, so s (command.Named k) outcome.NoLink told.NoLink refl (λ v. refl) (no_link_leaves k))
+
 -- ---- any command
 
 -- with nothing under way
@@ -178,7 +237,7 @@ free_answers s (command.Abandon file) now small free = local_one s (command.Aban
     others = λ f apart. ap (option_map (λ (z : Local). z.bytes)) (without_at_another s.opened file f apart);
   },
 ))
-free_answers s (command.Named k) now small free = absurd small
+free_answers s (command.Named k) now small free = named_answer s k small free
 
 -- with an operation under way it is busy
 busy_by : (s : client.State) (d : Command) (t : Task) (now : ℕ) → s.task ≡ Some t → command_step s d now ≡ (s, ends outcome.Busy 0 0)

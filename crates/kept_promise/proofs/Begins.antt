@@ -1,42 +1,52 @@
 -- An operation begins that asks the server: its first call goes up.
-use Rattle.std.proofs.Common.{◌⊎◌, inl, inr, ◌≡◌, ℕ, zero, suc, ◌+◌, ◌<◌, ◌≤◌, List, [], ◌∷◌, ◌++◌, length, Option, Some, None, Bool, true, false, refl, sym, ap, ◌∙◌, subst, arith, eq-eqb, ne_eqb, map, IsSome}
+use Rattle.std.proofs.Common.{◌⊎◌, inl, inr, ◌≡◌, ℕ, zero, suc, ◌+◌, ◌<◌, ◌≤◌, List, [], ◌∷◌, ◌++◌, length, Option, Some, None, Bool, true, false, refl, sym, ap, ◌∙◌, subst, arith, eq-eqb, ne_eqb, map}
+use Rattle.path_calls.specs.declared.walk.Walk.{Walk}
 use Rattle.client_state.specs.State as client
 use Rattle.client_state.specs.declared.task.Stage.TheVariants as stage
+use Rattle.server_core.specs.declared.change.Wanted.TheVariants as wanted
 use Rattle.register_model.specs.declared.op.Outcome.TheVariants as told
 use Rattle.register_model.specs.declared.op.Word.TheVariants as words
-use Rattle.kept_promise.proofs.Common.{nat_tests, slice_get, cond, ◌==◌, Pending, Temp, key_of, Change, Stage, content_of, Op, TakenCall, Core, Entries, Seat, Session, numbered, unless, hashed_of, Book, Call, Call.Lease, Call.Hash, Call.Read, Call.Name, Call.Send, Call.Commit, Reply, Reply.Versioned, Reply.Hashed, Reply.Bytes, Reply.Changed, Ask, Queue}
+use Rattle.kept_promise.proofs.Common.{nat_tests, slice_get, cond, ◌==◌, Pending, Temp, key_of, Change, Wanted, Stage, Op, TakenCall, Core, Entries, Seat, Session, numbered, unless, hashed_of, Book, Call, Call.Lease, Call.Hash, Call.Read, Call.Name, Call.Send, Call.Commit, Reply, Reply.Versioned, Reply.Hashed, Reply.Bytes, Reply.Changed, Ask, Queue, Call.Walks, Reply.Walked}
 use Rattle.kept_promise.proofs.Statements.{CallFits}
 use Rattle.kept_promise.proofs.Lists.{some_is, nothing_there, same_or_not, at_end, of_appended, false_and_true}
 use Rattle.kept_promise.proofs.Keys.{times, times_append, own, on_way, ask_key, change_key, told_key, pending_key, IsOurs, call_ours}
-use Rattle.kept_promise.proofs.Messages.{Job, job, stage_word, AllAsks, Rising, hash_offset, read_chunk, CallOf, IsAsked, AnswerOf, IsAnswer, FetchOf, IsCommit, CommitOf, IsPending, IsNamed, IsPiece, PieceOf, TempUnder, AreParts, CloseOf, Trying, content_wanted}
-use Rattle.kept_promise.proofs.Rights.{IsRight}
+use Rattle.kept_promise.proofs.Messages.{Job, job, stage_word, AllAsks, Rising, hash_offset, read_chunk, CallOf, IsAsked, AnswerOf, IsAnswer, FetchOf, IsCommit, CommitOf, IsNamed, IsPiece, PieceOf, TempUnder, AreParts, CloseOf, Trying, IsCreating, WaitsFor}
+use Rattle.kept_promise.proofs.Rights.{IsRight, WasThere}
+use Rattle.kept_promise.proofs.PathNames.{is_creating}
 use Rattle.kept_promise.proofs.History.{onward, goes_appended, still_appended}
 use Rattle.kept_promise.proofs.Later.{all_asks, all_tolds, same_view, cached_later}
 use Rattle.kept_promise.proofs.Turns.{Around, turned_core, kept_turn}
 use Rattle.kept_promise.proofs.Taken.{rising_append, times_map_append}
 use Rattle.kept_promise.proofs.Orderly.{locals_of, InPlace}
 use Rattle.kept_promise.proofs.Ordered.{BeginsWith, orderly_clear, orderly_begun, place_more}
-use Rattle.kept_promise.proofs.Facts.{IsBalanced, IsTalk, IsOf, IsSeat, Cached, HasXids, IsKept, commits_in}
+use Rattle.kept_promise.proofs.Facts.{IsBalanced, IsTalk, IsOf, IsSeat, Cached, HasXids, IsKept, commits_in, change_number}
 use Rattle.kept_promise.proofs.Takes.{server_still}
-use Rattle.kept_promise.proofs.Heard.{ask_pending}
+use Rattle.kept_promise.proofs.Heard.{ask_pending, change_once, commits_unless}
 use Rattle.kept_promise.proofs.Steps.{no_commits, asks_below, tolds_below}
+use Rattle.kept_promise.proofs.Growth.{there_later}
 
 -- ---- nothing of a change is on its way where nothing is under way
-
-abbrev commits_if : Call → ℕ → ℕ
-commits_if c n = elim c [ Commit temp file size ↦ suc n | _ ↦ n ]
 
 free_commits : (book : Book) (closing : Option ℕ) (cut : Bool) (o : Option Job) (contents : ℕ → List ℕ) (us : List Ask) → cut ≡ false → o ≡ None → AllAsks (IsCommit book closing cut o contents) us → commits_in us ≡ 0
 free_commits book closing cut o contents [] uncut free all = refl
 free_commits book closing cut o contents (a ∷ us) uncut free all = by a.call all.0 (free_commits book closing cut o contents us uncut free all.1)
   where
-    by : (c : Call) → CommitOf book closing cut o contents a.xid c → commits_in us ≡ 0 → commits_if c (commits_in us) ≡ 0
-    by (Commit temp file size) h none = nothing_there _ (sym free ∙ h.0.waited uncut)
-    by _ h none = none
+    creates : (w : Walk) (b : Bool) → is_creating w ≡ b → (is_creating w ≡ true → IsCreating book closing cut o a.xid w) → commits_in us ≡ 0 → cond b 1 0 + commits_in us ≡ 0
+    creates w true e h none = nothing_there _ (sym free ∙ (h e).waited uncut)
+    creates w false e h none = omega (arith, none)
 
-free_waiting : (book : Book) (closing : Option ℕ) (cut : Bool) (o : Option Job) (cs : List Change) → cut ≡ false → o ≡ None → ((i : ℕ) (d : Change) → slice_get cs i ≡ Some d → IsPending book closing cut o d.xid d.file (content_wanted d.what)) → cs ≡ []
+    by : (c : Call) → CommitOf book closing cut o contents a.xid c → commits_in us ≡ 0 → change_number c + commits_in us ≡ 0
+    by (Commit temp file size) h none = nothing_there _ (sym free ∙ h.0.waited uncut)
+    by (Walks w) h none = creates w (is_creating w) refl h none
+    by _ h none = omega (arith, none)
+
+free_waiting : (book : Book) (closing : Option ℕ) (cut : Bool) (o : Option Job) (cs : List Change) → cut ≡ false → o ≡ None → ((i : ℕ) (d : Change) → slice_get cs i ≡ Some d → WaitsFor book closing cut o d.xid d.file d.what) → cs ≡ []
 free_waiting book closing cut o [] uncut free all = refl
-free_waiting book closing cut o (d ∷ cs) uncut free all = nothing_there _ (sym free ∙ (all 0 d refl).waited uncut)
+free_waiting book closing cut o (d ∷ cs) uncut free all = by d.what (all 0 d refl)
+  where
+    by : (what : Wanted) → WaitsFor book closing cut o d.xid d.file what → d ∷ cs ≡ []
+    by (wanted.Content content) p = nothing_there _ (sym free ∙ p.waited uncut)
+    by (wanted.Asked a) p = nothing_there _ (sym free ∙ (p.waited uncut).1)
 
 -- ---- its first stage waits for one call
 
@@ -47,20 +57,22 @@ pub record First (next : ℕ) (s : Stage) (a : Ask) : Type 0 where
   pub hash : (y o : ℕ) → y < next → hash_offset s y ≡ Some o → ⊥
   pub read : (y : ℕ) → read_chunk s y ≡ None
   pub commit : (y : ℕ) → s ≡ stage.Committing y → ⊥
+  pub walk : (y : ℕ) (w : Walk) → y < next → s ≡ stage.Walking y w → ⊥
   pub lease : (y : ℕ) → y < next → s ≡ stage.Asking y → ⊥
-  pub none : commits_in (a ∷ []) ≡ 0
 
-call_first : (next : ℕ) (j : Job) (s : Stage) (a : Ask) → First next s a → j.stage ≡ s → (y : ℕ) (c : Call) → y < next → CallOf (Some j) y c
+pub call_first : (next : ℕ) (j : Job) (s : Stage) (a : Ask) → First next s a → j.stage ≡ s → (y : ℕ) (c : Call) → y < next → CallOf (Some j) y c
 call_first next j s a f is y (Lease g) lt = λ i e w. absurd (f.lease y lt (sym is ∙ ap (λ (z : Job). z.stage) (some_is j i e) ∙ w))
 call_first next j s a f is y (Hash g o) lt = λ i p e w. absurd (f.hash y p lt (ap (λ (z : Stage). hash_offset z y) (sym is) ∙ ap (λ (z : Job). hash_offset z.stage y) (some_is j i e) ∙ w))
 call_first next j s a f is y (Read g d) lt = λ i p e w. nothing_there p (sym (f.read y) ∙ ap (λ (z : Stage). read_chunk z y) (sym is) ∙ ap (λ (z : Job). read_chunk z.stage y) (some_is j i e) ∙ w)
+call_first next j s a f is y (Walks w) lt = λ i v e at. absurd (f.walk y v lt (sym is ∙ ap (λ (z : Job). z.stage) (some_is j i e) ∙ at))
 call_first next j s a f is y _ lt = tt
 
-answer_first : (book : Book) (taken : List TakenCall) (closing : Option ℕ) (next : ℕ) (j : Job) (s : Stage) (a : Ask) → First next s a → j.stage ≡ s → (y : ℕ) (r : Reply) → y < next → AnswerOf book taken closing (Some j) y r
+pub answer_first : (book : Book) (taken : List TakenCall) (closing : Option ℕ) (next : ℕ) (j : Job) (s : Stage) (a : Ask) → First next s a → j.stage ≡ s → (y : ℕ) (r : Reply) → y < next → AnswerOf book taken closing (Some j) y r
 answer_first book taken closing next j s a f is y (Versioned h) lt = λ i e w. absurd (f.lease y lt (sym is ∙ ap (λ (z : Job). z.stage) (some_is j i e) ∙ w))
 answer_first book taken closing next j s a f is y (Hashed h) lt = λ i p e w. absurd (f.hash y p lt (ap (λ (z : Stage). hash_offset z y) (sym is) ∙ ap (λ (z : Job). hash_offset z.stage y) (some_is j i e) ∙ w))
 answer_first book taken closing next j s a f is y (Bytes h) lt = λ i g c e at w. nothing_there c (sym (f.read y) ∙ ap (λ (z : Stage). read_chunk z y) (sym is) ∙ ap (λ (z : Job). read_chunk z.stage y) (some_is j i e) ∙ w)
 answer_first book taken closing next j s a f is y (Changed h) lt = λ i e w. absurd (f.commit y (sym is ∙ ap (λ (z : Job). z.stage) (some_is j i e) ∙ w))
+answer_first book taken closing next j s a f is y (Walked r) lt = λ i w e at. absurd (f.walk y w lt (sym is ∙ ap (λ (z : Job). z.stage) (some_is j i e) ∙ at))
 answer_first book taken closing next j s a f is y _ lt = tt
 
 map_asks : (P Q : Ask → Type 0) → ((a : Ask) → P a → Q a) → (us : List Ask) → AllAsks P us → AllAsks Q us
@@ -74,14 +86,8 @@ unless_rising true n us a top r e = wider n us r
     wider n (u ∷ us) r = (r.0, wider (u.xid + 1) us r.1)
 unless_rising false n us a top r e = rising_append n us (a ∷ []) top (top + 1) r (omega (arith, e), omega (arith, e))
 
-unless_commits : (hung : Bool) (us : List Ask) (a : Ask) → commits_in us ≡ 0 → commits_in (a ∷ []) ≡ 0 → commits_in (unless hung us (a ∷ [])) ≡ 0
-unless_commits true us a e f = e
-unless_commits false [] a e f = f
-unless_commits false (u ∷ us) a e f = by u.call e (unless_commits false us a)
-  where
-    by : (c : Call) → commits_if c (commits_in us) ≡ 0 → (commits_in us ≡ 0 → commits_in (a ∷ []) ≡ 0 → commits_in (us ++ a ∷ []) ≡ 0) → commits_if c (commits_in (us ++ a ∷ [])) ≡ 0
-    by (Commit temp file size) e later = absurd (omega (arith, e))
-    by _ e later = later e f
+unless_commits : (hung : Bool) (us : List Ask) (a : Ask) → commits_in us ≡ 0 → commits_in (unless hung us (a ∷ [])) ≤ 1
+unless_commits hung us a e = let both = commits_unless hung us (a ∷ []) in let one = change_once a.call in omega (arith, e, both, one)
 
 balanced_first : (n : ℕ) (w : List Change) (q : Queue) (hung : Bool) (next : ℕ) (calls : List Pending) (a : Ask) → a.xid ≡ next → IsBalanced n w q hung next calls → IsBalanced n w (record { ups = unless hung q.ups (a ∷ []); downs = q.downs }) hung (next + 1) (ask_pending a ∷ calls)
 balanced_first n w q hung next calls a e h = record {
@@ -157,6 +163,7 @@ under_more n m le (a ∷ us) h = (by a.call h.0, under_more n m le us h.1)
     by (Lease g) lt = tt
     by (Hash g o) lt = tt
     by (Read g c) lt = tt
+    by (Walks w) lt = tt
     by _ lt = omega (arith, lt, le)
 
 -- the client's session, and that nothing is under way
@@ -185,13 +192,14 @@ pub record Starts (book : Book) (k : Core) (qs : List Queue) (c n : ℕ) (x : Se
   pub pointless : new.point ≡ None
   pub right : IsRight (onward book 1 (book.ops ++ new ∷ [])) new
   pub asked : IsAsked (Some (record { place = length book.ops; file = file; stage = s })) a
+  pub commit : (contents : ℕ → List ℕ) → IsCommit (onward book 1 (book.ops ++ new ∷ [])) closing x.cut (Some (record { place = length book.ops; file = file; stage = s })) contents a
   pub fits : CallFits a.xid a.call
   pub under : TempUnder temp a.call
   pub piece : (f : ℕ → List ℕ) → IsPiece (hashed_of book.moments) f a
   pub cached : Cached book cache
   pub temps : seat.client.next_temp ≤ temp
   pub short : length value ≤ 67108864
-  pub fetch : (taken : List TakenCall) (j : Job) → FetchOf (onward book 1 (book.ops ++ new ∷ [])) taken j s
+  pub fetch : (taken : List TakenCall) → FetchOf (onward book 1 (book.ops ++ new ∷ [])) taken (record { place = length book.ops; file = file; stage = s }) s
   pub closes : (contents : ℕ → List ℕ) → contents seat.client.next_temp ≡ value → CloseOf (onward book 1 (book.ops ++ new ∷ [])) closing contents temp (record { place = length book.ops; file = file; stage = s }) (client.local_bytes seat.client.opened file) s
   pub trying : (m y : ℕ) → s ≡ stage.Hashing m y → Trying (onward book 1 (book.ops ++ new ∷ [])) (record { place = length book.ops; file = file; stage = s }) m
   pub xids : HasXids (seat.client.next + 1) s
@@ -199,7 +207,7 @@ pub record Starts (book : Book) (k : Core) (qs : List Queue) (c n : ℕ) (x : Se
   pub closing_is : (closing ≡ x.closing) ⊎ (closing ≡ Some (length book.ops))
   pub place : (d : Seat) → job d ≡ Some (record { place = length book.ops; file = file; stage = s }) → InPlace (job d) (locals_of d.client) a.xid a.call
   pub begins : BeginsWith s a
-  pub tree : stage_word s ≡ words.Close → IsSome (content_of book.opening file)
+  pub tree : stage_word s ≡ words.Close → WasThere book file
 
 pub kept_begins : (book : Book) (k : Core) (qs : List Queue) (c n : ℕ) (x : Session) (q : Queue) (seat : Seat) (new : Op) (cache : Entries) (temp file : ℕ) (s : Stage) (a : Ask) (closing : Option ℕ) (value : List ℕ) (seats : List Seat) (sessions : List Session) (after : List Queue) → Free book k qs c n x q seat → Starts book k qs c n x q seat new cache temp file s a closing value
     → Around k.seats seats c (record { client = begun_client seat.client cache temp file s; session = seat.session; place = Some (length book.ops) }) → Around k.sessions sessions n (record x { closing = closing }) → Around qs after n (record { ups = unless x.hung q.ups (a ∷ []); downs = q.downs })
@@ -222,7 +230,7 @@ kept_begins book k qs c n x q seat new cache temp file s a closing value seats s
     let below = subst (λ (z : Seat). AllAsks (λ u. TempUnder z.client.next_temp u.call) q.ups × ((i m : ℕ) (e : ℕ × Temp) → m < 4294967296 → slice_get k.server.temps i ≡ Some e → e.0 ≡ key_of n m → m < z.client.next_temp)) seat_is (h.temps_below g.uncut) in
     let calls : client.calls_of d.client ≡ ask_pending a ∷ seat.client.forgotten = ap (λ l. l ++ seat.client.forgotten) w.first.pending in
     let forgot : client.calls_of seat.client ≡ seat.client.forgotten = ap (λ t. client.pending t ++ seat.client.forgotten) g.task in
-    let new_job : IsOf more c j = record { op = new; there = at_end book.ops new; client = w.of_client; word = w.word; file = w.of_file; running = w.running } in
+    let new_job : IsOf more c j = record { op = new; there = at_end book.ops new; client = w.of_client; word = w.word; file = λ n. w.of_file; running = w.running } in
     kept_turn book more k qs k.server seats sessions after n x y (record { ups = ups; downs = q.downs }) seat d None None (record {
       at = g.at;
       was = ap (numbered k.seats) g.owner ∙ g.here;
@@ -253,24 +261,24 @@ kept_begins book k qs c n x q seat new cache temp file s a closing value seats s
           rising = unless_rising x.hung talk.floor q.ups a seat.client.next talk.rising w.first.xid;
           asked = place_more (IsAsked (Some j)) x.hung q.ups a (all_asks (λ v. v.xid < seat.client.next) (IsAsked (Some j)) (λ v lt. call_first seat.client.next j s a w.first refl v.xid v.call lt) q.ups (asks_below talk.floor q.ups seat.client.next talk.rising)) (w.asked);
           answers = all_tolds (λ v. v.xid < seat.client.next) (IsAnswer more x.taken closing (Some j)) (λ v lt. answer_first more x.taken closing seat.client.next j s a w.first refl v.xid v.reply lt) q.downs (tolds_below n k.server.waiting q x.hung seat.client.next (client.calls_of seat.client) talk.balanced);
-          fetch = λ i e. subst (λ (z : Job). FetchOf more x.taken z z.stage) (some_is j i e) (w.fetch x.taken j);
+          fetch = λ i e. subst (λ (z : Job). FetchOf more x.taken z z.stage) (some_is j i e) (w.fetch x.taken);
           balanced = subst (IsBalanced n k.server.waiting (record { ups = ups; downs = q.downs }) x.hung (seat.client.next + 1)) (sym calls) (balanced_first n k.server.waiting q x.hung seat.client.next seat.client.forgotten a w.first.xid (subst (IsBalanced n k.server.waiting q x.hung seat.client.next) forgot talk.balanced));
           busy = λ i e. subst (λ (z : Job). 0 < length (client.pending_in z.stage)) (some_is j i e) (let l = ap (λ (z : List Pending). length z) w.first.pending in omega (arith, l));
         };
         contents = contents;
         lengths = λ m. short_by (m == seat.client.next_temp) m h.lengths;
-        commits = no_commits more closing x.cut (Some j) contents ups (unless_commits x.hung q.ups a none_up w.first.none);
+        commits = place_more (IsCommit more closing x.cut (Some j) contents) x.hung q.ups a (no_commits more closing x.cut (Some j) contents q.ups none_up) (w.commit contents);
         pieces = place_more (IsPiece (hashed_of book.moments) contents) x.hung q.ups a (pieces_else (hashed_of book.moments) h.contents seat.client.next_temp value q.ups below.0 h.pieces) (w.piece contents);
         temps = λ i m e lt b key. let t = h.temps i m e lt b key in let less = below.1 i m e lt b key in (subst (λ l. AreParts (hashed_of book.moments) l e.1.pieces) (sym (content_else h.contents seat.client.next_temp value m (λ same. omega (arith, same, less)))) t.0, t.1);
         temps_below = λ u. (place_more (λ v. TempUnder temp v.call) x.hung q.ups a (under_more seat.client.next_temp temp w.temps q.ups below.0) w.under, λ i m e lt b key. let less = below.1 i m e lt b key in let le = w.temps in omega (arith, less, le));
         closes = λ u i e. subst (λ (z : Job). CloseOf more closing contents temp z (client.local_bytes seat.client.opened z.file) z.stage) (some_is j i e) (w.closes contents (content_at h.contents seat.client.next_temp value));
         pending = λ i z f. nothing_there z (ap (λ (l : List Change). slice_get l i) (sym none_waits) ∙ f);
-        single = let u = unless_commits x.hung q.ups a none_up w.first.none in let v = ap (λ (l : List Change). length l) none_waits in omega (arith, u, v);
+        single = let u = unless_commits x.hung q.ups a none_up in let v = ap (λ (l : List Change). length l) none_waits in omega (arith, u, v);
         old = λ p e. elim w.closing_is [
           | inl was ↦ let o = h.old p (sym was ∙ e) in let u = goes.grows.each p o.0 o.1 in (u.0, u.1, u.2.client ∙ o.2)
           | inr is ↦ (new, ap (slice_get (book.ops ++ new ∷ [])) (sym (some_is (length book.ops) p (sym is ∙ e))) ∙ at_end book.ops new, w.of_client ∙ sym g.owner)
         ];
-        orderly = λ u. orderly_begun more n k.server.temps x.hung q a d j refl (w.place d refl) w.begins w.tree (orderly_clear book n k.server.temps x.hung q h.seat free (h.orderly g.uncut));
+        orderly = λ u. orderly_begun more n k.server.temps x.hung q a d j refl (w.place d refl) w.begins (λ e. there_later book more None None file goes.grows (w.tree e)) (orderly_clear book n k.server.temps x.hung q h.seat free (h.orderly g.uncut));
       };
       seat = subst (λ (z : ℕ). IsSeat more sessions z d) (sym g.owner) (record {
         session = λ m e. let same : n ≡ m = some_is n m (sym g.newest ∙ e) in (y, ap (numbered sessions) (sym same) ∙ session_around.there, g.owner);
@@ -281,7 +289,7 @@ kept_begins book k qs c n x q seat new cache temp file s a closing value seats s
         trying = λ i m z e f. let same = some_is j i e in subst (λ (v : Job). Trying more v m) same (w.trying m z (ap (λ (v : Job). v.stage) same ∙ f));
         xids = λ i e. subst (λ (z : Job). HasXids (seat.client.next + 1) z.stage) (some_is j i e) w.xids;
         next = w.bounded;
-        opened = seat_was.opened;
+        opened = λ f l e. let o = seat_was.opened f l e in (there_later book more None None f goes.grows o.0, o.1);
         kept = cached_later book more None None cache goes.grows w.cached;
       });
       running = λ p o at run. elim (of_appended book.ops new p o at) [

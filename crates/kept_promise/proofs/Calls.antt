@@ -1,30 +1,41 @@
 -- The server takes the first call on its way, whichever it is.
-use Rattle.std.proofs.Common.{inl, inr, ◌≡◌, ℕ, zero, suc, ◌+◌, ◌<◌, ◌≤◌, List, [], ◌∷◌, ◌++◌, length, max, Option, Some, None, Bool, false, refl, sym, ap, ◌∙◌, subst, arith, IsSome, Result, Ok, Err}
+use Rattle.std.proofs.Common.{inl, inr, ◌≡◌, ℕ, zero, suc, ◌+◌, ◌<◌, ◌≤◌, List, [], ◌∷◌, ◌++◌, length, max, Option, Some, None, Bool, false, refl, sym, ap, ◌∙◌, subst, arith, Result, Ok, Err, true, ◌⊎◌}
 use Rattle.xdr_codec.specs.declared.status.Status.TheVariants as status
 use Rattle.server_core.specs.State as server
+use Rattle.client_state.specs.State as client
 use Rattle.server_core.specs.Answers.{chunks_told}
 use Rattle.server_core.specs.Closing.{done_unless}
 use Rattle.server_core.specs.Step.{with_told}
 use Rattle.temp_files.specs.Temps.{with_piece}
 use Rattle.client_state.specs.declared.task.Way.TheVariants as way
-use Rattle.kept_promise.proofs.Common.{slice_get, Chunk, handle_bytes, Done, Failed, Status, message_spell, MessageFits, Node, directory, file, node_of, at, makes, makes_unless, writes_unless, room_fault, Temp, temp_at, with_temp, key_of, piece_fault, range_fault, insert_entry, nat_cmp, ServerStep, Indexed, File, Core, Session, Event.Serves, CoreStep, Loss.Nothing, numbered, with_numbered, unless, content_of, hashed_of, Book, Call.Lease, Call.Hash, Call.Read, Call.Make, Call.Send, Reply, Reply.Made, Reply.Stored, Ask, Told, Queue, ask_message, told_message, call_program, reply_program, Tree}
+use Rattle.kept_promise.proofs.Common.{slice_get, Chunk, handle_bytes, Done, Failed, Status, message_spell, MessageFits, Node, directory, file, node_of, at, makes, makes_unless, writes_unless, room_fault, Temp, temp_at, with_temp, key_of, piece_fault, range_fault, insert_entry, nat_cmp, ServerStep, Indexed, File, Core, Session, Event.Serves, CoreStep, Loss.Nothing, numbered, with_numbered, unless, hashed_of, Book, Call.Lease, Call.Hash, Call.Read, Call.Make, Call.Send, Reply, Reply.Made, Reply.Stored, Ask, Told, Queue, ask_message, told_message, call_program, reply_program, Tree, Call.Walks, Reply.Walked, happens, serves, serves_if, got_if, stands, Message, WireFault, Contains, Contains-push, name_answer, not, value_at}
 use Rattle.kept_promise.proofs.Statements.{CallFits, IsPlain}
-use Rattle.kept_promise.proofs.Lists.{some_is, nothing_there}
+use Rattle.kept_promise.proofs.Lists.{some_is, nothing_there, at_end}
 use Rattle.kept_promise.proofs.Messages.{Job, job, stage_word, AllAsks, Rising, AreParts, IsPiece, TempUnder, AnswerOf}
 use Rattle.kept_promise.proofs.History.{onward}
 use Rattle.kept_promise.proofs.Fits.{FitLaws}
 use Rattle.kept_promise.proofs.Takes.{took, Answers}
-use Rattle.kept_promise.proofs.Facts.{IsSession, IsKept}
-use Rattle.kept_promise.proofs.Serves.{answered, leads_answer}
-use Rattle.kept_promise.proofs.Tells.{hash_range, lease_reply, lease_reply_fits, lease_told, hash_reply, hash_reply_fits, hash_told, read_reply, read_reply_fits, read_told}
+use Rattle.kept_promise.proofs.Facts.{IsSession, IsKept, is_naming}
+use Rattle.kept_promise.proofs.Serves.{answered, leads_answer, parsed}
+use Rattle.kept_promise.proofs.Tells.{hash_range, lease_reply, lease_reply_fits, lease_told, hash_reply, hash_reply_fits, hash_told, read_reply, read_reply_fits, read_told, walk_told}
 use Rattle.kept_promise.proofs.Shelves.{of_inserted, of_lookup, keys_tell, keys_number, parts_put}
 use Rattle.kept_promise.proofs.Shelf.{IsShelf, NoTemp, shelf_put, one_put, other_put}
-use Rattle.kept_promise.proofs.Orderly.{locals_of, InPlace, Wanted, Holds, HeldIn, Held, Orderly}
-use Rattle.kept_promise.proofs.Ordered.{IsQuietCall, TellsNone, held_told, held_rest, held_first, place_first}
+use Rattle.kept_promise.proofs.Orderly.{locals_of, InPlace, Wanted, Holds, HeldIn, Held, Orderly, DownRefused}
+use Rattle.kept_promise.proofs.Ordered.{IsQuietCall, TellsNone, held_told, held_rest, held_first, place_first, refused_before}
 use Rattle.kept_promise.proofs.Chunks.{chunks_are_named}
 use Rattle.kept_promise.proofs.Stored.{in_store}
-use Rattle.kept_promise.proofs.Fills.{file_there, room_there, holds_taken}
+use Rattle.kept_promise.proofs.Fills.{room_there, holds_taken}
 use Rattle.kept_promise.proofs.Leading.{IsNoted, Leads}
+use Rattle.path_calls.specs.declared.walk.Walk.{Walk}
+use Rattle.kept_promise.proofs.PathNames.{is_making}
+use Rattle.wire.specs.declared.message.Message.TheVariants as message
+use Rattle.wire.specs.declared.message.Body.TheVariants as body
+use Rattle.wire.specs.declared.message.Program.TheVariants as program
+use Rattle.kept_promise.proofs.WalkReplies.{walk_reply, reply_told, reply_its, called_walk}
+use Rattle.server_core.specs.declared.event.Sent.{Sent}
+use Rattle.kept_promise.proofs.Rights.{WasThere}
+use Rattle.kept_promise.proofs.Gone.{IsStill, IsNone, still_or_none, close_gone}
+use Rattle.kept_promise.proofs.OrderSteps.{up_untold}
 
 -- the answers on their way once one was told
 abbrev pub downs_then : Session → Queue → Ask → Reply → List Told
@@ -174,6 +185,34 @@ serve_lease laws book k qs n now x q xid f us g =
     let fits = first_fits book k qs n now x q a us g in
     leads_by book k qs n now x q a us k.server.temps k.server.index (lease_reply k.server.tree f) g (same_temps book k n x q a (lease_reply k.server.tree f) h g.kept.shelf (λ uncut. lease_wanted (onward book 1 book.ops) (job h.seat) xid k.server.tree f) (λ uncut vs e. held_still book k qs n now x q a us g (lease_reply k.server.tree f) tt tt uncut vs e) refl (lease_reply_fits laws book k.server xid f g.kept.server fits.0 fits.1) (λ uncut. lease_told laws book k qs n now x q xid f us h.seat g.kept h.owner (h.here uncut).0 (h.talk uncut) g.first fits g.noted))
 
+-- the answer to a walk's call is all that is sent
+walk_sent : FitLaws → (book : Book) (k : Core) (qs : List Queue) (n now : ℕ) (x : Session) (q : Queue) (xid : ℕ) (w : Walk) (us : List Ask) → Given book k qs n now x q (record { xid = xid; call = Walks w }) us → is_making w ≡ false
+    → (happens k (Serves n now (message_spell (ask_message (record { xid = xid; call = Walks w }))))).down ≡ record { session = n; message = message.Answer xid (body.Nfs (name_answer (walk_reply k.server.tree w))) } ∷ []
+walk_sent laws book k qs n now x q xid w us g none =
+    let a : Ask = record { xid = xid; call = Walks w } in
+    let h = session_in book k qs n now x q a us g in
+    let fits = first_fits book k qs n now x q a us g in
+    let standing : stands k.server n ≡ true = h.stands_is ∙ ap not g.unhung in
+    ap (λ (o : Option Session). (serves k n now (message_spell (ask_message a)) o).down) g.at
+    ∙ ap (λ (r : Result Message WireFault). (serves_if k n now x r).down) (parsed laws a fits)
+    ∙ ap (λ (b : Bool). (got_if k.server b n (ask_message a) now).1.send) standing
+    ∙ ap (λ (r : server.State × ServerStep). r.1.send) (called_walk (at k.server now) n xid w fits.1 none)
+
+-- what names stand for
+pub serve_walk : FitLaws → (book : Book) (k : Core) (qs : List Queue) (n now : ℕ) (x : Session) (q : Queue) (xid : ℕ) (w : Walk) (us : List Ask) → Given book k qs n now x q (record { xid = xid; call = Walks w }) us → is_making w ≡ false → Leads book (rest_of qs n q us) (answered k n (max k.server.moment now) x (record { xid = xid; call = Walks w }) k.server.temps k.server.index (Walked (walk_reply k.server.tree w)))
+serve_walk laws book k qs n now x q xid w us g none =
+    let a : Ask = record { xid = xid; call = Walks w } in
+    let r : Reply = Walked (walk_reply k.server.tree w) in
+    let h = session_in book k qs n now x q a us g in
+    let fits = first_fits book k qs n now x q a us g in
+    leads_by book k qs n now x q a us k.server.temps k.server.index (Walked (walk_reply k.server.tree w)) g (same_temps book k n x q a (Walked (walk_reply k.server.tree w)) h g.kept.shelf (λ uncut. tt) (λ uncut vs e. held_still book k qs n now x q a us g (Walked (walk_reply k.server.tree w)) tt tt uncut vs e) (ap (λ p. program.Nfs p) (reply_its k.server.tree w fits.1 none)) (laws.names xid k.server.tree w (walk_reply k.server.tree w) fits.0 g.kept.server.bounded fits.1 (reply_told k.server.tree w fits.1 none)) (λ uncut. walk_told book k qs n now x q xid w us h.seat g.kept h.owner (h.talk uncut) g.first fits none g.noted sent))
+  where
+    answer : Sent
+    answer = record { session = n; message = message.Answer xid (body.Nfs (name_answer (walk_reply k.server.tree w))) }
+
+    sent : Contains (happens k (Serves n now (message_spell (ask_message (record { xid = xid; call = Walks w }))))).down answer
+    sent = subst (λ (l : List Sent). Contains l answer) (sym (walk_sent laws book k qs n now x q xid w us g none)) (Contains-push [] answer)
+
 -- an answer that has nothing to tell
 pub serve_plain : FitLaws → (book : Book) (k : Core) (qs : List Queue) (n now : ℕ) (x : Session) (q : Queue) (a : Ask) (us : List Ask) (index : Indexed) (r : Reply) → (g : Given book k qs n now x q a us) → (x.cut ≡ false → Wanted (onward book 1 book.ops) (job (session_in book k qs n now x q a us g).seat) a.xid r) → (x.cut ≡ false → (vs : List Ask) → q.ups ≡ a ∷ vs → Held k.server.temps n vs (downs_then x q a r) (locals_of (session_in book k qs n now x q a us g).seat.client) (job (session_in book k qs n now x q a us g).seat))
     → reply_program r ≡ call_program a.call → IsPlain r → a.xid < 4294967296 → (x.cut ≡ false → AnswerOf (onward book 1 book.ops) (x.taken ++ record { xid = a.xid; step = book.steps + 1 } ∷ []) x.closing (job (session_in book k qs n now x q a us g).seat) a.xid r) → Leads book (rest_of qs n q us) (answered k n (max k.server.moment now) x a k.server.temps index r)
@@ -194,24 +233,46 @@ serve_make laws book k qs n now x q xid m f us g = by (node_of k.server.tree (ha
     ts : List Told
     ts = downs_then x q a (Made (Done tt))
 
-    -- where its client is there, the file is in the tree, and the session has no temporary file
+    -- where its client is there, the file was in the tree, and the session has no temporary file
     none : x.cut ≡ false → NoTemp k.server.temps n
     none uncut =
         let p = place_at book k qs n now x q a us g uncut in
         let held = subst (Held k.server.temps n (a ∷ us) q.downs (locals_of h.seat.client)) p.1 (held_at book k qs n now x q a us g uncut) in
         (subst (HeldIn k.server.temps n (a ∷ us) q.downs (locals_of h.seat.client p.0.file)) p.2 held).0 (0, m, f, refl)
 
-    node : x.cut ≡ false → (z : File) × (server.file_at k.server.tree f ≡ Some z) × (node_of k.server.tree (handle_bytes f) ≡ Ok (file z))
+    node : x.cut ≡ false → IsStill k.server f ⊎ IsNone book k.server f
     node uncut =
         let p = place_at book k qs n now x q a us g uncut in
-        file_there book k.server f g.kept.server (subst (λ (z : ℕ). IsSome (content_of book.opening z)) p.3 ((h.orderly uncut).tree p.0 p.1 (ap stage_word p.2))) fits.2
+        still_or_none book k.server f g.kept.server (subst (λ (z : ℕ). WasThere book z) p.3 ((h.orderly uncut).tree p.0 p.1 (ap stage_word p.2))) fits.2
 
-    -- so it is not refused
-    refuses : (e : Status) → (x.cut ≡ false → ⊥) → Leads book (rest_of qs n q us) (answered k n (max k.server.moment now) x a k.server.temps k.server.index (Made (Failed e tt)))
-    refuses e never = serve_plain laws book k qs n now x q a us k.server.index (Made (Failed e tt)) g (λ uncut. absurd (never uncut)) (λ uncut. absurd (never uncut)) refl tt fits.0 (λ uncut. tt)
+    -- it is refused where its file is gone
+    refuses : (e : Status) → (x.cut ≡ false → (e ≡ status.Stale) × (value_at book f (book.steps + 1) ≡ None)) → Leads book (rest_of qs n q us) (answered k n (max k.server.moment now) x a k.server.temps k.server.index (Made (Failed e tt)))
+    refuses e gone = serve_plain laws book k qs n now x q a us k.server.index (Made (Failed e tt)) g wanted left refl tt fits.0 (λ uncut. tt)
+      where
+        wanted : x.cut ≡ false → Wanted (onward book 1 book.ops) (job h.seat) xid (Made (Failed e tt))
+        wanted uncut =
+            let p = place_at book k qs n now x q a us g uncut in
+            let w = close_gone book k qs x.owner h.seat p.0 g.kept h.owner p.1 (ap stage_word p.2) (ap is_naming p.2) (ap (λ (z : ℕ). value_at book z (book.steps + 1)) p.3 ∙ (gone uncut).1) in
+            (p.0, m, p.1, p.2, (w.0, w.1, w.2, w.3, (gone uncut).0))
+
+        told : x.cut ≡ false → DownRefused (downs_then x q a (Made (Failed e tt))) xid
+        told uncut = subst (λ (b : Bool). DownRefused (unless b q.downs (record { xid = xid; reply = Made (Failed e tt) } ∷ [])) xid) (sym uncut) (length q.downs, e, tt, at_end q.downs (record { xid = xid; reply = Made (Failed e tt) }))
+
+        left : x.cut ≡ false → (vs : List Ask) → q.ups ≡ a ∷ vs → Held k.server.temps n vs (downs_then x q a (Made (Failed e tt))) (locals_of h.seat.client) (job h.seat)
+        left uncut vs first =
+            let p = place_at book k qs n now x q a us g uncut in
+            subst (Held k.server.temps n vs (downs_then x q a (Made (Failed e tt))) (locals_of h.seat.client)) (sym p.1)
+            (subst (HeldIn k.server.temps n vs (downs_then x q a (Made (Failed e tt))) (locals_of h.seat.client p.0.file)) (sym p.2)
+            ((λ u. none uncut), (λ u d. absurd (d (told uncut))), λ d. none uncut))
+
+    -- no answer to it was on its way
+    unrefused : x.cut ≡ false → DownRefused ts xid → ⊥
+    unrefused uncut d =
+        let old = refused_before q.downs (record { xid = xid; reply = Made (Done tt) }) xid tt (subst (λ (b : Bool). DownRefused (unless b q.downs (record { xid = xid; reply = Made (Done tt) } ∷ [])) xid) uncut d) in
+        up_untold n k.server.waiting q x.hung h.seat.client.next (client.calls_of h.seat.client) 0 old.0 a (record { xid = xid; reply = Made (Failed old.1 old.2) }) (h.talk uncut).balanced (ap (λ (l : List Ask). slice_get l 0) g.first) old.3 refl
 
     made : x.cut ≡ false → Wanted (onward book 1 book.ops) (job h.seat) xid (Made (Done tt))
-    made uncut = let p = place_at book k qs n now x q a us g uncut in ((p.0, m, p.1, p.2), refl)
+    made uncut = let p = place_at book k qs n now x q a us g uncut in (p.0, m, p.1, p.2, tt)
 
     held : (t : Temp) → t.session ≡ n → t.fd ≡ m → t.pieces ≡ [] → x.cut ≡ false → (vs : List Ask) → q.ups ≡ a ∷ vs → Held (with_temp k.server.temps t) n vs ts (locals_of h.seat.client) (job h.seat)
     held t session number empty uncut vs e =
@@ -220,7 +281,7 @@ serve_make laws book k qs n now x q xid m f us g = by (node_of k.server.tree (ha
         subst (λ (l : List Ask). Held (with_temp k.server.temps t) n l ts (locals_of h.seat.client) (job h.seat)) same
         (subst (Held (with_temp k.server.temps t) n us ts (locals_of h.seat.client)) (sym p.1)
         (subst (HeldIn (with_temp k.server.temps t) n us ts (locals_of h.seat.client p.0.file)) (sym p.2)
-        (λ u. absurd (rest_above book k qs n now x q a us g uncut u.0 (record { xid = xid; call = Make u.1 u.2 }) u.3 refl), λ u. (t, one_put k.server.temps n m t fits.1 session number (λ o lt apart. none uncut o lt), empty))))
+        ((λ u. absurd (rest_above book k qs n now x q a us g uncut u.0 (record { xid = xid; call = Make u.1 u.2 }) u.3 refl)), (λ u d. (t, one_put k.server.temps n m t fits.1 session number (λ o lt apart. none uncut o lt), empty)), λ d. absurd (unrefused uncut d))))
       where
         tails : {b c : Ask} {us vs : List Ask} → b ∷ us ≡ c ∷ vs → us ≡ vs
         tails e = cc
@@ -232,14 +293,26 @@ serve_make laws book k qs n now x q xid m f us g = by (node_of k.server.tree (ha
         leads_by book k qs n now x q a us (with_temp k.server.temps w) k.server.index (Made (Done tt)) g (put_temp book k n x q a (Made (Done tt)) m w h g.kept.shelf fits.1 made (held w refl refl refl) refl (laws.plain xid (Made (Done tt)) fits.0 tt) (λ uncut. tt) fits.1 refl tt (λ uncut. (subst (AllAsks (λ b. TempUnder h.seat.client.next_temp b.call)) g.first (h.temps_below uncut).0).0))
 
     by : (nd : Result Node Status) → node_of k.server.tree (handle_bytes f) ≡ nd → Leads book (rest_of qs n q us) (served k n x xid (makes (at k.server now) n xid m nd))
-    by (Err e) is = refuses e (λ uncut. not_err e (node uncut).0 (sym is ∙ (node uncut).2))
+    by (Err e) is = refuses e (λ uncut. elim (node uncut) [
+      | inl still ↦ absurd (not_err e still.0 (sym is ∙ still.2))
+      | inr gone ↦ (same_err e (sym is ∙ gone.1), gone.2)
+    ])
       where
         not_err : (e : Status) (z : File) → Err e ≡ Ok (file z) → ⊥
         not_err e z q = absurd cc
-    by (Ok directory) is = refuses status.IsDir (λ uncut. not_root (node uncut).0 (sym is ∙ (node uncut).2))
+
+        same_err : (e : Status) → ◌≡◌ {A = Result Node Status} (Err e) (Err status.Stale) → e ≡ status.Stale
+        same_err e q = cc
+    by (Ok directory) is = refuses status.IsDir (λ uncut. elim (node uncut) [
+      | inl still ↦ absurd (not_root still.0 (sym is ∙ still.2))
+      | inr gone ↦ absurd (not_gone (sym is ∙ gone.1))
+    ])
       where
         not_root : (z : File) → ◌≡◌ {A = Result Node Status} (Ok directory) (Ok (file z)) → ⊥
         not_root z q = absurd cc
+
+        not_gone : ◌≡◌ {A = Result Node Status} (Ok directory) (Err status.Stale) → ⊥
+        not_gone q = absurd cc
     by (Ok (file z)) is = faults (room_fault k.server.temps n m) z.id refl
 
 pub serve_send : FitLaws → (book : Book) (k : Core) (qs : List Queue) (n now : ℕ) (x : Session) (q : Queue) (xid m start : ℕ) (bytes : List ℕ) (us : List Ask) → Given book k qs n now x q (record { xid = xid; call = Send m start bytes }) us

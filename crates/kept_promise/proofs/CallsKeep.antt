@@ -1,6 +1,6 @@
 -- What the server changes as it takes a message that asks for nothing by a name: its temporary files, the changes that wait, its index and its
 -- moment, and nothing else; and what any message leaves of the tree.
-use Rattle.std.proofs.Common.{◌⊎◌, inl, inr, ◌≡◌, refl, ℕ, List, ◌∷◌, ◌++◌, [], length, Option, Some, None, Result, Ok, Err, Bool, true, false, sym, subst}
+use Rattle.std.proofs.Common.{◌⊎◌, inl, inr, ◌≡◌, refl, ℕ, List, ◌∷◌, ◌++◌, [], length, Option, Some, None, Result, Ok, Err, Bool, true, false, sym, subst, append-nil}
 use Rattle.hash_calls.specs.declared.message.Lb.TheVariants as lb
 use Rattle.nfs3_calls.specs.declared.message.Nfs.{Nfs}
 use Rattle.nfs3_calls.specs.declared.message.Nfs.TheVariants as nfs
@@ -11,7 +11,7 @@ use Rattle.chunk_index.specs.Index.{key_of as digest_key, place_of}
 use Rattle.server_core.specs.State as server
 use Rattle.server_core.specs.Closing.{answers, sends, names_unless, names_bytes, bytes_known, looked_up as index_found, writes_unless, cond_fault}
 use Rattle.server_core.specs.declared.event.Event.TheVariants as event
-use Rattle.kept_promise.proofs.Common.{Temp, size_most, temp_at, room_fault, piece_fault, assembled, without_temp, nat_lt, if◌then◌else◌, Failed, Status, Body, Message, Indexed, Node, directory, file, node_of, File, Change, ServerStep, server_step, called, got_if, stands, at, makes, makes_unless, commits, commits_to, commits_whole, has_waiting, is_full, Tree, Ask, ask_message, Call, Call.Lease, Call.Hash, Call.Read, Call.Make, Call.Name, Call.Send, Call.Commit}
+use Rattle.kept_promise.proofs.Common.{Temp, size_most, temp_at, room_fault, piece_fault, assembled, without_temp, nat_lt, if◌then◌else◌, Failed, Status, Body, Message, Indexed, Node, directory, file, node_of, File, Change, ServerStep, server_step, called, got_if, stands, at, makes, makes_unless, commits, commits_to, commits_whole, has_waiting, is_full, Tree, Ask, ask_message, Call, Call.Lease, Call.Hash, Call.Read, Call.Make, Call.Name, Call.Send, Call.Commit, Call.Walks, Entry}
 use Rattle.server_core.specs.declared.change.Wanted.TheVariants as wanted
 use Rattle.server_core.specs.Step.{asks, asks_tree}
 use Rattle.tree_calls.specs.Waiting.{calls}
@@ -22,6 +22,12 @@ use Rattle.kept_promise.proofs.TreeBounds.{Stays, stays_same, calls_stays}
 use Rattle.server_law.proofs.TreeCalls.{calls_keep}
 use Rattle.kept_promise.proofs.TreeNameCalls.{calls_dirs}
 use Rattle.kept_promise.proofs.TreeNames.{KeepsDirs, dirs_same}
+use Rattle.path_calls.specs.Walk.{call_at}
+use Rattle.path_calls.specs.declared.walk.Goal.{Goal}
+use Rattle.path_calls.specs.declared.walk.Goal.TheVariants as goal
+use Rattle.kept_promise.proofs.Statements.{CallFits}
+use Rattle.kept_promise.proofs.PathNames.{IsAhead, makes_at, is_making}
+use Rattle.path_calls.specs.declared.walk.Walk.{Walk}
 
 abbrev pub IsCommitCall : Message → Type 0
 IsCommitCall (message.Call xid (body.Lb (lb.CommitTmp a))) = Unit {0}
@@ -53,25 +59,56 @@ commits_keeps Q s session q xid size t (Ok (file f)) = by (nat_lt size_most size
     by true = q s.temps s.waiting s.index s.moment (inl refl)
     by false = whole (assembled t size)
 
--- a message that asks for nothing by a name
+-- a message that makes nothing: it asks for files, or what names stand for
 abbrev pub IsOfFiles : Message → Type 0
 IsOfFiles (message.Call xid (body.Nfs nfs.Null)) = Unit {0}
 IsOfFiles (message.Call xid (body.Nfs (nfs.Read r))) = Unit {0}
+IsOfFiles (message.Call xid (body.Nfs (nfs.Lookup p))) = Unit {0}
+IsOfFiles (message.Call xid (body.Nfs (nfs.GetAttr h))) = Unit {0}
+IsOfFiles (message.Call xid (body.Nfs (nfs.ReadDir l))) = Unit {0}
 IsOfFiles (message.Call xid (body.Nfs m)) = ⊥
 IsOfFiles m = Unit {0}
 
--- so are all that are on their way
-pub is_of_files : (a : Ask) → IsOfFiles (ask_message a)
-is_of_files a = by a.call
+walk_of_files : (xid dir : ℕ) (left : List (List ℕ)) (g : Goal) → IsAhead left g → makes_at left g ≡ false → IsOfFiles (message.Call xid (body.Nfs (call_at dir left g)))
+walk_of_files xid dir (n ∷ ns) g asks none = tt
+walk_of_files xid dir [] (goal.Find name) asks none = tt
+walk_of_files xid dir [] (goal.Look name) asks none = tt
+walk_of_files xid dir [] goal.LookRoot asks none = tt
+walk_of_files xid dir [] (goal.List p) asks none = tt
+walk_of_files xid dir [] (goal.Make name) asks none = absurd cc
+walk_of_files xid dir [] (goal.MakeDir name) asks none = absurd cc
+walk_of_files xid dir [] (goal.Remove name) asks none = absurd cc
+walk_of_files xid dir [] (goal.RemoveDir name) asks none = absurd cc
+walk_of_files xid dir [] (goal.RenameFrom name to) asks none = absurd asks
+walk_of_files xid dir [] (goal.RenameTo from name to) asks none = absurd cc
+
+-- a call that is taken may make or remove something
+abbrev pub makes_call : Call → Bool
+makes_call (Walks w) = is_making w
+makes_call c = false
+
+-- each call on its way that doesn't is so
+pub is_of_files : (a : Ask) → CallFits a.xid a.call → makes_call a.call ≡ false → IsOfFiles (ask_message a)
+is_of_files a fits none = by a.call fits none
   where
-    by : (c : Call) → IsOfFiles (ask_message (record { xid = a.xid; call = c }))
-    by (Lease f) = tt
-    by (Hash f o) = tt
-    by (Read f c) = tt
-    by (Make m f) = tt
-    by (Name m c) = tt
-    by (Send m start bytes) = tt
-    by (Commit m f size) = tt
+    by : (c : Call) → CallFits a.xid c → makes_call c ≡ false → IsOfFiles (ask_message (record { xid = a.xid; call = c }))
+    by (Lease f) fits none = tt
+    by (Hash f o) fits none = tt
+    by (Read f c) fits none = tt
+    by (Make m f) fits none = tt
+    by (Name m c) fits none = tt
+    by (Send m start bytes) fits none = tt
+    by (Commit m f size) fits none = tt
+    by (Walks w) fits none = walk_of_files a.xid w.dir w.left w.goal fits.1.ahead none
+
+-- the others are the last calls of walks
+pub walk_made : (c : Call) → makes_call c ≡ true → (w : Walk) × (c ≡ Walks w) × (is_making w ≡ true)
+walk_made (Walks w) e = (w, refl, e)
+walk_made c e = absurd cc
+
+-- with no entry more
+none_more : (Q : server.State → Type 0) (s : server.State) → Q s → Q (record s { journal = s.journal ++ [] })
+none_more Q s q = subst (λ (l : List Entry). Q (record s { journal = l })) (sym (append-nil s.journal)) q
 
 called_keeps : (Q : server.State → Type 0) (s : server.State) (session xid : ℕ) (b : Body) → IsOfFiles (message.Call xid b) → Frees Q s session (IsCommitCall (message.Call xid b)) → Q (called s session xid b).0
 called_keeps Q s session xid (body.Lb (lb.GetHash r)) plain q = q s.temps s.waiting _ s.moment (inl refl)
@@ -111,6 +148,9 @@ called_keeps Q s session xid (body.Lb (lb.CommitTmp a)) plain q = by (temp_at s.
     by (Some t) = commits_keeps Q (record s { temps = without_temp s.temps session a.fd }) session (λ temps waiting index moment w. q temps waiting index moment w) xid a.size t (node_of s.tree a.handle)
 called_keeps Q s session xid (body.Nfs nfs.Null) plain q = q s.temps s.waiting s.index s.moment (inl refl)
 called_keeps Q s session xid (body.Nfs (nfs.Read r)) plain q = q s.temps s.waiting s.index s.moment (inl refl)
+called_keeps Q s session xid (body.Nfs (nfs.Lookup p)) plain q = none_more Q s (q s.temps s.waiting s.index s.moment (inl refl))
+called_keeps Q s session xid (body.Nfs (nfs.GetAttr h)) plain q = none_more Q s (q s.temps s.waiting s.index s.moment (inl refl))
+called_keeps Q s session xid (body.Nfs (nfs.ReadDir l)) plain q = none_more Q s (q s.temps s.waiting s.index s.moment (inl refl))
 called_keeps Q s session xid (body.Nfs m) plain q = absurd plain
 called_keeps Q s session xid b plain q = q s.temps s.waiting s.index s.moment (inl refl)
 

@@ -12,7 +12,7 @@ use Rattle.open_close.specs.Hashed.{named_by as part_of_named, named as parts_na
 use Rattle.file_close.specs.Storing.{closed}
 use Rattle.kept_promise.proofs.Common.{refused, slice_get, sha1, Chunk, Answer, Done, Failed, Status, Committed, store_pending, store_of, is_stored, store_at, answered, no_counts, idle, goes_on, goes_if, told_temp, sends_whole, told_named, told_whole, Local, Store, StoreCall, Op, Traffic, Contains, Contains-append_left, slice_set, unwrap_or, option_map, Message, ClientStep, Core, Session, has_point, point_if, counted, Book, HadContent, value_at, version_at, Reply, Reply.Made, Reply.Named, Reply.Stored, Reply.Changed, Told, Queue, reply_program}
 use Rattle.kept_promise.proofs.Lists.{some_is, there_at}
-use Rattle.kept_promise.proofs.Messages.{Job, CommitTold, CloseOf}
+use Rattle.kept_promise.proofs.Messages.{Job, CommitTold, CloseOf, stage_word}
 use Rattle.kept_promise.proofs.Rights.{IsMade}
 use Rattle.kept_promise.proofs.Growth.{Grows, value_later, version_later}
 use Rattle.kept_promise.proofs.History.{onward, grows_becomes}
@@ -20,14 +20,16 @@ use Rattle.kept_promise.proofs.Later.{cached_later}
 use Rattle.kept_promise.proofs.Facts.{Cached}
 use Rattle.kept_promise.proofs.Caches.{cached_reserved, cached_with}
 use Rattle.kept_promise.proofs.Heard.{told_pending}
-use Rattle.kept_promise.proofs.Steps.{Here, session_at, Quiet, job_op}
+use Rattle.kept_promise.proofs.Steps.{Here, session_at, Quiet, job_op, close_unnamed}
 use Rattle.kept_promise.proofs.CloseEnds.{quiet_before, quiet_after, Unmade, refused_op, stops_refused, closed_op, stops_closed}
 use Rattle.kept_promise.proofs.CloseSteps.{seat_at, local_of, NamesNoted, Ready, named, naming, naming_sent, goes_storing, committing, committing_sent, goes_committing, sending, goes_whole, ready_made, ready_answered, ready_named, store_found, Filled}
 use Rattle.kept_promise.proofs.Comes.{op_at, client_at, Comes}
-use Rattle.kept_promise.proofs.Orderly.{NoRoom, Wanted}
+use Rattle.kept_promise.proofs.Orderly.{Went, Denied, Wanted}
 use Rattle.kept_promise.proofs.Ordered.{TellsNone}
-use Rattle.kept_promise.proofs.OrderSteps.{first_wanted}
+use Rattle.kept_promise.proofs.OrderSteps.{first_wanted, EndsAt}
 use Rattle.kept_promise.proofs.CloseFills.{filled_made, filled_answered, filled_named, filled_known}
+use Rattle.kept_promise.proofs.StepCases.{IsOfFile}
+use Rattle.xdr_codec.specs.Status.{status_number}
 
 -- what its client keeps
 abbrev seat_kept : {book : Book} {k : Core} {qs : List Queue} {n : ℕ} {x : Session} {q : Queue} {t : Told} {ts : List Told} {j : Job} → (g : Here book k qs n x q t ts j) → Cached book (seat_at g).client.cache
@@ -83,26 +85,26 @@ comes_on book k qs n x q t ts j g st fits w filled = by (is_stored (named st (cl
 
 -- ---- it is refused
 
--- a commit is, for want of room
-pub comes_unmade : (book : Book) (k : Core) (qs : List Queue) (n : ℕ) (x : Session) (q : Queue) (t : Told) (ts : List Told) (j : Job) (g : Here book k qs n x q t ts j) → Quiet k n q → j.stage ≡ stage.Committing t.xid → NoRoom book (op_at book k qs n x q t ts j g) → Unmade book x j (op_at book k qs n x q t ts j g) → Comes book k qs n x q t ts j g (refused (idle (client_at book k qs n x q t ts j g)) (client.calls_of (client_at book k qs n x q t ts j g)) t.xid status.NoSpc)
-comes_unmade book k qs n x q t ts j g quiet waits room u =
+-- a temporary file or a commit is, for want of room, or since its file is gone
+pub comes_unmade : (book : Book) (k : Core) (qs : List Queue) (n : ℕ) (x : Session) (q : Queue) (t : Told) (ts : List Told) (j : Job) (g : Here book k qs n x q t ts j) (s : Status) → Quiet k n q → EndsAt j t → stage_word j.stage ≡ words.Close → Denied book (op_at book k qs n x q t ts j g) s → Unmade book x j (op_at book k qs n x q t ts j g) → Comes book k qs n x q t ts j g (refused (idle (client_at book k qs n x q t ts j g)) (client.calls_of (client_at book k qs n x q t ts j g)) t.xid s)
+comes_unmade book k qs n x q t ts j g s quiet over close denied u =
     let c = client_at book k qs n x q t ts j g in
     let o = op_at book k qs n x q t ts j g in
     let tr : Traffic = counted o.traffic no_counts in
     inr (record {
-      op = refused_op o tr (book.steps + 1) 28;
-      ended = record { outcome = outcome.Refused status.NoSpc; rests_on = t.xid };
+      op = refused_op o tr (book.steps + 1) (status_number s);
+      ended = record { outcome = outcome.Refused s; rests_on = t.xid };
       made = Some j.place;
       opened = c.opened;
       forgotten = client.without_call (client.calls_of c) t.xid;
       cache = c.cache;
       index = c.index;
-      shows = stops_refused book k qs n x q t ts j g tr quiet waits room u;
+      shows = stops_refused book k qs n x q t ts j g tr s quiet over close denied u;
       cached = inl (seat_kept g);
       state_is = refl;
       send_is = refl;
       ended_is = refl;
-      op_is = ap (λ v. record o { end = Some (book.steps + 1); point = point_if (has_point v (outcome.Refused status.NoSpc)) x.taken t.xid o.point; outcome = told.Refused 28; traffic = tr }) u.unmade.0;
+      op_is = ap (λ v. record o { end = Some (book.steps + 1); point = point_if (has_point v (outcome.Refused s)) x.taken t.xid o.point; outcome = told.Refused (status_number s); traffic = tr }) ((job_op book k qs x (session_at book k qs n x q t ts j g).seat j g.kept (session_at book k qs n x q t ts j g).owner g.job_is).word ∙ close);
     })
 
 -- what the answer is
@@ -124,14 +126,20 @@ pub comes_made : (book : Book) (k : Core) (qs : List Queue) (n : ℕ) (x : Sessi
 comes_made book k qs n x q t ts j g temp a fits waits is = by a is
   where
     quiet : Quiet k n q
-    quiet = quiet_before book k qs n x q t ts j g (λ y e. before_making t.xid temp y (sym waits ∙ e))
+    quiet = quiet_before book k qs n x q t ts j g (λ y e. before_making t.xid temp y (sym waits ∙ e)) (subst IsOfFile (sym waits) tt)
 
     ready : Ready book k qs n x q t ts j g (store_of temp (local_of g))
     ready = ready_made book k qs n x q t ts j g temp waits (ap reply_program is) quiet
 
     by : (a : Answer Unit Unit) → t.reply ≡ Made a → Makes book k qs n x q t ts j g (told_temp (idle (client_at book k qs n x q t ts j g)) (client.calls_of (client_at book k qs n x q t ts j g)) j.file t.xid temp (local_of g) a)
-    by (Done u) is = comes_on book k qs n x q t ts j g (store_of temp (local_of g)) fits ready (filled_made book k qs n x q t ts j g temp waits)
-    by (Failed s u) is = absurd (not_done (answer_is book k qs n x q t ts j g (Made (Failed s u)) is).1)
+    by (Done u) is = comes_on book k qs n x q t ts j g (store_of temp (local_of g)) fits ready (filled_made book k qs n x q t ts j g temp waits u is)
+    by (Failed s u) is = λ noted.
+        (let h = session_at book k qs n x q t ts j g in
+        let of = job_op book k qs x h.seat j g.kept h.owner g.job_is in
+        let told_ = answer_is book k qs n x q t ts j g (Made (Failed s u)) is in
+        let same : told_.4.0 ≡ of.op = some_is told_.4.0 of.op (sym told_.4.1 ∙ ap (λ (z : Job). slice_get book.ops z.place) (sym (some_is j told_.0 told_.2)) ∙ of.there) in
+        let owed = (subst (CloseOf book x.closing h.contents h.seat.client.next_temp j (local_of g)) waits (h.closes g.uncut j g.job_is)).0 in
+        comes_unmade book k qs n x q t ts j g s quiet (inr (inr (temp, s, u, waits, is))) (ap stage_word waits) (inr (subst (Went book) same told_.4.3, told_.4.4)) (record { known = owed.known; unmade = subst Rattle.kept_promise.proofs.Rights.IsUnmade (some_is owed.op of.op (sym owed.there ∙ of.there)) owed.unmade }))
 
 -- ---- by the answer to a CONDWRITE or a TMPWRITE
 
@@ -143,7 +151,7 @@ pub comes_stored : (book : Book) (k : Core) (qs : List Queue) (n : ℕ) (x : Ses
 comes_stored book k qs n x q t ts j g st u a fits waits found whole same is = by a is
   where
     quiet : Quiet k n q
-    quiet = quiet_before book k qs n x q t ts j g (λ y e. before_storing st y (sym waits ∙ e))
+    quiet = quiet_before book k qs n x q t ts j g (λ y e. before_storing st y (sym waits ∙ e)) (subst IsOfFile (sym waits) tt)
 
     ready : Ready book k qs n x q t ts j g (answered st t.xid)
     ready = ready_answered book k qs n x q t ts j g st u waits found same quiet
@@ -157,7 +165,7 @@ pub comes_named : (book : Book) (k : Core) (qs : List Queue) (n : ℕ) (x : Sess
 comes_named book k qs n x q t ts j g st u a fits waits found by_name same is = by (answer_is book k qs n x q t ts j g (Named a) is).1
   where
     quiet : Quiet k n q
-    quiet = quiet_before book k qs n x q t ts j g (λ y e. before_storing st y (sym waits ∙ e))
+    quiet = quiet_before book k qs n x q t ts j g (λ y e. before_storing st y (sym waits ∙ e)) (subst IsOfFile (sym waits) tt)
 
     ready : Ready book k qs n x q t ts j g (answered st t.xid)
     ready = ready_answered book k qs n x q t ts j g st u waits found same quiet
@@ -203,9 +211,8 @@ comes_failed book k qs n x q t ts j g s v waits is fact =
     let h = session_at book k qs n x q t ts j g in
     let of = job_op book k qs x h.seat j g.kept h.owner g.job_is in
     let told_ = answer_is book k qs n x q t ts j g (Changed (Failed s v)) is in
-    let same : told_.0.1 ≡ of.op = some_is told_.0.1 of.op (sym told_.0.4 ∙ ap (λ (z : Job). slice_get book.ops z.place) (sym (some_is j told_.0.0 told_.0.2)) ∙ of.there) in
-    subst (λ (z : Status). Comes book k qs n x q t ts j g (refused (idle (client_at book k qs n x q t ts j g)) (client.calls_of (client_at book k qs n x q t ts j g)) t.xid z)) (sym told_.1)
-    (comes_unmade book k qs n x q t ts j g (quiet_after book k qs n x q t ts j g (ap reply_program is) waits) waits (subst (NoRoom book) same told_.0.6) (record { known = fact.3; unmade = subst Rattle.kept_promise.proofs.Rights.IsUnmade (some_is fact.0 of.op (sym fact.1 ∙ of.there)) fact.2 }))
+    let same : told_.1 ≡ of.op = some_is told_.1 of.op (sym told_.4 ∙ ap (λ (z : Job). slice_get book.ops z.place) (sym (some_is j told_.0 told_.2)) ∙ of.there) in
+    comes_unmade book k qs n x q t ts j g s (quiet_after book k qs n x q t ts j g (ap reply_program is) waits) (inr (inl waits)) (ap stage_word waits) (subst (λ (o : Op). Denied book o s) same told_.6) (record { known = fact.3; unmade = subst Rattle.kept_promise.proofs.Rights.IsUnmade (some_is fact.0 of.op (sym fact.1 ∙ of.there)) fact.2 })
 
 -- its content is kept, which the file had in that version
 local_short : (es : List (ℕ × Local)) (f : ℕ) → ((l : Local) → client.local_at es f ≡ Some l → length l.bytes ≤ 67108864) → length (client.local_bytes es f) ≤ 67108864
@@ -223,7 +230,7 @@ closed_kept book k qs n x q t ts j g new version made value grows =
     let of = job_op book k qs x h.seat j g.kept h.owner g.job_is in
     let more = onward book 1 (slice_set book.ops j.place new) in
     let same : made.0 ≡ of.op = some_is made.0 of.op (sym made.2 ∙ of.there) in
-    let file : j.file ≡ made.0.file = sym of.file ∙ ap (λ (z : Op). z.file) (sym same) in
+    let file : j.file ≡ made.0.file = sym (of.file (close_unnamed j.stage (sym of.word ∙ ap (λ (z : Op). z.word) (sym same) ∙ made.3))) ∙ ap (λ (z : Op). z.file) (sym same) in
     let m = made.7 in
     let had : HadContent more j.file version (local_of g) = record {
       moment = m.0;

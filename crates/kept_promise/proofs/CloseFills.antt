@@ -1,12 +1,12 @@
 -- What the temporary file of a close holds once an answer to it was taken.
-use Rattle.std.proofs.Common.{◌≡◌, ℕ, List, ◌∷◌, ◌++◌, Some, false, refl, sym, ap, ◌∙◌, subst}
+use Rattle.std.proofs.Common.{◌≡◌, ℕ, zero, suc, List, ◌∷◌, ◌++◌, Some, false, refl, sym, ap, ◌∙◌, subst}
 use Rattle.client_state.specs.State as client
 use Rattle.client_state.specs.declared.task.Stage.TheVariants as stage
 use Rattle.client_state.specs.declared.task.Way.TheVariants as way
-use Rattle.kept_promise.proofs.Common.{slice_get, chunk_bytes, Chunk, store_of, store_at, answered, with_whole, Stage, Store, StoreCall, Way, Core, Session, Book, Call.Make, Call.Send, Reply, Ask, Told, Queue}
+use Rattle.kept_promise.proofs.Common.{slice_get, chunk_bytes, Chunk, store_of, store_at, answered, with_whole, Stage, Store, StoreCall, Way, Core, Session, Book, Call.Make, Call.Send, Reply, Ask, Told, Queue, Status, Done, Failed, Reply.Made}
 use Rattle.kept_promise.proofs.Lists.{some_is}
 use Rattle.kept_promise.proofs.Messages.{Job}
-use Rattle.kept_promise.proofs.Orderly.{locals_of, UpMake, UpSend, DownKnown, known_reply, Holds, HeldIn, Held}
+use Rattle.kept_promise.proofs.Orderly.{locals_of, UpMake, UpSend, DownKnown, known_reply, Holds, HeldIn, Held, DownRefused}
 use Rattle.kept_promise.proofs.Ordered.{TellsNone}
 use Rattle.kept_promise.proofs.OrderSteps.{up_apart, down_apart}
 use Rattle.kept_promise.proofs.Filling.{holds_first, holds_answered, holds_heard, holds_known_heard, holds_whole}
@@ -27,10 +27,17 @@ no_up book k qs n x q t ts j g i a at = let h = session_at book k qs n x q t ts 
 no_down : (book : Book) (k : Core) (qs : List Queue) (n : ℕ) (x : Session) (q : Queue) (t : Told) (ts : List Told) (j : Job) (g : Here book k qs n x q t ts j) → DownKnown ts t.xid → ⊥
 no_down book k qs n x q t ts j g z = let h = session_at book k qs n x q t ts j g in down_apart n k.server.waiting q x.hung h.seat.client.next (client.calls_of h.seat.client) t ts z.0 (record { xid = t.xid; reply = known_reply }) (h.talk g.uncut).balanced g.first z.1 refl
 
-pub filled_made : (book : Book) (k : Core) (qs : List Queue) (n : ℕ) (x : Session) (q : Queue) (t : Told) (ts : List Told) (j : Job) (g : Here book k qs n x q t ts j) (temp : ℕ) → j.stage ≡ stage.Making t.xid temp → Filled book k qs n x q t ts j g q.ups (store_of temp (local_of g))
-filled_made book k qs n x q t ts j g temp waits up =
-    let f = (held_now book k qs n x q t ts j g (stage.Making t.xid temp) waits up).1 (λ (u : UpMake q.ups t.xid). no_up book k qs n x q t ts j g u.0 (record { xid = t.xid; call = Make u.1 u.2 }) u.3 refl) in
+pub filled_made : (book : Book) (k : Core) (qs : List Queue) (n : ℕ) (x : Session) (q : Queue) (t : Told) (ts : List Told) (j : Job) (g : Here book k qs n x q t ts j) (temp : ℕ) → j.stage ≡ stage.Making t.xid temp → (u : Unit {0}) → t.reply ≡ Made (Done u) → Filled book k qs n x q t ts j g q.ups (store_of temp (local_of g))
+filled_made book k qs n x q t ts j g temp waits u done up =
+    let f = (held_now book k qs n x q t ts j g (stage.Making t.xid temp) waits up).1 (λ (u : UpMake q.ups t.xid). no_up book k qs n x q t ts j g u.0 (record { xid = t.xid; call = Make u.1 u.2 }) u.3 refl) refused in
     (f.0, f.1, subst (Holds (local_of g) q.ups ts (store_of temp (local_of g))) (sym f.2) (holds_first (local_of g) q.ups ts temp))
+  where
+    apart : (s : Status) (v : Unit {0}) → ◌≡◌ {A = Reply} (Made (Done u)) (Made (Failed s v)) → ⊥
+    apart s v e = absurd cc
+
+    refused : DownRefused (t ∷ ts) t.xid → ⊥
+    refused (zero, s, v, e) = apart s v (sym done ∙ ap (λ (z : Told). z.reply) (some_is t _ e))
+    refused (suc i, s, v, e) = let h = session_at book k qs n x q t ts j g in down_apart n k.server.waiting q x.hung h.seat.client.next (client.calls_of h.seat.client) t ts i (record { xid = t.xid; reply = Made (Failed s v) }) (h.talk g.uncut).balanced g.first e refl
 
 stored_at : (book : Book) (k : Core) (qs : List Queue) (n : ℕ) (x : Session) (q : Queue) (t : Told) (ts : List Told) (j : Job) (g : Here book k qs n x q t ts j) (st : Store) (u : StoreCall) (w : Way) → j.stage ≡ stage.Storing st → store_at st.under t.xid ≡ Some u → u.way ≡ w → InStore (local_of g) st t.xid u
 stored_at book k qs n x q t ts j g st u w waits found by_way = let h = session_at book k qs n x q t ts j g in in_store book k.seats k.server n x q h g.uncut t.xid w (record { of = j; is = g.job_is; store = st; at = waits; call = u; found = found; way = by_way })

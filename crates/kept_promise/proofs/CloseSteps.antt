@@ -1,5 +1,5 @@
 -- A close goes on by an answer: chunks are named, the bytes of one go out, or its commit.
-use Rattle.std.proofs.Common.{◌⊎◌, inl, inr, ◌≡◌, ℕ, zero, suc, ◌+◌, ◌-◌, ◌*◌, ◌<◌, ◌≤◌, List, [], ◌∷◌, ◌++◌, length, Option, Some, None, Bool, true, false, refl, sym, ap, ◌∙◌, subst, arith, eqb-true, eq-eqb, append_assoc, map, IsSome}
+use Rattle.std.proofs.Common.{◌⊎◌, inl, inr, ◌≡◌, ℕ, zero, suc, ◌+◌, ◌-◌, ◌*◌, ◌<◌, ◌≤◌, List, [], ◌∷◌, ◌++◌, length, Option, Some, None, Bool, true, false, refl, sym, ap, ◌∙◌, subst, arith, eqb-true, eq-eqb, append_assoc, map}
 use Rattle.sha1.specs.Sha1.{sha1, digest_bytes}
 use Rattle.hash_calls.specs.declared.message.LbProc.TheVariants as lb_proc
 use Rattle.wire.specs.declared.message.Program.TheVariants as program
@@ -8,7 +8,7 @@ use Rattle.client_state.specs.State as client
 use Rattle.client_state.specs.declared.task.Stage.TheVariants as stage
 use Rattle.client_state.specs.declared.task.Way.TheVariants as way
 use Rattle.register_model.specs.declared.op.Word.TheVariants as words
-use Rattle.kept_promise.proofs.Common.{nat_tests, slice_get, not, cond, ◌==◌, ◌&&◌, nat_le, chunks_of, chunk_bytes, Chunk, Pending, Program, Temp, store_pending, without_call, names_from, names_all, store_of, is_stored, store_at, without_store, answered, with_whole, commit_call, temp_call, calls_most, is_none, Names, Stage, Store, StoreCall, Task, Way, Op, content_of, Contains, Contains-append_left, Contains-append_right, Contains-push, Message, call_message, hashed_of, Core, Seat, Session, Book, unless, Call, Call.Name, Call.Send, Call.Commit, Ask, Told, Queue, ask_message, reply_program}
+use Rattle.kept_promise.proofs.Common.{nat_tests, slice_get, not, cond, ◌==◌, ◌&&◌, nat_le, chunks_of, chunk_bytes, Chunk, Pending, Program, Temp, store_pending, without_call, names_from, names_all, store_of, is_stored, store_at, without_store, answered, with_whole, commit_call, temp_call, calls_most, is_none, Names, Stage, Store, StoreCall, Task, Way, Op, Contains, Contains-append_left, Contains-append_right, Contains-push, Message, call_message, hashed_of, Core, Seat, Session, Book, unless, Call, Call.Name, Call.Send, Call.Commit, Ask, Told, Queue, ask_message, reply_program}
 use Rattle.kept_promise.proofs.Statements.{CallFits, AreInRow, PiecesOf, SameShape}
 use Rattle.kept_promise.proofs.Lists.{some_is, nothing_there, of_appended, at_end, there_at, false_and_true}
 use Rattle.kept_promise.proofs.Keys.{times, times_append, there_by}
@@ -16,11 +16,11 @@ use Rattle.kept_promise.proofs.Messages.{Job, job, stage_word, AllAsks, AllTolds
 use Rattle.kept_promise.proofs.Chunks.{chunks_in_row, chunks_are_long, chunks_are_named}
 use Rattle.kept_promise.proofs.Facts.{IsSession, HasXids, commits_in, names_in}
 use Rattle.kept_promise.proofs.Taken.{asks_append, rising_append, times_map_append}
-use Rattle.kept_promise.proofs.Heard.{ask_pending, told_pending, asks_unless}
+use Rattle.kept_promise.proofs.Heard.{ask_pending, told_pending, asks_unless, change_once, commits_both}
 use Rattle.kept_promise.proofs.Moves.{without_moves}
 use Rattle.kept_promise.proofs.StepCases.{some_call}
 use Rattle.kept_promise.proofs.Naming.{Ran, names_run, named_rising, named_bound, named_all, named_count, named_inside, named_times, named_note, named_commits}
-use Rattle.kept_promise.proofs.Steps.{tolds_below, Again, Here, session_at, Quiet, on, job_op, GoesOn, GoesInOrder}
+use Rattle.kept_promise.proofs.Steps.{tolds_below, Again, Here, session_at, Quiet, on, job_op, GoesOn, GoesInOrder, close_unnamed}
 use Rattle.kept_promise.proofs.Later.{all_asks, all_tolds}
 use Rattle.kept_promise.proofs.Shelf.{OneTemp}
 use Rattle.kept_promise.proofs.Orderly.{IsStore, locals_of, InPlace, IsInPlace, IsWanted, UpCommit, DownKnown, known_reply, Holds, HeldIn}
@@ -28,6 +28,7 @@ use Rattle.kept_promise.proofs.Ordered.{IsFetching, IsFetched, AllFetching, AllF
 use Rattle.kept_promise.proofs.OrderSteps.{WaitsFor, all_asks_at, ask_in, others_fetch, up_apart, down_apart, told_in, all_tolds_at}
 use Rattle.kept_promise.proofs.Filling.{holds_named, holds_all, was_under}
 use Rattle.kept_promise.proofs.InOrder.{GoesOver, place_over, want_over, store_still, store_front, store_behind, idle_call, idle_reply, name_noted, no_asks}
+use Rattle.kept_promise.proofs.Rights.{WasThere}
 
 -- ---- how many chunks there are
 
@@ -83,7 +84,7 @@ pub record Ready (book : Book) (k : Core) (qs : List Queue) (n : ℕ) (x : Sessi
   -- what else is on its way is of this store
   pub places : AllAsks (IsInPlace (Some (on j (stage.Storing st))) (locals_of (seat_at g).client)) q.ups
   pub wants : AllTolds (IsWanted book (Some (on j (stage.Storing st)))) ts
-  pub known : IsSome (content_of book.opening j.file)
+  pub known : WasThere book j.file
   pub older : (i : ℕ) (w : StoreCall) → slice_get st.under i ≡ Some w → w.xid < (seat_at g).client.next
 
 -- and what its temporary file holds, where the server has the connection
@@ -101,15 +102,15 @@ stays_in_order book k qs n x q t ts j g st more w temp chunks found = (
     over : (y : ℕ) → GoesOver (on j (stage.Storing st)) (on j (stage.Storing more)) st more y
     over y = record { was = refl; is = refl; file = refl; temp = temp; chunks = chunks; found = found y }
 
-known_on : (book : Book) (j i : Job) (s : Stage) → IsSome (content_of book.opening j.file) → Some (on j s) ≡ Some i → IsSome (content_of book.opening i.file)
-known_on book j i s known e = subst (λ (z : Job). IsSome (content_of book.opening z.file)) (some_is (on j s) i e) known
+known_on : (book : Book) (j i : Job) (s : Stage) → WasThere book j.file → Some (on j s) ≡ Some i → WasThere book i.file
+known_on book j i s known e = subst (λ (z : Job). WasThere book z.file) (some_is (on j s) i e) known
 
 -- no stage of a close waits for a GETHASH or a READ, and a commit's xid is new
 again_storing : (next : ℕ) (j : Job) (st : Store) → Again next j (stage.Storing st)
-again_storing next j st = record { lease = λ y lt e. absurd cc; hash = λ y o lt e. nothing_there o e; commit = λ y lt e. absurd cc; read = λ y c f lt e. absurd cc }
+again_storing next j st = record { lease = λ y lt e. absurd cc; walk = λ y w lt e. absurd cc; hash = λ y o lt e. nothing_there o e; commit = λ y lt e. absurd cc; read = λ y c f lt e. absurd cc }
 
 again_committing : (next : ℕ) (j : Job) (y : ℕ) → next ≤ y → Again next j (stage.Committing y)
-again_committing next j y le = record { lease = λ z lt e. absurd cc; hash = λ z o lt e. nothing_there o e; commit = λ z lt e. let same : y ≡ z = ap xid_of e in omega (arith, le, lt, same); read = λ z c f lt e. absurd cc }
+again_committing next j y le = record { lease = λ z lt e. absurd cc; walk = λ z w lt e. absurd cc; hash = λ z o lt e. nothing_there o e; commit = λ z lt e. let same : y ≡ z = ap xid_of e in omega (arith, le, lt, same); read = λ z c f lt e. absurd cc }
   where
     xid_of : Stage → ℕ
     xid_of (stage.Committing y) = y
@@ -117,9 +118,6 @@ again_committing next j y le = record { lease = λ z lt e. absurd cc; hash = λ 
 
 abbrev names_if : Way → ℕ → ℕ
 names_if w n = elim w [ way.Named ↦ suc n | way.Whole ↦ n ]
-
-abbrev commits_if : Call → ℕ → ℕ
-commits_if c n = elim c [ Commit temp file size ↦ suc n | _ ↦ n ]
 
 names_both : (us vs : List StoreCall) → names_in (us ++ vs) ≡ names_in us + names_in vs
 names_both [] vs = omega arith
@@ -307,7 +305,7 @@ goes_storing book k qs n x q t ts j g st w filled noted off =
     map_count (u ∷ us) = ap suc (map_count us)
 
     owed_on : IsOwed book x.closing j (local_of g) → IsOwed book x.closing (on j (stage.Storing (named st (seat_at g).client.next).store)) (local_of g)
-    owed_on o = record { known = o.known; op = o.op; there = o.there; unmade = o.unmade; value_is = o.value_is; small = o.small }
+    owed_on o = record { known = o.known; op = o.op; there = o.there; unmade = o.unmade; word_is = o.word_is; value_is = o.value_is; small = o.small }
 
 -- ---- all chunks are stored, and the commit goes out
 
@@ -331,16 +329,7 @@ stored_idle n st notes is on = by st.under notes (ap is_stored (sym is) ∙ on)
     by [] (v ∷ vs) e = absurd cc
 
 commits_more : (us : List Ask) (a : Ask) → commits_in us ≡ 0 → commits_in (us ++ a ∷ []) ≤ 1
-commits_more [] a e = by a.call
-  where
-    by : (c : Call) → commits_if c 0 ≤ 1
-    by (Commit temp file size) = omega arith
-    by c = omega arith
-commits_more (u ∷ us) a e = by u.call e (commits_more us a)
-  where
-    by : (c : Call) → commits_if c (commits_in us) ≡ 0 → (commits_in us ≡ 0 → commits_in (us ++ a ∷ []) ≤ 1) → commits_if c (commits_in (us ++ a ∷ [])) ≤ 1
-    by (Commit temp file size) e later = absurd (omega (arith, e))
-    by c e later = later e
+commits_more us a e = let both = commits_both us (a ∷ []) in let one = change_once a.call in omega (arith, e, both, one)
 
 pub goes_committing : (book : Book) (k : Core) (qs : List Queue) (n : ℕ) (x : Session) (q : Queue) (t : Told) (ts : List Told) (j : Job) (g : Here book k qs n x q t ts j) (st : Store) → j.file < 18446744073709551616 → Ready book k qs n x q t ts j g st
     → (let c = (seat_at g).client in
@@ -393,7 +382,8 @@ goes_committing book k qs n x q t ts j g st fits_file w filled noted on_ =
             op = w.owed.op;
             there = w.owed.there;
             unmade = w.owed.unmade;
-            file_is = ap (λ (z : Op). z.file) same_op ∙ of.file;
+            word_is = w.owed.word_is;
+            file_is = ap (λ (z : Op). z.file) same_op ∙ of.file (close_unnamed j.stage w.word);
             size_is = ap (λ (l : List ℕ). length l) (w.owed.value_is ∙ sym w.content ∙ ap h.contents (sym same_temp));
             value_is = inl (w.owed.value_is ∙ sym w.content ∙ ap h.contents (sym same_temp));
             waited = λ u. refl;
@@ -407,7 +397,7 @@ goes_committing book k qs n x q t ts j g st fits_file w filled noted on_ =
       few = commits_more r.asks a (named_commits st.temp st.chunks c.next st.named r.notes r.asks more.next r.named);
       fetch = tt;
       busy = omega arith;
-      closes = (w.owed.op, w.owed.there, w.owed.unmade.0, w.owed.value_is);
+      closes = (w.owed.op, w.owed.there, w.owed.word_is, w.owed.value_is);
       trying = λ m y e. absurd cc;
       xids = bound;
       bounded = bound;
@@ -508,7 +498,7 @@ goes_whole book k qs n x q t ts j g st u d w inside at filled room =
       few = omega arith;
       fetch = tt;
       busy = some_there st.under note;
-      closes = (record { known = w.owed.known; op = w.owed.op; there = w.owed.there; unmade = w.owed.unmade; value_is = w.owed.value_is; small = w.owed.small }, w.content, w.temp, record { chunks = w.storing.chunks; named = w.storing.named; inside = λ m v e. elim (of_appended st.under note m v e) [ inl new ↦ subst (λ (z : StoreCall). z.index < st.named) (sym new.1) inside | inr old ↦ w.storing.inside m v old ] });
+      closes = (record { known = w.owed.known; op = w.owed.op; there = w.owed.there; unmade = w.owed.unmade; word_is = w.owed.word_is; value_is = w.owed.value_is; small = w.owed.small }, w.content, w.temp, record { chunks = w.storing.chunks; named = w.storing.named; inside = λ m v e. elim (of_appended st.under note m v e) [ inl new ↦ subst (λ (z : StoreCall). z.index < st.named) (sym new.1) inside | inr old ↦ w.storing.inside m v old ] });
       trying = λ m y e. absurd cc;
       xids = omega (arith, names, room);
       bounded = omega (arith, room, named_le, few, most);

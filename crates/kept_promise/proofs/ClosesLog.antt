@@ -19,11 +19,15 @@ use Rattle.kept_promise.proofs.Messages.{Job, stage_word}
 use Rattle.kept_promise.proofs.CountedRuns.{no_fault_after}
 use Rattle.kept_promise.proofs.Counted.{traffic_is}
 use Rattle.kept_promise.proofs.VersionRuns.{close_not_opened, word_after}
-use Rattle.kept_promise.proofs.StepCases.{IsFault, IsUnknown, bytes_came, names_keep, StoreIn, open_and_close, OfCloses, of_closes, took_cases, IsOfFile, fetch_known}
+use Rattle.kept_promise.proofs.StepCases.{IsFault, IsUnknown, bytes_came, names_keep, StoreIn, open_and_close, OfCloses, of_closes, took_cases, IsOfFile}
 use Rattle.kept_promise.proofs.Paying.{owing_join, pays_join, pays_end, pays_whole, asked_of, asked_more, asked_whole, asked_without, asked_found, owing_at, plain_pays, whole_pays, owing_plain}
 use Rattle.kept_promise.proofs.Logs.{Going, Ending}
 use Rattle.kept_promise.proofs.LogSums.{sent_more, named_join, made_join, commits_join, came_in, came_join, none_came, asked_in, counts_log, commit_log, whole_number, whole_in}
+use Rattle.kept_promise.proofs.Steps.{goal_not_close}
+use Rattle.kept_promise.proofs.WalkRuns.{took_file}
+use Rattle.kept_promise.proofs.NamesLog.{NamesOnly, names_count, names_pay}
 use Rattle.kept_promise.proofs.LogEvents.{Answering, Answered, found_in, LogLaws, value_stays}
+use Rattle.kept_promise.proofs.Rights.{gets_file}
 
 -- ---- what is carried
 
@@ -43,6 +47,7 @@ abbrev pub ClosesBy : Going
 ClosesBy log file v (stage.Making x temp) = HasNamed v log 0 1 0 (chunks_of v) × Asked log []
 ClosesBy log file v (stage.Storing st) = HasNamed v log st.named 1 0 st.chunks × (st.chunks ≡ chunks_of v) × Asked log (asked_of st.chunks st.under)
 ClosesBy log file v (stage.Committing x) = HasNamed v log (length (chunks_of v)) 1 1 (chunks_of v)
+ClosesBy log file v (stage.Walking x w) = NamesOnly log
 ClosesBy log file v st = Unit {0}
 
 pub record HasClosed (v : List ℕ) (log : List Deal) : Type 0 where
@@ -62,6 +67,7 @@ any_named : (log : List Deal) (file : ℕ) (v : List ℕ) (st : Stage) → Close
 any_named log file v (stage.Making x temp) h w = record { count = 0; made = 1; commits = 0; named = h.0; few = (omega arith, omega arith); all = λ lt. absurd (omega (arith, lt)) }
 any_named log file v (stage.Storing st) h w = record { count = st.named; made = 1; commits = 0; named = subst (HasNamed v log st.named 1 0) h.1 h.0; few = (omega arith, omega arith); all = λ lt. absurd (omega (arith, lt)) }
 any_named log file v (stage.Committing x) h w = record { count = length (chunks_of v); made = 1; commits = 1; named = h; few = (omega arith, omega arith); all = λ lt. refl }
+any_named log file v (stage.Walking y z) h w = absurd (goal_not_close z.goal w)
 any_named log file v st h w = absurd cc
 
 -- ---- an answer, and what was sent
@@ -137,14 +143,15 @@ names_go v log w next h = names_keep (Naming v log w.chunks (owing_at (asked_of 
 
 abbrev Leaves : (log : List Deal) (x : ℕ) → Body → (v : List ℕ) → Stage → List (ℕ × ℕ) → client.State × ClientStep → Type 0
 Leaves log x b v st found r =
-    ((file : ℕ) (u : Task) → r.1.ended ≡ None → r.0.task ≡ Some u → ClosesBy (log ++ deals_with (message.Answer x b ∷ []) found r.1.send) file v u.stage)
+    ((file : ℕ) (u : Task) → r.1.ended ≡ None → r.0.task ≡ Some u → IsOfFile u.stage → ClosesBy (log ++ deals_with (message.Answer x b ∷ []) found r.1.send) file v u.stage)
     × (stage_word st ≡ words.Close → IsFault r.1.ended ⊎ HasClosed v (log ++ deals_with (message.Answer x b ∷ []) found r.1.send))
 
-none_open : (log : List Deal) (file : ℕ) (v : List ℕ) (t : Stage) → stage_word t ≡ words.Open → ClosesBy log file v t
-none_open log file v (stage.Making y temp) e = absurd cc
-none_open log file v (stage.Storing w) e = absurd cc
-none_open log file v (stage.Committing y) e = absurd cc
-none_open log file v t e = tt
+none_open : (log : List Deal) (file : ℕ) (v : List ℕ) (t : Stage) → IsOfFile t → stage_word t ≡ words.Open → ClosesBy log file v t
+none_open log file v (stage.Making y temp) of e = absurd cc
+none_open log file v (stage.Storing w) of e = absurd cc
+none_open log file v (stage.Committing y) of e = absurd cc
+none_open log file v (stage.Walking y z) of e = absurd of
+none_open log file v t of e = tt
 
 -- a store goes on by an answer
 abbrev Ready : (v : List ℕ) → List Deal → (xid : ℕ) → Store → Type 0
@@ -171,9 +178,9 @@ ready_asked v log x b w ms asked r known owes =
 
 leaves_cases : (log : List Deal) (s : client.State) (file : ℕ) (v : List ℕ) (st : Stage) (x : ℕ) (b : Body) → ClosesBy log file v st → (stage_word st ≡ words.Close → v ≡ client.local_bytes s.opened file) → OfCloses (Leaves log x b v st) s file st x b
 leaves_cases log s file v st x b h value = record {
-  opens = λ open_ found r goes. (λ f u running is. none_open (log ++ deals_with (message.Answer x b ∷ []) found r.1.send) f v u.stage (goes u running is), λ close. absurd (open_and_close (stage_word st) open_ close));
+  opens = λ open_ found r goes. (λ f u running is of. none_open (log ++ deals_with (message.Answer x b ∷ []) found r.1.send) f v u.stage of (goes u running is), λ close. absurd (open_and_close (stage_word st) open_ close));
   ends = λ close r e came. (
-    λ f u running is. nothing_there e.ended (sym running ∙ e.ended_is),
+    λ f u running is of. nothing_there e.ended (sym running ∙ e.ended_is),
     λ close. elim came [
       | inl fault ↦ inl fault
       | inr none ↦ elim e.known [
@@ -198,7 +205,7 @@ leaves_cases log s file v st x b h value = record {
       let log2 : List Deal = log ++ Took (message.Answer x b) ∷ map Sent n.send in
       let now : HasNamed v log2 n.store.named 1 0 w.chunks = went v log x b n.send w.chunks w.named n.store.named 1 0 0 r.0 (ready_pays v log x b w n.send r known go.pays) none go.named go.made go.commits in
       let asked : Asked log2 (asked_of w.chunks n.store.under) = ready_asked v log x b w n.send (asked_of w.chunks n.store.under) r known go.owes in (
-        λ f u running task. subst (λ (z : Task). ClosesBy log2 f v z.stage) (some_is _ u task) (subst (HasNamed v log2 n.store.named 1 0) (sym go.chunks) now, go.chunks ∙ r.1, subst (λ (l : List Chunk). Asked log2 (asked_of l n.store.under)) (sym go.chunks) asked),
+        λ f u running task of. subst (λ (z : Task). ClosesBy log2 f v z.stage) (some_is _ u task) (subst (HasNamed v log2 n.store.named 1 0) (sym go.chunks) now, go.chunks ∙ r.1, subst (λ (l : List Chunk). Asked log2 (asked_of l n.store.under)) (sym go.chunks) asked),
         λ close. inr (record { count = n.store.named; made = 1; commits = 0; named = subst (HasNamed v log2 n.store.named 1 0) r.1 now; few = (omega arith, omega arith); all = λ lt. absurd (omega (arith, lt)) }),
       );
   commits = λ w at known none is.
@@ -219,7 +226,7 @@ leaves_cases log s file v st x b h value = record {
       let pays : PaysAll v start (map Sent (n.send ++ m ∷ [])) = subst (PaysAll v start) (sym all) (pays_join v start (map Sent n.send) (Sent m ∷ []) go.pays (subst (λ (o : Owing). PaysAll v o (Sent m ∷ [])) (sym go.owes) (tt, tt, refl))) in
       let now : HasNamed v log2 n.store.named 1 1 w.chunks = went v log x b (n.send ++ m ∷ []) w.chunks w.named n.store.named 1 0 1 r.0 (ready_pays v log x b w (n.send ++ m ∷ []) r known pays) none (ap (λ l. named_in log ++ named_in l) all ∙ ap (λ l. named_in log ++ l) (named_join (map Sent n.send) (Sent m ∷ []) ∙ append-nil (named_in (map Sent n.send))) ∙ go.named) (omega (arith, two, c, q)) (omega (arith, three, d, t)) in
       let full : HasNamed v log2 (length (chunks_of v)) 1 1 (chunks_of v) = subst (λ k. HasNamed v log2 k 1 1 (chunks_of v)) count (subst (HasNamed v log2 n.store.named 1 1) r.1 now) in (
-        λ f u running task. subst (λ (z : Task). ClosesBy log2 f v z.stage) (some_is _ u task) full,
+        λ f u running task of. subst (λ (z : Task). ClosesBy log2 f v z.stage) (some_is _ u task) full,
         λ close. inr (record { count = length (chunks_of v); made = 1; commits = 1; named = full; few = (omega arith, omega arith); all = λ lt. refl }),
       );
   whole = λ old c k at unknown none found name chunk.
@@ -235,7 +242,7 @@ leaves_cases log s file v st x b h value = record {
       ∙ ap (λ l. without_asked l x) had.2
       ∙ asked_without old.chunks old.under x
       ∙ sym (asked_whole old.chunks (without_store old.under x) s.next c.index) in (
-        λ f y running is. subst (λ (t : Task). ClosesBy log2 f v t.stage) (some_is _ y is) (now, had.1, asked),
+        λ f y running is of. subst (λ (t : Task). ClosesBy log2 f v t.stage) (some_is _ y is) (now, had.1, asked),
         λ close. inr (record { count = old.named; made = 1; commits = 0; named = subst (HasNamed v log2 old.named 1 0) had.1 now; few = (omega arith, omega arith); all = λ lt. absurd (omega (arith, lt)) }),
       );
 }
@@ -246,7 +253,7 @@ leaves_cases log s file v st x b h value = record {
 closes_heard : (book more : Book) (taken : List TakenCall) (j : Job) (o : Op) (p : ℕ) (s : client.State) (x : ℕ) (b : Body) → Answering book more taken j o p s x b (took (idle s) (client.calls_of s) j.file j.stage x b) → (log : List Deal) → ClosesBy log o.file o.value j.stage
     → Answered ClosesBy CloseNamed book taken o log x b (found_in s j.file j.stage x b) (took (idle s) (client.calls_of s) j.file j.stage x b)
 closes_heard book more taken j o p s x b a log h = record {
-  stage = λ u running is. subst (λ v. ClosesBy log2 (op_after o r.0 taken (book.steps + 1) r.1).file v u.stage) (sym (running_value r.1.ended running)) (left.0 (op_after o r.0 taken (book.steps + 1) r.1).file u running is);
+  stage = λ u running is. subst (λ v. ClosesBy log2 (op_after o r.0 taken (book.steps + 1) r.1).file v u.stage) (sym (running_value r.1.ended running)) (left.0 (op_after o r.0 taken (book.steps + 1) r.1).file u running is (took_file (idle s) (client.calls_of s) j.file j.stage x b known u is));
   each = by (op_after o r.0 taken (book.steps + 1) r.1).word refl;
 }
   where
@@ -257,7 +264,7 @@ closes_heard book more taken j o p s x b a log h = record {
     log2 = log ++ deals_with (message.Answer x b ∷ []) (found_in s j.file j.stage x b) (took (idle s) (client.calls_of s) j.file j.stage x b).1.send
 
     known : IsOfFile j.stage
-    known = fetch_known book taken j j.stage a.taking.fetch
+    known = a.known
 
     left : Leaves log x b o.value j.stage (found_in s j.file j.stage x b) (took (idle s) (client.calls_of s) j.file j.stage x b)
     left = took_cases (Leaves log x b o.value j.stage) (idle s) (client.calls_of s) j.file j.stage x b known (of_closes (Leaves log x b o.value j.stage) (idle s) (client.calls_of s) j.file j.stage x b known (leaves_cases log (idle s) j.file o.value j.stage x b (subst (λ f. ClosesBy log f o.value j.stage) a.taking.file h) a.value))
@@ -276,25 +283,36 @@ closes_heard book more taken j o p s x b a log h = record {
         ]
     by w word = tt
 
+-- an operation that gets its file from the server
+moves_closes : (log : List Deal) (file other : ℕ) (v : List ℕ) (w : Word) (u : History) → gets_file w ≡ true → CloseNamed log w file v u → CloseNamed log w other v u
+moves_closes log file other v words.Make u gets h = h
+moves_closes log file other v words.Remove u gets h = h
+moves_closes log file other v words.Rename u gets h = h
+moves_closes log file other v w u gets h = absurd cc
+
 pub closes_laws : (all : List Moment) → LogLaws all ClosesBy CloseNamed
 closes_laws all = record {
-  none = λ w file v u un same. none w file v u;
-  asks = λ x file v. tt;
-  opens = λ x file v. tt;
+  walks = λ log file v x w h. h;
+  walked = λ log file v x w h. h;
+  none = λ w file v u un same log names. none w file v u log names;
+  asks = λ log names x file v. tt;
+  opens = λ log names x file v. tt;
   closes = λ x temp file v. (record { named = refl; paid = (tt, tt, refl); made = refl; commits = refl; came = refl }, refl);
-  other = λ log file v st u p un same. other log file v st u p;
+  moves = λ log file other v w u gets h. moves_closes log file other v w u gets h;
+  other = λ log file v st u of p un same. other log file v st u of p;
   heard = λ book more taken j o p s x b all_is a log h. closes_heard book more taken j o p s x b a log h;
 }
   where
-    none : (w : Word) (file : ℕ) (v : List ℕ) (u : History) → CloseNamed [] w file v u
-    none words.Close file v u = record { count = 0; made = 0; commits = 0; named = record { named = refl; paid = refl; made = refl; commits = refl; came = refl }; few = (omega arith, omega arith); all = λ lt. absurd (omega (arith, lt)) }
-    none w file v u = tt
+    none : (w : Word) (file : ℕ) (v : List ℕ) (u : History) (log : List Deal) → NamesOnly log → CloseNamed log w file v u
+    none words.Close file v u log names = let c = names_count log names in record { count = 0; made = 0; commits = 0; named = record { named = c.named; paid = names_pay v log names; made = c.made; commits = c.commits; came = c.came }; few = (omega arith, omega arith); all = λ lt. absurd (omega (arith, lt)) }
+    none w file v u log names = tt
 
-    other : (log : List Deal) (file : ℕ) (v : List ℕ) (st : Stage) (u : History) → ClosesBy log file v st → CloseNamed log (stage_word st) file v u
-    other log file v (stage.Making x temp) u p = any_named log file v (stage.Making x temp) p refl
-    other log file v (stage.Storing w) u p = any_named log file v (stage.Storing w) p refl
-    other log file v (stage.Committing x) u p = any_named log file v (stage.Committing x) p refl
-    other log file v st u p = tt
+    other : (log : List Deal) (file : ℕ) (v : List ℕ) (st : Stage) (u : History) → IsOfFile st → ClosesBy log file v st → CloseNamed log (stage_word st) file v u
+    other log file v (stage.Making x temp) u of p = any_named log file v (stage.Making x temp) p refl
+    other log file v (stage.Storing w) u of p = any_named log file v (stage.Storing w) p refl
+    other log file v (stage.Committing x) u of p = any_named log file v (stage.Committing x) p refl
+    other log file v (stage.Walking x w) u of p = absurd of
+    other log file v st u of p = tt
 
 -- ---- what it makes of the promise
 

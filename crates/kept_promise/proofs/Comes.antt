@@ -1,22 +1,23 @@
 -- What a client comes to by an answer that its operation waits for: it goes on, or the operation ends.
-use Rattle.std.proofs.Common.{◌⊎◌, inl, inr, ◌≡◌, ℕ, ◌+◌, ◌≤◌, List, [], length, Option, Some, None, false, refl, sym, ap, ◌∙◌, subst, arith, map, IsSome}
+use Rattle.std.proofs.Common.{◌⊎◌, inl, inr, ◌≡◌, ℕ, ◌+◌, ◌≤◌, List, [], length, Option, Some, None, false, refl, sym, ap, ◌∙◌, subst, arith, map, true}
 use Rattle.xdr_codec.specs.declared.status.Status.TheVariants as status
 use Rattle.client_state.specs.State as client
 use Rattle.client_state.specs.declared.step.Outcome.TheVariants as outcome
 use Rattle.register_model.specs.declared.op.Outcome.{Outcome}
 use Rattle.register_model.specs.declared.op.Outcome.TheVariants as told
 use Rattle.register_model.specs.declared.op.Word.TheVariants as words
-use Rattle.kept_promise.proofs.Common.{refused, slice_get, slice_set, not, Pending, Status, Entries, Indexed, no_counts, idle, ClientStep, Ended, Local, Stage, content_of, Op, Traffic, Word, Core, Session, has_point, point_if, counted, ended_op, Book, value_at, IsOpenRefused, is_running, Ask, Told, Queue, ask_message}
-use Rattle.kept_promise.proofs.Lists.{some_is, nothing_there, false_and_true}
+use Rattle.kept_promise.proofs.Common.{refused, slice_get, slice_set, not, Pending, Status, Entries, Indexed, no_counts, idle, ClientStep, Ended, Local, Stage, Op, Traffic, Word, Core, Session, has_point, point_if, counted, ended_op, Book, value_at, IsOpenRefused, is_running, Ask, Told, Queue, ask_message, changes}
+use Rattle.kept_promise.proofs.Lists.{some_is, nothing_there, false_and_true, true_and_false}
 use Rattle.kept_promise.proofs.Messages.{Job, stage_word, IsTold, RefusedTold}
-use Rattle.kept_promise.proofs.Rights.{is_remote, Caused, RefusedBy, open_not_close}
+use Rattle.kept_promise.proofs.Rights.{is_remote, Caused, RefusedBy, WasThere}
 use Rattle.file_tree.specs.Tree.{directory_of}
 use Rattle.trace_replay.specs.Causes.{IsDirectory}
 use Rattle.trace_replay.specs.Naming.{tree_at}
 use Rattle.kept_promise.proofs.Growth.{Grows, value_later}
 use Rattle.kept_promise.proofs.History.{onward, Becomes, grows_becomes}
 use Rattle.kept_promise.proofs.Facts.{Cached, IsSession, IsOf}
-use Rattle.kept_promise.proofs.Steps.{Here, session_at, Quiet, job_op, GoesOn, Stops, gone_on, stopped, counting}
+use Rattle.kept_promise.proofs.OrderSteps.{open_no_close}
+use Rattle.kept_promise.proofs.Steps.{Here, session_at, Quiet, job_op, GoesOn, Stops, gone_on, stopped, counting, open_unnamed}
 use Rattle.kept_promise.proofs.CloseEnds.{forgets}
 
 abbrev pub op_at : (book : Book) (k : Core) (qs : List Queue) (n : ℕ) (x : Session) (q : Queue) (t : Told) (ts : List Told) (j : Job) → Here book k qs n x q t ts j → Op
@@ -65,29 +66,31 @@ open_op o tr step p u v = record o { end = Some step; point = p; outcome = u; va
 abbrev pub PointOf : Book → Op → Option ℕ → Type 0
 PointOf book o p = (m : ℕ) → p ≡ Some m → (o.point ≡ Some m) ⊎ ((o.begin ≤ m) × (m ≤ book.steps) × ((i : ℕ) → slice_get book.entries i ≡ Some m → ⊥))
 
-not_close : (w : Word) → w ≡ words.Open → w ≡ words.Close → ⊥
-not_close w e f = open_not_close (sym e ∙ f)
+not_change : (w : Word) → w ≡ words.Open → changes w ≡ true → ⊥
+not_change w e f = true_and_false (changes w) f (ap changes e)
 
 becomes_open : (book : Book) (o : Op) (place : ℕ) (tr : Traffic) (p : Option ℕ) (u : Outcome) (v : List ℕ) → o.word ≡ words.Open → PointOf book o p → Becomes book None (Some place) place o (open_op o tr (book.steps + 1) p u v)
 becomes_open book o place tr p u v w point = record {
   follows = record {
     client = refl;
     word = refl;
-    file = refl;
+    file = λ n g. refl;
+    close_file = λ c. refl;
+    own_file = λ c n. refl;
     begin = refl;
-    point = λ c q e. absurd (not_close o.word w c);
-    value = λ c. absurd (not_close o.word w c);
-    unmade = λ n z. absurd (not_close o.word w z.0);
+    point = λ c q e. absurd (not_change o.word w c);
+    value = λ c. absurd (not_change o.word w c);
+    unmade = λ n z. absurd (not_change o.word w z.0);
     end = λ e s. let is = some_is (book.steps + 1) e s in inr (omega (arith, is));
     running = λ n e. absurd (n refl);
   };
-  close_point = λ c. absurd (not_close o.word w c);
+  change_point = λ c. absurd (not_change o.word w c);
+  change_file = λ c. refl;
   point = λ m e. elim (point m e) [ inl was ↦ inl was | inr new ↦ inr (w, new.2) ];
-  remote = inl w;
 }
 
 abbrev pub Opened_ok : Book → List (ℕ × Local) → Type 0
-Opened_ok book opened = (f : ℕ) (l : Local) → client.local_at opened f ≡ Some l → IsSome (content_of book.opening f) × (length l.bytes ≤ 67108864)
+Opened_ok book opened = (f : ℕ) (l : Local) → client.local_at opened f ≡ Some l → WasThere book f × (length l.bytes ≤ 67108864)
 
 pub stops_open : (book : Book) (k : Core) (qs : List Queue) (n : ℕ) (x : Session) (q : Queue) (t : Told) (ts : List Told) (j : Job) (g : Here book k qs n x q t ts j) (tr : Traffic) (p : Option ℕ) (u : Outcome) (v : List ℕ) (opened : List (ℕ × Local)) → Quiet k n q → stage_word j.stage ≡ words.Open → is_running u ≡ false
     → PointOf book (op_at book k qs n x q t ts j g) p → ((more : Book) → Grows book more None (Some j.place) → more.steps ≡ book.steps + 1 → Caused more (open_op (op_at book k qs n x q t ts j g) tr (book.steps + 1) p u v) u) → Opened_ok book opened
@@ -118,10 +121,10 @@ stops_open book k qs n x q t ts j g tr p u v opened quiet word stopped_ point ca
           | inl was ↦ let old = right.pointed m was in let le = old.1 in omega (arith, le, is)
           | inr new ↦ let le = new.1 in omega (arith, le, is)
         ];
-        failed = λ c. absurd (not_close of.op.word w c);
+        failed = λ c. absurd (not_change of.op.word w c);
       };
       stops = λ e. running_not u stopped_ e;
-      over = inl word;
+      over = inl (open_no_close j.stage word);
       made_here = λ m e. nothing_there m e;
       opened_ok = ok;
     }
@@ -196,11 +199,11 @@ comes_refused book k qs n x q t ts j g s word quiet (inl dir) = subst (λ z. Com
           there = grows.happened dir.1.at dir.1.noted;
           inside = (omega (arith, after, is), λ e q. let end = some_is (book.steps + 1) e q in omega (arith, past, is, end));
           node = dir.1.node;
-          node_is = ap (directory_of (tree_at dir.1.at).nodes) of.file ∙ dir.1.node_is;
+          node_is = ap (directory_of (tree_at dir.1.at).nodes) (of.file (open_unnamed j.stage word)) ∙ dir.1.node_is;
         }
 
     by : (more : Book) (v : Word) → v ≡ words.Open → IsOpenRefused more of.op.file r 21 → RefusedBy more r v 21
-    by more words.Open e i = i
+    by more words.Open e i = inl i
     by more _ e i = absurd cc
 comes_refused book k qs n x q t ts j g s word quiet (inr stale) = subst (λ z. Comes book k qs n x q t ts j g (refused_at (client_at book k qs n x q t ts j g) t.xid z)) (sym stale.0) (inr (record {
   op = r;
@@ -212,7 +215,7 @@ comes_refused book k qs n x q t ts j g s word quiet (inr stale) = subst (λ z. C
   index = c.index;
   shows = stops_open book k qs n x q t ts j g tr (Some m) (told.Refused 70) of.op.value c.opened quiet word refl (told_point book k qs n x q t ts j g t.xid None stale.1.0 stale.1.1) (λ more grows steps. by more of.op.word w (inr (
     refl,
-    (m, (refl, after, (book.steps + 1, refl, omega (arith, past))), ap (λ f. value_at more f m) of.file ∙ value_later book more None (Some j.place) j.file m grows (omega (arith, past)) ∙ stale.1.1.value),
+    (m, (refl, after, (book.steps + 1, refl, omega (arith, past))), ap (λ f. value_at more f m) (of.file (open_unnamed j.stage word)) ∙ value_later book more None (Some j.place) j.file m grows (omega (arith, past)) ∙ stale.1.1.value),
   ))) (g.kept.seats x.owner h.seat h.owner).opened;
   cached = inl (g.kept.seats x.owner h.seat h.owner).kept;
   state_is = refl;
@@ -249,5 +252,5 @@ comes_refused book k qs n x q t ts j g s word quiet (inr stale) = subst (λ z. C
     r = open_op of.op tr (book.steps + 1) (Some m) (told.Refused 70) of.op.value
 
     by : (more : Book) (v : Word) → v ≡ words.Open → IsOpenRefused more of.op.file r 70 → RefusedBy more r v 70
-    by more words.Open e i = i
+    by more words.Open e i = inl i
     by more _ e i = absurd cc

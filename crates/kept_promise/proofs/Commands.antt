@@ -1,20 +1,28 @@
 -- Each command, and what its client makes of it.
-use Rattle.std.proofs.Common.{inl, inr, ◌≡◌, ℕ, zero, suc, ◌+◌, ◌<◌, ◌≤◌, List, [], ◌∷◌, ◌++◌, length, Option, Some, None, Bool, true, false, refl, sym, ap, ◌∙◌, subst, arith, eq-eqb, ne_eqb, IsSome}
+use Rattle.std.proofs.Common.{inl, inr, ◌≡◌, ℕ, zero, suc, ◌+◌, ◌<◌, ◌≤◌, List, [], ◌∷◌, ◌++◌, length, Option, Some, None, Bool, true, false, refl, sym, ap, ◌∙◌, subst, arith, eq-eqb, ne_eqb, ◌⊎◌}
 use Rattle.command_text.specs.declared.command.Command.TheVariants as command
 use Rattle.client_cache.specs.Cache.{reserved, content_of as kept_of}
 use Rattle.client_state.specs.State as client
-use Rattle.open_close.specs.Walking.{walks}
+use Rattle.command_text.specs.declared.path.PathCommand.{PathCommand}
+use Rattle.command_text.specs.declared.path.PathCommand.TheVariants as path
+use Rattle.path_calls.specs.Walk.{begun as walk_begun, arrives}
+use Rattle.command_text.specs.declared.path.Spot.{Spot}
+use Rattle.path_calls.specs.declared.walk.Goal.TheVariants as goal
+use Rattle.path_calls.specs.declared.walk.Walk.{Walk}
+use Rattle.client_state.specs.Ending.{may_walk}
+use Rattle.open_close.specs.Walking.{asks_next, walks, walks_if}
+use Rattle.trace_replay.specs.Commands.{path_word}
 use Rattle.client_state.specs.declared.step.Outcome.TheVariants as outcome
 use Rattle.client_state.specs.declared.task.Stage.TheVariants as stage
 use Rattle.client_state.proofs.Edits.{written_length, truncated_length}
 use Rattle.register_model.specs.declared.op.Word.TheVariants as words
-use Rattle.kept_promise.proofs.Common.{nat_tests, cond, ◌==◌, nat_lt, if◌then◌else◌, sha1, content_length, content_bytes, Part, Command, content_size, ends, local_most, written_size, written, truncated, part_of, is_open, has_xids, may_ask, tries_anew, asks_file, asks_kept, opens_if, opens, on_local, done_with, edits, writes, truncates, reads, abandons, asks_temp, closes, command_step, ClientStep, Outcome, Local, Stage, Task, local_at_itself, local_at_another, without_at_itself, without_at_another, content_of, Op, Word, Core, Seat, Session, Loss.Nothing, CoreStep, numbered, with_numbered, session_of, commanded_sessions, does, word_of, file_of, value_at_begin, begun, op_after, place_with, unless, Book, Entries, Content, Call.Lease, Call.Hash, Call.Make, Ask, Queue, ask_message}
+use Rattle.kept_promise.proofs.Common.{nat_tests, cond, ◌==◌, nat_lt, if◌then◌else◌, sha1, content_length, content_bytes, Part, Command, content_size, ends, local_most, written_size, written, truncated, part_of, is_open, has_xids, may_ask, tries_anew, asks_file, asks_kept, opens_if, opens, on_local, done_with, edits, writes, truncates, reads, abandons, asks_temp, closes, command_step, ClientStep, Outcome, Local, Stage, Task, local_at_itself, local_at_another, without_at_itself, without_at_another, Op, Word, Core, Seat, Session, Loss.Nothing, CoreStep, numbered, with_numbered, session_of, commanded_sessions, does, word_of, file_of, value_at_begin, begun, op_after, place_with, unless, Book, Entries, Content, Call.Lease, Call.Hash, Call.Make, Ask, Queue, ask_message, Call.Walks, ◌&&◌, changes, closing_with}
 use Rattle.kept_promise.proofs.Lists.{some_is, nothing_there, same_or_not, at_end}
-use Rattle.kept_promise.proofs.Messages.{Job, job, job_of}
-use Rattle.kept_promise.proofs.Rights.{IsRight}
+use Rattle.kept_promise.proofs.Messages.{Job, job, job_of, goal_word}
+use Rattle.kept_promise.proofs.Rights.{IsRight, WasThere}
 use Rattle.kept_promise.proofs.History.{onward}
 use Rattle.kept_promise.proofs.Turns.{around_with, also_numbered}
-use Rattle.kept_promise.proofs.PathNames.{IsSmall}
+use Rattle.kept_promise.proofs.PathNames.{HasNames, IsSmall, begun_named, begun_small, walk_calls_short}
 use Rattle.kept_promise.proofs.Facts.{IsMatched, IsKept}
 use Rattle.kept_promise.proofs.Leading.{Leads, KeptDoes, ups_put_in, ups_put}
 use Rattle.kept_promise.proofs.Hangs.{leads_quiet}
@@ -23,6 +31,9 @@ use Rattle.kept_promise.proofs.Caches.{cached_reserved}
 use Rattle.kept_promise.proofs.Begins.{First, Free, Starts, begun_client, kept_begins}
 use Rattle.kept_promise.proofs.Does.{cleared, kept_cleared, leads_free, leads_busy, IsOwn}
 use Rattle.kept_promise.proofs.Hashings.{file_small}
+use Rattle.register_model.specs.Register.{changes}
+use Rattle.kept_promise.proofs.Steps.{goal_not_close}
+use Rattle.kept_promise.proofs.MakingGoals.{creates_changes, later_changes}
 
 abbrev commanded_as : Core → (c : ℕ) → Seat → (place session : Option ℕ) → Option Session → Word → (file : ℕ) → (value : List ℕ) → client.State → ClientStep → CoreStep
 commanded_as k c seat place session found w file value s acts = record {
@@ -58,15 +69,15 @@ owner_is book k qs c seat kept here n x at is =
     ap (λ (z : Session). z.owner) (sym same) ∙ s.2
 
 -- it answers by itself, and its files are these
-own_with : (book : Book) (k : Core) (qs : List Queue) (c : ℕ) (seat : Seat) (w : Word) (file : ℕ) (value : List ℕ) (opened : List (ℕ × Local)) (o : Outcome) → IsOwn o → Idle book k qs c seat → ((f : ℕ) (l : Local) → client.local_at opened f ≡ Some l → IsSome (content_of book.opening f) × (length l.bytes ≤ 67108864)) → Answers book k qs c seat w file value (record seat.client { opened = opened }, ends o 0 0)
+own_with : (book : Book) (k : Core) (qs : List Queue) (c : ℕ) (seat : Seat) (w : Word) (file : ℕ) (value : List ℕ) (opened : List (ℕ × Local)) (o : Outcome) → IsOwn w o → Idle book k qs c seat → ((f : ℕ) (l : Local) → client.local_at opened f ≡ Some l → WasThere book f × (length l.bytes ≤ 67108864)) → Answers book k qs c seat w file value (record seat.client { opened = opened }, ends o 0 0)
 own_with book k qs c seat w file value opened o own g fits = leads_free book k qs c seat seat.session (session_of k.sessions seat.session) w file value opened o own g.kept g.here g.place g.free fits refl (owner_is book k qs c seat g.kept g.here)
 
-own_same : (book : Book) (k : Core) (qs : List Queue) (c : ℕ) (seat : Seat) (w : Word) (file : ℕ) (value : List ℕ) (o : Outcome) → IsOwn o → Idle book k qs c seat → Answers book k qs c seat w file value (seat.client, ends o 0 0)
+own_same : (book : Book) (k : Core) (qs : List Queue) (c : ℕ) (seat : Seat) (w : Word) (file : ℕ) (value : List ℕ) (o : Outcome) → IsOwn w o → Idle book k qs c seat → Answers book k qs c seat w file value (seat.client, ends o 0 0)
 own_same book k qs c seat w file value o own g = own_with book k qs c seat w file value seat.client.opened o own g (g.kept.seats c seat g.here).opened
 
 -- ---- on an open file
 
-has_local : (book : Book) (k : Core) (qs : List Queue) (c : ℕ) (seat : Seat) (file : ℕ) (l : Local) (bytes : List ℕ) → Idle book k qs c seat → client.local_at seat.client.opened file ≡ Some l → length bytes ≤ local_most → (f : ℕ) (v : Local) → client.local_at (client.with_local seat.client.opened file (record l { bytes = bytes })) f ≡ Some v → IsSome (content_of book.opening f) × (length v.bytes ≤ 67108864)
+has_local : (book : Book) (k : Core) (qs : List Queue) (c : ℕ) (seat : Seat) (file : ℕ) (l : Local) (bytes : List ℕ) → Idle book k qs c seat → client.local_at seat.client.opened file ≡ Some l → length bytes ≤ local_most → (f : ℕ) (v : Local) → client.local_at (client.with_local seat.client.opened file (record l { bytes = bytes })) f ≡ Some v → WasThere book f × (length v.bytes ≤ 67108864)
 has_local book k qs c seat file l bytes g at short f v is =
     let seat_is = g.kept.seats c seat g.here in
     elim (same_or_not f file) [
@@ -74,15 +85,15 @@ has_local book k qs c seat file l bytes g at short f v is =
       | inl same ↦
           let v_is : record l { bytes = bytes } ≡ v = some_is (record l { bytes = bytes }) v (sym (local_at_itself seat.client.opened file (record l { bytes = bytes })) ∙ ap (client.local_at (client.with_local seat.client.opened file (record l { bytes = bytes }))) (sym same) ∙ is) in
           let len = ap (λ (z : Local). length z.bytes) v_is in
-          (subst (λ (z : ℕ). IsSome (content_of book.opening z)) (sym same) (seat_is.opened file l at).0, omega (arith, len, short))
+          (subst (λ (z : ℕ). WasThere book z) (sym same) (seat_is.opened file l at).0, omega (arith, len, short))
     ]
 
-edited : (book : Book) (k : Core) (qs : List Queue) (c : ℕ) (seat : Seat) (w : Word) (file : ℕ) (value : List ℕ) (l : Local) (size : ℕ) (bytes : List ℕ) → Idle book k qs c seat → client.local_at seat.client.opened file ≡ Some l → length bytes ≡ size → Answers book k qs c seat w file value (edits seat.client file l size bytes)
-edited book k qs c seat w file value l size bytes g at is = by (nat_lt local_most size) refl
+edited : (book : Book) (k : Core) (qs : List Queue) (c : ℕ) (seat : Seat) (w : Word) (file : ℕ) (value : List ℕ) (l : Local) (size : ℕ) (bytes : List ℕ) → changes w ≡ false → Idle book k qs c seat → client.local_at seat.client.opened file ≡ Some l → length bytes ≡ size → Answers book k qs c seat w file value (edits seat.client file l size bytes)
+edited book k qs c seat w file value l size bytes plain g at is = by (nat_lt local_most size) refl
   where
     by : (b : Bool) → nat_lt local_most size ≡ b → Answers book k qs c seat w file value (if b then Rattle.open_close.specs.Step.too_big seat.client size else done_with seat.client file l bytes)
     by true e = own_same book k qs c seat w file value (outcome.TooBig size) tt g
-    by false e = own_with book k qs c seat w file value (client.with_local seat.client.opened file (record l { bytes = bytes })) outcome.Done tt g (has_local book k qs c seat file l bytes g at (let le : size ≤ local_most = grind (arith, nat_tests, e) in omega (arith, le, is)))
+    by false e = own_with book k qs c seat w file value (client.with_local seat.client.opened file (record l { bytes = bytes })) outcome.Done plain g (has_local book k qs c seat file l bytes g at (let le : size ≤ local_most = grind (arith, nat_tests, e) in omega (arith, le, is)))
 
 wrote : (book : Book) (k : Core) (qs : List Queue) (c : ℕ) (seat : Seat) (file offset : ℕ) (content : List Part) (value : List ℕ) (l : Local) → Idle book k qs c seat → client.local_at seat.client.opened file ≡ Some l → Answers book k qs c seat words.Write file value (writes seat.client file offset content l)
 wrote book k qs c seat file offset content value l g at = by (content_length content == 0) refl
@@ -95,10 +106,10 @@ wrote book k qs c seat file offset content value l g at = by (content_length con
         positive (suc n) e = omega arith
 
     by : (b : Bool) → (content_length content == 0) ≡ b → Answers book k qs c seat words.Write file value (if b then (seat.client, ends outcome.Done 0 0) else edits seat.client file l (written_size (length l.bytes) offset (content_length content)) (written l.bytes offset (content_bytes content)))
-    by true e = own_same book k qs c seat words.Write file value outcome.Done tt g
-    by false e = edited book k qs c seat words.Write file value l (written_size (length l.bytes) offset (content_length content)) (written l.bytes offset (content_bytes content)) g at (written_length l.bytes offset (content_bytes content) (some e) ∙ ap (written_size (length l.bytes) offset) (content_size content))
+    by true e = own_same book k qs c seat words.Write file value outcome.Done refl g
+    by false e = edited book k qs c seat words.Write file value l (written_size (length l.bytes) offset (content_length content)) (written l.bytes offset (content_bytes content)) refl g at (written_length l.bytes offset (content_bytes content) (some e) ∙ ap (written_size (length l.bytes) offset) (content_size content))
 
-gone : (book : Book) (k : Core) (qs : List Queue) (c : ℕ) (seat : Seat) (file : ℕ) → Idle book k qs c seat → (f : ℕ) (v : Local) → client.local_at (client.without_local seat.client.opened file) f ≡ Some v → IsSome (content_of book.opening f) × (length v.bytes ≤ 67108864)
+gone : (book : Book) (k : Core) (qs : List Queue) (c : ℕ) (seat : Seat) (file : ℕ) → Idle book k qs c seat → (f : ℕ) (v : Local) → client.local_at (client.without_local seat.client.opened file) f ≡ Some v → WasThere book f × (length v.bytes ≤ 67108864)
 gone book k qs c seat file g f v is = elim (same_or_not f file) [
   | inl same ↦ nothing_there v (sym (without_at_itself seat.client.opened file) ∙ ap (client.local_at (client.without_local seat.client.opened file)) (sym same) ∙ is)
   | inr apart ↦ (g.kept.seats c seat g.here).opened f v (sym (without_at_another seat.client.opened file f apart) ∙ is)
@@ -134,25 +145,25 @@ linked book k qs c seat g is =
     }
 
 -- what it asks is a first call
-hash_first : (next file : ℕ) → First next (stage.Hashing 1 next) (record { xid = next; call = Hash file 0 })
+pub hash_first : (next file : ℕ) → First next (stage.Hashing 1 next) (record { xid = next; call = Hash file 0 })
 hash_first next file = record {
   xid = refl;
   pending = refl;
   hash = λ y o lt e. nothing_there o (sym (ap (λ b. cond b (Some 0) None) (ne_eqb next y (λ s. omega (arith, lt, s)))) ∙ e);
   read = λ y. refl;
   commit = λ y e. absurd cc;
+  walk = λ y w lt e. absurd cc;
   lease = λ y lt e. absurd cc;
-  none = refl;
 }
 
 asking_is : (x y : ℕ) → stage.Asking x ≡ stage.Asking y → x ≡ y
 asking_is x y e = cc
 
-lease_first : (next file : ℕ) → First next (stage.Asking next) (record { xid = next; call = Lease file })
-lease_first next file = record { xid = refl; pending = refl; hash = λ y o lt e. nothing_there o e; read = λ y. refl; commit = λ y e. absurd cc; lease = λ y lt e. (let same = asking_is next y e in omega (arith, lt, same)); none = refl }
+pub lease_first : (next file : ℕ) → First next (stage.Asking next) (record { xid = next; call = Lease file })
+lease_first next file = record { xid = refl; pending = refl; hash = λ y o lt e. nothing_there o e; read = λ y. refl; commit = λ y e. absurd cc; walk = λ y w lt e. absurd cc; lease = λ y lt e. (let same = asking_is next y e in omega (arith, lt, same)) }
 
 make_first : (next temp file : ℕ) → First next (stage.Making next temp) (record { xid = next; call = Make temp file })
-make_first next temp file = record { xid = refl; pending = refl; hash = λ y o lt e. nothing_there o e; read = λ y. refl; commit = λ y e. absurd cc; lease = λ y lt e. absurd cc; none = refl }
+make_first next temp file = record { xid = refl; pending = refl; hash = λ y o lt e. nothing_there o e; read = λ y. refl; commit = λ y e. absurd cc; walk = λ y w lt e. absurd cc; lease = λ y lt e. absurd cc }
 
 begun_right : (more : Book) (c : ℕ) (w : Word) (file : ℕ) (value : List ℕ) (step : ℕ) → Rattle.kept_promise.proofs.Rights.is_remote w ≡ true → more.steps ≡ step → IsRight more (begun c w file value step)
 begun_right more c w file value step remote now = record {
@@ -168,7 +179,7 @@ begun_right more c w file value step remote now = record {
 -- it begins: the queue, the session and the seat are as its step leaves them
 leads_begins : (book : Book) (k : Core) (qs : List Queue) (c : ℕ) (seat : Seat) (w : Word) (file : ℕ) (value : List ℕ) (cache : Entries) (temp : ℕ) (s : Stage) (a : Ask) (acts : ClientStep) → (g : Idle book k qs c seat) → (l : Linked book k qs c seat)
     → acts.send ≡ ask_message a ∷ [] → acts.ended ≡ None → acts.found ≡ None → Rattle.trace_replay.specs.Ops.counted (record { cond = 0; tmp = 0; read = 0; «data» = 0 }) acts.counts ≡ record { cond = 0; tmp = 0; read = 0; «data» = 0 }
-    → ((closing : Option ℕ) → closing ≡ Rattle.trace_replay.specs.Ops.closing_with l.session.closing (length book.ops) w None → Starts book (record k { sessions = with_numbered k.sessions l.number (cleared l.session) }) qs c l.number (cleared l.session) l.queue seat (begun c w file value (k.steps + 1)) cache temp file s a closing value)
+    → ((closing : Option ℕ) → closing ≡ closing_with l.session.closing (length book.ops) w None → Starts book (record k { sessions = with_numbered k.sessions l.number (cleared l.session) }) qs c l.number (cleared l.session) l.queue seat (begun c w file value (k.steps + 1)) cache temp file s a closing value)
     → Answers book k qs c seat w file value (begun_client seat.client cache temp file s, acts)
 leads_begins book k qs c seat w file value cache temp s a acts g l send ended none counts starts =
     let n = l.number in
@@ -180,7 +191,7 @@ leads_begins book k qs c seat w file value cache temp s a acts g l send ended no
     let free_k : Core = record k { sessions = with_numbered k.sessions n (cleared x) } in
     let kept = kept_cleared book k qs n x seat g.kept f.at (ap (numbered k.seats) f.owner ∙ g.here) g.free in
     let ready : Free book free_k qs c n (cleared x) q seat = record { kept = kept; here = g.here; at = (around_with k.sessions n x (cleared x) f.at).there; is = f.is; owner = f.owner; newest = f.newest; uncut = f.uncut; linked = f.linked; task = f.task; free = f.free } in
-    let closing = Rattle.trace_replay.specs.Ops.closing_with x.closing (length book.ops) w None in
+    let closing = closing_with x.closing (length book.ops) w None in
     let d : Seat = record { client = begun_client seat.client cache temp file s; session = seat.session; place = Some (length book.ops) } in
     let y : Session = record x { taken = []; closing = closing } in
     let seats = with_numbered k.seats c d in
@@ -209,19 +220,19 @@ leads_begins book k qs c seat w file value cache temp s a acts g l send ended no
 
     -- the sessions, the seats, the operations and the queues, as the step says them
     shape : (more : Book) (e : Option Rattle.client_state.specs.declared.step.Ended.Ended) → acts.ended ≡ None → op_after (begun c w file value (k.steps + 1)) (begun_client seat.client cache temp file s) [] (k.steps + 1) acts ≡ begun c w file value (k.steps + 1) → length book.ops ≡ length k.ops
-        → IsKept more (record { server = k.server; seats = with_numbered k.seats c (record { client = begun_client seat.client cache temp file s; session = seat.session; place = Some (length book.ops) }); sessions = with_numbered k.sessions l.number (record l.session { taken = []; closing = Rattle.trace_replay.specs.Ops.closing_with l.session.closing (length book.ops) w None }); steps = k.steps + 1; ops = k.ops ++ begun c w file value (k.steps + 1) ∷ []; entries = k.entries }) (with_numbered qs l.number (record { ups = unless l.session.hung l.queue.ups (a ∷ []); downs = l.queue.downs }))
+        → IsKept more (record { server = k.server; seats = with_numbered k.seats c (record { client = begun_client seat.client cache temp file s; session = seat.session; place = Some (length book.ops) }); sessions = with_numbered k.sessions l.number (record l.session { taken = []; closing = closing_with l.session.closing (length book.ops) w None }); steps = k.steps + 1; ops = k.ops ++ begun c w file value (k.steps + 1) ∷ []; entries = k.entries }) (with_numbered qs l.number (record { ups = unless l.session.hung l.queue.ups (a ∷ []); downs = l.queue.downs }))
         → IsKept more (commanded_as k c seat None seat.session (session_of k.sessions seat.session) w file value (begun_client seat.client cache temp file s) acts).core (ups_put (commanded_sessions k.sessions seat.session (session_of k.sessions seat.session) None (length k.ops) w acts) qs seat.session (a ∷ []))
     shape more e ended op_is place h =
         let f = l.free in
         let found : session_of k.sessions seat.session ≡ Some l.session = ap (session_of k.sessions) f.newest ∙ f.at in
-        let sessions_is : commanded_sessions k.sessions seat.session (session_of k.sessions seat.session) None (length k.ops) w acts ≡ with_numbered k.sessions l.number (record l.session { taken = []; closing = Rattle.trace_replay.specs.Ops.closing_with l.session.closing (length k.ops) w None }) =
-        ap (λ (z : Option Session). commanded_sessions k.sessions seat.session z None (length k.ops) w acts) found ∙ ap (λ (z : Option ℕ). commanded_sessions k.sessions z (Some l.session) None (length k.ops) w acts) f.newest ∙ ap (λ z. with_numbered k.sessions l.number (record l.session { taken = []; closing = Rattle.trace_replay.specs.Ops.closing_with l.session.closing (length k.ops) w z })) ended in
-        let y : Session = record l.session { taken = []; closing = Rattle.trace_replay.specs.Ops.closing_with l.session.closing (length k.ops) w None } in
+        let sessions_is : commanded_sessions k.sessions seat.session (session_of k.sessions seat.session) None (length k.ops) w acts ≡ with_numbered k.sessions l.number (record l.session { taken = []; closing = closing_with l.session.closing (length k.ops) w None }) =
+        ap (λ (z : Option Session). commanded_sessions k.sessions seat.session z None (length k.ops) w acts) found ∙ ap (λ (z : Option ℕ). commanded_sessions k.sessions z (Some l.session) None (length k.ops) w acts) f.newest ∙ ap (λ z. with_numbered k.sessions l.number (record l.session { taken = []; closing = closing_with l.session.closing (length k.ops) w z })) ended in
+        let y : Session = record l.session { taken = []; closing = closing_with l.session.closing (length k.ops) w None } in
         let sessions = with_numbered k.sessions l.number y in
         let at = (around_with k.sessions l.number l.session y f.at).there in
         let queues_is : ups_put sessions qs seat.session (a ∷ []) ≡ with_numbered qs l.number (record { ups = unless l.session.hung l.queue.ups (a ∷ []); downs = l.queue.downs }) =
         ap (λ (z : Option ℕ). ups_put sessions qs z (a ∷ [])) f.newest ∙ ap (λ (z : Option Session). ups_put_in qs l.number (a ∷ []) z (numbered qs l.number)) at ∙ ap (λ (z : Option Queue). ups_put_in qs l.number (a ∷ []) (Some y) z) f.is in
-        let one = subst (λ (p : ℕ). IsKept more (record { server = k.server; seats = with_numbered k.seats c (record { client = begun_client seat.client cache temp file s; session = seat.session; place = Some p }); sessions = with_numbered k.sessions l.number (record l.session { taken = []; closing = Rattle.trace_replay.specs.Ops.closing_with l.session.closing p w None }); steps = k.steps + 1; ops = k.ops ++ begun c w file value (k.steps + 1) ∷ []; entries = k.entries }) (with_numbered qs l.number (record { ups = unless l.session.hung l.queue.ups (a ∷ []); downs = l.queue.downs }))) place h in
+        let one = subst (λ (p : ℕ). IsKept more (record { server = k.server; seats = with_numbered k.seats c (record { client = begun_client seat.client cache temp file s; session = seat.session; place = Some p }); sessions = with_numbered k.sessions l.number (record l.session { taken = []; closing = closing_with l.session.closing p w None }); steps = k.steps + 1; ops = k.ops ++ begun c w file value (k.steps + 1) ∷ []; entries = k.entries }) (with_numbered qs l.number (record { ups = unless l.session.hung l.queue.ups (a ∷ []); downs = l.queue.downs }))) place h in
         let two = subst (λ (z : List Queue). IsKept more (record { server = k.server; seats = with_numbered k.seats c (record { client = begun_client seat.client cache temp file s; session = seat.session; place = Some (length k.ops) }); sessions = sessions; steps = k.steps + 1; ops = k.ops ++ begun c w file value (k.steps + 1) ∷ []; entries = k.entries }) z) (sym queues_is) one in
         let three = subst (λ (z : Op). IsKept more (record { server = k.server; seats = with_numbered k.seats c (record { client = begun_client seat.client cache temp file s; session = seat.session; place = Some (length k.ops) }); sessions = sessions; steps = k.steps + 1; ops = k.ops ++ z ∷ []; entries = k.entries }) (ups_put sessions qs seat.session (a ∷ []))) (sym op_is) two in
         let four = subst (λ (z : Option Rattle.client_state.specs.declared.step.Ended.Ended). IsKept more (record { server = k.server; seats = with_numbered k.seats c (record { client = begun_client seat.client cache temp file s; session = seat.session; place = place_with None (length k.ops) z }); sessions = sessions; steps = k.steps + 1; ops = k.ops ++ op_after (begun c w file value (k.steps + 1)) (begun_client seat.client cache temp file s) [] (k.steps + 1) acts ∷ []; entries = k.entries }) (ups_put sessions qs seat.session (a ∷ []))) (sym ended) three in
@@ -244,13 +255,14 @@ open_begins book k qs c seat file fits g l room =
       pointless = refl;
       right = begun_right (onward book 1 (book.ops ++ begun c words.Open file [] (k.steps + 1) ∷ [])) c words.Open file [] (k.steps + 1) refl (ap (λ z. z + 1) steps);
       asked = λ i o e w. (ap (λ (z : Job). z.file) (sym (some_is (record { place = length book.ops; file = file; stage = stage.Hashing 1 s.next }) i e)) ∙ refl_file, sym (some_is 0 o (hash_now i o e w)));
+      commit = λ contents. tt;
       fits = (omega (arith, room), fits, omega arith);
       under = tt;
       piece = λ f. tt;
       cached = cached_reserved book s.cache file (g.kept.seats c seat g.here).kept;
       temps = omega arith;
       short = omega arith;
-      fetch = λ taken j. tt;
+      fetch = λ taken. tt;
       closes = λ contents e. tt;
       trying = λ m y e. record { op = begun c words.Open file [] (k.steps + 1); there = at_end book.ops (begun c words.Open file [] (k.steps + 1)); count = 0; tries_is = sym (tries_are m y e); tried = omega (arith, steps) };
       xids = (3, refl, omega (arith, room));
@@ -291,13 +303,14 @@ lease_begins book k qs c seat file v fits g l room =
       pointless = refl;
       right = begun_right (onward book 1 (book.ops ++ begun c words.Open file [] (k.steps + 1) ∷ [])) c words.Open file [] (k.steps + 1) refl (ap (λ z. z + 1) steps);
       asked = λ i e w. ap (λ (z : Job). z.file) (sym (some_is (record { place = length book.ops; file = file; stage = stage.Asking s.next }) i e));
+      commit = λ contents. tt;
       fits = (omega (arith, room), fits);
       under = tt;
       piece = λ f. tt;
       cached = cached_reserved book s.cache file (g.kept.seats c seat g.here).kept;
       temps = omega arith;
       short = omega arith;
-      fetch = λ taken j. tt;
+      fetch = λ taken. tt;
       closes = λ contents e. tt;
       trying = λ m y e. absurd cc;
       xids = omega (arith, room);
@@ -330,6 +343,110 @@ opened_new book k qs c seat file fits g = subst (λ (t : Option Task). Answers b
     by true = own_same book k qs c seat words.Open file [] outcome.AlreadyOpen tt g
     by false = ask (may_ask seat.client) refl
 
+-- ---- a walk
+
+pub walk_first : (next : ℕ) (w : Walk) → First next (stage.Walking next w) (record { xid = next; call = Walks w })
+walk_first next w = record { xid = refl; pending = refl; hash = λ y o lt e. nothing_there o e; read = λ y. refl; commit = λ y e. absurd cc; walk = λ y v lt e. (let same = xid_is next y w v e in omega (arith, lt, same)); lease = λ y lt e. absurd cc }
+  where
+    xid_is : (x y : ℕ) (w v : Walk) → stage.Walking x w ≡ stage.Walking y v → x ≡ y
+    xid_is x y w v e = cc
+
+pub walk_is : (x y : ℕ) (w v : Walk) → stage.Walking x w ≡ stage.Walking y v → w ≡ v
+walk_is x y w v e = cc
+
+arrived_word : (dirs : List (List ℕ)) (n : List ℕ) (to : Spot) → words.Rename ≡ goal_word (arrives 1 dirs (goal.RenameFrom n to)).goal
+arrived_word [] n to = refl
+arrived_word (d ∷ ds) n to = refl
+
+pub begun_word : (k : PathCommand) → path_word k ≡ goal_word (walk_begun k).goal
+begun_word (path.Find s) = refl
+begun_word (path.Look s) = refl
+begun_word path.LookRoot = refl
+begun_word (path.List p) = refl
+begun_word (path.Make s) = refl
+begun_word (path.MakeDir s) = refl
+begun_word (path.Remove s) = refl
+begun_word (path.RemoveDir s) = refl
+begun_word (path.Rename s t) = arrived_word s.dirs s.name t
+
+-- a make, a remove and a rename may change a file
+walk_closing : (k : PathCommand) → (closing : Option ℕ) (place : ℕ) → (closing_with closing place (path_word k) None ≡ closing) ⊎ (closing_with closing place (path_word k) None ≡ Some place)
+walk_closing (path.Find s) closing place = inl refl
+walk_closing (path.Look s) closing place = inl refl
+walk_closing path.LookRoot closing place = inl refl
+walk_closing (path.List p) closing place = inl refl
+walk_closing (path.Make s) closing place = inr refl
+walk_closing (path.MakeDir s) closing place = inl refl
+walk_closing (path.Remove s) closing place = inr refl
+walk_closing (path.RemoveDir s) closing place = inl refl
+walk_closing (path.Rename s t) closing place = inr refl
+
+changing_closing : (what : Word) (closing : Option ℕ) (place : ℕ) → changes what ≡ true → closing_with closing place what None ≡ Some place
+changing_closing what closing place e = ap (λ (b : Bool). if b then Some place else closing) e
+
+walk_remote : (k : PathCommand) → Rattle.kept_promise.proofs.Rights.is_remote (path_word k) ≡ true
+walk_remote (path.Find s) = refl
+walk_remote (path.Look s) = refl
+walk_remote path.LookRoot = refl
+walk_remote (path.List p) = refl
+walk_remote (path.Make s) = refl
+walk_remote (path.MakeDir s) = refl
+walk_remote (path.Remove s) = refl
+walk_remote (path.RemoveDir s) = refl
+walk_remote (path.Rename s t) = refl
+
+walk_begins : (book : Book) (k : Core) (qs : List Queue) (c : ℕ) (seat : Seat) (p : PathCommand) → HasNames p → (g : Idle book k qs c seat) → Linked book k qs c seat → seat.client.next < 4293967297
+    → Answers book k qs c seat (path_word p) 0 [] (asks_next seat.client (walk_begun p))
+walk_begins book k qs c seat p names g l room =
+    let s = seat.client in
+    let w = walk_begun p in
+    let a : Ask = record { xid = s.next; call = Walks w } in
+    let was = (g.kept.seats c seat g.here).next in
+    let steps = g.kept.steps in
+    let short = walk_calls_short w (begun_named p names) in
+    let new = begun c (path_word p) 0 [] (k.steps + 1) in
+    leads_begins book k qs c seat (path_word p) 0 [] s.cache s.next_temp (stage.Walking s.next w) a (asks_next s w).1 g l refl refl refl refl (λ closing is. record {
+      first = walk_first s.next w;
+      of_client = refl;
+      word = begun_word p;
+      of_file = refl;
+      running = refl;
+      pointless = refl;
+      right = begun_right (onward book 1 (book.ops ++ begun c (path_word p) 0 [] (k.steps + 1) ∷ [])) c (path_word p) 0 [] (k.steps + 1) (walk_remote p) (ap (λ z. z + 1) steps);
+      asked = λ i v e at. sym (walk_is s.next s.next w v (ap (λ (z : Job). z.stage) (some_is (record { place = length book.ops; file = 0; stage = stage.Walking s.next w }) i e) ∙ at));
+      commit = λ contents making.
+          let may : changes (path_word p) ≡ true = ap changes (begun_word p) ∙ creates_changes w.left w.goal making in
+          record { place = length book.ops; known = is ∙ changing_closing (path_word p) l.session.closing (length book.ops) may; op = new; there = at_end book.ops new; unmade = (may, refl, refl); word_is = begun_word p; file_is = refl; waited = λ u. refl };
+      fits = (omega (arith, room), begun_small p names);
+      under = tt;
+      piece = λ f. tt;
+      cached = (g.kept.seats c seat g.here).kept;
+      temps = omega arith;
+      short = omega arith;
+      fetch = λ taken. (refl, begun_small p names);
+      closes = λ contents e making.
+          let may : changes (path_word p) ≡ true = ap changes (begun_word p) ∙ later_changes w.left w.goal making in
+          record { known = is ∙ changing_closing (path_word p) l.session.closing (length book.ops) may; op = new; there = at_end book.ops new; unmade = (may, refl, refl); word_is = begun_word p; file_is = refl };
+      trying = λ m y e. absurd cc;
+      xids = omega (arith, room, short);
+      bounded = (omega (arith, room), let le = was.1 in omega (arith, le));
+      closing_is = elim (walk_closing p l.session.closing (length book.ops)) [ inl same ↦ inl (is ∙ same) | inr new ↦ inr (is ∙ new) ];
+      place = λ d e. tt;
+      begins = tt;
+      tree = λ e. absurd (goal_not_close w.goal e);
+    })
+
+both_first : (a b : Bool) → (a && b) ≡ true → a ≡ true
+both_first true b e = refl
+both_first false b e = absurd cc
+
+walked_new : (book : Book) (k : Core) (qs : List Queue) (c : ℕ) (seat : Seat) (p : PathCommand) → HasNames p → Idle book k qs c seat → Answers book k qs c seat (path_word p) 0 [] (walks seat.client p seat.client.task)
+walked_new book k qs c seat p names g = subst (λ (t : Option Task). Answers book k qs c seat (path_word p) 0 [] (walks seat.client p t)) (sym g.task) (by (may_walk seat.client (walk_begun p)) refl)
+  where
+    by : (b : Bool) → may_walk seat.client (walk_begun p) ≡ b → Answers book k qs c seat (path_word p) 0 [] (walks_if seat.client (walk_begun p) b)
+    by true e = let m = may seat.client (both_first (may_ask seat.client) _ e) in walk_begins book k qs c seat p names g (linked book k qs c seat g m.0) m.1
+    by false e = own_same book k qs c seat (path_word p) 0 [] outcome.NoLink tt g
+
 -- ---- a close
 
 close_begins : (book : Book) (k : Core) (qs : List Queue) (c : ℕ) (seat : Seat) (file : ℕ) (v : Local) → (g : Idle book k qs c seat) → Linked book k qs c seat → client.local_at seat.client.opened file ≡ Some v → seat.client.next < 4293967297 → Answers book k qs c seat words.Close file (client.local_bytes seat.client.opened file) (asks_temp seat.client file true)
@@ -352,14 +469,15 @@ close_begins book k qs c seat file v g l at room =
       pointless = refl;
       right = begun_right (onward book 1 (book.ops ++ new ∷ [])) c words.Close file value (k.steps + 1) refl (ap (λ z. z + 1) steps);
       asked = tt;
+      commit = λ contents. tt;
       fits = (omega (arith, room), omega (arith, room, le), file_small book k qs file g.kept known.0);
       under = omega arith;
       piece = λ f. tt;
       cached = (g.kept.seats c seat g.here).kept;
       temps = omega arith;
       short = let k1 = known.1 in let b = ap (λ (z : List ℕ). length z) bytes in omega (arith, k1, b);
-      fetch = λ taken j. tt;
-      closes = λ contents e. (record { known = is; op = new; there = at_end book.ops new; unmade = (refl, refl, refl); value_is = refl; small = file_small book k qs file g.kept known.0 }, e, omega arith);
+      fetch = λ taken. tt;
+      closes = λ contents e. (record { known = is; op = new; there = at_end book.ops new; unmade = (refl, refl, refl); word_is = refl; value_is = refl; small = file_small book k qs file g.kept known.0 }, e, omega arith);
       trying = λ m y e. absurd cc;
       xids = omega (arith, room);
       bounded = (omega (arith, room), omega (arith, le));
@@ -388,11 +506,22 @@ closed_new book k qs c seat file g = subst (λ (t : Option Task). AnswersClose b
 idle_does : (book : Book) (k : Core) (qs : List Queue) (c now : ℕ) (seat : Seat) (d : Command) → IsSmall d → Idle book k qs c seat → Answers book k qs c seat (word_of d) (file_of d) (value_at_begin seat.client (word_of d) (file_of d) (command_step seat.client d now).1.ended) (command_step seat.client d now)
 idle_does book k qs c now seat (command.Open file) fits g = opened_new book k qs c seat file fits g
 idle_does book k qs c now seat (command.Write file offset content) fits g = local_one book k qs c seat words.Write file [] (writes seat.client file offset content) g (λ l at. wrote book k qs c seat file offset content [] l g at)
-idle_does book k qs c now seat (command.Trunc file size) fits g = local_one book k qs c seat words.Trunc file [] (truncates seat.client file size) g (λ l at. edited book k qs c seat words.Trunc file [] l size (truncated l.bytes size) g at (truncated_length l.bytes size))
+idle_does book k qs c now seat (command.Trunc file size) fits g = local_one book k qs c seat words.Trunc file [] (truncates seat.client file size) g (λ l at. edited book k qs c seat words.Trunc file [] l size (truncated l.bytes size) refl g at (truncated_length l.bytes size))
 idle_does book k qs c now seat (command.Read file offset count) fits g = local_one book k qs c seat words.Read file [] (reads seat.client offset count) g (λ l at. own_same book k qs c seat words.Read file [] (outcome.Piece (length (part_of l.bytes offset count)) (sha1 (part_of l.bytes offset count))) tt g)
 idle_does book k qs c now seat (command.Close file) fits g = closed_new book k qs c seat file g
-idle_does book k qs c now seat (command.Named n) fits g = absurd fits
-idle_does book k qs c now seat (command.Abandon file) fits g = local_one book k qs c seat words.Abandon file [] (abandons seat.client file) g (λ l at. own_with book k qs c seat words.Abandon file [] (client.without_local seat.client.opened file) outcome.Done tt g (gone book k qs c seat file g))
+idle_does book k qs c now seat (command.Named n) fits g = subst (λ (l : List ℕ). Answers book k qs c seat (path_word n) 0 l (walks seat.client n seat.client.task)) (sym (no_value n (walks seat.client n seat.client.task).1.ended)) (walked_new book k qs c seat n fits g)
+  where
+    no_value : (n : PathCommand) (e : Option Rattle.client_state.specs.declared.step.Ended.Ended) → Rattle.trace_replay.specs.Commands.value_at_begin seat.client (path_word n) 0 e ≡ []
+    no_value (path.Find s) e = refl
+    no_value (path.Look s) e = refl
+    no_value path.LookRoot e = refl
+    no_value (path.List p) e = refl
+    no_value (path.Make s) e = refl
+    no_value (path.MakeDir s) e = refl
+    no_value (path.Remove s) e = refl
+    no_value (path.RemoveDir s) e = refl
+    no_value (path.Rename s t) e = refl
+idle_does book k qs c now seat (command.Abandon file) fits g = local_one book k qs c seat words.Abandon file [] (abandons seat.client file) g (λ l at. own_with book k qs c seat words.Abandon file [] (client.without_local seat.client.opened file) outcome.Done refl g (gone book k qs c seat file g))
 
 busy_step : (s : client.State) (t : Task) (d : Command) (now : ℕ) → s.task ≡ Some t → command_step s d now ≡ (s, ends outcome.Busy 0 0)
 busy_step s t (command.Open file) now e = ap (opens s file) e

@@ -1,5 +1,5 @@
 -- The server takes a commit: it is refused, or its change waits.
-use Rattle.std.proofs.Common.{inl, inr, ◌≡◌, ℕ, ◌+◌, ◌<◌, ◌≤◌, List, [], ◌∷◌, ◌++◌, length, max, Option, Some, None, Bool, true, false, refl, sym, ap, ◌∙◌, subst, arith, eq-eqb, ne_eqb, map, IsSome, Result, Ok, Err}
+use Rattle.std.proofs.Common.{inl, inr, ◌≡◌, ℕ, ◌+◌, ◌≤◌, List, [], ◌∷◌, ◌++◌, length, max, Option, Some, None, Bool, true, false, refl, sym, ap, ◌∙◌, subst, arith, eq-eqb, Result, Ok, Err, ◌⊎◌}
 use Rattle.xdr_codec.specs.declared.status.Status.TheVariants as status
 use Rattle.hash_calls.specs.declared.message.Lb.TheVariants as lb
 use Rattle.server_core.specs.State as server
@@ -7,32 +7,30 @@ use Rattle.server_core.specs.Closing.{answers, sends, changes_most, tree_most}
 use Rattle.temp_files.specs.Pieces.{joined}
 use Rattle.client_state.specs.State as client
 use Rattle.client_state.specs.declared.task.Stage.TheVariants as stage
-use Rattle.kept_promise.proofs.Common.{nat_tests, slice_get, cond, ◌==◌, ◌||◌, nat_lt, if◌then◌else◌, handle_bytes, chunks_of, Failed, Status, message_spell, Node, directory, file, node_of, at, commits, commits_to, commits_whole, has_waiting, is_full, size_most, Temp, temp_at, without_temp, key_of, assembled, Change, File, Stage, content_of, TakenCall, Op, Core, Session, Event.Serves, numbered, with_numbered, hashed_of, Book, Or, Call.Commit, Reply.Changed, Ask, Queue, ask_message}
-use Rattle.kept_promise.proofs.Statements.{CallFits}
-use Rattle.kept_promise.proofs.Lists.{some_is, nothing_there, same_or_not, of_appended, count_more, false_and_true}
-use Rattle.kept_promise.proofs.Keys.{times, times_append, own, on_way, change_key, ask_key, told_key}
-use Rattle.kept_promise.proofs.Messages.{Job, job, stage_word, AllAsks, Rising, IsAsked, IsAnswer, AnswerOf, IsCommit, IsPiece, IsPending, TempUnder, AreParts, content_wanted}
+use Rattle.kept_promise.proofs.Common.{nat_tests, slice_get, cond, ◌==◌, ◌||◌, nat_lt, if◌then◌else◌, handle_bytes, chunks_of, Failed, Status, message_spell, Node, directory, file, node_of, at, commits, commits_to, commits_whole, has_waiting, is_full, size_most, Temp, temp_at, without_temp, key_of, assembled, Change, File, Stage, Op, Core, Session, Event.Serves, numbered, hashed_of, Book, Or, Call.Commit, Reply.Changed, Ask, Queue, ask_message, value_at}
+use Rattle.kept_promise.proofs.Lists.{some_is, nothing_there, false_and_true}
+use Rattle.kept_promise.proofs.Keys.{own}
+use Rattle.kept_promise.proofs.Messages.{Job, job, stage_word, AllAsks, AnswerOf, IsCommit, IsPending, AreParts}
 use Rattle.kept_promise.proofs.Growth.{or_both}
-use Rattle.kept_promise.proofs.History.{onward, grows_same, goes_same, still_same}
-use Rattle.kept_promise.proofs.Later.{all_asks, all_tolds, answer_later, has_fetch_later, commit_later, close_later, pending_later, seat_later, Stays, Spares}
-use Rattle.kept_promise.proofs.Taken.{finds_more, under_more, answer_found, has_fetch_found, times_map_append}
-use Rattle.kept_promise.proofs.Turns.{Around, around_same, around_with, turned_core, kept_turn}
+use Rattle.kept_promise.proofs.History.{onward, grows_same}
+use Rattle.kept_promise.proofs.Later.{pending_later}
 use Rattle.kept_promise.proofs.Fits.{FitLaws}
 use Rattle.kept_promise.proofs.Shelf.{IsShelf, shelf_out, one_out, other_out}
 use Rattle.kept_promise.proofs.Orderly.{locals_of, Wanted, HeldIn, Held}
-use Rattle.kept_promise.proofs.Ordered.{SameFound, held_told, orderly_taken}
+use Rattle.kept_promise.proofs.Ordered.{SameFound, held_told}
 use Rattle.kept_promise.proofs.Chunks.{pieces_are_whole}
 use Rattle.kept_promise.proofs.Statements.{PiecesOf}
-use Rattle.kept_promise.proofs.Fills.{file_there}
-use Rattle.kept_promise.proofs.Facts.{FileIs, IsSession, IsKept, commits_in}
-use Rattle.kept_promise.proofs.Takes.{took, file_still}
+use Rattle.kept_promise.proofs.Gone.{IsStill, IsNone, still_or_none, close_gone}
+use Rattle.kept_promise.proofs.Facts.{FileIs, IsSession, commits_in, is_there, is_naming}
 use Rattle.kept_promise.proofs.Serves.{answered, parsed}
 use Rattle.kept_promise.proofs.Tells.{Found, is_directory, is_gone, is_file, looked, waits_in}
 use Rattle.kept_promise.proofs.Shelves.{of_removed, of_lookup, joined_alike, joined_is}
+use Rattle.kept_promise.proofs.Waitings.{leads_coming}
 use Rattle.kept_promise.proofs.Calls.{Given, session_in, first_fits, rest_of, leads_by, served, held_at, place_at, rest_above}
 use Rattle.kept_promise.proofs.Leading.{Leads}
 use Rattle.server_core.specs.declared.change.Wanted.TheVariants as what
 use Rattle.server_law.proofs.TreeCalls.{entries_more, sizes_more}
+use Rattle.kept_promise.proofs.Rights.{WasThere}
 
 -- ---- it is refused
 
@@ -82,188 +80,36 @@ SameBytes book content bytes = (length content ≡ length bytes) × Or book (byt
 
 -- a change has what its temporary file comes to
 pending_with : (book : Book) (closing : Option ℕ) (cut : Bool) (o : Option Job) (x f : ℕ) (v bytes : List ℕ) → SameBytes book v bytes → IsPending book closing cut o x f v → IsPending book closing cut o x f bytes
-pending_with book closing cut o x f v bytes same p = record { place = p.place; known = p.known; op = p.op; there = p.there; unmade = p.unmade; file_is = p.file_is; size_is = p.size_is ∙ same.0; value_is = or_both book _ _ _ (λ a b. a ∙ sym b) p.value_is same.1; waited = p.waited }
+pending_with book closing cut o x f v bytes same p = record { place = p.place; known = p.known; op = p.op; there = p.there; unmade = p.unmade; word_is = p.word_is; file_is = p.file_is; size_is = p.size_is ∙ same.0; value_is = or_both book _ _ _ (λ a b. a ∙ sym b) p.value_is same.1; waited = p.waited }
 
-pub own_more : (m : ℕ) (ws : List Change) (c : Change) → own m (ws ++ c ∷ []) ≡ own m ws ++ own m (c ∷ [])
-own_more m [] c = refl
-own_more m (w ∷ ws) c = by (w.session == m) (own_more m ws c)
-  where
-    by : (b : Bool) → own m (ws ++ c ∷ []) ≡ own m ws ++ own m (c ∷ []) → cond b (w ∷ own m (ws ++ c ∷ [])) (own m (ws ++ c ∷ [])) ≡ cond b (w ∷ own m ws) (own m ws) ++ own m (c ∷ [])
-    by true e = ap (λ l. w ∷ l) e
-    by false e = e
-
-own_here : (m : ℕ) (ws : List Change) (c : Change) → c.session ≡ m → own m (ws ++ c ∷ []) ≡ own m ws ++ c ∷ []
-own_here m ws c e = own_more m ws c ∙ ap (λ b. own m ws ++ cond b (c ∷ []) []) (eq-eqb c.session m e)
-
-pub own_there : (m : ℕ) (ws : List Change) (c : Change) → (c.session ≡ m → ⊥) → own m (ws ++ c ∷ []) ≡ own m ws
-own_there m ws c apart = own_more m ws c ∙ ap (λ b. own m ws ++ cond b (c ∷ []) []) (ne_eqb c.session m apart) ∙ nil (own m ws)
-  where
-    nil : (l : List Change) → l ++ [] ≡ l
-    nil [] = refl
-    nil (z ∷ l) = ap (λ t. z ∷ t) (nil l)
-
--- a change that waits is where its call was
-way_waits : (n y : ℕ) (w : List Change) (c : Change) (q : Queue) (a : Ask) (us : List Ask) → q.ups ≡ a ∷ us → c.session ≡ n → change_key c ≡ ask_key a → times y (on_way n (w ++ c ∷ []) (record q { ups = us })) ≡ times y (on_way n w q)
-way_waits n y w c q a us e here same =
-    let zero_ = ap (λ (l : List Change). times y (map ask_key us ++ (map change_key l ++ map told_key q.downs))) (own_here n w c here) in
-    let one = times_append y (map ask_key us) (map change_key (own n w ++ c ∷ []) ++ map told_key q.downs) in
-    let two = times_append y (map change_key (own n w ++ c ∷ [])) (map told_key q.downs) in
-    let three = times_map_append change_key y (own n w) (c ∷ []) in
-    let was = ap (λ (l : List Ask). times y (map ask_key l ++ (map change_key (own n w) ++ map told_key q.downs))) e in
-    let four = times_append y (map ask_key (a ∷ us)) (map change_key (own n w) ++ map told_key q.downs) in
-    let five = times_append y (map change_key (own n w)) (map told_key q.downs) in
-    let six = times_append y (ask_key a ∷ []) (map ask_key us) in
-    let seven : times y (change_key c ∷ []) ≡ times y (ask_key a ∷ []) = ap (λ k. times y (k ∷ [])) same in
-    omega (arith, zero_, one, two, three, was, four, five, six, seven)
-
-kept_waits : (book : Book) (k : Core) (qs : List Queue) (n now : ℕ) (x : Session) (q : Queue) (xid m f size : ℕ) (us : List Ask) (temps : List (ℕ × Temp)) (content : List ℕ) (sessions : List Session) (after : List Queue) → (g : Given book k qs n now x q (record { xid = xid; call = Commit m f size }) us)
-    → ((i : ℕ) (e : ℕ × Temp) → slice_get temps i ≡ Some e → (j : ℕ) × (slice_get k.server.temps j ≡ Some e))
-    → SameBytes book ((session_in book k qs n now x q (record { xid = xid; call = Commit m f size }) us g).contents m) content
-    → Roomy k.server content → IsSome (content_of book.opening f) → IsShelf temps → ((o : ℕ) → (o ≡ n → ⊥) → SameFound k.server.temps temps o)
-    → (x.cut ≡ false → Held temps n us q.downs (locals_of (session_in book k qs n now x q (record { xid = xid; call = Commit m f size }) us g).seat.client) (job (session_in book k qs n now x q (record { xid = xid; call = Commit m f size }) us g).seat))
-    → Around k.sessions sessions n (took x xid (book.steps + 1)) → Around qs after n (record q { ups = us })
-    → IsKept (onward book 1 book.ops) (turned_core (onward book 1 book.ops) (record k.server { moment = max k.server.moment now; temps = temps; waiting = k.server.waiting ++ record { session = n; xid = xid; file = f; what = what.Content content } ∷ [] }) k.seats sessions) after
-kept_waits book k qs n now x q xid m f size us temps content sessions after g were same_content room known shelf found held around queues =
-    let a : Ask = record { xid = xid; call = Commit m f size } in
-    let kept = g.kept in
-    let h = session_in book k qs n now x q a us g in
-    let more = onward book 1 book.ops in
-    let grows = grows_same book 1 in
-    let c = h.seat in
-    let y = took x xid (book.steps + 1) in
-    let d : Change = record { session = n; xid = xid; file = f; what = what.Content content } in
-    let waiting : List Change = k.server.waiting ++ d ∷ [] in
-    let r : server.State = record k.server { moment = max k.server.moment now; temps = temps; waiting = waiting } in
-    let spares : Spares x.closing None = λ p u v. nothing_there p v in
-    let first = (subst (AllAsks (IsCommit book x.closing x.cut (job c) h.contents)) g.first h.commits).0.0 in
-    kept_turn book more k qs r k.seats sessions after n x y (record q { ups = us }) c c None None (record {
-      at = g.at;
-      was = h.owner;
-      session_around = around;
-      queue_around = queues;
-      seat_around = around_same k.seats x.owner c h.owner;
-      owner = refl;
-      goes = goes_same book 1 kept.sound;
-      server = record {
-        held = λ i. file_still book more None None i (server.file_at k.server.tree i) grows (still_same book 1 kept.sound) (kept.server.held i);
-        bounded = kept.server.bounded;
-        commits = λ i u at. elim (of_appended k.server.waiting d i u at) [
-          | inl new ↦ subst (λ (z : Change). z.what ≡ what.Content (content_wanted z.what)) (sym new.1) refl
-          | inr old ↦ kept.server.commits i u old
-        ];
-        changes = let e = entries_more k.server.waiting d in let r = room.0 in omega (arith, e, r);
-        bytes = let e = sizes_more k.server.waiting d in let r = room.1 in omega (arith, e, r);
-        lengths = λ i u at. elim (of_appended k.server.waiting d i u at) [
-          | inl new ↦ subst (λ (z : Change). length (content_wanted z.what) ≤ 67108864) (sym new.1) (subst (λ (z : ℕ). z ≤ 67108864) same_content.0 (h.lengths m))
-          | inr old ↦ kept.server.lengths i u old
-        ];
-        targets = λ i u at. elim (of_appended k.server.waiting d i u at) [
-          | inl new ↦ subst (λ (z : Change). IsSome (content_of book.opening z.file)) (sym new.1) known
-          | inr old ↦ kept.server.targets i u old
-        ];
-        xids = λ i u at. elim (of_appended k.server.waiting d i u at) [
-          | inl new ↦ subst (λ (z : Change). z.xid < 4294967296) (sym new.1) (first_fits book k qs n now x q a us g).0
-          | inr old ↦ kept.server.xids i u old
-        ];
-      };
-      sessions_made = refl;
-      view = λ o apart. record { stands_is = refl; waiting = own_there o k.server.waiting d (λ e. apart (sym e)); temps = λ i p u lt at q. were i u at; found = found o apart };
-      elsewhere = inl refl;
-      closing = λ p u. inl u;
-      made_here = λ p u. nothing_there p u;
-      ended_here = λ p o u. nothing_there p u;
-      session = record {
-        seat = c;
-        owner = h.owner;
-        here = h.here;
-        shut = h.shut;
-        lost = λ hung. absurd (false_and_true x.hung g.unhung hung);
-        stands_is = h.stands_is;
-        ups_fit = (subst (AllAsks (λ b. CallFits b.xid b.call)) g.first h.ups_fit).1;
-        downs_fit = h.downs_fit;
-        talk = λ uncut.
-            let talk = h.talk uncut in
-            let z : TakenCall = record { xid = xid; step = book.steps + 1 } in
-            let finds = finds_more x.taken z in
-            let rising = subst (λ (l : List Ask). Rising talk.floor l c.client.next) g.first talk.rising in
-            record {
-              floor = xid + 1;
-              under = under_more talk.floor x.taken z talk.under rising.0;
-              rising = rising.1;
-              asked = (subst (AllAsks (IsAsked (job c))) g.first talk.asked).1;
-              answers = all_tolds (IsAnswer book x.taken x.closing (job c)) (IsAnswer more (x.taken ++ z ∷ []) x.closing (job c)) (λ u w. answer_found more x.taken (x.taken ++ z ∷ []) x.closing (job c) u finds (answer_later book more None None x.taken x.closing (job c) u grows spares w)) q.downs talk.answers;
-              fetch = has_fetch_found more x.taken (x.taken ++ z ∷ []) (job c) finds (has_fetch_later book more None None x.taken (job c) grows talk.fetch);
-              balanced = record {
-                most = λ v. let b = talk.balanced.most v in let w = way_waits n v k.server.waiting d q a us g.first refl refl in omega (arith, b, w);
-                least = λ hung v. let b = talk.balanced.least hung v in let w = way_waits n v k.server.waiting d q a us g.first refl refl in omega (arith, b, w);
-                once = talk.balanced.once;
-                below = talk.balanced.below;
-                ours = talk.balanced.ours;
-              };
-              busy = talk.busy;
-            };
-        contents = h.contents;
-        lengths = h.lengths;
-        commits = (subst (AllAsks (IsCommit more x.closing x.cut (job c) h.contents)) g.first (all_asks (IsCommit book x.closing x.cut (job c) h.contents) (IsCommit more x.closing x.cut (job c) h.contents) (λ b w. commit_later book more None None x.closing x.cut (job c) (job c) h.contents b grows spares (λ u. refl) w) q.ups h.commits)).1;
-        pieces = (subst (AllAsks (IsPiece (hashed_of book.moments) h.contents)) g.first h.pieces).1;
-        temps = λ i o e lt is key. let w = were i e is in h.temps w.0 o e lt w.1 key;
-        temps_below = λ uncut. ((subst (AllAsks (λ b. TempUnder c.client.next_temp b.call)) g.first (h.temps_below uncut).0).1, λ i o e lt is key. let w = were i e is in (h.temps_below uncut).1 w.0 o e lt w.1 key);
-        closes = λ uncut j u. close_later book more None None x.closing h.contents c.client.next_temp j (client.local_bytes c.client.opened j.file) j.stage grows spares (h.closes uncut j u);
-        pending = λ i u at. elim (of_appended (own n k.server.waiting) d i u (ap (λ (l : List Change). slice_get l i) (sym (own_here n k.server.waiting d refl)) ∙ at)) [
-          | inl new ↦ subst (λ (z : Change). IsPending more x.closing x.cut (job c) z.xid z.file (content_wanted z.what)) (sym new.1) (pending_with more x.closing x.cut (job c) xid f (h.contents m) content same_content (pending_later book more None None x.closing x.cut (job c) (job c) xid f (h.contents m) grows spares (λ z. refl) first))
-          | inr old ↦ pending_later book more None None x.closing x.cut (job c) (job c) u.xid u.file (content_wanted u.what) grows spares (λ z. refl) (h.pending i u old)
-        ];
-        single =
-            let s = h.single in
-            let e = ap commits_in g.first in
-            let l = ap (λ (z : List Change). length z) (own_here n k.server.waiting d refl) in
-            let w = count_more (own n k.server.waiting) d in
-            omega (arith, s, e, l, w);
-        old = λ p u. let o = h.old p u in let w = grows.each p o.0 o.1 in (w.0, w.1, w.2.client ∙ o.2);
-        orderly = λ uncut. orderly_taken book more None None n k.server.temps temps x.hung q a us c grows g.first (held uncut) (h.orderly uncut);
-      };
-      seat = seat_later book more None None k.sessions sessions x.owner c grows stays (λ p o u. nothing_there p u) (kept.seats x.owner c h.owner);
-      running = kept.running;
-      shelf = shelf;
-      home = λ i u at. elim (of_appended k.server.waiting d i u at) [
-        | inl new ↦ (y, ap (λ (z : Change). numbered sessions z.session) new.1 ∙ around.there, g.unhung)
-        | inr old ↦ let z = kept.home i u old in let v = later_session z.0 u.session z.1 in (v.0, v.1, v.4 ∙ z.2)
-      ];
-    }) kept.journal kept
-  where
-    later_session : (z : Session) (o : ℕ) → numbered k.sessions o ≡ Some z → (v : Session) × (numbered sessions o ≡ Some v) × (v.owner ≡ z.owner) × (v.cut ≡ z.cut) × (v.hung ≡ z.hung)
-    later_session z o u = elim (same_or_not o n) [
-      | inr apart ↦ (z, around.others o apart ∙ u, refl, refl, refl)
-      | inl here ↦
-          let same : x ≡ z = some_is x z (sym g.at ∙ ap (numbered k.sessions) (sym here) ∙ u) in
-          (took x xid (book.steps + 1), ap (numbered sessions) here ∙ around.there, ap (λ (v : Session). v.owner) same, ap (λ (v : Session). v.cut) same, ap (λ (v : Session). v.hung) same)
-    ]
-
-    stays : Stays k.sessions sessions x.owner
-    stays o z u = let v = later_session z o u in (v.0, v.1, v.2, λ mine. v.3)
-
+-- a commit comes to wait
 leads_waits : (book : Book) (k : Core) (qs : List Queue) (n now : ℕ) (x : Session) (q : Queue) (xid m f size : ℕ) (us : List Ask) (temps : List (ℕ × Temp)) (content : List ℕ) → (g : Given book k qs n now x q (record { xid = xid; call = Commit m f size }) us)
     → ((i : ℕ) (e : ℕ × Temp) → slice_get temps i ≡ Some e → (j : ℕ) × (slice_get k.server.temps j ≡ Some e))
     → SameBytes book ((session_in book k qs n now x q (record { xid = xid; call = Commit m f size }) us g).contents m) content
-    → Roomy k.server content → IsSome (content_of book.opening f) → IsShelf temps → ((o : ℕ) → (o ≡ n → ⊥) → SameFound k.server.temps temps o)
+    → Roomy k.server content → WasThere book f → IsShelf temps → ((o : ℕ) → (o ≡ n → ⊥) → SameFound k.server.temps temps o)
     → (x.cut ≡ false → Held temps n us q.downs (locals_of (session_in book k qs n now x q (record { xid = xid; call = Commit m f size }) us g).seat.client) (job (session_in book k qs n now x q (record { xid = xid; call = Commit m f size }) us g).seat))
     → Leads book (rest_of qs n q us) (served k n x xid (record (at k.server now) { temps = temps; waiting = k.server.waiting ++ record { session = n; xid = xid; file = f; what = what.Content content } ∷ [] }, sends []))
 leads_waits book k qs n now x q xid m f size us temps content g were same room known shelf found held =
-    let y = took x xid (book.steps + 1) in
-    let z = took x xid (k.steps + 1) in
-    let same_step : y ≡ z = ap (λ (s : ℕ). took x xid (s + 1)) g.kept.steps in
-    let sessions = with_numbered k.sessions n z in
-    let around = around_with k.sessions n x z g.at in
+    let h = session_in book k qs n now x q (record { xid = xid; call = Commit m f size }) us g in
+    let d : Change = record { session = n; xid = xid; file = f; what = what.Content content } in
+    let first = (subst (AllAsks (IsCommit book x.closing x.cut (job h.seat) h.contents)) g.first h.commits).0.0 in
     let more = onward book 1 book.ops in
-    let r : server.State = record k.server { moment = max k.server.moment now; temps = temps; waiting = k.server.waiting ++ record { session = n; xid = xid; file = f; what = what.Content content } ∷ [] } in
-    let done : IsKept more (turned_core more r k.seats sessions) (rest_of qs n q us) = kept_waits book k qs n now x q xid m f size us temps content sessions (rest_of qs n q us) g were same room known shelf found held (record { there = around.there ∙ ap (λ v. Some v) (sym same_step); others = around.others; count = around.count }) (around_with qs n q (record q { ups = us }) g.is) in
-    record {
-      sends = record { asks = []; up_is = refl; tolds = []; down_is = refl };
-      more = more;
-      moments = refl;
-      opening = refl;
-      kept = subst (λ (c : Core). IsKept more c (rest_of qs n q us)) (ap (λ s. record { server = r; seats = k.seats; sessions = sessions; steps = s + 1; ops = book.ops; entries = book.entries }) g.kept.steps ∙ ap (λ o. record { server = r; seats = k.seats; sessions = sessions; steps = k.steps + 1; ops = o; entries = book.entries }) g.kept.ops ∙ ap (λ o. record { server = r; seats = k.seats; sessions = sessions; steps = k.steps + 1; ops = k.ops; entries = o }) g.kept.entries) done;
-    }
+    leads_coming book k qs n now x q (record { xid = xid; call = Commit m f size }) us temps d g (record {
+      session_is = refl;
+      xid_is = refl;
+      key_is = refl;
+      number = refl;
+      were = were;
+      wants = tt;
+      changes = let e = entries_more k.server.waiting d in let r = room.0 in omega (arith, e, r);
+      bytes = let e = sizes_more k.server.waiting d in let r = room.1 in omega (arith, e, r);
+      length_is = subst (λ (z : ℕ). z ≤ 67108864) same.0 (h.lengths m);
+      known = known;
+      shelf = shelf;
+      found = found;
+      held = held;
+      waits = pending_with more x.closing x.cut (job h.seat) xid f (h.contents m) content same (pending_later book more None None x.closing x.cut (job h.seat) (job h.seat) xid f (h.contents m) (grows_same book 1) (λ p u v. nothing_there p v) (λ z. refl) first);
+    })
 
 -- ---- whatever becomes of it
 
@@ -283,8 +129,7 @@ pub record IsReady (book : Book) (k : Core) (qs : List Queue) (n now : ℕ) (x :
   pub found : temp_at k.server.temps n m ≡ Some temp
   pub content : List ℕ
   pub whole : assembled temp size ≡ Some content
-  pub file : File
-  pub node : node_of k.server.tree (handle_bytes f) ≡ Ok (Rattle.server_core.specs.Answers.file file)
+  pub target : IsStill k.server f ⊎ IsNone book k.server f
   pub small : nat_lt size_most size ≡ false
   pub alone : has_waiting k.server.waiting n ≡ false
   pub left : Held (without_temp k.server.temps n m) n us q.downs (locals_of (session_in book k qs n now x q (record { xid = xid; call = Commit m f size }) us g).seat.client) (job (session_in book k qs n now x q (record { xid = xid; call = Commit m f size }) us g).seat)
@@ -307,7 +152,7 @@ is_ready book k qs n now x q xid m f size us g uncut =
     let t = held.0 (0, m, f, size, refl) in
     let sized_is : size ≡ length (h.contents m) = (subst (AllAsks (IsCommit book x.closing x.cut (job h.seat) h.contents)) g.first h.commits).0.1 in
     let short = h.lengths m in
-    let there = file_there book k.server f g.kept.server (subst (λ (z : ℕ). IsSome (content_of book.opening z)) p.3 ((h.orderly uncut).tree p.0 p.1 (ap stage_word p.2))) (first_fits book k qs n now x q a us g).2 in
+    let there = still_or_none book k.server f g.kept.server (subst (λ (z : ℕ). WasThere book z) p.3 ((h.orderly uncut).tree p.0 p.1 (ap stage_word p.2))) (first_fits book k qs n now x q a us g).2 in
     let single = h.single in
     let first = ap commits_in g.first in
     let joins = joined_alike t.0.pieces (PiecesOf v (λ c. true) (chunks_of v)) 0 (length v) v t.2 (pieces_are_whole v) in
@@ -319,8 +164,7 @@ is_ready book k qs n now x q xid m f size us g uncut =
       found = t.1.3;
       content = joins.0;
       whole = ap (λ (z : ℕ). joined 0 z t.0.pieces) p.4 ∙ joins.1;
-      file = there.0;
-      node = there.2;
+      target = there;
       small = (let le : size ≤ 67108864 = omega (arith, sized_is, short) in grind (arith, nat_tests, le));
       alone = none_waits n k.server.waiting (omega (arith, single, first));
       left = subst (Held (without_temp k.server.temps n m) n us q.downs (locals_of h.seat.client)) (sym p.1) (subst (HeldIn (without_temp k.server.temps n m) n us q.downs v) (sym p.2) (λ u. absurd (rest_above book k qs n now x q a us g uncut u.0 (record { xid = xid; call = Commit u.1 u.2 u.3 }) u.4 refl), λ u. one_out k.server.temps n m t.0 g.kept.shelf t.1));
@@ -340,13 +184,13 @@ no_room laws book k qs n now x q xid m f size us g content uncut is full =
     let value : length (h.contents m) ≡ length of.op.value = sym c.size_is ∙ ap (λ (z : Op). length z.value) same in
     let steps = g.kept.steps in
     let begun = (g.kept.sound.rights p.0.place of.op of.there).begun in (
-      (
-        p.0,
-        of.op,
-        p.1,
-        p.2,
-        of.there,
-        of.word ∙ ap stage_word p.2,
+      p.0,
+      of.op,
+      p.1,
+      p.2,
+      of.there,
+      of.word ∙ ap stage_word p.2,
+      inl (
         record {
           moment = record { before = k; event = Serves n now (message_spell (ask_message a)) };
           there = g.noted.there;
@@ -368,9 +212,19 @@ no_room laws book k qs n now x q xid m f size us g content uncut is full =
           };
           full = subst (λ (z : ℕ). is_full k.server z ≡ true) (sym is.0 ∙ value) full;
         },
+        refl,
       ),
-      refl,
     )
+
+-- it is refused since its file is gone
+target_gone : (book : Book) (k : Core) (qs : List Queue) (n now : ℕ) (x : Session) (q : Queue) (xid m f size : ℕ) (us : List Ask) → (g : Given book k qs n now x q (record { xid = xid; call = Commit m f size }) us) → x.cut ≡ false → value_at book f (book.steps + 1) ≡ None
+    → Wanted (onward book 1 book.ops) (job (session_in book k qs n now x q (record { xid = xid; call = Commit m f size }) us g).seat) xid (Changed (Failed status.Stale tt))
+target_gone book k qs n now x q xid m f size us g uncut gone =
+    let a : Ask = record { xid = xid; call = Commit m f size } in
+    let h = session_in book k qs n now x q a us g in
+    let p = place_at book k qs n now x q a us g uncut in
+    let w = close_gone book k qs x.owner h.seat p.0 g.kept h.owner p.1 (ap stage_word p.2) (ap is_naming p.2) (ap (λ (z : ℕ). value_at book z (book.steps + 1)) p.3 ∙ gone) in
+    (p.0, w.0, p.1, p.2, w.1, w.2, inr (w.3, refl))
 
 pub serve_commit : FitLaws → (book : Book) (k : Core) (qs : List Queue) (n now : ℕ) (x : Session) (q : Queue) (xid m f size : ℕ) (us : List Ask) → Given book k qs n now x q (record { xid = xid; call = Commit m f size }) us
     → Leads book (rest_of qs n q us) (served k n x xid (commits (at k.server now) n xid (record { fd = m; handle = handle_bytes f; size = size }) (temp_at k.server.temps n m)))
@@ -397,17 +251,17 @@ serve_commit laws book k qs n now x q xid m f size us g = by (temp_at k.server.t
     ends : (s : Status) → (x.cut ≡ false → Wanted (onward book 1 book.ops) (job h.seat) xid (Changed (Failed s tt))) → Leads book (rest_of qs n q us) (answered k n (max k.server.moment now) x a left k.server.index (Changed (Failed s tt)))
     ends s wanted = refused_with laws book k qs n now x q xid m f size us s left g (λ i e is. of_removed _ k.server.temps i e is) (shelf_out k.server.temps n m g.kept.shelf) others wanted (λ uncut. (ready uncut).left)
 
-    has_room : (id : ℕ) (content : List ℕ) (w full : Bool) → has_waiting k.server.waiting n ≡ w → is_full (record (at k.server now) { temps = left }) (length content) ≡ full → id ≡ f → IsSome (content_of book.opening f) → SameBytes book (h.contents m) content
+    has_room : (id : ℕ) (content : List ℕ) (w full : Bool) → has_waiting k.server.waiting n ≡ w → is_full (record (at k.server now) { temps = left }) (length content) ≡ full → id ≡ f → WasThere book f → SameBytes book (h.contents m) content
         → Leads book (rest_of qs n q us) (served k n x xid (if w then answers (record (at k.server now) { temps = left }) n xid (lb.CommitTmpAnswer (Failed status.Jukebox tt)) else if full then answers (record (at k.server now) { temps = left }) n xid (lb.CommitTmpAnswer (Failed status.NoSpc tt)) else (record (at k.server now) { temps = left; waiting = k.server.waiting ++ record { session = n; xid = xid; file = id; what = what.Content content } ∷ [] }, sends [])))
     has_room id content true full waits e same known is = ends status.Jukebox (λ uncut. absurd (false_and_true (has_waiting k.server.waiting n) (ready uncut).alone waits))
     has_room id content false true waits e same known is = ends status.NoSpc (λ uncut. no_room laws book k qs n now x q xid m f size us g content uncut is e)
     has_room id content false false waits e same known is = subst (λ (i : ℕ). Leads book (rest_of qs n q us) (served k n x xid (record (at k.server now) { temps = left; waiting = k.server.waiting ++ record { session = n; xid = xid; file = i; what = what.Content content } ∷ [] }, sends []))) (sym same) (leads_waits book k qs n now x q xid m f size us left content g (λ i u w. of_removed _ k.server.temps i u w) is (not_full changes_most (k.server.tree.changes + server.entries_held k.server.waiting + 1) tree_most (server.bytes_held k.server + length content) e) known (shelf_out k.server.temps n m g.kept.shelf) others (λ uncut. (ready uncut).left))
 
-    whole : (id : ℕ) (t : Temp) (o : Option (List ℕ)) → temp_at k.server.temps n m ≡ Some t → assembled t size ≡ o → id ≡ f → IsSome (content_of book.opening f) → ((c : List ℕ) → o ≡ Some c → SameBytes book (h.contents m) c) → Leads book (rest_of qs n q us) (served k n x xid (commits_whole (record (at k.server now) { temps = left }) n xid id o))
+    whole : (id : ℕ) (t : Temp) (o : Option (List ℕ)) → temp_at k.server.temps n m ≡ Some t → assembled t size ≡ o → id ≡ f → WasThere book f → ((c : List ℕ) → o ≡ Some c → SameBytes book (h.contents m) c) → Leads book (rest_of qs n q us) (served k n x xid (commits_whole (record (at k.server now) { temps = left }) n xid id o))
     whole id t None found none same known is = ends status.Inval (λ uncut. let r = ready uncut in nothing_there r.content (sym none ∙ ap (λ (z : Temp). assembled z size) (some_is t r.temp (sym found ∙ r.found)) ∙ r.whole))
     whole id t (Some c) found some same known is = has_room id c (has_waiting k.server.waiting n) (is_full (record (at k.server now) { temps = left }) (length c)) refl refl same known (is c refl)
 
-    sized : (b : Bool) (id : ℕ) (t : Temp) → nat_lt size_most size ≡ b → temp_at k.server.temps n m ≡ Some t → id ≡ f → IsSome (content_of book.opening f) → Leads book (rest_of qs n q us) (served k n x xid (if b then answers (record (at k.server now) { temps = left }) n xid (lb.CommitTmpAnswer (Failed status.FBig tt)) else commits_whole (record (at k.server now) { temps = left }) n xid id (assembled t size)))
+    sized : (b : Bool) (id : ℕ) (t : Temp) → nat_lt size_most size ≡ b → temp_at k.server.temps n m ≡ Some t → id ≡ f → WasThere book f → Leads book (rest_of qs n q us) (served k n x xid (if b then answers (record (at k.server now) { temps = left }) n xid (lb.CommitTmpAnswer (Failed status.FBig tt)) else commits_whole (record (at k.server now) { temps = left }) n xid id (assembled t size)))
     sized true id t big found same known = ends status.FBig (λ uncut. absurd (false_and_true (nat_lt size_most size) (ready uncut).small big))
     sized false id t big found same known =
         let fits = first_fits book k qs n now x q a us g in
@@ -418,15 +272,15 @@ serve_commit laws book k qs n now x q xid m f size us g = by (temp_at k.server.t
         whole id t (assembled t size) found refl same known (λ c is. joined_is (hashed_of book.moments) (h.contents m) t.pieces c parts (ap (λ (z : ℕ). joined 0 z t.pieces) (sym sized_is) ∙ is))
 
     nodes : (t : Temp) → temp_at k.server.temps n m ≡ Some t → Found k.server.tree f → Leads book (rest_of qs n q us) (served k n x xid (commits_to (record (at k.server now) { temps = left }) n xid size t (node_of k.server.tree (handle_bytes f))))
-    nodes t found (is_directory d there none e) = subst (λ (nd : Result Node Status). Leads book (rest_of qs n q us) (served k n x xid (commits_to (record (at k.server now) { temps = left }) n xid size t nd))) (sym e) (ends status.IsDir (λ uncut. absurd (not_root (ready uncut).file (sym e ∙ (ready uncut).node))))
+    nodes t found (is_directory d there none e) = subst (λ (nd : Result Node Status). Leads book (rest_of qs n q us) (served k n x xid (commits_to (record (at k.server now) { temps = left }) n xid size t nd))) (sym e) (ends status.IsDir (λ uncut. elim (ready uncut).target [ inl still ↦ absurd (not_root still.0 (sym e ∙ still.2)) | inr gone ↦ absurd (not_gone (sym e ∙ gone.1)) ]))
       where
+        not_gone : ◌≡◌ {A = Result Node Status} (Ok directory) (Err status.Stale) → ⊥
+        not_gone q = absurd cc
+
         not_root : (z : File) → ◌≡◌ {A = Result Node Status} (Ok directory) (Ok (file z)) → ⊥
         not_root z q = absurd cc
-    nodes t found (is_gone none e) = subst (λ (nd : Result Node Status). Leads book (rest_of qs n q us) (served k n x xid (commits_to (record (at k.server now) { temps = left }) n xid size t nd))) (sym e) (ends status.Stale (λ uncut. absurd (not_err (ready uncut).file (sym e ∙ (ready uncut).node))))
-      where
-        not_err : (z : File) → Err status.Stale ≡ Ok (file z) → ⊥
-        not_err z q = absurd cc
-    nodes t found (is_file z there e) = subst (λ (nd : Result Node Status). Leads book (rest_of qs n q us) (served k n x xid (commits_to (record (at k.server now) { temps = left }) n xid size t nd))) (sym e) (sized (nat_lt size_most size) z.id t refl found (subst (FileIs book f) there (g.kept.server.held f)).0 (subst (FileIs book f) there (g.kept.server.held f)).3)
+    nodes t found (is_gone none e) = subst (λ (nd : Result Node Status). Leads book (rest_of qs n q us) (served k n x xid (commits_to (record (at k.server now) { temps = left }) n xid size t nd))) (sym e) (ends status.Stale (λ uncut. target_gone book k qs n now x q xid m f size us g uncut (subst (FileIs book f) none (g.kept.server.held f))))
+    nodes t found (is_file z there e) = subst (λ (nd : Result Node Status). Leads book (rest_of qs n q us) (served k n x xid (commits_to (record (at k.server now) { temps = left }) n xid size t nd))) (sym e) (sized (nat_lt size_most size) z.id t refl found (subst (FileIs book f) there (g.kept.server.held f)).0 (is_there book f z (subst (FileIs book f) there (g.kept.server.held f))))
 
     by : (o : Option Temp) → temp_at k.server.temps n m ≡ o → Leads book (rest_of qs n q us) (served k n x xid (commits (at k.server now) n xid (record { fd = m; handle = handle_bytes f; size = size }) o))
     by None found = fails status.BadFd (λ uncut. let r = ready uncut in nothing_there r.temp (sym found ∙ r.found))

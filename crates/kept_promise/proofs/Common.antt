@@ -115,5 +115,5 @@ pub use Rattle.trace_replay.specs.declared.fault.Refused.{Refused}
 pub use Rattle.trace_replay.specs.declared.taken_call.TakenCall.{TakenCall}
 pub use Rattle.trace_replay.specs.declared.turn.Turn.{Turn}
 pub use Rattle.kept_promise.specs.Rounds.{rounds}
-pub use Rattle.kept_promise.specs.Talk.{Queue, Ask, Told, told_message, Reply, Call.Commit, Call, ask_message, Call.Lease, Reply.Versioned, Reply.Changed, Reply.Bytes, Call.Send, reply_program, Reply.Hashed, Reply.Named, Call.Name, Call.Hash, Call.Read, Call.Make, Reply.Made, Reply.Stored, reply_body, call_program, no_queue, Carries, call_message}
+pub use Rattle.kept_promise.specs.Talk.{Call.Walks, Reply.Walked, NameReply, NameReply.LookedUp, NameReply.Shown, NameReply.Listed, NameReply.MadeFile, NameReply.MadeDir, NameReply.NoDir, NameReply.Gone, NameReply.Renamed, name_answer, Queue, Ask, Told, told_message, Reply, Call.Commit, Call, ask_message, Call.Lease, Reply.Versioned, Reply.Changed, Reply.Bytes, Call.Send, reply_program, Reply.Hashed, Reply.Named, Call.Name, Call.Hash, Call.Read, Call.Make, Reply.Made, Reply.Stored, reply_body, call_program, no_queue, Carries, call_message}
 pub use Rattle.kept_promise.specs.Whole.{up_with, down_with}

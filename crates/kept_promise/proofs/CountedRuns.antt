@@ -9,7 +9,7 @@ use Rattle.client_state.specs.State as client
 use Rattle.client_state.specs.declared.step.Outcome.TheVariants as outcome
 use Rattle.trace_replay.specs.Core.{taken_of as session_taken, entries_since}
 use Rattle.trace_replay.specs.Trail.{taken_in, taken_of}
-use Rattle.kept_promise.proofs.Common.{slice_get, Command, parse_of, Message, WireFault, server_step, no_counts, command_step, got_step, ended_by, cut, BadPeer, ClientStep, Ended, Outcome, Task, Op, Opening, TakenCall, no_traffic, counted, op_after, ended_op, told_of, Core, Seat, Session, Event, Event.Joins, Event.Does, Event.Serves, Event.Hears, Event.Settles, Event.Cuts, Event.Hangs, CoreStep, numbered, server_waiting, serves_if, serves, session_of, ops_after, ops_with, does, joins_as, joins, settled_ops, settled_by, settles, cuts_if, cuts, hangs_if, hangs, happens, Moment, all_said, owner_in, client_of, sent_in, sent_of, wanted_by, taken_if, taken_from, taken_by, Book, Queue, pointed_at}
+use Rattle.kept_promise.proofs.Common.{slice_get, Command, parse_of, Message, WireFault, server_step, no_counts, command_step, got_step, ended_by, cut, BadPeer, ClientStep, Ended, Outcome, Task, Op, Opening, TakenCall, no_traffic, counted, op_after, ended_op, told_of, Core, Seat, Session, Event, Event.Joins, Event.Does, Event.Serves, Event.Hears, Event.Settles, Event.Cuts, Event.Hangs, CoreStep, numbered, server_waiting, serves_if, serves, session_of, ops_after, ops_with, does, joins_as, joins, settled_ops, settled_by, settles, cuts_if, cuts, hangs_if, hangs, happens, Moment, all_said, owner_in, client_of, sent_in, sent_of, wanted_by, taken_if, taken_from, taken_by, Book, Queue, pointed_at, Traffic, both}
 use Rattle.kept_promise.proofs.Lists.{nothing_there, at_replaced}
 use Rattle.kept_promise.proofs.Rights.{IsRight, Caused}
 use Rattle.kept_promise.proofs.Facts.{IsKept}
@@ -21,14 +21,22 @@ use Rattle.kept_promise.proofs.Actors.{acts_alone, Heard, heard_at, newest_is}
 use Rattle.kept_promise.proofs.CommandOps.{made_by, made_later, made_silent}
 use Rattle.kept_promise.proofs.PathNames.{IsSmall}
 use Rattle.trace_replay.specs.Ops.{file_with, changed_file}
+use Rattle.path_calls.specs.declared.walk.Walk.{Walk}
+use Rattle.path_calls.specs.Walk.{next_call, begun as walk_begun}
+use Rattle.wire.specs.declared.message.Body.TheVariants as body
+use Rattle.wire.specs.declared.message.Message.TheVariants as message
+use Rattle.kept_promise.proofs.WalkMessages.{call_counts}
 
 -- ---- what a command sends counts nothing
 
 abbrev pub IsSilent : client.State × ClientStep → Type 0
 IsSilent r = (sent_sum r.1.send ≡ no_traffic) × (r.1.counts ≡ no_counts)
 
+walk_silent : (x : ℕ) (w : Walk) → sent_sum (message.Call x (body.Nfs (next_call w)) ∷ []) ≡ no_traffic
+walk_silent x w = ap (λ (t : Traffic). both t no_traffic) (call_counts x w)
+
 pub silent_command : (s : client.State) (d : Command) (now : ℕ) → IsSmall d → IsSilent (command_step s d now)
-silent_command s d now small = command_cases IsSilent s d now (record { busy = λ t is. (refl, refl); answers = λ free opened o plain. (refl, refl); fetches = λ file is free may. (refl, refl); asks = λ file c is free may at. (refl, refl); closes = λ file l is free may at. (refl, refl); walks = λ c is free may. absurd (subst IsSmall is small) })
+silent_command s d now small = command_cases IsSilent s d now (record { busy = λ t is. (refl, refl); answers = λ free opened o plain. (refl, refl); fetches = λ file is free may. (refl, refl); asks = λ file c is free may at. (refl, refl); closes = λ file l is free may at. (refl, refl); walks = λ c is free may. (walk_silent s.next (walk_begun c), refl) })
 
 -- ---- one more moment
 

@@ -1,32 +1,38 @@
 -- A client sees its connection lost: its operation ends by that, and what is on its way down goes.
-use Rattle.std.proofs.Common.{◌⊎◌, inl, inr, ◌≡◌, ℕ, ◌+◌, ◌<◌, List, [], Option, Some, None, Bool, true, false, refl, sym, ap, ◌∙◌, subst, arith, append-nil, IsSome}
+use Rattle.std.proofs.Common.{inl, inr, ◌≡◌, ℕ, ◌+◌, ◌<◌, List, [], Option, Some, None, Bool, true, false, refl, sym, ap, ◌∙◌, subst, arith, append-nil}
 use Rattle.server_core.specs.State as server
 use Rattle.client_state.specs.State as client
 use Rattle.client_state.specs.declared.step.Outcome.TheVariants as outcome
 use Rattle.register_model.specs.declared.op.Outcome.TheVariants as told
 use Rattle.register_model.specs.declared.op.Word.TheVariants as words
 use Rattle.trace_replay.specs.Core.{idles, loss_down}
-use Rattle.kept_promise.proofs.Common.{slice_get, slice_set, cut, ended_by, nothing_done, ClientStep, Ended, Task, content_of, Op, Word, TakenCall, Core, Seat, Session, Event.Cuts, CoreStep, taken_of, session_of, ops_after, ops_with, cut_session, cuts_if, cuts, numbered, with_numbered, has_point, point_if, op_after, place_after, unless, hashed_of, Book, Ask, Queue, Call, Call.Commit}
+use Rattle.server_core.specs.declared.change.Wanted.TheVariants as wanted
+use Rattle.kept_promise.proofs.Common.{slice_get, slice_set, cut, ended_by, nothing_done, ClientStep, Ended, Task, Op, Word, TakenCall, Core, Seat, Session, Event.Cuts, CoreStep, taken_of, session_of, ops_after, ops_with, cut_session, cuts_if, cuts, numbered, with_numbered, has_point, point_if, op_after, place_after, unless, hashed_of, Book, Ask, Queue, Call, Call.Commit, Call.Walks, Wanted}
 use Rattle.kept_promise.proofs.Lists.{some_is, nothing_there, same_or_not, of_replaced}
-use Rattle.kept_promise.proofs.Messages.{Job, job, job_of, IsCommit, CommitOf, IsPending, content_wanted}
-use Rattle.kept_promise.proofs.Rights.{is_remote, IsRight}
+use Rattle.kept_promise.proofs.Messages.{Job, job, job_of, IsCommit, CommitOf, IsPending, WaitsFor}
+use Rattle.kept_promise.proofs.Rights.{IsRight, is_remote, Caused}
 use Rattle.kept_promise.proofs.History.{Goes, Still, Becomes, onward, grows_same, goes_same, still_same, goes_becomes, still_becomes}
-use Rattle.kept_promise.proofs.Later.{all_asks, commit_later, pending_later, pieces_later, parts_later, cached_later, same_view, Spares}
+use Rattle.kept_promise.proofs.Later.{all_asks, commit_later, waits_later, pieces_later, parts_later, cached_later, same_view, Spares}
 use Rattle.kept_promise.proofs.Turns.{Around, around_with, also_numbered, turned_core, kept_turn}
 use Rattle.kept_promise.proofs.Rests.{kept_rest}
 use Rattle.kept_promise.proofs.Facts.{IsSeat, IsMatched, IsKept}
 use Rattle.kept_promise.proofs.Leading.{IsNoted, Leads, ups_put_in, ups_put, downs_lost, KeptCuts}
-use Rattle.kept_promise.proofs.Takes.{file_still}
+use Rattle.kept_promise.proofs.Takes.{file_still, fresh_still}
 use Rattle.kept_promise.proofs.Hangs.{leads_quiet, core_is}
-use Rattle.kept_promise.proofs.Steps.{remote_words}
+use Rattle.kept_promise.proofs.Growth.{there_later}
 
--- ---- a change on its way is that of a close which nobody waits for any more
+-- ---- a change on its way is that of an operation which nobody waits for any more
 
 cut_pending : (book : Book) (closing : Option ℕ) (b : Bool) (j r : Option Job) (x f : ℕ) (v : List ℕ) → IsPending book closing b j x f v → IsPending book closing true r x f v
-cut_pending book closing b j r x f v p = record { place = p.place; known = p.known; op = p.op; there = p.there; unmade = p.unmade; file_is = p.file_is; size_is = p.size_is; value_is = p.value_is; waited = λ e. absurd cc }
+cut_pending book closing b j r x f v p = record { place = p.place; known = p.known; op = p.op; there = p.there; unmade = p.unmade; word_is = p.word_is; file_is = p.file_is; size_is = p.size_is; value_is = p.value_is; waited = λ e. absurd cc }
+
+cut_waits : (book : Book) (closing : Option ℕ) (b : Bool) (j r : Option Job) (x f : ℕ) (what : Wanted) → WaitsFor book closing b j x f what → WaitsFor book closing true r x f what
+cut_waits book closing b j r x f (wanted.Content content) p = cut_pending book closing b j r x f content p
+cut_waits book closing b j r x f (wanted.Asked a) p = record { place = p.place; known = p.known; op = p.op; there = p.there; unmade = p.unmade; word_is = p.word_is; file_is = p.file_is; waited = λ e. absurd cc }
 
 cut_commit : (book : Book) (closing : Option ℕ) (b : Bool) (j r : Option Job) (contents : ℕ → List ℕ) (x : ℕ) (c : Call) → CommitOf book closing b j contents x c → CommitOf book closing true r contents x c
 cut_commit book closing b j r contents x (Commit temp file size) h = (cut_pending book closing b j r x file (contents temp) h.0, h.1)
+cut_commit book closing b j r contents x (Walks w) h = λ making. let p = h making in record { place = p.place; known = p.known; op = p.op; there = p.there; unmade = p.unmade; word_is = p.word_is; file_is = p.file_is; waited = λ e. absurd cc }
 cut_commit book closing b j r contents x _ h = tt
 
 -- ---- what is the same for a client with an operation under way, and for one without
@@ -62,7 +68,7 @@ cut_kept book more k qs c n x q seat ended after kept here at is owner newest go
       seat_around = subst (λ (z : ℕ). Around k.seats seats z d) (sym owner) seated;
       owner = refl;
       goes = goes;
-      server = record { held = λ f. file_still book more None ended f (server.file_at k.server.tree f) g still (kept.server.held f); bounded = kept.server.bounded; commits = kept.server.commits; changes = kept.server.changes; bytes = kept.server.bytes; lengths = kept.server.lengths; targets = λ i z e. subst (λ l. IsSome (content_of l z.file)) (sym opening) (kept.server.targets i z e); xids = kept.server.xids };
+      server = record { held = λ f. file_still book more None ended f (server.file_at k.server.tree f) g still (kept.server.held f); fresh = fresh_still book more None ended k.server.tree g still kept.server.fresh; bounded = kept.server.bounded; zero = kept.server.zero; rooted = kept.server.rooted; wants = kept.server.wants; changes = kept.server.changes; bytes = kept.server.bytes; lengths = kept.server.lengths; targets = λ i z e. there_later book more None ended z.file g (kept.server.targets i z e); xids = kept.server.xids };
       sessions_made = refl;
       view = λ m apart. same_view m k.server;
       elsewhere = inr newest;
@@ -86,7 +92,7 @@ cut_kept book more k qs c n x q seat ended after kept here at is owner newest go
         temps = λ i m e lt f key. let o = h.temps i m e lt f key in (parts_later (hashed_of book.moments) (hashed_of more.moments) (h.contents m) e.1.pieces g.hashed o.0, o.1);
         temps_below = λ e. absurd cc;
         closes = λ e. absurd cc;
-        pending = λ i z f. pending_later book more None ended x.closing true (job d) (job d) z.xid z.file (content_wanted z.what) g spares (λ e. refl) (cut_pending book x.closing x.cut (job h.seat) (job d) z.xid z.file (content_wanted z.what) (h.pending i z f));
+        pending = λ i z f. waits_later book more None ended x.closing true (job d) (job d) z.xid z.file z.what g spares (λ e. refl) (cut_waits book x.closing x.cut (job h.seat) (job d) z.xid z.file z.what (h.pending i z f));
         single = h.single;
         old = λ p f. let o = h.old p f in let u = g.each p o.0 o.1 in (u.0, u.1, u.2.client ∙ o.2);
         orderly = λ e. absurd cc;
@@ -100,7 +106,7 @@ cut_kept book more k qs c n x q seat ended after kept here at is owner newest go
         trying = λ j i z e f. nothing_there j e;
         xids = λ j e. nothing_there j e;
         next = was.next;
-        opened = λ f l e. let o = was.opened f l e in (subst (λ z. IsSome (content_of z f)) (sym opening) o.0, o.1);
+        opened = λ f l e. let o = was.opened f l e in (there_later book more None ended f g o.0, o.1);
         kept = cached_later book more None ended seat.client.cache g was.kept;
       });
       running = running;
@@ -131,40 +137,38 @@ lost_step = record nothing_done { ended = Some lost }
 abbrev lost_op : Op → client.State → List TakenCall → ℕ → Op
 lost_op o s taken step = op_after o s taken step lost_step
 
-remote_is : (w : Word) → (w ≡ words.Open) ⊎ (w ≡ words.Close) → is_remote w ≡ true
-remote_is w (inl e) = ap is_remote e
-remote_is w (inr e) = ap is_remote e
-
-lost_becomes : (book : Book) (p : ℕ) (o : Op) (s : client.State) (taken : List TakenCall) (step : ℕ) → book.steps < step → (o.word ≡ words.Open) ⊎ (o.word ≡ words.Close) → Becomes book None (Some p) p o (lost_op o s taken step)
-lost_becomes book p o s taken step late remote =
+lost_becomes : (book : Book) (p : ℕ) (o : Op) (s : client.State) (taken : List TakenCall) (step : ℕ) → book.steps < step → Becomes book None (Some p) p o (lost_op o s taken step)
+lost_becomes book p o s taken step late =
     record {
       follows = record {
         client = refl;
         word = refl;
-        file = refl;
+        file = λ n w. refl;
+        close_file = λ w. refl;
+        own_file = λ c n. refl;
         begin = refl;
-        point = λ w q e. lost_point ∙ e;
+        point = λ w q e. (lost_point ∙ e, refl);
         value = λ w. refl;
         unmade = λ f u. (u.0, lost_point ∙ u.1, refl);
         end = λ e q. inr (subst (λ (z : ℕ). book.steps < z) (some_is step e q) late);
         running = λ f e. absurd (f refl);
       };
-      close_point = λ w. lost_point;
+      change_point = λ w. lost_point;
+      change_file = λ w. refl;
       point = λ q e. inl (sym lost_point ∙ e);
-      remote = remote;
     }
   where
     lost_point : (lost_op o s taken step).point ≡ o.point
     lost_point = ap (λ (b : Bool). point_if b taken 0 o.point) (lost_pointless o.word)
 
-lost_right : (book : Book) (k : Core) (qs : List Queue) (c p : ℕ) (o : Op) (s : client.State) (taken : List TakenCall) → IsKept book k qs → IsNoted book k (Cuts c) → slice_get book.ops p ≡ Some o → o.client ≡ c → (o.word ≡ words.Open) ⊎ (o.word ≡ words.Close)
+lost_right : (book : Book) (k : Core) (qs : List Queue) (c p : ℕ) (o : Op) (s : client.State) (taken : List TakenCall) → IsKept book k qs → IsNoted book k (Cuts c) → slice_get book.ops p ≡ Some o → o.client ≡ c → is_remote o.word ≡ true
     → IsRight (onward book 1 (slice_set book.ops p (lost_op o s taken (k.steps + 1)))) (lost_op o s taken (k.steps + 1))
 lost_right book k qs c p o s taken kept noted there mine remote =
     let r = kept.sound.rights p o there in
     let steps = kept.steps in
     let point : (lost_op o s taken (k.steps + 1)).point ≡ o.point = ap (λ (b : Bool). point_if b taken 0 o.point) (lost_pointless o.word) in
     record {
-      cause = (remote_is o.word remote, record { end = k.steps + 1; end_is = refl; moment = record { before = k; event = Cuts c }; there = noted.there; step_is = refl; event_is = ap Cuts (sym mine) });
+      cause = (remote, record { end = k.steps + 1; end_is = refl; moment = record { before = k; event = Cuts c }; there = noted.there; step_is = refl; event_is = ap Cuts (sym mine) });
       begun = let b = r.begun in omega (arith, b);
       pointed = λ q e. let w = r.pointed q (sym point ∙ e) in (w.0, omega (arith, w.1), w.2);
       past = λ e q. let same : k.steps + 1 ≡ e = some_is (k.steps + 1) e q in let b = r.begun in (omega (arith, b, same, steps), omega (arith, same, steps));
@@ -179,7 +183,7 @@ idle_kept : (book : Book) (k : Core) (qs : List Queue) → IsKept book k qs → 
 idle_kept book k qs kept =
     subst (λ (z : Core). IsKept (onward book 1 book.ops) z qs) (core_is book k qs k.server k.seats k.sessions kept)
     (kept_rest book (onward book 1 book.ops) k qs k.server (goes_same book 1 kept.sound)
-    (record { held = λ f. file_still book (onward book 1 book.ops) None None f (server.file_at k.server.tree f) (grows_same book 1) (still_same book 1 kept.sound) (kept.server.held f); bounded = kept.server.bounded; commits = kept.server.commits; changes = kept.server.changes; bytes = kept.server.bytes; lengths = kept.server.lengths; targets = kept.server.targets; xids = kept.server.xids })
+    (record { held = λ f. file_still book (onward book 1 book.ops) None None f (server.file_at k.server.tree f) (grows_same book 1) (still_same book 1 kept.sound) (kept.server.held f); fresh = fresh_still book (onward book 1 book.ops) None None k.server.tree (grows_same book 1) (still_same book 1 kept.sound) kept.server.fresh; bounded = kept.server.bounded; zero = kept.server.zero; rooted = kept.server.rooted; wants = kept.server.wants; changes = kept.server.changes; bytes = kept.server.bytes; lengths = kept.server.lengths; targets = λ i c e. there_later book (onward book 1 book.ops) None None c.file (grows_same book 1) (kept.server.targets i c e); xids = kept.server.xids })
     refl (λ m. same_view m k.server) kept.home kept.running kept.journal kept.shelf kept)
 
 pub leads_idle : (book : Book) (k : Core) (qs : List Queue) → IsKept book k qs → Leads book qs (idles k)
@@ -263,8 +267,8 @@ cut_busy book k qs c n p x q seat j kept noted here at is owner newest busy plac
     let s = (cut seat.client).0 in
     let r = lost_op o s taken (k.steps + 1) in
     let more = onward book 1 (slice_set book.ops p r) in
-    let remote : (o.word ≡ words.Open) ⊎ (o.word ≡ words.Close) = elim (remote_words j.stage) [ inl e ↦ inl (of.word ∙ e) | inr e ↦ inr (of.word ∙ e) ] in
-    let becomes = lost_becomes book p o s taken (k.steps + 1) (let e = kept.steps in omega (arith, e)) remote in
+    let remote : is_remote o.word ≡ true = (subst (Caused book o) of.running (kept.sound.rights p o there).cause).0 in
+    let becomes = lost_becomes book p o s taken (k.steps + 1) (let e = kept.steps in omega (arith, e)) in
     let goes = goes_becomes book 1 None (Some p) p o r there becomes (lost_right book k qs c p o s taken kept noted there of.client remote) kept.sound in
     let y : Session = record x { cut = true } in
     let sessions = with_numbered k.sessions n y in

@@ -6,9 +6,9 @@ use Rattle.client_state.specs.State as client
 use Rattle.register_model.specs.declared.op.Outcome.{Outcome}
 use Rattle.register_model.specs.declared.op.Outcome.TheVariants as told
 use Rattle.register_model.specs.declared.op.Word.TheVariants as words
-use Rattle.kept_promise.proofs.Common.{nat_tests, slice_get, nat_lt, option_map, Command, Local, Op, word_of, file_of, Seat, numbered, Deed, can_ask, lasts, is_busy, local_from, local_before, own_answer, after_one, StoresLocal}
+use Rattle.kept_promise.proofs.Common.{nat_tests, slice_get, nat_lt, option_map, Command, Local, Op, word_of, file_of, Seat, numbered, Deed, can_ask, lasts, is_busy, local_from, local_before, own_answer, after_one, is_untold, if◌then◌else◌, local_most, written_size, content_length, unless_asks, write_outcome, sized_outcome}
 use Rattle.kept_promise.proofs.Lists.{some_is, nothing_there, same_or_not, of_appended, within, take_before, take_whole}
-use Rattle.kept_promise.proofs.Locally.{Idles, other_client, leaves_alike, leaves_none, idles_by, local_same, local_more, in_taken, keeps, busy_by, free_each, busy_same, busy_more, keeps_is, keeps_if, keeps_not}
+use Rattle.kept_promise.proofs.Locally.{Idles, other_client, leaves_alike, leaves_none, idles_by, local_same, local_more, in_taken, keeps, busy_by, free_each, busy_same, busy_more, keeps_is, keeps_if, keeps_not, leaves_untold}
 use Rattle.kept_promise.proofs.PathNames.{IsSmall}
 
 -- ---- what is said
@@ -24,17 +24,54 @@ FromServer (told.TooBig size) = ⊥
 FromServer told.NoLink = ⊥
 FromServer u = Unit {0}
 
+-- a command on names
+abbrev pub IsOnNames : Command → Type 0
+IsOnNames (command.Named k) = Unit {0}
+IsOnNames d = ⊥
+
+-- how a command on names ends is what its walk leads to
+abbrev pub ByServer : Command → Outcome → Type 0
+ByServer (command.Named k) u = Unit {0}
+ByServer d u = FromServer u
+
+pub by_server : (d : Command) (u : Outcome) → FromServer u → ByServer d u
+by_server (command.Open f) u h = h
+by_server (command.Write f offset content) u h = h
+by_server (command.Trunc f size) u h = h
+by_server (command.Read f offset count) u h = h
+by_server (command.Close f) u h = h
+by_server (command.Abandon f) u h = h
+by_server (command.Named k) u h = tt
+
+-- what a close is to store
+abbrev pub Stores : Command → Op → Option (List ℕ) → Type 0
+Stores (command.Close f) o l = l ≡ Some o.value
+Stores d o l = Unit {0}
+
+-- the file of an operation is that of the command's id
+abbrev pub HasIdFile : Command → Op → Type 0
+HasIdFile (command.Named k) o = Unit {0}
+HasIdFile d o = o.file ≡ file_of d
+
+pub id_file : (d : Command) (o : Op) → o.file ≡ file_of d → HasIdFile d o
+id_file (command.Open f) o e = e
+id_file (command.Write f offset content) o e = e
+id_file (command.Trunc f size) o e = e
+id_file (command.Read f offset count) o e = e
+id_file (command.Close f) o e = e
+id_file (command.Abandon f) o e = e
+id_file (command.Named k) o e = tt
+
 -- what became of a command whose client's own answer is this one, or none
 abbrev pub Came : Deed → Op → Option (List ℕ) → Option Outcome → Type 0
-Came d o l (Some own) = (o.outcome ≡ own) × (o.end ≡ Some o.begin) × (o.word ≡ words.Open → o.point ≡ None)
-Came d o l None = StoresLocal d.command o l × FromServer o.outcome
+Came d o l (Some own) = (o.outcome ≡ own) × (o.end ≡ Some o.begin) × ((o.word ≡ words.Close → ⊥) → o.point ≡ None) × (o.file ≡ file_of d.command)
+Came d o l None = Stores d.command o l × ByServer d.command o.outcome × (o.end ≡ Some o.begin → ⊥)
 
 pub record IsDeed (ds : List Deed) (ops : List Op) (i : ℕ) (d : Deed) (o : Op) : Type 0 where
-  -- it is on no names
   pub small : IsSmall d.command
   pub client : o.client ≡ d.client
   pub word : o.word ≡ word_of d.command
-  pub file : o.file ≡ file_of d.command
+  pub file : HasIdFile d.command o
   pub begin : o.begin ≡ d.begin
   pub came : Came d o (local_before ds ops i d.client (file_of d.command)) (own_answer (is_busy ops o) (can_ask d.joined d.calls) d.command (local_before ds ops i d.client (file_of d.command)))
 
@@ -66,19 +103,50 @@ also_there (z ∷ xs) [] k x e at = absurd (omega (arith, e))
 also_there (z ∷ xs) (y ∷ ys) zero x e at = (y, refl)
 also_there (z ∷ xs) (y ∷ ys) (suc k) x e at = also_there xs ys k x (omega (arith, e)) at
 
--- what becomes of an operation in a step of this number: an ended one stays as it is, and one under way ends then, if it does
+-- what becomes of an operation in a step of this number: an ended one stays as it is, but for what the server makes of one whose answer was
+-- lost, and one under way ends then, if it does
 pub record Moved (step : ℕ) (o r : Op) : Type 0 where
   pub client : r.client ≡ o.client
   pub word : r.word ≡ o.word
-  pub file : r.file ≡ o.file
   pub begin : r.begin ≡ o.begin
   pub value : o.word ≡ words.Close → r.value ≡ o.value
-  pub ended : (e : ℕ) → o.end ≡ Some e → (r.end ≡ Some e) × (r.outcome ≡ o.outcome) × (r.value ≡ o.value) × (o.word ≡ words.Open → r.point ≡ o.point)
+  pub ended : (e : ℕ) → o.end ≡ Some e → (r.end ≡ Some e) × (r.outcome ≡ o.outcome) × (r.value ≡ o.value) × (is_untold o.outcome ≡ false → (r.point ≡ o.point) × (r.file ≡ o.file))
   pub ends : o.end ≡ None → (r.end ≡ None) ⊎ (r.end ≡ Some step)
-  pub asked : FromServer o.outcome → FromServer r.outcome
 
 pub moved_same : (step : ℕ) (o : Op) → Moved step o o
-moved_same step o = record { client = refl; word = refl; file = refl; begin = refl; value = λ w. refl; ended = λ e at. (at, refl, refl, λ w. refl); ends = λ e. inl e; asked = λ a. a }
+moved_same step o = record { client = refl; word = refl; begin = refl; value = λ w. refl; ended = λ e at. (at, refl, refl, λ w. (refl, refl)); ends = λ e. inl e }
+
+-- and what stays by its command: one by an id has that file
+pub record StaysBy (d : Command) (o r : Op) : Type 0 where
+  pub file : HasIdFile d o → HasIdFile d r
+  pub asked : ByServer d o.outcome → ByServer d r.outcome
+
+pub stays_same : (d : Command) (o : Op) → StaysBy d o o
+stays_same d o = record { file = λ h. h; asked = λ h. h }
+
+pub stays_by : (d : Command) (o r : Op) → r.file ≡ o.file → (FromServer o.outcome → FromServer r.outcome) → StaysBy d o r
+stays_by (command.Open f) o r e h = record { file = λ x. e ∙ x; asked = h }
+stays_by (command.Write f offset content) o r e h = record { file = λ x. e ∙ x; asked = h }
+stays_by (command.Trunc f size) o r e h = record { file = λ x. e ∙ x; asked = h }
+stays_by (command.Read f offset count) o r e h = record { file = λ x. e ∙ x; asked = h }
+stays_by (command.Close f) o r e h = record { file = λ x. e ∙ x; asked = h }
+stays_by (command.Abandon f) o r e h = record { file = λ x. e ∙ x; asked = h }
+stays_by (command.Named k) o r e h = record { file = λ x. x; asked = λ x. x }
+
+pub stays_named : (d : Command) (o r : Op) → IsOnNames d → StaysBy d o r
+stays_named (command.Named k) o r n = record { file = λ x. x; asked = λ x. x }
+stays_named (command.Open f) o r n = absurd n
+stays_named (command.Write f offset content) o r n = absurd n
+stays_named (command.Trunc f size) o r n = absurd n
+stays_named (command.Read f offset count) o r n = absurd n
+stays_named (command.Close f) o r n = absurd n
+stays_named (command.Abandon f) o r n = absurd n
+
+abbrev pub AllStay : List Deed → List Op → List Op → Type 0
+AllStay ds ops rs = (i : ℕ) (d : Deed) (o r : Op) → slice_get ds i ≡ Some d → slice_get ops i ≡ Some o → slice_get rs i ≡ Some r → StaysBy d.command o r
+
+pub all_stay : (ds : List Deed) (ops : List Op) → AllStay ds ops ops
+all_stay ds ops i d o r at is there = subst (StaysBy d.command o) (some_is o r (sym is ∙ there)) (stays_same d.command o)
 
 pub record AllMoved (step : ℕ) (ops rs : List Op) : Type 0 where
   pub count : length rs ≡ length ops
@@ -120,21 +188,65 @@ take_count (suc n) [] (y ∷ ys) e = absurd (omega (arith, e))
 take_count (suc n) (x ∷ xs) [] e = absurd (omega (arith, e))
 take_count (suc n) (x ∷ xs) (y ∷ ys) e = ap suc (take_count n xs ys (omega (arith, e)))
 
-came_moved : (step : ℕ) (d : Deed) (o r : Op) (l : Option (List ℕ)) (x : Option Outcome) → IsSmall d.command → o.word ≡ word_of d.command → Moved step o r → Came d o l x → Came d r l x
-came_moved step d o r l (Some own) small w m h = let e = m.ended o.begin h.1 in (e.1 ∙ h.0, e.0 ∙ ap (λ n. Some n) (sym m.begin), λ z. e.3 (sym m.word ∙ z) ∙ h.2 (sym m.word ∙ z))
-came_moved step d o r l None small w m h = (stores d.command small w h.0, m.asked h.1)
+-- a client's own answer is of a command that is no longer under way
+abbrev IsTold : Option Outcome → Type 0
+IsTold (Some u) = is_untold u ≡ false
+IsTold None = Unit {0}
+
+sized_told : (size : ℕ) → IsTold (Some (sized_outcome size))
+sized_told size = by (nat_lt local_most size)
   where
-    stores : (k : Command) → IsSmall k → o.word ≡ word_of k → StoresLocal k o l → StoresLocal k r l
-    stores (command.Close f) small w s = s ∙ ap (λ z. Some z) (sym (m.value w))
-    stores (command.Open f) small w s = s
-    stores (command.Write f offset content) small w s = s
-    stores (command.Trunc f size) small w s = s
-    stores (command.Read f offset count) small w s = s
-    stores (command.Abandon f) small w s = s
-    stores (command.Named t) small w s = absurd small
+    by : (b : Bool) → IsTold (Some (if b then told.TooBig size else told.Done))
+    by true = refl
+    by false = refl
+
+written_told : (size offset count : ℕ) → IsTold (Some (write_outcome size offset count))
+written_told size offset zero = refl
+written_told size offset (suc count) = sized_told (written_size size offset (suc count))
+
+asks_told : (b : Bool) → IsTold (unless_asks b)
+asks_told true = tt
+asks_told false = refl
+
+own_told : (busy asks : Bool) (k : Command) (l : Option (List ℕ)) → IsTold (own_answer busy asks k l)
+own_told true asks k l = refl
+own_told false asks (command.Named n) None = asks_told asks
+own_told false asks (command.Named n) (Some x) = asks_told asks
+own_told false asks (command.Open f) None = asks_told asks
+own_told false asks (command.Write f offset content) None = refl
+own_told false asks (command.Trunc f size) None = refl
+own_told false asks (command.Read f offset count) None = refl
+own_told false asks (command.Close f) None = refl
+own_told false asks (command.Abandon f) None = refl
+own_told false asks (command.Open f) (Some x) = refl
+own_told false asks (command.Write f offset content) (Some x) = written_told (length x) offset (content_length content)
+own_told false asks (command.Trunc f size) (Some x) = sized_told size
+own_told false asks (command.Read f offset count) (Some x) = refl
+own_told false asks (command.Close f) (Some x) = asks_told asks
+own_told false asks (command.Abandon f) (Some x) = refl
+
+came_moved : (step : ℕ) (d : Deed) (o r : Op) (l : Option (List ℕ)) (x : Option Outcome) → IsTold x → o.begin < step → o.word ≡ word_of d.command → Moved step o r → StaysBy d.command o r → Came d o l x → Came d r l x
+came_moved step d o r l (Some own) is lt w m b h = let e = m.ended o.begin h.1 in let k = e.3 (ap is_untold h.0 ∙ is) in (e.1 ∙ h.0, e.0 ∙ ap (λ n. Some n) (sym m.begin), (λ z. k.0 ∙ h.2 (λ w. z (m.word ∙ w))), k.1 ∙ h.3)
+came_moved step d o r l None is lt w m b h = (stores d.command w h.0, b.asked h.1, λ z. later o.end refl z)
+  where
+    later : (e : Option ℕ) → o.end ≡ e → r.end ≡ Some r.begin → ⊥
+    later None e z = elim (m.ends e) [
+      | inl none ↦ nothing_there r.begin (sym none ∙ z)
+      | inr now ↦ let same = some_is step r.begin (sym now ∙ z) in let begin = m.begin in absurd (omega (arith, lt, same, begin))
+    ]
+    later (Some n) e z = h.2 (e ∙ ap (λ q. Some q) (some_is n r.begin (sym (m.ended n e).0 ∙ z) ∙ m.begin))
+
+    stores : (k : Command) → o.word ≡ word_of k → Stores k o l → Stores k r l
+    stores (command.Close f) w s = s ∙ ap (λ z. Some z) (sym (m.value w))
+    stores (command.Open f) w s = s
+    stores (command.Write f offset content) w s = s
+    stores (command.Trunc f size) w s = s
+    stores (command.Read f offset count) w s = s
+    stores (command.Abandon f) w s = s
+    stores (command.Named t) w s = s
 
 -- where a client was free all that it had begun before had ended
-local_before_same : (step : ℕ) (ds : List Deed) (ops rs : List Op) (i : ℕ) (d : Deed) (o : Op) (f : ℕ) → Rises ops → AreDeeds ds ops → AllMoved step ops rs → slice_get ds i ≡ Some d → slice_get ops i ≡ Some o → is_busy ops o ≡ false → local_before ds rs i d.client f ≡ local_before ds ops i d.client f
+pub local_before_same : (step : ℕ) (ds : List Deed) (ops rs : List Op) (i : ℕ) (d : Deed) (o : Op) (f : ℕ) → Rises ops → AreDeeds ds ops → AllMoved step ops rs → slice_get ds i ≡ Some d → slice_get ops i ≡ Some o → is_busy ops o ≡ false → local_before ds rs i d.client f ≡ local_before ds ops i d.client f
 local_before_same step ds ops rs i d o f rising each moved at is free = local_same d.client f None (take i ds) (take i ops) (take i rs) (take_count i ops rs (sym moved.count)) (λ j e q r a b c. same j e q r (in_taken i j ds e a) (in_taken i j ops q b) (in_taken i j rs r c))
   where
     same : (j : ℕ) (e : Deed) (q r : Op) → (j < i) × (slice_get ds j ≡ Some e) → (j < i) × (slice_get ops j ≡ Some q) → (j < i) × (slice_get rs j ≡ Some r) → (l : Option (List ℕ)) → after_one d.client f e r l ≡ after_one d.client f e q l
@@ -152,34 +264,39 @@ local_before_same step ds ops rs i d o f rising each moved at is free = local_sa
           where
             not_both : (b : Bool) → b ≡ true → b ≡ false → ⊥
             not_both b e d = absurd cc
-        by e q r m own first (Some z) n not = let k = m.ended z n in leaves_alike d.client f e q r m.file k.1 k.2
+        by e q r m own first (Some z) n not = let k = m.ended z n in alike k.1 k.2 k.3 (is_untold q.outcome) refl
+          where
+            alike : r.outcome ≡ q.outcome → r.value ≡ q.value → (is_untold q.outcome ≡ false → (r.point ≡ q.point) × (r.file ≡ q.file)) → (u : Bool) → is_untold q.outcome ≡ u → (l : Option (List ℕ)) → after_one d.client f e r l ≡ after_one d.client f e q l
+            alike a v known false u = leaves_alike d.client f e q r (known u).1 a v
+            alike a v known true u = λ l. idles_by d.client f e r (λ z. leaves_untold e.command r.outcome r.value z (ap is_untold a ∙ u)) l ∙ sym (idles_by d.client f e q (λ z. leaves_untold e.command q.outcome q.value z u) l)
 
-each_moved : (step : ℕ) (ds : List Deed) (ops rs : List Op) → length ops ≡ length ds → Rises ops → AreDeeds ds ops → ((i : ℕ) (o : Op) → slice_get ops i ≡ Some o → o.begin < step) → AllMoved step ops rs → AreDeeds ds rs
-each_moved step ds ops rs count rising each past moved i d r at is =
+each_moved : (step : ℕ) (ds : List Deed) (ops rs : List Op) → length ops ≡ length ds → Rises ops → AreDeeds ds ops → ((i : ℕ) (o : Op) → slice_get ops i ≡ Some o → o.begin < step) → AllMoved step ops rs → AllStay ds ops rs → AreDeeds ds rs
+each_moved step ds ops rs count rising each past moved stay i d r at is =
     let w = also_there rs ops i r (sym moved.count) is in
     let o : Op = w.0 in
     let h = each i d o at w.1 in
     let m = moved.each i o r w.1 is in
+    let b = stay i d o r at w.1 is in
     let busy : is_busy rs r ≡ is_busy ops o = busy_same ops rs o r (sym moved.count) (λ j p q a b. keeps_same step o r p q (past i o w.1) m (moved.each j p q a b)) in
     record {
       small = h.small;
       client = m.client ∙ h.client;
       word = m.word ∙ h.word;
-      file = m.file ∙ h.file;
+      file = b.file h.file;
       begin = m.begin ∙ h.begin;
-      came = subst (λ (b : Bool). Came d r (local_before ds rs i d.client (file_of d.command)) (own_answer b (can_ask d.joined d.calls) d.command (local_before ds rs i d.client (file_of d.command)))) (sym busy) (by o h m w.1 (is_busy ops o) refl h.came);
+      came = subst (λ (b : Bool). Came d r (local_before ds rs i d.client (file_of d.command)) (own_answer b (can_ask d.joined d.calls) d.command (local_before ds rs i d.client (file_of d.command)))) (sym busy) (by o h m b w.1 (is_busy ops o) refl h.came);
     }
   where
-    by : (o : Op) (h : IsDeed ds ops i d o) → Moved step o r → slice_get ops i ≡ Some o → (b : Bool) → is_busy ops o ≡ b
+    by : (o : Op) (h : IsDeed ds ops i d o) → Moved step o r → StaysBy d.command o r → slice_get ops i ≡ Some o → (b : Bool) → is_busy ops o ≡ b
         → Came d o (local_before ds ops i d.client (file_of d.command)) (own_answer b (can_ask d.joined d.calls) d.command (local_before ds ops i d.client (file_of d.command)))
         → Came d r (local_before ds rs i d.client (file_of d.command)) (own_answer b (can_ask d.joined d.calls) d.command (local_before ds rs i d.client (file_of d.command)))
-    by o h m there true e c = came_moved step d o r (local_before ds ops i d.client (file_of d.command)) (Some told.Busy) h.small h.word m c
-    by o h m there false e c =
+    by o h m b there true e c = came_moved step d o r (local_before ds ops i d.client (file_of d.command)) (Some told.Busy) refl (past i o there) h.word m b c
+    by o h m b there false e c =
         subst (λ (l : Option (List ℕ)). Came d r l (own_answer false (can_ask d.joined d.calls) d.command l)) (sym (local_before_same step ds ops rs i d o (file_of d.command) rising each moved at there e))
-        (came_moved step d o r (local_before ds ops i d.client (file_of d.command)) (own_answer false (can_ask d.joined d.calls) d.command (local_before ds ops i d.client (file_of d.command))) h.small h.word m c)
+        (came_moved step d o r (local_before ds ops i d.client (file_of d.command)) (own_answer false (can_ask d.joined d.calls) d.command (local_before ds ops i d.client (file_of d.command))) (own_told false (can_ask d.joined d.calls) d.command (local_before ds ops i d.client (file_of d.command))) (past i o there) h.word m b c)
 
-pub deeds_moved : (step : ℕ) (ds : List Deed) (ops rs : List Op) (seats others : List Seat) → HasDeeds ds ops seats → ((i : ℕ) (o : Op) → slice_get ops i ≡ Some o → o.begin < step) → AllMoved step ops rs → HasLocals ds rs others → HasDeeds ds rs others
-deeds_moved step ds ops rs seats others h past moved locals = record {
+pub deeds_moved : (step : ℕ) (ds : List Deed) (ops rs : List Op) (seats others : List Seat) → HasDeeds ds ops seats → ((i : ℕ) (o : Op) → slice_get ops i ≡ Some o → o.begin < step) → AllMoved step ops rs → AllStay ds ops rs → HasLocals ds rs others → HasDeeds ds rs others
+deeds_moved step ds ops rs seats others h past moved stay locals = record {
   count = moved.count ∙ h.count;
   rising = λ i j o q lt at is.
       let a = also_there rs ops i o (sym moved.count) at in
@@ -188,7 +305,7 @@ deeds_moved step ds ops rs seats others h past moved locals = record {
       let x = (moved.each i a.0 o a.1 at).begin in
       let y = (moved.each j b.0 q b.1 is).begin in
       omega (arith, c, x, y);
-  each = each_moved step ds ops rs h.count h.rising h.each past moved;
+  each = each_moved step ds ops rs h.count h.rising h.each past moved stay;
   locals = locals;
 }
 
@@ -215,10 +332,10 @@ pub record IsNew (ds : List Deed) (ops : List Op) (d : Deed) (o : Op) : Type 0 w
   pub begin : o.begin ≡ d.begin
   pub came : Came d o (local_from d.client (file_of d.command) None ds ops) (own_answer (is_busy ops o) (can_ask d.joined d.calls) d.command (local_from d.client (file_of d.command) None ds ops))
 
-before_more : (ds : List Deed) (ops : List Op) (d : Deed) (o : Op) (i c f : ℕ) → length ops ≡ length ds → i ≤ length ops → local_before (ds ++ d ∷ []) (ops ++ o ∷ []) i c f ≡ local_before ds ops i c f
+pub before_more : (ds : List Deed) (ops : List Op) (d : Deed) (o : Op) (i c f : ℕ) → length ops ≡ length ds → i ≤ length ops → local_before (ds ++ d ∷ []) (ops ++ o ∷ []) i c f ≡ local_before ds ops i c f
 before_more ds ops d o i c f n le = ap (λ z. local_from c f None z (take i (ops ++ o ∷ []))) (take_before ds d i (omega (arith, n, le))) ∙ ap (local_from c f None (take i ds)) (take_before ops o i le)
 
-before_all : (ds : List Deed) (ops : List Op) (c f : ℕ) → length ops ≡ length ds → local_before ds ops (length ops) c f ≡ local_from c f None ds ops
+pub before_all : (ds : List Deed) (ops : List Op) (c f : ℕ) → length ops ≡ length ds → local_before ds ops (length ops) c f ≡ local_from c f None ds ops
 before_all ds ops c f n = ap (λ m. local_from c f None (take m ds) (take (length ops) ops)) n ∙ ap (λ z. local_from c f None z (take (length ops) ops)) (take_whole ds) ∙ ap (local_from c f None ds) (take_whole ops)
 
 pub deeds_added : (ds : List Deed) (ops : List Op) (seats others : List Seat) (d : Deed) (new : Op) → HasDeeds ds ops seats → ((i : ℕ) (o : Op) → slice_get ops i ≡ Some o → o.begin < new.begin) → IsNew ds ops d new
@@ -257,7 +374,7 @@ deeds_added ds ops seats others d new h past fresh locals = record {
       small = fresh.small;
       client = fresh.client;
       word = fresh.word;
-      file = fresh.file;
+      file = id_file d.command new fresh.file;
       begin = fresh.begin;
       came = subst (λ (b : Bool). Came d new (local_before (ds ++ d ∷ []) (ops ++ new ∷ []) (length ops) d.client (file_of d.command)) (own_answer b (can_ask d.joined d.calls) d.command (local_before (ds ++ d ∷ []) (ops ++ new ∷ []) (length ops) d.client (file_of d.command)))) (sym busy_new)
           (subst (λ (l : Option (List ℕ)). Came d new l (own_answer (is_busy ops new) (can_ask d.joined d.calls) d.command l)) (sym (before_more ds ops d new (length ops) d.client (file_of d.command) h.count (omega arith) ∙ before_all ds ops d.client (file_of d.command) h.count)) fresh.came);

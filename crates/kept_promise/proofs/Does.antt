@@ -1,15 +1,15 @@
 -- A client does what it is told to: it answers by itself, or an operation begins.
-use Rattle.std.proofs.Common.{inl, inr, ◌≡◌, ℕ, zero, suc, ◌+◌, ◌<◌, ◌≤◌, List, [], ◌∷◌, ◌++◌, length, Option, Some, None, true, refl, sym, ap, ◌∙◌, subst, arith, IsSome}
+use Rattle.std.proofs.Common.{inl, inr, ◌≡◌, ℕ, zero, suc, ◌+◌, ◌<◌, ◌≤◌, List, [], ◌∷◌, ◌++◌, length, Option, Some, None, true, refl, sym, ap, ◌∙◌, subst, arith, false}
 use Rattle.server_core.specs.State as server
 use Rattle.client_state.specs.State as client
 use Rattle.client_state.specs.declared.step.Outcome.TheVariants as outcome
 use Rattle.register_model.specs.declared.op.Outcome.TheVariants as told
 use Rattle.register_model.specs.declared.op.Word.TheVariants as words
-use Rattle.kept_promise.proofs.Common.{slice_get, slice_set, not, ends, Ended, Outcome, Local, content_of, Op, Word, TakenCall, Core, Seat, Session, Loss.Nothing, CoreStep, numbered, with_numbered, session_of, commanded_sessions, begun, has_point, point_if, told_of, op_after, place_with, closing_with, Book, is_running, Ask, Told, Queue}
+use Rattle.kept_promise.proofs.Common.{slice_get, slice_set, not, ends, Ended, Outcome, Local, Op, Word, TakenCall, Core, Seat, Session, Loss.Nothing, CoreStep, numbered, with_numbered, session_of, commanded_sessions, begun, has_point, point_if, told_of, op_after, place_with, closing_with, Book, is_running, Ask, Told, Queue}
 use Rattle.kept_promise.proofs.Lists.{some_is, nothing_there, same_or_not, of_appended}
 use Rattle.kept_promise.proofs.Messages.{Job, job, AllTolds, IsAnswer}
-use Rattle.kept_promise.proofs.Rights.{Caused, IsRight}
-use Rattle.kept_promise.proofs.History.{onward, goes_appended, still_appended}
+use Rattle.kept_promise.proofs.Rights.{Caused, IsRight, WasThere, DoneBy}
+use Rattle.kept_promise.proofs.History.{onward, goes_appended, still_appended, grows_appended}
 use Rattle.kept_promise.proofs.Later.{same_view}
 use Rattle.kept_promise.proofs.Turns.{Around, around_with, turned_core}
 use Rattle.kept_promise.proofs.Rests.{kept_rest, with_opened, kept_opened}
@@ -18,6 +18,8 @@ use Rattle.kept_promise.proofs.Leading.{Leads, ups_put_in, ups_put}
 use Rattle.kept_promise.proofs.Takes.{server_still}
 use Rattle.kept_promise.proofs.Cuts.{cut_core}
 use Rattle.kept_promise.proofs.OrderSteps.{ups_same}
+use Rattle.kept_promise.proofs.Growth.{there_later}
+use Rattle.register_model.specs.Register.{changes}
 
 -- ---- a list with the same at a number
 
@@ -120,17 +122,17 @@ kept_cleared book k qs n x seat h at here free = record {
 
 -- ---- what a client answers by itself
 
-abbrev pub IsOwn : Outcome → Type 0
-IsOwn outcome.Done = Unit {0}
-IsOwn outcome.Busy = Unit {0}
-IsOwn outcome.NotOpen = Unit {0}
-IsOwn outcome.AlreadyOpen = Unit {0}
-IsOwn outcome.NoLink = Unit {0}
-IsOwn (outcome.TooBig n) = Unit {0}
-IsOwn (outcome.Piece len sha1) = Unit {0}
-IsOwn o = ⊥
+abbrev pub IsOwn : Word → Outcome → Type 0
+IsOwn w outcome.Done = changes w ≡ false
+IsOwn w outcome.Busy = Unit {0}
+IsOwn w outcome.NotOpen = Unit {0}
+IsOwn w outcome.AlreadyOpen = Unit {0}
+IsOwn w outcome.NoLink = Unit {0}
+IsOwn w (outcome.TooBig n) = Unit {0}
+IsOwn w (outcome.Piece len sha1) = Unit {0}
+IsOwn w o = ⊥
 
-own_right : (more : Book) (step c : ℕ) (w : Word) (file : ℕ) (value : List ℕ) (s : client.State) (o : Outcome) → IsOwn o → more.steps ≡ step → IsRight more (op_after (begun c w file value step) s [] step (ends o 0 0))
+own_right : (more : Book) (step c : ℕ) (w : Word) (file : ℕ) (value : List ℕ) (s : client.State) (o : Outcome) → IsOwn w o → more.steps ≡ step → IsRight more (op_after (begun c w file value step) s [] step (ends o 0 0))
 own_right more step c w file value s o own now = record {
   cause = cause o own;
   begun = omega (arith, now);
@@ -141,7 +143,7 @@ own_right more step c w file value s o own now = record {
   failed = λ a b d. none w o own;
 }
   where
-    none : (w : Word) (o : Outcome) → IsOwn o → point_if (has_point w o) [] 0 None ≡ None
+    none : (w : Word) (o : Outcome) → IsOwn w o → point_if (has_point w o) [] 0 None ≡ None
     none words.Open outcome.Done i = refl
     none words.Open outcome.Busy i = refl
     none words.Open outcome.NotOpen i = refl
@@ -152,8 +154,14 @@ own_right more step c w file value s o own now = record {
     none words.Open o i = absurd i
     none w o i = refl
 
-    cause : (o : Outcome) → IsOwn o → Caused more (op_after (begun c w file value step) s [] step (ends o 0 0)) (told_of o)
-    cause outcome.Done i = tt
+    done_by : (z : Word) → changes z ≡ false → DoneBy (op_after (begun c w file value step) s [] step (ends outcome.Done 0 0)) z
+    done_by words.Make i = absurd cc
+    done_by words.Remove i = absurd cc
+    done_by words.Rename i = absurd cc
+    done_by _ i = tt
+
+    cause : (o : Outcome) → IsOwn w o → Caused more (op_after (begun c w file value step) s [] step (ends o 0 0)) (told_of o)
+    cause outcome.Done i = done_by w i
     cause outcome.Busy i = tt
     cause outcome.NotOpen i = tt
     cause outcome.AlreadyOpen i = tt
@@ -162,7 +170,7 @@ own_right more step c w file value s o own now = record {
     cause (outcome.Piece l d) i = tt
     cause o i = absurd i
 
-    ends_by : (o : Outcome) → IsOwn o → true ≡ not (is_running (told_of o))
+    ends_by : (o : Outcome) → IsOwn w o → true ≡ not (is_running (told_of o))
     ends_by outcome.Done i = refl
     ends_by outcome.Busy i = refl
     ends_by outcome.NotOpen i = refl
@@ -210,17 +218,17 @@ after_own k c seat place session found w file value s o = record {
   down = [];
 }
 
-not_running : (o : Outcome) → IsOwn o → told_of o ≡ told.Running → ⊥
-not_running outcome.Done i e = absurd cc
-not_running outcome.Busy i e = absurd cc
-not_running outcome.NotOpen i e = absurd cc
-not_running outcome.AlreadyOpen i e = absurd cc
-not_running outcome.NoLink i e = absurd cc
-not_running (outcome.TooBig n) i e = absurd cc
-not_running (outcome.Piece l d) i e = absurd cc
-not_running o i e = absurd i
+not_running : (w : Word) (o : Outcome) → IsOwn w o → told_of o ≡ told.Running → ⊥
+not_running w outcome.Done i e = absurd cc
+not_running w outcome.Busy i e = absurd cc
+not_running w outcome.NotOpen i e = absurd cc
+not_running w outcome.AlreadyOpen i e = absurd cc
+not_running w outcome.NoLink i e = absurd cc
+not_running w (outcome.TooBig n) i e = absurd cc
+not_running w (outcome.Piece l d) i e = absurd cc
+not_running w o i e = absurd i
 
-own_pointless : (k : Core) (c : ℕ) (w : Word) (file : ℕ) (value : List ℕ) (s : client.State) (o : Outcome) → IsOwn o → (own_op k c w file value s o).point ≡ None
+own_pointless : (k : Core) (c : ℕ) (w : Word) (file : ℕ) (value : List ℕ) (s : client.State) (o : Outcome) → IsOwn w o → (own_op k c w file value s o).point ≡ None
 own_pointless k c w file value s o own = by (own_op k c w file value s o).point refl
   where
     r : IsRight (record { opening = []; ops = []; steps = k.steps + 1; journal = []; entries = []; moments = [] }) (own_op k c w file value s o)
@@ -230,7 +238,7 @@ own_pointless k c w file value s o own = by (own_op k c w file value s o).point 
     by None e = refl
     by (Some p) e = none_of w o own e
       where
-        none_of : (w : Word) (o : Outcome) → IsOwn o → point_if (has_point w o) [] 0 None ≡ Some p → Some p ≡ None
+        none_of : (w : Word) (o : Outcome) → IsOwn w o → point_if (has_point w o) [] 0 None ≡ Some p → Some p ≡ None
         none_of words.Open outcome.Done i e = nothing_there p e
         none_of words.Open outcome.Busy i e = nothing_there p e
         none_of words.Open outcome.NotOpen i e = nothing_there p e
@@ -242,7 +250,7 @@ own_pointless k c w file value s o own = by (own_op k c w file value s o).point 
         none_of w o i e = nothing_there p e
 
 -- the operation is appended, and nothing else changes
-own_appended : (book : Book) (k : Core) (qs : List Queue) (c : ℕ) (w : Word) (file : ℕ) (value : List ℕ) (s : client.State) (o : Outcome) → IsOwn o → IsKept book k qs → (let more = onward book 1 (book.ops ++ own_op k c w file value s o ∷ []) in IsKept more (turned_core more k.server k.seats k.sessions) qs)
+own_appended : (book : Book) (k : Core) (qs : List Queue) (c : ℕ) (w : Word) (file : ℕ) (value : List ℕ) (s : client.State) (o : Outcome) → IsOwn w o → IsKept book k qs → (let more = onward book 1 (book.ops ++ own_op k c w file value s o ∷ []) in IsKept more (turned_core more k.server k.seats k.sessions) qs)
 own_appended book k qs c w file value s o own kept =
     let new = own_op k c w file value s o in
     let more = onward book 1 (book.ops ++ new ∷ []) in
@@ -250,13 +258,13 @@ own_appended book k qs c w file value s o own kept =
     let goes = goes_appended book new none (own_right more (k.steps + 1) c w file value s o own (ap (λ z. z + 1) kept.steps)) kept.sound in
     kept_rest book more k qs k.server goes (server_still book more None None k.server k.server.moment k.server.temps k.server.index goes.grows (still_appended book new none kept.sound) kept.server) refl (λ m. same_view m k.server) kept.home
     (λ p q at run. elim (of_appended book.ops new p q at) [
-      | inl last ↦ absurd (not_running o own (ap (λ (z : Op). z.outcome) (sym last.1) ∙ run))
+      | inl last ↦ absurd (not_running w o own (ap (λ (z : Op). z.outcome) (sym last.1) ∙ run))
       | inr was ↦ kept.running p q was run
     ]) kept.journal kept.shelf kept
 
 -- with nothing under way
-pub leads_free : (book : Book) (k : Core) (qs : List Queue) (c : ℕ) (seat : Seat) (session : Option ℕ) (found : Option Session) (w : Word) (file : ℕ) (value : List ℕ) (opened : List (ℕ × Local)) (o : Outcome) → IsOwn o → IsKept book k qs → numbered k.seats c ≡ Some seat → seat.place ≡ None → job seat ≡ None
-    → ((f : ℕ) (l : Local) → client.local_at opened f ≡ Some l → IsSome (content_of book.opening f) × (length l.bytes ≤ 67108864))
+pub leads_free : (book : Book) (k : Core) (qs : List Queue) (c : ℕ) (seat : Seat) (session : Option ℕ) (found : Option Session) (w : Word) (file : ℕ) (value : List ℕ) (opened : List (ℕ × Local)) (o : Outcome) → IsOwn w o → IsKept book k qs → numbered k.seats c ≡ Some seat → seat.place ≡ None → job seat ≡ None
+    → ((f : ℕ) (l : Local) → client.local_at opened f ≡ Some l → WasThere book f × (length l.bytes ≤ 67108864))
     → session_of k.sessions session ≡ found → ((n : ℕ) (x : Session) → session ≡ Some n → found ≡ Some x → x.owner ≡ c)
     → Leads book qs (after_own k c seat None session found w file value (record seat.client { opened = opened }) o)
 leads_free book k qs c seat session found w file value opened o own kept here idle free fits is owners =
@@ -265,7 +273,7 @@ leads_free book k qs c seat session found w file value opened o own kept here id
     let more = onward book 1 (book.ops ++ new ∷ []) in
     let seats = with_numbered k.seats c (with_opened seat opened) in
     let one = own_appended book k qs c w file value s o own kept in
-    let two = kept_opened more (turned_core more k.server k.seats k.sessions) qs seats c seat opened free here (around_with k.seats c seat (with_opened seat opened) here) fits one in
+    let two = kept_opened more (turned_core more k.server k.seats k.sessions) qs seats c seat opened free here (around_with k.seats c seat (with_opened seat opened) here) (λ f l e. let there = fits f l e in (there_later book more None None f (grows_appended book new (own_pointless k c w file value s o own)) there.0, there.1)) one in
     let sat : with_numbered k.seats c (record { client = s; session = seat.session; place = None }) ≡ seats = ap (λ (p : Option ℕ). with_numbered k.seats c (record { client = s; session = seat.session; place = p })) (sym idle) in
     let three = by session found is owners more seats two in
     let core = cut_core book more k k.server seats (commanded_sessions k.sessions session found None (length k.ops) w (ends o 0 0)) (k.ops ++ new ∷ []) (ap (λ z. z + 1) kept.steps) (ap (λ (l : List Op). l ++ new ∷ []) kept.ops) kept.entries in

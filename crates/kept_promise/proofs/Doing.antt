@@ -4,7 +4,7 @@ use Rattle.command_text.specs.declared.command.Command.TheVariants as command
 use Rattle.client_state.specs.State as client
 use Rattle.register_model.specs.declared.op.Outcome.{Outcome as Told}
 use Rattle.register_model.specs.declared.op.Outcome.TheVariants as told
-use Rattle.kept_promise.proofs.Common.{nat_tests, slice_get, nat_le, not, is_some, Command, has_xids, may_ask, command_step, ClientStep, Ended, Local, Task, Op, Word, word_of, file_of, value_at_begin, Core, Seat, numbered, with_numbered, begun, counted, op_ended, op_after, has_point, point_if, value_of, Deed, Book, can_ask, leaves, lasts, is_busy, after_one, local_from, own_answer, is_running, StoresLocal, Queue}
+use Rattle.kept_promise.proofs.Common.{nat_tests, slice_get, nat_le, not, is_some, Command, has_xids, may_ask, command_step, ClientStep, Ended, Local, Task, Op, Word, word_of, file_of, value_at_begin, Core, Seat, numbered, with_numbered, begun, counted, op_ended, op_after, has_point, point_if, value_of, Deed, Book, can_ask, leaves, lasts, is_busy, after_one, local_from, own_answer, is_running, Queue}
 use Rattle.kept_promise.proofs.Lists.{some_is, nothing_there, same_or_not}
 use Rattle.kept_promise.proofs.Messages.{Job, job, job_of}
 use Rattle.kept_promise.proofs.Rights.{IsRight}
@@ -12,7 +12,7 @@ use Rattle.kept_promise.proofs.Turns.{around_with}
 use Rattle.kept_promise.proofs.Facts.{IsMatched, IsKept}
 use Rattle.kept_promise.proofs.Does.{own_ended}
 use Rattle.kept_promise.proofs.Locally.{other_client, other_file, its_own, leaves_none, busy_by, free_by, keeps, keeps_is, keeps_if}
-use Rattle.kept_promise.proofs.Deeds.{Came, local_of, HasDeeds, deeds_added}
+use Rattle.kept_promise.proofs.Deeds.{Stores, by_server, Came, local_of, HasDeeds, deeds_added}
 use Rattle.kept_promise.proofs.Answering.{AnswersBy, ValueIs, Stays, free_answers, busy_answers}
 use Rattle.kept_promise.proofs.PathNames.{IsSmall}
 use Rattle.kept_promise.proofs.Found.{op_found, command_finds}
@@ -115,7 +115,7 @@ one_new c step s d r (Some own) small none h =
     let v = value_at_begin s (word_of d.command) (file_of d.command) r.1.ended in
     let q : Op = record (begun c w (file_of d.command) v step) { traffic = counted (begun c w (file_of d.command) v step).traffic r.1.counts } in
     subst (λ (o : Op). IsOne s d o r (Some own)) (sym (new_ended c w (file_of d.command) v step r (Some (own_ended h.outcome)) none h.ended)) (record {
-      came = (h.told_is, refl, λ z. no_point (has_point w h.outcome) 0);
+      came = (h.told_is, refl, (λ z. no_point (has_point w h.outcome) 0), refl);
       here = h.here (value_of v r.0 h.outcome) ∙ ap (λ (u : Told). leaves d.command u (value_of v r.0 h.outcome) (local_of s (file_of d.command))) (sym h.told_is);
       others = h.others;
     })
@@ -124,7 +124,7 @@ one_new c step s d r None small none h =
     let v = value_at_begin s (word_of d.command) (file_of d.command) r.1.ended in
     let q : Op = record (begun c w (file_of d.command) v step) { traffic = counted (begun c w (file_of d.command) v step).traffic r.1.counts } in
     subst (λ (o : Op). IsOne s d o r None) (sym (new_ended c w (file_of d.command) v step r None none h.0)) (record {
-      came = (subst (λ (e : Option Ended). StoresLocal d.command (record (begun c w (file_of d.command) (value_at_begin s w (file_of d.command) e) step) { traffic = counted (begun c w (file_of d.command) (value_at_begin s w (file_of d.command) e) step).traffic r.1.counts }) (local_of s (file_of d.command))) (sym h.0) (stores d.command small h.2), tt);
+      came = (subst (λ (e : Option Ended). Stores d.command (record (begun c w (file_of d.command) (value_at_begin s w (file_of d.command) e) step) { traffic = counted (begun c w (file_of d.command) (value_at_begin s w (file_of d.command) e) step).traffic r.1.counts }) (local_of s (file_of d.command))) (sym h.0) (stores d.command h.2), by_server d.command told.Running tt, λ z. nothing_there _ z);
       here = same (file_of d.command) ∙ sym (leaves_none d.command told.Running v (local_of s (file_of d.command)) (inl refl));
       others = λ f apart. same f;
     })
@@ -132,14 +132,14 @@ one_new c step s d r None small none h =
     same : (f : ℕ) → local_of r.0 f ≡ local_of s f
     same f = ap (λ (l : List (ℕ × Local)). Rattle.std.specs.Prelude.option_map (λ (z : Local). z.bytes) (client.local_at l f)) h.1
 
-    stores : (k : Command) → IsSmall k → ValueIs s k → StoresLocal k (record (begun c (word_of k) (file_of k) (value_at_begin s (word_of k) (file_of k) None) step) { traffic = counted (begun c (word_of k) (file_of k) (value_at_begin s (word_of k) (file_of k) None) step).traffic r.1.counts }) (local_of s (file_of k))
-    stores (command.Close f) small v = v
-    stores (command.Open f) small v = tt
-    stores (command.Write f offset content) small v = tt
-    stores (command.Trunc f size) small v = tt
-    stores (command.Read f offset count) small v = tt
-    stores (command.Abandon f) small v = tt
-    stores (command.Named k) small v = absurd small
+    stores : (k : Command) → ValueIs s k → Stores k (record (begun c (word_of k) (file_of k) (value_at_begin s (word_of k) (file_of k) None) step) { traffic = counted (begun c (word_of k) (file_of k) (value_at_begin s (word_of k) (file_of k) None) step).traffic r.1.counts }) (local_of s (file_of k))
+    stores (command.Close f) v = v
+    stores (command.Open f) v = tt
+    stores (command.Write f offset content) v = tt
+    stores (command.Trunc f size) v = tt
+    stores (command.Read f offset count) v = tt
+    stores (command.Abandon f) v = tt
+    stores (command.Named k) v = tt
 
 -- ---- the step
 

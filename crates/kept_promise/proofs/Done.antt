@@ -1,23 +1,27 @@
 -- Each command has its operation, which came to what its client answered, or to what the server's answers led to.
-use Rattle.std.proofs.Common.{inl, ◌≡◌, ℕ, ◌*◌, ◌≤◌, zero, suc, List, length, Option, Some, None, Bool, true, false, refl, sym, ap, ◌∙◌, subst}
+use Rattle.std.proofs.Common.{inl, inr, ◌≡◌, ℕ, ◌*◌, ◌≤◌, zero, suc, List, length, Option, Some, None, Bool, true, false, refl, sym, ap, ◌∙◌, subst}
 use Rattle.command_text.specs.declared.command.Command.TheVariants as command
+use Rattle.register_model.specs.Register.{success}
 use Rattle.register_model.specs.declared.op.Outcome.{Outcome}
 use Rattle.register_model.specs.declared.op.Outcome.TheVariants as told
 use Rattle.register_model.specs.declared.op.Word.TheVariants as words
-use Rattle.kept_promise.proofs.Common.{slice_get, nat_lt, if◌then◌else◌, content_length, Command, local_most, written_size, is_closed, is_untold, Op, Word, word_of, file_of, World, calls_most, Moment, Deed, deeds_of, Book, book_of, can_ask, IsOpened, IsClosed, IsChanged, IsOpenRefused, HasCause, is_busy, local_before, own_answer, unless_asks, write_outcome, sized_outcome, CameTo, IsDone, Queue}
-use Rattle.trace_replay.specs.Faithful.{HasFile}
-use Rattle.kept_promise.proofs.PathNames.{IsSmall}
-use Rattle.kept_promise.proofs.Rights.{is_remote, RefusedBy, Caused, IsRight}
+use Rattle.kept_promise.proofs.Common.{slice_get, nat_lt, if◌then◌else◌, content_length, Command, local_most, written_size, is_closed, is_untold, Op, Word, word_of, file_of, World, calls_most, Moment, Deed, deeds_of, Book, book_of, can_ask, IsOpened, IsClosed, IsChanged, IsOpenRefused, HasCause, is_busy, local_before, own_answer, unless_asks, write_outcome, sized_outcome, CameTo, IsDone, Queue, changes}
+use Rattle.command_text.specs.declared.path.PathCommand.{PathCommand}
+use Rattle.trace_replay.specs.Causes.{NamedCause}
+use Rattle.trace_replay.specs.Complete.{EndsNamed}
+use Rattle.trace_replay.specs.Faithful.{HasFile, FindsOpen, StoresLocal}
+use Rattle.kept_promise.proofs.Rights.{RefusedBy, Caused, IsRight}
 use Rattle.kept_promise.proofs.Facts.{IsKept}
-use Rattle.kept_promise.proofs.Deeds.{FromServer, Came, IsDeed}
+use Rattle.kept_promise.proofs.Deeds.{FromServer, ByServer, Stores, HasIdFile, Came, IsDeed}
 use Rattle.kept_promise.proofs.Following.{IsFollowed}
 
 -- ---- own answers
 
--- a client's own answer is no success of a close, and one that is told; where it has none an open or a close asks the server
+-- a client's own answer is no success of a close, and one that is told; where it has none an open, a close, or a command on names asks the server
 abbrev AsksRemote : Command → Type 0
 AsksRemote (command.Open f) = Unit {0}
 AsksRemote (command.Close f) = Unit {0}
+AsksRemote (command.Named n) = Unit {0}
 AsksRemote k = ⊥
 
 abbrev IsPlain : Command → Option Outcome → Type 0
@@ -39,50 +43,57 @@ asks_plain : (k : Command) (b : Bool) → AsksRemote k → IsPlain k (unless_ask
 asks_plain k true h = h
 asks_plain k false h = (refl, refl)
 
-own_plain : (busy asks : Bool) (k : Command) (l : Option (List ℕ)) → IsSmall k → IsPlain k (own_answer busy asks k l)
-own_plain true asks k l small = (refl, refl)
-own_plain false asks (command.Named n) l small = absurd small
-own_plain false asks (command.Open f) None small = asks_plain (command.Open f) asks tt
-own_plain false asks (command.Write f offset content) None small = (refl, refl)
-own_plain false asks (command.Trunc f size) None small = (refl, refl)
-own_plain false asks (command.Read f offset count) None small = (refl, refl)
-own_plain false asks (command.Close f) None small = (refl, refl)
-own_plain false asks (command.Abandon f) None small = (refl, refl)
-own_plain false asks (command.Open f) (Some x) small = (refl, refl)
-own_plain false asks (command.Write f offset content) (Some x) small = written_plain (command.Write f offset content) (length x) offset (content_length content)
-own_plain false asks (command.Trunc f size) (Some x) small = sized_plain (command.Trunc f size) size
-own_plain false asks (command.Read f offset count) (Some x) small = (refl, refl)
-own_plain false asks (command.Close f) (Some x) small = asks_plain (command.Close f) asks tt
-own_plain false asks (command.Abandon f) (Some x) small = (refl, refl)
+own_plain : (busy asks : Bool) (k : Command) (l : Option (List ℕ)) → IsPlain k (own_answer busy asks k l)
+own_plain true asks k l = (refl, refl)
+own_plain false asks (command.Named n) None = asks_plain (command.Named n) asks tt
+own_plain false asks (command.Named n) (Some x) = asks_plain (command.Named n) asks tt
+own_plain false asks (command.Open f) None = asks_plain (command.Open f) asks tt
+own_plain false asks (command.Write f offset content) None = (refl, refl)
+own_plain false asks (command.Trunc f size) None = (refl, refl)
+own_plain false asks (command.Read f offset count) None = (refl, refl)
+own_plain false asks (command.Close f) None = (refl, refl)
+own_plain false asks (command.Abandon f) None = (refl, refl)
+own_plain false asks (command.Open f) (Some x) = (refl, refl)
+own_plain false asks (command.Write f offset content) (Some x) = written_plain (command.Write f offset content) (length x) offset (content_length content)
+own_plain false asks (command.Trunc f size) (Some x) = sized_plain (command.Trunc f size) size
+own_plain false asks (command.Read f offset count) (Some x) = (refl, refl)
+own_plain false asks (command.Close f) (Some x) = asks_plain (command.Close f) asks tt
+own_plain false asks (command.Abandon f) (Some x) = (refl, refl)
 
 -- ---- causes
 
-open_cause : (book : Book) (f : ℕ) (o : Op) (u : Outcome) → o.word ≡ words.Open → o.file ≡ f → FromServer u → Caused book o u → HasCause book (command.Open f) o u
-open_cause book f o (told.Opened n d) w e s h = subst (λ (x : ℕ). IsOpened book x o n d) e h.1
-open_cause book f o (told.Refused t) w e s h = subst (λ (x : ℕ). IsOpenRefused book x o t) e (subst (λ (x : Word). RefusedBy book o x t) w h)
-open_cause book f o (told.Changed a b) w e s h = subst (λ (x : ℕ). IsChanged book x o a b) e h.1
-open_cause book f o told.Lost w e s h = h.1
-open_cause book f o told.Running w e s h = h.1
-open_cause book f o (told.Closed v n d) w e s h = absurd (apart (sym h.0 ∙ w))
+open_cause : (book : Book) (f : ℕ) (o : Op) (u : Outcome) → o.word ≡ words.Open → o.file ≡ f → ((status : ℕ) → u ≡ told.Refused status → IsOpenRefused book f o status) → FromServer u → Caused book o u → HasCause book (command.Open f) o u
+open_cause book f o (told.Opened n d) w e r s h = subst (λ (x : ℕ). IsOpened book x o n d) e h.1
+open_cause book f o (told.Refused t) w e r s h = r t refl
+open_cause book f o (told.Changed a b) w e r s h = subst (λ (x : ℕ). IsChanged book x o a b) e h.1
+open_cause book f o told.Lost w e r s h = h.1
+open_cause book f o told.Running w e r s h = h.1
+open_cause book f o (told.Closed v n d) w e r s h = absurd (apart (sym h.0 ∙ w))
   where
     apart : words.Close ≡ words.Open → ⊥
     apart e = absurd cc
-open_cause book f o (told.Piece n d) w e s h = s
-open_cause book f o told.Done w e s h = s
-open_cause book f o told.Busy w e s h = s
-open_cause book f o told.NotOpen w e s h = s
-open_cause book f o told.AlreadyOpen w e s h = s
-open_cause book f o (told.TooBig n) w e s h = s
-open_cause book f o told.NoLink w e s h = s
-open_cause book f o told.PeerMemory w e s h = h
-open_cause book f o (told.BadPeer n) w e s h = h
-open_cause book f o told.Memory w e s h = h
-open_cause book f o (told.Names n) w e s h = h
-open_cause book f o (told.Seen a b c d) w e s h = h
+open_cause book f o (told.Piece n d) w e r s h = s
+open_cause book f o told.Done w e r s h = s
+open_cause book f o told.Busy w e r s h = s
+open_cause book f o told.NotOpen w e r s h = s
+open_cause book f o told.AlreadyOpen w e r s h = s
+open_cause book f o (told.TooBig n) w e r s h = s
+open_cause book f o told.NoLink w e r s h = s
+open_cause book f o told.PeerMemory w e r s h = h
+open_cause book f o (told.BadPeer n) w e r s h = h
+open_cause book f o told.Memory w e r s h = h
+open_cause book f o (told.Names n) w e r s h = absurd (apart (sym h ∙ w))
+  where
+    apart : words.List ≡ words.Open → ⊥
+    apart e = absurd cc
+open_cause book f o (told.Seen a b c d) w e r s h = absurd (apart (sym h ∙ w))
+  where
+    apart : words.Look ≡ words.Open → ⊥
+    apart e = absurd cc
 
 close_cause : (book : Book) (f : ℕ) (o : Op) (u : Outcome) → o.word ≡ words.Close → o.file ≡ f → FromServer u → Caused book o u → HasCause book (command.Close f) o u
 close_cause book f o (told.Closed v n d) w e s h = subst (λ (x : ℕ). IsClosed book x o v n d) e h.1
-close_cause book f o (told.Refused t) w e s h = inl (subst (λ (x : Word). RefusedBy book o x t) w h)
+close_cause book f o (told.Refused t) w e s h = elim (subst (λ (x : Word). RefusedBy book o x t) w h) [ inl full ↦ inl full | inr gone ↦ inr gone.0 ]
 close_cause book f o told.Lost w e s h = h.1
 close_cause book f o told.Running w e s h = h.1
 close_cause book f o (told.Opened n d) w e s h = absurd (apart (sym h.0 ∙ w))
@@ -103,63 +114,119 @@ close_cause book f o told.NoLink w e s h = s
 close_cause book f o told.PeerMemory w e s h = h
 close_cause book f o (told.BadPeer n) w e s h = h
 close_cause book f o told.Memory w e s h = h
-close_cause book f o (told.Names n) w e s h = h
-close_cause book f o (told.Seen a b c d) w e s h = h
-
-has_cause : (book : Book) (k : Command) (o : Op) → AsksRemote k → o.word ≡ word_of k → o.file ≡ file_of k → FromServer o.outcome → Caused book o o.outcome → HasCause book k o o.outcome
-has_cause book (command.Open f) o a w e s h = open_cause book f o o.outcome w e s h
-has_cause book (command.Close f) o a w e s h = close_cause book f o o.outcome w e s h
-has_cause book (command.Write f offset content) o a w e s h = absurd a
-has_cause book (command.Trunc f size) o a w e s h = absurd a
-has_cause book (command.Read f offset count) o a w e s h = absurd a
-has_cause book (command.Abandon f) o a w e s h = absurd a
-has_cause book (command.Named n) o a w e s h = absurd a
+close_cause book f o (told.Names n) w e s h = absurd (apart (sym h ∙ w))
+  where
+    apart : words.List ≡ words.Close → ⊥
+    apart e = absurd cc
+close_cause book f o (told.Seen a b c d) w e s h = absurd (apart (sym h ∙ w))
+  where
+    apart : words.Look ≡ words.Close → ⊥
+    apart e = absurd cc
 
 -- ---- a command's operation
 
--- what a client answered by itself has no point
-pointless : (book : Book) (o : Op) (own : Outcome) → IsRight book o → o.outcome ≡ own → (is_closed own ≡ false) × (is_untold own ≡ false) → (o.word ≡ words.Open → o.point ≡ None) → o.point ≡ None
-pointless book o own right is plain open_ = by o.word refl
+abbrev is_close : Word → Bool
+is_close words.Close = true
+is_close _ = false
+
+not_close : (w : Word) → is_close w ≡ false → w ≡ words.Close → ⊥
+not_close w not e = both (is_close w) (ap is_close e) not
   where
-    far : (w : Word) → o.word ≡ w → is_remote w ≡ false → (p : Option ℕ) → o.point ≡ p → p ≡ None
-    far w e not None at = refl
-    far w e not (Some p) at = let r = (right.pointed p at).2 in absurd (not_both (is_remote w) (ap is_remote (sym e) ∙ r) not)
-      where
-        not_both : (b : Bool) → b ≡ true → b ≡ false → ⊥
-        not_both b e d = absurd cc
+    both : (b : Bool) → b ≡ true → b ≡ false → ⊥
+    both b e d = absurd cc
 
+-- what a client answered by itself has no point
+pointless : (book : Book) (o : Op) (own : Outcome) → IsRight book o → o.outcome ≡ own → (is_closed own ≡ false) × (is_untold own ≡ false) → ((o.word ≡ words.Close → ⊥) → o.point ≡ None) → o.point ≡ None
+pointless book o own right is plain other = by o.word refl
+  where
     by : (w : Word) → o.word ≡ w → o.point ≡ None
-    by words.Open e = open_ e
-    by words.Close e = right.failed e (ap is_closed is ∙ plain.0) (ap is_untold is ∙ plain.1)
-    by words.Make e = far words.Make e refl o.point refl
-    by words.Remove e = far words.Remove e refl o.point refl
-    by words.Rename e = far words.Rename e refl o.point refl
-    by w e = far w e refl o.point refl
+    by words.Close e = right.failed (ap changes e) (ap (λ (w : Word). success w o.file o.outcome) e ∙ ap is_closed is ∙ plain.0) (ap is_untold is ∙ plain.1)
+    by w e = other (λ c. not_close w refl (sym e ∙ c))
 
-came_to : (book : Book) (d : Deed) (o : Op) (l : Option (List ℕ)) (x : Option Outcome) → IsRight book o → o.word ≡ word_of d.command → o.file ≡ file_of d.command → IsPlain d.command x → Came d o l x → CameTo book d o l x
-came_to book d o l (Some own) right w e plain c = (c.0, c.1, pointless book o own right c.0 plain c.2)
-came_to book d o l None right w e plain c = (has_cause book d.command o plain w e c.1 right.cause, c.0)
+came_to : (book : Book) (d : Deed) (o : Op) (l : Option (List ℕ)) (x : Option Outcome) → IsRight book o → (Stores d.command o l → StoresLocal d.command o l) → (AsksRemote d.command → ByServer d.command o.outcome → HasCause book d.command o o.outcome) → IsPlain d.command x → Came d o l x → CameTo book d o l x
+came_to book d o l (Some own) right stores cause plain c = (c.0, c.1, pointless book o own right c.0 plain c.2)
+came_to book d o l None right stores cause plain c = (cause plain c.1, stores c.0)
 
-has_file : (k : Command) (o : Op) (own : Option Outcome) → IsSmall k → o.file ≡ file_of k → HasFile k o own
-has_file (command.Named n) o own small e = absurd small
-has_file k o own small e = e
+-- what is known beside: why an open by an id was refused, and why a command on names that asked the server ended so
+pub record IsKnown (book : Book) (d : Deed) (o : Op) (l : Option (List ℕ)) : Type 0 where
+  pub refused : (f : ℕ) → d.command ≡ command.Open f → (status : ℕ) → o.outcome ≡ told.Refused status → IsOpenRefused book f o status
+  pub named : (n : PathCommand) → d.command ≡ command.Named n → own_answer (is_busy book.ops o) (can_ask d.joined d.calls) d.command None ≡ None → (o.end ≡ Some o.begin → ⊥) → NamedCause book n o o.outcome × FindsOpen o.outcome l
+  -- the status of one that was refused so is one that it may have
+  pub ends : (n : PathCommand) → d.command ≡ command.Named n → (o.end ≡ Some o.begin → ⊥) → (status : ℕ) → o.outcome ≡ told.Refused status → EndsNamed n (told.Refused status)
 
-pub is_done : (book : Book) (ds : List Deed) (i : ℕ) (d : Deed) (o : Op) → d.calls ≤ calls_most * d.begin → IsRight book o → IsDeed ds book.ops i d o → IsDone book d o (local_before ds book.ops i d.client (file_of d.command))
-is_done book ds i d o few right h = record {
-  client = h.client;
-  word = h.word;
-  file = has_file d.command o (own_answer (is_busy book.ops o) (can_ask d.joined d.calls) d.command (local_before ds book.ops i d.client (file_of d.command))) h.small h.file;
-  begin = h.begin;
-  few = few;
-  came_to = came_to book d o (local_before ds book.ops i d.client (file_of d.command)) (own_answer (is_busy book.ops o) (can_ask d.joined d.calls) d.command (local_before ds book.ops i d.client (file_of d.command))) right h.word h.file (own_plain (is_busy book.ops o) (can_ask d.joined d.calls) d.command (local_before ds book.ops i d.client (file_of d.command)) h.small) h.came;
-  end = right.ends;
-  order = λ e at. (right.past e at).0;
-}
+-- its file, and what it came to
+module _ (book : Book) (ds : List Deed) (i : ℕ) (d : Deed) (o : Op) (right : IsRight book o) (busy asks : Bool) where
+  abbrev before : ℕ → Option (List ℕ)
+  before f = local_before ds book.ops i d.client f
+
+  abbrev own : Command → ℕ → Option Outcome
+  own k f = own_answer busy asks k (before f)
+
+  abbrev Part : Command → ℕ → Type 0
+  Part k f = HasFile k o (own k f) × CameTo book (record d { command = k }) o (before f) (own k f)
+
+  -- on a file by its id
+  id_part : (k : Command) → o.file ≡ file_of k → ((x : Option Outcome) → HasFile k o x) → (Stores k o (before (file_of k)) → StoresLocal k o (before (file_of k))) → (AsksRemote k → ByServer k o.outcome → HasCause book k o o.outcome) → Came (record d { command = k }) o (before (file_of k)) (own k (file_of k)) → Part k o.file
+  id_part k e file stores cause c = subst (Part k) (sym e) (file (own k (file_of k)), came_to book (record d { command = k }) o (before (file_of k)) (own k (file_of k)) right stores cause (own_plain busy asks k (before (file_of k))) c)
+
+  -- on names: what its client answers doesn't rest on a local content
+  own_named : (n : PathCommand) (l : Option (List ℕ)) → own_answer busy asks (command.Named n) l ≡ own_answer busy asks (command.Named n) None
+  own_named n l = by busy l
+    where
+      by : (b : Bool) (l : Option (List ℕ)) → own_answer b asks (command.Named n) l ≡ own_answer b asks (command.Named n) None
+      by true l = refl
+      by false None = refl
+      by false (Some x) = refl
+
+  named_part : (n : PathCommand) → (own_answer busy asks (command.Named n) None ≡ None → (o.end ≡ Some o.begin → ⊥) → NamedCause book n o o.outcome × FindsOpen o.outcome (before o.file)) → Came (record d { command = command.Named n }) o (before 0) (own (command.Named n) 0) → Part (command.Named n) o.file
+  named_part n known c =
+      subst (λ (x : Option Outcome). HasFile (command.Named n) o x × CameTo book (record d { command = command.Named n }) o (before o.file) x) (sym (own_named n (before o.file)))
+      (by (own_answer busy asks (command.Named n) None) refl (own_plain busy asks (command.Named n) None) (subst (Came (record d { command = command.Named n }) o (before 0)) (own_named n (before 0)) c))
+    where
+      by : (x : Option Outcome) → own_answer busy asks (command.Named n) None ≡ x → IsPlain (command.Named n) x → Came (record d { command = command.Named n }) o (before 0) x → HasFile (command.Named n) o x × CameTo book (record d { command = command.Named n }) o (before o.file) x
+      by (Some own) e plain c = (c.3, (c.0, c.1, pointless book o own right c.0 plain c.2))
+      by None e plain c = (tt, known e c.2)
+
+  part : (k : Command) → HasIdFile k o → o.word ≡ word_of k → ((f : ℕ) → k ≡ command.Open f → (status : ℕ) → o.outcome ≡ told.Refused status → IsOpenRefused book f o status) → ((n : PathCommand) → k ≡ command.Named n → own_answer busy asks k None ≡ None → (o.end ≡ Some o.begin → ⊥) → NamedCause book n o o.outcome × FindsOpen o.outcome (before o.file))
+      → Came (record d { command = k }) o (before (file_of k)) (own k (file_of k)) → Part k o.file
+  part (command.Open f) e w refused named c = id_part (command.Open f) e (λ x. e) (λ s. s) (λ a s. open_cause book f o o.outcome w e (refused f refl) s right.cause) c
+  part (command.Close f) e w refused named c = id_part (command.Close f) e (λ x. e) (λ s. s) (λ a s. close_cause book f o o.outcome w e s right.cause) c
+  part (command.Write f offset content) e w refused named c = id_part (command.Write f offset content) e (λ x. e) (λ s. s) (λ a s. absurd a) c
+  part (command.Trunc f size) e w refused named c = id_part (command.Trunc f size) e (λ x. e) (λ s. s) (λ a s. absurd a) c
+  part (command.Read f offset count) e w refused named c = id_part (command.Read f offset count) e (λ x. e) (λ s. s) (λ a s. absurd a) c
+  part (command.Abandon f) e w refused named c = id_part (command.Abandon f) e (λ x. e) (λ s. s) (λ a s. absurd a) c
+  part (command.Named n) e w refused named c = named_part n (named n refl) c
+
+pub is_done : (book : Book) (ds : List Deed) (i : ℕ) (d : Deed) (o : Op) → d.calls ≤ calls_most * d.begin → IsRight book o → IsDeed ds book.ops i d o → IsKnown book d o (local_before ds book.ops i d.client o.file) → IsDone book d o (local_before ds book.ops i d.client o.file)
+is_done book ds i d o few right h known =
+    let p = part book ds i d o right (is_busy book.ops o) (can_ask d.joined d.calls) d.command h.file h.word known.refused known.named h.came in
+    record {
+      client = h.client;
+      word = h.word;
+      file = p.0;
+      begin = h.begin;
+      few = few;
+      came_to = p.1;
+      end = right.ends;
+      order = λ e at. (right.past e at).0;
+    }
+
+-- a command on names that asked the server isn't over in its first step
+pub asked_late : (ds : List Deed) (ops : List Op) (i : ℕ) (d : Deed) (o : Op) (n : PathCommand) → IsDeed ds ops i d o → d.command ≡ command.Named n → can_ask d.joined d.calls ≡ true → is_busy ops o ≡ false → o.end ≡ Some o.begin → ⊥
+asked_late ds ops i d o n h is asks free =
+    (subst (Came (record d { command = command.Named n }) o (local_before ds ops i d.client 0)) (own (local_before ds ops i d.client 0)) (subst (λ (k : Command). Came (record d { command = k }) o (local_before ds ops i d.client (file_of k)) (own_answer (is_busy ops o) (can_ask d.joined d.calls) k (local_before ds ops i d.client (file_of k)))) is h.came)).2
+  where
+    asked : (l : Option (List ℕ)) → own_answer false true (command.Named n) l ≡ None
+    asked None = refl
+    asked (Some x) = refl
+
+    own : (l : Option (List ℕ)) → own_answer (is_busy ops o) (can_ask d.joined d.calls) (command.Named n) l ≡ None
+    own l = ap (λ (b : Bool). own_answer b (can_ask d.joined d.calls) (command.Named n) l) free ∙ ap (λ (b : Bool). own_answer false b (command.Named n) l) asks ∙ asked l
 
 -- of a whole run: each command has its one operation, in order
 pub deeds_counted : (w : World) (all : List Moment) → IsFollowed all w.core → length w.core.ops ≡ length (deeds_of all)
 deeds_counted w all h = h.deeds.count
 
-pub deeds_done : (w : World) (all : List Moment) (qs : List Queue) → IsKept (book_of w all) w.core qs → IsFollowed all w.core → (k : ℕ) (d : Deed) (o : Op) → slice_get (deeds_of all) k ≡ Some d → slice_get w.core.ops k ≡ Some o
+pub deeds_done : (w : World) (all : List Moment) (qs : List Queue) → IsKept (book_of w all) w.core qs → IsFollowed all w.core → (k : ℕ) (d : Deed) (o : Op) → slice_get (deeds_of all) k ≡ Some d → slice_get w.core.ops k ≡ Some o → IsKnown (book_of w all) d o (local_before (deeds_of all) w.core.ops k d.client o.file)
     → IsDone (book_of w all) d o (local_before (deeds_of all) w.core.ops k d.client o.file)
-deeds_done w all qs kept h k d o at is = subst (λ (f : ℕ). IsDone (book_of w all) d o (local_before (deeds_of all) w.core.ops k d.client f)) (sym (h.deeds.each k d o at is).file) (is_done (book_of w all) (deeds_of all) k d o (h.few k d at) (kept.sound.rights k o is) (h.deeds.each k d o at is))
+deeds_done w all qs kept h k d o at is known = is_done (book_of w all) (deeds_of all) k d o (h.few k d at) (kept.sound.rights k o is) (h.deeds.each k d o at is) known

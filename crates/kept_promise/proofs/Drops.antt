@@ -2,12 +2,13 @@
 use Rattle.std.proofs.Common.{inl, inr, ◌≡◌, ℕ, zero, suc, ◌+◌, ◌<◌, ◌≤◌, List, [], ◌∷◌, ◌++◌, Option, Some, None, Bool, true, false, refl, sym, ap, ◌∙◌, subst, arith, eq-eqb, map}
 use Rattle.client_state.specs.State as client
 use Rattle.register_model.specs.declared.op.Outcome.TheVariants as told
-use Rattle.kept_promise.proofs.Common.{slice_get, slice_set, ◌==◌, ◌||◌, Pending, has_call, without_call, no_counts, nothing_done, store_pending, Stage, Op, Core, Seat, Session, numbered, ops_with, ops_after, acted, counted, Book, Told, Queue}
+use Rattle.client_state.specs.declared.task.Stage.TheVariants as stage
+use Rattle.kept_promise.proofs.Common.{slice_get, slice_set, ◌==◌, ◌||◌, Pending, has_call, without_call, no_counts, nothing_done, store_pending, Stage, Op, Core, Seat, Session, numbered, ops_with, ops_after, acted, counted, Book, Told, Queue, Store, StoreCall}
 use Rattle.kept_promise.proofs.Lists.{some_is, nothing_there, same_or_not, of_replaced, false_and_true}
 use Rattle.kept_promise.proofs.Keys.{times, there_by}
-use Rattle.kept_promise.proofs.Messages.{Job, job, AllTolds, IsAnswer, IsCommit, content_wanted}
+use Rattle.kept_promise.proofs.Messages.{Job, job, AllTolds, IsAnswer, IsCommit}
 use Rattle.kept_promise.proofs.History.{Goes, Still, onward, goes_same, still_same, still_becomes}
-use Rattle.kept_promise.proofs.Later.{all_asks, all_tolds, answer_later, commit_later, pending_later, close_later, has_fetch_later, seat_later, Spares}
+use Rattle.kept_promise.proofs.Later.{all_asks, all_tolds, answer_later, commit_later, waits_later, close_later, has_fetch_later, seat_later, Spares}
 use Rattle.kept_promise.proofs.Taken.{times_map_append}
 use Rattle.kept_promise.proofs.Turns.{Around, turned_core}
 use Rattle.kept_promise.proofs.OrderSteps.{IsElse, orderly_dropped}
@@ -59,17 +60,31 @@ moves_drops mine forgotten i t at once = λ f y.
     let after = times_map_append f y mine (without_call forgotten t.xid) in
     omega (arith, gone, before, after)
 
--- so no call of the store under way has its xid
+-- so no call of the close under way has its xid
 nothing_under : (book : Book) (k : Core) (n : ℕ) (x : Session) (q : Queue) (t : Told) → (h : IsSession book k.seats k.server n x q) → x.cut ≡ false → (i : ℕ) → slice_get h.seat.client.forgotten i ≡ Some (told_pending t) → IsElse (job h.seat) t.xid
-nothing_under book k n x q t h uncut i there j st m u is at under same =
-    let c = h.seat.client in
-    let once = (h.talk uncut).balanced.once t.xid in
-    let calls = ap (λ l. times t.xid (map (λ (p : Pending). p.xid) l)) (calls_are h.seat j is) in
-    let split = times_map_append (λ (p : Pending). p.xid) t.xid (client.pending_in j.stage) c.forgotten in
-    let stored = ap (λ (z : Stage). times t.xid (map (λ (p : Pending). p.xid) (client.pending_in z))) at in
-    let one = subst (λ (y : ℕ). 0 < times y (map (λ (p : Pending). p.xid) (map store_pending st.under))) same (there_by (λ (p : Pending). p.xid) (map store_pending st.under) m (store_pending u) (pending_there st.under m u under)) in
-    let two = there_by (λ (p : Pending). p.xid) c.forgotten i (told_pending t) there in
-    omega (arith, once, calls, split, stored, one, two)
+nothing_under book k n x q t h uncut i there = ((λ j st m u is at under same. stored_under j st m u is at under same), λ j y m is at same. made_under j y m is at same)
+  where
+    stored_under : (j : Job) (st : Store) (m : ℕ) (u : StoreCall) → job h.seat ≡ Some j → j.stage ≡ stage.Storing st → slice_get st.under m ≡ Some u → u.xid ≡ t.xid → ⊥
+    stored_under j st m u is at under same =
+        let c = h.seat.client in
+        let once = (h.talk uncut).balanced.once t.xid in
+        let calls = ap (λ l. times t.xid (map (λ (p : Pending). p.xid) l)) (calls_are h.seat j is) in
+        let split = times_map_append (λ (p : Pending). p.xid) t.xid (client.pending_in j.stage) c.forgotten in
+        let stored = ap (λ (z : Stage). times t.xid (map (λ (p : Pending). p.xid) (client.pending_in z))) at in
+        let one = subst (λ (y : ℕ). 0 < times y (map (λ (p : Pending). p.xid) (map store_pending st.under))) same (there_by (λ (p : Pending). p.xid) (map store_pending st.under) m (store_pending u) (pending_there st.under m u under)) in
+        let two = there_by (λ (p : Pending). p.xid) c.forgotten i (told_pending t) there in
+        omega (arith, once, calls, split, stored, one, two)
+
+    made_under : (j : Job) (y m : ℕ) → job h.seat ≡ Some j → j.stage ≡ stage.Making y m → y ≡ t.xid → ⊥
+    made_under j y m is at same =
+        let c = h.seat.client in
+        let once = (h.talk uncut).balanced.once t.xid in
+        let calls = ap (λ l. times t.xid (map (λ (p : Pending). p.xid) l)) (calls_are h.seat j is) in
+        let split = times_map_append (λ (p : Pending). p.xid) t.xid (client.pending_in j.stage) c.forgotten in
+        let stored = ap (λ (z : Stage). times t.xid (map (λ (p : Pending). p.xid) (client.pending_in z))) at in
+        let one = subst (λ (z : ℕ). 0 < times z (map (λ (p : Pending). p.xid) (client.pending_in (stage.Making y m)))) same (there_by (λ (p : Pending). p.xid) (client.pending_in (stage.Making y m)) 0 _ refl) in
+        let two = there_by (λ (p : Pending). p.xid) c.forgotten i (told_pending t) there in
+        omega (arith, once, calls, split, stored, one, two)
 
 -- ---- what is kept
 
@@ -95,7 +110,7 @@ kept_dropped book ops k qs n x q t ts seats after kept at is first uncut i there
       old_asks = talk.asked;
       old_tolds = (subst (AllTolds (IsAnswer more x.taken x.closing (job h.seat))) first (all_tolds (IsAnswer book x.taken x.closing (job h.seat)) (IsAnswer more x.taken x.closing (job h.seat)) (λ u a. answer_later book more None None x.taken x.closing (job h.seat) u goes.grows spares a) q.downs talk.answers)).1;
       old_commits = all_asks (IsCommit book x.closing x.cut (job h.seat) h.contents) (IsCommit more x.closing x.cut (job h.seat) h.contents) (λ a m. commit_later book more None None x.closing x.cut (job h.seat) (job h.seat) h.contents a goes.grows spares (λ u. refl) m) q.ups h.commits;
-      old_pending = λ m d f. pending_later book more None None x.closing x.cut (job h.seat) (job h.seat) d.xid d.file (content_wanted d.what) goes.grows spares (λ u. refl) (h.pending m d f);
+      old_pending = λ m d f. waits_later book more None None x.closing x.cut (job h.seat) (job h.seat) d.xid d.file d.what goes.grows spares (λ u. refl) (h.pending m d f);
       moves = moves_drops (client.pending h.seat.client.task) h.seat.client.forgotten i t there (talk.balanced.once t.xid);
       rising = omega arith;
       asked = tt;
@@ -168,7 +183,7 @@ drops_busy book k qs n x q t ts i j kept at is first uncut there job_is =
     let seat = seat_later book more None None k.sessions k.sessions x.owner h.seat goes.grows (λ m z f. (z, f, refl, λ e. refl)) (λ p o f. nothing_there p f) (kept.seats x.owner h.seat h.owner) in
     let ops_is = ap (λ (p : Option ℕ). ops_with book.ops p c x.taken (book.steps + 1) nothing_done) (place_of h.seat j job_is) ∙ ap (λ (o : Option Op). ops_after book.ops j.place o c x.taken (book.steps + 1) nothing_done) of.there in
     leads_acted book k qs n x q ts h.seat c nothing_done h.seat.place ops [] kept at is h.owner (h.here uncut).0 refl ops_is refl
-    (λ seats after around queues. kept_dropped book ops k qs n x q t ts seats after kept at is first uncut i there goes (still_becomes book 1 None None j.place of.op r of.there (becomes_counting book x.owner j tr of) kept.sound) (seat_dropped more k.sessions x.owner h.seat t.xid (h.here uncut).1 seat)
+    (λ seats after around queues. kept_dropped book ops k qs n x q t ts seats after kept at is first uncut i there goes (still_becomes book 1 None None j.place of.op r of.there (becomes_counting book x.owner j tr of kept.sound) kept.sound) (seat_dropped more k.sessions x.owner h.seat t.xid (h.here uncut).1 seat)
     (λ others round p o f run. elim (of_replaced book.ops j.place r p o f) [
       | inl here ↦ (d, j, ap (λ (z : Op). numbered others z.client) here.1 ∙ ap (numbered others) of.client ∙ round.there, job_is, sym here.0)
       | inr was ↦ elsewhere book k qs x.owner h.seat d others kept h.owner refl round p o was.1 run

@@ -3,8 +3,10 @@ use Rattle.std.proofs.Common.{◌≡◌, inl, inr, ℕ, ◌≤◌, List, Option,
 use Rattle.command_text.specs.declared.command.Command.TheVariants as command
 use Rattle.register_model.specs.declared.op.Outcome.{Outcome}
 use Rattle.register_model.specs.declared.op.Outcome.TheVariants as told
-use Rattle.trace_replay.specs.Complete.{IsUncut, EndsWell}
-use Rattle.kept_promise.proofs.PathNames.{IsSmall}
+use Rattle.command_text.specs.declared.path.PathCommand.{PathCommand}
+use Rattle.command_text.specs.declared.path.PathCommand.TheVariants as path
+use Rattle.trace_replay.specs.Causes.{NamedCause}
+use Rattle.trace_replay.specs.Complete.{IsUncut, EndsNamed, EndsWell}
 use Rattle.kept_promise.proofs.Common.{Command, Op, Deed, Book, can_ask, IsLost, HasCause, is_busy, own_answer, CameTo, IsDone}
 
 -- a client that saw no connection lost since its operation began did not end it so
@@ -36,18 +38,38 @@ closed_well book f x o told.Lost lost runs h = absurd (lost h)
 closed_well book f x o told.Running lost runs h = absurd (runs h)
 closed_well book f x o _ lost runs h = absurd h
 
-came_well : (book : Book) (d : Deed) (o : Op) (l : Option (List ℕ)) (k : Command) → IsSmall k → d.command ≡ k → (IsLost book o → ⊥) → (o.end ≡ None → ⊥) → CameTo book (record d { command = k }) o l (own_answer false true k l) → EndsWell k l o.outcome
-came_well book d o l (command.Named n) small e lost runs h = absurd small
-came_well book d o None (command.Open f) small e lost runs h = opened_well book f o o.outcome lost runs h.0
-came_well book d o (Some x) (command.Open f) small e lost runs h = tt
-came_well book d o None (command.Close f) small e lost runs h = tt
-came_well book d o (Some x) (command.Close f) small e lost runs h = closed_well book f x o o.outcome lost runs h.0
-came_well book d o l (command.Write f offset content) small e lost runs h = tt
-came_well book d o l (command.Trunc f size) small e lost runs h = tt
-came_well book d o l (command.Read f offset count) small e lost runs h = tt
-came_well book d o l (command.Abandon f) small e lost runs h = tt
+-- a command on names: where it was refused, by a status that it may have
+named_well : (book : Book) (n : PathCommand) (o : Op) (outcome : Outcome) → ((status : ℕ) → outcome ≡ told.Refused status → EndsNamed n (told.Refused status)) → (IsLost book o → ⊥) → (o.end ≡ None → ⊥) → NamedCause book n o outcome → EndsNamed n outcome
+named_well book (path.Find s) o (told.Opened len digest) refused lost runs h = tt
+named_well book (path.Find s) o told.AlreadyOpen refused lost runs h = tt
+named_well book (path.Find s) o (told.Changed first last) refused lost runs h = tt
+named_well book (path.Look s) o (told.Seen id kind version len) refused lost runs h = tt
+named_well book path.LookRoot o (told.Seen id kind version len) refused lost runs h = tt
+named_well book (path.List p) o (told.Names names) refused lost runs h = tt
+named_well book (path.List p) o told.NoLink refused lost runs h = tt
+named_well book (path.Make s) o told.Done refused lost runs h = tt
+named_well book (path.MakeDir s) o told.Done refused lost runs h = tt
+named_well book (path.Remove s) o told.Done refused lost runs h = tt
+named_well book (path.RemoveDir s) o told.Done refused lost runs h = tt
+named_well book (path.Rename s t) o told.Done refused lost runs h = tt
+named_well book n o (told.Refused status) refused lost runs h = refused status refl
+named_well book n o told.Lost refused lost runs h = absurd (lost h)
+named_well book n o told.Running refused lost runs h = absurd (runs h)
+named_well book n o _ refused lost runs h = absurd h
 
-pub ends_well : (book : Book) (d : Deed) (o : Op) (l : Option (List ℕ)) → IsSmall d.command → IsDone book d o l → IsSome o.end → can_ask d.joined d.calls ≡ true → is_busy book.ops o ≡ false → IsUncut book o → EndsWell d.command l o.outcome
-ends_well book d o l small h ended asks free uncut =
+came_well : (book : Book) (d : Deed) (o : Op) (l : Option (List ℕ)) (k : Command) → d.command ≡ k → ((n : PathCommand) → k ≡ command.Named n → (status : ℕ) → o.outcome ≡ told.Refused status → EndsNamed n (told.Refused status)) → (IsLost book o → ⊥) → (o.end ≡ None → ⊥) → CameTo book (record d { command = k }) o l (own_answer false true k l) → EndsWell k l o.outcome
+came_well book d o None (command.Named n) e named lost runs h = named_well book n o o.outcome (named n refl) lost runs h.0
+came_well book d o (Some x) (command.Named n) e named lost runs h = named_well book n o o.outcome (named n refl) lost runs h.0
+came_well book d o None (command.Open f) e named lost runs h = opened_well book f o o.outcome lost runs h.0
+came_well book d o (Some x) (command.Open f) e named lost runs h = tt
+came_well book d o None (command.Close f) e named lost runs h = tt
+came_well book d o (Some x) (command.Close f) e named lost runs h = closed_well book f x o o.outcome lost runs h.0
+came_well book d o l (command.Write f offset content) e named lost runs h = tt
+came_well book d o l (command.Trunc f size) e named lost runs h = tt
+came_well book d o l (command.Read f offset count) e named lost runs h = tt
+came_well book d o l (command.Abandon f) e named lost runs h = tt
+
+pub ends_well : (book : Book) (d : Deed) (o : Op) (l : Option (List ℕ)) → ((n : PathCommand) → d.command ≡ command.Named n → (status : ℕ) → o.outcome ≡ told.Refused status → EndsNamed n (told.Refused status)) → IsDone book d o l → IsSome o.end → can_ask d.joined d.calls ≡ true → is_busy book.ops o ≡ false → IsUncut book o → EndsWell d.command l o.outcome
+ends_well book d o l named h ended asks free uncut =
     let came : CameTo book d o l (own_answer false true d.command l) = subst (λ (b : Bool). CameTo book d o l (own_answer false b d.command l)) asks (subst (λ (b : Bool). CameTo book d o l (own_answer b (can_ask d.joined d.calls) d.command l)) free h.came_to) in
-    came_well book d o l d.command small refl (not_lost book o uncut h.order) (some_end o.end ended) came
+    came_well book d o l d.command refl named (not_lost book o uncut h.order) (some_end o.end ended) came

@@ -1,5 +1,5 @@
 -- What holds in each world of a run: of each session with its owner, of each client, and of all together.
-use Rattle.std.proofs.Common.{◌≡◌, ℕ, suc, ◌+◌, ◌*◌, ◌<◌, ◌≤◌, List, [], ◌∷◌, ◌⊎◌, Option, Some, None, Bool, true, false, length, map, IsSome}
+use Rattle.std.proofs.Common.{◌≡◌, ℕ, suc, ◌+◌, ◌*◌, ◌<◌, ◌≤◌, List, [], ◌∷◌, ◌⊎◌, Option, Some, None, Bool, true, false, length, map, arith}
 use Rattle.client_cache.specs.Cache.{Entries, content_of as kept_of}
 use Rattle.client_cache.specs.declared.kept.Content.{Content}
 use Rattle.server_core.specs.State as server
@@ -7,15 +7,22 @@ use Rattle.client_state.specs.State as client
 use Rattle.client_state.specs.declared.task.Stage.TheVariants as stage
 use Rattle.client_state.specs.declared.task.Way.TheVariants as way
 use Rattle.register_model.specs.declared.op.Outcome.TheVariants as told
-use Rattle.kept_promise.proofs.Common.{slice_get, not, MessageFits, Pending, stands, Temp, key_of, Change, File, Local, Stage, StoreCall, content_of, Op, Core, Seat, Session, numbered, hashed_of, Book, HadContent, Or, value_at, version_at, Call.Commit, Ask, Queue, told_message}
+use Rattle.kept_promise.proofs.Common.{slice_get, not, MessageFits, Pending, stands, Temp, key_of, Change, File, Local, Stage, StoreCall, Op, Core, Seat, Session, numbered, hashed_of, Book, HadContent, Or, value_at, version_at, Call, Call.Commit, Call.Walks, Ask, Queue, told_message, cond, changes}
+use Rattle.kept_promise.proofs.PathNames.{IsWalkSmall, walk_calls, is_creating}
 use Rattle.kept_promise.proofs.Statements.{CallFits}
 use Rattle.kept_promise.proofs.Keys.{times, own, on_way, pending_key, IsOurs}
-use Rattle.kept_promise.proofs.Messages.{Job, job, stage_word, AllAsks, AllTolds, AllUnder, Rising, IsAsked, IsAnswer, IsTrying, HasFetch, IsCommit, IsPiece, IsPending, TempUnder, AreParts, CloseOf, content_wanted}
-use Rattle.kept_promise.proofs.Rights.{IsSound}
+use Rattle.kept_promise.proofs.Messages.{Job, job, stage_word, goal_word, AllAsks, AllTolds, AllUnder, Rising, IsAsked, IsAnswer, IsTrying, HasFetch, IsCommit, IsPiece, WaitsFor, walk_for, TempUnder, AreParts, CloseOf, content_wanted}
+use Rattle.kept_promise.proofs.Rights.{WasThere, IsSound}
 use Rattle.kept_promise.proofs.Shelf.{IsShelf}
 use Rattle.kept_promise.proofs.Orderly.{Orderly}
+use Rattle.server_core.specs.declared.change.Wanted.{Wanted}
 use Rattle.server_core.specs.declared.change.Wanted.TheVariants as wanted
+use Rattle.tree_calls.specs.Waiting.{file_of}
+use Rattle.kept_promise.proofs.Departures.{AreTwo}
 use Rattle.server_law.proofs.Trees.{IsBounded}
+use Rattle.kept_promise.proofs.Rooted.{IsRooted}
+use Rattle.tree_nodes.specs.Nodes.{with_id}
+use Rattle.kept_promise.proofs.Unused.{IsUnused}
 
 -- ---- xids
 
@@ -32,8 +39,7 @@ HasXids next (stage.Reading f) = (spare : ℕ) × (f.tries + spare ≡ 4) × (ne
 HasXids next (stage.Making x temp) = next + 80002 ≤ 4294967296
 HasXids next (stage.Storing st) = next + 80001 + names_in st.under ≤ 4294967296 + 2 * st.named
 HasXids next (stage.Committing x) = next ≤ 4294967296
--- no command on names is given: a walk is not under way
-HasXids next (stage.Walking x w) = ⊥
+HasXids next (stage.Walking x w) = next + walk_calls w ≤ 4294967296
 
 -- ---- a session whose owner is there
 
@@ -58,9 +64,15 @@ pub record IsTalk (book : Book) (n : ℕ) (waiting : List Change) (x : Session) 
 
 -- ---- any session
 
+-- a call that may change a file: a commit, or one that makes a file
+abbrev pub change_number : Call → ℕ
+change_number (Commit temp file size) = 1
+change_number (Walks w) = cond (is_creating w) 1 0
+change_number c = 0
+
 abbrev pub commits_in : List Ask → ℕ
 commits_in [] = 0
-commits_in (a ∷ us) = elim a.call [ Commit temp file size ↦ suc (commits_in us) | _ ↦ commits_in us ]
+commits_in (a ∷ us) = change_number a.call + commits_in us
 
 pub record IsSession (book : Book) (seats : List Seat) (s : server.State) (n : ℕ) (x : Session) (q : Queue) : Type 0 where
   pub seat : Seat
@@ -80,12 +92,17 @@ pub record IsSession (book : Book) (seats : List Seat) (s : server.State) (n : �
   pub temps : (i m : ℕ) (e : ℕ × Temp) → m < 4294967296 → slice_get s.temps i ≡ Some e → e.0 ≡ key_of n m → AreParts (hashed_of book.moments) (contents m) e.1.pieces × (key_of e.1.session e.1.fd ≡ e.0)
   pub temps_below : x.cut ≡ false → AllAsks (λ a. TempUnder seat.client.next_temp a.call) q.ups × ((i m : ℕ) (e : ℕ × Temp) → m < 4294967296 → slice_get s.temps i ≡ Some e → e.0 ≡ key_of n m → m < seat.client.next_temp)
   pub closes : x.cut ≡ false → (j : Job) → job seat ≡ Some j → CloseOf book x.closing contents seat.client.next_temp j (client.local_bytes seat.client.opened j.file) j.stage
-  pub pending : (i : ℕ) (c : Change) → slice_get (own n s.waiting) i ≡ Some c → IsPending book x.closing x.cut (job seat) c.xid c.file (content_wanted c.what)
+  pub pending : (i : ℕ) (c : Change) → slice_get (own n s.waiting) i ≡ Some c → WaitsFor book x.closing x.cut (job seat) c.xid c.file c.what
   pub single : commits_in q.ups + length (own n s.waiting) ≤ 1
   pub old : (k : ℕ) → x.closing ≡ Some k → (o : Op) × (slice_get book.ops k ≡ Some o) × (o.client ≡ x.owner)
   pub orderly : x.cut ≡ false → Orderly book n s.temps x.hung q seat
 
 -- ---- a client
+
+-- whether the server may give the operation of a stage its file
+abbrev pub is_naming : Stage → Bool
+is_naming (stage.Walking x w) = changes (goal_word w.goal)
+is_naming s = false
 
 -- a job is that of a running operation of the client
 pub record IsOf (book : Book) (i : ℕ) (j : Job) : Type 0 where
@@ -93,7 +110,7 @@ pub record IsOf (book : Book) (i : ℕ) (j : Job) : Type 0 where
   pub there : slice_get book.ops j.place ≡ Some op
   pub client : op.client ≡ i
   pub word : op.word ≡ stage_word j.stage
-  pub file : op.file ≡ j.file
+  pub file : is_naming j.stage ≡ false → op.file ≡ j.file
   pub running : op.outcome ≡ told.Running
 
 -- each content that is kept is what its file had in its version
@@ -114,7 +131,7 @@ pub record IsSeat (book : Book) (sessions : List Session) (i : ℕ) (seat : Seat
   pub xids : (j : Job) → job seat ≡ Some j → HasXids seat.client.next j.stage
   pub next : (seat.client.next ≤ 4294967296) × (seat.client.next_temp ≤ seat.client.next)
   -- what is open is a file of the tree, and within the limit
-  pub opened : (f : ℕ) (l : Local) → client.local_at seat.client.opened f ≡ Some l → IsSome (content_of book.opening f) × (length l.bytes ≤ 67108864)
+  pub opened : (f : ℕ) (l : Local) → client.local_at seat.client.opened f ≡ Some l → WasThere book f × (length l.bytes ≤ 67108864)
   pub kept : Cached book seat.client.cache
 
 -- ---- the server
@@ -128,20 +145,35 @@ pub record IsValue (book : Book) (f : ℕ) (content : List ℕ) : Type 0 where
 
 -- what the tree has of a file is what the history says
 abbrev pub FileIs : Book → (file : ℕ) → Option File → Type 0
-FileIs book f None = (content_of book.opening f ≡ None) × (value_at book f (book.steps + 1) ≡ None)
-FileIs book f (Some g) = (g.id ≡ f) × (1 < f) × (f < 18446744073709551616) × IsSome (content_of book.opening f) × IsValue book f g.content × (version_at book f (book.steps + 1) ≡ g.version) × (length g.content ≤ 67108864)
+FileIs book f None = value_at book f (book.steps + 1) ≡ None
+FileIs book f (Some g) = (g.id ≡ f) × (1 < f) × (f < 18446744073709551616) × IsValue book f g.content × (version_at book f (book.steps + 1) ≡ g.version) × (length g.content ≤ 67108864)
+
+-- what the tree has is there
+pub is_there : (book : Book) (f : ℕ) (g : File) → FileIs book f (Some g) → WasThere book f
+is_there book f g h = record { positive = h.1; small = h.2; moment = book.steps + 1; past = omega arith; value = h.3.value; value_is = h.3.is }
+
+-- a commit is of any file
+abbrev pub IsWanted : (file : ℕ) → Wanted → Type 0
+IsWanted file (wanted.Content content) = Unit {0}
+IsWanted file (wanted.Asked a) = (file ≡ file_of a) × AreTwo a × IsWalkSmall (walk_for a)
 
 pub record IsServer (book : Book) (s : server.State) : Type 0 where
   pub held : (f : ℕ) → FileIs book f (server.file_at s.tree f)
+  -- what no file has had as its number has no version
+  pub fresh : (f : ℕ) → IsUnused s.tree f → version_at book f (book.steps + 1) ≡ 0
   -- its tree is within the limits
   pub bounded : IsBounded s.tree
-  -- each change that waits is a commit, and has its room
-  pub commits : (i : ℕ) (c : Change) → slice_get s.waiting i ≡ Some c → c.what ≡ wanted.Content (content_wanted c.what)
+  -- no node has the id 0
+  pub zero : with_id s.tree.nodes 0 ≡ None
+  -- the root is there, and names are short
+  pub rooted : IsRooted s.tree.nodes
+  -- each change that waits is of the file that it says, and has its room
+  pub wants : (i : ℕ) (c : Change) → slice_get s.waiting i ≡ Some c → IsWanted c.file c.what
   pub changes : s.tree.changes + server.entries_held s.waiting ≤ 4294967295
   pub bytes : server.bytes_held s ≤ 1073741824
   pub lengths : (i : ℕ) (c : Change) → slice_get s.waiting i ≡ Some c → length (content_wanted c.what) ≤ 67108864
   -- each change that waits is of a file of the tree
-  pub targets : (i : ℕ) (c : Change) → slice_get s.waiting i ≡ Some c → IsSome (content_of book.opening c.file)
+  pub targets : (i : ℕ) (c : Change) → slice_get s.waiting i ≡ Some c → WasThere book c.file
   pub xids : (i : ℕ) (c : Change) → slice_get s.waiting i ≡ Some c → c.xid < 4294967296
 
 -- ---- all of it

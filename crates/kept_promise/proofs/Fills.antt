@@ -1,10 +1,9 @@
 -- A temporary file fills with the chunks of its close: what the server finds of a call that is in order, and what is held once it is taken.
-use Rattle.std.proofs.Common.{◌⊎◌, inl, inr, ◌≡◌, ℕ, zero, suc, ◌+◌, ◌<◌, ◌≤◌, List, [], ◌∷◌, ◌++◌, length, Option, Some, None, Bool, true, false, refl, sym, ap, ◌∙◌, subst, arith, eq-eqb, ne_eqb, IsSome, Ok}
+use Rattle.std.proofs.Common.{◌⊎◌, inl, inr, ◌≡◌, ℕ, zero, suc, ◌+◌, ◌<◌, ◌≤◌, List, [], ◌∷◌, ◌++◌, length, Some, None, Bool, true, false, refl, sym, ap, ◌∙◌, subst, arith, eq-eqb, ne_eqb}
 use Rattle.xdr_codec.specs.declared.status.Status.TheVariants as status
-use Rattle.server_core.specs.State as server
 use Rattle.server_core.specs.Closing.{cond_most}
 use Rattle.client_state.specs.declared.task.Way.TheVariants as way
-use Rattle.kept_promise.proofs.Common.{nat_tests, slice_get, ◌==◌, ◌||◌, nat_lt, nat_le, is_some, if◌then◌else◌, insert_entry, nat_cmp, handle_bytes, chunks_of, chunk_bytes, Chunk, file, node_of, cond_fault, room_fault, Temp, temp_at, temps_of, range_fault, File, Store, StoreCall, content_of, Book, Call.Name, Call.Send, Ask, Told}
+use Rattle.kept_promise.proofs.Common.{nat_tests, slice_get, ◌==◌, ◌||◌, nat_lt, nat_le, is_some, if◌then◌else◌, insert_entry, nat_cmp, chunks_of, chunk_bytes, Chunk, cond_fault, room_fault, Temp, temp_at, temps_of, range_fault, Store, StoreCall, Call.Name, Call.Send, Ask, Told}
 use Rattle.kept_promise.proofs.Statements.{PiecesOf, SameShape, AreInRow}
 use Rattle.kept_promise.proofs.Lists.{some_is, nothing_there, same_or_not, of_appended, at_end}
 use Rattle.kept_promise.proofs.Chunks.{chunks_in_row, chunks_are_named, piece_goes_in}
@@ -12,19 +11,6 @@ use Rattle.kept_promise.proofs.Shelf.{IsShelf, NoTemp, none_counted}
 use Rattle.kept_promise.proofs.Shelves.{fault_alike, put_alike}
 use Rattle.kept_promise.proofs.Orderly.{UpSend, known_reply, DownKnown, Holds}
 use Rattle.kept_promise.proofs.Ordered.{known_more}
-use Rattle.kept_promise.proofs.Facts.{FileIs, IsServer}
-use Rattle.kept_promise.proofs.Tells.{Found, is_directory, is_gone, is_file, looked, not_some}
-
--- ---- the file is in the tree
-
-pub file_there : (book : Book) (s : server.State) (f : ℕ) → IsServer book s → IsSome (content_of book.opening f) → f < 18446744073709551616 → (z : File) × (server.file_at s.tree f ≡ Some z) × (node_of s.tree (handle_bytes f) ≡ Ok (file z))
-file_there book s f h known lt = by (server.file_at s.tree f) refl (h.held f) (looked s.tree f lt)
-  where
-    by : (o : Option File) → server.file_at s.tree f ≡ o → FileIs book f o → Found s.tree f → (z : File) × (server.file_at s.tree f ≡ Some z) × (node_of s.tree (handle_bytes f) ≡ Ok (file z))
-    by None e is found = absurd (not_some (subst IsSome is.0 known))
-    by (Some z) e is (is_directory d there none n) = nothing_there z (sym none ∙ e)
-    by (Some z) e is (is_gone none n) = nothing_there z (sym none ∙ e)
-    by (Some z) e is (is_file g there n) = (g, there, n)
 
 -- ---- a first temporary file
 

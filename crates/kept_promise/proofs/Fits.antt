@@ -2,7 +2,7 @@
 use Rattle.std.proofs.Common.{◌≡◌, Ok}
 use Rattle.wire.specs.Message.{IsSpelled}
 use Rattle.kept_promise.proofs.Common.{message_spell, parse_of, IsExpected, Message, Waiting}
-use Rattle.kept_promise.proofs.Statements.{CallsFit, HashAnswersFit, LeaseAnswersFit, ReadAnswersFit, PlainAnswersFit}
+use Rattle.kept_promise.proofs.Statements.{CallsFit, HashAnswersFit, LeaseAnswersFit, ReadAnswersFit, PlainAnswersFit, NameAnswersFit, MakingAnswersFit, GoingAnswersFit, SettledAnswersFit}
 
 pub record FitLaws : Type 0 where
   pub calls : CallsFit
@@ -10,4 +10,8 @@ pub record FitLaws : Type 0 where
   pub leases : LeaseAnswersFit
   pub reads : ReadAnswersFit
   pub plain : PlainAnswersFit
+  pub names : NameAnswersFit
+  pub makings : MakingAnswersFit
+  pub goings : GoingAnswersFit
+  pub settled : SettledAnswersFit
   pub again : (w : Waiting) (m : Message) → IsSpelled m → IsExpected w m → parse_of w (message_spell m) ≡ Ok m

@@ -1,35 +1,38 @@
 -- The commands of a run and their operations are carried through its events.
 use Rattle.std.proofs.Common.{◌⊎◌, inl, inr, ◌≡◌, ℕ, zero, suc, ◌+◌, ◌*◌, ◌<◌, ◌≤◌, List, [], ◌∷◌, ◌++◌, length, Option, Some, None, Bool, true, false, refl, sym, ap, ◌∙◌, subst, arith, append-nil, eq-eqb, ne_eqb, replicate, Result}
+use Rattle.command_text.specs.declared.command.Command.TheVariants as command
 use Rattle.server_core.specs.State as server
-use Rattle.server_core.specs.Closing as closing
-use Rattle.server_core.specs.declared.event.Told.TheVariants as announced
 use Rattle.client_state.specs.State as client
+use Rattle.client_state.specs.declared.task.Stage.TheVariants as stage
+use Rattle.path_calls.specs.declared.walk.Walk.{Walk}
 use Rattle.client_state.specs.declared.step.Outcome.TheVariants as outcome
 use Rattle.register_model.specs.declared.op.Word.TheVariants as words
-use Rattle.trace_replay.specs.Core.{hears_by, entries_since}
+use Rattle.trace_replay.specs.Core.{hears_by}
 use Rattle.client_state.specs.Limits.{calls_most}
-use Rattle.kept_promise.proofs.Common.{nat_tests, Indexed, slice_get, slice_set, ◌==◌, nat_lt, Command, parse_of, Message, WireFault, connect, has_room, Change, ServerStep, File, command_step, got_step, joined, cut, ended_by, ClientStep, Ended, Task, Op, Opening, word_of, file_of, value_at_begin, Core, Seat, new_seat, Session, Event, Event.Joins, Event.Does, Event.Serves, Event.Hears, Event.Settles, Event.Cuts, Event.Hangs, CoreStep, numbered, with_numbered, acted, is_newest, hears_if, hears_at, hears, does, joins_as, joins, settled_ops, settled_by, cuts_if, cuts, hangs_if, hangs, happens, pointed, pointed_at, place_with, Moment, Deed, deed_by, deeds_of, joined_by, joined_from, owner_in, client_of, calls_among, sent_if, calls_by, calls_from, Book, Queue, Tree}
-use Rattle.kept_promise.proofs.Lists.{some_is, nothing_there, same_or_not, of_appended}
+use Rattle.kept_promise.proofs.Common.{nat_tests, Indexed, slice_get, slice_set, ◌==◌, nat_lt, Command, parse_of, Message, WireFault, connect, has_room, ServerStep, command_step, got_step, joined, cut, ended_by, ClientStep, Ended, Task, Op, Opening, word_of, file_of, value_at_begin, Core, Seat, new_seat, Session, Event, Event.Joins, Event.Does, Event.Serves, Event.Hears, Event.Settles, Event.Cuts, Event.Hangs, CoreStep, numbered, with_numbered, acted, is_newest, hears_if, hears_at, hears, does, joins_as, joins, cuts_if, cuts, hangs_if, hangs, happens, place_with, Moment, Deed, deed_by, deeds_of, joined_by, joined_from, owner_in, client_of, calls_among, sent_if, calls_by, calls_from, Book, Queue, Tree, after_one, is_untold}
+use Rattle.kept_promise.proofs.Lists.{some_is, nothing_there, same_or_not, of_appended, within, true_and_false}
 use Rattle.kept_promise.proofs.Keys.{own}
-use Rattle.kept_promise.proofs.Rights.{IsUnmade}
 use Rattle.kept_promise.proofs.Turns.{around_with, also_numbered}
-use Rattle.kept_promise.proofs.Facts.{IsKept}
+use Rattle.kept_promise.proofs.Facts.{IsMatched, IsKept, is_naming}
 use Rattle.kept_promise.proofs.Adjusts.{SameSeats, adjusted_core}
 use Rattle.kept_promise.proofs.RunsCarried.{book_at, first_core, moment, Step, Carried, Finds}
 use Rattle.kept_promise.proofs.Leaving.{Leaves, step_left, step_idle}
 use Rattle.kept_promise.proofs.Numbering.{got_number, command_number, calls_more, no_calls, other_calls, own_calls}
-use Rattle.kept_promise.proofs.Locally.{deeds_more, joined_more}
-use Rattle.kept_promise.proofs.Deeds.{also_there, local_of, HasDeeds, Moved, AllMoved, all_same, deeds_moved}
-use Rattle.kept_promise.proofs.Acting.{all_set, set_alike, HasWord, caused_word, locals_with, Acts, acted_follows}
+use Rattle.kept_promise.proofs.Locally.{deeds_more, joined_more, idles_by, leaves_untold}
+use Rattle.kept_promise.proofs.Deeds.{also_there, local_of, HasDeeds, Moved, AllMoved, all_same, stays_by, all_stay, deeds_moved, IsOnNames, stays_named, StaysBy, IsDeed}
+use Rattle.kept_promise.proofs.Ways.{HasWays, InDeeds, stage_case, job_parts, command_goes, ways_added, ways_acted}
+use Rattle.kept_promise.proofs.WalkLeaves.{EndsNeither, walk_left, got_file}
+use Rattle.kept_promise.proofs.StepCases.{IsOfFile}
+use Rattle.kept_promise.proofs.Messages.{job, job_of}
+use Rattle.kept_promise.proofs.Acting.{all_set, stay_set, HasWord, caused_word, locals_with, Acts, acted_follows, set_same}
 use Rattle.kept_promise.proofs.Doing.{with_end, asks_by, new_op, fixed, does_follows}
-use Rattle.kept_promise.proofs.Messages.{content_wanted}
-use Rattle.kept_promise.proofs.Making.{made_change, target_there, made_is, entry_of}
-use Rattle.kept_promise.proofs.Found.{no_walk, got_finds, cut_finds, command_finds}
+use Rattle.kept_promise.proofs.Found.{got_finds, cut_finds, command_finds}
 use Rattle.kept_promise.proofs.PathNames.{IsSmall}
-use Rattle.kept_promise.proofs.ServesFiles.{one_since}
-use Rattle.kept_promise.proofs.ServesQuietly.{serves_quiet}
+use Rattle.kept_promise.proofs.ServesQuietly.{serves_quiet, IsQuiet}
 use Rattle.kept_promise.proofs.Fits.{FitLaws}
-use Rattle.trace_replay.specs.Ops.{changed_file}
+use Rattle.kept_promise.proofs.MakingGoals.{file_unnamed}
+use Rattle.kept_promise.proofs.VersionRuns.{IsChange, Remembers, Settled, settled_are, change_of}
+use Rattle.kept_promise.proofs.Rights.{gets_file}
 
 -- ---- what is carried
 
@@ -39,6 +42,7 @@ pub record IsFollowed (past : List Moment) (k : Core) : Type 0 where
   pub next : (c : ℕ) (seat : Seat) → numbered k.seats c ≡ Some seat → seat.client.next ≤ calls_most * k.steps + 1
   pub calls : (c : ℕ) (seat : Seat) → numbered k.seats c ≡ Some seat → seat.client.next ≡ calls_from c 0 past + 1
   pub few : (i : ℕ) (d : Deed) → slice_get (deeds_of past) i ≡ Some d → d.calls ≤ calls_most * d.begin
+  pub ways : HasWays (deeds_of past) k.seats
 
 -- what an event leaves of the operations: each goes on, or there is one more
 abbrev pub OpsAfter : Core → List Op → Type 0
@@ -75,28 +79,30 @@ followed_first tree count = record {
   next = λ c seat at. let n = ap (λ (x : Seat). x.client.next) (seat_first count c seat at) in omega (arith, n);
   calls = λ c seat at. ap (λ (x : Seat). x.client.next) (seat_first count c seat at);
   few = λ i d at. nothing_there d at;
+  ways = λ c seat j d at is there. nothing_there d there;
 }
 
 -- ---- an event that is no command
 
-no_deed : (past : List Moment) (k : Core) (e : Event) → deed_by past (k.steps + 1) e ≡ [] → deeds_of (past ++ moment k e ∷ []) ≡ deeds_of past
+pub no_deed : (past : List Moment) (k : Core) (e : Event) → deed_by past (k.steps + 1) e ≡ [] → deeds_of (past ++ moment k e ∷ []) ≡ deeds_of past
 no_deed past k e none = deeds_more past (moment k e) ∙ ap (λ l. deeds_of past ++ l) none ∙ append-nil (deeds_of past)
 
-begins : (opening : List Opening) (k : Core) (all : List Moment) (qs : List Queue) → IsKept (book_at opening k all) k qs → (i : ℕ) (o : Op) → slice_get k.ops i ≡ Some o → o.begin < k.steps + 1
+pub begins : (opening : List Opening) (k : Core) (all : List Moment) (qs : List Queue) → IsKept (book_at opening k all) k qs → (i : ℕ) (o : Op) → slice_get k.ops i ≡ Some o → o.begin < k.steps + 1
 begins opening k all qs kept i o at = let le = (kept.sound.rights i o at).begun in omega (arith, le)
 
-goes_by : (past : List Moment) (k : Core) (e : Event) (after : Core) → IsFollowed past k → deed_by past (k.steps + 1) e ≡ [] → AllMoved (k.steps + 1) k.ops after.ops → HasDeeds (deeds_of past) after.ops after.seats → k.steps ≤ after.steps
+goes_by : (past : List Moment) (k : Core) (e : Event) (after : Core) → IsFollowed past k → deed_by past (k.steps + 1) e ≡ [] → AllMoved (k.steps + 1) k.ops after.ops → HasDeeds (deeds_of past) after.ops after.seats → HasWays (deeds_of past) after.seats → k.steps ≤ after.steps
     → ((c : ℕ) (seat : Seat) → numbered after.seats c ≡ Some seat → seat.client.linked ≡ joined_by c (joined_from c false past) e)
     → ((c : ℕ) (seat : Seat) → numbered after.seats c ≡ Some seat → seat.client.next ≤ calls_most * after.steps + 1)
     → ((c : ℕ) (seat : Seat) → numbered after.seats c ≡ Some seat → seat.client.next ≡ calls_by c (calls_from c 0 past) (moment k e) + 1)
     → Goes past k e after
-goes_by past k e after h none moved deeds passes links nexts calls = record {
+goes_by past k e after h none moved deeds ways passes links nexts calls = record {
   followed = record {
     deeds = subst (λ (ds : List Deed). HasDeeds ds after.ops after.seats) (sym (no_deed past k e none)) deeds;
     joined = λ c seat at. links c seat at ∙ sym (joined_more c false past (moment k e));
     next = nexts;
     calls = λ c seat at. calls c seat at ∙ ap (λ n. n + 1) (sym (calls_more c 0 past (moment k e)));
     few = subst (λ (ds : List Deed). (i : ℕ) (d : Deed) → slice_get ds i ≡ Some d → d.calls ≤ calls_most * d.begin) (sym (no_deed past k e none)) h.few;
+    ways = subst (λ (ds : List Deed). HasWays ds after.seats) (sym (no_deed past k e none)) ways;
   };
   ops = inl moved;
   moved = λ z. moved;
@@ -107,7 +113,7 @@ goes_by past k e after h none moved deeds passes links nexts calls = record {
 goes_same : (past : List Moment) (k : Core) (e : Event) (after : Core) → IsFollowed past k → deed_by past (k.steps + 1) e ≡ [] → ((c : ℕ) (b : Bool) → joined_by c b e ≡ b) → ((c n : ℕ) → calls_by c n (moment k e) ≡ n) → after.ops ≡ k.ops → after.seats ≡ k.seats → k.steps ≤ after.steps → Goes past k e after
 unfolding calls_most
 goes_same past k e after h none still silent ops seats passes =
-    goes_by past k e after h none (subst (AllMoved (k.steps + 1) k.ops) (sym ops) (all_same (k.steps + 1) k.ops)) (subst (λ (l : List Seat). HasDeeds (deeds_of past) after.ops l) (sym seats) (subst (λ (l : List Op). HasDeeds (deeds_of past) l k.seats) (sym ops) h.deeds)) passes
+    goes_by past k e after h none (subst (AllMoved (k.steps + 1) k.ops) (sym ops) (all_same (k.steps + 1) k.ops)) (subst (λ (l : List Seat). HasDeeds (deeds_of past) after.ops l) (sym seats) (subst (λ (l : List Op). HasDeeds (deeds_of past) l k.seats) (sym ops) h.deeds)) (subst (HasWays (deeds_of past)) (sym seats) h.ways) passes
     (λ c seat at. h.joined c seat (ap (λ l. numbered l c) (sym seats) ∙ at) ∙ sym (still c (joined_from c false past)))
     (λ c seat at. let n = h.next c seat (ap (λ l. numbered l c) (sym seats) ∙ at) in omega (arith, n, passes))
     (λ c seat at. h.calls c seat (ap (λ l. numbered l c) (sym seats) ∙ at) ∙ ap (λ n. n + 1) (sym (silent c (calls_from c 0 past))))
@@ -120,11 +126,6 @@ hangs_same k n (Some x) = by x.hung
     by true = (refl, refl, omega arith, refl)
     by false = (refl, refl, omega arith, refl)
 
-goes_serves : FitLaws → (past : List Moment) (opening : List Opening) (all : List Moment) (k : Core) (qs : List Queue) (n now : ℕ) (bytes : List ℕ) (mid : List Queue) → IsKept (book_at opening k all) k qs → Finds k qs (Serves n now bytes) mid → IsFollowed past k → Goes past k (Serves n now bytes) (happens k (Serves n now bytes)).core
-goes_serves laws past opening all k qs n now bytes mid kept finds h =
-    let s = serves_quiet laws (book_at opening k all) k qs n now bytes mid kept finds in
-    goes_same past k (Serves n now bytes) (happens k (Serves n now bytes)).core h refl (λ c b. refl) (λ c m. no_calls c 0 m (happens k (Serves n now bytes)).up s.up) s.ops s.seats s.passes
-
 goes_hangs : (past : List Moment) (k : Core) (n : ℕ) → IsFollowed past k → Goes past k (Hangs n) (happens k (Hangs n)).core
 goes_hangs past k n h = let s = hangs_same k n (numbered k.sessions n) in goes_same past k (Hangs n) (happens k (Hangs n)).core h refl (λ c b. refl) (λ c m. no_calls c 0 m (happens k (Hangs n)).up s.3) s.0 s.1 s.2
 
@@ -136,7 +137,11 @@ goes_joins past opening all k qs c seat kept h at made few =
     subst (λ (o : Option Seat). Goes past k (Joins c) (joins k c o).core) (sym at)
     (subst (λ (r : server.State × ServerStep). Goes past k (Joins c) (joins_as k c seat r.0 r.1.told).core) (sym step)
     (goes_by past k (Joins c) after h refl (all_same (k.steps + 1) k.ops)
-    (deeds_moved (k.steps + 1) (deeds_of past) k.ops k.ops k.seats after.seats h.deeds (begins opening k all qs kept) (all_same (k.steps + 1) k.ops) (locals_with (deeds_of past) k.ops k.seats c seat now at (h.deeds.locals c seat at) (λ z e apart is. h.deeds.locals z e is)))
+    (deeds_moved (k.steps + 1) (deeds_of past) k.ops k.ops k.seats after.seats h.deeds (begins opening k all qs kept) (all_same (k.steps + 1) k.ops) (all_stay (deeds_of past) k.ops) (locals_with (deeds_of past) k.ops k.seats c seat now at (h.deeds.locals c seat at) (λ z e apart is. h.deeds.locals z e is)))
+    (λ z e j d is has has_deed. elim (same_or_not z c) [
+      | inl own ↦ h.ways c seat j d at (ap job (sym (there z e own is)) ∙ has) has_deed
+      | inr apart ↦ h.ways z e j d (sym (around.others z apart) ∙ is) has has_deed
+    ])
     (omega arith)
     (λ z e is. elim (same_or_not z c) [
       | inl own ↦ ap (λ (x : Seat). x.client.linked) (there z e own is) ∙ sym (ap (λ b. elim b as (λ (y : Bool). Bool) [ true ↦ true | false ↦ joined_from z false past ]) (eq-eqb c z (sym own)))
@@ -172,76 +177,71 @@ goes_joins past opening all k qs c seat kept h at made few =
 
 -- ---- a change is made
 
--- whatever is settled is the close that its session remembers, which has no point yet
-settled_moves : (opening : List Opening) (all : List Moment) (k : Core) (qs : List Queue) (now : ℕ) → IsKept (book_at opening k all) k qs → (o : List Change) → k.server.waiting ≡ o → (let r = closing.settles k.server now o in (settled_by k (changed_file (entries_since k.server r.0)) r.1.told ≡ k.ops) ⊎ ((p : ℕ) × (q : Op) × (slice_get k.ops p ≡ Some q) × IsUnmade q × (settled_by k (changed_file (entries_since k.server r.0)) r.1.told ≡ slice_set k.ops p (record q { point = Some (k.steps + 1) }))))
-settled_moves opening all k qs now kept [] e = inl refl
-settled_moves opening all k qs now kept (c ∷ cs) e =
-    let f = target_there (book_at opening k all) k.server c cs kept.server e in
-    subst (λ (r : server.State × ServerStep). (settled_by k (changed_file (entries_since k.server r.0)) r.1.told ≡ k.ops) ⊎ ((p : ℕ) × (q : Op) × (slice_get k.ops p ≡ Some q) × IsUnmade q × (settled_by k (changed_file (entries_since k.server r.0)) r.1.told ≡ slice_set k.ops p (record q { point = Some (k.steps + 1) })))) (sym (made_is (book_at opening k all) k.server now c cs f.0 kept.server e f.1)) (by f.0)
-  where
-    home : (x : Session) × (numbered k.sessions c.session ≡ Some x) × (x.hung ≡ false)
-    home = kept.home 0 c (ap (λ (l : List Change). slice_get l 0) e)
-
-    own_first : own c.session (c ∷ cs) ≡ c ∷ own c.session cs
-    own_first = ap (λ b. Rattle.std.specs.Prelude.cond b (c ∷ own c.session cs) (own c.session cs)) (eq-eqb c.session c.session refl)
-
-    by : (f : File) → (let r = made_change (closing.at (record k.server { waiting = cs }) now) c (content_wanted c.what) f in (settled_by k (changed_file (entries_since k.server r.0)) r.1.told ≡ k.ops) ⊎ ((p : ℕ) × (q : Op) × (slice_get k.ops p ≡ Some q) × IsUnmade q × (settled_by k (changed_file (entries_since k.server r.0)) r.1.told ≡ slice_set k.ops p (record q { point = Some (k.steps + 1) }))))
-    by f =
-        let x = home.0 in
-        let q = also_numbered k.sessions qs c.session x kept.made.1 home.1 in
-        let s = kept.sessions c.session x q.0 home.1 q.1 in
-        let p = s.pending 0 c (ap (λ (l : List Change). slice_get (own c.session l) 0) e ∙ ap (λ (l : List Change). slice_get l 0) own_first) in
-        inr (
-          p.place,
-          p.op,
-          p.there,
-          p.unmade,
-          ap (λ (z : Option ℕ). settled_by k z (announced.Settled c.session c.xid)) (one_since k.server (made_change (closing.at (record k.server { waiting = cs }) now) c (content_wanted c.what) f).0 (entry_of c (content_wanted c.what) f) refl)
-              ∙ ap (settled_ops k.ops (k.steps + 1) (Some c.file)) home.1
-              ∙ ap (λ (z : Option ℕ). pointed_at k.ops z (k.steps + 1) (Some c.file)) p.known
-              ∙ ap (pointed k.ops p.place c.file (k.steps + 1)) p.there
-              ∙ ap (λ (g : ℕ). slice_set k.ops p.place (record p.op { file = g; point = Some (k.steps + 1) })) (sym p.file_is),
-        )
-
--- one operation of the same outcome and value takes the place of another
-goes_set : (past : List Moment) (opening : List Opening) (all : List Moment) (k : Core) (qs : List Queue) (e : Event) (after : Core) (p : ℕ) (q r : Op) → IsKept (book_at opening k all) k qs → IsFollowed past k → deed_by past (k.steps + 1) e ≡ [] → ((c : ℕ) (b : Bool) → joined_by c b e ≡ b) → ((c n : ℕ) → calls_by c n (moment k e) ≡ n) → slice_get k.ops p ≡ Some q → Moved (k.steps + 1) q r → r.outcome ≡ q.outcome → r.value ≡ q.value
+-- one operation takes the place of another that leaves the same
+goes_set : (past : List Moment) (opening : List Opening) (all : List Moment) (k : Core) (qs : List Queue) (e : Event) (after : Core) (p : ℕ) (q r : Op) → IsKept (book_at opening k all) k qs → IsFollowed past k → deed_by past (k.steps + 1) e ≡ [] → ((c : ℕ) (b : Bool) → joined_by c b e ≡ b) → ((c n : ℕ) → calls_by c n (moment k e) ≡ n) → slice_get k.ops p ≡ Some q → Moved (k.steps + 1) q r
+    → ((d : Deed) → IsDeed (deeds_of past) k.ops p d q → StaysBy d.command q r) → ((d : Deed) (c f : ℕ) (l : Option (List ℕ)) → after_one c f d r l ≡ after_one c f d q l)
     → after.ops ≡ slice_set k.ops p r → after.seats ≡ k.seats → k.steps ≤ after.steps → Goes past k e after
 unfolding calls_most
-goes_set past opening all k qs e after p q r kept h none still silent at m u v ops seats passes =
+goes_set past opening all k qs e after p q r kept h none still silent at m stay same ops seats passes =
     let moved = all_set (k.steps + 1) k.ops p q r at m in
     let d = also_there k.ops (deeds_of past) p q (sym h.deeds.count) at in
-    let now = deeds_moved (k.steps + 1) (deeds_of past) k.ops (slice_set k.ops p r) k.seats k.seats h.deeds (begins opening k all qs kept) moved (λ c seat is f. h.deeds.locals c seat is f ∙ sym (set_alike c f (deeds_of past) k.ops p d.0 q r d.1 at m.file u v)) in
-    goes_by past k e after h none (subst (AllMoved (k.steps + 1) k.ops) (sym ops) moved) (subst (λ (l : List Seat). HasDeeds (deeds_of past) after.ops l) (sym seats) (subst (λ (l : List Op). HasDeeds (deeds_of past) l k.seats) (sym ops) now)) passes
+    let now = deeds_moved (k.steps + 1) (deeds_of past) k.ops (slice_set k.ops p r) k.seats k.seats h.deeds (begins opening k all qs kept) moved (stay_set (deeds_of past) k.ops p d.0 q r d.1 at (stay d.0 (h.deeds.each p d.0 q d.1 at))) (λ c seat is f. h.deeds.locals c seat is f ∙ sym (set_same c f None (deeds_of past) k.ops p d.0 q r d.1 at (same d.0 c f))) in
+    goes_by past k e after h none (subst (AllMoved (k.steps + 1) k.ops) (sym ops) moved) (subst (λ (l : List Seat). HasDeeds (deeds_of past) after.ops l) (sym seats) (subst (λ (l : List Op). HasDeeds (deeds_of past) l k.seats) (sym ops) now)) (subst (HasWays (deeds_of past)) (sym seats) h.ways) passes
     (λ c seat is. h.joined c seat (ap (λ l. numbered l c) (sym seats) ∙ is) ∙ sym (still c (joined_from c false past)))
     (λ c seat is. let n = h.next c seat (ap (λ l. numbered l c) (sym seats) ∙ is) in omega (arith, n, passes))
     (λ c seat is. h.calls c seat (ap (λ l. numbered l c) (sym seats) ∙ is) ∙ ap (λ n. n + 1) (sym (silent c (calls_from c 0 past))))
 
-goes_settles : (past : List Moment) (opening : List Opening) (all : List Moment) (k : Core) (qs : List Queue) (now : ℕ) → IsKept (book_at opening k all) k qs → IsFollowed past k → Goes past k (Settles now) (happens k (Settles now)).core
-goes_settles past opening all k qs now kept h = by (settled_moves opening all k qs now kept k.server.waiting refl)
+-- what gets its file from the server is on names
+makes_named : (d : Command) → gets_file (word_of d) ≡ true → IsOnNames d
+makes_named (command.Named k) e = tt
+makes_named (command.Open f) e = absurd cc
+makes_named (command.Write f offset content) e = absurd cc
+makes_named (command.Trunc f size) e = absurd cc
+makes_named (command.Read f offset count) e = absurd cc
+makes_named (command.Close f) e = absurd cc
+makes_named (command.Abandon f) e = absurd cc
+
+-- an operation's change was made, of which its client was told nothing yet
+goes_change : (past : List Moment) (opening : List Opening) (all : List Moment) (k : Core) (qs : List Queue) (e : Event) (after : Core) → IsKept (book_at opening k all) k qs → IsFollowed past k → deed_by past (k.steps + 1) e ≡ [] → ((c : ℕ) (b : Bool) → joined_by c b e ≡ b) → ((c n : ℕ) → calls_by c n (moment k e) ≡ n) → IsChange k after.ops → after.seats ≡ k.seats → k.steps ≤ after.steps → Goes past k e after
+goes_change past opening all k qs e after kept h none still silent c seats passes =
+    let new : Op = record c.op { file = c.file; point = Some (k.steps + 1) } in
+    goes_set past opening all k qs e after c.place c.op new kept h none still silent c.there
+    (record { client = refl; word = refl; begin = refl; value = λ w. refl; ended = λ n is. (is, refl, refl, λ known. absurd (true_and_false (is_untold c.op.outcome) c.unmade.2 known)); ends = λ n. inl n })
+    (λ d deed. stays d deed c.kind)
+    (λ d z f l. idles_by z f d new (λ x. leaves_untold d.command c.op.outcome c.op.value x c.unmade.2) l ∙ sym (idles_by z f d c.op (λ x. leaves_untold d.command c.op.outcome c.op.value x c.unmade.2) l))
+    c.is seats passes
   where
-    after : Core
-    after = (happens k (Settles now)).core
+    stays : (d : Deed) → IsDeed (deeds_of past) k.ops c.place d c.op → ((c.op.word ≡ words.Close) × (c.file ≡ c.op.file) × Remembers k c.place) ⊎ ((gets_file c.op.word ≡ true) × (c.op.file ≡ 0)) → StaysBy d.command c.op (record c.op { file = c.file; point = Some (k.steps + 1) })
+    stays d deed (inl own) = stays_by d.command c.op (record c.op { file = c.file; point = Some (k.steps + 1) }) own.1 (λ x. x)
+    stays d deed (inr make) = stays_named d.command c.op (record c.op { file = c.file; point = Some (k.steps + 1) }) (makes_named d.command (ap gets_file (sym deed.word) ∙ make.0))
 
-    not_open : words.Close ≡ words.Open → ⊥
-    not_open e = absurd cc
+goes_settles : (past : List Moment) (opening : List Opening) (all : List Moment) (k : Core) (qs : List Queue) (now : ℕ) → IsKept (book_at opening k all) k qs → IsFollowed past k → Goes past k (Settles now) (happens k (Settles now)).core
+goes_settles past opening all k qs now kept h = by (settled_are (book_at opening k all) k qs now kept)
+  where
+    by : Settled k (happens k (Settles now)).core.ops → Goes past k (Settles now) (happens k (Settles now)).core
+    by (inl same) = goes_same past k (Settles now) (happens k (Settles now)).core h refl (λ c b. refl) (λ c m. no_calls c 0 m [] refl) same refl (omega arith)
+    by (inr c) = goes_change past opening all k qs (Settles now) (happens k (Settles now)).core kept h refl (λ c b. refl) (λ c m. no_calls c 0 m [] refl) c refl (omega arith)
 
-    by : (after.ops ≡ k.ops) ⊎ ((p : ℕ) × (q : Op) × (slice_get k.ops p ≡ Some q) × IsUnmade q × (after.ops ≡ slice_set k.ops p (record q { point = Some (k.steps + 1) }))) → Goes past k (Settles now) after
-    by (inl same) = goes_same past k (Settles now) after h refl (λ c b. refl) (λ c m. no_calls c 0 m [] refl) same refl (omega arith)
-    by (inr s) =
-        goes_set past opening all k qs (Settles now) after s.0 s.1 (record s.1 { point = Some (k.steps + 1) }) kept h refl (λ c b. refl) (λ c m. no_calls c 0 m [] refl) s.2
-        (record { client = refl; word = refl; file = refl; begin = refl; value = λ w. refl; ended = λ n e. (e, refl, refl, λ w. absurd (not_open (sym s.3.0 ∙ w))); ends = λ n. inl n; asked = λ a. a }) refl refl s.4 refl (omega arith)
+goes_serves : FitLaws → (past : List Moment) (opening : List Opening) (all : List Moment) (k : Core) (qs : List Queue) (n now : ℕ) (bytes : List ℕ) (mid : List Queue) → IsKept (book_at opening k all) k qs → Finds k qs (Serves n now bytes) mid → IsFollowed past k → Goes past k (Serves n now bytes) (happens k (Serves n now bytes)).core
+goes_serves laws past opening all k qs n now bytes mid kept finds h = by (serves_quiet laws (book_at opening k all) k qs n now bytes mid kept finds)
+  where
+    by : IsQuiet k (happens k (Serves n now bytes)) → Goes past k (Serves n now bytes) (happens k (Serves n now bytes)).core
+    by s = elim s.ops [
+      | inl same ↦ goes_same past k (Serves n now bytes) (happens k (Serves n now bytes)).core h refl (λ c b. refl) (λ c m. no_calls c 0 m (happens k (Serves n now bytes)).up s.up) same s.seats s.passes
+      | inr made ↦ goes_change past opening all k qs (Serves n now bytes) (happens k (Serves n now bytes)).core kept h refl (λ c b. refl) (λ c m. no_calls c 0 m (happens k (Serves n now bytes)).up s.up) (change_of made) s.seats s.passes
+    ]
 
 -- ---- a step of a client
 
 ops_words : (opening : List Opening) (after : Core) (all : List Moment) (qs : List Queue) → IsKept (book_at opening after all) after qs → (i : ℕ) (r : Op) → slice_get after.ops i ≡ Some r → HasWord r.word r.outcome
 ops_words opening after all qs kept i r at = caused_word (book_at opening after all) r r.outcome (kept.sound.rights i r at).cause
 
-acts_by : (opening : List Opening) (all : List Moment) (k : Core) (qs : List Queue) (c : ℕ) (seat : Seat) (t : client.State) (acts : ClientStep) → acts.found ≡ None → IsKept (book_at opening k all) k qs → numbered k.seats c ≡ Some seat → (seat.client.task ≡ None → (t.opened ≡ seat.client.opened) × (acts.ended ≡ None))
-    → ((x : Task) → seat.client.task ≡ Some x → Leaves seat.client.opened t.opened x.file acts.ended) → ((i : ℕ) (r : Op) → slice_get (acted k c seat t acts).core.ops i ≡ Some r → HasWord r.word r.outcome) → Acts k c seat t acts
-acts_by opening all k qs c seat t acts found kept here idle busy word =
+acts_by : (opening : List Opening) (all : List Moment) (ds : List Deed) (k : Core) (qs : List Queue) (c : ℕ) (seat : Seat) (t : client.State) (acts : ClientStep) → IsKept (book_at opening k all) k qs → numbered k.seats c ≡ Some seat → (seat.client.task ≡ None → (t.opened ≡ seat.client.opened) × (acts.ended ≡ None))
+    → ((x : Task) (p : ℕ) → seat.client.task ≡ Some x → seat.place ≡ Some p → ((acts.found ≡ None) × ((file : ℕ) → (is_naming x.stage ≡ false → file ≡ x.file) → Leaves seat.client.opened t.opened file acts.ended)) ⊎ (((d : Deed) → slice_get ds p ≡ Some d → IsOnNames d.command) × (t.opened ≡ seat.client.opened) × EndsNeither acts.ended))
+    → ((i : ℕ) (r : Op) → slice_get (acted k c seat t acts).core.ops i ≡ Some r → HasWord r.word r.outcome) → Acts ds k c seat t acts
+acts_by opening all ds k qs c seat t acts kept here idle busy word =
     let s = kept.seats c seat here in
     record {
-      found = found;
       here = here;
       matched = s.matched;
       begins = begins opening k all qs kept;
@@ -250,6 +250,18 @@ acts_by opening all k qs c seat t acts found kept here idle busy word =
       busy = busy;
       words = word;
     }
+
+-- at its place a client has an operation under way
+pub occupied : (seat : Seat) → IsMatched seat → (p : ℕ) → seat.place ≡ Some p → (t : Task) × (seat.client.task ≡ Some t)
+occupied seat (inl none) p e = nothing_there p (sym none.0 ∙ e)
+occupied seat (inr m) p e = let j = job_parts seat.place seat.client.task m.0 m.1 in (record { file = m.0.file; stage = m.0.stage }, j.1)
+
+-- and its command
+pub jobs_inside : (book : Book) (ds : List Deed) (k : Core) (qs : List Queue) → IsKept book k qs → book.ops ≡ k.ops → length k.ops ≡ length ds → InDeeds ds k.seats
+jobs_inside book ds k qs kept ops count c seat j at is =
+    let of = (kept.seats c seat at).task j is in
+    let lt = within k.ops j.place of.op (ap (λ (l : List Op). slice_get l j.place) (sym ops) ∙ of.there) in
+    omega (arith, lt, count)
 
 -- ---- a connection is lost
 
@@ -290,10 +302,10 @@ goes_cuts : (past : List Moment) (opening : List Opening) (all : List Moment) (k
 unfolding calls_most
 goes_cuts past opening all k qs after c seat kept h here true e left =
     let r = cut seat.client in
-    let a = acts_by opening all k qs c seat r.0 r.1 (cut_finds seat.client) kept here (λ f. (refl, ended_idle seat.client.task _ f)) (λ x f. ended_busy seat.client.opened x.file seat.client.task x f) (ops_words opening (cuts_if k c seat true).core all after left) in
+    let a = acts_by opening all (deeds_of past) k qs c seat r.0 r.1 kept here (λ f. (refl, ended_idle seat.client.task _ f)) (λ x p f g. inl (cut_finds seat.client, λ file is. ended_busy seat.client.opened file seat.client.task x f)) (ops_words opening (cuts_if k c seat true).core all after left) in
     let f = acted_follows (deeds_of past) k c seat r.0 r.1 h.deeds a in
     let now : Seat = record seat { client = r.0; place = Rattle.trace_replay.specs.Ops.place_after seat.place r.1.ended } in
-    goes_by past k (Cuts c) (cuts_if k c seat true).core h refl f.moved f.deeds (omega arith) (cuts_off past c k.seats seat now h.joined here refl)
+    goes_by past k (Cuts c) (cuts_if k c seat true).core h refl f.moved f.deeds (ways_acted (deeds_of past) k.seats c seat r.0 r.1 h.ways here (occupied seat (kept.seats c seat here).matched) (λ t u e known at. nothing_there u at)) (omega arith) (cuts_off past c k.seats seat now h.joined here refl)
     (λ z x is. elim (same_or_not z c) [
       | inl own ↦ let n = h.next c seat here in let m = ap (λ (y : Seat). y.client.next) (some_is x now (sym is ∙ ap (numbered (with_numbered k.seats c now)) own ∙ (around_with k.seats c seat now here).there)) in omega (arith, n, m)
       | inr apart ↦ let n = h.next z x (sym ((around_with k.seats c seat now here).others z apart) ∙ is) in omega (arith, n)
@@ -306,7 +318,7 @@ goes_cuts past opening all k qs after c seat kept h here true e left =
     silent : (z : ℕ) → calls_from z 0 past + 1 ≡ calls_by z (calls_from z 0 past) (moment k (Cuts c)) + 1
     silent z = ap (λ n. n + 1) (sym (no_calls z 0 (calls_from z 0 past) (happens k (Cuts c)).up (cuts_silent k c (numbered k.seats c))))
 goes_cuts past opening all k qs after c seat kept h here false e left =
-    goes_by past k (Cuts c) (cuts_if k c seat false).core h refl (all_same (k.steps + 1) k.ops) h.deeds (omega arith) (cut_stays past c k.seats seat h.joined here e) (λ z x is. let n = h.next z x is in omega (arith, n))
+    goes_by past k (Cuts c) (cuts_if k c seat false).core h refl (all_same (k.steps + 1) k.ops) h.deeds h.ways (omega arith) (cut_stays past c k.seats seat h.joined here e) (λ z x is. let n = h.next z x is in omega (arith, n))
     (λ z x is. h.calls z x is ∙ ap (λ n. n + 1) (sym (no_calls z 0 (calls_from z 0 past) (happens k (Cuts c)).up (cuts_silent k c (numbered k.seats c)))))
 
 -- ---- an answer comes
@@ -340,12 +352,11 @@ heard_by : (past : List Moment) (opening : List Opening) (all : List Moment) (k 
 heard_by past opening all k qs after n now c bytes seat kept h here owner is_by left =
     let m = parse_of (client.waiting_of seat.client) bytes in
     let r = got_step seat.client m now in
-    let none = no_walk (book_at opening k all) k qs c seat kept here in
-    let a = acts_by opening all k qs c seat r.0 r.1 (got_finds seat.client m now none) kept here (λ f. let i = step_idle seat.client m now f in (i.1, i.2)) (λ x f. (step_left seat.client m now x f (none x f)).1) (ops_words opening (hears_by k c now seat bytes).core all after left) in
+    let a = acts_by opening all (deeds_of past) k qs c seat r.0 r.1 kept here (λ f. let i = step_idle seat.client m now f in (i.1, i.2)) (λ x p f g. busy m x p f g (stage_case x.stage)) (ops_words opening (hears_by k c now seat bytes).core all after left) in
     let f = acted_follows (deeds_of past) k c seat r.0 r.1 h.deeds a in
     let then : Seat = record seat { client = r.0; place = Rattle.trace_replay.specs.Ops.place_after seat.place r.1.ended } in
     let around = around_with k.seats c seat then here in
-    goes_by past k (Hears n now bytes) (hears_by k c now seat bytes).core h refl f.moved f.deeds (omega arith)
+    goes_by past k (Hears n now bytes) (hears_by k c now seat bytes).core h refl f.moved f.deeds (ways_acted (deeds_of past) k.seats c seat r.0 r.1 h.ways here (occupied seat (kept.seats c seat here).matched) (λ t u e known at. got_file seat.client m now t e known u at)) (omega arith)
     (λ z x is. elim (same_or_not z c) [
       | inl mine ↦ ap (λ (y : Seat). y.client.linked) (some_is x then (sym is ∙ ap (numbered (with_numbered k.seats c then)) mine ∙ around.there)) ∙ still_joined (book_at opening k all) (book_at opening (hears_by k c now seat bytes).core all) k (hears_by k c now seat bytes).core qs after c seat then kept left here around.there refl ∙ h.joined c seat here ∙ ap (λ (y : ℕ). joined_from y false past) (sym mine)
       | inr apart ↦ h.joined z x (sym (around.others z apart) ∙ is)
@@ -370,7 +381,25 @@ heard_by past opening all k qs after n now c bytes seat kept h here owner is_by 
 
     more : (m : Result Message WireFault) (task : Option Task) → seat.client.task ≡ task → (got_step seat.client m now).0.next ≤ seat.client.next + calls_most
     more m None e = let i = (step_idle seat.client m now e).0 in omega (arith, i)
-    more m (Some t) e = (step_left seat.client m now t e (no_walk (book_at opening k all) k qs c seat kept here t e)).0
+    more m (Some t) e = by (stage_case t.stage)
+      where
+        by : IsOfFile t.stage ⊎ ((y : ℕ) × (w : Walk) × (t.stage ≡ stage.Walking y w)) → (got_step seat.client m now).0.next ≤ seat.client.next + calls_most
+        by (inl known) = (step_left seat.client m now t e known).0
+        by (inr walk) = (walk_left seat.client m now t walk.0 walk.1 e walk.2).0
+
+    busy : (m : Result Message WireFault) (x : Task) (p : ℕ) → seat.client.task ≡ Some x → seat.place ≡ Some p → IsOfFile x.stage ⊎ ((y : ℕ) × (w : Walk) × (x.stage ≡ stage.Walking y w))
+        → (let r = got_step seat.client m now in ((r.1.found ≡ None) × ((file : ℕ) → (is_naming x.stage ≡ false → file ≡ x.file) → Leaves seat.client.opened r.0.opened file r.1.ended)) ⊎ (((d : Deed) → slice_get (deeds_of past) p ≡ Some d → IsOnNames d.command) × (r.0.opened ≡ seat.client.opened) × EndsNeither r.1.ended))
+    busy m x p f g (inl known) = inl (got_finds seat.client m now (λ u e. subst (λ (z : Task). IsOfFile z.stage) (some_is x u (sym f ∙ e)) known), λ file is. subst (λ (z : ℕ). Leaves seat.client.opened (got_step seat.client m now).0.opened z (got_step seat.client m now).1.ended) (sym (is (file_unnamed x.stage known))) (step_left seat.client m now x f known).1)
+    busy m x p f g (inr walk) =
+        let left = walk_left seat.client m now x walk.0 walk.1 f walk.2 in
+        inr (
+          (λ d at. elim (h.ways c seat (record { place = p; file = x.file; stage = x.stage }) d here (ap (λ (l : Option ℕ). job_of l seat.client.task) g ∙ ap (job_of (Some p)) f) at) [
+            | inl known ↦ absurd (subst IsOfFile walk.2 known)
+            | inr names ↦ names
+          ]),
+          left.1,
+          left.2,
+        )
 
 -- what nobody hears sends nothing
 unheard : (k : Core) (n now : ℕ) (bytes : List ℕ) → (happens k (Hears n now bytes)).up ≡ [] → (z m : ℕ) → calls_by z m (moment k (Hears n now bytes)) ≡ m
@@ -436,6 +465,7 @@ goes_does past opening all k qs c now d seat small kept h here =
           | inr old ↦ h.few i e old
           | inl last ↦ subst (λ (z : Deed). z.calls ≤ calls_most * z.begin) (sym last.1) (let n = h.next c seat here in let m = h.calls c seat here in omega (arith, n, m))
         ]);
+        ways = subst (λ (ds : List Deed). HasWays ds after.seats) (sym (deeds_more past (moment k (Does c now d)))) (ways_added (deeds_of past) k.seats c (length k.ops) seat deed r h.ways (jobs_inside (book_at opening k all) (deeds_of past) k qs kept refl h.deeds.count) here h.deeds.count (occupied seat (kept.seats c seat here).matched) (command_goes seat.client d now));
       };
       ops = inr (new_op c (word_of d) (file_of d) (value_at_begin seat.client (word_of d) (file_of d) (command_step seat.client d now).1.ended) (k.steps + 1) r, refl, (fixed c (word_of d) (file_of d) (value_at_begin seat.client (word_of d) (file_of d) (command_step seat.client d now).1.ended) (k.steps + 1) r (command_finds seat.client d now small)).3);
       moved = λ z. absurd cc;
@@ -468,6 +498,7 @@ followed_adjusted past k index seats same h = record {
   next = λ c e at. let w = same.was c e at in subst (λ (z : Seat). z.client.next ≤ calls_most * k.steps + 1) (sym w.4) (h.next c w.0 w.3);
   calls = λ c e at. let w = same.was c e at in ap (λ (z : Seat). z.client.next) w.4 ∙ h.calls c w.0 w.3;
   few = h.few;
+  ways = λ c e j d at is there. let w = same.was c e at in h.ways c w.0 j d w.3 (ap job (sym w.4) ∙ is) there;
 }
 
 pub carried_deeds : FitLaws → Carried (λ all past opening k qs. IsFollowed past k)

@@ -1,5 +1,5 @@
 -- A step finds no file by a path, where its command has none and no walk is under way: its operation has the file that it began with.
-use Rattle.std.proofs.Common.{◌≡◌, ℕ, List, Option, Some, None, Ok, Err, Bool, true, false, Result, length, refl, sym, ap, ◌∙◌, subst, inl, inr}
+use Rattle.std.proofs.Common.{◌≡◌, ℕ, List, Option, Some, None, Ok, Err, Bool, true, false, Result, length, refl, sym, ap, ◌∙◌, subst, inl, inr, ◌⊎◌}
 use Rattle.command_text.specs.declared.command.Command.TheVariants as command
 use Rattle.xdr_codec.specs.declared.status.Status.TheVariants as status
 use Rattle.hash_calls.specs.declared.message.Lb.TheVariants as lb
@@ -12,14 +12,29 @@ use Rattle.client_state.specs.declared.step.Outcome.TheVariants as outcome
 use Rattle.client_state.specs.declared.task.Stage.TheVariants as stage
 use Rattle.client_state.specs.declared.task.Way.TheVariants as way
 use Rattle.file_open.specs.Caching.{content_in, found_all}
-use Rattle.file_open.specs.Fetching.{changes}
-use Rattle.kept_promise.proofs.Common.{Op, TakenCall, Session, op_after, op_ended, counted, Book, Core, Seat, Queue, numbered, ends, too_big, done_with, Part, content_length, content_bytes, nat_lt, ◌==◌, if◌then◌else◌, slice_get, Answer, Done, Failed, Hashes, Leased, Piece, Body, Message, Pending, RpcRefusal, WireFault, Content, Chunk, Command, Broken, broken_of, with_hashes, listed, reads_all, is_here, looked_up, read_at, with_bytes, fault_in, other_version, fetch_of, tries_most, State, local_at, local_bytes, calls_of, pending, has_call, idle, may_ask, is_open, ended_by, cut, drops, denied, on_local, local_most, written_size, written, truncated, edits, writes, truncates, reads, abandons, opens, opens_if, asks_file, asks_kept, retries, reads_if, reads_on, lists_on, told_shape, told_version, told_hashes, told_first, uses_kept, told_lease, misfits, told_bytes, told_chunk, told_piece, store_of, store_at, answered, names_all, is_stored, goes_if, goes_on, told_temp, sends_whole, told_named, told_whole, told_way, told_stored, closes, asks_temp, command_step, took, took_if, denied_if, got_message, got_fault, got_step, BadPeer, ClientStep, Ended, Fetch, Local, ReadCall, Stage, Store, StoreCall, Task, Way}
+use Rattle.file_open.specs.Fetching.{changes as gives_up}
+use Rattle.kept_promise.proofs.Common.{Word, changes, Op, TakenCall, op_after, op_ended, counted, Book, Core, Queue, ends, too_big, done_with, Part, content_length, content_bytes, nat_lt, ◌==◌, if◌then◌else◌, slice_get, Answer, Done, Failed, Hashes, Leased, Piece, Body, Message, Pending, RpcRefusal, WireFault, Content, Chunk, Command, Broken, broken_of, with_hashes, listed, reads_all, is_here, looked_up, read_at, with_bytes, fault_in, other_version, fetch_of, tries_most, State, local_at, local_bytes, calls_of, pending, has_call, idle, may_ask, is_open, ended_by, cut, drops, denied, on_local, local_most, written_size, written, truncated, edits, writes, truncates, reads, abandons, opens, opens_if, asks_file, asks_kept, retries, reads_if, reads_on, lists_on, told_shape, told_version, told_hashes, told_first, uses_kept, told_lease, misfits, told_bytes, told_chunk, told_piece, store_of, store_at, answered, names_all, is_stored, goes_if, goes_on, told_temp, sends_whole, told_named, told_whole, told_way, told_stored, closes, asks_temp, command_step, took, took_if, denied_if, got_message, got_fault, got_step, BadPeer, ClientStep, Ended, Fetch, Local, ReadCall, Stage, Store, StoreCall, Task, Way}
 use Rattle.trace_replay.specs.Ops.{file_with}
 use Rattle.kept_promise.proofs.Lists.{some_is, nothing_there}
-use Rattle.kept_promise.proofs.Messages.{Job, job_of, FetchOf}
-use Rattle.kept_promise.proofs.Facts.{HasXids, IsMatched, IsSeat, IsKept}
+use Rattle.kept_promise.proofs.Messages.{Job, job, goal_word, stage_word, FetchOf}
+use Rattle.kept_promise.proofs.Facts.{IsKept}
 use Rattle.kept_promise.proofs.PathNames.{IsSmall}
-use Rattle.kept_promise.proofs.StepCases.{IsOfFile}
+use Rattle.kept_promise.proofs.Actors.{job_task, Heard}
+use Rattle.path_calls.specs.Walk.{begun as walk_begun}
+use Rattle.path_calls.specs.declared.walk.Goal.{Goal}
+use Rattle.path_calls.specs.declared.walk.Goal.TheVariants as goal
+use Rattle.open_close.specs.Walking.{walks, walks_if, outcome_of, is_look, seen_in}
+use Rattle.client_state.specs.Ending.{may_walk}
+use Rattle.kept_promise.proofs.StepCases.{IsOfFile, IsOpenedBy, walk_cases}
+use Rattle.path_calls.specs.declared.answers.Ended.{Ended as WalkEnd}
+use Rattle.path_calls.specs.declared.answers.Ended.TheVariants as walk_end
+use Rattle.kept_promise.proofs.FindsOpen.{finds_open}
+use Rattle.path_calls.specs.declared.walk.Walk.{Walk}
+use Rattle.nfs3_calls.specs.declared.message.Nfs.{Nfs}
+use Rattle.register_model.specs.declared.op.Word.TheVariants as words
+use Rattle.path_calls.specs.Told.{walk_told}
+use Rattle.path_calls.specs.declared.answers.Told.TheVariants as walk_told_as
+use Rattle.kept_promise.proofs.Rights.{gets_file}
 
 abbrev FindsNone : State × ClientStep → Type 0
 FindsNone r = r.1.found ≡ None
@@ -87,11 +102,19 @@ command_finds s (command.Trunc file size) now small = local_none s s.task (local
 command_finds s (command.Read file offset count) now small = local_none s s.task (local_at s.opened file) (reads s offset count) (λ l. refl)
 command_finds s (command.Close file) now small = local_none s s.task (local_at s.opened file) (closes s file) (λ l. closes_none s file l)
 command_finds s (command.Abandon file) now small = local_none s s.task (local_at s.opened file) (abandons s file) (λ l. refl)
-command_finds s (command.Named c) now small = absurd small
+command_finds s (command.Named c) now small = by s.task
+  where
+    asks : (b : Bool) → FindsNone (walks_if s (walk_begun c) b)
+    asks true = refl
+    asks false = refl
+
+    by : (t : Option Task) → FindsNone (walks s c t)
+    by (Some t) = refl
+    by None = asks (may_walk s (walk_begun c))
 
 -- ---- an answer to an open
 
-retries_none : (s : State) (calls : List Pending) (file xid : ℕ) (f : Fetch) (version bytes : ℕ) → FindsNone (changes s calls file xid f version bytes)
+retries_none : (s : State) (calls : List Pending) (file xid : ℕ) (f : Fetch) (version bytes : ℕ) → FindsNone (gives_up s calls file xid f version bytes)
 retries_none s calls file xid f version bytes = by (nat_lt f.tries tries_most)
   where
     by : (b : Bool) → FindsNone (retries s calls file xid b f version bytes)
@@ -245,29 +268,189 @@ cut_finds s = by s.task
 
 -- ---- what is under way
 
-pub of_fetch : (book : Book) (taken : List TakenCall) (j : Job) (st : Stage) → FetchOf book taken j st → IsOfFile st
-of_fetch book taken j (stage.Walking x w) h = absurd h
-of_fetch book taken j st h = tt
-
-pub of_xids : (next : ℕ) (st : Stage) → HasXids next st → IsOfFile st
-of_xids next (stage.Walking x w) h = absurd h
-of_xids next st h = tt
-
--- a client has none under way: an operation that walks has no numbers
-pub seat_walks : (book : Book) (sessions : List Session) (i : ℕ) (seat : Seat) → IsSeat book sessions i seat → NoWalk seat.client.task
-seat_walks book sessions i seat h = by h.matched
+-- a walk that is under way is for what changes no file, or for what gets its file by a change
+pub stage_quiet : (st : Stage) → IsOfFile st ⊎ ((changes (stage_word st) ≡ false) ⊎ (gets_file (stage_word st) ≡ true))
+stage_quiet (stage.Walking x w) = inr (by w.goal)
   where
-    on_file : (n : ℕ) (s : Stage) → HasXids n s → IsOfFile s
-    on_file n (stage.Walking x w) h = h
-    on_file n _ h = tt
+    by : (g : Goal) → (changes (goal_word g) ≡ false) ⊎ (gets_file (goal_word g) ≡ true)
+    by (goal.Find n) = inl refl
+    by (goal.Look n) = inl refl
+    by goal.LookRoot = inl refl
+    by (goal.List p) = inl refl
+    by (goal.Make n) = inr refl
+    by (goal.MakeDir n) = inl refl
+    by (goal.Remove n) = inr refl
+    by (goal.RemoveDir n) = inl refl
+    by (goal.RenameFrom n to) = inr refl
+    by (goal.RenameTo from n to) = inr refl
+stage_quiet st = inl tt
 
-    by : IsMatched seat → NoWalk seat.client.task
-    by (inl none) = λ u e. nothing_there u (sym none.1 ∙ e)
-    by (inr (j, is)) = λ u e. subst (λ (t : Task). IsOfFile t.stage) (some_is (record { file = j.file; stage = j.stage }) u (sym (task_of seat.place seat.client.task j is) ∙ e)) (on_file seat.client.next j.stage (h.xids j is))
+-- and an answer to that finds no file
+took_makes : (s : State) (calls : List Pending) (file : ℕ) (st : Stage) (x : ℕ) (b : Body) → gets_file (stage_word st) ≡ true → FindsNone (took s calls file st x b)
+took_makes s calls file (stage.Walking y w) x b make = walk_cases FindsNone s calls file y w x b (record {
+  fault = λ f bad. refl;
+  asks = λ v k. refl;
+  open_already = λ id k is. absurd (never k.asked k.walk k.answer id k.stage_is k.told_is);
+  fetches = λ id k shut none. absurd (never k.asked k.walk k.answer id k.stage_is k.told_is);
+  leases = λ id c k shut there. absurd (never k.asked k.walk k.answer id k.stage_is k.told_is);
+  ends = λ v e k same. ap (λ (b : Bool). seen_in b e) (unseen v.goal (ap (λ (z : Walk). gets_file (goal_word z.goal)) (sym (walk_is k.asked k.walk k.stage_is ∙ same)) ∙ make)) ∙ none_seen e;
+})
+  where
+    walk_is : (z : ℕ) (v : Walk) → stage.Walking y w ≡ stage.Walking z v → w ≡ v
+    walk_is z v e = cc
+
+    open_not : gets_file words.Open ≡ true → ⊥
+    open_not e = absurd cc
+
+    never : (z : ℕ) (v : Walk) (a : Nfs) (id : ℕ) → stage.Walking y w ≡ stage.Walking z v → walk_told v a ≡ walk_told_as.Finds id → ⊥
+    never z v a id e told = open_not (sym (ap (λ (u : Walk). gets_file (goal_word u.goal)) (walk_is z v e) ∙ ap gets_file (finds_open v a id told)) ∙ make)
+
+    unseen : (g : Goal) → gets_file (goal_word g) ≡ true → is_look g ≡ false
+    unseen (goal.Look n) e = absurd cc
+    unseen g e = refl
+
+    none_seen : (e : WalkEnd) → seen_in false e ≡ None
+    none_seen e = refl
+took_makes s calls file (stage.Making y temp) x b make = absurd (close_not make)
+  where
+    close_not : gets_file words.Close ≡ true → ⊥
+    close_not e = absurd cc
+took_makes s calls file (stage.Storing st) x b make = absurd (close_not make)
+  where
+    close_not : gets_file words.Close ≡ true → ⊥
+    close_not e = absurd cc
+took_makes s calls file (stage.Committing y) x b make = absurd (close_not make)
+  where
+    close_not : gets_file words.Close ≡ true → ⊥
+    close_not e = absurd cc
+took_makes s calls file (stage.Asking y) x b make = absurd (open_not make)
+  where
+    open_not : gets_file words.Open ≡ true → ⊥
+    open_not e = absurd cc
+took_makes s calls file (stage.Hashing tries y) x b make = absurd (open_not make)
+  where
+    open_not : gets_file words.Open ≡ true → ⊥
+    open_not e = absurd cc
+took_makes s calls file (stage.Listing y f) x b make = absurd (open_not make)
+  where
+    open_not : gets_file words.Open ≡ true → ⊥
+    open_not e = absurd cc
+took_makes s calls file (stage.Reading f) x b make = absurd (open_not make)
+  where
+    open_not : gets_file words.Open ≡ true → ⊥
+    open_not e = absurd cc
+
+got_makes : (s : State) (m : Result Message WireFault) (now : ℕ) → ((u : Task) → s.task ≡ Some u → gets_file (stage_word u.stage) ≡ true) → (got_step s m now).1.found ≡ None
+got_makes s (Err e) now make = by s.task
+  where
+    by : (t : Option Task) → FindsNone (got_fault s t e)
+    by (Some t) = refl
+    by None = refl
+got_makes s (Ok m) now make = by s.task make m
+  where
+    by : (t : Option Task) → ((u : Task) → t ≡ Some u → gets_file (stage_word u.stage) ≡ true) → (m : Message) → FindsNone (got_message s t m)
+    by t w (message.Answer xid b) = own t w (has_call (pending t) xid)
       where
-        task_of : (place : Option ℕ) (task : Option Task) (j : Job) → job_of place task ≡ Some j → task ≡ Some (record { file = j.file; stage = j.stage })
-        task_of (Some p) (Some t) j e = ap (λ (z : Job). Some (record { file = z.file; stage = z.stage })) (some_is (record { place = p; file = t.file; stage = t.stage }) j e)
-        task_of _ _ j e = nothing_there j e
+        own : (t : Option Task) → ((u : Task) → t ≡ Some u → gets_file (stage_word u.stage) ≡ true) → (is_own : Bool) → FindsNone (took_if s t xid b is_own)
+        own (Some t) w true = took_makes (idle s) (calls_of s) t.file t.stage xid b (w t refl)
+        own t w is_own = drops_none s t xid (has_call s.forgotten xid)
+    by t w (message.Refuse xid r) = own t (has_call (pending t) xid)
+      where
+        own : (t : Option Task) (is_own : Bool) → FindsNone (denied_if s t xid r is_own)
+        own (Some t) true = denied_none (idle s) (calls_of s) xid r
+        own t is_own = drops_none s t xid (has_call s.forgotten xid)
+    by t w (message.Unfit xid r) = refl
+    by t w (message.Call xid b) = refl
 
-pub no_walk : (book : Book) (k : Core) (qs : List Queue) (i : ℕ) (seat : Seat) → IsKept book k qs → numbered k.seats i ≡ Some seat → NoWalk seat.client.task
-no_walk book k qs i seat kept here = seat_walks book k.sessions i seat (kept.seats i seat here)
+-- a step finds no file, or is of an operation that changes no file
+abbrev pub Quietly : ClientStep → Word → Type 0
+Quietly acts w = (acts.found ≡ None) ⊎ (changes w ≡ false)
+
+-- so is each that hears an answer
+pub heard_quiet : (book : Book) (k : Core) (qs : List Queue) (n now : ℕ) (bytes : List ℕ) (mid : List Queue) → IsKept book k qs → (h : Heard k qs n now bytes mid) → (m : Result Message WireFault) (j : Job) → job h.seat ≡ Some j → Quietly (got_step h.seat.client m now).1 (stage_word j.stage)
+heard_quiet book k qs n now bytes mid kept h m j is =
+    let s = kept.sessions n h.session h.queue h.at h.queue_is in
+    let same : s.seat ≡ h.seat = some_is s.seat h.seat (sym s.owner ∙ h.owner) in
+    let task = job_task h.seat.place h.seat.client.task j is in
+    elim (stage_quiet j.stage) [
+      | inl of ↦ inl (got_finds h.seat.client m now (λ u at. subst (λ (z : Task). IsOfFile z.stage) (some_is (record { file = j.file; stage = j.stage }) u (sym task ∙ at)) of))
+      | inr (inl none) ↦ inr none
+      | inr (inr make) ↦ inl (got_makes h.seat.client m now (λ u at. subst (λ (z : Task). gets_file (stage_word z.stage) ≡ true) (some_is (record { file = j.file; stage = j.stage }) u (sym task ∙ at)) make))
+    ]
+
+-- and none of an operation that has its file
+pub heard_apart : (book : Book) (k : Core) (qs : List Queue) (n now : ℕ) (bytes : List ℕ) (mid : List Queue) → IsKept book k qs → (h : Heard k qs n now bytes mid) → (m : Result Message WireFault) (j : Job) → job h.seat ≡ Some j → ((got_step h.seat.client m now).1.found ≡ None) ⊎ (j.file ≡ 0)
+heard_apart book k qs n now bytes mid kept h m j is =
+    let s = kept.sessions n h.session h.queue h.at h.queue_is in
+    let same : s.seat ≡ h.seat = some_is s.seat h.seat (sym s.owner ∙ h.owner) in
+    let task = job_task h.seat.place h.seat.client.task j is in
+    elim (by j.stage ((s.talk h.uncut).fetch j (ap job same ∙ is))) [
+      | inl of ↦ inl (got_finds h.seat.client m now (λ u at. subst (λ (z : Task). IsOfFile z.stage) (some_is (record { file = j.file; stage = j.stage }) u (sym task ∙ at)) of))
+      | inr none ↦ inr none
+    ]
+  where
+    by : (st : Stage) → FetchOf book h.session.taken j st → IsOfFile st ⊎ (j.file ≡ 0)
+    by (stage.Walking x w) f = inr f.0
+    by st f = inl tt
+
+-- nothing is under way
+pub heard_idle : (s : State) (m : Result Message WireFault) (now : ℕ) → s.task ≡ None → (got_step s m now).1.found ≡ None
+heard_idle s m now none = got_finds s m now (λ u at. nothing_there u (sym none ∙ at))
+
+-- ---- a step that finds one
+
+-- an open begins for it, or ends; and nothing is opened in it
+abbrev pub IsFresh : Stage → Type 0
+IsFresh (stage.Asking x) = Unit {0}
+IsFresh (stage.Hashing tries x) = Unit {0}
+IsFresh st = ⊥
+
+pub record FoundSo (r : State × ClientStep) : Type 0 where
+  pub begins : (u : Task) → r.0.task ≡ Some u → IsFresh u.stage
+  pub unopened : (e : Ended) → r.1.ended ≡ Some e → IsOpenedBy e.outcome → ⊥
+
+abbrev WhereFound : State × ClientStep → Type 0
+WhereFound r = (id : ℕ) → r.1.found ≡ Some id → FoundSo r
+
+found_none : (r : State × ClientStep) → r.1.found ≡ None → WhereFound r
+found_none r none id e = nothing_there id (sym none ∙ e)
+
+end_plain : (e : WalkEnd) → IsOpenedBy (outcome_of e) → ⊥
+end_plain walk_end.Done h = h
+end_plain (walk_end.Names names) h = h
+end_plain (walk_end.Seen id kind version len) h = h
+end_plain (walk_end.Refused status) h = h
+end_plain walk_end.NoLink h = h
+
+took_found : (s : State) (calls : List Pending) (file : ℕ) (st : Stage) (x : ℕ) (b : Body) → WhereFound (took s calls file st x b)
+took_found s calls file (stage.Walking y w) x b = walk_cases WhereFound s calls file y w x b (record {
+  fault = λ f bad id e. nothing_there id e;
+  asks = λ v k id e. nothing_there id e;
+  open_already = λ found k is id e. record { begins = λ u at. nothing_there u at; unopened = λ d at. subst (λ (z : Ended). IsOpenedBy z.outcome → ⊥) (some_is _ d at) (λ h. h) };
+  fetches = λ found k shut none id e. record { begins = λ u at. subst (λ (z : Task). IsFresh z.stage) (some_is _ u at) tt; unopened = λ d at. nothing_there d at };
+  leases = λ found c k shut there id e. record { begins = λ u at. subst (λ (z : Task). IsFresh z.stage) (some_is _ u at) tt; unopened = λ d at. nothing_there d at };
+  ends = λ v end k same id e. record { begins = λ u at. nothing_there u at; unopened = λ d at. subst (λ (z : Ended). IsOpenedBy z.outcome → ⊥) (some_is _ d at) (end_plain end) };
+})
+took_found s calls file st x b = found_none (took s calls file st x b) (took_finds s calls file st x b tt)
+
+pub step_found : (s : State) (m : Result Message WireFault) (now : ℕ) → WhereFound (got_step s m now)
+step_found s (Err e) now = by s.task
+  where
+    by : (t : Option Task) → WhereFound (got_fault s t e)
+    by (Some t) = λ id is. nothing_there id is
+    by None = λ id is. nothing_there id is
+step_found s (Ok m) now = by s.task m
+  where
+    by : (t : Option Task) (m : Message) → WhereFound (got_message s t m)
+    by t (message.Answer xid b) = own t (has_call (pending t) xid)
+      where
+        own : (t : Option Task) (is_own : Bool) → WhereFound (took_if s t xid b is_own)
+        own (Some t) true = took_found (idle s) (calls_of s) t.file t.stage xid b
+        own t is_own = found_none (drops s t xid (has_call s.forgotten xid)) (drops_none s t xid (has_call s.forgotten xid))
+    by t (message.Refuse xid r) = own t (has_call (pending t) xid)
+      where
+        own : (t : Option Task) (is_own : Bool) → WhereFound (denied_if s t xid r is_own)
+        own (Some t) true = found_none (denied (idle s) (calls_of s) xid r) (denied_none (idle s) (calls_of s) xid r)
+        own t is_own = found_none (drops s t xid (has_call s.forgotten xid)) (drops_none s t xid (has_call s.forgotten xid))
+    by t (message.Unfit xid r) = λ id e. nothing_there id e
+    by t (message.Call xid b) = λ id e. nothing_there id e

@@ -1,31 +1,37 @@
 -- How a history grows in a step, and what stays true of operations then.
-use Rattle.std.proofs.Common.{IsSome, ◌⊎◌, inl, inr, ◌≡◌, ℕ, zero, suc, ◌+◌, ◌<◌, ◌≤◌, List, length, Option, Some, Bool, true, false, refl, sym, ap, ◌∙◌, subst, arith}
+use Rattle.std.proofs.Common.{◌⊎◌, inl, inr, ◌≡◌, ℕ, zero, suc, ◌+◌, ◌<◌, ◌≤◌, List, length, Option, Some, Bool, true, false, refl, sym, ap, ◌∙◌, subst, arith}
 use Rattle.std.proofs.lemmas.Slice.Eq.{bytes_eq-Decides}
 use Rattle.register_model.specs.declared.op.Outcome.{Outcome}
 use Rattle.register_model.specs.declared.op.Outcome.TheVariants as told
 use Rattle.register_model.specs.declared.op.Word.TheVariants as words
 use Rattle.trace_replay.specs.Book.{first_version}
+use Rattle.register_model.specs.Register.{changes, IsFit}
 use Rattle.trace_replay.specs.Causes.{WaitsFor, TakesCall}
 use Rattle.kept_promise.proofs.Common.{Body, slice_get, bytes_eq, Contains, sha1, Entry, File, Value, content_of, Op, Opening, Word, Moment, hashed_of, Book, Or, Collides, history, value_at, version_at, Tried, IsEntered}
 use Rattle.kept_promise.proofs.Lists.{false_and_true}
 use Rattle.kept_promise.proofs.Marks.{Mark, marks, latest_mark, left_by, value_is, count_is}
-use Rattle.kept_promise.proofs.Rights.{Caused, RefusedBy, IsRight, IsUnmade, IsMade, IsHeld}
+use Rattle.kept_promise.proofs.Rights.{WasThere, gets_file, Caused, WasWalk, RefusedBy, IsRight, IsUnmade, IsMade, IsHeld, IsFitted}
 
--- what becomes of an operation; at most one is made, and at most one ends
+-- what becomes of an operation; at most one is made, and at most one goes on, or ends, by a step of its client
 pub record Follows (book : Book) (made ended : Option ℕ) (k : ℕ) (o r : Op) : Type 0 where
   pub client : r.client ≡ o.client
   pub word : r.word ≡ o.word
-  pub file : r.file ≡ o.file
+  -- a step of its client may find its file, by its path
+  pub file : (ended ≡ Some k → ⊥) → gets_file o.word ≡ false → r.file ≡ o.file
+  pub close_file : o.word ≡ words.Close → r.file ≡ o.file
+  -- one that changes a file may get it where the change is made
+  pub own_file : changes o.word ≡ true → (made ≡ Some k → ⊥) → r.file ≡ o.file
   pub begin : r.begin ≡ o.begin
-  pub point : o.word ≡ words.Close → (p : ℕ) → o.point ≡ Some p → r.point ≡ Some p
-  pub value : o.word ≡ words.Close → r.value ≡ o.value
+  -- a change that was made stays
+  pub point : changes o.word ≡ true → (p : ℕ) → o.point ≡ Some p → (r.point ≡ Some p) × (r.file ≡ o.file)
+  pub value : changes o.word ≡ true → r.value ≡ o.value
   pub unmade : (made ≡ Some k → ⊥) → IsUnmade o → IsUnmade r
   -- it ends now, if it does
   pub end : (e : ℕ) → r.end ≡ Some e → (o.end ≡ Some e) ⊎ (book.steps < e)
   pub running : (ended ≡ Some k → ⊥) → o.outcome ≡ told.Running → r.outcome ≡ told.Running
 
 pub follows_same : (book : Book) (made ended : Option ℕ) (k : ℕ) (o : Op) → Follows book made ended k o o
-follows_same book made ended k o = record { client = refl; word = refl; file = refl; begin = refl; point = λ w p e. e; value = λ w. refl; unmade = λ n u. u; end = λ e q. inl q; running = λ n e. e }
+follows_same book made ended k o = record { client = refl; word = refl; file = λ n w. refl; close_file = λ w. refl; own_file = λ w n. refl; begin = refl; point = λ w p e. (e, refl); value = λ w. refl; unmade = λ n u. u; end = λ e q. inl q; running = λ n e. e }
 
 -- each operation is still there, and what files are at moments up to now is as it was
 pub record Grows (book more : Book) (made ended : Option ℕ) : Type 0 where
@@ -62,6 +68,9 @@ value_later book more made ended f p g le = value_alike book more f p p g.openin
 
 pub version_later : (book more : Book) (made ended : Option ℕ) (f p : ℕ) → Grows book more made ended → p ≤ book.steps + 1 → version_at more f p ≡ version_at book f p
 version_later book more made ended f p g le = version_alike book more f p p g.opening (g.values f p le)
+
+pub there_later : (book more : Book) (made ended : Option ℕ) (f : ℕ) → Grows book more made ended → WasThere book f → WasThere more f
+there_later book more made ended f g h = let le = h.past in let n = g.passes in record { positive = h.positive; small = h.small; moment = h.moment; past = omega (arith, le, n); value = h.value; value_is = value_later book more made ended f h.moment g h.past ∙ h.value_is }
 
 -- ---- what rests on digests
 
@@ -116,10 +125,15 @@ tried_wider book f b (suc n) p q le h = let at = h.4 in (h.0, h.1, h.2, h.3, ome
 pub takes_later : (book more : Book) (made ended : Option ℕ) (c d step xid : ℕ) (call : Body) → Grows book more made ended → d ≡ c → TakesCall book c step xid call → TakesCall more d step xid call
 takes_later book more made ended c d step xid call g same h = record { moment = h.moment; there = g.happened h.moment h.there; step_is = h.step_is; session = h.session; now = h.now; bytes = h.bytes; event_is = h.event_is; parsed = h.parsed; waits = subst (λ (z : ℕ). WaitsFor h.moment z h.session xid) (sym same) h.waits }
 
+was_walk_later : (book more : Book) (made ended : Option ℕ) (o : Op) → Grows book more made ended → WasWalk book o → WasWalk more o
+was_walk_later book more made ended o g h = record { at = h.at; noted = g.happened h.at h.noted; seat = h.seat; seat_is = h.seat_is; place = h.place; place_is = h.place_is; task = h.task; task_is = h.task_is; xid = h.xid; walk = h.walk; stage_is = h.stage_is; then_op = h.then_op; then_is = h.then_is; then_began = h.then_began }
+
 refused_later : (book more : Book) (made ended : Option ℕ) (o : Op) (w : Word) (s : ℕ) → Grows book more made ended → ((p : ℕ) → o.point ≡ Some p → p ≤ book.steps) → RefusedBy book o w s → RefusedBy more o w s
-refused_later book more made ended o words.Open s g past (inl h) = inl (h.0, record { moment = h.1.moment; there = g.happened h.1.moment h.1.there; inside = h.1.inside; node = h.1.node; node_is = h.1.node_is })
-refused_later book more made ended o words.Open s g past (inr h) = inr (h.0, (h.1.0, h.1.1, value_later book more made ended o.file h.1.0 g (let le = past h.1.0 h.1.1.0 in omega (arith, le)) ∙ h.1.2))
-refused_later book more made ended o words.Close s g past h = record { status_is = h.status_is; pointless = h.pointless; end = h.end; end_is = h.end_is; moment = h.moment; there = g.happened h.moment h.there; session = h.session; now = h.now; bytes = h.bytes; event_is = h.event_is; xid = h.xid; call = h.call; parsed = h.parsed; size = h.size; after = h.after; before = h.before; waits = h.waits; full = h.full }
+refused_later book more made ended o words.Open s g past (inl (inl h)) = inl (inl (h.0, record { moment = h.1.moment; there = g.happened h.1.moment h.1.there; inside = h.1.inside; node = h.1.node; node_is = h.1.node_is }))
+refused_later book more made ended o words.Open s g past (inl (inr h)) = inl (inr (h.0, (h.1.0, h.1.1, value_later book more made ended o.file h.1.0 g (let le = past h.1.0 h.1.1.0 in omega (arith, le)) ∙ h.1.2)))
+refused_later book more made ended o words.Open s g past (inr h) = inr (h.0, h.1, was_walk_later book more made ended o g h.2)
+refused_later book more made ended o words.Close s g past (inl h) = inl (record { status_is = h.status_is; pointless = h.pointless; end = h.end; end_is = h.end_is; moment = h.moment; there = g.happened h.moment h.there; session = h.session; now = h.now; bytes = h.bytes; event_is = h.event_is; xid = h.xid; call = h.call; parsed = h.parsed; size = h.size; after = h.after; before = h.before; waits = h.waits; full = h.full })
+refused_later book more made ended o words.Close s g past (inr (h, before)) = let n = g.passes in inr (record { status_is = h.status_is; pointless = h.pointless; step = h.step; inside = h.inside; value_is = value_later book more made ended o.file h.step g (omega (arith, before)) ∙ h.value_is }, omega (arith, before, n))
 refused_later book more made ended o _ s g past h = h
 
 cause_later : (book more : Book) (made ended : Option ℕ) (o : Op) (u : Outcome) → Grows book more made ended → IsRight book o → Caused book o u → Caused more o u
@@ -132,7 +146,7 @@ cause_later book more made ended o (told.Opened len digest) g r h = (
     within = h.1.within;
     value_is = or_later book more made ended _ _ g (λ e. value_later book more made ended o.file h.1.point g (let lt = (r.pointed h.1.point h.1.within.0).1 in omega (arith, lt)) ∙ e) h.1.value_is;
   },
-  subst (λ (l : List Opening). IsSome (content_of l o.file)) (sym g.opening) h.2,
+  there_later book more made ended o.file g h.2,
 )
 cause_later book more made ended o (told.Refused s) g r h = refused_later book more made ended o o.word s g (λ p e. (r.pointed p e).1) h
 cause_later book more made ended o (told.Changed v w) g r h =
@@ -162,6 +176,7 @@ cause_later book more made ended o told.PeerMemory g r h = h
 cause_later book more made ended o told.Memory g r h = h
 cause_later book more made ended o (told.Names names) g r h = h
 cause_later book more made ended o (told.Seen file kind version len) g r h = h
+cause_later book more made ended o told.Done g r h = h
 cause_later book more made ended o _ g r h = tt
 
 pub right_later : (book more : Book) (made ended : Option ℕ) (o : Op) → Grows book more made ended → IsRight book o → IsRight more o
@@ -175,19 +190,31 @@ right_later book more made ended o g h = record {
   failed = h.failed;
 }
 
+-- one that keeps its word, and its file and its point if it is a change, is of a file that was what it must be
+pub fitted_later : (book more : Book) (made ended : Option ℕ) (o r : Op) → Grows book more made ended → r.word ≡ o.word → (changes o.word ≡ true → (r.file ≡ o.file) × (r.point ≡ o.point)) → IsRight book o → IsFitted book o → IsFitted more r
+fitted_later book more made ended o r g word same right h c p e =
+    let change : changes o.word ≡ true = ap changes (sym word) ∙ c in
+    let s = same change in
+    let at : o.point ≡ Some p = sym s.1 ∙ e in
+    let b = (right.pointed p at).1 in
+    let was = h change p at in (
+      subst (λ (f : ℕ). 1 < f) (sym s.0) was.0,
+      subst (λ (w : Word). IsFit w (value_at more r.file p)) (sym word) (subst (λ (f : ℕ). IsFit o.word (value_at more f p)) (sym s.0) (subst (IsFit o.word) (sym (value_later book more made ended o.file p g (omega (arith, b)))) was.1)),
+    )
+
 pub made_later : (book more : Book) (made ended : Option ℕ) (place v : ℕ) → Grows book more made ended → IsMade book place v → IsMade more place v
 made_later book more made ended place v g h =
     let r = g.each place h.0 h.2 in
     let le = h.5 in
     let n = g.passes in
     let q = h.7.1 in
-    let same : r.0.value ≡ h.0.value = r.2.value h.3 in (
+    let same : r.0.value ≡ h.0.value = r.2.value (ap changes h.3) in (
       r.0,
       h.1,
       r.1,
       r.2.word ∙ h.3,
-      r.2.point h.3 h.1 h.4,
+      (r.2.point (ap changes h.3) h.1 h.4).0,
       omega (arith, le, n),
-      subst (λ (x : List ℕ). IsEntered more r.0.file h.1 v (length x) (sha1 x)) (sym same) (subst (λ (f : ℕ). IsEntered more f h.1 v (length h.0.value) (sha1 h.0.value)) (sym r.2.file) (entered_later book more made ended h.0.file h.1 v (length h.0.value) (sha1 h.0.value) g h.6)),
-      (h.7.0, omega (arith, q, n), ap (λ (f : ℕ). version_at more f h.7.0) r.2.file ∙ version_later book more made ended h.0.file h.7.0 g h.7.1 ∙ h.7.2, ap (λ (f : ℕ). value_at more f h.7.0) r.2.file ∙ value_later book more made ended h.0.file h.7.0 g h.7.1 ∙ h.7.3 ∙ ap (λ (x : List ℕ). Some x) (sym same)),
+      subst (λ (x : List ℕ). IsEntered more r.0.file h.1 v (length x) (sha1 x)) (sym same) (subst (λ (f : ℕ). IsEntered more f h.1 v (length h.0.value) (sha1 h.0.value)) (sym (r.2.close_file h.3)) (entered_later book more made ended h.0.file h.1 v (length h.0.value) (sha1 h.0.value) g h.6)),
+      (h.7.0, omega (arith, q, n), ap (λ (f : ℕ). version_at more f h.7.0) (r.2.close_file h.3) ∙ version_later book more made ended h.0.file h.7.0 g h.7.1 ∙ h.7.2, ap (λ (f : ℕ). value_at more f h.7.0) (r.2.close_file h.3) ∙ value_later book more made ended h.0.file h.7.0 g h.7.1 ∙ h.7.3 ∙ ap (λ (x : List ℕ). Some x) (sym same)),
     )

@@ -5,7 +5,7 @@ use Rattle.server_core.specs.Step.{hangs, hangs_if}
 use Rattle.server_core.specs.declared.event.Event.TheVariants as event
 use Rattle.client_state.specs.State as client
 use Rattle.trace_replay.specs.Core.{hangs_if as core_hangs_if, hangs as core_hangs}
-use Rattle.kept_promise.proofs.Common.{slice_get, not, cond, ◌==◌, filter, list_any, stands, server_step, Change, Op, Core, Seat, Session, quiet, numbered, with_numbered, Book, Ask, Queue}
+use Rattle.kept_promise.proofs.Common.{slice_get, not, cond, ◌==◌, filter, list_any, stands, server_step, Change, Op, Core, Seat, Session, quiet, numbered, with_numbered, Book, Ask, Queue, version_at}
 use Rattle.kept_promise.proofs.Lists.{some_is, nothing_there, same_or_not}
 use Rattle.kept_promise.proofs.Keys.{times, times_append, own, on_way, change_key, ask_key, told_key, pending_key}
 use Rattle.kept_promise.proofs.Messages.{job, Rising, IsAnswer}
@@ -16,9 +16,11 @@ use Rattle.kept_promise.proofs.Shelf.{shelf_left, else_left}
 use Rattle.kept_promise.proofs.Ordered.{orderly_hung}
 use Rattle.kept_promise.proofs.Facts.{FileIs, IsServer, IsTalk, IsKept}
 use Rattle.kept_promise.proofs.Leading.{Leads, ups_lost, KeptHangs}
-use Rattle.kept_promise.proofs.Takes.{file_still}
+use Rattle.kept_promise.proofs.Takes.{file_still, fresh_still}
 use Rattle.kept_promise.proofs.Chunks.{is_other}
 use Rattle.server_law.proofs.TreeCalls.{fewer_need}
+use Rattle.kept_promise.proofs.Growth.{there_later}
+use Rattle.kept_promise.proofs.Unused.{IsUnused}
 
 -- ---- what the server still has of other sessions
 
@@ -86,15 +88,18 @@ left_there n (d ∷ ws) i c e = by (d.session == n) refl i e (λ k f. left_there
 
 -- ---- the event
 
-server_hung : (book : Book) (s : server.State) (n : ℕ) → (kept : IsServer book s) → ((f : ℕ) → FileIs (onward book 1 book.ops) f (server.file_at s.tree f)) → IsServer (onward book 1 book.ops) (hangs s n)
-server_hung book s n kept held = record {
+server_hung : (book : Book) (s : server.State) (n : ℕ) → (kept : IsServer book s) → ((f : ℕ) → FileIs (onward book 1 book.ops) f (server.file_at s.tree f)) → ((f : ℕ) → IsUnused s.tree f → version_at (onward book 1 book.ops) f (book.steps + 1 + 1) ≡ 0) → IsServer (onward book 1 book.ops) (hangs s n)
+server_hung book s n kept held fresh = record {
   held = held;
   bounded = kept.bounded;
-  commits = λ i c e. let r = left_there n s.waiting i c e in kept.commits r.0.0 c r.0.1;
+  fresh = fresh;
+  zero = kept.zero;
+  rooted = kept.rooted;
+  wants = λ i c e. let r = left_there n s.waiting i c e in kept.wants r.0.0 c r.0.1;
   changes = let a = kept.changes in let b = (fewer_need (λ d. not (d.session == n)) s.waiting).0 in omega (arith, a, b);
   bytes = let a = kept.bytes in let b = (fewer_need (λ d. not (d.session == n)) s.waiting).1 in omega (arith, a, b);
   lengths = λ i c e. let r = left_there n s.waiting i c e in kept.lengths r.0.0 c r.0.1;
-  targets = λ i c e. let r = left_there n s.waiting i c e in kept.targets r.0.0 c r.0.1;
+  targets = λ i c e. let r = left_there n s.waiting i c e in there_later book (onward book 1 book.ops) None None c.file (grows_same book 1) (kept.targets r.0.0 c r.0.1);
   xids = λ i c e. let r = left_there n s.waiting i c e in kept.xids r.0.0 c r.0.1;
 }
 
@@ -154,7 +159,7 @@ hung_now book k qs n x q kept at is unhung =
       seat_around = around_same k.seats x.owner c h.owner;
       owner = refl;
       goes = goes_same book 1 kept.sound;
-      server = server_hung book k.server n kept.server (λ f. file_still book more None None f (server.file_at k.server.tree f) g (still_same book 1 kept.sound) (kept.server.held f));
+      server = server_hung book k.server n kept.server (λ f. file_still book more None None f (server.file_at k.server.tree f) g (still_same book 1 kept.sound) (kept.server.held f)) (fresh_still book more None None k.server.tree g (still_same book 1 kept.sound) kept.server.fresh);
       sessions_made = refl;
       view = λ o apart. record { stands_is = stands_else o n apart k.server.sessions; waiting = own_else o n apart k.server.waiting; temps = λ i m e lt f g. was_there (λ z. not (z.1.session == n)) k.server.temps i e f; found = λ m lt. else_left k.server.temps n o m apart lt kept.shelf.1 };
       elsewhere = inl refl;

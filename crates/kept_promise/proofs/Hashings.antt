@@ -1,6 +1,10 @@
 -- An open asks for chunks: the next of them, or all again after another version.
-use Rattle.std.proofs.Common.{inl, inr, ◌≡◌, ℕ, zero, suc, ◌+◌, ◌*◌, ◌<◌, ◌≤◌, List, [], ◌∷◌, ◌++◌, length, Option, Some, None, Bool, true, false, refl, sym, ap, ◌∙◌, subst, arith, eqb-true, IsSome}
+use Rattle.std.proofs.Common.{inl, inr, ◌≡◌, ℕ, zero, suc, ◌+◌, ◌*◌, ◌<◌, ◌≤◌, List, [], ◌∷◌, ◌++◌, length, Some, None, Bool, true, false, refl, sym, ap, ◌∙◌, subst, arith, eqb-true}
 use Rattle.hash_calls.specs.declared.message.LbProc.TheVariants as lb_proc
+use Rattle.hash_calls.specs.declared.message.LbProc.{LbProc}
+use Rattle.nfs3_calls.specs.declared.message.NfsProc.{NfsProc}
+use Rattle.wire.specs.declared.message.Program.{Program}
+use Rattle.wire.specs.declared.message.Program.TheVariants as program
 use Rattle.server_core.specs.State as server
 use Rattle.client_state.specs.State as client
 use Rattle.file_open.specs.Fetching.{changes}
@@ -8,25 +12,21 @@ use Rattle.client_state.specs.declared.step.Outcome.TheVariants as outcome
 use Rattle.client_state.specs.declared.task.Stage.TheVariants as stage
 use Rattle.register_model.specs.declared.op.Outcome.TheVariants as told
 use Rattle.register_model.specs.declared.op.Word.TheVariants as words
-use Rattle.kept_promise.proofs.Common.{nat_tests, slice_get, cond, ◌==◌, nat_lt, Pending, File, no_counts, tries_most, idle, retries, Fetch, Stage, Value, content_of, Op, Traffic, Core, Session, has_point, point_if, counted, Book, version_at, Tried, Call.Hash, Ask, Told, Queue}
+use Rattle.kept_promise.proofs.Common.{nat_tests, slice_get, cond, ◌==◌, nat_lt, Pending, no_counts, tries_most, idle, retries, Fetch, Stage, Op, Traffic, Core, Session, has_point, point_if, counted, Book, version_at, Tried, Call.Hash, Ask, Told, Queue}
 use Rattle.kept_promise.proofs.Lists.{some_is, nothing_there}
 use Rattle.kept_promise.proofs.Messages.{Job, stage_word, hash_offset, FetchOf, CloseOf, IsFetch, Trying}
 use Rattle.kept_promise.proofs.Growth.{version_later, tried_later}
-use Rattle.kept_promise.proofs.Facts.{FileIs, HasXids, IsSession, IsOf, IsKept}
-use Rattle.kept_promise.proofs.Tells.{not_some}
+use Rattle.kept_promise.proofs.Facts.{HasXids, IsSession, IsOf, IsKept}
 use Rattle.kept_promise.proofs.Heard.{Moves}
 use Rattle.kept_promise.proofs.Moves.{told_there, moves_retries}
-use Rattle.kept_promise.proofs.Steps.{Here, session_at, Quiet, job_op, GoesOn, on, opens_in_order}
+use Rattle.kept_promise.proofs.Steps.{Here, session_at, Quiet, job_op, GoesOn, on, opens_in_order, open_unnamed}
 use Rattle.kept_promise.proofs.Attempts.{tried_again}
 use Rattle.kept_promise.proofs.Comes.{client_at, Comes, open_op, stops_open}
+use Rattle.kept_promise.proofs.Rights.{WasThere}
 
 -- what is in the tree has a handle
-pub file_small : (book : Book) (k : Core) (qs : List Queue) (f : ℕ) → IsKept book k qs → IsSome (content_of book.opening f) → f < 18446744073709551616
-file_small book k qs f kept known = by (server.file_at k.server.tree f) (kept.server.held f)
-  where
-    by : (o : Option File) → FileIs book f o → f < 18446744073709551616
-    by None b = absurd (not_some (subst (λ (v : Value). IsSome v) b.0 known))
-    by (Some g) b = b.2
+pub file_small : (book : Book) (k : Core) (qs : List Queue) (f : ℕ) → IsKept book k qs → WasThere book f → f < 18446744073709551616
+file_small book k qs f kept known = known.small
 
 apart_call : (x y v o : ℕ) → y < x → cond (x == y) (Some v) None ≡ Some o → ⊥
 apart_call x y v o lt e = by (x == y) refl e
@@ -45,6 +45,20 @@ same_call x y v o e = by (x == y) e
 abbrev pub hash_ask : (xid file offset : ℕ) → Ask
 hash_ask xid file offset = record { xid = xid; call = Hash file offset }
 
+-- no walk waits for one
+lb_not_nfs : (p : NfsProc) (q : LbProc) → program.Nfs p ≡ program.Lb q → ⊥
+lb_not_nfs p q e = absurd cc
+
+unwalking_at : {A : Type 0} (xid y : ℕ) (p : NfsProc) → client.nfs_pending p y ≡ client.lb_pending lb_proc.GetHash xid → A
+unwalking_at xid y p e = absurd (lb_not_nfs p lb_proc.GetHash (by e))
+  where
+    first : List Pending → Program
+    first [] = program.Nfs p
+    first (c ∷ cs) = c.program
+
+    by : client.nfs_pending p y ≡ client.lb_pending lb_proc.GetHash xid → program.Nfs p ≡ program.Lb lb_proc.GetHash
+    by e = ap first e
+
 -- a GETHASH goes out
 pub goes_hash : (book : Book) (k : Core) (qs : List Queue) (n : ℕ) (x : Session) (q : Queue) (t : Told) (ts : List Told) (j : Job) (g : Here book k qs n x q t ts j) (s : Stage) (offset : ℕ) (forgotten : List Pending) → (let c = client_at book k qs n x q t ts j g in
     Quiet k n q → stage_word s ≡ stage_word j.stage → ((y : ℕ) → hash_offset s y ≡ cond (c.next == y) (Some offset) None) → ((y : ℕ) → s ≡ stage.Committing y → ⊥) → ((y : ℕ) → s ≡ stage.Asking y → ⊥) → ((f : Fetch) → s ≡ stage.Reading f → ⊥) → client.pending_in s ≡ client.lb_pending lb_proc.GetHash c.next
@@ -58,6 +72,7 @@ goes_hash book k qs n x q t ts j g s offset forgotten quiet word waits uncommitt
       word = word;
       again = record {
         lease = λ y lt e. unasking y e;
+        walk = λ y w lt e. unwalking_at _ y _ (sym (ap client.pending_in e) ∙ pends);
         hash = λ y o lt e. apart_call c.next y offset o lt (sym (waits y) ∙ e);
         commit = λ y lt e. uncommitting y e;
         read = λ y d f lt e at. absurd (unreading f e);
@@ -182,11 +197,11 @@ comes_changed book k qs n x q t ts j g f last version bytes fact word quiet lt l
           end_is = refl;
           first = fact.told.moment;
           last = last;
-          before = subst (λ z. Tried more z of.op.begin 3 fact.told.moment) (sym of.file) (tried_later book more None (Some j.place) j.file of.op.begin 3 fact.told.moment grows (omega (arith, began)) (three many));
+          before = subst (λ z. Tried more z of.op.begin 3 fact.told.moment) (sym (of.file (open_unnamed j.stage word))) (tried_later book more None (Some j.place) j.file of.op.begin 3 fact.told.moment grows (omega (arith, began)) (three many));
           order = lt;
           past = omega (arith, le);
-          first_is = ap (λ z. version_at more z fact.told.moment) of.file ∙ version_later book more None (Some j.place) j.file fact.told.moment grows (omega (arith, began)) ∙ fact.told.version_is;
-          last_is = ap (λ z. version_at more z last) of.file ∙ version_later book more None (Some j.place) j.file last grows (omega (arith, le)) ∙ is;
+          first_is = ap (λ z. version_at more z fact.told.moment) (of.file (open_unnamed j.stage word)) ∙ version_later book more None (Some j.place) j.file fact.told.moment grows (omega (arith, began)) ∙ fact.told.version_is;
+          last_is = ap (λ z. version_at more z last) (of.file (open_unnamed j.stage word)) ∙ version_later book more None (Some j.place) j.file last grows (omega (arith, le)) ∙ is;
           apart = λ e. apart (sym e);
         },
       )) (g.kept.seats x.owner h.seat h.owner).opened;

@@ -2,18 +2,19 @@
 use Rattle.std.proofs.Common.{inl, inr, ◌≡◌, ℕ, zero, suc, ◌+◌, ◌<◌, ◌≤◌, List, [], ◌∷◌, ◌++◌, length, Option, Some, Bool, true, false, refl, sym, ap, ◌∙◌, subst, arith, eqb-true, ne_eqb, map}
 use Rattle.client_state.specs.State as client
 use Rattle.register_model.specs.declared.op.Outcome.TheVariants as told
-use Rattle.kept_promise.proofs.Common.{nat_tests, slice_get, cond, ◌==◌, nat_le, MessageFits, Pending, Change, Op, Core, Seat, Session, numbered, unless, hashed_of, Book, Call, Call.Commit, Ask, Told, Queue, told_message, call_program, reply_program}
+use Rattle.kept_promise.proofs.Common.{nat_tests, slice_get, cond, ◌==◌, nat_le, MessageFits, Pending, Change, Op, Core, Seat, Session, numbered, unless, hashed_of, Book, Call, Call.Commit, Call.Walks, Ask, Told, Queue, told_message, call_program, reply_program}
 use Rattle.kept_promise.proofs.Statements.{CallFits}
 use Rattle.kept_promise.proofs.Keys.{times, times_append, own, on_way, change_key, ask_key, told_key, pending_key, IsOurs, call_ours, found_by, there_by, key_code}
-use Rattle.kept_promise.proofs.Messages.{Job, job, job_of, AllAsks, AllTolds, Rising, IsAsked, IsAnswer, HasFetch, IsCommit, IsPiece, IsPending, TempUnder, CloseOf, content_wanted}
+use Rattle.kept_promise.proofs.Messages.{Job, job, job_of, AllAsks, AllTolds, Rising, IsAsked, IsAnswer, HasFetch, IsCommit, IsPiece, WaitsFor, TempUnder, CloseOf}
 use Rattle.kept_promise.proofs.History.{Goes, Still, onward}
 use Rattle.kept_promise.proofs.Later.{same_view}
 use Rattle.kept_promise.proofs.Taken.{asks_append, rising_append, times_map_append}
 use Rattle.kept_promise.proofs.Turns.{Around, around_same, turned_core, kept_turn}
 use Rattle.kept_promise.proofs.Orderly.{Orderly}
-use Rattle.kept_promise.proofs.Facts.{IsBalanced, IsSession, IsSeat, IsKept, commits_in}
+use Rattle.kept_promise.proofs.Facts.{IsBalanced, IsSession, IsSeat, IsKept, commits_in, change_number}
 use Rattle.kept_promise.proofs.Takes.{server_still}
 use Rattle.kept_promise.proofs.Lists.{false_and_true}
+use Rattle.kept_promise.proofs.PathNames.{is_creating}
 
 -- ---- calls that wait
 
@@ -60,7 +61,7 @@ pub record Hearing (book : Book) (ops : List Op) (k : Core) (n : ℕ) (x : Sessi
   pub old_asks : AllAsks (IsAsked (job_of place c.task)) q.ups
   pub old_tolds : AllTolds (IsAnswer (onward book 1 ops) x.taken x.closing (job_of place c.task)) ts
   pub old_commits : AllAsks (IsCommit (onward book 1 ops) x.closing x.cut (job_of place c.task) h.contents) q.ups
-  pub old_pending : (i : ℕ) (d : Change) → slice_get (own n k.server.waiting) i ≡ Some d → IsPending (onward book 1 ops) x.closing x.cut (job_of place c.task) d.xid d.file (content_wanted d.what)
+  pub old_pending : (i : ℕ) (d : Change) → slice_get (own n k.server.waiting) i ≡ Some d → WaitsFor (onward book 1 ops) x.closing x.cut (job_of place c.task) d.xid d.file d.what
   -- what goes up
   pub moves : Moves (client.calls_of h.seat.client) (client.calls_of c) t asks
   pub rising : Rising h.seat.client.next asks c.next
@@ -80,13 +81,19 @@ pub record Hearing (book : Book) (ops : List Op) (k : Core) (n : ℕ) (x : Sessi
   pub orderly : Orderly (onward book 1 ops) n k.server.temps x.hung (record { ups = unless x.hung q.ups asks; downs = ts }) (record h.seat { client = c; place = place })
   pub running : (seats : List Seat) → Around k.seats seats x.owner (record h.seat { client = c; place = place }) → (p : ℕ) (o : Op) → slice_get ops p ≡ Some o → o.outcome ≡ told.Running → (e : Seat) × (j : Job) × (numbered seats o.client ≡ Some e) × (job e ≡ Some j) × (j.place ≡ p)
 
-commits_both : (us vs : List Ask) → commits_in (us ++ vs) ≡ commits_in us + commits_in vs
-commits_both [] vs = omega arith
-commits_both (a ∷ us) vs = by a.call (commits_both us vs)
+-- a call makes one change at most
+pub change_once : (c : Call) → change_number c ≤ 1
+change_once (Commit temp file size) = omega arith
+change_once (Walks w) = by (is_creating w)
   where
-    by : (c : Call) → commits_in (us ++ vs) ≡ commits_in us + commits_in vs → elim c [ Commit temp file size ↦ suc (commits_in (us ++ vs)) | _ ↦ commits_in (us ++ vs) ] ≡ elim c [ Commit temp file size ↦ suc (commits_in us) | _ ↦ commits_in us ] + commits_in vs
-    by (Commit temp file size) e = omega (arith, e)
-    by _ e = e
+    by : (b : Bool) → cond b 1 0 ≤ 1
+    by true = omega arith
+    by false = omega arith
+change_once _ = omega arith
+
+pub commits_both : (us vs : List Ask) → commits_in (us ++ vs) ≡ commits_in us + commits_in vs
+commits_both [] vs = omega arith
+commits_both (a ∷ us) vs = let both = commits_both us vs in omega (arith, both)
 
 pub asks_unless : (P : Ask → Type 0) (hung : Bool) (us vs : List Ask) → AllAsks P us → AllAsks P vs → AllAsks P (unless hung us vs)
 asks_unless P true us vs a b = a
@@ -100,7 +107,7 @@ rising_unless true n us vs top next a b = wider n us top next (rising_to top vs 
     wider n (u ∷ us) top next le r = (r.0, wider (u.xid + 1) us top next le r.1)
 rising_unless false n us vs top next a b = rising_append n us vs top next a b
 
-commits_unless : (hung : Bool) (us vs : List Ask) → commits_in (unless hung us vs) ≤ commits_in us + commits_in vs
+pub commits_unless : (hung : Bool) (us vs : List Ask) → commits_in (unless hung us vs) ≤ commits_in us + commits_in vs
 commits_unless true us vs = omega arith
 commits_unless false us vs = let e = commits_both us vs in omega (arith, e)
 

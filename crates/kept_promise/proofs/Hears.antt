@@ -1,14 +1,18 @@
 -- A client hears the first answer on its way: it is read as itself, and is either waited for or forgotten.
-use Rattle.std.proofs.Common.{inl, inr, ◌≡◌, ℕ, List, [], ◌∷◌, ◌++◌, length, Option, Some, None, Bool, true, false, refl, sym, ap, ◌∙◌, subst, arith, eq-eqb, map, Result, Ok}
+use Rattle.std.proofs.Common.{inl, inr, ◌≡◌, ℕ, List, [], ◌∷◌, ◌++◌, length, Option, Some, None, Bool, true, false, refl, sym, ap, ◌∙◌, subst, arith, eq-eqb, map, Result, Ok, ◌≤◌}
+use Rattle.nfs3_calls.specs.Nfs.{nfs_proc}
+use Rattle.path_calls.specs.Walk.{next_call}
+use Rattle.path_calls.specs.declared.walk.Walk.{Walk}
+use Rattle.wire.specs.declared.message.Program.TheVariants as program
 use Rattle.client_state.specs.State as client
 use Rattle.open_close.specs.Hashed.{client_hashed, message_compared, answer_compared, took_compared, compared_at, compared, compared_if, task_named, named as parts_named}
 use Rattle.file_open.specs.Looking.{reading_by, with_file, reading_if, reading, looked_by}
 use Rattle.client_state.specs.declared.task.Stage.TheVariants as stage
 use Rattle.trace_replay.specs.Trail.{heard_hashed, heard_hashed_if}
-use Rattle.kept_promise.proofs.Common.{Contains-append_left, Contains-append_right, Contains-push, looked_up, slice_get, Contains, Chunk, Done, Piece, MessageFits, message_spell, parse_of, Message, Pending, WireFault, has_call, got_step, took_if, drops, took, idle, ClientStep, Fetch, ReadCall, Stage, Task, read_at, Core, Seat, Session, Event.Hears, CoreStep, numbered, is_newest, hears_if, hears_at, hears, acted, happens, owner_in, hashed_by, hashed_of, Book, Reply, Reply.Bytes, Told, Queue, reply_body, told_message}
+use Rattle.kept_promise.proofs.Common.{Contains-append_left, Contains-append_right, Contains-push, looked_up, slice_get, Contains, Chunk, Done, Piece, MessageFits, message_spell, parse_of, Message, Pending, WireFault, has_call, got_step, took_if, drops, took, idle, ClientStep, Fetch, ReadCall, Stage, Task, read_at, Core, Seat, Session, Event.Hears, CoreStep, numbered, is_newest, hears_if, hears_at, hears, acted, happens, owner_in, hashed_by, hashed_of, Book, Reply, Reply.Bytes, Told, Queue, reply_body, reply_program, told_message, Program}
 use Rattle.kept_promise.proofs.Lists.{some_is, nothing_there, false_and_true}
-use Rattle.kept_promise.proofs.Keys.{times}
-use Rattle.kept_promise.proofs.Messages.{Job, AllTolds}
+use Rattle.kept_promise.proofs.Keys.{times, code_of}
+use Rattle.kept_promise.proofs.Messages.{Job, AllTolds, FetchOf}
 use Rattle.kept_promise.proofs.Taken.{times_map_append}
 use Rattle.kept_promise.proofs.Turns.{also_numbered}
 use Rattle.kept_promise.proofs.Fits.{FitLaws}
@@ -19,9 +23,12 @@ use Rattle.kept_promise.proofs.Steps.{Here, session_at}
 use Rattle.kept_promise.proofs.CloseSteps.{task_is, calls_are}
 use Rattle.kept_promise.proofs.Caches.{found_noted}
 use Rattle.kept_promise.proofs.Listings.{Looked, reads_at}
-use Rattle.kept_promise.proofs.Takings.{Noted, own_of, comes_taken}
+use Rattle.kept_promise.proofs.Takings.{Noted, own_of, single, comes_taken}
+use Rattle.kept_promise.proofs.Answered.{walk_code, walk_reply, walk_its}
+use Rattle.kept_promise.proofs.WalkSteps.{leads_walked}
+use Rattle.kept_promise.proofs.StepCases.{IsOfFile}
 use Rattle.kept_promise.proofs.Acted.{rest_down, leads_comes}
-use Rattle.kept_promise.proofs.Found.{took_finds, of_fetch}
+use Rattle.kept_promise.proofs.Found.{took_finds}
 use Rattle.kept_promise.proofs.Drops.{has_there, forgotten_there, leads_drops}
 use Rattle.kept_promise.proofs.Leading.{IsNoted, Leads, KeptHears}
 
@@ -94,24 +101,51 @@ heard_by k i seat r = acted k i seat r.0 r.1
 abbrev Heard : (book : Book) (k : Core) (qs : List Queue) (n : ℕ) (x : Session) (q : Queue) (ts : List Told) → Seat → client.State × ClientStep → Type 0
 Heard book k qs n x q ts seat r = Leads book (rest_down qs n q ts) (heard_by k x.owner seat r)
 
+abbrev Takes : (book : Book) (k : Core) (qs : List Queue) (n : ℕ) (x : Session) (q : Queue) (t : Told) (ts : List Told) (j : Job) → Here book k qs n x q t ts j → Stage → Type 0
+Takes book k qs n x q t ts j g s = Heard book k qs n x q ts (session_at book k qs n x q t ts j g).seat (took (idle (session_at book k qs n x q t ts j g).seat.client) (client.calls_of (session_at book k qs n x q t ts j g).seat.client) j.file s t.xid (reply_body t.reply))
+
 waited : (book : Book) (k : Core) (qs : List Queue) (n now : ℕ) (x : Session) (q : Queue) (t : Told) (ts : List Told) (j : Job) (g : Here book k qs n x q t ts j) → IsNoted book k (Hears n now (bytes_of t)) → parse_of (client.waiting_of (session_at book k qs n x q t ts j g).seat.client) (bytes_of t) ≡ Ok (told_message t)
     → (session_at book k qs n x q t ts j g).seat.client.task ≡ Some (record { file = j.file; stage = j.stage }) → has_call (client.pending_in j.stage) t.xid ≡ true
     → Heard book k qs n x q ts (session_at book k qs n x q t ts j g).seat (took (idle (session_at book k qs n x q t ts j g).seat.client) (client.calls_of (session_at book k qs n x q t ts j g).seat.client) j.file j.stage t.xid (reply_body t.reply))
-waited book k qs n now x q t ts j g noted read task own =
-    let h = session_at book k qs n x q t ts j g in
-    let mine = own_of book k qs n x q t ts j g own in
-    let all = (h.talk g.uncut).balanced.once t.xid in
-    let split = times_map_append (λ (c : Pending). c.xid) t.xid (client.pending_in j.stage) h.seat.client.forgotten in
-    let calls = ap (λ (l : List Pending). times t.xid (map (λ (c : Pending). c.xid) l)) (calls_are h.seat j g.job_is) in
-    leads_comes book k qs n x q t ts j g (took (idle h.seat.client) (client.calls_of h.seat.client) j.file j.stage t.xid (reply_body t.reply))
-    (took_finds (idle h.seat.client) (client.calls_of h.seat.client) j.file j.stage t.xid (reply_body t.reply) (of_fetch book x.taken j j.stage ((h.talk g.uncut).fetch j g.job_is)))
-    (comes_taken book k qs n x q t ts j g j.stage refl mine.0 mine.1 (omega (arith, all, split, calls))
-    (λ f is. notes book k n now x h.seat t j.file f noted g.at h.owner (h.here g.uncut).0 read (task ∙ ap (λ (s : Stage). Some (record { file = j.file; stage = s })) is) (subst (λ (s : Stage). has_call (client.pending_in s) t.xid ≡ true) is own))
-    (λ u is i d b at there. noted_is b (found_hashed h.seat.client now t j.file j.stage u task own is i d b at there))
-    (λ b at. noted_is b (named_hashed h.seat.client now t j.file j.stage task own b at)))
+waited book k qs n now x q t ts j g noted read task own = by j.stage refl
   where
     noted_is : (b : List ℕ) → Contains (client_hashed (session_at book k qs n x q t ts j g).seat.client (Ok (told_message t)) now) b → Contains (hashed_of book.moments) b
     noted_is b at = noted.hashed b (subst (λ (l : List (List ℕ)). Contains l b) (sym (hashed_is k n now x (session_at book k qs n x q t ts j g).seat t g.at (session_at book k qs n x q t ts j g).owner ((session_at book k qs n x q t ts j g).here g.uncut).0 read)) at)
+
+    mine : (i : ℕ) × (slice_get (client.pending_in j.stage) i ≡ Some (told_pending t))
+    mine = own_of book k qs n x q t ts j g own
+
+    -- one of a file
+    filed : IsOfFile j.stage → Takes book k qs n x q t ts j g j.stage
+    filed of =
+        let h = session_at book k qs n x q t ts j g in
+        let all = (h.talk g.uncut).balanced.once t.xid in
+        let split = times_map_append (λ (c : Pending). c.xid) t.xid (client.pending_in j.stage) h.seat.client.forgotten in
+        let calls = ap (λ (l : List Pending). times t.xid (map (λ (c : Pending). c.xid) l)) (calls_are h.seat j g.job_is) in
+        leads_comes book k qs n x q t ts j g (took (idle h.seat.client) (client.calls_of h.seat.client) j.file j.stage t.xid (reply_body t.reply))
+        (took_finds (idle h.seat.client) (client.calls_of h.seat.client) j.file j.stage t.xid (reply_body t.reply) of)
+        (comes_taken book k qs n x q t ts j g j.stage of refl mine.0 mine.1 (omega (arith, all, split, calls))
+        (λ f is. notes book k n now x h.seat t j.file f noted g.at h.owner (h.here g.uncut).0 read (task ∙ ap (λ (s : Stage). Some (record { file = j.file; stage = s })) is) (subst (λ (s : Stage). has_call (client.pending_in s) t.xid ≡ true) is own))
+        (λ u is i d b at there. noted_is b (found_hashed h.seat.client now t j.file j.stage u task own is i d b at there))
+        (λ b at. noted_is b (named_hashed h.seat.client now t j.file j.stage task own b at)))
+
+    -- one of a walk
+    walked : (y : ℕ) (w : Walk) → j.stage ≡ stage.Walking y w → Takes book k qs n x q t ts j g (stage.Walking y w)
+    walked y w at =
+        let h = session_at book k qs n x q t ts j g in
+        let asking = (subst (FetchOf book x.taken j) at ((h.talk g.uncut).fetch j g.job_is)).1.asking in
+        let p : record { xid = y; program = program.Nfs (nfs_proc (next_call w)) } ≡ told_pending t = single (record { xid = y; program = program.Nfs (nfs_proc (next_call w)) }) mine.0 t (ap (λ (s : Stage). slice_get (client.pending_in s) mine.0) (sym at) ∙ mine.1) in
+        let xid : y ≡ t.xid = ap (λ (z : Pending). z.xid) p in
+        let same : program.Nfs (nfs_proc (next_call w)) ≡ reply_program t.reply = ap (λ (z : Pending). z.program) p in
+        let r = walk_reply t.reply (subst (λ (z : Program). 8 ≤ code_of z) same (walk_code w.dir w.left w.goal asking)) in
+        let only : client.pending_in (stage.Walking t.xid w) ≡ told_pending t ∷ [] = ap (λ (z : Program). record { xid = t.xid; program = z } ∷ []) same in
+        let its = walk_its w r.0 (same ∙ ap reply_program r.1) in
+        let led = leads_walked book k qs n x q t ts j g w r.0 (at ∙ ap (λ z. stage.Walking z w) xid) r.1 only its in
+        subst (λ (z : ℕ). Takes book k qs n x q t ts j g (stage.Walking z w)) (sym xid) (subst (λ (b : Reply). Heard book k qs n x q ts h.seat (took (idle h.seat.client) (client.calls_of h.seat.client) j.file (stage.Walking t.xid w) t.xid (reply_body b))) (sym r.1) led)
+
+    by : (s : Stage) → j.stage ≡ s → Takes book k qs n x q t ts j g s
+    by (stage.Walking y w) at = walked y w at
+    by s at = subst (Takes book k qs n x q t ts j g) at (filed (subst IsOfFile (sym at) tt))
 
 takes : (book : Book) (k : Core) (qs : List Queue) (n now : ℕ) (x : Session) (q : Queue) (t : Told) (ts : List Told) → (kept : IsKept book k qs) → (at : numbered k.sessions n ≡ Some x) → (is : numbered qs n ≡ Some q) → q.downs ≡ t ∷ ts → x.cut ≡ false → IsNoted book k (Hears n now (bytes_of t))
     → parse_of (client.waiting_of (kept.sessions n x q at is).seat.client) (bytes_of t) ≡ Ok (told_message t)

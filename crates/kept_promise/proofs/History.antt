@@ -1,23 +1,27 @@
 -- The ways in which a history grows in a step: nothing of it changes, an operation is appended, one takes another form, or one takes effect.
-use Rattle.std.proofs.Common.{◌⊎◌, inl, inr, ◌≡◌, ℕ, suc, ◌+◌, ◌<◌, ◌≤◌, List, [], ◌∷◌, ◌++◌, length, Option, Some, None, true, false, refl, sym, ap, ◌∙◌, subst, arith}
+use Rattle.std.proofs.Common.{◌⊎◌, inl, inr, ◌≡◌, ℕ, zero, suc, ◌+◌, ◌<◌, ◌≤◌, List, [], ◌∷◌, ◌++◌, length, replicate, length-append, Option, Some, None, Bool, true, false, refl, sym, ap, ◌∙◌, subst, arith}
+use Rattle.std.proofs.lemmas.List.{length-replicate}
 use Rattle.register_model.specs.declared.op.Outcome.{Outcome}
 use Rattle.register_model.specs.declared.op.Outcome.TheVariants as told
 use Rattle.register_model.specs.declared.op.Word.TheVariants as words
-use Rattle.file_tree.specs.declared.entry.EntryKind.TheVariants as kind
 use Rattle.trace_replay.specs.Book.{first_version}
-use Rattle.kept_promise.proofs.Common.{slice_get, slice_set, not, is_some, sha1, Entry, changes, changed_before, value_from, is_lost, is_untold, content_of, Op, Word, Book, Or, value_at, version_at, is_running}
-use Rattle.kept_promise.proofs.Lists.{some_is, nothing_there, at_end, within, of_appended, kept_appended, of_replaced, at_replaced, else_replaced, count_more, true_and_false}
+use Rattle.file_tree.specs.declared.entry.EntryKind.{EntryKind}
+use Rattle.register_model.specs.Register.{IsFit}
+use Rattle.trace_replay.specs.Faithful.{IsKind, HasJournal, left_by as left_of}
+use Rattle.trace_replay.specs.Ops.{is_of_file}
+use Rattle.kept_promise.proofs.Common.{slice_get, slice_set, not, is_some, sha1, Entry, changes, changed_before, value_from, is_lost, is_untold, content_of, Op, Word, Book, Or, value_at, version_at, is_running, unwrap_or}
+use Rattle.kept_promise.proofs.Lists.{some_is, nothing_there, within, in_front, of_more, more_there, of_replicate, replicate_there, of_appended, kept_appended, of_replaced, at_replaced, else_replaced, true_and_false}
 use Rattle.kept_promise.proofs.Marks.{marks, mark_of, left_by, ArePast, unpointed, unchanging, made_before, marks_appended, marks_neither, marks_same, marks_before, marks_elsewhere, marks_later, marks_made, all_below, inserted_count, inserted_latest}
-use Rattle.kept_promise.proofs.Rights.{HasCommits, is_remote, Caused, IsRight, IsSound, IsUnmade}
-use Rattle.kept_promise.proofs.Growth.{Follows, follows_same, Grows, or_later, value_seen, version_seen, version_later, right_later}
+use Rattle.kept_promise.proofs.Rights.{Tells, kind_changes, gets_file, is_remote, Caused, IsRight, IsSound, IsUnmade, IsFitted}
+use Rattle.kept_promise.proofs.Growth.{Follows, follows_same, Grows, or_later, value_seen, version_seen, version_later, right_later, fitted_later, value_later}
 
 -- so many steps later, with these operations
 abbrev pub onward : Book → (steps : ℕ) → List Op → Book
 onward book n ops = record { opening = book.opening; ops = ops; steps = book.steps + n; journal = book.journal; entries = book.entries; moments = book.moments }
 
--- one step later, in which a change was made
-abbrev pub entered : Book → List Op → Entry → Book
-entered book ops e = record { opening = book.opening; ops = ops; steps = book.steps + 1; journal = book.journal ++ e ∷ []; entries = book.entries ++ (book.steps + 1) ∷ []; moments = book.moments }
+-- one step later, in which changes were made that the journal tells so
+abbrev pub entered : Book → List Op → List Entry → Book
+entered book ops es = record { opening = book.opening; ops = ops; steps = book.steps + 1; journal = book.journal ++ es; entries = book.entries ++ replicate (length es) (book.steps + 1); moments = book.moments }
 
 pub record Goes (book more : Book) (made ended : Option ℕ) : Type 0 where
   pub grows : Grows book more made ended
@@ -38,32 +42,31 @@ still_by book n ops sound same f = same f (book.steps + n + 1) ∙ marks_later f
 
 -- ---- the journal
 
--- each operation that has a point was there with it, and with the same file and value if it is a change; or its point is none of a change
-abbrev WasThere : Book → List Op → Type 0
-WasThere book ops = (k : ℕ) (q : Op) (p : ℕ) → slice_get ops k ≡ Some q → q.point ≡ Some p
+-- each operation that has a point was there with it; or its point is none of a change
+abbrev OldPoint : Book → List Op → Type 0
+OldPoint book ops = (k : ℕ) (q : Op) (p : ℕ) → slice_get ops k ≡ Some q → q.point ≡ Some p
     → ((s : Op) × (slice_get book.ops k ≡ Some s) × (s.word ≡ q.word) × (s.point ≡ Some p)) ⊎ ((changes q.word ≡ false) × ((i : ℕ) → slice_get book.entries i ≡ Some p → ⊥))
 
--- a change is that of a close, if it has a point
-close_is : (w : Word) → changes w ≡ true → (w ≡ words.Open) ⊎ (w ≡ words.Close) → w ≡ words.Close
-close_is w c (inl e) = absurd (open_not (ap changes (sym e) ∙ c))
-  where
-    open_not : changes words.Open ≡ true → ⊥
-    open_not e = absurd cc
-close_is w c (inr e) = e
+-- what a change left of its file
+left_stays : (o r : Op) → r.word ≡ o.word → r.value ≡ o.value → left_of r ≡ left_of o
+left_stays o r w v = ap (λ (z : Word). unwrap_or (value_from z r.value) []) w ∙ ap (λ (x : List ℕ). unwrap_or (value_from o.word x) []) v
 
-journal_grown : (book : Book) (n : ℕ) (ops : List Op) (made ended : Option ℕ) → Grows book (onward book n ops) made ended → WasThere book ops → ((k : ℕ) (o : Op) → slice_get book.ops k ≡ Some o → changes o.word ≡ true → (p : ℕ) → o.point ≡ Some p → o.word ≡ words.Close) → IsSound book → HasCommits (onward book n ops)
-journal_grown book n ops made ended g was closes sound = record {
+-- what an entry tells stays so
+tells_later : (book more : Book) (made ended : Option ℕ) (p : ℕ) (e : Entry) → Grows book more made ended → p ≤ book.steps → Tells book p e → Tells more p e
+tells_later book more made ended p e g le m =
+    let o : Op = m.1 in
+    let change : changes o.word ≡ true = kind_changes o.word e.kind m.3 in
+    let r = g.each m.0 o m.2 in
+    let point = r.2.point change p m.4 in
+    let left = left_stays o r.0 r.2.word (r.2.value change) in
+    (m.0, r.0, r.1, subst (λ (w : Word). IsKind w e.kind) (sym r.2.word) m.3, point.0, point.1 ∙ m.5, ap length left ∙ m.6, or_later book more made ended _ _ g (λ q. ap sha1 left ∙ q) m.7, m.8 ∙ ap (λ v. v + 1) (sym (version_later book more made ended e.file p g (omega (arith, le)))))
+
+journal_grown : (book : Book) (n : ℕ) (ops : List Op) (made ended : Option ℕ) → Grows book (onward book n ops) made ended → OldPoint book ops → IsSound book → HasJournal (onward book n ops)
+journal_grown book n ops made ended g was sound = record {
   count = sound.journal.count;
   rising = sound.journal.rising;
-  kinds = sound.journal.kinds;
-  made = λ i p e at is.
-      let m = sound.journal.made i p e at is in
-      let o : Op = m.1 in
-      let w : o.word ≡ words.Close = closes m.0 o m.2 m.3 p m.4 in
-      let r = g.each m.0 o m.2 in
-      let same : r.0.value ≡ o.value = r.2.value w in
-      let le = (sound.past i p at).1 in
-      (m.0, r.0, r.1, ap changes r.2.word ∙ m.3, r.2.point w p m.4, r.2.file ∙ m.5, ap length same ∙ m.6, or_later book (onward book n ops) made ended _ _ g (λ q. ap sha1 same ∙ q) m.7, m.8 ∙ ap (λ v. v + 1) (sym (version_later book (onward book n ops) made ended e.file p g (omega (arith, le)))));
+  apart = sound.journal.apart;
+  made = λ i p e at is file. tells_later book (onward book n ops) made ended p e g (sound.past i p at).1 (sound.journal.made i p e at is file);
   only = λ k p o at c e. elim (was k o p at e) [
     | inl s ↦ sound.journal.only k p s.0 s.1 (ap changes s.2 ∙ c) s.3
     | inr n ↦ absurd (true_and_false (changes o.word) c n.0)
@@ -72,18 +75,10 @@ journal_grown book n ops made ended g was closes sound = record {
     | inr n ↦ absurd (true_and_false (changes o.word) c n.0)
     | inl s ↦ elim (was m q p is d) [
       | inl t ↦ sound.journal.once k m p s.0 t.0 s.1 t.1 (ap changes s.2 ∙ c) s.3 t.3
-      | inr n ↦ let i = sound.journal.only k p s.0 s.1 (ap changes s.2 ∙ c) s.3 in absurd (n.1 i.0 i.1)
+      | inr n ↦ let i = sound.journal.only k p s.0 s.1 (ap changes s.2 ∙ c) s.3 in absurd (n.1 i.0 i.2)
     ]
   ];
 }
-
--- whatever is a change and has a point is a close
-pub closes_alone : (book : Book) → IsSound book → (k : ℕ) (o : Op) → slice_get book.ops k ≡ Some o → changes o.word ≡ true → (p : ℕ) → o.point ≡ Some p → o.word ≡ words.Close
-closes_alone book sound k o at c p e = by o.word c ((sound.rights k o at).pointed p e).2
-  where
-    by : (w : Word) → changes w ≡ true → is_remote w ≡ true → w ≡ words.Close
-    by words.Close c r = refl
-    by _ c r = absurd cc
 
 past_grown : (book : Book) (n i p : ℕ) → IsSound book → slice_get book.entries i ≡ Some p → (0 < p) × (p ≤ book.steps + n)
 past_grown book n i p sound at = let r = sound.past i p at in let le = r.1 in (r.0, omega (arith, le))
@@ -98,7 +93,8 @@ goes_same book n sound = record {
   grows = grows_same book n;
   sound = record {
     rights = λ k o at. right_later book (onward book n book.ops) None None o (grows_same book n) (sound.rights k o at);
-    journal = journal_grown book n book.ops None None (grows_same book n) (λ k q p at e. inl (q, at, refl, e)) (closes_alone book sound) sound;
+    fits = λ k o at. fitted_later book (onward book n book.ops) None None o o (grows_same book n) refl (λ c. (refl, refl)) (sound.rights k o at) (sound.fits k o at);
+    journal = journal_grown book n book.ops None None (grows_same book n) (λ k q p at e. inl (q, at, refl, e)) sound;
     past = λ i p at. past_grown book n i p sound at;
     alike = sound.alike;
   };
@@ -120,10 +116,14 @@ goes_appended book new none right sound = record {
       | inl is ↦ subst (IsRight (onward book 1 (book.ops ++ new ∷ []))) (sym is.1) right
       | inr was ↦ right_later book (onward book 1 (book.ops ++ new ∷ [])) None None o (grows_appended book new none) (sound.rights k o was)
     ];
+    fits = λ k o at. elim (of_appended book.ops new k o at) [
+      | inl is ↦ λ c p e. nothing_there p (sym none ∙ ap (λ (z : Op). z.point) (sym is.1) ∙ e)
+      | inr was ↦ fitted_later book (onward book 1 (book.ops ++ new ∷ [])) None None o o (grows_appended book new none) refl (λ c. (refl, refl)) (sound.rights k o was) (sound.fits k o was)
+    ];
     journal = journal_grown book 1 (book.ops ++ new ∷ []) None None (grows_appended book new none) (λ k q p at e. elim (of_appended book.ops new k q at) [
       | inl is ↦ nothing_there p (sym none ∙ ap (λ (z : Op). z.point) (sym is.1) ∙ e)
       | inr old ↦ inl (q, old, refl, e)
-    ]) (closes_alone book sound) sound;
+    ]) sound;
     past = λ i p at. past_grown book 1 i p sound at;
     alike = sound.alike;
   };
@@ -137,19 +137,17 @@ still_appended book new none sound = still_by book 1 (book.ops ++ new ∷ []) so
 -- what an operation may become in a step in which it makes no change
 pub record Becomes (book : Book) (made ended : Option ℕ) (j : ℕ) (o r : Op) : Type 0 where
   pub follows : Follows book made ended j o r
-  pub close_point : o.word ≡ words.Close → r.point ≡ o.point
+  pub change_point : changes o.word ≡ true → r.point ≡ o.point
+  pub change_file : changes o.word ≡ true → r.file ≡ o.file
   -- any other's point is none of a change
   pub point : (p : ℕ) → r.point ≡ Some p → (o.point ≡ Some p) ⊎ ((o.word ≡ words.Open) × ((i : ℕ) → slice_get book.entries i ≡ Some p → ⊥))
-  pub remote : (o.word ≡ words.Open) ⊎ (o.word ≡ words.Close)
-
-open_changes_not : (w : Word) → w ≡ words.Open → changes w ≡ false
-open_changes_not w e = ap changes e
 
 pub alike_becomes : (book : Book) (n : ℕ) (made ended : Option ℕ) (j : ℕ) (o r : Op) → slice_get book.ops j ≡ Some o → Becomes book made ended j o r → Alike book (onward book n (slice_set book.ops j r))
-alike_becomes book n made ended j o r at b f p = elim b.remote [
-  | inl w ↦ marks_neither f p book.ops j o r at (unchanging f p o (open_changes_not o.word w)) (unchanging f p r (open_changes_not r.word (b.follows.word ∙ w)))
-  | inr w ↦ marks_same f p book.ops j o r at b.follows.word b.follows.file (b.close_point w) (b.follows.value w)
-]
+alike_becomes book n made ended j o r at b f p = by (changes o.word) refl
+  where
+    by : (c : Bool) → changes o.word ≡ c → marks f p (slice_set book.ops j r) ≡ marks f p book.ops
+    by false c = marks_neither f p book.ops j o r at (unchanging f p o c) (unchanging f p r (ap changes b.follows.word ∙ c))
+    by true c = marks_same f p book.ops j o r at b.follows.word (b.change_file c) (b.change_point c) (b.follows.value c)
 
 each_replaced : (book : Book) (j : ℕ) (o r : Op) (made ended : Option ℕ) → slice_get book.ops j ≡ Some o → Follows book made ended j o r → (k : ℕ) (q : Op) → slice_get book.ops k ≡ Some q → (s : Op) × (slice_get (slice_set book.ops j r) k ≡ Some s) × Follows book made ended k q s
 each_replaced book j o r made ended at f k q is = elim (else_replaced book.ops j r k q is) [
@@ -170,61 +168,219 @@ goes_becomes book n made ended j o r at b right sound = record {
       | inl here ↦ subst (IsRight (onward book n (slice_set book.ops j r))) (sym here.1) right
       | inr there ↦ right_later book (onward book n (slice_set book.ops j r)) made ended q (grows_becomes book n made ended j o r at b) (sound.rights k q there.1)
     ];
-    journal = journal_grown book n (slice_set book.ops j r) made ended (grows_becomes book n made ended j o r at b) was (closes_alone book sound) sound;
+    fits = λ k q is. elim (of_replaced book.ops j r k q is) [
+      | inl here ↦ subst (IsFitted (onward book n (slice_set book.ops j r))) (sym here.1) (fitted_later book (onward book n (slice_set book.ops j r)) made ended o r (grows_becomes book n made ended j o r at b) b.follows.word (λ c. (b.change_file c, b.change_point c)) (sound.rights j o at) (sound.fits j o at))
+      | inr there ↦ fitted_later book (onward book n (slice_set book.ops j r)) made ended q q (grows_becomes book n made ended j o r at b) refl (λ c. (refl, refl)) (sound.rights k q there.1) (sound.fits k q there.1)
+    ];
+    journal = journal_grown book n (slice_set book.ops j r) made ended (grows_becomes book n made ended j o r at b) was sound;
     past = λ i p is. past_grown book n i p sound is;
     alike = sound.alike;
   };
 }
   where
-    was : WasThere book (slice_set book.ops j r)
+    was : OldPoint book (slice_set book.ops j r)
     was k q p is e = elim (of_replaced book.ops j r k q is) [
       | inr there ↦ inl (q, there.1, refl, e)
       | inl here ↦ elim (b.point p (ap (λ (x : Op). x.point) (sym here.1) ∙ e)) [
         | inl old ↦ inl (o, ap (slice_get book.ops) here.0 ∙ at, sym b.follows.word ∙ ap (λ (x : Op). x.word) (sym here.1), old)
-        | inr new ↦ inr (open_changes_not q.word (ap (λ (x : Op). x.word) here.1 ∙ b.follows.word ∙ new.0), new.1)
+        | inr new ↦ inr (ap (λ (x : Op). changes x.word) here.1 ∙ ap changes (b.follows.word ∙ new.0), new.1)
       ]
     ]
 
 pub still_becomes : (book : Book) (n : ℕ) (made ended : Option ℕ) (j : ℕ) (o r : Op) → slice_get book.ops j ≡ Some o → Becomes book made ended j o r → IsSound book → Still book (onward book n (slice_set book.ops j r))
 still_becomes book n made ended j o r at b sound = still_by book n (slice_set book.ops j r) sound (alike_becomes book n made ended j o r at b)
 
--- ---- one takes effect
+-- ---- changes are made
 
-abbrev pub made_op : Book → Op → Op
-made_op book o = record o { point = Some (book.steps + 1) }
+-- each entry is about a name
+abbrev pub AreNames : List Entry → Type 0
+AreNames es = (j : ℕ) (e : Entry) → slice_get es j ≡ Some e → is_of_file e.kind ≡ false
 
--- the journal's entry tells of it
-pub record IsEntryOf (book : Book) (o : Op) (e : Entry) : Type 0 where
-  pub kind_is : e.kind ≡ kind.Commit
-  pub file : o.file ≡ e.file
-  pub len : length o.value ≡ e.len
-  pub digest : Or book (sha1 o.value ≡ e.sha1)
-  pub version : e.version ≡ version_at book e.file (book.steps + 1) + 1
+-- how the operations stand beside the entries of a step, of which one at most is about a file
+record Enters (book : Book) (ops : List Op) (es : List Entry) (made : Option ℕ) : Type 0 where
+  grows : Grows book (entered book ops es) made None
+  single : (i j : ℕ) (d e : Entry) → i < j → slice_get es i ≡ Some d → slice_get es j ≡ Some e → is_of_file d.kind ≡ true → is_of_file e.kind ≡ true → ⊥
+  told : (j : ℕ) (e : Entry) → slice_get es j ≡ Some e → is_of_file e.kind ≡ true → Tells (entered book ops es) (book.steps + 1) e
+  was : (k : ℕ) (q : Op) (p : ℕ) → slice_get ops k ≡ Some q → q.point ≡ Some p
+      → ((s : Op) × (slice_get book.ops k ≡ Some s) × (s.word ≡ q.word) × (s.point ≡ Some p)) ⊎ ((p ≡ book.steps + 1) × (made ≡ Some k) × ((j : ℕ) × (e : Entry) × (slice_get es j ≡ Some e) × (is_of_file e.kind ≡ true)))
 
-pub follows_made : (book : Book) (j : ℕ) (o : Op) → IsUnmade o → Follows book (Some j) None j o (made_op book o)
-follows_made book j o u = record { client = refl; word = refl; file = refl; begin = refl; point = λ w p e. nothing_there p (sym u.1 ∙ e); value = λ w. refl; unmade = λ n v. absurd (n refl); end = λ e q. inl q; running = λ n e. e }
+-- the step of an entry of a list with more: it was there, or it is the new one
+step_of_entry : (book : Book) (n i p : ℕ) → IsSound book → slice_get (book.entries ++ replicate n (book.steps + 1)) i ≡ Some p → ((slice_get book.entries i ≡ Some p) × (p ≤ book.steps)) ⊎ ((j : ℕ) × (i ≡ length book.entries + j) × (p ≡ book.steps + 1))
+step_of_entry book n i p sound at = elim (of_more book.entries (replicate n (book.steps + 1)) i p at) [ inl old ↦ inl (old, (sound.past i p old).1) | inr new ↦ inr (new.0, new.1, of_replicate n (book.steps + 1) new.0 p new.2) ]
 
-pub grows_made : (book : Book) (e : Entry) (j : ℕ) (o : Op) → length book.entries ≡ length book.journal → slice_get book.ops j ≡ Some o → IsUnmade o → Grows book (entered book (slice_set book.ops j (made_op book o)) e) (Some j) None
-grows_made book e j o count at u = record {
+journal_entered : (book : Book) (ops : List Op) (es : List Entry) (made : Option ℕ) → Enters book ops es made → IsSound book → HasJournal (entered book ops es)
+journal_entered book ops es made h sound = record {
+  count = length-append book.entries (replicate n now) ∙ ap (λ (z : ℕ). length book.entries + z) (length-replicate n now) ∙ ap (λ (z : ℕ). z + n) sound.journal.count ∙ sym (length-append book.journal es);
+  rising = λ i j p q lt a b. elim (step_of_entry book n i p sound a) [
+    | inl old ↦ elim (step_of_entry book n j q sound b) [ inl both ↦ sound.journal.rising i j p q lt old.0 both.0 | inr new ↦ let le = old.1 in let is = new.2 in omega (arith, le, is) ]
+    | inr new ↦ elim (step_of_entry book n j q sound b) [ inl old ↦ let x = new.1 in let y = within book.entries j q old.0 in absurd (omega (arith, x, y, lt)) | inr both ↦ let x = new.2 in let y = both.2 in omega (arith, x, y) ]
+  ];
+  apart = λ i j p q d e lt a b c f x y. elim (step_of_entry book n i p sound a) [
+    | inl old ↦ elim (step_of_entry book n j q sound b) [
+      | inl both ↦ sound.journal.apart i j p q d e lt old.0 both.0 (entry_old i p d old.0 c) (entry_old j q e both.0 f) x y
+      | inr new ↦ let le = old.1 in let is = new.2 in omega (arith, le, is)
+    ]
+    | inr new ↦ elim (step_of_entry book n j q sound b) [
+      | inl old ↦ let z = new.1 in let w = within book.entries j q old.0 in absurd (omega (arith, z, w, lt))
+      | inr both ↦
+          let u = entry_new i new.0 d new.1 c in
+          let v = entry_new j both.0 e both.1 f in
+          let z = new.1 in
+          let w = both.1 in
+          absurd (h.single new.0 both.0 d e (omega (arith, z, w, lt)) u v x y)
+    ]
+  ];
+  made = λ i p e a b file. elim (step_of_entry book n i p sound a) [
+    | inl old ↦ tells_later book (entered book ops es) made None p e h.grows old.1 (sound.journal.made i p e old.0 (entry_old i p e old.0 b) file)
+    | inr new ↦ subst (λ (z : ℕ). Tells (entered book ops es) z e) (sym new.2) (h.told new.0 e (entry_new i new.0 e new.1 b) file)
+  ];
+  only = λ k p q at c e. elim (h.was k q p at e) [
+    | inl s ↦ let i = sound.journal.only k p s.0 s.1 (ap changes s.2 ∙ c) s.3 in (i.0, i.1, in_front book.entries (replicate n now) i.0 p i.2, in_front book.journal es i.0 i.1 i.3, i.4)
+    | inr new ↦
+        let j = new.2.0 in
+        let lt = within es j new.2.1 new.2.2 in
+        (length book.entries + j, new.2.1, more_there book.entries (replicate n now) j now (replicate_there n now j lt) ∙ ap Some (sym new.0), ap (λ (z : ℕ). slice_get (book.journal ++ es) (z + j)) sound.journal.count ∙ more_there book.journal es j new.2.1 new.2.2, new.2.3)
+  ];
+  once = λ k m p o q a b c e f. elim (h.was k o p a e) [
+    | inl s ↦ elim (h.was m q p b f) [
+      | inl t ↦ sound.journal.once k m p s.0 t.0 s.1 t.1 (ap changes s.2 ∙ c) s.3 t.3
+      | inr new ↦ let le = ((sound.rights k s.0 s.1).pointed p s.3).1 in let is = new.0 in absurd (omega (arith, le, is))
+    ]
+    | inr new ↦ elim (h.was m q p b f) [
+      | inl t ↦ let le = ((sound.rights m t.0 t.1).pointed p t.3).1 in let is = new.0 in absurd (omega (arith, le, is))
+      | inr both ↦ some_is k m (sym new.1 ∙ both.1)
+    ]
+  ];
+}
+  where
+    n : ℕ
+    n = length es
+
+    now : ℕ
+    now = book.steps + 1
+
+    entry_old : (i p : ℕ) (e : Entry) → slice_get book.entries i ≡ Some p → slice_get (book.journal ++ es) i ≡ Some e → slice_get book.journal i ≡ Some e
+    entry_old i p e at is = elim (of_more book.journal es i e is) [ inl old ↦ old | inr new ↦ let x = new.1 in let y = within book.entries i p at in let z = sound.journal.count in absurd (omega (arith, x, y, z)) ]
+
+    entry_new : (i j : ℕ) (e : Entry) → i ≡ length book.entries + j → slice_get (book.journal ++ es) i ≡ Some e → slice_get es j ≡ Some e
+    entry_new i j e at is = elim (of_more book.journal es i e is) [
+      | inl old ↦ let y = within book.journal i e old in let z = sound.journal.count in absurd (omega (arith, at, y, z))
+      | inr new ↦ let x = new.1 in let z = sound.journal.count in let same : new.0 ≡ j = omega (arith, at, x, z) in subst (λ (m : ℕ). slice_get es m ≡ Some e) same new.2
+    ]
+
+-- no entry is of a step to come
+past_entered : (book : Book) (n i p : ℕ) → IsSound book → slice_get (book.entries ++ replicate n (book.steps + 1)) i ≡ Some p → (0 < p) × (p ≤ book.steps + 1)
+past_entered book n i p sound at = elim (of_more book.entries (replicate n (book.steps + 1)) i p at) [
+  | inl old ↦ past_grown book 1 i p sound old
+  | inr new ↦ let is = of_replicate n (book.steps + 1) new.0 p new.2 in (omega (arith, is), omega (arith, is))
+]
+
+steps_new : (book : Book) (n j p : ℕ) → slice_get (book.entries ++ replicate n (book.steps + 1)) j ≡ Some p → (slice_get book.entries j ≡ Some p) ⊎ (book.steps < p)
+steps_new book n j p at = elim (of_more book.entries (replicate n (book.steps + 1)) j p at) [ inl old ↦ inl old | inr new ↦ let is = of_replicate n (book.steps + 1) new.0 p new.2 in inr (omega (arith, is)) ]
+
+-- ---- names alone change
+
+pub grows_named : (book : Book) (es : List Entry) → Grows book (entered book book.ops es) None None
+grows_named book es = record {
   opening = refl;
   happened = λ m h. h;
   hashed = λ b h. h;
   passes = omega arith;
-  steps_kept = λ i p is. kept_appended book.entries (book.steps + 1) i p is;
-  entries_new = λ i p is. elim (of_appended book.entries (book.steps + 1) i p is) [ inl new ↦ let q = new.1 in inr (omega (arith, q)) | inr old ↦ inl old ];
-  journal_kept = λ i d is. kept_appended book.journal e i d is;
-  values = λ f p le. marks_before f p (book.steps + 1) book.ops j o (made_op book o) at u.1 refl le;
-  each = each_replaced book j o (made_op book o) (Some j) None at (follows_made book j o u);
+  steps_kept = λ i p is. in_front book.entries (replicate (length es) (book.steps + 1)) i p is;
+  entries_new = λ i p is. steps_new book (length es) i p is;
+  journal_kept = λ i d is. in_front book.journal es i d is;
+  values = λ f p le. refl;
+  each = λ k o at. (o, at, follows_same book None None k o);
 }
 
-right_made : (book : Book) (e : Entry) (j : ℕ) (o : Op) → IsRight book o → IsUnmade o → IsRight (entered book (slice_set book.ops j (made_op book o)) e) (made_op book o)
-right_made book e j o r u = record {
+pub goes_named : (book : Book) (es : List Entry) → AreNames es → IsSound book → Goes book (entered book book.ops es) None None
+goes_named book es names sound = record {
+  grows = grows_named book es;
+  sound = record {
+    rights = λ k o at. right_later book (entered book book.ops es) None None o (grows_named book es) (sound.rights k o at);
+    fits = λ k o at. fitted_later book (entered book book.ops es) None None o o (grows_named book es) refl (λ c. (refl, refl)) (sound.rights k o at) (sound.fits k o at);
+    journal = journal_entered book book.ops es None (record {
+      grows = grows_named book es;
+      single = λ i j d e lt a b c f. true_and_false (is_of_file d.kind) c (names i d a);
+      told = λ j e at file. absurd (true_and_false (is_of_file e.kind) file (names j e at));
+      was = λ k q p at e. inl (q, at, refl, e);
+    }) sound;
+    past = λ i p at. past_entered book (length es) i p sound at;
+    alike = sound.alike;
+  };
+}
+
+pub still_named : (book : Book) (es : List Entry) → IsSound book → Still book (entered book book.ops es)
+still_named book es sound f = marks_later f (book.steps + 1) (book.steps + 1 + 1) (book.steps + 1) book.ops (points_past book sound) (omega arith) (omega arith)
+
+-- ---- one takes effect
+
+-- an operation changed this file now
+abbrev pub made_op : Book → (file : ℕ) → Op → Op
+made_op book f o = record o { file = f; point = Some (book.steps + 1) }
+
+abbrev pub made_book : Book → List Entry → (j file : ℕ) → Op → Book
+made_book book es j f o = entered book (slice_set book.ops j (made_op book f o)) es
+
+-- The journal's entry tells of it; those behind it are about names.
+pub record IsEntryOf (book : Book) (f : ℕ) (o : Op) (e : Entry) : Type 0 where
+  pub kind_is : IsKind o.word e.kind
+  pub file : f ≡ e.file
+  pub len : length (left_of o) ≡ e.len
+  pub digest : Or book (sha1 (left_of o) ≡ e.sha1)
+  pub version : e.version ≡ version_at book e.file (book.steps + 1) + 1
+  -- a close has its file, which is what it must be
+  pub own : o.word ≡ words.Close → f ≡ o.file
+  pub positive : 1 < f
+  pub fit : IsFit o.word (value_at book f (book.steps + 1))
+
+kind_of_file : (w : Word) (k : EntryKind) → IsKind w k → is_of_file k ≡ true
+kind_of_file words.Close k h = ap is_of_file h
+kind_of_file words.Make k h = ap is_of_file h
+kind_of_file words.Remove k h = ap is_of_file h
+kind_of_file words.Rename k h = ap is_of_file h
+kind_of_file _ k h = absurd h
+
+pub follows_made : (book : Book) (f j : ℕ) (o : Op) → (o.word ≡ words.Close → f ≡ o.file) → IsUnmade o → Follows book (Some j) None j o (made_op book f o)
+follows_made book f j o own u = record {
+  client = refl;
+  word = refl;
+  file = λ n w. own (is_close o.word u.0 w);
+  close_file = own;
+  own_file = λ c n. absurd (n refl);
+  begin = refl;
+  point = λ w p e. nothing_there p (sym u.1 ∙ e);
+  value = λ w. refl;
+  unmade = λ n v. absurd (n refl);
+  end = λ e q. inl q;
+  running = λ n e. e;
+}
+  where
+    is_close : (w : Word) → changes w ≡ true → gets_file w ≡ false → w ≡ words.Close
+    is_close words.Close c g = refl
+    is_close _ c g = absurd cc
+
+pub grows_made : (book : Book) (es : List Entry) (f j : ℕ) (o : Op) → (o.word ≡ words.Close → f ≡ o.file) → slice_get book.ops j ≡ Some o → IsUnmade o → Grows book (made_book book es j f o) (Some j) None
+grows_made book es f j o own at u = record {
+  opening = refl;
+  happened = λ m h. h;
+  hashed = λ b h. h;
+  passes = omega arith;
+  steps_kept = λ i p is. in_front book.entries (replicate (length es) (book.steps + 1)) i p is;
+  entries_new = λ i p is. steps_new book (length es) i p is;
+  journal_kept = λ i d is. in_front book.journal es i d is;
+  values = λ g p le. marks_before g p (book.steps + 1) book.ops j o (made_op book f o) at u.1 refl le;
+  each = each_replaced book j o (made_op book f o) (Some j) None at (follows_made book f j o own u);
+}
+
+right_made : (book : Book) (es : List Entry) (f j : ℕ) (o : Op) → IsRight book o → IsUnmade o → IsRight (made_book book es j f o) (made_op book f o)
+right_made book es f j o r u = record {
   cause = by o.outcome u.2 r.cause;
   begun = let b = r.begun in omega (arith, b);
-  pointed = λ p q. let is = some_is (book.steps + 1) p q in let b = r.begun in (omega (arith, b, is), omega (arith, is), ap is_remote u.0);
+  pointed = λ p q. let is = some_is (book.steps + 1) p q in let b = r.begun in (omega (arith, b, is), omega (arith, is), remote o.outcome u.2 r.cause);
   past = λ d q. let p = r.past d q in let le = p.1 in (p.0, omega (arith, le));
   ends = r.ends;
-  within = λ l p d f s. absurd (ended o.outcome u.2 l d s r.ends);
+  within = λ l p d g s. absurd (ended o.outcome u.2 l d s r.ends);
   failed = λ w c n. absurd (true_and_false (is_untold o.outcome) u.2 n);
 }
   where
@@ -233,122 +389,101 @@ right_made book e j o r u = record {
     ended told.Running u l d s ends = absurd (true_and_false (is_some o.end) (ap is_some s) ends)
     ended _ u l d s ends = absurd cc
 
-    by : (t : Outcome) → is_untold t ≡ true → Caused book o t → Caused (entered book (slice_set book.ops j (made_op book o)) e) (made_op book o) t
+    remote : (t : Outcome) → is_untold t ≡ true → Caused book o t → is_remote o.word ≡ true
+    remote told.Lost u h = h.0
+    remote told.Running u h = h.0
+    remote t u h = absurd cc
+
+    by : (t : Outcome) → is_untold t ≡ true → Caused book o t → Caused (made_book book es j f o) (made_op book f o) t
     by told.Lost u h = (h.0, record { end = h.1.end; end_is = h.1.end_is; moment = h.1.moment; there = h.1.there; step_is = h.1.step_is; event_is = h.1.event_is })
     by told.Running u h = h
     by t u h = absurd cc
 
--- the entry of its number stands where the step does
-entry_there : (book : Book) (e : Entry) (i : ℕ) → length book.entries ≡ length book.journal → i ≡ length book.entries → slice_get (book.journal ++ e ∷ []) i ≡ Some e
-entry_there book e i count is = ap (slice_get (book.journal ++ e ∷ [])) (is ∙ count) ∙ at_end book.journal e
+fitted_made : (book : Book) (es : List Entry) (f j : ℕ) (o : Op) → (o.word ≡ words.Close → f ≡ o.file) → slice_get book.ops j ≡ Some o → 1 < f → IsFit o.word (value_at book f (book.steps + 1)) → IsUnmade o → IsFitted (made_book book es j f o) (made_op book f o)
+fitted_made book es f j o own at positive fit u c p q =
+    let now : book.steps + 1 ≡ p = some_is (book.steps + 1) p q in
+    (positive, subst (IsFit o.word) (sym (value_later book (made_book book es j f o) (Some j) None f p (grows_made book es f j o own at u) (omega (arith, now)) ∙ ap (value_at book f) (sym now))) fit)
 
-pub goes_made : (book : Book) (e : Entry) (j : ℕ) (o : Op) → IsEntryOf book o e → slice_get book.ops j ≡ Some o → IsUnmade o → IsSound book → Goes book (entered book (slice_set book.ops j (made_op book o)) e) (Some j) None
-goes_made book e j o tells at u sound = record {
+pub goes_made : (book : Book) (e : Entry) (ns : List Entry) (f j : ℕ) (o : Op) → IsEntryOf book f o e → AreNames ns → slice_get book.ops j ≡ Some o → IsUnmade o → IsSound book → Goes book (made_book book (e ∷ ns) j f o) (Some j) None
+goes_made book e ns f j o tells names at u sound = record {
   grows = grows;
   sound = record {
     rights = λ k q is. elim (of_replaced book.ops j new k q is) [
-      | inl here ↦ subst (IsRight more) (sym here.1) (right_made book e j o (sound.rights j o at) u)
+      | inl here ↦ subst (IsRight more) (sym here.1) (right_made book (e ∷ ns) f j o (sound.rights j o at) u)
       | inr there ↦ right_later book more (Some j) None q grows (sound.rights k q there.1)
     ];
-    journal = record {
-      count = count_more book.entries (book.steps + 1) ∙ ap suc sound.journal.count ∙ sym (count_more book.journal e);
-      rising = λ i k p q lt a b. elim (of_appended book.entries (book.steps + 1) k q b) [
-        | inl last ↦ elim (of_appended book.entries (book.steps + 1) i p a) [
-          | inl both ↦ let x = last.0 in let y = both.0 in absurd (omega (arith, x, y, lt))
-          | inr old ↦ let le = (sound.past i p old).1 in let is = last.1 in omega (arith, le, is)
-        ]
-        | inr there ↦ elim (of_appended book.entries (book.steps + 1) i p a) [
-          | inl new ↦ let x = new.0 in let y = within book.entries k q there in absurd (omega (arith, x, y, lt))
-          | inr old ↦ sound.journal.rising i k p q lt old there
-        ]
+    fits = λ k q is. elim (of_replaced book.ops j new k q is) [
+      | inl here ↦ subst (IsFitted more) (sym here.1) (fitted_made book (e ∷ ns) f j o tells.own at tells.positive tells.fit u)
+      | inr there ↦ fitted_later book more (Some j) None q q grows refl (λ c. (refl, refl)) (sound.rights k q there.1) (sound.fits k q there.1)
+    ];
+    journal = journal_entered book (slice_set book.ops j new) (e ∷ ns) (Some j) (record {
+      grows = grows;
+      single = single;
+      told = told_new;
+      was = λ k q p is t. elim (of_replaced book.ops j new k q is) [
+        | inr there ↦ inl (q, there.1, refl, t)
+        | inl here ↦ inr (sym (some_is (book.steps + 1) p (ap (λ (z : Op). z.point) (sym here.1) ∙ t)), ap (λ (n : ℕ). Some n) (sym here.0), (0, e, refl, kind_of_file o.word e.kind tells.kind_is))
       ];
-      kinds = λ i d b. elim (of_appended book.journal e i d b) [
-        | inl last ↦ ap (λ (z : Entry). z.kind) last.1 ∙ tells.kind_is
-        | inr old ↦ sound.journal.kinds i d old
-      ];
-      made = λ i p d a b. elim (of_appended book.entries (book.steps + 1) i p a) [
-        | inl last ↦
-            let same : d ≡ e = some_is d e (sym b ∙ entry_there book e i sound.journal.count last.0) in
-            let now : p ≡ book.steps + 1 = last.1 in (
-              j,
-              new,
-              at_replaced book.ops j new o at,
-              ap changes u.0,
-              ap (λ n. Some n) (sym now),
-              tells.file ∙ ap (λ (z : Entry). z.file) (sym same),
-              tells.len ∙ ap (λ (z : Entry). z.len) (sym same),
-              or_later book more (Some j) None _ _ grows (λ q. q ∙ ap (λ (z : Entry). z.sha1) (sym same)) tells.digest,
-              ap (λ (z : Entry). z.version) same ∙ tells.version ∙ ap (λ n. n + 1) (sym (ap (λ (z : Entry). version_at more z.file p) same ∙ ap (version_at more e.file) now ∙ version_later book more (Some j) None e.file (book.steps + 1) grows (omega arith))),
-            )
-        | inr old ↦
-            let m = sound.journal.made i p d old (elim (of_appended book.journal e i d b) [ inr was ↦ was | inl new_one ↦ let x = new_one.0 in let y = within book.entries i p old in let z = sound.journal.count in absurd (omega (arith, x, y, z)) ]) in
-            let w = closes_alone book sound m.0 m.1 m.2 m.3 p m.4 in
-            let r = grows.each m.0 m.1 m.2 in
-            let same : r.0.value ≡ m.1.value = r.2.value w in
-            let le = (sound.past i p old).1 in
-            (m.0, r.0, r.1, ap changes r.2.word ∙ m.3, r.2.point w p m.4, r.2.file ∙ m.5, ap length same ∙ m.6, or_later book more (Some j) None _ _ grows (λ q. ap sha1 same ∙ q) m.7, m.8 ∙ ap (λ v. v + 1) (sym (version_later book more (Some j) None d.file p grows (omega (arith, le)))))
-      ];
-      only = λ k p q is c t. elim (of_replaced book.ops j new k q is) [
-        | inl here ↦ (length book.entries, at_end book.entries (book.steps + 1) ∙ ap (λ (z : Op). z.point) (sym here.1) ∙ t)
-        | inr there ↦ let i = sound.journal.only k p q there.1 c t in (i.0, kept_appended book.entries (book.steps + 1) i.0 p i.1)
-      ];
-      once = λ k m p q r a b c t v. elim (of_replaced book.ops j new k q a) [
-        | inl here ↦ elim (of_replaced book.ops j new m r b) [
-          | inl both ↦ here.0 ∙ sym both.0
-          | inr there ↦
-              let now : book.steps + 1 ≡ p = some_is (book.steps + 1) p (ap (λ (z : Op). z.point) (sym here.1) ∙ t) in
-              let le = ((sound.rights m r there.1).pointed p v).1 in
-              absurd (omega (arith, le, now))
-        ]
-        | inr there ↦ elim (of_replaced book.ops j new m r b) [
-          | inl here ↦
-              let now : book.steps + 1 ≡ p = some_is (book.steps + 1) p (ap (λ (z : Op). z.point) (sym here.1) ∙ v) in
-              let le = ((sound.rights k q there.1).pointed p t).1 in
-              absurd (omega (arith, le, now))
-          | inr both ↦ sound.journal.once k m p q r there.1 both.1 c t v
-        ]
-      ];
-    };
-    past = λ i p a. elim (of_appended book.entries (book.steps + 1) i p a) [ inl last ↦ let is = last.1 in (omega (arith, is), omega (arith, is)) | inr old ↦ past_grown book 1 i p sound old ];
+    }) sound;
+    past = λ i p a. past_entered book (length (e ∷ ns)) i p sound a;
     alike = sound.alike;
   };
 }
   where
     new : Op
-    new = made_op book o
+    new = made_op book f o
 
     more : Book
-    more = entered book (slice_set book.ops j new) e
+    more = made_book book (e ∷ ns) j f o
 
     grows : Grows book more (Some j) None
-    grows = grows_made book e j o sound.journal.count at u
+    grows = grows_made book (e ∷ ns) f j o tells.own at u
+
+    single : (i k : ℕ) (a b : Entry) → i < k → slice_get (e ∷ ns) i ≡ Some a → slice_get (e ∷ ns) k ≡ Some b → is_of_file a.kind ≡ true → is_of_file b.kind ≡ true → ⊥
+    single i zero a b lt x y c d = omega (arith, lt)
+    single i (suc k) a b lt x y c d = true_and_false (is_of_file b.kind) d (names k b y)
+
+    told_new : (i : ℕ) (d : Entry) → slice_get (e ∷ ns) i ≡ Some d → is_of_file d.kind ≡ true → Tells more (book.steps + 1) d
+    told_new zero d is file =
+        let same : e ≡ d = some_is e d is in
+        subst (Tells more (book.steps + 1)) same (
+          j,
+          new,
+          at_replaced book.ops j new o at,
+          tells.kind_is,
+          refl,
+          tells.file,
+          tells.len,
+          or_later book more (Some j) None _ _ grows (λ q. q) tells.digest,
+          tells.version ∙ ap (λ n. n + 1) (sym (version_later book more (Some j) None e.file (book.steps + 1) grows (omega arith))),
+        )
+    told_new (suc i) d is file = absurd (true_and_false (is_of_file d.kind) file (names i d is))
 
 -- ---- what the file is then
 
-made_changes : (book : Book) (o : Op) → IsUnmade o → changed_before o.file (book.steps + 2) (made_op book o) ≡ true
-made_changes book o u = made_before o.file (book.steps + 2) (book.steps + 1) (made_op book o) (ap changes u.0) refl refl (omega arith)
+made_changes : (book : Book) (f : ℕ) (o : Op) → IsUnmade o → changed_before f (book.steps + 2) (made_op book f o) ≡ true
+made_changes book f o u = made_before f (book.steps + 2) (book.steps + 1) (made_op book f o) u.0 refl refl (omega arith)
 
-pub value_now : (book : Book) (e : Entry) (j : ℕ) (o : Op) → slice_get book.ops j ≡ Some o → IsUnmade o → IsSound book → value_at (entered book (slice_set book.ops j (made_op book o)) e) o.file (book.steps + 2) ≡ Some o.value
-value_now book e j o at u sound =
-    let more = entered book (slice_set book.ops j (made_op book o)) e in
-    let i = marks_made o.file (book.steps + 2) book.ops j o (made_op book o) at u.1 (made_changes book o u) in
-    value_seen more o.file (book.steps + 2)
-    ∙ ap (left_by (content_of book.opening o.file)) (inserted_latest (mark_of (made_op book o)) (marks o.file (book.steps + 2) book.ops) (marks o.file (book.steps + 2) (slice_set book.ops j (made_op book o))) i (all_below o.file (book.steps + 2) (book.steps + 1) book.ops (omega arith) (points_past book sound)))
-    ∙ ap (λ w. value_from w o.value) u.0
+pub value_now : (book : Book) (es : List Entry) (f j : ℕ) (o : Op) → slice_get book.ops j ≡ Some o → IsUnmade o → IsSound book → value_at (made_book book es j f o) f (book.steps + 2) ≡ value_from o.word o.value
+value_now book es f j o at u sound =
+    let more = made_book book es j f o in
+    let i = marks_made f (book.steps + 2) book.ops j o (made_op book f o) at u.1 (made_changes book f o u) in
+    value_seen more f (book.steps + 2)
+    ∙ ap (left_by (content_of book.opening f)) (inserted_latest (mark_of (made_op book f o)) (marks f (book.steps + 2) book.ops) (marks f (book.steps + 2) (slice_set book.ops j (made_op book f o))) i (all_below f (book.steps + 2) (book.steps + 1) book.ops (omega arith) (points_past book sound)))
 
 one_more : (n first : ℕ) → suc n + first ≡ (n + first) + 1
 one_more n first = omega arith
 
-pub version_now : (book : Book) (e : Entry) (j : ℕ) (o : Op) → slice_get book.ops j ≡ Some o → IsUnmade o → IsSound book → version_at (entered book (slice_set book.ops j (made_op book o)) e) o.file (book.steps + 2) ≡ version_at book o.file (book.steps + 1) + 1
-version_now book e j o at u sound =
-    let more = entered book (slice_set book.ops j (made_op book o)) e in
-    let first : ℕ = first_version (content_of book.opening o.file) in
-    let i = marks_made o.file (book.steps + 2) book.ops j o (made_op book o) at u.1 (made_changes book o u) in
-    version_seen more o.file (book.steps + 2)
-    ∙ ap (λ n. n + first) (inserted_count (mark_of (made_op book o)) (marks o.file (book.steps + 2) book.ops) (marks o.file (book.steps + 2) (slice_set book.ops j (made_op book o))) i)
-    ∙ ap (λ ms. suc (length ms) + first) (marks_later o.file (book.steps + 1) (book.steps + 2) (book.steps + 1) book.ops (points_past book sound) (omega arith) (omega arith))
-    ∙ one_more (length (marks o.file (book.steps + 1) book.ops)) first
-    ∙ ap (λ n. n + 1) (sym (version_seen book o.file (book.steps + 1)))
+pub version_now : (book : Book) (es : List Entry) (f j : ℕ) (o : Op) → slice_get book.ops j ≡ Some o → IsUnmade o → IsSound book → version_at (made_book book es j f o) f (book.steps + 2) ≡ version_at book f (book.steps + 1) + 1
+version_now book es f j o at u sound =
+    let more = made_book book es j f o in
+    let first : ℕ = first_version (content_of book.opening f) in
+    let i = marks_made f (book.steps + 2) book.ops j o (made_op book f o) at u.1 (made_changes book f o u) in
+    version_seen more f (book.steps + 2)
+    ∙ ap (λ n. n + first) (inserted_count (mark_of (made_op book f o)) (marks f (book.steps + 2) book.ops) (marks f (book.steps + 2) (slice_set book.ops j (made_op book f o))) i)
+    ∙ ap (λ ms. suc (length ms) + first) (marks_later f (book.steps + 1) (book.steps + 2) (book.steps + 1) book.ops (points_past book sound) (omega arith) (omega arith))
+    ∙ one_more (length (marks f (book.steps + 1) book.ops)) first
+    ∙ ap (λ n. n + 1) (sym (version_seen book f (book.steps + 1)))
 
-pub marks_else : (book : Book) (j : ℕ) (o : Op) (f : ℕ) → slice_get book.ops j ≡ Some o → IsUnmade o → (o.file ≡ f → ⊥) → IsSound book → marks f (book.steps + 2) (slice_set book.ops j (made_op book o)) ≡ marks f (book.steps + 1) book.ops
-marks_else book j o f at u apart sound = marks_elsewhere f (book.steps + 2) book.ops j o (made_op book o) at u.1 apart ∙ marks_later f (book.steps + 1) (book.steps + 2) (book.steps + 1) book.ops (points_past book sound) (omega arith) (omega arith)
+pub marks_else : (book : Book) (f j : ℕ) (o : Op) (g : ℕ) → slice_get book.ops j ≡ Some o → IsUnmade o → (f ≡ g → ⊥) → IsSound book → marks g (book.steps + 2) (slice_set book.ops j (made_op book f o)) ≡ marks g (book.steps + 1) book.ops
+marks_else book f j o g at u apart sound = marks_elsewhere g (book.steps + 2) book.ops j o (made_op book f o) at u.1 apart ∙ marks_later g (book.steps + 1) (book.steps + 2) (book.steps + 1) book.ops (points_past book sound) (omega arith) (omega arith)

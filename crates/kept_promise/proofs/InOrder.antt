@@ -76,8 +76,8 @@ place_over j i v st more y (Send m s b) g h =
 place_over j i v st more y _ g h = tt
 
 pub want_over : (book : Book) (j i : Job) (st more : Store) (y : ℕ) (r : Reply) → GoesOver j i st more y → Wanted book (Some j) y r → Wanted book (Some i) y r
-want_over book j i st more y (Made a) g h = absurd (not_storing_making st y h.0.1 (stage_of j h.0.0 (stage.Storing st) (stage.Making y h.0.1) h.0.2 g.was h.0.3))
-want_over book j i st more y (Changed (Failed s u)) g h = absurd (not_storing_committing st y (stage_of j h.0.0 (stage.Storing st) (stage.Committing y) h.0.2 g.was h.0.3))
+want_over book j i st more y (Made a) g h = absurd (not_storing_making st y h.1 (stage_of j h.0 (stage.Storing st) (stage.Making y h.1) h.2 g.was h.3))
+want_over book j i st more y (Changed (Failed s u)) g h = absurd (not_storing_committing st y (stage_of j h.0 (stage.Storing st) (stage.Committing y) h.2 g.was h.3))
 want_over book j i st more y (Named a) g h = (store_over j i st more y way.Named g h.0, h.1)
 want_over book j i st more y (Stored a) g h = (store_over j i st more y way.Whole g h.0, h.1)
 want_over book j i st more y _ g h = tt
@@ -92,8 +92,8 @@ idle_call j v st y (Send m s b) was none h = let o = store_of_job j st y way.Who
 idle_call j v st y _ was none h = tt
 
 pub idle_reply : (book : Book) (j : Job) (st : Store) (y : ℕ) (r : Reply) → j.stage ≡ stage.Storing st → st.under ≡ [] → Wanted book (Some j) y r → IsFetched r
-idle_reply book j st y (Made a) was none h = not_storing_making st y h.0.1 (stage_of j h.0.0 (stage.Storing st) (stage.Making y h.0.1) h.0.2 was h.0.3)
-idle_reply book j st y (Changed (Failed s u)) was none h = not_storing_committing st y (stage_of j h.0.0 (stage.Storing st) (stage.Committing y) h.0.2 was h.0.3)
+idle_reply book j st y (Made a) was none h = not_storing_making st y h.1 (stage_of j h.0 (stage.Storing st) (stage.Making y h.1) h.2 was h.3)
+idle_reply book j st y (Changed (Failed s u)) was none h = not_storing_committing st y (stage_of j h.0 (stage.Storing st) (stage.Committing y) h.2 was h.3)
 idle_reply book j st y (Named a) was none h = let o = store_of_job j st y way.Named was h.0 in nothing_there h.0.call (ap (λ l. store_at l y) (sym none) ∙ ap (λ (z : Store). store_at z.under y) (sym o.1) ∙ h.0.found)
 idle_reply book j st y (Stored a) was none h = let o = store_of_job j st y way.Whole was h.0 in nothing_there h.0.call (ap (λ l. store_at l y) (sym none) ∙ ap (λ (z : Store). store_at z.under y) (sym o.1) ∙ h.0.found)
 idle_reply book j st y _ was none h = tt

@@ -14,8 +14,9 @@ use Rattle.kept_promise.proofs.Shelves.{of_lookup}
 use Rattle.kept_promise.proofs.Ordered.{orderly_new}
 use Rattle.kept_promise.proofs.Facts.{IsTalk, IsSession, IsSeat, IsMatched, IsKept}
 use Rattle.kept_promise.proofs.Leading.{Leads, KeptJoins}
-use Rattle.kept_promise.proofs.Takes.{file_still}
+use Rattle.kept_promise.proofs.Takes.{file_still, fresh_still}
 use Rattle.kept_promise.proofs.Hangs.{leads_quiet}
+use Rattle.kept_promise.proofs.Growth.{there_later}
 
 -- ---- lists with one more
 
@@ -122,7 +123,7 @@ joined_now book k qs c n seat kept number at unlinked =
       journal = kept.journal;
       entries = refl;
       sound = (goes_same book 2 kept.sound).sound;
-      server = record { held = λ f. file_still book more None None f (server.file_at s.tree f) g (still_same book 2 kept.sound) (kept.server.held f); bounded = kept.server.bounded; commits = kept.server.commits; changes = kept.server.changes; bytes = kept.server.bytes; lengths = kept.server.lengths; targets = kept.server.targets; xids = kept.server.xids };
+      server = record { held = λ f. file_still book more None None f (server.file_at s.tree f) g (still_same book 2 kept.sound) (kept.server.held f); fresh = fresh_still book more None None s.tree g (still_same book 2 kept.sound) kept.server.fresh; bounded = kept.server.bounded; zero = kept.server.zero; rooted = kept.server.rooted; wants = kept.server.wants; changes = kept.server.changes; bytes = kept.server.bytes; lengths = kept.server.lengths; targets = λ i c e. there_later book more None None c.file g (kept.server.targets i c e); xids = kept.server.xids };
       made = (let a = count_more k.sessions (new_session c) in omega (arith, a, made), count_more qs no_queue ∙ ap suc kept.made.1 ∙ sym (count_more k.sessions (new_session c)));
       sessions = λ m z p f h. elim (of_new k.sessions (new_session c) m z f) [
         | inl new ↦ elim (of_new qs no_queue m p h) [
@@ -222,7 +223,7 @@ joined_now book k qs c n seat kept number at unlinked =
           trying = λ j i x e f. nothing_there j (sym jobs ∙ e);
           xids = λ j e. nothing_there j (sym jobs ∙ e);
           next = (omega arith, omega arith);
-          opened = was.opened;
+          opened = λ f l e. let o = was.opened f l e in (there_later book (onward book 2 book.ops) None None f (grows_same book 2) o.0, o.1);
           kept = cached_later book (onward book 2 book.ops) None None seat.client.cache (grows_same book 2) was.kept;
         }
 

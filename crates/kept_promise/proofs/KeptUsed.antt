@@ -22,11 +22,10 @@ use Rattle.kept_promise.proofs.Logs.{IsSilent}
 use Rattle.kept_promise.proofs.LogSums.{counts_log}
 use Rattle.kept_promise.proofs.LogEvents.{LogsAt, file_stays}
 use Rattle.kept_promise.proofs.CountedRuns.{CountedAt}
-use Rattle.kept_promise.proofs.Leases.{HeardLease, heard_lease, none_leased, leased_now, leased_stays}
+use Rattle.kept_promise.proofs.Leases.{HeardLease, HasFile, heard_lease, none_leased, none_shut, leased_now, leased_stays, shut_now, shut_stays}
 use Rattle.kept_promise.proofs.OpsAfter.{OpsAfter, Becomes, ops_after_event}
 use Rattle.kept_promise.proofs.OpensLog.{OpensBy, OpenRead, bare_counts}
 use Rattle.kept_promise.proofs.OwnLog.{OwnBy, OpOwn}
-use Rattle.kept_promise.proofs.Found.{got_finds, no_walk}
 
 -- ---- what is carried
 
@@ -34,6 +33,7 @@ pub record AreUsed (past : List Moment) (book : Book) : Type 0 where
   pub by : (m : Moment) → Contains past m → (step_of m ≤ book.steps) ⊎ IsSilent m
   pub leased : (m : Moment) → Contains past m → (p : ℕ) (o : Op) → slice_get book.ops p ≡ Some o → TellsLease book m o
   pub each : (m : Moment) → Contains past m → (p : ℕ) (o : Op) → slice_get book.ops p ≡ Some o → UsesKept m o
+  pub shut : (m : Moment) → Contains past m → (p : ℕ) (o : Op) → slice_get book.ops p ≡ Some o → HasFile m o
 
 abbrev pub UsedAt : (all past : List Moment) → List Opening → Core → Type 0
 UsedAt all past opening k = AreUsed past (book_at opening k all)
@@ -45,8 +45,9 @@ none_taken m o none x l seat mine here there = (let lt = (subst (λ (ms : List M
 -- ---- what is past stays
 
 -- an operation that went on had not ended
-went_on : (m : Moment) (n : ℕ) (q : Op) (c : client.State) (taken : List TakenCall) (acts : ClientStep) → acts.found ≡ None → step_of m ≤ n → q.end ≡ None → UsesKept m q → UsesKept m (op_after q c taken (n + 1) acts)
-went_on m n q c taken acts none le running h x l seat mine here there =
+went_on : (m : Moment) (n : ℕ) (q : Op) (c : client.State) (taken : List TakenCall) (acts : ClientStep) → (acts.found ≡ None) ⊎ (q.file ≡ 0) → HasFile m q → step_of m ≤ n → q.end ≡ None → UsesKept m q → UsesKept m (op_after q c taken (n + 1) acts)
+went_on m n q c taken acts (inr none) shut le running h x l seat mine here there = absurd (shut x l (sym (running_past q c taken n acts running (step_of m) (client_of m.before m.event) le) ∙ mine) there none)
+went_on m n q c taken acts (inl none) shut le running h x l seat mine here there =
     let new : Op = op_after q c taken (n + 1) acts in
     let was : is_in q (step_of m) (client_of m.before m.event) ≡ true = sym (running_past q c taken n acts running (step_of m) (client_of m.before m.event) le) ∙ mine in
     let file : new.file ≡ q.file = file_stays q c taken (n + 1) acts none in
@@ -56,20 +57,23 @@ went_on m n q c taken acts none le running h x l seat mine here there =
     by (Some bytes) e = nothing_there (step_of m) (sym running ∙ e.1)
     by None e = (e.0, e.1 ∙ ap (λ f. hash_call e.0 f 0 ∷ []) (sym (file_stays q c taken (n + 1) acts none)))
 
-stays : (book : Book) (k : Core) (qs : List Queue) (e : Event) (ops : List Op) (m : Moment) → IsKept book k qs → step_of m ≤ k.steps → OpsAfter e k ops → ((p : ℕ) (o : Op) → slice_get k.ops p ≡ Some o → UsesKept m o) → (p : ℕ) (o : Op) → slice_get ops p ≡ Some o → UsesKept m o
-stays book k qs e ops m kept le (inl same) h p o at = h p o (ap (λ (l : List Op). slice_get l p) (sym same) ∙ at)
-stays book k qs e ops m kept le (inr (inl n)) h p o at = elim (of_appended k.ops n.new p o (ap (λ (l : List Op). slice_get l p) (sym n.is) ∙ at)) [
+stays : (book : Book) (k : Core) (qs : List Queue) (e : Event) (ops : List Op) (m : Moment) → IsKept book k qs → step_of m ≤ k.steps → OpsAfter e k ops → ((p : ℕ) (o : Op) → slice_get k.ops p ≡ Some o → UsesKept m o) → ((p : ℕ) (o : Op) → slice_get k.ops p ≡ Some o → HasFile m o) → (p : ℕ) (o : Op) → slice_get ops p ≡ Some o → UsesKept m o
+stays book k qs e ops m kept le (inl same) h shut p o at = h p o (ap (λ (l : List Op). slice_get l p) (sym same) ∙ at)
+stays book k qs e ops m kept le (inr (inl n)) h shut p o at = elim (of_appended k.ops n.new p o (ap (λ (l : List Op). slice_get l p) (sym n.is) ∙ at)) [
   | inl last ↦ subst (UsesKept m) (sym last.1) (λ x l seat mine here there. (let lt = n.late in absurd (true_and_false (is_in n.new (step_of m) (client_of m.before m.event)) mine (early n.new (step_of m) (client_of m.before m.event) (omega (arith, lt, le))))))
   | inr old ↦ h p o old
 ]
-stays book k qs e ops m kept le (inr (inr (inl a))) h p o at = elim (ops_shape k.ops a.seat.place a.after (session_taken (session_of k.sessions a.seat.session)) (k.steps + 1) a.acts p o (ap (λ (l : List Op). slice_get l p) (sym a.is) ∙ at)) [
-  | inl mine ↦ subst (UsesKept m) (sym mine.3) (went_on m k.steps mine.0 a.after (session_taken (session_of k.sessions a.seat.session)) a.acts a.finds le ((acts_alone book k qs a.index a.seat kept a.here).own p mine.0 mine.1 mine.2).1 (h p mine.0 mine.2))
+stays book k qs e ops m kept le (inr (inr (inl a))) h shut p o at = elim (ops_shape k.ops a.seat.place a.after (session_taken (session_of k.sessions a.seat.session)) (k.steps + 1) a.acts p o (ap (λ (l : List Op). slice_get l p) (sym a.is) ∙ at)) [
+  | inl mine ↦ subst (UsesKept m) (sym mine.3) (went_on m k.steps mine.0 a.after (session_taken (session_of k.sessions a.seat.session)) a.acts (a.apart p mine.0 mine.1 mine.2) (shut p mine.0 mine.2) le ((acts_alone book k qs a.index a.seat kept a.here).own p mine.0 mine.1 mine.2).1 (h p mine.0 mine.2))
   | inr old ↦ h p o old.1
 ]
-stays book k qs e ops m kept le (inr (inr (inr (inl same)))) h p o at = h p o (ap (λ (l : List Op). slice_get l p) (sym same) ∙ at)
-stays book k qs e ops m kept le (inr (inr (inr (inr s)))) h p o at = elim (of_replaced k.ops s.0 (record s.1 { point = Some (k.steps + 1) }) p o (ap (λ (l : List Op). slice_get l p) (sym s.4) ∙ at)) [
+stays book k qs e ops m kept le (inr (inr (inr (inl same)))) h shut p o at = h p o (ap (λ (l : List Op). slice_get l p) (sym same) ∙ at)
+stays book k qs e ops m kept le (inr (inr (inr (inr s)))) h shut p o at = elim (of_replaced k.ops s.place (record s.op { file = s.file; point = Some (k.steps + 1) }) p o (ap (λ (l : List Op). slice_get l p) (sym s.is) ∙ at)) [
   | inr old ↦ h p o old.1
-  | inl made ↦ subst (UsesKept m) (sym made.1) (λ x l seat mine here there. h s.0 s.1 s.2 x l seat mine here there)
+  | inl made ↦ subst (UsesKept m) (sym made.1) (elim s.kind [
+    | inl close ↦ subst (λ (f : ℕ). UsesKept m (record s.op { file = f; point = Some (k.steps + 1) })) (sym close.1) (λ x l seat mine here there. h s.place s.op s.there x l seat mine here there)
+    | inr make ↦ λ x l seat mine here there. absurd (shut s.place s.op s.there x l mine there make.1)
+  ])
 ]
 
 -- ---- the answer to a GETLEASE
@@ -108,7 +112,7 @@ used_hears fits all past opening k qs after n now bytes mid kept h left known p 
         let none = bare_counts past w.old word (known.own.each p w.old w.was) bare (counts_log w.old past (known.counted.counts p w.old w.was)) in
         subst (λ (z : Op). EndsBy z (k.steps + 1) (happens k (Hears n now bytes)).up (content_in l.version (content_of seat.client.cache z.file))) (sym w.is)
         (subst (λ ms. EndsBy (op_after w.old (got_step h.seat.client (Ok (lease_told x l)) now).0 (session_taken (session_of k.sessions h.seat.session)) (k.steps + 1) (got_step h.seat.client (Ok (lease_told x l)) now).1) (k.steps + 1) ms (content_in l.version (content_of seat.client.cache (op_after w.old (got_step h.seat.client (Ok (lease_told x l)) now).0 (session_taken (session_of k.sessions h.seat.session)) (k.steps + 1) (got_step h.seat.client (Ok (lease_told x l)) now).1).file))) (sym up)
-        (subst (λ f. EndsBy (op_after w.old (got_step h.seat.client (Ok (lease_told x l)) now).0 (session_taken (session_of k.sessions h.seat.session)) (k.steps + 1) (got_step h.seat.client (Ok (lease_told x l)) now).1) (k.steps + 1) (got_step h.seat.client (Ok (lease_told x l)) now).1.send (content_in l.version (content_of seat.client.cache f))) (sym (file_stays w.old (got_step h.seat.client (Ok (lease_told x l)) now).0 (session_taken (session_of k.sessions h.seat.session)) (k.steps + 1) (got_step h.seat.client (Ok (lease_told x l)) now).1 (got_finds h.seat.client (Ok (lease_told x l)) now (no_walk (book_at opening k all) k qs h.session.owner h.seat kept h.owner)) ∙ w.file))
+        (subst (λ f. EndsBy (op_after w.old (got_step h.seat.client (Ok (lease_told x l)) now).0 (session_taken (session_of k.sessions h.seat.session)) (k.steps + 1) (got_step h.seat.client (Ok (lease_told x l)) now).1) (k.steps + 1) (got_step h.seat.client (Ok (lease_told x l)) now).1.send (content_in l.version (content_of seat.client.cache f))) (sym (file_stays w.old (got_step h.seat.client (Ok (lease_told x l)) now).0 (session_taken (session_of k.sessions h.seat.session)) (k.steps + 1) (got_step h.seat.client (Ok (lease_told x l)) now).1 w.finds ∙ w.file))
         (subst (λ (c : Seat). EndsBy (op_after w.old (got_step h.seat.client (Ok (lease_told x l)) now).0 (session_taken (session_of k.sessions h.seat.session)) (k.steps + 1) (got_step h.seat.client (Ok (lease_told x l)) now).1) (k.steps + 1) (got_step h.seat.client (Ok (lease_told x l)) now).1.send (content_in l.version (content_of c.client.cache w.of.file))) same_seat
         (subst (λ (z : client.State × ClientStep). EndsBy (op_after w.old z.0 (session_taken (session_of k.sessions h.seat.session)) (k.steps + 1) z.1) (k.steps + 1) z.1.send (content_in l.version (content_of h.seat.client.cache w.of.file))) (sym r_is)
         (kept_ends w.old (idle h.seat.client) (client.calls_of h.seat.client) w.of.file x l.version (k.steps + 1) (session_taken (session_of k.sessions h.seat.session)) w.file none (content_in l.version (content_of h.seat.client.cache w.of.file)))))))
@@ -132,17 +136,24 @@ used_event fits all past rest opening k qs e mid after s known said h = record {
   ];
   leased = λ z there p o at. elim (Contains-push_cases past (moment k e) z there) [
     | inl old ↦ elim (h.by z old) [
-      | inl lt ↦ leased_stays (book_at opening k all) (book_at opening (happens k e).core all) k qs e z s.kept lt w.0 refl (λ y c. c) (h.leased z old) p o at
+      | inl lt ↦ leased_stays (book_at opening k all) (book_at opening (happens k e).core all) k qs e z s.kept lt w.0 refl (λ y c. c) (h.leased z old) (h.shut z old) p o at
       | inr silent ↦ none_leased (book_at opening (happens k e).core all) z o silent.0
     ]
     | inr new ↦ subst (λ (y : Moment). TellsLease (book_at opening (happens k e).core all) y o) new (leased_now fits all past rest opening k qs e mid after s w.0 p o at)
   ];
   each = λ z there p o at. elim (Contains-push_cases past (moment k e) z there) [
     | inl old ↦ elim (h.by z old) [
-      | inl lt ↦ stays (book_at opening k all) k qs e (happens k e).core.ops z s.kept lt w.0 (h.each z old) p o at
+      | inl lt ↦ stays (book_at opening k all) k qs e (happens k e).core.ops z s.kept lt w.0 (h.each z old) (h.shut z old) p o at
       | inr silent ↦ none_taken z o silent.0
     ]
     | inr new ↦ subst (λ (y : Moment). UsesKept y o) new (used_now fits all past rest opening k qs e mid after s known p o at)
+  ];
+  shut = λ z there p o at. elim (Contains-push_cases past (moment k e) z there) [
+    | inl old ↦ elim (h.by z old) [
+      | inl lt ↦ shut_stays (book_at opening k all) k qs e (happens k e).core.ops z s.kept lt w.0 (h.shut z old) p o at
+      | inr silent ↦ none_shut z o silent.0
+    ]
+    | inr new ↦ subst (λ (y : Moment). HasFile y o) new (shut_now fits all past rest opening k qs e mid after s p o at)
   ];
 }
   where

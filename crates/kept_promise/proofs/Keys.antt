@@ -2,8 +2,14 @@
 use Rattle.std.proofs.Common.{◌≡◌, ℕ, zero, suc, ◌+◌, ◌*◌, ◌<◌, List, [], ◌∷◌, ◌++◌, Some, Bool, true, false, refl, sym, ap, subst, arith, eq-eqb, ne_eqb, map}
 use Rattle.hash_calls.specs.declared.message.LbProc.TheVariants as lb_proc
 use Rattle.nfs3_calls.specs.declared.message.NfsProc.TheVariants as nfs_proc
+use Rattle.nfs3_calls.specs.Nfs.{nfs_proc as nfs_proc_of}
+use Rattle.path_calls.specs.Walk.{call_at}
+use Rattle.path_calls.specs.declared.walk.Goal.{Goal}
+use Rattle.path_calls.specs.declared.walk.Goal.TheVariants as goal
+use Rattle.server_core.specs.declared.change.Wanted.TheVariants as wanted
+use Rattle.tree_calls.specs.declared.asked.Asked.TheVariants as asked
 use Rattle.wire.specs.declared.message.Program.TheVariants as program
-use Rattle.kept_promise.proofs.Common.{nat_tests, slice_get, cond, ◌==◌, filter, Pending, Program, Change, Call, Ask, Told, Queue, call_program, reply_program}
+use Rattle.kept_promise.proofs.Common.{nat_tests, slice_get, cond, ◌==◌, filter, Pending, Program, Wanted, Change, Call, Ask, Told, Queue, call_program, reply_program}
 use Rattle.kept_promise.proofs.Lists.{some_is, nothing_there}
 
 -- ---- keys
@@ -16,10 +22,18 @@ code_of (program.Lb lb_proc.TmpWrite) = 4
 code_of (program.Lb lb_proc.CommitTmp) = 5
 code_of (program.Nfs nfs_proc.Read) = 6
 code_of (program.Lb lb_proc.GetLease) = 7
+code_of (program.Nfs nfs_proc.Lookup) = 8
+code_of (program.Nfs nfs_proc.GetAttr) = 9
+code_of (program.Nfs nfs_proc.ReadDir) = 10
+code_of (program.Nfs nfs_proc.Create) = 11
+code_of (program.Nfs nfs_proc.MkDir) = 12
+code_of (program.Nfs nfs_proc.Remove) = 13
+code_of (program.Nfs nfs_proc.RmDir) = 14
+code_of (program.Nfs nfs_proc.Rename) = 15
 code_of _ = 0
 
 abbrev pub key : (xid : ℕ) → Program → ℕ
-key xid p = xid * 8 + code_of p
+key xid p = xid * 16 + code_of p
 
 abbrev pub ask_key : Ask → ℕ
 ask_key a = key a.xid (call_program a.call)
@@ -27,8 +41,14 @@ ask_key a = key a.xid (call_program a.call)
 abbrev pub told_key : Told → ℕ
 told_key t = key t.xid (reply_program t.reply)
 
+-- which procedure a change that waits is of
+abbrev pub wanted_program : Wanted → Program
+wanted_program (wanted.Content content) = program.Lb lb_proc.CommitTmp
+wanted_program (wanted.Asked (asked.Remove r)) = program.Nfs nfs_proc.Remove
+wanted_program (wanted.Asked (asked.Rename r)) = program.Nfs nfs_proc.Rename
+
 abbrev pub change_key : Change → ℕ
-change_key c = key c.xid (program.Lb lb_proc.CommitTmp)
+change_key c = key c.xid (wanted_program c.what)
 
 abbrev pub pending_key : Pending → ℕ
 pending_key p = key p.xid p.program
@@ -85,6 +105,20 @@ there_by f (z ∷ xs) (suc i) x e = by (f z == f x) (there_by f xs i x e)
 abbrev pub IsOurs : Program → Type 0
 IsOurs p = 0 < code_of p
 
+-- each of a walk's is
+pub walk_ours : (dir : ℕ) (left : List (List ℕ)) (g : Goal) → IsOurs (program.Nfs (nfs_proc_of (call_at dir left g)))
+walk_ours dir (n ∷ ns) g = omega arith
+walk_ours dir [] (goal.Find name) = omega arith
+walk_ours dir [] (goal.Look name) = omega arith
+walk_ours dir [] goal.LookRoot = omega arith
+walk_ours dir [] (goal.List p) = omega arith
+walk_ours dir [] (goal.Make name) = omega arith
+walk_ours dir [] (goal.MakeDir name) = omega arith
+walk_ours dir [] (goal.Remove name) = omega arith
+walk_ours dir [] (goal.RemoveDir name) = omega arith
+walk_ours dir [] (goal.RenameFrom name to) = omega arith
+walk_ours dir [] (goal.RenameTo from name to) = omega arith
+
 pub call_ours : (c : Call) → IsOurs (call_program c)
 call_ours (Call.Lease f) = omega arith
 call_ours (Call.Hash f o) = omega arith
@@ -93,8 +127,9 @@ call_ours (Call.Make t f) = omega arith
 call_ours (Call.Name t c) = omega arith
 call_ours (Call.Send t s b) = omega arith
 call_ours (Call.Commit t f n) = omega arith
+call_ours (Call.Walks w) = walk_ours w.dir w.left w.goal
 
-code_small : (p : Program) → code_of p < 8
+code_small : (p : Program) → code_of p < 16
 code_small (program.Lb lb_proc.GetLease) = omega arith
 code_small (program.Lb lb_proc.GetHash) = omega arith
 code_small (program.Lb lb_proc.MkTmpFile) = omega arith
@@ -102,6 +137,14 @@ code_small (program.Lb lb_proc.CondWrite) = omega arith
 code_small (program.Lb lb_proc.TmpWrite) = omega arith
 code_small (program.Lb lb_proc.CommitTmp) = omega arith
 code_small (program.Nfs nfs_proc.Read) = omega arith
+code_small (program.Nfs nfs_proc.Lookup) = omega arith
+code_small (program.Nfs nfs_proc.GetAttr) = omega arith
+code_small (program.Nfs nfs_proc.ReadDir) = omega arith
+code_small (program.Nfs nfs_proc.Create) = omega arith
+code_small (program.Nfs nfs_proc.MkDir) = omega arith
+code_small (program.Nfs nfs_proc.Remove) = omega arith
+code_small (program.Nfs nfs_proc.RmDir) = omega arith
+code_small (program.Nfs nfs_proc.Rename) = omega arith
 code_small _ = omega arith
 
 pub key_xid : (x y : ℕ) (p q : Program) → key x p ≡ key y q → x ≡ y

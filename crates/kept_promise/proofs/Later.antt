@@ -1,18 +1,27 @@
 -- Facts of messages, sessions and clients stay true while the history grows.
-use Rattle.std.proofs.Common.{◌⊎◌, inl, inr, ◌≡◌, ℕ, ◌+◌, ◌<◌, ◌≤◌, List, [], ◌∷◌, ◌++◌, length, Option, Some, None, Bool, true, false, refl, sym, ap, ◌∙◌, subst, arith, map, IsSome}
+use Rattle.std.proofs.Common.{◌⊎◌, inl, inr, ◌≡◌, ℕ, ◌+◌, ◌<◌, ◌≤◌, List, [], ◌∷◌, ◌++◌, length, Option, Some, None, Bool, true, false, refl, sym, ap, ◌∙◌, subst, arith, map}
 use Rattle.client_cache.specs.Cache.{Entries}
 use Rattle.hash_calls.specs.declared.call.Leased.{Leased}
+use Rattle.tree_calls.specs.declared.asked.Asked.{Asked}
 use Rattle.server_core.specs.State as server
+use Rattle.server_core.specs.declared.change.Wanted.TheVariants as wanted
 use Rattle.client_state.specs.State as client
 use Rattle.client_state.specs.declared.task.Stage.TheVariants as stage
-use Rattle.kept_promise.proofs.Common.{Body, slice_get, Contains, Status, Chunk, Answer, Done, Failed, Committed, Hashes, Piece, Attr, Pending, stands, Temp, key_of, Change, Fetch, Stage, Value, content_of, Op, Opening, TakenCall, Seat, Session, numbered, hashed_of, Book, Collides, Tried, Call, Call.Name, Call.Send, Call.Commit, Reply, Reply.Versioned, Reply.Hashed, Reply.Bytes, Reply.Changed, Ask, Told, Queue}
+use Rattle.kept_promise.proofs.Common.{Body, slice_get, Contains, Status, Chunk, Answer, Done, Failed, Committed, Hashes, Piece, Attr, Pending, stands, Temp, key_of, Change, Fetch, Stage, Value, Op, TakenCall, Seat, Session, numbered, hashed_of, Book, Collides, Tried, Call, Call.Name, Call.Send, Call.Commit, Call.Walks, Reply, Reply.Versioned, Reply.Hashed, Reply.Bytes, Reply.Changed, Ask, Told, Queue, Reply.Walked, name_answer, Moment, changes, Wanted}
 use Rattle.kept_promise.proofs.Keys.{times, own, on_way, change_key, ask_key, told_key, pending_key}
 use Rattle.kept_promise.proofs.Lists.{some_is}
-use Rattle.kept_promise.proofs.Messages.{Job, job, lease_body, hash_body, AllAsks, AllTolds, IsTold, IsServed, IsTried, Trying, RefusedTold, HashTold, LeaseTold, PieceOf, IsPiece, IsPartOf, AreParts, ReadTold, CommitTold, TriedBy, AnswerOf, IsAnswer, IsFetch, IsReading, FetchOf, HasFetch, IsPending, CommitOf, IsCommit, IsOwed, CloseOf, TempUnder, content_wanted}
-use Rattle.kept_promise.proofs.Growth.{Grows, takes_later, value_later, version_later, or_later, held_later, tried_later, tried_wider, made_later}
+use Rattle.nfs3_calls.specs.declared.message.Nfs.{Nfs}
+use Rattle.path_calls.specs.declared.walk.Walk.{Walk}
+use Rattle.kept_promise.proofs.Messages.{WalkTold, Job, job, lease_body, hash_body, AllAsks, AllTolds, IsTold, IsServed, IsTried, Trying, RefusedTold, HashTold, LeaseTold, PieceOf, IsPiece, IsPartOf, AreParts, ReadTold, CommitTold, TriedBy, AnswerOf, IsAnswer, IsFetch, IsReading, FetchOf, HasFetch, IsPending, CommitOf, IsCommit, IsOwed, CloseOf, TempUnder, WalkCame, UnmadeBy, PointedBy, IsCreating, IsNameOwed, goal_word, stage_word, IsGoing, WaitsFor}
+use Rattle.kept_promise.proofs.Growth.{Grows, takes_later, value_later, version_later, or_later, held_later, tried_later, tried_wider, made_later, there_later, Follows}
 use Rattle.kept_promise.proofs.Orderly.{Orderly}
 use Rattle.kept_promise.proofs.Ordered.{SameFound, orderly_later}
-use Rattle.kept_promise.proofs.Facts.{commits_in, Cached, IsBalanced, IsTalk, IsSession, IsOf, IsSeat}
+use Rattle.kept_promise.proofs.Facts.{commits_in, Cached, IsBalanced, IsTalk, IsSession, IsOf, IsSeat, is_naming}
+use Rattle.kept_promise.proofs.Rights.{gets_file}
+use Rattle.kept_promise.proofs.PathNames.{is_creating}
+use Rattle.trace_replay.specs.Naming.{entry_file}
+use Rattle.path_calls.specs.declared.walk.Goal.{Goal}
+use Rattle.path_calls.specs.declared.walk.Goal.TheVariants as goal
 
 pub all_asks : (P Q : Ask → Type 0) → ((a : Ask) → P a → Q a) → (us : List Ask) → AllAsks P us → AllAsks Q us
 all_asks P Q f [] h = tt
@@ -77,17 +86,17 @@ hash_later book more made ended taken j x o (Done a) g h = record {
   told = told_later book more made ended taken j x (Some h.value) h.file.version g h.told;
   value_is = or_later book more made ended _ _ g (λ e. e) h.value_is;
   short = h.short;
-  known = subst (λ (l : List Opening). IsSome (content_of l j.file)) (sym g.opening) h.known;
+  known = there_later book more made ended j.file g h.known;
   hashed = λ i c e. g.hashed _ (h.hashed i c e);
 }
 
 lease_later : (book more : Book) (made ended : Option ℕ) (taken : List TakenCall) (j : Job) (x : ℕ) (a : Answer Leased Unit) → Grows book more made ended → LeaseTold book taken j x a → LeaseTold more taken j x a
 lease_later book more made ended taken j x (Failed s u) g h = refused_told_later book more made ended taken j x s g h
-lease_later book more made ended taken j x (Done a) g h = record { value = h.value; told = told_later book more made ended taken j x (Some h.value) a.version g h.told; call = served_later book more made ended taken j x (lease_body j.file) g h.call; known = subst (λ (l : List Opening). IsSome (content_of l j.file)) (sym g.opening) h.known }
+lease_later book more made ended taken j x (Done a) g h = record { value = h.value; told = told_later book more made ended taken j x (Some h.value) a.version g h.told; call = served_later book more made ended taken j x (lease_body j.file) g h.call; known = there_later book more made ended j.file g h.known }
 
-read_later : (book more : Book) (made ended : Option ℕ) (taken : List TakenCall) (j : Job) (first : ℕ) (c : Chunk) (a : Answer Piece (Option Attr)) → Grows book more made ended → ReadTold book taken j first c a → ReadTold more taken j first c a
-read_later book more made ended taken j first c (Failed s a) g h = h
-read_later book more made ended taken j first c (Done p) g h =
+read_later : (book more : Book) (made ended : Option ℕ) (taken : List TakenCall) (j : Job) (x first : ℕ) (c : Chunk) (a : Answer Piece (Option Attr)) → Grows book more made ended → ReadTold book taken j x first c a → ReadTold more taken j x first c a
+read_later book more made ended taken j x first c (Failed s a) g h = refused_told_later book more made ended taken j x s g h
+read_later book more made ended taken j x first c (Done p) g h =
     let le = h.past in
     let n = g.passes in
     record { file = h.file; is = h.is; held = held_later book more made ended j.file h.file g h.held; began = h.began; was = h.was; last = h.last; order = h.order; past = omega (arith, le, n); version_is = version_later book more made ended j.file h.last g (omega (arith, le)) ∙ h.version_is }
@@ -105,18 +114,41 @@ tried_by_later book more made ended taken j x (stage.Hashing tries y) g h = is_t
 tried_by_later book more made ended taken j x (stage.Listing y f) g h = h
 tried_by_later book more made ended taken j x _ g h = tt
 
+-- what came of a walk's call
+walk_came_later : (book more : Book) (made ended closing : Option ℕ) (at : Moment) (step : ℕ) (j : Job) (o r : Op) (w : Walk) (m : Nfs) → Grows book more made ended → Spares closing made → step ≤ book.steps → Follows book made ended j.place o r → WalkCame book at step closing j o w m → WalkCame more at step closing j r w m
+walk_came_later book more made ended closing at step j o r w m g spares le f (inl h) = inl (h.0, λ i e. elim (g.entries_new i step e) [ inl old ↦ h.1 i old | inr new ↦ omega (arith, le, new) ])
+walk_came_later book more made ended closing at step j o r w m g spares le f (inr (inl h)) = inr (inl (record { making = h.making; why = h.why; why_is = h.why_is; refuses = h.refuses; leads = h.leads; unmade = unmade (is_creating w) h.unmade }))
+  where
+    unmade : (b : Bool) → UnmadeBy b closing j o → UnmadeBy b closing j r
+    unmade false u = tt
+    unmade true u = (f.unmade (spares j.place u.2) u.0, f.own_file u.0.0 (spares j.place u.2) ∙ u.1, u.2)
+walk_came_later book more made ended closing at step j o r w m g spares le f (inr (inr h)) = inr (inr (record { making = h.making; held = h.held; done = h.done; step_is = h.step_is; tree_is = h.tree_is; leads = h.leads; pointed = pointed (is_creating w) h.pointed }))
+  where
+    pointed : (b : Bool) → PointedBy b closing j o step (entry_file h.done.first) → PointedBy b closing j r step (entry_file h.done.first)
+    pointed false u = tt
+    pointed true (inl u) = inl (u.0, (f.unmade (spares j.place u.1.2) u.1.0, f.own_file u.1.0.0 (spares j.place u.1.2) ∙ u.1.1, u.1.2))
+    pointed true (inr u) = let p = f.point u.2 step u.3 in inr (u.0, u.1, ap changes f.word ∙ u.2, p.0, p.1 ∙ u.4)
+
+walk_told_later : (book more : Book) (made ended : Option ℕ) (taken : List TakenCall) (closing : Option ℕ) (j : Job) (x : ℕ) (w : Walk) (m : Nfs) → Grows book more made ended → Spares closing made → WalkTold book taken closing j x w m → WalkTold more taken closing j x w m
+walk_told_later book more made ended taken closing j x w m g spares h =
+    let r = g.each j.place h.op h.there in
+    let le = h.past in
+    let n = g.passes in
+    record { at = h.at; noted = g.happened h.at h.noted; moment = h.moment; step_is = h.step_is; was = h.was; past = omega (arith, le, n); op = r.0; there = r.1; after = subst (λ (b : ℕ). b ≤ h.moment) (sym r.2.begin) h.after; bounded = h.bounded; rooted = h.rooted; came = walk_came_later book more made ended closing h.at h.moment j h.op r.0 w m g spares h.past r.2 h.came; session = h.session; sent = h.sent; seat = h.seat; seat_is = ap (numbered h.at.before.seats) r.2.client ∙ h.seat_is; job_is = h.job_is; then_op = h.then_op; then_is = h.then_is; then_began = h.then_began ∙ sym r.2.begin }
+
 answer_of_later : (book more : Book) (made ended : Option ℕ) (taken : List TakenCall) (closing : Option ℕ) (job : Option Job) (x : ℕ) (r : Reply) → Grows book more made ended → Spares closing made → AnswerOf book taken closing job x r → AnswerOf more taken closing job x r
 answer_of_later book more made ended taken closing job x (Versioned a) g spares h = λ j e s. lease_later book more made ended taken j x a g (h j e s)
 answer_of_later book more made ended taken closing job x (Hashed a) g spares h = λ j o e w. let r = h j o e w in (hash_later book more made ended taken j x o a g r.0, tried_by_later book more made ended taken j x j.stage g r.1)
-answer_of_later book more made ended taken closing job x (Bytes a) g spares h = λ j f c e s w. read_later book more made ended taken j f.first c a g (h j f c e s w)
+answer_of_later book more made ended taken closing job x (Bytes a) g spares h = λ j f c e s w. read_later book more made ended taken j x f.first c a g (h j f c e s w)
 answer_of_later book more made ended taken closing job x (Changed a) g spares h = λ j e s. commit_told_later book more made ended closing j a g spares (h j e s)
+answer_of_later book more made ended taken closing job x (Walked r) g spares h = λ j w e s. walk_told_later book more made ended taken closing j x w (name_answer r) g spares (h j w e s)
 answer_of_later book more made ended taken closing job x _ g spares h = tt
 
 pub answer_later : (book more : Book) (made ended : Option ℕ) (taken : List TakenCall) (closing : Option ℕ) (job : Option Job) (t : Told) → Grows book more made ended → Spares closing made → IsAnswer book taken closing job t → IsAnswer more taken closing job t
 answer_later book more made ended taken closing job t g spares h = answer_of_later book more made ended taken closing job t.xid t.reply g spares h
 
 abbrev pub fetch_later : (book more : Book) (made ended : Option ℕ) (taken : List TakenCall) (j : Job) (f : Fetch) → Grows book more made ended → IsFetch book taken j f → IsFetch more taken j f
-fetch_later book more made ended taken j f g h = record { file = h.file; held = held_later book more made ended j.file h.file g h.held; version = h.version; value = h.value; told = told_later book more made ended taken j f.first (Some h.value) f.version g h.told; value_is = or_later book more made ended _ _ g (λ e. e) h.value_is; tried = is_tried_later book more made ended taken j f.first f.tries g h.tried; size = h.size; short = h.short; known = subst (λ (l : List Opening). IsSome (content_of l j.file)) (sym g.opening) h.known; count = h.count; within = h.within; chunks = h.chunks; hashed = λ i c e. g.hashed _ (h.hashed i c e) }
+fetch_later book more made ended taken j f g h = record { file = h.file; held = held_later book more made ended j.file h.file g h.held; version = h.version; value = h.value; told = told_later book more made ended taken j f.first (Some h.value) f.version g h.told; value_is = or_later book more made ended _ _ g (λ e. e) h.value_is; tried = is_tried_later book more made ended taken j f.first f.tries g h.tried; size = h.size; short = h.short; known = there_later book more made ended j.file g h.known; count = h.count; within = h.within; chunks = h.chunks; hashed = λ i c e. g.hashed _ (h.hashed i c e) }
 
 pub reading_later : (book more : Book) (made ended : Option ℕ) (x : List ℕ) (f : Fetch) → Grows book more made ended → IsReading book x f → IsReading more x f
 reading_later book more made ended x f g h = record { whole = h.whole; slots = h.slots; came = λ i b c e w. let p = h.came i b c e w in (or_later book more made ended _ _ g (λ p. p) p.0, p.1); asked = h.asked; inside = h.inside; filled = h.filled }
@@ -135,24 +167,48 @@ has_fetch_later book more made ended taken job g h = λ j e. fetch_of_later book
 pub pending_later : (book more : Book) (made ended closing : Option ℕ) (cut : Bool) (job after : Option Job) (x f : ℕ) (v : List ℕ) → Grows book more made ended → Spares closing made → (cut ≡ false → after ≡ job) → IsPending book closing cut job x f v → IsPending more closing cut after x f v
 pending_later book more made ended closing cut job after x f v g spares same h =
     let r = g.each h.place h.op h.there in
-    record { place = h.place; known = h.known; op = r.0; there = r.1; unmade = r.2.unmade (spares h.place h.known) h.unmade; file_is = r.2.file ∙ h.file_is; size_is = ap (λ (l : List ℕ). length l) (r.2.value h.unmade.0) ∙ h.size_is; value_is = or_later book more made ended _ _ g (λ e. r.2.value h.unmade.0 ∙ e) h.value_is; waited = λ at. same at ∙ h.waited at }
+    record { place = h.place; known = h.known; op = r.0; there = r.1; unmade = r.2.unmade (spares h.place h.known) h.unmade; word_is = r.2.word ∙ h.word_is; file_is = r.2.close_file h.word_is ∙ h.file_is; size_is = ap (λ (l : List ℕ). length l) (r.2.value h.unmade.0) ∙ h.size_is; value_is = or_later book more made ended _ _ g (λ e. r.2.value h.unmade.0 ∙ e) h.value_is; waited = λ at. same at ∙ h.waited at }
+
+-- a remove, or a rename over a file, that waits
+pub going_later : (book more : Book) (made ended closing : Option ℕ) (cut : Bool) (job after : Option Job) (x : ℕ) (a : Asked) → Grows book more made ended → Spares closing made → (cut ≡ false → after ≡ job) → IsGoing book closing cut job x a → IsGoing more closing cut after x a
+going_later book more made ended closing cut job after x a g spares same h =
+    let r = g.each h.place h.op h.there in
+    record { place = h.place; known = h.known; op = r.0; there = r.1; unmade = r.2.unmade (spares h.place h.known) h.unmade; word_is = r.2.word ∙ h.word_is; file_is = r.2.own_file h.unmade.0 (spares h.place h.known) ∙ h.file_is; waited = λ at. (let w = h.waited at in (w.0, same at ∙ w.1, w.2)) }
+
+-- whatever waits
+pub waits_later : (book more : Book) (made ended closing : Option ℕ) (cut : Bool) (job after : Option Job) (x f : ℕ) (what : Wanted) → Grows book more made ended → Spares closing made → (cut ≡ false → after ≡ job) → WaitsFor book closing cut job x f what → WaitsFor more closing cut after x f what
+waits_later book more made ended closing cut job after x f (wanted.Content content) g spares same h = pending_later book more made ended closing cut job after x f content g spares same h
+waits_later book more made ended closing cut job after x f (wanted.Asked a) g spares same h = going_later book more made ended closing cut job after x a g spares same h
+
+-- a call that may change a file
+creating_later : (book more : Book) (made ended closing : Option ℕ) (cut : Bool) (job after : Option Job) (x : ℕ) (w : Walk) → Grows book more made ended → Spares closing made → (cut ≡ false → after ≡ job) → IsCreating book closing cut job x w → IsCreating more closing cut after x w
+creating_later book more made ended closing cut job after x w g spares same h =
+    let r = g.each h.place h.op h.there in
+    record { place = h.place; known = h.known; op = r.0; there = r.1; unmade = r.2.unmade (spares h.place h.known) h.unmade; word_is = r.2.word ∙ h.word_is; file_is = r.2.own_file h.unmade.0 (spares h.place h.known) ∙ h.file_is; waited = λ at. same at ∙ h.waited at }
 
 pub commit_later : (book more : Book) (made ended closing : Option ℕ) (cut : Bool) (job after : Option Job) (contents : ℕ → List ℕ) (a : Ask) → Grows book more made ended → Spares closing made → (cut ≡ false → after ≡ job) → IsCommit book closing cut job contents a → IsCommit more closing cut after contents a
 commit_later book more made ended closing cut job after contents a g spares same h = by a.call h
   where
     by : (c : Call) → CommitOf book closing cut job contents a.xid c → CommitOf more closing cut after contents a.xid c
     by (Commit temp file size) h = (pending_later book more made ended closing cut job after a.xid file (contents temp) g spares same h.0, h.1)
+    by (Walks w) h = λ creates. creating_later book more made ended closing cut job after a.xid w g spares same (h creates)
     by _ h = tt
 
 pub owed_later : (book more : Book) (made ended closing : Option ℕ) (j : Job) (v : List ℕ) → Grows book more made ended → Spares closing made → IsOwed book closing j v → IsOwed more closing j v
 owed_later book more made ended closing j v g spares h =
     let r = g.each j.place h.op h.there in
-    record { known = h.known; op = r.0; there = r.1; unmade = r.2.unmade (spares j.place h.known) h.unmade; value_is = r.2.value h.unmade.0 ∙ h.value_is; small = h.small }
+    record { known = h.known; op = r.0; there = r.1; unmade = r.2.unmade (spares j.place h.known) h.unmade; word_is = r.2.word ∙ h.word_is; value_is = r.2.value h.unmade.0 ∙ h.value_is; small = h.small }
+
+name_owed_later : (book more : Book) (made ended closing : Option ℕ) (j : Job) (aim : Goal) → Grows book more made ended → Spares closing made → IsNameOwed book closing j aim → IsNameOwed more closing j aim
+name_owed_later book more made ended closing j aim g spares h =
+    let r = g.each j.place h.op h.there in
+    record { known = h.known; op = r.0; there = r.1; unmade = r.2.unmade (spares j.place h.known) h.unmade; word_is = r.2.word ∙ h.word_is; file_is = r.2.own_file h.unmade.0 (spares j.place h.known) ∙ h.file_is }
 
 pub close_later : (book more : Book) (made ended closing : Option ℕ) (contents : ℕ → List ℕ) (n : ℕ) (j : Job) (v : List ℕ) (s : Stage) → Grows book more made ended → Spares closing made → CloseOf book closing contents n j v s → CloseOf more closing contents n j v s
 close_later book more made ended closing contents n j v (stage.Making x temp) g spares h = (owed_later book more made ended closing j v g spares h.0, h.1, h.2)
 close_later book more made ended closing contents n j v (stage.Storing st) g spares h = (owed_later book more made ended closing j v g spares h.0, h.1, h.2, h.3)
-close_later book more made ended closing contents n j v (stage.Committing x) g spares h = let r = g.each j.place h.0 h.1 in (r.0, r.1, r.2.word ∙ h.2, r.2.value h.2 ∙ h.3)
+close_later book more made ended closing contents n j v (stage.Committing x) g spares h = let r = g.each j.place h.0 h.1 in (r.0, r.1, r.2.word ∙ h.2, r.2.value (ap changes h.2) ∙ h.3)
+close_later book more made ended closing contents n j v (stage.Walking x w) g spares h = λ later. name_owed_later book more made ended closing j w.goal g spares (h later)
 close_later book more made ended closing contents n j v _ g spares h = tt
 
 -- ---- pieces
@@ -238,7 +294,7 @@ session_later book more made ended seats others s r n x q c d g was is same spar
       temps = λ i m u lt at k. let w = view.temps i m u lt at k in let o = h.temps w.0 m u lt w.1 k in (parts_later (hashed_of book.moments) (hashed_of more.moments) (h.contents m) u.1.pieces g.hashed o.0, o.1);
       temps_below = λ at. let f = h.temps_below at in subst (λ (z : Seat). AllAsks (λ a. TempUnder z.client.next_temp a.call) q.ups × ((i m : ℕ) (u : ℕ × Temp) → m < 4294967296 → slice_get r.temps i ≡ Some u → u.0 ≡ key_of n m → m < z.client.next_temp)) (sym (there at)) (f.0, λ i m u lt is k. let w = view.temps i m u lt is k in f.1 w.0 m u lt w.1 k);
       closes = λ at j q. subst (λ (z : Seat). CloseOf more x.closing h.contents z.client.next_temp j (client.local_bytes z.client.opened j.file) j.stage) (sym (there at)) (close_later book more made ended x.closing h.contents h.seat.client.next_temp j (client.local_bytes h.seat.client.opened j.file) j.stage g spares (h.closes at j (sym (jobs at) ∙ q)));
-      pending = λ i c at. pending_later book more made ended x.closing x.cut (job h.seat) (job d) c.xid c.file (content_wanted c.what) g spares jobs (h.pending i c (ap (λ (l : List Change). slice_get l i) (sym view.waiting) ∙ at));
+      pending = λ i c at. waits_later book more made ended x.closing x.cut (job h.seat) (job d) c.xid c.file c.what g spares jobs (h.pending i c (ap (λ (l : List Change). slice_get l i) (sym view.waiting) ∙ at));
       single = subst (λ (l : List Change). commits_in q.ups + length l ≤ 1) (sym view.waiting) h.single;
       old = λ k at. let o = h.old k at in let p = g.each k o.0 o.1 in (p.0, p.1, p.2.client ∙ o.2);
       orderly = λ at. subst (λ (z : Seat). Orderly more n r.temps x.hung q z) (sym (there at)) (orderly_later book more made ended n s.temps r.temps x.hung q h.seat g view.found (h.orderly at));
@@ -250,10 +306,27 @@ session_later book more made ended seats others s r n x q c d g was is same spar
 abbrev pub Stays : List Session → List Session → (i : ℕ) → Type 0
 Stays sessions after i = (n : ℕ) (x : Session) → numbered sessions n ≡ Some x → (y : Session) × (numbered after n ≡ Some y) × (y.owner ≡ x.owner) × (x.owner ≡ i → y.cut ≡ x.cut)
 
+goal_gets : (g : Goal) → changes (goal_word g) ≡ false → gets_file (goal_word g) ≡ false
+goal_gets (goal.Find n) e = refl
+goal_gets (goal.Look n) e = refl
+goal_gets goal.LookRoot e = refl
+goal_gets (goal.List p) e = refl
+goal_gets (goal.MakeDir n) e = refl
+goal_gets (goal.RemoveDir n) e = refl
+goal_gets g e = absurd cc
+
+-- an operation whose stage the server doesn't give a file
+pub stage_gets : (s : Stage) → is_naming s ≡ false → gets_file (stage_word s) ≡ false
+stage_gets (stage.Walking x w) e = goal_gets w.goal e
+stage_gets (stage.Making x t) e = refl
+stage_gets (stage.Storing st) e = refl
+stage_gets (stage.Committing x) e = refl
+stage_gets _ e = refl
+
 pub of_later : (book more : Book) (made ended : Option ℕ) (i : ℕ) (j : Job) → Grows book more made ended → ((p : ℕ) (o : Op) → ended ≡ Some p → slice_get book.ops p ≡ Some o → o.client ≡ i → ⊥) → IsOf book i j → IsOf more i j
 of_later book more made ended i j g apart h =
     let r = g.each j.place h.op h.there in
-    record { op = r.0; there = r.1; client = r.2.client ∙ h.client; word = r.2.word ∙ h.word; file = r.2.file ∙ h.file; running = r.2.running (λ e. apart j.place h.op e h.there h.client) h.running }
+    record { op = r.0; there = r.1; client = r.2.client ∙ h.client; word = r.2.word ∙ h.word; file = λ named. r.2.file (λ e. apart j.place h.op e h.there h.client) (ap gets_file h.word ∙ stage_gets j.stage named) ∙ h.file named; running = r.2.running (λ e. apart j.place h.op e h.there h.client) h.running }
 
 pub cached_later : (book more : Book) (made ended : Option ℕ) (cache : Entries) → Grows book more made ended → Cached book cache → Cached more cache
 cached_later book more made ended cache g h = λ f c e.
@@ -279,6 +352,6 @@ seat_later book more made ended sessions after i c g stays apart h = record {
   trying = λ j n x e s. trying_later book more made ended j n g (h.trying j n x e s);
   xids = h.xids;
   next = h.next;
-  opened = λ f l e. let o = h.opened f l e in (subst (λ (z : List Opening). IsSome (content_of z f)) (sym g.opening) o.0, o.1);
+  opened = λ f l e. let o = h.opened f l e in (there_later book more made ended f g o.0, o.1);
   kept = cached_later book more made ended c.client.cache g h.kept;
 }

@@ -17,7 +17,7 @@ use Rattle.kept_promise.proofs.Common.{◌==◌, Contains, Contains-push_cases, 
 use Rattle.kept_promise.proofs.Lists.{some_is, of_appended, of_replaced, true_and_false}
 use Rattle.kept_promise.proofs.Messages.{Job, job, lease_body, AllTolds, IsLeased, LeaseTold, AnswerOf, IsAnswer}
 use Rattle.kept_promise.proofs.Fits.{FitLaws}
-use Rattle.kept_promise.proofs.Facts.{IsKept, IsSession}
+use Rattle.kept_promise.proofs.Facts.{IsKept, IsSession, is_naming}
 use Rattle.kept_promise.proofs.RunsCarried.{book_at, moment, Step}
 use Rattle.kept_promise.proofs.Actors.{job_task, acts_alone, Heard, heard_at, heard_acts, heard_takes}
 use Rattle.kept_promise.proofs.Counted.{IsActor, early, running_past}
@@ -28,7 +28,8 @@ use Rattle.kept_promise.proofs.VersionRuns.{own_op, or_none}
 use Rattle.kept_promise.proofs.LogEvents.{file_stays}
 use Rattle.kept_promise.proofs.Versions.{version_in}
 use Rattle.kept_promise.proofs.OpsAfter.{OpsAfter, same_versions}
-use Rattle.kept_promise.proofs.Found.{got_finds, no_walk}
+use Rattle.kept_promise.proofs.Found.{took_finds}
+use Rattle.kept_promise.proofs.Rights.{WasThere}
 
 -- ---- whose answer it is
 
@@ -56,6 +57,7 @@ pub record HeardLease (k : Core) (seat : Seat) (now : ℕ) (x : ℕ) (l : Leased
   pub file : old.file ≡ of.file
   pub asking : of.stage ≡ stage.Asking x
   pub got : got_step seat.client (Ok (lease_told x l)) now ≡ took (idle seat.client) (client.calls_of seat.client) of.file of.stage x (body.Lb (lb.GetLeaseAnswer (Done l)))
+  pub finds : (got_step seat.client (Ok (lease_told x l)) now).1.found ≡ None
   pub is : o ≡ op_after old (got_step seat.client (Ok (lease_told x l)) now).0 (session_taken (session_of k.sessions seat.session)) (k.steps + 1) (got_step seat.client (Ok (lease_told x l)) now).1
 
 pub heard_lease : FitLaws → (all : List Moment) (opening : List Opening) (k : Core) (qs after : List Queue) (n now : ℕ) (bytes : List ℕ) (mid : List Queue) → (kept : IsKept (book_at opening k all) k qs) → (h : Heard k qs n now bytes mid) → IsKept (book_at opening (happens k (Hears n now bytes)).core all) (happens k (Hears n now bytes)).core after
@@ -104,7 +106,7 @@ heard_lease fits all opening k qs after n now bytes mid kept h left p o at x l m
         waits = ap (client.has_call (client.pending h.seat.client.task)) (sym (xid_is h.told.xid (reply_body h.told.reply) same)) ∙ own
 
         acting : (q : Op) → h.seat.place ≡ Some p → slice_get k.ops p ≡ Some q → o ≡ op_after q (got_step h.seat.client (Ok (lease_told x l)) now).0 (session_taken (session_of k.sessions h.seat.session)) (k.steps + 1) (got_step h.seat.client (Ok (lease_told x l)) now).1
-            → (j : Job) × (job h.seat ≡ Some j) × (j.place ≡ p) × (q.client ≡ h.session.owner) × (q.outcome ≡ told.Running) × (q.file ≡ j.file) → HeardLease k h.seat now x l p o
+            → (j : Job) × (job h.seat ≡ Some j) × (j.place ≡ p) × (q.client ≡ h.session.owner) × (q.outcome ≡ told.Running) × (is_naming j.stage ≡ false → q.file ≡ j.file) → HeardLease k h.seat now x l p o
         acting q place was is (j, job_is, at_place, client_is, running, file) = elim (takes_lease (idle h.seat.client) (client.calls_of h.seat.client) j.file j.stage x l) [
           | inl fault ↦ absurd (no_fault_after (book_at opening (happens k (Hears n now bytes)).core all) q r.0 taken (k.steps + 1) r.1 (left.sound.rights p _ (at ∙ ap (λ (z : Op). Some z) is)) (subst (λ (z : client.State × ClientStep). IsFault z.1.ended) (sym got) fault))
           | inr (y, asking) ↦ record {
@@ -113,9 +115,10 @@ heard_lease fits all opening k qs after n now bytes mid kept h left p o at x l m
             of = j;
             job_is = job_is;
             place = at_place;
-            file = file;
+            file = file (ap is_naming asking);
             asking = asking ∙ ap (λ z. stage.Asking z) (eqb-true y x (or_none (y == x) (ap (λ st. client.has_call (client.pending_in st) x) (sym asking) ∙ ap (λ (t : Option Task). client.has_call (client.pending t) x) (sym task) ∙ waits)));
             got = got;
+            finds = ap (λ (z : client.State × ClientStep). z.1.found) got ∙ ap (λ (st : Stage). (took (idle h.seat.client) (client.calls_of h.seat.client) j.file st x (body.Lb (lb.GetLeaseAnswer (Done l)))).1.found) asking ∙ took_finds (idle h.seat.client) (client.calls_of h.seat.client) j.file (stage.Asking y) x (body.Lb (lb.GetLeaseAnswer (Done l))) tt;
             is = is;
           }
         ]
@@ -159,6 +162,18 @@ client_stays o c taken step acts = by acts.ended
 
 leased_after : (book more : Book) (o : Op) (c : client.State) (taken : List TakenCall) (n : ℕ) (acts : ClientStep) (m : Moment) (x version : ℕ) → acts.found ≡ None → ((z : Moment) → Contains book.moments z → Contains more.moments z) → ((f q : ℕ) → q ≤ n → version_at more f q ≡ version_at book f q) → step_of m ≤ n + 1 → LeasedAt book o m x version → LeasedAt more (op_after o c taken (n + 1) acts) m x version
 leased_after book more o c taken n acts m x version none there versions le = leased_as book more o (op_after o c taken (n + 1) acts) m x version n there (client_stays o c taken (n + 1) acts) (file_stays o c taken (n + 1) acts none) (begin_stays o c taken (n + 1) acts) versions le
+
+-- such an answer is told to one that has its file
+abbrev pub HasFile : Moment → Op → Type 0
+HasFile m o = (x : ℕ) (l : Leased) → is_in o (step_of m) (client_of m.before m.event) ≡ true → Contains (taken_by m.before (client_of m.before m.event) m.event) (lease_told x l) → o.file ≡ 0 → ⊥
+
+-- an answer that is waited for is of a file that is there
+known_by : (book : Book) (taken : List TakenCall) (closing : Option ℕ) (j : Job) (x : ℕ) (l : Leased) (r : Reply) → j.stage ≡ stage.Asking x → reply_body r ≡ body.Lb (lb.GetLeaseAnswer (Done l)) → AnswerOf book taken closing (Some j) x r → WasThere book j.file
+known_by book taken closing j x l (Versioned a) asking is answer = (subst (LeaseTold book taken j x) (same a is) (answer j refl asking)).known
+  where
+    same : (a : Answer Leased Unit) → body.Lb (lb.GetLeaseAnswer a) ≡ body.Lb (lb.GetLeaseAnswer (Done l)) → a ≡ Done l
+    same a e = cc
+known_by book taken closing j x l r asking is answer = absurd cc
 
 -- an answer that is waited for is that of the version then
 leased_by : (book : Book) (k : Core) (taken : List TakenCall) (closing : Option ℕ) (j : Job) (m : Moment) (o : Op) (x : ℕ) (l : Leased) (r : Reply) → book.ops ≡ k.ops → book.steps < step_of m → slice_get k.ops j.place ≡ Some o → o.file ≡ j.file → j.stage ≡ stage.Asking x → reply_body r ≡ body.Lb (lb.GetLeaseAnswer (Done l)) → AnswerOf book taken closing (Some j) x r → LeasedAt book o m x l.version
@@ -217,7 +232,35 @@ leased_hears fits all past rest opening k qs n now bytes mid after s grown p o a
         let answer = subst (λ z. AnswerOf (book_at opening k all) h.session.taken h.session.closing (Some w.of) z h.told.reply) xid answer in
         let old = leased_by (book_at opening k all) k h.session.taken h.session.closing w.of (moment k (Hears n now bytes)) w.old x l h.told.reply refl (omega arith) (ap (slice_get k.ops) w.place ∙ w.was) w.file w.asking (body_is h.told.xid (reply_body h.told.reply) same) answer in
         subst (λ z. LeasedAt (book_at opening (happens k (Hears n now bytes)).core all) z (moment k (Hears n now bytes)) x l.version) (sym w.is)
-        (leased_after (book_at opening k all) (book_at opening (happens k (Hears n now bytes)).core all) w.old (got_step h.seat.client (Ok (lease_told x l)) now).0 (session_taken (session_of k.sessions h.seat.session)) k.steps (got_step h.seat.client (Ok (lease_told x l)) now).1 (moment k (Hears n now bytes)) x l.version (got_finds h.seat.client (Ok (lease_told x l)) now (no_walk (book_at opening k all) k qs h.session.owner h.seat s.kept h.owner)) (λ z c. c) (λ f q lt. counted_so (book_at opening k all) (book_at opening (happens k (Hears n now bytes)).core all) f q refl (same_versions k (Hears n now bytes) (happens k (Hears n now bytes)).core.ops grown f q lt)) (omega arith) old)
+        (leased_after (book_at opening k all) (book_at opening (happens k (Hears n now bytes)).core all) w.old (got_step h.seat.client (Ok (lease_told x l)) now).0 (session_taken (session_of k.sessions h.seat.session)) k.steps (got_step h.seat.client (Ok (lease_told x l)) now).1 (moment k (Hears n now bytes)) x l.version w.finds (λ z c. c) (λ f q lt. counted_so (book_at opening k all) (book_at opening (happens k (Hears n now bytes)).core all) f q refl (same_versions k (Hears n now bytes) (happens k (Hears n now bytes)).core.ops grown f q lt)) (omega arith) old)
+
+-- and its operation has its file
+shut_hears : FitLaws → (all past rest : List Moment) (opening : List Opening) (k : Core) (qs : List Queue) (n now : ℕ) (bytes : List ℕ) (mid after : List Queue) → Step all past rest opening k qs (Hears n now bytes) mid after
+    → (p : ℕ) (o : Op) → slice_get (happens k (Hears n now bytes)).core.ops p ≡ Some o → HasFile (moment k (Hears n now bytes)) o
+shut_hears fits all past rest opening k qs n now bytes mid after s p o at x l mine there zero = by (heard_lease fits all opening k qs after n now bytes mid s.kept h s.left p o at x l mine there)
+  where
+    h : Heard k qs n now bytes mid
+    h = heard_at (book_at opening k all) k qs n now bytes mid s.kept s.finds
+
+    x_is : IsSession (book_at opening k all) k.seats k.server n h.session h.queue
+    x_is = s.kept.sessions n h.session h.queue h.at h.queue_is
+
+    xid_is : (a : ℕ) (b : Body) → message.Answer a b ≡ lease_told x l → a ≡ x
+    xid_is a b e = cc
+
+    body_is : (a : ℕ) (b : Body) → message.Answer a b ≡ lease_told x l → b ≡ body.Lb (lb.GetLeaseAnswer (Done l))
+    body_is a b e = cc
+
+    by : (told_message h.told ≡ lease_told x l) × ((happens k (Hears n now bytes)).up ≡ (got_step h.seat.client (Ok (lease_told x l)) now).1.send) × HeardLease k h.seat now x l p o → ⊥
+    by (same, up, w) =
+        let xid = xid_is h.told.xid (reply_body h.told.reply) same in
+        let job_is : job x_is.seat ≡ Some w.of = ap job (some_is x_is.seat h.seat (sym x_is.owner ∙ h.owner)) ∙ w.job_is in
+        let answer = (subst (AllTolds (IsAnswer (book_at opening k all) h.session.taken h.session.closing (job x_is.seat))) h.first (x_is.talk h.uncut).answers).0 in
+        let answer = subst (λ z. AnswerOf (book_at opening k all) h.session.taken h.session.closing z h.told.xid h.told.reply) job_is answer in
+        let answer = subst (λ z. AnswerOf (book_at opening k all) h.session.taken h.session.closing (Some w.of) z h.told.reply) xid answer in
+        let known = known_by (book_at opening k all) h.session.taken h.session.closing w.of x l h.told.reply w.asking (body_is h.told.xid (reply_body h.told.reply) same) answer in
+        let file : w.of.file ≡ 0 = sym w.file ∙ sym (ap (λ (z : Op). z.file) w.is ∙ file_stays w.old (got_step h.seat.client (Ok (lease_told x l)) now).0 (session_taken (session_of k.sessions h.seat.session)) (k.steps + 1) (got_step h.seat.client (Ok (lease_told x l)) now).1 w.finds) ∙ zero in
+        (let lt = known.positive in omega (arith, lt, file))
 
 -- ---- any event
 
@@ -233,9 +276,46 @@ leased_now fits all past rest opening k qs (Settles now) mid after s grown p o a
 leased_now fits all past rest opening k qs (Cuts c) mid after s grown p o at = none_leased (book_at opening (happens k (Cuts c)).core all) (moment k (Cuts c)) o refl
 leased_now fits all past rest opening k qs (Hangs n) mid after s grown p o at = none_leased (book_at opening (happens k (Hangs n)).core all) (moment k (Hangs n)) o refl
 
+pub none_shut : (m : Moment) (o : Op) → taken_by m.before (client_of m.before m.event) m.event ≡ [] → HasFile m o
+none_shut m o none x l mine there zero = (let lt = (subst (λ (ms : List Message). Contains ms (lease_told x l)) none there).1 in absurd (omega (arith, lt)))
+
+pub shut_now : FitLaws → (all past rest : List Moment) (opening : List Opening) (k : Core) (qs : List Queue) (e : Event) (mid after : List Queue) → Step all past rest opening k qs e mid after → (p : ℕ) (o : Op) → slice_get (happens k e).core.ops p ≡ Some o → HasFile (moment k e) o
+shut_now fits all past rest opening k qs (Hears n now bytes) mid after s p o at = shut_hears fits all past rest opening k qs n now bytes mid after s p o at
+shut_now fits all past rest opening k qs (Joins c) mid after s p o at = none_shut (moment k (Joins c)) o refl
+shut_now fits all past rest opening k qs (Does c now d) mid after s p o at = none_shut (moment k (Does c now d)) o refl
+shut_now fits all past rest opening k qs (Serves n now bytes) mid after s p o at = none_shut (moment k (Serves n now bytes)) o refl
+shut_now fits all past rest opening k qs (Settles now) mid after s p o at = none_shut (moment k (Settles now)) o refl
+shut_now fits all past rest opening k qs (Cuts c) mid after s p o at = none_shut (moment k (Cuts c)) o refl
+shut_now fits all past rest opening k qs (Hangs n) mid after s p o at = none_shut (moment k (Hangs n)) o refl
+
+pub shut_stays : (book : Book) (k : Core) (qs : List Queue) (e : Event) (ops : List Op) (m : Moment) → IsKept book k qs → step_of m ≤ k.steps → OpsAfter e k ops → ((p : ℕ) (o : Op) → slice_get k.ops p ≡ Some o → HasFile m o) → (p : ℕ) (o : Op) → slice_get ops p ≡ Some o → HasFile m o
+shut_stays book k qs e ops m kept le (inl same) h p o at = h p o (ap (λ (l : List Op). slice_get l p) (sym same) ∙ at)
+shut_stays book k qs e ops m kept le (inr (inl n)) h p o at = elim (of_appended k.ops n.new p o (ap (λ (l : List Op). slice_get l p) (sym n.is) ∙ at)) [
+  | inl last ↦ subst (HasFile m) (sym last.1) (λ x l mine c zero. (let lt = n.late in absurd (true_and_false (is_in n.new (step_of m) (client_of m.before m.event)) mine (early n.new (step_of m) (client_of m.before m.event) (omega (arith, lt, le))))))
+  | inr old ↦ h p o old
+]
+shut_stays book k qs e ops m kept le (inr (inr (inl a))) h p o at = elim (ops_shape k.ops a.seat.place a.after (session_taken (session_of k.sessions a.seat.session)) (k.steps + 1) a.acts p o (ap (λ (l : List Op). slice_get l p) (sym a.is) ∙ at)) [
+  | inr old ↦ h p o old.1
+  | inl mine ↦ subst (HasFile m) (sym mine.3) (λ x l in_it c zero.
+      let running = ((acts_alone book k qs a.index a.seat kept a.here).own p mine.0 mine.1 mine.2).1 in
+      let was = sym (running_past mine.0 a.after (session_taken (session_of k.sessions a.seat.session)) k.steps a.acts running (step_of m) (client_of m.before m.event) le) ∙ in_it in
+      elim (a.apart p mine.0 mine.1 mine.2) [
+        | inl none ↦ h p mine.0 mine.2 x l was c (sym (file_stays mine.0 a.after (session_taken (session_of k.sessions a.seat.session)) (k.steps + 1) a.acts none) ∙ zero)
+        | inr shut ↦ h p mine.0 mine.2 x l was c shut
+      ])
+]
+shut_stays book k qs e ops m kept le (inr (inr (inr (inl same)))) h p o at = h p o (ap (λ (l : List Op). slice_get l p) (sym same) ∙ at)
+shut_stays book k qs e ops m kept le (inr (inr (inr (inr s)))) h p o at = elim (of_replaced k.ops s.place (record s.op { file = s.file; point = Some (k.steps + 1) }) p o (ap (λ (l : List Op). slice_get l p) (sym s.is) ∙ at)) [
+  | inr old ↦ h p o old.1
+  | inl made ↦ subst (HasFile m) (sym made.1) (elim s.kind [
+    | inl close ↦ λ x l mine c zero. h s.place s.op s.there x l mine c (sym close.1 ∙ zero)
+    | inr make ↦ λ x l mine c zero. h s.place s.op s.there x l mine c make.1
+  ])
+]
+
 -- what is past stays
-pub leased_stays : (book more : Book) (k : Core) (qs : List Queue) (e : Event) (m : Moment) → IsKept book k qs → step_of m ≤ k.steps → OpsAfter e k more.ops → more.opening ≡ book.opening → ((z : Moment) → Contains book.moments z → Contains more.moments z) → ((p : ℕ) (o : Op) → slice_get k.ops p ≡ Some o → TellsLease book m o) → (p : ℕ) (o : Op) → slice_get more.ops p ≡ Some o → TellsLease more m o
-leased_stays book more k qs e m kept le grown opening there h p o at = by grown
+pub leased_stays : (book more : Book) (k : Core) (qs : List Queue) (e : Event) (m : Moment) → IsKept book k qs → step_of m ≤ k.steps → OpsAfter e k more.ops → more.opening ≡ book.opening → ((z : Moment) → Contains book.moments z → Contains more.moments z) → ((p : ℕ) (o : Op) → slice_get k.ops p ≡ Some o → TellsLease book m o) → ((p : ℕ) (o : Op) → slice_get k.ops p ≡ Some o → HasFile m o) → (p : ℕ) (o : Op) → slice_get more.ops p ≡ Some o → TellsLease more m o
+leased_stays book more k qs e m kept le grown opening there h shut p o at = by grown
   where
     versions : (f q : ℕ) → q ≤ k.steps → version_at more f q ≡ version_at book f q
     versions f q lt = counted_so book more f q opening (same_versions k e more.ops grown f q lt ∙ ap (λ (z : List Op). version_in z f q) (sym kept.ops))
@@ -254,10 +334,16 @@ leased_stays book more k qs e m kept le grown opening there h p o at = by grown
       | inl mine ↦ subst (TellsLease more m) (sym mine.3) (λ x l in_it c.
           let running = ((acts_alone book k qs a.index a.seat kept a.here).own p mine.0 mine.1 mine.2).1 in
           let was = sym (running_past mine.0 a.after (session_taken (session_of k.sessions a.seat.session)) k.steps a.acts running (step_of m) (client_of m.before m.event) le) ∙ in_it in
-          leased_after book more mine.0 a.after (session_taken (session_of k.sessions a.seat.session)) k.steps a.acts m x l.version a.finds there versions (omega (arith, le)) (h p mine.0 mine.2 x l was c))
+          elim (a.apart p mine.0 mine.1 mine.2) [
+            | inl none ↦ leased_after book more mine.0 a.after (session_taken (session_of k.sessions a.seat.session)) k.steps a.acts m x l.version none there versions (omega (arith, le)) (h p mine.0 mine.2 x l was c)
+            | inr none ↦ absurd (shut p mine.0 mine.2 x l was c none)
+          ])
     ]
     by (inr (inr (inr (inl same)))) = still o (h p o (ap (λ (l : List Op). slice_get l p) (sym same) ∙ at))
-    by (inr (inr (inr (inr s)))) = elim (of_replaced k.ops s.0 (record s.1 { point = Some (k.steps + 1) }) p o (ap (λ (l : List Op). slice_get l p) (sym s.4) ∙ at)) [
+    by (inr (inr (inr (inr s)))) = elim (of_replaced k.ops s.place (record s.op { file = s.file; point = Some (k.steps + 1) }) p o (ap (λ (l : List Op). slice_get l p) (sym s.is) ∙ at)) [
       | inr old ↦ still o (h p o old.1)
-      | inl made ↦ subst (TellsLease more m) (sym made.1) (λ x l mine c. leased_as book more s.1 (record s.1 { point = Some (k.steps + 1) }) m x l.version k.steps there refl refl refl versions (omega (arith, le)) (h s.0 s.1 s.2 x l mine c))
+      | inl made ↦ subst (TellsLease more m) (sym made.1) (elim s.kind [
+        | inl close ↦ λ x l mine c. leased_as book more s.op (record s.op { file = s.file; point = Some (k.steps + 1) }) m x l.version k.steps there refl close.1 refl versions (omega (arith, le)) (h s.place s.op s.there x l mine c)
+        | inr make ↦ λ x l mine c. absurd (shut s.place s.op s.there x l mine c make.1)
+      ])
     ]

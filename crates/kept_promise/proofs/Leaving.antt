@@ -202,7 +202,7 @@ told_stored_left s calls file xid content st b (Some c) = told_way_left s calls 
 
 -- ---- any answer
 
-took_left : (s : client.State) (calls : List Pending) (file : ℕ) (t : Stage) (xid : ℕ) (b : Body) → IsOfFile t → IsLeft s file (took s calls file t xid b)
+pub took_left : (s : client.State) (calls : List Pending) (file : ℕ) (t : Stage) (xid : ℕ) (b : Body) → IsOfFile t → IsLeft s file (took s calls file t xid b)
 took_left s calls file (stage.Asking asked) xid (body.Lb (lb.GetLeaseAnswer a)) known = told_lease_left s calls file xid a
 took_left s calls file (stage.Hashing tries asked) xid (body.Lb (lb.GetHashAnswer a)) known = told_first_left s calls file xid tries a
 took_left s calls file (stage.Listing asked f) xid (body.Lb (lb.GetHashAnswer a)) known = told_hashes_left s calls file xid f a

@@ -1,5 +1,5 @@
 -- An open is told chunks: it takes their bytes from what is kept, or asks for them.
-use Rattle.std.proofs.Common.{◌⊎◌, inl, inr, ◌≡◌, ℕ, zero, suc, ◌+◌, ◌-◌, ◌*◌, ◌<◌, ◌≤◌, List, [], ◌∷◌, ◌++◌, length, Option, Some, None, Bool, true, false, refl, sym, ap, ◌∙◌, subst, arith, eqb-true, eq-eqb, map, take, drop, IsSome}
+use Rattle.std.proofs.Common.{◌⊎◌, inl, inr, ◌≡◌, ℕ, zero, suc, ◌+◌, ◌-◌, ◌*◌, ◌<◌, ◌≤◌, List, [], ◌∷◌, ◌++◌, length, Option, Some, None, Bool, true, false, refl, sym, ap, ◌∙◌, subst, arith, eqb-true, eq-eqb, map, take, drop}
 use Rattle.chunk_index.specs.Index.{key_of, place_of}
 use Rattle.chunk_places.specs.Places.{indexed}
 use Rattle.client_cache.specs.Cache.{with_content}
@@ -9,25 +9,26 @@ use Rattle.client_state.specs.declared.step.Outcome.TheVariants as outcome
 use Rattle.client_state.specs.declared.task.Stage.TheVariants as stage
 use Rattle.register_model.specs.declared.op.Outcome.TheVariants as told
 use Rattle.register_model.specs.declared.op.Word.TheVariants as words
-use Rattle.kept_promise.proofs.Common.{nat_tests, slice_get, slice_set, ◌==◌, ◌&&◌, nat_lt, Contains, sha1, chunks_of, chunk_bytes, Chunk, Pending, read_pending, no_counts, is_none, is_here, reads_from, reads_chunk, reads_all, looked_up, read_at, slots_bytes, idle, opened_with, reads_on, reads_if, Entries, Indexed, ClientStep, ends, ended_op, Reads, Fetch, Local, ReadCall, Stage, local_at_itself, local_at_another, content_of, Op, Traffic, TakenCall, Core, Session, has_point, point_if, counted, hashed_of, Book, HadContent, Or, value_at, Call.Read, Told, Queue}
+use Rattle.kept_promise.proofs.Common.{nat_tests, slice_get, slice_set, ◌==◌, ◌&&◌, nat_lt, Contains, sha1, chunks_of, chunk_bytes, Chunk, Pending, read_pending, no_counts, is_none, is_here, reads_from, reads_chunk, reads_all, looked_up, read_at, slots_bytes, idle, opened_with, reads_on, reads_if, Entries, Indexed, ClientStep, ends, ended_op, Reads, Fetch, Local, ReadCall, Stage, local_at_itself, local_at_another, Op, Traffic, TakenCall, Core, Session, has_point, point_if, counted, hashed_of, Book, HadContent, Or, value_at, Call.Read, Told, Queue}
 use Rattle.kept_promise.proofs.Statements.{CallFits}
 use Rattle.kept_promise.proofs.Lists.{some_is, nothing_there, same_or_not, within, in_front, there_at, of_appended, at_end, of_replaced, at_replaced, set_count, set_else}
 use Rattle.kept_promise.proofs.Keys.{times}
 use Rattle.kept_promise.proofs.Messages.{Job, stage_word, IsTold, IsAsked, read_chunk, chunk_for, IsFetch, IsReading, IsCommit, IsPiece, TempUnder}
-use Rattle.kept_promise.proofs.Growth.{or_later, or_map, or_both, bytes_or, value_later}
+use Rattle.kept_promise.proofs.Growth.{or_later, or_map, or_both, bytes_or, value_later, there_later}
 use Rattle.kept_promise.proofs.Facts.{Cached, IsSession, IsOf}
 use Rattle.kept_promise.proofs.Taken.{times_map_append}
 use Rattle.kept_promise.proofs.Heard.{told_pending}
 use Rattle.kept_promise.proofs.Ordered.{IsFetching}
 use Rattle.kept_promise.proofs.Caches.{given_is, cached_with}
 use Rattle.kept_promise.proofs.StepCases.{reads_keep, reads_end}
-use Rattle.kept_promise.proofs.Steps.{Here, session_at, Quiet, job_op, GoesOn, on, counting, opens_in_order}
+use Rattle.kept_promise.proofs.Steps.{Here, session_at, Quiet, job_op, GoesOn, on, counting, opens_in_order, open_unnamed}
 use Rattle.kept_promise.proofs.ReadCalls.{Ran, reads_run, sent_rising, sent_all, sent_count, sent_times, sent_same, sent_from, sent_commits, read_found, read_front}
 use Rattle.kept_promise.proofs.Chunks.{row_of, link_at, chunks_are_named}
 use Rattle.kept_promise.proofs.Attempts.{fetch_few, Came, whole_length, whole_value}
 use Rattle.kept_promise.proofs.CloseSteps.{calls_are}
 use Rattle.kept_promise.proofs.Comes.{client_at, Comes, open_op, stops_open, told_point}
 use Rattle.kept_promise.proofs.Hashings.{file_small}
+use Rattle.kept_promise.proofs.Rights.{WasThere}
 
 -- a fetch of a job is that of its next stage
 abbrev pub fetch_on : (book : Book) (taken : List TakenCall) (j : Job) (s : Stage) (f : Fetch) → IsFetch book taken j f → IsFetch book taken (on j s) f
@@ -210,7 +211,7 @@ pub record Gets (book : Book) (k : Core) (qs : List Queue) (n : ℕ) (x : Sessio
   pub told_ : IsTold book x.taken j rests (Some value) version
   pub value_is : Or book (v ≡ value)
   pub short : length v ≤ 67108864
-  pub known : IsSome (content_of book.opening j.file)
+  pub known : WasThere book j.file
 
 -- the client then, with what it keeps
 pub record EndsSo (c : client.State) (file version : ℕ) (v : List ℕ) (rests bytes xid : ℕ) (cache : Entries) (index : Indexed) (r : client.State × ClientStep) : Type 0 where
@@ -242,9 +243,9 @@ comes_opened book k qs n x q t ts j g rests version v bytes cache index r gets c
       digest_is = refl;
       point = m;
       within = (refl, after, (book.steps + 1, refl, omega (arith, past)));
-      value_is = or_later book more None (Some j.place) (v ≡ gets.value) (value_at more of.op.file m ≡ Some v) grows (λ e. ap (λ z. value_at more z m) of.file ∙ value_later book more None (Some j.place) j.file m grows (omega (arith, past)) ∙ gets.told_.value ∙ ap (λ z. Some z) (sym e)) gets.value_is;
+      value_is = or_later book more None (Some j.place) (v ≡ gets.value) (value_at more of.op.file m ≡ Some v) grows (λ e. ap (λ z. value_at more z m) (of.file (open_unnamed j.stage gets.word)) ∙ value_later book more None (Some j.place) j.file m grows (omega (arith, past)) ∙ gets.told_.value ∙ ap (λ z. Some z) (sym e)) gets.value_is;
     },
-    subst (λ l. IsSome (content_of l of.op.file)) (sym grows.opening) (subst (λ (z : ℕ). IsSome (content_of book.opening z)) (sym of.file) gets.known),
+    there_later book more None (Some j.place) of.op.file grows (subst (λ (z : ℕ). WasThere book z) (sym (of.file (open_unnamed j.stage gets.word))) gets.known),
   )) (λ i l e. ok i l e (same_or_not i j.file));
   cached = inl cached;
   state_is = is.state;
@@ -292,10 +293,10 @@ comes_opened book k qs n x q t ts j g rests version v bytes cache index r gets c
     local_is : client.local_bytes opened j.file ≡ v
     local_is = ap (λ o. Rattle.std.specs.Prelude.unwrap_or (Rattle.std.specs.Prelude.option_map (λ (l : Local). l.bytes) o) []) (local_at_itself c.opened j.file local)
 
-    ok : (i : ℕ) (l : Local) → client.local_at opened i ≡ Some l → ((i ≡ j.file) ⊎ (i ≡ j.file → ⊥)) → IsSome (content_of book.opening i) × (length l.bytes ≤ 67108864)
+    ok : (i : ℕ) (l : Local) → client.local_at opened i ≡ Some l → ((i ≡ j.file) ⊎ (i ≡ j.file → ⊥)) → WasThere book i × (length l.bytes ≤ 67108864)
     ok i l e (inl same) =
         let is : local ≡ l = some_is local l (sym (local_at_itself c.opened j.file local) ∙ ap (client.local_at opened) (sym same) ∙ e) in
-        (subst (λ z. IsSome (content_of book.opening z)) (sym same) gets.known, subst (λ (z : Local). length z.bytes ≤ 67108864) is gets.short)
+        (subst (λ z. WasThere book z) (sym same) gets.known, subst (λ (z : Local). length z.bytes ≤ 67108864) is gets.short)
     ok i l e (inr apart) = (g.kept.seats x.owner h.seat h.owner).opened i l (sym (local_at_another c.opened j.file local i apart) ∙ e)
 
     new : Op
@@ -403,6 +404,7 @@ comes_reading book k qs n x q t ts j g f bytes fact may = by (is_here r.fetch) r
       word = sym may.word;
       again = record {
         lease = λ y lt e. absurd cc;
+        walk = λ y w lt e. absurd cc;
         hash = λ y o lt e. nothing_there o e;
         commit = λ y lt e. absurd cc;
         read = λ y d e2 lt e at.

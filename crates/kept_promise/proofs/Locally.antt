@@ -4,7 +4,7 @@ use Rattle.register_model.specs.declared.op.Outcome.{Outcome}
 use Rattle.register_model.specs.declared.op.Outcome.TheVariants as told
 use Rattle.command_text.specs.declared.command.Command.TheVariants as command
 use Rattle.command_text.specs.declared.path.PathCommand.TheVariants as path
-use Rattle.kept_promise.proofs.Common.{nat_tests, slice_get, slice_set, ◌==◌, ◌&&◌, ◌||◌, nat_lt, if◌then◌else◌, Op, Command, Moment, Deed, step_of, deed_by, deeds_from, deeds_of, joined_by, joined_from, leaves, after_one, local_from, lasts, is_busy}
+use Rattle.kept_promise.proofs.Common.{nat_tests, slice_get, slice_set, ◌==◌, ◌&&◌, ◌||◌, nat_lt, if◌then◌else◌, Op, Command, Moment, Deed, step_of, deed_by, deeds_from, deeds_of, joined_by, joined_from, leaves, after_one, local_from, lasts, is_busy, is_untold}
 use Rattle.kept_promise.proofs.Lists.{some_is, nothing_there, true_and_false}
 
 -- ---- moments
@@ -65,7 +65,7 @@ Idles c f d o = (l : Option (List ℕ)) → after_one c f d o l ≡ l
 abbrev pub AllIdle : (c f : ℕ) → List Deed → List Op → Type 0
 AllIdle c f ds os = (i : ℕ) (d : Deed) (o : Op) → slice_get ds i ≡ Some d → slice_get os i ≡ Some o → Idles c f d o
 
-local_idle : (c f : ℕ) (l : Option (List ℕ)) (ds : List Deed) (os : List Op) → AllIdle c f ds os → local_from c f l ds os ≡ l
+pub local_idle : (c f : ℕ) (l : Option (List ℕ)) (ds : List Deed) (os : List Op) → AllIdle c f ds os → local_from c f l ds os ≡ l
 local_idle c f l (d ∷ ds) (o ∷ os) h = ap (λ (z : Option (List ℕ)). local_from c f z ds os) (h 0 d o refl refl l) ∙ local_idle c f l ds os (λ i e p a b. h (suc i) e p a b)
 local_idle c f l _ _ h = refl
 
@@ -141,6 +141,22 @@ leaves_none k u v l (inr e) = ap (λ (z : Outcome). leaves k z v l) e ∙ busy k
     busy (command.Abandon f) = refl
     busy (command.Named (path.Find t)) = refl
     busy (command.Named t) = refl
+
+-- nor is anything by one whose client was told nothing
+pub leaves_untold : (k : Command) (u : Outcome) (v : List ℕ) (l : Option (List ℕ)) → is_untold u ≡ true → leaves k u v l ≡ l
+leaves_untold k told.Running v l e = leaves_none k told.Running v l (inl refl)
+leaves_untold k told.Lost v l e = lost k
+  where
+    lost : (k : Command) → leaves k told.Lost v l ≡ l
+    lost (command.Open f) = refl
+    lost (command.Write f offset content) = refl
+    lost (command.Trunc f size) = refl
+    lost (command.Read f offset count) = refl
+    lost (command.Close f) = refl
+    lost (command.Abandon f) = refl
+    lost (command.Named (path.Find t)) = refl
+    lost (command.Named t) = refl
+leaves_untold k u v l e = absurd cc
 
 -- ---- busy clients
 

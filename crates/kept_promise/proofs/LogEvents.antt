@@ -1,6 +1,15 @@
 -- Each event of a run keeps what is true of operations by what was said for them, if each step of a client does.
 use Rattle.std.proofs.Common.{◌⊎◌, inl, inr, ◌≡◌, ℕ, ◌+◌, ◌<◌, ◌≤◌, List, [], ◌∷◌, ◌++◌, length, Option, Some, None, Result, Ok, Err, Bool, true, false, refl, sym, ap, ◌∙◌, subst, arith, append-nil, map}
+use Rattle.wire.specs.declared.message.Body.TheVariants as body
 use Rattle.wire.specs.declared.message.Message.TheVariants as message
+use Rattle.path_calls.specs.Walk.{begun as walk_begun, next_call}
+use Rattle.path_calls.specs.declared.answers.Ended.{Ended as WalkEnd}
+use Rattle.path_calls.specs.declared.answers.Ended.TheVariants as walk_end
+use Rattle.path_calls.specs.declared.answers.Told.{Told as Leading}
+use Rattle.path_calls.specs.declared.answers.Told.TheVariants as leading
+use Rattle.path_calls.specs.declared.walk.Walk.{Walk}
+use Rattle.open_close.specs.Walking.{asks_next, outcome_of, is_look, seen_in}
+use Rattle.client_state.specs.Ending.{forgets as forgets_of}
 use Rattle.server_core.specs.State as server
 use Rattle.server_core.specs.declared.event.Event.TheVariants as event
 use Rattle.server_core.specs.declared.event.Told.{Told as Announced}
@@ -16,11 +25,11 @@ use Rattle.register_model.specs.declared.op.Outcome.TheVariants as told
 use Rattle.register_model.specs.declared.op.Word.TheVariants as words
 use Rattle.trace_replay.specs.Core.{taken_of as session_taken}
 use Rattle.trace_replay.specs.Trail.{given_in, given_by_message}
-use Rattle.kept_promise.proofs.Common.{Deal.Sent, slice_get, slice_set, Command, parse_of, WireFault, Body, Message, Pending, server_step, lease_call, hash_call, asks_kept, asks_temp, command_step, got_step, got_message, bad_peer, idle, took, took_if, drops, joined, ended_by, ClientStep, Ended, Outcome, Fetch, Stage, Task, Op, Opening, Word, TakenCall, word_of, file_of, value_at_begin, begun, has_point, point_if, op_after, told_of, value_of, place_after, place_with, Core, Seat, Session, Event, Event.Joins, Event.Does, Event.Serves, Event.Hears, Event.Settles, Event.Cuts, Event.Hangs, CoreStep, numbered, with_numbered, server_waiting, serves_if, serves, session_of, ops_after, ops_with, acted, does, joins_as, joins, settles, cuts_if, cuts, hangs_if, hangs, happens, Moment, owner_in, wanted_if, wanted_by, taken_by, given_by, is_in, Deal, deals_with, deals_in, deals_of, Book, Queue, reply_body, told_message}
-use Rattle.kept_promise.proofs.Lists.{some_is, nothing_there, at_end, at_replaced, of_appended, within}
+use Rattle.kept_promise.proofs.Common.{Deal.Sent, Deal.Took, slice_get, slice_set, Command, parse_of, WireFault, Body, Message, Pending, server_step, lease_call, hash_call, asks_kept, asks_temp, command_step, got_step, got_message, bad_peer, idle, took, took_if, drops, joined, ended_by, ClientStep, Ended, Outcome, Fetch, Stage, Task, Op, Opening, Word, TakenCall, word_of, file_of, value_at_begin, begun, has_point, point_if, counted, op_after, told_of, value_of, place_after, place_with, Core, Seat, Session, Event, Event.Joins, Event.Does, Event.Serves, Event.Hears, Event.Settles, Event.Cuts, Event.Hangs, CoreStep, numbered, with_numbered, server_waiting, serves_if, serves, session_of, ops_after, ops_with, acted, does, joins_as, joins, settles, cuts_if, cuts, hangs_if, hangs, happens, Moment, owner_in, wanted_if, wanted_by, taken_by, given_by, is_in, Deal, deals_with, deals_in, deals_of, Book, Queue, reply_body, told_message}
+use Rattle.kept_promise.proofs.Lists.{some_is, nothing_there, at_end, at_replaced, of_appended, within, of_replaced}
 use Rattle.kept_promise.proofs.Keys.{times}
-use Rattle.kept_promise.proofs.Messages.{Job, job, job_of, stage_word, AllTolds, AnswerOf, IsAnswer, CloseOf, FetchOf, IsTrying}
-use Rattle.kept_promise.proofs.Rights.{IsRight, Caused}
+use Rattle.kept_promise.proofs.Messages.{Job, job, job_of, goal_word, stage_word, AllTolds, AnswerOf, IsAnswer, CloseOf, FetchOf, IsTrying}
+use Rattle.kept_promise.proofs.Rights.{IsRight, Caused, gets_file}
 use Rattle.kept_promise.proofs.Fits.{FitLaws}
 use Rattle.kept_promise.proofs.Taken.{times_map_append}
 use Rattle.kept_promise.proofs.Facts.{IsKept, IsSession, IsMatched}
@@ -28,12 +37,15 @@ use Rattle.kept_promise.proofs.RunsCarried.{book_at, moment, Step, Carried, Find
 use Rattle.kept_promise.proofs.Counted.{running_now, running_past}
 use Rattle.kept_promise.proofs.CountedRuns.{no_fault_after}
 use Rattle.kept_promise.proofs.Actors.{job_place, job_task, acts_alone, Heard, heard_at, heard_acts, heard_takes, heard_gives}
-use Rattle.kept_promise.proofs.StepCases.{FetchNow, fronts, command_cases, given_idle, IsOfFile}
+use Rattle.kept_promise.proofs.StepCases.{FetchNow, fronts, command_cases, given_idle, IsOfFile, Walks, walk_cases}
+use Rattle.kept_promise.proofs.Steps.{goal_not_close}
+use Rattle.kept_promise.proofs.Commands.{begun_word}
+use Rattle.kept_promise.proofs.NamesLog.{IsNameDeal, NamesOnly, names_join, call_named, answer_named, finds_open}
 use Rattle.kept_promise.proofs.Shapes.{busy_command}
-use Rattle.kept_promise.proofs.VersionRuns.{settled_are, own_op, foreign_at}
+use Rattle.kept_promise.proofs.VersionRuns.{settled_are, own_op, foreign_at, IsChange, Remembers, change_of, of_file_unnamed}
 use Rattle.kept_promise.proofs.Taking.{IsApart, tried_from, Taking, apart_in, IsWhole, fetched_now}
-use Rattle.kept_promise.proofs.Logs.{IsSilent, Going, Ending, HaveLogs, logs_kept, deals_silent, deals_apart, deals_own, deals_more, deals_same, deals_alike, deals_early, AreAsBefore, as_before, logs_quiet, Renewed, logs_acts, logs_begins}
-use Rattle.kept_promise.proofs.Found.{file_after, took_finds, command_finds, of_fetch}
+use Rattle.kept_promise.proofs.Logs.{IsSilent, Going, Ending, HaveLogs, logs_kept, deals_silent, deals_apart, deals_own, deals_more, deals_same, deals_alike, deals_early, as_before, logs_quiet, Renewed, logs_acts, logs_begins, deals_filed, past_more}
+use Rattle.kept_promise.proofs.Found.{file_after, took_finds, command_finds}
 use Rattle.kept_promise.proofs.ServesQuietly.{serves_quiet}
 use Rattle.kept_promise.proofs.PathNames.{IsSmall}
 use Rattle.trace_replay.specs.Ops.{file_with}
@@ -90,17 +102,27 @@ abbrev pub Answered : Going → Ending → Book → List TakenCall → Op → (l
 Answered P E book taken o log x b found r = After P E (log ++ deals_with (message.Answer x b ∷ []) found r.1.send) r (op_after o r.0 taken (book.steps + 1) r.1)
 
 pub record LogLaws (all : List Moment) (P : Going) (E : Ending) : Type 0 where
-  -- nothing was said for it
-  pub none : (w : Word) (file : ℕ) (v : List ℕ) (u : History) → IsUnopened u → IsUnchanged u → E [] w file v u
-  -- its first call was sent
-  pub asks : (x file : ℕ) (v : List ℕ) → P (Sent (lease_call x file) ∷ []) file v (stage.Asking x)
-  pub opens : (x file : ℕ) (v : List ℕ) → P (Sent (hash_call x file 0) ∷ []) file v (stage.Hashing 1 x)
+  -- of a walk that it is one is said alone
+  pub walks : (log : List Deal) (file : ℕ) (v : List ℕ) (x : ℕ) (w : Walk) → NamesOnly log → P log file v (stage.Walking x w)
+  pub walked : (log : List Deal) (file : ℕ) (v : List ℕ) (x : ℕ) (w : Walk) → P log file v (stage.Walking x w) → NamesOnly log
+  -- nothing was said for it but what a walk says
+  pub none : (w : Word) (file : ℕ) (v : List ℕ) (u : History) → IsUnopened u → IsUnchanged u → (log : List Deal) → NamesOnly log → E log w file v u
+  -- its first call was sent, maybe behind a walk
+  pub asks : (log : List Deal) → NamesOnly log → (x file : ℕ) (v : List ℕ) → P (log ++ Sent (lease_call x file) ∷ []) file v (stage.Asking x)
+  pub opens : (log : List Deal) → NamesOnly log → (x file : ℕ) (v : List ℕ) → P (log ++ Sent (hash_call x file 0) ∷ []) file v (stage.Hashing 1 x)
   pub closes : (x temp file : ℕ) (v : List ℕ) → P (Sent (make_call x temp file) ∷ []) file v (stage.Making x temp)
+  -- the file that an operation gets from the server is nothing to what is true of it
+  pub moves : (log : List Deal) (file other : ℕ) (v : List ℕ) (w : Word) (u : History) → gets_file w ≡ true → E log w file v u → E log w other v u
   -- what is true of one under way is so however it ends, but where an open gets its content
-  pub other : (log : List Deal) (file : ℕ) (v : List ℕ) (st : Stage) (u : History) → P log file v st → IsUnopened u → IsUnchanged u → E log (stage_word st) file v u
+  pub other : (log : List Deal) (file : ℕ) (v : List ℕ) (st : Stage) (u : History) → IsOfFile st → P log file v st → IsUnopened u → IsUnchanged u → E log (stage_word st) file v u
   -- an answer came
   pub heard : (book more : Book) (taken : List TakenCall) (j : Job) (o : Op) (p : ℕ) (s : client.State) (x : ℕ) (b : Body) → book.moments ≡ all → Answering book more taken j o p s x b (took (idle s) (client.calls_of s) j.file j.stage x b)
       → (log : List Deal) → P log o.file o.value j.stage → Answered P E book taken o log x b (found_in s j.file j.stage x b) (took (idle s) (client.calls_of s) j.file j.stage x b)
+
+-- of one at any stage
+over_any : (P : Going) (E : Ending) (all : List Moment) → LogLaws all P E → (log : List Deal) (file : ℕ) (v : List ℕ) (st : Stage) (u : History) → P log file v st → IsUnopened u → IsUnchanged u → E log (stage_word st) file v u
+over_any P E all laws log file v (stage.Walking x w) u p un same = laws.none (stage_word (stage.Walking x w)) file v u un same log (laws.walked log file v x w p)
+over_any P E all laws log file v st u p un same = laws.other log file v st u tt p un same
 
 abbrev pub LogsAt : (P : Going) (E : Ending) (past : List Moment) → Core → Type 0
 LogsAt P E past k = HaveLogs P E past k.steps k.seats k.ops
@@ -116,6 +138,49 @@ stays P E past k after e silent le seats ops h =
     subst (λ (l : List Seat). HaveLogs P E (past ++ moment k e ∷ []) after.steps l after.ops) (sym seats)
     (subst (λ (l : List Op). HaveLogs P E (past ++ moment k e ∷ []) after.steps k.seats l) (sym ops)
     (logs_quiet P E past (moment k e) k.steps after.steps k.seats k.seats k.ops k.ops silent le (same_seats k.seats) (as_before k.ops) h))
+
+-- an operation's change was made, and clients are as they were
+logs_change : (P : Going) (E : Ending) (all : List Moment) → LogLaws all P E → (book : Book) (past : List Moment) (k : Core) (qs : List Queue) (e : Event) (after : Core) → IsKept book k qs → IsSilent (moment k e) → k.steps ≤ after.steps → after.seats ≡ k.seats → IsChange k after.ops → LogsAt P E past k → LogsAt P E (past ++ moment k e ∷ []) after
+logs_change P E all laws book past k qs e after kept silent le seats c h =
+    subst (λ (l : List Seat). HaveLogs P E (past ++ moment k e ∷ []) after.steps l after.ops) (sym seats)
+    (subst (λ (l : List Op). HaveLogs P E (past ++ moment k e ∷ []) after.steps k.seats l) (sym c.is) (record {
+      by = past_more k.steps after.steps past (moment k e) le (inr silent) h.by;
+      jobs = λ i seat j r here is at. elim (of_replaced k.ops c.place new j.place r at) [
+        | inr old ↦ subst (λ (l : List Deal). P l r.file r.value j.stage) (sym (quiet r)) (h.jobs i seat j r here is old.1)
+        | inl made ↦ subst (λ (z : Op). P (deals_of z (past ++ moment k e ∷ [])) z.file z.value j.stage) (sym made.1) (subst (λ (l : List Deal). P l c.file c.op.value j.stage) (sym quiet_new) (job_moves i seat j here is made.0 c.kind (h.jobs i seat j c.op here is (ap (slice_get k.ops) made.0 ∙ c.there))))
+      ];
+      each = λ p r at. elim (of_replaced k.ops c.place new p r at) [
+        | inr old ↦ subst (λ (l : List Deal). E l r.word r.file r.value r.outcome) (sym (quiet r)) (h.each p r old.1)
+        | inl made ↦ subst (λ (z : Op). E (deals_of z (past ++ moment k e ∷ [])) z.word z.file z.value z.outcome) (sym made.1) (subst (λ (l : List Deal). E l c.op.word c.file c.op.value c.op.outcome) (sym quiet_new) (end_moves c.kind (h.each p c.op (ap (slice_get k.ops) made.0 ∙ c.there))))
+      ];
+    }))
+  where
+    new : Op
+    new = record c.op { file = c.file; point = Some (k.steps + 1) }
+
+    log : List Deal
+    log = deals_of c.op past
+
+    quiet : (o : Op) → deals_of o (past ++ moment k e ∷ []) ≡ deals_of o past
+    quiet o = deals_same o past (moment k e) (deals_silent o (moment k e) silent)
+
+    quiet_new : deals_of new (past ++ moment k e ∷ []) ≡ log
+    quiet_new = deals_filed c.op c.file (Some (k.steps + 1)) (past ++ moment k e ∷ []) ∙ quiet c.op
+
+    walk_moves : (st : Stage) → gets_file (stage_word st) ≡ true → P log c.op.file c.op.value st → P log c.file c.op.value st
+    walk_moves (stage.Walking x w) is p = laws.walks log c.file c.op.value x w (laws.walked log c.op.file c.op.value x w p)
+    walk_moves st is p = absurd cc
+
+    job_moves : (i : ℕ) (seat : Seat) (j : Job) → numbered k.seats i ≡ Some seat → job seat ≡ Some j → j.place ≡ c.place → ((c.op.word ≡ words.Close) × (c.file ≡ c.op.file) × Remembers k c.place) ⊎ ((gets_file c.op.word ≡ true) × (c.op.file ≡ 0)) → P log c.op.file c.op.value j.stage → P log c.file c.op.value j.stage
+    job_moves i seat j here is at (inl close) p = subst (λ (f : ℕ). P log f c.op.value j.stage) (sym close.1) p
+    job_moves i seat j here is at (inr make) p =
+        let of = (kept.seats i seat here).task j is in
+        let same : of.op ≡ c.op = some_is of.op c.op (sym of.there ∙ ap (slice_get book.ops) at ∙ ap (λ (l : List Op). slice_get l c.place) kept.ops ∙ c.there) in
+        walk_moves j.stage (ap gets_file (sym of.word ∙ ap (λ (z : Op). z.word) same) ∙ make.0) p
+
+    end_moves : ((c.op.word ≡ words.Close) × (c.file ≡ c.op.file) × Remembers k c.place) ⊎ ((gets_file c.op.word ≡ true) × (c.op.file ≡ 0)) → E log c.op.word c.op.file c.op.value c.op.outcome → E log c.op.word c.file c.op.value c.op.outcome
+    end_moves (inl close) h = subst (λ (f : ℕ). E log c.op.word f c.op.value c.op.outcome) (sym close.1) h
+    end_moves (inr make) h = laws.moves log c.op.file c.file c.op.value c.op.word c.op.outcome make.0 h
 
 pub joins_silent : (k : Core) (c : ℕ) → IsSilent (moment k (Joins c))
 joins_silent k c = (refl, refl, up (numbered k.seats c))
@@ -160,21 +225,22 @@ hangs_silent k n (Some x) = by x.hung
     by true = (refl, refl, refl, omega arith)
     by false = (refl, refl, refl, omega arith)
 
-logs_serves : FitLaws → (P : Going) (E : Ending) (book : Book) (past : List Moment) (k : Core) (qs : List Queue) (n now : ℕ) (bytes : List ℕ) (mid : List Queue) → IsKept book k qs → Finds k qs (Serves n now bytes) mid → LogsAt P E past k → LogsAt P E (past ++ moment k (Serves n now bytes) ∷ []) (happens k (Serves n now bytes)).core
-logs_serves laws P E book past k qs n now bytes mid kept finds h = let s = serves_quiet laws book k qs n now bytes mid kept finds in stays P E past k (happens k (Serves n now bytes)).core (Serves n now bytes) (refl, refl, s.up) s.passes s.seats s.ops h
+logs_serves : FitLaws → (P : Going) (E : Ending) (all : List Moment) → LogLaws all P E → (book : Book) (past : List Moment) (k : Core) (qs : List Queue) (n now : ℕ) (bytes : List ℕ) (mid : List Queue) → IsKept book k qs → Finds k qs (Serves n now bytes) mid → LogsAt P E past k → LogsAt P E (past ++ moment k (Serves n now bytes) ∷ []) (happens k (Serves n now bytes)).core
+logs_serves fits P E all laws book past k qs n now bytes mid kept finds h =
+    let s = serves_quiet fits book k qs n now bytes mid kept finds in
+    elim s.ops [
+      | inl same ↦ stays P E past k (happens k (Serves n now bytes)).core (Serves n now bytes) (refl, refl, s.up) s.passes s.seats same h
+      | inr made ↦ logs_change P E all laws book past k qs (Serves n now bytes) (happens k (Serves n now bytes)).core kept (refl, refl, s.up) s.passes s.seats (change_of made) h
+    ]
 
 logs_hangs : (P : Going) (E : Ending) (past : List Moment) (k : Core) (n : ℕ) → LogsAt P E past k → LogsAt P E (past ++ moment k (Hangs n) ∷ []) (happens k (Hangs n)).core
 logs_hangs P E past k n h = let s = hangs_silent k n (numbered k.sessions n) in stays P E past k (happens k (Hangs n)).core (Hangs n) (refl, refl, s.0) s.3 s.2 s.1 h
 
-logs_settles : (P : Going) (E : Ending) (book : Book) (past : List Moment) (k : Core) (qs : List Queue) (now : ℕ) → IsKept book k qs → LogsAt P E past k → LogsAt P E (past ++ moment k (Settles now) ∷ []) (settles k now).core
-logs_settles P E book past k qs now kept h = logs_quiet P E past (moment k (Settles now)) k.steps (k.steps + 1) k.seats k.seats k.ops (settles k now).core.ops (refl, refl, refl) (omega arith) (same_seats k.seats) (by (settled_are book k qs now kept)) h
-  where
-    by : Rattle.kept_promise.proofs.VersionRuns.Settled k (settles k now).core.ops → AreAsBefore k.ops (settles k now).core.ops
-    by (inl same) = subst (AreAsBefore k.ops) (sym same) (as_before k.ops)
-    by (inr s) = subst (AreAsBefore k.ops) (sym s.4) (λ p r at. elim (Rattle.kept_promise.proofs.Lists.of_replaced k.ops s.0 (record s.1 { point = Some (k.steps + 1) }) p r at) [
-      | inl made ↦ (s.1, Some (k.steps + 1), ap (slice_get k.ops) made.0 ∙ s.2, made.1)
-      | inr old ↦ (r, r.point, old.1, refl)
-    ])
+logs_settles : (P : Going) (E : Ending) (all : List Moment) → LogLaws all P E → (book : Book) (past : List Moment) (k : Core) (qs : List Queue) (now : ℕ) → IsKept book k qs → LogsAt P E past k → LogsAt P E (past ++ moment k (Settles now) ∷ []) (settles k now).core
+logs_settles P E all laws book past k qs now kept h = elim (settled_are book k qs now kept) [
+  | inl same ↦ stays P E past k (settles k now).core (Settles now) (refl, refl, refl) (omega arith) refl same h
+  | inr c ↦ logs_change P E all laws book past k qs (Settles now) (settles k now).core kept (refl, refl, refl) (omega arith) refl c h
+]
 
 -- ---- a connection is lost
 
@@ -230,7 +296,7 @@ logs_cuts P E all laws book past k qs c seat kept here h = by seat.client.linked
         let was = h.jobs c seat j o here w.1 (ap (slice_get k.ops) w.2 ∙ at) in
         record {
           stage = λ u a is. nothing_there u is;
-          each = subst (λ l. E l o.word o.file o.value told.Lost) (sym (log_is o new (running_past o gone taken k.steps (ended_by (Some t) lost) actor.1))) (subst (λ z. E (deals_of o past) z o.file o.value told.Lost) (sym word) (laws.other (deals_of o past) o.file o.value j.stage told.Lost was (λ len digest z. lost_not len digest z) (λ first last z. lost_not_changed first last z)));
+          each = subst (λ l. E l o.word o.file o.value told.Lost) (sym (log_is o new (running_past o gone taken k.steps (ended_by (Some t) lost) actor.1))) (subst (λ z. E (deals_of o past) z o.file o.value told.Lost) (sym word) (over_any P E all laws (deals_of o past) o.file o.value j.stage told.Lost was (λ len digest z. lost_not len digest z) (λ first last z. lost_not_changed first last z)));
         }
       where
         lost_not : (len : ℕ) (digest : List ℕ) → told.Lost ≡ told.Opened len digest → ⊥
@@ -252,11 +318,12 @@ logs_cuts P E all laws book past k qs c seat kept here h = by seat.client.linked
 abbrev Answers : client.State × ClientStep → Type 0
 Answers r = (r.1.send ≡ []) × ((e : Ended) × (r.1.ended ≡ Some e))
 
--- the first call of an open, or of a close
+-- the first call of an open, of a walk, or of a close
 abbrev IsFirst : (file : ℕ) → Message → Stage → Type 0
 IsFirst file m (stage.Asking x) = m ≡ lease_call x file
 IsFirst file m (stage.Hashing tries x) = (tries ≡ 1) × (m ≡ hash_call x file 0)
 IsFirst file m (stage.Making x temp) = m ≡ make_call x temp file
+IsFirst file m (stage.Walking x w) = IsNameDeal (Sent m)
 IsFirst file m st = ⊥
 
 abbrev Asks : Command → client.State × ClientStep → Type 0
@@ -268,14 +335,15 @@ begins_free s d now small free = command_cases (λ r. Answers r ⊎ Asks d r) s 
   answers = λ un opened o plain. inl (refl, (_, refl));
   fetches = λ file is un may. subst (λ (c : Command). let r = asks_kept (fronts s file) file None in Answers r ⊎ Asks c r) (sym is) (inr (hash_call s.next file 0, stage.Hashing 1 s.next, refl, refl, refl, refl, (refl, refl)));
   asks = λ file kept is un may at. subst (λ (c : Command). let r = asks_kept (fronts s file) file (Some kept) in Answers r ⊎ Asks c r) (sym is) (inr (lease_call s.next file, stage.Asking s.next, refl, refl, refl, refl, refl));
-  walks = λ c is un may. absurd (subst IsSmall is small);
+  walks = λ c is un may. subst (λ (z : Command). let r = asks_next s (walk_begun c) in Answers r ⊎ Asks z r) (sym is) (inr (message.Call s.next (body.Nfs (next_call (walk_begun c))), stage.Walking s.next (walk_begun c), refl, refl, refl, sym (begun_word c), call_named s.next (walk_begun c).dir (walk_begun c).left (walk_begun c).goal));
   closes = λ file l is un may at. subst (λ (c : Command). let r = asks_temp s file true in Answers r ⊎ Asks c r) (sym is) (inr (make_call s.next s.next_temp file, stage.Making s.next s.next_temp, refl, refl, refl, refl, refl));
 })
 
 first_said : (P : Going) (E : Ending) (all : List Moment) → LogLaws all P E → (file : ℕ) (v : List ℕ) (m : Message) (st : Stage) → IsFirst file m st → P (Sent m ∷ []) file v st
-first_said P E all laws file v m (stage.Asking x) is = subst (λ (z : Message). P (Sent z ∷ []) file v (stage.Asking x)) (sym is) (laws.asks x file v)
-first_said P E all laws file v m (stage.Hashing tries x) (one, is) = subst (λ (z : Message). P (Sent z ∷ []) file v (stage.Hashing tries x)) (sym is) (subst (λ (n : ℕ). P (Sent (hash_call x file 0) ∷ []) file v (stage.Hashing n x)) (sym one) (laws.opens x file v))
+first_said P E all laws file v m (stage.Asking x) is = subst (λ (z : Message). P (Sent z ∷ []) file v (stage.Asking x)) (sym is) (laws.asks [] tt x file v)
+first_said P E all laws file v m (stage.Hashing tries x) (one, is) = subst (λ (z : Message). P (Sent z ∷ []) file v (stage.Hashing tries x)) (sym is) (subst (λ (n : ℕ). P (Sent (hash_call x file 0) ∷ []) file v (stage.Hashing n x)) (sym one) (laws.opens [] tt x file v))
 first_said P E all laws file v m (stage.Making x temp) is = subst (λ (z : Message). P (Sent z ∷ []) file v (stage.Making x temp)) (sym is) (laws.closes x temp file v)
+first_said P E all laws file v m (stage.Walking x w) is = laws.walks (Sent m ∷ []) file v x w (is, tt)
 first_said P E all laws file v m st is = absurd is
 
 -- what a command makes of an operation, whatever its client answers
@@ -372,14 +440,14 @@ logs_does P E all laws book more past k qs after c now d seat small kept here le
         absurd (omega (arith, le, lt, past, end, begin))
 
     nothing : (command_step seat.client d now).1.send ≡ [] → E (deals_of (op_after (begun c (word_of d) (file_of d) (value_at_begin seat.client (word_of d) (file_of d) (command_step seat.client d now).1.ended) (k.steps + 1)) (command_step seat.client d now).0 [] (k.steps + 1) (command_step seat.client d now).1) (past ++ moment k (Does c now d) ∷ [])) new.word new.file new.value new.outcome
-    nothing none = subst (λ l. E l new.word new.file new.value new.outcome) (sym (log_is ∙ ap (map Sent) none)) (laws.none new.word new.file new.value new.outcome never unchanged)
+    nothing none = subst (λ l. E l new.word new.file new.value new.outcome) (sym (log_is ∙ ap (map Sent) none)) (laws.none new.word new.file new.value new.outcome never unchanged [] tt)
 
     asked : (st : Stage) → P (map Sent (command_step seat.client d now).1.send) (file_of d) new.value st → stage_word st ≡ word_of d → E (deals_of (op_after (begun c (word_of d) (file_of d) (value_at_begin seat.client (word_of d) (file_of d) (command_step seat.client d now).1.ended) (k.steps + 1)) (command_step seat.client d now).0 [] (k.steps + 1) (command_step seat.client d now).1) (past ++ moment k (Does c now d) ∷ [])) new.word new.file new.value new.outcome
     asked st p w =
         subst (λ l. E l new.word new.file new.value new.outcome) (sym log_is)
         (subst (λ z. E (map Sent (command_step seat.client d now).1.send) z new.file new.value new.outcome) (w ∙ sym is.word)
         (subst (λ z. E (map Sent (command_step seat.client d now).1.send) (stage_word st) z new.value new.outcome) (sym is.file)
-        (laws.other (map Sent (command_step seat.client d now).1.send) (file_of d) new.value st new.outcome p never unchanged)))
+        (over_any P E all laws (map Sent (command_step seat.client d now).1.send) (file_of d) new.value st new.outcome p never unchanged)))
 
     each : IsMatched seat → E (deals_of (op_after (begun c (word_of d) (file_of d) (value_at_begin seat.client (word_of d) (file_of d) (command_step seat.client d now).1.ended) (k.steps + 1)) (command_step seat.client d now).0 [] (k.steps + 1) (command_step seat.client d now).1) (past ++ moment k (Does c now d) ∷ [])) new.word new.file new.value new.outcome
     each (inr m) = nothing (busy_command seat.client d now (record { file = m.0.file; stage = m.0.stage }) (job_task seat.place seat.client.task m.0 m.1)).0
@@ -434,10 +502,89 @@ logs_does P E all laws book more past k qs after c now d seat small kept here le
 abbrev Comes : (P : Going) (E : Ending) (more : Book) (ops : List Op) (p : ℕ) → Op → List TakenCall → (steps : ℕ) → List Deal → client.State × ClientStep → List Message → (found : List (ℕ × ℕ)) → Type 0
 Comes P E more ops p o taken n log got ms found = more.ops ≡ slice_set ops p (op_after o got.0 taken (n + 1) got.1) → IsRight more (op_after o got.0 taken (n + 1) got.1) → After P E (log ++ deals_with ms found got.1.send) got (op_after o got.0 taken (n + 1) got.1)
 
-answered : (P : Going) (E : Ending) (all : List Moment) → LogLaws all P E → (book more : Book) (taken : List TakenCall) (j : Job) (o : Op) (p : ℕ) (c : client.State) (x : ℕ) (b : Body) (log : List Deal) → book.moments ≡ all → IsOfFile j.stage → c.task ≡ Some (record { file = j.file; stage = j.stage }) → P log o.file o.value j.stage → E log o.word o.file o.value o.outcome
-    → ((got : client.State × ClientStep) → client.has_call (client.pending_in j.stage) x ≡ true → more.ops ≡ slice_set book.ops p (op_after o got.0 taken (book.steps + 1) got.1) → IsRight more (op_after o got.0 taken (book.steps + 1) got.1) → got.1.found ≡ None → Answering book more taken j o p c x b got)
+unopened_running : (u : History) → u ≡ told.Running → IsUnopened u
+unopened_running u is len digest e = apart (sym is ∙ e)
+  where
+    apart : told.Running ≡ told.Opened len digest → ⊥
+    apart e = cc
+
+unchanged_running : (u : History) → u ≡ told.Running → IsUnchanged u
+unchanged_running u is first last e = apart (sym is ∙ e)
+  where
+    apart : told.Running ≡ told.Changed first last → ⊥
+    apart e = cc
+
+abbrev WalkAfter : (P : Going) (E : Ending) (more : Book) (taken : List TakenCall) (step : ℕ) → Op → (x : ℕ) → Body → List Deal → client.State × ClientStep → Type 0
+WalkAfter P E more taken step o x b log r = IsRight more (op_after o r.0 taken step r.1) → After P E (log ++ deals_with (message.Answer x b ∷ []) [] r.1.send) r (op_after o r.0 taken step r.1)
+
+-- one to a walk
+walk_after : (P : Going) (E : Ending) (all : List Moment) → LogLaws all P E → (more : Book) (taken : List TakenCall) (step : ℕ) (o : Op) (s : client.State) (calls : List Pending) (file y : ℕ) (w : Walk) (x : ℕ) (b : Body) (log : List Deal) → NamesOnly log → o.word ≡ goal_word w.goal → o.outcome ≡ told.Running
+    → WalkAfter P E more taken step o x b log (took s calls file (stage.Walking y w) x b)
+walk_after P E all laws more taken step o s calls file y w x b log names word running = walk_cases (WalkAfter P E more taken step o x b log) s calls file y w x b (record {
+  fault = λ f untold right. (let r = bad_peer s f 0 in absurd (no_fault_after more o r.0 taken step r.1 right (f, refl)));
+  asks = λ v k right. (let all_named = names_join log (Took (message.Answer x b) ∷ Sent (message.Call s.next (body.Nfs (next_call v))) ∷ []) names (took_named (leading.Asks v) k, (call_named s.next v.dir v.left v.goal, tt)) in record {
+    stage = λ u going is. subst (λ (t : Task). P (log ++ Took (message.Answer x b) ∷ Sent (message.Call s.next (body.Nfs (next_call v))) ∷ []) o.file o.value t.stage) (some_is (record { file = 0; stage = stage.Walking s.next v }) u is) (laws.walks (log ++ Took (message.Answer x b) ∷ Sent (message.Call s.next (body.Nfs (next_call v))) ∷ []) o.file o.value s.next v all_named);
+    each = laws.none o.word o.file o.value o.outcome (unopened_running o.outcome running) (unchanged_running o.outcome running) (log ++ Took (message.Answer x b) ∷ Sent (message.Call s.next (body.Nfs (next_call v))) ∷ []) all_named;
+  });
+  open_already = λ id k is right. record {
+    stage = λ u going. nothing_there _ (sym going);
+    each = laws.none o.word id o.value told.AlreadyOpen (λ len digest e. absurd (already_opened len digest e)) (λ first last e. absurd (already_changed first last e)) (log ++ Took (message.Answer x b) ∷ []) (one_more (leading.Finds id) k);
+  };
+  fetches = λ id k shut none right. (let r = asks_kept (fronts s id) id None in found id (stage.Hashing 1 s.next) (hash_call s.next id 0) r.0 (record r.1 { found = Some id }) tt (sym (stage_word_open id k)) refl) (subst (λ (l : List Deal). P l id o.value (stage.Hashing 1 s.next)) (joined log (Took (message.Answer x b) ∷ []) (Sent (hash_call s.next id 0) ∷ [])) (laws.opens (log ++ Took (message.Answer x b) ∷ []) (one_more (leading.Finds id) k) s.next id o.value));
+  leases = λ id v k shut some right. (let r = asks_kept (fronts s id) id (Some v) in found id (stage.Asking s.next) (lease_call s.next id) r.0 (record r.1 { found = Some id }) tt (sym (stage_word_open id k)) refl) (subst (λ (l : List Deal). P l id o.value (stage.Asking s.next)) (joined log (Took (message.Answer x b) ∷ []) (Sent (lease_call s.next id) ∷ [])) (laws.asks (log ++ Took (message.Answer x b) ∷ []) (one_more (leading.Finds id) k) s.next id o.value));
+  ends = λ v e k same right. record {
+    stage = λ u going. nothing_there _ (sym going);
+    each = laws.none o.word (file_with o.file (seen_in (is_look v.goal) e)) (value_of o.value (forgets_of s calls x) (outcome_of e)) (told_of (outcome_of e)) (ended_unopened e) (ended_unchanged e) (log ++ Took (message.Answer x b) ∷ []) (one_more (leading.Ends e) k);
+  };
+})
+  where
+    joined : (xs ys zs : List Deal) → (xs ++ ys) ++ zs ≡ xs ++ (ys ++ zs)
+    joined [] ys zs = refl
+    joined (d ∷ xs) ys zs = ap (λ l. d ∷ l) (joined xs ys zs)
+
+    took_named : (t : Leading) → Walks (stage.Walking y w) b t → IsNameDeal (Took (message.Answer x b))
+    took_named t k = subst (λ (z : Body). IsNameDeal (Took (message.Answer x z))) (sym k.body_is) (answer_named x k.walk k.answer k.its)
+
+    one_more : (t : Leading) → Walks (stage.Walking y w) b t → NamesOnly (log ++ Took (message.Answer x b) ∷ [])
+    one_more t k = names_join log (Took (message.Answer x b) ∷ []) names (took_named t k, tt)
+
+    stage_word_open : (id : ℕ) → Walks (stage.Walking y w) b (leading.Finds id) → o.word ≡ words.Open
+    stage_word_open id k = word ∙ ap stage_word k.stage_is ∙ finds_open k.walk k.answer id k.told_is
+
+    already_opened : (len : ℕ) (digest : List ℕ) → told.AlreadyOpen ≡ told.Opened len digest → ⊥
+    already_opened len digest e = cc
+
+    already_changed : (first last : ℕ) → told.AlreadyOpen ≡ told.Changed first last → ⊥
+    already_changed first last e = cc
+
+    ended_unopened : (e : WalkEnd) → IsUnopened (told_of (outcome_of e))
+    ended_unopened walk_end.Done len digest q = absurd cc
+    ended_unopened (walk_end.Names ns) len digest q = absurd cc
+    ended_unopened (walk_end.Seen id kind version size) len digest q = absurd cc
+    ended_unopened (walk_end.Refused t) len digest q = absurd cc
+    ended_unopened walk_end.NoLink len digest q = absurd cc
+
+    ended_unchanged : (e : WalkEnd) → IsUnchanged (told_of (outcome_of e))
+    ended_unchanged walk_end.Done first last q = absurd cc
+    ended_unchanged (walk_end.Names ns) first last q = absurd cc
+    ended_unchanged (walk_end.Seen id kind version size) first last q = absurd cc
+    ended_unchanged (walk_end.Refused t) first last q = absurd cc
+    ended_unchanged walk_end.NoLink first last q = absurd cc
+
+    -- an open of the file goes on
+    found : (id : ℕ) (st : Stage) (m : Message) (r : client.State) (acts : ClientStep) → IsOfFile st → stage_word st ≡ o.word → r.task ≡ Some (record { file = id; stage = st }) → P (log ++ Took (message.Answer x b) ∷ Sent m ∷ []) id o.value st → After P E (log ++ deals_with (message.Answer x b ∷ []) [] (m ∷ [])) (r, acts) (record o { file = id; traffic = counted o.traffic acts.counts })
+    found id st m r acts of open_ task p = record {
+      stage = λ u going is. subst (λ (t : Task). P (log ++ Took (message.Answer x b) ∷ Sent m ∷ []) id o.value t.stage) (some_is (record { file = id; stage = st }) u (sym task ∙ is)) p;
+      each = subst (λ (z : Word). E (log ++ Took (message.Answer x b) ∷ Sent m ∷ []) z id o.value o.outcome) open_ (laws.other (log ++ Took (message.Answer x b) ∷ Sent m ∷ []) id o.value st o.outcome of p (unopened_running o.outcome running) (unchanged_running o.outcome running));
+    }
+
+abbrev Goes_on : (P : Going) (E : Ending) (more : Book) (ops : List Op) (p : ℕ) → Op → List TakenCall → (steps : ℕ) → List Deal → client.State → (file x : ℕ) → Body → Stage → Type 0
+Goes_on P E more ops p o taken n log c file x b st = (let got = took (idle c) (client.calls_of c) file st x b in more.ops ≡ slice_set ops p (op_after o got.0 taken (n + 1) got.1) → IsRight more (op_after o got.0 taken (n + 1) got.1) → After P E (log ++ deals_with (message.Answer x b ∷ []) (given_in c (with_file file (reading_by st x b))) got.1.send) got (op_after o got.0 taken (n + 1) got.1))
+
+answered : (P : Going) (E : Ending) (all : List Moment) → LogLaws all P E → (book more : Book) (taken : List TakenCall) (j : Job) (o : Op) (p : ℕ) (c : client.State) (x : ℕ) (b : Body) (log : List Deal) → book.moments ≡ all → c.task ≡ Some (record { file = j.file; stage = j.stage }) → o.word ≡ stage_word j.stage → o.outcome ≡ told.Running → P log o.file o.value j.stage → E log o.word o.file o.value o.outcome
+    → (IsOfFile j.stage → (got : client.State × ClientStep) → client.has_call (client.pending_in j.stage) x ≡ true → more.ops ≡ slice_set book.ops p (op_after o got.0 taken (book.steps + 1) got.1) → IsRight more (op_after o got.0 taken (book.steps + 1) got.1) → got.1.found ≡ None → Answering book more taken j o p c x b got)
     → Comes P E more book.ops p o taken book.steps log (got_message c c.task (message.Answer x b)) (wanted_by c (Ok (message.Answer x b))) (given_by_message c (Ok (message.Answer x b)))
-answered P E all laws book more taken j o p c x b log all_is of_file task was each known =
+answered P E all laws book more taken j o p c x b log all_is task word running was each known =
     subst (λ (t : Option Task). Comes P E more book.ops p o taken book.steps log (took_if c t x b (client.has_call (client.pending t) x)) (wanted_if (client.has_call (client.pending t) x) (message.Answer x b)) (given_in c (reading t (message.Answer x b)))) (sym task) (by (client.has_call (client.pending_in j.stage) x) refl)
   where
     dropped : (forgotten : Bool) → Comes P E more book.ops p o taken book.steps log (drops c (Some (record { file = j.file; stage = j.stage })) x forgotten) [] []
@@ -447,10 +594,17 @@ answered P E all laws book more taken j o p c x b log all_is of_file task was ea
     }
     dropped false ops right = let r = bad_peer c (bad.UnknownXid x) 0 in absurd (no_fault_after more o r.0 taken (book.steps + 1) r.1 right (bad.UnknownXid x, refl))
 
-    by : (own : Bool) → client.has_call (client.pending_in j.stage) x ≡ own → Comes P E more book.ops p o taken book.steps log (took_if c (Some (record { file = j.file; stage = j.stage })) x b own) (wanted_if own (message.Answer x b)) (given_in c (reading_if (record { file = j.file; stage = j.stage }) x b own))
-    by true own ops right =
+    filed : IsOfFile j.stage → client.has_call (client.pending_in j.stage) x ≡ true → Goes_on P E more book.ops p o taken book.steps log c j.file x b j.stage
+    filed of own ops right =
         let got = took (idle c) (client.calls_of c) j.file j.stage x b in
-        subst (λ (l : List (ℕ × ℕ)). Answered P E book taken o log x b l got) (given_idle c (with_file j.file (reading_by j.stage x b))) (laws.heard book more taken j o p c x b all_is (known got own ops right (took_finds (idle c) (client.calls_of c) j.file j.stage x b of_file)) log was)
+        subst (λ (l : List (ℕ × ℕ)). Answered P E book taken o log x b l got) (given_idle c (with_file j.file (reading_by j.stage x b))) (laws.heard book more taken j o p c x b all_is (known of got own ops right (took_finds (idle c) (client.calls_of c) j.file j.stage x b of)) log was)
+
+    going : (st : Stage) → j.stage ≡ st → client.has_call (client.pending_in j.stage) x ≡ true → Goes_on P E more book.ops p o taken book.steps log c j.file x b st
+    going (stage.Walking y w) at own ops right = walk_after P E all laws more taken (book.steps + 1) o (idle c) (client.calls_of c) j.file y w x b log (laws.walked log o.file o.value y w (subst (P log o.file o.value) at was)) (word ∙ ap stage_word at) running right
+    going st at own ops right = subst (Goes_on P E more book.ops p o taken book.steps log c j.file x b) at (filed (subst IsOfFile (sym at) tt) own) ops right
+
+    by : (own : Bool) → client.has_call (client.pending_in j.stage) x ≡ own → Comes P E more book.ops p o taken book.steps log (took_if c (Some (record { file = j.file; stage = j.stage })) x b own) (wanted_if own (message.Answer x b)) (given_in c (reading_if (record { file = j.file; stage = j.stage }) x b own))
+    by true own ops right = going j.stage refl own ops right
     by false own ops right = dropped (client.has_call c.forgotten x) ops right
 
 logs_hears : (P : Going) (E : Ending) (all : List Moment) → LogLaws all P E → FitLaws → (opening : List Opening) (past : List Moment) (k : Core) (qs after : List Queue) (n now : ℕ) (bytes : List ℕ) (mid : List Queue) → IsKept (book_at opening k all) k qs → (h : Heard k qs n now bytes mid)
@@ -513,10 +667,10 @@ logs_hears P E all laws fits opening past k qs after n now bytes mid kept h left
         let close = subst (λ (z : Seat). CloseOf book h.session.closing s.contents z.client.next_temp j (client.local_bytes z.client.opened j.file) j.stage) same_seat (s.closes h.uncut j job_is) in
         let value = value_by book h.session.closing s.contents h.seat.client.next_temp j o (client.local_bytes h.seat.client.opened j.file) at_place j.stage close in
         let log = log_is o new (running_past o r.0 taken k.steps r.1 actor.1) (running_now o r.0 taken k.steps h.session.owner r.1 actor.0 actor.1 actor.2) in
-        let a = answered P E all laws book more taken j o p h.seat.client h.told.xid (reply_body h.told.reply) (deals_of o past) refl (of_fetch book taken j j.stage fetch) task (before.jobs h.session.owner h.seat j o h.owner w.1 at_place) (before.each p o at) (λ got mine ops_got right_got finds. record {
-          known = of_fetch book taken j j.stage fetch;
+        let a = answered P E all laws book more taken j o p h.seat.client h.told.xid (reply_body h.told.reply) (deals_of o past) refl task word w.4 (before.jobs h.session.owner h.seat j o h.owner w.1 at_place) (before.each p o at) (λ of_known got mine ops_got right_got finds. record {
+          known = of_known;
           finds = finds;
-          taking = record { at = at_place; place = w.2; file = w.5; word = word; running = w.4; fetch = fetch; trying = trying; opening = refl };
+          taking = record { at = at_place; place = w.2; file = w.5 (of_file_unnamed j.stage of_known); word = word; running = w.4; fetch = fetch; trying = trying; opening = refl };
           apart = apart;
           fetched = fetched_now book taken h.session.closing j h.told.xid h.told.reply kept.sound fetch answer mine;
           value = value;
@@ -537,7 +691,7 @@ logs_hears P E all laws fits opening past k qs after n now bytes mid kept h left
         value_by book closing contents m j o v at (stage.Hashing tries x) h is = absurd cc
         value_by book closing contents m j o v at (stage.Listing x f) h is = absurd cc
         value_by book closing contents m j o v at (stage.Reading f) h is = absurd cc
-        value_by book closing contents m j o v at (stage.Walking x w) h is = absurd cc
+        value_by book closing contents m j o v at (stage.Walking x w) h is = absurd (goal_not_close w.goal is)
 
         log_is : (o new : Op) → Rattle.kept_promise.proofs.Counted.AlikeUpTo k.steps o new → is_in new (k.steps + 1) h.session.owner ≡ true → deals_of new (past ++ moment k (Hears n now bytes) ∷ []) ≡ deals_of o past ++ deals_with (wanted_by h.seat.client (Ok (told_message h.told))) (given_by_message h.seat.client (Ok (told_message h.told))) (got_step h.seat.client (Ok (told_message h.told)) now).1.send
         log_is o new same now_in =
@@ -556,9 +710,9 @@ logs_hears P E all laws fits opening past k qs after n now bytes mid kept h left
 logs_event : (P : Going) (E : Ending) (all : List Moment) → LogLaws all P E → FitLaws → (past rest : List Moment) (opening : List Opening) (k : Core) (qs : List Queue) (e : Event) (mid after : List Queue) → Step all past rest opening k qs e mid after → LogsAt P E past k → LogsAt P E (past ++ moment k e ∷ []) (happens k e).core
 logs_event P E all laws fits past rest opening k qs (Joins c) mid after s h = subst (λ (o : Option Seat). LogsAt P E (past ++ moment k (Joins c) ∷ []) (joins k c o).core) (sym s.finds.1) (logs_joins P E past k c s.finds.0 s.finds.1 h)
 logs_event P E all laws fits past rest opening k qs (Does c now d) mid after s h = subst (λ (o : Option Seat). IsKept (book_at opening (does k c now d o).core all) (does k c now d o).core after → LogsAt P E (past ++ moment k (Does c now d) ∷ []) (does k c now d o).core) (sym s.finds.1) (λ left. logs_does P E all laws (book_at opening k all) (book_at opening (does k c now d (Some s.finds.0)).core all) past k qs after c now d s.finds.0 s.finds.2 s.kept s.finds.1 left h) s.left
-logs_event P E all laws fits past rest opening k qs (Serves n now bytes) mid after s h = logs_serves fits P E (book_at opening k all) past k qs n now bytes mid s.kept s.finds h
+logs_event P E all laws fits past rest opening k qs (Serves n now bytes) mid after s h = logs_serves fits P E all laws (book_at opening k all) past k qs n now bytes mid s.kept s.finds h
 logs_event P E all laws fits past rest opening k qs (Hears n now bytes) mid after s h = logs_hears P E all laws fits opening past k qs after n now bytes mid s.kept (heard_at (book_at opening k all) k qs n now bytes mid s.kept s.finds) s.left h
-logs_event P E all laws fits past rest opening k qs (Settles now) mid after s h = logs_settles P E (book_at opening k all) past k qs now s.kept h
+logs_event P E all laws fits past rest opening k qs (Settles now) mid after s h = logs_settles P E all laws (book_at opening k all) past k qs now s.kept h
 logs_event P E all laws fits past rest opening k qs (Cuts c) mid after s h = subst (λ (o : Option Seat). LogsAt P E (past ++ moment k (Cuts c) ∷ []) (cuts k c o).core) (sym s.finds.1) (logs_cuts P E all laws (book_at opening k all) past k qs c s.finds.0 s.kept s.finds.1 h)
 logs_event P E all laws fits past rest opening k qs (Hangs n) mid after s h = logs_hangs P E past k n h
 

@@ -60,6 +60,10 @@ pub deals_pointed : (o : Op) (t : Option ℕ) (past : List Moment) → deals_of 
 deals_pointed o t [] = refl
 deals_pointed o t (m ∷ past) = ap (λ l. deals_in o m ++ l) (deals_pointed o t past)
 
+pub deals_filed : (o : Op) (f : ℕ) (t : Option ℕ) (past : List Moment) → deals_of (record o { file = f; point = t }) past ≡ deals_of o past
+deals_filed o f t [] = refl
+deals_filed o f t (m ∷ past) = ap (λ l. deals_in o m ++ l) (deals_filed o f t past)
+
 pub deals_alike : (n : ℕ) (o r : Op) (past : List Moment) → AlikeUpTo n o r → ArePast n past → deals_of r past ≡ deals_of o past
 deals_alike n o r [] same h = refl
 deals_alike n o r (m ∷ past) same h = ap (λ l. l ++ deals_of r past) here ∙ ap (λ l. deals_in o m ++ l) (deals_alike n o r past same h.1)

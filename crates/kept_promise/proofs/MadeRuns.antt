@@ -1,6 +1,6 @@
 -- A run carries that each change of the journal was made at a moment at which the server was told to make one, that it was the first that waited then,
 -- and whose close it is; and that a settling makes the first that waits.
-use Rattle.std.proofs.Common.{inl, inr, ◌≡◌, ℕ, ◌+◌, List, [], ◌∷◌, ◌++◌, length, drop, Option, Some, None, Result, Bool, true, false, refl, sym, ap, ◌∙◌, subst, arith, append-nil, replicate}
+use Rattle.std.proofs.Common.{inl, inr, ◌≡◌, ℕ, zero, suc, ◌+◌, ◌<◌, List, [], ◌∷◌, ◌++◌, length, drop, Option, Some, None, Bool, true, false, refl, sym, ap, ◌∙◌, subst, arith, replicate, ◌⊎◌}
 use Rattle.server_core.specs.Closing.{at as at_reading, settles as server_settles}
 use Rattle.server_core.specs.State as server
 use Rattle.server_core.specs.Step.{hangs_if as server_hangs_if}
@@ -9,25 +9,27 @@ use Rattle.register_model.specs.declared.op.Word.TheVariants as words
 use Rattle.server_core.specs.declared.change.Wanted.{Wanted}
 use Rattle.server_core.specs.declared.change.Wanted.TheVariants as wanted
 use Rattle.server_core.specs.declared.event.Told.TheVariants as announced
+use Rattle.file_tree.specs.declared.entry.EntryKind.TheVariants as kind
 use Rattle.trace_replay.specs.Core.{entries_since}
 use Rattle.trace_replay.specs.Ops.{changed_file}
-use Rattle.trace_replay.specs.Faithful.{IsSettled, SettlesFirst}
-use Rattle.kept_promise.proofs.Common.{Contains-push_cases, slice_get, slice_set, Contains, WireFault, Message, makes_change, connect, has_room, stands, Change, ServerStep, File, Entry, ClientStep, Ended, Op, Opening, TakenCall, has_point, op_after, Core, Seat, Session, Event, Event.Joins, Event.Does, Event.Serves, Event.Hears, Event.Settles, Event.Cuts, Event.Hangs, CoreStep, numbered, serves_if, serves, joins_as, joins, does, cuts_if, cuts, hangs_if, hangs, ops_with, settles, happens, Moment, step_of, Book, Queue, ask_message}
-use Rattle.kept_promise.proofs.Lists.{some_is, nothing_there, at_end, at_replaced, kept_appended, of_appended, same_or_not, set_else}
+use Rattle.trace_replay.specs.Faithful.{IsSettled, SettlesFirst, IsMadeOrRefused}
+use Rattle.kept_promise.proofs.Common.{Contains-push_cases, slice_get, slice_set, Contains, makes_change, connect, has_room, stands, Change, ServerStep, File, Entry, ClientStep, Ended, Op, Opening, TakenCall, has_point, op_after, Core, Seat, Session, Event, Event.Joins, Event.Does, Event.Serves, Event.Hears, Event.Settles, Event.Cuts, Event.Hangs, CoreStep, numbered, joins_as, joins, does, cuts_if, cuts, hangs_if, hangs, ops_with, settles, happens, Moment, step_of, Book, Queue}
+use Rattle.kept_promise.proofs.Lists.{some_is, nothing_there, at_end, at_replaced, kept_appended, of_appended, same_or_not, set_else, within, of_more, in_front}
 use Rattle.kept_promise.proofs.Turns.{also_numbered}
 use Rattle.kept_promise.proofs.Facts.{IsKept}
 use Rattle.kept_promise.proofs.RunsCarried.{book_at, moment, Step, Carried}
-use Rattle.kept_promise.proofs.Actors.{heard_at, serves_read}
+use Rattle.kept_promise.proofs.Actors.{heard_at}
 use Rattle.kept_promise.proofs.Fits.{FitLaws}
-use Rattle.kept_promise.proofs.CallsKeep.{is_of_files, got_keeps}
-use Rattle.kept_promise.proofs.ServesFiles.{got_quiet, one_since}
+use Rattle.kept_promise.proofs.ServesFiles.{one_since}
 use Rattle.kept_promise.proofs.Promised.{own_there}
 use Rattle.kept_promise.proofs.Rights.{IsRight}
 use Rattle.kept_promise.proofs.VersionRuns.{close_not_opened}
 use Rattle.kept_promise.proofs.LogEvents.{value_stays}
 use Rattle.kept_promise.proofs.Growth.{or_map}
-use Rattle.kept_promise.proofs.Messages.{content_wanted}
-use Rattle.kept_promise.proofs.Making.{entry_of, made_change, target_there, made_is}
+use Rattle.kept_promise.proofs.Messages.{content_wanted, WaitsFor, job}
+use Rattle.kept_promise.proofs.Making.{entry_of, made_change, made_is}
+use Rattle.kept_promise.proofs.ServesQuietly.{MadeHere, Entered, IsQuiet, serves_quiet}
+use Rattle.kept_promise.proofs.SettlesQuietly.{GoesHere, RefusesFor, Settling, makes_commit, makes_else, settling}
 
 -- ---- what becomes of operations that have a point
 
@@ -74,32 +76,25 @@ Quietly k t = (t.core.entries ≡ k.entries) × (t.core.server.journal ≡ k.ser
 left_rights : (all : List Moment) (opening : List Opening) (k : Core) (qs : List Queue) → IsKept (book_at opening k all) k qs → (j : ℕ) (r : Op) → slice_get k.ops j ≡ Some r → IsRight (book_at opening k all) r
 left_rights all opening k qs kept j r at = kept.sound.rights j r at
 
-quiet_event : FitLaws → (all past rest : List Moment) (opening : List Opening) (k : Core) (qs : List Queue) (e : Event) (mid after : List Queue) → Step all past rest opening k qs e mid after → ((now : ℕ) → e ≡ Settles now → ⊥) → Quietly k (happens k e)
-quiet_event laws all past rest opening k qs (Joins c) mid after s none = subst (λ (o : Option Seat). Quietly k (joins k c o)) (sym s.finds.1) (by s.finds.0 (has_room k.server))
+quiet_event : FitLaws → (all past rest : List Moment) (opening : List Opening) (k : Core) (qs : List Queue) (e : Event) (mid after : List Queue) → Step all past rest opening k qs e mid after → ((now : ℕ) → e ≡ Settles now → ⊥) → ((n now : ℕ) (b : List ℕ) → e ≡ Serves n now b → ⊥) → Quietly k (happens k e)
+quiet_event laws all past rest opening k qs (Joins c) mid after s none served = subst (λ (o : Option Seat). Quietly k (joins k c o)) (sym s.finds.1) (by s.finds.0 (has_room k.server))
   where
     by : (seat : Seat) (b : Bool) → (let r = connect k.server b in Quietly k (joins_as k c seat r.0 r.1.told))
     by seat true = (refl, refl, same_points k.ops)
     by seat false = (refl, refl, same_points k.ops)
-quiet_event laws all past rest opening k qs (Does c now d) mid after s none = subst (λ (o : Option Seat). Quietly k (does k c now d o)) (sym s.finds.1) (refl, refl, more_points k.ops _)
-quiet_event laws all past rest opening k qs (Serves n now bytes) mid after s none = by (numbered k.sessions n)
-  where
-    m : Message
-    m = ask_message s.finds.1
-
-    by : (x : Option Session) → Quietly k (serves k n now bytes x)
-    by None = (refl, refl, same_points k.ops)
-    by (Some x) = subst (λ (r : Result Message WireFault). Quietly k (serves_if k n now x r)) (sym (serves_read laws (book_at opening k all) k qs n now bytes mid s.kept s.finds)) (subst (λ (t : CoreStep). Quietly k t) (sym (got_quiet k n now x m (is_of_files s.finds.1))) (refl, got_keeps (λ z. z.journal ≡ k.server.journal) k.server n m now (is_of_files s.finds.1) (λ temps waiting index moment w. refl), same_points k.ops))
-quiet_event laws all past rest opening k qs (Hears n now bytes) mid after s none =
+quiet_event laws all past rest opening k qs (Does c now d) mid after s none served = subst (λ (o : Option Seat). Quietly k (does k c now d o)) (sym s.finds.1) (refl, refl, more_points k.ops _)
+quiet_event laws all past rest opening k qs (Serves n now bytes) mid after s none served = absurd (served n now bytes refl)
+quiet_event laws all past rest opening k qs (Hears n now bytes) mid after s none served =
     let h = heard_at (book_at opening k all) k qs n now bytes mid s.kept s.finds in
     let rights = subst (λ (t : CoreStep). (j : ℕ) (r : Op) → slice_get t.core.ops j ≡ Some r → IsRight (book_at opening (happens k (Hears n now bytes)).core all) r) h.hears_is (left_rights all opening (happens k (Hears n now bytes)).core after s.left) in
     subst (λ (t : CoreStep). Quietly k t) (sym h.hears_is) (refl, refl, acted_points (book_at opening (happens k (Hears n now bytes)).core all) k.ops h.seat.place _ _ (k.steps + 1) _ rights)
-quiet_event laws all past rest opening k qs (Settles now) mid after s none = absurd (none now refl)
-quiet_event laws all past rest opening k qs (Cuts c) mid after s none = subst (λ (o : Option Seat). Quietly k (cuts k c o)) (sym s.finds.1) (by s.finds.0.client.linked (subst (λ (o : Option Seat). (j : ℕ) (r : Op) → slice_get (cuts k c o).core.ops j ≡ Some r → IsRight (book_at opening (happens k (Cuts c)).core all) r) s.finds.1 (left_rights all opening (happens k (Cuts c)).core after s.left)))
+quiet_event laws all past rest opening k qs (Settles now) mid after s none served = absurd (none now refl)
+quiet_event laws all past rest opening k qs (Cuts c) mid after s none served = subst (λ (o : Option Seat). Quietly k (cuts k c o)) (sym s.finds.1) (by s.finds.0.client.linked (subst (λ (o : Option Seat). (j : ℕ) (r : Op) → slice_get (cuts k c o).core.ops j ≡ Some r → IsRight (book_at opening (happens k (Cuts c)).core all) r) s.finds.1 (left_rights all opening (happens k (Cuts c)).core after s.left)))
   where
     by : (b : Bool) → ((j : ℕ) (r : Op) → slice_get (cuts_if k c s.finds.0 b).core.ops j ≡ Some r → IsRight (book_at opening (happens k (Cuts c)).core all) r) → Quietly k (cuts_if k c s.finds.0 b)
     by true rights = (refl, refl, acted_points (book_at opening (happens k (Cuts c)).core all) k.ops s.finds.0.place _ _ (k.steps + 1) _ rights)
     by false rights = (refl, refl, same_points k.ops)
-quiet_event laws all past rest opening k qs (Hangs n) mid after s none = by (numbered k.sessions n)
+quiet_event laws all past rest opening k qs (Hangs n) mid after s none served = by (numbered k.sessions n)
   where
     gone : (b : Bool) → (server_hangs_if k.server b n).0.journal ≡ k.server.journal
     gone true = refl
@@ -115,12 +110,16 @@ quiet_event laws all past rest opening k qs (Hangs n) mid after s none = by (num
 
 -- ---- what is carried
 
--- where changes wait, a settling makes the one that came first, in its own step
+-- where changes wait, a settling makes the one that came first, in its own step, or tells its session why not
 abbrev pub MakesFirst : Book → Type 0
-MakesFirst book = (m : Moment) (now : ℕ) (c : Change) → Contains book.moments m → m.event ≡ Settles now → slice_get m.before.server.waiting 0 ≡ Some c → slice_get book.entries (length m.before.server.journal) ≡ Some (step_of m)
+MakesFirst book = (m : Moment) (now : ℕ) (c : Change) → Contains book.moments m → m.event ≡ Settles now → slice_get m.before.server.waiting 0 ≡ Some c → IsMadeOrRefused book m c
+
+first_later : (book more : Book) (m : Moment) (c : Change) → ((i p : ℕ) → slice_get book.entries i ≡ Some p → slice_get more.entries i ≡ Some p) → IsMadeOrRefused book m c → IsMadeOrRefused more m c
+first_later book more m c later (inl made) = inl (later (length m.before.server.journal) (step_of m) made)
+first_later book more m c later (inr refused) = inr refused
 
 pub record AreMade (opening : List Opening) (all past : List Moment) (k : Core) : Type 0 where
-  pub settled : (i p : ℕ) → slice_get k.entries i ≡ Some p → IsSettled (book_at opening k all) i p
+  pub settled : (i p : ℕ) (e : Entry) → slice_get k.entries i ≡ Some p → slice_get k.server.journal i ≡ Some e → e.kind ≡ kind.Commit → IsSettled (book_at opening k all) i p
   pub first : MakesFirst (book_at opening k past)
 
 -- it stays once a journal has grown
@@ -157,12 +156,48 @@ settled_later opening all k l i p journal points s =
 
 made_quietly : (opening : List Opening) (all past : List Moment) (k : Core) (e : Event) → ((now : ℕ) → e ≡ Settles now → ⊥) → Quietly k (happens k e) → AreMade opening all past k → AreMade opening all (past ++ moment k e ∷ []) (happens k e).core
 made_quietly opening all past k e none q h = record {
-  settled = λ i p at. settled_later opening all k (happens k e).core i p (λ x was. ap (λ (l : List Entry). slice_get l i) q.1 ∙ was) q.2 (h.settled i p (ap (λ (l : List ℕ). slice_get l i) (sym q.0) ∙ at));
+  settled = λ i p d at is commit. settled_later opening all k (happens k e).core i p (λ x was. ap (λ (l : List Entry). slice_get l i) q.1 ∙ was) q.2 (h.settled i p d (ap (λ (l : List ℕ). slice_get l i) (sym q.0) ∙ at) (ap (λ (l : List Entry). slice_get l i) (sym q.1) ∙ is) commit);
   first = λ m now c there is at. elim (Contains-push_cases past (moment k e) m there) [
-    | inl old ↦ ap (λ (l : List ℕ). slice_get l (length m.before.server.journal)) q.0 ∙ h.first m now c old is at
+    | inl old ↦ first_later (book_at opening k past) (book_at opening (happens k e).core (past ++ moment k e ∷ [])) m c (λ i p had. ap (λ (l : List ℕ). slice_get l i) q.0 ∙ had) (h.first m now c old is at)
     | inr new ↦ absurd (none now (ap (λ (z : Moment). z.event) new ∙ is))
   ];
 }
+
+-- ---- what is entered changes no content
+
+at_more : (xs : List ℕ) (n y : ℕ) → 0 < n → slice_get (xs ++ replicate n y) (length xs) ≡ Some y
+at_more [] zero y lt = absurd (omega (arith, lt))
+at_more [] (suc n) y lt = refl
+at_more (x ∷ xs) n y lt = at_more xs n y lt
+
+made_entered : (opening : List Opening) (all past : List Moment) (k : Core) (e : Event) → length k.entries ≡ length k.server.journal → (q : Entered k (happens k e)) → KeepsPoints k.ops (happens k e).core.ops → ((now : ℕ) (c : Change) → e ≡ Settles now → slice_get k.server.waiting 0 ≡ Some c → (0 < length q.es) ⊎ RefusesFor (happens k e) c)
+    → AreMade opening all past k → AreMade opening all (past ++ moment k e ∷ []) (happens k e).core
+made_entered opening all past k e count q points tells h = record {
+  settled = λ i p d at is commit. elim (of_more k.entries steps i p (ap (λ (l : List ℕ). slice_get l i) (sym q.entries) ∙ at)) [
+    | inl old ↦ elim (of_more k.server.journal q.es i d (ap (λ (l : List Entry). slice_get l i) (sym q.journal) ∙ is)) [
+      | inl was ↦ settled_later opening all k later i p (λ x had. ap (λ (l : List Entry). slice_get l i) q.journal ∙ in_front k.server.journal q.es i x had) points (h.settled i p d old was commit)
+      | inr new ↦ let x = new.1 in let y = within k.entries i p old in absurd (omega (arith, x, y, count))
+    ]
+    | inr late ↦ elim (of_more k.server.journal q.es i d (ap (λ (l : List Entry). slice_get l i) (sym q.journal) ∙ is)) [
+      | inl was ↦ let x = late.1 in let y = within k.server.journal i d was in absurd (omega (arith, x, y, count))
+      | inr new ↦ absurd (q.plain new.0 d new.2 commit)
+    ]
+  ];
+  first = λ m t c there is at. elim (Contains-push_cases past (moment k e) m there) [
+    | inl old ↦ first_later (book_at opening k past) (book_at opening later (past ++ moment k e ∷ [])) m c (λ i p had. ap (λ (l : List ℕ). slice_get l i) q.entries ∙ in_front k.entries steps i p had) (h.first m t c old is at)
+    | inr new ↦ subst (λ (z : Moment). IsMadeOrRefused (book_at opening later (past ++ moment k e ∷ [])) z c) new (now_first c (tells t c (ap (λ (z : Moment). z.event) new ∙ is) (ap (λ (z : Moment). slice_get z.before.server.waiting 0) new ∙ at)))
+  ];
+}
+  where
+    later : Core
+    later = (happens k e).core
+
+    steps : List ℕ
+    steps = replicate (length q.es) (k.steps + 1)
+
+    now_first : (c : Change) → (0 < length q.es) ⊎ RefusesFor (happens k e) c → IsMadeOrRefused (book_at opening later (past ++ moment k e ∷ [])) (moment k e) c
+    now_first c (inl some_) = inl (ap (λ (l : List ℕ). slice_get l (length k.server.journal)) q.entries ∙ ap (slice_get (k.entries ++ steps)) (sym count) ∙ at_more k.entries (length q.es) (k.steps + 1) some_)
+    now_first c (inr refused) = inr refused
 
 -- ---- a change is made, or none waits
 
@@ -177,8 +212,13 @@ pointed_points ops place file step o there none j p r at word point = elim (same
   | inl same ↦ nothing_there p (sym none ∙ ap (λ (z : Op). z.point) (some_is o r (sym there ∙ ap (slice_get ops) (sym same) ∙ at)) ∙ point)
 ]
 
+-- so too where its file goes
+gone_points : (k : Core) (ops : List Op) → (ops ≡ k.ops) ⊎ GoesHere k ops → KeepsPoints k.ops ops
+gone_points k ops (inl same) = subst (KeepsPoints k.ops) (sym same) (same_points k.ops)
+gone_points k ops (inr g) = subst (KeepsPoints k.ops) (sym g.after_is) (pointed_points k.ops g.place g.new (k.steps + 1) g.op g.there g.unmade.1)
+
 made_settling : (all past rest : List Moment) (opening : List Opening) (k : Core) (qs : List Queue) (now : ℕ) (mid after : List Queue) → Step all past rest opening k qs (Settles now) mid after → AreMade opening all past k → AreMade opening all (past ++ moment k (Settles now) ∷ []) (settles k now).core
-made_settling all past rest opening k qs now mid after s h = by k.server.waiting refl
+made_settling all past rest opening k qs now mid after s h = by (settling (book_at opening k all) k qs now s.kept)
   where
     kept : IsKept (book_at opening k all) k qs
     kept = s.kept
@@ -189,23 +229,14 @@ made_settling all past rest opening k qs now mid after s h = by k.server.waiting
     count : length k.entries ≡ length k.server.journal
     count = s.kept.sound.journal.count
 
-    still : (w : List Change) → k.server.waiting ≡ w → w ≡ [] → AreMade opening all (past ++ moment k (Settles now) ∷ []) (left_by k (server_settles k.server now []))
-    still w e none = record {
-      settled = λ i p at. settled_later opening all k (left_by k (server_settles k.server now [])) i p (λ x was. was) (same_points k.ops) (h.settled i p (ap (λ (l : List ℕ). slice_get l i) (sym (append-nil k.entries)) ∙ at));
-      first = λ m n c there is at. ap (λ (l : List ℕ). slice_get l (length m.before.server.journal)) (append-nil k.entries) ∙ (elim (Contains-push_cases past (moment k (Settles now)) m there) [
-        | inl old ↦ h.first m n c old is at
-        | inr new ↦ nothing_there c (ap (λ (l : List Change). slice_get l 0) (sym (e ∙ none)) ∙ ap (λ (z : Moment). slice_get z.before.server.waiting 0) new ∙ at)
-      ]);
-    }
-
-    made : (c : Change) (cs : List Change) (f : File) → k.server.waiting ≡ c ∷ cs → server.file_at k.server.tree c.file ≡ Some f → AreMade opening all (past ++ moment k (Settles now) ∷ []) (left_by k (made_change (at_reading (record k.server { waiting = cs }) now) c (content_wanted c.what) f))
-    made c cs f e there =
+    made : (c : Change) (cs : List Change) (f : File) → k.server.waiting ≡ c ∷ cs → c.what ≡ wanted.Content (content_wanted c.what) → AreMade opening all (past ++ moment k (Settles now) ∷ []) (left_by k (made_change (at_reading (record k.server { waiting = cs }) now) c (content_wanted c.what) f))
+    made c cs f e what =
         let first : slice_get k.server.waiting 0 ≡ Some c = ap (λ (l : List Change). slice_get l 0) e in
         let home = kept.home 0 c first in
         let q = also_numbered k.sessions qs c.session home.0 kept.made.1 home.1 in
         let mine = own_there k.server.waiting 0 c first in
         let x = kept.sessions c.session home.0 q.0 home.1 q.1 in
-        let pending = x.pending mine.0 c mine.1 in
+        let pending = subst (λ (z : Wanted). WaitsFor (book_at opening k all) home.0.closing home.0.cut (job x.seat) c.xid c.file z) what (x.pending mine.0 c mine.1) in
         let old = x.old pending.place pending.known in
         let op : Op = record pending.op { file = c.file; point = Some (k.steps + 1) } in
         let made_op : slice_get (slice_set k.ops pending.place op) pending.place ≡ Some op = at_replaced k.ops pending.place op pending.op pending.there in
@@ -215,9 +246,10 @@ made_settling all past rest opening k qs now mid after s h = by k.server.waiting
         ∙ ap (λ l. Rattle.trace_replay.specs.Ops.pointed_at k.ops l (k.steps + 1) (Some c.file)) pending.known
         ∙ ap (Rattle.trace_replay.specs.Ops.pointed k.ops pending.place c.file (k.steps + 1)) pending.there in
         let points : KeepsPoints k.ops (left_by k (made_change (at_reading (record k.server { waiting = cs }) now) c (content_wanted c.what) f)).ops = subst (KeepsPoints k.ops) (sym ops_are) (pointed_points k.ops pending.place c.file (k.steps + 1) pending.op pending.there pending.unmade.1) in
+        let old_entry : (i p : ℕ) (d : Entry) → slice_get k.entries i ≡ Some p → slice_get (k.server.journal ++ entry_of c (content_wanted c.what) f ∷ []) i ≡ Some d → slice_get k.server.journal i ≡ Some d = λ i p d had is. elim (of_appended k.server.journal (entry_of c (content_wanted c.what) f) i d is) [ inr was ↦ was | inl last ↦ let x = last.0 in let y = within k.entries i p had in absurd (omega (arith, x, y, count)) ] in
         record {
-          settled = λ i p at. elim (of_appended k.entries (k.steps + 1) i p at) [
-            | inr was ↦ settled_later opening all k (left_by k (made_change (at_reading (record k.server { waiting = cs }) now) c (content_wanted c.what) f)) i p (λ y had. kept_appended k.server.journal (entry_of c (content_wanted c.what) f) i y had) points (h.settled i p was)
+          settled = λ i p d at is commit. elim (of_appended k.entries (k.steps + 1) i p at) [
+            | inr was ↦ settled_later opening all k (left_by k (made_change (at_reading (record k.server { waiting = cs }) now) c (content_wanted c.what) f)) i p (λ y had. kept_appended k.server.journal (entry_of c (content_wanted c.what) f) i y had) points (h.settled i p d was (old_entry i p d was is) commit)
             | inl last ↦ record {
               moment = moment k (Settles now);
               there = here;
@@ -237,42 +269,60 @@ made_settling all past rest opening k qs now mid after s h = by k.server.waiting
               place = pending.place;
               op = op;
               op_is = ap (λ (l : List Op). slice_get l pending.place) ops_are ∙ made_op;
-              word_is = pending.unmade.0;
+              word_is = pending.word_is;
               point_is = ap (λ n. Some n) (sym last.1);
               content = content_wanted c.what;
-              what_is = kept.server.commits 0 c first;
+              what_is = what;
               value_is = pending.value_is;
               owner = sym old.2 ∙ ap (λ (z : Op). z.client) (some_is old.0 pending.op (sym old.1 ∙ pending.there));
               closing = pending.known;
             }
           ];
           first = λ m n d in_ is at. elim (Contains-push_cases past (moment k (Settles now)) m in_) [
-            | inl was ↦ kept_appended k.entries (k.steps + 1) (length m.before.server.journal) (step_of m) (h.first m n d was is at)
-            | inr new ↦ subst (λ (z : Moment). slice_get (k.entries ++ (k.steps + 1) ∷ []) (length z.before.server.journal) ≡ Some (step_of z)) new (ap (slice_get (k.entries ++ (k.steps + 1) ∷ [])) (sym count) ∙ at_end k.entries (k.steps + 1))
+            | inl was ↦ first_later (book_at opening k past) (book_at opening (left_by k (made_change (at_reading (record k.server { waiting = cs }) now) c (content_wanted c.what) f)) (past ++ moment k (Settles now) ∷ [])) m d (λ i p had. kept_appended k.entries (k.steps + 1) i p had) (h.first m n d was is at)
+            | inr new ↦ inl (subst (λ (z : Moment). slice_get (k.entries ++ (k.steps + 1) ∷ []) (length z.before.server.journal) ≡ Some (step_of z)) new (ap (slice_get (k.entries ++ (k.steps + 1) ∷ [])) (sym count) ∙ at_end k.entries (k.steps + 1)))
           ];
         }
 
-    by : (w : List Change) → k.server.waiting ≡ w → AreMade opening all (past ++ moment k (Settles now) ∷ []) (left_by k (server_settles k.server now w))
-    by [] e = still [] e refl
-    by (c ∷ cs) e =
-        let f = target_there (book_at opening k all) k.server c cs kept.server e in
-        subst (λ (r : server.State × ServerStep). AreMade opening all (past ++ moment k (Settles now) ∷ []) (left_by k r)) (sym (made_is (book_at opening k all) k.server now c cs f.0 kept.server e f.1)) (made c cs f.0 e f.1)
+    by : Settling k (settles k now) → AreMade opening all (past ++ moment k (Settles now) ∷ []) (settles k now).core
+    by (makes_commit c cs f e what there) =
+        subst (λ (ws : List Change). AreMade opening all (past ++ moment k (Settles now) ∷ []) (left_by k (server_settles k.server now ws))) (sym e)
+        (subst (λ (r : server.State × ServerStep). AreMade opening all (past ++ moment k (Settles now) ∷ []) (left_by k r)) (sym (made_is (book_at opening k all) k.server now c cs f kept.server e there what)) (made c cs f e what))
+    by (makes_else ops q tells) = made_entered opening all past k (Settles now) count q (gone_points k (settles k now).core.ops ops) (λ n c is at. tells c at) h
+
+-- ---- a call is taken
+
+-- a close that has a point keeps it where a file is made
+made_points : (k : Core) (ops : List Op) → (ops ≡ k.ops) ⊎ MadeHere k ops → KeepsPoints k.ops ops
+made_points k ops (inl same) = subst (KeepsPoints k.ops) (sym same) (same_points k.ops)
+made_points k ops (inr m) = subst (KeepsPoints k.ops) (sym m.after_is) (pointed_points k.ops m.place m.new (k.steps + 1) m.op m.there m.unmade.1)
+
+made_serving : FitLaws → (all past rest : List Moment) (opening : List Opening) (k : Core) (qs : List Queue) (n now : ℕ) (bytes : List ℕ) (mid after : List Queue) → Step all past rest opening k qs (Serves n now bytes) mid after → AreMade opening all past k → AreMade opening all (past ++ moment k (Serves n now bytes) ∷ []) (happens k (Serves n now bytes)).core
+made_serving laws all past rest opening k qs n now bytes mid after s h =
+    let q : IsQuiet k (happens k (Serves n now bytes)) = serves_quiet laws (book_at opening k all) k qs n now bytes mid s.kept s.finds in
+    made_entered opening all past k (Serves n now bytes) count q.entered (made_points k (happens k (Serves n now bytes)).core.ops q.ops) (λ m c e at. absurd (not_settles m e)) h
+  where
+    count : length k.entries ≡ length k.server.journal
+    count = s.kept.sound.journal.count
+
+    not_settles : (m : ℕ) → Serves n now bytes ≡ Settles m → ⊥
+    not_settles m e = absurd cc
 
 settled_event : FitLaws → (all past rest : List Moment) (opening : List Opening) (k : Core) (qs : List Queue) (e : Event) (mid after : List Queue) → Step all past rest opening k qs e mid after → AreMade opening all past k → AreMade opening all (past ++ moment k e ∷ []) (happens k e).core
 settled_event laws all past rest opening k qs (Settles now) mid after s h = made_settling all past rest opening k qs now mid after s h
-settled_event laws all past rest opening k qs (Joins c) mid after s h = made_quietly opening all past k (Joins c) (λ n z. absurd cc) (quiet_event laws all past rest opening k qs (Joins c) mid after s (λ n z. absurd cc)) h
-settled_event laws all past rest opening k qs (Does c now d) mid after s h = made_quietly opening all past k (Does c now d) (λ n z. absurd cc) (quiet_event laws all past rest opening k qs (Does c now d) mid after s (λ n z. absurd cc)) h
-settled_event laws all past rest opening k qs (Serves n now bytes) mid after s h = made_quietly opening all past k (Serves n now bytes) (λ n z. absurd cc) (quiet_event laws all past rest opening k qs (Serves n now bytes) mid after s (λ n z. absurd cc)) h
-settled_event laws all past rest opening k qs (Hears n now bytes) mid after s h = made_quietly opening all past k (Hears n now bytes) (λ n z. absurd cc) (quiet_event laws all past rest opening k qs (Hears n now bytes) mid after s (λ n z. absurd cc)) h
-settled_event laws all past rest opening k qs (Cuts c) mid after s h = made_quietly opening all past k (Cuts c) (λ n z. absurd cc) (quiet_event laws all past rest opening k qs (Cuts c) mid after s (λ n z. absurd cc)) h
-settled_event laws all past rest opening k qs (Hangs n) mid after s h = made_quietly opening all past k (Hangs n) (λ n z. absurd cc) (quiet_event laws all past rest opening k qs (Hangs n) mid after s (λ n z. absurd cc)) h
+settled_event laws all past rest opening k qs (Joins c) mid after s h = made_quietly opening all past k (Joins c) (λ n z. absurd cc) (quiet_event laws all past rest opening k qs (Joins c) mid after s (λ n z. absurd cc) (λ n t b z. absurd cc)) h
+settled_event laws all past rest opening k qs (Does c now d) mid after s h = made_quietly opening all past k (Does c now d) (λ n z. absurd cc) (quiet_event laws all past rest opening k qs (Does c now d) mid after s (λ n z. absurd cc) (λ n t b z. absurd cc)) h
+settled_event laws all past rest opening k qs (Serves n now bytes) mid after s h = made_serving laws all past rest opening k qs n now bytes mid after s h
+settled_event laws all past rest opening k qs (Hears n now bytes) mid after s h = made_quietly opening all past k (Hears n now bytes) (λ n z. absurd cc) (quiet_event laws all past rest opening k qs (Hears n now bytes) mid after s (λ n z. absurd cc) (λ n t b z. absurd cc)) h
+settled_event laws all past rest opening k qs (Cuts c) mid after s h = made_quietly opening all past k (Cuts c) (λ n z. absurd cc) (quiet_event laws all past rest opening k qs (Cuts c) mid after s (λ n z. absurd cc) (λ n t b z. absurd cc)) h
+settled_event laws all past rest opening k qs (Hangs n) mid after s h = made_quietly opening all past k (Hangs n) (λ n z. absurd cc) (quiet_event laws all past rest opening k qs (Hangs n) mid after s (λ n z. absurd cc) (λ n t b z. absurd cc)) h
 
 abbrev pub AllSettled : (all past : List Moment) → List Opening → Core → List Queue → Type 0
 AllSettled all past opening k qs = AreMade opening all past k
 
 pub carried_settled : FitLaws → Carried AllSettled
 carried_settled laws = record {
-  first = λ all opening tree count kept. record { settled = λ i p at. nothing_there p at; first = λ m now c there is at. (let lt = there.1 in absurd (omega (arith, lt))) };
+  first = λ all opening tree count kept. record { settled = λ i p d at is commit. nothing_there p at; first = λ m now c there is at. (let lt = there.1 in absurd (omega (arith, lt))) };
   steps = λ all past rest opening k qs e mid after s h. settled_event laws all past rest opening k qs e mid after s h;
   adjusts = λ all past opening k qs index seats same h. record { settled = h.settled; first = h.first };
 }
@@ -288,4 +338,4 @@ settles_left s now (d ∷ ds) c at = by d.what
     by (wanted.Asked a) = refl
 
 pub settles_first : (book : Book) → MakesFirst book → SettlesFirst book
-settles_first book h = λ m now c there is at. (ap (λ (e : Event). (happens m.before e).core.server.waiting) is ∙ settles_left m.before.server now m.before.server.waiting c at, inl (h m now c there is at))
+settles_first book h = λ m now c there is at. (ap (λ (e : Event). (happens m.before e).core.server.waiting) is ∙ settles_left m.before.server now m.before.server.waiting c at, h m now c there is at)

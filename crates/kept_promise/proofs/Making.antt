@@ -1,16 +1,16 @@
--- A commit that waits is made once it is the first: its file is there, and it has its room.
-use Rattle.std.proofs.Common.{◌≡◌, ℕ, ◌+◌, List, [], ◌∷◌, ◌++◌, length, Option, Some, None, refl, sym, ap, ◌∙◌, subst, arith, IsSome}
+-- A commit that waits is made once it is the first, where its file is there: it has its room.
+use Rattle.std.proofs.Common.{◌≡◌, ℕ, ◌+◌, List, [], ◌∷◌, ◌++◌, length, Some, ap, ◌∙◌, arith}
 use Rattle.chunk_places.specs.Places.{indexed}
 use Rattle.file_tree.specs.Step.{replaced, commit_entry}
 use Rattle.hash_calls.specs.declared.message.Lb.TheVariants as lb
 use Rattle.wire.specs.declared.message.Body.TheVariants as body
 use Rattle.server_core.specs.State as server
+use Rattle.server_core.specs.declared.change.Wanted.TheVariants as wanted
 use Rattle.server_core.specs.Closing.{committed_by, told_change}
-use Rattle.kept_promise.proofs.Common.{slice_get, chunks_of, Done, makes_change, at, entry_by, Change, ServerStep, File, Entry, Value, content_of, Book}
-use Rattle.kept_promise.proofs.Lists.{nothing_there}
+use Rattle.kept_promise.proofs.Common.{slice_get, chunks_of, Done, makes_change, at, entry_by, Change, ServerStep, File, Entry, Book}
 use Rattle.kept_promise.proofs.Messages.{content_wanted}
 use Rattle.server_law.proofs.TreeCalls.{HasRoom, commits_made}
-use Rattle.kept_promise.proofs.Facts.{FileIs, IsServer}
+use Rattle.kept_promise.proofs.Facts.{IsServer}
 
 -- what the journal tells of it
 abbrev pub entry_of : Change → List ℕ → File → Entry
@@ -26,22 +26,9 @@ made_change s c x f = (
 first_waits : (s : server.State) (c : Change) (cs : List Change) → s.waiting ≡ c ∷ cs → slice_get s.waiting 0 ≡ Some c
 first_waits s c cs e = ap (λ (l : List Change). slice_get l 0) e
 
--- its file is there
-pub target_there : (book : Book) (s : server.State) (c : Change) (cs : List Change) → IsServer book s → s.waiting ≡ c ∷ cs → (f : File) × (server.file_at s.tree c.file ≡ Some f)
-target_there book s c cs h e = by (server.file_at s.tree c.file) refl
-  where
-    not_there : (v : Value) → v ≡ None → IsSome v → ⊥
-    not_there None e h = absurd cc
-    not_there (Some x) e h = nothing_there x (sym e)
-
-    by : (o : Option File) → server.file_at s.tree c.file ≡ o → (f : File) × (server.file_at s.tree c.file ≡ Some f)
-    by (Some f) there = (f, there)
-    by None there = absurd (not_there (content_of book.opening c.file) (subst (FileIs book c.file) there (h.held c.file)).0 (h.targets 0 c (first_waits s c cs e)))
-
 -- there is room for it, beside the others that wait
-pub room_there : (book : Book) (s : server.State) (c : Change) (cs : List Change) → IsServer book s → s.waiting ≡ c ∷ cs → HasRoom s.tree (server.held cs) (content_wanted c.what)
-room_there book s c cs h e =
-    let what = h.commits 0 c (first_waits s c cs e) in
+pub room_there : (book : Book) (s : server.State) (c : Change) (cs : List Change) → IsServer book s → s.waiting ≡ c ∷ cs → c.what ≡ wanted.Content (content_wanted c.what) → HasRoom s.tree (server.held cs) (content_wanted c.what)
+room_there book s c cs h e what =
     let count = h.changes in
     let bytes = h.bytes in
     let entries = ap server.entries_held e in
@@ -54,7 +41,7 @@ room_there book s c cs h e =
       small = omega (arith, bytes, sizes, size);
     }
 
-pub made_is : (book : Book) (s : server.State) (now : ℕ) (c : Change) (cs : List Change) (f : File) → IsServer book s → s.waiting ≡ c ∷ cs → server.file_at s.tree c.file ≡ Some f → makes_change (at (record s { waiting = cs }) now) c c.what ≡ made_change (at (record s { waiting = cs }) now) c (content_wanted c.what) f
-made_is book s now c cs f h e there =
-    ap (makes_change (at (record s { waiting = cs }) now) c) (h.commits 0 c (first_waits s c cs e))
-    ∙ ap (committed_by (at (record s { waiting = cs }) now) c (content_wanted c.what)) (commits_made s.tree (server.held cs) c.file (content_wanted c.what) f there (room_there book s c cs h e))
+pub made_is : (book : Book) (s : server.State) (now : ℕ) (c : Change) (cs : List Change) (f : File) → IsServer book s → s.waiting ≡ c ∷ cs → server.file_at s.tree c.file ≡ Some f → c.what ≡ wanted.Content (content_wanted c.what) → makes_change (at (record s { waiting = cs }) now) c c.what ≡ made_change (at (record s { waiting = cs }) now) c (content_wanted c.what) f
+made_is book s now c cs f h e there what =
+    ap (makes_change (at (record s { waiting = cs }) now) c) what
+    ∙ ap (committed_by (at (record s { waiting = cs }) now) c (content_wanted c.what)) (commits_made s.tree (server.held cs) c.file (content_wanted c.what) f there (room_there book s c cs h e what))

@@ -76,7 +76,7 @@ none_and false = refl
 pub unpointed : (f p : ℕ) (o : Op) → o.point ≡ None → changed_before f p o ≡ false
 unpointed f p o e = ap (λ t. (changes o.word && (o.file == f)) && option_map_or (λ q. nat_lt q p) t false) e ∙ none_and (changes o.word && (o.file == f))
 
-too_late : (f p s : ℕ) (o : Op) → o.point ≡ Some s → p ≤ s → changed_before f p o ≡ false
+pub too_late : (f p s : ℕ) (o : Op) → o.point ≡ Some s → p ≤ s → changed_before f p o ≡ false
 too_late f p s o e le =
     ap (λ t. (changes o.word && (o.file == f)) && option_map_or (λ q. nat_lt q p) t false) e
     ∙ ap (λ b. (changes o.word && (o.file == f)) && b) (le-ltb s p le) ∙ none_and (changes o.word && (o.file == f))
@@ -238,7 +238,7 @@ still_changed f p q o le x y = both (changes o.word && (o.file == f)) o.point x 
     both true (Some z) x y = grind (arith, nat_tests, x, y, le)
     both _ _ x y = absurd cc
 
-more_marks : (f p q : ℕ) (ops : List Op) → p ≤ q → length (marks f p ops) ≤ length (marks f q ops)
+pub more_marks : (f p q : ℕ) (ops : List Op) → p ≤ q → length (marks f p ops) ≤ length (marks f q ops)
 more_marks f p q [] le = omega arith
 more_marks f p q (o ∷ os) le = by (marks f p (o ∷ os)) (marks f q (o ∷ os)) (changed_before f p o) (changed_before f q o) refl refl (marks_cons f p o os) (marks_cons f q o os) (more_marks f p q os le)
   where

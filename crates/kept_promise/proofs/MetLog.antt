@@ -13,16 +13,18 @@ use Rattle.register_model.specs.declared.op.Outcome.TheVariants as told
 use Rattle.register_model.specs.declared.op.Word.TheVariants as words
 use Rattle.trace_replay.specs.Traffic.{Attempt, new_attempt, Attempts, no_attempt, other_if, told_if, shown_if, given_up, begun_anew, begun_if, attempts_with, attempts_from, attempts_in, HasMet, AllMet, AttemptsMet, AttemptsEnd}
 use Rattle.trace_replay.specs.Trail.{sent_of}
-use Rattle.kept_promise.proofs.Common.{nat_tests, ◌==◌, nat_lt, option_map, Done, Attr, Hashes, Piece, Body, Message, Pending, end_of, tries_most, hash_call, read_call, with_hashes, reads_from, reads_chunk, other_version, shown_version, idle, took, Reads, ClientStep, Ended, Outcome, Fetch, Stage, Task, Chunk, Op, Word, TakenCall, op_after, told_of, Moment, Deal, Deal.Took, Deal.Found, Deal.Sent, deals_with, deals_of, Book}
+use Rattle.kept_promise.proofs.Common.{nat_tests, ◌==◌, nat_lt, option_map, Done, Attr, Hashes, Piece, Body, Message, Pending, end_of, tries_most, lease_call, hash_call, read_call, with_hashes, reads_from, reads_chunk, other_version, shown_version, idle, took, Reads, ClientStep, Ended, Outcome, Fetch, Stage, Task, Chunk, Op, Word, TakenCall, op_after, told_of, Moment, Deal, Deal.Took, Deal.Found, Deal.Sent, deals_with, deals_of, Book}
 use Rattle.kept_promise.proofs.Lists.{some_is, nothing_there}
 use Rattle.kept_promise.proofs.Messages.{Job, stage_word}
-use Rattle.kept_promise.proofs.Rights.{IsRight, Caused}
+use Rattle.kept_promise.proofs.Rights.{IsRight, Caused, gets_file}
 use Rattle.kept_promise.proofs.VersionRuns.{word_after}
-use Rattle.kept_promise.proofs.StepCases.{reads_keep, FetchIn, FetchNow, FetchNow.all_told, FetchNow.one_came, GaveUp, IsChangedBy, reads_of, open_and_close, OfOpens, of_opens, took_cases, IsOfFile, fetch_known}
+use Rattle.kept_promise.proofs.StepCases.{reads_keep, FetchIn, FetchNow, FetchNow.all_told, FetchNow.one_came, GaveUp, IsChangedBy, reads_of, open_and_close, OfOpens, of_opens, took_cases, IsOfFile}
 use Rattle.kept_promise.proofs.Logs.{Going, Ending}
 use Rattle.kept_promise.proofs.LogSums.{sent_more, begins_in, attempts_log}
 use Rattle.kept_promise.proofs.LogEvents.{IsUnchanged, Answering, Answered, found_in, LogLaws}
 use Rattle.kept_promise.proofs.OwnLog.{OpOwn, none_begin}
+use Rattle.kept_promise.proofs.Steps.{goal_not_close}
+use Rattle.kept_promise.proofs.NamesLog.{NamesOnly, names_count}
 
 -- ---- what is carried
 
@@ -43,7 +45,7 @@ MeetsBy log file v (stage.Asking x) = attempts_in log ≡ no_attempt
 MeetsBy log file v (stage.Hashing tries x) = Tries (attempts_in log) tries new_attempt
 MeetsBy log file v (stage.Listing x f) = Told (attempts_in log) f.tries f.version
 MeetsBy log file v (stage.Reading f) = Told (attempts_in log) f.tries f.version
-MeetsBy log file v (stage.Walking x w) = ⊥
+MeetsBy log file v (stage.Walking x w) = NamesOnly log
 MeetsBy log file v st = Unit {0}
 
 abbrev pub Met : List Deal → History → Type 0
@@ -143,12 +145,20 @@ gave_up log file v st x b f version p (inr (piece, is, at, shows)) =
 tries_fine : (t : Attempts) (n : ℕ) (a : Attempt) → Tries t n a → Fine t
 tries_fine t n a (last, count, all, most) = (all, (let e = ap (λ (o : Option Attempt). length (given_up o)) last in omega (arith, e, count, most)))
 
+-- a walk began none
+names_fine : (log : List Deal) → NamesOnly log → Fine (attempts_in log)
+names_fine log h = subst Fine (sym ((names_count log h).attempts no_attempt)) (tt, omega arith)
+
+-- and one call more behind it
+names_begun : (log : List Deal) (d : Deal) → NamesOnly log → attempts_in (log ++ d ∷ []) ≡ attempts_with no_attempt d
+names_begun log d h = attempts_join no_attempt log (d ∷ []) ∙ ap (λ (t : Attempts). attempts_with t d) ((names_count log h).attempts no_attempt)
+
 all_met : (log : List Deal) (file : ℕ) (v : List ℕ) (st : Stage) → MeetsBy log file v st → stage_word st ≡ words.Open → Fine (attempts_in log)
 all_met log file v (stage.Asking x) p w = subst Fine (sym p) (tt, omega arith)
 all_met log file v (stage.Hashing tries x) p w = tries_fine (attempts_in log) tries new_attempt p
 all_met log file v (stage.Listing x f) p w = tries_fine (attempts_in log) f.tries _ p.1
 all_met log file v (stage.Reading f) p w = tries_fine (attempts_in log) f.tries _ p.1
-all_met log file v (stage.Walking y z) p w = absurd p
+all_met log file v (stage.Walking y z) p w = names_fine log p
 all_met log file v st p w = absurd cc
 
 -- what a step leaves of an open
@@ -196,6 +206,7 @@ none_close : (log : List Deal) (file : ℕ) (v : List ℕ) (t : Stage) → stage
 none_close log file v (stage.Making y temp) e = tt
 none_close log file v (stage.Storing w) e = tt
 none_close log file v (stage.Committing y) e = tt
+none_close log file v (stage.Walking y z) e = absurd (goal_not_close z.goal e)
 none_close log file v t e = absurd cc
 
 opened_not : (file len : ℕ) (digest : List ℕ) (first last : ℕ) → outcome.Opened file len digest ≡ outcome.Changed first last → ⊥
@@ -312,7 +323,7 @@ meets_heard book more taken j o p s x b a log h = record {
     log2 = log ++ deals_with (message.Answer x b ∷ []) (found_in s j.file j.stage x b) (took (idle s) (client.calls_of s) j.file j.stage x b).1.send
 
     known : IsOfFile j.stage
-    known = fetch_known book taken j j.stage a.taking.fetch
+    known = a.known
 
     left : Meets log x b j.stage (found_in s j.file j.stage x b) (took (idle s) (client.calls_of s) j.file j.stage x b)
     left = took_cases (Meets log x b j.stage) (idle s) (client.calls_of s) j.file j.stage x b known (of_opens (Meets log x b j.stage) (idle s) (client.calls_of s) j.file j.stage x b known (meets_cases log (idle s) (client.calls_of s) j.file o.value j.stage x b (subst (λ f. MeetsBy log f o.value j.stage) a.taking.file h)))
@@ -332,13 +343,23 @@ meets_heard book more taken j o p s x b a log h = record {
     by words.Open e = met (sym a.taking.word ∙ sym (word_after o r.0 taken (book.steps + 1) r.1) ∙ e) (op_after o r.0 taken (book.steps + 1) r.1).outcome refl
     by w e = tt
 
+-- an operation that gets its file from the server
+moves_meets : (log : List Deal) (file other : ℕ) (v : List ℕ) (w : Word) (u : History) → gets_file w ≡ true → OpenMet log w file v u → OpenMet log w other v u
+moves_meets log file other v words.Make u gets h = h
+moves_meets log file other v words.Remove u gets h = h
+moves_meets log file other v words.Rename u gets h = h
+moves_meets log file other v w u gets h = absurd cc
+
 pub meets_laws : (all : List Moment) → LogLaws all MeetsBy OpenMet
 meets_laws all = record {
-  none = λ w file v u un same. none w file v u same;
-  asks = λ x file v. refl;
-  opens = λ x file v. (refl, refl, tt, (let le : 1 ≤ tries_most = omega arith in le));
+  walks = λ log file v x w h. h;
+  walked = λ log file v x w h. h;
+  none = λ w file v u un same log names. none w file v u same log names;
+  asks = λ log names x file v. names_begun log (Sent (lease_call x file)) names;
+  opens = λ log names x file v. subst (λ (t : Attempts). Tries t 1 new_attempt) (sym (names_begun log (Sent (hash_call x file 0)) names)) (refl, refl, tt, (let le : 1 ≤ tries_most = omega arith in le));
   closes = λ x temp file v. tt;
-  other = λ log file v st u p un same. other log file v st u p same;
+  moves = λ log file other v w u gets h. moves_meets log file other v w u gets h;
+  other = λ log file v st u of p un same. other log file v st u of p same;
   heard = λ book more taken j o p s x b all_is a log h. meets_heard book more taken j o p s x b a log h;
 }
   where
@@ -346,19 +367,19 @@ meets_laws all = record {
     plain log (told.Changed first last) h same = absurd (same first last refl)
     plain log u h same = h
 
-    none : (w : Word) (file : ℕ) (v : List ℕ) (u : History) → IsUnchanged u → OpenMet [] w file v u
-    none words.Open file v u same = plain [] u (tt, omega arith) same
-    none w file v u same = tt
+    none : (w : Word) (file : ℕ) (v : List ℕ) (u : History) → IsUnchanged u → (log : List Deal) → NamesOnly log → OpenMet log w file v u
+    none words.Open file v u same log names = plain log u (names_fine log names) same
+    none w file v u same log names = tt
 
-    other : (log : List Deal) (file : ℕ) (v : List ℕ) (st : Stage) (u : History) → MeetsBy log file v st → IsUnchanged u → OpenMet log (stage_word st) file v u
-    other log file v (stage.Walking x w) u p same = absurd p
-    other log file v (stage.Making x temp) u p same = tt
-    other log file v (stage.Storing st) u p same = tt
-    other log file v (stage.Committing x) u p same = tt
-    other log file v (stage.Asking x) u p same = plain log u (all_met log file v (stage.Asking x) p refl) same
-    other log file v (stage.Hashing tries x) u p same = plain log u (all_met log file v (stage.Hashing tries x) p refl) same
-    other log file v (stage.Listing x f) u p same = plain log u (all_met log file v (stage.Listing x f) p refl) same
-    other log file v (stage.Reading f) u p same = plain log u (all_met log file v (stage.Reading f) p refl) same
+    other : (log : List Deal) (file : ℕ) (v : List ℕ) (st : Stage) (u : History) → IsOfFile st → MeetsBy log file v st → IsUnchanged u → OpenMet log (stage_word st) file v u
+    other log file v (stage.Walking x w) u of p same = absurd of
+    other log file v (stage.Making x temp) u of p same = tt
+    other log file v (stage.Storing st) u of p same = tt
+    other log file v (stage.Committing x) u of p same = tt
+    other log file v (stage.Asking x) u of p same = plain log u (all_met log file v (stage.Asking x) p refl) same
+    other log file v (stage.Hashing tries x) u of p same = plain log u (all_met log file v (stage.Hashing tries x) p refl) same
+    other log file v (stage.Listing x f) u of p same = plain log u (all_met log file v (stage.Listing x f) p refl) same
+    other log file v (stage.Reading f) u of p same = plain log u (all_met log file v (stage.Reading f) p refl) same
 
 -- ---- what it makes of the promise
 

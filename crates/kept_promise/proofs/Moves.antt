@@ -5,7 +5,7 @@ use Rattle.wire.specs.declared.message.Program.TheVariants as program
 use Rattle.hash_calls.specs.declared.message.LbProc.TheVariants as lb_proc
 use Rattle.nfs3_calls.specs.declared.message.NfsProc.TheVariants as nfs_proc
 use Rattle.client_state.specs.State as client
-use Rattle.kept_promise.proofs.Common.{slice_get, not, cond, ◌==◌, IsExpected, waiting, Pending, Program, Change, without_call, Reply, Reply.Versioned, Reply.Hashed, Reply.Bytes, Reply.Made, Reply.Named, Reply.Stored, Reply.Changed, Ask, Told, Queue, reply_program, reply_body, told_message}
+use Rattle.kept_promise.proofs.Common.{slice_get, not, cond, ◌==◌, IsExpected, waiting, Pending, Program, Change, without_call, Reply, Reply.Versioned, Reply.Hashed, Reply.Bytes, Reply.Made, Reply.Named, Reply.Stored, Reply.Changed, Ask, Told, Queue, reply_program, reply_body, told_message, Reply.Walked, NameReply.LookedUp, NameReply.Shown, NameReply.Listed, NameReply.MadeFile, NameReply.MadeDir, NameReply.NoDir, NameReply.Gone, NameReply.Renamed}
 use Rattle.kept_promise.proofs.Lists.{some_is, nothing_there}
 use Rattle.kept_promise.proofs.Keys.{times, times_append, code_of, pending_key, told_key, ask_key, change_key, own, found_by, there_by, key_xid, key_code}
 use Rattle.kept_promise.proofs.Taken.{times_map_append}
@@ -25,6 +25,22 @@ reply_ours r c lt e = by c r lt e
     by (program.Lb lb_proc.TmpWrite) (Stored a) lt e = refl
     by (program.Lb lb_proc.CommitTmp) (Changed a) lt e = refl
     by (program.Nfs nfs_proc.Read) (Bytes a) lt e = refl
+    by (program.Nfs nfs_proc.Lookup) (Walked (LookedUp a)) lt e = refl
+    by (program.Nfs nfs_proc.GetAttr) (Walked (Shown a)) lt e = refl
+    by (program.Nfs nfs_proc.ReadDir) (Walked (Listed a)) lt e = refl
+    by (program.Nfs nfs_proc.Create) (Walked (MadeFile a)) lt e = refl
+    by (program.Nfs nfs_proc.MkDir) (Walked (MadeDir a)) lt e = refl
+    by (program.Nfs nfs_proc.RmDir) (Walked (NoDir a)) lt e = refl
+    by (program.Nfs nfs_proc.Remove) (Walked (Gone a)) lt e = refl
+    by (program.Nfs nfs_proc.Rename) (Walked (Renamed a)) lt e = refl
+    by c (Walked (LookedUp a)) lt e = absurd (omega (arith, lt, e))
+    by c (Walked (Shown a)) lt e = absurd (omega (arith, lt, e))
+    by c (Walked (Listed a)) lt e = absurd (omega (arith, lt, e))
+    by c (Walked (MadeFile a)) lt e = absurd (omega (arith, lt, e))
+    by c (Walked (MadeDir a)) lt e = absurd (omega (arith, lt, e))
+    by c (Walked (NoDir a)) lt e = absurd (omega (arith, lt, e))
+    by c (Walked (Gone a)) lt e = absurd (omega (arith, lt, e))
+    by c (Walked (Renamed a)) lt e = absurd (omega (arith, lt, e))
     by c r lt e = absurd (omega (arith, lt, e))
 
 -- an answer on its way is to a call that waits, of the same procedure

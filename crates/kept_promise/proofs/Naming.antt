@@ -104,5 +104,5 @@ named_note temp chunks x i _ _ y k u s at = absurd s
 
 pub named_commits : (temp : ℕ) (chunks : List Chunk) (x i : ℕ) (us : List StoreCall) (b : List Ask) (y : ℕ) → Named temp chunks x i us b y → commits_in b ≡ 0
 named_commits temp chunks x i [] [] y s = refl
-named_commits temp chunks x i (u ∷ us) (a ∷ b) y s = ap (λ (v : Ask). commits_in (v ∷ b)) s.1.2 ∙ named_commits temp chunks (x + 1) (i + 1) us b y s.2
+named_commits temp chunks x i (u ∷ us) (a ∷ b) y s = let none = named_commits temp chunks (x + 1) (i + 1) us b y s.2 in ap (λ (v : Ask). commits_in (v ∷ b)) s.1.2 ∙ omega (arith, none)
 named_commits temp chunks x i _ _ y s = absurd s

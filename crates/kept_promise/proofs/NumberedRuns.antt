@@ -77,7 +77,7 @@ took_numbers s calls file st x b = record {
 
 answer_numbers : (s : client.State) (calls : List Pending) (file : ℕ) (st : Stage) (x : ℕ) (b : Body) → Numbers s (took s calls file st x b)
 answer_numbers s calls file (stage.Walking y w) x b = walk_cases (Numbers s) s calls file y w x b (record {
-  fault = λ f. tt;
+  fault = λ f bad. tt;
   asks = λ v k. (refl, tt);
   open_already = λ id k is. tt;
   fetches = λ id k shut none. (refl, tt);

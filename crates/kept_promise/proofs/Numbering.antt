@@ -154,7 +154,7 @@ stored_number s calls file xid content st b (Some c) = way_number s calls file x
 
 walk_number : (s : client.State) (calls : List Pending) (file asked : ℕ) (w : Walk) (xid : ℕ) (b : Body) → Numbers s (took s calls file (stage.Walking asked w) xid b)
 walk_number s calls file asked w xid b = walk_cases (Numbers s) s calls file asked w xid b (record {
-  fault = λ f. omega arith;
+  fault = λ f bad. omega arith;
   asks = λ v k. refl;
   open_already = λ id k is. omega arith;
   fetches = λ id k shut none. refl;

@@ -23,6 +23,7 @@ use Rattle.kept_promise.proofs.CloseSteps.{calls_are}
 use Rattle.kept_promise.proofs.Comes.{client_at, Comes, comes_refused}
 use Rattle.kept_promise.proofs.Hashings.{file_small, hash_ask, goes_hash, comes_changed}
 use Rattle.kept_promise.proofs.Listings.{fetch_on, Looked, Gets, MayRead, comes_opened, comes_reading}
+use Rattle.kept_promise.proofs.StepCases.{IsOfFile}
 
 -- ---- chunks were told
 
@@ -164,7 +165,7 @@ comes_hashing book k qs n x q t ts j g tries a at e looked = by a e (answer_at b
     c = client_at book k qs n x q t ts j g
 
     quiet : Quiet k n q
-    quiet = quiet_before book k qs n x q t ts j g (λ y s. apart y (sym at ∙ s))
+    quiet = quiet_before book k qs n x q t ts j g (λ y s. apart y (sym at ∙ s)) (subst IsOfFile (sym at) tt)
       where
         apart : (y : ℕ) → stage.Hashing tries t.xid ≡ stage.Committing y → ⊥
         apart y e = absurd cc
@@ -200,7 +201,7 @@ comes_listing book k qs n x q t ts j g f a at e looked = by a e (answer_at book 
     c = client_at book k qs n x q t ts j g
 
     quiet : Quiet k n q
-    quiet = quiet_before book k qs n x q t ts j g (λ y s. apart y (sym at ∙ s))
+    quiet = quiet_before book k qs n x q t ts j g (λ y s. apart y (sym at ∙ s)) (subst IsOfFile (sym at) tt)
       where
         apart : (y : ℕ) → stage.Listing t.xid f ≡ stage.Committing y → ⊥
         apart y e = absurd cc
@@ -262,7 +263,7 @@ comes_leased book k qs n x q t ts j g a at e = by a (subst (AnswerOf book x.take
     of = job_op book k qs x h.seat j g.kept h.owner g.job_is
 
     quiet : Quiet k n q
-    quiet = quiet_before book k qs n x q t ts j g (λ y s. apart y (sym at ∙ s))
+    quiet = quiet_before book k qs n x q t ts j g (λ y s. apart y (sym at ∙ s)) (subst IsOfFile (sym at) tt)
       where
         apart : (y : ℕ) → stage.Asking t.xid ≡ stage.Committing y → ⊥
         apart y e = absurd cc

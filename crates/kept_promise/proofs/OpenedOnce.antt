@@ -9,32 +9,34 @@ use Rattle.trace_replay.specs.Core.{taken_of as session_taken}
 use Rattle.trace_replay.specs.Faithful.{OpenedBy}
 use Rattle.trace_replay.specs.Traffic.{attempts_in, no_attempt}
 use Rattle.trace_replay.specs.Trail.{given_by_message}
-use Rattle.kept_promise.proofs.Common.{Deal.Sent, hashed_of, Deal.Took, Deal.Found, nat_tests, ◌==◌, ◌&&◌, nat_le, nat_lt, slice_get, slice_set, Body, Message, Pending, got_step, idle, took_if, drops, ClientStep, Ended, Stage, State, Task, until, Op, Opening, TakenCall, op_after, Core, Event, Event.Hears, CoreStep, numbered, session_of, ops_after, ops_with, acted, happens, Moment, client_of, owner_in, wanted_by, taken_by, given_by, is_in, Deal, deals_with, deals_in, deals_of, Book, Queue, version_at, told_message}
+use Rattle.kept_promise.proofs.Common.{Deal.Sent, hashed_of, Deal.Took, Deal.Found, nat_tests, ◌==◌, ◌&&◌, nat_le, nat_lt, slice_get, slice_set, Body, Message, Pending, got_step, idle, took_if, drops, ClientStep, Ended, Stage, State, Task, until, Op, Opening, TakenCall, op_after, Core, Event, Event.Hears, CoreStep, numbered, session_of, ops_after, ops_with, acted, happens, Moment, client_of, owner_in, wanted_by, taken_by, given_by, is_in, Deal, deals_with, deals_in, deals_of, Book, Queue, version_at, told_message, took}
 use Rattle.kept_promise.proofs.Lists.{some_is, nothing_there, at_replaced}
 use Rattle.kept_promise.proofs.Messages.{Job, job, stage_word, AllTolds, AnswerOf, IsAnswer, FetchOf, IsTrying}
 use Rattle.kept_promise.proofs.Rights.{Caused}
 use Rattle.kept_promise.proofs.Fits.{FitLaws}
-use Rattle.kept_promise.proofs.Facts.{IsKept, IsSession}
+use Rattle.kept_promise.proofs.Facts.{IsKept, IsSession, is_naming}
 use Rattle.kept_promise.proofs.RunsCarried.{book_at, moment, Step, Carried}
 use Rattle.kept_promise.proofs.Counted.{AlikeUpTo, running_now, running_past}
 use Rattle.kept_promise.proofs.Actors.{job_task, acts_alone, Heard, heard_at, heard_acts, heard_takes, heard_gives}
 use Rattle.kept_promise.proofs.Versions.{version_in}
-use Rattle.kept_promise.proofs.VersionRuns.{own_op, word_after}
+use Rattle.kept_promise.proofs.VersionRuns.{own_op, word_after, heard_finds, opened_by, unnamed}
 use Rattle.kept_promise.proofs.JobFacts.{ops_shape}
 use Rattle.kept_promise.proofs.Adjusts.{adjusted_core}
 use Rattle.kept_promise.proofs.Leases.{client_stays}
 use Rattle.kept_promise.proofs.LogEvents.{file_stays}
 use Rattle.kept_promise.proofs.Points.{CalledAt, called_as, point_now, rests_on}
 use Rattle.kept_promise.proofs.OpsAfter.{IsHears, ops_after_event, same_versions, opened_before}
-use Rattle.kept_promise.proofs.StepCases.{Cases, took_cases}
+use Rattle.kept_promise.proofs.StepCases.{Cases, took_cases, walk_cases, IsOpenedBy}
 use Rattle.kept_promise.proofs.Taking.{Moved, version_later, versions_after, tries_of, moved_by}
 use Rattle.kept_promise.proofs.Logs.{deals_apart, deals_own, deals_more, deals_same, deals_pointed, deals_alike}
 use Rattle.kept_promise.proofs.LogSums.{begins_in, sum_join, sum_took, IsSum}
 use Rattle.kept_promise.proofs.LogEvents.{LogsAt, carried_logs}
-use Rattle.kept_promise.proofs.Found.{NoWalk, got_finds, seat_walks}
+use Rattle.kept_promise.proofs.Found.{Quietly, step_found}
 use Rattle.kept_promise.proofs.MetLog.{MeetsBy, OpenMet, meets_laws, Tries, count_of, begun_count}
 use Rattle.kept_promise.proofs.OwnLog.{OpOwn}
+use Rattle.kept_promise.proofs.NamesLog.{names_count}
 use Rattle.kept_promise.proofs.OpensLog.{OpenRead, last_most, once_is}
+use Rattle.register_model.specs.Register.{changes}
 
 -- ---- what is carried
 
@@ -109,10 +111,21 @@ quiet_drops s o x true d e = refl
 quiet_drops s (Some t) x false d e = refl
 quiet_drops s None x false d e = refl
 
-quiet_answer : (s : State) (o : Option Task) → NoWalk o → (x : ℕ) (b : Body) (own : Bool) → IsQuiet (took_if s o x b own)
-quiet_answer s (Some t) none x b true = took_cases (λ found r. IsQuiet r) (idle s) (client.calls_of s) t.file t.stage x b (none t refl) (quiet_cases (idle s) (client.calls_of s) t.file t.stage x b)
-quiet_answer s (Some t) none x b false = quiet_drops s (Some t) x (client.has_call s.forgotten x)
-quiet_answer s None none x b own = quiet_drops s None x (client.has_call s.forgotten x)
+quiet_took : (s : State) (calls : List Pending) (file : ℕ) (st : Stage) (x : ℕ) (b : Body) → IsQuiet (took s calls file st x b)
+quiet_took s calls file (stage.Walking y w) x b = walk_cases IsQuiet s calls file y w x b (record {
+  fault = λ f bad d e. refl;
+  asks = λ v k d e. nothing_there d e;
+  open_already = λ id k is d e. refl;
+  fetches = λ id k shut none d e. nothing_there d e;
+  leases = λ id c k shut there d e. nothing_there d e;
+  ends = λ v end k same d e. refl;
+})
+quiet_took s calls file st x b = took_cases (λ found r. IsQuiet r) s calls file st x b tt (quiet_cases s calls file st x b)
+
+quiet_answer : (s : State) (o : Option Task) (x : ℕ) (b : Body) (own : Bool) → IsQuiet (took_if s o x b own)
+quiet_answer s (Some t) x b true = quiet_took (idle s) (client.calls_of s) t.file t.stage x b
+quiet_answer s (Some t) x b false = quiet_drops s (Some t) x (client.has_call s.forgotten x)
+quiet_answer s None x b own = quiet_drops s None x (client.has_call s.forgotten x)
 
 -- attempts that began, by the stage
 begun_by : (log : List Deal) (file : ℕ) (v : List ℕ) (st : Stage) → MeetsBy log file v st → stage_word st ≡ words.Open → 1 < begins_in log → 1 < tries_of st
@@ -133,7 +146,7 @@ begun_by log file v st h word lt = by st h word
     by (stage.Making x temp) h w = absurd cc
     by (stage.Storing st) h w = absurd cc
     by (stage.Committing x) h w = absurd cc
-    by (stage.Walking x walk) h w = absurd h
+    by (stage.Walking x walk) h w = let c = (names_count log h).begins in absurd (omega (arith, c, lt))
 
 once_hears : FitLaws → (all past : List Moment) (opening : List Opening) (k : Core) (qs after : List Queue) (n now : ℕ) (bytes : List ℕ) (mid : List Queue) → IsKept (book_at opening k all) k qs → (h : Heard k qs n now bytes mid) → IsKept (book_at opening (happens k (Hears n now bytes)).core all) (happens k (Hears n now bytes)).core after
     → LogsAt MeetsBy OpenMet past k → OnceAt all past opening k → OnceAt all (past ++ moment k (Hears n now bytes) ∷ []) opening (happens k (Hears n now bytes)).core
@@ -153,8 +166,8 @@ once_hears fits all past opening k qs after n now bytes mid kept h left met befo
     r : State × ClientStep
     r = got_step h.seat.client (Ok (told_message h.told)) now
 
-    finds : r.1.found ≡ None
-    finds = got_finds h.seat.client (Ok (told_message h.told)) now (seat_walks book k.sessions h.session.owner h.seat (kept.seats h.session.owner h.seat h.owner))
+    finds : (p : ℕ) (o : Op) → h.seat.place ≡ Some p → slice_get k.ops p ≡ Some o → Quietly r.1 o.word
+    finds p o e at = heard_finds book k qs n now bytes mid kept h (Ok (told_message h.told)) p o e at
 
     taken : List TakenCall
     taken = session_taken (session_of k.sessions h.seat.session)
@@ -190,7 +203,7 @@ once_hears fits all past opening k qs after n now bytes mid kept h left met befo
         → IsOnce (past ++ moment k (Hears n now bytes) ∷ []) (book_at opening (acted k h.session.owner h.seat (got_step h.seat.client (Ok (told_message h.told)) now).0 (got_step h.seat.client (Ok (told_message h.told)) now).1).core all) (op_after o (got_step h.seat.client (Ok (told_message h.told)) now).0 (session_taken (session_of k.sessions h.seat.session)) (k.steps + 1) (got_step h.seat.client (Ok (told_message h.told)) now).1)
     ended p len digest o e at is = record { end = k.steps + 1; end_is = end_is r.1.ended is; by = omega arith; once = λ lt. moved lt; called = called }
       where
-        w : (j : Job) × (job h.seat ≡ Some j) × (j.place ≡ p) × (o.client ≡ h.session.owner) × (o.outcome ≡ told.Running) × (o.file ≡ j.file)
+        w : (j : Job) × (job h.seat ≡ Some j) × (j.place ≡ p) × (o.client ≡ h.session.owner) × (o.outcome ≡ told.Running) × (is_naming j.stage ≡ false → o.file ≡ j.file)
         w = own_op book k qs h.session.owner h.seat p o kept h.owner e at
 
         new : Op
@@ -203,13 +216,22 @@ once_hears fits all past opening k qs after n now bytes mid kept h left met befo
         end_is None z = absurd (running (sym w.4 ∙ z))
         end_is (Some x) z = refl
 
+        -- and no file was found in it
+        unfound : (found : Option ℕ) → r.1.found ≡ found → r.1.found ≡ None
+        unfound None f = f
+        unfound (Some id) f = absurd (never r.1.ended refl is)
+          where
+            never : (l : Option Ended) → r.1.ended ≡ l → (op_after o r.0 taken (k.steps + 1) (record r.1 { ended = l })).outcome ≡ told.Opened len digest → ⊥
+            never None g z = running (sym w.4 ∙ z)
+            never (Some l) g z = let v = opened_by l.outcome len digest z in (step_found h.seat.client (Ok (told_message h.told)) now id f).unopened l g (subst IsOpenedBy (sym v.1) tt)
+
         -- it ended, and so sent nothing
         silent : (got_step h.seat.client (Ok (told_message h.told)) now).1.send ≡ []
         silent = by r.1.ended refl is
           where
             by : (l : Option Ended) → (got_step h.seat.client (Ok (told_message h.told)) now).1.ended ≡ l → (op_after o r.0 taken (k.steps + 1) (record r.1 { ended = l })).outcome ≡ told.Opened len digest → (got_step h.seat.client (Ok (told_message h.told)) now).1.send ≡ []
             by None f z = absurd (running (sym w.4 ∙ z))
-            by (Some x) f z = quiet_answer h.seat.client h.seat.client.task (seat_walks book k.sessions h.session.owner h.seat (kept.seats h.session.owner h.seat h.owner)) h.told.xid (Rattle.kept_promise.proofs.Common.reply_body h.told.reply) (client.has_call (client.pending h.seat.client.task) h.told.xid) x f
+            by (Some x) f z = quiet_answer h.seat.client h.seat.client.task h.told.xid (Rattle.kept_promise.proofs.Common.reply_body h.told.reply) (client.has_call (client.pending h.seat.client.task) h.told.xid) x f
 
         job_is : job s.seat ≡ Some w.0
         job_is = ap job same_seat ∙ w.1
@@ -249,9 +271,9 @@ once_hears fits all past opening k qs after n now bytes mid kept h left met befo
             omega (arith, a, b, c, d, none)
 
         called : CalledAt (book_at opening (acted k h.session.owner h.seat (got_step h.seat.client (Ok (told_message h.told)) now).0 (got_step h.seat.client (Ok (told_message h.told)) now).1).core all) (past ++ moment k (Hears n now bytes) ∷ []) (op_after o (got_step h.seat.client (Ok (told_message h.told)) now).0 (session_taken (session_of k.sessions h.seat.session)) (k.steps + 1) (got_step h.seat.client (Ok (told_message h.told)) now).1)
-        called = called_as (book_at opening k all) (book_at opening (acted k h.session.owner h.seat r.0 r.1).core all) past (past ++ moment k (Hears n now bytes) ∷ []) (record o { point = new.point }) new (λ z c. c) (client_stays o r.0 taken (k.steps + 1) r.1) (file_stays o r.0 taken (k.steps + 1) r.1 finds) (λ q z. z)
+        called = called_as (book_at opening k all) (book_at opening (acted k h.session.owner h.seat r.0 r.1).core all) past (past ++ moment k (Hears n now bytes) ∷ []) (record o { point = new.point }) new (λ z c. c) (client_stays o r.0 taken (k.steps + 1) r.1) (file_stays o r.0 taken (k.steps + 1) r.1 (unfound r.1.found refl)) (λ q z. z)
             (begun ∙ ap begins_in (sym (deals_pointed o new.point past)))
-            (point_now (book_at opening k all) past o w.0 r.0 taken (k.steps + 1) r.1 len digest there w.5 w.4 open_word stage_open (met.jobs h.session.owner h.seat w.0 o h.owner w.1 there) is (rests_on (book_at opening k all) taken h.session.closing h.told w.0 h.seat.client now (job_task h.seat.place h.seat.client.task w.0 w.1) fetch answer))
+            (point_now (book_at opening k all) past o w.0 r.0 taken (k.steps + 1) r.1 len digest there (w.5 (unnamed w.0.stage (ap changes stage_open))) w.4 open_word stage_open (met.jobs h.session.owner h.seat w.0 o h.owner w.1 there) is (rests_on (book_at opening k all) taken h.session.closing h.told w.0 h.seat.client now (job_task h.seat.place h.seat.client.task w.0 w.1) fetch answer))
 
         moved : 1 < begins_in (deals_of (op_after o (got_step h.seat.client (Ok (told_message h.told)) now).0 (session_taken (session_of k.sessions h.seat.session)) (k.steps + 1) (got_step h.seat.client (Ok (told_message h.told)) now).1) (past ++ moment k (Hears n now bytes) ∷ []))
             → Moved (ops_with k.ops h.seat.place (got_step h.seat.client (Ok (told_message h.told)) now).0 (session_taken (session_of k.sessions h.seat.session)) (k.steps + 1) (got_step h.seat.client (Ok (told_message h.told)) now).1) (op_after o (got_step h.seat.client (Ok (told_message h.told)) now).0 (session_taken (session_of k.sessions h.seat.session)) (k.steps + 1) (got_step h.seat.client (Ok (told_message h.told)) now).1).file (op_after o (got_step h.seat.client (Ok (told_message h.told)) now).0 (session_taken (session_of k.sessions h.seat.session)) (k.steps + 1) (got_step h.seat.client (Ok (told_message h.told)) now).1).begin (k.steps + 1)
@@ -277,7 +299,7 @@ once_hears fits all past opening k qs after n now bytes mid kept h left met befo
             let none = ap (λ (ms : List Message). begins_in (map Sent ms)) silent in
             let more_ = begun_by (deals_of o past) o.file o.value j.stage (met.jobs h.session.owner h.seat j o h.owner w.1 at_place) open_ (omega (arith, lt, a, b, c, d, none)) in
             let m = moved_by book taken j o at_place trying fetch open_ more_ in
-            subst (λ f. Moved (ops_with k.ops h.seat.place r.0 taken (k.steps + 1) r.1) f new.begin (k.steps + 1)) (sym (file_stays o r.0 taken (k.steps + 1) r.1 finds ∙ w.5))
+            subst (λ f. Moved (ops_with k.ops h.seat.place r.0 taken (k.steps + 1) r.1) f new.begin (k.steps + 1)) (sym (file_stays o r.0 taken (k.steps + 1) r.1 (unfound r.1.found refl) ∙ w.5 (unnamed w.0.stage (ap changes open_))))
             (let begin = begin_is r.1.ended in let m1 = m.1 in (m.0, omega (arith, m1, begin), m.2, λ v. m.3 (ap (version_in k.ops j.file) (sym begin) ∙ sym (versions_after k.ops h.seat.place r.0 taken (k.steps + 1) r.1 finds j.file new.begin) ∙ v ∙ versions_after k.ops h.seat.place r.0 taken (k.steps + 1) r.1 finds j.file m.0)))
           where
             begin_is : (l : Option Ended) → (op_after o r.0 taken (k.steps + 1) (record r.1 { ended = l })).begin ≡ o.begin

@@ -12,20 +12,22 @@ use Rattle.register_model.specs.declared.op.Outcome.{Outcome as History}
 use Rattle.register_model.specs.declared.op.Outcome.TheVariants as told
 use Rattle.register_model.specs.declared.op.Word.TheVariants as words
 use Rattle.trace_replay.specs.Fetches.{Fetched, no_fetch, fetch_if, fetch_with, fetch_from, last_fetch, over_from, lengths_of, AllReach, EachReaches, ReachesAll, GotBy, read_traffic}
-use Rattle.kept_promise.proofs.Common.{Deal.Sent, Deal.Found, nat_tests, ◌==◌, slice_get, slice_set, Chunk, Done, Hashes, Body, Message, Pending, hash_call, with_hashes, with_pairs, is_none, without_read, fault_in, idle, took, ClientStep, Ended, Fetch, Stage, Task, Op, Word, TakenCall, op_after, told_of, has_point, point_if, taken_at, no_traffic, Moment, hashed_of, Deal, Deal.Took, deals_with, deals_of, IsOpened, Book, Or, Collides, value_at}
+use Rattle.kept_promise.proofs.Common.{Deal.Sent, Deal.Found, nat_tests, ◌==◌, slice_get, slice_set, Chunk, Done, Hashes, Body, Message, Pending, lease_call, hash_call, with_hashes, with_pairs, is_none, without_read, fault_in, idle, took, ClientStep, Ended, Fetch, Stage, Task, Op, Word, TakenCall, op_after, told_of, has_point, point_if, taken_at, no_traffic, Moment, hashed_of, Deal, Deal.Took, deals_with, deals_of, IsOpened, Book, Or, Collides, value_at}
 use Rattle.kept_promise.proofs.Lists.{some_is, nothing_there, both_true}
 use Rattle.kept_promise.proofs.Messages.{Job, stage_word, IsFetch}
-use Rattle.kept_promise.proofs.Rights.{Caused}
+use Rattle.kept_promise.proofs.Rights.{Caused, gets_file}
 use Rattle.kept_promise.proofs.VersionRuns.{opened_by, word_after}
 use Rattle.kept_promise.proofs.Counted.{traffic_is}
 use Rattle.kept_promise.proofs.Taking.{Taking, IsApart, same_value}
-use Rattle.kept_promise.proofs.StepCases.{bytes_came, IsOpenedBy, JustEnds, FetchIn, FetchNow, FetchNow.all_told, FetchNow.one_came, GaveUp, reads_of, given, open_and_close, OfOpens, of_opens, took_cases, IsOfFile, fetch_known}
+use Rattle.kept_promise.proofs.StepCases.{bytes_came, IsOpenedBy, JustEnds, FetchIn, FetchNow, FetchNow.all_told, FetchNow.one_came, GaveUp, reads_of, given, open_and_close, OfOpens, of_opens, took_cases, IsOfFile}
 use Rattle.kept_promise.proofs.Logs.{Going, Ending}
 use Rattle.kept_promise.proofs.LogSums.{came_in, came_join, asked_in, read_number, begins_in, sum_join, IsSum}
 use Rattle.kept_promise.proofs.LogEvents.{IsUnopened, Answering, Answered, found_in, LogLaws, file_stays}
-use Rattle.kept_promise.proofs.Reached.{Reached, OneFetch, IsBare, AreReached, each_reached, told_only, first_told, first_reached, over_took, reached_took, over_begins, over_lists, chosen_count, under_lens, lens_less, len_is, read_xid, appended, fetch_join, came_one, last_one, reads_ask, goes_onward}
+use Rattle.kept_promise.proofs.Reached.{Reached, OneFetch, IsBare, AreReached, each_reached, told_only, first_told, first_reached, over_took, reached_took, over_join, over_begins, over_lists, chosen_count, under_lens, lens_less, len_is, read_xid, appended, fetch_join, came_one, last_one, reads_ask, goes_onward}
 use Rattle.kept_promise.proofs.ClosesLog.{none_sent}
 use Rattle.kept_promise.proofs.OwnLog.{OpOwn, open_stores}
+use Rattle.kept_promise.proofs.Steps.{goal_not_close}
+use Rattle.kept_promise.proofs.NamesLog.{NamesOnly, names_count}
 
 -- ---- what is carried
 
@@ -34,7 +36,7 @@ OpensBy log file v (stage.Asking x) = IsBare log × (last_fetch log ≡ no_fetch
 OpensBy log file v (stage.Hashing tries x) = (last_fetch log ≡ no_fetch) × OneFetch log
 OpensBy log file v (stage.Listing x f) = (last_fetch log ≡ told_only f.chunks) × OneFetch log × (f.asked ≡ 0) × (f.under ≡ [])
 OpensBy log file v (stage.Reading f) = Reached (last_fetch log) f.chunks f.asked f.under × OneFetch log
-OpensBy log file v (stage.Walking x w) = ⊥
+OpensBy log file v (stage.Walking x w) = NamesOnly log
 OpensBy log file v st = Unit {0}
 
 abbrev pub EachOpen : Word → List Deal → Type 0
@@ -48,13 +50,28 @@ GotAll hashed log v u = Unit {0}
 abbrev pub OpenRead : (hashed : List (List ℕ)) → Ending
 OpenRead hashed log w file v u = EachOpen w log × GotAll hashed log v u
 
+-- a walk reached none
+names_reached : (log : List Deal) → NamesOnly log → AreReached log
+names_reached log h = let c = names_count log h in (subst AllReach (sym (c.over no_fetch)) tt, first_told (last_fetch log) [] (c.fetch no_fetch))
+
+-- and one call more behind it
+names_last : (log : List Deal) (d : Deal) → NamesOnly log → last_fetch (log ++ d ∷ []) ≡ fetch_with no_fetch d
+names_last log d h = fetch_join no_fetch log (d ∷ []) ∙ ap (λ (f : Fetched). fetch_with f d) ((names_count log h).fetch no_fetch)
+
+names_over : (log : List Deal) (d : Deal) → NamesOnly log → over_from no_fetch (log ++ d ∷ []) ≡ over_from no_fetch (d ∷ [])
+names_over log d h =
+    let c = names_count log h in
+    over_join no_fetch log (d ∷ [])
+    ∙ ap (λ l. l ++ over_from (fetch_from no_fetch log) (d ∷ [])) (c.over no_fetch)
+    ∙ ap (λ (f : Fetched). over_from f (d ∷ [])) (c.fetch no_fetch)
+
 -- an open at any stage has reached chunks so
 any_reached : (log : List Deal) (file : ℕ) (v : List ℕ) (st : Stage) → OpensBy log file v st → stage_word st ≡ words.Open → AreReached log
 any_reached log file v (stage.Asking x) h w = (h.2, first_told (last_fetch log) [] h.1)
 any_reached log file v (stage.Hashing tries x) h w = (h.1.over, first_told (last_fetch log) [] h.0)
 any_reached log file v (stage.Listing x f) h w = (h.1.over, first_told (last_fetch log) f.chunks h.0)
 any_reached log file v (stage.Reading f) h w = (h.1.over, first_reached (last_fetch log) f.chunks f.asked f.under h.0)
-any_reached log file v (stage.Walking y z) h w = absurd h
+any_reached log file v (stage.Walking y z) h w = names_reached log h
 any_reached log file v st h w = absurd cc
 
 -- ---- an answer
@@ -79,6 +96,7 @@ none_close : (log : List Deal) (file : ℕ) (v : List ℕ) (t : Stage) → stage
 none_close log file v (stage.Making y temp) e = tt
 none_close log file v (stage.Storing w) e = tt
 none_close log file v (stage.Committing y) e = tt
+none_close log file v (stage.Walking y z) e = absurd (goal_not_close z.goal e)
 none_close log file v t e = absurd cc
 
 -- no attempt got anything yet
@@ -342,7 +360,7 @@ opens_heard book more taken j o p s x b a log h = record {
     log2 = log ++ deals_with (message.Answer x b ∷ []) (found_in s j.file j.stage x b) (took (idle s) (client.calls_of s) j.file j.stage x b).1.send
 
     known : IsOfFile j.stage
-    known = fetch_known book taken j j.stage a.taking.fetch
+    known = a.known
 
     gets : Gets log x b j.stage (found_in s j.file j.stage x b) (took (idle s) (client.calls_of s) j.file j.stage x b)
     gets = took_cases (Gets log x b j.stage) (idle s) (client.calls_of s) j.file j.stage x b known (of_opens (Gets log x b j.stage) (idle s) (client.calls_of s) j.file j.stage x b known (gets_cases log (idle s) (client.calls_of s) j.file o.value j.stage x b (subst (λ f. OpensBy log f o.value j.stage) a.taking.file h) a.apart))
@@ -396,19 +414,56 @@ opens_heard book more taken j o p s x b a log h = record {
     by None is (told.Opened len digest) out = absurd (running_not len digest (sym (outcome_is r.1.ended (told.Opened len digest) is out)))
     by l is u out = tt
 
+-- an operation that gets its file from the server
+moves_opens : (bytes : List (List ℕ)) (log : List Deal) (file other : ℕ) (v : List ℕ) (w : Word) (u : History) → gets_file w ≡ true → OpenRead bytes log w file v u → OpenRead bytes log w other v u
+moves_opens bytes log file other v words.Make u gets h = h
+moves_opens bytes log file other v words.Remove u gets h = h
+moves_opens bytes log file other v words.Rename u gets h = h
+moves_opens bytes log file other v w u gets h = absurd cc
+
 pub opens_laws : (all : List Moment) → LogLaws all OpensBy (OpenRead (hashed_of all))
 opens_laws all = record {
-  none = λ w file v u un same. (nothing w, other [] v u un);
-  asks = λ x file v. ((refl, refl, refl), refl, tt);
-  opens = λ x file v. (refl, record { over = (first_told no_fetch [] refl, tt); begun = omega arith; few = λ few. (refl, refl) });
+  walks = λ log file v x w h. h;
+  walked = λ log file v x w h. h;
+  none = λ w file v u un same log names. (nothing w log names, other log v u un);
+  asks = λ log names x file v. asked log names x file;
+  opens = λ log names x file v. begun log names x file;
   closes = λ x temp file v. tt;
-  other = λ log file v st u p un same. (any (stage_word st) st refl log file v p, other log v u un);
+  moves = λ log file other v w u gets h. moves_opens (hashed_of all) log file other v w u gets h;
+  other = λ log file v st u of p un same. (any (stage_word st) st refl log file v p, other log v u un);
   heard = λ book more taken j o p s x b all_is a log h. subst (λ (l : List Moment). Answered OpensBy (OpenRead (hashed_of l)) book taken o log x b (found_in s j.file j.stage x b) (took (idle s) (client.calls_of s) j.file j.stage x b)) all_is (opens_heard book more taken j o p s x b a log h);
 }
   where
-    nothing : (w : Word) → EachOpen w []
-    nothing words.Open = (first_told no_fetch [] refl, tt)
-    nothing w = tt
+    nothing : (w : Word) (log : List Deal) → NamesOnly log → EachOpen w log
+    nothing words.Open log names = each_reached log (names_reached log names)
+    nothing w log names = tt
+
+    asked : (log : List Deal) → NamesOnly log → (x file : ℕ) → IsBare (log ++ Sent (lease_call x file) ∷ []) × (last_fetch (log ++ Sent (lease_call x file) ∷ []) ≡ no_fetch) × AllReach (over_from no_fetch (log ++ Sent (lease_call x file) ∷ []))
+    asked log names x file =
+        let d : Deal = Sent (lease_call x file) in
+        let n = names_count log names in
+        let a = sum_join Rattle.kept_promise.proofs.Common.first_number log (d ∷ []) in
+        let b = sum_join read_number log (d ∷ []) in
+        let c = came_join log (d ∷ []) in
+        let p = n.begins in
+        let q = n.asked in
+        let r = n.came in
+        ((omega (arith, a, p), omega (arith, b, q), omega (arith, c, r)), names_last log d names, subst AllReach (sym (names_over log d names)) tt)
+
+    begun : (log : List Deal) → NamesOnly log → (x file : ℕ) → (last_fetch (log ++ Sent (hash_call x file 0) ∷ []) ≡ no_fetch) × OneFetch (log ++ Sent (hash_call x file 0) ∷ [])
+    begun log names x file =
+        let d : Deal = Sent (hash_call x file 0) in
+        let n = names_count log names in
+        let a = sum_join Rattle.kept_promise.proofs.Common.first_number log (d ∷ []) in
+        let b = sum_join read_number log (d ∷ []) in
+        let c = came_join log (d ∷ []) in
+        let p = n.begins in
+        let q = n.asked in
+        let r = n.came in
+        let last : last_fetch (log ++ Sent (hash_call x file 0) ∷ []) ≡ no_fetch = names_last log d names in
+        let s = ap (λ (y : Fetched). length y.reads) last in
+        let t = ap (λ (y : Fetched). y.bytes) last in
+        (last, record { over = subst AllReach (sym (names_over log d names)) (first_told no_fetch [] refl, tt); begun = omega (arith, a, p); few = λ few. (omega (arith, b, q, s), omega (arith, c, r, t)) })
 
     any : (w : Word) (st : Stage) → stage_word st ≡ w → (log : List Deal) (file : ℕ) (v : List ℕ) → OpensBy log file v st → EachOpen w log
     any words.Open st is log file v p = each_reached log (any_reached log file v st p is)

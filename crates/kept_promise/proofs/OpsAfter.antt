@@ -8,7 +8,7 @@ use Rattle.client_state.specs.State as client
 use Rattle.client_state.specs.declared.step.Outcome.TheVariants as outcome
 use Rattle.register_model.specs.declared.op.Outcome.TheVariants as told
 use Rattle.trace_replay.specs.Core.{taken_of as session_taken}
-use Rattle.kept_promise.proofs.Common.{nat_tests, ◌==◌, ◌&&◌, nat_lt, option_map_or, slice_get, slice_set, changes, Book, ops_after, server_step, command_step, got_step, ended_by, ClientStep, Ended, Task, Op, Opening, TakenCall, op_after, Core, Seat, Event, Event.Joins, Event.Does, Event.Serves, Event.Hears, Event.Settles, Event.Cuts, Event.Hangs, CoreStep, numbered, session_of, ops_with, does, joins_as, joins, cuts_if, cuts, happens, Moment, Queue, parse_of}
+use Rattle.kept_promise.proofs.Common.{slice_get, slice_set, Book, ops_after, server_step, command_step, got_step, ended_by, ClientStep, Ended, Task, Op, Opening, TakenCall, op_after, Core, Seat, Event, Event.Joins, Event.Does, Event.Serves, Event.Hears, Event.Settles, Event.Cuts, Event.Hangs, CoreStep, numbered, session_of, ops_with, does, joins_as, joins, cuts_if, cuts, happens, Moment, Queue, parse_of}
 use Rattle.kept_promise.proofs.Lists.{some_is, nothing_there, at_replaced, of_appended, of_replaced, kept_appended, same_or_not, set_else}
 use Rattle.kept_promise.proofs.Rights.{Caused}
 use Rattle.kept_promise.proofs.Facts.{IsKept}
@@ -20,10 +20,10 @@ use Rattle.kept_promise.proofs.JobFacts.{ops_shape}
 use Rattle.kept_promise.proofs.Versions.{version_in, count_replaced, count_appended}
 use Rattle.kept_promise.proofs.Taking.{versions_after}
 use Rattle.kept_promise.proofs.CommandOps.{made_by, made_later, made_pointless, last_right}
-use Rattle.kept_promise.proofs.VersionRuns.{Settled, settled_are, own_op, close_not_opened}
+use Rattle.kept_promise.proofs.VersionRuns.{Settled, settled_are, own_op, heard_finds, heard_shut, change_not_opened, change_versions, change_of}
 use Rattle.kept_promise.proofs.LogEvents.{hangs_silent}
-use Rattle.kept_promise.proofs.Found.{got_finds, no_walk, cut_finds}
-use Rattle.kept_promise.proofs.ServesQuietly.{serves_quiet}
+use Rattle.kept_promise.proofs.Found.{cut_finds, Quietly}
+use Rattle.kept_promise.proofs.ServesQuietly.{serves_quiet, MadeHere}
 use Rattle.kept_promise.proofs.Fits.{FitLaws}
 
 abbrev pub IsHears : Event → Type 0
@@ -45,7 +45,10 @@ pub record IsActed (e : Event) (k : Core) (ops : List Op) : Type 0 where
   pub here : numbered k.seats index ≡ Some seat
   pub after : client.State
   pub acts : ClientStep
-  pub finds : acts.found ≡ None
+  -- it finds no file, or its operation changes nothing
+  pub finds : (p : ℕ) (o : Op) → seat.place ≡ Some p → slice_get k.ops p ≡ Some o → Quietly acts o.word
+  -- nor one of an operation that has its file
+  pub apart : (p : ℕ) (o : Op) → seat.place ≡ Some p → slice_get k.ops p ≡ Some o → (acts.found ≡ None) ⊎ (o.file ≡ 0)
   pub is : ops ≡ ops_with k.ops seat.place after (session_taken (session_of k.sessions seat.session)) (k.steps + 1) acts
   pub unopened : IsHears e ⊎ ((o : Op) (len : ℕ) (digest : List ℕ) → o.outcome ≡ told.Running → (op_after o after (session_taken (session_of k.sessions seat.session)) (k.steps + 1) acts).outcome ≡ told.Opened len digest → ⊥)
 
@@ -60,6 +63,11 @@ running_not len digest z = absurd cc
 
 lost_not : (len : ℕ) (digest : List ℕ) → told.Lost ≡ told.Opened len digest → ⊥
 lost_not len digest z = absurd cc
+
+-- an operation made a file
+made_after : {e : Event} {k : Core} {ops : List Op} → (ops ≡ k.ops) ⊎ MadeHere k ops → OpsAfter e k ops
+made_after (inl same) = inl same
+made_after (inr m) = inr (inr (inr (inr (change_of m))))
 
 pub ops_after_event : FitLaws → (all past rest : List Moment) (opening : List Opening) (k : Core) (qs : List Queue) (e : Event) (mid after : List Queue) → Step all past rest opening k qs e mid after → Becomes e k (happens k e)
 ops_after_event laws all past rest opening k qs (Joins c) mid after s = subst (λ (o : Option Seat). Becomes (Joins c) k (joins k c o)) (sym s.finds.1) (by s.finds.0 (server_step k.server event.Connect).0 (server_step k.server event.Connect).1.told)
@@ -85,11 +93,11 @@ ops_after_event laws all past rest opening k qs (Does c now d) mid after s = sub
           })),
           omega arith,
         )
-ops_after_event laws all past rest opening k qs (Serves n now bytes) mid after s = let q = serves_quiet laws (book_at opening k all) k qs n now bytes mid s.kept s.finds in (inl q.ops, q.passes)
+ops_after_event laws all past rest opening k qs (Serves n now bytes) mid after s = let q = serves_quiet laws (book_at opening k all) k qs n now bytes mid s.kept s.finds in (made_after q.ops, q.passes)
 ops_after_event laws all past rest opening k qs (Hears n now bytes) mid after s =
     let h = heard_at (book_at opening k all) k qs n now bytes mid s.kept s.finds in
     let r = got_step h.seat.client (parse_of (client.waiting_of h.seat.client) bytes) now in
-    (inr (inr (inl (record { index = h.session.owner; seat = h.seat; here = h.owner; after = r.0; acts = r.1; finds = got_finds h.seat.client (parse_of (client.waiting_of h.seat.client) bytes) now (no_walk (book_at opening k all) k qs h.session.owner h.seat s.kept h.owner); is = ap (λ (t : CoreStep). t.core.ops) h.hears_is; unopened = inl tt }))), (let n = ap (λ (t : CoreStep). t.core.steps) h.hears_is in omega (arith, n)))
+    (inr (inr (inl (record { index = h.session.owner; seat = h.seat; here = h.owner; after = r.0; acts = r.1; finds = heard_finds (book_at opening k all) k qs n now bytes mid s.kept h (parse_of (client.waiting_of h.seat.client) bytes); apart = heard_shut (book_at opening k all) k qs n now bytes mid s.kept h (parse_of (client.waiting_of h.seat.client) bytes); is = ap (λ (t : CoreStep). t.core.ops) h.hears_is; unopened = inl tt }))), (let n = ap (λ (t : CoreStep). t.core.steps) h.hears_is in omega (arith, n)))
 ops_after_event laws all past rest opening k qs (Settles now) mid after s = (inr (inr (inr (settled_are (book_at opening k all) k qs now s.kept))), omega arith)
 ops_after_event laws all past rest opening k qs (Cuts c) mid after s = subst (λ (o : Option Seat). Becomes (Cuts c) k (cuts k c o)) (sym s.finds.1) (by s.finds.0.client.linked)
   where
@@ -108,7 +116,7 @@ ops_after_event laws all past rest opening k qs (Cuts c) mid after s = subst (λ
 
     by : (b : Bool) → Becomes (Cuts c) k (cuts_if k c s.finds.0 b)
     by false = (inl refl, omega arith)
-    by true = (inr (inr (inl (record { index = c; seat = s.finds.0; here = s.finds.1; after = gone; acts = ended_by s.finds.0.client.task lost; finds = cut_finds s.finds.0.client; is = refl; unopened = inr (never s.finds.0.client.task) }))), omega arith)
+    by true = (inr (inr (inl (record { index = c; seat = s.finds.0; here = s.finds.1; after = gone; acts = ended_by s.finds.0.client.task lost; finds = λ p o e at. inl (cut_finds s.finds.0.client); apart = λ p o e at. inl (cut_finds s.finds.0.client); is = refl; unopened = inr (never s.finds.0.client.task) }))), omega arith)
 ops_after_event laws all past rest opening k qs (Hangs n) mid after s = let q = hangs_silent k n (numbered k.sessions n) in (inl q.1, q.3)
 
 -- ---- what stays
@@ -141,7 +149,7 @@ stays_in book k qs e ops kept (inl same) = subst (StayIn k.steps k.ops) (sym sam
 stays_in book k qs e ops kept (inr (inl n)) = subst (StayIn k.steps k.ops) (sym n.is) (λ p o at. (o, kept_appended k.ops n.new p o at, λ step i le. refl))
 stays_in book k qs e ops kept (inr (inr (inl a))) = subst (StayIn k.steps k.ops) (sym a.is) (stay_acted k.steps a.index k.ops a.seat.place a.after (session_taken (session_of k.sessions a.seat.session)) a.acts (acts_alone book k qs a.index a.seat kept a.here))
 stays_in book k qs e ops kept (inr (inr (inr (inl same)))) = subst (StayIn k.steps k.ops) (sym same) (stay_same k.steps k.ops)
-stays_in book k qs e ops kept (inr (inr (inr (inr s)))) = subst (StayIn k.steps k.ops) (sym s.4) (stay_replaced k.steps k.ops s.0 s.1 (record s.1 { point = Some (k.steps + 1) }) s.2 (λ step i le. refl))
+stays_in book k qs e ops kept (inr (inr (inr (inr s)))) = subst (StayIn k.steps k.ops) (sym s.is) (stay_replaced k.steps k.ops s.place s.op (record s.op { file = s.file; point = Some (k.steps + 1) }) s.there (λ step i le. refl))
 
 -- and each file has the same versions up to now
 pub same_versions : (k : Core) (e : Event) (ops : List Op) → OpsAfter e k ops → (f q : ℕ) → q ≤ k.steps → version_in ops f q ≡ version_in k.ops f q
@@ -152,8 +160,7 @@ same_versions k e ops by f q le = shown by
     shown (inr (inl n)) = ap (λ (l : List Op). version_in l f q) n.is ∙ ap (λ z. z + 1) (count_appended f q k.ops n.new (unpointed f q n.new n.pointless))
     shown (inr (inr (inl a))) = ap (λ (l : List Op). version_in l f q) a.is ∙ versions_after k.ops a.seat.place a.after (session_taken (session_of k.sessions a.seat.session)) (k.steps + 1) a.acts a.finds f q
     shown (inr (inr (inr (inl same)))) = ap (λ (l : List Op). version_in l f q) same
-    shown (inr (inr (inr (inr s)))) = ap (λ (l : List Op). version_in l f q) s.4 ∙ ap (λ z. z + 1) (count_replaced f q k.ops s.0 s.1 (record s.1 { point = Some (k.steps + 1) }) s.2 (
-        ap (λ b. (changes s.1.word && (s.1.file == f)) && b) (let t : nat_lt (k.steps + 1) q ≡ false = grind (arith, nat_tests, le) in t) ∙ ap (λ z. (changes s.1.word && (s.1.file == f)) && option_map_or (λ x. nat_lt x q) z false) (sym s.3.1)))
+    shown (inr (inr (inr (inr s)))) = ap (λ (l : List Op). version_in l f q) s.is ∙ ap (λ z. z + 1) (count_replaced f q k.ops s.place s.op (record s.op { file = s.file; point = Some (k.steps + 1) }) s.there (change_versions k ops s f q le))
 
 -- where none was heard, an open that has its content had it before
 pub opened_before : (book : Book) (k : Core) (qs : List Queue) (e : Event) (ops : List Op) → IsKept book k qs → (IsHears e → ⊥) → OpsAfter e k ops → (p len : ℕ) (digest : List ℕ) (r : Op) → slice_get ops p ≡ Some r → r.outcome ≡ told.Opened len digest → slice_get k.ops p ≡ Some r
@@ -173,7 +180,7 @@ opened_before book k qs e ops kept quiet by p len digest r at is = shown by
       ]
     ]
     shown (inr (inr (inr (inl same)))) = ap (λ (l : List Op). slice_get l p) (sym same) ∙ at
-    shown (inr (inr (inr (inr s)))) = elim (of_replaced k.ops s.0 (record s.1 { point = Some (k.steps + 1) }) p r (ap (λ (l : List Op). slice_get l p) (sym s.4) ∙ at)) [
+    shown (inr (inr (inr (inr s)))) = elim (of_replaced k.ops s.place (record s.op { file = s.file; point = Some (k.steps + 1) }) p r (ap (λ (l : List Op). slice_get l p) (sym s.is) ∙ at)) [
       | inr old ↦ old.1
-      | inl made ↦ absurd (close_not_opened book s.1 len digest (kept.sound.rights s.0 s.1 (ap (λ (l : List Op). slice_get l s.0) kept.ops ∙ s.2)) s.3.0 (ap (λ (z : Op). z.outcome) (sym made.1) ∙ is))
+      | inl made ↦ absurd (change_not_opened book s.op len digest (kept.sound.rights s.place s.op (ap (λ (l : List Op). slice_get l s.place) kept.ops ∙ s.there)) s.unmade.0 (ap (λ (z : Op). z.outcome) (sym made.1) ∙ is))
     ]

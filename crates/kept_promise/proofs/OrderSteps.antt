@@ -1,13 +1,13 @@
 -- A client takes an answer: what else is on its way is to other calls, and stays in order as its operation goes on or ends.
-use Rattle.std.proofs.Common.{eqb-true, ◌⊎◌, inl, inr, ◌≡◌, ℕ, zero, suc, ◌<◌, ◌≤◌, List, [], ◌∷◌, ◌++◌, Option, Some, None, Bool, true, false, refl, sym, ap, ◌∙◌, subst, arith, eq-eqb, append-nil, map, IsSome}
+use Rattle.std.proofs.Common.{eqb-true, ◌⊎◌, inl, inr, ◌≡◌, ℕ, zero, suc, ◌<◌, ◌≤◌, List, [], ◌∷◌, ◌++◌, Option, Some, None, Bool, true, false, refl, sym, ap, ◌∙◌, subst, arith, eq-eqb, append-nil, map}
 use Rattle.client_state.specs.declared.task.Stage.TheVariants as stage
 use Rattle.register_model.specs.declared.op.Word.TheVariants as words
-use Rattle.kept_promise.proofs.Common.{slice_get, cond, ◌==◌, Pending, Program, Temp, Change, Failed, Stage, Store, StoreCall, content_of, Seat, unless, Book, Call, Call.Make, Call.Name, Call.Send, Call.Commit, Reply, Reply.Made, Reply.Named, Reply.Stored, Reply.Changed, Ask, Told, Queue, call_program, reply_program}
+use Rattle.kept_promise.proofs.Common.{slice_get, cond, ◌==◌, Pending, Program, Temp, Change, Failed, Stage, Store, StoreCall, Seat, unless, Book, Call, Call.Make, Call.Name, Call.Send, Call.Commit, Reply, Reply.Made, Reply.Named, Reply.Stored, Reply.Changed, Ask, Told, Queue, call_program, reply_program, Status}
 use Rattle.kept_promise.proofs.Lists.{some_is, nothing_there}
-use Rattle.kept_promise.proofs.Keys.{times, times_append, key, own, on_way, ask_key, told_key, change_key, pending_key, found_by, there_by, key_xid}
+use Rattle.kept_promise.proofs.Keys.{times, times_append, key, own, on_way, ask_key, told_key, change_key, pending_key, found_by, there_by, key_xid, wanted_program}
 use Rattle.kept_promise.proofs.Messages.{Job, job, stage_word, AllAsks, AllTolds}
-use Rattle.kept_promise.proofs.Growth.{Grows}
-use Rattle.kept_promise.proofs.Orderly.{locals_of, InPlace, IsInPlace, Wanted, IsWanted, DownKnown, Holds, HeldIn, Held, Orderly}
+use Rattle.kept_promise.proofs.Growth.{Grows, there_later}
+use Rattle.kept_promise.proofs.Orderly.{locals_of, InPlace, IsInPlace, Wanted, IsWanted, DownKnown, Holds, HeldIn, Held, Orderly, DownRefused}
 use Rattle.kept_promise.proofs.Ordered.{IsFetching, IsFetched, AllFetching, AllFetched, fetching_place, fetched_wanted, CloseFree, free_held, held_free, all_wanted_later}
 use Rattle.kept_promise.proofs.Facts.{IsBalanced}
 use Rattle.kept_promise.proofs.Rights.{open_not_close}
@@ -80,6 +80,33 @@ up_apart n w q hung next calls t ts i a h first at same =
     let few = k.1 in
     omega (arith, moved, down, s2, s3, few)
 
+-- no call that is on its way up was answered
+pub up_untold : (n : ℕ) (w : List Change) (q : Queue) (hung : Bool) (next : ℕ) (calls : List Pending) (i j : ℕ) (a : Ask) (u : Told) → IsBalanced n w q hung next calls → slice_get q.ups i ≡ Some a → slice_get q.downs j ≡ Some u → a.xid ≡ u.xid → ⊥
+up_untold n w q hung next calls i j a u h at told same =
+    let up = there_by ask_key q.ups i a at in
+    let down = there_by told_key q.downs j u told in
+    let s1 = times_append (ask_key a) (map ask_key q.ups) (map change_key (own n w) ++ map told_key q.downs) in
+    let s2 = times_append (told_key u) (map ask_key q.ups) (map change_key (own n w) ++ map told_key q.downs) in
+    let s3 = times_append (told_key u) (map change_key (own n w)) (map told_key q.downs) in
+    let k = one_key n w q hung next calls a.xid u.xid (call_program a.call) (reply_program u.reply) h same (omega (arith, up, s1)) (omega (arith, down, s2, s3)) in
+    let moved = subst (λ (z : ℕ). 0 < times z (map ask_key q.ups)) k.0 up in
+    let few = k.1 in
+    omega (arith, moved, down, s2, s3, few)
+
+-- nor was a change that waits
+pub waits_untold : (n : ℕ) (w : List Change) (q : Queue) (hung : Bool) (next : ℕ) (calls : List Pending) (i j : ℕ) (c : Change) (u : Told) → IsBalanced n w q hung next calls → slice_get (own n w) i ≡ Some c → slice_get q.downs j ≡ Some u → c.xid ≡ u.xid → ⊥
+waits_untold n w q hung next calls i j c u h at told same =
+    let wait = there_by change_key (own n w) i c at in
+    let down = there_by told_key q.downs j u told in
+    let s1 = times_append (change_key c) (map ask_key q.ups) (map change_key (own n w) ++ map told_key q.downs) in
+    let s4 = times_append (change_key c) (map change_key (own n w)) (map told_key q.downs) in
+    let s2 = times_append (told_key u) (map ask_key q.ups) (map change_key (own n w) ++ map told_key q.downs) in
+    let s3 = times_append (told_key u) (map change_key (own n w)) (map told_key q.downs) in
+    let k = one_key n w q hung next calls c.xid u.xid (wanted_program c.what) (reply_program u.reply) h same (omega (arith, wait, s1, s4)) (omega (arith, down, s2, s3)) in
+    let moved = subst (λ (z : ℕ). 0 < times z (map change_key (own n w))) k.0 wait in
+    let few = k.1 in
+    omega (arith, moved, down, s2, s3, few)
+
 pub down_apart : (n : ℕ) (w : List Change) (q : Queue) (hung : Bool) (next : ℕ) (calls : List Pending) (t : Told) (ts : List Told) (i : ℕ) (u : Told) → IsBalanced n w q hung next calls → q.downs ≡ t ∷ ts → slice_get ts i ≡ Some u → u.xid ≡ t.xid → ⊥
 down_apart n w q hung next calls t ts i u h first at same =
     let there = there_by told_key ts i u at in
@@ -127,10 +154,10 @@ other_call j v x y (Commit m f s) w apart h = apart (sym (subst (λ (s : Stage).
 other_call j v x y _ w apart h = tt
 
 other_reply : (book : Book) (j : Job) (x y : ℕ) (r : Reply) → WaitsFor j.stage x → (y ≡ x → ⊥) → Wanted book (Some j) y r → IsFetched r
-other_reply book j x y (Made a) w apart h = apart (sym (subst (λ (s : Stage). WaitsFor s x → x ≡ y) (sym (ap (λ (z : Job). z.stage) (some_is j h.0.0 h.0.2) ∙ h.0.3)) (λ e. sym e) w))
+other_reply book j x y (Made a) w apart h = apart (sym (subst (λ (s : Stage). WaitsFor s x → x ≡ y) (sym (ap (λ (z : Job). z.stage) (some_is j h.0 h.2) ∙ h.3)) (λ e. sym e) w))
 other_reply book j x y (Named a) w apart h = absurd (subst (λ (s : Stage). WaitsFor s x → ⊥) (sym (ap (λ (z : Job). z.stage) (some_is j h.0.of h.0.is) ∙ h.0.at)) (λ e. e) w)
 other_reply book j x y (Stored a) w apart h = absurd (subst (λ (s : Stage). WaitsFor s x → ⊥) (sym (ap (λ (z : Job). z.stage) (some_is j h.0.of h.0.is) ∙ h.0.at)) (λ e. e) w)
-other_reply book j x y (Changed (Failed s u)) w apart h = apart (sym (subst (λ (s : Stage). WaitsFor s x → x ≡ y) (sym (ap (λ (z : Job). z.stage) (some_is j h.0.0 h.0.2) ∙ h.0.3)) (λ e. sym e) w))
+other_reply book j x y (Changed (Failed s u)) w apart h = apart (sym (subst (λ (s : Stage). WaitsFor s x → x ≡ y) (sym (ap (λ (z : Job). z.stage) (some_is j h.0 h.2) ∙ h.3)) (λ e. sym e) w))
 other_reply book j x y _ w apart h = tt
 
 pub all_asks_at : (P : Ask → Type 0) (us : List Ask) → ((i : ℕ) (a : Ask) → slice_get us i ≡ Some a → P a) → AllAsks P us
@@ -201,16 +228,21 @@ holds_dropped v us t ts st ps none h = record {
   apart = h.apart;
 }
 
--- no call of the store under way has this xid
+refused_else : (t : Told) (ts : List Told) (y : ℕ) → (y ≡ t.xid → ⊥) → DownRefused (t ∷ ts) y → DownRefused ts y
+refused_else t ts y apart (zero, s, u, e) = absurd (apart (sym (ap (λ (z : Told). z.xid) (some_is t _ e))))
+refused_else t ts y apart (suc i, s, u, e) = (i, s, u, e)
+
+-- no call of the close under way has this xid, for a temporary file or of its store
 abbrev pub IsElse : Option Job → (xid : ℕ) → Type 0
-IsElse job x = (j : Job) (st : Store) (k : ℕ) (u : StoreCall) → job ≡ Some j → j.stage ≡ stage.Storing st → slice_get st.under k ≡ Some u → u.xid ≡ x → ⊥
+IsElse job x = ((j : Job) (st : Store) (k : ℕ) (u : StoreCall) → job ≡ Some j → j.stage ≡ stage.Storing st → slice_get st.under k ≡ Some u → u.xid ≡ x → ⊥) × ((j : Job) (y m : ℕ) → job ≡ Some j → j.stage ≡ stage.Making y m → y ≡ x → ⊥)
 
 held_dropped : (temps : List (ℕ × Temp)) (n : ℕ) (us : List Ask) (t : Told) (ts : List Told) (v : ℕ → List ℕ) (job : Option Job) → IsElse job t.xid → Held temps n us (t ∷ ts) v job → Held temps n us ts v job
 held_dropped temps n us t ts v None none h = h
 held_dropped temps n us t ts v (Some j) none h = by j.stage refl h
   where
     by : (s : Stage) → j.stage ≡ s → HeldIn temps n us (t ∷ ts) (v j.file) s → HeldIn temps n us ts (v j.file) s
-    by (stage.Storing st) at h = (h.0, h.1, holds_dropped (v j.file) us t ts st h.0.pieces (λ k u there. none j st k u refl at there) h.2)
+    by (stage.Storing st) at h = (h.0, h.1, holds_dropped (v j.file) us t ts st h.0.pieces (λ k u there. none.0 j st k u refl at there) h.2)
+    by (stage.Making y m) at h = (h.0, (λ u d. h.1 u (λ r. d (refused_else t ts y (none.1 j y m refl at) r))), λ d. h.2 (suc d.0, d.1, d.2, d.3))
     by _ at h = h
 
 -- and the operation under way stays as it is
@@ -219,37 +251,46 @@ orderly_dropped book more made ended n temps hung q t ts seat g first none h = r
   asks = subst (AllAsks (IsInPlace (job seat) (locals_of seat.client))) (sym (ups_same hung q.ups)) h.asks;
   tolds = (subst (AllTolds (IsWanted more (job seat))) first (all_wanted_later book more made ended (job seat) q.downs g h.tolds)).1;
   holds = λ up. subst (λ (l : List Ask). Held temps n l ts (locals_of seat.client) (job seat)) (sym (ups_same hung q.ups)) (held_dropped temps n q.ups t ts (locals_of seat.client) (job seat) none (subst (λ (l : List Told). Held temps n q.ups l (locals_of seat.client) (job seat)) first (h.holds up)));
-  tree = λ j e w. subst (λ l. IsSome (content_of l j.file)) (sym g.opening) (h.tree j e w);
+  tree = λ j e w. there_later book more made ended j.file g (h.tree j e w);
 }
 
 -- ---- the operation ends, or an open goes on
 
-open_waits : (s : Stage) (x : ℕ) → stage_word s ≡ words.Open → WaitsFor s x
-open_waits (stage.Making y m) x e = absurd cc
-open_waits (stage.Storing st) x e = absurd cc
-open_waits (stage.Committing y) x e = absurd cc
+-- no close is at this stage
+abbrev pub IsNoClose : Stage → Type 0
+IsNoClose s = stage_word s ≡ words.Close → ⊥
+
+pub open_no_close : (s : Stage) → stage_word s ≡ words.Open → IsNoClose s
+open_no_close s e w = open_not_close (sym e ∙ w)
+
+open_waits : (s : Stage) (x : ℕ) → IsNoClose s → WaitsFor s x
+open_waits (stage.Making y m) x e = absurd (e refl)
+open_waits (stage.Storing st) x e = absurd (e refl)
+open_waits (stage.Committing y) x e = absurd (e refl)
 open_waits _ x e = tt
 
-open_free : (j : Job) → stage_word j.stage ≡ words.Open → CloseFree (Some j)
-open_free j e i f w = open_not_close (sym e ∙ ap (λ (z : Job). stage_word z.stage) (some_is j i f) ∙ w)
+open_free : (j : Job) → IsNoClose j.stage → CloseFree (Some j)
+open_free j e i f w = e (ap (λ (z : Job). stage_word z.stage) (some_is j i f) ∙ w)
 
--- an operation ends by an answer to an open, or to a commit
-abbrev pub EndsAt : Job → (xid : ℕ) → Type 0
-EndsAt j x = (stage_word j.stage ≡ words.Open) ⊎ (j.stage ≡ stage.Committing x)
+-- an operation ends by an answer to an open, to a commit, or by one that refuses a temporary file
+abbrev pub EndsAt : Job → Told → Type 0
+EndsAt j t = IsNoClose j.stage ⊎ ((j.stage ≡ stage.Committing t.xid) ⊎ ((m : ℕ) × (s : Status) × (u : Unit {0}) × (j.stage ≡ stage.Making t.xid m) × (t.reply ≡ Made (Failed s u))))
 
-ends_wait : (j : Job) (x : ℕ) → EndsAt j x → WaitsFor j.stage x
-ends_wait j x (inl e) = open_waits j.stage x e
-ends_wait j x (inr e) = subst (λ (s : Stage). WaitsFor s x) (sym e) refl
+ends_wait : (j : Job) (t : Told) → EndsAt j t → WaitsFor j.stage t.xid
+ends_wait j t (inl e) = open_waits j.stage t.xid e
+ends_wait j t (inr (inl e)) = subst (λ (s : Stage). WaitsFor s t.xid) (sym e) refl
+ends_wait j t (inr (inr e)) = subst (λ (s : Stage). WaitsFor s t.xid) (sym e.3) refl
 
-pub orderly_ends : (book more : Book) (n : ℕ) (temps : List (ℕ × Temp)) (w : List Change) (q : Queue) (hung : Bool) (next : ℕ) (calls : List Pending) (t : Told) (ts : List Told) (seat d : Seat) (j : Job) (asks : List Ask) → IsBalanced n w q hung next calls → q.downs ≡ t ∷ ts → job seat ≡ Some j → EndsAt j t.xid → Orderly book n temps hung q seat → CloseFree (job d) → AllFetching asks
+pub orderly_ends : (book more : Book) (n : ℕ) (temps : List (ℕ × Temp)) (w : List Change) (q : Queue) (hung : Bool) (next : ℕ) (calls : List Pending) (t : Told) (ts : List Told) (seat d : Seat) (j : Job) (asks : List Ask) → IsBalanced n w q hung next calls → q.downs ≡ t ∷ ts → job seat ≡ Some j → EndsAt j t → Orderly book n temps hung q seat → CloseFree (job d) → AllFetching asks
     → Orderly more n temps hung (record { ups = unless hung q.ups asks; downs = ts }) d
 orderly_ends book more n temps w q hung next calls t ts seat d j asks b first is over h free fetch =
-    let o = others_fetch book n temps w q hung next calls t ts seat j b first is (ends_wait j t.xid over) h in
+    let o = others_fetch book n temps w q hung next calls t ts seat j b first is (ends_wait j t over) h in
     clear_orderly more n temps hung q.ups asks ts d free o.0 o.1 (λ up. none over (subst (Held temps n q.ups q.downs (locals_of seat.client)) is (h.holds up))) fetch
   where
-    none : EndsAt j t.xid → Held temps n q.ups q.downs (locals_of seat.client) (Some j) → Rattle.kept_promise.proofs.Shelf.NoTemp temps n
+    none : EndsAt j t → Held temps n q.ups q.downs (locals_of seat.client) (Some j) → Rattle.kept_promise.proofs.Shelf.NoTemp temps n
     none (inl e) held = free_held temps n q.ups q.downs (locals_of seat.client) (Some j) (open_free j e) held
-    none (inr e) held = (subst (HeldIn temps n q.ups q.downs (locals_of seat.client j.file)) e held).1 (λ u. up_apart n w q hung next calls t ts u.0 (record { xid = t.xid; call = Commit u.1 u.2 u.3 }) b first u.4 refl)
+    none (inr (inr e)) held = (subst (HeldIn temps n q.ups q.downs (locals_of seat.client j.file)) e.3 held).2 (0, e.1, e.2, ap (λ (l : List Told). slice_get l 0) first ∙ ap (λ (r : Reply). Some (record { xid = t.xid; reply = r })) e.4)
+    none (inr (inl e)) held = (subst (HeldIn temps n q.ups q.downs (locals_of seat.client j.file)) e held).1 (λ u. up_apart n w q hung next calls t ts u.0 (record { xid = t.xid; call = Commit u.1 u.2 u.3 }) b first u.4 refl)
 
-pub free_on : (seat : Seat) (j : Job) → job seat ≡ Some j → stage_word j.stage ≡ words.Open → CloseFree (job seat)
+pub free_on : (seat : Seat) (j : Job) → job seat ≡ Some j → IsNoClose j.stage → CloseFree (job seat)
 free_on seat j is e = subst CloseFree (sym is) (open_free j e)

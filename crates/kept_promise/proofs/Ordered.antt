@@ -1,14 +1,15 @@
 -- Calls and answers of closes stay in order: as a run grows, where none is of the operation under way, and as the first call is taken.
-use Rattle.std.proofs.Common.{inl, inr, ◌≡◌, ℕ, zero, suc, ◌<◌, ◌≤◌, List, [], ◌∷◌, ◌++◌, Option, Some, None, Bool, true, false, length, refl, sym, ap, ◌∙◌, subst, arith, IsSome}
+use Rattle.std.proofs.Common.{inl, inr, ◌≡◌, ℕ, zero, suc, ◌<◌, ◌≤◌, List, [], ◌∷◌, ◌++◌, Option, Some, None, Bool, true, false, length, refl, sym, ap, ◌∙◌, subst, arith}
 use Rattle.client_state.specs.declared.task.Stage.TheVariants as stage
 use Rattle.register_model.specs.declared.op.Word.TheVariants as words
 use Rattle.trace_replay.specs.Causes.{WaitsFor}
-use Rattle.kept_promise.proofs.Common.{Done, Failed, Temp, temp_at, is_full, Stage, Store, content_of, Opening, Op, Seat, unless, Book, step_of, Call, Call.Lease, Call.Hash, Call.Read, Call.Make, Call.Name, Call.Send, Call.Commit, Reply, Reply.Versioned, Reply.Hashed, Reply.Bytes, Reply.Made, Reply.Named, Reply.Stored, Reply.Changed, Ask, Told, Queue}
+use Rattle.kept_promise.proofs.Common.{changes, Done, Failed, Temp, temp_at, is_full, Stage, Store, Op, Seat, unless, Book, step_of, Call, Call.Lease, Call.Hash, Call.Read, Call.Make, Call.Name, Call.Send, Call.Commit, Reply, Reply.Versioned, Reply.Hashed, Reply.Bytes, Reply.Made, Reply.Named, Reply.Stored, Reply.Changed, Ask, Told, Queue, Call.Walks, Reply.Walked, Status, value_at}
 use Rattle.kept_promise.proofs.Lists.{some_is, nothing_there, at_end, of_appended, in_front}
 use Rattle.kept_promise.proofs.Messages.{Job, job, stage_word, AllAsks, AllTolds}
-use Rattle.kept_promise.proofs.Growth.{Grows}
+use Rattle.kept_promise.proofs.Growth.{Grows, there_later, value_later, Follows}
 use Rattle.kept_promise.proofs.Shelf.{NoTemp, OneTemp}
-use Rattle.kept_promise.proofs.Orderly.{locals_of, InPlace, IsInPlace, NoRoom, Wanted, IsWanted, UpMake, UpSend, UpCommit, known_reply, DownKnown, Holds, HeldIn, Held, Orderly}
+use Rattle.kept_promise.proofs.Orderly.{locals_of, InPlace, IsInPlace, NoRoom, Wanted, IsWanted, UpMake, UpSend, UpCommit, known_reply, DownKnown, Holds, HeldIn, Held, Orderly, Went, Denied, DownRefused}
+use Rattle.kept_promise.proofs.Rights.{WasThere}
 
 -- ---- calls and answers of opens
 
@@ -16,6 +17,7 @@ abbrev pub IsFetching : Call → Type 0
 IsFetching (Lease f) = Unit {0}
 IsFetching (Hash f o) = Unit {0}
 IsFetching (Read f c) = Unit {0}
+IsFetching (Walks w) = Unit {0}
 IsFetching _ = ⊥
 
 abbrev pub IsFetched : Reply → Type 0
@@ -40,6 +42,7 @@ fetching_place job v (a ∷ us) h = (by a.call h.0, fetching_place job v us h.1)
     by (Lease f) h = tt
     by (Hash f o) h = tt
     by (Read f c) h = tt
+    by (Walks w) h = tt
     by _ h = absurd h
 
 pub fetched_wanted : (book : Book) (job : Option Job) (ts : List Told) → AllFetched ts → AllTolds (IsWanted book job) ts
@@ -50,6 +53,7 @@ fetched_wanted book job (t ∷ ts) h = (by t.reply h.0, fetched_wanted book job 
     by (Versioned a) h = tt
     by (Hashed a) h = tt
     by (Bytes a) h = tt
+    by (Walked a) h = tt
     by (Changed (Done c)) h = tt
     by _ h = absurd h
 
@@ -69,10 +73,10 @@ free_asks job v [] free h = tt
 free_asks job v (a ∷ us) free h = (free_call job v a.xid a.call free h.0, free_asks job v us free h.1)
 
 free_reply : (book : Book) (job : Option Job) (x : ℕ) (r : Reply) → CloseFree job → Wanted book job x r → IsFetched r
-free_reply book job x (Made a) free h = free h.0.0 h.0.2 (ap stage_word h.0.3)
+free_reply book job x (Made a) free h = free h.0 h.2 (ap stage_word h.3)
 free_reply book job x (Named a) free h = free h.0.of h.0.is (ap stage_word h.0.at)
 free_reply book job x (Stored a) free h = free h.0.of h.0.is (ap stage_word h.0.at)
-free_reply book job x (Changed (Failed s u)) free h = free h.0.0 h.0.2 (ap stage_word h.0.3)
+free_reply book job x (Changed (Failed s u)) free h = free h.0 h.2 (ap stage_word h.3)
 free_reply book job x _ free h = tt
 
 pub free_tolds : (book : Book) (job : Option Job) (ts : List Told) → CloseFree job → AllTolds (IsWanted book job) ts → AllFetched ts
@@ -123,14 +127,27 @@ room_later book more made ended o r g client begin value h = record {
   full = subst (λ (l : List ℕ). is_full h.moment.before.server (length l) ≡ true) (sym value) h.full;
 }
 
+went_later : (book more : Book) (made ended : Option ℕ) (o r : Op) → Grows book more made ended → r.file ≡ o.file → r.begin ≡ o.begin → Went book o → Went more r
+went_later book more made ended o r g file begin h = record {
+  step = h.step;
+  after = subst (λ (z : ℕ). z ≤ h.step) (sym begin) h.after;
+  before = let a = h.before in let b = g.passes in omega (arith, a, b);
+  value_is = ap (λ (f : ℕ). value_at more f h.step) file ∙ value_later book more made ended o.file h.step g (let a = h.before in omega (arith, a)) ∙ h.value_is;
+}
+
+denied_later : (book more : Book) (made ended : Option ℕ) (j : ℕ) (o r : Op) (s : Status) → Grows book more made ended → Follows book made ended j o r → o.word ≡ words.Close → Denied book o s → Denied more r s
+denied_later book more made ended j o r s g f close (inl h) = inl (room_later book more made ended o r g f.client f.begin (f.value (ap changes close)) h.0, h.1)
+denied_later book more made ended j o r s g f close (inr h) = inr (went_later book more made ended o r g (f.close_file close) f.begin h.0, h.1)
+
 pub wanted_later : (book more : Book) (made ended : Option ℕ) (job : Option Job) (t : Told) → Grows book more made ended → IsWanted book job t → IsWanted more job t
 wanted_later book more made ended job t g h = by t.reply h
   where
     by : (r : Reply) → Wanted book job t.xid r → Wanted more job t.xid r
-    by (Made a) h = h
+    by (Made (Done u)) h = h
+    by (Made (Failed s u)) h = let z = h.4 in let r = g.each h.0.place z.0 z.1 in (h.0, h.1, h.2, h.3, (r.0, r.1, r.2.word ∙ z.2, went_later book more made ended z.0 r.0 g (r.2.close_file z.2) r.2.begin z.3, z.4))
     by (Named a) h = h
     by (Stored a) h = h
-    by (Changed (Failed s u)) h = let w = h.0 in let r = g.each w.0.place w.1 w.4 in ((w.0, r.0, w.2, w.3, r.1, r.2.word ∙ w.5, room_later book more made ended w.1 r.0 g r.2.client r.2.begin (r.2.value w.5) w.6), h.1)
+    by (Changed (Failed s u)) h = let r = g.each h.0.place h.1 h.4 in (h.0, r.0, h.2, h.3, r.1, r.2.word ∙ h.5, denied_later book more made ended h.0.place h.1 r.0 s g r.2 h.5 h.6)
     by _ h = tt
 
 pub all_wanted_later : (book more : Book) (made ended : Option ℕ) (job : Option Job) (ts : List Told) → Grows book more made ended → AllTolds (IsWanted book job) ts → AllTolds (IsWanted more job) ts
@@ -152,20 +169,20 @@ held_found temps after n us ts v None same h = none_found temps after n same h
 held_found temps after n us ts v (Some j) same h = by j.stage h
   where
     by : (s : Stage) → HeldIn temps n us ts (v j.file) s → HeldIn after n us ts (v j.file) s
-    by (stage.Making x m) h = (λ u. none_found temps after n same (h.0 u), λ u. let w = h.1 u in (w.0, one_found temps after n m w.0 same w.1, w.2))
+    by (stage.Making x m) h = (λ u. none_found temps after n same (h.0 u), (λ u d. let w = h.1 u d in (w.0, one_found temps after n m w.0 same w.1, w.2)), λ d. none_found temps after n same (h.2 d))
     by (stage.Storing st) h = (h.0, one_found temps after n st.temp h.0 same h.1, h.2)
     by (stage.Committing x) h = (λ u. let w = h.0 u in (w.0, one_found temps after n u.1 w.0 same w.1, w.2), λ u. none_found temps after n same (h.1 u))
     by _ h = none_found temps after n same h
 
-tree_later : (l m : List Opening) (seat : Seat) → m ≡ l → ((j : Job) → job seat ≡ Some j → stage_word j.stage ≡ words.Close → IsSome (content_of l j.file)) → (j : Job) → job seat ≡ Some j → stage_word j.stage ≡ words.Close → IsSome (content_of m j.file)
-tree_later l m seat e h j f w = subst (λ (z : List Opening). IsSome (content_of z j.file)) (sym e) (h j f w)
+tree_later : (book more : Book) (made ended : Option ℕ) (seat : Seat) → Grows book more made ended → ((j : Job) → job seat ≡ Some j → stage_word j.stage ≡ words.Close → WasThere book j.file) → (j : Job) → job seat ≡ Some j → stage_word j.stage ≡ words.Close → WasThere more j.file
+tree_later book more made ended seat g h j f w = there_later book more made ended j.file g (h j f w)
 
 pub orderly_later : (book more : Book) (made ended : Option ℕ) (n : ℕ) (temps after : List (ℕ × Temp)) (hung : Bool) (q : Queue) (seat : Seat) → Grows book more made ended → SameFound temps after n → Orderly book n temps hung q seat → Orderly more n after hung q seat
 orderly_later book more made ended n temps after hung q seat g same h = record {
   asks = h.asks;
   tolds = all_wanted_later book more made ended (job seat) q.downs g h.tolds;
   holds = λ up. held_found temps after n q.ups q.downs (locals_of seat.client) (job seat) same (h.holds up);
-  tree = tree_later book.opening more.opening seat g.opening h.tree;
+  tree = tree_later book more made ended seat g h.tree;
 }
 
 -- with nothing under way, whatever else changes at the client
@@ -183,7 +200,7 @@ orderly_hung book more made ended n temps after hung q seat g h = record {
   asks = tt;
   tolds = all_wanted_later book more made ended (job seat) q.downs g h.tolds;
   holds = λ up. absurd cc;
-  tree = tree_later book.opening more.opening seat g.opening h.tree;
+  tree = tree_later book more made ended seat g h.tree;
 }
 
 -- a new session
@@ -201,9 +218,10 @@ told_more book job true ts t w h = h
 told_more book job false [] t w h = (w, tt)
 told_more book job false (u ∷ ts) t w h = (h.0, told_more book job false ts t w h.1)
 
--- nothing is told of as known
+-- nothing is told of as known, and no temporary file as refused
 abbrev pub TellsNone : Reply → Type 0
 TellsNone (Named (Done u)) = ⊥
+TellsNone (Made (Failed s u)) = ⊥
 TellsNone _ = Unit {0}
 
 known_before : (ts : List Told) (t : Told) (x : ℕ) → TellsNone t.reply → DownKnown (ts ++ t ∷ []) x → DownKnown ts x
@@ -211,6 +229,15 @@ known_before ts t x none k = elim (of_appended ts t k.0 (record { xid = x; reply
   | inl last ↦ absurd (subst (λ (u : Told). TellsNone u.reply) (sym last.1) none)
   | inr was ↦ (k.0, was)
 ]
+
+pub refused_before : (ts : List Told) (t : Told) (x : ℕ) → TellsNone t.reply → DownRefused (ts ++ t ∷ []) x → DownRefused ts x
+refused_before ts t x none d = elim (of_appended ts t d.0 (record { xid = x; reply = Made (Failed d.1 d.2) }) d.3) [
+  | inl last ↦ absurd (subst (λ (u : Told). TellsNone u.reply) (sym last.1) none)
+  | inr was ↦ (d.0, d.1, d.2, was)
+]
+
+pub refused_more : (ts more : List Told) (x : ℕ) → DownRefused ts x → DownRefused (ts ++ more) x
+refused_more ts more x d = (d.0, d.1, d.2, in_front ts more d.0 (record { xid = x; reply = Made (Failed d.1 d.2) }) d.3)
 
 pub known_more : (ts more : List Told) (x : ℕ) → DownKnown ts x → DownKnown (ts ++ more) x
 known_more ts more x k = (k.0, in_front ts more k.0 (record { xid = x; reply = known_reply }) k.1)
@@ -234,7 +261,7 @@ held_told temps n us ts t false v None none h = h
 held_told temps n us ts t false v (Some j) none h = by j.stage h
   where
     by : (s : Stage) → HeldIn temps n us ts (v j.file) s → HeldIn temps n us (ts ++ t ∷ []) (v j.file) s
-    by (stage.Making x m) h = h
+    by (stage.Making x m) h = (h.0, (λ u d. h.1 u (λ r. d (refused_more ts (t ∷ []) x r))), λ d. h.2 (refused_before ts t x none d))
     by (stage.Storing st) h = (h.0, h.1, holds_told (v j.file) us ts st h.0.pieces t none h.2)
     by (stage.Committing x) h = h
     by _ h = h
@@ -290,7 +317,7 @@ held_rest temps n a us ts v None plain h = h
 held_rest temps n a us ts v (Some j) plain h = by j.stage h
   where
     by : (s : Stage) → HeldIn temps n (a ∷ us) ts (v j.file) s → HeldIn temps n us ts (v j.file) s
-    by (stage.Making x m) h = (λ u. h.0 (make_up a us x u), λ none. h.1 (λ u. none (make_rest a us x plain u)))
+    by (stage.Making x m) h = (λ u. h.0 (make_up a us x u), (λ none d. h.1 (λ u. none (make_rest a us x plain u)) d), h.2)
     by (stage.Storing st) h = (h.0, h.1, holds_rest (v j.file) a us ts st h.0.pieces plain h.2)
     by (stage.Committing x) h = (λ u. h.0 (commit_up a us x u), λ none. h.1 (λ u. none (commit_rest a us x plain u)))
     by _ h = h
@@ -302,7 +329,7 @@ orderly_answered book more made ended n temps after cut q a us t seat g first w 
   asks = (subst (AllAsks (IsInPlace (job seat) (locals_of seat.client))) first h.asks).1;
   tolds = told_more more (job seat) cut q.downs t w (all_wanted_later book more made ended (job seat) q.downs g h.tolds);
   holds = λ up. held;
-  tree = tree_later book.opening more.opening seat g.opening h.tree;
+  tree = tree_later book more made ended seat g h.tree;
 }
 
 -- with none
@@ -311,7 +338,7 @@ orderly_taken book more made ended n temps after hung q a us seat g first held h
   asks = (subst (AllAsks (IsInPlace (job seat) (locals_of seat.client))) first h.asks).1;
   tolds = all_wanted_later book more made ended (job seat) q.downs g h.tolds;
   holds = λ up. held;
-  tree = tree_later book.opening more.opening seat g.opening h.tree;
+  tree = tree_later book more made ended seat g h.tree;
 }
 
 pub held_first : (book : Book) (n : ℕ) (temps : List (ℕ × Temp)) (q : Queue) (a : Ask) (us : List Ask) (seat : Seat) → q.ups ≡ a ∷ us → Orderly book n temps false q seat → Held temps n (a ∷ us) q.downs (locals_of seat.client) (job seat)
@@ -326,6 +353,7 @@ place_first book n temps hung q a us seat first h = (subst (AllAsks (IsInPlace (
 abbrev pub BeginsWith : Stage → Ask → Type 0
 BeginsWith (stage.Asking x) a = Unit {0}
 BeginsWith (stage.Hashing t x) a = Unit {0}
+BeginsWith (stage.Walking x w) a = Unit {0}
 BeginsWith (stage.Making x m) a = (f : ℕ) × (a ≡ record { xid = x; call = Make m f })
 BeginsWith s a = ⊥
 
@@ -347,18 +375,19 @@ place_more P true us a h p = h
 place_more P false [] a h p = (p, tt)
 place_more P false (u ∷ us) a h p = (h.0, place_more P false us a h.1 p)
 
-pub orderly_begun : (book : Book) (n : ℕ) (temps : List (ℕ × Temp)) (hung : Bool) (q : Queue) (a : Ask) (d : Seat) (j : Job) → job d ≡ Some j → InPlace (job d) (locals_of d.client) a.xid a.call → BeginsWith j.stage a → (stage_word j.stage ≡ words.Close → IsSome (content_of book.opening j.file)) → IsClear temps n hung q
+pub orderly_begun : (book : Book) (n : ℕ) (temps : List (ℕ × Temp)) (hung : Bool) (q : Queue) (a : Ask) (d : Seat) (j : Job) → job d ≡ Some j → InPlace (job d) (locals_of d.client) a.xid a.call → BeginsWith j.stage a → (stage_word j.stage ≡ words.Close → WasThere book j.file) → IsClear temps n hung q
     → Orderly book n temps hung (record { ups = unless hung q.ups (a ∷ []); downs = q.downs }) d
 orderly_begun book n temps hung q a d j is place begins tree clear = record {
   asks = place_more (IsInPlace (job d) (locals_of d.client)) hung q.ups a (fetching_place (job d) (locals_of d.client) q.ups clear.ups) place;
   tolds = fetched_wanted book (job d) q.downs clear.downs;
   holds = λ up. subst (λ (o : Option Job). Held temps n (unless hung q.ups (a ∷ [])) q.downs (locals_of d.client) o) (sym is) (by j.stage begins hung up (clear.none up));
-  tree = λ i e w. let same = some_is j i (sym is ∙ e) in subst (λ (z : Job). IsSome (content_of book.opening z.file)) same (tree (ap (λ (z : Job). stage_word z.stage) same ∙ w));
+  tree = λ i e w. let same = some_is j i (sym is ∙ e) in subst (λ (z : Job). WasThere book z.file) same (tree (ap (λ (z : Job). stage_word z.stage) same ∙ w));
 }
   where
     by : (s : Stage) → BeginsWith s a → (b : Bool) → b ≡ false → NoTemp temps n → HeldIn temps n (unless b q.ups (a ∷ [])) q.downs (locals_of d.client j.file) s
     by (stage.Asking x) begins b up none = none
     by (stage.Hashing t x) begins b up none = none
-    by (stage.Making x m) begins false up none = (λ u. none, λ u. absurd (u (length q.ups, m, begins.0, at_end q.ups a ∙ ap (λ (z : Ask). Some z) begins.1)))
+    by (stage.Walking x w) begins b up none = none
+    by (stage.Making x m) begins false up none = (λ u. none, (λ u d. absurd (u (length q.ups, m, begins.0, at_end q.ups a ∙ ap (λ (z : Ask). Some z) begins.1))), λ d. none)
     by (stage.Making x m) begins true up none = absurd cc
     by _ begins b up none = absurd begins

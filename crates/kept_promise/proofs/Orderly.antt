@@ -1,6 +1,6 @@
 -- The calls of a close and their answers are in order: each is of the operation under way, and the session's temporary file holds just
 -- what the server took.
-use Rattle.std.proofs.Common.{◌≡◌, ◌⊎◌, ℕ, ◌<◌, ◌≤◌, List, [], Option, Some, None, Bool, true, false, length, Ok, IsSome}
+use Rattle.std.proofs.Common.{◌≡◌, ◌⊎◌, ℕ, ◌<◌, ◌≤◌, List, [], Option, Some, None, Bool, true, false, length, Ok}
 use Rattle.xdr_codec.specs.declared.status.Status.TheVariants as status
 use Rattle.hash_calls.specs.declared.call.Commit.{Commit as Commit_call}
 use Rattle.hash_calls.specs.declared.message.Lb.TheVariants as lb
@@ -11,10 +11,11 @@ use Rattle.trace_replay.specs.Causes.{WaitsFor}
 use Rattle.client_state.specs.declared.task.Stage.TheVariants as stage
 use Rattle.client_state.specs.declared.task.Way.TheVariants as way
 use Rattle.register_model.specs.declared.op.Word.TheVariants as words
-use Rattle.kept_promise.proofs.Common.{slice_get, Contains, chunks_of, chunk_bytes, Chunk, Done, Failed, parse_of, is_full, Temp, store_at, Stage, Store, StoreCall, Way, content_of, Op, Seat, Event.Serves, server_waiting, Moment, step_of, Book, Call, Call.Make, Call.Name, Call.Send, Call.Commit, Reply, Reply.Made, Reply.Named, Reply.Stored, Reply.Changed, Ask, Told, Queue}
+use Rattle.kept_promise.proofs.Common.{slice_get, Contains, chunks_of, chunk_bytes, Chunk, Done, Failed, parse_of, is_full, Temp, store_at, Stage, Store, StoreCall, Way, Op, Seat, Event.Serves, server_waiting, Moment, step_of, Book, Call, Call.Make, Call.Name, Call.Send, Call.Commit, Reply, Reply.Made, Reply.Named, Reply.Stored, Reply.Changed, Ask, Told, Queue, Answer, Status, value_at}
 use Rattle.kept_promise.proofs.Statements.{PiecesOf, SameShape}
 use Rattle.kept_promise.proofs.Messages.{Job, job, stage_word, AllAsks, AllTolds}
 use Rattle.kept_promise.proofs.Shelf.{NoTemp, OneTemp}
+use Rattle.kept_promise.proofs.Rights.{WasThere}
 
 -- ---- the call of a store
 
@@ -64,12 +65,28 @@ pub record NoRoom (book : Book) (o : Op) : Type 0 where
   pub waits : WaitsFor moment o.client session xid
   pub full : is_full moment.before.server (length o.value) ≡ true
 
--- an answer to a call of a close is one that the operation under way waits for, and it is no refusal but of a commit for want of room
+-- its file was gone at a moment within it
+pub record Went (book : Book) (o : Op) : Type 0 where
+  pub step : ℕ
+  pub after : o.begin ≤ step
+  pub before : step ≤ book.steps
+  pub value_is : value_at book o.file step ≡ None
+
+-- why a close is refused: for want of room, or since its file was gone
+abbrev pub Denied : Book → Op → Status → Type 0
+Denied book o s = (NoRoom book o × (s ≡ status.NoSpc)) ⊎ (Went book o × (s ≡ status.Stale))
+
+-- where it asks for a temporary file it is for the latter
+abbrev pub MadeTold : Book → Job → Answer Unit Unit → Type 0
+MadeTold book j (Done u) = Unit {0}
+MadeTold book j (Failed s u) = (o : Op) × (slice_get book.ops j.place ≡ Some o) × (o.word ≡ words.Close) × Went book o × (s ≡ status.Stale)
+
+-- an answer to a call of a close is one that the operation under way waits for, and it is no refusal but for one of these
 abbrev pub Wanted : Book → Option Job → (xid : ℕ) → Reply → Type 0
-Wanted book job x (Made a) = ((j : Job) × (m : ℕ) × (job ≡ Some j) × (j.stage ≡ stage.Making x m)) × (a ≡ Done tt)
+Wanted book job x (Made a) = (j : Job) × (m : ℕ) × (job ≡ Some j) × (j.stage ≡ stage.Making x m) × MadeTold book j a
 Wanted book job x (Named a) = IsStore job x way.Named × ((a ≡ Done tt) ⊎ (a ≡ Failed status.HashNotFound tt))
 Wanted book job x (Stored a) = IsStore job x way.Whole × (a ≡ Done tt)
-Wanted book job x (Changed (Failed s u)) = ((j : Job) × (o : Op) × (job ≡ Some j) × (j.stage ≡ stage.Committing x) × (slice_get book.ops j.place ≡ Some o) × (o.word ≡ words.Close) × NoRoom book o) × (s ≡ status.NoSpc)
+Wanted book job x (Changed (Failed s u)) = (j : Job) × (o : Op) × (job ≡ Some j) × (j.stage ≡ stage.Committing x) × (slice_get book.ops j.place ≡ Some o) × (o.word ≡ words.Close) × Denied book o s
 Wanted book job x r = Unit {0}
 
 abbrev pub IsWanted : Book → Option Job → Told → Type 0
@@ -93,6 +110,10 @@ known_reply = Named (Done tt)
 abbrev pub DownKnown : List Told → (xid : ℕ) → Type 0
 DownKnown ts x = (i : ℕ) × (slice_get ts i ≡ Some (record { xid = x; reply = known_reply }))
 
+-- that a temporary file was refused is on its way down
+abbrev pub DownRefused : List Told → (xid : ℕ) → Type 0
+DownRefused ts x = (i : ℕ) × (s : Status) × (u : Unit {0}) × (slice_get ts i ≡ Some (record { xid = x; reply = Made (Failed s u) }))
+
 -- The pieces have the places and lengths of the chunks whose bytes the server took, or knew: all that were named, but those whose name is under way and
 -- not known yet, or whose bytes are on their way up.
 pub record Holds (v : List ℕ) (us : List Ask) (ts : List Told) (st : Store) (pieces : List (ℕ × List ℕ)) : Type 0 where
@@ -108,7 +129,7 @@ pub record Holds (v : List ℕ) (us : List Ask) (ts : List Told) (st : Store) (p
   pub apart : (k m : ℕ) (u w : StoreCall) → slice_get st.under k ≡ Some u → slice_get st.under m ≡ Some w → u.index ≡ w.index → u ≡ w
 
 abbrev pub HeldIn : List (ℕ × Temp) → (n : ℕ) → List Ask → List Told → (v : List ℕ) → Stage → Type 0
-HeldIn temps n us ts v (stage.Making x m) = (UpMake us x → NoTemp temps n) × ((UpMake us x → ⊥) → (t : Temp) × OneTemp temps n m t × (t.pieces ≡ []))
+HeldIn temps n us ts v (stage.Making x m) = (UpMake us x → NoTemp temps n) × ((UpMake us x → ⊥) → (DownRefused ts x → ⊥) → (t : Temp) × OneTemp temps n m t × (t.pieces ≡ [])) × (DownRefused ts x → NoTemp temps n)
 HeldIn temps n us ts v (stage.Storing st) = (t : Temp) × OneTemp temps n st.temp t × Holds v us ts st t.pieces
 HeldIn temps n us ts v (stage.Committing x) = ((u : UpCommit us x) → (t : Temp) × OneTemp temps n u.1 t × SameShape t.pieces (PiecesOf v (λ c. true) (chunks_of v))) × ((UpCommit us x → ⊥) → NoTemp temps n)
 HeldIn temps n us ts v s = NoTemp temps n
@@ -124,4 +145,4 @@ pub record Orderly (book : Book) (n : ℕ) (temps : List (ℕ × Temp)) (hung : 
   pub tolds : AllTolds (IsWanted book (job seat)) q.downs
   pub holds : hung ≡ false → Held temps n q.ups q.downs (locals_of seat.client) (job seat)
   -- a close is of a file of the tree
-  pub tree : (j : Job) → job seat ≡ Some j → stage_word j.stage ≡ words.Close → IsSome (content_of book.opening j.file)
+  pub tree : (j : Job) → job seat ≡ Some j → stage_word j.stage ≡ words.Close → WasThere book j.file

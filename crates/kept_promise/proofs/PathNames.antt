@@ -1,9 +1,10 @@
--- The names of a command that was read: none is a dot or two, none is long, and there are few. So are those of its walk, as far as it comes.
-use Rattle.std.proofs.Common.{◌≡◌, ℕ, zero, suc, ◌-◌, ◌<◌, ◌≤◌, List, [], ◌∷◌, ◌++◌, length, take, drop, Some, None, Bool, true, false, not, ◌&&◌, refl, arith, nat_le, if◌then◌else◌}
+-- The names of a command that was read: each is spelt, none is a dot or two, none is long, and there are few. So are those of its walk, as far as it comes.
+use Rattle.std.proofs.Common.{◌≡◌, ◌⊎◌, inl, inr, ℕ, zero, suc, ◌+◌, ◌-◌, ◌<◌, ◌≤◌, List, [], ◌∷◌, ◌++◌, length, take, drop, Some, None, Bool, true, false, not, ◌&&◌, ◌||◌, ◌==◌, refl, sym, ap, ◌∙◌, subst, arith, nat_le, if◌then◌else◌}
 use Rattle.std.specs.Prelude.{codes, bytes_eq, slice_index_or}
-use Rattle.std.specs.List.{AllByRecursion}
+use Rattle.std.specs.List.{AllByRecursion, list_all, list_any}
 use Rattle.std.proofs.lemmas.Bool.Decides.{nat_tests}
-use Rattle.command_text.specs.Fields.{is_text, is_name, name_of}
+use Rattle.file_tree.specs.Names.{is_misspelt}
+use Rattle.command_text.specs.Fields.{is_letter, is_text, is_name, name_of}
 use Rattle.command_text.specs.Parts.{cut_at}
 use Rattle.command_text.specs.Paths.{names_of, within_path, names_in, spot_at, spot_in, spot_of, path_of}
 use Rattle.command_text.specs.Commands.{find_of, spot_command, rename_of, list_of, look_of, path_command_of}
@@ -16,14 +17,14 @@ use Rattle.trace_replay.specs.Commands.{file_of}
 use Rattle.path_calls.specs.declared.walk.Goal.{Goal}
 use Rattle.path_calls.specs.declared.walk.Goal.TheVariants as goal
 use Rattle.path_calls.specs.declared.walk.Walk.{Walk}
-use Rattle.path_calls.specs.Walk.{begun, arrives, goal_left, calls_left}
+use Rattle.path_calls.specs.Walk.{begun, arrives, no_pages, goal_left, calls_left}
 use Rattle.kept_promise.proofs.Parsed.{Gives, gives_some, gives_none, gives_if, gives_after}
 use Rattle.kept_promise.proofs.TreeWalks.{IsUndotted}
 
 -- ---- a name
 
 abbrev pub IsName : List ℕ → Type 0
-IsName n = IsUndotted n × (length n ≤ 255)
+IsName n = IsUndotted n × (length n ≤ 255) × (is_misspelt n ≡ false)
 
 and_true : (a b : Bool) → (a && b) ≡ true → (a ≡ true) × (b ≡ true)
 and_true true b e = (refl, e)
@@ -32,6 +33,32 @@ and_true false b e = absurd cc
 not_true : (a : Bool) → not a ≡ true → a ≡ false
 not_true true e = absurd cc
 not_true false e = refl
+
+-- no letter is a slash or the byte zero
+letter_apart : (b : ℕ) → is_letter b ≡ true → ((b == 47) || (b == 0)) ≡ false
+letter_apart b h = by (b == 47) refl (b == 0) refl
+  where
+    no_slash : is_letter 47 ≡ true → ⊥
+    no_slash e = absurd cc
+
+    no_zero : is_letter 0 ≡ true → ⊥
+    no_zero e = absurd cc
+
+    by : (x : Bool) → (b == 47) ≡ x → (y : Bool) → (b == 0) ≡ y → (x || y) ≡ false
+    by true e y f = let same : b ≡ 47 = grind (arith, nat_tests, e) in absurd (no_slash (subst (λ (c : ℕ). is_letter c ≡ true) same h))
+    by false e true f = let same : b ≡ 0 = grind (arith, nat_tests, f) in absurd (no_zero (subst (λ (c : ℕ). is_letter c ≡ true) same h))
+    by false e false f = refl
+
+letters_apart : (word : List ℕ) → list_all is_letter word ≡ true → list_any (λ b. (b == 47) || (b == 0)) word ≡ false
+letters_apart [] h = refl
+letters_apart (b ∷ bs) h =
+    let both = and_true (is_letter b) (list_all is_letter bs) h in
+    ap (λ (x : Bool). x || list_any (λ b. (b == 47) || (b == 0)) bs) (letter_apart b both.0) ∙ letters_apart bs both.1
+
+text_spelt : (word : List ℕ) → is_text word ≡ true → is_misspelt word ≡ false
+text_spelt word h =
+    let both = and_true (not (length word == 0)) (list_all is_letter word) h in
+    ap (λ (x : Bool). x || list_any (λ b. (b == 47) || (b == 0)) word) (not_true (length word == 0) both.0) ∙ letters_apart word both.1
 
 name_named : (word : List ℕ) → Gives IsName (name_of word)
 name_named word = by (is_name word) refl
@@ -42,7 +69,7 @@ name_named word = by (is_name word) refl
         let b = and_true (is_text word && nat_le (length word) 255) (not (bytes_eq word (codes "."))) a.0 in
         let c = and_true (is_text word) (nat_le (length word) 255) b.0 in
         let short = c.1 in
-        gives_some IsName word ((not_true (bytes_eq word (codes ".")) b.1, not_true (bytes_eq word (codes "..")) a.1), grind (arith, nat_tests, short))
+        gives_some IsName word ((not_true (bytes_eq word (codes ".")) b.1, not_true (bytes_eq word (codes "..")) a.1), grind (arith, nat_tests, short), text_spelt word c.0)
     by false e = gives_none IsName
 
 -- ---- names
@@ -112,13 +139,13 @@ HasNames (path.Remove s) = IsSpot s
 HasNames (path.RemoveDir s) = IsSpot s
 HasNames (path.Rename s t) = IsSpot s × IsSpot t
 
--- its id has a number of 64 bits, and it is on no names
+-- its id has a number of 64 bits, or its names are names
 abbrev pub IsSmall : Command → Type 0
-IsSmall (command.Named k) = ⊥
+IsSmall (command.Named k) = HasNames k
 IsSmall d = file_of d < 18446744073709551616
 
 pub file_small : (d : Command) → IsSmall d → file_of d < 18446744073709551616
-file_small (command.Named k) h = absurd h
+file_small (command.Named k) h = omega arith
 file_small d h = h
 
 -- its id has a number of 64 bits, or its names are names
@@ -221,3 +248,198 @@ goal_short (goal.RenameTo from n to) aim = omega arith
 -- a walk never sends many calls
 pub walk_short : (w : Walk) → IsWalkNamed w → calls_left w ≤ 900064
 walk_short w h = let few = h.0.1 in let short = goal_short w.goal h.1 in omega (arith, few, short)
+
+-- ---- what a walk that is under way is
+
+-- it asks behind an entry, and of a directory, whose number has a spelling
+abbrev pub IsAsking : Goal → Type 0
+IsAsking (goal.Find n) = Unit {0}
+IsAsking (goal.Look n) = Unit {0}
+IsAsking goal.LookRoot = Unit {0}
+IsAsking (goal.List p) = (p.cookie < 18446744073709551616) × (p.verifier < 18446744073709551616)
+IsAsking (goal.Make n) = Unit {0}
+IsAsking (goal.MakeDir n) = Unit {0}
+IsAsking (goal.Remove n) = Unit {0}
+IsAsking (goal.RemoveDir n) = Unit {0}
+IsAsking (goal.RenameFrom n to) = Unit {0}
+IsAsking (goal.RenameTo from n to) = from < 18446744073709551616
+
+-- whether its next call makes, removes or renames something
+abbrev pub makes_at : (left : List (List ℕ)) → Goal → Bool
+makes_at [] (goal.Make n) = true
+makes_at [] (goal.MakeDir n) = true
+makes_at [] (goal.Remove n) = true
+makes_at [] (goal.RemoveDir n) = true
+makes_at [] (goal.RenameTo from n to) = true
+makes_at left g = false
+
+abbrev pub is_making : Walk → Bool
+is_making w = makes_at w.left w.goal
+
+-- of these, whether it makes, or removes a directory, which is done at once; or removes or renames
+abbrev pub builds_at : (left : List (List ℕ)) → Goal → Bool
+builds_at [] (goal.Make n) = true
+builds_at [] (goal.MakeDir n) = true
+builds_at [] (goal.RemoveDir n) = true
+builds_at left g = false
+
+abbrev pub is_building : Walk → Bool
+is_building w = builds_at w.left w.goal
+
+abbrev pub goes_at : (left : List (List ℕ)) → Goal → Bool
+goes_at [] (goal.Remove n) = true
+goes_at [] (goal.RenameTo from n to) = true
+goes_at left g = false
+
+abbrev pub is_going : Walk → Bool
+is_going w = goes_at w.left w.goal
+
+pub making_is : (left : List (List ℕ)) (g : Goal) → makes_at left g ≡ true → (builds_at left g ≡ true) ⊎ (goes_at left g ≡ true)
+making_is [] (goal.Make n) e = inl refl
+making_is [] (goal.MakeDir n) e = inl refl
+making_is [] (goal.RemoveDir n) e = inl refl
+making_is [] (goal.Remove n) e = inr refl
+making_is [] (goal.RenameTo from n to) e = inr refl
+making_is left g e = absurd cc
+
+pub building_makes : (left : List (List ℕ)) (g : Goal) → builds_at left g ≡ true → makes_at left g ≡ true
+building_makes [] (goal.Make n) e = refl
+building_makes [] (goal.MakeDir n) e = refl
+building_makes [] (goal.RemoveDir n) e = refl
+building_makes left g e = absurd cc
+
+pub going_makes : (left : List (List ℕ)) (g : Goal) → goes_at left g ≡ true → makes_at left g ≡ true
+going_makes [] (goal.Remove n) e = refl
+going_makes [] (goal.RenameTo from n to) e = refl
+going_makes left g e = absurd cc
+
+-- whether its next call may change a file; and whether one behind that may
+abbrev pub creates_at : (left : List (List ℕ)) → Goal → Bool
+creates_at [] (goal.Make n) = true
+creates_at [] (goal.Remove n) = true
+creates_at [] (goal.RenameTo from n to) = true
+creates_at left g = false
+
+abbrev pub is_creating : Walk → Bool
+is_creating w = creates_at w.left w.goal
+
+pub going_creates : (left : List (List ℕ)) (g : Goal) → goes_at left g ≡ true → creates_at left g ≡ true
+going_creates [] (goal.Remove n) e = refl
+going_creates [] (goal.RenameTo from n to) e = refl
+going_creates left g e = absurd cc
+
+abbrev pub makes_later : (left : List (List ℕ)) → Goal → Bool
+makes_later (name ∷ names) (goal.Make n) = true
+makes_later (name ∷ names) (goal.Remove n) = true
+makes_later (name ∷ names) (goal.RenameTo from n to) = true
+makes_later left (goal.RenameFrom n to) = true
+makes_later left g = false
+
+-- while a first name of a rename is looked for, names are left
+abbrev pub IsAhead : List (List ℕ) → Goal → Type 0
+IsAhead [] (goal.RenameFrom n to) = ⊥
+IsAhead left g = Unit {0}
+
+abbrev pub is_from_goal : Goal → Bool
+is_from_goal (goal.RenameFrom n to) = true
+is_from_goal g = false
+
+pub ahead_else : (left : List (List ℕ)) (g : Goal) → is_from_goal g ≡ false → IsAhead left g
+ahead_else (n ∷ ns) g e = tt
+ahead_else [] (goal.RenameFrom n to) e = absurd cc
+ahead_else [] (goal.Find n) e = tt
+ahead_else [] (goal.Look n) e = tt
+ahead_else [] goal.LookRoot e = tt
+ahead_else [] (goal.List p) e = tt
+ahead_else [] (goal.Make n) e = tt
+ahead_else [] (goal.MakeDir n) e = tt
+ahead_else [] (goal.Remove n) e = tt
+ahead_else [] (goal.RemoveDir n) e = tt
+ahead_else [] (goal.RenameTo from n to) e = tt
+
+-- what arrives is ahead
+pub arrives_ahead : (dir : ℕ) (left : List (List ℕ)) (g : Goal) → IsAhead (arrives dir left g).left (arrives dir left g).goal
+arrives_ahead dir (n ∷ ns) g = tt
+arrives_ahead dir [] (goal.RenameFrom n to) = ahead_else to.dirs (goal.RenameTo dir n to.name) refl
+arrives_ahead dir [] (goal.Find n) = tt
+arrives_ahead dir [] (goal.Look n) = tt
+arrives_ahead dir [] goal.LookRoot = tt
+arrives_ahead dir [] (goal.List p) = tt
+arrives_ahead dir [] (goal.Make n) = tt
+arrives_ahead dir [] (goal.MakeDir n) = tt
+arrives_ahead dir [] (goal.Remove n) = tt
+arrives_ahead dir [] (goal.RemoveDir n) = tt
+arrives_ahead dir [] (goal.RenameTo from n to) = tt
+
+pub record IsWalkSmall (w : Walk) : Type 0 where
+  pub dir : w.dir < 18446744073709551616
+  pub named : IsWalkNamed w
+  pub asking : IsAsking w.goal
+  pub ahead : IsAhead w.left w.goal
+
+pub begun_small : (k : PathCommand) → HasNames k → IsWalkSmall (begun k)
+begun_small k h = record { dir = dir k; named = begun_named k h; asking = asking k; ahead = ahead k }
+  where
+    renames : (dirs : List (List ℕ)) (n : List ℕ) (to : Spot) → ((arrives 1 dirs (goal.RenameFrom n to)).dir < 18446744073709551616) × IsAsking (arrives 1 dirs (goal.RenameFrom n to)).goal × IsAhead (arrives 1 dirs (goal.RenameFrom n to)).left (arrives 1 dirs (goal.RenameFrom n to)).goal
+    renames [] n to = (omega arith, omega arith, ahead_else to.dirs (goal.RenameTo 1 n to.name) refl)
+    renames (d ∷ ds) n to = (omega arith, tt, tt)
+
+    ahead : (k : PathCommand) → IsAhead (begun k).left (begun k).goal
+    ahead (path.Find s) = ahead_else s.dirs (goal.Find s.name) refl
+    ahead (path.Look s) = ahead_else s.dirs (goal.Look s.name) refl
+    ahead path.LookRoot = tt
+    ahead (path.List p) = ahead_else p (goal.List no_pages) refl
+    ahead (path.Make s) = ahead_else s.dirs (goal.Make s.name) refl
+    ahead (path.MakeDir s) = ahead_else s.dirs (goal.MakeDir s.name) refl
+    ahead (path.Remove s) = ahead_else s.dirs (goal.Remove s.name) refl
+    ahead (path.RemoveDir s) = ahead_else s.dirs (goal.RemoveDir s.name) refl
+    ahead (path.Rename s t) = (renames s.dirs s.name t).2
+
+    dir : (k : PathCommand) → (begun k).dir < 18446744073709551616
+    dir (path.Find s) = omega arith
+    dir (path.Look s) = omega arith
+    dir path.LookRoot = omega arith
+    dir (path.List p) = omega arith
+    dir (path.Make s) = omega arith
+    dir (path.MakeDir s) = omega arith
+    dir (path.Remove s) = omega arith
+    dir (path.RemoveDir s) = omega arith
+    dir (path.Rename s t) = (renames s.dirs s.name t).0
+
+    asking : (k : PathCommand) → IsAsking (begun k).goal
+    asking (path.Find s) = tt
+    asking (path.Look s) = tt
+    asking path.LookRoot = tt
+    asking (path.List p) = (omega arith, omega arith)
+    asking (path.Make s) = tt
+    asking (path.MakeDir s) = tt
+    asking (path.Remove s) = tt
+    asking (path.RemoveDir s) = tt
+    asking (path.Rename s t) = (renames s.dirs s.name t).1
+
+-- the calls of the open that may follow
+abbrev pub open_calls : Goal → ℕ
+open_calls (goal.Find n) = 380002
+open_calls g = 0
+
+-- what it may still send behind its next call
+abbrev pub walk_calls : Walk → ℕ
+walk_calls w = calls_left w + open_calls w.goal
+
+calls_short : (w : Walk) (g : Goal) → w.goal ≡ g → IsGoalNamed g → length w.left ≤ 64 → walk_calls w ≤ 900064
+calls_short w g is aim few = subst (λ (z : Goal). length w.left + goal_left z + open_calls z ≤ 900064) (sym is) (by g aim)
+  where
+    by : (g : Goal) → IsGoalNamed g → length w.left + goal_left g + open_calls g ≤ 900064
+    by (goal.Find n) aim = omega (arith, few)
+    by (goal.Look n) aim = omega (arith, few)
+    by goal.LookRoot aim = omega (arith, few)
+    by (goal.List p) aim = omega (arith, few)
+    by (goal.Make n) aim = omega (arith, few)
+    by (goal.MakeDir n) aim = omega (arith, few)
+    by (goal.Remove n) aim = omega (arith, few)
+    by (goal.RemoveDir n) aim = omega (arith, few)
+    by (goal.RenameFrom n to) aim = let some = aim.1.0.1 in omega (arith, few, some)
+    by (goal.RenameTo dir n to) aim = omega (arith, few)
+
+pub walk_calls_short : (w : Walk) → IsWalkNamed w → walk_calls w ≤ 900064
+walk_calls_short w h = calls_short w w.goal refl h.1 h.0.1

@@ -10,7 +10,7 @@ use Rattle.register_model.specs.declared.op.Word.TheVariants as words
 use Rattle.trace_replay.specs.Causes.{TakesCall}
 use Rattle.trace_replay.specs.Faithful.{IsFirstOf, HasPoint, OpensAt}
 use Rattle.trace_replay.specs.Traffic.{attempts_in, no_attempt}
-use Rattle.kept_promise.proofs.Common.{◌==◌, cond, slice_get, Contains, Body, Done, has_call, got_step, ClientStep, Ended, Outcome, Stage, State, Op, TakenCall, has_point, point_if, taken_at, op_after, Moment, deals_of, Deal, Book, Reply, Reply.Versioned, Reply.Hashed, Reply.Bytes, Told, told_message, reply_body}
+use Rattle.kept_promise.proofs.Common.{◌==◌, cond, slice_get, Contains, Body, Done, has_call, got_step, ClientStep, Ended, Outcome, Stage, State, Op, TakenCall, has_point, point_if, taken_at, op_after, Moment, deals_of, Deal, Book, Reply, Reply.Versioned, Reply.Hashed, Reply.Bytes, Told, told_message, reply_body, Reply.Walked, NameReply.LookedUp, NameReply.Shown, NameReply.Listed, NameReply.MadeFile, NameReply.MadeDir, NameReply.NoDir}
 use Rattle.kept_promise.proofs.Lists.{some_is}
 use Rattle.kept_promise.proofs.Messages.{Job, stage_word, lease_body, hash_body, hash_offset, IsServed, IsLeased, AnswerOf, FetchOf, TriedBy}
 use Rattle.kept_promise.proofs.VersionRuns.{opened_by, or_none}
@@ -22,6 +22,8 @@ use Rattle.kept_promise.proofs.MetLog.{MeetsBy, Tries, count_of, begun_count}
 
 abbrev pub StageCall : Book → List TakenCall → Job → Stage → (xid : ℕ) → Type 0
 StageCall book taken j (stage.Asking y) x = IsServed book taken j x (lease_body j.file)
+-- no walk opens anything
+StageCall book taken j (stage.Walking y w) x = ⊥
 StageCall book taken j st x = IsServed book taken j x (hash_body j.file 0)
 
 served_in : (book : Book) (taken : List TakenCall) (closing : Option ℕ) (t : Told) (j : Job) → has_call (client.pending_in j.stage) t.xid ≡ true → FetchOf book taken j j.stage → AnswerOf book taken closing (Some j) t.xid t.reply
@@ -36,6 +38,12 @@ served_in book taken closing t j has fetch answer (stage.Hashing tries y) at (Ha
     (subst (TriedBy book taken j t.xid) at told.1).call
 served_in book taken closing t j has fetch answer (stage.Listing y f) at (Hashed (Done g)) is = λ same. (subst (FetchOf book taken j) at fetch).0.tried.call
 served_in book taken closing t j has fetch answer (stage.Reading f) at (Bytes (Done p)) is = (subst (FetchOf book taken j) at fetch).0.tried.call
+served_in book taken closing t j has fetch answer (stage.Reading f) at (Walked (LookedUp a)) is = tt
+served_in book taken closing t j has fetch answer (stage.Reading f) at (Walked (Shown a)) is = tt
+served_in book taken closing t j has fetch answer (stage.Reading f) at (Walked (Listed a)) is = tt
+served_in book taken closing t j has fetch answer (stage.Reading f) at (Walked (MadeFile a)) is = tt
+served_in book taken closing t j has fetch answer (stage.Reading f) at (Walked (MadeDir a)) is = tt
+served_in book taken closing t j has fetch answer (stage.Reading f) at (Walked (NoDir a)) is = tt
 served_in book taken closing t j has fetch answer st at r is = tt
 
 served_still : (book : Book) (taken : List TakenCall) (j : Job) → FetchOf book taken j j.stage → (st : Stage) → j.stage ≡ st → StageGood (λ v x. StageCall book taken j st x) (λ x. Unit {0}) st
@@ -99,7 +107,7 @@ first_of log file v st h word book taken j x served = by st h word served
     by (stage.Making y temp) h w served = absurd cc
     by (stage.Storing store) h w served = absurd cc
     by (stage.Committing y) h w served = absurd cc
-    by (stage.Walking y walk) h w served = absurd h
+    by (stage.Walking y walk) h w served = absurd served
 
 -- where an open ends so
 pub point_now : (book : Book) (past : List Moment) (o : Op) (j : Job) (c : State) (taken : List TakenCall) (step : ℕ) (acts : ClientStep) (len : ℕ) (digest : List ℕ) → slice_get book.ops j.place ≡ Some o → o.file ≡ j.file → o.outcome ≡ told.Running → o.word ≡ words.Open → stage_word j.stage ≡ words.Open → MeetsBy (deals_of o past) o.file o.value j.stage

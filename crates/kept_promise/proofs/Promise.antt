@@ -1,11 +1,11 @@
 -- The promise, of every trace that is accepted.
-use Rattle.std.proofs.Common.{◌≡◌, ℕ, suc, List, [], ◌∷◌, Some, refl, sym, subst, arith, Ok, ap, true}
+use Rattle.std.proofs.Common.{◌≡◌, ℕ, List, [], ◌∷◌, Some, refl, sym, ◌∙◌, subst, arith, Ok, ap, true}
 use Rattle.register_model.specs.declared.op.Outcome.TheVariants as told
 use Rattle.register_model.specs.declared.op.Word.TheVariants as words
 use Rattle.trace_replay.specs.Traces.{IsKeptPromise}
-use Rattle.kept_promise.proofs.Common.{Contains-append_right, Contains-push, World, Op, slice_get, passes, run, accepted, Moment, deeds_of, moments, hashed_of, book_of, rounds, changes, deals_of}
+use Rattle.command_text.specs.declared.command.Command.TheVariants as command
+use Rattle.kept_promise.proofs.Common.{Command, Contains-append_right, Contains-push, World, Op, slice_get, passes, run, accepted, Moment, deeds_of, moments, local_before, Deed, hashed_of, book_of, rounds, changes, deals_of}
 use Rattle.kept_promise.proofs.Statements.{ClocksKeepTheRule}
-use Rattle.kept_promise.proofs.Turns.{also_numbered}
 use Rattle.kept_promise.proofs.Rounds.{passes_are_rounds}
 use Rattle.kept_promise.proofs.Laws.{fit_laws, kept_laws}
 use Rattle.kept_promise.proofs.RunsCarried.{moment, Carried, Stands}
@@ -15,12 +15,21 @@ use Rattle.kept_promise.proofs.RunsOpening.{opening_said}
 use Rattle.kept_promise.proofs.RunsMessages.{holds_messages}
 use Rattle.kept_promise.proofs.Commanded.{events_said, commands_said}
 use Rattle.kept_promise.proofs.StepsCount.{steps_counted}
-use Rattle.kept_promise.proofs.Done.{deeds_counted, deeds_done}
+use Rattle.kept_promise.proofs.Done.{deeds_counted, deeds_done, asked_late, IsKnown}
 use Rattle.kept_promise.proofs.CutEnds.{AreFollowed, carried_follow, cuts_end}
 use Rattle.kept_promise.proofs.StoredWhole.{Stored, carried_stored, has_stored, have_stored, made_sent}
 use Rattle.kept_promise.proofs.VersionRuns.{Versions, carried_versions, opens_version}
 use Rattle.kept_promise.proofs.MadeRuns.{AllSettled, carried_settled, settles_first}
 use Rattle.kept_promise.proofs.SmallDeeds.{SmallDeeds, carried_small}
+use Rattle.kept_promise.proofs.Alike.{runs_in_order}
+use Rattle.kept_promise.proofs.Following.{IsFollowed}
+use Rattle.kept_promise.proofs.OpensRuns.{IsOpening, carried_opens}
+use Rattle.kept_promise.proofs.NoZero.{HaveNoZero, finds_positive}
+use Rattle.kept_promise.proofs.NoZeroRuns.{carried_no_zero}
+use Rattle.kept_promise.proofs.WalkRuns.{Walks, bare}
+use Rattle.kept_promise.proofs.WalkEvents.{WalksAt, carried_walks}
+use Rattle.kept_promise.proofs.Known.{known_by}
+use Rattle.kept_promise.proofs.Refusals.{open_refused}
 use Rattle.kept_promise.proofs.OwnedRuns.{AllOwned, carried_owned, is_for}
 use Rattle.kept_promise.proofs.NumberedRuns.{AllNumbered, carried_numbered}
 use Rattle.kept_promise.proofs.LogSums.{counts_log}
@@ -35,8 +44,12 @@ use Rattle.kept_promise.proofs.OwnLog.{OwnBy, OpOwn, own_laws, own_counts}
 use Rattle.kept_promise.proofs.Completed.{completes}
 use Rattle.kept_promise.proofs.EndedWell.{ends_well}
 use Rattle.kept_promise.proofs.KeptUsed.{UsedAt, used_event}
+use Rattle.kept_promise.proofs.WalkSaid.{AreSaid, GaveNow, said_event, own_calls}
+use Rattle.kept_promise.proofs.WalkPages.{begun_pages}
+use Rattle.kept_promise.proofs.Messages.{job}
+use Rattle.kept_promise.proofs.Lists.{nothing_there}
 use Rattle.kept_promise.proofs.Saved.{AllSaved, carried_saved, none_unknown}
-use Rattle.kept_promise.proofs.Promised.{AreWords, no_fault, legal_kept, holds_files, holds_contents, holds_values, has_journal, own_calls}
+use Rattle.kept_promise.proofs.Promised.{no_fault, legal_kept, holds_files, holds_contents, holds_values}
 
 -- ---- facts that are carried together
 
@@ -67,13 +80,17 @@ logs_carried = carried_both (λ all past opening k qs. LogsAt OpensBy (OpenRead 
     (carried_logs (λ all. OpensBy) (λ all. OpenRead (hashed_of all)) opens_laws fit_laws)
     (carried_both IsMet (λ all past opening k qs. LogsAt OwnBy OpOwn past k) (carried_once fit_laws) (carried_logs (λ all. OwnBy) (λ all. OpOwn) own_laws fit_laws))
 
--- and that an open gets what its client keeps, which rests on what is told before
+-- and that an open gets what its client keeps, and that a walk's calls are its own, which rest on what is told before
 abbrev Used : Fact
-Used all past opening k qs = Told all past opening k qs × UsedAt all past opening k
+Used all past opening k qs = Told all past opening k qs × (UsedAt all past opening k × AreSaid past k)
+
+-- how far commands on names came, and what was open where their paths led
+abbrev Walked : Fact
+Walked all past opening k qs = WalksAt all past opening k qs × ((IsFollowed past k × IsOpening past k) × HaveNoZero past)
 
 -- all that is carried
 abbrev More : Fact
-More all past opening k qs = Used all past opening k qs × (AllSaved all past opening k qs × SmallDeeds all past opening k qs)
+More all past opening k qs = Used all past opening k qs × (AllSaved all past opening k qs × (SmallDeeds all past opening k qs × Walked all past opening k qs))
 
 told_carried : Carried Told
 told_carried =
@@ -84,26 +101,41 @@ told_carried =
 
 used_carried : Carried Used
 used_carried = record {
-  first = λ all opening tree count kept. (told_carried.first all opening tree count kept, record { by = λ m there. (let lt = there.1 in absurd (omega (arith, lt))); leased = λ m there. (let lt = there.1 in absurd (omega (arith, lt))); each = λ m there. (let lt = there.1 in absurd (omega (arith, lt))) });
+  first = λ all opening tree count kept. (told_carried.first all opening tree count kept, (record { by = λ m there. (let lt = there.1 in absurd (omega (arith, lt))); leased = λ m there. (let lt = there.1 in absurd (omega (arith, lt))); each = λ m there. (let lt = there.1 in absurd (omega (arith, lt))); shut = λ m there. (let lt = there.1 in absurd (omega (arith, lt))) }, record { jobs = λ i seat j d o here is deed at. nothing_there o at; each = λ p d o deed at. nothing_there o at; gave = λ p d o deed at. nothing_there o at }));
   steps = λ all past rest opening k qs e mid after s h.
       let told = told_carried.steps all past rest opening k qs e mid after s h.0 in
       let said = told.1.1.1.0.1.0.by (moment k e) (Contains-append_right past (moment k e ∷ []) (moment k e) (Contains-push [] (moment k e))) in
-      (told, used_event fit_laws all past rest opening k qs e mid after s (record { opens = h.0.1.1.1.1.0; own = h.0.1.1.1.1.1.1; counted = h.0.1.0.counted }) said h.1);
-  adjusts = λ all past opening k qs index seats same h. (told_carried.adjusts all past opening k qs index seats same h.0, record { by = h.1.by; leased = h.1.leased; each = h.1.each });
+      (told, (used_event fit_laws all past rest opening k qs e mid after s (record { opens = h.0.1.1.1.1.0; own = h.0.1.1.1.1.1.1; counted = h.0.1.0.counted }) said h.1.0, said_event fit_laws all past rest opening k qs e mid after s h.0.1.1.1.1.0.by h.0.0.followed.deeds.count h.1.1));
+  adjusts = λ all past opening k qs index seats same h. (told_carried.adjusts all past opening k qs index seats same h.0, (record { by = h.1.0.by; leased = h.1.0.leased; each = h.1.0.each; shut = h.1.0.shut }, record { jobs = λ i seat j d o here is deed at. (let z = same.was i seat here in h.1.1.jobs i z.0 j d o z.3 (ap job (sym z.4) ∙ is) deed at); each = h.1.1.each; gave = h.1.1.gave }));
 }
 
+walked_carried : Carried Walked
+walked_carried =
+    carried_both WalksAt (λ all past opening k qs. (IsFollowed past k × IsOpening past k) × HaveNoZero past) (carried_walks fit_laws)
+    (carried_both (λ all past opening k qs. IsFollowed past k × IsOpening past k) (λ all past opening k qs. HaveNoZero past) (carried_opens fit_laws) carried_no_zero)
+
 more_carried : Carried More
-more_carried = carried_both Used (λ all past opening k qs. AllSaved all past opening k qs × SmallDeeds all past opening k qs) used_carried (carried_both AllSaved SmallDeeds (carried_saved fit_laws) carried_small)
+more_carried =
+    carried_both Used (λ all past opening k qs. AllSaved all past opening k qs × (SmallDeeds all past opening k qs × Walked all past opening k qs)) used_carried
+    (carried_both AllSaved (λ all past opening k qs. SmallDeeds all past opening k qs × Walked all past opening k qs) (carried_saved fit_laws)
+    (carried_both SmallDeeds Walked carried_small walked_carried))
 
 -- ---- the promise of what a run leaves
 
 close_changes : (o : Op) → o.word ≡ words.Close → changes o.word ≡ true
 close_changes o close = ap changes close
 
-are_words : (w : World) (all : List Moment) (h : Stands More all all w) → AreWords w.core.ops
-are_words w all h = λ i o at.
-    let d = also_numbered w.core.ops (deeds_of all) (suc i) o (sym (deeds_counted w all h.more.0.0.0.followed)) at in
-    (d.0.command, (deeds_done w all h.queues h.kept h.more.0.0.0.followed i d.0 o d.1 at).word, h.more.1.1 i d.0 d.1)
+-- what is known of each command
+is_known : (w : World) (all : List Moment) (h : Stands More all all w) → Walks all all w.core → (k : ℕ) (d : Deed) (o : Op) → slice_get (deeds_of all) k ≡ Some d → slice_get w.core.ops k ≡ Some o → IsKnown (book_of w all) d o (local_before (deeds_of all) w.core.ops k d.client o.file)
+is_known w all h walks k d o was at =
+    let deeds = h.more.0.0.0.followed.deeds in
+    let cause = (h.kept.sound.rights k o at).cause in
+    known_by (book_of w all) (deeds_of all) k d o (deeds.each k d o was at).word cause (walks.over k d o was at) h.more.1.1.1.1.0.1.opens was at
+    (λ c is late. record {
+      positive = λ s found. finds_positive (bare all) h.more.1.1.1.1.1 o s found;
+      too_long = λ p list none. begun_pages p (deals_of o all) (subst (λ (x : Command). GaveNow x o.outcome o.end o.begin (deals_of o all)) (is ∙ ap (λ z. command.Named z) list) (h.more.0.1.1.gave k d o was at) none late);
+    })
+    (λ f is status refused. open_refused (book_of w all) (deeds_of all) deeds.rising deeds.each deeds.count walks.before k d o was at f is cause status refused)
 
 promise_of : (input : List ℕ) (w : World) → run input ≡ Ok w → Stands More (moments input) (moments input) w → IsKeptPromise input w
 promise_of input w ran h =
@@ -112,6 +144,7 @@ promise_of input w ran h =
     let versions : Versions all all w.opening w.core h.queues = h.more.0.0.1.1.0 in
     let changes : Changes all all w.opening w.core h.queues = h.more.0.0.1.1.1.0 in
     let logs : Logs all all w.opening w.core h.queues = h.more.0.0.1.1.1.1 in
+    let walks : Walks all all w.core = h.more.1.1.1.0 (runs_in_order input) (w.core.steps, steps_counted (kept_laws fit_laws) fit_laws input w ran) in
     record {
       faithful = record {
         opening = opening_said input w ran;
@@ -119,10 +152,10 @@ promise_of input w ran h =
         commands = commands_said input w ran;
         counted = steps_counted (kept_laws fit_laws) fit_laws input w ran;
         count = deeds_counted w all h.more.0.0.0.followed;
-        done = deeds_done w all h.queues h.kept h.more.0.0.0.followed;
+        done = (λ k d o was at. deeds_done w all h.queues h.kept h.more.0.0.0.followed k d o was at (is_known w all h walks k d o was at));
         cuts = cuts_end w all h.more.0.0.0.cuts;
-        journal = has_journal (book_of w all) h.kept.sound;
-        settled = λ i p e at is kind. changes.0.settled i p at;
+        journal = h.kept.sound.journal;
+        settled = λ i p e at is kind. changes.0.settled i p e at is kind;
         settles = settles_first (book_of w all) changes.0.first;
         points = λ k o at. opens_at (book_of w all) o (λ len digest is. (logs.1.0.once k len digest o at is).called);
         versions = opens_version (book_of w all) w.core h.queues h.kept versions.1;
@@ -132,7 +165,7 @@ promise_of input w ran h =
         attempts = λ k o at. attempts_end (book_of w all) all o (h.kept.sound.rights k o at) (logs.1.0.met.each k o at) (logs.1.1.each k o at);
         met = λ k o at open_. attempts_met all o open_ (logs.1.0.met.each k o at);
         owned = λ m there. is_for w.core.ops m (changes.1.0.each m there);
-        calls = λ k d o at is. own_calls d.command o (deals_of o all) (h.more.1.1 k d at) (logs.1.1.each k o is).0;
+        calls = λ k d o at is. own_calls d.command o (deals_of o all) (h.more.0.1.1.each k d o at is) (logs.1.1.each k o is).0;
         numbered = λ n. changes.1.1.each n;
         silent = stored.counted.silent;
         opened = λ k len digest o at is. opened_once (book_of w all) o len digest is (open_word k o len digest at is) (counts_log o all (stored.counted.counts k o at)) (logs.1.1.each k o at) (logs.0.each k o at) (logs.1.0.once k len digest o at is);
@@ -141,21 +174,21 @@ promise_of input w ran h =
         named = λ k o at close. names_chunks all o close (stored.closes.each k o at);
         paid = λ k o at close. pays_all all o close (stored.closes.each k o at);
         stored = λ k o at sent. has_stored all o (stored.counted.counts k o at) (stored.closes.each k o at) (logs.1.1.each k o at) sent;
-        made = λ k p o at close point. made_sent (book_of w all) all w.opening w.core h.queues h.kept stored k p o at (close_changes o close) point;
+        made = λ k p o at close point. made_sent (book_of w all) all w.opening w.core h.queues h.kept stored k p o at close point;
       };
-      legal = legal_kept (book_of w all) w.core h.queues h.kept (are_words w all h);
+      legal = legal_kept (book_of w all) w.core h.queues h.kept;
       complete = record {
         ended = completes fit_laws w all h.queues h.kept h.carry h.rested;
         well = λ k d o was at alone asks free uncut.
-            ends_well (book_of w all) d o _ (h.more.1.1 k d was) (deeds_done w all h.queues h.kept h.more.0.0.0.followed k d o was at) (completes fit_laws w all h.queues h.kept h.carry h.rested k o at alone) asks free uncut;
+            ends_well (book_of w all) d o _ (λ n is status refused. (is_known w all h walks k d o was at).ends n is (asked_late (deeds_of all) w.core.ops k d o n (h.more.0.0.0.followed.deeds.each k d o was at) is asks free) status refused) (deeds_done w all h.queues h.kept h.more.0.0.0.followed k d o was at (is_known w all h walks k d o was at)) (completes fit_laws w all h.queues h.kept h.carry h.rested k o at alone) asks free uncut;
       };
       saving = record {
         known = λ m there. (h.more.1.0.each m there).0;
         told = λ m there. (h.more.1.0.each m there).1;
         saved = λ k o at close known. saves_all all o close (stored.closes.each k o at) (stored.counted.counts k o at) (none_unknown all o (λ m there. (h.more.1.0.each m there).1) known);
         asked = λ m there. (h.more.1.0.each m there).2;
-        leased = λ m k o there at. h.more.0.1.leased m there k o at;
-        used = λ m k o there at. h.more.0.1.each m there k o at;
+        leased = λ m k o there at. h.more.0.1.0.leased m there k o at;
+        used = λ m k o there at. h.more.0.1.0.each m there k o at;
       };
       waiting = holds_values (book_of w all) w h.queues h.kept (have_stored (book_of w all) all all w.opening w.core h.queues h.kept stored (λ p o at. logs.1.1.each p o at));
       tree = holds_files (book_of w all) w h.queues refl h.kept;

@@ -130,7 +130,7 @@ sent_from file chunks x us b y k u s at = let e = sent_note file chunks x us b y
 
 pub sent_commits : (file : ℕ) (chunks : List Chunk) (x : ℕ) (us : List ReadCall) (b : List Ask) (y : ℕ) → Sent file chunks x us b y → commits_in b ≡ 0
 sent_commits file chunks x [] [] y s = refl
-sent_commits file chunks x (u ∷ us) (a ∷ b) y s = ap (λ (v : Ask). commits_in (v ∷ b)) s.1.2 ∙ sent_commits file chunks (x + 1) us b y s.2
+sent_commits file chunks x (u ∷ us) (a ∷ b) y s = let none = sent_commits file chunks (x + 1) us b y s.2 in ap (λ (v : Ask). commits_in (v ∷ b)) s.1.2 ∙ omega (arith, none)
 sent_commits file chunks x _ _ y s = absurd s
 
 -- ---- READs under way

@@ -26,6 +26,7 @@ use Rattle.kept_promise.proofs.Comes.{client_at, Comes}
 use Rattle.kept_promise.proofs.Hashings.{comes_changed}
 use Rattle.kept_promise.proofs.Listings.{MayRead, comes_reading}
 use Rattle.kept_promise.proofs.OpenSteps.{Finds, said, xids_at}
+use Rattle.kept_promise.proofs.StepCases.{IsOfFile}
 
 -- ---- bytes and versions
 
@@ -117,7 +118,7 @@ comes_read book k qs n x q t ts j g f p r d is =
     fetch = subst (FetchOf book x.taken j) is.at ((h.talk g.uncut).fetch j g.job_is)
 
     quiet : Quiet k n q
-    quiet = quiet_before book k qs n x q t ts j g (λ y s. apart y (sym is.at ∙ s))
+    quiet = quiet_before book k qs n x q t ts j g (λ y s. apart y (sym is.at ∙ s)) (subst IsOfFile (sym is.at) tt)
       where
         apart : (y : ℕ) → stage.Reading f ≡ stage.Committing y → ⊥
         apart y e = absurd cc

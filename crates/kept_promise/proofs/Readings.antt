@@ -7,8 +7,6 @@ use Rattle.clock_rule.specs.declared.rule.ClockFault.{ClockFault}
 use Rattle.clock_rule.specs.declared.rule.Reading.{Reading}
 use Rattle.clock_rule.specs.declared.rule.Reading.TheVariants as reads
 use Rattle.clock_rule.proofs.Whole.{taken_whole}
-use Rattle.command_text.specs.declared.command.Command.{Command}
-use Rattle.command_text.specs.declared.command.Command.TheVariants as command
 use Rattle.command_text.specs.declared.path.Spot.{Spot}
 use Rattle.trace_text.specs.declared.line.Line.TheVariants as line
 use Rattle.trace_replay.specs.declared.adjusting.Adjustment.TheVariants as adjustment
@@ -19,7 +17,7 @@ use Rattle.trace_replay.specs.declared.timing.Timing.TheVariants as timing
 use Rattle.trace_replay.specs.declared.turn.Turn.TheVariants as turn
 use Rattle.trace_replay.specs.Timed.{Timed, Times, no_times, down_timing, pass_timing, timing_of, read_by, times_with, with_times, times_if, timed_by, timed_turn, timed_start, accepted_from}
 use Rattle.trace_replay.specs.Readings.{said, said_by, owners_by, timings_from, timings_of}
-use Rattle.trace_replay.specs.Run.{refused, do_asks, place_for, file_asks, directory_asks}
+use Rattle.trace_replay.specs.Run.{refused, place_for, file_asks, directory_asks}
 use Rattle.kept_promise.proofs.Common.{nat_le, nat_lt, lines_of, Part, line_of, Line, LineFault, Grammar, Refused, Turn, Core, Seat, numbered, World, start, line_most, sessions_most, asks_if, sized, joins_if, joins_within, event_asks, asks_at, asks, asked, asked_by, turned, ended, in_header, run_from, run, owners_of, accepted, KeepsClocks}
 use Rattle.kept_promise.proofs.Statements.{ClocksKeepTheRule}
 use Rattle.kept_promise.proofs.Owners.{stage_after, owners_after, MayTurn, turned_to}
@@ -123,14 +121,10 @@ joins_on os standing c (Some seat) s l t e h = by seat.client.linked (nat_lt sta
     by false true e = goes os s l (turn.Join c) t e h
     by false false e = refused_line _ t e
 
-does_on : (os : List ℕ) (s : Stage) (k : Core) (c r : ℕ) (x : Command) (t : Turn) → ((xs : List Timing) → AreReadings xs → AreFrom s xs) → do_asks k c r x ≡ asking t → GoesOn os s (line.Do c r x) t
-does_on os s k c r (command.Named n) t here e = refused_line Grammar t e
-does_on os s k c r x t here e = goes_if os _ s (line.Do c r x) (turn.Do c r x) t e (record { from = λ xs h. here (timing.Reads (reads.Client c r) ∷ xs) (one_more _ xs h); owners = refl })
-
 -- an event, where events may come
 event_on : (os : List ℕ) (s : Stage) (k : Core) (l : Line) (t : Turn) → ((xs : List Timing) → AreReadings xs → AreFrom s xs) → event_asks k l ≡ asking t → GoesOn os s l t
 event_on os s k (line.Join c r at) t here e = joins_on os _ c (numbered k.seats c) s (line.Join c r at) t e (record { from = λ xs h. here (timing.Reads (reads.Both at c r) ∷ xs) (one_more _ xs h); owners = refl })
-event_on os s k (line.Do c r x) t here e = does_on os s k c r x t here e
+event_on os s k (line.Do c r x) t here e = goes_if os _ s (line.Do c r x) (turn.Do c r x) t e (record { from = λ xs h. here (timing.Reads (reads.Client c r) ∷ xs) (one_more _ xs h); owners = refl })
 event_on os s k (line.Up n a at) t here e = goes_if os _ s (line.Up n a at) (turn.Up n a at) t e (record { from = λ xs h. here (timing.Reads (reads.Server at) ∷ xs) (one_more _ xs h); owners = refl })
 event_on os s k (line.Down n a r) t here e = goes_if os _ s (line.Down n a r) (turn.Down n a r) t e (record { from = λ xs h. here (said (down_timing r (numbered os n)) ++ xs) (down_more r (numbered os n) xs h); owners = refl })
 event_on os s k (line.Settle at) t here e = goes os s (line.Settle at) (turn.Settle at) t e (record { from = λ xs h. here (timing.Reads (reads.Server at) ∷ xs) (one_more _ xs h); owners = refl })

@@ -1,17 +1,18 @@
 -- Steps in which no session turns: none changes, or a client's open files alone do.
-use Rattle.std.proofs.Common.{inl, inr, ◌≡◌, ℕ, ◌<◌, ◌≤◌, List, length, Option, Some, None, true, false, refl, sym, ap, ◌∙◌, subst, IsSome}
+use Rattle.std.proofs.Common.{inl, inr, ◌≡◌, ℕ, ◌<◌, ◌≤◌, List, length, Option, Some, None, true, false, refl, sym, ap, ◌∙◌, subst}
 use Rattle.server_core.specs.State as server
 use Rattle.client_state.specs.State as client
 use Rattle.register_model.specs.declared.op.Outcome.TheVariants as told
-use Rattle.kept_promise.proofs.Common.{slice_get, Temp, key_of, Change, Local, content_of, Op, Core, Seat, Session, numbered, Book, Queue}
+use Rattle.kept_promise.proofs.Common.{slice_get, Temp, key_of, Change, Local, Op, Core, Seat, Session, numbered, Book, Queue}
 use Rattle.kept_promise.proofs.Lists.{some_is, nothing_there, same_or_not}
-use Rattle.kept_promise.proofs.Messages.{Job, job, AllAsks, IsCommit, TempUnder, IsPending, content_wanted}
+use Rattle.kept_promise.proofs.Messages.{Job, job, AllAsks, IsCommit, TempUnder, WaitsFor}
 use Rattle.kept_promise.proofs.History.{Goes}
 use Rattle.kept_promise.proofs.Later.{SameView, Stays, session_later, seat_later}
 use Rattle.kept_promise.proofs.Turns.{Around, turned_core}
 use Rattle.kept_promise.proofs.Shelf.{IsShelf}
 use Rattle.kept_promise.proofs.Ordered.{orderly_free, none_free}
 use Rattle.kept_promise.proofs.Facts.{IsTalk, IsSession, IsSeat, IsServer, IsKept}
+use Rattle.kept_promise.proofs.Rights.{WasThere}
 
 stays_same : (sessions : List Session) (i : ℕ) → Stays sessions sessions i
 stays_same sessions i n x at = (x, at, refl, λ e. refl)
@@ -66,7 +67,7 @@ session_opened book seats others s n x q c o free was is h =
       temps = h.temps;
       temps_below = λ at. let f = h.temps_below at in subst (λ (z : Seat). AllAsks (λ a. TempUnder z.client.next_temp a.call) q.ups × ((i m : ℕ) (u : ℕ × Temp) → m < 4294967296 → slice_get s.temps i ≡ Some u → u.0 ≡ key_of n m → m < z.client.next_temp)) e f;
       closes = λ at j f. nothing_there j (sym free ∙ f);
-      pending = λ i g at. subst (λ (z : Option Job). IsPending book x.closing x.cut z g.xid g.file (content_wanted g.what)) jobs (h.pending i g at);
+      pending = λ i g at. subst (λ (z : Option Job). WaitsFor book x.closing x.cut z g.xid g.file g.what) jobs (h.pending i g at);
       single = h.single;
       old = h.old;
       orderly = λ at. orderly_free book n s.temps x.hung q h.seat (with_opened c o) (none_free (job h.seat) (jobs ∙ free)) (none_free (job c) free) (h.orderly at);
@@ -74,7 +75,7 @@ session_opened book seats others s n x q c o free was is h =
 
 -- a client that has nothing under way has other files open
 pub kept_opened : (book : Book) (k : Core) (qs : List Queue) (seats : List Seat) (i : ℕ) (c : Seat) (o : List (ℕ × Local)) → job c ≡ None → numbered k.seats i ≡ Some c → Around k.seats seats i (with_opened c o)
-    → ((f : ℕ) (l : Local) → client.local_at o f ≡ Some l → IsSome (content_of book.opening f) × (length l.bytes ≤ 67108864))
+    → ((f : ℕ) (l : Local) → client.local_at o f ≡ Some l → WasThere book f × (length l.bytes ≤ 67108864))
     → IsKept book k qs → IsKept book (record k { seats = seats }) qs
 kept_opened book k qs seats i c o free was around opened h = record {
   ops = h.ops;

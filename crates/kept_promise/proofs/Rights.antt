@@ -1,12 +1,16 @@
 -- What holds of an operation, and of the journal beside the operations.
-use Rattle.std.proofs.Common.{◌≡◌, ℕ, ◌+◌, ◌<◌, ◌≤◌, List, length, Some, None, Bool, true, false, IsSome}
+use Rattle.std.proofs.Common.{◌≡◌, ◌⊎◌, ℕ, ◌+◌, ◌<◌, ◌≤◌, List, length, Some, None, Bool, true, false, IsSome, refl}
+use Rattle.path_calls.specs.declared.walk.Walk.{Walk}
 use Rattle.server_core.specs.State as server
+use Rattle.client_state.specs.declared.task.Stage.TheVariants as stage
 use Rattle.register_model.specs.declared.op.Outcome.{Outcome}
 use Rattle.register_model.specs.declared.op.Outcome.TheVariants as told
 use Rattle.register_model.specs.declared.op.Word.TheVariants as words
-use Rattle.file_tree.specs.declared.entry.EntryKind.TheVariants as kind
-use Rattle.trace_replay.specs.Causes.{HasNoRoom}
-use Rattle.kept_promise.proofs.Common.{slice_get, not, is_some, Contains, sha1, File, Moment, value_at, version_at, is_closed, is_lost, is_untold, Op, Word, Book, IsOpened, IsClosed, IsChanged, IsLost, IsOpenRefused, IsEntered, is_running, changes, Entry, Or, content_of}
+use Rattle.file_tree.specs.declared.entry.EntryKind.{EntryKind}
+use Rattle.register_model.specs.Register.{succeeded, IsFit}
+use Rattle.trace_replay.specs.Causes.{HasNoRoom, IsGone, Within}
+use Rattle.trace_replay.specs.Faithful.{IsKind, left_by, HasJournal}
+use Rattle.kept_promise.proofs.Common.{Task, Seat, numbered, slice_get, not, is_some, Contains, sha1, File, Moment, value_at, version_at, is_lost, is_untold, Op, Word, Book, IsOpened, IsClosed, IsChanged, IsLost, IsOpenRefused, IsEntered, is_running, changes, Entry, Or, nat_lt}
 
 pub open_not_close : words.Open ≡ words.Close → ⊥
 open_not_close e = absurd cc
@@ -18,17 +22,72 @@ close_not_open e = absurd cc
 abbrev pub is_remote : Word → Bool
 is_remote words.Open = true
 is_remote words.Close = true
+is_remote words.Look = true
+is_remote words.List = true
+is_remote words.Make = true
+is_remote words.Mkdir = true
+is_remote words.Rmdir = true
+is_remote words.Remove = true
+is_remote words.Rename = true
 is_remote _ = false
 
+-- it has no file before it has made its change
+abbrev pub gets_file : Word → Bool
+gets_file words.Make = true
+gets_file words.Remove = true
+gets_file words.Rename = true
+gets_file _ = false
+
+-- A file was in the tree at a moment that is past, or is there now.
+pub record WasThere (book : Book) (f : ℕ) : Type 0 where
+  pub positive : 1 < f
+  -- its number has a spelling
+  pub small : f < 18446744073709551616
+  pub moment : ℕ
+  pub past : moment ≤ book.steps + 1
+  pub value : List ℕ
+  pub value_is : value_at book f moment ≡ Some value
+
+-- At a moment its client looked names up, for an operation that began with it.
+pub record WasWalk (book : Book) (o : Op) : Type 0 where
+  pub at : Moment
+  pub noted : Contains book.moments at
+  pub seat : Seat
+  pub seat_is : numbered at.before.seats o.client ≡ Some seat
+  pub place : ℕ
+  pub place_is : seat.place ≡ Some place
+  pub task : Task
+  pub task_is : seat.client.task ≡ Some task
+  pub xid : ℕ
+  pub walk : Walk
+  pub stage_is : task.stage ≡ stage.Walking xid walk
+  pub then_op : Op
+  pub then_is : slice_get at.before.ops place ≡ Some then_op
+  pub then_began : then_op.begin ≡ o.begin
+
 abbrev pub RefusedBy : Book → Op → Word → (status : ℕ) → Type 0
-RefusedBy book o words.Open status = IsOpenRefused book o.file o status
-RefusedBy book o words.Close status = HasNoRoom book o status
+-- one of a path may be refused before its file is known
+RefusedBy book o words.Open status = IsOpenRefused book o.file o status ⊎ ((o.file ≡ 0) × (status ≡ 70 → (p : ℕ) × Within o p) × WasWalk book o)
+RefusedBy book o words.Look status = Unit {0}
+RefusedBy book o words.List status = Unit {0}
+RefusedBy book o words.Make status = Unit {0}
+RefusedBy book o words.Mkdir status = Unit {0}
+RefusedBy book o words.Rmdir status = Unit {0}
+RefusedBy book o words.Remove status = Unit {0}
+RefusedBy book o words.Rename status = Unit {0}
+RefusedBy book o words.Close status = HasNoRoom book o status ⊎ ((h : IsGone book o status) × (h.step ≤ book.steps))
 RefusedBy book o w status = ⊥
+
+-- what is done and changes a file has its point; a rename changes one where there was one at its new place
+abbrev pub DoneBy : Op → Word → Type 0
+DoneBy o words.Make = IsSome o.point
+DoneBy o words.Remove = IsSome o.point
+DoneBy o words.Rename = nat_lt 0 o.file ≡ true → IsSome o.point
+DoneBy o w = Unit {0}
 
 -- The cause of an outcome, by the word alone; what a client answers by itself has none here.
 abbrev pub Caused : Book → Op → Outcome → Type 0
--- no file is made in a run: what is opened was there at first
-Caused book o (told.Opened len digest) = (o.word ≡ words.Open) × IsOpened book o.file o len digest × IsSome (content_of book.opening o.file)
+Caused book o (told.Opened len digest) = (o.word ≡ words.Open) × IsOpened book o.file o len digest × WasThere book o.file
 Caused book o (told.Refused status) = RefusedBy book o o.word status
 Caused book o (told.Changed first last) = (o.word ≡ words.Open) × IsChanged book o.file o first last
 Caused book o (told.Closed version len digest) = (o.word ≡ words.Close) × IsClosed book o.file o version len digest
@@ -37,8 +96,9 @@ Caused book o told.Running = (is_remote o.word ≡ true) × (o.end ≡ None)
 Caused book o (told.BadPeer n) = ⊥
 Caused book o told.PeerMemory = ⊥
 Caused book o told.Memory = ⊥
-Caused book o (told.Names names) = ⊥
-Caused book o (told.Seen file kind version len) = ⊥
+Caused book o (told.Names names) = o.word ≡ words.List
+Caused book o (told.Seen file kind version len) = o.word ≡ words.Look
+Caused book o told.Done = DoneBy o o.word
 Caused book o _ = Unit {0}
 
 pub record IsRight (book : Book) (o : Op) : Type 0 where
@@ -49,12 +109,12 @@ pub record IsRight (book : Book) (o : Op) : Type 0 where
   pub ends : is_some o.end ≡ not (is_running o.outcome)
   -- its point is not behind its end, unless it was lost
   pub within : is_lost o.outcome ≡ false → (p e : ℕ) → o.point ≡ Some p → o.end ≡ Some e → p ≤ e
-  -- a close that was told otherwise takes no effect
-  pub failed : o.word ≡ words.Close → is_closed o.outcome ≡ false → is_untold o.outcome ≡ false → o.point ≡ None
+  -- a change that was told otherwise takes no effect
+  pub failed : changes o.word ≡ true → succeeded o ≡ false → is_untold o.outcome ≡ false → o.point ≡ None
 
--- a close that may still take effect
+-- a change that may still take effect
 abbrev pub IsUnmade : Op → Type 0
-IsUnmade o = (o.word ≡ words.Close) × (o.point ≡ None) × (is_untold o.outcome ≡ true)
+IsUnmade o = (changes o.word ≡ true) × (o.point ≡ None) × (is_untold o.outcome ≡ true)
 
 -- the close at a place has its point, and its entry this version, in which its file had its value
 abbrev pub IsMade : Book → (place version : ℕ) → Type 0
@@ -73,25 +133,26 @@ pub record IsHeld (moments : List Moment) (f : ℕ) (g : File) : Type 0 where
 abbrev pub AreAlike : List Moment → Type 0
 AreAlike moments = (f : ℕ) (g h : File) → IsHeld moments f g → IsHeld moments f h → g.version ≡ h.version → g.content ≡ h.content
 
--- The changes in the server's journal are those of the closes that have a point, one for one and in order. There are no other entries: nobody asks for
--- any.
-pub record HasCommits (book : Book) : Type 0 where
-  -- each change has its step, and the steps rise
-  pub count : length book.entries ≡ length book.journal
-  pub rising : (i j p q : ℕ) → i < j → slice_get book.entries i ≡ Some p → slice_get book.entries j ≡ Some q → p < q
-  pub kinds : (i : ℕ) (e : Entry) → slice_get book.journal i ≡ Some e → e.kind ≡ kind.Commit
-  -- each was made at the point of a close, of its file, with its value, in the version after that of the file before
-  pub made : (i p : ℕ) (e : Entry) → slice_get book.entries i ≡ Some p → slice_get book.journal i ≡ Some e
-      → (k : ℕ) × (o : Op) × (slice_get book.ops k ≡ Some o) × (changes o.word ≡ true) × (o.point ≡ Some p) × (o.file ≡ e.file) × (length o.value ≡ e.len) × Or book (sha1 o.value ≡ e.sha1) × (e.version ≡ version_at book e.file p + 1)
-  -- and each operation that has a point as a change made one
-  pub only : (k p : ℕ) (o : Op) → slice_get book.ops k ≡ Some o → changes o.word ≡ true → o.point ≡ Some p → (i : ℕ) × (slice_get book.entries i ≡ Some p)
-  -- which no other operation made: none has the same point
-  pub once : (k m p : ℕ) (o q : Op) → slice_get book.ops k ≡ Some o → slice_get book.ops m ≡ Some q → changes o.word ≡ true → o.point ≡ Some p → q.point ≡ Some p → k ≡ m
+-- an entry of this step, about a file, is that of a change at its point, of its file, with what that left of it, in the version after the file's before
+abbrev pub Tells : Book → (step : ℕ) → Entry → Type 0
+Tells book p e = (k : ℕ) × (o : Op) × (slice_get book.ops k ≡ Some o) × IsKind o.word e.kind × (o.point ≡ Some p) × (o.file ≡ e.file) × (length (left_by o) ≡ e.len) × Or book (sha1 (left_by o) ≡ e.sha1) × (e.version ≡ version_at book e.file p + 1)
+
+pub kind_changes : (w : Word) (k : EntryKind) → IsKind w k → changes w ≡ true
+kind_changes words.Close k h = refl
+kind_changes words.Make k h = refl
+kind_changes words.Remove k h = refl
+kind_changes words.Rename k h = refl
+kind_changes _ k h = absurd h
+
+-- a change was made of a file that was what it must be
+abbrev pub IsFitted : Book → Op → Type 0
+IsFitted book o = changes o.word ≡ true → (p : ℕ) → o.point ≡ Some p → (1 < o.file) × IsFit o.word (value_at book o.file p)
 
 -- what holds of all operations together
 pub record IsSound (book : Book) : Type 0 where
   pub rights : (k : ℕ) (o : Op) → slice_get book.ops k ≡ Some o → IsRight book o
-  pub journal : HasCommits book
+  pub fits : (k : ℕ) (o : Op) → slice_get book.ops k ≡ Some o → IsFitted book o
+  pub journal : HasJournal book
   -- no entry is of a step to come
   pub past : (i p : ℕ) → slice_get book.entries i ≡ Some p → (0 < p) × (p ≤ book.steps)
   pub alike : AreAlike book.moments

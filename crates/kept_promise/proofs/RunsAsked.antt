@@ -1,11 +1,9 @@
 -- What a line that is taken asks for, whatever the world is.
 use Rattle.std.proofs.Common.{◌≡◌, ℕ, Option, Some, None, Bool, true, false, List, Result, Ok, Err}
-use Rattle.command_text.specs.declared.command.Command.{Command}
-use Rattle.command_text.specs.declared.command.Command.TheVariants as command
 use Rattle.command_text.specs.declared.path.Spot.{Spot}
 use Rattle.trace_text.specs.declared.line.Line.TheVariants as line
 use Rattle.trace_replay.specs.declared.adjusting.Adjustment.TheVariants as adjustment
-use Rattle.trace_replay.specs.Run.{do_asks, place_for, file_asks, directory_asks}
+use Rattle.trace_replay.specs.Run.{place_for, file_asks, directory_asks}
 use Rattle.trace_replay.specs.declared.stage.Stage.{Stage}
 use Rattle.trace_replay.specs.declared.stage.Stage.TheVariants as stage
 use Rattle.trace_replay.specs.declared.turn.Turn.TheVariants as turn
@@ -49,13 +47,9 @@ joins_turn standing client (Some seat) t e = by seat.client.linked (nat_lt stand
     by false true e = turn_is (turn.Join client) t e
     by false false e = refused_line _ t e
 
-do_turn : (k : Core) (m r : ℕ) (d : Command) (t : Turn) → do_asks k m r d ≡ asking t → t ≡ turn.Do m r d
-do_turn k m r (command.Named n) t e = refused_line Grammar t e
-do_turn k m r d t e = goes_if _ (turn.Do m r d) t e
-
 event_turn : (k : Core) (l : Line) (t : Turn) → event_asks k l ≡ asking t → t ≡ turn_of 0 l
 event_turn k (line.Join m r at) t e = joins_turn _ m (numbered k.seats m) t e
-event_turn k (line.Do m r d) t e = do_turn k m r d t e
+event_turn k (line.Do m r d) t e = goes_if _ (turn.Do m r d) t e
 event_turn k (line.Up n a at) t e = goes_if _ (turn.Up n a at) t e
 event_turn k (line.Down n a r) t e = goes_if _ (turn.Down n a r) t e
 event_turn k (line.Settle at) t e = turn_is (turn.Settle at) t e

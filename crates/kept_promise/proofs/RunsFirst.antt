@@ -12,6 +12,7 @@ use Rattle.file_tree.specs.Opening.{opens}
 use Rattle.file_tree.specs.Tree.{contents_size, root as root_of, empty as root_alone}
 use Rattle.trace_replay.specs.Book.{first_version}
 use Rattle.server_law.proofs.Trees.{IsBounded, given}
+use Rattle.kept_promise.proofs.Rooted.{IsRooted, root_rooted, opens_rooted}
 use Rattle.kept_promise.proofs.TreeOpens.{IsOpened, IsWidened, opens_file, opens_directory}
 
 -- ---- the opening tree
@@ -27,6 +28,9 @@ pub record IsTree (opening : List Opening) (t : Tree) : Type 0 where
   pub above : 1 < t.next
   pub below : (f : ℕ) → t.next ≤ f → content_of opening f ≡ None
   pub bounded : IsBounded t
+  -- nor has any node the id 0
+  pub zero : with_id t.nodes 0 ≡ None
+  pub rooted : IsRooted t.nodes
 
 pub no_tree : IsTree [] root_alone
 no_tree = record {
@@ -34,6 +38,8 @@ no_tree = record {
   above = omega arith;
   below = λ f le. refl;
   bounded = record { count = omega arith; next = omega arith; each = (record { id = omega arith; version = omega arith; content = omega arith }, tt); apart = (tt, tt); size = omega arith };
+  zero = refl;
+  rooted = root_rooted 0;
 }
   where
     other : (f : ℕ) → (f ≡ 1 → ⊥) → with_id root_alone.nodes f ≡ None
@@ -84,6 +90,8 @@ tree_more opening t dir name content can few size small h = record {
   above = (let a = more.next in let b = h.above in omega (arith, a, b));
   below = λ f le. below f (let a = more.next in omega (arith, a, le));
   bounded = more.bounded h.bounded (omega (arith, few)) size small;
+  zero = more.zero h.above h.zero;
+  rooted = opens_rooted t dir name (Plain content) can h.above h.rooted;
 }
   where
     o : Opening
@@ -119,6 +127,8 @@ tree_wider opening t dir name can few h = record {
   above = (let a = more.next in let b = h.above in omega (arith, a, b));
   below = λ f le. h.below f (let a = more.next in omega (arith, a, le));
   bounded = more.bounded h.bounded (omega (arith, few));
+  zero = more.zero h.above h.zero;
+  rooted = opens_rooted t dir name Directory can h.above h.rooted;
 }
   where
     more : IsWidened t (opens t dir name Directory)
@@ -162,8 +172,11 @@ seat_first book i = record {
 server_first : (opening : List Opening) (tree : Tree) (count : ℕ) (all : List Moment) → IsTree opening tree → IsServer (book_at opening (first_core tree count) all) (first_core tree count).server
 server_first opening tree count all t = record {
   held = λ f. held f (server.file_at tree f) (t.held f);
+  fresh = λ f u. ap (λ (z : Option (List ℕ)). 0 + first_version z) (elim u [ inl le ↦ t.below f le | inr node ↦ subst (IsOpening opening f) node.1 (t.held f) ]);
   bounded = t.bounded;
-  commits = λ i c e. no_element i c e;
+  zero = t.zero;
+  rooted = t.rooted;
+  wants = λ i c e. no_element i c e;
   changes = let m = t.bounded.count in omega (arith, m);
   bytes = let m = t.bounded.size in omega (arith, m);
   lengths = λ i c e. no_element i c e;
@@ -172,12 +185,8 @@ server_first opening tree count all t = record {
 }
   where
     held : (f : ℕ) (x : Option File) → IsOpening opening f x → FileIs (book_at opening (first_core tree count) all) f x
-    held f None h = (h, h)
-    held f (Some g) h = (h.0, h.1, h.2, ap (λ (z : Option (List ℕ)). is_there z) h.3, record { value = g.content; is = h.3; size = refl; same = inl refl }, ap (λ (z : Option (List ℕ)). 0 + first_version z) h.3 ∙ sym h.4, h.5)
-      where
-        is_there : Option (List ℕ) → Bool
-        is_there None = false
-        is_there (Some x) = true
+    held f None h = h
+    held f (Some g) h = (h.0, h.1, h.2, record { value = g.content; is = h.3; size = refl; same = inl refl }, ap (λ (z : Option (List ℕ)). 0 + first_version z) h.3 ∙ sym h.4, h.5)
 
 pub kept_first : (opening : List Opening) (tree : Tree) (count : ℕ) (all : List Moment) → AreAlike all → IsTree opening tree → IsKept (book_at opening (first_core tree count) all) (first_core tree count) []
 kept_first opening tree count all alike t = record {
@@ -187,7 +196,8 @@ kept_first opening tree count all alike t = record {
   entries = refl;
   sound = record {
     rights = λ k o e. no_element k o e;
-    journal = record { count = refl; rising = λ i j p q lt e f. no_element i p e; kinds = λ i e f. no_element i e f; made = λ i p e f g. no_element i p f; only = λ k p o e f g. no_element k o e; once = λ k m p o q e f c g h. no_element k o e };
+    fits = λ k o e. no_element k o e;
+    journal = record { count = refl; rising = λ i j p q lt e f. no_element i p e; apart = λ i j p q d e lt a b c f g h. no_element i p a; made = λ i p e f g h. no_element i p f; only = λ k p o e f g. no_element k o e; once = λ k m p o q e f c g h. no_element k o e };
     past = λ i p e. no_element i p e;
     alike = alike;
   };

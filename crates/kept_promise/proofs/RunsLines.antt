@@ -14,7 +14,7 @@ use Rattle.trace_replay.specs.declared.adjusting.Adjustment.TheVariants as adjus
 use Rattle.trace_replay.specs.declared.stage.Stage.{Stage}
 use Rattle.trace_replay.specs.declared.stage.Stage.TheVariants as stage
 use Rattle.trace_replay.specs.declared.turn.Turn.TheVariants as turn
-use Rattle.trace_replay.specs.Run.{file_most, tree_most, is_there, do_asks, place_for, free_in, led_to, file_asks, directory_asks}
+use Rattle.trace_replay.specs.Run.{file_most, tree_most, is_there, place_for, free_in, led_to, file_asks, directory_asks}
 use Rattle.kept_promise.proofs.Common.{nat_tests, nat_lt, nat_le, if◌then◌else◌, bytes_eq, content_length, Command, Part, line_of, Line, LineFault, Grammar, Turn, Seat, Session, numbered, World, line_most, sessions_most, asks_if, sized, joins_if, joins_within, event_asks, asks_at, asks, asks_within, asked, can_open}
 use Rattle.kept_promise.proofs.Parsed.{Gives, gives_some, gives_none, gives_if, gives_after, gives_then}
 use Rattle.kept_promise.proofs.PathNames.{IsNamed, IsPlain, IsSmall, find_named, path_command_named}
@@ -244,14 +244,14 @@ joins_on w c t e = by (numbered w.core.seats c) refl e
     by None at e = refused_line Grammar t e
     by (Some seat) at e = by_seat seat at seat.client.linked refl e
 
--- a command on names is refused
-does_on : (w : World) (c r : ℕ) (d : Command) (t : Turn) → IsPlain d → do_asks w.core c r d ≡ asking t → Allows w t
-does_on w c r (command.Named k) t fits e = refused_line Grammar t e
-does_on w c r d t fits e = goes_there w (numbered w.core.seats c) (turn.Do c r d) t e (λ x at. (x, at, fits))
+-- its names are names, or its id has a number of 64 bits
+plain_small : (d : Command) → IsPlain d → IsSmall d
+plain_small (command.Named k) plain = plain
+plain_small d plain = plain
 
 event_on : (w : World) (l : Line) (t : Turn) → LineFits l → event_asks w.core l ≡ asking t → Allows w t
 event_on w (line.Join c r at) t fits e = joins_on w c t e
-event_on w (line.Do c r d) t fits e = does_on w c r d t fits e
+event_on w (line.Do c r d) t fits e = goes_there w (numbered w.core.seats c) (turn.Do c r d) t e (λ x at. (x, at, plain_small d fits))
 event_on w (line.Up n a at) t fits e = goes_if w _ (turn.Up n a at) t e tt
 event_on w (line.Down n a r) t fits e = goes_if w _ (turn.Down n a r) t e tt
 event_on w (line.Settle at) t fits e = goes w (turn.Settle at) t e tt

@@ -1,7 +1,7 @@
 -- What is on its way between the two ends of a run are whole messages, each of which its end reads.
 use Rattle.std.proofs.Common.{◌≡◌, ℕ, zero, suc, List, [], ◌∷◌, Some, Bool, true, false, refl, sym, ap, ◌∙◌, subst, map}
 use Rattle.trace_replay.specs.Traces.{IsRead, IsServed, IsAnswered, xid_of, HoldsMessages}
-use Rattle.kept_promise.proofs.Common.{All-nil, All-cons, All, slice_get, MessageFits, IsExpected, Waiting, Message, Pending, waiting_of, calls_of, Session, server_waiting, World, Moment, book_of, Call, Call.Lease, Call.Hash, Call.Read, Call.Make, Call.Name, Call.Send, Call.Commit, Ask, Told, Queue, call_message, ask_message, told_message}
+use Rattle.kept_promise.proofs.Common.{All-nil, All-cons, All, slice_get, MessageFits, IsExpected, Waiting, Message, Pending, waiting_of, calls_of, Session, server_waiting, World, Moment, book_of, Call, Call.Lease, Call.Hash, Call.Read, Call.Make, Call.Name, Call.Send, Call.Commit, Ask, Told, Queue, call_message, ask_message, told_message, Call.Walks}
 use Rattle.kept_promise.proofs.Statements.{CallFits}
 use Rattle.kept_promise.proofs.Messages.{AllAsks, AllTolds}
 use Rattle.kept_promise.proofs.Facts.{IsSession}
@@ -14,6 +14,11 @@ use Rattle.kept_promise.proofs.OrderSteps.{place_once, answers_apart}
 use Rattle.kept_promise.proofs.Drops.{has_there}
 use Rattle.kept_promise.proofs.RunsCarried.{Stands}
 use Rattle.kept_promise.proofs.RunsEvents.{Fact}
+use Rattle.path_calls.specs.Walk.{call_at}
+use Rattle.wire.specs.declared.message.Body.TheVariants as body
+use Rattle.wire.specs.declared.message.Message.TheVariants as message
+use Rattle.path_calls.specs.declared.walk.Goal.{Goal}
+use Rattle.path_calls.specs.declared.walk.Goal.TheVariants as goal
 
 asks_read : FitLaws → (us : List Ask) → AllAsks (λ a. CallFits a.xid a.call) us → All (IsRead server_waiting) (map ask_message us)
 asks_read fits [] h = All-nil (IsRead server_waiting)
@@ -25,6 +30,19 @@ tolds_read : FitLaws → (w : Waiting) (ts : List Told) → AllTolds (λ t. Mess
 tolds_read fits w [] h waits = All-nil (IsRead w)
 tolds_read fits w (t ∷ ts) h waits =
     All-cons (IsRead w) (told_message t) (map told_message ts) (h.0, fits.again w (told_message t) h.0.0 (waits zero t refl)) (tolds_read fits w ts h.1 (λ i u at. waits (suc i) u at))
+
+served_at : (xid dir : ℕ) (left : List (List ℕ)) (g : Goal) → IsServed (message.Call xid (body.Nfs (call_at dir left g)))
+served_at xid dir (n ∷ ns) g = tt
+served_at xid dir [] (goal.Find name) = tt
+served_at xid dir [] (goal.Look name) = tt
+served_at xid dir [] goal.LookRoot = tt
+served_at xid dir [] (goal.List p) = tt
+served_at xid dir [] (goal.Make name) = tt
+served_at xid dir [] (goal.MakeDir name) = tt
+served_at xid dir [] (goal.Remove name) = tt
+served_at xid dir [] (goal.RemoveDir name) = tt
+served_at xid dir [] (goal.RenameFrom name to) = tt
+served_at xid dir [] (goal.RenameTo from name to) = tt
 
 asks_done : (us : List Ask) → All IsServed (map ask_message us)
 asks_done [] = All-nil IsServed
@@ -38,6 +56,7 @@ asks_done (a ∷ us) = All-cons IsServed (ask_message a) (map ask_message us) (b
     by (Name m c) = tt
     by (Send m s b) = tt
     by (Commit m f s) = tt
+    by (Walks w) = served_at a.xid w.dir w.left w.goal
 
 tolds_answered : (calls : List Pending) (ts : List Told) → ((i : ℕ) (t : Told) → slice_get ts i ≡ Some t → (k : ℕ) × (slice_get calls k ≡ Some (told_pending t))) → All (IsAnswered calls) (map told_message ts)
 tolds_answered calls [] waits = All-nil (IsAnswered calls)
@@ -61,6 +80,7 @@ of_ask (a ∷ us) zero m at = (a, refl, by a.call ∙ ap xid_of (some_is (ask_me
     by (Name m c) = refl
     by (Send m s b) = refl
     by (Commit m f s) = refl
+    by (Walks w) = refl
 of_ask (a ∷ us) (suc i) m at = of_ask us i m at
 
 pub holds_messages : (P : Fact) → FitLaws → (all past : List Moment) (w : World) → Stands P all past w → HoldsMessages w

@@ -24,13 +24,13 @@ parsed laws a fits = let f = laws.calls a.xid a.call fits in laws.again server_w
 
 -- ---- the queues
 
-again : (qs : List Queue) (n : ℕ) (q r : Queue) (us : List Ask) → numbered qs n ≡ Some q → Around qs (with_numbered (with_numbered qs n (record q { ups = us })) n r) n r
+pub again : (qs : List Queue) (n : ℕ) (q r : Queue) (us : List Ask) → numbered qs n ≡ Some q → Around qs (with_numbered (with_numbered qs n (record q { ups = us })) n r) n r
 again qs n q r us is =
     let one = around_with qs n q (record q { ups = us }) is in
     let two = around_with (with_numbered qs n (record q { ups = us })) n (record q { ups = us }) r one.there in
     record { there = two.there; others = λ m apart. two.others m apart ∙ one.others m apart; count = two.count ∙ one.count }
 
-put_is : (qs : List Queue) (sessions : List Session) (n : ℕ) (q : Queue) (us : List Ask) (y : Session) (t : Told) → numbered qs n ≡ Some q → numbered sessions n ≡ Some y
+pub put_is : (qs : List Queue) (sessions : List Session) (n : ℕ) (q : Queue) (us : List Ask) (y : Session) (t : Told) → numbered qs n ≡ Some q → numbered sessions n ≡ Some y
     → downs_put_in (with_numbered qs n (record q { ups = us })) (n, t) (numbered sessions n) (numbered (with_numbered qs n (record q { ups = us })) n) ≡ with_numbered (with_numbered qs n (record q { ups = us })) n (put_down q us y.cut t)
 put_is qs sessions n q us y t is at =
     ap (λ o. downs_put_in (with_numbered qs n (record q { ups = us })) (n, t) o (numbered (with_numbered qs n (record q { ups = us })) n)) at

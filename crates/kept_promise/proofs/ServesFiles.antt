@@ -1,4 +1,4 @@
--- A call on a file is taken: nothing is made of it in that step, so that the operations and the entries are as they were.
+-- A call is taken: of one on a file nothing is made in that step, so that the operations and the entries are as they were; of a walk's last call something may be.
 use Rattle.std.proofs.Common.{◌≡◌, ℕ, ◌+◌, List, [], ◌∷◌, ◌++◌, length, drop, append-nil, Option, Some, None, Result, Ok, Err, Bool, true, false, refl, ap, ◌∙◌, replicate, if◌then◌else◌}
 use Rattle.xdr_codec.specs.declared.answer.Answer.TheVariants.{Failed}
 use Rattle.xdr_codec.specs.declared.status.Status.{Status}
@@ -20,6 +20,13 @@ use Rattle.temp_files.specs.Temps.{without_temp}
 use Rattle.trace_replay.specs.Core.{entries_since, server_got}
 use Rattle.trace_replay.specs.Ops.{changed_file, pointed_at}
 use Rattle.kept_promise.proofs.Common.{size_most, room_fault, piece_fault, temp_at, Temp, assembled, nat_lt, Op, File, at, is_full, has_waiting, cond_fault, bytes_known, makes, makes_unless, writes_unless, names_unless, names_bytes, commits, commits_to, commits_whole, server_step, stands, got_if, called, Core, Session, CoreStep, with_numbered, quiet, taken_with}
+use Rattle.server_core.specs.Closing.{entries_by, count_of}
+use Rattle.file_tree.specs.Tree.{Tree}
+use Rattle.tree_calls.specs.declared.asked.Done.{Done}
+use Rattle.path_calls.specs.Walk.{next_call}
+use Rattle.path_calls.specs.declared.walk.Walk.{Walk}
+use Rattle.kept_promise.proofs.PathNames.{IsWalkSmall, is_building}
+use Rattle.kept_promise.proofs.Makings.{made_by, called_making}
 use Rattle.kept_promise.proofs.CallsKeep.{IsOfFiles, got_keeps}
 
 -- ---- nothing is made
@@ -80,6 +87,9 @@ called_none s session xid (body.Lb (lb.CommitTmp a)) plain = by (temp_at s.temps
     by (Some t) = commits_none (record s { temps = without_temp s.temps session a.fd }) session xid a.size t (node_of s.tree a.handle)
 called_none s session xid (body.Nfs nfs.Null) plain = refl
 called_none s session xid (body.Nfs (nfs.Read r)) plain = refl
+called_none s session xid (body.Nfs (nfs.Lookup p)) plain = refl
+called_none s session xid (body.Nfs (nfs.GetAttr h)) plain = refl
+called_none s session xid (body.Nfs (nfs.ReadDir l)) plain = refl
 called_none s session xid (body.Nfs m) plain = absurd plain
 called_none s session xid b plain = refl
 
@@ -99,7 +109,7 @@ drop_all (x ∷ xs) = drop_all xs
 pub none_since : (before after : server.State) → after.journal ≡ before.journal → changed_file (entries_since before after) ≡ None
 none_since before after same = ap (λ (l : List Entry). changed_file (drop (length before.journal) l)) same ∙ ap changed_file (drop_all before.journal)
 
-drop_more : {A : Type 0} (xs ys : List A) → drop (length xs) (xs ++ ys) ≡ ys
+pub drop_more : {A : Type 0} (xs ys : List A) → drop (length xs) (xs ++ ys) ≡ ys
 drop_more [] ys = refl
 drop_more (x ∷ xs) ys = drop_more xs ys
 
@@ -136,3 +146,38 @@ got_quiet k n now x m plain = ap (λ (o : List Op). with_both o (k.entries ++ re
 
     entries_same : k.entries ++ replicate r.1.entries (k.steps + 1) ≡ k.entries
     entries_same = ap (λ (i : ℕ). k.entries ++ replicate i (k.steps + 1)) (got_none k.server n m now plain (stands k.server n)) ∙ append-nil k.entries
+
+-- ---- a call that makes or removes something
+
+-- what the server does with what its tree made of it
+abbrev pub making_got : Core → (n now : ℕ) → Session → (xid : ℕ) → Tree × Done → CoreStep
+making_got k n now x xid p =
+    let es = entries_by n p.1.first p.1.second in
+    record (quiet (record k {
+      steps = k.steps + 1;
+      server = record (at k.server now) { tree = p.0; journal = k.server.journal ++ es };
+      sessions = with_numbered k.sessions n (record x { taken = x.taken ++ record { xid = xid; step = k.steps + 1 } ∷ [] });
+      ops = pointed_at k.ops x.closing (k.steps + 1) (changed_file es);
+      entries = k.entries ++ replicate (count_of p.1.first p.1.second) (k.steps + 1);
+    })) { down = record { session = n; message = message.Answer xid (body.Nfs p.1.answer) } ∷ [] }
+
+pub got_making : (k : Core) (n now : ℕ) (x : Session) (xid : ℕ) (w : Walk) → IsWalkSmall w → is_building w ≡ true → stands k.server n ≡ true → server_got k n now x (message.Call xid (body.Nfs (next_call w))) ≡ making_got k n now x xid (made_by k.server.tree (server.held k.server.waiting) w.dir w.goal)
+got_making k n now x xid w small making standing =
+    ap (λ (b : Bool). did (got_if k.server b n (message.Call xid (body.Nfs (next_call w))) now)) standing
+    ∙ ap did (called_making (at k.server now) n xid w small making)
+    ∙ ap (λ (l : List Entry). with_ops (pointed_at k.ops x.closing (k.steps + 1) (changed_file l))) (drop_more k.server.journal (entries_by n p.1.first p.1.second))
+  where
+    p : Tree × Done
+    p = made_by k.server.tree (server.held k.server.waiting) w.dir w.goal
+
+    did : server.State × ServerStep → CoreStep
+    did r = record (quiet (record k {
+      steps = k.steps + 1;
+      server = r.0;
+      sessions = with_numbered k.sessions n (record x { taken = x.taken ++ record { xid = xid; step = k.steps + 1 } ∷ [] });
+      ops = pointed_at k.ops x.closing (k.steps + 1) (changed_file (entries_since k.server r.0));
+      entries = k.entries ++ replicate r.1.entries (k.steps + 1);
+    })) { down = r.1.send }
+
+    with_ops : List Op → CoreStep
+    with_ops ops = record (making_got k n now x xid p) { core = record (making_got k n now x xid p).core { ops = ops } }

@@ -1,25 +1,180 @@
--- A call is taken at the server: operations, entries and clients are as they were, and nothing goes up.
-use Rattle.std.proofs.Common.{◌≡◌, ℕ, ◌≤◌, List, [], Option, Some, None, Result, refl, sym, subst, arith}
-use Rattle.kept_promise.proofs.Common.{Message, WireFault, Core, Session, Event.Serves, CoreStep, numbered, serves_if, serves, happens, Book, Queue, ask_message}
+-- A call is taken at the server: clients are as they were, nothing goes up, and operations are as they were, but for one that made a file.
+use Rattle.std.proofs.Common.{◌⊎◌, inl, inr, ◌≡◌, ℕ, ◌+◌, ◌≤◌, List, [], ◌∷◌, ◌++◌, length, replicate, zero, suc, append-nil, Option, Some, None, Bool, true, false, Result, Ok, refl, sym, ap, ◌∙◌, subst, arith}
+use Rattle.file_tree.specs.Tree.{Tree}
+use Rattle.file_tree.specs.Step.{made_entry}
+use Rattle.file_tree.specs.declared.entry.Entry.{Entry as TreeEntry}
+use Rattle.file_tree.specs.declared.entry.EntryKind.TheVariants as kind
+use Rattle.tree_calls.specs.declared.asked.Done.{Done as Finished}
+use Rattle.path_calls.specs.declared.walk.Goal.{Goal}
+use Rattle.path_calls.specs.declared.walk.Walk.{Walk}
+use Rattle.register_model.specs.declared.op.Word.TheVariants as words
+use Rattle.server_core.specs.State as server
+use Rattle.server_core.specs.Closing.{entry_by as written_by, entries_by}
+use Rattle.tree_calls.specs.Changing.{said}
+use Rattle.path_calls.specs.Walk.{next_call}
+use Rattle.wire.specs.declared.message.Body.TheVariants as body
+use Rattle.wire.specs.declared.message.Message.TheVariants as message
+use Rattle.server_law.proofs.Trees.{IsBounded}
+use Rattle.trace_replay.specs.Core.{server_got}
+use Rattle.trace_replay.specs.Ops.{changed_file, is_of_file, pointed_at, pointed}
+use Rattle.kept_promise.proofs.Common.{slice_get, slice_set, cond, option_map, not, stands, has_waiting, name_answer, Call, Call.Walks, Entry, Op, Message, WireFault, Core, Session, Event.Serves, CoreStep, numbered, serves_if, serves, happens, Book, Queue, Ask, ask_message}
+use Rattle.kept_promise.proofs.Lists.{some_is, nothing_there, true_and_false}
 use Rattle.kept_promise.proofs.Fits.{FitLaws}
-use Rattle.kept_promise.proofs.Facts.{IsKept}
+use Rattle.kept_promise.proofs.Messages.{job, goal_word, AllAsks, IsCommit, IsCreating}
+use Rattle.kept_promise.proofs.Rights.{IsUnmade}
+use Rattle.kept_promise.proofs.Facts.{IsSession, IsKept}
+use Rattle.kept_promise.proofs.Statements.{CallFits}
 use Rattle.kept_promise.proofs.RunsCarried.{Finds}
-use Rattle.kept_promise.proofs.CallsKeep.{is_of_files}
-use Rattle.kept_promise.proofs.ServesFiles.{got_quiet}
-use Rattle.kept_promise.proofs.Actors.{serves_read}
+use Rattle.kept_promise.proofs.CallsKeep.{got_keeps, is_of_files, makes_call, walk_made}
+use Rattle.kept_promise.proofs.PathNames.{IsWalkSmall, builds_at, creates_at, is_making, is_building, is_going, is_creating, making_is}
+use Rattle.kept_promise.proofs.Makings.{made_by, MadeSo, refuses, enters, made_walk, EntryAt}
+use Rattle.kept_promise.proofs.MakingServes.{name_goal, make_goal, entry_name}
+use Rattle.kept_promise.proofs.ServesFiles.{quiet_got, got_quiet, got_making, making_got, pointed_none}
+use Rattle.kept_promise.proofs.GoingCalls.{IsName}
+use Rattle.kept_promise.proofs.Departures.{ComesSo, refused, done_now, waits, comes_so}
+use Rattle.kept_promise.proofs.GoingSteps.{waits_got, got_answered, got_waits}
+use Rattle.kept_promise.proofs.GoingServes.{names_none, names_unchanged, count_is}
+use Rattle.kept_promise.proofs.Actors.{serves_read, serves_fits}
+
+-- an operation made a file in this step, which is its point
+pub record MadeHere (k : Core) (after : List Op) : Type 0 where
+  pub place : ℕ
+  pub op : Op
+  pub there : slice_get k.ops place ≡ Some op
+  pub unmade : IsUnmade op
+  pub word_is : op.word ≡ words.Make
+  pub file_is : op.file ≡ 0
+  pub new : ℕ
+  pub after_is : after ≡ slice_set k.ops place (record op { file = new; point = Some (k.steps + 1) })
+
+-- the journal has these entries more, none of which is of a content that was replaced
+pub record Entered (k : Core) (t : CoreStep) : Type 0 where
+  pub es : List Entry
+  pub entries : t.core.entries ≡ k.entries ++ replicate (length es) (k.steps + 1)
+  pub journal : t.core.server.journal ≡ k.server.journal ++ es
+  pub plain : (i : ℕ) (e : Entry) → slice_get es i ≡ Some e → e.kind ≡ kind.Commit → ⊥
 
 pub record IsQuiet (k : Core) (t : CoreStep) : Type 0 where
-  pub ops : t.core.ops ≡ k.ops
-  pub entries : t.core.entries ≡ k.entries
+  pub ops : (t.core.ops ≡ k.ops) ⊎ MadeHere k t.core.ops
   pub seats : t.core.seats ≡ k.seats
   pub passes : k.steps ≤ t.core.steps
   pub up : t.up ≡ []
+  pub entered : Entered k t
+
+none_entered : (k : Core) (t : CoreStep) → t.core.entries ≡ k.entries → t.core.server.journal ≡ k.server.journal → Entered k t
+none_entered k t entries journal = record { es = []; entries = entries ∙ sym (append-nil k.entries); journal = journal ∙ sym (append-nil k.server.journal); plain = λ i e at. nothing_there e at }
+
+-- an entry of what a walk's call makes is of no content
+entry_plain : (t : Tree) (left : List (List ℕ)) (g : Goal) (e : TreeEntry) (b : Bool) → builds_at left g ≡ true → creates_at left g ≡ b → EntryAt t g e → e.kind ≡ kind.Commit → ⊥
+entry_plain t left g e false m c is commit = name_commit (sym (entry_name t g e (name_goal left g m c) is) ∙ commit)
+  where
+    name_commit : kind.Name ≡ kind.Commit → ⊥
+    name_commit z = absurd cc
+entry_plain t left g e true m c is commit = make_commit (sym (ap (λ (z : TreeEntry). z.kind) (subst (λ (z : Goal). EntryAt t z e) (make_goal left g m c).1 is)) ∙ commit)
+  where
+    make_commit : kind.Make ≡ kind.Commit → ⊥
+    make_commit z = absurd cc
+
+making_entered : (k : Core) (n now : ℕ) (x : Session) (xid : ℕ) (w : Walk) → is_building w ≡ true → Entered k (making_got k n now x xid (made_by k.server.tree (server.held k.server.waiting) w.dir w.goal))
+making_entered k n now x xid w making = by (made_walk k.server.tree (server.held k.server.waiting) w making)
+  where
+    plain : (e : TreeEntry) → EntryAt k.server.tree w.goal e → (i : ℕ) (d : Entry) → slice_get (written_by n e ∷ []) i ≡ Some d → d.kind ≡ kind.Commit → ⊥
+    plain e is zero d at commit = entry_plain k.server.tree w.left w.goal e (is_creating w) making refl is (ap (λ (z : Entry). z.kind) (some_is (written_by n e) d at) ∙ commit)
+    plain e is (suc i) d at commit = nothing_there d at
+
+    by : MadeSo k.server.tree (server.held k.server.waiting) w → Entered k (making_got k n now x xid (made_by k.server.tree (server.held k.server.waiting) w.dir w.goal))
+    by (refuses s r is err turned leads procs) = subst (λ (p : Tree × Finished). Entered k (making_got k n now x xid p)) (sym is) (record { es = []; entries = refl; journal = refl; plain = λ i e at. nothing_there e at })
+    by (enters done e r after is step first_is entry_is after_is leads procs) = subst (λ (p : Tree × Finished). Entered k (making_got k n now x xid p)) (sym is) (record { es = written_by n e ∷ []; entries = refl; journal = refl; plain = plain e entry_is })
+
+-- what a call that makes something leaves of the operations
+making_ops : (book : Book) (k : Core) (qs : List Queue) (n now : ℕ) (x : Session) (q : Queue) (xid : ℕ) (w : Walk) (us : List Ask) → IsKept book k qs → IsSession book k.seats k.server n x q → q.ups ≡ record { xid = xid; call = Walks w } ∷ us → is_building w ≡ true → (let r = making_got k n now x xid (made_by k.server.tree (server.held k.server.waiting) w.dir w.goal) in (r.core.ops ≡ k.ops) ⊎ MadeHere k r.core.ops)
+making_ops book k qs n now x q xid w us kept h first making = by (made_walk k.server.tree (server.held k.server.waiting) w making)
+  where
+    by : MadeSo k.server.tree (server.held k.server.waiting) w → (let r = making_got k n now x xid (made_by k.server.tree (server.held k.server.waiting) w.dir w.goal) in (r.core.ops ≡ k.ops) ⊎ MadeHere k r.core.ops)
+    by (refuses s r is err turned leads procs) = subst (λ (p : Tree × Finished). let r = making_got k n now x xid p in (r.core.ops ≡ k.ops) ⊎ MadeHere k r.core.ops) (sym is) (inl (pointed_none k.ops x.closing (k.steps + 1)))
+    by (enters done e r after is step first_is entry_is after_is leads procs) = subst (λ (p : Tree × Finished). let r = making_got k n now x xid p in (r.core.ops ≡ k.ops) ⊎ MadeHere k r.core.ops) (sym is) (of (is_creating w) refl)
+      where
+        of : (b : Bool) → is_creating w ≡ b → (let o = pointed_at k.ops x.closing (k.steps + 1) (changed_file (written_by n e ∷ [])) in (o ≡ k.ops) ⊎ MadeHere k o)
+        of false none =
+            let kind_is = entry_name k.server.tree w.goal e (name_goal w.left w.goal making none) entry_is in
+            inl (ap (λ (b : Bool). pointed_at k.ops x.closing (k.steps + 1) (option_map (λ (d : Entry). d.file) (cond b (Some (written_by n e)) None))) (ap is_of_file kind_is) ∙ pointed_none k.ops x.closing (k.steps + 1))
+        of true some =
+            let c : IsCreating book x.closing x.cut (job h.seat) xid w = (subst (AllAsks (IsCommit book x.closing x.cut (job h.seat) h.contents)) first h.commits).0 some in
+            let entry : e ≡ made_entry k.server.tree.next = subst (λ (z : Goal). EntryAt k.server.tree z e) (make_goal w.left w.goal making some).1 entry_is in
+            let there : slice_get k.ops c.place ≡ Some c.op = ap (λ (l : List Op). slice_get l c.place) (sym kept.ops) ∙ c.there in
+            inr (record {
+              place = c.place;
+              op = c.op;
+              there = there;
+              unmade = c.unmade;
+              word_is = c.word_is ∙ ap goal_word (make_goal w.left w.goal making some).1;
+              file_is = c.file_is;
+              new = k.server.tree.next;
+              after_is = ap (λ (z : TreeEntry). pointed_at k.ops x.closing (k.steps + 1) (changed_file (written_by n z ∷ []))) entry
+                  ∙ ap (λ (z : Option ℕ). pointed_at k.ops z (k.steps + 1) (Some k.server.tree.next)) c.known
+                  ∙ ap (λ (z : Option Op). pointed k.ops c.place k.server.tree.next (k.steps + 1) z) there;
+            })
+
+-- what a call that removes or renames leaves
+going_quiet : (k : Core) (n now : ℕ) (x : Session) (xid : ℕ) (w : Walk) → IsWalkSmall w → is_going w ≡ true → stands k.server n ≡ true → IsBounded k.server.tree → IsQuiet k (server_got k n now x (message.Call xid (body.Nfs (next_call w))))
+going_quiet k n now x xid w small goes standing bounded = by (comes_so k.server.tree (server.held k.server.waiting) (has_waiting k.server.waiting n) w bounded small goes)
+  where
+    no_entries : (after : Tree) (d : Finished) → IsName d.first → IsName d.second → IsQuiet k (making_got k n now x xid (after, d))
+    no_entries after d first second = record {
+      ops = inl (ap (λ (o : Option ℕ). pointed_at k.ops x.closing (k.steps + 1) o) (names_unchanged n d.first d.second first second) ∙ pointed_none k.ops x.closing (k.steps + 1));
+      seats = refl;
+      passes = omega arith;
+      up = refl;
+      entered = record { es = entries_by n d.first d.second; entries = ap (λ (m : ℕ). k.entries ++ replicate m (k.steps + 1)) (count_is n d.first d.second); journal = refl; plain = λ i e at commit. true_and_false (is_of_file e.kind) (ap is_of_file commit) (names_none n d.first d.second first second i e at) };
+    }
+
+    by : ComesSo k.server.tree (server.held k.server.waiting) (has_waiting k.server.waiting n) w → IsQuiet k (server_got k n now x (message.Call xid (body.Nfs (next_call w))))
+    by (refused s r is why turned leads procs) = subst (IsQuiet k) (sym (got_answered k n now x xid w k.server.tree (said (name_answer r)) small goes standing is)) (no_entries k.server.tree (said (name_answer r)) (λ e f. nothing_there e f) (λ e f. nothing_there e f))
+    by (done_now done r after is step first second leads procs files none root next) = subst (IsQuiet k) (sym (got_answered k n now x xid w after (record { answer = name_answer r; first = done.first; second = done.second }) small goes standing is)) (no_entries after (record { answer = name_answer r; first = done.first; second = done.second }) first second)
+    by (waits a g is asks there room free two) = subst (IsQuiet k) (sym (got_waits k n now x xid w a small goes standing is)) (record { ops = inl refl; seats = refl; passes = omega arith; up = refl; entered = none_entered k (waits_got k n now x xid a) refl refl })
 
 pub serves_quiet : FitLaws → (book : Book) (k : Core) (qs : List Queue) (n now : ℕ) (bytes : List ℕ) (mid : List Queue) → IsKept book k qs → Finds k qs (Serves n now bytes) mid → IsQuiet k (happens k (Serves n now bytes))
-serves_quiet laws book k qs n now bytes mid kept f = by (numbered k.sessions n)
+serves_quiet laws book k qs n now bytes mid kept f = by (numbered k.sessions n) refl
   where
-    by : (x : Option Session) → IsQuiet k (serves k n now bytes x)
-    by None = record { ops = refl; entries = refl; seats = refl; passes = omega arith; up = refl }
-    by (Some x) =
-        subst (λ (r : Result Message WireFault). IsQuiet k (serves_if k n now x r)) (sym (serves_read laws book k qs n now bytes mid kept f))
-        (subst (IsQuiet k) (sym (got_quiet k n now x (ask_message f.1) (is_of_files f.1))) (record { ops = refl; entries = refl; seats = refl; passes = omega arith; up = refl }))
+    fits : CallFits f.1.xid f.1.call
+    fits = serves_fits book k qs n now bytes mid kept f
+
+    quietly : (x : Session) → makes_call f.1.call ≡ false → IsQuiet k (serves_if k n now x (Ok (ask_message f.1)))
+    quietly x none =
+        subst (IsQuiet k) (sym (got_quiet k n now x (ask_message f.1) (is_of_files f.1 fits none)))
+        (record { ops = inl refl; seats = refl; passes = omega arith; up = refl; entered = none_entered k (quiet_got k n now x (ask_message f.1)) refl (got_keeps (λ (z : server.State). z.journal ≡ k.server.journal) k.server n (ask_message f.1) now (is_of_files f.1 fits none) (λ temps waiting index moment w. refl)) })
+
+    no_ups : {a : Ask} {us : List Ask} → ◌≡◌ {A = List Ask} [] (a ∷ us) → ⊥
+    no_ups e = absurd cc
+
+    unhung : (x : Session) (a : Ask) (b : Bool) → x.hung ≡ b → (h : IsSession book k.seats k.server n x f.0) → f.0.ups ≡ a ∷ f.2 → x.hung ≡ false
+    unhung x a false e h first = e
+    unhung x a true e h first = absurd (no_ups (sym (h.lost e) ∙ first))
+
+    building : (x : Session) → numbered k.sessions n ≡ Some x → (w : Walk) → is_building w ≡ true → f.1.call ≡ Walks w → IsQuiet k (serves_if k n now x (Ok (ask_message (record { xid = f.1.xid; call = Walks w }))))
+    building x at w makes is =
+        let h = kept.sessions n x f.0 at f.3 in
+        let first : f.0.ups ≡ record { xid = f.1.xid; call = Walks w } ∷ f.2 = f.4 ∙ ap (λ (c : Call). record { xid = f.1.xid; call = c } ∷ f.2) is in
+        let fit = subst (CallFits f.1.xid) is fits in
+        subst (IsQuiet k) (sym (got_making k n now x f.1.xid w fit.1 makes (h.stands_is ∙ ap not (unhung x (record { xid = f.1.xid; call = Walks w }) x.hung refl h first))))
+        (record { ops = making_ops book k qs n now x f.0 f.1.xid w f.2 kept h first makes; seats = refl; passes = omega arith; up = refl; entered = making_entered k n now x f.1.xid w makes })
+
+    going : (x : Session) → numbered k.sessions n ≡ Some x → (w : Walk) → is_going w ≡ true → f.1.call ≡ Walks w → IsQuiet k (serves_if k n now x (Ok (ask_message (record { xid = f.1.xid; call = Walks w }))))
+    going x at w goes is =
+        let h = kept.sessions n x f.0 at f.3 in
+        let first : f.0.ups ≡ record { xid = f.1.xid; call = Walks w } ∷ f.2 = f.4 ∙ ap (λ (c : Call). record { xid = f.1.xid; call = c } ∷ f.2) is in
+        let fit = subst (CallFits f.1.xid) is fits in
+        going_quiet k n now x f.1.xid w fit.1 goes (h.stands_is ∙ ap not (unhung x (record { xid = f.1.xid; call = Walks w }) x.hung refl h first)) kept.server.bounded
+
+    making : (x : Session) → numbered k.sessions n ≡ Some x → (w : Walk) → is_making w ≡ true → f.1.call ≡ Walks w → IsQuiet k (serves_if k n now x (Ok (ask_message (record { xid = f.1.xid; call = Walks w }))))
+    making x at w makes is = elim (making_is w.left w.goal makes) [ inl builds ↦ building x at w builds is | inr goes ↦ going x at w goes is ]
+
+    any : (x : Session) → numbered k.sessions n ≡ Some x → (b : Bool) → makes_call f.1.call ≡ b → IsQuiet k (serves_if k n now x (Ok (ask_message f.1)))
+    any x at false none = quietly x none
+    any x at true some =
+        let w = walk_made f.1.call some in
+        subst (λ (c : Call). IsQuiet k (serves_if k n now x (Ok (ask_message (record { xid = f.1.xid; call = c }))))) (sym w.1) (making x at w.0 w.2 w.1)
+
+    by : (x : Option Session) → numbered k.sessions n ≡ x → IsQuiet k (serves k n now bytes x)
+    by None at = record { ops = inl refl; seats = refl; passes = omega arith; up = refl; entered = none_entered k (serves k n now bytes None) refl refl }
+    by (Some x) at = subst (λ (r : Result Message WireFault). IsQuiet k (serves_if k n now x r)) (sym (serves_read laws book k qs n now bytes mid kept f)) (any x at (makes_call f.1.call) refl)

@@ -1,6 +1,10 @@
 -- The first change that waits is made, and its session told.
-use Rattle.std.proofs.Common.{inl, inr, ◌≡◌, ℕ, suc, ◌+◌, ◌≤◌, List, [], ◌∷◌, ◌++◌, length, replicate, Option, Some, None, Bool, true, false, refl, sym, ap, ◌∙◌, subst, arith, eq-eqb, ne_eqb, append-nil, map}
+use Rattle.std.proofs.Common.{inl, inr, ◌≡◌, ℕ, suc, ◌+◌, ◌≤◌, List, [], ◌∷◌, ◌++◌, length, replicate, Option, Some, None, Bool, true, false, refl, sym, ap, ◌∙◌, subst, arith, eq-eqb, ne_eqb, append-nil, map, IsSome}
+use Rattle.tree_calls.specs.Waiting.{file_of}
+use Rattle.tree_calls.specs.declared.asked.Asked.{Asked}
+use Rattle.tree_calls.specs.declared.asked.Asked.TheVariants as asked
 use Rattle.server_core.specs.State as server
+use Rattle.server_core.specs.declared.change.Wanted.TheVariants as wanted
 use Rattle.file_tree.specs.Step.{replaced}
 use Rattle.server_core.specs.Closing as closing
 use Rattle.server_core.specs.declared.event.Told.TheVariants as told_
@@ -9,29 +13,41 @@ use Rattle.hash_calls.specs.declared.message.LbProc.TheVariants as lb_proc
 use Rattle.wire.specs.declared.message.Program.TheVariants as program
 use Rattle.client_state.specs.declared.task.Stage.TheVariants as stage
 use Rattle.register_model.specs.declared.op.Outcome.TheVariants as told
-use Rattle.kept_promise.proofs.Common.{slice_get, slice_set, cond, ◌==◌, sha1, Done, Failed, MessageFits, at, Change, ServerStep, File, Entry, Fetch, Stage, Op, Core, Seat, Session, CoreStep, quiet, numbered, with_numbered, settled_ops, settled_by, pointed, pointed_at, unless, Book, Or, value_at, version_at, Reply, Reply.Versioned, Reply.Hashed, Reply.Bytes, Reply.Made, Reply.Named, Reply.Stored, Reply.Changed, Told, Queue, told_message, reply_program, Tree}
+use Rattle.register_model.specs.declared.op.Word.TheVariants as words
+use Rattle.register_model.specs.Register.{IsFit}
+use Rattle.trace_replay.specs.Faithful.{IsKind, left_by as left_of}
+use Rattle.kept_promise.proofs.Common.{slice_get, slice_set, cond, ◌==◌, sha1, Done, Failed, MessageFits, at, Change, ServerStep, File, Entry, Fetch, Stage, Op, Core, Seat, Session, CoreStep, quiet, numbered, with_numbered, settled_ops, settled_by, pointed, pointed_at, unless, Book, Or, value_at, Reply, Reply.Versioned, Reply.Hashed, Reply.Bytes, Reply.Made, Reply.Named, Reply.Stored, Reply.Changed, Told, Queue, told_message, reply_program, Tree, Reply.Walked, Word, Value, value_from, unwrap_or, changes, Wanted, Event.Settles, happens}
 use Rattle.kept_promise.proofs.Lists.{some_is, nothing_there, same_or_not, at_end, at_replaced, of_replaced}
-use Rattle.kept_promise.proofs.Keys.{times, times_append, times_head, own, on_way, key, change_key, ask_key, told_key}
-use Rattle.kept_promise.proofs.Messages.{Job, job, hash_offset, FetchOf, CommitTold, AllTolds, IsAnswer, AnswerOf, IsPending, CloseOf, content_wanted}
-use Rattle.kept_promise.proofs.Rights.{IsSound, IsUnmade, IsMade}
-use Rattle.kept_promise.proofs.Marks.{marks}
-use Rattle.kept_promise.proofs.Growth.{Grows, or_map, value_alike, version_alike, made_later}
-use Rattle.kept_promise.proofs.History.{entered, made_op, IsEntryOf, grows_made, goes_made, value_now, version_now, marks_else}
+use Rattle.kept_promise.proofs.Keys.{times, times_append, times_head, own, key, change_key, ask_key, told_key, wanted_program}
+use Rattle.kept_promise.proofs.Messages.{Job, job, hash_offset, FetchOf, CommitTold, AllTolds, IsAnswer, AnswerOf, IsPending, CloseOf, content_wanted, WaitsFor, AsksFor, walk_for}
+use Rattle.kept_promise.proofs.Rights.{IsSound, IsUnmade, IsMade, WasThere}
+use Rattle.kept_promise.proofs.Growth.{Grows, or_map, made_later, or_later, there_later}
+use Rattle.kept_promise.proofs.History.{made_op, IsEntryOf, grows_made, goes_made, value_now, version_now, made_book}
 use Rattle.trace_replay.specs.Core.{entries_since}
 use Rattle.trace_replay.specs.Ops.{changed_file}
 use Rattle.kept_promise.proofs.ServesFiles.{one_since}
 use Rattle.kept_promise.proofs.Later.{seat_later}
-use Rattle.kept_promise.proofs.Taken.{tolds_append, times_map_append}
+use Rattle.kept_promise.proofs.Taken.{tolds_append}
 use Rattle.kept_promise.proofs.Turns.{around_same, around_with, also_numbered, turned_core, kept_turn}
 use Rattle.kept_promise.proofs.Fits.{FitLaws}
 use Rattle.kept_promise.proofs.Ordered.{orderly_later, orderly_told}
 use Rattle.kept_promise.proofs.OrderSteps.{keys_once}
-use Rattle.kept_promise.proofs.Facts.{IsValue, FileIs, IsTalk, IsKept, commits_in}
-use Rattle.kept_promise.proofs.Leading.{Leads, downs_put_in, downs_put, KeptSettles}
+use Rattle.kept_promise.proofs.Facts.{IsValue, FileIs, IsTalk, IsKept, commits_in, IsWanted}
+use Rattle.kept_promise.proofs.Leading.{Leads, downs_put_in, downs_put, KeptSettles, IsNoted}
 use Rattle.kept_promise.proofs.Cuts.{leads_idle}
 use Rattle.kept_promise.proofs.Steps.{no_commits}
-use Rattle.server_law.proofs.Trees.{replaced_own, replaced_other, replaced_size, replaced_bounded, file_bounded}
-use Rattle.kept_promise.proofs.Making.{entry_of, made_change, target_there, room_there, made_is}
+use Rattle.server_law.proofs.Trees.{replaced_own, replaced_other, replaced_size, replaced_bounded, file_bounded, given}
+use Rattle.kept_promise.proofs.Making.{entry_of, made_change, room_there, made_is}
+use Rattle.path_calls.specs.declared.walk.Walk.{Walk}
+use Rattle.kept_promise.proofs.NoZero.{replaced_none}
+use Rattle.kept_promise.proofs.MadeFiles.{file_alike, others_alike, own_alike, gone_fresh}
+use Rattle.kept_promise.proofs.Rooted.{replaced_rooted}
+use Rattle.kept_promise.proofs.Unused.{unused_replaced}
+use Rattle.kept_promise.proofs.GoingSettles.{way_settled}
+use Rattle.kept_promise.proofs.GoingEnds.{ends_so}
+use Rattle.kept_promise.proofs.Departures.{settles_so}
+use Rattle.kept_promise.proofs.Gone.{no_directory}
+use Rattle.kept_promise.proofs.Unmade.{node_gone, unmade_settles, leads_unmade}
 
 -- ---- a change that waits, in front
 
@@ -43,51 +59,35 @@ own_other m c cs apart = ap (λ b. cond b (c ∷ own m cs) (own m cs)) (ne_eqb c
 
 -- ---- the tree
 
--- the book once an operation has taken effect
-abbrev made_book : Book → Entry → (j : ℕ) → Op → Book
-made_book book e j o = entered book (slice_set book.ops j (made_op book o)) e
-
 -- what the tree has of each file, once one got this content
-held_made : (book : Book) (e : Entry) (j : ℕ) (o : Op) (t : Tree) (id : ℕ) (g : File) (x : List ℕ) → slice_get book.ops j ≡ Some o → IsUnmade o → IsSound book → o.file ≡ id → length o.value ≡ length x → Or book (o.value ≡ x) → length x ≤ 67108864 → ((f : ℕ) → FileIs book f (server.file_at t f)) → server.file_at t id ≡ Some g
-    → (f : ℕ) → FileIs (made_book book e j o) f (server.file_at (replaced t id (g.version + 1) x) f)
-held_made book e j o t id g x there_ unmade sound mine size same short held there f = elim (same_or_not f id) [
+held_made : (book : Book) (e : Entry) (j : ℕ) (o : Op) (t : Tree) (id : ℕ) (g : File) (x : List ℕ) → slice_get book.ops j ≡ Some o → IsUnmade o → o.word ≡ words.Close → IsSound book → o.file ≡ id → length o.value ≡ length x → Or book (o.value ≡ x) → length x ≤ 67108864 → ((f : ℕ) → FileIs book f (server.file_at t f)) → server.file_at t id ≡ Some g
+    → (f : ℕ) → FileIs (made_book book (e ∷ []) j id o) f (server.file_at (replaced t id (g.version + 1) x) f)
+held_made book e j o t id g x there_ unmade word sound mine size same short held there f = elim (same_or_not f id) [
   | inl here ↦
       let was : FileIs book id (Some g) = subst (FileIs book id) there (held id) in
-      let value = subst (λ n. value_at (made_book book e j o) o.file n ≡ Some o.value) two (value_now book e j o there_ unmade sound) in
-      let version = subst (λ n. version_at (made_book book e j o) o.file n ≡ version_at book o.file (book.steps + 1) + 1) two (version_now book e j o there_ unmade sound) in
-      let now : IsValue (made_book book e j o) id x = record { value = o.value; is = ap (λ z. value_at (made_book book e j o) z (book.steps + 1 + 1)) (sym mine) ∙ value; size = size; same = same } in
-      let own : FileIs (made_book book e j o) id (Some (record g { version = g.version + 1; content = x })) = (was.0, was.1, was.2, was.3, now, ap (λ z. version_at (made_book book e j o) z (book.steps + 1 + 1)) (sym mine) ∙ version ∙ ap (λ z. version_at book z (book.steps + 1) + 1) mine ∙ ap (λ z. z + 1) was.5, short) in
-      subst (λ (z : ℕ). FileIs (made_book book e j o) z (server.file_at (replaced t id (g.version + 1) x) z)) (sym here) (subst (FileIs (made_book book e j o) id) (sym (replaced_own t id (g.version + 1) x g there)) own)
+      let left = own_alike book (e ∷ []) id j o there_ unmade sound in
+      let now : IsValue more id x = record { value = o.value; is = left.0 ∙ ap (λ (w : Word). value_from w o.value) word; size = size; same = or_later book more (Some j) None _ _ grows (λ q. q) same } in
+      let own : FileIs more id (Some (record g { version = g.version + 1; content = x })) = (was.0, was.1, was.2, now, left.1 ∙ ap (λ z. z + 1) was.4, short) in
+      subst (λ (z : ℕ). FileIs more z (server.file_at (replaced t id (g.version + 1) x) z)) (sym here) (subst (FileIs more id) (sym (replaced_own t id (g.version + 1) x g there)) own)
   | inr apart ↦
-      let marks_ : marks f (book.steps + 1 + 1) (slice_set book.ops j (made_op book o)) ≡ marks f (book.steps + 1) book.ops = subst (λ n. marks f n (slice_set book.ops j (made_op book o)) ≡ marks f (book.steps + 1) book.ops) two (marks_else book j o f there_ unmade (λ q. apart (sym q ∙ mine)) sound) in
-      subst (FileIs (made_book book e j o) f) (sym (replaced_other t id (g.version + 1) x f apart)) (others (server.file_at t f) (held f) (value_alike book (made_book book e j o) f (book.steps + 1 + 1) (book.steps + 1) refl marks_) (version_alike book (made_book book e j o) f (book.steps + 1 + 1) (book.steps + 1) refl marks_))
+      let alike = others_alike book (e ∷ []) id j o f there_ unmade (λ q. apart (sym q)) sound in
+      subst (FileIs more f) (sym (replaced_other t id (g.version + 1) x f apart)) (file_alike book more (Some j) None f (server.file_at t f) grows alike.0 alike.1 (held f))
 ]
   where
-    two : book.steps + 2 ≡ book.steps + 1 + 1
-    two = omega arith
+    more : Book
+    more = made_book book (e ∷ []) j id o
 
-    others : (z : Option File) → FileIs book f z → value_at (made_book book e j o) f (book.steps + 1 + 1) ≡ value_at book f (book.steps + 1) → version_at (made_book book e j o) f (book.steps + 1 + 1) ≡ version_at book f (book.steps + 1) → FileIs (made_book book e j o) f z
-    others None h v w = (h.0, v ∙ h.1)
-    others (Some z) h v w = (h.0, h.1, h.2, h.3, record { value = h.4.value; is = v ∙ h.4.is; size = h.4.size; same = h.4.same }, w ∙ h.5, h.6)
+    grows : Grows book more (Some j) None
+    grows = grows_made book (e ∷ []) id j o (λ close. sym mine) there_ unmade
 
--- ---- the session
+-- ---- what is told
 
 abbrev answer : Change → (version : ℕ) → Told
 answer c version = record { xid = c.xid; reply = Changed (Done (record { version = version; term = 0 })) }
 
--- a change that is made is told where it waited
-way_made : (n y : ℕ) (c : Change) (cs : List Change) (q : Queue) (version : ℕ) → own n (c ∷ cs) ≡ c ∷ own n cs → times y (on_way n cs (record q { downs = q.downs ++ answer c version ∷ [] })) ≡ times y (on_way n (c ∷ cs) q)
-way_made n y c cs q version first =
-    let t = answer c version in
-    let ups = map ask_key q.ups in
-    let a = times_append y ups (map change_key (own n cs) ++ map told_key (q.downs ++ t ∷ [])) in
-    let b = times_append y (map change_key (own n cs)) (map told_key (q.downs ++ t ∷ [])) in
-    let d = times_map_append told_key y q.downs (t ∷ []) in
-    let e = ap (λ (l : List Change). times y (ups ++ (map change_key l ++ map told_key q.downs))) first in
-    let f = times_append y ups (map change_key (c ∷ own n cs) ++ map told_key q.downs) in
-    let g = times_append y (map change_key (c ∷ own n cs)) (map told_key q.downs) in
-    let h = times_append y (change_key c ∷ []) (map change_key (own n cs)) in
-    omega (arith, a, b, d, e, f, g, h)
+-- it is to the call that waited
+answer_key : (c : Change) (x : List ℕ) (version : ℕ) → c.what ≡ wanted.Content x → told_key (answer c version) ≡ change_key c
+answer_key c x version what = sym (ap (λ (w : Wanted). change_key (record c { what = w })) what)
 
 -- answers of which none has this key
 all_but : (P Q : Told → Type 0) (k : ℕ) (ts : List Told) → times k (map told_key ts) ≡ 0 → ((t : Told) → (told_key t ≡ k → ⊥) → P t → Q t) → AllTolds P ts → AllTolds Q ts
@@ -104,6 +104,9 @@ all_but P Q k (t ∷ ts) none f h = by (told_key t == k) refl none (λ n. all_bu
 not_reading : (x : ℕ) (f : Fetch) → stage.Committing x ≡ stage.Reading f → ⊥
 not_reading x f e = absurd cc
 
+not_walking : (x y : ℕ) (w : Walk) → stage.Committing x ≡ stage.Walking y w → ⊥
+not_walking x y w e = absurd cc
+
 not_asking : (x y : ℕ) → stage.Committing x ≡ stage.Asking y → ⊥
 not_asking x y e = absurd cc
 
@@ -111,19 +114,19 @@ same_xid : (x y : ℕ) → stage.Committing x ≡ stage.Committing y → x ≡ y
 same_xid x y e = cc
 
 -- where it waited for nothing but its commit, a client still waits for that
-settled_talk : (book : Book) (e : Entry) (j : ℕ) (o : Op) (n : ℕ) (c : Change) (cs : List Change) (x : Session) (q : Queue) (seat : Seat) (version : ℕ)
-    → Grows book (made_book book e j o) (Some j) None → own n (c ∷ cs) ≡ c ∷ own n cs → job seat ≡ Some (record { place = j; file = c.file; stage = stage.Committing c.xid }) → IsMade (made_book book e j o) j version
-    → IsTalk book n (c ∷ cs) x q seat → IsTalk (made_book book e j o) n cs x (record q { downs = q.downs ++ answer c version ∷ [] }) seat
-settled_talk book e j o n c cs x q seat version g first committing made t = record {
+settled_talk : (book : Book) (e : Entry) (j : ℕ) (o : Op) (n : ℕ) (c : Change) (cs : List Change) (x : Session) (q : Queue) (seat : Seat) (version : ℕ) → c.what ≡ wanted.Content (content_wanted c.what)
+    → Grows book (made_book book (e ∷ []) j c.file o) (Some j) None → own n (c ∷ cs) ≡ c ∷ own n cs → job seat ≡ Some (record { place = j; file = c.file; stage = stage.Committing c.xid }) → IsMade (made_book book (e ∷ []) j c.file o) j version
+    → IsTalk book n (c ∷ cs) x q seat → IsTalk (made_book book (e ∷ []) j c.file o) n cs x (record q { downs = q.downs ++ answer c version ∷ [] }) seat
+settled_talk book e j o n c cs x q seat version what g first committing made t = record {
   floor = t.floor;
   under = t.under;
   rising = t.rising;
   asked = t.asked;
-  answers = tolds_append (IsAnswer (made_book book e j o) x.taken x.closing (job seat)) q.downs (answer c version ∷ []) (all_but (IsAnswer book x.taken x.closing (job seat)) (IsAnswer (made_book book e j o) x.taken x.closing (job seat)) (change_key c) q.downs none (λ u apart h. old_reply u.xid u.reply apart h) t.answers) (new_answer, tt);
-  fetch = λ i f. let same : here ≡ i = some_is here i (sym committing ∙ f) in subst (λ (w : Job). FetchOf (made_book book e j o) x.taken w w.stage) same tt;
+  answers = tolds_append (IsAnswer (made_book book (e ∷ []) j c.file o) x.taken x.closing (job seat)) q.downs (answer c version ∷ []) (all_but (IsAnswer book x.taken x.closing (job seat)) (IsAnswer (made_book book (e ∷ []) j c.file o) x.taken x.closing (job seat)) (change_key c) q.downs none (λ u apart h. old_reply u.xid u.reply apart h) t.answers) (new_answer, tt);
+  fetch = λ i f. let same : here ≡ i = some_is here i (sym committing ∙ f) in subst (λ (w : Job). FetchOf (made_book book (e ∷ []) j c.file o) x.taken w w.stage) same tt;
   balanced = record {
-    most = λ y. let a = t.balanced.most y in let w = way_made n y c cs q version first in omega (arith, a, w);
-    least = λ hung y. let a = t.balanced.least hung y in let w = way_made n y c cs q version first in omega (arith, a, w);
+    most = λ y. let a = t.balanced.most y in let w = way_settled n y c cs q (answer c version) first (answer_key c (content_wanted c.what) version what) in omega (arith, a, w);
+    least = λ hung y. let a = t.balanced.least hung y in let w = way_settled n y c cs q (answer c version) first (answer_key c (content_wanted c.what) version what) in omega (arith, a, w);
     once = t.balanced.once;
     below = t.balanced.below;
     ours = t.balanced.ours;
@@ -139,27 +142,28 @@ settled_talk book e j o n c cs x q seat version g first committing made t = reco
         let k = change_key c in
         let a = t.balanced.most k in
         let b = t.balanced.once c.xid in
-        let d = keys_once c.xid (program.Lb lb_proc.CommitTmp) (client.calls_of seat.client) in
+        let d = keys_once c.xid (wanted_program c.what) (client.calls_of seat.client) in
         let e1 = ap (λ (l : List Change). times k (map ask_key q.ups ++ (map change_key l ++ map told_key q.downs))) first in
         let e2 = times_append k (map ask_key q.ups) (map change_key (c ∷ own n cs) ++ map told_key q.downs) in
         let e3 = times_append k (map change_key (c ∷ own n cs)) (map told_key q.downs) in
         let e4 = times_head k (map change_key (own n cs)) in
         omega (arith, a, b, d, e1, e2, e3, e4)
 
-    new_answer : IsAnswer (made_book book e j o) x.taken x.closing (job seat) (answer c version)
-    new_answer = λ i f s. let same : here ≡ i = some_is here i (sym committing ∙ f) in subst (λ (w : Job). CommitTold (made_book book e j o) x.closing w (Done (record { version = version; term = 0 }))) same made
+    new_answer : IsAnswer (made_book book (e ∷ []) j c.file o) x.taken x.closing (job seat) (answer c version)
+    new_answer = λ i f s. let same : here ≡ i = some_is here i (sym committing ∙ f) in subst (λ (w : Job). CommitTold (made_book book (e ∷ []) j c.file o) x.closing w (Done (record { version = version; term = 0 }))) same made
 
     -- an answer to anything else is not waited for, or tells of the past
-    old_reply : (y : ℕ) (r : Reply) → (key y (reply_program r) ≡ change_key c → ⊥) → AnswerOf book x.taken x.closing (job seat) y r → AnswerOf (made_book book e j o) x.taken x.closing (job seat) y r
+    old_reply : (y : ℕ) (r : Reply) → (key y (reply_program r) ≡ change_key c → ⊥) → AnswerOf book x.taken x.closing (job seat) y r → AnswerOf (made_book book (e ∷ []) j c.file o) x.taken x.closing (job seat) y r
     old_reply y (Versioned a) apart h = λ i f s. let same : here ≡ i = some_is here i (sym committing ∙ f) in absurd (not_asking c.xid y (ap (λ (z : Job). z.stage) same ∙ s))
     old_reply y (Hashed a) apart h = λ i k f s. let same : here ≡ i = some_is here i (sym committing ∙ f) in nothing_there k (ap (λ (w : Job). hash_offset w.stage y) same ∙ s)
     old_reply y (Bytes a) apart h = λ i k m f s w. let same : here ≡ i = some_is here i (sym committing ∙ f) in absurd (not_reading c.xid k (ap (λ (z : Job). z.stage) same ∙ s))
-    old_reply y (Changed (Done d)) apart h = λ i f s. made_later book (made_book book e j o) (Some j) None i.place d.version g (h i f s)
+    old_reply y (Changed (Done d)) apart h = λ i f s. made_later book (made_book book (e ∷ []) j c.file o) (Some j) None i.place d.version g (h i f s)
     old_reply y (Changed (Failed s u)) apart h = λ i f w.
         let same : here ≡ i = some_is here i (sym committing ∙ f) in
         let x_is : c.xid ≡ y = same_xid c.xid y (ap (λ (z : Job). z.stage) same ∙ w) in
-        absurd (apart (ap (λ (z : ℕ). key z (program.Lb lb_proc.CommitTmp)) (sym x_is)))
+        absurd (apart (ap (λ (z : ℕ). key z (program.Lb lb_proc.CommitTmp)) (sym x_is) ∙ answer_key c (content_wanted c.what) version what))
     old_reply y (Made a) apart h = tt
+    old_reply y (Walked r) apart h = λ i w f s. let same : here ≡ i = some_is here i (sym committing ∙ f) in absurd (not_walking c.xid y w (ap (λ (z : Job). z.stage) same ∙ s))
     old_reply y (Named a) apart h = tt
     old_reply y (Stored a) apart h = tt
 
@@ -172,10 +176,10 @@ fewer_waiting s c cs e i d f = ap (λ (l : List Change). slice_get l (suc i)) e 
 abbrev settled_server : server.State → (now : ℕ) → Change → List Change → File → server.State
 settled_server s now c cs f = (made_change (at (record s { waiting = cs }) now) c (content_wanted c.what) f).0
 
-settled_now : FitLaws → (book : Book) (k : Core) (qs : List Queue) (now : ℕ) (c : Change) (cs : List Change) (f : File) (x : Session) (q : Queue) (j : ℕ) (o : Op) → (kept : IsKept book k qs) → k.server.waiting ≡ c ∷ cs → server.file_at k.server.tree c.file ≡ Some f → (here : numbered k.sessions c.session ≡ Some x) → x.hung ≡ false → (is : numbered qs c.session ≡ Some q)
+settled_now : FitLaws → (book : Book) (k : Core) (qs : List Queue) (now : ℕ) (c : Change) (cs : List Change) (f : File) (x : Session) (q : Queue) (j : ℕ) (o : Op) → (kept : IsKept book k qs) → k.server.waiting ≡ c ∷ cs → c.what ≡ wanted.Content (content_wanted c.what) → server.file_at k.server.tree c.file ≡ Some f → (here : numbered k.sessions c.session ≡ Some x) → x.hung ≡ false → (is : numbered qs c.session ≡ Some q)
     → (pending : IsPending book x.closing x.cut (job (kept.sessions c.session x q here is).seat) c.xid c.file (content_wanted c.what)) → pending.place ≡ j → pending.op ≡ o
-    → IsKept (made_book book (entry_of c (content_wanted c.what) f) j o) (turned_core (made_book book (entry_of c (content_wanted c.what) f) j o) (settled_server k.server now c cs f) k.seats k.sessions) (with_numbered qs c.session (record q { downs = unless x.cut q.downs (answer c (f.version + 1) ∷ []) }))
-settled_now laws book k qs now c cs f x q j o kept waits there here unhung is pending place_is op_is =
+    → IsKept (made_book book (entry_of c (content_wanted c.what) f ∷ []) j c.file o) (turned_core (made_book book (entry_of c (content_wanted c.what) f ∷ []) j c.file o) (settled_server k.server now c cs f) k.seats k.sessions) (with_numbered qs c.session (record q { downs = unless x.cut q.downs (answer c (f.version + 1) ∷ []) }))
+settled_now laws book k qs now c cs f x q j o kept waits what there here unhung is pending place_is op_is =
     let n : ℕ = c.session in
     let h = kept.sessions n x q here is in
     let e : Entry = entry_of c (content_wanted c.what) f in
@@ -186,10 +190,21 @@ settled_now laws book k qs now c cs f x q j o kept waits there here unhung is pe
     let size : length o.value ≡ length (content_wanted c.what) = ap (λ (z : Op). length z.value) (sym op_is) ∙ pending.size_is in
     let same : Or book (o.value ≡ (content_wanted c.what)) = subst (λ (z : Op). Or book (z.value ≡ (content_wanted c.what))) op_is pending.value_is in
     let own_file : FileIs book c.file (Some f) = subst (FileIs book c.file) there (kept.server.held c.file) in
-    let tells : IsEntryOf book o e = record { kind_is = refl; file = file_is; len = size; digest = or_map book _ _ (λ q. ap sha1 q) same; version = ap (λ (z : ℕ). z + 1) (sym own_file.5) } in
-    let goes = goes_made book e j o tells at_ unmade kept.sound in
+    let word : o.word ≡ words.Close = ap (λ (z : Op). z.word) (sym op_is) ∙ pending.word_is in
+    let left : left_of o ≡ o.value = ap (λ (w : Word). unwrap_or (value_from w o.value) []) word in
+    let tells : IsEntryOf book c.file o e = record {
+      kind_is = subst (λ (w : Word). IsKind w e.kind) (sym word) refl;
+      file = refl;
+      len = ap (λ (l : List ℕ). length l) left ∙ size;
+      digest = or_map book _ _ (λ q. ap sha1 (left ∙ q)) same;
+      version = ap (λ (z : ℕ). z + 1) (sym own_file.4);
+      own = λ close. sym file_is;
+      positive = own_file.1;
+      fit = subst (λ (w : Word). IsFit w (value_at book c.file (book.steps + 1))) (sym word) (subst (λ (v : Value). IsSome v) (sym own_file.3.is) refl);
+    } in
+    let goes = goes_made book e [] c.file j o tells (λ i d at. nothing_there d at) at_ unmade kept.sound in
     let g = goes.grows in
-    let more = made_book book e j o in
+    let more = made_book book (e ∷ []) j c.file o in
     let version : ℕ = f.version + 1 in
     let t : Told = answer c version in
     let p : Queue = record q { downs = unless x.cut q.downs (t ∷ []) } in
@@ -198,16 +213,16 @@ settled_now laws book k qs now c cs f x q j o kept waits there here unhung is pe
     let alone : (commits_in q.ups ≡ 0) × (length (own n cs) ≡ 0) = (let a = h.single in let b = ap length first in (omega (arith, a, b), omega (arith, a, b))) in
     let none : own n cs ≡ [] = empty_is (own n cs) alone.1 in
     let short : length (content_wanted c.what) ≤ 67108864 = kept.server.lengths 0 c (ap (λ (l : List Change). slice_get l 0) waits) in
-    let room = room_there book k.server c cs kept.server waits in
-    let held : (z : ℕ) → FileIs more z (server.file_at r.tree z) = λ z. held_made book e j o k.server.tree c.file f (content_wanted c.what) at_ unmade kept.sound file_is size same short kept.server.held there z in
+    let room = room_there book k.server c cs kept.server waits what in
+    let held : (z : ℕ) → FileIs more z (server.file_at r.tree z) = λ z. held_made book e j o k.server.tree c.file f (content_wanted c.what) at_ unmade word kept.sound file_is size same short kept.server.held there z in
     let entries = room.count in
     let sizes = replaced_size k.server.tree c.file (f.version + 1) (content_wanted c.what) f kept.server.bounded there in
     let small = room.small in
     let made : IsMade more j version = (
-      made_op book o,
+      made_op book c.file o,
       book.steps + 1,
-      at_replaced book.ops j (made_op book o) o at_,
-      unmade.0,
+      at_replaced book.ops j (made_op book c.file o) o at_,
+      word,
       refl,
       omega arith,
       record {
@@ -215,12 +230,12 @@ settled_now laws book k qs now c cs f x q j o kept waits there here unhung is pe
         entry = e;
         step_is = at_end book.entries (book.steps + 1);
         entry_is = ap (slice_get (book.journal ++ e ∷ [])) kept.sound.journal.count ∙ at_end book.journal e;
-        file_is = sym file_is;
+        file_is = refl;
         version_is = refl;
         len_is = sym size;
         digest_is = or_map book _ _ (λ q. ap sha1 (sym q)) same;
       },
-      (book.steps + 2, omega arith, version_now book e j o at_ unmade kept.sound ∙ ap (λ (z : ℕ). z + 1) (ap (λ (z : ℕ). version_at book z (book.steps + 1)) file_is ∙ own_file.5), value_now book e j o at_ unmade kept.sound),
+      (book.steps + 2, omega arith, version_now book (e ∷ []) c.file j o at_ unmade kept.sound ∙ ap (λ (z : ℕ). z + 1) own_file.4, value_now book (e ∷ []) c.file j o at_ unmade kept.sound ∙ ap (λ (w : Word). value_from w o.value) word),
     ) in
     kept_turn book more k qs r k.seats k.sessions (with_numbered qs n p) n x x p h.seat h.seat (Some j) None (record {
       at = here;
@@ -232,12 +247,15 @@ settled_now laws book k qs now c cs f x q j o kept waits there here unhung is pe
       goes = goes;
       server = record {
         held = held;
+        fresh = λ z u. gone_fresh book (e ∷ []) j o c.file k.server.tree f at_ unmade kept.sound (given k.server.tree kept.server.bounded) there kept.server.fresh z (unused_replaced k.server.tree c.file (f.version + 1) (content_wanted c.what) f z there u);
         bounded = replaced_bounded k.server.tree c.file (content_wanted c.what) f there (omega (arith, entries)) short (omega (arith, small)) kept.server.bounded;
-        commits = λ i d z. kept.server.commits (suc i) d (fewer_waiting k.server c cs waits i d z);
+        zero = replaced_none k.server.tree c.file (f.version + 1) (content_wanted c.what) 0 kept.server.zero;
+        rooted = replaced_rooted k.server.tree c.file (f.version + 1) (content_wanted c.what) kept.server.rooted;
+        wants = λ i d z. kept.server.wants (suc i) d (fewer_waiting k.server c cs waits i d z);
         changes = omega (arith, entries);
         bytes = omega (arith, sizes, small);
         lengths = λ i d z. kept.server.lengths (suc i) d (fewer_waiting k.server c cs waits i d z);
-        targets = λ i d z. kept.server.targets (suc i) d (fewer_waiting k.server c cs waits i d z);
+        targets = λ i d z. there_later book more (Some j) None d.file g (kept.server.targets (suc i) d (fewer_waiting k.server c cs waits i d z));
         xids = λ i d z. kept.server.xids (suc i) d (fewer_waiting k.server c cs waits i d z);
       };
       sessions_made = refl;
@@ -255,7 +273,7 @@ settled_now laws book k qs now c cs f x q j o kept waits there here unhung is pe
         stands_is = h.stands_is;
         ups_fit = h.ups_fit;
         downs_fit = downs_fit_more x.cut h.downs_fit (laws.plain c.xid (Changed (Done (record { version = version; term = 0 }))) (kept.server.xids 0 c (ap (λ (l : List Change). slice_get l 0) waits)) (let a = (file_bounded k.server.tree c.file f kept.server.bounded there).0 in omega (arith, a, entries), refl));
-        talk = λ uncut. subst (λ (b : Bool). IsTalk more n cs x (record q { downs = unless b q.downs (t ∷ []) }) h.seat) (sym uncut) (settled_talk book e j o n c cs x q h.seat version g (own_first c cs) (committing uncut) made (subst (λ (l : List Change). IsTalk book n l x q h.seat) waits (h.talk uncut)));
+        talk = λ uncut. subst (λ (b : Bool). IsTalk more n cs x (record q { downs = unless b q.downs (t ∷ []) }) h.seat) (sym uncut) (settled_talk book e j o n c cs x q h.seat version what g (own_first c cs) (committing uncut) made (subst (λ (l : List Change). IsTalk book n l x q h.seat) waits (h.talk uncut)));
         contents = h.contents;
         lengths = h.lengths;
         commits = no_commits more x.closing x.cut (job h.seat) h.contents q.ups alone.0;
@@ -277,6 +295,12 @@ settled_now laws book k qs now c cs f x q j o kept waits there here unhung is pe
     pending_there : slice_get book.ops j ≡ Some o
     pending_there = subst (λ (z : ℕ). slice_get book.ops z ≡ Some o) place_is (pending.there ∙ ap (λ (z : Op). Some z) op_is)
 
+    pending_close : o.word ≡ words.Close
+    pending_close = ap (λ (z : Op). z.word) (sym op_is) ∙ pending.word_is
+
+    pending_file : o.file ≡ c.file
+    pending_file = ap (λ (z : Op). z.file) (sym op_is) ∙ pending.file_is
+
     pending_unmade : IsUnmade o
     pending_unmade = subst IsUnmade op_is pending.unmade
 
@@ -297,23 +321,23 @@ settled_now laws book k qs now c cs f x q j o kept waits there here unhung is pe
 
     close_made : (more : Book) → x.cut ≡ false → (i : Job) → job (kept.sessions c.session x q here is).seat ≡ Some i
         → CloseOf book x.closing (kept.sessions c.session x q here is).contents (kept.sessions c.session x q here is).seat.client.next_temp i (client.local_bytes (kept.sessions c.session x q here is).seat.client.opened i.file) i.stage
-        → CloseOf (made_book book (entry_of c (content_wanted c.what) f) j o) x.closing (kept.sessions c.session x q here is).contents (kept.sessions c.session x q here is).seat.client.next_temp i (client.local_bytes (kept.sessions c.session x q here is).seat.client.opened i.file) i.stage
+        → CloseOf (made_book book (entry_of c (content_wanted c.what) f ∷ []) j c.file o) x.closing (kept.sessions c.session x q here is).contents (kept.sessions c.session x q here is).seat.client.next_temp i (client.local_bytes (kept.sessions c.session x q here is).seat.client.opened i.file) i.stage
     close_made more uncut i w h =
         let own : Job = record { place = j; file = c.file; stage = stage.Committing c.xid } in
         let same : own ≡ i = some_is own i (sym (committing uncut) ∙ w) in
         committed i (sym (ap (λ (z : Job). z.stage) same)) (sym (ap (λ (z : Job). z.place) same)) h
       where
         committed : (i : Job) → i.stage ≡ stage.Committing c.xid → i.place ≡ j → CloseOf book x.closing (kept.sessions c.session x q here is).contents (kept.sessions c.session x q here is).seat.client.next_temp i (client.local_bytes (kept.sessions c.session x q here is).seat.client.opened i.file) i.stage
-            → CloseOf (made_book book (entry_of c (content_wanted c.what) f) j o) x.closing (kept.sessions c.session x q here is).contents (kept.sessions c.session x q here is).seat.client.next_temp i (client.local_bytes (kept.sessions c.session x q here is).seat.client.opened i.file) i.stage
+            → CloseOf (made_book book (entry_of c (content_wanted c.what) f ∷ []) j c.file o) x.closing (kept.sessions c.session x q here is).contents (kept.sessions c.session x q here is).seat.client.next_temp i (client.local_bytes (kept.sessions c.session x q here is).seat.client.opened i.file) i.stage
         committed i s p h =
             let v = client.local_bytes (kept.sessions c.session x q here is).seat.client.opened i.file in
             let old : CloseOf book x.closing (kept.sessions c.session x q here is).contents (kept.sessions c.session x q here is).seat.client.next_temp i v (stage.Committing c.xid) = subst (λ (z : Stage). CloseOf book x.closing (kept.sessions c.session x q here is).contents (kept.sessions c.session x q here is).seat.client.next_temp i v z) s h in
-            let g = grows_made book (entry_of c (content_wanted c.what) f) j o kept.sound.journal.count pending_there pending_unmade in
+            let g = grows_made book (entry_of c (content_wanted c.what) f ∷ []) c.file j o (λ close. sym pending_file) pending_there pending_unmade in
             let r = g.each i.place old.0 old.1 in
-            subst (λ (z : Stage). CloseOf (made_book book (entry_of c (content_wanted c.what) f) j o) x.closing (kept.sessions c.session x q here is).contents (kept.sessions c.session x q here is).seat.client.next_temp i v z) (sym s) (r.0, r.1, r.2.word ∙ old.2, r.2.value old.2 ∙ old.3)
+            subst (λ (z : Stage). CloseOf (made_book book (entry_of c (content_wanted c.what) f ∷ []) j c.file o) x.closing (kept.sessions c.session x q here is).contents (kept.sessions c.session x q here is).seat.client.next_temp i v z) (sym s) (r.0, r.1, r.2.word ∙ old.2, r.2.value (ap changes old.2) ∙ old.3)
 
-    still_runs : (z : ℕ) (u : Op) → slice_get (slice_set book.ops j (made_op book o)) z ≡ Some u → u.outcome ≡ told.Running → (e : Seat) × (g : Job) × (numbered k.seats u.client ≡ Some e) × (job e ≡ Some g) × (g.place ≡ z)
-    still_runs z u w run = elim (of_replaced book.ops j (made_op book o) z u w) [
+    still_runs : (z : ℕ) (u : Op) → slice_get (slice_set book.ops j (made_op book c.file o)) z ≡ Some u → u.outcome ≡ told.Running → (e : Seat) × (g : Job) × (numbered k.seats u.client ≡ Some e) × (job e ≡ Some g) × (g.place ≡ z)
+    still_runs z u w run = elim (of_replaced book.ops j (made_op book c.file o) z u w) [
       | inr was ↦ kept.running z u was.1 run
       | inl new ↦
           let r = kept.running j o pending_there (ap (λ (v : Op). v.outcome) (sym new.1) ∙ run) in
@@ -333,19 +357,19 @@ settled_core book more k r ops entries a b c =
 queue_told : (sessions : List Session) (qs : List Queue) (n : ℕ) (x : Session) (q : Queue) (t : Told) → numbered sessions n ≡ Some x → numbered qs n ≡ Some q → downs_put sessions qs ((n, t) ∷ []) ≡ with_numbered qs n (record q { downs = unless x.cut q.downs (t ∷ []) })
 queue_told sessions qs n x q t at is = ap (λ (o : Option Session). downs_put_in qs (n, t) o (numbered qs n)) at ∙ ap (λ (o : Option Queue). downs_put_in qs (n, t) (Some x) o) is
 
-settled_leads : FitLaws → (book : Book) (k : Core) (qs : List Queue) (now : ℕ) (c : Change) (cs : List Change) (f : File) → IsKept book k qs → k.server.waiting ≡ c ∷ cs → server.file_at k.server.tree c.file ≡ Some f → Leads book qs (settled_by_step k (made_change (at (record k.server { waiting = cs }) now) c (content_wanted c.what) f))
-settled_leads laws book k qs now c cs f kept waits there =
+settled_leads : FitLaws → (book : Book) (k : Core) (qs : List Queue) (now : ℕ) (c : Change) (cs : List Change) (f : File) → IsKept book k qs → k.server.waiting ≡ c ∷ cs → c.what ≡ wanted.Content (content_wanted c.what) → server.file_at k.server.tree c.file ≡ Some f → Leads book qs (settled_by_step k (made_change (at (record k.server { waiting = cs }) now) c (content_wanted c.what) f))
+settled_leads laws book k qs now c cs f kept waits what there =
     let n : ℕ = c.session in
     let home = kept.home 0 c (ap (λ (l : List Change). slice_get l 0) waits) in
     let x : Session = home.0 in
     let q = also_numbered k.sessions qs n x kept.made.1 home.1 in
     let h = kept.sessions n x q.0 home.1 q.1 in
-    let pending = h.pending 0 c (ap (λ (l : List Change). slice_get (own n l) 0) waits ∙ ap (λ (l : List Change). slice_get l 0) (own_first c cs)) in
+    let pending = subst (λ (w : Wanted). WaitsFor book x.closing x.cut (job h.seat) c.xid c.file w) what (h.pending 0 c (ap (λ (l : List Change). slice_get (own n l) 0) waits ∙ ap (λ (l : List Change). slice_get l 0) (own_first c cs))) in
     let j : ℕ = pending.place in
     let o : Op = pending.op in
     let t : Told = answer c (f.version + 1) in
-    let more = made_book book (entry_of c (content_wanted c.what) f) j o in
-    let now_kept = settled_now laws book k qs now c cs f x q.0 j o kept waits there home.1 home.2 q.1 pending refl refl in
+    let more = made_book book (entry_of c (content_wanted c.what) f ∷ []) j c.file o in
+    let now_kept = settled_now laws book k qs now c cs f x q.0 j o kept waits what there home.1 home.2 q.1 pending refl refl in
     let changed : Option ℕ = changed_file (entries_since k.server (settled_server k.server now c cs f)) in
     let ops_is : settled_by k changed (told_.Settled n c.xid) ≡ more.ops =
     ap (λ (z : Option ℕ). settled_by k z (told_.Settled n c.xid)) (one_since k.server (settled_server k.server now c cs f) (entry_of c (content_wanted c.what) f) refl)
@@ -353,8 +377,7 @@ settled_leads laws book k qs now c cs f kept waits there =
     ∙ ap (λ (z : Option ℕ). pointed_at k.ops z (k.steps + 1) (Some c.file)) pending.known
     ∙ ap (λ (os : List Op). pointed_at os (Some j) (k.steps + 1) (Some c.file)) (sym kept.ops)
     ∙ ap (λ (z : Option Op). pointed book.ops j c.file (k.steps + 1) z) pending.there
-    ∙ ap (λ (s : ℕ). slice_set book.ops j (record o { file = c.file; point = Some (s + 1) })) (sym kept.steps)
-    ∙ ap (λ (g : ℕ). slice_set book.ops j (record o { file = g; point = Some (book.steps + 1) })) (sym pending.file_is) in
+    ∙ ap (λ (s : ℕ). slice_set book.ops j (record o { file = c.file; point = Some (s + 1) })) (sym kept.steps) in
     let entries_is : more.entries ≡ k.entries ++ (k.steps + 1) ∷ [] = ap (λ (es : List ℕ). es ++ (book.steps + 1) ∷ []) kept.entries ∙ ap (λ (s : ℕ). k.entries ++ (s + 1) ∷ []) kept.steps in
     let core = settled_core book more k (settled_server k.server now c cs f) (settled_by k changed (told_.Settled n c.xid)) (k.entries ++ (k.steps + 1) ∷ []) (ap (λ s. s + 1) kept.steps) (sym ops_is) entries_is in
     record {
@@ -365,11 +388,45 @@ settled_leads laws book k qs now c cs f kept waits there =
       kept = subst (λ (z : List Queue). IsKept more (settled_by_step k (made_change (at (record k.server { waiting = cs }) now) c (content_wanted c.what) f)).core z) (sym (queue_told k.sessions qs n x q.0 t home.1 q.1)) (subst (λ (z : Core). IsKept more z (with_numbered qs n (record q.0 { downs = unless x.cut q.0.downs (t ∷ []) }))) core now_kept);
     }
 
-settled_waiting : FitLaws → (book : Book) (k : Core) (qs : List Queue) (now : ℕ) → IsKept book k qs → (waiting : List Change) → k.server.waiting ≡ waiting → Leads book qs (settled_by_step k (closing.settles k.server now waiting))
-settled_waiting laws book k qs now kept [] e = subst (λ (es : List ℕ). Leads book qs (quiet (record k { steps = k.steps + 1; entries = es }))) (sym (append-nil k.entries)) (leads_idle book k qs kept)
-settled_waiting laws book k qs now kept (c ∷ cs) e =
-    let f = target_there book k.server c cs kept.server e in
-    subst (λ (r : server.State × ServerStep). Leads book qs (settled_by_step k r)) (sym (made_is book k.server now c cs f.0 kept.server e f.1)) (settled_leads laws book k qs now c cs f.0 kept e f.1)
+-- ---- whatever waits first
+
+asks_itself : (a : Asked) → AsksFor (walk_for a) a
+asks_itself (asked.Remove r) = (refl, refl, refl)
+asks_itself (asked.Rename r) = (refl, refl, refl)
+
+-- a commit, by whether its file is there
+settled_commit : FitLaws → (book : Book) (k : Core) (qs : List Queue) (now : ℕ) (c : Change) (cs : List Change) (content : List ℕ) → IsKept book k qs → k.server.waiting ≡ c ∷ cs → c.what ≡ wanted.Content content → (o : Option File) → server.file_at k.server.tree c.file ≡ o → Leads book qs (happens k (Settles now))
+settled_commit laws book k qs now c cs content kept waits what (Some f) there =
+    let wants = what ∙ ap (λ (x : List ℕ). wanted.Content x) (sym (ap content_wanted what)) in
+    subst (λ (ws : List Change). Leads book qs (settled_by_step k (closing.settles k.server now ws))) (sym waits)
+    (subst (λ (r : server.State × ServerStep). Leads book qs (settled_by_step k r)) (sym (made_is book k.server now c cs f kept.server waits there wants)) (settled_leads laws book k qs now c cs f kept waits wants there))
+settled_commit laws book k qs now c cs content kept waits what None none =
+    let first = ap (λ (l : List Change). slice_get l 0) waits in
+    let home = kept.home 0 c first in
+    let q = also_numbered k.sessions qs c.session home.0 kept.made.1 home.1 in
+    let h = kept.sessions c.session home.0 q.0 home.1 q.1 in
+    let pending = subst (λ (w : Wanted). WaitsFor book home.0.closing home.0.cut (job h.seat) c.xid c.file w) what (h.pending 0 c (ap (λ (l : List Change). slice_get (own c.session l) 0) waits ∙ ap (λ (l : List Change). slice_get l 0) (own_first c cs))) in
+    subst (Leads book qs) (sym (unmade_settles k now c cs content waits what (node_gone book k.server c.file kept.server (kept.server.targets 0 c first) none))) (leads_unmade laws book k qs now c cs content kept waits what none home.0 q.0 home.1 home.2 q.1 pending)
+
+-- a remove, or a rename over a file
+settled_asked : FitLaws → (book : Book) (k : Core) (qs : List Queue) (now : ℕ) (c : Change) (cs : List Change) (a : Asked) → IsKept book k qs → IsNoted book k (Settles now) → k.server.waiting ≡ c ∷ cs → c.what ≡ wanted.Asked a → Leads book qs (happens k (Settles now))
+settled_asked laws book k qs now c cs a kept noted waits what =
+    let first = ap (λ (l : List Change). slice_get l 0) waits in
+    let home = kept.home 0 c first in
+    let q = also_numbered k.sessions qs c.session home.0 kept.made.1 home.1 in
+    let h = kept.sessions c.session home.0 q.0 home.1 q.1 in
+    let pending = subst (λ (w : Wanted). WaitsFor book home.0.closing home.0.cut (job h.seat) c.xid c.file w) what (h.pending 0 c (ap (λ (l : List Change). slice_get (own c.session l) 0) waits ∙ ap (λ (l : List Change). slice_get l 0) (own_first c cs))) in
+    let wants = subst (IsWanted c.file) what (kept.server.wants 0 c first) in
+    ends_so laws book k qs now c cs a kept noted waits what home.0 q.0 home.1 home.2 q.1 pending
+    (settles_so k.server.tree (server.held cs) (walk_for a) a kept.server.bounded wants.2 (asks_itself a) wants.1 (λ n d. no_directory book k.server (file_of a) n kept.server (subst (λ (f : ℕ). WasThere book f) wants.0 (kept.server.targets 0 c first)) d))
 
 pub kept_settles : FitLaws → KeptSettles
-kept_settles laws = λ book k qs now kept noted. settled_waiting laws book k qs now kept k.server.waiting refl
+kept_settles laws = λ book k qs now kept noted. by book k qs now kept noted k.server.waiting refl
+  where
+    by : (book : Book) (k : Core) (qs : List Queue) (now : ℕ) → IsKept book k qs → IsNoted book k (Settles now) → (waiting : List Change) → k.server.waiting ≡ waiting → Leads book qs (happens k (Settles now))
+    by book k qs now kept noted [] e = subst (λ (ws : List Change). Leads book qs (settled_by_step k (closing.settles k.server now ws))) (sym e) (subst (λ (es : List ℕ). Leads book qs (quiet (record k { steps = k.steps + 1; entries = es }))) (sym (append-nil k.entries)) (leads_idle book k qs kept))
+    by book k qs now kept noted (c ∷ cs) e = first c.what refl
+      where
+        first : (w : Wanted) → c.what ≡ w → Leads book qs (happens k (Settles now))
+        first (wanted.Content content) what = settled_commit laws book k qs now c cs content kept e what (server.file_at k.server.tree c.file) refl
+        first (wanted.Asked a) what = settled_asked laws book k qs now c cs a kept noted e what

@@ -77,7 +77,7 @@ good_ends Q R x b r e = (subst (TaskGood Q R) (sym e.task) tt, subst (EndGood Q)
 
 good_took : (Q : ℕ → ℕ → Type 0) (R : ℕ → Type 0) (s : State) (fresh : R s.next) (calls : List Pending) (file : ℕ) (st : Stage) (xid : ℕ) (b : Body) → TookIn Q st xid b → Good Q R (took s calls file st xid b)
 good_took Q R s fresh calls file (stage.Walking y w) x b q = walk_cases (Good Q R) s calls file y w x b (record {
-  fault = λ f. (tt, tt);
+  fault = λ f bad. (tt, tt);
   asks = λ v k. (tt, tt);
   open_already = λ id k is. (tt, tt);
   fetches = λ id k shut none. (fresh, tt);

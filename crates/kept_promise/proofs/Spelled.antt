@@ -6,12 +6,20 @@ use Rattle.xdr_codec.specs.Attr.{attr_form, kind_form, time_form}
 use Rattle.xdr_codec.specs.Xdr.{u32_form, u64_form, bool_form, bool_fits, fixed_form, count_form}
 use Rattle.hash_calls.specs.Calls.{hashes_form, leased_form, pair_form, new_temp_form, temp_piece_form, cond_piece_form, commit_form, committed_form}
 use Rattle.hash_calls.specs.Calls.{range_form as hash_range_form}
-use Rattle.nfs3_calls.specs.Calls.{piece_form, range_form}
+use Rattle.nfs3_calls.specs.Calls.{piece_form, range_form, place_form, list_range_form, new_file_form, new_dir_form, rename_form}
+use Rattle.nfs3_calls.specs.Choices.{set_attr_form, set_time_form, how_made_form}
 use Rattle.wire.proofs.Sizes.{small_fits}
 use Rattle.server_core.specs.Answers.{time_of}
-use Rattle.kept_promise.proofs.Common.{All, slice_get, filter, All-nil, All-cons, All-map, chunks_of, chunk_bytes, Chunk, handle_bytes, Done, Failed, HashRange, Range, MessageFits, IsExpected, meets, told_chunks, pair_of, is_end, hashes_of, leased_of, piece_of, attr_of, File, server_waiting, Call, Call.Lease, Call.Hash, Call.Read, Call.Make, Call.Name, Call.Send, Call.Commit, Reply, Reply.Versioned, Reply.Hashed, Reply.Bytes, Reply.Made, Reply.Named, Reply.Stored, Reply.Changed, call_message, told_message}
+use Rattle.kept_promise.proofs.Common.{All, slice_get, filter, All-nil, All-cons, All-map, chunks_of, chunk_bytes, Chunk, handle_bytes, Done, Failed, HashRange, Range, MessageFits, IsExpected, meets, told_chunks, pair_of, is_end, hashes_of, leased_of, piece_of, attr_of, File, server_waiting, Call, Call.Lease, Call.Hash, Call.Read, Call.Make, Call.Name, Call.Send, Call.Commit, Reply, Reply.Versioned, Reply.Hashed, Reply.Bytes, Reply.Made, Reply.Named, Reply.Stored, Reply.Changed, call_message, told_message, Call.Walks}
 use Rattle.kept_promise.proofs.Statements.{CallFits, CallsFit, FileFits, HashAnswersFit, LeaseAnswersFit, ReadAnswersFit, IsPlain, PlainAnswersFit, AreInRow}
 use Rattle.kept_promise.proofs.Chunks.{chunks_in_row, chunks_are_named, len_map}
+use Rattle.path_calls.specs.Walk.{place, call_at, page_call, keeps_all, create_call, make_dir_call, rename_call}
+use Rattle.path_calls.specs.declared.walk.Goal.{Goal}
+use Rattle.path_calls.specs.declared.walk.Goal.TheVariants as goal
+use Rattle.nfs3_calls.specs.declared.message.Nfs.TheVariants as nfs
+use Rattle.wire.specs.declared.message.Body.TheVariants as body
+use Rattle.wire.specs.declared.message.Message.TheVariants as message
+use Rattle.kept_promise.proofs.PathNames.{AreNames, IsGoalNamed, IsAsking}
 
 handle_len : (name : ℕ) → length (handle_bytes name) ≡ 16
 handle_len name = refl
@@ -22,6 +30,52 @@ sha1_len bytes = refl
 
 -- ---- calls
 
+place_fits : (xid dir : ℕ) (name : List ℕ) → xid < 2 ^ 32 → length name ≤ 255 → MessageFits (message.Call xid (body.Nfs (nfs.Lookup (place dir name))))
+unfolding place_form
+place_fits xid dir name x short = small_fits (message.Call xid (body.Nfs (nfs.Lookup (place dir name)))) (x, (refl, ((omega (arith, handle_len dir), omega (arith, handle_len dir)), (omega (arith, short), omega (arith, short))))) (omega (arith, short))
+
+-- no attribute is set
+keeps_fit : set_attr_form.Fits keeps_all
+unfolding set_attr_form set_time_form u32_form u64_form
+keeps_fit = ((bool_fits false, refl), ((bool_fits false, refl), ((bool_fits false, refl), ((bool_fits false, refl), (((lit< tt, refl), refl), ((lit< tt, refl), refl))))))
+
+-- a place is one of a directory's handle and a short name
+spot_fits : (dir : ℕ) (name : List ℕ) → length name ≤ 255 → place_form.Fits (place dir name)
+unfolding place_form
+spot_fits dir name short = ((omega (arith, handle_len dir), omega (arith, handle_len dir)), (omega (arith, short), omega (arith, short)))
+
+create_fits : (xid dir : ℕ) (name : List ℕ) → xid < 2 ^ 32 → length name ≤ 255 → MessageFits (message.Call xid (body.Nfs (create_call dir name)))
+unfolding new_file_form how_made_form u32_form
+create_fits xid dir name x short = small_fits (message.Call xid (body.Nfs (create_call dir name))) (x, (refl, (spot_fits dir name short, ((lit< tt, refl), (keeps_all, refl, keeps_fit))))) (omega (arith, short))
+
+make_dir_fits : (xid dir : ℕ) (name : List ℕ) → xid < 2 ^ 32 → length name ≤ 255 → MessageFits (message.Call xid (body.Nfs (make_dir_call dir name)))
+unfolding new_dir_form
+make_dir_fits xid dir name x short = small_fits (message.Call xid (body.Nfs (make_dir_call dir name))) (x, (refl, (spot_fits dir name short, keeps_fit))) (omega (arith, short))
+
+remove_dir_fits : (xid dir : ℕ) (name : List ℕ) → xid < 2 ^ 32 → length name ≤ 255 → MessageFits (message.Call xid (body.Nfs (nfs.RmDir (place dir name))))
+remove_dir_fits xid dir name x short = small_fits (message.Call xid (body.Nfs (nfs.RmDir (place dir name)))) (x, (refl, spot_fits dir name short)) (omega (arith, short))
+
+remove_fits : (xid dir : ℕ) (name : List ℕ) → xid < 2 ^ 32 → length name ≤ 255 → MessageFits (message.Call xid (body.Nfs (nfs.Remove (place dir name))))
+remove_fits xid dir name x short = small_fits (message.Call xid (body.Nfs (nfs.Remove (place dir name)))) (x, (refl, spot_fits dir name short)) (omega (arith, short))
+
+rename_fits : (xid from : ℕ) (name : List ℕ) (to : ℕ) (other : List ℕ) → xid < 2 ^ 32 → length name ≤ 255 → length other ≤ 255 → MessageFits (message.Call xid (body.Nfs (rename_call from name to other)))
+unfolding rename_form
+rename_fits xid from name to other x short short_to = small_fits (message.Call xid (body.Nfs (rename_call from name to other))) (x, (refl, (spot_fits from name short, spot_fits to other short_to))) (omega (arith, short, short_to))
+
+walk_fits : (xid dir : ℕ) (left : List (List ℕ)) (g : Goal) → xid < 2 ^ 32 → AreNames left → IsGoalNamed g → IsAsking g → MessageFits (message.Call xid (body.Nfs (call_at dir left g)))
+unfolding list_range_form u64_form u32_form
+walk_fits xid dir (n ∷ ns) g x names aim asks = place_fits xid dir n x names.0.0.1
+walk_fits xid dir [] (goal.Find name) x names aim asks = place_fits xid dir name x aim.1
+walk_fits xid dir [] (goal.Look name) x names aim asks = place_fits xid dir name x aim.1
+walk_fits xid dir [] goal.LookRoot x names aim asks = small_fits (message.Call xid (body.Nfs (nfs.GetAttr (handle_bytes dir)))) (x, (refl, (omega (arith, handle_len dir), omega (arith, handle_len dir)))) tt
+walk_fits xid dir [] (goal.List p) x names aim asks = small_fits (message.Call xid (body.Nfs (page_call dir p))) (x, (refl, ((omega (arith, handle_len dir), omega (arith, handle_len dir)), (asks.0, (asks.1, lit< tt))))) tt
+walk_fits xid dir [] (goal.Make name) x names aim asks = create_fits xid dir name x aim.1
+walk_fits xid dir [] (goal.MakeDir name) x names aim asks = make_dir_fits xid dir name x aim.1
+walk_fits xid dir [] (goal.Remove name) x names aim asks = remove_fits xid dir name x aim.1
+walk_fits xid dir [] (goal.RemoveDir name) x names aim asks = remove_dir_fits xid dir name x aim.1
+walk_fits xid dir [] (goal.RenameFrom name to) x names aim asks = place_fits xid dir name x aim.0.1
+walk_fits xid dir [] (goal.RenameTo from name to) x names aim asks = rename_fits xid from name dir to x aim.0.1 aim.1.1
+
 call_fits : (xid : ℕ) (c : Call) → CallFits xid c → MessageFits (call_message xid c)
 unfolding hash_range_form range_form new_temp_form cond_piece_form temp_piece_form commit_form fixed_form u64_form u32_form
 call_fits xid (Lease file) f = small_fits (call_message xid (Lease file)) (f.0, (refl, (omega (arith, handle_len file), omega (arith, handle_len file)))) tt
@@ -31,6 +85,7 @@ call_fits xid (Make temp file) f = small_fits (call_message xid (Make temp file)
 call_fits xid (Name temp c) f = let s = f.2 in let l = f.3 in small_fits (call_message xid (Name temp c)) (f.0, (refl, (f.1, (omega (arith, s), (omega (arith, l), f.4))))) tt
 call_fits xid (Send temp start bytes) f = let s = f.2 in let l = f.3 in small_fits (call_message xid (Send temp start bytes)) (f.0, (refl, (f.1, (omega (arith, s), (omega (arith, l), omega (arith, l)))))) tt
 call_fits xid (Commit temp file size) f = let s = f.3 in small_fits (call_message xid (Commit temp file size)) (f.0, (refl, (f.1, ((omega (arith, handle_len file), omega (arith, handle_len file)), omega (arith, s))))) tt
+call_fits xid (Walks w) f = walk_fits xid w.dir w.left w.goal f.0 f.1.named.0 f.1.named.1 f.1.asking
 
 call_expected : (xid : ℕ) (c : Call) → IsExpected server_waiting (call_message xid c)
 call_expected xid (Lease file) = refl
@@ -40,6 +95,7 @@ call_expected xid (Make temp file) = refl
 call_expected xid (Name temp c) = refl
 call_expected xid (Send temp start bytes) = refl
 call_expected xid (Commit temp file size) = refl
+call_expected xid (Walks w) = refl
 
 pub calls_fit : CallsFit
 calls_fit = λ xid c f. (call_fits xid c f, call_expected xid c)

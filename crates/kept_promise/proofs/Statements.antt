@@ -1,7 +1,21 @@
 -- Statements that parts of the law show of chunk lists, of what fits a record, of deliveries, of streams and of the clocks, as types.
 use Rattle.std.proofs.Common.{◌≡◌, ℕ, suc, ◌+◌, ◌^◌, ◌<◌, ◌≤◌, List, [], ◌∷◌, ◌++◌, length, map, take, drop, Option, Some, None, Ok, Bool, true, false}
 use Rattle.temp_files.specs.Pieces as piece_rules
-use Rattle.kept_promise.proofs.Common.{nat_le, All, slice_get, insert_entry, nat_cmp, sha1, Unread, fed, stream, chunks_of, chunk_bytes, end_of, Chunk, Done, Failed, MessageFits, IsExpected, told_chunks, pair_of, is_end, hashes_of, leased_of, piece_of, piece_bytes, File, with_pairs, broken_of, slots_bytes, Fetch, World, server_waiting, up_some, down_some, KeepsClocks, run, accepted, Call, Call.Lease, Call.Hash, Call.Read, Call.Make, Call.Name, Call.Send, Call.Commit, Reply, Reply.Versioned, Reply.Hashed, Reply.Bytes, Reply.Made, Reply.Named, Reply.Stored, Reply.Changed, call_message, told_message}
+use Rattle.tree_calls.specs.Telling.{told as told_by}
+use Rattle.path_calls.specs.Walk.{next_call}
+use Rattle.path_calls.specs.declared.walk.Walk.{Walk}
+use Rattle.server_law.proofs.Trees.{IsBounded}
+use Rattle.wire.specs.declared.message.Body.TheVariants as body
+use Rattle.wire.specs.declared.message.Message.TheVariants as message
+use Rattle.file_tree.specs.declared.call.Held.{Held}
+use Rattle.kept_promise.proofs.PathNames.{IsWalkSmall, is_building, is_going}
+use Rattle.tree_calls.specs.Waiting.{settles}
+use Rattle.tree_calls.specs.declared.asked.Asked.{Asked}
+use Rattle.tree_calls.specs.declared.asked.Done.{Done as Finished}
+use Rattle.tree_calls.specs.declared.asked.Outcome.TheVariants.{Answered}
+use Rattle.kept_promise.proofs.Departures.{comes_by}
+use Rattle.kept_promise.proofs.Makings.{made_by}
+use Rattle.kept_promise.proofs.Common.{nat_le, All, slice_get, insert_entry, nat_cmp, sha1, Unread, fed, stream, chunks_of, chunk_bytes, end_of, Chunk, Done, Failed, MessageFits, IsExpected, told_chunks, pair_of, is_end, hashes_of, leased_of, piece_of, piece_bytes, File, with_pairs, broken_of, slots_bytes, Fetch, World, server_waiting, up_some, down_some, KeepsClocks, run, accepted, Call, Call.Lease, Call.Hash, Call.Read, Call.Make, Call.Name, Call.Send, Call.Commit, Reply, Reply.Versioned, Reply.Hashed, Reply.Bytes, Reply.Made, Reply.Named, Reply.Stored, Reply.Changed, call_message, told_message, Call.Walks, Reply.Walked, NameReply, name_answer, Tree}
 
 -- ---- chunk lists
 
@@ -76,6 +90,7 @@ CallFits xid (Make temp file) = (xid < 2 ^ 32) × (temp < 2 ^ 32) × (file < 2 ^
 CallFits xid (Name temp c) = (xid < 2 ^ 32) × (temp < 2 ^ 32) × (c.start ≤ 67108864) × (c.len ≤ 65536) × (length c.digest ≡ 20)
 CallFits xid (Send temp start bytes) = (xid < 2 ^ 32) × (temp < 2 ^ 32) × (start ≤ 67108864) × (length bytes ≤ 65536)
 CallFits xid (Commit temp file size) = (xid < 2 ^ 32) × (temp < 2 ^ 32) × (file < 2 ^ 64) × (size ≤ 67108864)
+CallFits xid (Walks w) = (xid < 2 ^ 32) × IsWalkSmall w
 
 abbrev pub CallsFit : Type 0
 CallsFit = (xid : ℕ) (c : Call) → CallFits xid c → MessageFits (call_message xid c) × IsExpected server_waiting (call_message xid c)
@@ -104,6 +119,21 @@ IsPlain (Stored a) = Unit {0}
 IsPlain (Changed (Failed s u)) = Unit {0}
 IsPlain (Changed (Done c)) = (c.version < 2 ^ 32) × (c.term ≡ 0)
 IsPlain r = ⊥
+
+-- what a tree within the limits tells a walk
+abbrev pub NameAnswersFit : Type 0
+NameAnswersFit = (xid : ℕ) (t : Tree) (w : Walk) (r : NameReply) → xid < 2 ^ 32 → IsBounded t → IsWalkSmall w → told_by t.nodes (next_call w) ≡ Some (name_answer r) → MessageFits (told_message (record { xid = xid; reply = Walked r }))
+
+-- and what it answers to a call that makes or removes something
+abbrev pub MakingAnswersFit : Type 0
+MakingAnswersFit = (xid : ℕ) (t : Tree) (held : Held) (w : Walk) → xid < 2 ^ 32 → IsBounded t → IsBounded (made_by t held w.dir w.goal).0 → is_building w ≡ true → MessageFits (message.Answer xid (body.Nfs (made_by t held w.dir w.goal).1.answer))
+
+-- and to one that removes or renames, on arrival and once it has waited
+abbrev pub GoingAnswersFit : Type 0
+GoingAnswersFit = (xid : ℕ) (t : Tree) (held : Held) (busy : Bool) (w : Walk) (after : Tree) (d : Finished) → xid < 2 ^ 32 → IsBounded t → IsBounded after → comes_by t held busy w.dir w.goal ≡ (after, Answered d) → is_going w ≡ true → MessageFits (message.Answer xid (body.Nfs d.answer))
+
+abbrev pub SettledAnswersFit : Type 0
+SettledAnswersFit = (xid : ℕ) (t : Tree) (held : Held) (a : Asked) → xid < 2 ^ 32 → IsBounded t → IsBounded (settles t held a).0 → MessageFits (message.Answer xid (body.Nfs (settles t held a).1.answer))
 
 abbrev pub PlainAnswersFit : Type 0
 PlainAnswersFit = (xid : ℕ) (r : Reply) → xid < 2 ^ 32 → IsPlain r → MessageFits (told_message (record { xid = xid; reply = r }))

@@ -38,8 +38,7 @@ use Rattle.register_model.specs.declared.op.Word.TheVariants as words
 use Rattle.trace_replay.specs.Trail.{given_in}
 use Rattle.kept_promise.proofs.Common.{nat_tests, ◌==◌, ◌&&◌, not, if◌then◌else◌, sha1, end_from, end_of, slice_get, nat_lt, Chunk, content_length, content_bytes, Command, Answer, Done, Failed, Status, Hashes, Pair, Piece, Body, Pending, names_next, names_more, names_all, is_stored, store_of, store_at, answered, ends, local_most, written_size, written, truncated, tries_most, fetch_of, with_hashes, listed, reads_next, reads_more, reads_all, is_here, read_at, fault_in, other_version, with_bytes, Broken, broken_if, broken_pair, broken_pairs, chunks_from, with_pairs, broken_sum, broken_of, State, local_at, local_bytes, part_of, bad_peer, refused, tries_anew, retries, reads_if, reads_on, lists_on, told_shape, told_version, told_hashes, misfits, told_bytes, told_chunk, told_piece, goes_if, goes_on, sends_whole, told_named, told_way, told_stored, forgets, idle, took, is_open, may_ask, opens_if, opens, on_local, too_big, done_with, edits, writes, truncates, abandons, asks_temp, closes, command_step, Names, Reads, BadPeer, ClientStep, Ended, Outcome, Fetch, Local, ReadCall, Stage, Store, StoreCall, Task, Way, Word, no_counts, taken_traffic}
 use Rattle.kept_promise.proofs.Lists.{some_is, nothing_there}
-use Rattle.kept_promise.proofs.Common.{Book, TakenCall}
-use Rattle.kept_promise.proofs.Messages.{Job, FetchOf, stage_word}
+use Rattle.kept_promise.proofs.Messages.{stage_word}
 
 -- ---- calls that go out one by one
 
@@ -344,17 +343,6 @@ abbrev pub IsOfFile : Stage → Type 0
 IsOfFile (stage.Walking y w) = ⊥
 IsOfFile st = Unit {0}
 
--- no walk is under way
-pub fetch_known : (book : Book) (taken : List TakenCall) (j : Job) (st : Stage) → FetchOf book taken j st → IsOfFile st
-fetch_known book taken j (stage.Walking y w) h = h
-fetch_known book taken j (stage.Asking y) h = tt
-fetch_known book taken j (stage.Hashing tries y) h = tt
-fetch_known book taken j (stage.Listing y f) h = tt
-fetch_known book taken j (stage.Reading f) h = tt
-fetch_known book taken j (stage.Making y temp) h = tt
-fetch_known book taken j (stage.Storing w) h = tt
-fetch_known book taken j (stage.Committing y) h = tt
-
 -- whatever holds of each holds of what an answer makes, beside the chunks that the index gives then
 pub took_cases : (Z : List (ℕ × ℕ) → State × ClientStep → Type 0) (s : State) (calls : List Pending) (file : ℕ) (st : Stage) (x : ℕ) (b : Body) → IsOfFile st → Cases Z s calls file st x b → Z (given_in s (with_file file (reading_by st x b))) (took s calls file st x b)
 took_cases Z s calls file (stage.Walking y w) x b known cases = absurd known
@@ -414,9 +402,19 @@ pub record Walks (st : Stage) (b : Body) (t : WalkTold) : Type 0 where
   pub its : is_its walk answer ≡ true
   pub told_is : walk_told walk answer ≡ t
 
+abbrev pub IsBad : WalkTold → Type 0
+IsBad (walk_told_as.Shape got wanted) = Unit {0}
+IsBad walk_told_as.Other = Unit {0}
+IsBad t = ⊥
+
+-- it isn't one to its call, or nothing comes of it
+abbrev pub IsUntold : Stage → Body → Type 0
+IsUntold st b = (y : ℕ) (w : Walk) (a : Nfs) → st ≡ stage.Walking y w → b ≡ body.Nfs a → is_its w a ≡ true → IsBad (walk_told w a)
+
 -- what holds of each of them
 pub record WalkCases (Z : State × ClientStep → Type 0) (s : State) (calls : List Pending) (st : Stage) (x : ℕ) (b : Body) : Type 0 where
-  pub fault : (f : BadPeer) → Z (bad_peer s f 0)
+  -- an answer that isn't its call's, or tells nothing, is a fault
+  pub fault : (f : BadPeer) → IsUntold st b → Z (bad_peer s f 0)
   -- the next call goes out
   pub asks : (v : Walk) → Walks st b (walk_told_as.Asks v) → Z (asks_next s v)
   -- the name that was to be opened stands for a file: that is open, or the open goes on as one of it
@@ -430,6 +428,21 @@ pub record WalkCases (Z : State × ClientStep → Type 0) (s : State) (calls : L
 pub walk_cases : (Z : State × ClientStep → Type 0) (s : State) (calls : List Pending) (file y : ℕ) (w : Walk) (x : ℕ) (b : Body) → WalkCases Z s calls (stage.Walking y w) x b → Z (took s calls file (stage.Walking y w) x b)
 walk_cases Z s calls file y w x (body.Nfs a) h = own (is_its w a) refl
   where
+    true_not_false : true ≡ false → ⊥
+    true_not_false e = cc
+
+    walk_is : (z : ℕ) (v : Walk) → stage.Walking y w ≡ stage.Walking z v → w ≡ v
+    walk_is z v e = cc
+
+    answer_is : (m : Nfs) → body.Nfs a ≡ body.Nfs m → a ≡ m
+    answer_is m e = cc
+
+    same : (z : ℕ) (v : Walk) (m : Nfs) → stage.Walking y w ≡ stage.Walking z v → body.Nfs a ≡ body.Nfs m → walk_told w a ≡ walk_told v m
+    same z v m at is = ap (λ (u : Walk). walk_told u a) (walk_is z v at) ∙ ap (walk_told v) (answer_is m is)
+
+    its_same : (z : ℕ) (v : Walk) (m : Nfs) → stage.Walking y w ≡ stage.Walking z v → body.Nfs a ≡ body.Nfs m → is_its w a ≡ is_its v m
+    its_same z v m at is = ap (λ (u : Walk). is_its u a) (walk_is z v at) ∙ ap (is_its v) (answer_is m is)
+
     kept : (id : ℕ) → walk_told w a ≡ walk_told_as.Finds id → is_its w a ≡ true → is_open s.opened id ≡ false → (o : Option Content) → content_of s.cache id ≡ o → Z (finding id (asks_kept (fronts s id) id o))
     kept id is own shut None e = h.fetches id (record { asked = y; walk = w; answer = a; stage_is = refl; body_is = refl; its = own; told_is = is }) shut e
     kept id is own shut (Some c) e = h.leases id c (record { asked = y; walk = w; answer = a; stage_is = refl; body_is = refl; its = own; told_is = is }) shut e
@@ -442,13 +455,13 @@ walk_cases Z s calls file y w x (body.Nfs a) h = own (is_its w a) refl
     by own (walk_told_as.Asks v) is = h.asks v (record { asked = y; walk = w; answer = a; stage_is = refl; body_is = refl; its = own; told_is = is })
     by own (walk_told_as.Finds id) is = finds id is own (is_open s.opened id) refl
     by own (walk_told_as.Ends e) is = h.ends w e (record { asked = y; walk = w; answer = a; stage_is = refl; body_is = refl; its = own; told_is = is }) refl
-    by own (walk_told_as.Shape got wanted) is = h.fault (bad.Shape got wanted)
-    by own walk_told_as.Other is = h.fault (bad.UnknownXid x)
+    by own (walk_told_as.Shape got wanted) is = h.fault (bad.Shape got wanted) (λ z v m at is_body mine. subst IsBad (sym (sym (same z v m at is_body) ∙ is)) tt)
+    by own walk_told_as.Other is = h.fault (bad.UnknownXid x) (λ z v m at is_body mine. subst IsBad (sym (sym (same z v m at is_body) ∙ is)) tt)
 
     own : (t : Bool) → is_its w a ≡ t → Z (told_walk s calls x w a t)
     own true e = by e (walk_told w a) refl
-    own false e = h.fault (bad.UnknownXid x)
-walk_cases Z s calls file y w x b h = h.fault (bad.UnknownXid x)
+    own false e = h.fault (bad.UnknownXid x) (λ z v m at is_body mine. absurd (true_not_false (sym mine ∙ sym (its_same z v m at is_body) ∙ e)))
+walk_cases Z s calls file y w x b h = h.fault (bad.UnknownXid x) (λ z v m at is_body mine. absurd cc)
 
 -- its operation goes on as one with this word, if it does
 abbrev pub GoesOn : Word → State × ClientStep → Type 0

@@ -1,46 +1,45 @@
 -- A client takes an answer that its operation waits for: it goes on, or the operation ends. What each of both has to show.
-use Rattle.std.proofs.Common.{◌⊎◌, inl, inr, ◌≡◌, ℕ, suc, ◌+◌, ◌<◌, ◌≤◌, List, [], ◌∷◌, ◌++◌, length, Option, Some, None, Bool, true, false, refl, sym, ap, ◌∙◌, subst, arith, map, IsSome}
+use Rattle.std.proofs.Common.{inl, inr, ◌≡◌, ℕ, suc, ◌+◌, ◌<◌, ◌≤◌, List, [], ◌∷◌, ◌++◌, length, Option, Some, None, Bool, true, false, refl, sym, ap, ◌∙◌, subst, arith, map}
+use Rattle.path_calls.specs.declared.walk.Goal.{Goal}
+use Rattle.path_calls.specs.declared.walk.Goal.TheVariants as goal
+use Rattle.path_calls.specs.declared.walk.Walk.{Walk}
+use Rattle.kept_promise.proofs.PathNames.{is_creating}
 use Rattle.client_state.specs.State as client
 use Rattle.client_state.specs.declared.task.Stage.TheVariants as stage
 use Rattle.register_model.specs.declared.op.Outcome.{Outcome}
 use Rattle.register_model.specs.declared.op.Outcome.TheVariants as told
 use Rattle.register_model.specs.declared.op.Word.TheVariants as words
-use Rattle.kept_promise.proofs.Common.{nat_tests, slice_get, slice_set, nat_le, Chunk, Answer, Done, Failed, Attr, Piece, Pending, Change, Fetch, Local, Stage, content_of, Op, Traffic, TakenCall, Core, Seat, Session, numbered, unless, hashed_of, Book, Entries, Indexed, Call, Call.Lease, Call.Hash, Call.Read, Call.Commit, Reply, Reply.Versioned, Reply.Hashed, Reply.Bytes, Reply.Changed, Ask, Told, Queue, reply_program}
+use Rattle.kept_promise.proofs.Common.{changes, cond, nat_tests, slice_get, slice_set, nat_le, Chunk, Answer, Done, Failed, Attr, Piece, Pending, Change, Fetch, Local, Stage, Op, Traffic, TakenCall, Core, Seat, Session, numbered, unless, hashed_of, Book, Entries, Indexed, Call, Call.Lease, Call.Hash, Call.Read, Call.Commit, Reply, Reply.Versioned, Reply.Hashed, Reply.Bytes, Reply.Changed, Ask, Told, Queue, reply_program, Call.Walks, Reply.Walked, Status}
 use Rattle.kept_promise.proofs.Statements.{CallFits}
 use Rattle.kept_promise.proofs.Lists.{some_is, nothing_there, same_or_not, of_replaced, at_replaced, false_and_true}
 use Rattle.kept_promise.proofs.Keys.{times, times_append, own, on_way, ask_key, change_key, told_key, pending_key, found_by, there_by, key_xid}
-use Rattle.kept_promise.proofs.Messages.{Job, job, stage_word, AllAsks, AllTolds, Rising, hash_offset, read_chunk, CallOf, IsAsked, AnswerOf, IsAnswer, Trying, FetchOf, ReadTold, CommitOf, IsCommit, IsPiece, TempUnder, CloseOf}
-use Rattle.kept_promise.proofs.Rights.{Caused, IsRight, IsSound}
+use Rattle.kept_promise.proofs.Messages.{Job, job, stage_word, AllAsks, AllTolds, Rising, hash_offset, read_chunk, CallOf, IsAsked, AnswerOf, IsAnswer, Trying, FetchOf, ReadTold, CommitOf, IsCommit, IsPiece, TempUnder, CloseOf, IsCreating, goal_word, RefusedTold}
+use Rattle.kept_promise.proofs.Rights.{Caused, IsRight, IsSound, WasThere}
 use Rattle.kept_promise.proofs.History.{Goes, onward, Becomes, goes_becomes, still_becomes}
 use Rattle.kept_promise.proofs.Later.{all_asks, cached_later, answer_later, trying_later, close_later, commit_later, fetch_of_later, Spares}
 use Rattle.kept_promise.proofs.Turns.{Around, turned_core}
 use Rattle.kept_promise.proofs.Orderly.{Orderly}
 use Rattle.kept_promise.proofs.Ordered.{AllFetching, none_free, orderly_later}
-use Rattle.kept_promise.proofs.OrderSteps.{EndsAt, orderly_ends, free_on}
-use Rattle.kept_promise.proofs.Facts.{Cached, IsBalanced, IsSession, IsOf, HasXids, IsKept, commits_in}
+use Rattle.kept_promise.proofs.OrderSteps.{EndsAt, orderly_ends, free_on, IsNoClose, open_no_close}
+use Rattle.kept_promise.proofs.Facts.{Cached, IsBalanced, IsSession, IsOf, HasXids, IsKept, commits_in, change_number, is_naming}
 use Rattle.kept_promise.proofs.Heard.{Moves, rising_to, put_up, kept_heard}
+use Rattle.kept_promise.proofs.Growth.{there_later}
 
 -- ---- an operation that goes on
 
 pub job_op : (book : Book) (k : Core) (qs : List Queue) (x : Session) (seat : Seat) (j : Job) → IsKept book k qs → numbered k.seats x.owner ≡ Some seat → job seat ≡ Some j → IsOf book x.owner j
 job_op book k qs x seat j kept was is = (kept.seats x.owner seat was).task j is
 
-pub remote_words : (s : Stage) → (stage_word s ≡ words.Open) ⊎ (stage_word s ≡ words.Close)
-remote_words (stage.Making x temp) = inr refl
-remote_words (stage.Storing st) = inr refl
-remote_words (stage.Committing x) = inr refl
-remote_words _ = inl refl
-
 -- it counts more
 abbrev pub counting : Op → Traffic → Op
 counting o tr = record o { traffic = tr }
 
-pub becomes_counting : (book : Book) (i : ℕ) (j : Job) (tr : Traffic) → (of : IsOf book i j) → Becomes book None None j.place of.op (counting of.op tr)
-becomes_counting book i j tr of = record {
-  follows = record { client = refl; word = refl; file = refl; begin = refl; point = λ w p e. e; value = λ w. refl; unmade = λ n u. u; end = λ e q. inl q; running = λ n e. e };
-  close_point = λ w. refl;
+pub becomes_counting : (book : Book) (i : ℕ) (j : Job) (tr : Traffic) → (of : IsOf book i j) → IsSound book → Becomes book None None j.place of.op (counting of.op tr)
+becomes_counting book i j tr of sound = record {
+  follows = record { client = refl; word = refl; file = λ n w. refl; close_file = λ w. refl; own_file = λ c n. refl; begin = refl; point = λ w p e. (e, refl); value = λ w. refl; unmade = λ n u. u; end = λ e q. inl q; running = λ n e. e };
+  change_point = λ w. refl;
+  change_file = λ w. refl;
   point = λ p e. inl e;
-  remote = elim (remote_words j.stage) [ inl w ↦ inl (of.word ∙ w) | inr w ↦ inr (of.word ∙ w) ];
 }
 
 right_counting : (book more : Book) (o : Op) (tr : Traffic) → IsRight book o → o.outcome ≡ told.Running → book.steps ≤ more.steps → IsRight more (counting o tr)
@@ -55,7 +54,7 @@ right_counting book more o tr r run le = record {
 }
 
 pub goes_counting : (book : Book) (i : ℕ) (j : Job) (tr : Traffic) → (of : IsOf book i j) → IsSound book → Goes book (onward book 1 (slice_set book.ops j.place (counting of.op tr))) None None
-goes_counting book i j tr of sound = goes_becomes book 1 None None j.place of.op (counting of.op tr) of.there (becomes_counting book i j tr of) (right_counting book (onward book 1 (slice_set book.ops j.place (counting of.op tr))) of.op tr (sound.rights j.place of.op of.there) of.running (omega arith)) sound
+goes_counting book i j tr of sound = goes_becomes book 1 None None j.place of.op (counting of.op tr) of.there (becomes_counting book i j tr of sound) (right_counting book (onward book 1 (slice_set book.ops j.place (counting of.op tr))) of.op tr (sound.rights j.place of.op of.there) of.running (omega arith)) sound
 
 -- ---- facts of messages that are on their way already
 
@@ -64,6 +63,7 @@ pub record Again (next : ℕ) (j : Job) (s : Stage) : Type 0 where
   pub lease : (y : ℕ) → y < next → s ≡ stage.Asking y → ⊥
   pub hash : (y o : ℕ) → y < next → hash_offset s y ≡ Some o → ⊥
   pub commit : (y : ℕ) → y < next → s ≡ stage.Committing y → ⊥
+  pub walk : (y : ℕ) (w : Walk) → y < next → s ≡ stage.Walking y w → ⊥
   pub read : (y : ℕ) (c : Chunk) (f : Fetch) → y < next → s ≡ stage.Reading f → read_chunk s y ≡ Some c → (g : Fetch) × (j.stage ≡ stage.Reading g) × (read_chunk j.stage y ≡ Some c) × (g.first ≡ f.first)
 
 abbrev pub on : Job → Stage → Job
@@ -79,11 +79,16 @@ call_anew next j s y (Read g d) again lt old = λ i p e w.
     by : (r : Stage) → s ≡ r → (p : Chunk) → read_chunk s y ≡ Some p → {i : ℕ} → j.file ≡ i → (i ≡ g) × (p ≡ d)
     by (stage.Reading f) at p w {i} file = let o = again.read y p f lt at w in let z = old j p refl o.2 in (sym file ∙ z.0, z.1)
     by r at p w file = nothing_there p (sym (ap (λ (v : Stage). read_chunk v y) at) ∙ w)
+call_anew next j s y (Walks w) again lt old = λ i v e at. absurd (again.walk y v lt (ap (λ (z : Job). z.stage) (some_is (on j s) i e) ∙ at))
 call_anew next j s y _ again lt old = tt
 
-read_on : (book : Book) (taken : List TakenCall) (j : Job) (s : Stage) (first : ℕ) (c : Chunk) (a : Answer Piece (Option Attr)) → ReadTold book taken j first c a → ReadTold book taken (on j s) first c a
-read_on book taken j s first c (Failed u a) h = h
-read_on book taken j s first c (Done p) h = record { file = h.file; is = h.is; held = h.held; began = h.began; was = h.was; last = h.last; order = h.order; past = h.past; version_is = h.version_is }
+refused_on : (book : Book) (taken : List TakenCall) (j : Job) (s : Stage) (x : ℕ) (why : Status) → RefusedTold book taken j x why → RefusedTold book taken (on j s) x why
+refused_on book taken j s x why (inl (is, h)) = inl (is, record { at = h.at; noted = h.noted; moment = h.moment; step_is = h.step_is; was = h.was; past = h.past; op = h.op; there = h.there; after = h.after; node = h.node; node_is = h.node_is })
+refused_on book taken j s x why (inr (is, (version, h))) = inr (is, (version, record { moment = h.moment; was = h.was; past = h.past; value = h.value; version_is = h.version_is; op = h.op; there = h.there; after = h.after; apart = h.apart }))
+
+read_on : (book : Book) (taken : List TakenCall) (j : Job) (s : Stage) (x first : ℕ) (c : Chunk) (a : Answer Piece (Option Attr)) → ReadTold book taken j x first c a → ReadTold book taken (on j s) x first c a
+read_on book taken j s x first c (Failed u a) h = refused_on book taken j s x u h
+read_on book taken j s x first c (Done p) h = record { file = h.file; is = h.is; held = h.held; began = h.began; was = h.was; last = h.last; order = h.order; past = h.past; version_is = h.version_is }
 
 answer_anew : (book : Book) (taken : List TakenCall) (closing : Option ℕ) (next : ℕ) (j : Job) (s : Stage) (y : ℕ) (r : Reply) → Again next j s → y < next → AnswerOf book taken closing (Some j) y r → AnswerOf book taken closing (Some (on j s)) y r
 answer_anew book taken closing next j s y (Versioned a) again lt old = λ i e w. absurd (again.lease y lt (ap (λ (z : Job). z.stage) (some_is (on j s) i e) ∙ w))
@@ -93,7 +98,8 @@ answer_anew book taken closing next j s y (Bytes a) again lt old = λ i f c e at
     let same = some_is (on j s) i e in
     let o = again.read y c f lt (ap (λ (z : Job). z.stage) same ∙ at) (subst (λ (z : Job). read_chunk z.stage y ≡ Some c) (sym same) w) in
     let z = old j o.0 c refl o.1 o.2 in
-    subst (λ (v : Job). ReadTold book taken v f.first c a) same (read_on book taken j s f.first c a (subst (λ (n : ℕ). ReadTold book taken j n c a) o.3 z))
+    subst (λ (v : Job). ReadTold book taken v y f.first c a) same (read_on book taken j s y f.first c a (subst (λ (n : ℕ). ReadTold book taken j y n c a) o.3 z))
+answer_anew book taken closing next j s y (Walked r) again lt old = λ i w e at. absurd (again.walk y w lt (ap (λ (z : Job). z.stage) (some_is (on j s) i e) ∙ at))
 answer_anew book taken closing next j s y _ again lt old = tt
 
 -- ---- xids that are on their way are below the next
@@ -138,17 +144,23 @@ both_tolds : (P Q R : Told → Type 0) → ((t : Told) → P t → Q t → R t) 
 both_tolds P Q R f [] p q = tt
 both_tolds P Q R f (t ∷ ts) p q = (f t p.0 q.0, both_tolds P Q R f ts p.1 q.1)
 
-abbrev commits_if : Call → ℕ → ℕ
-commits_if c n = elim c [ Commit temp file size ↦ suc n | _ ↦ n ]
-
 -- where no commit is on its way up, nothing is to be shown of any
 pub no_commits : (book : Book) (closing : Option ℕ) (cut : Bool) (job : Option Job) (contents : ℕ → List ℕ) (us : List Ask) → commits_in us ≡ 0 → AllAsks (IsCommit book closing cut job contents) us
 no_commits book closing cut job contents [] e = tt
 no_commits book closing cut job contents (a ∷ us) e = by a.call e (no_commits book closing cut job contents us)
   where
-    by : (c : Call) → commits_if c (commits_in us) ≡ 0 → (commits_in us ≡ 0 → AllAsks (IsCommit book closing cut job contents) us) → CommitOf book closing cut job contents a.xid c × AllAsks (IsCommit book closing cut job contents) us
+    creates : (w : Walk) (b : Bool) → is_creating w ≡ b → cond b 1 0 + commits_in us ≡ 0 → is_creating w ≡ true → IsCreating book closing cut job a.xid w
+    creates w true is e f = absurd (omega (arith, e))
+    creates w false is e f = absurd (false_and_true (is_creating w) is f)
+
+    none : (w : Walk) (b : Bool) → is_creating w ≡ b → cond b 1 0 + commits_in us ≡ 0 → commits_in us ≡ 0
+    none w true is e = absurd (omega (arith, e))
+    none w false is e = omega (arith, e)
+
+    by : (c : Call) → change_number c + commits_in us ≡ 0 → (commits_in us ≡ 0 → AllAsks (IsCommit book closing cut job contents) us) → CommitOf book closing cut job contents a.xid c × AllAsks (IsCommit book closing cut job contents) us
     by (Commit temp file size) e later = absurd (omega (arith, e))
-    by _ e later = (tt, later e)
+    by (Walks w) e later = (creates w (is_creating w) refl e, later (none w (is_creating w) refl e))
+    by _ e later = (tt, later (omega (arith, e)))
 
 -- the session, its client and its job
 pub record Here (book : Book) (k : Core) (qs : List Queue) (n : ℕ) (x : Session) (q : Queue) (t : Told) (ts : List Told) (j : Job) : Type 0 where
@@ -170,16 +182,59 @@ pub record Quiet (k : Core) (n : ℕ) (q : Queue) : Type 0 where
 abbrev pub gone_on : client.State → (file next : ℕ) → Stage → List Pending → Entries → Indexed → client.State
 gone_on c file next s forgotten cache index = record c { next = next; task = Some (record { file = file; stage = s }); forgotten = forgotten; cache = cache; index = index }
 
+pub goal_not_close : (g : Goal) → goal_word g ≡ words.Close → ⊥
+goal_not_close (goal.Find n) e = absurd cc
+goal_not_close (goal.Look n) e = absurd cc
+goal_not_close goal.LookRoot e = absurd cc
+goal_not_close (goal.List p) e = absurd cc
+goal_not_close (goal.Make n) e = absurd cc
+goal_not_close (goal.MakeDir n) e = absurd cc
+goal_not_close (goal.Remove n) e = absurd cc
+goal_not_close (goal.RemoveDir n) e = absurd cc
+goal_not_close (goal.RenameFrom n to) e = absurd cc
+goal_not_close (goal.RenameTo from n to) e = absurd cc
+
+-- what goes on is given a file by the server where it was before
+pub naming_same : (s t : Stage) → stage_word s ≡ stage_word t → is_naming s ≡ false → is_naming t ≡ false
+naming_same s (stage.Walking x w) same none = by s same none
+  where
+    by : (s : Stage) → stage_word s ≡ goal_word w.goal → is_naming s ≡ false → changes (goal_word w.goal) ≡ false
+    by (stage.Walking y v) same none = ap changes (sym same) ∙ none
+    by (stage.Making y temp) same none = absurd (goal_not_close w.goal (sym same))
+    by (stage.Storing st) same none = absurd (goal_not_close w.goal (sym same))
+    by (stage.Committing y) same none = absurd (goal_not_close w.goal (sym same))
+    by (stage.Asking y) same none = ap changes (sym same)
+    by (stage.Hashing tries y) same none = ap changes (sym same)
+    by (stage.Listing y f) same none = ap changes (sym same)
+    by (stage.Reading f) same none = ap changes (sym same)
+naming_same s (stage.Making y temp) same none = refl
+naming_same s (stage.Storing st) same none = refl
+naming_same s (stage.Committing y) same none = refl
+naming_same s (stage.Asking y) same none = refl
+naming_same s (stage.Hashing tries y) same none = refl
+naming_same s (stage.Listing y f) same none = refl
+naming_same s (stage.Reading f) same none = refl
+
+-- none of an open or a close of a file is
+pub open_unnamed : (s : Stage) → stage_word s ≡ words.Open → is_naming s ≡ false
+open_unnamed s e = naming_same (stage.Asking 0) s (sym e) refl
+
+pub close_unnamed : (s : Stage) → stage_word s ≡ words.Close → is_naming s ≡ false
+close_unnamed s e = naming_same (stage.Committing 0) s (sym e) refl
+
 -- what else is on its way of closes is in order then
 abbrev pub GoesInOrder : (book : Book) (k : Core) (qs : List Queue) (n : ℕ) (x : Session) (q : Queue) (t : Told) (ts : List Told) (j : Job) (g : Here book k qs n x q t ts j) (s : Stage) (next : ℕ) (forgotten : List Pending) (asks : List Ask) → Type 0
 GoesInOrder book k qs n x q t ts j g s next forgotten asks = (cache : Entries) (index : Indexed) → Orderly book n k.server.temps x.hung (record { ups = unless x.hung q.ups asks; downs = ts }) (record (session_at book k qs n x q t ts j g).seat { client = gone_on (session_at book k qs n x q t ts j g).seat.client j.file next s forgotten cache index; place = Some j.place })
 
--- an open that goes on has nothing of a close on its way
-pub opens_in_order : (book : Book) (k : Core) (qs : List Queue) (n : ℕ) (x : Session) (q : Queue) (t : Told) (ts : List Told) (j : Job) (g : Here book k qs n x q t ts j) (s : Stage) (next : ℕ) (forgotten : List Pending) (asks : List Ask) → stage_word j.stage ≡ words.Open → stage_word s ≡ words.Open → AllFetching asks → GoesInOrder book k qs n x q t ts j g s next forgotten asks
-opens_in_order book k qs n x q t ts j g s next forgotten asks was is fetch cache index =
+-- what goes on that is no close has nothing of a close on its way
+pub others_in_order : (book : Book) (k : Core) (qs : List Queue) (n : ℕ) (x : Session) (q : Queue) (t : Told) (ts : List Told) (j : Job) (g : Here book k qs n x q t ts j) (s : Stage) (next : ℕ) (forgotten : List Pending) (asks : List Ask) → IsNoClose j.stage → IsNoClose s → AllFetching asks → GoesInOrder book k qs n x q t ts j g s next forgotten asks
+others_in_order book k qs n x q t ts j g s next forgotten asks was is fetch cache index =
     let h = session_at book k qs n x q t ts j g in
     let d : Seat = record h.seat { client = gone_on h.seat.client j.file next s forgotten cache index; place = Some j.place } in
     orderly_ends book book n k.server.temps k.server.waiting q x.hung h.seat.client.next (client.calls_of h.seat.client) t ts h.seat d j asks (h.talk g.uncut).balanced g.first g.job_is (inl was) (h.orderly g.uncut) (free_on d (on j s) refl is) fetch
+
+pub opens_in_order : (book : Book) (k : Core) (qs : List Queue) (n : ℕ) (x : Session) (q : Queue) (t : Told) (ts : List Told) (j : Job) (g : Here book k qs n x q t ts j) (s : Stage) (next : ℕ) (forgotten : List Pending) (asks : List Ask) → stage_word j.stage ≡ words.Open → stage_word s ≡ words.Open → AllFetching asks → GoesInOrder book k qs n x q t ts j g s next forgotten asks
+opens_in_order book k qs n x q t ts j g s next forgotten asks was is fetch = others_in_order book k qs n x q t ts j g s next forgotten asks (open_no_close j.stage was) (open_no_close s is) fetch
 
 -- what a job that goes on to this stage has to show, once it sent these calls
 pub record GoesOn (book : Book) (k : Core) (qs : List Queue) (n : ℕ) (x : Session) (q : Queue) (t : Told) (ts : List Told) (j : Job) (g : Here book k qs n x q t ts j) (s : Stage) (next : ℕ) (forgotten : List Pending) (asks : List Ask) : Type 0 where
@@ -221,10 +276,10 @@ kept_goes book k qs n x q t ts j g s next forgotten asks cache index tr seats af
     let old_asks = subst (λ (o : Option Job). AllAsks (IsAsked o) q.ups) g.job_is talk.asked in
     let old_tolds = subst (λ (o : Option Job). AllTolds (IsAnswer book x.taken x.closing o) q.downs) g.job_is talk.answers in
     let bound = tolds_below n k.server.waiting q x.hung h.seat.client.next (client.calls_of h.seat.client) talk.balanced in
-    let moved : IsOf more x.owner (on j s) = record { op = counting of.op tr; there = at_replaced book.ops j.place (counting of.op tr) of.op of.there; client = of.client; word = of.word ∙ sym w.word; file = of.file; running = of.running } in
+    let moved : IsOf more x.owner (on j s) = record { op = counting of.op tr; there = at_replaced book.ops j.place (counting of.op tr) of.op of.there; client = of.client; word = of.word ∙ sym w.word; file = λ n. of.file (naming_same s j.stage w.word n); running = of.running } in
     kept_heard book ops k qs n x q t ts c (Some j.place) asks None None seats after g.kept g.at g.is g.first g.uncut around queues (record {
       goes = goes;
-      still = still_becomes book 1 None None j.place of.op (counting of.op tr) of.there (becomes_counting book x.owner j tr of) g.kept.sound;
+      still = still_becomes book 1 None None j.place of.op (counting of.op tr) of.there (becomes_counting book x.owner j tr of g.kept.sound) g.kept.sound;
       made_here = λ p f. nothing_there p f;
       ended_here = λ p o f. nothing_there p f;
       old_asks = both_asks (λ a. a.xid < h.seat.client.next) (IsAsked (Some j)) (IsAsked (Some (on j s))) (λ a lt old. call_anew h.seat.client.next j s a.xid a.call w.again lt old) q.ups (asks_below talk.floor q.ups h.seat.client.next talk.rising) old_asks;
@@ -253,7 +308,7 @@ kept_goes book k qs n x q t ts j g s next forgotten asks cache index tr seats af
         trying = λ i m y f e. let same = some_is (on j s) i f in subst (λ (z : Job). Trying more z m) same (trying_later book more None None (on j s) m goes.grows (w.trying m y (ap (λ (z : Job). z.stage) same ∙ e)));
         xids = λ i f. subst (λ (z : Job). HasXids next z.stage) (some_is (on j s) i f) w.xids;
         next = (w.bounded, let a = seat_was.next.1 in let b = rising_to h.seat.client.next asks next w.rising in omega (arith, a, b));
-        opened = seat_was.opened;
+        opened = λ f l e. let o = seat_was.opened f l e in (there_later book more None None f goes.grows o.0, o.1);
         kept = cached_later book more None None cache goes.grows cached;
       };
       orderly = orderly_later book more None None n k.server.temps k.server.temps x.hung (record { ups = unless x.hung q.ups asks; downs = ts }) (record h.seat { client = c; place = Some j.place }) goes.grows (λ m lt. refl) (w.orderly cache index);
@@ -281,6 +336,7 @@ asked_none (a ∷ us) = (by a.call, asked_none us)
     by (Lease g) = λ j e. nothing_there j e
     by (Hash g o) = λ j p e. nothing_there j e
     by (Read g d) = λ j p e. nothing_there j e
+    by (Walks w) = λ j v e. nothing_there j e
     by _ = tt
 
 pub answers_none : (book : Book) (taken : List TakenCall) (closing : Option ℕ) (ts : List Told) → AllTolds (IsAnswer book taken closing None) ts
@@ -292,6 +348,7 @@ answers_none book taken closing (t ∷ ts) = (by t.reply, answers_none book take
     by (Hashed a) = λ j o e. nothing_there j e
     by (Bytes a) = λ j f c e. nothing_there j e
     by (Changed a) = λ j e. nothing_there j e
+    by (Walked r) = λ j w e. nothing_there j e
     by _ = tt
 
 abbrev pub stopped : client.State → (opened : List (ℕ × Local)) → List Pending → Entries → Indexed → client.State
@@ -304,9 +361,9 @@ pub record Stops (book : Book) (k : Core) (qs : List Queue) (n : ℕ) (x : Sessi
   pub becomes : Becomes book made (Some j.place) j.place (job_op book k qs x (session_at book k qs n x q t ts j g).seat j g.kept (session_at book k qs n x q t ts j g).owner g.job_is).op r
   pub right : IsRight (onward book 1 (slice_set book.ops j.place r)) r
   pub stops : r.outcome ≡ told.Running → ⊥
-  pub over : EndsAt j t.xid
+  pub over : EndsAt j t
   pub made_here : (p : ℕ) → made ≡ Some p → x.closing ≡ Some p
-  pub opened_ok : (f : ℕ) (l : Local) → client.local_at opened f ≡ Some l → IsSome (content_of book.opening f) × (length l.bytes ≤ 67108864)
+  pub opened_ok : (f : ℕ) (l : Local) → client.local_at opened f ≡ Some l → WasThere book f × (length l.bytes ≤ 67108864)
 
 pub kept_stops : (book : Book) (k : Core) (qs : List Queue) (n : ℕ) (x : Session) (q : Queue) (t : Told) (ts : List Told) (j : Job) (g : Here book k qs n x q t ts j) (r : Op) (made : Option ℕ) (opened : List (ℕ × Local)) (forgotten : List Pending) (cache : Entries) (index : Indexed) (seats : List Seat) (after : List Queue) → Stops book k qs n x q t ts j g r made opened forgotten → Cached (onward book 1 (slice_set book.ops j.place r)) cache
     → (let h = session_at book k qs n x q t ts j g in
@@ -351,7 +408,7 @@ kept_stops book k qs n x q t ts j g r made opened forgotten cache index seats af
         trying = λ i m y f. nothing_there i f;
         xids = λ i f. nothing_there i f;
         next = seat_was.next;
-        opened = w.opened_ok;
+        opened = λ f l e. let o = w.opened_ok f l e in (there_later book more made (Some j.place) f goes.grows o.0, o.1);
         kept = cached;
       };
       orderly = orderly_ends book more n k.server.temps k.server.waiting q x.hung h.seat.client.next (client.calls_of h.seat.client) t ts h.seat (record h.seat { client = c; place = None }) j [] (h.talk g.uncut).balanced g.first g.job_is w.over (h.orderly g.uncut) (none_free None refl) tt;

@@ -1,12 +1,14 @@
 -- Calls that were taken: what was told of them stays so when a further one is taken.
-use Rattle.std.proofs.Common.{inl, inr, ◌≡◌, ℕ, suc, ◌+◌, ◌≤◌, List, [], ◌∷◌, ◌++◌, Option, Some, None, Bool, true, false, refl, ap, ◌∙◌, arith, eq-eqb, ne_eqb, map}
+use Rattle.std.proofs.Common.{inl, inr, ◌≡◌, ℕ, suc, ◌+◌, ◌≤◌, List, [], ◌∷◌, ◌++◌, Option, Some, None, Bool, true, false, refl, sym, ap, ◌∙◌, arith, eq-eqb, ne_eqb, map}
 use Rattle.std.specs.Option.{option_map}
 use Rattle.hash_calls.specs.declared.call.Leased.{Leased}
 use Rattle.client_state.specs.declared.task.Stage.TheVariants as stage
-use Rattle.kept_promise.proofs.Common.{Body, cond, ◌==◌, find, Chunk, Status, Answer, Done, Failed, Attr, Hashes, Piece, Fetch, Stage, Value, TakenCall, taken_at, Book, Reply, Reply.Versioned, Reply.Hashed, Reply.Bytes, Reply.Changed, Ask, Told}
+use Rattle.kept_promise.proofs.Common.{Body, cond, ◌==◌, find, Chunk, Status, Answer, Done, Failed, Attr, Hashes, Piece, Fetch, Stage, Value, TakenCall, taken_at, Book, Reply, Reply.Versioned, Reply.Hashed, Reply.Bytes, Reply.Changed, Ask, Told, Reply.Walked, name_answer, slice_get}
 use Rattle.kept_promise.proofs.Lists.{nothing_there}
 use Rattle.kept_promise.proofs.Keys.{times}
-use Rattle.kept_promise.proofs.Messages.{Job, IsServed, lease_body, hash_body, AllAsks, AllTolds, AllUnder, Rising, IsTold, IsTried, RefusedTold, HashTold, LeaseTold, ReadTold, TriedBy, AnswerOf, IsAnswer, IsFetch, FetchOf, HasFetch}
+use Rattle.kept_promise.proofs.Messages.{Job, IsServed, lease_body, hash_body, AllAsks, AllTolds, AllUnder, Rising, IsTold, IsTried, RefusedTold, HashTold, LeaseTold, ReadTold, TriedBy, AnswerOf, IsAnswer, IsFetch, FetchOf, HasFetch, WalkTold}
+use Rattle.path_calls.specs.declared.walk.Walk.{Walk}
+use Rattle.nfs3_calls.specs.declared.message.Nfs.{Nfs}
 
 -- what was found is found
 abbrev pub Finds : List TakenCall → List TakenCall → Type 0
@@ -54,20 +56,31 @@ lease_found : (book : Book) (taken after : List TakenCall) (j : Job) (x : ℕ) (
 lease_found book taken after j x (Failed s u) f h = refused_found book taken after j x s f h
 lease_found book taken after j x (Done a) f h = record { value = h.value; told = told_found book taken after j x (Some h.value) a.version f h.told; call = served_found book taken after j x (lease_body j.file) f h.call; known = h.known }
 
+walk_found : (book : Book) (taken after : List TakenCall) (closing : Option ℕ) (j : Job) (x : ℕ) (w : Walk) (m : Nfs) → Finds taken after → WalkTold book taken closing j x w m → WalkTold book after closing j x w m
+walk_found book taken after closing j x w m f h = record { then_op = h.then_op; then_is = h.then_is; then_began = h.then_began; at = h.at; noted = h.noted; moment = h.moment; step_is = h.step_is; was = λ m. f x h.moment (h.was m); past = h.past; op = h.op; there = h.there; after = h.after; bounded = h.bounded; rooted = h.rooted; came = h.came; session = h.session; sent = h.sent; seat = h.seat; seat_is = h.seat_is; job_is = h.job_is }
+
+-- what is to come wasn't taken
+pub not_taken : (floor : ℕ) (taken : List TakenCall) (x p : ℕ) → AllUnder floor taken → floor ≤ x → taken_at taken x ≡ Some p → ⊥
+not_taken floor [] x p u le e = nothing_there p e
+not_taken floor (v ∷ taken) x p u le e =
+    let lt = u.0 in
+    not_taken floor taken x p u.1 le (sym (ap (λ b. option_map (λ z. z.step) (cond b (Some v) (find (λ z. z.xid == x) taken))) (ne_eqb v.xid x (λ s. omega (arith, lt, le, s)))) ∙ e)
+
 tried_by_found : (book : Book) (taken after : List TakenCall) (j : Job) (x : ℕ) (s : Stage) → Finds taken after → TriedBy book taken j x s → TriedBy book after j x s
 tried_by_found book taken after j x (stage.Hashing tries y) f h = tried_found book taken after j x tries f h
 tried_by_found book taken after j x (stage.Listing y g) f h = record { began = h.began; was = f g.first h.began h.was; last = h.last; is = f x h.last h.is; order = h.order }
 tried_by_found book taken after j x _ f h = tt
 
-read_found : (book : Book) (taken after : List TakenCall) (j : Job) (first : ℕ) (c : Chunk) (a : Answer Piece (Option Attr)) → Finds taken after → ReadTold book taken j first c a → ReadTold book after j first c a
-read_found book taken after j first c (Failed s a) f h = h
-read_found book taken after j first c (Done p) f h = record { file = h.file; is = h.is; held = h.held; began = h.began; was = f first h.began h.was; last = h.last; order = h.order; past = h.past; version_is = h.version_is }
+read_found : (book : Book) (taken after : List TakenCall) (j : Job) (x first : ℕ) (c : Chunk) (a : Answer Piece (Option Attr)) → Finds taken after → ReadTold book taken j x first c a → ReadTold book after j x first c a
+read_found book taken after j x first c (Failed s a) f h = refused_found book taken after j x s f h
+read_found book taken after j x first c (Done p) f h = record { file = h.file; is = h.is; held = h.held; began = h.began; was = f first h.began h.was; last = h.last; order = h.order; past = h.past; version_is = h.version_is }
 
 answer_of_found : (book : Book) (taken after : List TakenCall) (closing : Option ℕ) (job : Option Job) (x : ℕ) (r : Reply) → Finds taken after → AnswerOf book taken closing job x r → AnswerOf book after closing job x r
 answer_of_found book taken after closing job x (Versioned a) f h = λ j e s. lease_found book taken after j x a f (h j e s)
 answer_of_found book taken after closing job x (Hashed a) f h = λ j o e w. let r = h j o e w in (hash_found book taken after j x o a f r.0, tried_by_found book taken after j x j.stage f r.1)
-answer_of_found book taken after closing job x (Bytes a) f h = λ j g c e s w. read_found book taken after j g.first c a f (h j g c e s w)
+answer_of_found book taken after closing job x (Bytes a) f h = λ j g c e s w. read_found book taken after j x g.first c a f (h j g c e s w)
 answer_of_found book taken after closing job x (Changed a) f h = h
+answer_of_found book taken after closing job x (Walked r) f h = λ j w e s. walk_found book taken after closing j x w (name_answer r) f (h j w e s)
 answer_of_found book taken after closing job x _ f h = tt
 
 pub answer_found : (book : Book) (taken after : List TakenCall) (closing : Option ℕ) (job : Option Job) (t : Told) → Finds taken after → IsAnswer book taken closing job t → IsAnswer book after closing job t
@@ -110,3 +123,7 @@ times_map_append f y (u ∷ us) vs = by (f u == y) (times_map_append f y us vs)
     by : (b : Bool) → times y (map f (us ++ vs)) ≡ times y (map f us) + times y (map f vs) → cond b (suc (times y (map f (us ++ vs)))) (times y (map f (us ++ vs))) ≡ cond b (suc (times y (map f us))) (times y (map f us)) + times y (map f vs)
     by true e = omega (arith, e)
     by false e = e
+
+pub tolds_at : (P Q : Told → Type 0) (us : List Told) → ((i : ℕ) (u : Told) → slice_get us i ≡ Some u → P u → Q u) → AllTolds P us → AllTolds Q us
+tolds_at P Q [] f h = tt
+tolds_at P Q (u ∷ us) f h = (f 0 u refl h.0, tolds_at P Q us (λ i v at. f (suc i) v at) h.1)

@@ -1,21 +1,23 @@
 -- The server takes a call: the frame of all that it answers at once.
-use Rattle.std.proofs.Common.{inl, inr, ◌≡◌, ℕ, suc, ◌+◌, ◌<◌, ◌≤◌, List, [], ◌∷◌, ◌++◌, Option, Some, None, Bool, true, false, refl, sym, ap, ◌∙◌, subst, arith, map, IsSome}
+use Rattle.std.proofs.Common.{inl, inr, ◌≡◌, ℕ, ◌+◌, ◌<◌, ◌≤◌, List, [], ◌∷◌, ◌++◌, Option, Some, None, Bool, true, false, refl, sym, ap, ◌∙◌, subst, arith, map}
+use Rattle.file_tree.specs.Tree.{Tree}
 use Rattle.server_core.specs.State as server
 use Rattle.client_state.specs.State as client
-use Rattle.kept_promise.proofs.Common.{slice_get, Indexed, MessageFits, Temp, key_of, Change, File, content_of, TakenCall, Core, Session, numbered, unless, hashed_of, Book, value_at, Call, Call.Lease, Call.Hash, Call.Read, Call.Make, Call.Name, Call.Send, Call.Commit, Reply, Ask, Told, Queue, told_message, call_program, reply_program}
+use Rattle.kept_promise.proofs.Common.{slice_get, Indexed, MessageFits, Temp, key_of, Change, File, TakenCall, Core, Session, numbered, unless, hashed_of, Book, value_at, Reply, Ask, Told, Queue, told_message, call_program, reply_program, version_at}
 use Rattle.kept_promise.proofs.Statements.{CallFits}
 use Rattle.kept_promise.proofs.Lists.{some_is, nothing_there, same_or_not, false_and_true}
 use Rattle.kept_promise.proofs.Keys.{times, times_append, own, on_way, key, change_key, ask_key, told_key}
-use Rattle.kept_promise.proofs.Messages.{job, AllAsks, AllTolds, Rising, IsAsked, AnswerOf, IsAnswer, IsCommit, IsPiece, TempUnder, AreParts, content_wanted}
-use Rattle.kept_promise.proofs.Growth.{Grows, or_later, value_alike, version_alike}
+use Rattle.kept_promise.proofs.Messages.{job, AllAsks, AllTolds, Rising, IsAsked, AnswerOf, IsAnswer, IsCommit, IsPiece, TempUnder, AreParts}
+use Rattle.kept_promise.proofs.Growth.{Grows, or_later, value_alike, version_alike, there_later}
 use Rattle.kept_promise.proofs.History.{Still, onward, grows_same, goes_same, still_same}
-use Rattle.kept_promise.proofs.Later.{all_asks, all_tolds, answer_later, has_fetch_later, commit_later, close_later, pending_later, seat_later, Stays, Spares}
+use Rattle.kept_promise.proofs.Later.{all_asks, all_tolds, answer_later, has_fetch_later, commit_later, close_later, waits_later, seat_later, Stays, Spares}
 use Rattle.kept_promise.proofs.Taken.{finds_more, under_more, answer_found, has_fetch_found, tolds_append, times_map_append}
 use Rattle.kept_promise.proofs.Turns.{Around, around_same, turned_core, kept_turn}
 use Rattle.kept_promise.proofs.Shelf.{IsShelf}
 use Rattle.kept_promise.proofs.Orderly.{locals_of, Wanted, Held, Orderly}
 use Rattle.kept_promise.proofs.Ordered.{SameFound, orderly_answered}
 use Rattle.kept_promise.proofs.Facts.{IsValue, FileIs, IsServer, IsTalk, IsSession, IsKept, commits_in}
+use Rattle.kept_promise.proofs.Unused.{IsUnused}
 
 -- ---- the tree, where no file changes
 
@@ -24,11 +26,14 @@ pub value_still : (book more : Book) (made ended : Option ℕ) (f : ℕ) (x : Li
 value_still book more made ended f x g same h = record { value = h.value; is = same ∙ h.is; size = h.size; same = or_later book more made ended _ _ g (λ e. e) h.same }
 
 pub file_still : (book more : Book) (made ended : Option ℕ) (f : ℕ) (g : Option File) → Grows book more made ended → Still book more → FileIs book f g → FileIs more f g
-file_still book more made ended f None grows still h = (ap (λ l. content_of l f) grows.opening ∙ h.0, value_alike book more f (more.steps + 1) (book.steps + 1) grows.opening (still f) ∙ h.1)
-file_still book more made ended f (Some g) grows still h = (h.0, h.1, h.2, subst (λ l. IsSome (content_of l f)) (sym grows.opening) h.3, value_still book more made ended f g.content grows (value_alike book more f (more.steps + 1) (book.steps + 1) grows.opening (still f)) h.4, version_alike book more f (more.steps + 1) (book.steps + 1) grows.opening (still f) ∙ h.5, h.6)
+file_still book more made ended f None grows still h = value_alike book more f (more.steps + 1) (book.steps + 1) grows.opening (still f) ∙ h
+file_still book more made ended f (Some g) grows still h = (h.0, h.1, h.2, value_still book more made ended f g.content grows (value_alike book more f (more.steps + 1) (book.steps + 1) grows.opening (still f)) h.3, version_alike book more f (more.steps + 1) (book.steps + 1) grows.opening (still f) ∙ h.4, h.5)
+
+pub fresh_still : (book more : Book) (made ended : Option ℕ) (t : Tree) → Grows book more made ended → Still book more → ((f : ℕ) → IsUnused t f → version_at book f (book.steps + 1) ≡ 0) → (f : ℕ) → IsUnused t f → version_at more f (more.steps + 1) ≡ 0
+fresh_still book more made ended t grows still h f le = version_alike book more f (more.steps + 1) (book.steps + 1) grows.opening (still f) ∙ h f le
 
 pub server_still : (book more : Book) (made ended : Option ℕ) (s : server.State) (moment : ℕ) (temps : List (ℕ × Temp)) (index : Indexed) → Grows book more made ended → Still book more → IsServer book s → IsServer more (record s { moment = moment; temps = temps; index = index })
-server_still book more made ended s moment temps index grows still h = record { held = λ f. file_still book more made ended f (server.file_at s.tree f) grows still (h.held f); bounded = h.bounded; commits = h.commits; changes = h.changes; bytes = h.bytes; lengths = h.lengths; targets = λ i c e. subst (λ l. IsSome (content_of l c.file)) (sym grows.opening) (h.targets i c e); xids = h.xids }
+server_still book more made ended s moment temps index grows still h = record { held = λ f. file_still book more made ended f (server.file_at s.tree f) grows still (h.held f); fresh = fresh_still book more made ended s.tree grows still h.fresh; bounded = h.bounded; zero = h.zero; rooted = h.rooted; wants = h.wants; changes = h.changes; bytes = h.bytes; lengths = h.lengths; targets = λ i c e. there_later book more made ended c.file grows (h.targets i c e); xids = h.xids }
 
 -- ---- a session that took a call
 
@@ -36,16 +41,7 @@ abbrev pub took : Session → (xid step : ℕ) → Session
 took x xid step = record x { taken = x.taken ++ record { xid = xid; step = step } ∷ [] }
 
 pub commits_tail : (a : Ask) (us : List Ask) → commits_in us ≤ commits_in (a ∷ us)
-commits_tail a us = by a.call
-  where
-    by : (c : Call) → commits_in us ≤ elim c [ Commit temp file size ↦ suc (commits_in us) | _ ↦ commits_in us ]
-    by (Commit temp file size) = omega arith
-    by (Lease f) = omega arith
-    by (Hash f o) = omega arith
-    by (Read f c) = omega arith
-    by (Make t f) = omega arith
-    by (Name t c) = omega arith
-    by (Send t s b) = omega arith
+commits_tail a us = omega arith
 
 abbrev pub put_down : Queue → List Ask → (cut : Bool) → Told → Queue
 put_down q us cut t = record { ups = us; downs = unless cut q.downs (t ∷ []) }
@@ -64,7 +60,7 @@ way_moved n y w q a us t e same =
     let seven : times y (told_key t ∷ []) ≡ times y (ask_key a ∷ []) = ap (λ k. times y (k ∷ [])) same in
     omega (arith, one, two, three, was, four, five, six, seven)
 
-downs_of : (P : Told → Type 0) (cut : Bool) (downs : List Told) (t : Told) → AllTolds P downs → P t → AllTolds P (unless cut downs (t ∷ []))
+pub downs_of : (P : Told → Type 0) (cut : Bool) (downs : List Told) (t : Told) → AllTolds P downs → P t → AllTolds P (unless cut downs (t ∷ []))
 downs_of P true downs t h p = h
 downs_of P false downs t h p = tolds_append P downs (t ∷ []) h (p, tt)
 
@@ -127,7 +123,7 @@ kept_reply book k qs n moment x q a us temps index r sessions after kept at is e
         temps = shows.pieces;
         temps_below = λ uncut. ((ups_of (λ b. TempUnder c.client.next_temp b.call) (h.temps_below uncut).0).1, shows.below uncut);
         closes = λ uncut j f. close_later book more None None x.closing h.contents c.client.next_temp j (client.local_bytes c.client.opened j.file) j.stage g spares (h.closes uncut j f);
-        pending = λ i d f. pending_later book more None None x.closing x.cut (job c) (job c) d.xid d.file (content_wanted d.what) g spares (λ u. refl) (h.pending i d f);
+        pending = λ i d f. waits_later book more None None x.closing x.cut (job c) (job c) d.xid d.file d.what g spares (λ u. refl) (h.pending i d f);
         single = let a1 = h.single in let b1 = commits_tail a us in let c1 = ap commits_in e in omega (arith, a1, b1, c1);
         old = λ p f. let o = h.old p f in let u = g.each p o.0 o.1 in (u.0, u.1, u.2.client ∙ o.2);
         orderly = λ uncut. subst (λ (b : Bool). Orderly more n temps b (put_down q us x.cut t) c) (sym unhung) (orderly_answered book more None None n k.server.temps temps x.cut q a us t c g e (shows.wanted uncut) (shows.held uncut us e) (subst (λ (b : Bool). Orderly book n k.server.temps b q c) unhung (h.orderly uncut)));

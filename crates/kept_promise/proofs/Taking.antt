@@ -1,5 +1,5 @@
 -- What is known of an operation as its client takes an answer to one of its calls: its attempts before, and the content that is fetched.
-use Rattle.std.proofs.Common.{inl, inr, ◌≡◌, ℕ, zero, suc, ◌+◌, ◌<◌, ◌≤◌, List, [], ◌∷◌, length, Option, Some, None, Bool, true, false, refl, sym, ap, ◌∙◌, subst, arith, eqb-true, map}
+use Rattle.std.proofs.Common.{inl, inr, ◌≡◌, ℕ, zero, suc, ◌+◌, ◌<◌, ◌≤◌, List, [], ◌∷◌, length, Option, Some, None, Bool, true, false, refl, sym, ap, ◌∙◌, subst, arith, eqb-true, map, ◌⊎◌}
 use Rattle.hash_calls.specs.declared.message.Lb.TheVariants as lb
 use Rattle.wire.specs.declared.message.Body.TheVariants as body
 use Rattle.client_state.specs.State as client
@@ -61,13 +61,13 @@ tried_moved book f b n p h =
     let y = version_later book.ops f h.0 h.1 (omega (arith, lt)) in
     (h.1, omega (arith, le, lt), h.4, λ e. h.5 (omega (arith, x, y, e)))
 
-pub versions_after : (ops : List Op) (place : Option ℕ) (c : client.State) (taken : List TakenCall) (step : ℕ) (acts : ClientStep) → acts.found ≡ None → (f q : ℕ) → version_in (ops_with ops place c taken step acts) f q ≡ version_in ops f q
+pub versions_after : (ops : List Op) (place : Option ℕ) (c : client.State) (taken : List TakenCall) (step : ℕ) (acts : ClientStep) → ((p : ℕ) (o : Op) → place ≡ Some p → slice_get ops p ≡ Some o → (acts.found ≡ None) ⊎ (changes o.word ≡ false)) → (f q : ℕ) → version_in (ops_with ops place c taken step acts) f q ≡ version_in ops f q
 versions_after ops None c taken step acts none f q = refl
 versions_after ops (Some l) c taken step acts none f q = by (slice_get ops l) refl
   where
     by : (o : Option Op) → slice_get ops l ≡ o → version_in (ops_after ops l o c taken step acts) f q ≡ version_in ops f q
     by None at = refl
-    by (Some o) at = ap (λ z. z + 1) (count_replaced f q ops l o (op_after o c taken step acts) at (after_alike f q o c taken step acts none))
+    by (Some o) at = ap (λ z. z + 1) (count_replaced f q ops l o (op_after o c taken step acts) at (after_alike f q o c taken step acts (none l o refl at)))
 
 -- ---- where an open has tried before, its file has moved
 
@@ -124,7 +124,7 @@ moved_by book taken j o at trying fetch word more = by j.stage refl fetch word m
     by (stage.Hashing tries x) e f w more = hashing tries (trying j tries x refl e) (λ one. omega (arith, one, more))
     by (stage.Listing x g) e f w more = fetched g.first g.tries f.0.tried (λ one. omega (arith, one, more))
     by (stage.Reading g) e f w more = fetched g.first g.tries f.0.tried (λ one. omega (arith, one, more))
-    by (stage.Walking x v) e f w more = absurd f
+    by (stage.Walking x v) e f w more = absurd (omega (arith, more))
     by _ e f w more = absurd (close_not_open w)
 
 -- ---- chunks

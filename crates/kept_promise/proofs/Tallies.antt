@@ -169,7 +169,7 @@ tally_drops s None xid false = inl (record { cond = refl; tmp = refl; read = ref
 
 walk_answer : (s : State) (calls : List Pending) (file y : ℕ) (w : Walk) (x : ℕ) (b : Body) → Tallies (bytes_came x b) (took s calls file (stage.Walking y w) x b)
 walk_answer s calls file y w x b = walk_cases (Tallies (bytes_came x b)) s calls file y w x b (record {
-  fault = λ f. inr (f, refl);
+  fault = λ f bad. inr (f, refl);
   asks = λ v k.
       let z = came (walk_told_as.Asks v) k in
       let e = call_counts s.next v in

@@ -1,5 +1,5 @@
 -- What the server tells of a file when it takes a GETHASH or a READ, and what other calls come to.
-use Rattle.std.proofs.Common.{inl, inr, ◌≡◌, ℕ, ◌+◌, ◌<◌, List, [], ◌∷◌, ◌++◌, Option, Some, None, Bool, true, false, refl, sym, ap, ◌∙◌, subst, arith, eq-eqb, map, IsSome, Result, Ok, Err}
+use Rattle.std.proofs.Common.{inl, inr, ◌≡◌, ℕ, ◌+◌, ◌<◌, ◌≤◌, List, [], ◌∷◌, ◌++◌, Option, Some, None, Bool, true, false, refl, sym, ap, ◌∙◌, subst, arith, eq-eqb, map, Result, Ok, Err}
 use Rattle.xdr_codec.specs.declared.status.Status.TheVariants as status
 use Rattle.server_core.specs.State as server
 use Rattle.tree_nodes.specs.declared.node.Node.{Node as TreeNode}
@@ -7,24 +7,30 @@ use Rattle.file_tree.specs.Tree.{directory_of}
 use Rattle.server_core.specs.Answers.{hash_answer, lease_answer, read_answer}
 use Rattle.server_core.specs.Hashed.{bytes_told}
 use Rattle.wire.specs.declared.message.Message.TheVariants as message
+use Rattle.wire.specs.declared.message.Body.TheVariants as body
 use Rattle.client_state.specs.State as client
 use Rattle.client_state.specs.declared.task.Stage.TheVariants as stage
 use Rattle.trace_replay.specs.Causes.{TakesCall}
 use Rattle.trace_replay.specs.Trail.{served_hashed}
-use Rattle.kept_promise.proofs.Common.{slice_get, cond, ◌==◌, ◌||◌, Contains, end_of, parse_of, server_waiting, Body, Op, Task, chunk_bytes, Chunk, handle_bytes, Failed, Status, HashRange, Range, message_spell, MessageFits, Node, directory, file, node_of, told_chunks, hashes_of, piece_of, leased_of, File, Fetch, Stage, Value, content_of, TakenCall, Core, Seat, Session, Event.Serves, numbered, hashed_of, Book, value_at, version_at, Call.Lease, Call.Hash, Call.Read, Reply, Reply.Versioned, Reply.Hashed, Reply.Bytes, Ask, Queue, ask_message, told_message, Tree}
+use Rattle.kept_promise.proofs.Common.{slice_get, cond, ◌==◌, ◌||◌, Contains, end_of, parse_of, server_waiting, Body, Op, Task, chunk_bytes, Chunk, handle_bytes, Failed, Status, HashRange, Range, message_spell, MessageFits, Node, directory, file, node_of, told_chunks, hashes_of, piece_of, leased_of, File, Fetch, Stage, Value, TakenCall, Core, Seat, Session, Event.Serves, numbered, hashed_of, Book, value_at, version_at, Call.Lease, Call.Hash, Call.Read, Reply, Reply.Versioned, Reply.Hashed, Reply.Bytes, Ask, Queue, ask_message, told_message, Tree, Call.Walks, Reply.Walked, name_answer, happens, NameReply, Moment}
 use Rattle.kept_promise.proofs.Statements.{CallFits}
 use Rattle.kept_promise.proofs.Lists.{some_is, nothing_there}
-use Rattle.kept_promise.proofs.Messages.{Job, job, job_of, lease_body, hash_body, AllAsks, Rising, IsAsked, hash_offset, IsTold, IsHashed, RefusedTold, HashTold, IsLeased, LeaseTold, IsRead, ReadTold, TriedBy, AnswerOf, IsFetch, IsReading, FetchOf, range_from}
-use Rattle.kept_promise.proofs.Rights.{IsHeld}
-use Rattle.kept_promise.proofs.Growth.{value_later, version_later, tried_later}
+use Rattle.kept_promise.proofs.Messages.{Job, job, job_of, lease_body, hash_body, AllAsks, Rising, IsAsked, hash_offset, IsTold, IsHashed, RefusedTold, HashTold, IsLeased, LeaseTold, IsRead, ReadTold, TriedBy, AnswerOf, IsFetch, IsReading, FetchOf, range_from, WalkCame, WalkTold}
+use Rattle.kept_promise.proofs.Rights.{IsHeld, WasThere}
+use Rattle.kept_promise.proofs.Growth.{value_later, version_later, tried_later, there_later}
 use Rattle.kept_promise.proofs.History.{onward, grows_same}
 use Rattle.kept_promise.proofs.Taken.{finds_last, finds_more}
+use Rattle.kept_promise.proofs.Remains.{there_version}
 use Rattle.kept_promise.proofs.Fits.{FitLaws}
-use Rattle.kept_promise.proofs.Facts.{FileIs, IsServer, IsTalk, IsKept}
+use Rattle.kept_promise.proofs.Facts.{FileIs, is_there, IsServer, IsTalk, IsKept}
 use Rattle.kept_promise.proofs.Serves.{own_node, contains_at, map_at, parsed}
 use Rattle.kept_promise.proofs.Leading.{IsNoted}
 use Rattle.server_law.proofs.Trees.{file_bounded}
 use Rattle.kept_promise.proofs.TreeOpens.{Named, a_directory, nobody, a_file, named_in}
+use Rattle.path_calls.specs.declared.walk.Walk.{Walk}
+use Rattle.kept_promise.proofs.PathNames.{is_making}
+use Rattle.kept_promise.proofs.WalkReplies.{walk_reply, reply_told}
+use Rattle.kept_promise.proofs.Unused.{directory_unused}
 
 -- ---- what a name stands for
 
@@ -40,9 +46,6 @@ looked t f lt = by (named_in t f)
     by (a_directory n there none e) = is_directory n there none (own_node t f lt ∙ e)
     by (nobody none e) = is_gone none (own_node t f lt ∙ e)
     by (a_file g at e) = is_file g at (own_node t f lt ∙ e)
-
-pub not_some : IsSome {T = List ℕ} None → ⊥
-not_some e = absurd cc
 
 -- ---- what was told in this step
 
@@ -178,7 +181,7 @@ gone_told : (book : Book) (k : Core) (qs : List Queue) (n : ℕ) (x : Session) (
     → j.file ≡ f → server.file_at k.server.tree f ≡ None → RefusedTold (onward book 1 book.ops) (with_taken x a.xid (book.steps + 1)) j a.xid status.Stale
 gone_told book k qs n x q a f us c j kept was talk e is same none =
     let held = subst (FileIs book f) none (kept.server.held f) in
-    inr (refl, (version_at book j.file (book.steps + 1), told_now book k qs n x q a us c j None (version_at book j.file (book.steps + 1)) kept was talk e is (ap (λ (i : ℕ). value_at book i (book.steps + 1)) same ∙ held.1) refl))
+    inr (refl, (version_at book j.file (book.steps + 1), told_now book k qs n x q a us c j None (version_at book j.file (book.steps + 1)) kept was talk e is (ap (λ (i : ℕ). value_at book i (book.steps + 1)) same ∙ held) refl))
 
 -- ---- a GETLEASE
 
@@ -197,7 +200,7 @@ lease_reply_fits laws book s xid f h x lt = by (looked s.tree f lt)
         let c = h.changes in
         let id = b.0 in
         let small = b.2 in
-        subst (λ (node : Result Node Status). MessageFits (told_message (record { xid = xid; reply = Versioned (lease_answer node) }))) (sym e) (laws.leases xid g x (omega (arith, id, small), omega (arith, v, c), b.6))
+        subst (λ (node : Result Node Status). MessageFits (told_message (record { xid = xid; reply = Versioned (lease_answer node) }))) (sym e) (laws.leases xid g x (omega (arith, id, small), omega (arith, v, c), b.5))
 
 pub lease_told : FitLaws → (book : Book) (k : Core) (qs : List Queue) (n now : ℕ) (x : Session) (q : Queue) (xid f : ℕ) (us : List Ask) (c : Seat) → IsKept book k qs → numbered k.seats x.owner ≡ Some c → c.session ≡ Some n → IsTalk book n k.server.waiting x q c → q.ups ≡ record { xid = xid; call = Lease f } ∷ us → CallFits xid (Lease f)
     → IsNoted book k (Serves n now (message_spell (ask_message (record { xid = xid; call = Lease f })))) → AnswerOf (onward book 1 book.ops) (with_taken x xid (book.steps + 1)) x.closing (job c) xid (lease_reply k.server.tree f)
@@ -212,8 +215,8 @@ lease_told laws book k qs n now x q xid f us c kept was here talk e fits noted =
     by j is asks same (is_file g there at) =
         let held = subst (FileIs book f) there (kept.server.held f) in
         let shown : IsLeased (onward book 1 book.ops) (with_taken x xid (book.steps + 1)) j xid (leased_of g) = record {
-          value = held.4.value;
-          told = told_now book k qs n x q a us c j (Some held.4.value) g.version kept was talk e is (ap (λ (i : ℕ). value_at book i (book.steps + 1)) same ∙ held.4.is) (ap (λ (i : ℕ). version_at book i (book.steps + 1)) same ∙ held.5);
+          value = held.3.value;
+          told = told_now book k qs n x q a us c j (Some held.3.value) g.version kept was talk e is (ap (λ (i : ℕ). value_at book i (book.steps + 1)) same ∙ held.3.is) (ap (λ (i : ℕ). version_at book i (book.steps + 1)) same ∙ held.4);
           call = (
               let of = (kept.seats x.owner c was).task j is in
               let own : client.has_call (client.pending_in j.stage) xid ≡ true = ap (λ (s : Stage). client.has_call (client.pending_in s) xid) asks ∙ ap (λ b. b || false) (eq-eqb xid xid refl) in
@@ -226,9 +229,54 @@ lease_told laws book k qs n now x q xid f us c kept was here talk e fits noted =
                 takes = subst (λ (i : ℕ). TakesCall (onward book 1 book.ops) of.op.client (book.steps + 1) xid (lease_body i)) (sym same) (takes_now book k qs n now x a c j (lease_body f) kept was here is own noted (parsed laws a fits) of.op of.there);
               }
               );
-          known = subst (λ (i : ℕ). IsSome (content_of book.opening i)) (sym same) held.3;
+          known = there_later book (onward book 1 book.ops) None None j.file (grows_same book 1) (subst (λ (i : ℕ). WasThere book i) (sym same) (is_there book f g held));
         } in
         subst (λ (node : Result Node Status). LeaseTold (onward book 1 book.ops) (with_taken x xid (book.steps + 1)) j xid (lease_answer node)) (sym at) shown
+
+-- ---- a walk's call
+
+-- an answer to it, which came of it in this step
+pub walk_came : (book more : Book) (k : Core) (qs : List Queue) (n now : ℕ) (x : Session) (q : Queue) (xid : ℕ) (w : Walk) (us : List Ask) (c : Seat) (r : NameReply) → IsKept book k qs → numbered k.seats x.owner ≡ Some c → IsTalk book n k.server.waiting x q c → q.ups ≡ record { xid = xid; call = Walks w } ∷ us
+    → IsNoted book k (Serves n now (message_spell (ask_message (record { xid = xid; call = Walks w })))) → Contains (happens k (Serves n now (message_spell (ask_message (record { xid = xid; call = Walks w }))))).down (record { session = n; message = message.Answer xid (body.Nfs (name_answer r)) })
+    → more.moments ≡ book.moments → more.steps ≡ book.steps + 1
+    → ((j : Job) (o : Op) → job c ≡ Some j → j.stage ≡ stage.Walking xid w → slice_get book.ops j.place ≡ Some o → (z : Op) × (slice_get more.ops j.place ≡ Some z) × (z.begin ≡ o.begin) × (z.client ≡ o.client) × WalkCame more (record { before = k; event = Serves n now (message_spell (ask_message (record { xid = xid; call = Walks w }))) }) (book.steps + 1) x.closing j z w (name_answer r))
+    → AnswerOf more (with_taken x xid (book.steps + 1)) x.closing (job c) xid (Walked r)
+walk_came book more k qs n now x q xid w us c r kept was talk e noted sent moments steps came = λ j v is at.
+    let of = (kept.seats x.owner c was).task j is in
+    let begun = (kept.sound.rights j.place of.op of.there).begun in
+    let rising = subst (λ (l : List Ask). Rising talk.floor l c.client.next) e talk.rising in
+    let passed = kept.steps in
+    let same : v ≡ w = (subst (AllAsks (IsAsked (job c))) e talk.asked).0 j v is at in
+    let z = came j of.op is (at ∙ ap (stage.Walking xid) same) of.there in
+    subst (λ (u : Walk). WalkTold more (with_taken x xid (book.steps + 1)) x.closing j xid u (name_answer r)) (sym same) (record {
+      at = record { before = k; event = Serves n now (message_spell (ask_message (record { xid = xid; call = Walks w }))) };
+      noted = subst (λ (l : List Moment). Contains l (record { before = k; event = Serves n now (message_spell (ask_message (record { xid = xid; call = Walks w }))) })) (sym moments) noted.there;
+      moment = book.steps + 1;
+      step_is = omega (arith, passed);
+      was = λ none. finds_last x.taken talk.floor (record { xid = xid; step = book.steps + 1 }) talk.under rising.0;
+      past = omega (arith, steps);
+      op = z.0;
+      there = z.1;
+      after = subst (λ (b : ℕ). b ≤ book.steps + 1) (sym z.2) (omega (arith, begun));
+      bounded = kept.server.bounded;
+      rooted = kept.server.rooted;
+      came = z.4;
+      session = n;
+      sent = sent;
+      seat = c;
+      seat_is = ap (numbered k.seats) (z.3 ∙ of.client) ∙ was;
+      job_is = is;
+      then_op = of.op;
+      then_is = ap (λ (l : List Op). slice_get l j.place) (sym kept.ops) ∙ of.there;
+      then_began = sym z.2;
+    })
+
+-- what the tree tells of it now
+pub walk_told : (book : Book) (k : Core) (qs : List Queue) (n now : ℕ) (x : Session) (q : Queue) (xid : ℕ) (w : Walk) (us : List Ask) (c : Seat) → IsKept book k qs → numbered k.seats x.owner ≡ Some c → IsTalk book n k.server.waiting x q c → q.ups ≡ record { xid = xid; call = Walks w } ∷ us → CallFits xid (Walks w) → is_making w ≡ false
+    → IsNoted book k (Serves n now (message_spell (ask_message (record { xid = xid; call = Walks w })))) → Contains (happens k (Serves n now (message_spell (ask_message (record { xid = xid; call = Walks w }))))).down (record { session = n; message = message.Answer xid (body.Nfs (name_answer (walk_reply k.server.tree w))) }) → AnswerOf (onward book 1 book.ops) (with_taken x xid (book.steps + 1)) x.closing (job c) xid (Walked (walk_reply k.server.tree w))
+walk_told book k qs n now x q xid w us c kept was talk e fits none noted sent =
+    walk_came book (onward book 1 book.ops) k qs n now x q xid w us c (walk_reply k.server.tree w) kept was talk e noted sent refl refl
+    (λ j o is at there. (o, there, refl, refl, inl (reply_told k.server.tree w fits.1 none, λ i f. let le = (kept.sound.past i (book.steps + 1) f).1 in omega (arith, le))))
 
 -- ---- a GETHASH
 
@@ -250,7 +298,7 @@ hash_reply_fits laws book s xid f offset h x lt = by (looked s.tree f lt)
         let c = h.changes in
         let id = b.0 in
         let small = b.2 in
-        subst (λ (node : Result Node Status). MessageFits (told_message (record { xid = xid; reply = Hashed (hash_answer node (hash_range f offset)) }))) (sym e) (laws.hashes xid g (handle_bytes f) offset x (omega (arith, id, small), omega (arith, v, c), b.6))
+        subst (λ (node : Result Node Status). MessageFits (told_message (record { xid = xid; reply = Hashed (hash_answer node (hash_range f offset)) }))) (sym e) (laws.hashes xid g (handle_bytes f) offset x (omega (arith, id, small), omega (arith, v, c), b.5))
 
 pub hash_told : FitLaws → (book : Book) (k : Core) (qs : List Queue) (n now : ℕ) (x : Session) (q : Queue) (xid f offset : ℕ) (us : List Ask) (c : Seat) → IsKept book k qs → numbered k.seats x.owner ≡ Some c → c.session ≡ Some n → IsTalk book n k.server.waiting x q c → q.ups ≡ record { xid = xid; call = Hash f offset } ∷ us → CallFits xid (Hash f offset)
     → IsNoted book k (Serves n now (message_spell (ask_message (record { xid = xid; call = Hash f offset })))) → AnswerOf (onward book 1 book.ops) (with_taken x xid (book.steps + 1)) x.closing (job c) xid (hash_reply k.server.tree f offset)
@@ -279,11 +327,11 @@ hash_told laws book k qs n now x q xid f offset us c kept was here talk e fits n
           file = g;
           is = refl;
           held = held_now book k n now (record { xid = xid; call = Hash f offset }) j.file f g noted same.0 there;
-          value = held.4.value;
-          value_is = held.4.same;
-          told = told_now book k qs n x q (record { xid = xid; call = Hash f offset }) us c j (Some held.4.value) g.version kept was talk e is (ap (λ (i : ℕ). value_at book i (book.steps + 1)) same.0 ∙ held.4.is) (ap (λ (i : ℕ). version_at book i (book.steps + 1)) same.0 ∙ held.5);
-          short = held.6;
-          known = subst (λ (i : ℕ). IsSome (content_of book.opening i)) (sym same.0) held.3;
+          value = held.3.value;
+          value_is = held.3.same;
+          told = told_now book k qs n x q (record { xid = xid; call = Hash f offset }) us c j (Some held.3.value) g.version kept was talk e is (ap (λ (i : ℕ). value_at book i (book.steps + 1)) same.0 ∙ held.3.is) (ap (λ (i : ℕ). version_at book i (book.steps + 1)) same.0 ∙ held.4);
+          short = held.5;
+          known = there_later book (onward book 1 book.ops) None None j.file (grows_same book 1) (subst (λ (i : ℕ). WasThere book i) (sym same.0) (is_there book f g held));
           hashed = noted_bytes;
         }))
 
@@ -307,20 +355,21 @@ read_reply_fits laws book s xid f d h x lt = by (looked s.tree f lt)
         let c = h.changes in
         let id = b.0 in
         let small = b.2 in
-        subst (λ (node : Result Node Status). MessageFits (told_message (record { xid = xid; reply = Bytes (read_answer node (read_range f d)) }))) (sym e) (laws.reads xid g (handle_bytes f) d.start d.len x (omega (arith, id, small), omega (arith, v, c), b.6))
+        subst (λ (node : Result Node Status). MessageFits (told_message (record { xid = xid; reply = Bytes (read_answer node (read_range f d)) }))) (sym e) (laws.reads xid g (handle_bytes f) d.start d.len x (omega (arith, id, small), omega (arith, v, c), b.5))
 
 pub read_told : (book : Book) (k : Core) (qs : List Queue) (n now : ℕ) (x : Session) (q : Queue) (xid f : ℕ) (d : Chunk) (us : List Ask) (c : Seat) → IsKept book k qs → numbered k.seats x.owner ≡ Some c → IsTalk book n k.server.waiting x q c → q.ups ≡ record { xid = xid; call = Read f d } ∷ us → f < 18446744073709551616 → IsNoted book k (Serves n now (message_spell (ask_message (record { xid = xid; call = Read f d }))))
     → AnswerOf (onward book 1 book.ops) (with_taken x xid (book.steps + 1)) x.closing (job c) xid (read_reply k.server.tree f d)
 read_told book k qs n now x q xid f d us c kept was talk e small noted = λ j g w is at waits. by j g w is at ((subst (AllAsks (IsAsked (job c))) e talk.asked).0 j w is waits) (subst (FetchOf book x.taken j) at (talk.fetch j is)) (looked k.server.tree f small)
   where
-    by : (j : Job) (g : Fetch) (w : Chunk) → job c ≡ Some j → j.stage ≡ stage.Reading g → (j.file ≡ f) × (w ≡ d) → ((h : IsFetch book x.taken j g) × IsReading book h.file.content g) → Found k.server.tree f → ReadTold (onward book 1 book.ops) (with_taken x xid (book.steps + 1)) j g.first w (read_answer (node_of k.server.tree (handle_bytes f)) (read_range f d))
-    by j g w is at same h (is_directory z there none e2) = absurd (not_some (subst (λ (v : Value). IsSome v) (subst (FileIs book f) none (kept.server.held f)).0 (subst (λ (i : ℕ). IsSome (content_of book.opening i)) same.0 h.0.known)))
-    by j g w is at same h (is_gone none e2) = absurd (not_some (subst (λ (v : Value). IsSome v) (subst (FileIs book f) none (kept.server.held f)).0 (subst (λ (i : ℕ). IsSome (content_of book.opening i)) same.0 h.0.known)))
+    by : (j : Job) (g : Fetch) (w : Chunk) → job c ≡ Some j → j.stage ≡ stage.Reading g → (j.file ≡ f) × (w ≡ d) → ((h : IsFetch book x.taken j g) × IsReading book h.file.content g) → Found k.server.tree f → ReadTold (onward book 1 book.ops) (with_taken x xid (book.steps + 1)) j xid g.first w (read_answer (node_of k.server.tree (handle_bytes f)) (read_range f d))
+    -- what was a file is no directory
+    by j g w is at same h (is_directory z there none e2) = absurd (there_version book f (subst (λ (i : ℕ). WasThere book i) same.0 h.0.known) (kept.server.fresh f (directory_unused k.server.tree f z there)))
+    by j g w is at same h (is_gone none e2) = subst (λ (node : Result Node Status). ReadTold (onward book 1 book.ops) (with_taken x xid (book.steps + 1)) j xid g.first w (read_answer node (read_range f d))) (sym e2) (gone_told book k qs n x q (record { xid = xid; call = Read f d }) f us c j kept was talk e is same.0 none)
     by j g w is at same h (is_file z there e2) =
         let held = subst (FileIs book f) there (kept.server.held f) in
         let past = h.0.told.past in
         let grows = grows_same book 1 in
-        subst (λ (node : Result Node Status). ReadTold (onward book 1 book.ops) (with_taken x xid (book.steps + 1)) j g.first w (read_answer node (read_range f d))) (sym e2) (subst (λ (v : Chunk). IsRead (onward book 1 book.ops) (with_taken x xid (book.steps + 1)) j g.first v (piece_of z (read_range f d))) (sym same.1) (record {
+        subst (λ (node : Result Node Status). ReadTold (onward book 1 book.ops) (with_taken x xid (book.steps + 1)) j xid g.first w (read_answer node (read_range f d))) (sym e2) (subst (λ (v : Chunk). IsRead (onward book 1 book.ops) (with_taken x xid (book.steps + 1)) j g.first v (piece_of z (read_range f d))) (sym same.1) (record {
           file = z;
           is = refl;
           held = held_now book k n now (record { xid = xid; call = Read f d }) j.file f z noted same.0 there;
@@ -329,5 +378,5 @@ read_told book k qs n now x q xid f d us c kept was talk e small noted = λ j g 
           last = book.steps + 1;
           order = omega (arith, past);
           past = omega arith;
-          version_is = version_later book (onward book 1 book.ops) None None j.file (book.steps + 1) grows (omega arith) ∙ ap (λ (i : ℕ). version_at book i (book.steps + 1)) same.0 ∙ held.5;
+          version_is = version_later book (onward book 1 book.ops) None None j.file (book.steps + 1) grows (omega arith) ∙ ap (λ (i : ℕ). version_at book i (book.steps + 1)) same.0 ∙ held.4;
         }))

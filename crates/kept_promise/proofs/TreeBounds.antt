@@ -145,7 +145,7 @@ create_room t held dir name m e =
     by mode.Guarded f e none = found mode.Guarded (named t.nodes dir name) f e none
     by mode.Unchecked f e none = found mode.Unchecked (named t.nodes dir name) f e none
 
-create_stays : (t : Tree) (held : Held) (dir : ℕ) (name : List ℕ) (m : CreateMode) → Stays held t (create t held dir name m).0
+pub create_stays : (t : Tree) (held : Held) (dir : ℕ) (name : List ℕ) (m : CreateMode) → Stays held t (create t held dir name m).0
 create_stays t held dir name m = by (create_plan t held dir name m) refl
   where
     by : (r : Result (Option Changed) Status) → create_plan t held dir name m ≡ r → Stays held t (create_made t dir name r).0
@@ -161,7 +161,7 @@ mkdir_room t held dir name u e =
     let d = bind_ok (or_taken (named t.nodes dir name)) (λ _. spared t.changes held 1) u c.2 in
     spared_room t held 1 u d.2
 
-mkdir_stays : (t : Tree) (held : Held) (dir : ℕ) (name : List ℕ) → Stays held t (mkdir t held dir name).0
+pub mkdir_stays : (t : Tree) (held : Held) (dir : ℕ) (name : List ℕ) → Stays held t (mkdir t held dir name).0
 mkdir_stays t held dir name = by (may_mkdir t held dir name) refl
   where
     by : (r : Result Unit Status) → may_mkdir t held dir name ≡ r → Stays held t (mkdir_if t dir name r).0
@@ -193,10 +193,10 @@ gone_stays : (t : Tree) (held : Held) (dir : ℕ) (r : Result Changed Status) �
 gone_stays t held dir (Err s) room = stays_same held t
 gone_stays t held dir (Ok done) room = removed_stays held t dir done.id (room done refl)
 
-remove_stays : (t : Tree) (held : Held) (dir : ℕ) (name : List ℕ) → Stays held t (remove t held dir name).0
+pub remove_stays : (t : Tree) (held : Held) (dir : ℕ) (name : List ℕ) → Stays held t (remove t held dir name).0
 remove_stays t held dir name = gone_stays t held dir (remove_plan t held dir name) (λ done e. remove_room t held dir name done e)
 
-rmdir_stays : (t : Tree) (held : Held) (dir : ℕ) (name : List ℕ) → Stays held t (rmdir t held dir name).0
+pub rmdir_stays : (t : Tree) (held : Held) (dir : ℕ) (name : List ℕ) → Stays held t (rmdir t held dir name).0
 rmdir_stays t held dir name = gone_stays t held dir (rmdir_plan t held dir name) (λ done e. rmdir_room t held dir name done e)
 
 -- ---- RENAME
@@ -243,7 +243,7 @@ rename_finds t held dir name to to_name p e =
     let l = bind_ok (or_no_entry (named t.nodes dir name)) rest p k.2 in
     (l.0, entry_is (named t.nodes dir name) l.0 l.1, l.2)
 
-rename_stays : (t : Tree) (held : Held) (dir : ℕ) (name : List ℕ) (to : ℕ) (to_name : List ℕ) → Stays held t (rename t held dir name to to_name).0
+pub rename_stays : (t : Tree) (held : Held) (dir : ℕ) (name : List ℕ) (to : ℕ) (to_name : List ℕ) → Stays held t (rename t held dir name to to_name).0
 rename_stays t held dir name to to_name = by (rename_plan t held dir name to to_name) refl
   where
     none_some : (m : Node) → ◌≡◌ {A = Option Node} None (Some m) → ⊥

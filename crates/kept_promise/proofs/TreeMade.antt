@@ -89,7 +89,7 @@ renames_not t held s to e = (refl, refl)
 abbrev pub Settled : Tree → (file : ℕ) → Tree × Result Changed Status → Tree × Done → Type 0
 Settled t file p r = ((s : Status) × (refusal_of r.1.answer ≡ Some s) × (r.0 ≡ t) × (r.1.first ≡ None)) ⊎ ((c : Changed) × (p.1 ≡ Ok c) × (refusal_of r.1.answer ≡ None) × (r.0 ≡ p.0) × (r.1.first ≡ c.first) × (entry_file c.first ≡ Some file))
 
-still_is : (nodes : List Node) (s : Spot) (id : ℕ) (u : Unit) → still nodes s id ≡ Ok u → (n : Node) × (named nodes s.dir s.name ≡ Some n) × (n.id ≡ id)
+pub still_is : (nodes : List Node) (s : Spot) (id : ℕ) (u : Unit) → still nodes s id ≡ Ok u → (n : Node) × (named nodes s.dir s.name ≡ Some n) × (n.id ≡ id)
 still_is nodes s id u e = by (named nodes s.dir s.name) refl e
   where
     is_it : (n : Node) (b : Bool) → (n.id == id) ≡ b → (let r : Result Unit Status = if b then Ok tt else Err status.Jukebox in r ≡ Ok u) → n.id ≡ id
@@ -115,7 +115,7 @@ gone_file : (n : Node) (b : Body) → is_directory b ≡ false → entry_file (S
 gone_file n Directory e = absurd cc
 gone_file n (File c) e = refl
 
-remove_file : (t : Tree) (held : Held) (dir : ℕ) (name : List ℕ) (done : Changed) → remove_plan t held dir name ≡ Ok done → (n : Node) × (named t.nodes dir name ≡ Some n) × (is_directory n.body ≡ false) × (done ≡ remove_done n)
+pub remove_file : (t : Tree) (held : Held) (dir : ℕ) (name : List ℕ) (done : Changed) → remove_plan t held dir name ≡ Ok done → (n : Node) × (named t.nodes dir name ≡ Some n) × (is_directory n.body ≡ false) × (done ≡ remove_done n)
 remove_file t held dir name done e =
     let p = bind_ok (may_remove t held dir name) (λ n. Ok (remove_done n)) done e in
     let a = bind_ok (directory_of t.nodes dir) (λ _. spelt name >>= λ _. undotted status.Inval status.Inval name >>= λ _. or_no_entry (named t.nodes dir name) >>= file_or status.IsDir >>= λ n. spared t.changes held 1 >>= λ _. Ok n) p.0 p.1 in

@@ -17,7 +17,9 @@ use Rattle.file_tree.specs.View.{IsNodeBounded, AreIdsApart}
 use Rattle.file_tree.proofs.Limits.{all_map, all_with, size_with}
 use Rattle.server_core.specs.Answers.{directory, file, node_with, node_found, node_named, Node as ServerNode}
 use Rattle.server_core.specs.State.{File, file_of_body, file_of_node, file_at}
+use Rattle.kept_promise.proofs.TreeNames.{IsCounted as AreCounted}
 use Rattle.server_law.proofs.Trees.{IsBounded, IsGiven, given, next_free, given_with, with_files}
+use Rattle.tree_nodes.proofs.Lists.{with_id_with}
 
 -- ---- the opening tree
 
@@ -131,6 +133,7 @@ pub record IsOpened (t u : Tree) (content : List ℕ) : Type 0 where
   pub others : (f : ℕ) → (f ≡ t.next → ⊥) → file_at u f ≡ file_at t f
   pub size : contents_size u.nodes ≡ contents_size t.nodes + length content
   pub given : IsGiven u
+  pub zero : 1 < t.next → with_id t.nodes 0 ≡ None → with_id u.nodes 0 ≡ None
   pub bounded : IsBounded t → t.next < 9223372036854775808 → length content ≤ file_most → contents_size t.nodes + length content ≤ tree_most → IsBounded u
 
 opened_tree : (t : Tree) (dir : ℕ) (name content : List ℕ) → IsGiven t → IsOpened t (opened t dir name (Plain content)) content
@@ -140,6 +143,7 @@ opened_tree t dir name content h = record {
   others = λ f apart. found f ∙ ap (λ (b : Bool). if b then file_of_node (Some n) else file_at u f) (other f apart) ∙ c.files f;
   size = let a = size_with u.nodes n in let b = c.size in omega (arith, a, b);
   given = record { below = g.0; apart = g.1 };
+  zero = λ above none. with_id_with u.nodes n 0 free ∙ ap (λ (b : Bool). if b then Some n else with_id u.nodes 0) (let e = c.next in let z : (u.next == 0) ≡ false = grind (arith, nat_tests, above, e) in z) ∙ c.gone 0 none;
   bounded = bounded;
 }
   where
@@ -192,6 +196,7 @@ pub record IsWidened (t u : Tree) : Type 0 where
   pub files : (f : ℕ) → file_at u f ≡ file_at t f
   pub size : contents_size u.nodes ≡ contents_size t.nodes
   pub given : IsGiven u
+  pub zero : 1 < t.next → with_id t.nodes 0 ≡ None → with_id u.nodes 0 ≡ None
   pub bounded : IsBounded t → t.next < 9223372036854775808 → IsBounded u
 
 widened_tree : (t : Tree) (dir : ℕ) (name : List ℕ) → IsGiven t → IsWidened t (opened t dir name Directory)
@@ -200,6 +205,7 @@ widened_tree t dir name h = record {
   files = λ f. with_files t.nodes n f free ∙ by f (t.next == f) refl;
   size = let e = size_with t.nodes n in omega (arith, e);
   given = record { below = g.0; apart = g.1 };
+  zero = λ above none. with_id_with t.nodes n 0 free ∙ ap (λ (b : Bool). if b then Some n else with_id t.nodes 0) (let z : (t.next == 0) ≡ false = grind (arith, nat_tests, above) in z) ∙ none;
   bounded = λ b few. record {
     count = b.count;
     next = omega (arith, few);
@@ -224,6 +230,26 @@ widened_tree t dir name h = record {
 
 pub opens_directory : (t : Tree) (dir : ℕ) (name : List ℕ) → IsGiven t → can_open t dir name ≡ true → IsWidened t (opens t dir name Directory)
 opens_directory t dir name h can = subst (λ (b : Bool). IsWidened t (if b then opened t dir name Directory else t)) (sym can) (widened_tree t dir name h)
+
+-- its versions are counted
+pub opens_counted : (t : Tree) (dir : ℕ) (name : List ℕ) (b : Body) → can_open t dir name ≡ true → AreCounted t → AreCounted (opens t dir name b)
+opens_counted t dir name b can h = subst (λ (z : Bool). AreCounted (if z then opened t dir name b else t)) (sym can) (by b)
+  where
+    changed_ : (z : Bool) → (t.changes == 0) ≡ z → (let u : Tree = if z then record { nodes = map (counted_at 1) t.nodes; next = t.next; changes = 1 } else t in AllByRecursion (λ (n : Node). n.version ≤ u.changes) u.nodes × (1 ≤ u.changes))
+    changed_ false e = (h.versions, grind (arith, nat_tests, e))
+    changed_ true e = (counted_all (λ (n : Node). n.version ≤ t.changes) (λ (n : Node). n.version ≤ 1) 1 (λ n le. one n (let z : t.changes ≡ 0 = grind (arith, nat_tests, e) in omega (arith, le, z)) (is_directory n.body)) t.nodes h.versions, omega arith)
+      where
+        one : (n : Node) → n.version ≤ 0 → (b : Bool) → (if b then record n { version = 1 } else n).version ≤ 1
+        one n le true = omega arith
+        one n le false = omega (arith, le)
+
+    by : (b : Body) → AreCounted (opened t dir name b)
+    by Directory = record { given = (widened_tree t dir name h.given).given; versions = all_with (λ (n : Node). n.version ≤ t.changes) t.nodes (record { id = t.next; parent = dir; name = name; version = t.changes; body = Directory }) h.versions (omega arith) }
+    by (Plain content) =
+        let c = changed_ (t.changes == 0) refl in
+        let u = with_change t in
+        let one = c.1 in
+        record { given = (opened_tree t dir name content h.given).given; versions = all_with (λ (n : Node). n.version ≤ u.changes) u.nodes (opening_node u dir name content) c.0 (omega (arith, one)) }
 
 -- ---- what a handle of this file system names
 

@@ -81,7 +81,7 @@ IsRefusal a r = (s : Status) × (refusal_of a ≡ Some s) × (r ≡ told.Ends (e
 
 -- the name stands for a node, and with its id it goes on
 abbrev pub Goes : Tree → (dir : ℕ) → List ℕ → (ℕ → Told) → Told → Type 0
-Goes t dir name on r = (s : Standing) × (stands_for t.nodes dir name ≡ Some s) × (r ≡ on s.id)
+Goes t dir name on r = (s : Standing) × (stands_for t.nodes dir name ≡ Some s) × (r ≡ on s.id) × (s.id < 18446744073709551616)
 
 some_nfs : (a b : Nfs) → ◌≡◌ {A = Option Nfs} (Some a) (Some b) → a ≡ b
 some_nfs a b e = ap (λ (o : Option Nfs). or_else o) e
@@ -102,7 +102,7 @@ looks_down t w n ns a b small plain left e =
     by (Err s) is = inl (s, refl, refl)
     by (Ok f) is =
         let h = own_directory t w.dir n f small plain is in
-        inr (standing_of h.node, stands t.nodes w.dir n h.node h.named_is, ap (λ (l : List (List ℕ)). told_found l w.goal f) left ∙ ap (goes_down ns w.goal) (found_id t w.dir n f b h))
+        inr (standing_of h.node, stands t.nodes w.dir n h.node h.named_is, ap (λ (l : List (List ℕ)). told_found l w.goal f) left ∙ ap (goes_down ns w.goal) (found_id t w.dir n f b h), named_small t w.dir n h.node b h.named_is)
 
 -- the last of an open's
 pub finds_file : (t : Tree) (w : Walk) (name : List ℕ) (a : Nfs) → IsBounded t → w.dir < 18446744073709551616 → IsUndotted name → w.left ≡ [] → w.goal ≡ goal.Find name → told_by t.nodes (next_call w) ≡ Some a
@@ -116,7 +116,7 @@ finds_file t w name a b small plain left aim e =
     by (Err s) is = inl (s, refl, refl)
     by (Ok f) is =
         let h = own_directory t w.dir name f small plain is in
-        inr (standing_of h.node, stands t.nodes w.dir name h.node h.named_is, ap (λ (l : List (List ℕ)). told_found l w.goal f) left ∙ ap (λ (g : Goal). told_goal g f) aim ∙ ap finds (found_id t w.dir name f b h))
+        inr (standing_of h.node, stands t.nodes w.dir name h.node h.named_is, ap (λ (l : List (List ℕ)). told_found l w.goal f) left ∙ ap (λ (g : Goal). told_goal g f) aim ∙ ap finds (found_id t w.dir name f b h), named_small t w.dir name h.node b h.named_is)
 
 -- ---- what is told of a node
 

@@ -1,9 +1,10 @@
 -- A run carries that each open gave the content of a version that came to its client.
-use Rattle.std.proofs.Common.{◌⊎◌, inl, inr, ◌≡◌, ℕ, ◌+◌, ◌<◌, ◌≤◌, List, [], ◌∷◌, ◌++◌, zero, suc, length, Option, Some, None, Result, Ok, Bool, true, false, refl, sym, ap, ◌∙◌, subst, arith, append-nil, eqb-true, eq-eqb, IsSome}
+use Rattle.std.proofs.Common.{◌⊎◌, inl, inr, ◌≡◌, ℕ, ◌+◌, ◌<◌, ◌≤◌, List, [], ◌∷◌, ◌++◌, zero, suc, length, Option, Some, None, Result, Ok, Bool, true, false, refl, sym, ap, ◌∙◌, subst, arith, append-nil, eqb-true, eq-eqb}
 use Rattle.std.specs.Option.{option_map}
 use Rattle.wire.specs.declared.message.Message.TheVariants as message
 use Rattle.server_core.specs.Closing.{at as at_reading}
 use Rattle.server_core.specs.State as server
+use Rattle.server_core.specs.declared.change.Wanted.TheVariants as wanted
 use Rattle.server_core.specs.declared.event.Event.TheVariants as event
 use Rattle.server_core.specs.declared.event.Told.{Told as Announced}
 use Rattle.server_core.specs.declared.event.Told.TheVariants as announced
@@ -17,43 +18,45 @@ use Rattle.trace_replay.specs.Ops.{taken_on}
 use Rattle.trace_replay.specs.Core.{taken_of as session_taken}
 use Rattle.trace_replay.specs.Trail.{taken_of}
 use Rattle.trace_replay.specs.Faithful.{Carries, OpensVersion}
-use Rattle.kept_promise.proofs.Common.{nat_tests, Contains-append_left, Contains-append_right, Contains-append_cases, Contains-push, ◌==◌, ◌&&◌, ◌||◌, nat_lt, nat_le, slice_get, slice_set, cond, find, Contains, option_map_or, Command, Done, Hashes, parse_of, WireFault, Message, Change, File, server_step, has_call, pending, command_step, got_step, ended_by, joined, ClientStep, Ended, Outcome, Stage, Task, changes, changed_before, Op, Opening, TakenCall, word_of, told_of, has_point, point_if, op_after, begun, taken_at, place_after, place_with, pointed, pointed_at, Core, Seat, Session, Event, Event.Joins, Event.Does, Event.Serves, Event.Hears, Event.Settles, Event.Cuts, Event.Hangs, CoreStep, numbered, with_numbered, new_session, taken_with, commanded_session, commanded_sessions, cut_session, server_waiting, serves_if, serves, session_of, ops_after, ops_with, acted, does, joins_as, joins, settled_ops, settled_by, settles, cuts_if, cuts, hangs_if, hangs, happens, Moment, Said, all_said, owner_in, client_of, wanted_if, wanted_by, taken_by, Book, version_at, until, TellsVersion, Reply, Reply.Versioned, Reply.Hashed, Reply.Bytes, Told, Queue, reply_body, told_message, ServerStep, content_of, ask_message}
-use Rattle.kept_promise.proofs.Lists.{some_is, nothing_there, at_end, same_or_not, of_replaced, of_appended, kept_appended, at_replaced, set_else, false_and_true}
-use Rattle.kept_promise.proofs.Marks.{unpointed}
-use Rattle.kept_promise.proofs.Messages.{Job, job, job_of, AllTolds, AllUnder, hash_offset, IsTold, IsHashed, IsLeased, AnswerOf, IsAnswer}
-use Rattle.kept_promise.proofs.Rights.{IsRight, Caused, IsUnmade, close_not_open}
+use Rattle.kept_promise.proofs.Common.{nat_tests, Contains-append_left, Contains-append_right, Contains-append_cases, Contains-push, ◌==◌, ◌&&◌, ◌||◌, nat_le, slice_get, slice_set, cond, find, Contains, Command, Done, Hashes, parse_of, WireFault, Message, Change, File, server_step, has_call, pending, command_step, got_step, ended_by, joined, ClientStep, Ended, Outcome, Stage, Task, changes, changed_before, Op, Opening, TakenCall, word_of, told_of, has_point, point_if, op_after, begun, taken_at, place_after, place_with, pointed, pointed_at, Core, Seat, Session, Event, Event.Joins, Event.Does, Event.Serves, Event.Hears, Event.Settles, Event.Cuts, Event.Hangs, CoreStep, numbered, with_numbered, new_session, taken_with, commanded_session, commanded_sessions, cut_session, server_waiting, serves_if, serves, session_of, ops_after, ops_with, acted, does, joins_as, joins, settled_ops, settled_by, settles, cuts_if, cuts, hangs_if, hangs, happens, Moment, Said, all_said, owner_in, client_of, wanted_if, wanted_by, taken_by, Book, version_at, until, TellsVersion, Reply, Reply.Versioned, Reply.Hashed, Reply.Bytes, Told, Queue, reply_body, told_message, ServerStep, ask_message, Reply.Walked, NameReply.LookedUp, NameReply.Shown, NameReply.Listed, NameReply.MadeFile, NameReply.MadeDir, NameReply.NoDir, Wanted}
+use Rattle.kept_promise.proofs.Lists.{some_is, nothing_there, at_end, same_or_not, of_replaced, of_appended, kept_appended, at_replaced, set_else, false_and_true, true_and_false}
+use Rattle.kept_promise.proofs.Marks.{unpointed, too_late}
+use Rattle.kept_promise.proofs.Messages.{Job, job, job_of, AllTolds, AllUnder, hash_offset, IsTold, IsHashed, IsLeased, AnswerOf, IsAnswer, stage_word, WaitsFor}
+use Rattle.kept_promise.proofs.Rights.{IsRight, Caused, IsUnmade, close_not_open, gets_file}
 use Rattle.kept_promise.proofs.Fits.{FitLaws}
 use Rattle.kept_promise.proofs.Keys.{own}
 use Rattle.kept_promise.proofs.Turns.{also_numbered, around_with}
 use Rattle.kept_promise.proofs.Heard.{rising_to}
 use Rattle.kept_promise.proofs.Promised.{own_there}
-use Rattle.kept_promise.proofs.Facts.{IsKept, IsSession, IsMatched}
-use Rattle.kept_promise.proofs.RunsCarried.{book_at, moment, Step, Carried}
+use Rattle.kept_promise.proofs.Facts.{IsKept, IsSession, IsMatched, is_naming}
+use Rattle.kept_promise.proofs.RunsCarried.{book_at, moment, Step, Finds, Carried}
 use Rattle.kept_promise.proofs.Counted.{IsActor, first_or_rest, said_by, said_at, early, of_step, SaidBy, said_later, said_append, said_now, AlikeUpTo}
 use Rattle.kept_promise.proofs.JobFacts.{ops_shape, job_after}
 use Rattle.kept_promise.proofs.Actors.{acts_alone, job_place, job_task, placed, Heard, heard_at, heard_acts, heard_takes, serves_read}
 use Rattle.kept_promise.proofs.CountedRuns.{CountedAt, carried_counts, taken_more}
-use Rattle.kept_promise.proofs.Shapes.{TaskGood, OutcomeGood, EndGood, Good, TookIn, TaskTook, good_answer, good_command, busy_command}
+use Rattle.kept_promise.proofs.Shapes.{TaskGood, OutcomeGood, EndGood, Good, TookIn, TaskTook, good_answer, good_command, busy_command, StageGood}
 use Rattle.trace_replay.specs.Core.{entries_since}
 use Rattle.trace_replay.specs.Ops.{changed_file, file_with}
-use Rattle.kept_promise.proofs.CallsKeep.{IsOfFiles, is_of_files}
-use Rattle.kept_promise.proofs.ServesFiles.{quiet_got, got_quiet, one_since}
-use Rattle.kept_promise.proofs.Found.{got_finds, seat_walks}
-use Rattle.kept_promise.proofs.Versions.{version_of_first, of_numbered, version_in, count_replaced, count_appended, CameTo, Since, Attempt, Untold, takens, JobVersion, HaveVersions, Alike, alike_same, Extends, extends_same, came_alike, since_alike, job_alike, JobCame, versions_onward}
+use Rattle.kept_promise.proofs.ServesFiles.{one_since}
+use Rattle.kept_promise.proofs.Found.{heard_quiet, heard_apart, Quietly, IsFresh, step_found}
+use Rattle.kept_promise.proofs.Versions.{of_numbered, version_by, early_of, by_counts, count_replaced, count_appended, CameTo, Since, Attempt, Untold, takens, JobVersion, HaveVersions, Alike, alike_same, Extends, extends_same, came_alike, since_alike, job_alike, JobCame, versions_onward}
 use Rattle.kept_promise.proofs.Taking.{versions_after}
 use Rattle.kept_promise.proofs.CommandOps.{made_by, made_later, made_pointless, last_right, old_jobs}
 use Rattle.kept_promise.proofs.Messages.{content_wanted}
-use Rattle.kept_promise.proofs.Making.{made_change, target_there, made_is, entry_of}
+use Rattle.kept_promise.proofs.Making.{made_change, made_is, entry_of}
+use Rattle.kept_promise.proofs.StepCases.{IsOpenedBy, IsOfFile}
+use Rattle.kept_promise.proofs.ServesQuietly.{MadeHere, serves_quiet}
+use Rattle.kept_promise.proofs.SettlesQuietly.{GoesHere, Settling, makes_commit, makes_else, settling}
 
-abbrev pub VersionsAt : (past : List Moment) → Core → Type 0
-VersionsAt past k = HaveVersions (taken_of past) k.sessions k.seats k.ops
+abbrev pub VersionsAt : (base : ℕ → ℕ) → (past : List Moment) → Core → Type 0
+VersionsAt base past k = HaveVersions base (taken_of past) k.sessions k.seats k.ops
 
-abbrev pub VersionsBy : (past : List Moment) → Core → Event → CoreStep → Type 0
-VersionsBy past k e t = HaveVersions (taken_of past ++ all_said (k.steps + 1) (client_of k e) (taken_by k (client_of k e) e)) t.core.sessions t.core.seats t.core.ops
+abbrev pub VersionsBy : (base : ℕ → ℕ) → (past : List Moment) → Core → Event → CoreStep → Type 0
+VersionsBy base past k e t = HaveVersions base (taken_of past ++ all_said (k.steps + 1) (client_of k e) (taken_by k (client_of k e) e)) t.core.sessions t.core.seats t.core.ops
 
 -- nothing is said
-unsaid : (said : List Said) (sessions : List Session) (seats : List Seat) (ops : List Op) → HaveVersions said sessions seats ops → HaveVersions (said ++ []) sessions seats ops
-unsaid said sessions seats ops h = subst (λ z. HaveVersions z sessions seats ops) (sym (append-nil said)) h
+unsaid : (base : ℕ → ℕ) → (said : List Said) (sessions : List Session) (seats : List Seat) (ops : List Op) → HaveVersions base said sessions seats ops → HaveVersions base (said ++ []) sessions seats ops
+unsaid base said sessions seats ops h = subst (λ z. HaveVersions base z sessions seats ops) (sym (append-nil said)) h
 
 -- ---- what was taken of a client's newest session
 
@@ -115,14 +118,14 @@ not_taken floor (t ∷ taken) y q under le e = by (t.xid == y) refl e (not_taken
 -- ---- events of the server
 
 -- sessions alone change
-versions_sessions : (n : ℕ) (said : List Said) (sessions later : List Session) (seats : List Seat) (ops : List Op) → SaidBy n said → ((i : ℕ) (seat : Seat) → numbered seats i ≡ Some seat → Extends n (takens sessions seat) (takens later seat)) → HaveVersions said sessions seats ops → HaveVersions said later seats ops
-versions_sessions n said sessions later seats ops past e h = versions_onward n said said sessions later seats seats ops ops past (λ f q le. refl)
+versions_sessions : (base : ℕ → ℕ) → (n : ℕ) (said : List Said) (sessions later : List Session) (seats : List Seat) (ops : List Op) → SaidBy n said → ((i : ℕ) (seat : Seat) → numbered seats i ≡ Some seat → Extends n (takens sessions seat) (takens later seat)) → HaveVersions base said sessions seats ops → HaveVersions base said later seats ops
+versions_sessions base n said sessions later seats ops past e h = versions_onward base n said said sessions later seats seats ops ops past (λ f q le. refl)
     (λ i seat j r here is at. inl (seat, r, here, is, at, alike_same said r, e i seat here))
     (λ p len q digest r at is point. inl (r, at, alike_same said r, is, point)) h
 
-versions_joins : (book : Book) (past : List Moment) (k : Core) (qs : List Queue) (c : ℕ) (seat : Seat) (s : server.State) (o : Announced) → IsKept book k qs → numbered k.seats c ≡ Some seat → seat.client.linked ≡ false → CountedAt past k → VersionsAt past k → VersionsBy past k (Joins c) (joins_as k c seat s o)
-versions_joins book past k qs c seat s (announced.Session made) kept here free counted h = unsaid (taken_of past) (k.sessions ++ new_session c ∷ []) (with_numbered k.seats c new) k.ops
-    (versions_onward k.steps (taken_of past) (taken_of past) k.sessions (k.sessions ++ new_session c ∷ []) k.seats (with_numbered k.seats c new) k.ops k.ops counted.taken_by (λ f q le. refl)
+versions_joins : (book : Book) (past : List Moment) (k : Core) (qs : List Queue) (c : ℕ) (seat : Seat) (s : server.State) (o : Announced) → IsKept book k qs → numbered k.seats c ≡ Some seat → seat.client.linked ≡ false → CountedAt past k → VersionsAt (early_of book.opening) past k → VersionsBy (early_of book.opening) past k (Joins c) (joins_as k c seat s o)
+versions_joins book past k qs c seat s (announced.Session made) kept here free counted h = unsaid (early_of book.opening) (taken_of past) (k.sessions ++ new_session c ∷ []) (with_numbered k.seats c new) k.ops
+    (versions_onward (early_of book.opening) k.steps (taken_of past) (taken_of past) k.sessions (k.sessions ++ new_session c ∷ []) k.seats (with_numbered k.seats c new) k.ops k.ops counted.taken_by (λ f q le. refl)
     (λ i z j r there is at. elim (of_numbered k.seats c new i z there) [
       | inl mine ↦ nothing_there j (sym (idle seat.place) ∙ ap job (sym mine.1) ∙ is)
       | inr other ↦ inl (z, r, other.1, is, at, alike_same (taken_of past) r, takens_more k.steps k.sessions (new_session c) z.session (λ l e. let x = (kept.seats i z other.1).session l e in (x.0, x.1)))
@@ -138,101 +141,181 @@ versions_joins book past k qs c seat s (announced.Session made) kept here free c
     idle : (l : Option ℕ) → job_of l seat.client.task ≡ None
     idle None = refl
     idle (Some l) = ap (job_of (Some l)) none
-versions_joins book past k qs c seat s _ kept here free counted h = unsaid (taken_of past) k.sessions k.seats k.ops h
+versions_joins book past k qs c seat s _ kept here free counted h = unsaid (early_of book.opening) (taken_of past) k.sessions k.seats k.ops h
 
-versions_serves : (past : List Moment) (k : Core) (n now : ℕ) (bytes : List ℕ) (m : Message) (x : Option Session) → parse_of server_waiting bytes ≡ Ok m → IsOfFiles m → numbered k.sessions n ≡ x → CountedAt past k → VersionsAt past k → VersionsBy past k (Serves n now bytes) (serves k n now bytes x)
-versions_serves past k n now bytes m None read plain is counted h = unsaid (taken_of past) k.sessions k.seats k.ops h
-versions_serves past k n now bytes m (Some x) read plain is counted h = subst (λ (r : Result Message WireFault). VersionsBy past k (Serves n now bytes) (serves_if k n now x r)) (sym read) (subst (VersionsBy past k (Serves n now bytes)) (sym (got_quiet k n now x m plain)) left)
+versions_hangs : (base : ℕ → ℕ) → (past : List Moment) (k : Core) (n : ℕ) (x : Option Session) → numbered k.sessions n ≡ x → CountedAt past k → VersionsAt base past k → VersionsBy base past k (Hangs n) (hangs k n x)
+versions_hangs base past k n None is counted h = unsaid base (taken_of past) k.sessions k.seats k.ops h
+versions_hangs base past k n (Some x) is counted h = by x.hung
   where
-    called : (m : Message) → Extends k.steps x.taken (taken_with x.taken m (k.steps + 1))
-    called (message.Call xid body) = taken_more_at k.steps x.taken (record { xid = xid; step = k.steps + 1 }) (omega arith)
-    called _ = extends_same k.steps x.taken
-
-    left : VersionsBy past k (Serves n now bytes) (quiet_got k n now x m)
-    left = unsaid (taken_of past) (with_numbered k.sessions n (record x { taken = taken_with x.taken m (k.steps + 1) })) k.seats k.ops (versions_sessions k.steps (taken_of past) k.sessions (with_numbered k.sessions n (record x { taken = taken_with x.taken m (k.steps + 1) })) k.seats k.ops counted.taken_by (λ i z here. takens_with k.steps n k.sessions x (record x { taken = taken_with x.taken m (k.steps + 1) }) z.session is (called m)) h)
-
-versions_hangs : (past : List Moment) (k : Core) (n : ℕ) (x : Option Session) → numbered k.sessions n ≡ x → CountedAt past k → VersionsAt past k → VersionsBy past k (Hangs n) (hangs k n x)
-versions_hangs past k n None is counted h = unsaid (taken_of past) k.sessions k.seats k.ops h
-versions_hangs past k n (Some x) is counted h = by x.hung
-  where
-    by : (b : Bool) → VersionsBy past k (Hangs n) (hangs_if k n x b)
-    by true = unsaid (taken_of past) k.sessions k.seats k.ops h
-    by false = unsaid (taken_of past) (with_numbered k.sessions n (record x { hung = true })) k.seats k.ops (versions_sessions k.steps (taken_of past) k.sessions (with_numbered k.sessions n (record x { hung = true })) k.seats k.ops counted.taken_by (λ i z here. takens_with k.steps n k.sessions x (record x { hung = true }) z.session is (extends_same k.steps x.taken)) h)
+    by : (b : Bool) → VersionsBy base past k (Hangs n) (hangs_if k n x b)
+    by true = unsaid base (taken_of past) k.sessions k.seats k.ops h
+    by false = unsaid base (taken_of past) (with_numbered k.sessions n (record x { hung = true })) k.seats k.ops (versions_sessions base k.steps (taken_of past) k.sessions (with_numbered k.sessions n (record x { hung = true })) k.seats k.ops counted.taken_by (λ i z here. takens_with k.steps n k.sessions x (record x { hung = true }) z.session is (extends_same k.steps x.taken)) h)
 
 -- a session whose change waits remembers the close at this place
 abbrev pub Remembers : Core → (place : ℕ) → Type 0
 Remembers k place = (n i : ℕ) × (x : Session) × (c : Change) × (numbered k.sessions n ≡ Some x) × (x.closing ≡ Some place) × (slice_get (own n k.server.waiting) i ≡ Some c)
 
--- what a settled change makes of the operations
+-- an operation's change was made: that of a close which a session remembers, or a file was made or went
+pub record IsChange (k : Core) (ops : List Op) : Type 0 where
+  pub place : ℕ
+  pub op : Op
+  pub there : slice_get k.ops place ≡ Some op
+  pub unmade : IsUnmade op
+  pub file : ℕ
+  pub is : ops ≡ slice_set k.ops place (record op { file = file; point = Some (k.steps + 1) })
+  pub kind : ((op.word ≡ words.Close) × (file ≡ op.file) × Remembers k place) ⊎ ((gets_file op.word ≡ true) × (op.file ≡ 0))
+
+pub change_of : {k : Core} {ops : List Op} → MadeHere k ops → IsChange k ops
+change_of m = record { place = m.place; op = m.op; there = m.there; unmade = m.unmade; file = m.new; is = m.after_is; kind = inr (ap gets_file m.word_is, m.file_is) }
+
+-- what a change that was made, if one was, makes of the operations
 abbrev pub Settled : Core → List Op → Type 0
-Settled k ops = (ops ≡ k.ops) ⊎ ((place : ℕ) × (o : Op) × (slice_get k.ops place ≡ Some o) × IsUnmade o × (ops ≡ slice_set k.ops place (record o { point = Some (k.steps + 1) })) × Remembers k place)
+Settled k ops = (ops ≡ k.ops) ⊎ IsChange k ops
+
+pub goes_of : {k : Core} {ops : List Op} → GoesHere k ops → IsChange k ops
+goes_of m = record { place = m.place; op = m.op; there = m.there; unmade = m.unmade; file = m.new; is = m.after_is; kind = inr (m.gets, m.file_is) }
 
 pub settled_are : (book : Book) (k : Core) (qs : List Queue) (now : ℕ) → IsKept book k qs → Settled k (settles k now).core.ops
-settled_are book k qs now kept = by k.server.waiting refl
+settled_are book k qs now kept = by (settling book k qs now kept)
   where
-    made : (cs : List Change) (c : Change) → k.server.waiting ≡ c ∷ cs → (f : File) → (let r = made_change (at_reading (record k.server { waiting = cs }) now) c (content_wanted c.what) f in Settled k (settled_by k (changed_file (entries_since k.server r.0)) r.1.told))
-    made cs c e f =
+    made : (cs : List Change) (c : Change) → k.server.waiting ≡ c ∷ cs → c.what ≡ wanted.Content (content_wanted c.what) → (f : File) → (let r = made_change (at_reading (record k.server { waiting = cs }) now) c (content_wanted c.what) f in Settled k (settled_by k (changed_file (entries_since k.server r.0)) r.1.told))
+    made cs c e what f =
         let first : slice_get k.server.waiting 0 ≡ Some c = ap (λ (l : List Change). slice_get l 0) e in
         let home = kept.home 0 c first in
         let q = also_numbered k.sessions qs c.session home.0 kept.made.1 home.1 in
         let mine = own_there k.server.waiting 0 c first in
-        let pending = (kept.sessions c.session home.0 q.0 home.1 q.1).pending mine.0 c mine.1 in
+        let h = kept.sessions c.session home.0 q.0 home.1 q.1 in
+        let pending = subst (λ (w : Wanted). WaitsFor book home.0.closing home.0.cut (job h.seat) c.xid c.file w) what (h.pending mine.0 c mine.1) in
         let there : slice_get k.ops pending.place ≡ Some pending.op = ap (λ (l : List Op). slice_get l pending.place) (sym kept.ops) ∙ pending.there in
-        inr (
-          pending.place,
-          pending.op,
-          there,
-          pending.unmade,
-          ap (λ (z : Option ℕ). settled_by k z (announced.Settled c.session c.xid)) (one_since k.server (made_change (at_reading (record k.server { waiting = cs }) now) c (content_wanted c.what) f).0 (entry_of c (content_wanted c.what) f) refl)
+        inr (record {
+          place = pending.place;
+          op = pending.op;
+          there = there;
+          unmade = pending.unmade;
+          file = c.file;
+          is = ap (λ (z : Option ℕ). settled_by k z (announced.Settled c.session c.xid)) (one_since k.server (made_change (at_reading (record k.server { waiting = cs }) now) c (content_wanted c.what) f).0 (entry_of c (content_wanted c.what) f) refl)
               ∙ ap (settled_ops k.ops (k.steps + 1) (Some c.file)) home.1
               ∙ ap (λ l. pointed_at k.ops l (k.steps + 1) (Some c.file)) pending.known
-              ∙ ap (pointed k.ops pending.place c.file (k.steps + 1)) there
-              ∙ ap (λ (g : ℕ). slice_set k.ops pending.place (record pending.op { file = g; point = Some (k.steps + 1) })) (sym pending.file_is),
-          (c.session, mine.0, home.0, c, home.1, pending.known, mine.1),
-        )
+              ∙ ap (pointed k.ops pending.place c.file (k.steps + 1)) there;
+          kind = inl (pending.word_is, sym pending.file_is, (c.session, mine.0, home.0, c, home.1, pending.known, mine.1));
+        })
 
-    by : (w : List Change) → k.server.waiting ≡ w → (let r = Rattle.server_core.specs.Closing.settles k.server now w in Settled k (settled_by k (changed_file (entries_since k.server r.0)) r.1.told))
-    by [] e = inl refl
-    by (c ∷ cs) e =
-        let f = target_there book k.server c cs kept.server e in
-        subst (λ (r : server.State × ServerStep). Settled k (settled_by k (changed_file (entries_since k.server r.0)) r.1.told)) (sym (made_is book k.server now c cs f.0 kept.server e f.1)) (made cs c e f.0)
+    by : Settling k (settles k now) → Settled k (settles k now).core.ops
+    by (makes_else (inl same) entered tells) = inl same
+    by (makes_else (inr gone) entered tells) = inr (goes_of gone)
+    by (makes_commit c cs f e what there) =
+        subst (λ (ws : List Change). (let r = Rattle.server_core.specs.Closing.settles k.server now ws in Settled k (settled_by k (changed_file (entries_since k.server r.0)) r.1.told))) (sym e)
+        (subst (λ (r : server.State × ServerStep). Settled k (settled_by k (changed_file (entries_since k.server r.0)) r.1.told)) (sym (made_is book k.server now c cs f kept.server e there what)) (made cs c e what f))
 
 -- a close has ended as no open
 pub close_not_opened : (book : Book) (o : Op) (len : ℕ) (digest : List ℕ) → IsRight book o → o.word ≡ words.Close → o.outcome ≡ told.Opened len digest → ⊥
 close_not_opened book o len digest r close e = close_not_open (sym close ∙ (subst (Caused book o) e r.cause).0)
 
-versions_settles : (book : Book) (past : List Moment) (k : Core) (qs : List Queue) (now : ℕ) → IsKept book k qs → CountedAt past k → VersionsAt past k → VersionsBy past k (Settles now) (settles k now)
-versions_settles book past k qs now kept counted h = unsaid (taken_of past) k.sessions k.seats (settles k now).core.ops (by (settled_are book k qs now kept))
+-- nor has any change
+pub change_not_opened : (book : Book) (o : Op) (len : ℕ) (digest : List ℕ) → IsRight book o → changes o.word ≡ true → o.outcome ≡ told.Opened len digest → ⊥
+change_not_opened book o len digest r change e = true_and_false (changes o.word) change (ap changes (subst (Caused book o) e r.cause).0)
+
+-- no version before now is another
+pub change_versions : (k : Core) (ops : List Op) (c : IsChange k ops) (f q : ℕ) → q ≤ k.steps → changed_before f q (record c.op { file = c.file; point = Some (k.steps + 1) }) ≡ changed_before f q c.op
+change_versions k ops c f q le = too_late f q (k.steps + 1) (record c.op { file = c.file; point = Some (k.steps + 1) }) refl (omega (arith, le)) ∙ sym (unpointed f q c.op c.unmade.1)
+
+-- an operation's change was made
+versions_change : (book : Book) (past : List Moment) (k : Core) (qs : List Queue) (ops : List Op) → IsKept book k qs → CountedAt past k → IsChange k ops → VersionsAt (early_of book.opening) past k → HaveVersions (early_of book.opening) (taken_of past) k.sessions k.seats ops
+versions_change book past k qs ops kept counted c h =
+    subst (HaveVersions (early_of book.opening) (taken_of past) k.sessions k.seats) (sym c.is)
+    (versions_onward (early_of book.opening) k.steps (taken_of past) (taken_of past) k.sessions k.sessions k.seats k.seats k.ops (slice_set k.ops c.place new) counted.taken_by (λ f q le. ap (λ z. z + 1) (count_replaced f q k.ops c.place c.op new c.there (change_versions k ops c f q le)))
+    (λ i z j r here job_is was. elim (of_replaced k.ops c.place new j.place r was) [
+      | inr old ↦ inl (z, r, here, job_is, old.1, alike_same (taken_of past) r, extends_same k.steps (takens k.sessions z))
+      | inl made ↦ subst (JobCame (early_of book.opening) k.steps (taken_of past) (taken_of past) k.sessions k.sessions k.seats k.ops (slice_set k.ops c.place new) i z j) (sym made.1) (job_changed i z j here job_is made.0 c.kind)
+    ])
+    (λ p len q digest r was e point. elim (of_replaced k.ops c.place new p r was) [
+      | inr old ↦ inl (r, old.1, alike_same (taken_of past) r, e, point)
+      | inl made ↦ absurd (change_not_opened book c.op len digest (kept.sound.rights c.place c.op there) c.unmade.0 (ap (λ (z : Op). z.outcome) (sym made.1) ∙ e))
+    ]) h)
   where
-    by : Settled k (settles k now).core.ops → HaveVersions (taken_of past) k.sessions k.seats (settles k now).core.ops
-    by (inl same) = subst (HaveVersions (taken_of past) k.sessions k.seats) (sym same) h
-    by (inr (place, o, at, unmade, is, from)) =
-        let there : slice_get book.ops place ≡ Some o = ap (λ (l : List Op). slice_get l place) kept.ops ∙ at in
-        let new : Op = record o { point = Some (k.steps + 1) } in
-        subst (HaveVersions (taken_of past) k.sessions k.seats) (sym is)
-        (versions_onward k.steps (taken_of past) (taken_of past) k.sessions k.sessions k.seats k.seats k.ops (slice_set k.ops place new) counted.taken_by (λ f q le. ap (λ z. z + 1) (count_replaced f q k.ops place o new at (alike f q le)))
-        (λ i z j r here job_is was. elim (of_replaced k.ops place new j.place r was) [
-          | inr old ↦ inl (z, r, here, job_is, old.1, alike_same (taken_of past) r, extends_same k.steps (takens k.sessions z))
-          | inl made ↦ inl (z, o, here, job_is, ap (slice_get k.ops) made.0 ∙ at, subst (λ (y : Op). Alike (taken_of past) (taken_of past) o y) (sym made.1) (record { file = refl; forth = λ s c e. (c, e); back = λ s c e. (c, e) }), extends_same k.steps (takens k.sessions z))
-        ])
-        (λ p len q digest r was e point. elim (of_replaced k.ops place new p r was) [
-          | inr old ↦ inl (r, old.1, alike_same (taken_of past) r, e, point)
-          | inl made ↦ absurd (close_not_opened book o len digest (kept.sound.rights place o there) unmade.0 (ap (λ (z : Op). z.outcome) (sym made.1) ∙ e))
-        ]) h)
+    new : Op
+    new = record c.op { file = c.file; point = Some (k.steps + 1) }
+
+    there : slice_get book.ops c.place ≡ Some c.op
+    there = ap (λ (l : List Op). slice_get l c.place) kept.ops ∙ c.there
+
+    job_changed : (i : ℕ) (z : Seat) (j : Job) → numbered k.seats i ≡ Some z → job z ≡ Some j → j.place ≡ c.place → ((c.op.word ≡ words.Close) × (c.file ≡ c.op.file) × Remembers k c.place) ⊎ ((gets_file c.op.word ≡ true) × (c.op.file ≡ 0)) → JobCame (early_of book.opening) k.steps (taken_of past) (taken_of past) k.sessions k.sessions k.seats k.ops (slice_set k.ops c.place new) i z j new
+    job_changed i z j here job_is at (inl own) = inl (z, c.op, here, job_is, ap (slice_get k.ops) at ∙ c.there, record { file = own.1; forth = λ s m e. (m, e); back = λ s m e. (m, e) }, extends_same k.steps (takens k.sessions z))
+    job_changed i z j here job_is at (inr make) =
+        let of = (kept.seats i z here).task j job_is in
+        let same : of.op ≡ c.op = some_is of.op c.op (sym of.there ∙ ap (slice_get book.ops) at ∙ there) in
+        inr (made_job j.stage (ap gets_file (sym of.word ∙ ap (λ (z : Op). z.word) same) ∙ make.0))
       where
-        alike : (f p : ℕ) → p ≤ k.steps → changed_before f p (record o { point = Some (k.steps + 1) }) ≡ changed_before f p o
-        alike f p le = ap (λ b. (changes o.word && (o.file == f)) && b) (let t : nat_lt (k.steps + 1) p ≡ false = grind (arith, nat_tests, le) in t) ∙ ap (λ z. (changes o.word && (o.file == f)) && option_map_or (λ q. nat_lt q p) z false) (sym unmade.1)
+        made_job : (s : Stage) → gets_file (stage_word s) ≡ true → JobVersion (early_of book.opening) (taken_of past) (slice_set k.ops c.place new) (takens k.sessions z) new s
+        made_job (stage.Walking x w) e = tt
+        made_job s e = absurd cc
+
+versions_settles : (book : Book) (past : List Moment) (k : Core) (qs : List Queue) (now : ℕ) → IsKept book k qs → CountedAt past k → VersionsAt (early_of book.opening) past k → VersionsBy (early_of book.opening) past k (Settles now) (settles k now)
+versions_settles book past k qs now kept counted h = unsaid (early_of book.opening) (taken_of past) k.sessions k.seats (settles k now).core.ops (by (settled_are book k qs now kept))
+  where
+    by : Settled k (settles k now).core.ops → HaveVersions (early_of book.opening) (taken_of past) k.sessions k.seats (settles k now).core.ops
+    by (inl same) = subst (HaveVersions (early_of book.opening) (taken_of past) k.sessions k.seats) (sym same) h
+    by (inr c) = versions_change book past k qs (settles k now).core.ops kept counted c h
+
+-- what the server took of a session since is newer
+takens_serve : (k : Core) (n now : ℕ) (bytes : List ℕ) (m : Message) (x : Option Session) → parse_of server_waiting bytes ≡ Ok m → numbered k.sessions n ≡ x → (z : Seat) → Extends k.steps (takens k.sessions z) (takens (serves k n now bytes x).core.sessions z)
+takens_serve k n now bytes m None read is z = extends_same k.steps (takens k.sessions z)
+takens_serve k n now bytes m (Some x) read is z = subst (λ (r : Result Message WireFault). Extends k.steps (takens k.sessions z) (takens (serves_if k n now x r).core.sessions z)) (sym read) (takens_with k.steps n k.sessions x (record x { taken = taken_with x.taken m (k.steps + 1) }) z.session is (called m))
+  where
+    called : (m : Message) → Extends k.steps x.taken (taken_with x.taken m (k.steps + 1))
+    called (message.Call xid body) = taken_more_at k.steps x.taken (record { xid = xid; step = k.steps + 1 }) (omega arith)
+    called _ = extends_same k.steps x.taken
+
+versions_serves : FitLaws → (book : Book) (past : List Moment) (k : Core) (qs : List Queue) (n now : ℕ) (bytes : List ℕ) (mid : List Queue) → IsKept book k qs → Finds k qs (Serves n now bytes) mid → CountedAt past k → VersionsAt (early_of book.opening) past k → VersionsBy (early_of book.opening) past k (Serves n now bytes) (happens k (Serves n now bytes))
+versions_serves laws book past k qs n now bytes mid kept f counted h =
+    let t = happens k (Serves n now bytes) in
+    let s = serves_quiet laws book k qs n now bytes mid kept f in
+    unsaid (early_of book.opening) (taken_of past) t.core.sessions t.core.seats t.core.ops
+    (subst (λ (l : List Seat). HaveVersions (early_of book.opening) (taken_of past) t.core.sessions l t.core.ops) (sym s.seats)
+    (versions_sessions (early_of book.opening) k.steps (taken_of past) k.sessions t.core.sessions k.seats t.core.ops counted.taken_by (λ i z here. takens_serve k n now bytes (ask_message f.1) (numbered k.sessions n) (serves_read laws book k qs n now bytes mid kept f) refl z) (made s.ops)))
+  where
+    made : ((happens k (Serves n now bytes)).core.ops ≡ k.ops) ⊎ MadeHere k (happens k (Serves n now bytes)).core.ops → HaveVersions (early_of book.opening) (taken_of past) k.sessions k.seats (happens k (Serves n now bytes)).core.ops
+    made (inl same) = subst (HaveVersions (early_of book.opening) (taken_of past) k.sessions k.seats) (sym same) h
+    made (inr m) = versions_change book past k qs (happens k (Serves n now bytes)).core.ops kept counted (change_of m) h
 
 -- ---- a client's own operation
 
 -- the operation that runs at a client's place
-pub own_op : (book : Book) (k : Core) (qs : List Queue) (i : ℕ) (seat : Seat) (p : ℕ) (o : Op) → IsKept book k qs → numbered k.seats i ≡ Some seat → seat.place ≡ Some p → slice_get k.ops p ≡ Some o → (j : Job) × (job seat ≡ Some j) × (j.place ≡ p) × (o.client ≡ i) × (o.outcome ≡ told.Running) × (o.file ≡ j.file)
+pub own_op : (book : Book) (k : Core) (qs : List Queue) (i : ℕ) (seat : Seat) (p : ℕ) (o : Op) → IsKept book k qs → numbered k.seats i ≡ Some seat → seat.place ≡ Some p → slice_get k.ops p ≡ Some o → (j : Job) × (job seat ≡ Some j) × (j.place ≡ p) × (o.client ≡ i) × (o.outcome ≡ told.Running) × (is_naming j.stage ≡ false → o.file ≡ j.file)
 own_op book k qs i seat p o kept here e at =
     let s = kept.seats i seat here in
     let j = placed seat p s.matched e in
     let of = s.task j.0 j.1 in
     let same : of.op ≡ o = some_is of.op o (sym of.there ∙ ap (slice_get book.ops) j.2 ∙ ap (λ (l : List Op). slice_get l p) kept.ops ∙ at) in
-    (j.0, j.1, j.2, ap (λ (z : Op). z.client) (sym same) ∙ of.client, ap (λ (z : Op). z.outcome) (sym same) ∙ of.running, ap (λ (z : Op). z.file) (sym same) ∙ of.file)
+    (j.0, j.1, j.2, ap (λ (z : Op). z.client) (sym same) ∙ of.client, ap (λ (z : Op). z.outcome) (sym same) ∙ of.running, λ named. ap (λ (z : Op). z.file) (sym same) ∙ of.file named)
+
+-- the server gives no file to what changes none, nor at a stage of a file
+pub unnamed : (s : Stage) → changes (stage_word s) ≡ false → is_naming s ≡ false
+unnamed (stage.Walking x w) e = e
+unnamed s e = refl
+
+pub of_file_unnamed : (s : Stage) → IsOfFile s → is_naming s ≡ false
+of_file_unnamed (stage.Walking x w) h = absurd h
+of_file_unnamed s h = refl
+
+-- a step of its client in which it hears an answer finds a file for none that changes one
+pub heard_finds : (book : Book) (k : Core) (qs : List Queue) (n now : ℕ) (bytes : List ℕ) (mid : List Queue) (kept : IsKept book k qs) (h : Heard k qs n now bytes mid) (m : Result Message WireFault) (p : ℕ) (o : Op) → h.seat.place ≡ Some p → slice_get k.ops p ≡ Some o → Quietly (got_step h.seat.client m now).1 o.word
+heard_finds book k qs n now bytes mid kept h m p o e at =
+    let w = own_op book k qs h.session.owner h.seat p o kept h.owner e at in
+    let of = (kept.seats h.session.owner h.seat h.owner).task w.0 w.1 in
+    let same : of.op ≡ o = some_is of.op o (sym of.there ∙ ap (slice_get book.ops) w.2 ∙ ap (λ (l : List Op). slice_get l p) kept.ops ∙ at) in
+    subst (Quietly (got_step h.seat.client m now).1) (sym (ap (λ (z : Op). z.word) (sym same) ∙ of.word)) (heard_quiet book k qs n now bytes mid kept h m w.0 w.1)
+
+-- nor for one that has its file
+pub heard_shut : (book : Book) (k : Core) (qs : List Queue) (n now : ℕ) (bytes : List ℕ) (mid : List Queue) (kept : IsKept book k qs) (h : Heard k qs n now bytes mid) (m : Result Message WireFault) (p : ℕ) (o : Op) → h.seat.place ≡ Some p → slice_get k.ops p ≡ Some o → ((got_step h.seat.client m now).1.found ≡ None) ⊎ (o.file ≡ 0)
+heard_shut book k qs n now bytes mid kept h m p o e at =
+    let w = own_op book k qs h.session.owner h.seat p o kept h.owner e at in
+    let of = (kept.seats h.session.owner h.seat h.owner).task w.0 w.1 in
+    let same : of.op ≡ o = some_is of.op o (sym of.there ∙ ap (slice_get book.ops) w.2 ∙ ap (λ (l : List Op). slice_get l p) kept.ops ∙ at) in
+    elim (heard_finds book k qs n now bytes mid kept h m p o e at) [
+      | inl none ↦ inl none
+      | inr quiet ↦ elim (heard_apart book k qs n now bytes mid kept h m w.0 w.1) [ inl none ↦ inl none | inr shut ↦ inr (w.5 (unnamed w.0.stage (ap changes (sym of.word ∙ ap (λ (z : Op). z.word) same) ∙ quiet)) ∙ shut) ]
+    ]
 
 -- another client's job is not at its place
 pub foreign_at : (book : Book) (k : Core) (qs : List Queue) (i : ℕ) (seat : Seat) → IsKept book k qs → numbered k.seats i ≡ Some seat → (m : ℕ) (s : Seat) (j : Job) (o : Op) → numbered k.seats m ≡ Some s → job s ≡ Some j → slice_get k.ops j.place ≡ Some o → (m ≡ i → ⊥) → seat.place ≡ Some j.place → ⊥
@@ -316,9 +399,9 @@ file_after o c taken step acts none = by acts.ended ∙ ap (file_with o.file) no
 
 -- a connection is lost
 
-versions_cuts : (book : Book) (past : List Moment) (k : Core) (qs : List Queue) (c : ℕ) (seat : Seat) → IsKept book k qs → numbered k.seats c ≡ Some seat → CountedAt past k → VersionsAt past k → (b : Bool) → VersionsBy past k (Cuts c) (cuts_if k c seat b)
-versions_cuts book past k qs c seat kept here counted h false = unsaid (taken_of past) k.sessions k.seats k.ops h
-versions_cuts book past k qs c seat kept here counted h true = unsaid (taken_of past) (cut_session k.sessions seat.session (session_of k.sessions seat.session)) (with_numbered k.seats c (gone_seat seat.client.task)) (ops_with k.ops seat.place gone taken (k.steps + 1) (ended_by seat.client.task lost)) (by seat.client.task)
+versions_cuts : (book : Book) (past : List Moment) (k : Core) (qs : List Queue) (c : ℕ) (seat : Seat) → IsKept book k qs → numbered k.seats c ≡ Some seat → CountedAt past k → VersionsAt (early_of book.opening) past k → (b : Bool) → VersionsBy (early_of book.opening) past k (Cuts c) (cuts_if k c seat b)
+versions_cuts book past k qs c seat kept here counted h false = unsaid (early_of book.opening) (taken_of past) k.sessions k.seats k.ops h
+versions_cuts book past k qs c seat kept here counted h true = unsaid (early_of book.opening) (taken_of past) (cut_session k.sessions seat.session (session_of k.sessions seat.session)) (with_numbered k.seats c (gone_seat seat.client.task)) (ops_with k.ops seat.place gone taken (k.steps + 1) (ended_by seat.client.task lost)) (by seat.client.task)
   where
     lost : Ended
     lost = record { outcome = outcome.Lost; rests_on = 0 }
@@ -358,8 +441,8 @@ versions_cuts book past k qs c seat kept here counted h true = unsaid (taken_of 
         running_not z = absurd cc
     not_opened (Some u) o run len digest z = absurd cc
 
-    by : (t : Option Task) → HaveVersions (taken_of past) (cut_session k.sessions seat.session (session_of k.sessions seat.session)) (with_numbered k.seats c (gone_seat t)) (ops_with k.ops seat.place gone taken (k.steps + 1) (ended_by t lost))
-    by t = versions_onward k.steps (taken_of past) (taken_of past) k.sessions (cut_session k.sessions seat.session (session_of k.sessions seat.session)) k.seats (with_numbered k.seats c (gone_seat t)) k.ops (ops_with k.ops seat.place gone taken (k.steps + 1) (ended_by t lost)) counted.taken_by (λ f q le. versions_after k.ops seat.place gone taken (k.steps + 1) (ended_by t lost) (ended_none t) f q)
+    by : (t : Option Task) → HaveVersions (early_of book.opening) (taken_of past) (cut_session k.sessions seat.session (session_of k.sessions seat.session)) (with_numbered k.seats c (gone_seat t)) (ops_with k.ops seat.place gone taken (k.steps + 1) (ended_by t lost))
+    by t = versions_onward (early_of book.opening) k.steps (taken_of past) (taken_of past) k.sessions (cut_session k.sessions seat.session (session_of k.sessions seat.session)) k.seats (with_numbered k.seats c (gone_seat t)) k.ops (ops_with k.ops seat.place gone taken (k.steps + 1) (ended_by t lost)) counted.taken_by (λ f q le. versions_after k.ops seat.place gone taken (k.steps + 1) (ended_by t lost) (λ p o e at. inl (ended_none t)) f q)
         (λ i z j r there is at. elim (of_numbered k.seats c (gone_seat t) i z there) [
           | inl mine ↦ nothing_there j (sym (no_job (place_after seat.place (ended_by t lost).ended)) ∙ ap job (sym mine.1) ∙ is)
           | inr other ↦ elim (ops_shape k.ops seat.place gone taken (k.steps + 1) (ended_by t lost) j.place r at) [
@@ -374,10 +457,10 @@ versions_cuts book past k qs c seat kept here counted h true = unsaid (taken_of 
 
 -- ---- a command
 
-versions_does : (book more : Book) (past : List Moment) (k : Core) (qs after : List Queue) (c now : ℕ) (d : Command) (seat : Seat) → IsKept book k qs → numbered k.seats c ≡ Some seat → IsKept more (does k c now d (Some seat)).core after → CountedAt past k → VersionsAt past k → VersionsBy past k (Does c now d) (does k c now d (Some seat))
+versions_does : (book more : Book) (past : List Moment) (k : Core) (qs after : List Queue) (c now : ℕ) (d : Command) (seat : Seat) → IsKept book k qs → numbered k.seats c ≡ Some seat → IsKept more (does k c now d (Some seat)).core after → CountedAt past k → VersionsAt (early_of book.opening) past k → VersionsBy (early_of book.opening) past k (Does c now d) (does k c now d (Some seat))
 versions_does book more past k qs after c now d seat kept here left counted h =
     let r = command_step seat.client d now in
-    unsaid (taken_of past) (later r.1) (with_numbered k.seats c (record seat { client = r.0; place = place_with seat.place (length k.ops) r.1.ended })) (k.ops ++ new r.0 r.1 ∷ [])
+    unsaid (early_of book.opening) (taken_of past) (later r.1) (with_numbered k.seats c (record seat { client = r.0; place = place_with seat.place (length k.ops) r.1.ended })) (k.ops ++ new r.0 r.1 ∷ [])
     (grown r.0 r.1 (last_right more k.ops (new r.0 r.1) left.ops left.sound) (own_job r.0 r.1 (kept.seats c seat here).matched (λ Q R fresh free. (good_command Q R seat.client fresh d now free).0) (λ t e. (busy_command seat.client d now t e).1)))
   where
     new : client.State → ClientStep → Op
@@ -416,11 +499,11 @@ versions_does book more past k qs after c now d seat kept here left counted h =
 
     OwnJob : (s : client.State) (acts : ClientStep) → Type 0
     OwnJob s acts = (j : Job) (r : Op) → job_of (place_with seat.place (length k.ops) acts.ended) s.task ≡ Some j → slice_get (k.ops ++ made_by k c now d seat s acts ∷ []) j.place ≡ Some r
-        → JobCame k.steps (taken_of past) (taken_of past) k.sessions (commanded_sessions k.sessions seat.session (session_of k.sessions seat.session) seat.place (length k.ops) (word_of d) acts) k.seats k.ops (k.ops ++ made_by k c now d seat s acts ∷ []) c (record seat { client = s; place = place_with seat.place (length k.ops) acts.ended }) j r
+        → JobCame (early_of book.opening) k.steps (taken_of past) (taken_of past) k.sessions (commanded_sessions k.sessions seat.session (session_of k.sessions seat.session) seat.place (length k.ops) (word_of d) acts) k.seats k.ops (k.ops ++ made_by k c now d seat s acts ∷ []) c (record seat { client = s; place = place_with seat.place (length k.ops) acts.ended }) j r
 
     own_job : (s : client.State) (acts : ClientStep) → IsMatched seat → ((Q : ℕ → ℕ → Type 0) (R : ℕ → Type 0) → R seat.client.next → TaskGood Q R seat.client.task → TaskGood Q R s.task) → ((t : Task) → seat.client.task ≡ Some t → s ≡ seat.client)
         → (j : Job) (r : Op) → job_of (place_with seat.place (length k.ops) acts.ended) s.task ≡ Some j → slice_get (k.ops ++ made_by k c now d seat s acts ∷ []) j.place ≡ Some r
-        → JobCame k.steps (taken_of past) (taken_of past) k.sessions (commanded_sessions k.sessions seat.session (session_of k.sessions seat.session) seat.place (length k.ops) (word_of d) acts) k.seats k.ops (k.ops ++ made_by k c now d seat s acts ∷ []) c (record seat { client = s; place = place_with seat.place (length k.ops) acts.ended }) j r
+        → JobCame (early_of book.opening) k.steps (taken_of past) (taken_of past) k.sessions (commanded_sessions k.sessions seat.session (session_of k.sessions seat.session) seat.place (length k.ops) (word_of d) acts) k.seats k.ops (k.ops ++ made_by k c now d seat s acts ∷ []) c (record seat { client = s; place = place_with seat.place (length k.ops) acts.ended }) j r
     own_job s acts (inl (no_place, free)) good busy j r is at = by acts.ended (subst (λ l. job_of (place_with l (length k.ops) acts.ended) s.task ≡ Some j) no_place is)
       where
         taken : List TakenCall
@@ -429,13 +512,13 @@ versions_does book more past k qs after c now d seat kept here left counted h =
         all : List Op
         all = k.ops ++ made_by k c now d seat s acts ∷ []
 
-        by : (e : Option Ended) → job_of (place_with None (length k.ops) e) s.task ≡ Some j → JobCame k.steps (taken_of past) (taken_of past) k.sessions (commanded_sessions k.sessions seat.session (session_of k.sessions seat.session) seat.place (length k.ops) (word_of d) acts) k.seats k.ops (k.ops ++ made_by k c now d seat s acts ∷ []) c (record seat { client = s; place = place_with seat.place (length k.ops) acts.ended }) j r
+        by : (e : Option Ended) → job_of (place_with None (length k.ops) e) s.task ≡ Some j → JobCame (early_of book.opening) k.steps (taken_of past) (taken_of past) k.sessions (commanded_sessions k.sessions seat.session (session_of k.sessions seat.session) seat.place (length k.ops) (word_of d) acts) k.seats k.ops (k.ops ++ made_by k c now d seat s acts ∷ []) c (record seat { client = s; place = place_with seat.place (length k.ops) acts.ended }) j r
         by (Some e) is = nothing_there j is
         by None is =
             let place : length k.ops ≡ j.place = some_is (length k.ops) j.place (job_place (Some (length k.ops)) s.task j is) in
             let same : new s acts ≡ r = some_is (new s acts) r (sym (at_end k.ops (new s acts)) ∙ ap (slice_get (k.ops ++ new s acts ∷ [])) place ∙ at) in
-            let on = subst (TaskGood (Attempt (taken_of past) all taken (new s acts)) (Untold (taken_of past) taken (new s acts))) (job_task (Some (length k.ops)) s.task j is) (good (Attempt (taken_of past) all taken (new s acts)) (Untold (taken_of past) taken (new s acts)) (fresh s acts taken seat.client.next) (subst (TaskGood (Attempt (taken_of past) all taken (new s acts)) (Untold (taken_of past) taken (new s acts))) (sym free) tt)) in
-            inr (subst (λ (z : Op). JobVersion (taken_of past) all taken z j.stage) same on)
+            let on = subst (TaskGood (Attempt (early_of book.opening) (taken_of past) all taken (new s acts)) (Untold (taken_of past) taken (new s acts))) (job_task (Some (length k.ops)) s.task j is) (good (Attempt (early_of book.opening) (taken_of past) all taken (new s acts)) (Untold (taken_of past) taken (new s acts)) (fresh s acts taken seat.client.next) (subst (TaskGood (Attempt (early_of book.opening) (taken_of past) all taken (new s acts)) (Untold (taken_of past) taken (new s acts))) (sym free) tt)) in
+            inr (subst (λ (z : Op). JobVersion (early_of book.opening) (taken_of past) all taken z j.stage) same on)
     own_job s acts (inr (i, was)) good busy j r is at =
         let place = job_place seat.place seat.client.task i was in
         let same = busy (record { file = i.file; stage = i.stage }) (job_task seat.place seat.client.task i was) in
@@ -448,12 +531,12 @@ versions_does book more past k qs after c now d seat kept here left counted h =
 
     grown : (s : client.State) (acts : ClientStep) → IsRight more (made_by k c now d seat s acts)
         → ((j : Job) (r : Op) → job_of (place_with seat.place (length k.ops) acts.ended) s.task ≡ Some j → slice_get (k.ops ++ made_by k c now d seat s acts ∷ []) j.place ≡ Some r
-        → JobCame k.steps (taken_of past) (taken_of past) k.sessions (commanded_sessions k.sessions seat.session (session_of k.sessions seat.session) seat.place (length k.ops) (word_of d) acts) k.seats k.ops (k.ops ++ made_by k c now d seat s acts ∷ []) c (record seat { client = s; place = place_with seat.place (length k.ops) acts.ended }) j r)
-        → HaveVersions (taken_of past) (commanded_sessions k.sessions seat.session (session_of k.sessions seat.session) seat.place (length k.ops) (word_of d) acts) (with_numbered k.seats c (record seat { client = s; place = place_with seat.place (length k.ops) acts.ended })) (k.ops ++ made_by k c now d seat s acts ∷ [])
-    grown s acts right_new mine = versions_onward k.steps (taken_of past) (taken_of past) k.sessions (later acts) k.seats (with_numbered k.seats c (record seat { client = s; place = place_with seat.place (length k.ops) acts.ended })) k.ops (k.ops ++ new s acts ∷ []) counted.taken_by (λ f q le. ap (λ z. z + 1) (count_appended f q k.ops (new s acts) (unpointed f q (new s acts) (made_pointless k c now d seat s acts acts.ended))))
+        → JobCame (early_of book.opening) k.steps (taken_of past) (taken_of past) k.sessions (commanded_sessions k.sessions seat.session (session_of k.sessions seat.session) seat.place (length k.ops) (word_of d) acts) k.seats k.ops (k.ops ++ made_by k c now d seat s acts ∷ []) c (record seat { client = s; place = place_with seat.place (length k.ops) acts.ended }) j r)
+        → HaveVersions (early_of book.opening) (taken_of past) (commanded_sessions k.sessions seat.session (session_of k.sessions seat.session) seat.place (length k.ops) (word_of d) acts) (with_numbered k.seats c (record seat { client = s; place = place_with seat.place (length k.ops) acts.ended })) (k.ops ++ made_by k c now d seat s acts ∷ [])
+    grown s acts right_new mine = versions_onward (early_of book.opening) k.steps (taken_of past) (taken_of past) k.sessions (later acts) k.seats (with_numbered k.seats c (record seat { client = s; place = place_with seat.place (length k.ops) acts.ended })) k.ops (k.ops ++ new s acts ∷ []) counted.taken_by (λ f q le. ap (λ z. z + 1) (count_appended f q k.ops (new s acts) (unpointed f q (new s acts) (made_pointless k c now d seat s acts acts.ended))))
         (λ i z j r there is at. elim (of_numbered k.seats c (record seat { client = s; place = place_with seat.place (length k.ops) acts.ended }) i z there) [
           | inr other ↦ inl (z, r, other.1, is, old_op s acts i z j r other.1 is at, alike_same (taken_of past) r, kept_taken acts i z other.1 (λ e. absurd (other.0 e)))
-          | inl own ↦ subst (λ n. JobCame k.steps (taken_of past) (taken_of past) k.sessions (later acts) k.seats k.ops (k.ops ++ new s acts ∷ []) n z j r) (sym own.0) (subst (λ y. JobCame k.steps (taken_of past) (taken_of past) k.sessions (later acts) k.seats k.ops (k.ops ++ new s acts ∷ []) c y j r) (sym own.1) (mine j r (ap job (sym own.1) ∙ is) at))
+          | inl own ↦ subst (λ n. JobCame (early_of book.opening) k.steps (taken_of past) (taken_of past) k.sessions (later acts) k.seats k.ops (k.ops ++ new s acts ∷ []) n z j r) (sym own.0) (subst (λ y. JobCame (early_of book.opening) k.steps (taken_of past) (taken_of past) k.sessions (later acts) k.seats k.ops (k.ops ++ new s acts ∷ []) c y j r) (sym own.1) (mine j r (ap job (sym own.1) ∙ is) at))
         ])
         (λ p len q digest r at e point. elim (of_appended k.ops (new s acts) p r at) [
           | inr old ↦ inl (r, old, alike_same (taken_of past) r, e, point)
@@ -480,8 +563,8 @@ alike_none said more o none = record {
 }
 
 -- what an attempt has when one more answer of it came
-attempt_more : (said : List Said) (ops : List Op) (taken : List TakenCall) (o : Op) (s : Said) (v x : ℕ) → (TellsVersion s.message → Carries v s.message) → Attempt said ops taken o v x → Attempt (said ++ s ∷ []) ops taken o v x
-attempt_more said ops taken o s v x carries (q, was, version, (z, there, of, lt, c), since) = (
+attempt_more : (base : ℕ → ℕ) → (said : List Said) (ops : List Op) (taken : List TakenCall) (o : Op) (s : Said) (v x : ℕ) → (TellsVersion s.message → Carries v s.message) → Attempt base said ops taken o v x → Attempt base (said ++ s ∷ []) ops taken o v x
+attempt_more base said ops taken o s v x carries (q, was, version, (z, there, of, lt, c), since) = (
   q,
   was,
   version,
@@ -493,16 +576,16 @@ attempt_more said ops taken o s v x carries (q, was, version, (z, there, of, lt,
 )
 
 -- what it has by the answer to its first call
-attempt_first : (book : Book) (k : Core) (said : List Said) (i : ℕ) (taken : List TakenCall) (t : Told) (j : Job) (o : Op) → book.ops ≡ k.ops → book.steps ≡ k.steps → o.file ≡ j.file → o.client ≡ i → o.end ≡ None → o.begin ≤ k.steps → (y version : ℕ) (v : List ℕ) → (y == t.xid) ≡ true → IsTold book taken j t.xid (Some v) version → IsSome (content_of book.opening j.file) → Carries version (told_message t)
-    → Untold said taken o y → Attempt (said ++ record { step = k.steps + 1; client = i; message = told_message t } ∷ []) k.ops taken o version t.xid
-attempt_first book k said i taken t j o ops steps file mine none begun y version v own told known carries old =
+attempt_first : (book : Book) (k : Core) (said : List Said) (i : ℕ) (taken : List TakenCall) (t : Told) (j : Job) (o : Op) → book.ops ≡ k.ops → book.steps ≡ k.steps → o.file ≡ j.file → o.client ≡ i → o.end ≡ None → o.begin ≤ k.steps → (y version : ℕ) (v : List ℕ) → (y == t.xid) ≡ true → IsTold book taken j t.xid (Some v) version → Carries version (told_message t)
+    → Untold said taken o y → Attempt (early_of book.opening) (said ++ record { step = k.steps + 1; client = i; message = told_message t } ∷ []) k.ops taken o version t.xid
+attempt_first book k said i taken t j o ops steps file mine none begun y version v own told carries old =
     let q = told.moment in
     let s : Said = record { step = k.steps + 1; client = i; message = told_message t } in
     let past = told.past in
     let same_xid : y ≡ t.xid = grind (arith, nat_tests, own) in (
       q,
       told.was,
-      ap (λ l. version_in l o.file q) (sym ops) ∙ ap (λ z. version_in book.ops z q) file ∙ sym (version_of_first book j.file q known) ∙ told.version_is,
+      ap (λ l. version_by (early_of book.opening) l o.file q) (sym ops) ∙ ap (λ z. version_by (early_of book.opening) book.ops z q) file ∙ told.version_is,
       (s, Contains-append_right said (s ∷ []) s (Contains-push [] s), open_now o k.steps i mine none begun, omega (arith, past, steps), carries),
       λ w here of late tells. elim (one_more said s w here) [
         | inl was ↦ absurd (old q (ap (taken_at taken) same_xid ∙ told.was) w was of late tells)
@@ -510,42 +593,48 @@ attempt_first book k said i taken t j o ops steps file mine none begun y version
       ],
     )
 
-took_in : (book : Book) (k : Core) (said : List Said) (i : ℕ) (taken : List TakenCall) (closing : Option ℕ) (t : Told) (j : Job) (o : Op) → book.ops ≡ k.ops → book.steps ≡ k.steps → o.file ≡ j.file → o.client ≡ i → o.end ≡ None → o.begin ≤ k.steps → has_call (client.pending_in j.stage) t.xid ≡ true → AnswerOf book taken closing (Some j) t.xid t.reply
-    → (st : Stage) → j.stage ≡ st → (r : Reply) → t.reply ≡ r → JobVersion said k.ops taken o st → TookIn (Attempt (said ++ record { step = k.steps + 1; client = i; message = told_message t } ∷ []) k.ops taken o) st t.xid (reply_body r)
+took_in : (book : Book) (k : Core) (said : List Said) (i : ℕ) (taken : List TakenCall) (closing : Option ℕ) (t : Told) (j : Job) (o : Op) → book.ops ≡ k.ops → book.steps ≡ k.steps → (is_naming j.stage ≡ false → o.file ≡ j.file) → o.client ≡ i → o.end ≡ None → o.begin ≤ k.steps → has_call (client.pending_in j.stage) t.xid ≡ true → AnswerOf book taken closing (Some j) t.xid t.reply
+    → (st : Stage) → j.stage ≡ st → (r : Reply) → t.reply ≡ r → JobVersion (early_of book.opening) said k.ops taken o st → TookIn (Attempt (early_of book.opening) (said ++ record { step = k.steps + 1; client = i; message = told_message t } ∷ []) k.ops taken o) st t.xid (reply_body r)
 took_in book k said i taken closing t j o ops steps file mine none begun has answer (stage.Asking y) at (Versioned (Done l)) is old =
     let own : (y == t.xid) ≡ true = or_none (y == t.xid) (ap (λ z. has_call (client.pending_in z) t.xid) (sym at) ∙ has) in
     let h : IsLeased book taken j t.xid l = subst (AnswerOf book taken closing (Some j) t.xid) is answer j refl (at ∙ ap (λ z. stage.Asking z) (eqb-true y t.xid own)) in
-    attempt_first book k said i taken t j o ops steps file mine none begun y l.version h.value own h.told h.known (subst (λ m. Carries l.version m) (sym (same_reply t (Versioned (Done l)) is)) refl) old
+    attempt_first book k said i taken t j o ops steps (file (ap is_naming at)) mine none begun y l.version h.value own h.told (subst (λ m. Carries l.version m) (sym (same_reply t (Versioned (Done l)) is)) refl) old
 took_in book k said i taken closing t j o ops steps file mine none begun has answer (stage.Hashing tries y) at (Hashed (Done g)) is old =
     let own : (y == t.xid) ≡ true = or_none (y == t.xid) (ap (λ z. has_call (client.pending_in z) t.xid) (sym at) ∙ has) in
     let told = subst (AnswerOf book taken closing (Some j) t.xid) is answer j 0 refl (ap (λ s. hash_offset s t.xid) at ∙ ap (λ b. cond b (Some 0) None) own) in
     let h : IsHashed book taken j t.xid 0 g = told.0 in
-    attempt_first book k said i taken t j o ops steps file mine none begun y g.version h.value own (subst (IsTold book taken j t.xid (Some h.value)) (sym (ap (λ (z : Hashes). z.version) h.is)) h.told) h.known (subst (λ m. Carries g.version m) (sym (same_reply t (Hashed (Done g)) is)) refl) old
+    attempt_first book k said i taken t j o ops steps (file (ap is_naming at)) mine none begun y g.version h.value own (subst (IsTold book taken j t.xid (Some h.value)) (sym (ap (λ (z : Hashes). z.version) h.is)) h.told) (subst (λ m. Carries g.version m) (sym (same_reply t (Hashed (Done g)) is)) refl) old
 took_in book k said i taken closing t j o ops steps file mine none begun has answer (stage.Listing y f) at (Hashed (Done g)) is old = λ same.
-    attempt_more said k.ops taken o (record { step = k.steps + 1; client = i; message = told_message t }) f.version f.first (λ hashes. subst (λ m. Carries f.version m) (sym (same_reply t (Hashed (Done g)) is)) (eqb-true g.version f.version same)) old
+    attempt_more (early_of book.opening) said k.ops taken o (record { step = k.steps + 1; client = i; message = told_message t }) f.version f.first (λ hashes. subst (λ m. Carries f.version m) (sym (same_reply t (Hashed (Done g)) is)) (eqb-true g.version f.version same)) old
 took_in book k said i taken closing t j o ops steps file mine none begun has answer (stage.Reading f) at (Bytes (Done p)) is old =
-    attempt_more said k.ops taken o (record { step = k.steps + 1; client = i; message = told_message t }) f.version f.first (λ hashes. absurd (subst (λ m. TellsVersion m) (same_reply t (Bytes (Done p)) is) hashes)) old
+    attempt_more (early_of book.opening) said k.ops taken o (record { step = k.steps + 1; client = i; message = told_message t }) f.version f.first (λ hashes. absurd (subst (λ m. TellsVersion m) (same_reply t (Bytes (Done p)) is) hashes)) old
+took_in book k said i taken closing t j o ops steps file mine none begun has answer (stage.Reading f) at (Walked (LookedUp a)) is old = tt
+took_in book k said i taken closing t j o ops steps file mine none begun has answer (stage.Reading f) at (Walked (Shown a)) is old = tt
+took_in book k said i taken closing t j o ops steps file mine none begun has answer (stage.Reading f) at (Walked (Listed a)) is old = tt
+took_in book k said i taken closing t j o ops steps file mine none begun has answer (stage.Reading f) at (Walked (MadeFile a)) is old = tt
+took_in book k said i taken closing t j o ops steps file mine none begun has answer (stage.Reading f) at (Walked (MadeDir a)) is old = tt
+took_in book k said i taken closing t j o ops steps file mine none begun has answer (stage.Reading f) at (Walked (NoDir a)) is old = tt
 took_in book k said i taken closing t j o ops steps file mine none begun has answer st at r is old = tt
 
-versions_hears : FitLaws → (book more : Book) (past : List Moment) (k : Core) (qs after : List Queue) (n now : ℕ) (bytes : List ℕ) (mid : List Queue) → IsKept book k qs → (h : Heard k qs n now bytes mid) → IsKept more (happens k (Hears n now bytes)).core after → CountedAt past k → VersionsAt past k → VersionsBy past k (Hears n now bytes) (happens k (Hears n now bytes))
+versions_hears : FitLaws → (book more : Book) (past : List Moment) (k : Core) (qs after : List Queue) (n now : ℕ) (bytes : List ℕ) (mid : List Queue) → IsKept book k qs → (h : Heard k qs n now bytes mid) → IsKept more (happens k (Hears n now bytes)).core after → CountedAt past k → VersionsAt (early_of book.opening) past k → VersionsBy (early_of book.opening) past k (Hears n now bytes) (happens k (Hears n now bytes))
 versions_hears laws book more past k qs after n now bytes mid kept h left counted before =
-    subst (VersionsBy past k (Hears n now bytes)) (sym turned)
-    (subst (λ i. HaveVersions (taken_of past ++ all_said (k.steps + 1) i (taken_by k i (Hears n now bytes))) k.sessions (with_numbered k.seats h.session.owner new) (ops_with k.ops h.seat.place r.0 taken (k.steps + 1) r.1)) (sym owner)
-    (subst (λ l. HaveVersions (taken_of past ++ all_said (k.steps + 1) h.session.owner l) k.sessions (with_numbered k.seats h.session.owner new) (ops_with k.ops h.seat.place r.0 taken (k.steps + 1) r.1)) (sym (heard_takes laws book k qs n now bytes mid kept h))
-    (versions_onward k.steps (taken_of past) said k.sessions k.sessions k.seats (with_numbered k.seats h.session.owner new) k.ops (ops_with k.ops h.seat.place r.0 taken (k.steps + 1) r.1) counted.taken_by (λ f q le. versions_after k.ops h.seat.place r.0 taken (k.steps + 1) r.1 finds f q)
+    subst (VersionsBy (early_of book.opening) past k (Hears n now bytes)) (sym turned)
+    (subst (λ i. HaveVersions (early_of book.opening) (taken_of past ++ all_said (k.steps + 1) i (taken_by k i (Hears n now bytes))) k.sessions (with_numbered k.seats h.session.owner new) (ops_with k.ops h.seat.place r.0 taken (k.steps + 1) r.1)) (sym owner)
+    (subst (λ l. HaveVersions (early_of book.opening) (taken_of past ++ all_said (k.steps + 1) h.session.owner l) k.sessions (with_numbered k.seats h.session.owner new) (ops_with k.ops h.seat.place r.0 taken (k.steps + 1) r.1)) (sym (heard_takes laws book k qs n now bytes mid kept h))
+    (versions_onward (early_of book.opening) k.steps (taken_of past) said k.sessions k.sessions k.seats (with_numbered k.seats h.session.owner new) k.ops (ops_with k.ops h.seat.place r.0 taken (k.steps + 1) r.1) counted.taken_by (λ f q le. versions_after k.ops h.seat.place r.0 taken (k.steps + 1) r.1 finds f q)
     (λ i z j o there is at. elim (of_numbered k.seats h.session.owner new i z there) [
       | inr other ↦ elim (ops_shape k.ops h.seat.place r.0 taken (k.steps + 1) r.1 j.place o at) [
         | inl mine ↦ absurd (foreign_at book k qs h.session.owner h.seat kept h.owner i z j mine.0 other.1 is mine.2 other.0 mine.1)
         | inr old ↦ inl (z, o, other.1, is, old.1, alike_other (taken_of past) (k.steps + 1) h.session.owner (wanted_by h.seat.client (Ok (told_message h.told))) o (actor.other j.place o old.1 old.0), extends_same k.steps (takens k.sessions z))
       ]
       | inl own ↦ (let w = job_after r.0 h.seat.place r.1.ended j (ap job (sym own.1) ∙ is) in elim (ops_shape k.ops h.seat.place r.0 taken (k.steps + 1) r.1 j.place o at) [
-        | inl mine ↦ inr (subst (λ (y : Seat). JobVersion said (ops_with k.ops h.seat.place r.0 taken (k.steps + 1) r.1) (takens k.sessions y) o j.stage) (sym own.1) (subst (λ (y : Op). JobVersion said (ops_with k.ops h.seat.place r.0 taken (k.steps + 1) r.1) taken y j.stage) (sym mine.3) (own_job j.place mine.0 mine.1 mine.2 j w.2)))
+        | inl mine ↦ inr (subst (λ (y : Seat). JobVersion (early_of book.opening) said (ops_with k.ops h.seat.place r.0 taken (k.steps + 1) r.1) (takens k.sessions y) o j.stage) (sym own.1) (subst (λ (y : Op). JobVersion (early_of book.opening) said (ops_with k.ops h.seat.place r.0 taken (k.steps + 1) r.1) taken y j.stage) (sym mine.3) (own_job j.place mine.0 mine.1 mine.2 j w.2)))
         | inr old ↦ absurd (old.0 w.0)
       ])
     ])
     (λ p len q digest o at e point. elim (ops_shape k.ops h.seat.place r.0 taken (k.steps + 1) r.1 p o at) [
       | inr old ↦ inl (o, old.1, alike_other (taken_of past) (k.steps + 1) h.session.owner (wanted_by h.seat.client (Ok (told_message h.told))) o (actor.other p o old.1 old.0), e, point)
-      | inl mine ↦ inr (subst (λ (y : Op). CameTo said y q (version_in (ops_with k.ops h.seat.place r.0 taken (k.steps + 1) r.1) y.file q) × Since said y q (version_in (ops_with k.ops h.seat.place r.0 taken (k.steps + 1) r.1) y.file q)) (sym mine.3) (ended p mine.0 mine.1 mine.2 len q digest (ap (λ (y : Op). y.outcome) (sym mine.3) ∙ e) (ap (λ (y : Op). y.point) (sym mine.3) ∙ point)))
+      | inl mine ↦ inr (subst (λ (y : Op). CameTo said y q (version_by (early_of book.opening) (ops_with k.ops h.seat.place r.0 taken (k.steps + 1) r.1) y.file q) × Since said y q (version_by (early_of book.opening) (ops_with k.ops h.seat.place r.0 taken (k.steps + 1) r.1) y.file q)) (sym mine.3) (ended p mine.0 mine.1 mine.2 len q digest (ap (λ (y : Op). y.outcome) (sym mine.3) ∙ e) (ap (λ (y : Op). y.point) (sym mine.3) ∙ point)))
     ]) before)))
   where
     r : client.State × ClientStep
@@ -578,14 +667,14 @@ versions_hears laws book more past k qs after n now bytes mid kept h left counte
     same_seat : s.seat ≡ h.seat
     same_seat = some_is s.seat h.seat (sym s.owner ∙ h.owner)
 
-    finds : r.1.found ≡ None
-    finds = got_finds h.seat.client (Ok (told_message h.told)) now (seat_walks book k.sessions h.session.owner h.seat (kept.seats h.session.owner h.seat h.owner))
+    finds : (p : ℕ) (o : Op) → h.seat.place ≡ Some p → slice_get k.ops p ≡ Some o → Quietly r.1 o.word
+    finds p o e at = heard_finds book k qs n now bytes mid kept h (Ok (told_message h.told)) p o e at
 
     said_past : SaidBy (k.steps + 1) said
     said_past = said_append (k.steps + 1) (taken_of past) (all_said (k.steps + 1) h.session.owner (wanted_by h.seat.client (Ok (told_message h.told)))) (said_later k.steps (k.steps + 1) (taken_of past) (omega arith) counted.taken_by) (said_now (k.steps + 1) h.session.owner (wanted_by h.seat.client (Ok (told_message h.told))))
 
     -- the operation as it was, after the answer
-    good : (p : ℕ) (o : Op) → h.seat.place ≡ Some p → slice_get k.ops p ≡ Some o → Good (Attempt said k.ops taken o) (Untold said taken o) r
+    good : (p : ℕ) (o : Op) → h.seat.place ≡ Some p → slice_get k.ops p ≡ Some o → Good (Attempt (early_of book.opening) said k.ops taken o) (Untold said taken o) r
     good p o e at =
         let w = own_op book k qs h.session.owner h.seat p o kept h.owner e at in
         let j : Job = w.0 in
@@ -597,21 +686,37 @@ versions_hears laws book more past k qs after n now bytes mid kept h left counte
         let old = before.jobs h.session.owner h.seat j o h.owner w.1 (ap (slice_get k.ops) w.2 ∙ at) in
         let floor = rising_to talk.floor h.queue.ups s.seat.client.next talk.rising in
         let fresh : Untold said taken o h.seat.client.next = λ q was. absurd (not_taken talk.floor h.session.taken h.seat.client.next q talk.under (subst (λ (z : Seat). talk.floor ≤ z.client.next) same_seat floor) (ap (λ l. taken_at l h.seat.client.next) taken_is ∙ was)) in
-        good_answer (Attempt said k.ops taken o) (Untold said taken o) h.seat.client fresh h.told.xid (reply_body h.told.reply)
-        (λ free. subst (TaskGood (Attempt said k.ops taken o) (Untold said taken o)) (sym task) (job_alike k.steps (taken_of past) said k.ops k.ops taken taken o o j.stage counted.taken_by (alike_none (taken_of past) (all_said (k.steps + 1) h.session.owner (wanted_by h.seat.client (Ok (told_message h.told)))) o (ap (λ b. all_said (k.steps + 1) h.session.owner (wanted_if b (told_message h.told))) free)) (extends_same k.steps taken) (λ f q le. refl) old))
-        (λ has. subst (λ (l : List Message). TaskTook (Attempt (taken_of past ++ all_said (k.steps + 1) h.session.owner l) k.ops taken o) h.seat.client.task h.told.xid (reply_body h.told.reply)) (sym (ap (λ b. wanted_if b (told_message h.told)) has))
-        (subst (λ z. TaskTook (Attempt (taken_of past ++ record { step = k.steps + 1; client = h.session.owner; message = told_message h.told } ∷ []) k.ops taken o) z h.told.xid (reply_body h.told.reply)) (sym task)
+        good_answer (Attempt (early_of book.opening) said k.ops taken o) (Untold said taken o) h.seat.client fresh h.told.xid (reply_body h.told.reply)
+        (λ free. subst (TaskGood (Attempt (early_of book.opening) said k.ops taken o) (Untold said taken o)) (sym task) (job_alike (early_of book.opening) k.steps (taken_of past) said k.ops k.ops taken taken o o j.stage counted.taken_by (alike_none (taken_of past) (all_said (k.steps + 1) h.session.owner (wanted_by h.seat.client (Ok (told_message h.told)))) o (ap (λ b. all_said (k.steps + 1) h.session.owner (wanted_if b (told_message h.told))) free)) (extends_same k.steps taken) (λ f q le. refl) old))
+        (λ has. subst (λ (l : List Message). TaskTook (Attempt (early_of book.opening) (taken_of past ++ all_said (k.steps + 1) h.session.owner l) k.ops taken o) h.seat.client.task h.told.xid (reply_body h.told.reply)) (sym (ap (λ b. wanted_if b (told_message h.told)) has))
+        (subst (λ z. TaskTook (Attempt (early_of book.opening) (taken_of past ++ record { step = k.steps + 1; client = h.session.owner; message = told_message h.told } ∷ []) k.ops taken o) z h.told.xid (reply_body h.told.reply)) (sym task)
         (took_in book k (taken_of past) h.session.owner taken h.session.closing h.told j o kept.ops kept.steps w.5 w.3 own.1 own.2 (ap (λ z. has_call (pending z) h.told.xid) (sym task) ∙ has) answer j.stage refl h.told.reply refl old)))
 
     -- and in its new form
-    alike : (p : ℕ) (o : Op) → h.seat.place ≡ Some p → slice_get k.ops p ≡ Some o → Alike said said o (op_after o r.0 taken (k.steps + 1) r.1)
-    alike p o e at = alike_after (k.steps + 1) said o (op_after o r.0 taken (k.steps + 1) r.1) said_past (file_after o r.0 taken (k.steps + 1) r.1 finds) (running_upto o r.0 taken k.steps r.1 (actor.own p o e at).1)
+    alike : (p : ℕ) (o : Op) → h.seat.place ≡ Some p → slice_get k.ops p ≡ Some o → r.1.found ≡ None → Alike said said o (op_after o r.0 taken (k.steps + 1) r.1)
+    alike p o e at none = alike_after (k.steps + 1) said o (op_after o r.0 taken (k.steps + 1) r.1) said_past (file_after o r.0 taken (k.steps + 1) r.1 none) (running_upto o r.0 taken k.steps r.1 (actor.own p o e at).1)
 
-    own_job : (p : ℕ) (o : Op) → h.seat.place ≡ Some p → slice_get k.ops p ≡ Some o → (j : Job) → r.0.task ≡ Some (record { file = j.file; stage = j.stage }) → JobVersion said (ops_with k.ops h.seat.place r.0 taken (k.steps + 1) r.1) taken (op_after o r.0 taken (k.steps + 1) r.1) j.stage
-    own_job p o e at j task = job_alike (k.steps + 1) said said k.ops (ops_with k.ops h.seat.place r.0 taken (k.steps + 1) r.1) taken taken o (op_after o r.0 taken (k.steps + 1) r.1) j.stage said_past (alike p o e at) (extends_same (k.steps + 1) taken) (λ f q le. versions_after k.ops h.seat.place r.0 taken (k.steps + 1) r.1 finds f q) (subst (TaskGood (Attempt said k.ops taken o) (Untold said taken o)) task (good p o e at).0)
+    own_job : (p : ℕ) (o : Op) → h.seat.place ≡ Some p → slice_get k.ops p ≡ Some o → (j : Job) → r.0.task ≡ Some (record { file = j.file; stage = j.stage }) → JobVersion (early_of book.opening) said (ops_with k.ops h.seat.place r.0 taken (k.steps + 1) r.1) taken (op_after o r.0 taken (k.steps + 1) r.1) j.stage
+    own_job p o e at j task = by r.1.found refl
+      where
+        old : StageGood (Attempt (early_of book.opening) said k.ops taken o) (Untold said taken o) j.stage
+        old = subst (TaskGood (Attempt (early_of book.opening) said k.ops taken o) (Untold said taken o)) task (good p o e at).0
+
+        -- nothing that tells a version was said to it since
+        untold : (x : ℕ) → Untold said taken o x → Untold said taken (op_after o r.0 taken (k.steps + 1) r.1) x
+        untold x h2 q was z there of lt is = h2 q was z there (sym (running_upto o r.0 taken k.steps r.1 (actor.own p o e at).1 z.step z.client (said_by (k.steps + 1) said z said_past there)) ∙ of) lt is
+
+        begun : (st : Stage) → IsFresh st → StageGood (Attempt (early_of book.opening) said k.ops taken o) (Untold said taken o) st → JobVersion (early_of book.opening) said (ops_with k.ops h.seat.place r.0 taken (k.steps + 1) r.1) taken (op_after o r.0 taken (k.steps + 1) r.1) st
+        begun (stage.Asking x) fresh h2 = untold x h2
+        begun (stage.Hashing tries x) fresh h2 = untold x h2
+        begun st fresh h2 = absurd fresh
+
+        by : (found : Option ℕ) → r.1.found ≡ found → JobVersion (early_of book.opening) said (ops_with k.ops h.seat.place r.0 taken (k.steps + 1) r.1) taken (op_after o r.0 taken (k.steps + 1) r.1) j.stage
+        by (Some id) is = begun j.stage ((step_found h.seat.client (Ok (told_message h.told)) now id is).begins (record { file = j.file; stage = j.stage }) task) old
+        by None none = job_alike (early_of book.opening) (k.steps + 1) said said k.ops (ops_with k.ops h.seat.place r.0 taken (k.steps + 1) r.1) taken taken o (op_after o r.0 taken (k.steps + 1) r.1) j.stage said_past (alike p o e at none) (extends_same (k.steps + 1) taken) (λ f q le. versions_after k.ops h.seat.place r.0 taken (k.steps + 1) r.1 finds f q) old
 
     ended : (p : ℕ) (o : Op) → h.seat.place ≡ Some p → slice_get k.ops p ≡ Some o → (len q : ℕ) (digest : List ℕ) → (op_after o r.0 taken (k.steps + 1) r.1).outcome ≡ told.Opened len digest → (op_after o r.0 taken (k.steps + 1) r.1).point ≡ Some q
-        → CameTo said (op_after o r.0 taken (k.steps + 1) r.1) q (version_in (ops_with k.ops h.seat.place r.0 taken (k.steps + 1) r.1) (op_after o r.0 taken (k.steps + 1) r.1).file q) × Since said (op_after o r.0 taken (k.steps + 1) r.1) q (version_in (ops_with k.ops h.seat.place r.0 taken (k.steps + 1) r.1) (op_after o r.0 taken (k.steps + 1) r.1).file q)
+        → CameTo said (op_after o r.0 taken (k.steps + 1) r.1) q (version_by (early_of book.opening) (ops_with k.ops h.seat.place r.0 taken (k.steps + 1) r.1) (op_after o r.0 taken (k.steps + 1) r.1).file q) × Since said (op_after o r.0 taken (k.steps + 1) r.1) q (version_by (early_of book.opening) (ops_with k.ops h.seat.place r.0 taken (k.steps + 1) r.1) (op_after o r.0 taken (k.steps + 1) r.1).file q)
     ended p o e at len q digest opened point =
         let there : slice_get more.ops p ≡ Some (op_after o r.0 taken (k.steps + 1) r.1) =
         ap (λ (l : List Op). slice_get l p) (left.ops ∙ ap (λ (t : CoreStep). t.core.ops) turned ∙ ap (λ l. ops_with k.ops l r.0 taken (k.steps + 1) r.1) e ∙ ap (λ l. ops_after k.ops p l r.0 taken (k.steps + 1) r.1) at) ∙ at_replaced k.ops p (op_after o r.0 taken (k.steps + 1) r.1) o at in
@@ -619,17 +724,29 @@ versions_hears laws book more past k qs after n now bytes mid kept h left counte
         let word : o.word ≡ words.Open = sym (word_after o r.0 taken (k.steps + 1) r.1) ∙ (subst (Caused more (op_after o r.0 taken (k.steps + 1) r.1)) opened right.cause).0 in
         let running = (own_op book k qs h.session.owner h.seat p o kept h.owner e at).4 in
         let a = by word running r.1.ended (good p o e at).1 opened point in
-        let same = alike p o e at in
-        let version = ap (λ f. version_in (ops_with k.ops h.seat.place r.0 taken (k.steps + 1) r.1) f q) same.file ∙ versions_after k.ops h.seat.place r.0 taken (k.steps + 1) r.1 finds o.file q ∙ a.1 in
+        let same = alike p o e at (found_none r.1.found refl) in
+        let version = ap (λ f. version_by (early_of book.opening) (ops_with k.ops h.seat.place r.0 taken (k.steps + 1) r.1) f q) same.file ∙ by_counts (early_of book.opening) (ops_with k.ops h.seat.place r.0 taken (k.steps + 1) r.1) k.ops o.file q (versions_after k.ops h.seat.place r.0 taken (k.steps + 1) r.1 finds o.file q) ∙ a.1 in
         subst (λ v. CameTo said (op_after o r.0 taken (k.steps + 1) r.1) q v × Since said (op_after o r.0 taken (k.steps + 1) r.1) q v) (sym version) (came_alike said said o (op_after o r.0 taken (k.steps + 1) r.1) q a.0 same a.2, since_alike said said o (op_after o r.0 taken (k.steps + 1) r.1) q a.0 same a.3)
       where
-        ends : (x : ℕ) (u : Outcome) (file : ℕ) → u ≡ outcome.Opened file len digest → OutcomeGood (Attempt said k.ops taken o) u x → (v : ℕ) × Attempt said k.ops taken o v x
-        ends x u file is g = subst (λ (z : Outcome). OutcomeGood (Attempt said k.ops taken o) z x) is g
+        -- in a step that finds a file none is opened
+        found_none : (found : Option ℕ) → r.1.found ≡ found → r.1.found ≡ None
+        found_none None is = is
+        found_none (Some id) is = absurd (never r.1.ended refl opened)
+          where
+            never : (l : Option Ended) → r.1.ended ≡ l → (op_after o r.0 taken (k.steps + 1) (record r.1 { ended = l })).outcome ≡ told.Opened len digest → ⊥
+            never None e2 z = by2 (sym (own_op book k qs h.session.owner h.seat p o kept h.owner e at).4 ∙ z)
+              where
+                by2 : told.Running ≡ told.Opened len digest → ⊥
+                by2 z = absurd cc
+            never (Some l) e2 z = let w = opened_by l.outcome len digest z in (step_found h.seat.client (Ok (told_message h.told)) now id is).unopened l e2 (subst IsOpenedBy (sym w.1) tt)
+
+        ends : (x : ℕ) (u : Outcome) (file : ℕ) → u ≡ outcome.Opened file len digest → OutcomeGood (Attempt (early_of book.opening) said k.ops taken o) u x → (v : ℕ) × Attempt (early_of book.opening) said k.ops taken o v x
+        ends x u file is g = subst (λ (z : Outcome). OutcomeGood (Attempt (early_of book.opening) said k.ops taken o) z x) is g
 
         pointed_ : (x : ℕ) (u : Outcome) (file : ℕ) → u ≡ outcome.Opened file len digest → o.word ≡ words.Open → point_if (has_point o.word u) taken x o.point ≡ Some q → taken_at taken x ≡ Some q
         pointed_ x u file is w g = ap (λ z. point_if (has_point z (outcome.Opened file len digest)) taken x o.point) (sym w) ∙ ap (λ z. point_if (has_point o.word z) taken x o.point) (sym is) ∙ g
 
-        by : o.word ≡ words.Open → o.outcome ≡ told.Running → (l : Option Ended) → EndGood (Attempt said k.ops taken o) l → (op_after o r.0 taken (k.steps + 1) (record r.1 { ended = l })).outcome ≡ told.Opened len digest → (op_after o r.0 taken (k.steps + 1) (record r.1 { ended = l })).point ≡ Some q → (v : ℕ) × (version_in k.ops o.file q ≡ v) × CameTo said o q v × Since said o q v
+        by : o.word ≡ words.Open → o.outcome ≡ told.Running → (l : Option Ended) → EndGood (Attempt (early_of book.opening) said k.ops taken o) l → (op_after o r.0 taken (k.steps + 1) (record r.1 { ended = l })).outcome ≡ told.Opened len digest → (op_after o r.0 taken (k.steps + 1) (record r.1 { ended = l })).point ≡ Some q → (v : ℕ) × (version_by (early_of book.opening) k.ops o.file q ≡ v) × CameTo said o q v × Since said o q v
         by word running None g opened point = absurd (running_not (sym running ∙ opened))
           where
             running_not : told.Running ≡ told.Opened len digest → ⊥
@@ -638,30 +755,30 @@ versions_hears laws book more past k qs after n now bytes mid kept h left counte
             let is = opened_by l.outcome len digest opened in
             let a = ends l.rests_on l.outcome is.0 is.1 g in
             let same : a.1.0 ≡ q = some_is a.1.0 q (sym a.1.1 ∙ pointed_ l.rests_on l.outcome is.0 is.1 word point) in
-            (a.0, ap (version_in k.ops o.file) (sym same) ∙ a.1.2, subst (λ z. CameTo said o z a.0) same a.1.3, subst (λ z. Since said o z a.0) same a.1.4)
+            (a.0, ap (version_by (early_of book.opening) k.ops o.file) (sym same) ∙ a.1.2, subst (λ z. CameTo said o z a.0) same a.1.3, subst (λ z. Since said o z a.0) same a.1.4)
 
 -- ---- any event
 
-versions_event : FitLaws → (all past rest : List Moment) (opening : List Opening) (k : Core) (qs : List Queue) (e : Event) (mid after : List Queue) → Step all past rest opening k qs e mid after → CountedAt past k → VersionsAt past k → VersionsBy past k e (happens k e)
-versions_event laws all past rest opening k qs (Joins c) mid after s counted h = subst (λ (o : Option Seat). VersionsBy past k (Joins c) (joins k c o)) (sym s.finds.1) (let r = server_step k.server event.Connect in versions_joins (book_at opening k all) past k qs c s.finds.0 r.0 r.1.told s.kept s.finds.1 s.finds.2 counted h)
-versions_event laws all past rest opening k qs (Does c now d) mid after s counted h = subst (λ (o : Option Seat). IsKept (book_at opening (does k c now d o).core all) (does k c now d o).core after → VersionsBy past k (Does c now d) (does k c now d o)) (sym s.finds.1) (λ left. versions_does (book_at opening k all) (book_at opening (does k c now d (Some s.finds.0)).core all) past k qs after c now d s.finds.0 s.kept s.finds.1 left counted h) s.left
-versions_event laws all past rest opening k qs (Serves n now bytes) mid after s counted h = versions_serves past k n now bytes (ask_message s.finds.1) (numbered k.sessions n) (serves_read laws (book_at opening k all) k qs n now bytes mid s.kept s.finds) (is_of_files s.finds.1) refl counted h
+versions_event : FitLaws → (all past rest : List Moment) (opening : List Opening) (k : Core) (qs : List Queue) (e : Event) (mid after : List Queue) → Step all past rest opening k qs e mid after → CountedAt past k → VersionsAt (early_of opening) past k → VersionsBy (early_of opening) past k e (happens k e)
+versions_event laws all past rest opening k qs (Joins c) mid after s counted h = subst (λ (o : Option Seat). VersionsBy (early_of opening) past k (Joins c) (joins k c o)) (sym s.finds.1) (let r = server_step k.server event.Connect in versions_joins (book_at opening k all) past k qs c s.finds.0 r.0 r.1.told s.kept s.finds.1 s.finds.2 counted h)
+versions_event laws all past rest opening k qs (Does c now d) mid after s counted h = subst (λ (o : Option Seat). IsKept (book_at opening (does k c now d o).core all) (does k c now d o).core after → VersionsBy (early_of opening) past k (Does c now d) (does k c now d o)) (sym s.finds.1) (λ left. versions_does (book_at opening k all) (book_at opening (does k c now d (Some s.finds.0)).core all) past k qs after c now d s.finds.0 s.kept s.finds.1 left counted h) s.left
+versions_event laws all past rest opening k qs (Serves n now bytes) mid after s counted h = versions_serves laws (book_at opening k all) past k qs n now bytes mid s.kept s.finds counted h
 versions_event laws all past rest opening k qs (Hears n now bytes) mid after s counted h = versions_hears laws (book_at opening k all) (book_at opening (happens k (Hears n now bytes)).core all) past k qs after n now bytes mid s.kept (heard_at (book_at opening k all) k qs n now bytes mid s.kept s.finds) s.left counted h
 versions_event laws all past rest opening k qs (Settles now) mid after s counted h = versions_settles (book_at opening k all) past k qs now s.kept counted h
-versions_event laws all past rest opening k qs (Cuts c) mid after s counted h = subst (λ (o : Option Seat). VersionsBy past k (Cuts c) (cuts k c o)) (sym s.finds.1) (versions_cuts (book_at opening k all) past k qs c s.finds.0 s.kept s.finds.1 counted h s.finds.0.client.linked)
-versions_event laws all past rest opening k qs (Hangs n) mid after s counted h = versions_hangs past k n (numbered k.sessions n) refl counted h
+versions_event laws all past rest opening k qs (Cuts c) mid after s counted h = subst (λ (o : Option Seat). VersionsBy (early_of opening) past k (Cuts c) (cuts k c o)) (sym s.finds.1) (versions_cuts (book_at opening k all) past k qs c s.finds.0 s.kept s.finds.1 counted h s.finds.0.client.linked)
+versions_event laws all past rest opening k qs (Hangs n) mid after s counted h = versions_hangs (early_of opening) past k n (numbered k.sessions n) refl counted h
 
 abbrev pub Versions : (all past : List Moment) → List Opening → Core → List Queue → Type 0
-Versions all past opening k qs = CountedAt past k × VersionsAt past k
+Versions all past opening k qs = CountedAt past k × VersionsAt (early_of opening) past k
 
 pub carried_versions : FitLaws → Carried Versions
 carried_versions laws = record {
   first = λ all opening tree count kept. (carried_counts.first all opening tree count kept, record { jobs = λ i seat j o here is at. nothing_there o at; opened = λ p len q digest o at e point. nothing_there o at });
-  steps = λ all past rest opening k qs e mid after s h. (carried_counts.steps all past rest opening k qs e mid after s h.0, subst (λ z. HaveVersions z (happens k e).core.sessions (happens k e).core.seats (happens k e).core.ops) (taken_more past (moment k e)) (versions_event laws all past rest opening k qs e mid after s h.0 h.1));
+  steps = λ all past rest opening k qs e mid after s h. (carried_counts.steps all past rest opening k qs e mid after s h.0, subst (λ z. HaveVersions (early_of opening) z (happens k e).core.sessions (happens k e).core.seats (happens k e).core.ops) (taken_more past (moment k e)) (versions_event laws all past rest opening k qs e mid after s h.0 h.1));
   adjusts = λ all past opening k qs index seats same h. (
     h.0,
     record {
-      jobs = λ i seat j o here is at. let w = same.was i seat here in subst (λ (z : Seat). JobVersion (taken_of past) k.ops (takens k.sessions z) o j.stage) (sym w.4) (h.1.jobs i w.0 j o w.3 (ap job (sym w.4) ∙ is) at);
+      jobs = λ i seat j o here is at. let w = same.was i seat here in subst (λ (z : Seat). JobVersion (early_of opening) (taken_of past) k.ops (takens k.sessions z) o j.stage) (sym w.4) (h.1.jobs i w.0 j o w.3 (ap job (sym w.4) ∙ is) at);
       opened = h.1.opened;
     },
   );
@@ -669,14 +786,14 @@ carried_versions laws = record {
 
 -- ---- what it makes of the promise
 
-pub opens_version : (book : Book) (k : Core) (qs : List Queue) → IsKept book k qs → VersionsAt book.moments k → (p : ℕ) (o : Op) → slice_get book.ops p ≡ Some o → OpensVersion book o o.outcome
+pub opens_version : (book : Book) (k : Core) (qs : List Queue) → IsKept book k qs → VersionsAt (early_of book.opening) book.moments k → (p : ℕ) (o : Op) → slice_get book.ops p ≡ Some o → OpensVersion book o o.outcome
 opens_version book k qs kept h p o at = by o.outcome refl (kept.sound.rights p o at).cause
   where
     by : (u : History) → o.outcome ≡ u → Caused book o u → OpensVersion book o u
     by (told.Opened len digest) e cause =
         let point = cause.1.point in
         let w = h.opened p len point digest o (ap (λ (l : List Op). slice_get l p) (sym kept.ops) ∙ at) e cause.1.within.0 in
-        let version : version_at book o.file point ≡ version_in k.ops o.file point = version_of_first book o.file point cause.2 ∙ ap (λ l. version_in l o.file point) kept.ops in
+        let version : version_at book o.file point ≡ version_by (early_of book.opening) k.ops o.file point = ap (λ l. version_by (early_of book.opening) l o.file point) kept.ops in
         let v = subst (λ v. CameTo (taken_of book.moments) o point v × Since (taken_of book.moments) o point v) (sym version) w in
         record { point = point; point_is = cause.1.within.0; some = v.0; all = v.1 }
     by _ e cause = tt

@@ -1,5 +1,5 @@
 -- An open that ended gave the content of a version that an answer to a GETHASH of its carried, as a run goes on.
-use Rattle.std.proofs.Common.{◌⊎◌, inl, inr, ◌≡◌, ℕ, zero, suc, ◌+◌, ◌<◌, ◌≤◌, List, [], ◌∷◌, ◌++◌, length, Option, Some, None, Bool, true, false, refl, sym, ap, ◌∙◌, subst, arith, IsSome}
+use Rattle.std.proofs.Common.{◌⊎◌, inl, inr, ◌≡◌, ℕ, zero, suc, ◌+◌, ◌<◌, ◌≤◌, List, [], ◌∷◌, ◌++◌, length, Option, Some, None, Bool, true, false, refl, sym, ap, ◌∙◌, subst, arith}
 use Rattle.client_state.specs.State as client
 use Rattle.client_state.specs.declared.task.Stage.TheVariants as stage
 use Rattle.register_model.specs.declared.op.Outcome.TheVariants as told
@@ -7,7 +7,7 @@ use Rattle.register_model.specs.declared.op.Word.TheVariants as words
 use Rattle.trace_replay.specs.Book.{first_version}
 use Rattle.trace_replay.specs.Core.{taken_of as session_taken}
 use Rattle.trace_replay.specs.Faithful.{Carries, TellsVersion}
-use Rattle.kept_promise.proofs.Common.{◌==◌, ◌&&◌, nat_lt, slice_get, slice_set, filter, cond, Contains, option_map_or, ClientStep, Ended, Outcome, Stage, changes, changed_before, Op, Word, TakenCall, has_point, point_if, op_after, taken_at, Seat, Session, numbered, with_numbered, session_of, Said, is_of, Book, version_at, content_of, Value}
+use Rattle.kept_promise.proofs.Common.{◌==◌, ◌&&◌, nat_lt, slice_get, slice_set, filter, cond, Contains, option_map_or, ClientStep, Ended, Outcome, Stage, changes, changed_before, Op, Word, TakenCall, has_point, point_if, op_after, taken_at, Seat, Session, numbered, with_numbered, session_of, Said, is_of, content_of, Opening}
 use Rattle.kept_promise.proofs.Lists.{some_is, nothing_there, of_replaced}
 use Rattle.kept_promise.proofs.Messages.{Job, job}
 use Rattle.kept_promise.proofs.Counted.{SaidBy, said_by}
@@ -25,13 +25,18 @@ of_numbered xs _ x zero y e = nothing_there y e
 abbrev pub version_in : List Op → (file moment : ℕ) → ℕ
 version_in ops f p = length (filter (changed_before f p) ops) + 1
 
--- of a file that was there at first it is the version that the history says
-pub version_of_first : (book : Book) (f p : ℕ) → IsSome (content_of book.opening f) → version_at book f p ≡ version_in book.ops f p
-version_of_first book f p known = by (content_of book.opening f) refl known
+-- what the history says, where each file had this version at first
+abbrev pub version_by : (base : ℕ → ℕ) → List Op → (file moment : ℕ) → ℕ
+version_by base ops f p = length (filter (changed_before f p) ops) + base f
+
+abbrev pub early_of : List Opening → (file : ℕ) → ℕ
+early_of opening f = first_version (content_of opening f)
+
+pub by_counts : (base : ℕ → ℕ) (a b : List Op) (f p : ℕ) → version_in a f p ≡ version_in b f p → version_by base a f p ≡ version_by base b f p
+by_counts base a b f p e = ap (λ n. n + base f) (same (length (filter (changed_before f p) a)) (length (filter (changed_before f p) b)) e)
   where
-    by : (v : Value) → content_of book.opening f ≡ v → IsSome v → version_at book f p ≡ version_in book.ops f p
-    by None e h = absurd cc
-    by (Some x) e h = ap (λ (v : Value). length (filter (changed_before f p) book.ops) + first_version v) e
+    same : (n m : ℕ) → n + 1 ≡ m + 1 → n ≡ m
+    same n m e = omega (arith, e)
 
 pub cons_count : (f p : ℕ) (o : Op) (os : List Op) → length (filter (changed_before f p) (o ∷ os)) ≡ cond (changed_before f p o) (suc (length (filter (changed_before f p) os))) (length (filter (changed_before f p) os))
 cons_count f p o os = by (changed_before f p o)
@@ -55,9 +60,18 @@ pub count_appended : (f p : ℕ) (ops : List Op) (o : Op) → changed_before f p
 count_appended f p [] o e = cons_count f p o [] ∙ ap (λ b. cond b 1 0) e
 count_appended f p (q ∷ ops) o e = cons_count f p q (ops ++ o ∷ []) ∙ ap (λ n. cond (changed_before f p q) (suc n) n) (count_appended f p ops o e) ∙ sym (cons_count f p q ops)
 
+-- what changes nothing is no change
+pub none_changed : (f p : ℕ) (o : Op) → changes o.word ≡ false → changed_before f p o ≡ false
+none_changed f p o quiet = ap (λ b. (b && (o.file == f)) && option_map_or (λ q. nat_lt q p) o.point false) quiet
+
 -- what an operation's end leaves of whether it is a change
-pub after_alike : (f p : ℕ) (o : Op) (c : client.State) (taken : List TakenCall) (step : ℕ) (acts : ClientStep) → acts.found ≡ None → changed_before f p (op_after o c taken step acts) ≡ changed_before f p o
-after_alike f p o c taken step acts none = ap (λ (z : Option ℕ). changed_before f p (op_after o c taken step (record acts { found = z }))) none ∙ by acts.ended
+pub after_alike : (f p : ℕ) (o : Op) (c : client.State) (taken : List TakenCall) (step : ℕ) (acts : ClientStep) → (acts.found ≡ None) ⊎ (changes o.word ≡ false) → changed_before f p (op_after o c taken step acts) ≡ changed_before f p o
+after_alike f p o c taken step acts (inr quiet) = none_changed f p (op_after o c taken step acts) (by acts.ended) ∙ sym (none_changed f p o quiet)
+  where
+    by : (e : Option Ended) → changes (op_after o c taken step (record acts { ended = e })).word ≡ false
+    by None = quiet
+    by (Some e) = quiet
+after_alike f p o c taken step acts (inl none) = ap (λ (z : Option ℕ). changed_before f p (op_after o c taken step (record acts { found = z }))) none ∙ by acts.ended
   where
     word : (w : Word) (u : Outcome) (x : ℕ) (t : Option ℕ) → ((changes w && (o.file == f)) && option_map_or (λ q. nat_lt q p) (point_if (has_point w u) taken x t) false) ≡ ((changes w && (o.file == f)) && option_map_or (λ q. nat_lt q p) t false)
     word words.Open u x t = refl
@@ -78,8 +92,8 @@ abbrev pub Since : List Said → Op → (moment version : ℕ) → Type 0
 Since said o q v = (s : Said) → Contains said s → is_of o s ≡ true → q < s.step → TellsVersion s.message → Carries v s.message
 
 -- an attempt: the moment at which its first call was taken, the version that the file had then, and what was told of it since
-abbrev pub Attempt : List Said → List Op → List TakenCall → Op → (version first : ℕ) → Type 0
-Attempt said ops taken o v x = (q : ℕ) × (taken_at taken x ≡ Some q) × (version_in ops o.file q ≡ v) × CameTo said o q v × Since said o q v
+abbrev pub Attempt : (base : ℕ → ℕ) → List Said → List Op → List TakenCall → Op → (version first : ℕ) → Type 0
+Attempt base said ops taken o v x = (q : ℕ) × (taken_at taken x ≡ Some q) × (version_by base ops o.file q ≡ v) × CameTo said o q v × Since said o q v
 
 -- nothing was told yet since a first call was taken, if it was
 abbrev pub Untold : List Said → List TakenCall → Op → (first : ℕ) → Type 0
@@ -89,14 +103,14 @@ Untold said taken o x = (q : ℕ) → taken_at taken x ≡ Some q → (s : Said)
 abbrev pub takens : List Session → Seat → List TakenCall
 takens sessions seat = session_taken (session_of sessions seat.session)
 
-abbrev pub JobVersion : List Said → List Op → List TakenCall → Op → Stage → Type 0
-JobVersion said ops taken o s = StageGood (Attempt said ops taken o) (Untold said taken o) s
+abbrev pub JobVersion : (base : ℕ → ℕ) → List Said → List Op → List TakenCall → Op → Stage → Type 0
+JobVersion base said ops taken o s = StageGood (Attempt base said ops taken o) (Untold said taken o) s
 
-pub record HaveVersions (said : List Said) (sessions : List Session) (seats : List Seat) (ops : List Op) : Type 0 where
+pub record HaveVersions (base : ℕ → ℕ) (said : List Said) (sessions : List Session) (seats : List Seat) (ops : List Op) : Type 0 where
   -- the version of an attempt under way
-  pub jobs : (i : ℕ) (seat : Seat) (j : Job) (o : Op) → numbered seats i ≡ Some seat → job seat ≡ Some j → slice_get ops j.place ≡ Some o → JobVersion said ops (takens sessions seat) o j.stage
+  pub jobs : (i : ℕ) (seat : Seat) (j : Job) (o : Op) → numbered seats i ≡ Some seat → job seat ≡ Some j → slice_get ops j.place ≡ Some o → JobVersion base said ops (takens sessions seat) o j.stage
   -- and of an open that ended
-  pub opened : (p len q : ℕ) (digest : List ℕ) (o : Op) → slice_get ops p ≡ Some o → o.outcome ≡ told.Opened len digest → o.point ≡ Some q → CameTo said o q (version_in ops o.file q) × Since said o q (version_in ops o.file q)
+  pub opened : (p len q : ℕ) (digest : List ℕ) (o : Op) → slice_get ops p ≡ Some o → o.outcome ≡ told.Opened len digest → o.point ≡ Some q → CameTo said o q (version_by base ops o.file q) × Since said o q (version_by base ops o.file q)
 
 -- ---- what stays
 
@@ -126,11 +140,11 @@ since_alike said more o r q v a h = λ s there of lt is. let b = a.back s there 
 came_past : (n : ℕ) (said : List Said) (o : Op) (q v : ℕ) → SaidBy n said → CameTo said o q v → q ≤ n
 came_past n said o q v past (s, there, of, lt, c) = let le = said_by n said s past there in omega (arith, lt, le)
 
-pub job_alike : (n : ℕ) (said more : List Said) (ops after : List Op) (taken later : List TakenCall) (o r : Op) (s : Stage) → SaidBy n said → Alike said more o r → Extends n taken later → ((f q : ℕ) → q ≤ n → version_in after f q ≡ version_in ops f q) → JobVersion said ops taken o s → JobVersion more after later r s
-job_alike n said more ops after taken later o r s past a e stays h = by s h
+pub job_alike : (base : ℕ → ℕ) → (n : ℕ) (said more : List Said) (ops after : List Op) (taken later : List TakenCall) (o r : Op) (s : Stage) → SaidBy n said → Alike said more o r → Extends n taken later → ((f q : ℕ) → q ≤ n → version_in after f q ≡ version_in ops f q) → JobVersion base said ops taken o s → JobVersion base more after later r s
+job_alike base n said more ops after taken later o r s past a e stays h = by s h
   where
-    attempt : (v x : ℕ) → Attempt said ops taken o v x → Attempt more after later r v x
-    attempt v x (q, was, version, came, since) = (q, e.0 x q was, ap (λ f. version_in after f q) a.file ∙ stays o.file q (came_past n said o q v past came) ∙ version, came_alike said more o r q v a came, since_alike said more o r q v a since)
+    attempt : (v x : ℕ) → Attempt base said ops taken o v x → Attempt base more after later r v x
+    attempt v x (q, was, version, came, since) = (q, e.0 x q was, ap (λ f. version_by base after f q) a.file ∙ by_counts base after ops o.file q (stays o.file q (came_past n said o q v past came)) ∙ version, came_alike said more o r q v a came, since_alike said more o r q v a since)
 
     untold : (x : ℕ) → Untold said taken o x → Untold more later r x
     untold x h = λ q was s there of lt is. let b = a.back s there of in elim (e.1 x q was) [
@@ -138,7 +152,7 @@ job_alike n said more ops after taken later o r s past a e stays h = by s h
       | inr new ↦ (let le = said_by n said s past b.0 in omega (arith, le, lt, new))
     ]
 
-    by : (s : Stage) → JobVersion said ops taken o s → JobVersion more after later r s
+    by : (s : Stage) → JobVersion base said ops taken o s → JobVersion base more after later r s
     by (stage.Asking x) h = untold x h
     by (stage.Hashing tries x) h = untold x h
     by (stage.Listing x f) h = attempt f.version f.first h
@@ -146,29 +160,29 @@ job_alike n said more ops after taken later o r s past a e stays h = by s h
     by _ h = tt
 
 -- a job was there before, or is shown
-abbrev pub JobCame : (n : ℕ) → (said more : List Said) → (sessions later : List Session) → (seats : List Seat) → (ops after : List Op) → (i : ℕ) → Seat → Job → Op → Type 0
-JobCame n said more sessions later seats ops after i seat j r =
-    ((old : Seat) × (o : Op) × (numbered seats i ≡ Some old) × (job old ≡ Some j) × (slice_get ops j.place ≡ Some o) × Alike said more o r × Extends n (takens sessions old) (takens later seat)) ⊎ JobVersion more after (takens later seat) r j.stage
+abbrev pub JobCame : (base : ℕ → ℕ) → (n : ℕ) → (said more : List Said) → (sessions later : List Session) → (seats : List Seat) → (ops after : List Op) → (i : ℕ) → Seat → Job → Op → Type 0
+JobCame base n said more sessions later seats ops after i seat j r =
+    ((old : Seat) × (o : Op) × (numbered seats i ≡ Some old) × (job old ≡ Some j) × (slice_get ops j.place ≡ Some o) × Alike said more o r × Extends n (takens sessions old) (takens later seat)) ⊎ JobVersion base more after (takens later seat) r j.stage
 
 -- an open that has ended was there before, or is shown
-abbrev pub OpenCame : (said more : List Said) → (ops after : List Op) → (p len q : ℕ) → (digest : List ℕ) → Op → Type 0
-OpenCame said more ops after p len q digest r =
-    ((o : Op) × (slice_get ops p ≡ Some o) × Alike said more o r × (o.outcome ≡ told.Opened len digest) × (o.point ≡ Some q)) ⊎ (CameTo more r q (version_in after r.file q) × Since more r q (version_in after r.file q))
+abbrev pub OpenCame : (base : ℕ → ℕ) → (said more : List Said) → (ops after : List Op) → (p len q : ℕ) → (digest : List ℕ) → Op → Type 0
+OpenCame base said more ops after p len q digest r =
+    ((o : Op) × (slice_get ops p ≡ Some o) × Alike said more o r × (o.outcome ≡ told.Opened len digest) × (o.point ≡ Some q)) ⊎ (CameTo more r q (version_by base after r.file q) × Since more r q (version_by base after r.file q))
 
-pub versions_onward : (n : ℕ) (said more : List Said) (sessions later : List Session) (seats next : List Seat) (ops after : List Op) → SaidBy n said → ((f q : ℕ) → q ≤ n → version_in after f q ≡ version_in ops f q)
-    → ((i : ℕ) (seat : Seat) (j : Job) (r : Op) → numbered next i ≡ Some seat → job seat ≡ Some j → slice_get after j.place ≡ Some r → JobCame n said more sessions later seats ops after i seat j r)
-    → ((p len q : ℕ) (digest : List ℕ) (r : Op) → slice_get after p ≡ Some r → r.outcome ≡ told.Opened len digest → r.point ≡ Some q → OpenCame said more ops after p len q digest r)
-    → HaveVersions said sessions seats ops → HaveVersions more later next after
-versions_onward n said more sessions later seats next ops after past stays jobs opens h = record {
+pub versions_onward : (base : ℕ → ℕ) → (n : ℕ) (said more : List Said) (sessions later : List Session) (seats next : List Seat) (ops after : List Op) → SaidBy n said → ((f q : ℕ) → q ≤ n → version_in after f q ≡ version_in ops f q)
+    → ((i : ℕ) (seat : Seat) (j : Job) (r : Op) → numbered next i ≡ Some seat → job seat ≡ Some j → slice_get after j.place ≡ Some r → JobCame base n said more sessions later seats ops after i seat j r)
+    → ((p len q : ℕ) (digest : List ℕ) (r : Op) → slice_get after p ≡ Some r → r.outcome ≡ told.Opened len digest → r.point ≡ Some q → OpenCame base said more ops after p len q digest r)
+    → HaveVersions base said sessions seats ops → HaveVersions base more later next after
+versions_onward base n said more sessions later seats next ops after past stays jobs opens h = record {
   jobs = λ i seat j r here is at. elim (jobs i seat j r here is at) [
     | inr shown ↦ shown
-    | inl (old, o, there, was, old_at, a, e) ↦ job_alike n said more ops after (takens sessions old) (takens later seat) o r j.stage past a e stays (h.jobs i old j o there was old_at)
+    | inl (old, o, there, was, old_at, a, e) ↦ job_alike base n said more ops after (takens sessions old) (takens later seat) o r j.stage past a e stays (h.jobs i old j o there was old_at)
   ];
   opened = λ p len q digest r at e point. elim (opens p len q digest r at e point) [
     | inr shown ↦ shown
     | inl (o, there, a, was, old_point) ↦
         let w = h.opened p len q digest o there was old_point in
-        let same : version_in after r.file q ≡ version_in ops o.file q = ap (λ f. version_in after f q) a.file ∙ stays o.file q (came_past n said o q (version_in ops o.file q) past w.0) in
-        subst (λ v. CameTo more r q v × Since more r q v) (sym same) (came_alike said more o r q (version_in ops o.file q) a w.0, since_alike said more o r q (version_in ops o.file q) a w.1)
+        let same : version_by base after r.file q ≡ version_by base ops o.file q = ap (λ f. version_by base after f q) a.file ∙ by_counts base after ops o.file q (stays o.file q (came_past n said o q (version_by base ops o.file q) past w.0)) in
+        subst (λ v. CameTo more r q v × Since more r q v) (sym same) (came_alike said more o r q (version_by base ops o.file q) a w.0, since_alike said more o r q (version_by base ops o.file q) a w.1)
   ];
 }

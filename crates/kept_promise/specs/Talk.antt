@@ -9,14 +9,23 @@ use Rattle.hash_calls.specs.declared.call.Leased.{Leased}
 use Rattle.hash_calls.specs.declared.message.Lb.TheVariants as lb
 use Rattle.hash_calls.specs.declared.message.LbProc.TheVariants as lb_proc
 use Rattle.nfs3_calls.specs.declared.call.Piece.{Piece}
+use Rattle.nfs3_calls.specs.Nfs.{nfs_proc}
+use Rattle.nfs3_calls.specs.declared.change.Moved.{Moved}
+use Rattle.nfs3_calls.specs.declared.change.Wcc.{Wcc}
+use Rattle.nfs3_calls.specs.declared.listing.Listing.{Listing}
+use Rattle.nfs3_calls.specs.declared.making.Made.{Made as NewNode}
+use Rattle.nfs3_calls.specs.declared.place.Found.{Found}
+use Rattle.nfs3_calls.specs.declared.message.Nfs.{Nfs}
 use Rattle.nfs3_calls.specs.declared.message.Nfs.TheVariants as nfs
-use Rattle.nfs3_calls.specs.declared.message.NfsProc.TheVariants as nfs_proc
+use Rattle.nfs3_calls.specs.declared.message.NfsProc.TheVariants as nfs_procs
 use Rattle.wire.specs.declared.message.Body.{Body}
 use Rattle.wire.specs.declared.message.Body.TheVariants as body
 use Rattle.wire.specs.declared.message.Message.{Message}
 use Rattle.wire.specs.declared.message.Message.TheVariants as message
 use Rattle.wire.specs.declared.message.Program.{Program}
 use Rattle.wire.specs.declared.message.Program.TheVariants as program
+use Rattle.path_calls.specs.Walk.{next_call}
+use Rattle.path_calls.specs.declared.walk.Walk.{Walk}
 use Rattle.file_open.specs.Opening.{lease_call, hash_call, read_call}
 use Rattle.file_close.specs.Closing.{make_call, cond_call, commit_call}
 use Rattle.trace_replay.specs.World.{Wire, bytes_of}
@@ -31,6 +40,29 @@ pub data Call : Type 0 where
   Name : (temp : ℕ) → Chunk → Call
   Send : (temp start : ℕ) → (bytes : List ℕ) → Call
   Commit : (temp file size : ℕ) → Call
+  -- the next call of a command on names
+  Walks : Walk → Call
+
+-- what is told of names, and of what was made or removed
+pub data NameReply : Type 0 where
+  LookedUp : Answer Found (Option Attr) → NameReply
+  Shown : Answer Attr Unit → NameReply
+  Listed : Answer Listing (Option Attr) → NameReply
+  MadeFile : Answer NewNode Wcc → NameReply
+  MadeDir : Answer NewNode Wcc → NameReply
+  NoDir : Answer Wcc Wcc → NameReply
+  Gone : Answer Wcc Wcc → NameReply
+  Renamed : Answer Moved Moved → NameReply
+
+abbrev pub name_answer : NameReply → Nfs
+name_answer (LookedUp a) = nfs.LookupAnswer a
+name_answer (Shown a) = nfs.GetAttrAnswer a
+name_answer (Listed a) = nfs.ReadDirAnswer a
+name_answer (MadeFile a) = nfs.CreateAnswer a
+name_answer (MadeDir a) = nfs.MkDirAnswer a
+name_answer (NoDir a) = nfs.RmDirAnswer a
+name_answer (Gone a) = nfs.RemoveAnswer a
+name_answer (Renamed a) = nfs.RenameAnswer a
 
 pub data Reply : Type 0 where
   Versioned : Answer Leased Unit → Reply
@@ -40,6 +72,7 @@ pub data Reply : Type 0 where
   Named : Answer Unit Unit → Reply
   Stored : Answer Unit Unit → Reply
   Changed : Answer Committed Unit → Reply
+  Walked : NameReply → Reply
 
 -- a call, or an answer, under an xid
 pub record Ask : Type 0 where
@@ -58,6 +91,7 @@ call_message xid (Make temp file) = make_call xid temp file
 call_message xid (Name temp c) = cond_call xid temp c
 call_message xid (Send temp start bytes) = message.Call xid (body.Lb (lb.TmpWrite (record { fd = temp; offset = start; bytes = bytes })))
 call_message xid (Commit temp file size) = commit_call xid temp file size
+call_message xid (Walks w) = message.Call xid (body.Nfs (next_call w))
 
 abbrev pub ask_message : Ask → Message
 ask_message a = call_message a.xid a.call
@@ -70,6 +104,7 @@ reply_body (Made a) = body.Lb (lb.MkTmpFileAnswer a)
 reply_body (Named a) = body.Lb (lb.CondWriteAnswer a)
 reply_body (Stored a) = body.Lb (lb.TmpWriteAnswer a)
 reply_body (Changed a) = body.Lb (lb.CommitTmpAnswer a)
+reply_body (Walked r) = body.Nfs (name_answer r)
 
 abbrev pub told_message : Told → Message
 told_message t = message.Answer t.xid (reply_body t.reply)
@@ -78,20 +113,22 @@ told_message t = message.Answer t.xid (reply_body t.reply)
 abbrev pub call_program : Call → Program
 call_program (Lease file) = program.Lb lb_proc.GetLease
 call_program (Hash file offset) = program.Lb lb_proc.GetHash
-call_program (Read file c) = program.Nfs nfs_proc.Read
+call_program (Read file c) = program.Nfs nfs_procs.Read
 call_program (Make temp file) = program.Lb lb_proc.MkTmpFile
 call_program (Name temp c) = program.Lb lb_proc.CondWrite
 call_program (Send temp start bytes) = program.Lb lb_proc.TmpWrite
 call_program (Commit temp file size) = program.Lb lb_proc.CommitTmp
+call_program (Walks w) = program.Nfs (nfs_proc (next_call w))
 
 abbrev pub reply_program : Reply → Program
 reply_program (Versioned a) = program.Lb lb_proc.GetLease
 reply_program (Hashed a) = program.Lb lb_proc.GetHash
-reply_program (Bytes a) = program.Nfs nfs_proc.Read
+reply_program (Bytes a) = program.Nfs nfs_procs.Read
 reply_program (Made a) = program.Lb lb_proc.MkTmpFile
 reply_program (Named a) = program.Lb lb_proc.CondWrite
 reply_program (Stored a) = program.Lb lb_proc.TmpWrite
 reply_program (Changed a) = program.Lb lb_proc.CommitTmp
+reply_program (Walked r) = program.Nfs (nfs_proc (name_answer r))
 
 -- ---- what is on its way on a session
 

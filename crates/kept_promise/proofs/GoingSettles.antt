@@ -1,0 +1,236 @@
+-- A remove, or a rename over a file, that waited is settled, and its session told: it's refused, or its file goes.
+use Rattle.std.proofs.Common.{inl, ◌≡◌, ℕ, suc, ◌+◌, ◌≤◌, List, [], ◌∷◌, ◌++◌, length, max, map, Option, Some, None, Bool, true, false, refl, sym, ap, ◌∙◌, subst, arith, eq-eqb, ne_eqb}
+use Rattle.nfs3_calls.specs.Nfs.{nfs_proc}
+use Rattle.nfs3_calls.specs.declared.message.Nfs.{Nfs}
+use Rattle.wire.specs.declared.message.Body.TheVariants as body
+use Rattle.wire.specs.declared.message.Message.TheVariants as message
+use Rattle.wire.specs.declared.message.Program.TheVariants as program
+use Rattle.file_tree.specs.Tree.{Tree}
+use Rattle.tree_calls.specs.declared.asked.Asked.{Asked}
+use Rattle.tree_calls.specs.declared.asked.Asked.TheVariants as asked
+use Rattle.path_calls.specs.Walk.{next_call}
+use Rattle.path_calls.specs.declared.walk.Walk.{Walk}
+use Rattle.server_core.specs.State as server
+use Rattle.server_core.specs.declared.change.Wanted.TheVariants as wanted
+use Rattle.client_state.specs.State as client
+use Rattle.client_state.specs.declared.task.Stage.TheVariants as stage
+use Rattle.register_model.specs.declared.op.Outcome.TheVariants as told
+use Rattle.trace_replay.specs.Trail.{Moment}
+use Rattle.kept_promise.proofs.Common.{slice_get, cond, Contains, MessageFits, Change, Entry, Op, Core, Seat, Session, Event.Settles, numbered, with_numbered, happens, unless, hashed_of, Book, Reply.Walked, NameReply, name_answer, Told, Queue, told_message}
+use Rattle.kept_promise.proofs.Lists.{some_is, nothing_there, true_and_false}
+use Rattle.kept_promise.proofs.Keys.{times, times_append, own, on_way, key, change_key, ask_key, told_key}
+use Rattle.kept_promise.proofs.PathNames.{is_making, makes_later}
+use Rattle.kept_promise.proofs.Messages.{walk_for, walk_is, Job, job, AnswerOf, IsAnswer, IsGoing, CloseOf, WalkCame, WalkTold}
+use Rattle.kept_promise.proofs.History.{Goes}
+use Rattle.kept_promise.proofs.Later.{pieces_later, parts_later, has_fetch_later, seat_later}
+use Rattle.kept_promise.proofs.Taken.{tolds_append, tolds_at, times_map_append}
+use Rattle.kept_promise.proofs.Turns.{around_same, around_with, turned_core, kept_turn}
+use Rattle.kept_promise.proofs.Ordered.{orderly_later, orderly_told}
+use Rattle.kept_promise.proofs.OrderSteps.{waits_untold}
+use Rattle.kept_promise.proofs.Unwaited.{unwaited}
+use Rattle.kept_promise.proofs.Steps.{no_commits}
+use Rattle.kept_promise.proofs.Takes.{downs_of}
+use Rattle.kept_promise.proofs.Facts.{IsServer, IsTalk, IsSession, IsKept, commits_in}
+use Rattle.kept_promise.proofs.Leading.{IsNoted}
+
+-- ---- the walk whose last call waits
+
+pub makes_for : (a : Asked) → is_making (walk_for a) ≡ true
+makes_for (asked.Remove r) = refl
+makes_for (asked.Rename r) = refl
+
+none_later : (a : Asked) → makes_later (walk_for a).left (walk_for a).goal ≡ true → ⊥
+none_later (asked.Remove r) e = absurd cc
+none_later (asked.Rename r) e = absurd cc
+
+-- what is answered is of the procedure that waited
+pub answer_key : (c : Change) (a : Asked) (r : NameReply) → c.what ≡ wanted.Asked a → nfs_proc (name_answer r) ≡ nfs_proc (next_call (walk_for a)) → told_key (record { xid = c.xid; reply = Walked r }) ≡ change_key c
+answer_key c a r what procs = ap (λ p. key c.xid (program.Nfs p)) procs ∙ by a ∙ sym (ap (λ w. change_key (record c { what = w })) what)
+  where
+    by : (a : Asked) → key c.xid (program.Nfs (nfs_proc (next_call (walk_for a)))) ≡ change_key (record c { what = wanted.Asked a })
+    by (asked.Remove r) = refl
+    by (asked.Rename r) = refl
+
+-- ---- the queue
+
+pub first_own : (c : Change) (cs : List Change) → own c.session (c ∷ cs) ≡ c ∷ own c.session cs
+first_own c cs = ap (λ b. cond b (c ∷ own c.session cs) (own c.session cs)) (eq-eqb c.session c.session refl)
+
+pub other_own : (m : ℕ) (c : Change) (cs : List Change) → (m ≡ c.session → ⊥) → own m (c ∷ cs) ≡ own m cs
+other_own m c cs apart = ap (λ b. cond b (c ∷ own m cs) (own m cs)) (ne_eqb c.session m (λ e. apart (sym e)))
+
+pub behind : (s : server.State) (c : Change) (cs : List Change) → s.waiting ≡ c ∷ cs → (i : ℕ) (d : Change) → slice_get cs i ≡ Some d → slice_get s.waiting (suc i) ≡ Some d
+behind s c cs e i d f = ap (λ (l : List Change). slice_get l (suc i)) e ∙ f
+
+-- what is settled is told where it waited
+pub way_settled : (n y : ℕ) (c : Change) (cs : List Change) (q : Queue) (t : Told) → own n (c ∷ cs) ≡ c ∷ own n cs → told_key t ≡ change_key c → times y (on_way n cs (record q { downs = q.downs ++ t ∷ [] })) ≡ times y (on_way n (c ∷ cs) q)
+way_settled n y c cs q t first same =
+    let ups = map ask_key q.ups in
+    let a = times_append y ups (map change_key (own n cs) ++ map told_key (q.downs ++ t ∷ [])) in
+    let b = times_append y (map change_key (own n cs)) (map told_key (q.downs ++ t ∷ [])) in
+    let d = times_map_append told_key y q.downs (t ∷ []) in
+    let e = ap (λ (l : List Change). times y (ups ++ (map change_key l ++ map told_key q.downs))) first in
+    let f = times_append y ups (map change_key (c ∷ own n cs) ++ map told_key q.downs) in
+    let g = times_append y (map change_key (c ∷ own n cs)) (map told_key q.downs) in
+    let h = times_append y (change_key c ∷ []) (map change_key (own n cs)) in
+    let k : times y (told_key t ∷ []) ≡ times y (change_key c ∷ []) = ap (λ z. times y (z ∷ [])) same in
+    omega (arith, a, b, d, e, f, g, h, k)
+
+-- ---- the frame
+
+-- the server then
+abbrev pub settled_server : server.State → (now : ℕ) → List Change → Tree → List Entry → server.State
+settled_server s now cs tree journal = record s { moment = max s.moment now; waiting = cs; tree = tree; journal = journal }
+
+pub record ShowsSettled (book more : Book) (k : Core) (now : ℕ) (c : Change) (cs : List Change) (x : Session) (q : Queue) (tree : Tree) (journal : List Entry) (r : NameReply) (made : Option ℕ) (h : IsSession book k.seats k.server c.session x q) : Type 0 where
+  pub goes : Goes book more made None
+  pub server : IsServer more (settled_server k.server now cs tree journal)
+  pub journal_is : more.journal ≡ journal
+  pub made_here : (p : ℕ) → made ≡ Some p → x.closing ≡ Some p
+  pub key_is : told_key (record { xid = c.xid; reply = Walked r }) ≡ change_key c
+  pub fits : MessageFits (told_message (record { xid = c.xid; reply = Walked r }))
+  pub answer : x.cut ≡ false → AnswerOf more x.taken x.closing (job h.seat) c.xid (Walked r)
+  pub running : (p : ℕ) (o : Op) → slice_get more.ops p ≡ Some o → o.outcome ≡ told.Running → (e : Seat) × (j : Job) × (numbered k.seats o.client ≡ Some e) × (job e ≡ Some j) × (j.place ≡ p)
+
+module _ (book more : Book) (k : Core) (qs : List Queue) (now : ℕ) (c : Change) (cs : List Change) (a : Asked) (x : Session) (q : Queue) (tree : Tree) (journal : List Entry) (r : NameReply) (made : Option ℕ)
+    (kept : IsKept book k qs) (waits : k.server.waiting ≡ c ∷ cs) (here : numbered k.sessions c.session ≡ Some x) (unhung : x.hung ≡ false) (is : numbered qs c.session ≡ Some q)
+    (pending : IsGoing book x.closing x.cut (job (kept.sessions c.session x q here is).seat) c.xid a) (shows : ShowsSettled book more k now c cs x q tree journal r made (kept.sessions c.session x q here is)) where
+  abbrev n : ℕ
+  n = c.session
+
+  abbrev h : IsSession book k.seats k.server n x q
+  h = kept.sessions n x q here is
+
+  abbrev t : Told
+  t = record { xid = c.xid; reply = Walked r }
+
+  abbrev s : server.State
+  s = settled_server k.server now cs tree journal
+
+  abbrev p : Queue
+  p = record q { downs = unless x.cut q.downs (t ∷ []) }
+
+  -- it's the one of its session
+  alone : (commits_in q.ups ≡ 0) × (length (own n cs) ≡ 0)
+  alone =
+      let single = h.single in
+      let one = ap (λ (l : List Change). length (own n l)) waits in
+      let mine = ap (λ (l : List Change). length l) (first_own c cs) in
+      (omega (arith, single, one, mine), omega (arith, single, one, mine))
+
+  none_own : (l : List Change) → length l ≡ 0 → (i : ℕ) (d : Change) → slice_get l i ≡ Some d → ⊥
+  none_own [] e i d f = nothing_there d f
+  none_own (z ∷ l) e i d f = absurd (omega (arith, e))
+
+  -- its client waits for it
+  waits_here : x.cut ≡ false → (j : Job) → job h.seat ≡ Some j → j.stage ≡ stage.Walking c.xid (walk_for a)
+  waits_here uncut j at =
+      let w = pending.waited uncut in
+      ap (λ (z : Job). z.stage) (some_is j (record { place = pending.place; file = 0; stage = stage.Walking c.xid w.0 }) (sym at ∙ w.1)) ∙ ap (stage.Walking c.xid) (walk_is w.0 a w.2)
+
+  cut_downs : (b : Bool) → b ≡ true → q.downs ≡ [] → unless b q.downs (t ∷ []) ≡ []
+  cut_downs true u none = none
+  cut_downs false u none = absurd cc
+
+  talks : x.cut ≡ false → IsTalk book n (c ∷ cs) x q h.seat → IsTalk more n cs x (record q { downs = q.downs ++ t ∷ [] }) h.seat
+  talks uncut talk = record {
+    floor = talk.floor;
+    under = talk.under;
+    rising = talk.rising;
+    asked = talk.asked;
+    answers = tolds_append (IsAnswer more x.taken x.closing (job h.seat)) q.downs (t ∷ []) (tolds_at (IsAnswer book x.taken x.closing (job h.seat)) (IsAnswer more x.taken x.closing (job h.seat)) q.downs (λ i u at f. unwaited book more x.taken x.taken x.closing (job h.seat) c.xid (walk_for a) u (waits_here uncut) (λ same. waits_untold n (c ∷ cs) q x.hung h.seat.client.next (client.calls_of h.seat.client) 0 i c u talk.balanced (ap (λ (l : List Change). slice_get l 0) (first_own c cs)) at (sym same)) f) talk.answers) (shows.answer uncut, tt);
+    fetch = has_fetch_later book more made None x.taken (job h.seat) shows.goes.grows talk.fetch;
+    balanced = record {
+      most = λ y. let b = talk.balanced.most y in let w = way_settled n y c cs q t (first_own c cs) shows.key_is in omega (arith, b, w);
+      least = λ hung y. let b = talk.balanced.least hung y in let w = way_settled n y c cs q t (first_own c cs) shows.key_is in omega (arith, b, w);
+      once = talk.balanced.once;
+      below = talk.balanced.below;
+      ours = talk.balanced.ours;
+    };
+    busy = talk.busy;
+  }
+
+  pub kept_settled : IsKept more (turned_core more s k.seats k.sessions) (with_numbered qs n p)
+  kept_settled =
+      let g = shows.goes.grows in
+      kept_turn book more k qs s k.seats k.sessions (with_numbered qs n p) n x x p h.seat h.seat made None (record {
+        at = here;
+        was = h.owner;
+        session_around = around_same k.sessions n x here;
+        queue_around = around_with qs n q p is;
+        seat_around = around_same k.seats x.owner h.seat h.owner;
+        owner = refl;
+        goes = shows.goes;
+        server = shows.server;
+        sessions_made = refl;
+        view = λ m apart. record { stands_is = refl; waiting = sym (ap (own m) waits ∙ other_own m c cs apart); temps = λ i m2 u lt z w. (i, z); found = λ m2 lt. refl };
+        elsewhere = inl refl;
+        closing = λ z w. inl w;
+        made_here = shows.made_here;
+        ended_here = λ z u w. nothing_there z w;
+        session = record {
+          seat = h.seat;
+          owner = h.owner;
+          here = h.here;
+          shut = λ cut. cut_downs x.cut cut (h.shut cut);
+          lost = h.lost;
+          stands_is = h.stands_is;
+          ups_fit = h.ups_fit;
+          downs_fit = downs_of (λ u. MessageFits (told_message u)) x.cut q.downs t h.downs_fit shows.fits;
+          talk = λ uncut. subst (λ (b : Bool). IsTalk more n cs x (record q { downs = unless b q.downs (t ∷ []) }) h.seat) (sym uncut) (talks uncut (subst (λ (l : List Change). IsTalk book n l x q h.seat) waits (h.talk uncut)));
+          contents = h.contents;
+          lengths = h.lengths;
+          commits = no_commits more x.closing x.cut (job h.seat) h.contents q.ups alone.0;
+          pieces = pieces_later (hashed_of book.moments) (hashed_of more.moments) h.contents q.ups g.hashed h.pieces;
+          temps = λ i m u lt w key_is. let o = h.temps i m u lt w key_is in (parts_later (hashed_of book.moments) (hashed_of more.moments) (h.contents m) u.1.pieces g.hashed o.0, o.1);
+          temps_below = h.temps_below;
+          closes = λ uncut j f. subst (CloseOf more x.closing h.contents h.seat.client.next_temp j (client.local_bytes h.seat.client.opened j.file)) (sym (waits_here uncut j f)) (λ later. absurd (none_later a later));
+          pending = λ i d f. absurd (none_own (own n cs) alone.1 i d f);
+          single = let z = alone.0 in let y = alone.1 in omega (arith, z, y);
+          old = λ z w. let u = h.old z w in let v = g.each z u.0 u.1 in (v.0, v.1, v.2.client ∙ u.2);
+          orderly = λ uncut. orderly_told more n k.server.temps x.hung x.cut q t h.seat tt tt (orderly_later book more made None n k.server.temps k.server.temps x.hung q h.seat g (λ m lt. refl) (h.orderly uncut));
+        };
+        seat = seat_later book more made None k.sessions k.sessions x.owner h.seat g (λ m z w. (z, w, refl, λ u. refl)) (λ z u w. nothing_there z w) (kept.seats x.owner h.seat h.owner);
+        running = shows.running;
+        shelf = kept.shelf;
+        home = λ i d w. kept.home (suc i) d (behind k.server c cs waits i d w);
+      }) shows.journal_is kept
+
+-- ---- what is told of it
+
+pub settled_came : (book more : Book) (k : Core) (qs : List Queue) (now n : ℕ) (x : Session) (q : Queue) (xid : ℕ) (a : Asked) (c : Seat) (r : NameReply) → IsKept book k qs → numbered k.seats x.owner ≡ Some c → IsNoted book k (Settles now)
+    → Contains (happens k (Settles now)).down (record { session = n; message = message.Answer xid (body.Nfs (name_answer r)) }) → more.moments ≡ book.moments → more.steps ≡ book.steps + 1
+    → ((j : Job) → job c ≡ Some j → j.stage ≡ stage.Walking xid (walk_for a))
+    → ((j : Job) (o : Op) → job c ≡ Some j → slice_get book.ops j.place ≡ Some o → (z : Op) × (slice_get more.ops j.place ≡ Some z) × (z.begin ≡ o.begin) × (z.client ≡ o.client) × WalkCame more (record { before = k; event = Settles now }) (book.steps + 1) x.closing j z (walk_for a) (name_answer r))
+    → AnswerOf more x.taken x.closing (job c) xid (Walked r)
+settled_came book more k qs now n x q xid a c r kept was noted sent moments steps waits came = λ j v is at.
+    let of = (kept.seats x.owner c was).task j is in
+    let begun = (kept.sound.rights j.place of.op of.there).begun in
+    let passed = kept.steps in
+    let same : v ≡ walk_for a = walks_same xid v (walk_for a) (sym at ∙ waits j is) in
+    let z = came j of.op is of.there in
+    subst (λ (u : Walk). WalkTold more x.taken x.closing j xid u (name_answer r)) (sym same) (record {
+      at = record { before = k; event = Settles now };
+      noted = subst (λ (l : List Moment). Contains l (record { before = k; event = Settles now })) (sym moments) noted.there;
+      moment = book.steps + 1;
+      step_is = omega (arith, passed);
+      was = λ none. absurd (true_and_false (is_making (walk_for a)) (makes_for a) none);
+      past = omega (arith, steps);
+      op = z.0;
+      there = z.1;
+      after = subst (λ (b : ℕ). b ≤ book.steps + 1) (sym z.2) (omega (arith, begun));
+      bounded = kept.server.bounded;
+      rooted = kept.server.rooted;
+      came = z.4;
+      session = n;
+      sent = sent;
+      seat = c;
+      seat_is = ap (numbered k.seats) (z.3 ∙ of.client) ∙ was;
+      job_is = is;
+      then_op = of.op;
+      then_is = ap (λ (l : List Op). slice_get l j.place) (sym kept.ops) ∙ of.there;
+      then_began = sym z.2;
+    })
+  where
+    walks_same : (y : ℕ) (v w : Walk) → stage.Walking y v ≡ stage.Walking y w → v ≡ w
+    walks_same y v w e = cc

@@ -1,0 +1,174 @@
+-- A change that waits is settled: a content is replaced; or else operations are as they were, but for one whose file goes, and the journal tells of no content.
+use Rattle.std.proofs.Common.{◌⊎◌, inl, inr, ◌≡◌, ℕ, zero, suc, ◌+◌, ◌<◌, List, [], ◌∷◌, ◌++◌, length, replicate, append-nil, Option, Some, None, Bool, true, false, refl, sym, ap, ◌∙◌, subst, arith}
+use Rattle.xdr_codec.specs.declared.status.Status.{Status}
+use Rattle.xdr_codec.specs.declared.status.Status.TheVariants as status
+use Rattle.wire.specs.declared.message.Body.TheVariants as body
+use Rattle.wire.specs.declared.message.Message.TheVariants as message
+use Rattle.file_tree.specs.Tree.{Tree}
+use Rattle.file_tree.specs.declared.entry.Entry.{Entry as TreeEntry}
+use Rattle.file_tree.specs.declared.entry.EntryKind.TheVariants as kind
+use Rattle.tree_calls.specs.Changing.{said}
+use Rattle.tree_calls.specs.Waiting.{file_of, settles as tree_settles}
+use Rattle.tree_calls.specs.declared.asked.Asked.{Asked}
+use Rattle.tree_calls.specs.declared.asked.Asked.TheVariants as asked
+use Rattle.tree_calls.specs.declared.asked.Done.{Done as Finished}
+use Rattle.server_core.specs.State as server
+use Rattle.server_core.specs.Closing.{entries_by, entered_by, count_of, entry_by}
+use Rattle.server_core.specs.Closing as closing
+use Rattle.server_core.specs.declared.change.Wanted.TheVariants as wanted
+use Rattle.trace_replay.specs.Faithful.{change_refusal}
+use Rattle.trace_replay.specs.Ops.{changed_file, is_of_file, pointed, pointed_at}
+use Rattle.kept_promise.proofs.Common.{slice_get, slice_set, cond, option_map, find, Contains, Contains-push, Message, name_answer, told_message, Change, Wanted, File, Entry, Op, Core, Session, CoreStep, quiet, numbered, settles, settled_ops, Book, Queue}
+use Rattle.kept_promise.proofs.Lists.{some_is, nothing_there}
+use Rattle.kept_promise.proofs.Rights.{WasThere, IsUnmade, gets_file}
+use Rattle.kept_promise.proofs.Turns.{also_numbered}
+use Rattle.kept_promise.proofs.Messages.{job, WaitsFor, IsGoing, asked_word, walk_for, AsksFor, content_wanted}
+use Rattle.kept_promise.proofs.Facts.{IsSession, IsKept, IsWanted}
+use Rattle.kept_promise.proofs.Promised.{own_there}
+use Rattle.kept_promise.proofs.GoingCalls.{IsName}
+use Rattle.kept_promise.proofs.Departures.{SettlesSo, refused_late, goes, settles_so}
+use Rattle.kept_promise.proofs.GoingEnds.{asked_step, asked_settles}
+use Rattle.kept_promise.proofs.Gone.{no_directory}
+use Rattle.kept_promise.proofs.Unmade.{node_gone, unmade_step, unmade_told, unmade_settles}
+use Rattle.kept_promise.proofs.ServesFiles.{pointed_none}
+use Rattle.kept_promise.proofs.ServesQuietly.{Entered}
+
+-- the file of an operation went in this step, which is its point
+pub record GoesHere (k : Core) (after : List Op) : Type 0 where
+  pub place : ℕ
+  pub op : Op
+  pub there : slice_get k.ops place ≡ Some op
+  pub unmade : IsUnmade op
+  pub gets : gets_file op.word ≡ true
+  pub file_is : op.file ≡ 0
+  pub new : ℕ
+  pub after_is : after ≡ slice_set k.ops place (record op { file = new; point = Some (k.steps + 1) })
+
+-- the session of a change is told why it was not made
+abbrev pub RefusesFor : CoreStep → Change → Type 0
+RefusesFor t c = (answer : Message) × (s : Status) × Contains t.down (record { session = c.session; message = answer }) × (change_refusal answer ≡ Some s)
+
+-- the first that waited was made, or was refused
+abbrev pub TellsFirst : (k : Core) (t : CoreStep) → List Entry → Type 0
+TellsFirst k t es = (c : Change) → slice_get k.server.waiting 0 ≡ Some c → (0 < length es) ⊎ RefusesFor t c
+
+pub data Settling (k : Core) (t : CoreStep) : Type 0 where
+  makes_commit : (c : Change) (cs : List Change) (f : File) → k.server.waiting ≡ c ∷ cs → c.what ≡ wanted.Content (content_wanted c.what) → server.file_at k.server.tree c.file ≡ Some f → Settling k t
+  makes_else : (t.core.ops ≡ k.ops) ⊎ GoesHere k t.core.ops → (q : Entered k t) → TellsFirst k t q.es → Settling k t
+
+-- ---- the entries of what goes
+
+counted : (n : ℕ) (first second : Option TreeEntry) → count_of first second ≡ length (entries_by n first second)
+counted n None None = refl
+counted n None (Some y) = refl
+counted n (Some e) None = refl
+counted n (Some e) (Some y) = refl
+
+no_commit : (n : ℕ) (first second : Option TreeEntry) (e : TreeEntry) → first ≡ Some e → e.kind ≡ kind.Remove → IsName second → (i : ℕ) (d : Entry) → slice_get (entries_by n first second) i ≡ Some d → d.kind ≡ kind.Commit → ⊥
+no_commit n first second e is removes names i d at commit = by i second names (ap (λ (o : Option TreeEntry). slice_get (entries_by n o second) i) (sym is) ∙ at)
+  where
+    remove_commit : kind.Remove ≡ kind.Commit → ⊥
+    remove_commit z = absurd cc
+
+    name_commit : kind.Name ≡ kind.Commit → ⊥
+    name_commit z = absurd cc
+
+    by : (i : ℕ) (second : Option TreeEntry) → IsName second → slice_get (entries_by n (Some e) second) i ≡ Some d → ⊥
+    by zero second names at = remove_commit (sym removes ∙ ap (λ (z : Entry). z.kind) (some_is (entry_by n e) d at) ∙ commit)
+    by (suc i) None names at = nothing_there d at
+    by (suc zero) (Some y) names at = name_commit (sym (names y refl) ∙ ap (λ (z : Entry). z.kind) (some_is (entry_by n y) d at) ∙ commit)
+    by (suc (suc i)) (Some y) names at = nothing_there d at
+
+changed_is : (n : ℕ) (first second : Option TreeEntry) (e : TreeEntry) (file : ℕ) → first ≡ Some e → e.kind ≡ kind.Remove → e.file ≡ file → changed_file (entries_by n first second) ≡ Some file
+changed_is n first second e file is removes same =
+    ap (λ (o : Option TreeEntry). changed_file (entries_by n o second)) is
+    ∙ ap (λ (b : Bool). option_map (λ (d : Entry). d.file) (cond b (Some (entry_by n e)) (find (λ (d : Entry). is_of_file d.kind) (entered_by n second)))) (ap is_of_file removes)
+    ∙ ap (λ (f : ℕ). Some f) same
+
+some_entered : (n : ℕ) (first second : Option TreeEntry) (e : TreeEntry) → first ≡ Some e → 0 < length (entries_by n first second)
+some_entered n first second e is = subst (λ (o : Option TreeEntry). 0 < length (entries_by n o second)) (sym is) (by second)
+  where
+    by : (second : Option TreeEntry) → 0 < length (entries_by n (Some e) second)
+    by None = omega arith
+    by (Some y) = omega arith
+
+tells_first : (k : Core) (c : Change) (cs : List Change) (t : CoreStep) (es : List Entry) → k.server.waiting ≡ c ∷ cs → (0 < length es) ⊎ RefusesFor t c → TellsFirst k t es
+tells_first k c cs t es e h d at = subst (λ (z : Change). (0 < length es) ⊎ RefusesFor t z) (some_is c d (sym (ap (λ (l : List Change). slice_get l 0) e) ∙ at)) h
+
+gets_asked : (a : Asked) → gets_file (asked_word a) ≡ true
+gets_asked (asked.Remove r) = refl
+gets_asked (asked.Rename r) = refl
+
+asks_itself : (a : Asked) → AsksFor (walk_for a) a
+asks_itself (asked.Remove r) = (refl, refl, refl)
+asks_itself (asked.Rename r) = (refl, refl, refl)
+
+-- ---- the step
+
+pub settling : (book : Book) (k : Core) (qs : List Queue) (now : ℕ) → IsKept book k qs → Settling k (settles k now)
+settling book k qs now kept = by k.server.waiting refl
+  where
+    asked_so : (c : Change) (cs : List Change) (a : Asked) (x : Session) → k.server.waiting ≡ c ∷ cs → numbered k.sessions c.session ≡ Some x → (p : (place : ℕ) × (op : Op) × (x.closing ≡ Some place) × (slice_get k.ops place ≡ Some op) × IsUnmade op × (op.word ≡ asked_word a) × (op.file ≡ 0)) → SettlesSo k.server.tree (server.held cs) (walk_for a) a
+        → Settling k (asked_step k now c cs (tree_settles k.server.tree (server.held cs) a))
+    asked_so c cs a x waits here p (refused_late s r is why refuses leads procs) = subst (λ (z : Tree × Finished). Settling k (asked_step k now c cs z)) (sym is) (makes_else
+        (inl (ap (settled_ops k.ops (k.steps + 1) None) here ∙ pointed_none k.ops x.closing (k.steps + 1)))
+        (record { es = []; entries = refl; journal = refl; plain = λ i e at. nothing_there e at })
+        (tells_first k c cs (asked_step k now c cs (k.server.tree, said (name_answer r))) [] waits (inr (message.Answer c.xid (body.Nfs (name_answer r)), s, Contains-push [] (record { session = c.session; message = message.Answer c.xid (body.Nfs (name_answer r)) }), refuses))))
+    asked_so c cs a x waits here (place, op, known, there, unmade, word, file_is) (goes done r after is step gone names leads procs files none off root next) = subst (λ (z : Tree × Finished). Settling k (asked_step k now c cs z)) (sym is) (makes_else
+        (inr (record {
+          place = place;
+          op = op;
+          there = there;
+          unmade = unmade;
+          gets = ap gets_file word ∙ gets_asked a;
+          file_is = file_is;
+          new = file_of a;
+          after_is = ap (λ (o : Option ℕ). settled_ops k.ops (k.steps + 1) o (numbered k.sessions c.session)) (changed_is c.session done.first done.second gone.entry (file_of a) gone.is gone.kind_is gone.file_is)
+              ∙ ap (settled_ops k.ops (k.steps + 1) (Some (file_of a))) here
+              ∙ ap (λ (l : Option ℕ). pointed_at k.ops l (k.steps + 1) (Some (file_of a))) known
+              ∙ ap (pointed k.ops place (file_of a) (k.steps + 1)) there;
+        }))
+        (record {
+          es = entries_by c.session done.first done.second;
+          entries = ap (λ (m : ℕ). k.entries ++ replicate m (k.steps + 1)) (counted c.session done.first done.second);
+          journal = refl;
+          plain = no_commit c.session done.first done.second gone.entry gone.is gone.kind_is names;
+        })
+        (tells_first k c cs (asked_step k now c cs (after, record { answer = name_answer r; first = done.first; second = done.second })) (entries_by c.session done.first done.second) waits (inl (some_entered c.session done.first done.second gone.entry gone.is))))
+
+    by : (ws : List Change) → k.server.waiting ≡ ws → Settling k (settles k now)
+    by [] e = makes_else (inl (ap (λ (ws : List Change). (did ws).core.ops) e)) (record { es = []; entries = ap (λ (ws : List Change). (did ws).core.entries) e; journal = ap (λ (ws : List Change). (did ws).core.server.journal) e ∙ sym (append-nil k.server.journal); plain = λ i d at. nothing_there d at }) (λ c at. nothing_there c (ap (λ (l : List Change). slice_get l 0) (sym e) ∙ at))
+      where
+        did : List Change → CoreStep
+        did ws = let r = closing.settles k.server now ws in record (quiet (record k { steps = k.steps + 1; server = r.0; ops = Rattle.kept_promise.proofs.Common.settled_by k (changed_file (Rattle.trace_replay.specs.Core.entries_since k.server r.0)) r.1.told; entries = k.entries ++ replicate r.1.entries (k.steps + 1) })) { down = r.1.send }
+    by (c ∷ cs) e = first c.what refl
+      where
+        at_first : slice_get k.server.waiting 0 ≡ Some c
+        at_first = ap (λ (l : List Change). slice_get l 0) e
+
+        home : (x : Session) × (numbered k.sessions c.session ≡ Some x) × (x.hung ≡ false)
+        home = kept.home 0 c at_first
+
+        q : (q : Queue) × (numbered qs c.session ≡ Some q)
+        q = also_numbered k.sessions qs c.session home.0 kept.made.1 home.1
+
+        h : IsSession book k.seats k.server c.session home.0 q.0
+        h = kept.sessions c.session home.0 q.0 home.1 q.1
+
+        pending : WaitsFor book home.0.closing home.0.cut (job h.seat) c.xid c.file c.what
+        pending = let mine = own_there k.server.waiting 0 c at_first in h.pending mine.0 c mine.1
+
+        commit : (content : List ℕ) → c.what ≡ wanted.Content content → (o : Option File) → server.file_at k.server.tree c.file ≡ o → Settling k (settles k now)
+        commit content what (Some f) there = makes_commit c cs f e (what ∙ ap (λ (x : List ℕ). wanted.Content x) (sym (ap content_wanted what))) there
+        commit content what None none =
+            let is = unmade_settles k now c cs content e what (node_gone book k.server c.file kept.server (kept.server.targets 0 c at_first) none) in
+            subst (Settling k) (sym is) (makes_else (inl refl) (record { es = []; entries = sym (append-nil k.entries); journal = sym (append-nil k.server.journal); plain = λ i d at. nothing_there d at }) (tells_first k c cs (unmade_step k now c cs) [] e (inr (told_message (unmade_told c), status.Stale, Contains-push [] (record { session = c.session; message = told_message (unmade_told c) }), refl))))
+
+        first : (w : Wanted) → c.what ≡ w → Settling k (settles k now)
+        first (wanted.Content content) what = commit content what (server.file_at k.server.tree c.file) refl
+        first (wanted.Asked a) what =
+            let p : IsGoing book home.0.closing home.0.cut (job h.seat) c.xid a = subst (λ (w : Wanted). WaitsFor book home.0.closing home.0.cut (job h.seat) c.xid c.file w) what pending in
+            let wants = subst (IsWanted c.file) what (kept.server.wants 0 c at_first) in
+            subst (Settling k) (sym (asked_settles k now c cs a e what)) (asked_so c cs a home.0 e home.1
+            (p.place, p.op, p.known, ap (λ (l : List Op). slice_get l p.place) (sym kept.ops) ∙ p.there, p.unmade, p.word_is, p.file_is)
+            (settles_so k.server.tree (server.held cs) (walk_for a) a kept.server.bounded wants.2 (asks_itself a) wants.1 (λ n d. no_directory book k.server (file_of a) n kept.server (subst (λ (f : ℕ). WasThere book f) wants.0 (kept.server.targets 0 c at_first)) d)))

@@ -1,0 +1,256 @@
+-- A COMMITTMP whose file is gone once its change is the first that waits: nothing is made, and its session is told so.
+use Rattle.std.proofs.Common.{inl, inr, ◌≡◌, ℕ, suc, ◌+◌, List, [], ◌∷◌, ◌++◌, length, max, replicate, append-nil, Option, Some, None, IsSome, Bool, true, false, Ok, refl, sym, ap, ◌∙◌, subst, arith}
+use Rattle.xdr_codec.specs.declared.answer.Answer.TheVariants as answer
+use Rattle.xdr_codec.specs.declared.status.Status.TheVariants as status
+use Rattle.tree_nodes.specs.declared.node.Node.{Node}
+use Rattle.tree_nodes.specs.Nodes.{with_id}
+use Rattle.file_tree.specs.Chain.{◌>>=◌}
+use Rattle.file_tree.specs.Tree.{Tree, or_stale, file_or, contents_size}
+use Rattle.file_tree.specs.Step.{within_file, spared, spared_bytes, replace_if}
+use Rattle.file_tree.specs.declared.call.Held.{Held}
+use Rattle.tree_calls.specs.declared.asked.Committing.{Committing}
+use Rattle.tree_calls.specs.Waiting.{commits, with_committed}
+use Rattle.server_core.specs.State as server
+use Rattle.server_core.specs.Closing as closing
+use Rattle.server_core.specs.declared.change.Wanted.TheVariants as wanted
+use Rattle.server_core.specs.declared.event.ServerStep.{ServerStep}
+use Rattle.server_core.specs.declared.event.Told.TheVariants as announced
+use Rattle.client_state.specs.State as client
+use Rattle.client_state.specs.declared.task.Stage.TheVariants as stage
+use Rattle.trace_replay.specs.Core.{entries_since}
+use Rattle.trace_replay.specs.Ops.{changed_file}
+use Rattle.kept_promise.proofs.Common.{slice_get, at, Failed, MessageFits, Change, Wanted, Entry, Op, Core, Session, CoreStep, quiet, numbered, with_numbered, settles, settled_by, unless, hashed_of, Book, Reply.Changed, Told, Queue, told_message, value_at}
+use Rattle.kept_promise.proofs.Lists.{some_is, nothing_there}
+use Rattle.kept_promise.proofs.Keys.{own, change_key, told_key}
+use Rattle.kept_promise.proofs.Rights.{WasThere}
+use Rattle.kept_promise.proofs.Remains.{there_version}
+use Rattle.kept_promise.proofs.Growth.{value_later, there_later}
+use Rattle.kept_promise.proofs.History.{onward, grows_same, goes_same, still_same}
+use Rattle.kept_promise.proofs.Fits.{FitLaws}
+use Rattle.kept_promise.proofs.Messages.{Job, job, AnswerOf, IsAnswer, IsPending}
+use Rattle.kept_promise.proofs.Orderly.{Went, Wanted as IsWantedReply}
+use Rattle.kept_promise.proofs.Ordered.{orderly_later, orderly_told}
+use Rattle.kept_promise.proofs.Later.{all_tolds, answer_later, close_later, pieces_later, parts_later, has_fetch_later, seat_later, Spares}
+use Rattle.kept_promise.proofs.Taken.{tolds_append}
+use Rattle.kept_promise.proofs.Takes.{downs_of, file_still, fresh_still}
+use Rattle.kept_promise.proofs.Turns.{around_same, around_with, turned_core, kept_turn}
+use Rattle.kept_promise.proofs.Steps.{no_commits}
+use Rattle.kept_promise.proofs.Facts.{FileIs, IsServer, IsTalk, IsSession, IsKept, commits_in}
+use Rattle.kept_promise.proofs.Leading.{Leads, downs_put, downs_put_in}
+use Rattle.kept_promise.proofs.Hangs.{core_is}
+use Rattle.kept_promise.proofs.ServesFiles.{none_since, pointed_none}
+use Rattle.kept_promise.proofs.GoingSettles.{first_own, other_own, behind, way_settled}
+
+-- ---- what the tree makes of it
+
+-- what was a file and is none has no node
+pub node_gone : (book : Book) (s : server.State) (f : ℕ) → IsServer book s → WasThere book f → server.file_at s.tree f ≡ None → with_id s.tree.nodes f ≡ None
+node_gone book s f h there none = by (with_id s.tree.nodes f) refl
+  where
+    by : (o : Option Node) → with_id s.tree.nodes f ≡ o → o ≡ None
+    by None e = refl
+    by (Some n) e = absurd (there_version book f there (h.fresh f (inr (subst (λ (z : Option Node). IsSome z) (sym e) refl, none))))
+
+pub commit_gone : (t : Tree) (held : Held) (id : ℕ) (content : List ℕ) → with_id t.nodes id ≡ None → commits t held id content 0 ≡ (t, record { answer = answer.Failed status.Stale tt; entry = None })
+commit_gone t held id content none = ap (λ (o : Option Node). with_committed 0 (replace_if t id content ((or_stale o >>= file_or status.IsDir >>= λ n. within_file (length content) >>= λ _. spared t.changes held 1 >>= λ _. spared_bytes (contents_size t.nodes) held (length content) >>= λ _. Ok n) >>= λ n. Ok (n.version + 1)))) none
+
+-- ---- the step
+
+abbrev pub unmade_server : server.State → (now : ℕ) → List Change → server.State
+unmade_server s now cs = record s { moment = max s.moment now; waiting = cs }
+
+abbrev pub unmade_told : Change → Told
+unmade_told c = record { xid = c.xid; reply = Changed (Failed status.Stale tt) }
+
+abbrev pub unmade_step : Core → (now : ℕ) → Change → List Change → CoreStep
+unmade_step k now c cs = record (quiet (record k { steps = k.steps + 1; server = unmade_server k.server now cs })) { down = record { session = c.session; message = told_message (unmade_told c) } ∷ [] }
+
+pub unmade_settles : (k : Core) (now : ℕ) (c : Change) (cs : List Change) (content : List ℕ) → k.server.waiting ≡ c ∷ cs → c.what ≡ wanted.Content content → with_id k.server.tree.nodes c.file ≡ None → settles k now ≡ unmade_step k now c cs
+unmade_settles k now c cs content waits what none =
+    ap (λ (ws : List Change). did (closing.settles k.server now ws)) waits
+    ∙ ap (λ (w : Wanted). did (closing.makes_change before c w)) what
+    ∙ ap (λ (p : Tree × Committing). did (closing.committed_by before c content p)) (commit_gone k.server.tree (server.held cs) c.file content none)
+    ∙ ap (λ (o : Option ℕ). with_parts (k.server.journal ++ []) (settled_by k o (announced.Settled c.session c.xid)) (k.entries ++ [])) (none_since k.server (record before { journal = k.server.journal ++ [] }) (append-nil k.server.journal))
+    ∙ ap (λ (l : List Entry). with_parts l (settled_by k None (announced.Settled c.session c.xid)) (k.entries ++ [])) (append-nil k.server.journal)
+    ∙ ap (λ (l : List Op). with_parts k.server.journal l (k.entries ++ [])) (same (numbered k.sessions c.session))
+    ∙ ap (with_parts k.server.journal k.ops) (append-nil k.entries)
+  where
+    before : server.State
+    before = at (record k.server { waiting = cs }) now
+
+    did : server.State × ServerStep → CoreStep
+    did r = record (quiet (record k { steps = k.steps + 1; server = r.0; ops = settled_by k (changed_file (entries_since k.server r.0)) r.1.told; entries = k.entries ++ replicate r.1.entries (k.steps + 1) })) { down = r.1.send }
+
+    with_parts : List Entry → List Op → List ℕ → CoreStep
+    with_parts journal ops entries = record (quiet (record k { steps = k.steps + 1; server = record before { journal = journal }; ops = ops; entries = entries })) { down = record { session = c.session; message = told_message (unmade_told c) } ∷ [] }
+
+    same : (o : Option Session) → Rattle.trace_replay.specs.Core.settled_ops k.ops (k.steps + 1) None o ≡ k.ops
+    same None = refl
+    same (Some x) = pointed_none k.ops x.closing (k.steps + 1)
+
+-- ---- the frame
+
+module _ (laws : FitLaws) (book : Book) (k : Core) (qs : List Queue) (now : ℕ) (c : Change) (cs : List Change) (content : List ℕ) (kept : IsKept book k qs) (waits : k.server.waiting ≡ c ∷ cs) (what : c.what ≡ wanted.Content content) (none : server.file_at k.server.tree c.file ≡ None)
+    (x : Session) (q : Queue) (here : numbered k.sessions c.session ≡ Some x) (unhung : x.hung ≡ false) (is : numbered qs c.session ≡ Some q) (p : IsPending book x.closing x.cut (job (kept.sessions c.session x q here is).seat) c.xid c.file content) where
+  abbrev n : ℕ
+  n = c.session
+
+  abbrev h : IsSession book k.seats k.server n x q
+  h = kept.sessions n x q here is
+
+  abbrev t : Told
+  t = unmade_told c
+
+  abbrev s : server.State
+  s = unmade_server k.server now cs
+
+  abbrev more : Book
+  more = onward book 1 book.ops
+
+  abbrev after : Queue
+  after = record q { downs = unless x.cut q.downs (t ∷ []) }
+
+  spares : Spares x.closing None
+  spares = λ z u v. nothing_there z v
+
+  first : slice_get k.server.waiting 0 ≡ Some c
+  first = ap (λ (l : List Change). slice_get l 0) waits
+
+  gone : value_at book c.file (book.steps + 1) ≡ None
+  gone = subst (FileIs book c.file) none (kept.server.held c.file)
+
+  key_is : told_key t ≡ change_key c
+  key_is = sym (ap (λ (w : Wanted). change_key (record c { what = w })) what)
+
+  alone : (commits_in q.ups ≡ 0) × (length (own n cs) ≡ 0)
+  alone =
+      let single = h.single in
+      let one = ap (λ (l : List Change). length (own n l)) waits in
+      let mine = ap (λ (l : List Change). length l) (first_own c cs) in
+      (omega (arith, single, one, mine), omega (arith, single, one, mine))
+
+  none_own : (l : List Change) → length l ≡ 0 → (i : ℕ) (d : Change) → slice_get l i ≡ Some d → ⊥
+  none_own [] e i d f = nothing_there d f
+  none_own (z ∷ l) e i d f = absurd (omega (arith, e))
+
+  cut_downs : (b : Bool) → b ≡ true → q.downs ≡ [] → unless b q.downs (t ∷ []) ≡ []
+  cut_downs true u empty = empty
+  cut_downs false u empty = absurd cc
+
+  -- its client waits for it
+  job_is : x.cut ≡ false → (j : Job) → job h.seat ≡ Some j → j ≡ record { place = p.place; file = c.file; stage = stage.Committing c.xid }
+  job_is uncut j at = some_is j (record { place = p.place; file = c.file; stage = stage.Committing c.xid }) (sym at ∙ p.waited uncut)
+
+  told_now : x.cut ≡ false → AnswerOf more x.taken x.closing (job h.seat) c.xid (Changed (Failed status.Stale tt))
+  told_now uncut = λ j at stage_is. (p.op, ap (λ (z : Job). slice_get book.ops z.place) (job_is uncut j at) ∙ p.there, p.unmade, p.known ∙ ap (λ (z : Job). Some z.place) (sym (job_is uncut j at)))
+
+  went : Went more p.op
+  went =
+      let begun = (kept.sound.rights p.place p.op p.there).begun in
+      record {
+        step = book.steps + 1;
+        after = omega (arith, begun);
+        before = omega arith;
+        value_is = value_later book more None None p.op.file (book.steps + 1) (grows_same book 1) (omega arith) ∙ ap (λ (f : ℕ). value_at book f (book.steps + 1)) p.file_is ∙ gone;
+      }
+
+  wanted_now : x.cut ≡ false → IsWantedReply more (job h.seat) c.xid (Changed (Failed status.Stale tt))
+  wanted_now uncut = (record { place = p.place; file = c.file; stage = stage.Committing c.xid }, p.op, p.waited uncut, refl, p.there, p.word_is, inr (went, refl))
+
+  talks : x.cut ≡ false → IsTalk book n (c ∷ cs) x q h.seat → IsTalk more n cs x (record q { downs = q.downs ++ t ∷ [] }) h.seat
+  talks uncut talk = record {
+    floor = talk.floor;
+    under = talk.under;
+    rising = talk.rising;
+    asked = talk.asked;
+    answers = tolds_append (IsAnswer more x.taken x.closing (job h.seat)) q.downs (t ∷ []) (all_tolds (IsAnswer book x.taken x.closing (job h.seat)) (IsAnswer more x.taken x.closing (job h.seat)) (λ u f. answer_later book more None None x.taken x.closing (job h.seat) u (grows_same book 1) spares f) q.downs talk.answers) (told_now uncut, tt);
+    fetch = has_fetch_later book more None None x.taken (job h.seat) (grows_same book 1) talk.fetch;
+    balanced = record {
+      most = λ y. let b = talk.balanced.most y in let w = way_settled n y c cs q t (first_own c cs) key_is in omega (arith, b, w);
+      least = λ hung y. let b = talk.balanced.least hung y in let w = way_settled n y c cs q t (first_own c cs) key_is in omega (arith, b, w);
+      once = talk.balanced.once;
+      below = talk.balanced.below;
+      ours = talk.balanced.ours;
+    };
+    busy = talk.busy;
+  }
+
+  server_unmade : IsServer more s
+  server_unmade =
+      let grows = grows_same book 1 in
+      let still = still_same book 1 kept.sound in
+      let z = kept.server.changes in
+      let e = ap server.entries_held waits in
+      let b = kept.server.bytes in
+      let u = ap server.waiting_size waits in
+      record {
+        held = λ f. file_still book more None None f (server.file_at k.server.tree f) grows still (kept.server.held f);
+        fresh = fresh_still book more None None k.server.tree grows still kept.server.fresh;
+        bounded = kept.server.bounded;
+        zero = kept.server.zero;
+        rooted = kept.server.rooted;
+        wants = λ i d w. kept.server.wants (suc i) d (behind k.server c cs waits i d w);
+        changes = omega (arith, z, e);
+        bytes = omega (arith, b, u);
+        lengths = λ i d w. kept.server.lengths (suc i) d (behind k.server c cs waits i d w);
+        targets = λ i d w. there_later book more None None d.file grows (kept.server.targets (suc i) d (behind k.server c cs waits i d w));
+        xids = λ i d w. kept.server.xids (suc i) d (behind k.server c cs waits i d w);
+      }
+
+  kept_unmade : IsKept more (turned_core more s k.seats k.sessions) (with_numbered qs n after)
+  kept_unmade =
+      let g = grows_same book 1 in
+      kept_turn book more k qs s k.seats k.sessions (with_numbered qs n after) n x x after h.seat h.seat None None (record {
+        at = here;
+        was = h.owner;
+        session_around = around_same k.sessions n x here;
+        queue_around = around_with qs n q after is;
+        seat_around = around_same k.seats x.owner h.seat h.owner;
+        owner = refl;
+        goes = goes_same book 1 kept.sound;
+        server = server_unmade;
+        sessions_made = refl;
+        view = λ m apart. record { stands_is = refl; waiting = sym (ap (own m) waits ∙ other_own m c cs apart); temps = λ i m2 u lt z w. (i, z); found = λ m2 lt. refl };
+        elsewhere = inl refl;
+        closing = λ z w. inl w;
+        made_here = λ z w. nothing_there z w;
+        ended_here = λ z u w. nothing_there z w;
+        session = record {
+          seat = h.seat;
+          owner = h.owner;
+          here = h.here;
+          shut = λ cut. cut_downs x.cut cut (h.shut cut);
+          lost = h.lost;
+          stands_is = h.stands_is;
+          ups_fit = h.ups_fit;
+          downs_fit = downs_of (λ u. MessageFits (told_message u)) x.cut q.downs t h.downs_fit (laws.plain c.xid (Changed (Failed status.Stale tt)) (kept.server.xids 0 c first) tt);
+          talk = λ uncut. subst (λ (b : Bool). IsTalk more n cs x (record q { downs = unless b q.downs (t ∷ []) }) h.seat) (sym uncut) (talks uncut (subst (λ (l : List Change). IsTalk book n l x q h.seat) waits (h.talk uncut)));
+          contents = h.contents;
+          lengths = h.lengths;
+          commits = no_commits more x.closing x.cut (job h.seat) h.contents q.ups alone.0;
+          pieces = pieces_later (hashed_of book.moments) (hashed_of more.moments) h.contents q.ups g.hashed h.pieces;
+          temps = λ i m u lt w key. let o = h.temps i m u lt w key in (parts_later (hashed_of book.moments) (hashed_of more.moments) (h.contents m) u.1.pieces g.hashed o.0, o.1);
+          temps_below = h.temps_below;
+          closes = λ uncut j f. close_later book more None None x.closing h.contents h.seat.client.next_temp j (client.local_bytes h.seat.client.opened j.file) j.stage g spares (h.closes uncut j f);
+          pending = λ i d f. absurd (none_own (own n cs) alone.1 i d f);
+          single = let z = alone.0 in let y = alone.1 in omega (arith, z, y);
+          old = λ z w. let u = h.old z w in let v = g.each z u.0 u.1 in (v.0, v.1, v.2.client ∙ u.2);
+          orderly = λ uncut. orderly_told more n k.server.temps x.hung x.cut q t h.seat tt (wanted_now uncut) (orderly_later book more None None n k.server.temps k.server.temps x.hung q h.seat g (λ m lt. refl) (h.orderly uncut));
+        };
+        seat = seat_later book more None None k.sessions k.sessions x.owner h.seat g (λ m z w. (z, w, refl, λ u. refl)) (λ z u w. nothing_there z w) (kept.seats x.owner h.seat h.owner);
+        running = kept.running;
+        shelf = kept.shelf;
+        home = λ i d w. kept.home (suc i) d (behind k.server c cs waits i d w);
+      }) kept.journal kept
+
+  told_queue : downs_put k.sessions qs ((n, t) ∷ []) ≡ with_numbered qs n after
+  told_queue = ap (λ (o : Option Session). downs_put_in qs (n, t) o (numbered qs n)) here ∙ ap (λ (o : Option Queue). downs_put_in qs (n, t) (Some x) o) is
+
+  pub leads_unmade : Leads book qs (unmade_step k now c cs)
+  leads_unmade = record {
+    sends = record { asks = []; up_is = refl; tolds = (n, t) ∷ []; down_is = refl };
+    more = more;
+    moments = refl;
+    opening = refl;
+    kept = subst (λ (z : List Queue). IsKept more (unmade_step k now c cs).core z) (sym told_queue) (subst (λ (z : Core). IsKept more z (with_numbered qs n after)) (core_is book k qs s k.seats k.sessions kept) kept_unmade);
+  }

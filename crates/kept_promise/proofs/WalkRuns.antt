@@ -1,0 +1,689 @@
+-- How far each command on names under way has come, by what its names led to; and what each that ended was told.
+use Rattle.std.proofs.Common.{◌⊎◌, inl, inr, ◌≡◌, ℕ, ◌<◌, ◌≤◌, List, [], ◌∷◌, length, Option, Some, None, Result, Bool, true, false, refl, sym, ap, ◌∙◌, subst, arith}
+use Rattle.std.specs.Option.{option_map}
+use Rattle.xdr_codec.specs.Status.{status_number}
+use Rattle.xdr_codec.specs.declared.status.Status.{Status}
+use Rattle.command_text.specs.declared.command.Command.TheVariants as command
+use Rattle.command_text.specs.declared.path.PathCommand.{PathCommand}
+use Rattle.command_text.specs.declared.path.PathCommand.TheVariants as path
+use Rattle.command_text.specs.declared.path.Spot.{Spot}
+use Rattle.nfs3_calls.specs.declared.message.Nfs.{Nfs}
+use Rattle.wire.specs.declared.message.Body.TheVariants as body
+use Rattle.wire.specs.declared.message.Message.TheVariants as message
+use Rattle.path_calls.specs.Told.{walk_told}
+use Rattle.path_calls.specs.declared.answers.Ended.TheVariants as walk_end
+use Rattle.path_calls.specs.declared.answers.Told.{Told as Leading}
+use Rattle.path_calls.specs.declared.answers.Told.TheVariants as leading
+use Rattle.path_calls.specs.declared.walk.Goal.{Goal}
+use Rattle.path_calls.specs.declared.walk.Walk.{Walk}
+use Rattle.client_state.specs.declared.task.Stage.TheVariants as stage
+use Rattle.client_state.specs.declared.step.Outcome.TheVariants as outcome
+use Rattle.client_state.specs.State as client
+use Rattle.client_cache.specs.Cache.{content_of, reserved}
+use Rattle.client_cache.specs.declared.kept.Content.{Content}
+use Rattle.client_state.specs.Ending.{is_open}
+use Rattle.file_open.specs.Fetching.{asks_kept}
+use Rattle.open_close.specs.Walking.{finding, finds_if, is_look, walked}
+use Rattle.register_model.specs.declared.op.Outcome.{Outcome as History}
+use Rattle.register_model.specs.declared.op.Outcome.TheVariants as told
+use Rattle.register_model.specs.declared.op.Word.TheVariants as words
+use Rattle.trace_replay.specs.Commands.{path_word, word_of}
+use Rattle.trace_replay.specs.declared.opening.TheConstants.{ROOT}
+use Rattle.xdr_codec.specs.declared.answer.Answer.TheVariants.{Done, Failed}
+use Rattle.nfs3_calls.specs.declared.message.Nfs.TheVariants as nfs
+use Rattle.file_tree.specs.Tree.{Tree}
+use Rattle.file_tree.specs.Step.{create, mkdir, remove, rmdir, rename}
+use Rattle.file_tree.specs.declared.call.Changed.{Changed}
+use Rattle.file_tree.specs.declared.call.CreateMode.TheVariants as mode
+use Rattle.file_tree.specs.declared.call.Held.{Held}
+use Rattle.tree_calls.specs.Telling.{told as told_by}
+use Rattle.path_calls.specs.Walk.{next_call}
+use Rattle.path_calls.specs.declared.walk.Goal.TheVariants as goal
+use Rattle.trace_replay.specs.Complete.{EndsNamed}
+use Rattle.trace_replay.specs.Naming.{tree_at, Leads, IsInside, all_names, FindsFile, IsSeen, IsRootSeen, IsListed, IsRefused, refusal_of, entry_file, IsPointed, Makes, MakesIn, NameDone}
+use Rattle.kept_promise.proofs.Rights.{IsUnmade}
+use Rattle.kept_promise.proofs.Makings.{step_by}
+use Rattle.kept_promise.proofs.MakingTrees.{IsNameGoal, names_file}
+use Rattle.kept_promise.proofs.MakingGoals.{making_left, MakesGoal, making_goal, creates_makes, changes_owed}
+use Rattle.kept_promise.proofs.WalkReplies.{making_untold}
+use Rattle.kept_promise.proofs.Common.{slice_get, Contains, Command, ClientStep, Ended, Pending, Stage, Task, Op, TakenCall, op_after, Core, Seat, numbered, Moment, step_of, Deed, deeds_of, Book, taken_by, Body, took, Word, point_if, has_point, is_untold, changes}
+use Rattle.kept_promise.proofs.Lists.{some_is, nothing_there}
+use Rattle.kept_promise.proofs.Messages.{Job, job, goal_word, UnmadeBy, PointedBy, RefusesWalk, MakesWalk, WalkCame, WalkTold}
+use Rattle.kept_promise.proofs.PathNames.{IsWalkSmall, is_creating, creates_at, makes_at, builds_at, makes_later}
+use Rattle.kept_promise.proofs.StepCases.{IsOfFile, Cases, took_cases}
+use Rattle.file_tree.specs.Reading.{attr_of}
+use Rattle.kept_promise.proofs.TreeDirs.{names_in}
+use Rattle.kept_promise.proofs.Walked.{HasWalk, reached_all}
+use Rattle.kept_promise.proofs.WalkComes.{WalkEnds, WalkComes, walk_comes}
+use Rattle.kept_promise.proofs.Goings.{RefusedAs}
+use Rattle.kept_promise.proofs.WalkStatuses.{walk_refused, making_refused}
+use Rattle.kept_promise.proofs.Alike.{AreInOrder}
+use Rattle.kept_promise.proofs.Fetched.{IsFetched}
+
+-- ---- what is said
+
+-- a book that says of the past what its moments are
+abbrev pub bare : List Moment → Book
+bare all = record { opening = []; ops = []; steps = 0; journal = []; entries = []; moments = all }
+
+-- one that changes no file has none yet, and no point
+abbrev pub IsBare : PathCommand → Op → Type 0
+IsBare (path.Make s) o = Unit {0}
+IsBare (path.Remove s) o = Unit {0}
+IsBare (path.Rename s t) o = Unit {0}
+IsBare k o = (o.file ≡ 0) × (o.point ≡ None)
+
+-- an operation under way still walks; or its path led to its file, which it opens
+abbrev pub OnWay : List Moment → PathCommand → Op → Stage → (now : ℕ) → Type 0
+OnWay all c o (stage.Walking x w) now = (step : ℕ) × HasWalk (bare all) o.begin c w step × (step ≤ now) × IsBare c o × (o.word ≡ path_word c)
+OnWay all c o st now = ((s : Spot) × (c ≡ path.Find s) × ((step : ℕ) × Leads (bare all) o.begin ROOT (all_names s) o.file step × (step ≤ now))) × (o.point ≡ None) × (o.word ≡ path_word c)
+
+abbrev pub IsOn : List Moment → Command → Op → Stage → (now : ℕ) → Type 0
+IsOn all (command.Named c) o st now = OnWay all c o st now
+IsOn all d o st now = IsOfFile st
+
+-- what is refused of a look or a list has no point
+abbrev pub IsPointless : PathCommand → Op → Type 0
+IsPointless (path.Find s) o = Unit {0}
+IsPointless k o = o.point ≡ None
+
+-- how one ended whose path led to no file: where it was refused, by a status that its command may have
+abbrev pub EndsUnfound : List Moment → PathCommand → Op → History → Type 0
+EndsUnfound all k o (told.Refused status) = IsRefused (bare all) o status × IsPointless k o × EndsNamed k (told.Refused status)
+EndsUnfound all k o told.Lost = Unit {0}
+EndsUnfound all k o told.Running = Unit {0}
+EndsUnfound all k o u = ⊥
+
+-- how one ended that asked the server: an open's path led to its file, or it has none
+abbrev pub EndsAs : List Moment → PathCommand → Op → History → Type 0
+EndsAs all (path.Find s) o u = (FindsFile (bare all) o s × (u ≡ told.AlreadyOpen → o.point ≡ None) × IsFetched u) ⊎ ((o.file ≡ 0) × EndsUnfound all (path.Find s) o u)
+EndsAs all (path.Look s) o (told.Seen id kind version len) = IsSeen (bare all) o s id kind version len × (o.file ≡ id)
+EndsAs all path.LookRoot o (told.Seen id kind version len) = IsRootSeen (bare all) o id kind version len × (o.file ≡ 0)
+EndsAs all (path.List p) o (told.Names list) = IsListed (bare all) o p list
+EndsAs all (path.List p) o told.NoLink = Unit {0}
+-- the tree's own step was made
+EndsAs all k o told.Done = NameDone (bare all) o k
+EndsAs all k o u = EndsUnfound all k o u
+
+-- ---- an answer comes to a walk
+
+-- a command that opens a file
+abbrev is_find : PathCommand → Bool
+is_find (path.Find s) = true
+is_find k = false
+
+-- what becomes of its operation
+pub record Onward (all : List Moment) (c : PathCommand) (r : client.State × ClientStep) (new : Op) (now : ℕ) : Type 0 where
+  pub way : r.1.ended ≡ None → (u : Task) → r.0.task ≡ Some u → OnWay all c new u.stage now
+  pub ends : (e : Ended) → r.1.ended ≡ Some e → EndsAs all c new new.outcome
+
+none_some : {A : Type 0} (x : A) → {B : Type 0} → ◌≡◌ {A = Option A} None (Some x) → B
+none_some x e = absurd cc
+
+some_none : {A : Type 0} (x : A) → {B : Type 0} → ◌≡◌ {A = Option A} (Some x) None → B
+some_none x e = absurd cc
+
+bare_same : (k : PathCommand) (o r : Op) → r.file ≡ o.file → r.point ≡ o.point → IsBare k o → IsBare k r
+bare_same (path.Make s) o r file point h = tt
+bare_same (path.Find s) o r file point h = (file ∙ h.0, point ∙ h.1)
+bare_same (path.Look s) o r file point h = (file ∙ h.0, point ∙ h.1)
+bare_same path.LookRoot o r file point h = (file ∙ h.0, point ∙ h.1)
+bare_same (path.List p) o r file point h = (file ∙ h.0, point ∙ h.1)
+bare_same (path.MakeDir s) o r file point h = (file ∙ h.0, point ∙ h.1)
+bare_same (path.Remove s) o r file point h = tt
+bare_same (path.RemoveDir s) o r file point h = (file ∙ h.0, point ∙ h.1)
+bare_same (path.Rename s t) o r file point h = tt
+
+-- an answer that refuses leads to that
+refused_leads : (w : Walk) (a : Nfs) (s : Status) → refusal_of a ≡ Some s → walk_told w a ≡ leading.Ends (walk_end.Refused s)
+refused_leads w (nfs.LookupAnswer (Done f)) s e = nothing_there s e
+refused_leads w (nfs.LookupAnswer (Failed r f)) s e = ap (λ (z : Status). leading.Ends (walk_end.Refused z)) (some_is r s e)
+refused_leads w (nfs.GetAttrAnswer (Done f)) s e = nothing_there s e
+refused_leads w (nfs.GetAttrAnswer (Failed r f)) s e = ap (λ (z : Status). leading.Ends (walk_end.Refused z)) (some_is r s e)
+refused_leads w (nfs.ReadDirAnswer (Done f)) s e = nothing_there s e
+refused_leads w (nfs.ReadDirAnswer (Failed r f)) s e = ap (λ (z : Status). leading.Ends (walk_end.Refused z)) (some_is r s e)
+refused_leads w (nfs.CreateAnswer (Done f)) s e = nothing_there s e
+refused_leads w (nfs.CreateAnswer (Failed r f)) s e = ap (λ (z : Status). leading.Ends (walk_end.Refused z)) (some_is r s e)
+refused_leads w (nfs.MkDirAnswer (Done f)) s e = nothing_there s e
+refused_leads w (nfs.MkDirAnswer (Failed r f)) s e = ap (λ (z : Status). leading.Ends (walk_end.Refused z)) (some_is r s e)
+refused_leads w (nfs.RemoveAnswer (Done f)) s e = nothing_there s e
+refused_leads w (nfs.RemoveAnswer (Failed r f)) s e = ap (λ (z : Status). leading.Ends (walk_end.Refused z)) (some_is r s e)
+refused_leads w (nfs.RmDirAnswer (Done f)) s e = nothing_there s e
+refused_leads w (nfs.RmDirAnswer (Failed r f)) s e = ap (λ (z : Status). leading.Ends (walk_end.Refused z)) (some_is r s e)
+refused_leads w (nfs.RenameAnswer (Done f)) s e = nothing_there s e
+refused_leads w (nfs.RenameAnswer (Failed r f)) s e = ap (λ (z : Status). leading.Ends (walk_end.Refused z)) (some_is r s e)
+refused_leads w m s e = nothing_there s e
+
+-- what changes names alone is no remove, and no rename
+name_builds : (left : List (List ℕ)) (g : Goal) → makes_at left g ≡ true → IsNameGoal g → builds_at left g ≡ true
+name_builds [] (goal.MakeDir n) e names = refl
+name_builds [] (goal.RemoveDir n) e names = refl
+name_builds [] g e names = absurd names
+name_builds (m ∷ ms) g e names = absurd cc
+
+module _ (all : List Moment) (book : Book) (are : book.moments ≡ all) (order : AreInOrder all) (taken : List TakenCall) (closing : Option ℕ) (j : Job) (x : ℕ) (w : Walk) (a : Nfs) (h : WalkTold book taken closing j x w a) (small : IsWalkSmall w) (c : PathCommand) (o : Op) (mine : h.op ≡ o) (idle : IsBare c o) (owed : makes_later w.left w.goal ≡ true → o.point ≡ None) (word : o.word ≡ path_word c)
+    (step : ℕ) (old : HasWalk (bare all) o.begin c w step) (le : step ≤ step_of h.at) (now : ℕ) (late : h.moment < now)
+    (heard : Moment) (noted : Contains all heard) (heard_is : step_of heard ≡ now) (takes : Contains (taken_by heard.before o.client heard.event) (message.Answer x (body.Nfs a))) where
+  there : Contains all h.at
+  there = subst (λ (l : List Moment). Contains l h.at) are h.noted
+
+  comes : told_by (tree_at h.at).nodes (next_call w) ≡ Some a → WalkComes (bare all) o.begin step h.at c w a (walk_told w a)
+  comes told_is = walk_comes (bare all) o.begin step h.at w a h.bounded small.dir small.named (λ e e_there before. order h.at e there e_there before) there le told_is c old
+
+  at_le : step_of h.at ≤ now
+  at_le = let is = h.step_is in omega (arith, is, late)
+
+  begun : o.begin ≤ step_of h.at
+  begun = let is = h.step_is in let after = subst (λ (z : Op). z.begin ≤ h.moment) mine h.after in omega (arith, is, after)
+
+  -- within an operation that ends now
+  inside : (new : Op) → new.end ≡ Some now → (from : ℕ) → from ≤ step_of h.at → IsInside new from (step_of h.at)
+  inside new end from before = (before, λ e is. let same : now ≡ e = some_of (sym end ∙ is) in omega (arith, at_le, same))
+    where
+      some_of : {n m : ℕ} → ◌≡◌ {A = Option ℕ} (Some n) (Some m) → n ≡ m
+      some_of {n} {m} e = ap (λ (z : Option ℕ). or_else z) e
+        where
+          or_else : Option ℕ → ℕ
+          or_else None = 0
+          or_else (Some n) = n
+
+  refused_is : (new : Op) (s : Status) → new.end ≡ Some now → new.begin ≡ o.begin → new.client ≡ o.client → refusal_of a ≡ Some s → IsRefused (bare all) new (status_number s)
+  refused_is new s end begin client_is is = record {
+    moment = h.at;
+    there = there;
+    inside = inside new end new.begin (subst (λ (b : ℕ). b ≤ step_of h.at) (sym begin) begun);
+    session = h.session;
+    xid = x;
+    answer = a;
+    sent = h.sent;
+    refuses = ap (option_map status_number) is;
+    taken = heard;
+    taken_there = noted;
+    ends = end ∙ ap (λ (n : ℕ). Some n) (sym heard_is);
+    takes = subst (λ (i : ℕ). Contains (taken_by heard.before i heard.event) (message.Answer x (body.Nfs a))) (sym client_is) takes;
+  }
+
+  -- what becomes of the operation by what the answer leads to
+  abbrev become : client.State × ClientStep → Op
+  become r = op_after o r.0 taken now r.1
+
+  abbrev Comes : client.State → List Pending → (is_look : Bool) → PathCommand → Leading → Type 0
+  Comes s calls l k t = (let r = walked s calls x l t in Onward all k r (op_after o r.0 taken now r.1) now)
+
+  -- an open of a path has no file yet
+  bare_file : (k : PathCommand) → c ≡ k → is_find k ≡ true → o.file ≡ 0
+  bare_file (path.Find s) is e = (subst (λ (k : PathCommand). IsBare k o) is idle).0
+  bare_file _ is e = absurd cc
+
+  refused_as : (k : PathCommand) (new : Op) (status : ℕ) → (is_find k ≡ true → new.file ≡ 0) → IsPointless k new → EndsNamed k (told.Refused status) → IsRefused (bare all) new status → EndsAs all k new (told.Refused status)
+  refused_as (path.Find s) new status none point named is = inr (none refl, (is, point, named))
+  refused_as _ new status none point named is = (is, point, named)
+
+  -- what is refused, or is open already, gets no point by that
+  same_point : (k : PathCommand) → o.word ≡ path_word k → (is_find k ≡ false) → (e : Ended) → (r : client.State × ClientStep) → r.1.ended ≡ Some e → (become r).point ≡ o.point
+  same_point k w other e r is = ap (λ (l : Option Ended). (op_after o r.0 taken now (record r.1 { ended = l })).point) is ∙ by k w other
+    where
+      by : (k : PathCommand) → o.word ≡ path_word k → (is_find k ≡ false) → point_if (has_point o.word e.outcome) taken e.rests_on o.point ≡ o.point
+      by (path.Find s) w other = absurd cc
+      by (path.Look s) w other = ap (λ (z : Word). point_if (has_point z e.outcome) taken e.rests_on o.point) w
+      by path.LookRoot w other = ap (λ (z : Word). point_if (has_point z e.outcome) taken e.rests_on o.point) w
+      by (path.List p) w other = ap (λ (z : Word). point_if (has_point z e.outcome) taken e.rests_on o.point) w
+      by (path.Make p) w other = ap (λ (z : Word). point_if (has_point z e.outcome) taken e.rests_on o.point) w
+      by (path.MakeDir p) w other = ap (λ (z : Word). point_if (has_point z e.outcome) taken e.rests_on o.point) w
+      by (path.Remove p) w other = ap (λ (z : Word). point_if (has_point z e.outcome) taken e.rests_on o.point) w
+      by (path.RemoveDir p) w other = ap (λ (z : Word). point_if (has_point z e.outcome) taken e.rests_on o.point) w
+      by (path.Rename p q) w other = ap (λ (z : Word). point_if (has_point z e.outcome) taken e.rests_on o.point) w
+
+  -- one that may change a file has none while its call is still to come, and none if that was refused
+  at_last : changes (goal_word w.goal) ≡ true → is_creating w ≡ false → o.point ≡ None
+  at_last alters none = owed (changes_owed w.left w.goal alters none)
+
+  unmade_before : (s : Status) → refusal_of a ≡ Some s → changes (goal_word w.goal) ≡ true → o.point ≡ None
+  unmade_before s refused alters = by h.came
+    where
+      not_done : (t : Leading) → t ≡ leading.Ends (walk_end.Refused s) → t ≡ leading.Ends walk_end.Done → ⊥
+      not_done t e f = (let z : leading.Ends (walk_end.Refused s) ≡ leading.Ends walk_end.Done = sym e ∙ f in absurd cc)
+
+      refused_by : (f : RefusesWalk h.at closing j h.op w a) → (b : Bool) → is_creating w ≡ b → o.point ≡ None
+      refused_by f false none = at_last alters none
+      refused_by f true some = ap (λ (z : Op). z.point) (sym mine) ∙ (subst (λ (b : Bool). UnmadeBy b closing j h.op) some f.unmade).0.1
+
+      by : WalkCame book h.at h.moment closing j h.op w a → o.point ≡ None
+      by (inl t) = at_last alters (creates_makes w.left w.goal (making_untold (tree_at h.at) w a t.0))
+      by (inr (inl f)) = refused_by f (is_creating w) refl
+      by (inr (inr m)) = absurd (not_done (walk_told w a) (refused_leads w a s refused) m.leads)
+
+  -- it has none before, if what it waited for was refused
+  none_before : (s : Status) → refusal_of a ≡ Some s → (k : PathCommand) → c ≡ k → is_find k ≡ false → o.point ≡ None
+  none_before s refused (path.Find p) is other = absurd cc
+  none_before s refused (path.Look p) is other = (subst (λ (k : PathCommand). IsBare k o) is idle).1
+  none_before s refused path.LookRoot is other = (subst (λ (k : PathCommand). IsBare k o) is idle).1
+  none_before s refused (path.List p) is other = (subst (λ (k : PathCommand). IsBare k o) is idle).1
+  none_before s refused (path.MakeDir p) is other = (subst (λ (k : PathCommand). IsBare k o) is idle).1
+  none_before s refused (path.RemoveDir p) is other = (subst (λ (k : PathCommand). IsBare k o) is idle).1
+  none_before s refused (path.Make p) is other = unmade_before s refused (ap (λ (g : Goal). changes (goal_word g)) (subst (λ (k : PathCommand). HasWalk (bare all) o.begin k w step) is old).1)
+  none_before s refused (path.Remove p) is other = unmade_before s refused (ap (λ (g : Goal). changes (goal_word g)) (subst (λ (k : PathCommand). HasWalk (bare all) o.begin k w step) is old).1)
+  none_before s refused (path.Rename p q) is other = unmade_before s refused (by (subst (λ (k : PathCommand). HasWalk (bare all) o.begin k w step) is old))
+    where
+      by : HasWalk (bare all) o.begin (path.Rename p q) w step → changes (goal_word w.goal) ≡ true
+      by (inl has) = ap (λ (g : Goal). changes (goal_word g)) has.has.1
+      by (inr has) = ap (λ (g : Goal). changes (goal_word g)) has.has.1
+
+  refused_pointless : (k : PathCommand) → c ≡ k → o.word ≡ path_word k → (e : Status) → refusal_of a ≡ Some e → (r : client.State × ClientStep) → r.1.ended ≡ Some (record { outcome = outcome.Refused e; rests_on = x }) → IsPointless k (become r)
+  refused_pointless k same w e refused r is = by k same w (is_find k) refl
+    where
+      pointless_as : (k : PathCommand) → is_find k ≡ false → (become r).point ≡ None → IsPointless k (become r)
+      pointless_as (path.Find s) other none = tt
+      pointless_as _ other none = none
+
+      pointless_find : (k : PathCommand) → is_find k ≡ true → IsPointless k (become r)
+      pointless_find (path.Find s) e = tt
+      pointless_find _ e = absurd cc
+
+      by : (k : PathCommand) → c ≡ k → o.word ≡ path_word k → (b : Bool) → is_find k ≡ b → IsPointless k (become r)
+      by k same w true found = pointless_find k found
+      by k same w false other = pointless_as k other (same_point k w other (record { outcome = outcome.Refused e; rests_on = x }) r is ∙ none_before e refused k same other)
+
+  -- by a status that its command may have
+  named : (e : Status) → refusal_of a ≡ Some e → EndsNamed c (told.Refused (status_number e))
+  named e is = by h.came
+    where
+      by : WalkCame book h.at h.moment closing j h.op w a → EndsNamed c (told.Refused (status_number e))
+      by (inl t) = walk_refused (tree_at h.at).nodes w a e h.rooted small t.0 is (bare all) o.begin step c old
+      by (inr (inl f)) =
+          let why : f.why ≡ e = some_is f.why e (sym f.refuses ∙ is) in
+          making_refused (tree_at h.at) (bare all) o.begin step c w e small old (subst (RefusedAs (tree_at h.at) w) why f.why_is)
+      by (inr (inr m)) = absurd (done_not (walk_told w a) (refused_leads w a e is) m.leads)
+        where
+          done_not : (t : Leading) → t ≡ leading.Ends (walk_end.Refused e) → t ≡ leading.Ends walk_end.Done → ⊥
+          done_not t x y = (let z : leading.Ends (walk_end.Refused e) ≡ leading.Ends walk_end.Done = sym x ∙ y in absurd cc)
+
+  refusal : (s : client.State) (calls : List Pending) (l : Bool) (e : Status) → refusal_of a ≡ Some e → Comes s calls l c (leading.Ends (walk_end.Refused e))
+  refusal s calls true e is = record { way = λ none u at. some_none _ none; ends = λ z at. refused_as c (become (walked s calls x true (leading.Ends (walk_end.Refused e)))) (status_number e) (bare_file c refl) (refused_pointless c refl word e is (walked s calls x true (leading.Ends (walk_end.Refused e))) refl) (named e is) (refused_is (become (walked s calls x true (leading.Ends (walk_end.Refused e)))) e refl refl refl is) }
+  refusal s calls false e is = record { way = λ none u at. some_none _ none; ends = λ z at. refused_as c (become (walked s calls x false (leading.Ends (walk_end.Refused e)))) (status_number e) (bare_file c refl) (refused_pointless c refl word e is (walked s calls x false (leading.Ends (walk_end.Refused e))) refl) (named e is) (refused_is (become (walked s calls x false (leading.Ends (walk_end.Refused e)))) e refl refl refl is) }
+
+  asks_on : (s : client.State) (calls : List Pending) (l : Bool) (k : PathCommand) (v : Walk) → o.word ≡ path_word k → IsBare k o → HasWalk (bare all) o.begin k v (step_of h.at) → Comes s calls l k (leading.Asks v)
+  asks_on s calls l k v w plain has = record { way = λ none u at. subst (λ (t : Task). OnWay all k (become (walked s calls x l (leading.Asks v))) t.stage now) (some_is (record { file = 0; stage = stage.Walking s.next v }) u at) (step_of h.at, has, at_le, bare_same k o (become (walked s calls x l (leading.Asks v))) refl refl plain, w); ends = λ e at. none_some e at }
+
+  finds_of : (s : client.State) (calls : List Pending) (spot : Spot) (id : ℕ) → o.word ≡ words.Open → o.point ≡ None → Leads (bare all) o.begin ROOT (all_names spot) id (step_of h.at) → (is_open : Bool) → (let r = finds_if s calls x id is_open in Onward all (path.Find spot) r (op_after o r.0 taken now r.1) now)
+  finds_of s calls spot id w pointless leads true = record { way = λ none u at. some_none _ none; ends = λ e at. inl (record { step = step_of h.at; found = leads; inside = inside (become (finds_if s calls x id true)) refl o.begin begun }, λ is. ap (λ (z : Word). point_if (has_point z outcome.AlreadyOpen) taken 0 o.point) w ∙ pointless, tt) }
+  finds_of s calls spot id w pointless leads false = by (content_of s.cache id)
+    where
+      by : (kept : Option Content) → (let r = finding id (asks_kept (record s { cache = reserved s.cache id }) id kept) in Onward all (path.Find spot) r (op_after o r.0 taken now r.1) now)
+      by None = record { way = λ none u at. subst (λ (t : Task). OnWay all (path.Find spot) (become (finding id (asks_kept (record s { cache = reserved s.cache id }) id None))) t.stage now) (some_is (record { file = id; stage = stage.Hashing 1 s.next }) u at) ((spot, refl, (step_of h.at, leads, at_le)), pointless, w); ends = λ e at. none_some e at }
+      by (Some kept) = record { way = λ none u at. subst (λ (t : Task). OnWay all (path.Find spot) (become (finding id (asks_kept (record s { cache = reserved s.cache id }) id (Some kept)))) t.stage now) (some_is (record { file = id; stage = stage.Asking s.next }) u at) ((spot, refl, (step_of h.at, leads, at_le)), pointless, w); ends = λ e at. none_some e at }
+
+  ends_by : (s : client.State) (calls : List Pending) (k : PathCommand) → o.word ≡ path_word k → IsBare k o → HasWalk (bare all) o.begin k w step → (t : Leading) → WalkEnds (bare all) o.begin step h.at k w t → Comes s calls (is_look w.goal) k t
+  ends_by s calls (path.Find spot) wd plain has t (found, is, leads) = subst (Comes s calls (is_look w.goal) (path.Find spot)) (sym is) (finds_of s calls spot found.id wd plain.1 leads (is_open s.opened found.id))
+  ends_by s calls (path.Look spot) wd plain has t (n, leads, named_is, is) = subst (λ (g : Goal). Comes s calls (is_look g) (path.Look spot) t) (sym has.1) (subst (Comes s calls true (path.Look spot)) (sym is) (record {
+    way = λ none u at. some_none _ none;
+    ends = λ e at. (record { dir = w.dir; found_at = step; found = leads; moment = h.at; there = there; inside = inside (become (walked s calls x true (leading.Ends (walk_end.Seen n.id (attr_of (tree_at h.at).nodes n).kind n.version (attr_of (tree_at h.at).nodes n).size)))) refl step le; node = n; node_is = named_is; shows = (refl, refl, refl, refl) }, refl);
+  }))
+  ends_by s calls path.LookRoot wd plain has t (n, root_is, is) = subst (λ (g : Goal). Comes s calls (is_look g) path.LookRoot t) (sym has.1) (subst (Comes s calls false path.LookRoot) (sym is) (record {
+    way = λ none u at. some_none _ none;
+    ends = λ e at. (record { moment = h.at; there = there; inside = inside (become (walked s calls x false (leading.Ends (walk_end.Seen n.id (attr_of (tree_at h.at).nodes n).kind n.version (attr_of (tree_at h.at).nodes n).size)))) refl o.begin begun; node = n; node_is = root_is; shows = (refl, refl, refl, refl) }, plain.0);
+  }))
+  ends_by s calls (path.List p) wd plain has t (found_at, leads, before, inl (d, directory, is)) = subst (λ (g : Goal). Comes s calls (is_look g) (path.List p) t) (sym has.goal_is) (subst (Comes s calls false (path.List p)) (sym is) (record {
+    way = λ none u at. some_none _ none;
+    ends = λ e at. record { dir = w.dir; found_at = found_at; found = leads; moment = h.at; there = there; inside = inside (become (walked s calls x false (leading.Ends (walk_end.Names (names_in (tree_at h.at).nodes w.dir))))) refl found_at (omega (arith, before, le)); node = d; directory = directory; names_are = refl };
+  }))
+  ends_by s calls (path.List p) wd plain has t (found_at, leads, before, inr is) = subst (λ (g : Goal). Comes s calls (is_look g) (path.List p) t) (sym has.goal_is) (subst (Comes s calls false (path.List p)) (sym is) (record { way = λ none u at. some_none _ none; ends = λ e at. tt }))
+  ends_by s calls _ wd plain has t e = absurd e
+
+  -- ---- something was made, removed or renamed
+
+  -- an operation that ends so has the point and the file that it had
+  abbrev ends_done : client.State → List Pending → (l : Bool) → client.State × ClientStep
+  ends_done s calls l = walked s calls x l (leading.Ends walk_end.Done)
+
+  new_end : (s : client.State) (calls : List Pending) (l : Bool) (r : client.State × ClientStep) → r ≡ ends_done s calls l → (become r).end ≡ Some now
+  new_end s calls l r same = ap (λ (z : client.State × ClientStep). (become z).end) same ∙ by l
+    where
+      by : (l : Bool) → (become (ends_done s calls l)).end ≡ Some now
+      by true = refl
+      by false = refl
+
+  new_begin : (s : client.State) (calls : List Pending) (l : Bool) (r : client.State × ClientStep) → r ≡ ends_done s calls l → (become r).begin ≡ o.begin
+  new_begin s calls l r same = ap (λ (z : client.State × ClientStep). (become z).begin) same ∙ by l
+    where
+      by : (l : Bool) → (become (ends_done s calls l)).begin ≡ o.begin
+      by true = refl
+      by false = refl
+
+  new_file : (s : client.State) (calls : List Pending) (l : Bool) (r : client.State × ClientStep) → r ≡ ends_done s calls l → (become r).file ≡ o.file
+  new_file s calls l r same = ap (λ (z : client.State × ClientStep). (become z).file) same ∙ by l
+    where
+      by : (l : Bool) → (become (ends_done s calls l)).file ≡ o.file
+      by true = refl
+      by false = refl
+
+  new_point : (k : PathCommand) → o.word ≡ path_word k → is_find k ≡ false → (s : client.State) (calls : List Pending) (l : Bool) (r : client.State × ClientStep) → r ≡ ends_done s calls l → (become r).point ≡ o.point
+  new_point k wd other s calls l r same = ap (λ (z : client.State × ClientStep). (become z).point) same ∙ by l
+    where
+      by : (l : Bool) → (become (ends_done s calls l)).point ≡ o.point
+      by true = same_point k wd other (record { outcome = outcome.Done; rests_on = x }) (ends_done s calls true) refl
+      by false = same_point k wd other (record { outcome = outcome.Done; rests_on = x }) (ends_done s calls false) refl
+
+  -- the file of one that changed one is that of the entry; one that changed none has none
+  pointed_file : (m : MakesWalk h.at h.moment closing j h.op w a) → is_creating w ≡ true → (new : Op) → new.point ≡ o.point → new.file ≡ o.file → IsPointed new (step_of h.at) (entry_file m.done.first)
+  pointed_file m some new point file = by (subst (λ (b : Bool). PointedBy b closing j h.op h.moment (entry_file m.done.first)) some m.pointed)
+    where
+      by : PointedBy true closing j h.op h.moment (entry_file m.done.first) → IsPointed new (step_of h.at) (entry_file m.done.first)
+      by (inl was) = subst (IsPointed new (step_of h.at)) (sym was.0) (point ∙ ap (λ (z : Op). z.point) (sym mine) ∙ was.1.0.1, file ∙ ap (λ (z : Op). z.file) (sym mine) ∙ was.1.1)
+      by (inr was) = subst (IsPointed new (step_of h.at)) (sym was.1) (point ∙ ap (λ (z : Op). z.point) (sym mine) ∙ was.3 ∙ ap (λ (n : ℕ). Some n) (sym h.step_is), file ∙ ap (λ (z : Op). z.file) (sym mine) ∙ was.4)
+
+  -- its call is the one that may change a file
+  is_last : MakesWalk h.at h.moment closing j h.op w a → (g : Goal) → w.goal ≡ g → creates_at [] g ≡ true → is_creating w ≡ true
+  is_last m g aim last = ap (λ (l : List (List ℕ)). creates_at l w.goal) (making_left w.left w.goal m.making) ∙ ap (creates_at []) aim ∙ last
+
+  pointed_name : (m : MakesWalk h.at h.moment closing j h.op w a) → IsNameGoal w.goal → (o.file ≡ 0) × (o.point ≡ None) → (new : Op) → new.point ≡ o.point → new.file ≡ o.file → IsPointed new (step_of h.at) (entry_file m.done.first)
+  pointed_name m names plain new point file = subst (IsPointed new (step_of h.at)) (sym (names_file (tree_at h.at) m.held w m.done (name_builds w.left w.goal m.making names) names m.step_is)) (point ∙ plain.1, file ∙ plain.0)
+
+  makes : (m : MakesWalk h.at h.moment closing j h.op w a) (new : Op) → new.end ≡ Some now → (g : Goal) → w.goal ≡ g → (call : ℕ → Tree → Held → Tree × Result Changed Status) → ((t : Tree) (held : Held) → step_by t held w.dir g ≡ call w.dir t held) → IsPointed new (step_of h.at) (entry_file m.done.first) → Makes (bare all) new step (call w.dir)
+  makes m new end g aim call same pointed = record {
+    moment = h.at;
+    there = there;
+    inside = inside new end step le;
+    held = m.held;
+    done = m.done;
+    done_is = ap (λ (p : Tree × Result Changed Status). p.1) (sym (ap (λ (z : Goal). step_by (tree_at h.at) m.held w.dir z) aim ∙ same (tree_at h.at) m.held)) ∙ m.step_is;
+    tree_is = m.tree_is ∙ ap (λ (p : Tree × Result Changed Status). p.0) (ap (λ (z : Goal). step_by (tree_at h.at) m.held w.dir z) aim ∙ same (tree_at h.at) m.held);
+    pointed = pointed;
+  }
+
+  done_as : (s : client.State) (calls : List Pending) (l : Bool) (k : PathCommand) → c ≡ k → o.word ≡ path_word k → IsBare k o → HasWalk (bare all) o.begin k w step → MakesWalk h.at h.moment closing j h.op w a → (r : client.State × ClientStep) → r ≡ ends_done s calls l → EndsAs all k (become r) told.Done
+  done_as s calls l (path.Make p) is wd plain has m r same =
+      let new = become r in
+      (w.dir, step, subst (λ (b : ℕ). Leads (bare all) b ROOT p.dirs w.dir step) (sym (new_begin s calls l r same)) (reached_all (bare all) o.begin p.dirs w step has.0 (making_left w.left w.goal m.making)), makes m new (new_end s calls l r same) (goal.Make p.name) has.1 (λ dir t held. create t held dir p.name mode.Guarded) (λ t held. refl) (pointed_file m (is_last m (goal.Make p.name) has.1 refl) new (new_point (path.Make p) wd refl s calls l r same) (new_file s calls l r same)))
+  done_as s calls l (path.MakeDir p) is wd plain has m r same =
+      let new = become r in
+      (w.dir, step, subst (λ (b : ℕ). Leads (bare all) b ROOT p.dirs w.dir step) (sym (new_begin s calls l r same)) (reached_all (bare all) o.begin p.dirs w step has.0 (making_left w.left w.goal m.making)), makes m new (new_end s calls l r same) (goal.MakeDir p.name) has.1 (λ dir t held. mkdir t held dir p.name) (λ t held. refl) (pointed_name m (subst IsNameGoal (sym has.1) tt) plain new (new_point (path.MakeDir p) wd refl s calls l r same) (new_file s calls l r same)))
+  done_as s calls l (path.RemoveDir p) is wd plain has m r same =
+      let new = become r in
+      (w.dir, step, subst (λ (b : ℕ). Leads (bare all) b ROOT p.dirs w.dir step) (sym (new_begin s calls l r same)) (reached_all (bare all) o.begin p.dirs w step has.0 (making_left w.left w.goal m.making)), makes m new (new_end s calls l r same) (goal.RemoveDir p.name) has.1 (λ dir t held. rmdir t held dir p.name) (λ t held. refl) (pointed_name m (subst IsNameGoal (sym has.1) tt) plain new (new_point (path.RemoveDir p) wd refl s calls l r same) (new_file s calls l r same)))
+  done_as s calls l (path.Find p) is wd plain has m r same = absurd (subst MakesGoal has.1 (making_goal w.left w.goal m.making))
+  done_as s calls l (path.Look p) is wd plain has m r same = absurd (subst MakesGoal has.1 (making_goal w.left w.goal m.making))
+  done_as s calls l path.LookRoot is wd plain has m r same = absurd (subst MakesGoal has.1 (making_goal w.left w.goal m.making))
+  done_as s calls l (path.List p) is wd plain has m r same = absurd (subst MakesGoal has.goal_is (making_goal w.left w.goal m.making))
+  done_as s calls l (path.Remove p) is wd plain has m r same =
+      let new = become r in
+      (w.dir, step, subst (λ (b : ℕ). Leads (bare all) b ROOT p.dirs w.dir step) (sym (new_begin s calls l r same)) (reached_all (bare all) o.begin p.dirs w step has.0 (making_left w.left w.goal m.making)), makes m new (new_end s calls l r same) (goal.Remove p.name) has.1 (λ dir t held. remove t held dir p.name) (λ t held. refl) (pointed_file m (is_last m (goal.Remove p.name) has.1 refl) new (new_point (path.Remove p) wd refl s calls l r same) (new_file s calls l r same)))
+  done_as s calls l (path.Rename p q) is wd plain (inl has) m r same = absurd (subst MakesGoal has.has.1 (making_goal w.left w.goal m.making))
+  done_as s calls l (path.Rename p q) is wd plain (inr has) m r same =
+      let new = become r in
+      (has.dir, has.found_at, w.dir, step, subst (λ (b : ℕ). Leads (bare all) b ROOT p.dirs has.dir has.found_at) (sym (new_begin s calls l r same)) has.found, reached_all (bare all) has.found_at q.dirs w step has.has.0 (making_left w.left w.goal m.making), makes m new (new_end s calls l r same) (goal.RenameTo has.dir p.name q.name) has.has.1 (λ to t held. rename t held has.dir p.name to q.name) (λ t held. refl) (pointed_file m (is_last m (goal.RenameTo has.dir p.name q.name) has.has.1 refl) new (new_point (path.Rename p q) wd refl s calls l r same) (new_file s calls l r same)))
+
+  finished : (s : client.State) (calls : List Pending) (l : Bool) → MakesWalk h.at h.moment closing j h.op w a → Comes s calls l c (leading.Ends walk_end.Done)
+  finished s calls true m = record { way = λ none u at. some_none _ none; ends = λ e at. done_as s calls true c refl word idle old m (ends_done s calls true) refl }
+  finished s calls false m = record { way = λ none u at. some_none _ none; ends = λ e at. done_as s calls false c refl word idle old m (ends_done s calls false) refl }
+
+  pub heard_walk : (s : client.State) (calls : List Pending) → Comes s calls (is_look w.goal) c (walk_told w a)
+  heard_walk s calls = came h.came
+    where
+      by : (t : Leading) → WalkComes (bare all) o.begin step h.at c w a t → Comes s calls (is_look w.goal) c t
+      by t (inl (e, is, ends)) = subst (Comes s calls (is_look w.goal) c) (sym ends) (refusal s calls (is_look w.goal) e is)
+      by t (inr (inl (v, is, has))) = subst (Comes s calls (is_look w.goal) c) (sym is) (asks_on s calls (is_look w.goal) c v word idle has)
+      by t (inr (inr ends)) = ends_by s calls c word idle old t ends
+
+      came : WalkCame book h.at h.moment closing j h.op w a → Comes s calls (is_look w.goal) c (walk_told w a)
+      came (inl t) = by (walk_told w a) (comes t.0)
+      came (inr (inl f)) = subst (Comes s calls (is_look w.goal) c) (sym f.leads) (refusal s calls (is_look w.goal) f.why f.refuses)
+      came (inr (inr m)) = subst (Comes s calls (is_look w.goal) c) (sym m.leads) (finished s calls (is_look w.goal) m)
+
+-- ---- an answer comes to an operation on a file
+
+-- no walk is under way then
+abbrev OnFile : client.State × ClientStep → Type 0
+OnFile r = (u : Task) → r.0.task ≡ Some u → IsOfFile u.stage
+
+of_some : (t u : Task) → ◌≡◌ {A = Option Task} (Some t) (Some u) → IsOfFile t.stage → IsOfFile u.stage
+of_some t u e h = subst (λ (z : Task). IsOfFile z.stage) (some_is t u e) h
+
+file_cases : (s : client.State) (calls : List Pending) (file : ℕ) (st : Stage) (x : ℕ) (b : Body) → Cases (λ found r. OnFile r) s calls file st x b
+file_cases s calls file st x b = record {
+  ends = λ r e unchanged came. λ u at. nothing_there u (sym e.task ∙ at);
+  uses = λ y l bytes at is kept. λ u e. nothing_there u e;
+  fetches = λ y l at is. λ u e. of_some _ u e tt;
+  anew = λ f version bytes open_ gave few came. λ u e. of_some _ u e tt;
+  changed = λ r f version e open_ gave last is. λ u at. nothing_there u (sym e.task ∙ at);
+  lists = λ f g is at same far. λ u e. of_some _ u e tt;
+  reads = λ f bytes now here. λ u e. of_some _ u e tt;
+  opens = λ f bytes now here. λ u e. nothing_there u e;
+  names = λ w at known none e. λ u is. of_some _ u is tt;
+  commits = λ w at known none e. λ u is. of_some _ u is tt;
+  whole = λ old c k at unknown none found name chunk. λ u e. of_some _ u e tt;
+}
+
+pub took_file : (s : client.State) (calls : List Pending) (file : ℕ) (st : Stage) (x : ℕ) (b : Body) → IsOfFile st → OnFile (took s calls file st x b)
+took_file s calls file st x b of = took_cases (λ found r. OnFile r) s calls file st x b of (file_cases s calls file st x b)
+
+-- ---- all operations
+
+-- each client's operation under way has its command
+abbrev pub JobsOn : (all : List Moment) → List Deed → Core → Type 0
+JobsOn all ds k = (i : ℕ) (seat : Seat) (j : Job) → numbered k.seats i ≡ Some seat → job seat ≡ Some j → (d : Deed) × (o : Op) × (slice_get ds j.place ≡ Some d) × (slice_get k.ops j.place ≡ Some o) × (o.begin ≡ d.begin) × (o.word ≡ word_of d.command) × IsOn all d.command o j.stage k.steps
+
+-- one that its client answered by itself is over in its first step
+abbrev pub IsOver : List Moment → Command → Op → Type 0
+IsOver all (command.Named c) o = (o.word ≡ path_word c) × ((o.outcome ≡ told.Running) ⊎ ((o.end ≡ Some o.begin) ⊎ EndsAs all c o o.outcome))
+IsOver all d o = Unit {0}
+
+pub record Walks (all past : List Moment) (k : Core) : Type 0 where
+  pub count : length k.ops ≡ length (deeds_of past)
+  pub jobs : JobsOn all (deeds_of past) k
+  pub over : (p : ℕ) (d : Deed) (o : Op) → slice_get (deeds_of past) p ≡ Some d → slice_get k.ops p ≡ Some o → IsOver all d.command o
+  -- and so it was
+  pub before : (m : Moment) → Contains past m → JobsOn all (deeds_of past) m.before
+
+-- ---- what stays
+
+-- an operation has what is said of its way
+pub record SameWay (o r : Op) : Type 0 where
+  pub client : r.client ≡ o.client
+  pub word : r.word ≡ o.word
+  pub file : r.file ≡ o.file
+  pub begin : r.begin ≡ o.begin
+  pub end : r.end ≡ o.end
+  pub outcome : r.outcome ≡ o.outcome
+  -- a change gives a close its point
+  pub point : (r.point ≡ o.point) ⊎ (o.word ≡ words.Close)
+
+pub same_way : (o : Op) → SameWay o o
+same_way o = record { client = refl; word = refl; point = inl refl; file = refl; begin = refl; end = refl; outcome = refl }
+
+not_close : (c : PathCommand) → path_word c ≡ words.Close → ⊥
+not_close (path.Find s) e = absurd cc
+not_close (path.Look s) e = absurd cc
+not_close path.LookRoot e = absurd cc
+not_close (path.List p) e = absurd cc
+not_close (path.Make s) e = absurd cc
+not_close (path.MakeDir s) e = absurd cc
+not_close (path.Remove s) e = absurd cc
+not_close (path.RemoveDir s) e = absurd cc
+not_close (path.Rename s t) e = absurd cc
+
+found_on : (all : List Moment) (c : PathCommand) (o r : Op) (n m : ℕ) → r.begin ≡ o.begin → r.file ≡ o.file → n ≤ m → ((s : Spot) × (c ≡ path.Find s) × ((step : ℕ) × Leads (bare all) o.begin ROOT (all_names s) o.file step × (step ≤ n)))
+    → (s : Spot) × (c ≡ path.Find s) × ((step : ℕ) × Leads (bare all) r.begin ROOT (all_names s) r.file step × (step ≤ m))
+found_on all c o r n m begin file le (s, is, (step, leads, before)) = (s, is, (step, subst (λ (b : ℕ). Leads (bare all) b ROOT (all_names s) r.file step) (sym begin) (subst (λ (f : ℕ). Leads (bare all) o.begin ROOT (all_names s) f step) (sym file) leads), omega (arith, le, before)))
+
+open_changes : changes words.Open ≡ true → ⊥
+open_changes e = absurd cc
+
+point_stays : (c : PathCommand) (o r : Op) → (r.point ≡ o.point) ⊎ (o.word ≡ words.Close) → o.point ≡ None → o.word ≡ path_word c → r.point ≡ None
+point_stays c o r (inl same) none is = same ∙ none
+point_stays c o r (inr close) none is = absurd (not_close c (sym is ∙ close))
+
+bare_on : (c : PathCommand) (o r : Op) → r.file ≡ o.file → (r.point ≡ o.point) ⊎ (o.word ≡ words.Close) → o.word ≡ path_word c → IsBare c o → IsBare c r
+bare_on c o r file (inl point) is h = bare_same c o r file point h
+bare_on c o r file (inr close) is h = absurd (not_close c (sym is ∙ close))
+
+way_on : (all : List Moment) (c : PathCommand) (o r : Op) (st : Stage) (n m : ℕ) → r.word ≡ o.word → (r.point ≡ o.point) ⊎ (o.word ≡ words.Close) → r.begin ≡ o.begin → r.file ≡ o.file → n ≤ m → OnWay all c o st n → OnWay all c r st m
+way_on all c o r (stage.Walking x w) n m word point begin file le (step, has, before, plain, is) = (step, subst (λ (b : ℕ). HasWalk (bare all) b c w step) (sym begin) has, omega (arith, le, before), bare_on c o r file point is plain, word ∙ is)
+way_on all c o r (stage.Asking x) n m word point begin file le h = (found_on all c o r n m begin file le h.0, point_stays c o r point h.1 h.2, word ∙ h.2)
+way_on all c o r (stage.Hashing t x) n m word point begin file le h = (found_on all c o r n m begin file le h.0, point_stays c o r point h.1 h.2, word ∙ h.2)
+way_on all c o r (stage.Listing x f) n m word point begin file le h = (found_on all c o r n m begin file le h.0, point_stays c o r point h.1 h.2, word ∙ h.2)
+way_on all c o r (stage.Reading f) n m word point begin file le h = (found_on all c o r n m begin file le h.0, point_stays c o r point h.1 h.2, word ∙ h.2)
+way_on all c o r (stage.Making x t) n m word point begin file le h = (found_on all c o r n m begin file le h.0, point_stays c o r point h.1 h.2, word ∙ h.2)
+way_on all c o r (stage.Storing t) n m word point begin file le h = (found_on all c o r n m begin file le h.0, point_stays c o r point h.1 h.2, word ∙ h.2)
+way_on all c o r (stage.Committing x) n m word point begin file le h = (found_on all c o r n m begin file le h.0, point_stays c o r point h.1 h.2, word ∙ h.2)
+
+pub is_on : (all : List Moment) (d : Command) (o r : Op) (st : Stage) (n m : ℕ) → r.word ≡ o.word → (r.point ≡ o.point) ⊎ (o.word ≡ words.Close) → r.begin ≡ o.begin → r.file ≡ o.file → n ≤ m → IsOn all d o st n → IsOn all d r st m
+is_on all (command.Named c) o r st n m word point begin file le h = way_on all c o r st n m word point begin file le h
+is_on all (command.Open f) o r st n m word point begin file le h = h
+is_on all (command.Write f a b) o r st n m word point begin file le h = h
+is_on all (command.Trunc f a) o r st n m word point begin file le h = h
+is_on all (command.Read f a b) o r st n m word point begin file le h = h
+is_on all (command.Close f) o r st n m word point begin file le h = h
+is_on all (command.Abandon f) o r st n m word point begin file le h = h
+
+inside_on : (o r : Op) (from step : ℕ) → r.end ≡ o.end → IsInside o from step → IsInside r from step
+inside_on o r from step end h = (h.0, λ e is. h.1 e (sym end ∙ is))
+
+refused_on : (all : List Moment) (o r : Op) (status : ℕ) → SameWay o r → IsRefused (bare all) o status → IsRefused (bare all) r status
+refused_on all o r status s h = record { moment = h.moment; there = h.there; inside = subst (λ (b : ℕ). IsInside r b (step_of h.moment)) (sym s.begin) (inside_on o r o.begin (step_of h.moment) s.end h.inside); session = h.session; xid = h.xid; answer = h.answer; sent = h.sent; refuses = h.refuses; taken = h.taken; taken_there = h.taken_there; ends = s.end ∙ h.ends; takes = subst (λ (i : ℕ). Contains (taken_by h.taken.before i h.taken.event) (message.Answer h.xid (body.Nfs h.answer))) (sym s.client) h.takes }
+
+finds_on : (all : List Moment) (o r : Op) (spot : Spot) → SameWay o r → FindsFile (bare all) o spot → FindsFile (bare all) r spot
+finds_on all o r spot s h = record {
+  step = h.step;
+  found = subst (λ (b : ℕ). Leads (bare all) b ROOT (all_names spot) r.file h.step) (sym s.begin) (subst (λ (f : ℕ). Leads (bare all) o.begin ROOT (all_names spot) f h.step) (sym s.file) h.found);
+  inside = subst (λ (b : ℕ). IsInside r b h.step) (sym s.begin) (inside_on o r o.begin h.step s.end h.inside);
+}
+
+seen_on : (all : List Moment) (o r : Op) (spot : Spot) (id k v n : ℕ) → SameWay o r → IsSeen (bare all) o spot id k v n → IsSeen (bare all) r spot id k v n
+seen_on all o r spot id k v n s h = record { dir = h.dir; found_at = h.found_at; found = subst (λ (b : ℕ). Leads (bare all) b ROOT spot.dirs h.dir h.found_at) (sym s.begin) h.found; moment = h.moment; there = h.there; inside = inside_on o r h.found_at (step_of h.moment) s.end h.inside; node = h.node; node_is = h.node_is; shows = h.shows }
+
+root_on : (all : List Moment) (o r : Op) (id k v n : ℕ) → SameWay o r → IsRootSeen (bare all) o id k v n → IsRootSeen (bare all) r id k v n
+root_on all o r id k v n s h = record { moment = h.moment; there = h.there; inside = subst (λ (b : ℕ). IsInside r b (step_of h.moment)) (sym s.begin) (inside_on o r o.begin (step_of h.moment) s.end h.inside); node = h.node; node_is = h.node_is; shows = h.shows }
+
+listed_on : (all : List Moment) (o r : Op) (p list : List (List ℕ)) → SameWay o r → IsListed (bare all) o p list → IsListed (bare all) r p list
+listed_on all o r p list s h = record { dir = h.dir; found_at = h.found_at; found = subst (λ (b : ℕ). Leads (bare all) b ROOT p h.dir h.found_at) (sym s.begin) h.found; moment = h.moment; there = h.there; inside = inside_on o r h.found_at (step_of h.moment) s.end h.inside; node = h.node; directory = h.directory; names_are = h.names_are }
+
+pointless_on : (c : PathCommand) (o r : Op) → o.word ≡ path_word c → SameWay o r → IsPointless c o → IsPointless c r
+pointless_on c o r is s h = by s.point
+  where
+    none : (k : PathCommand) → r.point ≡ o.point → IsPointless k o → IsPointless k r
+    none (path.Find z) same h = tt
+    none (path.Look z) same h = same ∙ h
+    none path.LookRoot same h = same ∙ h
+    none (path.List z) same h = same ∙ h
+    none (path.Make z) same h = same ∙ h
+    none (path.MakeDir z) same h = same ∙ h
+    none (path.Remove z) same h = same ∙ h
+    none (path.RemoveDir z) same h = same ∙ h
+    none (path.Rename z t) same h = same ∙ h
+
+    by : (r.point ≡ o.point) ⊎ (o.word ≡ words.Close) → IsPointless c r
+    by (inl same) = none c same h
+    by (inr close) = absurd (not_close c (sym is ∙ close))
+
+pointed_on : (o r : Op) (at_step : ℕ) (changed : Option ℕ) → r.point ≡ o.point → r.file ≡ o.file → IsPointed o at_step changed → IsPointed r at_step changed
+pointed_on o r at_step None point file p = (point ∙ p.0, file ∙ p.1)
+pointed_on o r at_step (Some f) point file p = (point ∙ p.0, file ∙ p.1)
+
+makes_on : (all : List Moment) (o r : Op) (behind : ℕ) (call : Tree → Held → Tree × Result Changed Status) → SameWay o r → r.point ≡ o.point → Makes (bare all) o behind call → Makes (bare all) r behind call
+makes_on all o r behind call s point h = record { moment = h.moment; there = h.there; inside = inside_on o r behind (step_of h.moment) s.end h.inside; held = h.held; done = h.done; done_is = h.done_is; tree_is = h.tree_is; pointed = pointed_on o r (step_of h.moment) (entry_file h.done.first) point s.file h.pointed }
+
+makes_in_on : (all : List Moment) (o r : Op) (dirs : List (List ℕ)) (call : (dir : ℕ) → Tree → Held → Tree × Result Changed Status) → SameWay o r → r.point ≡ o.point → MakesIn (bare all) o dirs call → MakesIn (bare all) r dirs call
+makes_in_on all o r dirs call s point (dir, step, leads, made) = (dir, step, subst (λ (b : ℕ). Leads (bare all) b ROOT dirs dir step) (sym s.begin) leads, makes_on all o r step (call dir) s point made)
+
+done_on : (all : List Moment) (c : PathCommand) (o r : Op) → o.word ≡ path_word c → SameWay o r → NameDone (bare all) o c → NameDone (bare all) r c
+done_on all c o r is s h = by s.point
+  where
+    same : (c : PathCommand) → r.point ≡ o.point → NameDone (bare all) o c → NameDone (bare all) r c
+    same (path.Make p) point h = makes_in_on all o r p.dirs (λ dir t held. create t held dir p.name mode.Guarded) s point h
+    same (path.MakeDir p) point h = makes_in_on all o r p.dirs (λ dir t held. mkdir t held dir p.name) s point h
+    same (path.Remove p) point h = makes_in_on all o r p.dirs (λ dir t held. remove t held dir p.name) s point h
+    same (path.RemoveDir p) point h = makes_in_on all o r p.dirs (λ dir t held. rmdir t held dir p.name) s point h
+    same (path.Rename p q) point (dir, first, to, second, leads, more, made) = (dir, first, to, second, subst (λ (b : ℕ). Leads (bare all) b ROOT p.dirs dir first) (sym s.begin) leads, more, makes_on all o r second (λ tree held. rename tree held dir p.name to q.name) s point made)
+    same (path.Find p) point h = absurd h
+    same (path.Look p) point h = absurd h
+    same path.LookRoot point h = absurd h
+    same (path.List p) point h = absurd h
+
+    by : (r.point ≡ o.point) ⊎ (o.word ≡ words.Close) → NameDone (bare all) r c
+    by (inl point) = same c point h
+    by (inr close) = absurd (not_close c (sym is ∙ close))
+
+unfound_on : (all : List Moment) (c : PathCommand) (o r : Op) (u : History) → o.word ≡ path_word c → SameWay o r → EndsUnfound all c o u → EndsUnfound all c r u
+unfound_on all c o r (told.Refused status) is s h = (refused_on all o r status s h.0, pointless_on c o r is s h.1, h.2)
+unfound_on all c o r told.Lost is s h = tt
+unfound_on all c o r told.Running is s h = tt
+unfound_on all c o r _ is s h = absurd h
+
+already_on : (c : PathCommand) (o r : Op) (u : History) → o.word ≡ path_word c → SameWay o r → (u ≡ told.AlreadyOpen → o.point ≡ None) → u ≡ told.AlreadyOpen → r.point ≡ None
+already_on c o r u is s h e = by s.point
+  where
+    by : (r.point ≡ o.point) ⊎ (o.word ≡ words.Close) → r.point ≡ None
+    by (inl same) = same ∙ h e
+    by (inr close) = absurd (not_close c (sym is ∙ close))
+
+ends_on : (all : List Moment) (c : PathCommand) (o r : Op) (u : History) → o.word ≡ path_word c → SameWay o r → EndsAs all c o u → EndsAs all c r u
+ends_on all (path.Find spot) o r u is s (inl h) = inl (finds_on all o r spot s h.0, already_on (path.Find spot) o r u is s h.1, h.2)
+ends_on all (path.Find spot) o r u is s (inr h) = inr (s.file ∙ h.0, unfound_on all (path.Find spot) o r u is s h.1)
+ends_on all (path.Look spot) o r (told.Seen id k v n) is s h = (seen_on all o r spot id k v n s h.0, s.file ∙ h.1)
+ends_on all path.LookRoot o r (told.Seen id k v n) is s h = (root_on all o r id k v n s h.0, s.file ∙ h.1)
+ends_on all (path.List p) o r (told.Names list) is s h = listed_on all o r p list s h
+ends_on all (path.List p) o r told.NoLink is s h = tt
+ends_on all (path.Look p) o r told.Done is s h = absurd h
+ends_on all path.LookRoot o r told.Done is s h = absurd h
+ends_on all (path.List p) o r told.Done is s h = absurd h
+ends_on all k o r told.Done is s h = done_on all k o r is s h
+ends_on all k o r u is s h = unfound_on all k o r u is s h
+
+-- one that changed a file goes on, or was lost
+pub way_made : (all : List Moment) (d : Command) (o r : Op) (st : Stage) (n m : ℕ) → IsUnmade o → changes o.word ≡ true → r.word ≡ o.word → r.begin ≡ o.begin → n ≤ m → IsOn all d o st n → IsOn all d r st m
+way_made all (command.Named c) o r (stage.Walking x w) n m unmade make word begin le (step, has, before, plain, is) = (step, subst (λ (b : ℕ). HasWalk (bare all) b c w step) (sym begin) has, omega (arith, le, before), by c (ap changes (sym is) ∙ make), word ∙ is)
+  where
+    by : (c : PathCommand) → changes (path_word c) ≡ true → IsBare c r
+    by (path.Make s) e = tt
+    by (path.Find s) e = absurd cc
+    by (path.Look s) e = absurd cc
+    by path.LookRoot e = absurd cc
+    by (path.List p) e = absurd cc
+    by (path.MakeDir s) e = absurd cc
+    by (path.Remove s) e = tt
+    by (path.RemoveDir s) e = absurd cc
+    by (path.Rename s t) e = tt
+way_made all (command.Named c) o r (stage.Asking x) n m unmade make word begin le h = absurd (open_changes (sym (ap changes (h.2 ∙ ap path_word h.0.1)) ∙ make))
+way_made all (command.Named c) o r (stage.Hashing t x) n m unmade make word begin le h = absurd (open_changes (sym (ap changes (h.2 ∙ ap path_word h.0.1)) ∙ make))
+way_made all (command.Named c) o r (stage.Listing x f) n m unmade make word begin le h = absurd (open_changes (sym (ap changes (h.2 ∙ ap path_word h.0.1)) ∙ make))
+way_made all (command.Named c) o r (stage.Reading f) n m unmade make word begin le h = absurd (open_changes (sym (ap changes (h.2 ∙ ap path_word h.0.1)) ∙ make))
+way_made all (command.Named c) o r (stage.Making x t) n m unmade make word begin le h = absurd (open_changes (sym (ap changes (h.2 ∙ ap path_word h.0.1)) ∙ make))
+way_made all (command.Named c) o r (stage.Storing t) n m unmade make word begin le h = absurd (open_changes (sym (ap changes (h.2 ∙ ap path_word h.0.1)) ∙ make))
+way_made all (command.Named c) o r (stage.Committing x) n m unmade make word begin le h = absurd (open_changes (sym (ap changes (h.2 ∙ ap path_word h.0.1)) ∙ make))
+way_made all (command.Open f) o r st n m unmade make word begin le h = h
+way_made all (command.Write f a b) o r st n m unmade make word begin le h = h
+way_made all (command.Trunc f a) o r st n m unmade make word begin le h = h
+way_made all (command.Read f a b) o r st n m unmade make word begin le h = h
+way_made all (command.Close f) o r st n m unmade make word begin le h = h
+way_made all (command.Abandon f) o r st n m unmade make word begin le h = h
+
+pub over_made : (all : List Moment) (d : Command) (o r : Op) → IsUnmade o → changes o.word ≡ true → r.word ≡ o.word → r.begin ≡ o.begin → r.end ≡ o.end → r.outcome ≡ o.outcome → IsOver all d o → IsOver all d r
+over_made all (command.Named c) o r unmade make word begin end outcome (is, inl h) = (word ∙ is, inl (outcome ∙ h))
+over_made all (command.Named c) o r unmade make word begin end outcome (is, inr (inl h)) = (word ∙ is, inr (inl (end ∙ h ∙ ap (λ (n : ℕ). Some n) (sym begin))))
+over_made all (command.Named c) o r unmade make word begin end outcome (is, inr (inr h)) = (word ∙ is, by o.outcome refl unmade.2 c (ap changes (sym is) ∙ make))
+  where
+    by : (u : History) → o.outcome ≡ u → is_untold u ≡ true → (c : PathCommand) → changes (path_word c) ≡ true → (r.outcome ≡ told.Running) ⊎ ((r.end ≡ Some r.begin) ⊎ EndsAs all c r r.outcome)
+    by told.Running e u c w = inl (outcome ∙ e)
+    by told.Lost e u (path.Make s) w = inr (inr (subst (EndsAs all (path.Make s) r) (sym (outcome ∙ e)) tt))
+    by told.Lost e u (path.Remove s) w = inr (inr (subst (EndsAs all (path.Remove s) r) (sym (outcome ∙ e)) tt))
+    by told.Lost e u (path.Rename s t) w = inr (inr (subst (EndsAs all (path.Rename s t) r) (sym (outcome ∙ e)) tt))
+    by told.Lost e u c w = absurd cc
+    by u e untold c w = absurd cc
+over_made all (command.Open f) o r unmade make word begin end outcome h = tt
+over_made all (command.Write f a b) o r unmade make word begin end outcome h = tt
+over_made all (command.Trunc f a) o r unmade make word begin end outcome h = tt
+over_made all (command.Read f a b) o r unmade make word begin end outcome h = tt
+over_made all (command.Close f) o r unmade make word begin end outcome h = tt
+over_made all (command.Abandon f) o r unmade make word begin end outcome h = tt
+
+pub is_over : (all : List Moment) (d : Command) (o r : Op) → SameWay o r → IsOver all d o → IsOver all d r
+is_over all (command.Named c) o r s (is, inl h) = (s.word ∙ is, inl (s.outcome ∙ h))
+is_over all (command.Named c) o r s (is, inr (inl h)) = (s.word ∙ is, inr (inl (s.end ∙ h ∙ ap (λ (n : ℕ). Some n) (sym s.begin))))
+is_over all (command.Named c) o r s (is, inr (inr h)) = (s.word ∙ is, inr (inr (subst (EndsAs all c r) (sym s.outcome) (ends_on all c o r o.outcome is s h))))
+is_over all (command.Open f) o r s h = tt
+is_over all (command.Write f a b) o r s h = tt
+is_over all (command.Trunc f a) o r s h = tt
+is_over all (command.Read f a b) o r s h = tt
+is_over all (command.Close f) o r s h = tt
+is_over all (command.Abandon f) o r s h = tt
