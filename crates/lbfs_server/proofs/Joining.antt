@@ -1,5 +1,5 @@
 -- A connection that is made.
-use Rattle.std.specs.Prelude.{◌≡◌, ◌⊎◌, ℕ, ◌+◌, [], Bool, true, false}
+use Rattle.std.specs.Prelude.{◌≡◌, ◌⊎◌, ℕ, ◌+◌, [], Bool, true, false, List, Option}
 use Rattle.std.proofs.Common.{inl, inr, refl, sym, ap, ◌∙◌, subst}
 use Rattle.slab.specs.Slab.{Slab}
 use Rattle.outboxes.specs.declared.boxes.Outbox.{Outbox}
@@ -10,18 +10,21 @@ use Rattle.server_core.specs.declared.event.ServerStep.{ServerStep}
 use Rattle.server_core.specs.declared.event.Told.TheVariants as told
 use Rattle.server_core.specs.State.{State}
 use Rattle.server_core.specs.Step.{connect, has_room, Misses, nothing, lacks}
+use Rattle.store.specs.declared.record.Kept.{Kept}
+use Rattle.lbfs_server.specs.Kept.{Steps, StoreKeeps}
+use Rattle.lbfs_server.proofs.Keeping.{store_more, steps_later}
 use Rattle.lbfs_server.specs.declared.held.Held.{Held}
 use Rattle.lbfs_server.specs.declared.held.Went.{Went}
 use Rattle.lbfs_server.specs.declared.held.Went.TheVariants as went
-use Rattle.lbfs_server.specs.Held.{Steps, Welcomed, Joined, IsOfMaking}
+use Rattle.lbfs_server.specs.Held.{Welcomed, Joined, IsOfMaking}
 
 missed_told : (s new : State) (step : ServerStep) → Misses s event.Connect new step → step.told ≡ told.Memory
 missed_told s new step (nothing may left said) = ap (λ t. t.told) said
 missed_told s new step (lacks l) = absurd l.1
 
 -- where no further session may stand, nothing is changed
-pub full_same : (s new : State) (step : ServerStep) → Steps s event.Connect new step → step.told ≡ told.Full → new ≡ s
-full_same s new step steps full = by_missed step.missed refl
+pub full_same : (before after : ℕ) (s new : State) (step : ServerStep) → Steps before after s event.Connect new step → step.told ≡ told.Full → new ≡ s
+full_same before after s new step steps full = by_missed step.missed refl
   where
     by_room : (room : Bool) → connect s room ≡ (new, step) → new ≡ s
     by_room true is =
@@ -32,11 +35,11 @@ full_same s new step steps full = by_missed step.missed refl
     by_missed : (missed : Bool) → step.missed ≡ missed → new ≡ s
     by_missed true e =
         let never : told.Memory ≡ told.Full = sym (missed_told s new step (steps.1 e)) ∙ full in cc
-    by_missed false e = by_room (has_room s) (steps.0 e)
+    by_missed false e = by_room (has_room s) (steps.0 e).is
 
 -- the session that was made has the last number
-pub made_last : (s new : State) (step : ServerStep) (session : ℕ) → Steps s event.Connect new step → step.told ≡ told.Session session → session ≡ new.sessions_made
-made_last s new step session steps made = by_missed step.missed refl
+pub made_last : (before after : ℕ) (s new : State) (step : ServerStep) (session : ℕ) → Steps before after s event.Connect new step → step.told ≡ told.Session session → session ≡ new.sessions_made
+made_last before after s new step session steps made = by_missed step.missed refl
   where
     by_room : (room : Bool) → connect s room ≡ (new, step) → session ≡ new.sessions_made
     by_room true is =
@@ -48,7 +51,7 @@ made_last s new step session steps made = by_missed step.missed refl
     by_missed : (missed : Bool) → step.missed ≡ missed → session ≡ new.sessions_made
     by_missed true e =
         let never : told.Memory ≡ told.Session session = sym (missed_told s new step (steps.1 e)) ∙ made in cc
-    by_missed false e = by_room (has_room s) (steps.0 e)
+    by_missed false e = by_room (has_room s) (steps.0 e).is
 
 making : (session : ℕ) (said : Went) → (said ≡ went.Open session) ⊎ (said ≡ went.Memory) → IsOfMaking said
 making session said (inl is) = subst IsOfMaking (sym is) tt
@@ -57,21 +60,21 @@ making session said (inr is) = subst IsOfMaking (sym is) tt
 keeps_all : (boxes : Slab (Outbox Message)) (session : ℕ) → KeepsOthers boxes boxes session
 keeps_all boxes session = record { there = λ other messages differ holds. holds; back = λ other messages differ holds. holds }
 
-module _ {S : Type 0} where
-  pub joined : (old between : Held S) (session : ℕ) (said : Went) (new : Held S) (step : ServerStep) → Steps old.server event.Connect between.server step → step.told ≡ told.Session session → between.boxes ≡ old.boxes → between.store ≡ old.store → Welcomed between session said new → Joined old said new
-  joined old between session said new step steps made same store w = record {
+module _ {S : Type 0} (records : S → Option (List Kept)) (faults : S → ℕ) where
+  pub joined : (old between : Held S) (session : ℕ) (said : Went) (new : Held S) (step : ServerStep) → Steps (faults old.kept.store) (faults between.kept.store) old.kept.server event.Connect between.kept.server step → StoreKeeps records faults old.kept between.kept → step.told ≡ told.Session session → between.boxes ≡ old.boxes → Welcomed records faults between session said new → Joined records faults old said new
+  joined old between session said new step steps kept made same w = record {
     step = step;
-    between = between.server;
+    between = between.kept.server;
     lost = w.lost;
-    stepped = steps;
+    stepped = steps_later (faults old.kept.store) (faults between.kept.store) (faults new.kept.store) old.kept.server event.Connect between.kept.server step w.store.later steps;
     hangs = w.hangs;
     opened = λ k is.
         let o = w.opened k is in
         (made ∙ ap told.Session (sym o.0), o.1, subst (λ z. Holds new.boxes z []) (sym o.0) o.2);
-    others = subst (λ z. KeepsOthers old.boxes new.boxes z) (made_last old.server between.server step session steps made) (subst (λ z. KeepsOthers z new.boxes session) same w.others);
+    others = subst (λ z. KeepsOthers old.boxes new.boxes z) (made_last _ _ old.kept.server between.kept.server step session steps made) (subst (λ z. KeepsOthers z new.boxes session) same w.others);
     full = λ is. absurd (never w.known is);
     known = making session said w.known;
-    store = w.store ∙ store;
+    store = store_more records faults old.kept between.kept new.kept kept w.store;
   }
     where
       never : (said ≡ went.Open session) ⊎ (said ≡ went.Memory) → said ≡ went.Full → ⊥
@@ -79,18 +82,16 @@ module _ {S : Type 0} where
       never (inr a) b = let no : went.Memory ≡ went.Full = sym a ∙ b in cc
 
   -- no session was made
-  pub unjoined : (old : Held S) (said : Went) (new : Held S) (step : ServerStep) → Steps old.server event.Connect new.server step → new.boxes ≡ old.boxes → new.store ≡ old.store → ((session : ℕ) → ¬ (said ≡ went.Open session)) → (said ≡ went.Full → step.told ≡ told.Full) → IsOfMaking said → Joined old said new
-  unjoined old said new step steps boxes store shut full known = record {
+  pub unjoined : (old : Held S) (said : Went) (new : Held S) (step : ServerStep) → Steps (faults old.kept.store) (faults new.kept.store) old.kept.server event.Connect new.kept.server step → StoreKeeps records faults old.kept new.kept → new.boxes ≡ old.boxes → ((session : ℕ) → ¬ (said ≡ went.Open session)) → (said ≡ went.Full → step.told ≡ told.Full) → IsOfMaking said → Joined records faults old said new
+  unjoined old said new step steps kept boxes shut full known = record {
     step = step;
-    between = new.server;
+    between = new.kept.server;
     lost = [];
     stepped = steps;
     hangs = refl;
     opened = λ session is. absurd (shut session is);
-    others = subst (λ z. KeepsOthers z new.boxes new.server.sessions_made) boxes (keeps_all new.boxes new.server.sessions_made);
-    full = λ is. let told_full = full is in
-        let same : new.server ≡ old.server = full_same old.server new.server step steps told_full in
-        (told_full, ap (λ s. record { server = s; store = new.store; boxes = new.boxes }) same ∙ ap (λ t. record { server = old.server; store = t; boxes = new.boxes }) store ∙ ap (λ b. record { server = old.server; store = old.store; boxes = b }) boxes);
+    others = subst (λ z. KeepsOthers z new.boxes new.kept.server.sessions_made) boxes (keeps_all new.boxes new.kept.server.sessions_made);
+    full = λ is. (full is, full_same _ _ old.kept.server new.kept.server step steps (full is), boxes);
     known = known;
-    store = store;
+    store = kept;
   }

@@ -3,4 +3,7 @@ pub mod Giving
 pub mod Hanging
 pub mod Hearing
 pub mod Joining
+pub mod Keeping
+pub mod Quiet
+pub mod Serving
 pub mod Telling

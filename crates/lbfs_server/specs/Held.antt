@@ -1,5 +1,5 @@
 -- What the threads of a server share, and what an event makes of it.
-use Rattle.std.specs.Prelude.{◌≡◌, ◌⊎◌, ℕ, List, [], ◌∷◌, ◌++◌, Bool, true, false, ◌==◌, if◌then◌else◌, Result, Ok, Err}
+use Rattle.std.specs.Prelude.{◌≡◌, ◌⊎◌, ℕ, List, [], ◌∷◌, ◌++◌, Bool, true, false, ◌==◌, if◌then◌else◌, Result, Ok, Err, Option}
 use Rattle.slab.specs.Slab.{Slab}
 use Rattle.outboxes.specs.declared.boxes.Outbox.{Outbox}
 use Rattle.outboxes.specs.Boxes.{Holds, Lacks, KeepsOthers}
@@ -17,7 +17,9 @@ use Rattle.server_core.specs.declared.event.ServerStep.{ServerStep}
 use Rattle.server_core.specs.declared.event.Told.{Told}
 use Rattle.server_core.specs.declared.event.Told.TheVariants as told
 use Rattle.server_core.specs.State.{State}
-use Rattle.server_core.specs.Step.{server_step, Misses, hangs_if, stands}
+use Rattle.server_core.specs.Step.{hangs_if, stands}
+use Rattle.store.specs.declared.record.Kept.{Kept}
+use Rattle.lbfs_server.specs.Kept.{Steps, StoreKeeps}
 use Rattle.lbfs_server.specs.declared.held.Held.{Held}
 use Rattle.lbfs_server.specs.declared.held.Went.{Went}
 use Rattle.lbfs_server.specs.declared.held.Went.TheVariants as went
@@ -51,10 +53,6 @@ pub record Adds (old : Slab (Outbox Message)) (sent : List Sent) (lost : List �
 
 -- ---- the server
 
--- the server took this step for the event, with memory or without
-abbrev pub Steps : State → Event → State → ServerStep → Type 0
-Steps old e new step = (step.missed ≡ false → server_step old e ≡ (new, step)) × (step.missed ≡ true → Misses old e new step)
-
 -- these sessions were hung, one after the other
 abbrev pub hung : State → List ℕ → State
 hung s [] = s
@@ -83,61 +81,62 @@ module _ {S : Type 0} where
   Stands new session went.NotReady = ⊥
   Stands new session went.Full = ⊥
 
-  -- what is said of an event
+  -- what is said of an event; where no change could be made nothing was sent
   abbrev pub Answers : Event → ServerStep → Held S → Went → Type 0
   Answers (event.Got session message now) step new said = Stands new session said
-  Answers (event.Settle now) step new said = (said ≡ went.Memory) ⊎ (said ≡ settled_as step.told)
+  Answers (event.Settle now) step new said = (said ≡ went.Memory) ⊎ (said ≡ settled_as step.told) × (said ≡ went.NotReady → step.send ≡ [])
   Answers event.Connect step new said = Unit {0}
   Answers (event.Hang session) step new said = Unit {0}
 
+module _ {S : Type 0} (records : S → Option (List Kept)) (faults : S → ℕ) where
   -- These messages are in the boxes of their sessions. A session for whose message memory was wanting was hung instead, and memory didn't suffice.
   pub record Delivered (old : Held S) (sent : List Sent) (sufficed : Bool) (new : Held S) : Type 0 where
     pub lost : List ℕ
-    pub hangs : new.server ≡ hung old.server lost
+    pub hangs : new.kept.server ≡ hung old.kept.server lost
     pub told : Adds old.boxes sent lost new.boxes
     pub cause : sufficed ≡ true → lost ≡ []
-    pub store : new.store ≡ old.store
+    pub store : StoreKeeps records faults old.kept new.kept
 
   -- The event was one step, whose messages are in the boxes of their sessions. A session for whose message memory was wanting was hung instead.
   pub record Took (old : Held S) (e : Event) (said : Went) (new : Held S) : Type 0 where
     pub step : ServerStep
     pub between : State
     pub lost : List ℕ
-    pub stepped : Steps old.server e between step
-    pub hangs : new.server ≡ hung between lost
+    pub stepped : Steps (faults old.kept.store) (faults new.kept.store) old.kept.server e between step
+    pub hangs : new.kept.server ≡ hung between lost
     pub told : Adds old.boxes step.send lost new.boxes
     pub cause : ¬ (said ≡ went.Memory) → lost ≡ []
     pub answer : Answers e step new said
-    pub store : new.store ≡ old.store
+    pub store : StoreKeeps records faults old.kept new.kept
 
   -- The session has an empty box. Where memory was wanting for it the session was hung.
   pub record Welcomed (old : Held S) (session : ℕ) (said : Went) (new : Held S) : Type 0 where
     pub lost : List ℕ
-    pub hangs : new.server ≡ hung old.server lost
+    pub hangs : new.kept.server ≡ hung old.kept.server lost
     pub opened : (k : ℕ) → said ≡ went.Open k → (k ≡ session) × (lost ≡ []) × Holds new.boxes session []
     pub others : KeepsOthers old.boxes new.boxes session
     pub known : (said ≡ went.Open session) ⊎ (said ≡ went.Memory)
-    pub store : new.store ≡ old.store
+    pub store : StoreKeeps records faults old.kept new.kept
 
   -- A session was made, which has an empty box; or none was. Where memory was wanting for the box the session was hung.
   pub record Joined (old : Held S) (said : Went) (new : Held S) : Type 0 where
     pub step : ServerStep
     pub between : State
     pub lost : List ℕ
-    pub stepped : Steps old.server event.Connect between step
-    pub hangs : new.server ≡ hung between lost
+    pub stepped : Steps (faults old.kept.store) (faults new.kept.store) old.kept.server event.Connect between step
+    pub hangs : new.kept.server ≡ hung between lost
     pub opened : (session : ℕ) → said ≡ went.Open session → (step.told ≡ told.Session session) × (lost ≡ []) × Holds new.boxes session []
     pub others : KeepsOthers old.boxes new.boxes between.sessions_made
-    pub full : said ≡ went.Full → (step.told ≡ told.Full) × (new ≡ old)
+    pub full : said ≡ went.Full → (step.told ≡ told.Full) × (new.kept.server ≡ old.kept.server) × (new.boxes ≡ old.boxes)
     pub known : IsOfMaking said
-    pub store : new.store ≡ old.store
+    pub store : StoreKeeps records faults old.kept new.kept
 
   -- the session was hung, and its box went
   pub record Left (old : Held S) (session : ℕ) (new : Held S) : Type 0 where
-    pub hangs : new.server ≡ (hangs_if old.server (stands old.server session) session).0
+    pub hangs : new.kept.server ≡ (hangs_if old.kept.server (stands old.kept.server session) session).0
     pub gone : Lacks new.boxes session
     pub others : KeepsOthers old.boxes new.boxes session
-    pub store : new.store ≡ old.store
+    pub store : StoreKeeps records faults old.kept new.kept
 
   -- what an event makes
   abbrev pub After : Held S → Event → Went → Held S → Type 0

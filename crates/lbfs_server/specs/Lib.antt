@@ -1,3 +1,5 @@
 pub mod Ends
 pub mod Held
+pub mod Kept
 mod Rows
+pub mod Serve

@@ -1,9 +1,10 @@
 //! What the threads of a server share: the server, and what it has to say to each session.
 //! `specs/Held.antt` states what an event makes of it.
 
-ghost use Rattle.std.specs.Prelude.{◌≡◌, ℕ, ◌<◌, ◌^◌, ◌↔◌, List, [], ◌∷◌, length, IsTrue, false};
+ghost use Rattle.std.specs.Prelude.{◌≡◌, ℕ, ◌<◌, ◌≤◌, ◌^◌, ◌↔◌, List, [], ◌∷◌, length, IsTrue, false};
 ghost use Rattle.outboxes.specs.Boxes.{Holds, Lacks, KeepsOthers};
 ghost use Rattle.server_core.specs.Closing.{has_waiting};
+ghost use Rattle.server_core.specs.State.{entries_held};
 ghost use Rattle.server_core.specs.Step.{IsTimed};
 ghost use Rattle.server_core.specs.declared.event.Event.TheVariants as event;
 ghost use Rattle.wire.specs.Parse.{parse_of};
@@ -11,12 +12,14 @@ ghost use Rattle.wire.specs.declared.message.Message.{Message};
 ghost use Rattle.lbfs_server.specs.Held.{After, Delivered, HeardOrLeft, Joined, Left, Stands, Took, Unheard, Unread, Welcomed, server_waits, settled_as};
 ghost use Rattle.lbfs_server.specs.declared.held.Went.TheVariants as went;
 
+use crate::kept::KeptServer;
 use lb_base::items::Items;
 use outboxes::outboxes::Outboxes;
 use send_list::SendList;
 use server_core::event::{Event, Sent, ServerStep, Told};
 use server_core::server::Server;
 use std::alloc::Global;
+use store::store::Store;
 use wire::fault::{WireErr, WireFault};
 use wire::message::{Message, Side, Waiting};
 use wire::parse::parse;
@@ -42,10 +45,9 @@ pub enum Went {
 
 /// What the threads of a server share.
 #[derive(Drop)]
-pub struct Held<S> {
-    server: Server,
-    /// What keeps the server's tree from one start to the next.
-    store: S,
+pub struct Held<S: Store> {
+    /// The server, and what keeps its tree from one start to the next.
+    kept: KeptServer<S>,
     boxes: Outboxes<Message>,
 }
 
@@ -77,15 +79,16 @@ fn settled_as(told: Told) -> Went
     }
 }
 
-impl<S: Drop> Held<S> {
-    /// A server and its store; there is nothing to say to any session. It takes no memory.
+impl<S: Store + Drop> Held<S> {
+    /// A server and its store, which has room for what waits; there is nothing to say to any session.
+    /// It takes no memory.
     pub fn new(alloc: Global, server: Server, store: S) -> Held<S>
-        ensures server { (result.server ≡ server) × (result.store ≡ store) }
+        requires { entries_held server.waiting ≤ S.spare store }
+        ensures kept { result.kept ≡ record { server = server; store = store } }
         ensures boxes { (session : ℕ) → Lacks result.boxes session }
     {
         Held {
-            server,
-            store,
+            kept: KeptServer::new(server, store),
             boxes: Outboxes::new(alloc),
         }
     }
@@ -107,23 +110,23 @@ impl<S: Drop> Held<S> {
 
     /// Whether a change of the session waits.
     pub fn waits(&self, session: u32) -> bool
-        ensures { result ≡ has_waiting self.now.server.waiting session }
+        ensures { result ≡ has_waiting self.now.kept.server.waiting session }
     {
-        self.server.has_waiting(session)
+        self.kept.waits(session)
     }
 
     /// How many changes were made.
     pub fn changes_made(&self) -> usize
-        ensures { result ≡ length self.now.server.journal }
+        ensures { result ≡ length self.now.kept.server.journal }
     {
-        self.server.journal().len()
+        self.kept.changes_made()
     }
 
     /// A session's connection is lost.
     fn hang(&mut self, alloc: Global, session: u32)
-        ensures { Left self.old session self.new }
+        ensures { Left S.records S.faults self.old session self.new }
     {
-        let step = self.server.step_unkept(alloc, Event::Hang { session });
+        let step = self.kept.step(alloc, Event::Hang { session });
         drop(step);
         self.boxes.close(session);
     }
@@ -131,7 +134,7 @@ impl<S: Drop> Held<S> {
     /// Puts a message into its session's box, and answers whether memory sufficed. Where it didn't
     /// the session is hung.
     fn put(&mut self, alloc: Global, sent: Sent) -> bool
-        ensures { Delivered self.old (sent ∷ []) result self.new }
+        ensures { Delivered S.records S.faults self.old (sent ∷ []) result self.new }
     {
         let Sent { session, message } = sent;
         match self.boxes.put(session, message) {
@@ -145,7 +148,7 @@ impl<S: Drop> Held<S> {
 
     /// Puts messages into the boxes, and answers whether memory sufficed.
     fn put_all(&mut self, alloc: Global, messages: Vec<Sent>) -> bool
-        ensures { Delivered self.old messages.items result self.new }
+        ensures { Delivered S.records S.faults self.old messages.items result self.new }
     {
         let mut all = true;
         for sent in messages {
@@ -157,7 +160,7 @@ impl<S: Drop> Held<S> {
 
     /// Puts the messages of a step into the boxes, and answers whether memory sufficed.
     fn deliver(&mut self, alloc: Global, send: SendList<Sent>) -> bool
-        ensures { Delivered self.old send result self.new }
+        ensures { Delivered S.records S.faults self.old send result self.new }
     {
         let (first, rest) = send.into_parts();
         match first {
@@ -172,7 +175,7 @@ impl<S: Drop> Held<S> {
 
     /// Gives a session that was made an empty box. Where memory is wanting it is hung.
     fn welcome(&mut self, alloc: Global, session: u32) -> Went
-        ensures { Welcomed self.old session result self.new }
+        ensures { Welcomed S.records S.faults self.old session result self.new }
     {
         match self.boxes.open(session) {
             Ok(()) => Went::Open { session },
@@ -185,9 +188,9 @@ impl<S: Drop> Held<S> {
 
     /// A connection is made.
     fn connect(&mut self, alloc: Global) -> Went
-        ensures { Joined self.old result self.new }
+        ensures { Joined S.records S.faults self.old result self.new }
     {
-        let step = self.server.step_unkept(alloc, Event::Connect);
+        let step = self.kept.step(alloc, Event::Connect);
         let told = step.told;
         drop(step);
         match told {
@@ -211,14 +214,14 @@ impl<S: Drop> Held<S> {
     /// A message of a session came.
     fn take_message(&mut self, alloc: Global, session: u32, message: Message, now: u64) -> Went
         requires { now < 2 ^ 63 }
-        ensures { Took self.old (event.Got session message now) result self.new }
+        ensures { Took S.records S.faults self.old (event.Got session message now) result self.new }
     {
         let event = Event::Got {
             session,
             message,
             now,
         };
-        let ServerStep { send, .. } = self.server.step_unkept(alloc, event);
+        let ServerStep { send, .. } = self.kept.step(alloc, event);
         if self.deliver(alloc, send) {
             self.standing(session)
         } else {
@@ -229,9 +232,9 @@ impl<S: Drop> Held<S> {
     /// A change that waits may be made.
     fn settle(&mut self, alloc: Global, now: u64) -> Went
         requires { now < 2 ^ 63 }
-        ensures { Took self.old (event.Settle now) result self.new }
+        ensures { Took S.records S.faults self.old (event.Settle now) result self.new }
     {
-        let ServerStep { send, told, .. } = self.server.step_unkept(alloc, Event::Settle { now });
+        let ServerStep { send, told, .. } = self.kept.step(alloc, Event::Settle { now });
         if self.deliver(alloc, send) {
             settled_as(told)
         } else {
@@ -243,7 +246,7 @@ impl<S: Drop> Held<S> {
     /// wanting for that the session is hung.
     pub fn event(&mut self, alloc: Global, event: Event) -> Went
         requires { IsTimed event }
-        ensures { After self.old event result self.new }
+        ensures { After S.records S.faults self.old event result self.new }
     {
         match event {
             Event::Connect => self.connect(alloc),
@@ -262,7 +265,7 @@ impl<S: Drop> Held<S> {
 
     /// A record came that is no message.
     fn unheard(&mut self, alloc: Global, session: u32, fault: WireFault) -> Went
-        ensures { Unheard self.old session fault result self.new }
+        ensures { Unheard S.records S.faults self.old session fault result self.new }
     {
         match fault {
             WireFault::UnknownXid { .. } => self.standing(session),
@@ -275,7 +278,7 @@ impl<S: Drop> Held<S> {
 
     /// A record came of which no message was read.
     fn unread(&mut self, alloc: Global, session: u32, error: WireErr) -> Went
-        ensures { Unread self.old session error result self.new }
+        ensures { Unread S.records S.faults self.old session error result self.new }
     {
         match error {
             WireErr::Fault(fault) => self.unheard(alloc, session, fault),
@@ -290,7 +293,7 @@ impl<S: Drop> Held<S> {
     /// session, and an answer that nobody waits for is no event; want of memory hangs it too.
     pub fn got(&mut self, alloc: Global, session: u32, bytes: &[u8], now: u64) -> Went
         requires { now < 2 ^ 63 }
-        ensures { HeardOrLeft self.old session now (parse_of server_waits bytes.now) result self.new }
+        ensures { HeardOrLeft S.records S.faults self.old session now (parse_of server_waits bytes.now) result self.new }
     {
         let expected = server_waits(alloc);
         match parse(alloc, bytes, &expected) {
@@ -304,22 +307,17 @@ impl<S: Drop> Held<S> {
         ensures taken { (messages : List Message) → Holds self.old.boxes session messages → (result.items ≡ messages) × Holds self.new.boxes session [] }
         ensures none { Lacks self.old.boxes session → result.items ≡ [] }
         ensures others { KeepsOthers self.old.boxes self.new.boxes session }
-        ensures rest { (self.new.server ≡ self.old.server) × (self.new.store ≡ self.old.store) }
+        ensures kept { self.new.kept ≡ self.old.kept }
     {
         self.boxes.take(session).into_vec()
     }
 
     /// The store, once nobody is told anything any more.
     pub fn into_store(self) -> S
-        ensures { result ≡ self.store }
+        ensures { result ≡ self.kept.store }
     {
-        let Held {
-            server,
-            store,
-            boxes,
-        } = self;
+        let Held { kept, boxes } = self;
         drop(boxes);
-        drop(server);
-        store
+        kept.into_store()
     }
 }

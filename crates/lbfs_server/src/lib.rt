@@ -3,6 +3,8 @@
 
 pub mod gate;
 pub mod held;
+mod kept;
 pub mod listener;
+pub mod serve;
 pub mod session;
 pub mod shared;

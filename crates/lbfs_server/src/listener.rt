@@ -20,9 +20,10 @@ use std::sync::Wait;
 use std::sync::atomic::{AtomicBool, Ordering};
 use std::thread;
 use std::thread::{Scope, Threads};
+use store::store::Store;
 
 /// Puts out what there is to say to a session, on a link of its own.
-fn give_out<R: Wait, S: Drop, G: Gate + Drop, L: Link + Drop>(
+fn give_out<R: Wait, S: Store + Drop, G: Gate + Drop, L: Link + Drop>(
     rt: &R,
     shared: &Shared<S, G>,
     session: u32,
@@ -37,7 +38,7 @@ fn give_out<R: Wait, S: Drop, G: Gate + Drop, L: Link + Drop>(
 fn serve_twins<
     'x,
     R: Threads + Wait + Sync,
-    S: Drop + Send,
+    S: Store + Drop + Send,
     G: Gate + Drop + Sync,
     L: Link + Drop + Send,
     C: Clock + Sync,
@@ -57,7 +58,7 @@ fn serve_twins<
 /// Serves a session on its link, in two threads; where the link has no twin, in one.
 fn serve_session<
     R: Threads + Wait + Sync,
-    S: Drop + Send,
+    S: Store + Drop + Send,
     G: Gate + Drop + Sync,
     L: Link + Drop + Send,
     C: Clock + Sync,
@@ -70,7 +71,7 @@ fn serve_session<
 }
 
 /// Lets changes be made that wait for a moment, until all sessions were served.
-fn tick<R: Wait, S: Drop, G: Gate + Drop, C: Clock, T: Rest>(
+fn tick<R: Wait, S: Store + Drop, G: Gate + Drop, C: Clock, T: Rest>(
     rt: &R,
     shared: &Shared<S, G>,
     clock: &C,
@@ -92,7 +93,7 @@ fn begin<
     's,
     'e,
     R: Threads + Wait + Sync,
-    S: Drop + Send,
+    S: Store + Drop + Send,
     G: Gate + Drop + Sync,
     L: Link + Drop + Send + 's,
     C: Clock + Sync,
@@ -114,7 +115,7 @@ fn accept_all<
     's,
     'e,
     R: Threads + Wait + Sync,
-    S: Drop + Send,
+    S: Store + Drop + Send,
     G: Gate + Drop + Sync,
     N: Network,
     C: Clock + Sync,
@@ -144,7 +145,7 @@ where
 fn serve_all<
     'x,
     R: Threads + Wait + Sync,
-    S: Drop + Send,
+    S: Store + Drop + Send,
     G: Gate + Drop + Sync,
     N: Network + Drop,
     C: Clock + Sync,
@@ -184,7 +185,7 @@ where
 pub fn serve_links<
     'x,
     R: Threads + Wait + Sync,
-    S: Drop + Send,
+    S: Store + Drop + Send,
     G: Gate + Drop + Sync,
     N: Network + Drop,
     C: Clock + Sync,

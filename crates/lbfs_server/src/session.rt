@@ -16,10 +16,11 @@ use record_ends::inbox::Inbox;
 use record_ends::outgoing::put_out;
 use server_core::event::Event;
 use std::sync::Wait;
+use store::store::Store;
 
 /// Takes a session's records off its link, each in a turn of its own, and lets its change be made
 /// where one waits.
-fn read_on<W: Wait, S: Drop, G: Gate + Drop, L: Link, C: Clock>(
+fn read_on<W: Wait, S: Store + Drop, G: Gate + Drop, L: Link, C: Clock>(
     rt: &W,
     shared: &Shared<S, G>,
     session: u32,
@@ -53,7 +54,7 @@ fn read_on<W: Wait, S: Drop, G: Gate + Drop, L: Link, C: Clock>(
 ///
 /// `InputEnd` comes where the input ended, `Failed` only where the link's count of faults rose, and
 /// `Spoilt` only where no record can stand behind the bytes that came.
-pub fn session_in<W: Wait, S: Drop, G: Gate + Drop, L: Link, C: Clock>(
+pub fn session_in<W: Wait, S: Store + Drop, G: Gate + Drop, L: Link, C: Clock>(
     rt: &W,
     shared: &Shared<S, G>,
     session: u32,
@@ -73,7 +74,7 @@ pub fn session_in<W: Wait, S: Drop, G: Gate + Drop, L: Link, C: Clock>(
 
 /// Puts out what there is to say to a session until it is gone, or its link fails; then it shuts the
 /// link.
-pub fn session_out<W: Wait, S: Drop, G: Gate + Drop, L: Link>(
+pub fn session_out<W: Wait, S: Store + Drop, G: Gate + Drop, L: Link>(
     rt: &W,
     shared: &Shared<S, G>,
     session: u32,
@@ -91,7 +92,7 @@ pub fn session_out<W: Wait, S: Drop, G: Gate + Drop, L: Link>(
 
 /// Puts out what there is to say to a session, and shuts the link where the session is gone or the
 /// link failed.
-fn say<W: Wait, S: Drop, G: Gate + Drop, L: Link>(
+fn say<W: Wait, S: Store + Drop, G: Gate + Drop, L: Link>(
     rt: &W,
     shared: &Shared<S, G>,
     session: u32,
@@ -107,7 +108,7 @@ fn say<W: Wait, S: Drop, G: Gate + Drop, L: Link>(
     }
 }
 
-fn both_on<W: Wait, S: Drop, G: Gate + Drop, L: Link, C: Clock>(
+fn both_on<W: Wait, S: Store + Drop, G: Gate + Drop, L: Link, C: Clock>(
     rt: &W,
     shared: &Shared<S, G>,
     session: u32,
@@ -139,7 +140,7 @@ fn both_on<W: Wait, S: Drop, G: Gate + Drop, L: Link, C: Clock>(
 /// A session in one thread: each record is taken, a change that waits may be made, and what there
 /// is to say is put out. It answers as `session_in` does, and has shut the link where the session
 /// was closed before its input ended.
-pub fn session_both<W: Wait, S: Drop, G: Gate + Drop, L: Link, C: Clock>(
+pub fn session_both<W: Wait, S: Store + Drop, G: Gate + Drop, L: Link, C: Clock>(
     rt: &W,
     shared: &Shared<S, G>,
     session: u32,

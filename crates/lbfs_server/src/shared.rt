@@ -10,11 +10,12 @@ use crate::held::{Held, Went};
 use server_core::event::Event;
 use std::alloc::Global;
 use std::sync::{Condvar, Mutex, Wait};
+use store::store::Store;
 use wire::message::Message;
 
 /// What the threads of a server share, and by what those are woken that have nothing to say.
 #[derive(Drop)]
-pub struct Shared<S, G> {
+pub struct Shared<S: Store, G> {
     held: Mutex<Held<S>>,
     /// Something was put into a box, or a session went.
     said: Condvar,
@@ -30,7 +31,7 @@ pub struct Outgoing {
     pub stands: bool,
 }
 
-impl<S: Drop, G: Gate + Drop> Shared<S, G> {
+impl<S: Store + Drop, G: Gate + Drop> Shared<S, G> {
     /// What a server's threads share. It takes no memory.
     pub fn new(alloc: Global, held: Held<S>, gate: G) -> Shared<S, G> {
         Shared {
@@ -65,7 +66,10 @@ impl<S: Drop, G: Gate + Drop> Shared<S, G> {
     {
         self.gate.before();
         let went = self.held.lock(rt).event(self.alloc, event);
-        self.said.notify_all();
+        // Where no change could be made nothing was said to anybody.
+        if went != Went::NotReady {
+            self.said.notify_all();
+        }
         self.gate.after();
         went
     }

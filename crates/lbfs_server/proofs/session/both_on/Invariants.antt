@@ -1,4 +1,4 @@
-use Rattle.std.proofs.Common.{◌≤◌}
+use Rattle.std.proofs.Common.{◌≡◌, ◌≤◌}
 use Rattle.lbfs_server.proofs.Giving.{Taken}
 use Rattle.lbfs_server.proofs.session.both_on.Given as goal
 

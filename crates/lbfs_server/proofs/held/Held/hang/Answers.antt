@@ -1,11 +1,10 @@
-use Rattle.std.proofs.Common.{refl}
 use Rattle.lbfs_server.proofs.Hanging.{hang_is}
 use Rattle.lbfs_server.proofs.held.Held.hang.Goals as goal
 
 pub returns : goal.returns
 returns g c = record {
-  hangs = hang_is c.args.self.now.server c.args.session c.step_unkept-step.new.self c.step_unkept-step.result (c.step_unkept-step.ensures.exact, c.step_unkept-step.ensures.missed);
+  hangs = hang_is _ _ c.args.self.now.kept.server c.args.session c.step-step.new.self.server c.step-step.result c.step-step.ensures.stepped;
   gone = c.close.ensures.gone;
   others = c.close.ensures.others;
-  store = refl;
+  store = c.step-step.ensures.store;
 }

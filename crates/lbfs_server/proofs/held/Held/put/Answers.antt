@@ -6,7 +6,7 @@ use Rattle.lbfs_server.proofs.held.Held.put.Goals as goal
 pub returns-in-Ok : goal.returns-in-Ok
 returns-in-Ok g c =
     let put : PutInto c.args.self.now.boxes c.args.sent c.put.new.self = record { put = c.in-Ok.ensures.put; none = c.in-Ok.ensures.none; others = c.in-Ok.ensures.others } in
-    delivered_one c.args.self.now c.args.sent _ refl refl put
+    delivered_one g.S.Store.records g.S.Store.faults c.args.self.now c.args.sent _ refl put
 
 pub returns-in-Err : goal.returns-in-Err
-returns-in-Err g c = delivered_hung c.args.self.now _ c.args.sent c.hang.new.self refl refl c.in-Err.ensures.others c.hang.ensures
+returns-in-Err g c = delivered_hung g.S.Store.records g.S.Store.faults c.args.self.now _ c.args.sent c.hang.new.self refl c.in-Err.ensures.others c.hang.ensures

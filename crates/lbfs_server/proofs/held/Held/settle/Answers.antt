@@ -1,9 +1,10 @@
-use Rattle.std.proofs.Common.{refl, inl, inr}
+use Rattle.std.proofs.Common.{refl, inl, inr, sym, ◌∙◌}
 use Rattle.lbfs_server.proofs.Delivering.{took}
+use Rattle.lbfs_server.proofs.Quiet.{quiet}
 use Rattle.lbfs_server.proofs.held.Held.settle.Goals as goal
 
 pub returns-then-deliver : goal.returns-then-deliver
-returns-then-deliver g c = took c.args.self.now _ _ c.settled_as.result c.deliver.new.self c.step_unkept-send.result c.deliver.result (c.step_unkept-send.ensures.exact, c.step_unkept-send.ensures.missed) refl refl c.deliver.ensures (λ not. c.if-deliver.true) (inr c.settled_as.ensures)
+returns-then-deliver g c = took g.S.Store.records g.S.Store.faults c.args.self.now _ _ c.settled_as.result c.deliver.new.self c.step-send.result c.deliver.result c.step-send.ensures.stepped c.step-send.ensures.store refl c.deliver.ensures (λ not. c.if-deliver.true) (inr (c.settled_as.ensures, λ not. quiet _ _ c.args.self.now.kept.server c.args.now c.step-send.new.self.server c.step-send.result c.step-send.ensures.stepped (sym c.settled_as.ensures ∙ not)))
 
 pub returns-else-deliver : goal.returns-else-deliver
-returns-else-deliver g c = took c.args.self.now _ _ _ c.deliver.new.self c.step_unkept-send.result c.deliver.result (c.step_unkept-send.ensures.exact, c.step_unkept-send.ensures.missed) refl refl c.deliver.ensures (λ not. absurd (not refl)) (inl refl)
+returns-else-deliver g c = took g.S.Store.records g.S.Store.faults c.args.self.now _ _ _ c.deliver.new.self c.step-send.result c.deliver.result c.step-send.ensures.stepped c.step-send.ensures.store refl c.deliver.ensures (λ not. absurd (not refl)) (inl refl)

@@ -1,5 +1,6 @@
 use Rattle.std.specs.Prelude.{[], ◌∷◌}
 use Rattle.std.proofs.Common.{refl, inl, inr}
+use Rattle.lbfs_server.proofs.Keeping.{store_same}
 use Rattle.lbfs_server.proofs.Telling.{keeps_more}
 use Rattle.lbfs_server.proofs.held.Held.welcome.Goals as goal
 
@@ -10,7 +11,7 @@ returns-in-Ok g c = record {
   opened = λ k is. (cc, refl, c.in-Ok.ensures.opened);
   others = c.in-Ok.ensures.others;
   known = inl refl;
-  store = refl;
+  store = store_same g.S.Store.records g.S.Store.faults c.args.self.now.kept;
 }
 
 pub returns-in-Err : goal.returns-in-Err

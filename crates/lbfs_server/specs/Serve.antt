@@ -1,0 +1,19 @@
+-- What a server is opened with.
+use Rattle.std.specs.Prelude.{◌≡◌, ℕ, List, Option, Some, Ok, Err}
+use Rattle.store.specs.declared.record.Kept.{Kept}
+use Rattle.file_tree.specs.Tree.{Tree}
+use Rattle.server_core.specs.State.{State}
+use Rattle.server_core.specs.Step.{with_tree}
+use Rattle.tree_load.specs.Load.{load}
+
+-- records that a store may have given: its own, where it tells them
+abbrev pub MayGive : Option (List Kept) → List Kept → Type 0
+MayGive told records = (held : List Kept) → told ≡ Some held → records ≡ held
+
+-- the server has no session, and the tree of the records
+abbrev pub IsServerOf : Option (List Kept) → State → Type 0
+IsServerOf told server = (records : List Kept) × (tree : Tree) × MayGive told records × (load records ≡ Ok tree) × (server ≡ with_tree tree)
+
+-- the record, counted from 0, is the first that breaks a rule
+abbrev pub IsBad : Option (List Kept) → ℕ → Type 0
+IsBad told which = (records : List Kept) × MayGive told records × (load records ≡ Err which)

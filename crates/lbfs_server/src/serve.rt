@@ -1,0 +1,119 @@
+//! Serving a store's tree on a port. `specs/Serve.antt` states which tree that is, and which record
+//! is told that breaks a rule.
+
+ghost use Rattle.std.specs.Prelude.{◌≡◌, ℕ, IfOk, IsErrOf};
+ghost use Rattle.lb_base.specs.Causes.{Rose};
+ghost use Rattle.lbfs_server.specs.Ends.{CountsMore};
+ghost use Rattle.lbfs_server.specs.Serve.{IsServerOf, IsBad};
+ghost use Rattle.lbfs_server.specs.declared.serve.ServeErr.TheVariants as errors;
+
+use crate::gate::Gate;
+use crate::held::Held;
+use crate::listener::serve_links;
+use crate::shared::Shared;
+use lb_base::source::Failed;
+use links::clock::Clock;
+use links::network::Network;
+use links::rest::Rest;
+use server_core::server::Server;
+use std::alloc::Global;
+use std::sync::Wait;
+use std::thread::Threads;
+use store::store::{Store, StoreErr};
+use tree_load::error::LoadError;
+use tree_load::load::load;
+
+/// What came of serving.
+#[derive(Clone, Copy, Debug, PartialEq, Eq)]
+pub struct Served {
+    /// How many sessions were served.
+    pub sessions: u32,
+    /// How many changes were made.
+    pub changes: usize,
+}
+
+/// Why nothing more is served.
+#[derive(Clone, Copy, Debug, PartialEq, Eq)]
+pub enum ServeErr {
+    /// The network failed.
+    Network,
+    /// The store failed as its records were to be given.
+    Store,
+    /// This record of the store, counted from 0, is the first that breaks a rule.
+    BadRecord { which: usize },
+    /// Memory ran out.
+    Memory,
+}
+
+/// A server of the tree of a store's records.
+#[tactic(auto, using(crate::proofs::Serving::is_server_of, crate::proofs::Serving::is_bad))]
+fn opened<S: Store>(alloc: Global, store: &mut S, place: &str) -> Result<Server, ServeErr>
+    ensures tree { IfOk result (IsServerOf (S.records store.old)) }
+    ensures store { IsErrOf result errors.Store → Rose (S.faults store.old) (S.faults store.new) }
+    ensures record { (which : ℕ) → IsErrOf result (errors.BadRecord which) → IsBad (S.records store.old) which }
+    ensures network { IsErrOf result errors.Network → ⊥ }
+{
+    let records = match store.load(alloc, place) {
+        Ok(records) => records,
+        Err(StoreErr::Failed) => return Err(ServeErr::Store),
+        Err(StoreErr::Memory) => return Err(ServeErr::Memory),
+    };
+    let tree = match load(alloc, records) {
+        Ok(tree) => tree,
+        Err(LoadError::BadRecord { which }) => return Err(ServeErr::BadRecord { which }),
+        Err(LoadError::Memory) => return Err(ServeErr::Memory),
+    };
+    match Server::with_tree(alloc, tree) {
+        Ok(server) => Ok(server),
+        Err(_) => Err(ServeErr::Memory),
+    }
+}
+
+/// Loads the tree of a store, listens at a port, and serves as many sessions as are asked for, each
+/// in threads of its own; it returns once they have ended, and gives the store and the network back.
+///
+/// An empty store has the root alone. `Store` comes only where the store's count of faults rose as
+/// it gave its records, `BadRecord` names the first of these that breaks a rule, and `Network` comes
+/// only where the network's count rose.
+#[tactic(auto, using(crate::proofs::Serving::none_held, crate::proofs::Serving::same_error))]
+pub fn serve<
+    R: Threads + Wait + Sync,
+    S: Store + Drop + Send,
+    N: Network + Drop,
+    C: Clock + Sync,
+    T: Rest + Sync,
+    G: Gate + Drop + Sync,
+>(
+    rt: &R,
+    alloc: Global,
+    store: S,
+    place: &str,
+    net: N,
+    clock: &C,
+    rest: &T,
+    gate: G,
+    port: u16,
+    sessions: u32,
+) -> (Result<Served, ServeErr>, S, N)
+where
+    N::L: Drop + Send,
+    ensures sessions { IfOk result.0 (λ s. (s.sessions ≡ sessions) × CountsMore (N.accepted net) sessions (N.accepted result.2)) }
+    ensures network { IsErrOf result.0 errors.Network → Rose (N.faults net) (N.faults result.2) }
+    ensures store { IsErrOf result.0 errors.Store → Rose (S.faults store) (S.faults result.1) }
+    ensures record { (which : ℕ) → IsErrOf result.0 (errors.BadRecord which) → IsBad (S.records store) which }
+{
+    let mut store = store;
+    let server = match opened(alloc, &mut store, place) {
+        Ok(server) => server,
+        Err(error) => return (Err(error), store, net),
+    };
+    let shared = Shared::new(alloc, Held::new(alloc, server, store), gate);
+    let (served, net) = serve_links(rt, &shared, net, clock, rest, port, sessions);
+    let held = shared.into_held();
+    let changes = held.changes_made();
+    let store = held.into_store();
+    match served {
+        Ok(()) => (Ok(Served { sessions, changes }), store, net),
+        Err(Failed) => (Err(ServeErr::Network), store, net),
+    }
+}
