@@ -21,7 +21,7 @@ takes_end old new lines none ended count = record {
 pub takes_none : (k : Coming) → Takes k [] k
 takes_none k = record { same = λ more may. refl; count = omega arith }
 
-apart : true ≡ false → ⊥
+pub apart : true ≡ false → ⊥
 apart e = cc
 
 -- some bytes, and then some more, where the input had not ended between

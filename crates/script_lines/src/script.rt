@@ -94,8 +94,8 @@ impl Script {
     /// The next line that comes from the source, without its line feed; none at the end of the input.
     /// It takes bytes only where no line is there yet, and may wait for them.
     ///
-    /// Whatever bytes are taken at once, the lines are those of all bytes that come, in order.
-    /// `Fault` comes only where the source's count rose, `TooLong` where more than `INPUT_MOST` bytes
+    /// Whatever bytes are taken at once, the lines are those of all bytes that come, in order. Once
+    /// the input has ended no more is taken. `Fault` comes only where the source's count rose, `TooLong` where more than `INPUT_MOST` bytes
     /// came. After an error the bytes that were taken last may be gone.
     pub fn next<S: Source>(
         &mut self,
@@ -105,6 +105,7 @@ impl Script {
         ensures line { IfOk result (λ r. IfSome r (λ line. (bytes : List ℕ) × Consumes (S.left source.old) (S.left source.new) bytes × Gives self.old bytes line self.new)) }
         ensures end { result ≡ Ok None → (bytes : List ℕ) × Consumes (S.left source.old) (S.left source.new) bytes × Takes self.old bytes self.new × (self.new.ended ≡ true) × (coming self.new [] ≡ []) }
         ensures ended { self.old.ended ≡ false → self.new.ended ≡ true → IsAtEnd (S.left source.new) }
+        ensures still { OnOk result (self.old.ended ≡ true → (self.new.ended ≡ true) × (self.new.taken ≡ self.old.taken) × (source.new ≡ source.old)) }
         ensures fault { IsErrOf result errors.Fault → Rose (S.faults source.old) (S.faults source.new) }
         ensures too_long { IsErrOf result errors.TooLong → (bytes : List ℕ) × Consumes (S.left source.old) (S.left source.new) bytes × (INPUT_MOST < self.old.taken + length bytes) }
         ensures later { S.faults source.old ≤ S.faults source.new }

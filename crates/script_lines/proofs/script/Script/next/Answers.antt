@@ -2,11 +2,11 @@ use Rattle.std.proofs.Common.{rules, ◌≡◌, List, ℕ, [], ◌∷◌, ◌++�
 use Rattle.std.specs.Option.{option_to_list}
 use Rattle.std.proofs.lemmas.Result.{err_from_is_err_and}
 use Rattle.script_lines.specs.Script.{Coming, Takes, Gives}
-use Rattle.script_lines.proofs.Coming.{takes_none, takes_more, gives_first, consumes_more, error_is}
+use Rattle.script_lines.proofs.Coming.{takes_none, takes_more, gives_first, consumes_more, error_is, apart}
 use Rattle.script_lines.proofs.script.Script.next.Goals as goal
 
 pub loop-round-init : goal.loop-round-init
-loop-round-init g c = record { took = ([], search rules, takes_none _); ended = search rules; later = search rules }
+loop-round-init g c = record { took = ([], search rules, takes_none _); ended = search rules; still = λ ended. (refl, refl); later = search rules }
 
 pub returns-in-Some-clause-line : goal.returns-in-Some-clause-line
 returns-in-Some-clause-line g c =
@@ -27,8 +27,15 @@ loop-round-preserved g c =
     record {
       took = (c.loop-round.invariant.took.0 ++ filled.0, consumes_more _ _ _ _ _ c.loop-round.invariant.took.1 filled.1, takes_more _ _ _ _ _ goes_on c.loop-round.invariant.took.2 more);
       ended = search rules;
+      still = λ ended. absurd (apart (sym (ap (λ (k : Coming). k.ended) (c.loop-round.invariant.still ended).0 ∙ ended) ∙ goes_on));
       later = search rules;
     }
+
+pub returns-in-Some-clause-still : goal.returns-in-Some-clause-still
+returns-in-Some-clause-still g c = λ ended.
+    let same = ap (λ (k : Coming). k.ended) c.self.view_is ∙ ap (λ (k : Coming). k.ended) (c.loop-round.invariant.still ended).0 in
+    let count = ap (λ (k : Coming). k.taken) c.self.view_is ∙ ap (λ (k : Coming). k.taken) (c.loop-round.invariant.still ended).0 in
+    (same ∙ ended, count, (c.loop-round.invariant.still ended).1)
 
 pub returns-in_err-fill-in-None-2-clause-too_long : goal.returns-in_err-fill-in-None-2-clause-too_long
 returns-in_err-fill-in-None-2-clause-too_long g c = λ is.

@@ -1,0 +1,6 @@
+use Rattle.std.proofs.Common.{List, ℕ, subst, sym}
+use Rattle.lbfs_mount.specs.Mounts.{IsAnswer}
+use Rattle.lbfs_mount.proofs.answer_line.AnswerLine.as_slice.Goals as goal
+
+pub returns : goal.returns
+returns c = subst (λ (text : List ℕ). IsAnswer text) (sym c.as_slice.ensures) c.args.self.now.told

@@ -1,0 +1,5 @@
+use Rattle.lbfs_mount.proofs.Progress.{unpaired}
+use Rattle.lbfs_mount.proofs.connecting.dial.Goals as goal
+
+pub returns-in-Ok-dial-clause-why : goal.returns-in-Ok-dial-clause-why
+returns-in-Ok-dial-clause-why g c = unpaired c.pair.result g.N.L.Link.faults (g.N.Network.faults c.args.net.now) (g.N.Network.faults c.dial.new.self) c.dial.ensures.later (c.pair.ensures (g.N.Network.faults c.dial.new.self))

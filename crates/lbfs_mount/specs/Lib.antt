@@ -1,0 +1,3 @@
+pub mod Mounts
+pub mod Turns
+mod Rows

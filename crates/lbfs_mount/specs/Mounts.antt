@@ -1,0 +1,160 @@
+-- What a mount writes for the lines of its script, and why it ends.
+use Rattle.std.specs.Prelude.{◌≡◌, ◌⊎◌, ℕ, ◌+◌, ◌<◌, List, [], ◌∷◌, ◌++◌, length, Option, Some, None, Result, Ok, Err, Bool, true, false}
+use Rattle.std.specs.Io.KnownBytes.{Appends, Consumes, IsAtEnd}
+use Rattle.lb_base.specs.Causes.{Rose}
+use Rattle.lb_base.specs.Known.{AppendsPrefix}
+use Rattle.lb_base.specs.declared.sink.GiveErr.{GiveErr}
+use Rattle.lb_base.specs.declared.sink.GiveErr.TheVariants as give
+use Rattle.lb_base.specs.declared.source.ReadError.{ReadError}
+use Rattle.lb_base.specs.declared.source.ReadError.TheVariants as read
+use Rattle.limits.specs.declared.TheConstants.{INPUT_MOST}
+use Rattle.command_text.specs.Parts.{lines_of}
+use Rattle.mount_text.specs.Answers.{answer_line}
+use Rattle.mount_text.specs.Lines.{line_of}
+use Rattle.mount_text.specs.declared.answer.Answer.{Answer}
+use Rattle.mount_text.specs.declared.line.MountLine.{MountLine}
+use Rattle.mount_text.specs.declared.line.MountLine.TheVariants as line
+use Rattle.lbfs_mount.specs.declared.mount_err.MountErr.{MountErr}
+use Rattle.lbfs_mount.specs.declared.mount_err.MountErr.TheVariants as errors
+
+-- ---- what is written
+
+-- the line that tells how an operation ended
+abbrev pub IsAnswer : List ℕ → Type 0
+IsAnswer text = ∥ ((a : Answer) × (text ≡ answer_line a)) ∥₁
+
+-- whether a line is skipped
+abbrev pub is_skip : MountLine → Bool
+is_skip line.Skipped = true
+is_skip l = false
+
+abbrev pub TellsIf : (is_skip : Bool) → List ℕ → Type 0
+TellsIf true told = told ≡ []
+TellsIf false told = IsAnswer told
+
+-- what is written for a line of the script: nothing where it is skipped, else one answer
+abbrev pub TellsLine : Option MountLine → List ℕ → Type 0
+TellsLine None told = ⊥
+TellsLine (Some l) told = TellsIf (is_skip l) told
+
+-- what is written for these lines, in order
+pub data Tells : List (List ℕ) → List ℕ → Type 0 where
+  nothing : Tells [] []
+  more : (lines : List (List ℕ)) (written text told : List ℕ) → Tells lines written → TellsLine (line_of text) told → Tells (lines ++ text ∷ []) (written ++ told)
+
+-- ---- how a mount ends
+
+-- the script was read to its end, and what was written tells all of its lines
+abbrev pub IsDone : (left left' held held' : Option (List ℕ)) → Type 0
+IsDone left left' held held' = (script : List ℕ) × (written : List ℕ) × Consumes left left' script × IsAtEnd left' × Tells (lines_of script) written × Appends held held' written
+
+-- however a mount ends: a front of what tells some lines was written
+abbrev pub Writes : (held held' : Option (List ℕ)) → Type 0
+Writes held held' = (lines : List (List ℕ)) × (written : List ℕ) × Tells lines written × AppendsPrefix held held' written
+
+-- whatever follows these bytes, where something may, their lines are these and then others
+abbrev pub BeginsWith : (ended : Bool) → (bytes : List ℕ) → List (List ℕ) → Type 0
+BeginsWith ended bytes lines = (more : List ℕ) → (ended ≡ true → more ≡ []) → (rest : List (List ℕ)) × (lines_of (bytes ++ more) ≡ lines ++ rest)
+
+-- the line of this number, from 1, is the first that is none of a script; the lines before it were told
+pub record IsBadLine (left left' held held' : Option (List ℕ)) (number : ℕ) : Type 0 where
+  pub bytes : List ℕ
+  pub taken : Consumes left left' bytes
+  pub ended : Bool
+  pub at_end : ended ≡ true → IsAtEnd left'
+  pub lines : List (List ℕ)
+  pub text : List ℕ
+  pub stand : BeginsWith ended bytes (lines ++ text ∷ [])
+  pub counted : number ≡ length lines + 1
+  pub bad : line_of text ≡ None
+  pub written : List ℕ
+  pub told : Tells lines written
+  pub out : Appends held held' written
+
+-- more bytes were taken than a script may have
+abbrev pub IsTooLong : (left left' : Option (List ℕ)) → Type 0
+IsTooLong left left' = (bytes : List ℕ) × Consumes left left' bytes × (INPUT_MOST < length bytes)
+
+-- of two states of a link, the count of faults rose from the one to the other
+abbrev pub LinkFails : {L : Type 0} → (L → ℕ) → Type 0
+LinkFails faults = (before : _) × (after : _) × Rose (faults before) (faults after)
+
+-- ---- the same, by the answer of each call
+
+-- what a mount works with: the bytes that are left to read and those that were written, and the faults of the source, the sink and the network
+pub record Outside : Type 0 where
+  pub left : Option (List ℕ)
+  pub reads : ℕ
+  pub held : Option (List ℕ)
+  pub writes : ℕ
+  pub dials : ℕ
+
+-- why a connection isn't joined
+abbrev pub Unjoined : {L : Type 0} → (L → ℕ) → (dials dials' : ℕ) → MountErr → Type 0
+Unjoined links dials dials' errors.Network = Rose dials dials' ⊎ LinkFails links
+Unjoined links dials dials' errors.Memory = Unit {0}
+Unjoined links dials dials' e = ⊥
+
+-- why an answer wasn't written
+abbrev pub Unwritten : (writes writes' : ℕ) → MountErr → Type 0
+Unwritten writes writes' errors.WriteFault = Rose writes writes'
+Unwritten writes writes' errors.Memory = Unit {0}
+Unwritten writes writes' e = ⊥
+
+-- why a line wasn't told
+abbrev pub Untold : {L : Type 0} → (L → ℕ) → (writes writes' dials dials' : ℕ) → MountErr → Type 0
+Untold links writes writes' dials dials' errors.WriteFault = Rose writes writes'
+Untold links writes writes' dials dials' errors.Network = Rose dials dials' ⊎ LinkFails links
+Untold links writes writes' dials dials' errors.Memory = Unit {0}
+Untold links writes writes' dials dials' e = ⊥
+
+-- a sink's errors, and a source's
+abbrev pub written_as : Result Unit GiveErr → Result Unit MountErr
+written_as (Ok u) = Ok u
+written_as (Err give.Failed) = Err errors.WriteFault
+written_as (Err give.Memory) = Err errors.Memory
+
+abbrev pub read_end : ReadError → MountErr
+read_end read.Fault = errors.ReadFault
+read_end read.TooLong = errors.TooLong
+read_end read.Memory = errors.Memory
+
+-- an answer was written, or a front of one and why not all
+abbrev pub WriteEnds : (held held' : Option (List ℕ)) → (writes writes' : ℕ) → Result Unit MountErr → Type 0
+WriteEnds held held' writes writes' (Ok u) = (told : List ℕ) × IsAnswer told × Appends held held' told
+WriteEnds held held' writes writes' (Err e) = ((told : List ℕ) × IsAnswer told × AppendsPrefix held held' told) × Unwritten writes writes' e
+
+-- the same, where its line ran first
+abbrev pub AnswerEnds : {L : Type 0} → (L → ℕ) → (held held' : Option (List ℕ)) → (writes writes' dials dials' : ℕ) → Result Unit MountErr → Type 0
+AnswerEnds links held held' writes writes' dials dials' (Ok u) = (told : List ℕ) × IsAnswer told × Appends held held' told
+AnswerEnds links held held' writes writes' dials dials' (Err e) = ((told : List ℕ) × IsAnswer told × AppendsPrefix held held' told) × Untold links writes writes' dials dials' e
+
+-- why a line of this number, read so, wasn't run or told
+abbrev pub TextFails : {L : Type 0} → (L → ℕ) → Option MountLine → (number : ℕ) → (held held' : Option (List ℕ)) → (writes writes' dials dials' : ℕ) → MountErr → Type 0
+TextFails links l number held held' writes writes' dials dials' errors.ReadFault = ⊥
+TextFails links l number held held' writes writes' dials dials' errors.TooLong = ⊥
+TextFails links l number held held' writes writes' dials dials' (errors.BadLine n) = (n ≡ number) × (l ≡ None) × Appends held held' []
+TextFails links l number held held' writes writes' dials dials' errors.WriteFault = Rose writes writes'
+TextFails links l number held held' writes writes' dials dials' errors.Network = Rose dials dials' ⊎ LinkFails links
+TextFails links l number held held' writes writes' dials dials' errors.Memory = Unit {0}
+
+-- nothing was written for a line, or a front of what tells it
+abbrev pub WritesPart : Option MountLine → (held held' : Option (List ℕ)) → Type 0
+WritesPart l held held' = Appends held held' [] ⊎ ((told : List ℕ) × TellsLine l told × AppendsPrefix held held' told)
+
+abbrev pub TextEnds : {L : Type 0} → (L → ℕ) → Option MountLine → (number : ℕ) → (held held' : Option (List ℕ)) → (writes writes' dials dials' : ℕ) → Result Unit MountErr → Type 0
+TextEnds links l number held held' writes writes' dials dials' (Ok u) = (told : List ℕ) × TellsLine l told × Appends held held' told
+TextEnds links l number held held' writes writes' dials dials' (Err e) = WritesPart l held held' × TextFails links l number held held' writes writes' dials dials' e
+
+-- why a mount ended before its script did
+abbrev pub Fails : {L : Type 0} → (L → ℕ) → (old new : Outside) → MountErr → Type 0
+Fails links o s errors.ReadFault = Rose o.reads s.reads
+Fails links o s errors.WriteFault = Rose o.writes s.writes
+Fails links o s errors.Network = Rose o.dials s.dials ⊎ LinkFails links
+Fails links o s (errors.BadLine n) = IsBadLine o.left s.left o.held s.held n
+Fails links o s errors.TooLong = IsTooLong o.left s.left
+Fails links o s errors.Memory = Unit {0}
+
+abbrev pub Ends : {L : Type 0} → (L → ℕ) → (old new : Outside) → Result Unit MountErr → Type 0
+Ends links o s (Ok u) = IsDone o.left s.left o.held s.held
+Ends links o s (Err e) = Writes o.held s.held × Fails links o s e

@@ -1,0 +1,23 @@
+-- What a turn of a mount makes of its client: a call of `Mounted`, and one that tells it the end of the link where what was said didn't go out.
+use Rattle.std.specs.Prelude.{◌≡◌, ◌⊎◌, ℕ, List, Option, Some, None}
+use Rattle.record_ends.specs.declared.end.End.{End}
+use Rattle.lbfs_client.specs.Mounting.{Mount, Stops}
+use Rattle.lbfs_client.specs.declared.said.Said.{Said}
+use Rattle.lbfs_mount.specs.Mounts.{IsAnswer}
+
+-- what is said of an operation that ended, if one did
+abbrev pub IsTold : Option (List ℕ) → Type 0
+IsTold None = Unit {0}
+IsTold (Some text) = IsAnswer text
+
+-- the link has ended so
+abbrev pub Loses : Mount → End → (now : ℕ) → Mount → Type 0
+Loses m end now m' = (said : Said) × Stops m end now m' said
+
+-- what was said went out, or the link ended as it did
+abbrev pub Sends : Mount → (now : ℕ) → Mount → Type 0
+Sends m now m' = (m' ≡ m) ⊎ ((end : End) × Loses m end now m')
+
+-- a call of the client, and what it said is sent
+abbrev pub Turns : (Mount → Said → Type 0) → (now : ℕ) → Mount → Type 0
+Turns called now m' = (m : Mount) × (said : Said) × called m said × Sends m now m'

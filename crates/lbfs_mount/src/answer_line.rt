@@ -1,0 +1,28 @@
+//! The line of an operation that ended, as it is written.
+
+ghost use Rattle.lbfs_mount.specs.Mounts.{IsAnswer};
+
+use lb_base::items::Bytes;
+
+/// The line of an operation that ended, with its line feed.
+#[derive(Drop)]
+pub struct AnswerLine {
+    text: Bytes,
+    ghost told: { IsAnswer text },
+}
+
+impl AnswerLine {
+    /// The line with these bytes.
+    pub(crate) fn of(text: Bytes) -> AnswerLine
+        requires { IsAnswer text }
+    {
+        AnswerLine { text }
+    }
+
+    /// Its bytes.
+    pub fn as_slice(&self) -> &[u8]
+        ensures { IsAnswer result.now }
+    {
+        self.text.as_slice()
+    }
+}

@@ -1,0 +1,219 @@
+//! What the threads of a mount share: the client, the link on which its messages go, and the line of
+//! what ended last. `specs/Turns.antt` says what a turn makes of the client.
+
+ghost use Rattle.std.specs.Prelude.{◌≡◌, ◌⊎◌, IfOk, IsOk, false};
+ghost use Rattle.lbfs_client.specs.Mounting.{Runs, Receives, joined_step};
+ghost use Rattle.lbfs_mount.specs.Turns.{IsTold, Loses, Sends, Turns};
+
+use crate::answer_line::AnswerLine;
+use lb_base::items::{Bytes, Items};
+use lbfs_client::mounted::Mounted;
+use lbfs_client::said::Said;
+use links::files::Files;
+use links::link::Link;
+use mount_text::line::MountLine;
+use record_ends::end::End;
+use record_ends::outgoing::put_out;
+use std::alloc::{AllocError, Global};
+use wire::message::Message;
+
+/// A mounted client with its connection. Once memory ran out nothing is known of the client any
+/// more, and the mount ends.
+#[derive(Drop)]
+pub(crate) struct Desk<F: Files, L> {
+    mounted: Mounted<F>,
+    /// Where messages go, while a connection is joined.
+    link: Option<L>,
+    /// The number of the connection that was joined last, from 1.
+    connection: u64,
+    /// The line of what ended, until it is taken.
+    line: Option<AnswerLine>,
+    /// Whether memory ran out.
+    starved: bool,
+}
+
+/// Whether a line asks for a connection where none is joined.
+fn wants_link(line: &MountLine, linked: bool) -> bool {
+    match line {
+        MountLine::Join => !linked,
+        _ => false,
+    }
+}
+
+/// The link is shut, where there is one.
+fn close<L: Link + Drop>(link: &mut Option<L>) {
+    if let Some(link) = link {
+        link.shut();
+    }
+    *link = None;
+}
+
+/// The link is shut where the client is done with it.
+fn close_unless<L: Link + Drop>(linked: bool, link: &mut Option<L>) {
+    if !linked {
+        close(link);
+    }
+}
+
+/// Messages go out, where there are any and a connection is joined.
+fn send_on<L: Link>(alloc: Global, link: &mut Option<L>, send: &Items<Message>) -> Result<(), End> {
+    match link {
+        Some(link) if !send.is_empty() => put_out(alloc, link, send.as_slice()),
+        _ => Ok(()),
+    }
+}
+
+/// The line of what ended is kept until it is taken.
+fn keep(held: &mut Option<AnswerLine>, line: Option<Bytes>)
+    requires { IsTold line }
+{
+    if let Some(text) = line {
+        *held = Some(AnswerLine::of(text));
+    }
+}
+
+impl<F: Files + Drop, L: Link + Drop> Desk<F, L> {
+    /// A client of which no connection is joined.
+    pub(crate) fn new(mounted: Mounted<F>) -> Desk<F, L>
+        ensures { (result.mounted ≡ mounted) × (result.starved ≡ false) }
+    {
+        Desk {
+            mounted,
+            link: None,
+            connection: 0,
+            line: None,
+            starved: false,
+        }
+    }
+
+    /// Whether there is something for whoever waits for a line.
+    pub(crate) fn has_news(&self) -> bool {
+        self.line.is_some() || self.starved
+    }
+
+    /// The line of what ended. The error says that memory ran out.
+    pub(crate) fn take_line(&mut self) -> Result<AnswerLine, AllocError>
+        ensures { self.new.mounted ≡ self.old.mounted }
+    {
+        if self.starved {
+            return Err(AllocError);
+        }
+        match self.line.take() {
+            Some(line) => Ok(line),
+            None => Err(AllocError),
+        }
+    }
+
+    /// A line of the script begins. It answers whether a connection is to be joined for it.
+    pub(crate) fn run(&mut self, alloc: Global, line: MountLine, now: u64) -> bool
+        ensures { self.new.starved ≡ false → Turns (λ m said. Runs self.old.mounted line now m said) now self.new.mounted }
+    {
+        let wants = wants_link(&line, self.mounted.linked());
+        let said = self.mounted.line(alloc, line, now);
+        self.settle(alloc, said, now);
+        wants
+    }
+
+    /// A connection is joined, on this link. Its number is what the thread that takes its records is
+    /// known by.
+    pub(crate) fn join(&mut self, alloc: Global, link: L, now: u64) -> u64
+        ensures { self.new.starved ≡ false → Turns (λ m said. joined_step self.old.mounted ≡ (m, said)) now self.new.mounted }
+    {
+        close(&mut self.link);
+        self.link = Some(link);
+        self.connection = self.connection.saturating_add(1);
+        let said = self.mounted.joined(alloc);
+        self.settle(alloc, said, now);
+        self.connection
+    }
+
+    /// A record came on a connection. It answers whether more may come there.
+    pub(crate) fn hear(&mut self, alloc: Global, connection: u64, record: &[u8], now: u64) -> bool
+        ensures { self.new.starved ≡ false → (self.new.mounted ≡ self.old.mounted) ⊎ Turns (λ m said. Receives self.old.mounted record.now now m said) now self.new.mounted }
+    {
+        if !self.is_open(connection) {
+            return false;
+        }
+        let said = self.mounted.got(alloc, record, now);
+        self.settle(alloc, said, now);
+        close_unless(self.mounted.linked(), &mut self.link);
+        self.is_open(connection)
+    }
+
+    /// No more records come on a connection.
+    pub(crate) fn stop(&mut self, alloc: Global, connection: u64, end: End, now: u64)
+        ensures { self.new.starved ≡ false → (self.new.mounted ≡ self.old.mounted) ⊎ Loses self.old.mounted end now self.new.mounted }
+    {
+        if self.is_open(connection) {
+            self.lose(alloc, end, now);
+        }
+    }
+
+    /// The link is shut, where there is one.
+    pub(crate) fn close(&mut self)
+        ensures { (self.new.mounted ≡ self.old.mounted) × (self.new.starved ≡ self.old.starved) }
+    {
+        close(&mut self.link);
+    }
+
+    /// The files of the host, which the mount lets go.
+    pub(crate) fn into_files(self) -> F
+        ensures { self.mounted.host ≡ record { files = F.files result; faults = F.faults result } }
+    {
+        let Desk {
+            mounted,
+            link,
+            line,
+            ..
+        } = self;
+        drop(link);
+        drop(line);
+        mounted.into_files()
+    }
+
+    /// Whether this is the connection that is joined.
+    fn is_open(&self, connection: u64) -> bool {
+        self.connection == connection && self.link.is_some() && !self.starved
+    }
+
+    /// What a call of the client says is sent, and its line kept; or memory ran out.
+    fn settle(&mut self, alloc: Global, said: Result<Said, AllocError>, now: u64)
+        requires { IfOk said (λ s. IsTold s.line) }
+        ensures { self.new.starved ≡ false → IsOk said × Sends self.old.mounted now self.new.mounted }
+    {
+        match said {
+            Ok(said) => self.say(alloc, said, now),
+            Err(_want) => self.starved = true,
+        }
+    }
+
+    /// What the client says is sent, and its line kept.
+    fn say(&mut self, alloc: Global, said: Said, now: u64)
+        requires { IsTold said.line }
+        ensures { self.new.starved ≡ false → Sends self.old.mounted now self.new.mounted }
+    {
+        let Said { send, line } = said;
+        keep(&mut self.line, line);
+        let sent = send_on(alloc, &mut self.link, &send);
+        drop(send);
+        match sent {
+            Ok(()) => {}
+            Err(end) => self.lose(alloc, end, now),
+        }
+    }
+
+    /// The link has ended so. Nothing more goes out on it.
+    fn lose(&mut self, alloc: Global, end: End, now: u64)
+        ensures { self.new.starved ≡ false → Loses self.old.mounted end now self.new.mounted }
+    {
+        close(&mut self.link);
+        match self.mounted.ended(alloc, end, now) {
+            Ok(said) => {
+                let Said { send, line } = said;
+                drop(send);
+                keep(&mut self.line, line);
+            }
+            Err(_want) => self.starved = true,
+        }
+    }
+}

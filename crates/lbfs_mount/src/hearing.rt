@@ -1,0 +1,35 @@
+//! The thread of a connection: it takes the records that come, each in a turn of its own. So what the
+//! server asks is answered also while no line runs.
+
+use crate::shared::Shared;
+use links::clock::Clock;
+use links::files::Files;
+use links::link::Link;
+use record_ends::inbox::Inbox;
+use std::sync::Wait;
+
+/// Takes the records of a connection, until no more come or the client is done with it.
+pub(crate) fn hear_all<W: Wait, F: Files + Drop, L: Link + Drop, C: Clock>(
+    rt: &W,
+    shared: &Shared<F, L>,
+    connection: u64,
+    link: L,
+    inbox: Inbox,
+    clock: &C,
+) {
+    let mut link = link;
+    let mut inbox = inbox;
+    for _turn in rt.forever() {
+        match inbox.next(shared.alloc(), &mut link) {
+            Ok(record) => {
+                if !shared.hear(rt, connection, record.as_slice(), clock.now()) {
+                    return;
+                }
+            }
+            Err(end) => {
+                shared.stop(rt, connection, end, clock.now());
+                return;
+            }
+        }
+    }
+}

@@ -1,0 +1,117 @@
+//! A mount from its first connection to its end. `specs/Mounts.antt` says what it writes.
+
+ghost use Rattle.std.specs.Prelude.{ℕ, ◌≤◌, ◌⊎◌, OnOk, IsErrOf};
+ghost use Rattle.lb_base.specs.Causes.{Rose};
+ghost use Rattle.lbfs_mount.specs.Mounts.{Ends, IsBadLine, IsDone, IsTooLong, LinkFails, Writes};
+ghost use Rattle.lbfs_mount.specs.declared.mount_err.MountErr.TheVariants as errors;
+
+use crate::mount_err::MountErr;
+use crate::running::run_lines;
+use crate::shared::Shared;
+use lb_base::sink::Sink;
+use lb_base::source::Source;
+use lbfs_client::mounted::Mounted;
+use links::clock::Clock;
+use links::files::Files;
+use links::network::Network;
+use std::alloc::Global;
+use std::sync::Wait;
+use std::thread;
+use std::thread::Threads;
+
+/// Runs the lines of the script in a scope of threads, and shuts the link behind them.
+fn run_shared<
+    'x,
+    R: Threads + Wait + Sync,
+    S: Source + Drop,
+    K: Sink + Drop,
+    F: Files + Drop + Send,
+    N: Network + Drop,
+    C: Clock + Sync,
+>(
+    rt: &'x R,
+    shared: &'x Shared<F, N::L>,
+    script: S,
+    sink: K,
+    net: N,
+    clock: &'x C,
+    port: u16,
+) -> (Result<(), MountErr>, S, K, N)
+where
+    N::L: Drop + Send,
+    ensures ends { Ends N.L.faults (record { left = S.left script; reads = S.faults script; held = K.held sink; writes = K.faults sink; dials = N.faults net }) (record { left = S.left result.1; reads = S.faults result.1; held = K.held result.2; writes = K.faults result.2; dials = N.faults result.3 }) result.0 }
+    ensures later { (S.faults script ≤ S.faults result.1) × (K.faults sink ≤ K.faults result.2) }
+{
+    thread::scope(
+        thread::scope_env(),
+        rt,
+        move |scope| -> (Result<(), MountErr>, S, K, N)
+            ensures ends { Ends N.L.faults (record { left = S.left script; reads = S.faults script; held = K.held sink; writes = K.faults sink; dials = N.faults net }) (record { left = S.left result.1; reads = S.faults result.1; held = K.held result.2; writes = K.faults result.2; dials = N.faults result.3 }) result.0 }
+            ensures later { (S.faults script ≤ S.faults result.1) × (K.faults sink ≤ K.faults result.2) }
+        {
+            let mut script = script;
+            let mut sink = sink;
+            let mut net = net;
+            let ended = run_lines(
+                scope,
+                rt,
+                shared,
+                &mut net,
+                clock,
+                port,
+                &mut script,
+                &mut sink,
+            );
+            shared.close(rt);
+            (ended, script, sink, net)
+        },
+    )
+}
+
+/// Dials a port and runs the lines of a script over the connection, one by one: each line that isn't
+/// skipped is an operation of the client, and its outcome's line is given to the sink as soon as it
+/// has ended, before the next line is read. `join` dials again. A thread of its own takes the records
+/// of a connection, and so answers what the server asks also while no line runs.
+///
+/// `Ok` comes once the script was read to its end; then one line was written for each of its lines
+/// that isn't skipped, in order. `ReadFault` and `WriteFault` come only where the source's, or the
+/// sink's, count of faults rose, `Network` where the network's or a link's did, `BadLine` at the first
+/// line that is none of a script, and `TooLong` where the script has more bytes than `INPUT_MOST`.
+/// All that it works with is given back.
+pub fn mount<
+    R: Threads + Wait + Sync,
+    S: Source + Drop,
+    K: Sink + Drop,
+    F: Files + Drop + Send,
+    N: Network + Drop,
+    C: Clock + Sync,
+>(
+    rt: &R,
+    alloc: Global,
+    script: S,
+    sink: K,
+    files: F,
+    net: N,
+    clock: &C,
+    port: u16,
+) -> (Result<(), MountErr>, S, K, F, N)
+where
+    N::L: Drop + Send,
+    ensures done { OnOk result.0 (IsDone (S.left script) (S.left result.1) (K.held sink) (K.held result.2)) }
+    ensures written { Writes (K.held sink) (K.held result.2) }
+    ensures read { IsErrOf result.0 errors.ReadFault → Rose (S.faults script) (S.faults result.1) }
+    ensures write { IsErrOf result.0 errors.WriteFault → Rose (K.faults sink) (K.faults result.2) }
+    ensures network { IsErrOf result.0 errors.Network → Rose (N.faults net) (N.faults result.4) ⊎ LinkFails N.L.faults }
+    ensures read_later { S.faults script ≤ S.faults result.1 }
+    ensures write_later { K.faults sink ≤ K.faults result.2 }
+    ensures bad_line { (n : ℕ) → IsErrOf result.0 (errors.BadLine n) → IsBadLine (S.left script) (S.left result.1) (K.held sink) (K.held result.2) n }
+    ensures too_long { IsErrOf result.0 errors.TooLong → IsTooLong (S.left script) (S.left result.1) }
+{
+    let mounted = match Mounted::new(alloc, files) {
+        Ok(mounted) => mounted,
+        Err(files) => return (Err(MountErr::Memory), script, sink, files, net),
+    };
+    let shared = Shared::new(alloc, mounted);
+    let (ended, script, sink, net) = run_shared(rt, &shared, script, sink, net, clock, port);
+    (ended, script, sink, shared.into_files(), net)
+}

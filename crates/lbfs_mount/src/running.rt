@@ -1,0 +1,243 @@
+//! The lines of a script, one by one: each is read, runs to its end, and is told before the next one
+//! is read. `specs/Mounts.antt` says what is written for them.
+
+ghost use Rattle.std.specs.Prelude.{◌≡◌, ℕ, ◌≤◌, IfErr};
+ghost use Rattle.mount_text.specs.Lines.{line_of};
+ghost use Rattle.lbfs_mount.specs.Mounts.{AnswerEnds, Ends, TextEnds, Unjoined, WriteEnds, is_skip, read_end, written_as};
+
+use crate::answer_line::AnswerLine;
+use crate::connecting::connect;
+use crate::mount_err::MountErr;
+use crate::shared::Shared;
+use command_text::line_err::LineErr;
+use lb_base::sink::{GiveErr, Sink, give_all};
+use lb_base::source::{ReadError, Source};
+use links::clock::Clock;
+use links::files::Files;
+use links::network::Network;
+use mount_text::line::MountLine;
+use script_lines::script::Script;
+use std::sync::Wait;
+use std::thread::{Scope, Threads};
+
+/// Whether a line says nothing.
+fn is_skip(line: &MountLine) -> bool
+    ensures { result ≡ is_skip line.now }
+{
+    matches!(line, MountLine::Skipped)
+}
+
+/// What came of writing.
+fn written_as(given: Result<(), GiveErr>) -> Result<(), MountErr>
+    ensures { result ≡ written_as given }
+{
+    match given {
+        Ok(()) => Ok(()),
+        Err(GiveErr::Failed) => Err(MountErr::WriteFault),
+        Err(GiveErr::Memory) => Err(MountErr::Memory),
+    }
+}
+
+/// The end of a mount whose script wasn't read.
+fn read_end(why: ReadError) -> MountErr
+    ensures { result ≡ read_end why }
+{
+    match why {
+        ReadError::Fault => MountErr::ReadFault,
+        ReadError::TooLong => MountErr::TooLong,
+        ReadError::Memory => MountErr::Memory,
+    }
+}
+
+/// Writes the line of what ended.
+fn write_answer<K: Sink>(sink: &mut K, answer: &AnswerLine) -> Result<(), MountErr>
+    ensures ends { WriteEnds (K.held sink.old) (K.held sink.new) (K.faults sink.old) (K.faults sink.new) result }
+    ensures later { K.faults sink.old ≤ K.faults sink.new }
+{
+    let given = give_all(sink, answer.as_slice());
+    written_as(given)
+}
+
+/// A line runs to its end.
+fn run_line<'s, 'e, R: Threads + Wait + Sync, F: Files + Drop + Send, N: Network, C: Clock + Sync>(
+    scope: &'s Scope<'s, &'e ()>,
+    rt: &'e R,
+    shared: &'e Shared<F, N::L>,
+    net: &mut N,
+    clock: &'e C,
+    port: u16,
+    line: MountLine,
+) -> Result<AnswerLine, MountErr>
+where
+    N::L: Drop + Send + 's,
+    ensures why { IfErr result (λ e. Unjoined N.L.faults (N.faults net.old) (N.faults net.new) e) }
+    ensures later { N.faults net.old ≤ N.faults net.new }
+{
+    if shared.run(rt, line, clock.now()) {
+        match connect(scope, rt, shared, net, clock, port) {
+            Ok(()) => {}
+            Err(why) => return Err(why),
+        }
+    }
+    match shared.await_line(rt) {
+        Ok(answer) => Ok(answer),
+        Err(_want) => Err(MountErr::Memory),
+    }
+}
+
+/// A line that isn't skipped runs to its end and is told.
+fn tell_line<
+    's,
+    'e,
+    R: Threads + Wait + Sync,
+    F: Files + Drop + Send,
+    N: Network,
+    C: Clock + Sync,
+    K: Sink,
+>(
+    scope: &'s Scope<'s, &'e ()>,
+    rt: &'e R,
+    shared: &'e Shared<F, N::L>,
+    net: &mut N,
+    clock: &'e C,
+    port: u16,
+    sink: &mut K,
+    line: MountLine,
+) -> Result<(), MountErr>
+where
+    N::L: Drop + Send + 's,
+    ensures ends { AnswerEnds N.L.faults (K.held sink.old) (K.held sink.new) (K.faults sink.old) (K.faults sink.new) (N.faults net.old) (N.faults net.new) result }
+    ensures later { (N.faults net.old ≤ N.faults net.new) × (K.faults sink.old ≤ K.faults sink.new) }
+{
+    match run_line(scope, rt, shared, net, clock, port, line) {
+        Ok(answer) => write_answer(sink, &answer),
+        Err(why) => Err(why),
+    }
+}
+
+/// A line of the script, numbered from 1, is read, runs to its end and is told.
+fn run_text<
+    's,
+    'e,
+    R: Threads + Wait + Sync,
+    F: Files + Drop + Send,
+    N: Network,
+    C: Clock + Sync,
+    K: Sink,
+>(
+    scope: &'s Scope<'s, &'e ()>,
+    rt: &'e R,
+    shared: &'e Shared<F, N::L>,
+    net: &mut N,
+    clock: &'e C,
+    port: u16,
+    sink: &mut K,
+    text: &[u8],
+    number: u64,
+) -> Result<(), MountErr>
+where
+    N::L: Drop + Send + 's,
+    ensures ends { TextEnds N.L.faults (line_of text.now) number (K.held sink.old) (K.held sink.new) (K.faults sink.old) (K.faults sink.new) (N.faults net.old) (N.faults net.new) result }
+    ensures later { (N.faults net.old ≤ N.faults net.new) × (K.faults sink.old ≤ K.faults sink.new) }
+{
+    match MountLine::read(shared.alloc(), text) {
+        Ok(line) => {
+            if is_skip(&line) {
+                drop(line);
+                return Ok(());
+            }
+            tell_line(scope, rt, shared, net, clock, port, sink, line)
+        }
+        Err(LineErr::BadLine) => Err(MountErr::BadLine { number }),
+        Err(LineErr::Memory) => Err(MountErr::Memory),
+    }
+}
+
+/// Runs the lines of the script to its end.
+fn run_on<
+    's,
+    'e,
+    R: Threads + Wait + Sync,
+    F: Files + Drop + Send,
+    N: Network,
+    C: Clock + Sync,
+    S: Source,
+    K: Sink,
+>(
+    scope: &'s Scope<'s, &'e ()>,
+    rt: &'e R,
+    shared: &'e Shared<F, N::L>,
+    net: &mut N,
+    clock: &'e C,
+    port: u16,
+    script: &mut S,
+    sink: &mut K,
+) -> Result<(), MountErr>
+where
+    N::L: Drop + Send + 's,
+    ensures ends { Ends N.L.faults (record { left = S.left script.old; reads = S.faults script.old; held = K.held sink.old; writes = K.faults sink.old; dials = N.faults net.old }) (record { left = S.left script.new; reads = S.faults script.new; held = K.held sink.new; writes = K.faults sink.new; dials = N.faults net.new }) result }
+    ensures later { (S.faults script.old ≤ S.faults script.new) × (K.faults sink.old ≤ K.faults sink.new) }
+{
+    let mut lines = match Script::new(shared.alloc()) {
+        Ok(lines) => lines,
+        Err(_want) => return Err(MountErr::Memory),
+    };
+    for at in 0..u64::MAX {
+        match lines.next(shared.alloc(), script) {
+            Ok(came) => match came {
+                Some(text) => {
+                    let told = run_text(
+                        scope,
+                        rt,
+                        shared,
+                        net,
+                        clock,
+                        port,
+                        sink,
+                        text.as_slice(),
+                        at + 1,
+                    );
+                    drop(text);
+                    match told {
+                        Ok(()) => {}
+                        Err(why) => return Err(why),
+                    }
+                }
+                None => return Ok(()),
+            },
+            Err(why) => return Err(read_end(why)),
+        }
+    }
+    Err(MountErr::Memory)
+}
+
+/// Joins a connection and runs the lines of the script to its end.
+pub(crate) fn run_lines<
+    's,
+    'e,
+    R: Threads + Wait + Sync,
+    F: Files + Drop + Send,
+    N: Network,
+    C: Clock + Sync,
+    S: Source,
+    K: Sink,
+>(
+    scope: &'s Scope<'s, &'e ()>,
+    rt: &'e R,
+    shared: &'e Shared<F, N::L>,
+    net: &mut N,
+    clock: &'e C,
+    port: u16,
+    script: &mut S,
+    sink: &mut K,
+) -> Result<(), MountErr>
+where
+    N::L: Drop + Send + 's,
+    ensures ends { Ends N.L.faults (record { left = S.left script.old; reads = S.faults script.old; held = K.held sink.old; writes = K.faults sink.old; dials = N.faults net.old }) (record { left = S.left script.new; reads = S.faults script.new; held = K.held sink.new; writes = K.faults sink.new; dials = N.faults net.new }) result }
+    ensures later { (S.faults script.old ≤ S.faults script.new) × (K.faults sink.old ≤ K.faults sink.new) }
+{
+    match connect(scope, rt, shared, net, clock, port) {
+        Ok(()) => run_on(scope, rt, shared, net, clock, port, script, sink),
+        Err(why) => Err(why),
+    }
+}

@@ -1,0 +1,81 @@
+//! The turns of a mount: each locks what its threads share, and is one call of `Desk`. That a call is
+//! what its contract says is proved of `Desk`; of a turn no clause speaks, since another thread's may
+//! stand before and behind it.
+
+use crate::answer_line::AnswerLine;
+use crate::desk::Desk;
+use lbfs_client::mounted::Mounted;
+use links::files::Files;
+use links::link::Link;
+use mount_text::line::MountLine;
+use record_ends::end::End;
+use std::alloc::{AllocError, Global};
+use std::sync::{Condvar, Mutex, Wait};
+
+/// What the threads of a mount share, and by what the script is woken that waits for a line.
+#[derive(Drop)]
+pub(crate) struct Shared<F: Files, L> {
+    desk: Mutex<Desk<F, L>>,
+    /// A line ended, or memory ran out.
+    news: Condvar,
+    alloc: Global,
+}
+
+impl<F: Files + Drop, L: Link + Drop> Shared<F, L> {
+    /// What a mount's threads share. It takes no memory.
+    pub(crate) fn new(alloc: Global, mounted: Mounted<F>) -> Shared<F, L> {
+        Shared {
+            desk: Mutex::new(Desk::new(mounted)),
+            news: Condvar::new(),
+            alloc,
+        }
+    }
+
+    /// The allocator.
+    pub(crate) fn alloc(&self) -> Global {
+        self.alloc
+    }
+
+    /// The files of the host, once no thread shares them any more.
+    pub(crate) fn into_files(self) -> F {
+        let Shared { desk, news, .. } = self;
+        drop(news);
+        desk.into_inner().into_files()
+    }
+
+    /// A turn in which a line begins. It answers whether a connection is to be joined for it.
+    pub(crate) fn run<W: Wait>(&self, rt: &W, line: MountLine, now: u64) -> bool {
+        self.desk.lock(rt).run(self.alloc, line, now)
+    }
+
+    /// A turn that takes the line of what ended, once there is one. The error says that memory ran
+    /// out.
+    pub(crate) fn await_line<W: Wait>(&self, rt: &W) -> Result<AnswerLine, AllocError> {
+        let desk = self.desk.lock(rt);
+        let mut told = self.news.wait_while(rt, desk, |desk| !desk.has_news());
+        told.take_line()
+    }
+
+    /// A turn in which a connection is joined, on this link. It answers the connection's number.
+    pub(crate) fn join<W: Wait>(&self, rt: &W, link: L, now: u64) -> u64 {
+        self.desk.lock(rt).join(self.alloc, link, now)
+    }
+
+    /// A turn of a record that came on a connection. It answers whether more may come there.
+    pub(crate) fn hear<W: Wait>(&self, rt: &W, connection: u64, record: &[u8], now: u64) -> bool {
+        let goes_on = self.desk.lock(rt).hear(self.alloc, connection, record, now);
+        self.news.notify_all();
+        goes_on
+    }
+
+    /// A turn in which a connection's records have ended.
+    pub(crate) fn stop<W: Wait>(&self, rt: &W, connection: u64, end: End, now: u64) {
+        self.desk.lock(rt).stop(self.alloc, connection, end, now);
+        self.news.notify_all();
+    }
+
+    /// A turn that shuts the link, so that no more records come.
+    pub(crate) fn close<W: Wait>(&self, rt: &W) {
+        self.desk.lock(rt).close();
+    }
+}
