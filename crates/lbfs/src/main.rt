@@ -1,14 +1,20 @@
-//! The program `lbfs`: a run over the standard streams. What it reads, writes and ends with is
-//! promised by `run` of the crate `lbfs_run`; that the words, the streams and the status are handed on
-//! no contract says, and the examples test it.
+//! The program `lbfs`: a run over the standard streams, a folder, the files of the folder that it runs
+//! in, TCP on this host and the host's clock. What it reads, writes and ends with is promised by `run`
+//! of the crate `lbfs_run`; that the words, the outside and the status are handed on no contract says,
+//! and the examples test it.
 #![tactic(auto)]
 
+use folder_store::folder::FolderStore;
+use host::host_files::HostFiles;
+use host::tcp::TcpNetwork;
+use host::time::{HostClock, HostRest};
 use lb_base::streams::{StreamSink, StreamSource};
-use lbfs_run::output::Status;
-use lbfs_run::run::{Outside, run};
+use lbfs_run::outside::Outside;
+use lbfs_run::run::run;
+use program_words::status::Status;
 use std::io::ErrorKind;
 use std::process::ExitCode;
-use std::{env, io};
+use std::{env, io, process};
 
 /// The words behind the program's name. Where one is no text there are none, and so no command
 /// either.
@@ -20,7 +26,7 @@ fn given_words(rt: &HostRuntime) -> io::Result<Vec<String>> {
     }
 }
 
-/// Runs the words over the standard streams, and ends with the status.
+/// Runs the words over the outside, and ends with the status.
 fn main(rt: HostRuntime) -> ExitCode {
     let Ok(words) = given_words(&rt) else {
         return ExitCode::from(Status::Memory.code());
@@ -28,7 +34,12 @@ fn main(rt: HostRuntime) -> ExitCode {
     let outside = Outside {
         source: StreamSource::new(rt.stdin()),
         sink: StreamSink::new(rt.stdout()),
+        store: FolderStore::new(rt),
+        files: HostFiles::new(rt, process::id(rt.process())),
+        network: TcpNetwork::new(rt),
+        clock: HostClock::new(rt),
+        rest: HostRest::new(rt),
     };
-    let (status, _outside) = run(rt.alloc(), &words, outside);
+    let (status, _outside) = run(&rt, rt.alloc(), &words, outside);
     ExitCode::from(status)
 }

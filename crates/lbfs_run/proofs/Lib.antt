@@ -1,3 +1,3 @@
-pub mod Bounds
-pub mod Seeded
-pub mod Headline
+pub mod Served
+pub mod Mounted
+pub mod Asking

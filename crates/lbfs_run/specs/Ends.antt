@@ -1,49 +1,22 @@
--- What each end of a run says of the bytes that were read and written. What is left in a source and what a sink holds
--- are known only where they tell, as those in memory do: of a stream of the system these say nothing of its bytes.
-use Rattle.std.specs.Prelude.{◌≡◌, ℕ, List, Option, Some, Ok, true}
-use Rattle.std.specs.Io.KnownBytes.{Appends, Consumes, IsAtEnd}
-use Rattle.lb_base.specs.Known.{AppendsPart, AppendsPrefix}
-use Rattle.register_model.specs.Text.{history_text}
-use Rattle.trace_replay.specs.World.{World}
-use Rattle.trace_replay.specs.World.{history_of}
-use Rattle.trace_replay.specs.Timed.{accepted}
-use Rattle.trace_replay.specs.Traces.{IsKeptPromise}
-use Rattle.lbfs_run.specs.declared.words.View.{View}
-use Rattle.lbfs_run.specs.Words.{command_of, reads}
-use Rattle.lbfs_run.specs.Output.{output_of, code_of, view_text}
+-- What each end of a run says of the outside.
+use Rattle.std.specs.Prelude.{◌≡◌, ◌⊎◌, ℕ, List, Option, Some, None, Bool, true, false}
+use Rattle.std.specs.Io.KnownBytes.{Appends}
+use Rattle.lb_base.specs.Causes.{Rose}
+use Rattle.store.specs.declared.record.Kept.{Kept}
+use Rattle.lbfs_server.specs.Serve.{IsBad}
+use Rattle.program_words.specs.Words.{reads}
+use Rattle.program_words.specs.declared.asked.Asked.{Asked}
+use Rattle.program_words.specs.declared.asked.Asked.TheVariants as asked
+use Rattle.lbfs_run.specs.Serving.{fault_text, record_text}
 
--- where the source tells, the status and the bytes written are those that the words and the input call for
-abbrev pub IsAnswered : List (List ℕ) → Option (List ℕ) → Option (List ℕ) → Option (List ℕ) → ℕ → Type 0
-IsAnswered words left held held' code =
-    (input : List ℕ) → left ≡ Some input → (code ≡ code_of (output_of words input).0) × Appends held held' (output_of words input).1
+-- whether the source is read
+abbrev pub takes_input : Option Asked → Bool
+takes_input None = false
+takes_input (Some (asked.Command c)) = reads (Some c)
+takes_input (Some (asked.Serve o)) = false
+takes_input (Some (asked.Mount o)) = true
 
--- whatever the source tells, bytes were taken from it that call for the status and for the bytes written; with status
--- 0 they were all, where the words have the input read
-abbrev pub IsAnsweredFrom : List (List ℕ) → Option (List ℕ) → Option (List ℕ) → Option (List ℕ) → Option (List ℕ) → ℕ → Type 0
-IsAnsweredFrom words left left' held held' code =
-    (input : List ℕ) × Consumes left left' input × (code ≡ 0 → reads (command_of words) ≡ true → IsAtEnd left') × (code ≡ code_of (output_of words input).0) × Appends held held' (output_of words input).1
-
--- where the source tells, what was written is a front of the bytes that they call for
-abbrev pub IsBegun : List (List ℕ) → Option (List ℕ) → Option (List ℕ) → Option (List ℕ) → Type 0
-IsBegun words left held held' = (input : List ℕ) → left ≡ Some input → AppendsPrefix held held' (output_of words input).1
-
--- whatever the source tells, bytes were taken from it, and what was written is a front of those that they call for
-abbrev pub IsBegunFrom : List (List ℕ) → Option (List ℕ) → Option (List ℕ) → Option (List ℕ) → Option (List ℕ) → Type 0
-IsBegunFrom words left left' held held' = (input : List ℕ) × Consumes left left' input × AppendsPrefix held held' (output_of words input).1
-
--- where the source tells, what was written is a front of the bytes that they call for, and not all of them
-abbrev pub IsBroken : List (List ℕ) → Option (List ℕ) → Option (List ℕ) → Option (List ℕ) → Type 0
-IsBroken words left held held' = (input : List ℕ) → left ≡ Some input → AppendsPart held held' (output_of words input).1
-
--- the same whatever the source tells, for bytes that were taken from it
-abbrev pub IsBrokenFrom : List (List ℕ) → Option (List ℕ) → Option (List ℕ) → Option (List ℕ) → Option (List ℕ) → Type 0
-IsBrokenFrom words left left' held held' = (input : List ℕ) × Consumes left left' input × AppendsPart held held' (output_of words input).1
-
--- The input is an accepted trace, what was written (where the sink tells) is the history of its run and nothing else,
--- and that history keeps its promise.
-abbrev pub IsReplayed : Option (List ℕ) → Option (List ℕ) → List ℕ → Type 0
-IsReplayed held held' input = (w : World) × (accepted input ≡ Ok w) × Appends held held' (history_text (history_of w)) × IsKeptPromise input w
-
--- The same of a trace, whether it was read or made, and of its history or summary.
-abbrev pub IsRun : View → Option (List ℕ) → Option (List ℕ) → (trace : List ℕ) → Type 0
-IsRun view held held' trace = (w : World) × (accepted trace ≡ Ok w) × Appends held held' (view_text view w) × IsKeptPromise trace w
+-- the store's count of faults rose, or the record that was told is the first that breaks a rule
+abbrev pub StoreFails : (faults faults' : ℕ) → Option (List Kept) → (held held' : Option (List ℕ)) → Type 0
+StoreFails faults faults' records held held' =
+    (Rose faults faults' × Appends held held' fault_text) ⊎ ((which : ℕ) × IsBad records which × Appends held held' (record_text which))

@@ -1,3 +1,4 @@
-pub mod Words
-pub mod Output
+pub mod Telling
+pub mod Serving
+pub mod Mounting
 pub mod Ends

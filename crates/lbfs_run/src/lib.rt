@@ -1,14 +1,13 @@
-//! A run of the program over any source and any sink: what its words ask for, from the bytes that it
-//! reads to those that it writes. The program `lbfs` calls `run::run` over the standard streams; tests
-//! call it over sources and sinks that fail when they are told to.
+//! A run of the program over its whole outside: what its words ask for, from what it reads to what it
+//! writes. The program `lbfs` calls `run::run` over the standard streams, a folder, TCP on this host and
+//! its clock; tests call it over objects in memory that fail when they are told to.
 //!
-//! What is written for words and an input, and the status that the run ends with, is `output_of` of
-//! `specs/Output.antt`; what each status says of the bytes that were read and written stands in
-//! `specs/Ends.antt`.
+//! What each status says stands in the clauses of `run::run`: of `replay`, `gen`, `cut` and `show` by the
+//! definitions of `plain_run`, of `serve` by `specs/Serving.antt`, of `mount` by `specs/Mounting.antt`.
 #![tactic(auto)]
 
-mod chunk_lines;
-pub mod options;
-pub mod output;
+mod mounting;
+pub mod outside;
 pub mod run;
-pub mod words;
+mod serving;
+mod telling;

@@ -1,174 +1,209 @@
-//! A run of the program over any source and any sink. What it comes to is `output_of` of
-//! `specs/Output.antt`; what each status says is in `specs/Ends.antt`.
+//! A run of the program over its outside. What words ask for states `asked_of` of `program_words`; what
+//! `replay`, `gen`, `cut` and `show` come to, `plain_run`; the rest stands in `specs/`.
 
-ghost use Rattle.std.specs.Prelude.{◌≡◌, ℕ, ◌<◌, ◌≤◌, ◌⊎◌, List, [], ◌∷◌, length, IfOk, OnOk, OnErr, IsErrOf, Some, None, true, false, map, string_bytes, codes};
-ghost use Rattle.std.specs.Io.KnownBytes.{Consumes, IsAtEnd};
+ghost use Rattle.std.specs.Prelude.{◌≡◌, ℕ, ◌≤◌, ◌⊎◌, List, [], ◌∷◌, Option, Some, true, false, map, string_bytes, codes};
 ghost use Rattle.lb_base.specs.Causes.{Rose};
 ghost use Rattle.trace_generator.specs.Lines.{generated_text};
 ghost use Rattle.trace_generator.specs.declared.TheConstants.{BLOCKS_MOST};
-ghost use Rattle.lbfs_run.specs.Words.{command_of, reads};
-ghost use Rattle.lbfs_run.specs.declared.words.View.{View};
-ghost use Rattle.lbfs_run.specs.declared.words.InputCommand.TheVariants as input;
-ghost use Rattle.lbfs_run.specs.declared.words.SeedCommand.{SeedCommand};
-ghost use Rattle.lbfs_run.specs.declared.words.SeedCommand.TheVariants as seeded;
-ghost use Rattle.lbfs_run.specs.declared.words.Command.TheVariants.{OfInput, OfSeed};
-ghost use Rattle.lbfs_run.specs.Output.{output_of, output_for, code_of, most_bytes, IsWhole};
-ghost use Rattle.lbfs_run.specs.Ends.{IsAnswered, IsAnsweredFrom, IsBegun, IsBegunFrom, IsBroken, IsBrokenFrom, IsReplayed, IsRun};
-ghost use Rattle.lbfs_run.specs.declared.run.Unread.TheVariants as unread;
+ghost use Rattle.program_words.specs.Words.{IsFew, asked_of, command_in, command_of, is_alone, reads};
+ghost use Rattle.program_words.specs.declared.asked.View.{View};
+ghost use Rattle.program_words.specs.declared.asked.InputCommand.TheVariants as input;
+ghost use Rattle.program_words.specs.declared.asked.SeedCommand.{SeedCommand};
+ghost use Rattle.program_words.specs.declared.asked.SeedCommand.TheVariants as seeded;
+ghost use Rattle.program_words.specs.declared.asked.Command.TheVariants.{OfInput, OfSeed};
+ghost use Rattle.program_words.specs.declared.asked.ServeOptions.{ServeOptions};
+ghost use Rattle.program_words.specs.declared.asked.MountOptions.{MountOptions};
+ghost use Rattle.program_words.specs.declared.asked.Asked.TheVariants as ask;
+ghost use Rattle.plain_run.specs.Ends.{IsAnswered, IsAnsweredFrom, IsBegun, IsBegunFrom, IsBroken, IsBrokenFrom, IsReplayed, IsRun};
+ghost use Rattle.lbfs_mount.specs.Mounts.{LinkFails};
+ghost use Rattle.lbfs_run.specs.Ends.{StoreFails, takes_input};
+ghost use Rattle.lbfs_run.specs.Mounting.{MountEnds};
+ghost use Rattle.lbfs_run.specs.Serving.{ServeEnds};
 
-use crate::output::{Output, Status, input_output, refused, seed_output};
-use crate::words::{Command, InputCommand, command_of};
-use generated_traces::law::generated_traces_are_accepted;
-use kept_promise::law::promise_is_kept;
-use lb_base::sink::{GiveErr, Sink, give_all};
-use lb_base::source::{ReadError, Source, read_all};
-use std::alloc::{AllocError, Global};
-use trace_text::refusal::Refusal;
+use crate::mounting::run_mount;
+use crate::outside::Outside;
+use crate::serving::run_serve;
+use lb_base::sink::Sink;
+use lb_base::source::Source;
+use links::clock::Clock;
+use links::files::Files;
+use links::network::Network;
+use links::rest::Rest;
+use program_words::asked::{Asked, Command};
+use program_words::status::Status;
+use program_words::words::asked_of;
+use std::alloc::Global;
+use std::sync::Wait;
+use std::thread::Threads;
+use store::store::Store;
 
-/// The most bytes that an input may have.
-const MOST_BYTES: usize = limits::INPUT_MOST;
-
-/// What the program reads and writes.
-#[derive(Drop)]
-pub struct Outside<S, K> {
-    /// What it reads its input from.
-    pub source: S,
-    /// What it writes its output to.
-    pub sink: K,
-}
-
-/// Why there is no output.
-#[derive(Clone, Copy, Debug, PartialEq, Eq)]
-enum Unread {
-    /// The source failed.
-    Fault,
-    /// Memory ran out.
-    Memory,
-}
-
-impl From<AllocError> for Unread {
-    ghost from_gives = { λ _ e. e ≡ unread.Memory };
-
-    fn from(_want: AllocError) -> Unread {
-        Unread::Memory
-    }
-}
-
-/// The output of a command for what the source gives, which is read to its end before.
-fn read_and_run<S: Source>(
+/// A run of a command that needs nothing but the source and the sink, or the refusal of the words.
+fn run_plain<S: Source, K: Sink, D, F, N, C, R>(
     alloc: Global,
-    command: InputCommand,
-    source: &mut S,
-) -> Result<Output, Unread>
-    ensures told { IfOk result (λ out. (input : List ℕ) → S.left source.old ≡ Some input → output_for (Some (OfInput command)) input ≡ (out.status, out.text)) }
-    ensures taken { IfOk result (λ out. (input : List ℕ) × Consumes (S.left source.old) (S.left source.new) input × (code_of out.status ≡ 0 → IsAtEnd (S.left source.new)) × (output_for (Some (OfInput command)) input ≡ (out.status, out.text))) }
-    ensures whole { IfOk result (λ out. IsWhole out.status) }
-    ensures later { S.faults source.old ≤ S.faults source.new }
-    ensures fault { IsErrOf result unread.Fault → Rose (S.faults source.old) (S.faults source.new) }
-{
-    match read_all(alloc, MOST_BYTES, source) {
-        Ok(input) => Ok(input_output(alloc, command, &input)?),
-        Err(ReadError::TooLong) => Ok(refused(alloc, Status::Refused, Refusal::LimitBytes)?),
-        Err(ReadError::Fault) => Err(Unread::Fault),
-        Err(ReadError::Memory) => Err(Unread::Memory),
-    }
-}
-
-/// The output for these words. Nothing is read without a command among them, and for a generated
-/// trace.
-fn output_of<S: Source>(alloc: Global, words: &[String], source: &mut S) -> Result<Output, Unread>
-    ensures told { IfOk result (λ out. (input : List ℕ) → S.left source.old ≡ Some input → output_of (map (λ w. string_bytes w) words.now) input ≡ (out.status, out.text)) }
-    ensures taken { IfOk result (λ out. (input : List ℕ) × Consumes (S.left source.old) (S.left source.new) input × (code_of out.status ≡ 0 → reads (command_of (map (λ w. string_bytes w) words.now)) ≡ true → IsAtEnd (S.left source.new)) × (output_of (map (λ w. string_bytes w) words.now) input ≡ (out.status, out.text))) }
-    ensures whole { IfOk result (λ out. IsWhole out.status) }
-    ensures later { S.faults source.old ≤ S.faults source.new }
-    ensures fault { IsErrOf result unread.Fault → Rose (S.faults source.old) (S.faults source.new) }
-    ensures unread { reads (command_of (map (λ w. string_bytes w) words.now)) ≡ false → source.new ≡ source.old }
-{
-    match command_of(words) {
-        Some(Command::OfInput(command)) => read_and_run(alloc, command, source),
-        Some(
-            Command::OfSeed {
-                seed,
-                blocks,
-                command,
-            },
-        ) => Ok(seed_output(alloc, seed, blocks, command)?),
-        None => Ok(refused(alloc, Status::BadWords, Refusal::Words)?),
-    }
-}
-
-/// Reads, runs and writes, and answers the status, as `run` says.
-fn run_on<S: Source, K: Sink>(alloc: Global, words: &[String], source: &mut S, sink: &mut K) -> u8
-    ensures answered { (result ≡ 0) ⊎ (result ≡ 2) ⊎ (result ≡ 5) → IsAnswered (map (λ w. string_bytes w) words.now) (S.left source.old) (K.held sink.old) (K.held sink.new) result }
-    ensures taken { (result ≡ 0) ⊎ (result ≡ 2) ⊎ (result ≡ 5) → IsAnsweredFrom (map (λ w. string_bytes w) words.now) (S.left source.old) (S.left source.new) (K.held sink.old) (K.held sink.new) result }
-    ensures unread { reads (command_of (map (λ w. string_bytes w) words.now)) ≡ false → source.new ≡ source.old }
-    ensures read_later { S.faults source.old ≤ S.faults source.new }
-    ensures write_later { K.faults sink.old ≤ K.faults sink.new }
-    ensures read_fault { result ≡ 3 → Rose (S.faults source.old) (S.faults source.new) }
-    ensures nothing { result ≡ 3 → sink.new ≡ sink.old }
-    ensures write_fault { result ≡ 4 → Rose (K.faults sink.old) (K.faults sink.new) }
-    ensures broken { result ≡ 4 → IsBroken (map (λ w. string_bytes w) words.now) (S.left source.old) (K.held sink.old) (K.held sink.new) }
-    ensures broken_off { result ≡ 4 → IsBrokenFrom (map (λ w. string_bytes w) words.now) (S.left source.old) (S.left source.new) (K.held sink.old) (K.held sink.new) }
-    ensures starved { result ≡ 6 → IsBegun (map (λ w. string_bytes w) words.now) (S.left source.old) (K.held sink.old) (K.held sink.new) }
-    ensures starved_off { result ≡ 6 → (sink.new ≡ sink.old) ⊎ IsBegunFrom (map (λ w. string_bytes w) words.now) (S.left source.old) (S.left source.new) (K.held sink.old) (K.held sink.new) }
-    ensures known { (result ≡ 0) ⊎ (result ≡ 2) ⊎ (result ≡ 3) ⊎ (result ≡ 4) ⊎ (result ≡ 5) ⊎ (result ≡ 6) }
-{
-    let output = match output_of(alloc, words, source) {
-        Ok(output) => output,
-        Err(Unread::Fault) => return Status::ReadFault.code(),
-        Err(Unread::Memory) => return Status::Memory.code(),
-    };
-    match give_all(sink, output.text.as_slice()) {
-        Ok(()) => output.status.code(),
-        Err(GiveErr::Failed) => Status::WriteFault.code(),
-        Err(GiveErr::Memory) => Status::Memory.code(),
-    }
-}
-
-/// Runs the words, which are those behind the program's name, and answers the status.
-///
-/// With 0, 2 and 5 all of the output for the words and the input was written (`answered`, where the
-/// source tells what is left in it; `taken`, whatever it tells, for bytes that were taken from it), and
-/// with 0 the source stands at its end, where the words have it read; else it is untouched (`unread`).
-/// A trace that is run, read or made, is accepted, and its run keeps its promise (`replayed`,
-/// `generated`; `headline` of the word `replay` alone); one that is made is never refused (`accepted`),
-/// nor is its text where it is read (`read_again`).
-///
-/// With 3 the source failed, its faults rose, and nothing was written. With 4 the sink failed, its
-/// faults rose, and a front of the output was written, but not all (`broken`, `broken_off`). With 6
-/// memory ran out, which no clause gives a cause; nothing was written, or a front of the output
-/// (`starved`, `starved_off`). Which bytes a source gave and a sink took is known only where they tell,
-/// as those in memory do; streams of the system don't.
-pub fn run<S: Source, K: Sink>(
-    alloc: Global,
-    words: &[String],
-    out: Outside<S, K>,
-) -> (u8, Outside<S, K>)
-    ensures headline { map (λ w. string_bytes w) words.now ≡ codes "replay" ∷ [] → result.0 ≡ 0 → (input : List ℕ) → S.left out.source ≡ Some input → IsReplayed (K.held out.sink) (K.held result.1.sink) input }
-    ensures replayed { (view : View) → command_of (map (λ w. string_bytes w) words.now) ≡ Some (OfInput (input.Replay view)) → result.0 ≡ 0 → (trace : List ℕ) → S.left out.source ≡ Some trace → IsRun view (K.held out.sink) (K.held result.1.sink) trace }
-    ensures generated { (view : View) (seed blocks : ℕ) → command_of (map (λ w. string_bytes w) words.now) ≡ Some (OfSeed seed blocks (seeded.Replay view)) → result.0 ≡ 0 → IsRun view (K.held out.sink) (K.held result.1.sink) (generated_text seed blocks) }
-    ensures accepted { (seed blocks : ℕ) (command : SeedCommand) → command_of (map (λ w. string_bytes w) words.now) ≡ Some (OfSeed seed blocks command) → result.0 ≡ 5 → ⊥ }
-    ensures read_again { (view : View) (seed blocks : ℕ) → command_of (map (λ w. string_bytes w) words.now) ≡ Some (OfInput (input.Replay view)) → blocks ≤ BLOCKS_MOST → S.left out.source ≡ Some (generated_text seed blocks) → result.0 ≡ 5 → ⊥ }
-    ensures answered { (result.0 ≡ 0) ⊎ (result.0 ≡ 2) ⊎ (result.0 ≡ 5) → IsAnswered (map (λ w. string_bytes w) words.now) (S.left out.source) (K.held out.sink) (K.held result.1.sink) result.0 }
-    ensures taken { (result.0 ≡ 0) ⊎ (result.0 ≡ 2) ⊎ (result.0 ≡ 5) → IsAnsweredFrom (map (λ w. string_bytes w) words.now) (S.left out.source) (S.left result.1.source) (K.held out.sink) (K.held result.1.sink) result.0 }
-    ensures unread { reads (command_of (map (λ w. string_bytes w) words.now)) ≡ false → result.1.source ≡ out.source }
+    command: Option<Command>,
+    out: Outside<S, K, D, F, N, C, R>,
+) -> (u8, Outside<S, K, D, F, N, C, R>)
+    requires { IsFew command }
+    ensures replayed { (view : View) → command ≡ Some (OfInput (input.Replay view)) → result.0 ≡ 0 → (trace : List ℕ) → S.left out.source ≡ Some trace → IsRun view (K.held out.sink) (K.held result.1.sink) trace }
+    ensures generated { (view : View) (seed blocks : ℕ) → command ≡ Some (OfSeed seed blocks (seeded.Replay view)) → result.0 ≡ 0 → IsRun view (K.held out.sink) (K.held result.1.sink) (generated_text seed blocks) }
+    ensures accepted { (seed blocks : ℕ) (made : SeedCommand) → command ≡ Some (OfSeed seed blocks made) → result.0 ≡ 5 → ⊥ }
+    ensures read_again { (view : View) (seed blocks : ℕ) → command ≡ Some (OfInput (input.Replay view)) → blocks ≤ BLOCKS_MOST → S.left out.source ≡ Some (generated_text seed blocks) → result.0 ≡ 5 → ⊥ }
+    ensures answered { (result.0 ≡ 0) ⊎ (result.0 ≡ 2) ⊎ (result.0 ≡ 5) → IsAnswered command (S.left out.source) (K.held out.sink) (K.held result.1.sink) result.0 }
+    ensures taken { (result.0 ≡ 0) ⊎ (result.0 ≡ 2) ⊎ (result.0 ≡ 5) → IsAnsweredFrom command (S.left out.source) (S.left result.1.source) (K.held out.sink) (K.held result.1.sink) result.0 }
+    ensures unread { reads command ≡ false → result.1.source ≡ out.source }
     ensures read_later { S.faults out.source ≤ S.faults result.1.source }
     ensures write_later { K.faults out.sink ≤ K.faults result.1.sink }
     ensures read_fault { result.0 ≡ 3 → Rose (S.faults out.source) (S.faults result.1.source) }
     ensures nothing { result.0 ≡ 3 → result.1.sink ≡ out.sink }
     ensures write_fault { result.0 ≡ 4 → Rose (K.faults out.sink) (K.faults result.1.sink) }
-    ensures broken { result.0 ≡ 4 → IsBroken (map (λ w. string_bytes w) words.now) (S.left out.source) (K.held out.sink) (K.held result.1.sink) }
-    ensures broken_off { result.0 ≡ 4 → IsBrokenFrom (map (λ w. string_bytes w) words.now) (S.left out.source) (S.left result.1.source) (K.held out.sink) (K.held result.1.sink) }
-    ensures starved { result.0 ≡ 6 → IsBegun (map (λ w. string_bytes w) words.now) (S.left out.source) (K.held out.sink) (K.held result.1.sink) }
-    ensures starved_off { result.0 ≡ 6 → (result.1.sink ≡ out.sink) ⊎ IsBegunFrom (map (λ w. string_bytes w) words.now) (S.left out.source) (S.left result.1.source) (K.held out.sink) (K.held result.1.sink) }
+    ensures broken { result.0 ≡ 4 → IsBroken command (S.left out.source) (K.held out.sink) (K.held result.1.sink) }
+    ensures broken_off { result.0 ≡ 4 → IsBrokenFrom command (S.left out.source) (S.left result.1.source) (K.held out.sink) (K.held result.1.sink) }
+    ensures starved { result.0 ≡ 6 → IsBegun command (S.left out.source) (K.held out.sink) (K.held result.1.sink) }
+    ensures starved_off { result.0 ≡ 6 → (result.1.sink ≡ out.sink) ⊎ IsBegunFrom command (S.left out.source) (S.left result.1.source) (K.held out.sink) (K.held result.1.sink) }
     ensures known { (result.0 ≡ 0) ⊎ (result.0 ≡ 2) ⊎ (result.0 ≡ 3) ⊎ (result.0 ≡ 4) ⊎ (result.0 ≡ 5) ⊎ (result.0 ≡ 6) }
+    ensures apart { (result.1.store ≡ out.store) × (result.1.files ≡ out.files) × (result.1.network ≡ out.network) }
 {
-    promise_is_kept();
-    generated_traces_are_accepted();
     let Outside {
         mut source,
         mut sink,
+        store,
+        files,
+        network,
+        clock,
+        rest,
     } = out;
-    let status = run_on(alloc, words, &mut source, &mut sink);
-    (status, Outside { source, sink })
+    let status = plain_run::run::run(alloc, command, &mut source, &mut sink);
+    let out = Outside {
+        source,
+        sink,
+        store,
+        files,
+        network,
+        clock,
+        rest,
+    };
+    (status, out)
+}
+
+/// Does what the words ask for, as `run` says.
+fn run_asked<
+    H: Threads + Wait + Sync,
+    S: Source + Drop,
+    K: Sink + Drop,
+    D: Store + Drop + Send,
+    F: Files + Drop + Send,
+    N: Network + Drop,
+    C: Clock + Sync,
+    R: Rest + Sync,
+>(
+    rt: &H,
+    alloc: Global,
+    asked: Option<Asked>,
+    out: Outside<S, K, D, F, N, C, R>,
+) -> (u8, Outside<S, K, D, F, N, C, R>)
+where
+    N::L: Drop + Send,
+    requires { IsFew (command_in asked) }
+    ensures replayed { (view : View) → command_in asked ≡ Some (OfInput (input.Replay view)) → result.0 ≡ 0 → (trace : List ℕ) → S.left out.source ≡ Some trace → IsRun view (K.held out.sink) (K.held result.1.sink) trace }
+    ensures generated { (view : View) (seed blocks : ℕ) → command_in asked ≡ Some (OfSeed seed blocks (seeded.Replay view)) → result.0 ≡ 0 → IsRun view (K.held out.sink) (K.held result.1.sink) (generated_text seed blocks) }
+    ensures accepted { (seed blocks : ℕ) (made : SeedCommand) → command_in asked ≡ Some (OfSeed seed blocks made) → result.0 ≡ 5 → ⊥ }
+    ensures read_again { (view : View) (seed blocks : ℕ) → command_in asked ≡ Some (OfInput (input.Replay view)) → blocks ≤ BLOCKS_MOST → S.left out.source ≡ Some (generated_text seed blocks) → result.0 ≡ 5 → ⊥ }
+    ensures answered { is_alone asked ≡ true → (result.0 ≡ 0) ⊎ (result.0 ≡ 2) ⊎ (result.0 ≡ 5) → IsAnswered (command_in asked) (S.left out.source) (K.held out.sink) (K.held result.1.sink) result.0 }
+    ensures taken { is_alone asked ≡ true → (result.0 ≡ 0) ⊎ (result.0 ≡ 2) ⊎ (result.0 ≡ 5) → IsAnsweredFrom (command_in asked) (S.left out.source) (S.left result.1.source) (K.held out.sink) (K.held result.1.sink) result.0 }
+    ensures unread { takes_input asked ≡ false → result.1.source ≡ out.source }
+    ensures read_later { S.faults out.source ≤ S.faults result.1.source }
+    ensures write_later { K.faults out.sink ≤ K.faults result.1.sink }
+    ensures read_fault { result.0 ≡ 3 → Rose (S.faults out.source) (S.faults result.1.source) }
+    ensures nothing { is_alone asked ≡ true → result.0 ≡ 3 → result.1.sink ≡ out.sink }
+    ensures write_fault { result.0 ≡ 4 → Rose (K.faults out.sink) (K.faults result.1.sink) }
+    ensures broken { is_alone asked ≡ true → result.0 ≡ 4 → IsBroken (command_in asked) (S.left out.source) (K.held out.sink) (K.held result.1.sink) }
+    ensures broken_off { is_alone asked ≡ true → result.0 ≡ 4 → IsBrokenFrom (command_in asked) (S.left out.source) (S.left result.1.source) (K.held out.sink) (K.held result.1.sink) }
+    ensures starved { is_alone asked ≡ true → result.0 ≡ 6 → IsBegun (command_in asked) (S.left out.source) (K.held out.sink) (K.held result.1.sink) }
+    ensures starved_off { is_alone asked ≡ true → result.0 ≡ 6 → (result.1.sink ≡ out.sink) ⊎ IsBegunFrom (command_in asked) (S.left out.source) (S.left result.1.source) (K.held out.sink) (K.held result.1.sink) }
+    ensures known { is_alone asked ≡ true → (result.0 ≡ 0) ⊎ (result.0 ≡ 2) ⊎ (result.0 ≡ 3) ⊎ (result.0 ≡ 4) ⊎ (result.0 ≡ 5) ⊎ (result.0 ≡ 6) }
+    ensures apart { is_alone asked ≡ true → (result.1.store ≡ out.store) × (result.1.files ≡ out.files) × (result.1.network ≡ out.network) }
+    ensures serves { (o : ServeOptions) → asked ≡ Some (ask.Serve o) → ServeEnds o (N.accepted out.network) (N.accepted result.1.network) (N.faults out.network) (N.faults result.1.network) (D.faults out.store) (D.faults result.1.store) (D.records out.store) (K.held out.sink) (K.held result.1.sink) result.0 }
+    ensures unfiled { (o : ServeOptions) → asked ≡ Some (ask.Serve o) → result.1.files ≡ out.files }
+    ensures mounts { (o : MountOptions) → asked ≡ Some (ask.Mount o) → MountEnds (S.left out.source) (S.left result.1.source) (K.held out.sink) (K.held result.1.sink) (S.faults out.source) (S.faults result.1.source) (K.faults out.sink) (N.faults out.network) (N.faults result.1.network) (LinkFails N.L.faults) result.0 }
+    ensures unstored { (o : MountOptions) → asked ≡ Some (ask.Mount o) → result.1.store ≡ out.store }
+    ensures network_fault { result.0 ≡ 7 → Rose (N.faults out.network) (N.faults result.1.network) ⊎ LinkFails N.L.faults }
+    ensures store_fault { result.0 ≡ 8 → StoreFails (D.faults out.store) (D.faults result.1.store) (D.records out.store) (K.held out.sink) (K.held result.1.sink) }
+    ensures told { (result.0 ≡ 0) ⊎ (result.0 ≡ 2) ⊎ (result.0 ≡ 3) ⊎ (result.0 ≡ 4) ⊎ (result.0 ≡ 5) ⊎ (result.0 ≡ 6) ⊎ (result.0 ≡ 7) ⊎ (result.0 ≡ 8) }
+{
+    match asked {
+        Some(Asked::Command(command)) => run_plain(alloc, Some(command), out),
+        Some(Asked::Serve(options)) => run_serve(rt, alloc, &options, out),
+        Some(Asked::Mount(options)) => run_mount(rt, alloc, options, out),
+        None => run_plain(alloc, None, out),
+    }
+}
+
+/// Runs the words, which are those behind the program's name, and answers the status.
+///
+/// Of words that ask for `replay`, `gen`, `cut` or `show`, and of those that ask for nothing: with 0, 2
+/// and 5 all of the output for the words and the input was written (`answered`, where the source tells
+/// what is left in it; `taken`, whatever it tells, for bytes that were taken from it), and with 0 the
+/// source stands at its end, where the words have it read; else it is untouched (`unread`). A trace
+/// that is run, read or made, is accepted, and its run keeps its promise (`replayed`, `generated`;
+/// `headline` of the word `replay` alone); one that is made is never refused (`accepted`), nor is its
+/// text where it is read (`read_again`). With 3 nothing was written (`nothing`). With 4 a front of the
+/// output was written, but not all (`broken`, `broken_off`). With 6 nothing was written, or a front of
+/// the output (`starved`, `starved_off`). The store, the files and the network are untouched (`apart`).
+///
+/// `serve` ends in one of the ways of `ServeEnds`, and `mount` in one of `MountEnds`, each with its
+/// cause and what was written (`serves`, `mounts`). `serve` touches neither the source nor the files,
+/// and `mount` not the store (`unread`, `unfiled`, `unstored`).
+///
+/// Of all words: with 3 the source failed and its faults rose, with 4 the sink's, with 7 the network's
+/// or a link's; with 8 the store's rose, or a record of it breaks a rule, and which, was written. With 6
+/// memory ran out, which no clause gives a cause. Which bytes a source gave and a sink took is known
+/// only where they tell, as those in memory do; streams of the system don't.
+pub fn run<
+    H: Threads + Wait + Sync,
+    S: Source + Drop,
+    K: Sink + Drop,
+    D: Store + Drop + Send,
+    F: Files + Drop + Send,
+    N: Network + Drop,
+    C: Clock + Sync,
+    R: Rest + Sync,
+>(
+    rt: &H,
+    alloc: Global,
+    words: &[String],
+    out: Outside<S, K, D, F, N, C, R>,
+) -> (u8, Outside<S, K, D, F, N, C, R>)
+where
+    N::L: Drop + Send,
+    ensures headline { map (λ w. string_bytes w) words.now ≡ codes "replay" ∷ [] → result.0 ≡ 0 → (input : List ℕ) → S.left out.source ≡ Some input → IsReplayed (K.held out.sink) (K.held result.1.sink) input }
+    ensures replayed { (view : View) → command_of (map (λ w. string_bytes w) words.now) ≡ Some (OfInput (input.Replay view)) → result.0 ≡ 0 → (trace : List ℕ) → S.left out.source ≡ Some trace → IsRun view (K.held out.sink) (K.held result.1.sink) trace }
+    ensures generated { (view : View) (seed blocks : ℕ) → command_of (map (λ w. string_bytes w) words.now) ≡ Some (OfSeed seed blocks (seeded.Replay view)) → result.0 ≡ 0 → IsRun view (K.held out.sink) (K.held result.1.sink) (generated_text seed blocks) }
+    ensures accepted { (seed blocks : ℕ) (made : SeedCommand) → command_of (map (λ w. string_bytes w) words.now) ≡ Some (OfSeed seed blocks made) → result.0 ≡ 5 → ⊥ }
+    ensures read_again { (view : View) (seed blocks : ℕ) → command_of (map (λ w. string_bytes w) words.now) ≡ Some (OfInput (input.Replay view)) → blocks ≤ BLOCKS_MOST → S.left out.source ≡ Some (generated_text seed blocks) → result.0 ≡ 5 → ⊥ }
+    ensures answered { is_alone (asked_of (map (λ w. string_bytes w) words.now)) ≡ true → (result.0 ≡ 0) ⊎ (result.0 ≡ 2) ⊎ (result.0 ≡ 5) → IsAnswered (command_of (map (λ w. string_bytes w) words.now)) (S.left out.source) (K.held out.sink) (K.held result.1.sink) result.0 }
+    ensures taken { is_alone (asked_of (map (λ w. string_bytes w) words.now)) ≡ true → (result.0 ≡ 0) ⊎ (result.0 ≡ 2) ⊎ (result.0 ≡ 5) → IsAnsweredFrom (command_of (map (λ w. string_bytes w) words.now)) (S.left out.source) (S.left result.1.source) (K.held out.sink) (K.held result.1.sink) result.0 }
+    ensures unread { takes_input (asked_of (map (λ w. string_bytes w) words.now)) ≡ false → result.1.source ≡ out.source }
+    ensures read_later { S.faults out.source ≤ S.faults result.1.source }
+    ensures write_later { K.faults out.sink ≤ K.faults result.1.sink }
+    ensures read_fault { result.0 ≡ 3 → Rose (S.faults out.source) (S.faults result.1.source) }
+    ensures nothing { is_alone (asked_of (map (λ w. string_bytes w) words.now)) ≡ true → result.0 ≡ 3 → result.1.sink ≡ out.sink }
+    ensures write_fault { result.0 ≡ 4 → Rose (K.faults out.sink) (K.faults result.1.sink) }
+    ensures broken { is_alone (asked_of (map (λ w. string_bytes w) words.now)) ≡ true → result.0 ≡ 4 → IsBroken (command_of (map (λ w. string_bytes w) words.now)) (S.left out.source) (K.held out.sink) (K.held result.1.sink) }
+    ensures broken_off { is_alone (asked_of (map (λ w. string_bytes w) words.now)) ≡ true → result.0 ≡ 4 → IsBrokenFrom (command_of (map (λ w. string_bytes w) words.now)) (S.left out.source) (S.left result.1.source) (K.held out.sink) (K.held result.1.sink) }
+    ensures starved { is_alone (asked_of (map (λ w. string_bytes w) words.now)) ≡ true → result.0 ≡ 6 → IsBegun (command_of (map (λ w. string_bytes w) words.now)) (S.left out.source) (K.held out.sink) (K.held result.1.sink) }
+    ensures starved_off { is_alone (asked_of (map (λ w. string_bytes w) words.now)) ≡ true → result.0 ≡ 6 → (result.1.sink ≡ out.sink) ⊎ IsBegunFrom (command_of (map (λ w. string_bytes w) words.now)) (S.left out.source) (S.left result.1.source) (K.held out.sink) (K.held result.1.sink) }
+    ensures known { is_alone (asked_of (map (λ w. string_bytes w) words.now)) ≡ true → (result.0 ≡ 0) ⊎ (result.0 ≡ 2) ⊎ (result.0 ≡ 3) ⊎ (result.0 ≡ 4) ⊎ (result.0 ≡ 5) ⊎ (result.0 ≡ 6) }
+    ensures apart { is_alone (asked_of (map (λ w. string_bytes w) words.now)) ≡ true → (result.1.store ≡ out.store) × (result.1.files ≡ out.files) × (result.1.network ≡ out.network) }
+    ensures serves { (o : ServeOptions) → (asked_of (map (λ w. string_bytes w) words.now)) ≡ Some (ask.Serve o) → ServeEnds o (N.accepted out.network) (N.accepted result.1.network) (N.faults out.network) (N.faults result.1.network) (D.faults out.store) (D.faults result.1.store) (D.records out.store) (K.held out.sink) (K.held result.1.sink) result.0 }
+    ensures unfiled { (o : ServeOptions) → (asked_of (map (λ w. string_bytes w) words.now)) ≡ Some (ask.Serve o) → result.1.files ≡ out.files }
+    ensures mounts { (o : MountOptions) → (asked_of (map (λ w. string_bytes w) words.now)) ≡ Some (ask.Mount o) → MountEnds (S.left out.source) (S.left result.1.source) (K.held out.sink) (K.held result.1.sink) (S.faults out.source) (S.faults result.1.source) (K.faults out.sink) (N.faults out.network) (N.faults result.1.network) (LinkFails N.L.faults) result.0 }
+    ensures unstored { (o : MountOptions) → (asked_of (map (λ w. string_bytes w) words.now)) ≡ Some (ask.Mount o) → result.1.store ≡ out.store }
+    ensures network_fault { result.0 ≡ 7 → Rose (N.faults out.network) (N.faults result.1.network) ⊎ LinkFails N.L.faults }
+    ensures store_fault { result.0 ≡ 8 → StoreFails (D.faults out.store) (D.faults result.1.store) (D.records out.store) (K.held out.sink) (K.held result.1.sink) }
+    ensures told { (result.0 ≡ 0) ⊎ (result.0 ≡ 2) ⊎ (result.0 ≡ 3) ⊎ (result.0 ≡ 4) ⊎ (result.0 ≡ 5) ⊎ (result.0 ≡ 6) ⊎ (result.0 ≡ 7) ⊎ (result.0 ≡ 8) }
+{
+    match asked_of(alloc, words) {
+        Ok(asked) => run_asked(rt, alloc, asked, out),
+        Err(_) => (Status::Memory.code(), out),
+    }
 }

@@ -6,7 +6,8 @@ use lb_base::items::{Bytes, Items};
 use lb_base::mem_sink::MemSink;
 use lb_base::mem_source::MemSource;
 use lb_base::source::{Failed, Source};
-use lbfs_run::run::{Outside, run};
+use plain_run::run::run;
+use program_words::asked::{Command, InputCommand, View};
 use std::alloc::{AllocError, Global};
 use std::test::Fail;
 
@@ -37,15 +38,15 @@ fn after(status: u8, written: usize) -> End {
     }
 }
 
-/// One word.
-fn words(alloc: Global, word: &str) -> Result<Vec<String>, AllocError> {
-    let mut list = Vec::new(alloc);
-    list.push(String::from_str(alloc, word)?)?;
-    Ok(list)
+/// What a run takes and gives.
+#[derive(Drop)]
+struct Streams {
+    source: Given,
+    sink: MemSink,
 }
 
 /// A source of so many zeros, which are nowhere held, and of bytes in memory behind them. One type for all
-/// runs here: the program's code is made, and proved, once for each type of an outside.
+/// runs here: the program's code is made, and proved, once for each type of a source.
 #[derive(Drop)]
 struct Given {
     zeros: usize,
@@ -70,21 +71,21 @@ impl Source for Given {
 
 /// What a run takes and gives: so many zeros, and the bytes behind them, where these calls fail; these
 /// calls of the sink fail, and these answer want of memory.
-fn outside_of(
+fn streams_of(
     alloc: Global,
     zeros: usize,
     bytes: &[u8],
     unread: &[u64],
     failing: &[u64],
     starved: &[u64],
-) -> Result<Outside<Given, MemSink>, AllocError> {
+) -> Result<Streams, AllocError> {
     let input = Bytes::copy_of(alloc, bytes)?;
     let (unread, failing) = (
         Items::copy_of(alloc, unread)?,
         Items::copy_of(alloc, failing)?,
     );
     let starved = Items::copy_of(alloc, starved)?;
-    Ok(Outside {
+    Ok(Streams {
         source: Given {
             zeros,
             held: MemSource::new(input, GIVEN, unread),
@@ -101,10 +102,10 @@ fn replayed(
     failing: &[u64],
     starved: &[u64],
 ) -> Result<End, AllocError> {
-    let outside = outside_of(alloc, 0, TRACE.as_bytes(), unread, failing, starved)?;
-    let words = words(alloc, "replay")?;
-    let (status, outside) = run(alloc, words.as_slice(), outside);
-    let held = outside.sink.held();
+    let mut streams = streams_of(alloc, 0, TRACE.as_bytes(), unread, failing, starved)?;
+    let replay = Some(Command::OfInput(InputCommand::Replay(View::History)));
+    let status = run(alloc, replay, &mut streams.source, &mut streams.sink);
+    let held = streams.sink.held();
     let is_front = HISTORY.as_bytes().starts_with(held);
     let written = if is_front { Some(held.len()) } else { None };
     Ok(End { status, written })
@@ -147,11 +148,16 @@ fn each_call_of_the_sink_fails_once(rt: HostRuntime) -> Result<(), Fail> {
 }
 
 /// The status for so many zeros, and whether this text was written.
-fn of_zeros(alloc: Global, word: &str, left: usize, text: &str) -> Result<(u8, bool), AllocError> {
-    let outside = outside_of(alloc, left, &[], &[], &[], &[])?;
-    let words = words(alloc, word)?;
-    let (status, outside) = run(alloc, words.as_slice(), outside);
-    Ok((status, outside.sink.held() == text.as_bytes()))
+fn of_zeros(
+    alloc: Global,
+    command: InputCommand,
+    left: usize,
+    text: &str,
+) -> Result<(u8, bool), AllocError> {
+    let mut streams = streams_of(alloc, left, &[], &[], &[], &[])?;
+    let command = Some(Command::OfInput(command));
+    let status = run(alloc, command, &mut streams.source, &mut streams.sink);
+    Ok((status, streams.sink.held() == text.as_bytes()))
 }
 
 // Zeros are one line, which no grammar has. An input that is too long is refused, and that is no want
@@ -159,15 +165,16 @@ fn of_zeros(alloc: Global, word: &str, left: usize, text: &str) -> Result<(u8, b
 #[test]
 fn longer_inputs_are_refused(rt: HostRuntime) -> Result<(), Fail> {
     let long = "refused limit bytes\n";
-    for (word, left, text) in [
-        ("replay", 67_108_864, "refused line 1 grammar\n"),
-        ("replay", 67_108_865, long),
-        ("cut", 67_108_865, long),
+    let replay = InputCommand::Replay(View::History);
+    for (command, left, text) in [
+        (replay, 67_108_864, "refused line 1 grammar\n"),
+        (replay, 67_108_865, long),
+        (InputCommand::Cut, 67_108_865, long),
     ] {
         assert_eq!(rt;
-            of_zeros(rt.alloc(), word, left, text)?,
+            of_zeros(rt.alloc(), command, left, text)?,
             (5, true),
-            "{word} of {left}"
+            "at {left}"
         );
     }
     Ok(())

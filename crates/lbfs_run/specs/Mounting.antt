@@ -1,0 +1,39 @@
+-- How a mount ends, and what is written then, behind the lines of its operations.
+use Rattle.std.specs.Prelude.{◌⊎◌, ℕ, List, [], Option, Result, Ok, Err}
+use Rattle.lb_base.specs.Causes.{Rose}
+use Rattle.trace_text.specs.Refusals.{refusal_of}
+use Rattle.trace_text.specs.declared.refusal.LineFault.TheVariants.{Grammar}
+use Rattle.trace_text.specs.declared.refusal.Refusal.TheVariants.{LimitBytes, Line}
+use Rattle.lbfs_mount.specs.Mounts.{IsBadLine, IsDone, IsTooLong, Writes}
+use Rattle.lbfs_mount.specs.declared.mount_err.MountErr.{MountErr}
+use Rattle.lbfs_mount.specs.declared.mount_err.MountErr.TheVariants as errors
+use Rattle.program_words.specs.declared.status.Status.{Status}
+use Rattle.program_words.specs.declared.status.Status.TheVariants as status
+use Rattle.lbfs_run.specs.Telling.{Tells}
+
+-- the status, and what is written behind the operations' lines
+abbrev pub mount_output : Result Unit MountErr → Status × List ℕ
+mount_output (Ok done) = (status.Done, [])
+mount_output (Err errors.ReadFault) = (status.ReadFault, [])
+mount_output (Err errors.WriteFault) = (status.WriteFault, [])
+mount_output (Err (errors.BadLine number)) = (status.Refused, refusal_of (Line number Grammar))
+mount_output (Err errors.Network) = (status.Network, [])
+mount_output (Err errors.Memory) = (status.Memory, [])
+mount_output (Err errors.TooLong) = (status.Refused, refusal_of LimitBytes)
+
+-- why a mount ended so, with what was written for its lines: the script was read to its end, and all of its lines were
+-- told; or a front of what tells some lines was written, and a count of faults rose (the source's, the sink's, the
+-- network's or a link's), a line is none of a script, or the script is longer than an input may be
+abbrev pub MountCause : (left left' held held' : Option (List ℕ)) → (read read' write write' net net' : ℕ) → (link_fails : Type 0) → Result Unit MountErr → Type 0
+MountCause left left' held held' read read' write write' net net' link_fails (Ok done) = IsDone left left' held held'
+MountCause left left' held held' read read' write write' net net' link_fails (Err errors.ReadFault) = Writes held held' × Rose read read'
+MountCause left left' held held' read read' write write' net net' link_fails (Err errors.WriteFault) = Writes held held' × Rose write write'
+MountCause left left' held held' read read' write write' net net' link_fails (Err (errors.BadLine number)) = IsBadLine left left' held held' number
+MountCause left left' held held' read read' write write' net net' link_fails (Err errors.Network) = Writes held held' × (Rose net net' ⊎ link_fails)
+MountCause left left' held held' read read' write write' net net' link_fails (Err errors.Memory) = Writes held held'
+MountCause left left' held held' read read' write write' net net' link_fails (Err errors.TooLong) = Writes held held' × IsTooLong left left'
+
+-- a mount ended in one of these ways, with its cause, and that was written behind its operations' lines, with its status
+abbrev pub MountEnds : (left left' held held' : Option (List ℕ)) → (read read' write net net' : ℕ) → (link_fails : Type 0) → (code : ℕ) → Type 0
+MountEnds left left' held held' read read' write net net' link_fails code =
+    (ended : Result Unit MountErr) × (between : Option (List ℕ)) × (write' : ℕ) × MountCause left left' held between read read' write write' net net' link_fails ended × Tells code between held' (mount_output ended)

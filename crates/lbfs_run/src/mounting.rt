@@ -1,0 +1,130 @@
+//! `mount`: the lines of the source are run on the tree of a server, one by one. How that ends, and
+//! what is written then, states `specs/Mounting.antt`.
+
+ghost use Rattle.std.specs.Prelude.{◌≡◌, ◌≤◌, ◌⊎◌, [], IfOk, IsErrOf};
+ghost use Rattle.lb_base.specs.Causes.{Rose};
+ghost use Rattle.lbfs_mount.specs.Mounts.{LinkFails};
+ghost use Rattle.lbfs_mount.specs.declared.mount_err.MountErr.TheVariants as errors;
+ghost use Rattle.lbfs_run.specs.Mounting.{MountEnds, mount_output};
+ghost use Rattle.lbfs_run.specs.Telling.{Tells};
+
+use crate::outside::Outside;
+use crate::telling::tell;
+use lb_base::items::Items;
+use lb_base::sink::Sink;
+use lb_base::source::Source;
+use lbfs_mount::mount::mount;
+use lbfs_mount::mount_err::MountErr;
+use links::clock::Clock;
+use links::files::Files;
+use links::network::Network;
+use plain_run::output::{Output, refused};
+use program_words::asked::MountOptions;
+use program_words::status::Status;
+use std::alloc::{AllocError, Global};
+use std::sync::Wait;
+use std::thread::Threads;
+use trace_text::refusal::{LineFault, Refusal};
+
+/// An end of which nothing is written.
+fn untold(alloc: Global, status: Status) -> Output
+    ensures { (result.status ≡ status) × (result.text ≡ []) }
+{
+    Output {
+        status,
+        text: Items::new(alloc),
+    }
+}
+
+/// What is written of how a mount ended, and the status then. The one error is want of memory.
+fn mount_output(alloc: Global, ended: Result<(), MountErr>) -> Result<Output, AllocError>
+    ensures { IfOk result (λ out. (out.status, out.text) ≡ mount_output ended) }
+{
+    match ended {
+        Ok(()) => Ok(untold(alloc, Status::Done)),
+        Err(MountErr::ReadFault) => Ok(untold(alloc, Status::ReadFault)),
+        Err(MountErr::WriteFault) => Ok(untold(alloc, Status::WriteFault)),
+        Err(MountErr::BadLine { number }) => refused(
+            alloc,
+            Status::Refused,
+            Refusal::Line {
+                number,
+                fault: LineFault::Grammar,
+            },
+        ),
+        Err(MountErr::Network) => Ok(untold(alloc, Status::Network)),
+        Err(MountErr::Memory) => Ok(untold(alloc, Status::Memory)),
+        Err(MountErr::TooLong) => refused(alloc, Status::Refused, Refusal::LimitBytes),
+    }
+}
+
+/// Writes how a mount ended, and answers the status.
+fn tell_mounted<K: Sink>(alloc: Global, ended: Result<(), MountErr>, sink: &mut K) -> u8
+    ensures told { Tells result (K.held sink.old) (K.held sink.new) (mount_output ended) }
+    ensures later { K.faults sink.old ≤ K.faults sink.new }
+    ensures fault { result ≡ 4 → IsErrOf ended errors.WriteFault ⊎ Rose (K.faults sink.old) (K.faults sink.new) }
+{
+    match mount_output(alloc, ended) {
+        Ok(output) => tell(&output, sink),
+        Err(_) => Status::Memory.code(),
+    }
+}
+
+/// Runs the source's lines on the tree of a server, tells how that ended, and answers the status.
+pub(crate) fn run_mount<
+    H: Threads + Wait + Sync,
+    S: Source + Drop,
+    K: Sink + Drop,
+    D,
+    F: Files + Drop + Send,
+    N: Network + Drop,
+    C: Clock + Sync,
+    R,
+>(
+    rt: &H,
+    alloc: Global,
+    options: MountOptions,
+    out: Outside<S, K, D, F, N, C, R>,
+) -> (u8, Outside<S, K, D, F, N, C, R>)
+where
+    N::L: Drop + Send,
+    ensures mounts { MountEnds (S.left out.source) (S.left result.1.source) (K.held out.sink) (K.held result.1.sink) (S.faults out.source) (S.faults result.1.source) (K.faults out.sink) (N.faults out.network) (N.faults result.1.network) (LinkFails N.L.faults) result.0 }
+    ensures unstored { result.1.store ≡ out.store }
+    ensures read_later { S.faults out.source ≤ S.faults result.1.source }
+    ensures write_later { K.faults out.sink ≤ K.faults result.1.sink }
+    ensures read_fault { result.0 ≡ 3 → Rose (S.faults out.source) (S.faults result.1.source) }
+    ensures write_fault { result.0 ≡ 4 → Rose (K.faults out.sink) (K.faults result.1.sink) }
+    ensures network_fault { result.0 ≡ 7 → Rose (N.faults out.network) (N.faults result.1.network) ⊎ LinkFails N.L.faults }
+    ensures known { (result.0 ≡ 0) ⊎ (result.0 ≡ 3) ⊎ (result.0 ≡ 4) ⊎ (result.0 ≡ 5) ⊎ (result.0 ≡ 6) ⊎ (result.0 ≡ 7) }
+{
+    let Outside {
+        source,
+        sink,
+        store,
+        files,
+        network,
+        clock,
+        rest,
+    } = out;
+    let (ended, source, mut sink, files, network) = mount(
+        rt,
+        alloc,
+        source,
+        sink,
+        files,
+        network,
+        &clock,
+        options.port,
+    );
+    let status = tell_mounted(alloc, ended, &mut sink);
+    let out = Outside {
+        source,
+        sink,
+        store,
+        files,
+        network,
+        clock,
+        rest,
+    };
+    (status, out)
+}

@@ -1,0 +1,132 @@
+//! `serve`: the tree of a store, served until as many sessions as were asked for have ended. How that
+//! ends, and what is written then, states `specs/Serving.antt`.
+
+ghost use Rattle.std.specs.Prelude.{◌≡◌, ◌≤◌, ◌⊎◌, IfOk};
+ghost use Rattle.lb_base.specs.Causes.{Rose};
+ghost use Rattle.lbfs_run.specs.Ends.{StoreFails};
+ghost use Rattle.lbfs_run.specs.Serving.{ServeEnds, record_text, serve_output, served_text};
+ghost use Rattle.lbfs_run.specs.Telling.{Tells};
+
+use crate::outside::Outside;
+use crate::telling::tell;
+use lb_base::items::{Bytes, Items};
+use lb_base::sink::Sink;
+use lbfs_server::gate::OpenGate;
+use lbfs_server::serve::{ServeErr, Served, serve};
+use links::clock::Clock;
+use links::network::Network;
+use links::rest::Rest;
+use plain_run::output::Output;
+use program_words::asked::ServeOptions;
+use program_words::status::Status;
+use std::alloc::{AllocError, Global};
+use std::fmt::Write;
+use std::sync::Wait;
+use std::thread::Threads;
+use store::store::Store;
+
+/// The line of a server that served so many sessions and made so many changes.
+fn served_text(alloc: Global, served: Served) -> Result<Bytes, AllocError>
+    ensures { IfOk result (λ text. text ≡ served_text served.sessions served.changes) }
+{
+    let Served { sessions, changes } = served;
+    let mut text = String::new(alloc);
+    write!(text, "sessions {sessions} journal {changes}\n")?;
+    Ok(Items::from_vec(text.into_bytes()))
+}
+
+/// The line of a store of which this record breaks a rule.
+fn record_text(alloc: Global, which: usize) -> Result<Bytes, AllocError>
+    ensures { IfOk result (λ text. text ≡ record_text which) }
+{
+    let mut text = String::new(alloc);
+    write!(text, "store record {which}\n")?;
+    Ok(Items::from_vec(text.into_bytes()))
+}
+
+/// What is written of how serving ended, and the status then. The one error is want of memory.
+fn serve_output(alloc: Global, ended: Result<Served, ServeErr>) -> Result<Output, AllocError>
+    ensures { IfOk result (λ out. (out.status, out.text) ≡ serve_output ended) }
+{
+    let (status, text) = match ended {
+        Ok(served) => (Status::Done, served_text(alloc, served)?),
+        Err(ServeErr::Network) => (Status::Network, Items::new(alloc)),
+        Err(ServeErr::Store) => (Status::Store, Items::copy_of(alloc, b"store fault\n")?),
+        Err(ServeErr::BadRecord { which }) => (Status::Store, record_text(alloc, which)?),
+        Err(ServeErr::Memory) => (Status::Memory, Items::new(alloc)),
+    };
+    Ok(Output { status, text })
+}
+
+/// Writes how serving ended, and answers the status.
+fn tell_served<K: Sink>(alloc: Global, ended: Result<Served, ServeErr>, sink: &mut K) -> u8
+    ensures told { Tells result (K.held sink.old) (K.held sink.new) (serve_output ended) }
+    ensures later { K.faults sink.old ≤ K.faults sink.new }
+    ensures fault { result ≡ 4 → Rose (K.faults sink.old) (K.faults sink.new) }
+{
+    match serve_output(alloc, ended) {
+        Ok(output) => tell(&output, sink),
+        Err(_) => Status::Memory.code(),
+    }
+}
+
+/// Serves the store's tree, tells how that ended, and answers the status.
+pub(crate) fn run_serve<
+    H: Threads + Wait + Sync,
+    S,
+    K: Sink,
+    D: Store + Drop + Send,
+    F,
+    N: Network + Drop,
+    C: Clock + Sync,
+    R: Rest + Sync,
+>(
+    rt: &H,
+    alloc: Global,
+    options: &ServeOptions,
+    out: Outside<S, K, D, F, N, C, R>,
+) -> (u8, Outside<S, K, D, F, N, C, R>)
+where
+    N::L: Drop + Send,
+    ensures serves { ServeEnds options.now (N.accepted out.network) (N.accepted result.1.network) (N.faults out.network) (N.faults result.1.network) (D.faults out.store) (D.faults result.1.store) (D.records out.store) (K.held out.sink) (K.held result.1.sink) result.0 }
+    ensures unread { result.1.source ≡ out.source }
+    ensures unfiled { result.1.files ≡ out.files }
+    ensures write_later { K.faults out.sink ≤ K.faults result.1.sink }
+    ensures write_fault { result.0 ≡ 4 → Rose (K.faults out.sink) (K.faults result.1.sink) }
+    ensures network_fault { result.0 ≡ 7 → Rose (N.faults out.network) (N.faults result.1.network) }
+    ensures store_fault { result.0 ≡ 8 → StoreFails (D.faults out.store) (D.faults result.1.store) (D.records out.store) (K.held out.sink) (K.held result.1.sink) }
+    ensures known { (result.0 ≡ 0) ⊎ (result.0 ≡ 4) ⊎ (result.0 ≡ 6) ⊎ (result.0 ≡ 7) ⊎ (result.0 ≡ 8) }
+{
+    let Outside {
+        source,
+        mut sink,
+        store,
+        files,
+        network,
+        clock,
+        rest,
+    } = out;
+    let (ended, store, network) = serve(
+        rt,
+        alloc,
+        store,
+        options.store.as_str(),
+        network,
+        &clock,
+        &rest,
+        OpenGate,
+        options.port,
+        options.sessions,
+    );
+    let status = tell_served(alloc, ended, &mut sink);
+    let out = Outside {
+        source,
+        sink,
+        store,
+        files,
+        network,
+        clock,
+        rest,
+    };
+    (status, out)
+}

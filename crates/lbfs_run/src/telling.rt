@@ -1,0 +1,23 @@
+//! What is written as a server or a mount ends: `Tells` of `specs/Telling.antt`.
+
+ghost use Rattle.std.specs.Prelude.{◌≡◌, ◌≤◌, ◌⊎◌};
+ghost use Rattle.lb_base.specs.Causes.{Rose};
+ghost use Rattle.program_words.specs.Statuses.{code_of};
+ghost use Rattle.lbfs_run.specs.Telling.{Tells};
+
+use lb_base::sink::{GiveErr, Sink, give_all};
+use plain_run::output::Output;
+use program_words::status::Status;
+
+/// Writes the output, and answers its status, or that of what went wrong.
+pub(crate) fn tell<K: Sink>(output: &Output, sink: &mut K) -> u8
+    ensures told { Tells result (K.held sink.old) (K.held sink.new) (output.now.status, output.now.text) }
+    ensures later { K.faults sink.old ≤ K.faults sink.new }
+    ensures fault { result ≡ 4 → (code_of output.now.status ≡ 4) ⊎ Rose (K.faults sink.old) (K.faults sink.new) }
+{
+    match give_all(sink, output.text.as_slice()) {
+        Ok(()) => output.status.code(),
+        Err(GiveErr::Failed) => Status::WriteFault.code(),
+        Err(GiveErr::Memory) => Status::Memory.code(),
+    }
+}

@@ -1,0 +1,4 @@
+pub mod Line
+pub mod Words
+pub mod Rows
+pub mod Statuses

@@ -1,0 +1,130 @@
+//! The command line as `clap` is told it: `lbfs` of `specs/Line.antt`.
+
+ghost use Rattle.std.specs.Prelude.{◌≡◌, IfOk, true, false};
+ghost use Rattle.clap.specs.Words.{app_of, rule_of, with_rule, with_subcommand};
+ghost use Rattle.program_words.specs.Line.{optional, required, flag, placed, replay, gen, serve, mount, lbfs, named, with_commands};
+
+use clap::{Arg, ArgAction, Command};
+use std::alloc::{AllocError, Global};
+
+/// An option with one value, which may be left out.
+fn optional<'a>(alloc: Global, name: &'a str) -> Arg<'a>
+    ensures rule { rule_of result ≡ optional name.entry.now }
+    ensures own { result.global ≡ false }
+{
+    Arg::new(alloc, name).long(name).action(ArgAction::Set)
+}
+
+/// An option with one value, which is wanted.
+fn required<'a>(alloc: Global, name: &'a str) -> Arg<'a>
+    ensures rule { rule_of result ≡ required name.entry.now }
+    ensures own { result.global ≡ false }
+{
+    Arg::new(alloc, name)
+        .long(name)
+        .required(true)
+        .action(ArgAction::Set)
+}
+
+/// A flag.
+fn flag<'a>(alloc: Global, name: &'a str) -> Arg<'a>
+    ensures rule { rule_of result ≡ flag name.entry.now }
+    ensures own { result.global ≡ false }
+{
+    Arg::new(alloc, name).long(name).action(ArgAction::SetTrue)
+}
+
+/// A word in its place, which is wanted.
+fn placed<'a>(alloc: Global, name: &'a str) -> Arg<'a>
+    ensures rule { rule_of result ≡ placed name.entry.now }
+    ensures own { result.global ≡ false }
+{
+    Arg::new(alloc, name).required(true).action(ArgAction::Set)
+}
+
+/// A command with one argument more.
+fn with<'a>(command: Command<'a>, arg: Arg<'a>) -> Result<Command<'a>, AllocError>
+    requires { arg.global ≡ false }
+    ensures { IfOk result (λ c. app_of c ≡ with_rule (app_of command.entry) (rule_of arg.entry)) }
+{
+    let command = command.arg(arg)?;
+    Ok(command)
+}
+
+/// `replay` and its options.
+fn replay_line<'a>(alloc: Global) -> Result<Command<'a>, AllocError>
+    ensures { IfOk result (λ c. app_of c ≡ replay) }
+{
+    let command = with(Command::new(alloc, "replay"), flag(alloc, "summary"))?;
+    let command = with(command, optional(alloc, "seed"))?;
+    let command = with(command, optional(alloc, "blocks"))?;
+    Ok(command)
+}
+
+/// `gen` and its words.
+fn gen_line<'a>(alloc: Global) -> Result<Command<'a>, AllocError>
+    ensures { IfOk result (λ c. app_of c ≡ gen) }
+{
+    let command = with(Command::new(alloc, "gen"), placed(alloc, "seed"))?;
+    let command = with(command, placed(alloc, "blocks"))?;
+    Ok(command)
+}
+
+/// `serve` and its options.
+fn serve_line<'a>(alloc: Global) -> Result<Command<'a>, AllocError>
+    ensures { IfOk result (λ c. app_of c ≡ serve) }
+{
+    let command = with(Command::new(alloc, "serve"), required(alloc, "port"))?;
+    let command = with(command, required(alloc, "term"))?;
+    let command = with(command, required(alloc, "sessions"))?;
+    let command = with(command, required(alloc, "store"))?;
+    Ok(command)
+}
+
+/// `mount` and its options.
+fn mount_line<'a>(alloc: Global) -> Result<Command<'a>, AllocError>
+    ensures { IfOk result (λ c. app_of c ≡ mount) }
+{
+    let command = with(Command::new(alloc, "mount"), required(alloc, "port"))?;
+    let command = with(command, required(alloc, "drift"))?;
+    Ok(command)
+}
+
+/// A command with a command more below it.
+fn below<'a>(above: Command<'a>, command: Command<'a>) -> Result<Command<'a>, AllocError>
+    requires { (app_of command).top.is_plain ≡ true }
+    ensures { IfOk result (λ c. app_of c ≡ with_subcommand (app_of above.entry) (app_of command.entry).top) }
+{
+    let all = above.subcommand(command)?;
+    Ok(all)
+}
+
+/// The program, with no command yet.
+fn named<'a>(alloc: Global) -> Command<'a>
+    ensures { app_of result ≡ named }
+{
+    Command::new(alloc, "lbfs")
+        .no_binary_name(true)
+        .subcommand_required(true)
+}
+
+/// The program with all its commands.
+fn with_commands<'a>(alloc: Global, named: Command<'a>) -> Result<Command<'a>, AllocError>
+    ensures { IfOk result (λ c. app_of c ≡ with_commands (app_of named.entry)) }
+{
+    let all = below(named, replay_line(alloc)?)?;
+    let all = below(all, gen_line(alloc)?)?;
+    let all = below(all, Command::new(alloc, "cut"))?;
+    let all = below(all, Command::new(alloc, "show"))?;
+    let all = below(all, serve_line(alloc)?)?;
+    let all = below(all, mount_line(alloc)?)?;
+    Ok(all)
+}
+
+/// All commands of the program. The one error is want of memory.
+#[tactic(auto, unfolding(crate::specs::Line::lbfs))]
+pub fn lbfs<'a>(alloc: Global) -> Result<Command<'a>, AllocError>
+    ensures { IfOk result (λ c. app_of c ≡ lbfs) }
+{
+    with_commands(alloc, named(alloc))
+}
