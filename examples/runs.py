@@ -1,0 +1,205 @@
+"""Runs of the program on loopback: a server of a folder, a mount, and the tests of `serving` and `mounting`."""
+import argparse
+import os
+import queue
+import select
+import shutil
+import signal
+import socket
+import subprocess
+import tempfile
+import threading
+import time
+import traceback
+
+from peer import PATIENCE, Peer
+
+TOP = os.path.dirname(os.path.dirname(os.path.abspath(__file__)))
+PROGRAM = None
+
+
+def free_port():
+    with socket.socket() as it:
+        it.bind(("127.0.0.1", 0))
+        return it.getsockname()[1]
+
+
+def listens(port):
+    """Whether a port of this host is listened on. The kernel is asked: a connection would be a session."""
+    with open("/proc/net/tcp") as it:
+        rows = [line.split() for line in it]
+    return any(row[1].endswith(f":{port:04X}") and row[3] == "0A" for row in rows[1:])
+
+
+class Run:
+    """A run of the program, which is killed at the end where it hasn't ended."""
+
+    def __init__(self, words, **how):
+        self.process = subprocess.Popen(
+            [PROGRAM, *map(str, words)],
+            stdout=subprocess.PIPE,
+            stderr=subprocess.STDOUT,
+            start_new_session=True,
+            **how,
+        )
+
+    def __enter__(self):
+        return self
+
+    def __exit__(self, *_):
+        self.kill()
+
+    def kill(self):
+        if self.process.poll() is None:
+            os.killpg(self.process.pid, signal.SIGKILL)
+        self.process.wait()
+
+
+class Server(Run):
+    """A server of a folder, for so many sessions, which listens or has ended."""
+
+    def __init__(self, folder, sessions=1_000_000, port=None):
+        self.port = port or free_port()
+        words = ["serve", "--port", self.port, "--term", 1000, "--sessions", sessions, "--store", folder]
+        super().__init__(words, stdin=subprocess.DEVNULL)
+        until = time.monotonic() + PATIENCE
+        while not listens(self.port) and self.process.poll() is None and time.monotonic() < until:
+            time.sleep(0.005)
+
+    def session(self):
+        return Peer(self.port)
+
+    def ended(self):
+        """What it wrote, once it has ended of itself, and its status."""
+        written, _ = self.process.communicate(timeout=PATIENCE)
+        return written.decode(), self.process.returncode
+
+
+class Mount(Run):
+    """A mount in a folder, which is given its lines one by one."""
+
+    def __init__(self, port, folder):
+        words = ["mount", "--port", port, "--drift", 100]
+        super().__init__(words, stdin=subprocess.PIPE, cwd=folder)
+        self.lines = queue.Queue()
+        threading.Thread(target=self.read, daemon=True).start()
+
+    def read(self):
+        for line in self.process.stdout:
+            self.lines.put(line.decode().rstrip("\n"))
+        self.lines.put(None)
+
+    def give(self, line):
+        self.process.stdin.write(f"{line}\n".encode())
+        self.process.stdin.flush()
+
+    def say(self, line):
+        """The line that is written for a line, before the next is given."""
+        self.give(line)
+        return self.lines.get(timeout=PATIENCE)
+
+    def ended(self):
+        """What more it wrote, once its input has ended, and its status."""
+        self.process.stdin.close()
+        rest = list(iter(lambda: self.lines.get(timeout=PATIENCE), None))
+        return rest, self.process.wait(PATIENCE)
+
+
+class Relay:
+    """A relay before a server, which counts what goes over it."""
+
+    def __init__(self, to):
+        self.port = free_port()
+        words = [f"{TOP}/examples/relay", str(self.port), str(to)]
+        self.process = subprocess.Popen(words, stdin=subprocess.DEVNULL, stdout=subprocess.PIPE, stderr=subprocess.PIPE)
+
+    def __enter__(self):
+        self.line_of(self.process.stderr)
+        return self
+
+    def __exit__(self, *_):
+        self.process.kill()
+        self.process.wait()
+
+    @staticmethod
+    def line_of(stream):
+        """The next line; the first on standard error says that the relay listens."""
+        if not select.select([stream], [], [], PATIENCE)[0]:
+            raise AssertionError("the relay says nothing")
+        return stream.readline()
+
+    def counts(self):
+        """How many bytes went up and down the connection that ended next."""
+        words = self.line_of(self.process.stdout).split()
+        return int(words[1]), int(words[3])
+
+
+class Folder:
+    """An empty folder, which is gone at the end."""
+
+    def __enter__(self):
+        self.path = tempfile.mkdtemp(prefix="lbfs-examples-")
+        return self.path
+
+    def __exit__(self, *_):
+        shutil.rmtree(self.path, ignore_errors=True)
+
+
+def served(test):
+    """A test that is given a server of an empty folder."""
+
+    def run():
+        with Folder() as folder, Server(folder) as server:
+            test(server)
+
+    run.__name__ = test.__name__
+    return run
+
+
+def same(got, wanted, what):
+    if got != wanted:
+        raise AssertionError(f"{what}: {str(got)[:200]}, and {str(wanted)[:200]} was wanted")
+
+
+def has_loopback():
+    try:
+        free_port()
+        return True
+    except OSError:
+        return False
+
+
+def reason_to_skip():
+    if not PROGRAM:
+        return "no program is built for the sources as they are"
+    if not has_loopback():
+        return "this machine has no loopback"
+    return None
+
+
+def main(name, about, tests, options=()):
+    """Runs the tests that the words ask for, and answers the status."""
+    global PROGRAM
+    words = argparse.ArgumentParser(description=about, formatter_class=argparse.RawDescriptionHelpFormatter)
+    words.add_argument("--program")
+    words.add_argument("words", nargs="*")
+    for option, take in options:
+        words.add_argument(option, type=take)
+    given = words.parse_args()
+    found = subprocess.run([f"{TOP}/release/program"], stdout=subprocess.PIPE).stdout.decode().strip()
+    PROGRAM = os.path.abspath(given.program or found) if given.program or found else None
+    passed = failed = 0
+    skipped = reason_to_skip()
+    if skipped:
+        print(f"examples/{name}: skipped, since {skipped}")
+    for test in () if skipped else tests:
+        if given.words and not any(word in test.__name__ for word in given.words):
+            continue
+        try:
+            test()
+            passed += 1
+        except Exception:  # whatever it is, the others are looked at too
+            failed += 1
+            print(f"{test.__name__}:\n{traceback.format_exc()}")
+    print(f"{passed} passed, {failed} failed")
+    return 1 if failed else 0
