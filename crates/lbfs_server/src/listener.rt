@@ -16,25 +16,15 @@ use links::network::Network;
 use links::rest::Rest;
 use record_ends::end::End;
 use server_core::event::Event;
-use std::sync::Wait;
 use std::sync::atomic::{AtomicBool, Ordering};
+use std::sync::{Mutex, Wait};
 use std::thread;
 use std::thread::{Scope, Threads};
 use store::store::Store;
 
-/// Puts out what there is to say to a session, on a link of its own.
-fn give_out<R: Wait, S: Store + Drop, G: Gate + Drop, L: Link + Drop>(
-    rt: &R,
-    shared: &Shared<S, G>,
-    session: u32,
-    link: L,
-) {
-    let mut link = link;
-    session_out(rt, shared, session, &mut link);
-}
-
-/// Serves a session on its link and the link's twin: one thread takes, and another gives. Where no
-/// thread can be had the session is hung, and nothing more comes.
+/// Serves a session on its link and the link's twin: one thread takes records and puts out their
+/// answers, and another puts out what further events have to say. Where no thread can be had the
+/// session is hung, and nothing more comes.
 fn serve_twins<
     'x,
     R: Threads + Wait + Sync,
@@ -42,16 +32,23 @@ fn serve_twins<
     G: Gate + Drop + Sync,
     L: Link + Drop + Send,
     C: Clock + Sync,
->(rt: &'x R, shared: &'x Shared<S, G>, session: u32, link: L, twin: L, clock: &'x C) -> End {
+>(
+    rt: &'x R,
+    shared: &'x Shared<S, G>,
+    session: u32,
+    gives: &'x Mutex<L>,
+    twin: L,
+    clock: &'x C,
+) -> End {
     thread::scope(thread::scope_env(), rt, move |scope| {
         let mut twin = twin;
-        let gives = scope.spawn(move || give_out(rt, shared, session, link));
-        if gives.is_err() {
+        let giver = scope.spawn(move || session_out(rt, shared, session, gives));
+        if giver.is_err() {
             shared.event(rt, Event::Hang { session });
             twin.shut();
         }
-        drop(gives);
-        session_in(rt, shared, session, &mut twin, clock)
+        drop(giver);
+        session_in(rt, shared, session, &mut twin, gives, clock)
     })
 }
 
@@ -65,7 +62,10 @@ fn serve_session<
 >(rt: &R, shared: &Shared<S, G>, session: u32, link: L, clock: &C) -> End {
     let mut link = link;
     match link.twin() {
-        Ok(twin) => serve_twins(rt, shared, session, link, twin, clock),
+        Ok(twin) => {
+            let gives = Mutex::new(link);
+            serve_twins(rt, shared, session, &gives, twin, clock)
+        }
         Err(_) => session_both(rt, shared, session, &mut link, clock),
     }
 }

@@ -15,16 +15,36 @@ use record_ends::end::End;
 use record_ends::inbox::Inbox;
 use record_ends::outgoing::put_out;
 use server_core::event::Event;
-use std::sync::Wait;
+use std::sync::{Mutex, Wait};
 use store::store::Store;
 
-/// Takes a session's records off its link, each in a turn of its own, and lets its change be made
-/// where one waits.
+/// Puts out what there is to say to a session, and answers whether more may follow; where none may
+/// it shuts the link. Whoever takes what there is to say holds the link, so that what is taken first
+/// goes out first.
+fn say_by<W: Wait, S: Store + Drop, G: Gate + Drop, L: Link>(
+    rt: &W,
+    shared: &Shared<S, G>,
+    session: u32,
+    gives: &Mutex<L>,
+) -> bool {
+    let mut link = gives.lock(rt);
+    let out = shared.take_out(rt, session);
+    let said = put_out(shared.alloc(), &mut *link, &out.messages);
+    if said.is_err() || !out.stands {
+        link.shut();
+        return false;
+    }
+    true
+}
+
+/// Takes a session's records off its link, each in a turn of its own, lets its change be made where
+/// one waits, and puts out what there is to say then: no other thread has to be woken for it.
 fn read_on<W: Wait, S: Store + Drop, G: Gate + Drop, L: Link, C: Clock>(
     rt: &W,
     shared: &Shared<S, G>,
     session: u32,
     link: &mut L,
+    gives: &Mutex<L>,
     clock: &C,
 ) -> End
     ensures ended { result ≡ ends.InputEnd → IsAtEnd (L.left link.new) }
@@ -43,6 +63,7 @@ fn read_on<W: Wait, S: Store + Drop, G: Gate + Drop, L: Link, C: Clock>(
                 if shared.got(rt, session, record.as_slice(), clock.now()) {
                     shared.event(rt, Event::Settle { now: clock.now() });
                 }
+                say_by(rt, shared, session, gives);
             }
             Err(end) => return end,
         }
@@ -50,7 +71,8 @@ fn read_on<W: Wait, S: Store + Drop, G: Gate + Drop, L: Link, C: Clock>(
     unreachable!()
 }
 
-/// Takes records off a session's link until it ends, and hangs the session then. It shuts nothing.
+/// Takes records off a session's link until it ends, and hangs the session then. What there is to say
+/// after each goes out by the other link.
 ///
 /// `InputEnd` comes where the input ended, `Failed` only where the link's count of faults rose, and
 /// `Spoilt` only where no record can stand behind the bytes that came.
@@ -59,6 +81,7 @@ pub fn session_in<W: Wait, S: Store + Drop, G: Gate + Drop, L: Link, C: Clock>(
     shared: &Shared<S, G>,
     session: u32,
     link: &mut L,
+    gives: &Mutex<L>,
     clock: &C,
 ) -> End
     ensures ended { result ≡ ends.InputEnd → IsAtEnd (L.left link.new) }
@@ -67,7 +90,7 @@ pub fn session_in<W: Wait, S: Store + Drop, G: Gate + Drop, L: Link, C: Clock>(
     ensures out { L.held link.new ≡ L.held link.old }
     ensures later { L.faults link.old ≤ L.faults link.new }
 {
-    let end = read_on(rt, shared, session, link, clock);
+    let end = read_on(rt, shared, session, link, gives, clock);
     shared.event(rt, Event::Hang { session });
     end
 }
@@ -78,13 +101,11 @@ pub fn session_out<W: Wait, S: Store + Drop, G: Gate + Drop, L: Link>(
     rt: &W,
     shared: &Shared<S, G>,
     session: u32,
-    link: &mut L,
+    gives: &Mutex<L>,
 ) {
     for _turn in rt.forever() {
-        let out = shared.await_out(rt, session);
-        let said = put_out(shared.alloc(), link, &out.messages);
-        if said.is_err() || !out.stands {
-            link.shut();
+        shared.await_said(rt, session);
+        if !say_by(rt, shared, session, gives) {
             return;
         }
     }

@@ -99,13 +99,13 @@ impl<S: Store + Drop, G: Gate + Drop> Shared<S, G> {
         Outgoing { messages, stands }
     }
 
-    /// The same, once there is something to say or the session is gone.
-    pub fn await_out<W: Wait>(&self, rt: &W, session: u32) -> Outgoing {
+    /// Waits until there is something to say to a session, or it is gone. Another may have taken it
+    /// by then.
+    pub fn await_said<W: Wait>(&self, rt: &W, session: u32) {
         let held = self.held.lock(rt);
         let spoke = self
             .said
             .wait_while(rt, held, |held| held.is_quiet(session));
         drop(spoke);
-        self.take_out(rt, session)
     }
 }
