@@ -1,4 +1,4 @@
-//! Where the bytes of a chunk may be found.
+//! Where the bytes of a chunk may be found. `specs/Placed.antt` states which bytes lie at a place.
 
 /// A range of a file, which may not be there, nor have so many bytes.
 #[derive(Clone, Copy, Debug, PartialEq, Eq)]

@@ -1,4 +1,4 @@
-//! What is kept of a file.
+//! What is kept of a file. `specs/Cache.antt` states of how many, and what goes first.
 
 use shared_bytes::SharedBytes;
 

@@ -1,4 +1,5 @@
-//! How many calls of one operation may be under way, and the chunk that a call is for.
+//! How many calls of one operation may be under way, and the chunk that a call is for. Contracts have
+//! the number by `specs/Limits.antt`.
 
 ghost use Rattle.std.specs.Prelude.{◌≡◌, slice_get};
 

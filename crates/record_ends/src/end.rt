@@ -1,4 +1,4 @@
-//! Why an end of a link is done with.
+//! Why an end of a link is done with. `specs/Ends.antt` states when each comes.
 
 ghost use Rattle.std.specs.Prelude.{◌≡◌};
 ghost use Rattle.record_ends.specs.Ends.{end_of_give};

@@ -1,4 +1,4 @@
-//! Changes of a list of records, in place.
+//! Changes of a list of records, in place. `specs/Records.antt` states what each makes of it.
 
 ghost use Rattle.std.specs.Prelude.{◌≡◌, ◌+◌, ◌<◌, ◌≤◌, length, [], ◌∷◌, IsTrue, not, IfOk, OnOk};
 ghost use Rattle.std.specs.Vec.{vec_capacity};

@@ -1,5 +1,6 @@
 //! Stores in memory, which tell their records: one that fails when told to, and its twin that
 //! never fails. Each change looks through the records, so these are for tests and small trees.
+//! `specs/Memory.antt` states what contracts see of them.
 
 ghost use Rattle.std.specs.Prelude.{◌≡◌, ℕ, ◌+◌, ◌-◌, ◌^◌, ◌≤◌, ◌↔◌, if◌then◌else◌, List, [], min, Contains, Option, Some, Ok, IfOk, OnOk, OnErr, IsOk, IsErr, IsErrOf, IsTrue, length};
 ghost use Rattle.std.specs.Option.{option_map};

@@ -1,4 +1,4 @@
-//! What a store keeps, and how it is changed.
+//! What a store keeps, and how it is changed. `specs/Records.antt` states what each change makes.
 
 use lb_base::items::Name;
 use shared_bytes::SharedBytes;

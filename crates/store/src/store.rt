@@ -1,4 +1,5 @@
-//! Stores: what keeps a tree from one start to the next.
+//! Stores: what keeps a tree from one start to the next. What a change makes of the records states
+//! `specs/Records.antt`, when a fault may be answered `Causes.antt` of `lb_base`.
 
 ghost use Rattle.std.specs.Prelude.{◌≡◌, ℕ, ◌+◌, ◌≤◌, List, Option, Some, IfOk, OnOk, OnErr, IsErrOf};
 ghost use Rattle.std.specs.Option.{option_map};

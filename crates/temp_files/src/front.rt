@@ -1,4 +1,5 @@
 //! The bytes of the first pieces of a temporary file, of which others may be owners too.
+//! `specs/Laid.antt` states how the pieces lie in them.
 
 ghost use Rattle.std.specs.Prelude.{◌≡◌, [], length, IfOk, OnOk};
 ghost use Rattle.temp_files.specs.Laid.{AreLengthsOf, laid};
