@@ -17,19 +17,19 @@ names=${1:-65000}
 rounds=${2:-5}
 how=${3:-run}
 . bench/made
-copy_for tree_bench "file_tree nfs3_calls xdr_codec lb_base" limits lb_base shared_bytes xdr_codec nfs3_calls rabin_window chunk_cut store tree_nodes file_tree
+copy_for tree_bench "file_tree tree_plans nfs3_calls xdr_codec lb_base" limits lb_base shared_bytes xdr_codec nfs3_calls rabin_window chunk_cut store block_list tree_nodes tree_reading tree_plans file_tree
 cat >"$work/crates/tree_bench/src/main.rt" <<'EOF'
 //! Makes files in a directory, lists it and removes them, as many as said and a quarter, and prints
 //! the microseconds of each.
 #![tactic(auto)]
 
-use file_tree::call::{CreateMode, Held};
 use file_tree::tree::Tree;
 use lb_base::items::Name;
 use std::alloc::{AllocError, Global};
 use std::rt::Runtime;
 use std::time::Instant;
 use std::{env, io};
+use tree_plans::call::{CreateMode, Held};
 
 /// Nothing waits.
 const NONE: Held = Held {

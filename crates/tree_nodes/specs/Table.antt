@@ -86,5 +86,5 @@ pub record IsTable (slots : List Slot) (order : List ℕ) (next : ℕ) : Type 0 
   pub agree : (id : ℕ) → with_id (shown slots order) id ≡ taken_at slots id
 
 -- for how many nodes more there is room: each takes a place, of which there may be fewer than 2^32, and one in the order
-abbrev pub room_left : ℕ → ℕ → ℕ → ℕ → ℕ
-room_left slot_room slots order_room order = min (min slot_room 4294967295 - slots) (order_room - order)
+abbrev pub room_left : ℕ → ℕ → ℕ → ℕ
+room_left slot_room slots order_room = min (min slot_room 4294967295 - slots) order_room

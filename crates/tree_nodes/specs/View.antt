@@ -17,7 +17,7 @@ abbrev pub nodes_of : Table → List Node
 nodes_of t = shown t.slots.items t.order.items
 
 abbrev pub room_of : Table → ℕ
-room_of t = room_left (vec_capacity t.slots) (length t.slots.items) (vec_capacity t.order) (length t.order.items)
+room_of t = room_left (vec_capacity t.slots) (length t.slots.items) t.order.room
 
 abbrev pub IsSound : Table → Type 0
 IsSound t = IsTable t.slots.items t.order.items t.next

@@ -14,6 +14,7 @@ ghost use Rattle.tree_nodes.specs.View.{nodes_of, IsSound};
 use crate::node::Node;
 use crate::slot::Slot;
 use crate::table::Table;
+use block_list::list::BlockList;
 use std::alloc::{AllocError, Global};
 use std::collections::BTreeMap;
 
@@ -69,13 +70,13 @@ fn under_names<'a>(
 }
 
 // The places of the nodes in the order of their directories and names.
-fn order_of(alloc: Global, nodes: &[Node]) -> Result<Vec<u32>, AllocError>
+fn order_of(alloc: Global, nodes: &[Node]) -> Result<BlockList, AllocError>
     requires apart { AreApart nodes.now }
     requires few { length nodes.now < 2 ^ 32 }
     ensures { IfOk result (λ v. ShowInOrder nodes.now v.items) }
 {
     let by_names = under_names(alloc, nodes)?;
-    let mut order = Vec::new(alloc);
+    let mut order = BlockList::new(alloc);
     for place in by_names.into_values() {
         order.push(place)?;
     }

@@ -11,13 +11,14 @@ use crate::content::Content;
 use crate::listed;
 use crate::node::Node;
 use crate::table::{self, Table};
+use block_list::list::BlockList;
 use lb_base::items::Name;
 use std::alloc::{AllocError, Global};
 use std::marker::Model;
 
 /// Nodes with ids and names of their own. By an id and by a name one is found in a time that goes
-/// with the logarithm of their number; a node that is added, removed or renamed moves the numbers
-/// (of four bytes) of those behind it.
+/// with the logarithm of their number; a node that is added, removed or renamed moves some numbers
+/// (of four bytes) of one block in the order, and one of each block behind that.
 #[derive(Drop, Debug)]
 pub struct Nodes {
     table: Table,
@@ -42,7 +43,7 @@ impl Nodes {
         Nodes {
             table: Table {
                 slots: Vec::new(alloc),
-                order: Vec::new(alloc),
+                order: BlockList::new(alloc),
                 next,
             },
         }

@@ -14,13 +14,14 @@ ghost use Rattle.tree_nodes.specs.Table.{shown, place_for, IsTable, IsNodeAt, be
 use crate::content::Content;
 use crate::node::{Body, Node};
 use crate::slot::{self, Slot};
+use block_list::list::BlockList;
 use lb_base::items::Name;
 use std::alloc::AllocError;
 use std::cmp::Ordering;
 
 /// The place of a name in the order of the nodes, or where it would be.
 #[tactic(auto, using(crate::proofs::Finds::order_past, crate::proofs::Finds::order_stays, crate::proofs::Finds::order_end))]
-pub fn place_for(slots: &Vec<Slot>, order: &Vec<u32>, dir: u64, name: &[u8]) -> usize
+pub fn place_for(slots: &Vec<Slot>, order: &BlockList, dir: u64, name: &[u8]) -> usize
     requires { AreInOrder (shown slots.now.items order.now.items) }
     ensures exact { result ≡ place_for (shown slots.now.items order.now.items) dir name.now }
     ensures within { result ≤ length order.now.items }
@@ -39,7 +40,7 @@ pub fn place_for(slots: &Vec<Slot>, order: &Vec<u32>, dir: u64, name: &[u8]) -> 
 }
 
 /// The place of a name that is there, in the order of the nodes.
-pub fn place_named(slots: &Vec<Slot>, order: &Vec<u32>, dir: u64, name: &[u8]) -> usize
+pub fn place_named(slots: &Vec<Slot>, order: &BlockList, dir: u64, name: &[u8]) -> usize
     requires sorted { AreInOrder (shown slots.now.items order.now.items) }
     requires there { IsSome (named (shown slots.now.items order.now.items) dir name.now) }
     ensures node { named (shown slots.now.items order.now.items) dir name.now ≡ slice_get (shown slots.now.items order.now.items) result }
@@ -50,7 +51,7 @@ pub fn place_named(slots: &Vec<Slot>, order: &Vec<u32>, dir: u64, name: &[u8]) -
 
 /// From which place on, and up to which one, the nodes of a directory stand in the order.
 #[tactic(auto, using(crate::proofs::Ranges::names_between, crate::proofs::Ranges::count_between, crate::proofs::Ranges::places_rise, crate::proofs::Ranges::places_end))]
-pub fn places(slots: &Vec<Slot>, order: &Vec<u32>, dir: u64) -> (usize, usize)
+pub fn places(slots: &Vec<Slot>, order: &BlockList, dir: u64) -> (usize, usize)
     requires sorted { AreInOrder (shown slots.now.items order.now.items) }
     requires dir { dir < 2 ^ 64 - 1 }
     ensures names { names (shown slots.now.items order.now.items) dir ≡ take (result.1 - result.0) (drop result.0 (shown slots.now.items order.now.items)) }
@@ -64,18 +65,18 @@ pub fn places(slots: &Vec<Slot>, order: &Vec<u32>, dir: u64) -> (usize, usize)
 }
 
 // Whether the node at a place in the order comes before a name; none does past the last.
-fn comes_before(slots: &Vec<Slot>, order: &Vec<u32>, place: usize, dir: u64, name: &[u8]) -> bool
+fn comes_before(slots: &Vec<Slot>, order: &BlockList, place: usize, dir: u64, name: &[u8]) -> bool
     ensures { result ≡ before_at slots.now.items (slice_get order.now.items place) dir name.now }
 {
-    match order.get(place) {
-        Some(&slot) => slot::node_order(slots, slot as usize, dir, name) == Ordering::Less,
+    match order.at(place) {
+        Some(slot) => slot::node_order(slots, slot as usize, dir, name) == Ordering::Less,
         None => false,
     }
 }
 
 /// How many nodes there are.
 #[tactic(auto, using(crate::proofs::Ranges::length_shown))]
-pub fn len(slots: &Vec<Slot>, order: &Vec<u32>) -> usize
+pub fn len(slots: &Vec<Slot>, order: &BlockList) -> usize
     ensures { result ≡ length (shown slots.now.items order.now.items) }
 {
     let _places = slots;
@@ -83,12 +84,12 @@ pub fn len(slots: &Vec<Slot>, order: &Vec<u32>) -> usize
 }
 
 /// The node at a place in the order.
-pub fn node_at<'a>(slots: &'a Vec<Slot>, order: &Vec<u32>, place: usize) -> Option<&'a Node>
+pub fn node_at<'a>(slots: &'a Vec<Slot>, order: &BlockList, place: usize) -> Option<&'a Node>
     requires { AllByRecursion (IsTaken slots.now.items) order.now.items }
     ensures { option_copied result ≡ slice_get (shown slots.now.items order.now.items) place }
 {
-    match order.get(place) {
-        Some(&slot) => slot::node_in(slots, slot as usize),
+    match order.at(place) {
+        Some(slot) => slot::node_in(slots, slot as usize),
         None => None,
     }
 }
@@ -134,7 +135,7 @@ fn if_named<'a>(node: Option<&'a Node>, dir: u64, name: &[u8]) -> Option<&'a Nod
 }
 
 /// The node with the name in the directory.
-pub fn named<'a>(slots: &'a Vec<Slot>, order: &Vec<u32>, dir: u64, name: &[u8]) -> Option<&'a Node>
+pub fn named<'a>(slots: &'a Vec<Slot>, order: &BlockList, dir: u64, name: &[u8]) -> Option<&'a Node>
     requires sorted { AreInOrder (shown slots.now.items order.now.items) }
     requires taken { AllByRecursion (IsTaken slots.now.items) order.now.items }
     ensures { option_copied result ≡ named (shown slots.now.items order.now.items) dir name.now }
@@ -147,32 +148,29 @@ pub fn named<'a>(slots: &'a Vec<Slot>, order: &Vec<u32>, dir: u64, name: &[u8]) 
 #[derive(Drop, Debug)]
 pub struct Table {
     pub slots: Vec<Slot>,
-    pub order: Vec<u32>,
+    pub order: BlockList,
     /// No node ever had this id, or a greater one.
     pub next: u64,
 }
 
 // Puts a node into a place whose node is gone, and that place into the order. It takes no memory.
-fn put_in(slots: &mut Vec<Slot>, order: &mut Vec<u32>, slot: u32, node: Node)
+fn put_in(slots: &mut Vec<Slot>, order: &mut BlockList, slot: u32, node: Node)
     requires sorted { AreInOrder (shown slots.old.items order.old.items) }
     requires there { slot < length slots.old.items }
-    requires room { length order.old.items < vec_capacity order.old }
+    requires room { 0 < order.old.room }
     ensures slots { slots.new.items ≡ slice_set slots.old.items slot (Taken node) }
     ensures order { order.new.items ≡ insert order.old.items (place_for (shown slots.old.items order.old.items) node.parent node.name) slot }
     ensures slot_room { vec_capacity slots.new ≡ vec_capacity slots.old }
-    ensures order_room { vec_capacity order.old ≤ vec_capacity order.new }
+    ensures order_room { order.old.room ≡ order.new.room + 1 }
 {
     let place = place_for(slots, order, node.parent, node.name.as_slice());
     slot::put(slots, slot as usize, node);
-    match order.insert(place, slot) {
-        Ok(()) => {}
-        Err(_) => unreachable!(),
-    }
+    order.insert(place, slot);
 }
 
 // Takes the node at a place in the order out of its place there and in the slots, which keeps its
 // id; gives the number of the slot, and the node.
-fn take_out(slots: &mut Vec<Slot>, order: &mut Vec<u32>, place: usize) -> (u32, Node)
+fn take_out(slots: &mut Vec<Slot>, order: &mut BlockList, place: usize) -> (u32, Node)
     requires taken { AllByRecursion (IsTaken slots.old.items) order.old.items }
     requires within { place < length order.old.items }
     ensures slot { slice_get order.old.items place ≡ Some result.0 }
@@ -180,7 +178,7 @@ fn take_out(slots: &mut Vec<Slot>, order: &mut Vec<u32>, place: usize) -> (u32, 
     ensures slots { slots.new.items ≡ slice_set slots.old.items result.0 (Gone result.1.id) }
     ensures order { order.new.items ≡ remove order.old.items place }
     ensures slot_room { vec_capacity slots.new ≡ vec_capacity slots.old }
-    ensures order_room { vec_capacity order.new ≡ vec_capacity order.old }
+    ensures order_room { order.new.room ≡ order.old.room + 1 }
 {
     let slot = order.remove(place);
     let node = slot::take(slots, slot as usize);
@@ -292,7 +290,7 @@ impl Table {
             return Err(AllocError);
         }
         self.slots.reserve(count as usize)?;
-        self.order.reserve(count as usize)
+        self.order.reserve(count)
     }
 }
 
