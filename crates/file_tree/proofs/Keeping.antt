@@ -16,10 +16,10 @@ use Rattle.tree_nodes.specs.declared.node.Body.{Body}
 use Rattle.tree_nodes.specs.declared.node.Body.TheVariants.{Directory, File}
 use Rattle.file_tree.specs.Kept.{node_record, node_records, body_records, content_records, IsKept}
 use Rattle.file_tree.specs.Step.{made, removed, placed, moved, replaced}
-use Rattle.file_tree.specs.Storing.{kind_of, head_of, node_change, content_change, stored_made, stored_removed, stored_moved, stored_replaced}
-use Rattle.file_tree.specs.Tree.{Tree, is_directory, root}
+use Rattle.file_tree.specs.Storing.{kind_of, head_of, node_change, content_change, with_given, gives_made, gives_removed, gives_moved, gives_replaced}
+use Rattle.tree_reading.specs.Tree.{Tree, is_directory, root}
 
-self_test : (a : ℕ) → (a == a) ≡ true
+pub self_test : (a : ℕ) → (a == a) ≡ true
 self_test a = grind (arith, nat_tests)
 
 -- ---- a record that takes another's place
@@ -323,7 +323,7 @@ no_content n true o e none = ap content_records (none refl) ∙ ap (body_records
 no_content n false o e none = refl
 
 -- CREATE and MKDIR: a node in a directory, under an id that no node has
-pub kept_made : (t : Tree) (n d : Node) (records : List Kept) → IsKept records t → with_id t.nodes n.id ≡ None → (n.id == 1) ≡ false → with_id t.nodes n.parent ≡ Some d → is_directory d.body ≡ true → IsKept (stored_made (made t n) n records) (made t n)
+pub kept_made : (t : Tree) (n d : Node) (records : List Kept) → IsKept records t → with_id t.nodes n.id ≡ None → (n.id == 1) ≡ false → with_id t.nodes n.parent ≡ Some d → is_directory d.body ≡ true → IsKept (with_given (Some (gives_made (made t n) n)) records) (made t n)
 kept_made t n d records k fresh other there is = by_body n.body refl
   where
     with_new : AreOf (with_record (kept.Node (node_of_new n)) (headless records)) (λ id. if n.id == id then kept.Node (node_of_new n) ∷ [] else nodes_in t.nodes id) (contents_in t.nodes)
@@ -369,7 +369,7 @@ without_contents nodes gone id = gone_content (gone == id) (with_id nodes id) �
 without_bare : (nodes : List Node) (gone dir : ℕ) → IsBare (with_id nodes dir) → IsBare (with_id (without nodes gone) dir)
 without_bare nodes gone dir bare = subst IsBare (sym (with_id_without nodes gone dir)) (gone_bare (gone == dir) (with_id nodes dir) bare)
 
-pub kept_removed : (t : Tree) (dir gone : ℕ) (d : Node) (records : List Kept) → IsKept records t → with_id t.nodes dir ≡ Some d → is_directory d.body ≡ true → IsKept (stored_removed (removed t dir gone) gone records) (removed t dir gone)
+pub kept_removed : (t : Tree) (dir gone : ℕ) (d : Node) (records : List Kept) → IsKept records t → with_id t.nodes dir ≡ Some d → is_directory d.body ≡ true → IsKept (with_given (Some (gives_removed (removed t dir gone) gone)) records) (removed t dir gone)
 kept_removed t dir gone d records k there is =
     ends_in (filter (λ r. not (is_of gone r)) (headless records)) (λ id. if gone == id then [] else nodes_in t.nodes id) (λ id. if gone == id then [] else contents_in t.nodes id) (removed t dir gone)
     (drop_one (headless records) (nodes_in t.nodes) (contents_in t.nodes) gone (starts records t k))
@@ -413,11 +413,11 @@ moves_in rs nodes n dir to to_name next changes a there other bare_from bare_to 
     (λ id. moved_node (elsewhere n to to_name) id (n.id == id) (with_id nodes id) refl other ∙ ap (node_records id) (sym (found_placed nodes n to to_name id)) ∙ same_nodes here dir changes id ∙ same_nodes (versioned here dir changes) to changes id)
     (λ id. same_placed nodes n to to_name id there ∙ same_contents here dir changes id from_bare ∙ same_contents (versioned here dir changes) to changes id to_bare)
 
-pub kept_moved : (t : Tree) (dir to : ℕ) (to_name : List ℕ) (n d e : Node) (records : List Kept) → IsKept records t → with_id t.nodes n.id ≡ Some n → (n.id == 1) ≡ false → with_id t.nodes dir ≡ Some d → is_directory d.body ≡ true → with_id t.nodes to ≡ Some e → is_directory e.body ≡ true → IsKept (stored_moved (moved t dir n None to to_name) (elsewhere n to to_name) None records) (moved t dir n None to to_name)
+pub kept_moved : (t : Tree) (dir to : ℕ) (to_name : List ℕ) (n d e : Node) (records : List Kept) → IsKept records t → with_id t.nodes n.id ≡ Some n → (n.id == 1) ≡ false → with_id t.nodes dir ≡ Some d → is_directory d.body ≡ true → with_id t.nodes to ≡ Some e → is_directory e.body ≡ true → IsKept (with_given (Some (gives_moved (moved t dir n None to to_name) (elsewhere n to to_name) None)) records) (moved t dir n None to to_name)
 kept_moved t dir to to_name n d e records k there other from is_from into is_into =
     moves_in (headless records) t.nodes n dir to to_name t.next (t.changes + 1) (starts records t k) there other (bare_directory (with_id t.nodes dir) d from is_from) (bare_directory (with_id t.nodes to) e into is_into)
 
-pub kept_moved_over : (t : Tree) (dir to : ℕ) (to_name : List ℕ) (n gone d e : Node) (records : List Kept) → IsKept records t → with_id t.nodes n.id ≡ Some n → (gone.id == n.id) ≡ false → (n.id == 1) ≡ false → with_id t.nodes dir ≡ Some d → is_directory d.body ≡ true → with_id t.nodes to ≡ Some e → is_directory e.body ≡ true → IsKept (stored_moved (moved t dir n (Some gone) to to_name) (elsewhere n to to_name) (Some gone) records) (moved t dir n (Some gone) to to_name)
+pub kept_moved_over : (t : Tree) (dir to : ℕ) (to_name : List ℕ) (n gone d e : Node) (records : List Kept) → IsKept records t → with_id t.nodes n.id ≡ Some n → (gone.id == n.id) ≡ false → (n.id == 1) ≡ false → with_id t.nodes dir ≡ Some d → is_directory d.body ≡ true → with_id t.nodes to ≡ Some e → is_directory e.body ≡ true → IsKept (with_given (Some (gives_moved (moved t dir n (Some gone) to to_name) (elsewhere n to to_name) (Some gone))) records) (moved t dir n (Some gone) to to_name)
 kept_moved_over t dir to to_name n gone d e records k there apart other from is_from into is_into =
     let a = drop_one (headless records) (nodes_in t.nodes) (contents_in t.nodes) gone.id (starts records t k) in
     moves_in (filter (λ r. not (is_of gone.id r)) (headless records)) (without t.nodes gone.id) n dir to to_name t.next (t.changes + 2)
@@ -442,7 +442,7 @@ refilled_content : (version : ℕ) (content : List ℕ) (n : Node) (b : Bool) (o
 refilled_content version content n true o same = subst (λ (p : Option Node). kept.Content (record { id = n.id; version = version; bytes = content }) ∷ [] ≡ content_records (option_map (refilled version content) p)) (sym (same refl)) refl
 refilled_content version content n false o same = refl
 
-pub kept_replaced : (t : Tree) (n : Node) (version : ℕ) (content : List ℕ) (records : List Kept) → IsKept records t → with_id t.nodes n.id ≡ Some n → is_directory n.body ≡ false → IsKept (stored_replaced (replaced t n.id version content) n.id version content records) (replaced t n.id version content)
+pub kept_replaced : (t : Tree) (n : Node) (version : ℕ) (content : List ℕ) (records : List Kept) → IsKept records t → with_id t.nodes n.id ≡ Some n → is_directory n.body ≡ false → IsKept (with_given (Some (gives_replaced (replaced t n.id version content) n.id version content)) records) (replaced t n.id version content)
 kept_replaced t n version content records k there is =
     let r : ContentRecord = record { id = n.id; version = version; bytes = content } in
     ends_in (with_record (kept.Content r) (headless records)) (nodes_in t.nodes) (λ id. if n.id == id then kept.Content r ∷ [] else contents_in t.nodes id) (replaced t n.id version content)

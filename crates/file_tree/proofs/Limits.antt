@@ -1,5 +1,5 @@
 -- What changes leave of a tree's limits.
-use Rattle.std.proofs.Common.{◌≡◌, ℕ, zero, suc, ◌+◌, ◌^◌, ◌<◌, ◌≤◌, List, [], ◌∷◌, length, drop, Option, Some, None, Bool, true, false, not, ◌==◌, refl, sym, ap, ◌∙◌, arith, if◌then◌else◌, cond}
+use Rattle.std.proofs.Common.{◌≡◌, ℕ, zero, suc, ◌+◌, ◌^◌, ◌<◌, ◌≤◌, List, [], ◌∷◌, length, drop, Some, Bool, true, false, not, ◌==◌, refl, sym, ap, ◌∙◌, arith, if◌then◌else◌, cond}
 use Rattle.std.specs.List.{filter, slice_get, AllByRecursion}
 use Rattle.std.proofs.lemmas.Bool.Decides.{nat_tests}
 use Rattle.tree_nodes.specs.declared.node.Node.{Node}
@@ -7,10 +7,10 @@ use Rattle.tree_nodes.specs.declared.node.Body.{Body}
 use Rattle.tree_nodes.specs.declared.node.Body.TheVariants.{File}
 use Rattle.tree_nodes.specs.Nodes.{before, with_id, with_node, without, changed, versioned}
 use Rattle.tree_nodes.specs.View.{NodesState}
-use Rattle.file_tree.specs.Tree.{content_of, contents_size, size_in}
-use Rattle.file_tree.specs.Step.{changes_most, file_most, tree_most}
-use Rattle.file_tree.specs.View.{IsNodeBounded, AreBounded, AreIdsApart, IsWithinLimits}
-use Rattle.file_tree.proofs.Found.{found_all}
+use Rattle.tree_reading.specs.Tree.{content_of, contents_size, size_in, changes_most, file_most, tree_most}
+use Rattle.tree_reading.specs.View.{IsNodeBounded, AreBounded}
+use Rattle.file_tree.specs.View.{AreIdsApart, IsWithinLimits}
+use Rattle.tree_reading.proofs.Found.{some_is, found_all}
 
 -- ---- each node
 
@@ -119,13 +119,6 @@ without_none (m ∷ ms) id all = rw all.0 (ap (λ z. m ∷ z) (without_none ms i
 changed_none : (f : Node → Node) (ms : List Node) (id : ℕ) → AllByRecursion (λ m. (m.id == id) ≡ false) ms → changed ms id f ≡ ms
 changed_none f [] id all = refl
 changed_none f (m ∷ ms) id all = rw all.0 (ap (λ z. m ∷ z) (changed_none f ms id all.1))
-
-some_is : (d a b : Node) → Some a ≡ Some b → a ≡ b
-some_is d a b e = ap (λ o. or_else o) e
-  where
-    or_else : Option Node → Node
-    or_else None = d
-    or_else (Some z) = z
 
 only_one : (m : Node) (ms : List Node) (id : ℕ) → AllByRecursion (λ k. (m.id == k.id) ≡ false) ms → (m.id == id) ≡ true → AllByRecursion (λ k. (k.id == id) ≡ false) ms
 only_one m ms id apart is = all_map (λ k. (m.id == k.id) ≡ false) (λ k. (k.id == id) ≡ false) (λ k other. grind (arith, nat_tests, other, is)) ms apart

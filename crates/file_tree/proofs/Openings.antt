@@ -8,14 +8,14 @@ use Rattle.std.proofs.lemmas.Bool.Decides.{nat_tests}
 use Rattle.xdr_codec.specs.declared.status.Status.{Status}
 use Rattle.xdr_codec.specs.declared.status.Status.TheVariants as status
 use Rattle.tree_nodes.specs.declared.node.Node.{Node}
-use Rattle.tree_nodes.specs.Nodes.{named, with_id, with_node, versioned}
+use Rattle.tree_nodes.specs.Nodes.{named, with_node, versioned}
 use Rattle.tree_nodes.specs.View.{NodesState}
-use Rattle.file_tree.specs.Chain.{◌>>=◌}
-use Rattle.file_tree.specs.Names.{spelt, undotted}
+use Rattle.tree_reading.specs.Chain.{◌>>=◌}
+use Rattle.tree_reading.specs.Names.{spelt, undotted}
 use Rattle.file_tree.specs.Opening.{may_open, counted_at, with_change}
-use Rattle.file_tree.specs.Tree.{Tree, is_directory, content_of, contents_size, directory_of, or_taken}
-use Rattle.file_tree.specs.Step.{changes_most, file_most, tree_most}
-use Rattle.file_tree.specs.View.{AreIdsApart, IsNodeBounded, IsWithinLimits, is_directory_found, is_directory_at, counted_if, counted_below}
+use Rattle.tree_reading.specs.Tree.{Tree, is_directory, content_of, contents_size, directory_of, or_taken, file_most, tree_most}
+use Rattle.tree_reading.specs.View.{IsNodeBounded}
+use Rattle.file_tree.specs.View.{AreIdsApart, IsWithinLimits, is_directory_at, counted_if, counted_below}
 use Rattle.file_tree.proofs.Limits.{limits_with, limits_versioned, size_with, size_same}
 
 -- ---- a node more

@@ -8,19 +8,12 @@ use Rattle.tree_nodes.specs.declared.node.Node.{Node}
 use Rattle.tree_nodes.specs.declared.node.Body.TheVariants.{File}
 use Rattle.tree_nodes.specs.Nodes.{named, with_id, with_node, without, changed, versioned}
 use Rattle.tree_nodes.specs.View.{NodesState}
-use Rattle.file_tree.specs.Tree.{content_of, contents_size}
-use Rattle.file_tree.specs.Step.{changes_most, file_most, tree_most}
+use Rattle.tree_reading.specs.Tree.{content_of, contents_size, changes_most, file_most, tree_most}
 use Rattle.file_tree.specs.View.{AreIdsApart, IsWithinLimits}
+use Rattle.tree_reading.proofs.Found.{some_is}
 use Rattle.file_tree.proofs.Limits.{counted, limits_with, limits_without, limits_versioned, limits_moved, limits_refilled, size_with, size_same, size_without, size_changed}
 
 -- ---- what is found by its name is found by its id
-
-some_is : (d a b : Node) → Some a ≡ Some b → a ≡ b
-some_is d a b e = ap (λ o. or_else o) e
-  where
-    or_else : Option Node → Node
-    or_else None = d
-    or_else (Some z) = z
 
 find_other : (q : Node → Bool) (ms : List Node) (m n : Node) → AllByRecursion (λ k. (m.id == k.id) ≡ false) ms → find q ms ≡ Some n → (m.id == n.id) ≡ false
 find_other q [] m n all e = absurd cc

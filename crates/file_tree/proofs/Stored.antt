@@ -1,6 +1,6 @@
 -- A store that is given what each call says keeps the tree that the call leaves.
 use Rattle.std.proofs.Common.{◌≡◌, ℕ, ◌+◌, ◌<◌, List, [], ◌∷◌, Option, Some, None, Result, Ok, Err, Bool, true, false, not, ◌==◌, ◌&&◌, inl, refl, sym, ap, ◌∙◌, subst, arith, cond, if◌then◌else◌}
-use Rattle.std.specs.List.{find, filter, AllByRecursion}
+use Rattle.std.specs.List.{find, AllByRecursion}
 use Rattle.std.specs.Option.{option_map}
 use Rattle.std.specs.Str.{bytes_eq}
 use Rattle.std.proofs.lemmas.Bool.Decides.{nat_tests}
@@ -12,22 +12,23 @@ use Rattle.tree_nodes.proofs.Order.{named_is, not_true}
 use Rattle.tree_nodes.specs.Nodes.{named, with_id, with_node, without, changed, versioned}
 use Rattle.tree_nodes.specs.declared.node.Node.{Node}
 use Rattle.tree_nodes.specs.declared.node.Body.TheVariants.{File}
-use Rattle.file_tree.proofs.Admitted.{bind_ok, stale_ok, IsPlannedGone, remove_there, rmdir_there, rename_there}
-use Rattle.file_tree.proofs.Found.{some_is, found_all}
-use Rattle.file_tree.proofs.Keeping.{kept_made, kept_removed, kept_moved, kept_moved_over, kept_replaced}
-use Rattle.file_tree.proofs.Limits.{apart_with, apart_without, apart_changed}
+use Rattle.tree_plans.proofs.Admitted.{bind_ok, stale_ok, IsPlannedGone, remove_there, rmdir_there, rename_there}
+use Rattle.tree_reading.proofs.Found.{some_is, found_all}
+use Rattle.file_tree.proofs.Keeping.{self_test, kept_made, kept_removed, kept_moved, kept_moved_over, kept_replaced}
+use Rattle.file_tree.proofs.Limits.{all_map, all_filter, all_changed, apart_with, apart_without, apart_changed}
 use Rattle.file_tree.proofs.States.{named_id, id_is, some_node}
-use Rattle.file_tree.specs.Chain.{◌>>=◌}
+use Rattle.tree_reading.specs.Chain.{◌>>=◌}
 use Rattle.file_tree.specs.Kept.{IsKept}
-use Rattle.file_tree.specs.Names.{spelt, undotted}
-use Rattle.file_tree.specs.Step.{nothing, create_mode, may_create, create_plan, may_mkdir, may_remove, remove_plan, remove_done, or_not_empty, may_rmdir, rmdir_plan, spared, spared_bytes, within_file, planned_found, rename_plan, may_replace_content, replace_plan, made, new_file, new_directory, removed, placed, replaced, created, create, mkdir_if, mkdir, remove_if, remove, rmdir, shifted, rename_if, rename, replace_if}
+use Rattle.tree_reading.specs.Names.{spelt, undotted}
+use Rattle.tree_plans.specs.Plans.{nothing, create_mode, may_create, create_plan, may_mkdir, may_remove, remove_plan, remove_done, or_not_empty, may_rmdir, rmdir_plan, spared, spared_bytes, within_file, planned_found, rename_plan, may_replace_content, replace_plan}
+use Rattle.file_tree.specs.Step.{made, new_file, new_directory, removed, placed, replaced, created, create, mkdir_if, mkdir, remove_if, remove, rmdir, shifted, rename_if, rename, replace_if}
 use Rattle.file_tree.specs.Storing.{with_given, gives_made, create_gives, mkdir_gives, remove_gives, shift_gives, rename_gives, replace_gives, AreWhole, IsStored}
-use Rattle.file_tree.specs.Tree.{Tree, root, empty, is_directory, contents_size, node_of, directory_or, file_or, directory_of, or_no_entry, or_taken}
-use Rattle.file_tree.specs.declared.call.Changed.{Changed}
-use Rattle.file_tree.specs.declared.call.CreateMode.{CreateMode}
-use Rattle.file_tree.specs.declared.call.Held.{Held}
-use Rattle.file_tree.specs.declared.call.Planned.{Planned}
-use Rattle.file_tree.specs.declared.call.Planned.TheVariants.{Nothing, Free, Over}
+use Rattle.tree_reading.specs.Tree.{Tree, root, empty, is_directory, contents_size, node_of, directory_or, file_or, directory_of, or_no_entry, or_taken}
+use Rattle.tree_plans.specs.declared.call.Changed.{Changed}
+use Rattle.tree_plans.specs.declared.call.CreateMode.{CreateMode}
+use Rattle.tree_plans.specs.declared.call.Held.{Held}
+use Rattle.tree_plans.specs.declared.call.Planned.{Planned}
+use Rattle.tree_plans.specs.declared.call.Planned.TheVariants.{Nothing, Free, Over}
 
 -- ---- what the checks tell
 
@@ -95,26 +96,6 @@ module _ (nodes : List Node) (next : ℕ) (whole : AreWhole nodes next) where
       let called = named_is n dir name (found_test (λ m. (m.parent == dir) && bytes_eq m.name name) nodes n at) in
       some (sym called.1 ∙ ap (λ (k : Node). k.name) (sym same) ∙ whole.rooted.2))
 
-all_map : (P Q : Node → Type 0) → ((x : Node) → P x → Q x) → (xs : List Node) → AllByRecursion P xs → AllByRecursion Q xs
-all_map P Q f [] all = tt
-all_map P Q f (x ∷ xs) all = (f x all.0, all_map P Q f xs all.1)
-
-all_filter : (P : Node → Type 0) (q : Node → Bool) (ms : List Node) → AllByRecursion P ms → AllByRecursion P (filter q ms)
-all_filter P q [] all = tt
-all_filter P q (m ∷ ms) all = filter_if (q m) (all_filter P q ms all.1)
-  where
-    filter_if : (b : Bool) → AllByRecursion P (filter q ms) → AllByRecursion P (cond b (m ∷ filter q ms) (filter q ms))
-    filter_if true later = (all.0, later)
-    filter_if false later = later
-
-all_changed : (P : Node → Type 0) (f : Node → Node) → ((m : Node) → P m → P (f m)) → (ms : List Node) (id : ℕ) → AllByRecursion P ms → AllByRecursion P (changed ms id f)
-all_changed P f keeps [] id all = tt
-all_changed P f keeps (m ∷ ms) id all = (changed_if (m.id == id) all.0, all_changed P f keeps ms id all.1)
-  where
-    changed_if : (b : Bool) → P m → P (if b then f m else m)
-    changed_if true is = keeps m is
-    changed_if false is = is
-
 others_without : (ms : List Node) (gone : ℕ) → AllByRecursion (λ m. (m.id == gone) ≡ false) (without ms gone)
 others_without [] gone = tt
 others_without (m ∷ ms) gone = without_if (m.id == gone) refl (others_without ms gone)
@@ -122,9 +103,6 @@ others_without (m ∷ ms) gone = without_if (m.id == gone) refl (others_without 
     without_if : (b : Bool) → (m.id == gone) ≡ b → AllByRecursion (λ k. (k.id == gone) ≡ false) (without ms gone) → AllByRecursion (λ k. (k.id == gone) ≡ false) (cond (not b) (m ∷ without ms gone) (without ms gone))
     without_if true is later = later
     without_if false is later = (is, later)
-
-self_test : (a : ℕ) → (a == a) ≡ true
-self_test a = grind (arith, nat_tests)
 
 -- ---- what stays whole
 

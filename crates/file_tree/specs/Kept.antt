@@ -9,7 +9,7 @@ use Rattle.tree_nodes.specs.declared.node.Node.{Node}
 use Rattle.tree_nodes.specs.declared.node.Body.{Body}
 use Rattle.tree_nodes.specs.declared.node.Body.TheVariants.{Directory, File}
 use Rattle.tree_nodes.specs.Nodes.{with_id}
-use Rattle.file_tree.specs.Tree.{Tree, empty}
+use Rattle.tree_reading.specs.Tree.{Tree, empty}
 
 abbrev pub node_record : Node → Body → Kept
 node_record n Directory = kept.Node (record { id = n.id; parent = n.parent; kind = node_kind.Directory; name = n.name })

@@ -1,11 +1,7 @@
-pub mod Chain
 pub mod Kept
-pub mod Names
 pub mod Opening
-pub mod Reading
 pub mod Rows
 pub mod State
 pub mod Step
 pub mod Storing
-pub mod Tree
 pub mod View

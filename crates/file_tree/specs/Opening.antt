@@ -6,9 +6,9 @@ use Rattle.tree_nodes.specs.declared.node.Node.{Node}
 use Rattle.tree_nodes.specs.declared.node.Body.{Body}
 use Rattle.tree_nodes.specs.declared.node.Body.TheVariants.{Directory, File}
 use Rattle.tree_nodes.specs.Nodes.{named, with_node}
-use Rattle.file_tree.specs.Chain.{◌>>=◌}
-use Rattle.file_tree.specs.Names.{spelt, undotted}
-use Rattle.file_tree.specs.Tree.{Tree, is_directory, directory_of, or_taken}
+use Rattle.tree_reading.specs.Chain.{◌>>=◌}
+use Rattle.tree_reading.specs.Names.{spelt, undotted}
+use Rattle.tree_reading.specs.Tree.{Tree, is_directory, directory_of, or_taken}
 
 -- the directory is there, the name is one that a node may have, and nothing has it
 abbrev pub may_open : List Node → ℕ → List ℕ → Result Unit Status

@@ -1,7 +1,7 @@
 -- What a tree's state stands for, and what holds of it.
 use Rattle.std.specs.Prelude.{◌≡◌, ℕ}
 use Rattle.file_tree.specs.declared.state.TreeState.{TreeState}
-use Rattle.file_tree.specs.Tree.{Tree, contents_size}
+use Rattle.tree_reading.specs.Tree.{Tree, contents_size}
 use Rattle.file_tree.specs.View.{IsWithinLimits}
 
 abbrev pub state_of : TreeState → Tree

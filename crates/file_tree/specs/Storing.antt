@@ -15,11 +15,11 @@ use Rattle.tree_nodes.specs.declared.node.Body.TheVariants.{Directory, File}
 use Rattle.tree_nodes.specs.Nodes.{named, with_id}
 use Rattle.file_tree.specs.Kept.{IsKept}
 use Rattle.file_tree.specs.Step.{made, new_file, new_directory, removed, moved, replaced}
-use Rattle.file_tree.specs.Tree.{Tree}
+use Rattle.tree_reading.specs.Tree.{Tree}
 use Rattle.file_tree.specs.View.{AreIdsApart}
-use Rattle.file_tree.specs.declared.call.Changed.{Changed}
-use Rattle.file_tree.specs.declared.call.Planned.{Planned}
-use Rattle.file_tree.specs.declared.call.Planned.TheVariants.{Nothing, Free, Over}
+use Rattle.tree_plans.specs.declared.call.Changed.{Changed}
+use Rattle.tree_plans.specs.declared.call.Planned.{Planned}
+use Rattle.tree_plans.specs.declared.call.Planned.TheVariants.{Nothing, Free, Over}
 
 abbrev pub kind_of : Body → NodeKind
 kind_of Directory = node_kind.Directory
@@ -34,23 +34,6 @@ node_change n = change.Node (record { id = n.id; parent = n.parent; kind = kind_
 abbrev pub content_change : Node → Body → Option Change
 content_change n Directory = None
 content_change n (File c) = Some (change.Content (record { id = n.id; version = n.version; bytes = c }))
-
--- of the tree that is left, where a node was made: it, and its content
-abbrev pub stored_made : Tree → Node → List Kept → List Kept
-stored_made t n records = applied (head_of t) (node_change n) (content_change n n.body) records
-
--- where a node was removed
-abbrev pub stored_removed : Tree → ℕ → List Kept → List Kept
-stored_removed t id records = applied (head_of t) (change.Drop id) None records
-
--- where a node has another name, and another may have gone for it
-abbrev pub stored_moved : Tree → Node → Option Node → List Kept → List Kept
-stored_moved t n None records = applied (head_of t) (node_change n) None records
-stored_moved t n (Some gone) records = applied (head_of t) (change.Drop gone.id) (Some (node_change n)) records
-
--- where a file has another content
-abbrev pub stored_replaced : Tree → ℕ → ℕ → List ℕ → List Kept → List Kept
-stored_replaced t id version content records = applied (head_of t) (change.Content (record { id = id; version = version; bytes = content })) None records
 
 -- ---- what each call gives a store
 

@@ -3,14 +3,11 @@
 ghost use Rattle.std.specs.Prelude.{◌≡◌, ◌<◌, ◌+◌, ◌^◌, ◌≤◌, None, map, length, true, IfOk, OnOk, OnErr, Ok};
 ghost use Rattle.tree_nodes.specs.Nodes.{named, with_node};
 ghost use Rattle.tree_nodes.specs.declared.node.Body.TheVariants.{File, Directory};
-ghost use Rattle.file_tree.specs.Tree.{content_of, contents_size};
-ghost use Rattle.file_tree.specs.Step.{file_most, tree_most};
-ghost use Rattle.file_tree.specs.Opening.{may_open, counted_at, with_change, with_next, opened, opens};
+ghost use Rattle.tree_reading.specs.Tree.{content_of, contents_size, file_most, tree_most};
+ghost use Rattle.file_tree.specs.Opening.{may_open, counted_at, with_change, opened, opens};
 ghost use Rattle.file_tree.specs.State.{state_of, IsState};
 ghost use Rattle.file_tree.specs.View.{is_directory_at, counted_if};
 
-use crate::checks;
-use crate::names::{spelt, undotted};
 use crate::state::{TreeState, size_of};
 use lb_base::items::Name;
 use limits::{FILE_MOST, TREE_MOST};
@@ -18,6 +15,8 @@ use std::alloc::AllocError;
 use tree_nodes::content::Content;
 use tree_nodes::node::{Body, Node};
 use tree_nodes::nodes::Nodes;
+use tree_reading::finding;
+use tree_reading::names::{spelt, undotted};
 use xdr_codec::status::Status;
 
 /// A node is opened with an id below this.
@@ -27,10 +26,10 @@ const IDS_MOST: u64 = 1 << 63;
 pub fn may_open(nodes: &Nodes, dir: u64, name: &[u8]) -> Result<(), Status>
     ensures { result ≡ may_open nodes.now.nodes dir name.now }
 {
-    let _dir = checks::directory_of(nodes, dir)?;
+    let _dir = finding::directory_of(nodes, dir)?;
     spelt(name)?;
     undotted(name, Status::Exist, Status::Exist)?;
-    checks::or_taken(nodes.named(dir, name))
+    finding::or_taken(nodes.named(dir, name))
 }
 
 /// Whether a directory has the id.
@@ -38,7 +37,7 @@ fn is_directory_at(nodes: &Nodes, id: u64) -> bool
     ensures { result ≡ is_directory_at nodes.now.nodes id }
 {
     match nodes.with_id(id) {
-        Some(node) => checks::is_directory(node),
+        Some(node) => finding::is_directory(node),
         None => false,
     }
 }

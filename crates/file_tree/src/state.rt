@@ -1,15 +1,16 @@
 //! A tree, and what its changes make of it: the trees of `specs/Step.antt`, and what always holds of
 //! one (`specs/State.antt`).
 
-ghost use Rattle.std.specs.Prelude.{◌≡◌, ◌==◌, false, ◌+◌, ◌-◌, ◌<◌, ◌^◌, ◌≤◌, Some, None, IsSome, IfOk, length};
+ghost use Rattle.std.specs.Prelude.{◌≡◌, ◌==◌, false, ◌+◌, ◌-◌, ◌<◌, ◌≤◌, Some, None, IsSome, IfOk, length};
 ghost use Rattle.std.specs.Option.{option_copied};
-ghost use Rattle.tree_nodes.specs.Nodes.{named, with_id, with_node, without, versioned, changed};
+ghost use Rattle.tree_nodes.specs.Nodes.{named, with_id, without, versioned};
 ghost use Rattle.tree_nodes.specs.declared.node.Node.{Node};
 ghost use Rattle.tree_nodes.specs.declared.node.Body.TheVariants.{File};
-ghost use Rattle.file_tree.specs.Tree.{empty, content_of, contents_size, size_in};
-ghost use Rattle.file_tree.specs.Step.{changes_most, file_most, tree_most, made, removed, moved, moved_at, replaced};
+ghost use Rattle.tree_reading.specs.Tree.{empty, content_of, contents_size, size_in, changes_most, file_most, tree_most};
+ghost use Rattle.file_tree.specs.Step.{made, removed, moved, moved_at, replaced};
 ghost use Rattle.file_tree.specs.State.{state_of, IsState};
-ghost use Rattle.file_tree.specs.View.{tree_of, IsWithinLimits};
+ghost use Rattle.tree_reading.specs.View.{tree_of};
+ghost use Rattle.file_tree.specs.View.{IsWithinLimits};
 
 use lb_base::items::Name;
 use std::alloc::{AllocError, Global};
@@ -159,12 +160,9 @@ impl TreeState {
 
     // How many bytes the node of an id contains.
     fn size_at(&self, id: u64) -> u64
-        ensures { (n : Node) → with_id self.now.nodes.nodes id ≡ Some n → result ≡ length (content_of n.body) }
+        ensures { result ≡ size_in (with_id self.now.nodes.nodes id) }
     {
-        match self.nodes.with_id(id) {
-            Some(node) => size_of(node),
-            None => 0,
-        }
+        size_in(self.nodes.with_id(id))
     }
 }
 

@@ -1,28 +1,23 @@
 //! The calls that change a tree (`specs/Step.antt`).
 
 ghost use Rattle.std.specs.Prelude.{◌≡◌, ◌+◌, ◌<◌, ◌≤◌, [], IfOk};
-ghost use Rattle.file_tree.specs.Step.{create, mkdir, remove, rmdir, rename, replace, remove_plan, rmdir_plan, rename_plan, replace_plan, IsPlannedMove, may, may_create, may_remove, may_rmdir, may_replace_content};
-ghost use Rattle.file_tree.specs.Chain.{refused};
-ghost use Rattle.file_tree.specs.Reading.{lookup, attr, read, list, Answers};
+ghost use Rattle.tree_plans.specs.Plans.{remove_plan, rmdir_plan, rename_plan, replace_plan, IsPlannedMove, may, may_create, may_remove, may_rmdir, may_replace_content};
+ghost use Rattle.file_tree.specs.Step.{create, mkdir, remove, rmdir, rename, replace};
+ghost use Rattle.tree_reading.specs.Chain.{refused};
 ghost use Rattle.file_tree.specs.State.{state_of, IsState};
 ghost use Rattle.tree_nodes.specs.declared.node.Body.TheVariants.{File, Directory};
 
-use crate::call::{Call, Changed, CreateMode, Held, Planned, Spot};
-use crate::error::TreeErr;
-use crate::reading::{self, Looked};
 use crate::state::TreeState;
-use crate::{answers, listing, plans};
 use lb_base::items::Name;
-use nfs3_calls::call::Piece;
-use nfs3_calls::listing::Listing;
 use store::record::Head;
 use tree_nodes::content::Content;
 use tree_nodes::node::{Body, Node};
-use xdr_codec::attr::Attr;
+use tree_plans::call::{Call, Changed, CreateMode, Held, Planned, Spot};
+use tree_plans::{answers, plans};
 use xdr_codec::status::Status;
 
 /// CREATE. It needs the place of one node, and takes no memory.
-#[tactic(auto, using(crate::proofs::Admitted::create_free))]
+#[tactic(auto, using(tree_plans::proofs::Admitted::create_free))]
 pub fn create(
     tree: &mut TreeState,
     held: Held,
@@ -60,7 +55,7 @@ fn new_file(tree: &TreeState, id: u64, dir: u64, name: Name) -> Node
 }
 
 /// MKDIR. It needs the place of one node, and takes no memory.
-#[tactic(auto, using(crate::proofs::Admitted::mkdir_free))]
+#[tactic(auto, using(tree_plans::proofs::Admitted::mkdir_free))]
 pub fn mkdir(tree: &mut TreeState, held: Held, dir: u64, name: Name) -> Result<Changed, Status>
     requires state { IsState tree.old }
     requires room { 0 < tree.old.nodes.room }
@@ -90,7 +85,7 @@ fn new_directory(id: u64, dir: u64, name: Name, version: u64) -> Node
 }
 
 /// REMOVE, once nothing blocks it. It takes no memory.
-#[tactic(auto, using(crate::proofs::Limits::bounds, crate::proofs::Admitted::remove_there))]
+#[tactic(auto, using(crate::proofs::Limits::bounds, tree_plans::proofs::Admitted::remove_there))]
 pub fn remove(tree: &mut TreeState, held: Held, dir: u64, name: &[u8]) -> Result<Changed, Status>
     requires { IsState tree.old }
     ensures done { remove (state_of tree.old) held dir name.now ≡ (state_of tree.new, result) }
@@ -112,7 +107,7 @@ pub fn plan_remove(tree: &TreeState, held: Held, dir: u64, name: &[u8]) -> Resul
 }
 
 /// RMDIR. It takes no memory.
-#[tactic(auto, using(crate::proofs::Limits::bounds, crate::proofs::Admitted::rmdir_there))]
+#[tactic(auto, using(crate::proofs::Limits::bounds, tree_plans::proofs::Admitted::rmdir_there))]
 pub fn rmdir(tree: &mut TreeState, held: Held, dir: u64, name: &[u8]) -> Result<Changed, Status>
     requires { IsState tree.old }
     ensures done { rmdir (state_of tree.old) held dir name.now ≡ (state_of tree.new, result) }
@@ -134,7 +129,7 @@ pub fn plan_rmdir(tree: &TreeState, held: Held, dir: u64, name: &[u8]) -> Result
 }
 
 /// COMMITTMP, once its content is whole and nothing blocks it. It takes no memory.
-#[tactic(auto, using(crate::proofs::Limits::bounds, crate::proofs::Admitted::replace_there))]
+#[tactic(auto, using(crate::proofs::Limits::bounds, tree_plans::proofs::Admitted::replace_there))]
 pub fn replace(
     tree: &mut TreeState,
     held: Held,
@@ -320,54 +315,4 @@ fn may_replace(tree: &TreeState, id: u64, len: u64, held: Held) -> Result<(), St
 {
     let _file = plans::may_replace_content(&tree.nodes, tree.changes, tree.bytes, held, id, len)?;
     Ok(())
-}
-
-/// LOOKUP in a tree.
-#[tactic(auto, using(crate::proofs::Limits::bounds))]
-pub fn lookup(tree: &TreeState, dir: u64, name: &[u8]) -> Result<Looked, Status>
-    requires { IsState tree.now }
-    ensures { result ≡ lookup tree.now.nodes.nodes dir name.now }
-{
-    reading::lookup(&tree.nodes, tree.changes, dir, name)
-}
-
-/// The attributes of a node of a tree.
-#[tactic(auto, using(crate::proofs::Limits::bounds))]
-pub fn attr(tree: &TreeState, id: u64) -> Result<Attr, Status>
-    requires { IsState tree.now }
-    ensures { result ≡ attr tree.now.nodes.nodes id }
-{
-    reading::attr(&tree.nodes, tree.changes, id)
-}
-
-/// READ in a tree.
-#[tactic(auto, using(crate::proofs::Limits::bounds))]
-pub fn read(tree: &TreeState, id: u64, offset: u64, count: u32) -> Result<Piece, TreeErr>
-    requires { IsState tree.now }
-    ensures { Answers (read tree.now.nodes.nodes id offset count) result }
-{
-    reading::read(tree.alloc, &tree.nodes, tree.changes, id, offset, count)
-}
-
-/// READDIR in a tree.
-#[tactic(auto, using(crate::proofs::Limits::bounds))]
-pub fn list(
-    tree: &TreeState,
-    dir: u64,
-    cookie: u64,
-    verifier: u64,
-    count: u32,
-) -> Result<Listing, TreeErr>
-    requires { IsState tree.now }
-    ensures { Answers (list tree.now.nodes.nodes dir cookie verifier count) result }
-{
-    listing::list(
-        tree.alloc,
-        &tree.nodes,
-        tree.changes,
-        dir,
-        cookie,
-        verifier,
-        count,
-    )
 }

@@ -1,20 +1,19 @@
-//! The tree: its one public face. What is read of it is `specs/Reading.antt`, and what changes it
-//! `specs/Step.antt`.
+//! The tree: its one public face. What is read of it is defined in `tree_reading`, what its calls come
+//! to in `tree_plans`, and what they make of it in `specs/Step.antt`.
 
 ghost use Rattle.std.specs.Prelude.{◌≡◌, ◌+◌, ◌<◌, ◌≤◌, IfOk, IfSome, OnOk, OnErr, length};
 ghost use Rattle.std.specs.Option.{option_copied};
 ghost use Rattle.tree_nodes.specs.Nodes.{with_id};
 ghost use Rattle.file_tree.specs.Opening.{can_open, opens};
-ghost use Rattle.file_tree.specs.Tree.{empty, content_of, contents_size};
-ghost use Rattle.file_tree.specs.Reading.{lookup, attr, version, content, chunks, read, list, stands_for, Answers};
-ghost use Rattle.file_tree.specs.Step.{create, mkdir, remove, rmdir, rename, replace, may, create_plan, may_mkdir, remove_plan, rmdir_plan, rename_plan, replace_plan, file_most};
-ghost use Rattle.file_tree.specs.View.{lent_list, tree_of, IsWithinLimits};
+ghost use Rattle.tree_reading.specs.Tree.{empty, content_of, contents_size, file_most};
+ghost use Rattle.tree_reading.specs.Reading.{lookup, attr, version, content, chunks, read, list, stands_for, Answers};
+ghost use Rattle.tree_plans.specs.Plans.{may, create_plan, may_mkdir, remove_plan, rmdir_plan, rename_plan, replace_plan};
+ghost use Rattle.file_tree.specs.Step.{create, mkdir, remove, rmdir, rename, replace};
+ghost use Rattle.tree_reading.specs.View.{lent_list, tree_of};
+ghost use Rattle.file_tree.specs.View.{IsWithinLimits};
 
-use crate::call::{Call, Changed, CreateMode, Held, Planned, Standing};
-use crate::error::TreeErr;
-use crate::reading::{self, Looked};
 use crate::state::{self, TreeState};
-use crate::{opening, plans, steps};
+use crate::{opening, reads, steps};
 use chunk_cut::chunk::Chunk;
 use lb_base::items::{Bytes, Name};
 use nfs3_calls::call::Piece;
@@ -25,6 +24,10 @@ use store::record::Head;
 use tree_nodes::content::Content;
 use tree_nodes::node::{Body, Node};
 use tree_nodes::nodes::Nodes;
+use tree_plans::call::{Call, Changed, CreateMode, Held, Planned};
+use tree_plans::plans;
+use tree_reading::error::TreeErr;
+use tree_reading::reading::{self, Looked, Standing};
 use xdr_codec::attr::Attr;
 use xdr_codec::status::Status;
 
@@ -261,14 +264,14 @@ impl Tree {
     pub fn lookup(&self, dir: u64, name: &[u8]) -> Result<Looked, Status>
         ensures { result ≡ lookup self.now.tree.nodes dir name.now }
     {
-        steps::lookup(&self.state, dir, name)
+        reads::lookup(&self.state, dir, name)
     }
 
     /// The attributes of a file or directory. It takes no memory.
     pub fn attr(&self, id: u64) -> Result<Attr, Status>
         ensures { result ≡ attr self.now.tree.nodes id }
     {
-        steps::attr(&self.state, id)
+        reads::attr(&self.state, id)
     }
 
     /// The version of a file or directory. It takes no memory.
@@ -283,7 +286,7 @@ impl Tree {
         ensures node { option_copied result ≡ with_id self.now.tree.nodes id }
         ensures short { IfSome result (λ n. length (content_of n.now.body) ≤ file_most) }
     {
-        reading::node(&self.state, id)
+        reads::node(&self.state, id)
     }
 
     /// The bytes of a file. It takes no memory.
@@ -311,13 +314,13 @@ impl Tree {
     pub fn read(&self, id: u64, offset: u64, count: u32) -> Result<Piece, TreeErr>
         ensures { Answers (read self.now.tree.nodes id offset count) result }
     {
-        steps::read(&self.state, id, offset, count)
+        reads::read(&self.state, id, offset, count)
     }
 
     /// READDIR: copies of the entries behind a cookie, in an answer of at most `count` bytes.
     pub fn list(&self, dir: u64, cookie: u64, verifier: u64, count: u32) -> Result<Listing, TreeErr>
         ensures { Answers (list self.now.tree.nodes dir cookie verifier count) result }
     {
-        steps::list(&self.state, dir, cookie, verifier, count)
+        reads::list(&self.state, dir, cookie, verifier, count)
     }
 }

@@ -18,7 +18,7 @@ use Rattle.tree_nodes.specs.declared.node.Node.{Node}
 use Rattle.tree_nodes.specs.declared.node.Body.TheVariants.{Directory, File}
 use Rattle.file_tree.specs.Kept.{node_record, node_records, body_records, content_records, AreRecordsOf, IsKept}
 use Rattle.file_tree.specs.Storing.{IsStored}
-use Rattle.file_tree.specs.Tree.{Tree, root}
+use Rattle.tree_reading.specs.Tree.{Tree, root}
 use Rattle.tree_load.proofs.Climbs.{IsFirst, first_is}
 use Rattle.tree_load.proofs.Whole.{NodeFacts, node_facts, ContentFacts, content_facts, well_first, at_both, later_ids, loaded_is, tree_apart, tree_whole, none_behind}
 use Rattle.tree_load.specs.Load.{first_node, first_content, place_of, is_at, is_before, is_directory_kind, content_fits, is_its_files, is_node_well, is_content_well, is_well, first_fault, fault, content_found, node_with, loaded_node, loaded_nodes, loaded_tree}

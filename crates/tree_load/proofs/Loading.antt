@@ -11,8 +11,9 @@ use Rattle.tree_nodes.specs.View.{NodesState}
 use Rattle.tree_nodes.specs.declared.node.Node.{Node}
 use Rattle.file_tree.proofs.Stored.{empty_stored}
 use Rattle.file_tree.specs.Storing.{IsStored}
-use Rattle.file_tree.specs.Tree.{Tree, root, empty}
-use Rattle.file_tree.specs.View.{tree_of, IsWithinLimits}
+use Rattle.tree_reading.specs.Tree.{Tree, root, empty}
+use Rattle.tree_reading.specs.View.{tree_of}
+use Rattle.file_tree.specs.View.{IsWithinLimits}
 use Rattle.tree_load.proofs.Keeps.{loaded_stored}
 use Rattle.tree_load.proofs.Whole.{made_are, records_apart, tree_apart, tree_below, tree_limits}
 use Rattle.tree_load.specs.Load.{first_head, is_head_well, first_fault, fault, loaded_nodes, loaded_tree, load}

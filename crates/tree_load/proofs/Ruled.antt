@@ -12,7 +12,7 @@ use Rattle.store.specs.declared.record.Kept.TheVariants as kept
 use Rattle.store.specs.declared.record.NodeKind.{NodeKind}
 use Rattle.store.specs.declared.record.NodeKind.TheVariants as node_kind
 use Rattle.store.specs.declared.record.NodeRecord.{NodeRecord}
-use Rattle.file_tree.specs.Step.{changes_most, file_most, tree_most}
+use Rattle.tree_reading.specs.Tree.{changes_most, file_most, tree_most}
 use Rattle.tree_load.proofs.Climbs.{place_same, reach_at, length_ups}
 use Rattle.tree_load.proofs.Tables.{drop_next, drop_past}
 use Rattle.tree_load.specs.Above.{ups, walk}

@@ -19,10 +19,10 @@ use Rattle.tree_nodes.specs.View.{NodesState}
 use Rattle.tree_nodes.specs.declared.node.Node.{Node}
 use Rattle.tree_nodes.specs.declared.node.Body.TheVariants.{Directory, File}
 use Rattle.file_tree.proofs.Limits.{apart_with, size_with}
-use Rattle.file_tree.specs.Step.{changes_most, file_most, tree_most}
+use Rattle.tree_reading.specs.Tree.{changes_most, file_most, tree_most, root, content_of, contents_size}
 use Rattle.file_tree.specs.Storing.{AreWhole}
-use Rattle.file_tree.specs.Tree.{root, content_of, contents_size}
-use Rattle.file_tree.specs.View.{IsNodeBounded, IsWithinLimits}
+use Rattle.tree_reading.specs.View.{IsNodeBounded}
+use Rattle.file_tree.specs.View.{IsWithinLimits}
 use Rattle.file_tree.specs.View as view
 use Rattle.tree_load.proofs.Ruled.{both_true, sum_on}
 use Rattle.tree_load.specs.Load.{first_node, first_named, first_content, place_of, is_at, is_directory_found, is_head_well, is_name_well, reaches, content_fits, is_its_files, is_node_well, is_content_well, is_well, size_of, first_fault, fault, content_found, node_with, loaded_node, loaded_nodes}

@@ -13,7 +13,7 @@ use Rattle.store.specs.declared.record.Kept.TheVariants as kept
 use Rattle.store.specs.declared.record.NodeKind.{NodeKind}
 use Rattle.store.specs.declared.record.NodeKind.TheVariants as node_kind
 use Rattle.store.specs.declared.record.NodeRecord.{NodeRecord}
-use Rattle.file_tree.specs.Step.{file_most, tree_most}
+use Rattle.tree_reading.specs.Tree.{file_most, tree_most}
 use Rattle.tree_load.specs.Above.{spot_by, up_by, ups, walk}
 use Rattle.tree_load.specs.Load.{first_node, first_named, first_content, is_at, place_of, is_directory_kind, is_name_well}
 use Rattle.tree_load.specs.declared.firsts.Found.{Found}

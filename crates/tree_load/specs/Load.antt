@@ -11,9 +11,8 @@ use Rattle.store.specs.declared.record.NodeKind.TheVariants as node_kind
 use Rattle.tree_nodes.specs.declared.node.Node.{Node}
 use Rattle.tree_nodes.specs.declared.node.Body.TheVariants.{Directory, File}
 use Rattle.tree_nodes.specs.Nodes.{with_nodes}
-use Rattle.file_tree.specs.Names.{is_dot, is_dot_dot, spelt}
-use Rattle.file_tree.specs.Tree.{Tree, root, empty}
-use Rattle.file_tree.specs.Step.{changes_most, file_most, tree_most}
+use Rattle.tree_reading.specs.Names.{is_dot, is_dot_dot, spelt}
+use Rattle.tree_reading.specs.Tree.{Tree, root, empty, changes_most, file_most, tree_most}
 
 -- ---- what is found among the records, each with its number; of several, the first
 

@@ -1,7 +1,7 @@
 -- What loading a tree may answer.
 use Rattle.std.specs.Prelude.{◌≡◌, ℕ, Result, Ok, Err}
 use Rattle.file_tree.specs.State.{TreeView}
-use Rattle.file_tree.specs.Tree.{Tree}
+use Rattle.tree_reading.specs.Tree.{Tree}
 use Rattle.tree_load.specs.declared.error.LoadError.{LoadError}
 use Rattle.tree_load.specs.declared.error.LoadError.TheVariants as load_error
 

@@ -6,8 +6,7 @@ use Rattle.store.specs.declared.record.Kept.TheVariants as kept
 use Rattle.store.specs.declared.record.NodeKind.TheVariants as node_kind
 use Rattle.tree_nodes.specs.declared.node.Node.{Node}
 use Rattle.tree_nodes.specs.declared.node.Body.TheVariants.{Directory, File}
-use Rattle.file_tree.specs.Tree.{Tree, root, empty}
-use Rattle.file_tree.specs.Step.{tree_most}
+use Rattle.tree_reading.specs.Tree.{Tree, root, empty, tree_most}
 use Rattle.tree_load.specs.Load.{load, first_fault, is_content_well}
 
 abbrev file : ℕ → ℕ → List ℕ → ℕ → List ℕ → Node

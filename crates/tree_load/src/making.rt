@@ -4,7 +4,7 @@
 ghost use Rattle.std.specs.Prelude.{◌≡◌, ℕ, ◌++◌, [], ◌∷◌, map, ◌==◌, false, IfOk, OnOk};
 ghost use Rattle.std.specs.BTreeMap.{get};
 ghost use Rattle.std.specs.Ordering.{nat_cmp};
-ghost use Rattle.file_tree.specs.Tree.{root};
+ghost use Rattle.tree_reading.specs.Tree.{root};
 ghost use Rattle.store.specs.declared.record.Kept.TheVariants as kept;
 ghost use Rattle.tree_load.specs.Making.{node_list, content_with, content_at, or_else, with_stored, node_by, AreIdsApart};
 

@@ -2,18 +2,18 @@
 //! with each record, as in `specs/Found.antt`.
 
 ghost use Rattle.std.specs.Prelude.{◌≡◌, ◌<◌, ◌≤◌, length, drop, IfOk};
-ghost use Rattle.file_tree.specs.Step.{tree_most};
+ghost use Rattle.tree_reading.specs.Tree.{tree_most};
 ghost use Rattle.tree_load.specs.Found.{found_place, is_directory_at, place_before, fits, is_node_by, is_file_by, is_content_by, around_of};
 ghost use Rattle.tree_load.specs.Known.{IsKnown};
 ghost use Rattle.tree_load.specs.Load.{is_head_well, is_name_well, is_directory_kind, is_at, is_well, size_of, first_fault};
 
 use crate::above;
 use crate::firsts::{self, Found};
-use file_tree::names;
 use limits::{CHANGES_MOST, FILE_MOST, TREE_MOST};
 use std::alloc::{AllocError, Global};
 use std::collections::BTreeMap;
 use store::record::{ContentRecord, Head, Kept, NodeKind, NodeRecord};
+use tree_reading::names;
 
 /// What stands with a node among the records.
 #[derive(Clone, Copy)]

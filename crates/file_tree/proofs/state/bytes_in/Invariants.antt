@@ -1,5 +1,5 @@
 use Rattle.std.proofs.Common.{◌≡◌, ◌+◌, drop}
-use Rattle.file_tree.specs.Tree.{contents_size}
+use Rattle.tree_reading.specs.Tree.{contents_size}
 use Rattle.file_tree.proofs.state.bytes_in.Given as goal
 
 abbrev pub invariant-loop-place : goal.invariant-loop-place

@@ -1,6 +1,6 @@
 use Rattle.std.proofs.Common.{◌∷◌}
 use Rattle.std.specs.Vec.Iter.{into_iter_items}
-use Rattle.file_tree.specs.Tree.{root}
+use Rattle.tree_reading.specs.Tree.{root}
 use Rattle.tree_load.proofs.Parting.{AreJoined, joined}
 use Rattle.tree_load.proofs.making.join.Given as goal
 

@@ -1,5 +1,5 @@
 use Rattle.std.proofs.Common.{◌≡◌, ◌≤◌, drop}
-use Rattle.file_tree.specs.Step.{tree_most}
+use Rattle.tree_reading.specs.Tree.{tree_most}
 use Rattle.tree_load.specs.Load.{first_fault}
 use Rattle.tree_load.proofs.rules.first_fault.Given as goal
 

@@ -1,5 +1,5 @@
 use Rattle.std.proofs.Common.{length, arith}
-use Rattle.file_tree.specs.Tree.{content_of, contents_size}
+use Rattle.tree_reading.specs.Tree.{content_of, contents_size}
 use Rattle.file_tree.proofs.Openings.{added_limits, added_size, added_bytes, added_fits}
 use Rattle.file_tree.proofs.state.TreeState.add.Goals as goal
 

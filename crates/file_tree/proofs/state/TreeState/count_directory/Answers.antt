@@ -1,6 +1,4 @@
-use Rattle.std.proofs.Common.{sym, ◌∙◌, ap}
-use Rattle.file_tree.specs.View.{counted_if}
-use Rattle.tree_nodes.specs.View.{NodesState}
+use Rattle.std.proofs.Common.{sym, ◌∙◌}
 use Rattle.file_tree.proofs.Openings.{versioned_limits, versioned_size}
 use Rattle.file_tree.proofs.state.TreeState.count_directory.Goals as goal
 

@@ -1,8 +1,8 @@
-use Rattle.std.proofs.Common.{◌∙◌, ap, None}
+use Rattle.std.proofs.Common.{◌∙◌, ap}
 use Rattle.tree_nodes.specs.Nodes.{named}
 use Rattle.file_tree.specs.Opening.{with_change}
 use Rattle.file_tree.specs.State.{state_of}
-use Rattle.file_tree.specs.Tree.{Tree}
+use Rattle.tree_reading.specs.Tree.{Tree}
 use Rattle.file_tree.proofs.Openings.{free_still, free_opened}
 use Rattle.file_tree.proofs.state.TreeState.open_file.Goals as goal
 

@@ -1,5 +1,0 @@
-use Rattle.file_tree.proofs.Found.{named_ok}
-use Rattle.file_tree.proofs.plans.found.Goals as goal
-
-pub returns-clause-bounded : goal.returns-clause-bounded
-returns-clause-bounded c = named_ok c.args.nodes.now c.args.changes c.args.dir c.args.name.now c.found.result c.requires c.found.ensures.there

@@ -1,5 +1,0 @@
-use Rattle.file_tree.proofs.Found.{id_ok}
-use Rattle.file_tree.proofs.reading.known.Goals as goal
-
-pub returns-clause-bounded : goal.returns-clause-bounded
-returns-clause-bounded c = id_ok c.args.nodes.now c.args.changes c.args.id c.node_of.result c.requires c.node_of.ensures.there

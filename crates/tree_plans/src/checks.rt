@@ -1,0 +1,90 @@
+//! Why a change is refused, check by check (`specs/Plans.antt`). None of this takes memory.
+
+ghost use Rattle.std.specs.Prelude.{◌≡◌, ◌-◌, ◌<◌, ◌^◌, ◌==◌, length};
+ghost use Rattle.tree_nodes.specs.Nodes.{names};
+ghost use Rattle.tree_plans.specs.Plans.{spared, spared_bytes, within_file, or_not_empty, or_within, may_replace};
+
+use crate::call::Held;
+use limits::{CHANGES_MOST, FILE_MOST, TREE_MOST};
+use tree_nodes::node::Node;
+use tree_nodes::nodes::Nodes;
+use tree_reading::finding::{is_directory, is_within};
+use xdr_codec::status::Status;
+
+/// Whether so many changes more may be made.
+pub fn spared(changes: u64, held: Held, more: u64) -> Result<(), Status>
+    ensures { result ≡ spared changes held more }
+{
+    if changes as u128 + held.entries as u128 + more as u128 > CHANGES_MOST as u128 {
+        return Err(Status::NoSpc);
+    }
+    Ok(())
+}
+
+/// Whether a content of so many bytes has room beside the bytes of a tree.
+pub fn spared_bytes(bytes: u64, held: Held, len: u64) -> Result<(), Status>
+    ensures { result ≡ spared_bytes bytes held len }
+{
+    if bytes as u128 + held.bytes as u128 + len as u128 > TREE_MOST as u128 {
+        return Err(Status::NoSpc);
+    }
+    Ok(())
+}
+
+/// Whether a file may have so many bytes.
+pub fn within_file(len: u64) -> Result<(), Status>
+    ensures { result ≡ within_file len }
+{
+    if len > FILE_MOST {
+        return Err(Status::FBig);
+    }
+    Ok(())
+}
+
+/// Whether a directory has no entries.
+pub fn is_empty(nodes: &Nodes, dir: u64) -> bool
+    requires { dir < 2 ^ 64 - 1 }
+    ensures { result ≡ (length (names nodes.now.nodes dir) == 0) }
+{
+    let (start, end) = nodes.places(dir);
+    end - start == 0
+}
+
+/// Refuses a directory that has entries.
+pub fn or_not_empty(nodes: &Nodes, node: &Node) -> Result<(), Status>
+    requires { node.now.id < 2 ^ 64 - 1 }
+    ensures { result ≡ or_not_empty nodes.now.nodes node.now }
+{
+    if is_empty(nodes, node.id) {
+        Ok(())
+    } else {
+        Err(Status::NotEmpty)
+    }
+}
+
+/// Whether one node may go for another.
+pub fn may_replace(nodes: &Nodes, node: &Node, gone: &Node) -> Result<(), Status>
+    requires { gone.now.id < 2 ^ 64 - 1 }
+    ensures { result ≡ may_replace nodes.now.nodes node.now gone.now }
+{
+    if is_directory(node) {
+        if is_directory(gone) && is_empty(nodes, gone.id) {
+            return Ok(());
+        }
+        return Err(Status::Exist);
+    }
+    if is_directory(gone) {
+        return Err(Status::Exist);
+    }
+    Ok(())
+}
+
+/// Refuses a directory into itself, or below.
+pub fn or_within(nodes: &Nodes, node: &Node, to: u64) -> Result<(), Status>
+    ensures { result ≡ or_within nodes.now.nodes node.now to }
+{
+    if is_directory(node) && is_within(nodes, node.id, to) {
+        return Err(Status::Inval);
+    }
+    Ok(())
+}

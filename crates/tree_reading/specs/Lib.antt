@@ -1,0 +1,6 @@
+pub mod Chain
+pub mod Names
+pub mod Reading
+pub mod Rows
+pub mod Tree
+pub mod View
