@@ -1,5 +1,5 @@
 -- Steps with a store that failed or didn't, and what it keeps.
-use Rattle.std.proofs.Common.{◌≡◌, ℕ, ◌+◌, List, [], length, Option, Some, None, Result, Ok, Err, Bool, true, false, not, ◌==◌, refl, sym, ap, ◌∙◌, subst, arith, if◌then◌else◌}
+use Rattle.std.proofs.Common.{◌≡◌, ℕ, ◌+◌, ◌<◌, List, [], length, Option, Some, None, Result, Ok, Err, Bool, true, false, not, ◌==◌, refl, sym, ap, ◌∙◌, subst, arith, if◌then◌else◌}
 use Rattle.std.specs.Option.{option_map}
 use Rattle.std.proofs.lemmas.Bool.Decides.{nat_tests}
 use Rattle.xdr_codec.specs.declared.status.Status.{Status}
@@ -14,19 +14,20 @@ use Rattle.tree_nodes.specs.Nodes.{named}
 use Rattle.tree_nodes.specs.declared.node.Node.{Node}
 use Rattle.tree_nodes.specs.declared.node.Body.{Body}
 use Rattle.tree_nodes.specs.declared.node.Body.TheVariants.{Directory, File}
-use Rattle.file_tree.proofs.Admitted.{rename_there}
+use Rattle.tree_plans.proofs.Admitted.{rename_there}
 use Rattle.file_tree.proofs.States.{some_node}
 use Rattle.file_tree.proofs.Stored.{create_stored, mkdir_stored, remove_stored, rmdir_stored, rename_stored, replace_stored}
-use Rattle.file_tree.specs.Step.{made, new_file, new_directory, removed, moved, replaced, created, create_plan, create, mkdir_if, may_mkdir, mkdir, remove_if, remove_plan, remove, rmdir_plan, rmdir, rename_if, rename_plan, rename, shifted, replace_if, replace_plan, replace}
+use Rattle.tree_plans.specs.Plans.{create_plan, may_mkdir, remove_plan, rmdir_plan, rename_plan, replace_plan}
+use Rattle.file_tree.specs.Step.{made, new_file, new_directory, removed, moved, replaced, created, create, mkdir_if, mkdir, remove_if, remove, rmdir, rename_if, rename, shifted, replace_if, replace}
 use Rattle.file_tree.specs.Storing.{kind_of, node_change, with_given, create_gives, mkdir_gives, remove_gives, rename_gives, shift_gives, replace_gives, IsStored}
-use Rattle.file_tree.specs.Reading.{standing_of, stands_for}
-use Rattle.file_tree.specs.Tree.{Tree, is_directory}
-use Rattle.file_tree.specs.declared.call.Standing.{Standing}
-use Rattle.file_tree.specs.declared.call.Changed.{Changed}
-use Rattle.file_tree.specs.declared.call.CreateMode.{CreateMode}
-use Rattle.file_tree.specs.declared.call.Held.{Held}
-use Rattle.file_tree.specs.declared.call.Planned.{Planned}
-use Rattle.file_tree.specs.declared.call.Planned.TheVariants.{Nothing, Free, Over}
+use Rattle.tree_reading.specs.Reading.{standing_of, stands_for}
+use Rattle.tree_reading.specs.Tree.{Tree, is_directory}
+use Rattle.tree_reading.specs.declared.reading.Standing.{Standing}
+use Rattle.tree_plans.specs.declared.call.Changed.{Changed}
+use Rattle.tree_plans.specs.declared.call.CreateMode.{CreateMode}
+use Rattle.tree_plans.specs.declared.call.Held.{Held}
+use Rattle.tree_plans.specs.declared.call.Planned.{Planned}
+use Rattle.tree_plans.specs.declared.call.Planned.TheVariants.{Nothing, Free, Over}
 use Rattle.stored_tree.specs.Stores.{stored, IsFault, IsStep, Keeps, kind_if, kind_found, id_found}
 
 abbrev Step : Type 0
@@ -55,19 +56,46 @@ two_more n = grind (arith, nat_tests)
 
 pub keeps_same : (old new : Option (List Kept)) (t u : Tree) → new ≡ old → u ≡ t → Keeps old t new u
 keeps_same None new t u e same = e
-keeps_same (Some records) new t u e same = (records, e, λ stored. subst (λ z. IsStored records z) (sym same) stored)
+keeps_same (Some records) new t u e same = (
+  records,
+  e,
+  record {
+    stored = λ stored. subst (λ z. IsStored records z) (sym same) stored;
+    counted = omega (arith, ap (λ (z : Tree). z.changes) same);
+    same = λ _. refl;
+  },
+)
 
 -- where the store was asked and failed, it is as it was
 pub keeps_failed : (old new : Option (List Kept)) (flag : Bool) (head : Head) (first : Change) (second : Option Change) (t : Tree) → flag ≡ true → new ≡ (if flag then old else option_map (λ held. applied head first second held) old) → Keeps old t new t
 keeps_failed old new flag head first second t failed e = keeps_same old new t t (e ∙ ap (λ b. if b then old else option_map (λ held. applied head first second held) old) failed) refl
 
-keeps_applied : (old new : Option (List Kept)) (flag : Bool) (head : Head) (first : Change) (second : Option Change) (t u : Tree) → flag ≡ false → new ≡ (if flag then old else option_map (λ held. applied head first second held) old) → ((records : List Kept) → IsStored records t → IsStored (applied head first second records) u) → Keeps old t new u
-keeps_applied None new flag head first second t u went e keeps = e ∙ ap (λ b. if b then None else option_map (λ held. applied head first second held) None) went
-keeps_applied (Some records) new flag head first second t u went e keeps = (applied head first second records, e ∙ ap (λ b. if b then Some records else option_map (λ held. applied head first second held) (Some records)) went, keeps records)
+-- where it was asked and didn't fail, a change is counted
+keeps_applied : (old new : Option (List Kept)) (flag : Bool) (head : Head) (first : Change) (second : Option Change) (t u : Tree) → flag ≡ false → new ≡ (if flag then old else option_map (λ held. applied head first second held) old) → t.changes < u.changes → ((records : List Kept) → IsStored records t → IsStored (applied head first second records) u) → Keeps old t new u
+keeps_applied None new flag head first second t u went e counts keeps = e ∙ ap (λ b. if b then None else option_map (λ held. applied head first second held) None) went
+keeps_applied (Some records) new flag head first second t u went e counts keeps = (
+  applied head first second records,
+  e ∙ ap (λ b. if b then Some records else option_map (λ held. applied head first second held) (Some records)) went,
+  record {
+    stored = keeps records;
+    counted = omega (arith, counts);
+    same = λ same. absurd (omega (arith, counts, same));
+  },
+)
 
 -- the tree of a step
 tree_is : (p : Step) (u : Tree) (r : Result Changed Status) → p ≡ (u, r) → p.0 ≡ u
 tree_is p u r e = ap (λ (z : Step). z.0) e
+
+less_one : (n : ℕ) → n < n + 1
+less_one n = omega arith
+
+less_two : (n : ℕ) → n < n + 2
+less_two n = omega arith
+
+-- a step that comes to one with more changes
+counts_more : (t u : Tree) (p q : Step) (r : Result Changed Status) → p ≡ (u, r) → p ≡ q → t.changes < q.0.changes → t.changes < u.changes
+counts_more t u p q r is comes more = subst (λ (n : ℕ). t.changes < n) (sym (ap (λ (z : Step). z.0.changes) comes) ∙ ap (λ (z : Step). z.0.changes) is) more
 
 -- ---- CREATE
 
@@ -83,7 +111,7 @@ module _ (t : Tree) (held : Held) (dir : ℕ) (name : List ℕ) (m : CreateMode)
 
   pub created_kept : (old new : Option (List Kept)) (flag : Bool) (head : Head) (first : Change) (second : Option Change) (u : Tree) (r : Result Changed Status) → flag ≡ false → new ≡ (if flag then old else option_map (λ held. applied head first second held) old) → create_plan t held dir name m ≡ Ok None → head ≡ record { next = t.next + 1; changes = t.changes + 1 } → first ≡ change.Node (record { id = t.next; parent = dir; kind = node_kind.File; name = name }) → second ≡ Some (change.Content (record { id = t.next; version = 1; bytes = [] })) → create t held dir name m ≡ (u, r) → Keeps old t new u
   created_kept old new flag head first second u r went e plan head_is first_is second_is done =
-      keeps_applied old new flag head first second t u went e (λ records stored.
+      keeps_applied old new flag head first second t u went e (counts_more t u (create t held dir name m) (created t dir name (Ok None)) r done (ap (created t dir name) plan) (less_one t.changes)) (λ records stored.
       let is : IsStored (with_given (create_gives t dir name (Ok None)) records) (create t held dir name m).0 = subst (λ (z : Result (Option Changed) Status). IsStored (with_given (create_gives t dir name z) records) (create t held dir name m).0) plan (create_stored t held dir name m records stored) in
       subst (λ z. IsStored (applied head first second records) z) (tree_is (create t held dir name m) u r done)
       (subst (λ z. IsStored (applied head first z records) (create t held dir name m).0) (sym second_is)
@@ -101,7 +129,7 @@ module _ (t : Tree) (held : Held) (dir : ℕ) (name : List ℕ) where
 
   pub mkdir_kept : (old new : Option (List Kept)) (flag : Bool) (z : Unit) (head : Head) (first : Change) (u : Tree) (r : Result Changed Status) → flag ≡ false → new ≡ (if flag then old else option_map (λ held. applied head first None held) old) → may_mkdir t held dir name ≡ Ok z → head ≡ record { next = t.next + 1; changes = t.changes + 1 } → first ≡ change.Node (record { id = t.next; parent = dir; kind = node_kind.Directory; name = name }) → mkdir t held dir name ≡ (u, r) → Keeps old t new u
   mkdir_kept old new flag z head first u r went e plan head_is first_is done =
-      keeps_applied old new flag head first None t u went e (λ records stored.
+      keeps_applied old new flag head first None t u went e (counts_more t u (mkdir t held dir name) (mkdir_if t dir name (Ok z)) r done (ap (mkdir_if t dir name) plan) (less_one t.changes)) (λ records stored.
       let is : IsStored (with_given (mkdir_gives t dir name (Ok z)) records) (mkdir t held dir name).0 = subst (λ (y : Result Unit Status). IsStored (with_given (mkdir_gives t dir name y) records) (mkdir t held dir name).0) plan (mkdir_stored t held dir name records stored) in
       subst (λ y. IsStored (applied head first None records) y) (tree_is (mkdir t held dir name) u r done)
       (subst (λ y. IsStored (applied head y None records) (mkdir t held dir name).0) (sym first_is)
@@ -109,9 +137,9 @@ module _ (t : Tree) (held : Held) (dir : ℕ) (name : List ℕ) where
 
   -- ---- REMOVE and RMDIR
 
-  gone_kept : (step : Step) (plan : Result Changed Status) → ((records : List Kept) → IsStored records t → IsStored (with_given (remove_gives t dir plan) records) step.0) → (old new : Option (List Kept)) (flag : Bool) (done : Changed) (head : Head) (id : ℕ) (u : Tree) (r : Result Changed Status) → flag ≡ false → new ≡ (if flag then old else option_map (λ held. applied head (change.Drop id) None held) old) → plan ≡ Ok done → head ≡ record { next = t.next; changes = t.changes + 1 } → id ≡ done.id → step ≡ (u, r) → Keeps old t new u
-  gone_kept step plan keeps old new flag done head id u r went e planned head_is id_is stepped =
-      keeps_applied old new flag head (change.Drop id) None t u went e (λ records stored.
+  gone_kept : (step : Step) (plan : Result Changed Status) → step ≡ remove_if t dir plan → ((records : List Kept) → IsStored records t → IsStored (with_given (remove_gives t dir plan) records) step.0) → (old new : Option (List Kept)) (flag : Bool) (done : Changed) (head : Head) (id : ℕ) (u : Tree) (r : Result Changed Status) → flag ≡ false → new ≡ (if flag then old else option_map (λ held. applied head (change.Drop id) None held) old) → plan ≡ Ok done → head ≡ record { next = t.next; changes = t.changes + 1 } → id ≡ done.id → step ≡ (u, r) → Keeps old t new u
+  gone_kept step plan comes keeps old new flag done head id u r went e planned head_is id_is stepped =
+      keeps_applied old new flag head (change.Drop id) None t u went e (counts_more t u step (remove_if t dir (Ok done)) r stepped (comes ∙ ap (remove_if t dir) planned) (less_one t.changes)) (λ records stored.
       let is : IsStored (with_given (remove_gives t dir (Ok done)) records) step.0 = subst (λ (y : Result Changed Status). IsStored (with_given (remove_gives t dir y) records) step.0) planned (keeps records stored) in
       subst (λ y. IsStored (applied head (change.Drop id) None records) y) (tree_is step u r stepped)
       (subst (λ y. IsStored (applied head (change.Drop y) None records) step.0) (sym id_is)
@@ -124,7 +152,7 @@ module _ (t : Tree) (held : Held) (dir : ℕ) (name : List ℕ) where
   remove_failed before after flag done failed cause plan = step_failed before after flag t (removed t dir done.id) (remove t held dir name) done failed cause (ap (remove_if t dir) plan) (one_more t.changes)
 
   pub remove_kept : (old new : Option (List Kept)) (flag : Bool) (done : Changed) (head : Head) (id : ℕ) (u : Tree) (r : Result Changed Status) → flag ≡ false → new ≡ (if flag then old else option_map (λ held. applied head (change.Drop id) None held) old) → remove_plan t held dir name ≡ Ok done → head ≡ record { next = t.next; changes = t.changes + 1 } → id ≡ done.id → remove t held dir name ≡ (u, r) → Keeps old t new u
-  remove_kept = gone_kept (remove t held dir name) (remove_plan t held dir name) (remove_stored t held dir name)
+  remove_kept = gone_kept (remove t held dir name) (remove_plan t held dir name) refl (remove_stored t held dir name)
 
   pub rmdir_refused : (before after : ℕ) (s : Status) → rmdir_plan t held dir name ≡ Err s → IsStep before after t (rmdir t held dir name) (t, Err s)
   rmdir_refused before after s e = step_done before after t t (rmdir t held dir name) (Err s) (ap (remove_if t dir) e)
@@ -133,7 +161,7 @@ module _ (t : Tree) (held : Held) (dir : ℕ) (name : List ℕ) where
   rmdir_failed before after flag done failed cause plan = step_failed before after flag t (removed t dir done.id) (rmdir t held dir name) done failed cause (ap (remove_if t dir) plan) (one_more t.changes)
 
   pub rmdir_kept : (old new : Option (List Kept)) (flag : Bool) (done : Changed) (head : Head) (id : ℕ) (u : Tree) (r : Result Changed Status) → flag ≡ false → new ≡ (if flag then old else option_map (λ held. applied head (change.Drop id) None held) old) → rmdir_plan t held dir name ≡ Ok done → head ≡ record { next = t.next; changes = t.changes + 1 } → id ≡ done.id → rmdir t held dir name ≡ (u, r) → Keeps old t new u
-  rmdir_kept = gone_kept (rmdir t held dir name) (rmdir_plan t held dir name) (rmdir_stored t held dir name)
+  rmdir_kept = gone_kept (rmdir t held dir name) (rmdir_plan t held dir name) refl (rmdir_stored t held dir name)
 
 -- ---- what a name stands for
 
@@ -201,7 +229,7 @@ module _ (t : Tree) (held : Held) (dir : ℕ) (name : List ℕ) (to : ℕ) (to_n
   pub free_kept : (old new : Option (List Kept)) (flag : Bool) (done : Changed) (head : Head) (first : Change) (u : Tree) (r : Result Changed Status) → flag ≡ false → new ≡ (if flag then old else option_map (λ held. applied head first None held) old) → rename_plan t held dir name to to_name ≡ Ok (Free done) → head ≡ record { next = t.next; changes = t.changes + 1 } → first ≡ change.Node (record { id = id_found (named t.nodes dir name); parent = to; kind = kind_found (named t.nodes dir name); name = to_name }) → rename t held dir name to to_name ≡ (u, r) → Keeps old t new u
   free_kept old new flag done head first u r went e plan head_is first_is stepped =
       let n = free_of done plan in
-      keeps_applied old new flag head first None t u went e (λ records stored.
+      keeps_applied old new flag head first None t u went e (counts_more t u (rename t held dir name to to_name) (moved t dir n.0 None to to_name, Ok done) r stepped (ap (rename_if t dir name to to_name) plan ∙ ap (λ (o : Option Node). (shifted t dir o None to to_name, Ok done)) n.1) (less_one t.changes)) (λ records stored.
       let given : IsStored (with_given (rename_gives t dir name to to_name (Ok (Free done))) records) (rename t held dir name to to_name).0 = subst (λ (y : Result Planned Status). IsStored (with_given (rename_gives t dir name to to_name y) records) (rename t held dir name to to_name).0) plan (rename_stored t held dir name to to_name records stored) in
       let is : IsStored (with_given (shift_gives t dir (Some n.0) None to to_name) records) (rename t held dir name to to_name).0 = subst (λ (o : Option Node). IsStored (with_given (shift_gives t dir o None to to_name) records) (rename t held dir name to to_name).0) n.1 given in
       let first_as : first ≡ change.Node (record { id = id_found (Some n.0); parent = to; kind = kind_found (Some n.0); name = to_name }) = first_is ∙ ap (λ (o : Option Node). change.Node (record { id = id_found o; parent = to; kind = kind_found o; name = to_name })) n.1 in
@@ -212,7 +240,7 @@ module _ (t : Tree) (held : Held) (dir : ℕ) (name : List ℕ) (to : ℕ) (to_n
   pub over_kept : (old new : Option (List Kept)) (flag : Bool) (done : Changed) (head : Head) (gone : ℕ) (second : Change) (u : Tree) (r : Result Changed Status) → flag ≡ false → new ≡ (if flag then old else option_map (λ held. applied head (change.Drop gone) (Some second) held) old) → rename_plan t held dir name to to_name ≡ Ok (Over done) → head ≡ record { next = t.next; changes = t.changes + 2 } → gone ≡ id_found (named t.nodes to to_name) → second ≡ change.Node (record { id = id_found (named t.nodes dir name); parent = to; kind = kind_found (named t.nodes dir name); name = to_name }) → rename t held dir name to to_name ≡ (u, r) → Keeps old t new u
   over_kept old new flag done head gone second u r went e plan head_is gone_is second_is stepped =
       let n = over_of done plan in
-      keeps_applied old new flag head (change.Drop gone) (Some second) t u went e (λ records stored.
+      keeps_applied old new flag head (change.Drop gone) (Some second) t u went e (counts_more t u (rename t held dir name to to_name) (moved t dir n.0 (Some n.1) to to_name, Ok done) r stepped (ap (rename_if t dir name to to_name) plan ∙ (λ i. (shifted t dir (n.2 i) (n.3 i) to to_name, Ok done))) (less_two t.changes)) (λ records stored.
       let given : IsStored (with_given (rename_gives t dir name to to_name (Ok (Over done))) records) (rename t held dir name to to_name).0 = subst (λ (y : Result Planned Status). IsStored (with_given (rename_gives t dir name to to_name y) records) (rename t held dir name to to_name).0) plan (rename_stored t held dir name to to_name records stored) in
       let is : IsStored (with_given (shift_gives t dir (Some n.0) (Some n.1) to to_name) records) (rename t held dir name to to_name).0 = subst (λ (o : Option Node). IsStored (with_given (shift_gives t dir (Some n.0) o to to_name) records) (rename t held dir name to to_name).0) n.3 (subst (λ (o : Option Node). IsStored (with_given (shift_gives t dir o (named t.nodes to to_name) to to_name) records) (rename t held dir name to to_name).0) n.2 given) in
       let gone_as : gone ≡ n.1.id = gone_is ∙ ap id_found n.3 in
@@ -234,7 +262,7 @@ module _ (t : Tree) (held : Held) (id : ℕ) (content : List ℕ) where
   pub replace_kept : (old new : Option (List Kept)) (flag : Bool) (len version : ℕ) (head : Head) (first : Change) (u : Tree) (r : Result Changed Status) → flag ≡ false → new ≡ (if flag then old else option_map (λ held. applied head first None held) old) → len ≡ length content → replace_plan t held id len ≡ Ok version → head ≡ record { next = t.next; changes = t.changes + 1 } → first ≡ change.Content (record { id = id; version = version; bytes = content }) → replace t held id content ≡ (u, r) → Keeps old t new u
   replace_kept old new flag len version head first u r went e is_len plan head_is first_is stepped =
       let planned : replace_plan t held id (length content) ≡ Ok version = ap (replace_plan t held id) (sym is_len) ∙ plan in
-      keeps_applied old new flag head first None t u went e (λ records stored.
+      keeps_applied old new flag head first None t u went e (counts_more t u (replace t held id content) (replace_if t id content (Ok version)) r stepped (ap (replace_if t id content) planned) (less_one t.changes)) (λ records stored.
       let is : IsStored (with_given (replace_gives t id content (Ok version)) records) (replace t held id content).0 = subst (λ (y : Result ℕ Status). IsStored (with_given (replace_gives t id content y) records) (replace t held id content).0) planned (replace_stored t held id content (length content) records stored) in
       subst (λ y. IsStored (applied head first None records) y) (tree_is (replace t held id content) u r stepped)
       (subst (λ y. IsStored (applied head y None records) (replace t held id content).0) (sym first_is)

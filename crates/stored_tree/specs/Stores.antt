@@ -1,5 +1,5 @@
 -- Steps of a tree that a store is asked for first.
-use Rattle.std.specs.Prelude.{◌≡◌, ℕ, List, Option, Some, None, Result, Ok, Err, Bool, true, false, ◌==◌, if◌then◌else◌}
+use Rattle.std.specs.Prelude.{◌≡◌, ◌≤◌, ℕ, List, Option, Some, None, Result, Ok, Err, Bool, true, false, ◌==◌, if◌then◌else◌}
 use Rattle.lb_base.specs.Causes.{Rose}
 use Rattle.xdr_codec.specs.declared.status.Status.{Status}
 use Rattle.xdr_codec.specs.declared.status.Status.TheVariants as status
@@ -8,8 +8,8 @@ use Rattle.store.specs.declared.record.NodeKind.{NodeKind}
 use Rattle.store.specs.declared.record.NodeKind.TheVariants as node_kind
 use Rattle.tree_nodes.specs.declared.node.Node.{Node}
 use Rattle.file_tree.specs.Storing.{kind_of, IsStored}
-use Rattle.file_tree.specs.Tree.{Tree}
-use Rattle.file_tree.specs.declared.call.Changed.{Changed}
+use Rattle.tree_reading.specs.Tree.{Tree}
+use Rattle.tree_plans.specs.declared.call.Changed.{Changed}
 
 -- ---- where the store fails, nothing is done, and IO is told; of a step that counts no change no store is asked
 
@@ -35,10 +35,17 @@ pub record IsStep (before after : ℕ) (t : Tree) (p q : Tree × Result Changed 
   pub cause : IsFault fault before after
   pub is : stored fault t p ≡ q
 
--- a store that tells its records, and kept the tree, keeps the tree that is left
+-- The records that are left of a store that had others, where the tree t became u: if they were those of t they are those of u; and where no change was counted,
+-- as by a step that is refused or answered IO, which leaves the tree as it was, they are exactly those that were there.
+pub record IsLeft (records : List Kept) (t : Tree) (later : List Kept) (u : Tree) : Type 0 where
+  pub stored : IsStored records t → IsStored later u
+  pub counted : t.changes ≤ u.changes
+  pub same : u.changes ≡ t.changes → later ≡ records
+
+-- what is left of a store that tells its records; one that tells none goes on to tell none
 abbrev pub Keeps : Option (List Kept) → Tree → Option (List Kept) → Tree → Type 0
 Keeps None t new u = new ≡ None
-Keeps (Some records) t new u = (later : List Kept) × (new ≡ Some later) × (IsStored records t → IsStored later u)
+Keeps (Some records) t new u = (later : List Kept) × (new ≡ Some later) × IsLeft records t later u
 
 -- ---- the record of a node that gets another name
 

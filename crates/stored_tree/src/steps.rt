@@ -4,19 +4,20 @@
 
 ghost use Rattle.std.specs.Prelude.{◌≡◌, ◌+◌, ◌<◌, ◌≤◌, Ok, None};
 ghost use Rattle.tree_nodes.specs.Nodes.{named};
-ghost use Rattle.file_tree.specs.Step.{create, mkdir, remove, rmdir, rename, replace, create_plan, may_mkdir, rename_plan};
-ghost use Rattle.file_tree.specs.declared.call.Planned.TheVariants.{Free, Over};
+ghost use Rattle.tree_plans.specs.Plans.{create_plan, may_mkdir, rename_plan};
+ghost use Rattle.file_tree.specs.Step.{create, mkdir, remove, rmdir, rename, replace};
+ghost use Rattle.tree_plans.specs.declared.call.Planned.TheVariants.{Free, Over};
 ghost use Rattle.stored_tree.specs.Stores.{IsStep, Keeps, kind_if, kind_found, id_found};
 
 use crate::asking::ask;
 use crate::pair::NamePair;
-use file_tree::call::{Changed, CreateMode, Held, Planned};
 use file_tree::tree::Tree;
 use lb_base::items::Name;
 use shared_bytes::SharedBytes;
 use store::record::{Change, ContentRecord, NodeKind, NodeRecord};
 use store::store::Store;
 use tree_nodes::content::Content;
+use tree_plans::call::{Changed, CreateMode, Held, Planned};
 use xdr_codec::status::Status;
 
 // CREATE of a file that is to be made.

@@ -13,12 +13,13 @@ use Rattle.nfs3_calls.specs.declared.message.Nfs.TheVariants as nfs
 use Rattle.store.specs.declared.record.Kept.{Kept}
 use Rattle.tree_nodes.specs.declared.node.Node.{Node}
 use Rattle.file_tree.specs.Storing.{IsStored}
-use Rattle.file_tree.specs.Tree.{Tree}
-use Rattle.file_tree.specs.Step.{create, mkdir, rmdir, remove, rename, replace, create_plan, may_mkdir, rmdir_plan, remove_if}
-use Rattle.file_tree.specs.declared.call.Changed.{Changed}
-use Rattle.file_tree.specs.declared.call.CreateMode.{CreateMode}
-use Rattle.file_tree.specs.declared.call.Held.{Held}
-use Rattle.file_tree.specs.declared.call.Spot.{Spot}
+use Rattle.tree_reading.specs.Tree.{Tree}
+use Rattle.tree_plans.specs.Plans.{create_plan, may_mkdir, rmdir_plan}
+use Rattle.file_tree.specs.Step.{create, mkdir, rmdir, remove, rename, replace, remove_if}
+use Rattle.tree_plans.specs.declared.call.Changed.{Changed}
+use Rattle.tree_plans.specs.declared.call.CreateMode.{CreateMode}
+use Rattle.tree_plans.specs.declared.call.Held.{Held}
+use Rattle.tree_plans.specs.declared.call.Spot.{Spot}
 use Rattle.stored_tree.specs.Stores.{stored, fails, IsFault, IsStep, Keeps}
 use Rattle.tree_calls.specs.Calling.{IsCalled, places_of_call}
 use Rattle.tree_calls.specs.declared.asked.Committing.{Committing}
@@ -70,7 +71,15 @@ made_of_step old mid new t p q g o later step e = record {
 -- a call that changes neither
 pub kept_same : (old new : Option (List Kept)) (t u : Tree) → new ≡ old → u ≡ t → Keeps old t new u
 kept_same None new t u e same = e
-kept_same (Some records) new t u e same = (records, e, λ keeps. subst (λ (z : Tree). IsStored records z) (sym same) keeps)
+kept_same (Some records) new t u e same = (
+  records,
+  e,
+  record {
+    stored = λ keeps. subst (λ (z : Tree). IsStored records z) (sym same) keeps;
+    counted = omega (arith, ap (λ (z : Tree). z.changes) same);
+    same = λ _. refl;
+  },
+)
 
 -- what was made ready before changes neither
 pub kept_ready : (old mid new : Option (List Kept)) (t ready u : Tree) → mid ≡ old → ready ≡ t → Keeps mid ready new u → Keeps old t new u

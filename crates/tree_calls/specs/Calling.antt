@@ -1,6 +1,6 @@
 -- What is known of a call that a store was given to.
 use Rattle.std.specs.Prelude.{◌≡◌, ℕ, Option, Some, None, Bool}
-use Rattle.file_tree.specs.Tree.{Tree}
+use Rattle.tree_reading.specs.Tree.{Tree}
 use Rattle.stored_tree.specs.Stores.{IsFault}
 use Rattle.tree_calls.specs.declared.asked.Outcome.{Outcome}
 use Rattle.tree_calls.specs.declared.asked.Outcome.TheVariants.{Answered, Waits}

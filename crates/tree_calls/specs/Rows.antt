@@ -18,17 +18,17 @@ use Rattle.nfs3_calls.specs.declared.message.Nfs.TheVariants as nfs
 use Rattle.nfs3_calls.specs.declared.place.Place.{Place}
 use Rattle.tree_nodes.specs.declared.node.Node.{Node}
 use Rattle.tree_nodes.specs.declared.node.Body.TheVariants.{Directory, File}
-use Rattle.file_tree.specs.Tree.{Tree, root, empty}
+use Rattle.tree_reading.specs.Tree.{Tree, root, empty}
 use Rattle.file_tree.specs.Step.{create, rename, remove, replace}
-use Rattle.file_tree.specs.declared.call.CreateMode.TheVariants as mode
-use Rattle.file_tree.specs.declared.call.Held.{Held}
-use Rattle.file_tree.specs.declared.call.Spot.{Spot}
-use Rattle.file_tree.specs.declared.entry.EntryKind.TheVariants as line
+use Rattle.tree_plans.specs.declared.call.CreateMode.TheVariants as mode
+use Rattle.tree_plans.specs.declared.call.Held.{Held}
+use Rattle.tree_plans.specs.declared.call.Spot.{Spot}
+use Rattle.tree_plans.specs.declared.entry.EntryKind.TheVariants as line
 use Rattle.tree_calls.specs.declared.asked.Asked.{Asked}
 use Rattle.tree_calls.specs.declared.asked.Asked.TheVariants as asked
 use Rattle.tree_calls.specs.declared.asked.Outcome.{Outcome}
 use Rattle.tree_calls.specs.declared.asked.Outcome.TheVariants as outcome
-use Rattle.tree_calls.specs.Telling.{told, leased, answer_of}
+use Rattle.tree_calls.specs.Telling.{told, answer_of}
 use Rattle.tree_calls.specs.Waiting.{calls, settles, commits, calls_under, settles_under, commits_under, file_of}
 
 -- ---- a tree: a file "a", a directory "d" that has a directory "s" and a file "x", and an empty directory "e"
@@ -228,10 +228,6 @@ row_read = (refl, refl, refl)
 
 row_fsinfo : (come none true (nfs.FsInfo (76 ∷ []) ∷ nfs.FsInfo (handle_bytes 9) ∷ []) ≡ refused BadHandle ∷ refused Stale ∷ []) × (told tree.nodes (nfs.FsInfo (handle_bytes 1)) ≡ Some (nfs.FsInfoAnswer (answer.Done (record { attr = Some (root_attr 9 3); reading = record { most = 65536; best = 65536; multiple = 1 }; writing = record { most = 0; best = 0; multiple = 0 }; dtpref = 65536; maxfilesize = 67108864; time_delta = record { seconds = 0; nanoseconds = 1 }; properties = 8 }))))
 row_fsinfo = (refl, refl)
-
--- GETLEASE, of a file alone
-row_lease : (map (λ (h : List ℕ). in_short (answer_of {F = Unit} tt (leased tree.nodes h 7))) ((76 ∷ []) ∷ handle_bytes 9 ∷ handle_bytes 3 ∷ []) ≡ refused BadHandle ∷ refused Stale ∷ refused IsDir ∷ []) × (leased tree.nodes (handle_bytes 4) 7 ≡ Ok (record { attr = file_attr 4 3 3; version = 3; term = 7 }))
-row_lease = (refl, refl)
 
 -- ---- READDIR: 103 and 104 bytes, one entry's, a cookie past the end, and another verifier
 

@@ -1,4 +1,4 @@
--- What the calls are told that change nothing (RFC 1813, sections 3.3.0, 1, 3, 4, 6, 16 and 19), and GETLEASE of LBFS.
+-- What the calls are told that change nothing (RFC 1813, sections 3.3.0, 1, 3, 4, 6, 16 and 19).
 use Rattle.std.specs.Prelude.{ℕ, List, Option, Some, None, Result, Ok, Err, IsOk, bit_and}
 use Rattle.limits.specs.declared.TheConstants.{FILE_MOST, LISTING_MOST, PIECE_MOST}
 use Rattle.xdr_codec.specs.Handle.{file_of, handle_bytes}
@@ -7,7 +7,6 @@ use Rattle.xdr_codec.specs.declared.answer.Answer.TheVariants.{Done, Failed}
 use Rattle.xdr_codec.specs.declared.attr.Attr.{Attr}
 use Rattle.xdr_codec.specs.declared.status.Status.{Status}
 use Rattle.xdr_codec.specs.declared.status.Status.TheVariants as status
-use Rattle.hash_calls.specs.declared.call.Leased.{Leased}
 use Rattle.nfs3_calls.specs.declared.call.Access.{Access}
 use Rattle.nfs3_calls.specs.declared.call.Granted.{Granted}
 use Rattle.nfs3_calls.specs.declared.call.Piece.{Piece}
@@ -20,9 +19,9 @@ use Rattle.nfs3_calls.specs.declared.message.Nfs.TheVariants as nfs
 use Rattle.nfs3_calls.specs.declared.place.Found.{Found}
 use Rattle.nfs3_calls.specs.declared.place.Place.{Place}
 use Rattle.tree_nodes.specs.declared.node.Node.{Node}
-use Rattle.file_tree.specs.Chain.{◌>>=◌}
-use Rattle.file_tree.specs.Reading.{attr, lookup, read, list, content, version}
-use Rattle.file_tree.specs.declared.reading.Looked.{Looked}
+use Rattle.tree_reading.specs.Chain.{◌>>=◌}
+use Rattle.tree_reading.specs.Reading.{attr, lookup, read, list}
+use Rattle.tree_reading.specs.declared.reading.Looked.{Looked}
 
 -- ---- handles
 
@@ -33,10 +32,6 @@ or_bad_handle (Some id) = Ok id
 
 abbrev pub id_of : List ℕ → Result ℕ Status
 id_of handle = or_bad_handle (file_of handle)
-
--- the file that a handle names: a directory is ISDIR
-abbrev pub target : List Node → List ℕ → Result ℕ Status
-target nodes handle = id_of handle >>= λ id. content nodes id >>= λ _. Ok id
 
 -- ---- what is found
 
@@ -73,10 +68,6 @@ info_of a = record {
 
 abbrev pub info : List Node → List ℕ → Result FsInfo Status
 info nodes handle = getattr nodes handle >>= λ a. Ok (info_of a)
-
--- what GETLEASE of LBFS is told of a file, with the term of a lease
-abbrev pub leased : List Node → List ℕ → ℕ → Result Leased Status
-leased nodes handle term = target nodes handle >>= λ id. attr nodes id >>= λ a. version nodes id >>= λ v. Ok (record { attr = a; version = v; term = term })
 
 -- ---- what is answered: in a failure no attributes
 

@@ -7,16 +7,17 @@ use Rattle.nfs3_calls.specs.declared.making.NewFile.{NewFile}
 use Rattle.nfs3_calls.specs.declared.message.Nfs.{Nfs}
 use Rattle.nfs3_calls.specs.declared.message.Nfs.TheVariants as nfs
 use Rattle.tree_nodes.specs.declared.node.Node.{Node}
-use Rattle.file_tree.specs.Chain.{◌>>=◌}
-use Rattle.file_tree.specs.Reading.{stands_for, version}
-use Rattle.file_tree.specs.Step.{create_plan, may_mkdir, remove, remove_plan, rmdir_plan, rename_plan, replace}
-use Rattle.file_tree.specs.Tree.{Tree}
-use Rattle.file_tree.specs.declared.call.Changed.{Changed}
-use Rattle.file_tree.specs.declared.call.Held.{Held}
-use Rattle.file_tree.specs.declared.call.Planned.{Planned}
-use Rattle.file_tree.specs.declared.call.Planned.TheVariants as planned
-use Rattle.file_tree.specs.declared.call.Spot.{Spot}
-use Rattle.file_tree.specs.declared.call.Standing.{Standing}
+use Rattle.tree_reading.specs.Chain.{◌>>=◌}
+use Rattle.tree_reading.specs.Reading.{stands_for, version}
+use Rattle.tree_plans.specs.Plans.{create_plan, may_mkdir, remove_plan, rmdir_plan, rename_plan}
+use Rattle.file_tree.specs.Step.{remove, replace}
+use Rattle.tree_reading.specs.Tree.{Tree}
+use Rattle.tree_plans.specs.declared.call.Changed.{Changed}
+use Rattle.tree_plans.specs.declared.call.Held.{Held}
+use Rattle.tree_plans.specs.declared.call.Planned.{Planned}
+use Rattle.tree_plans.specs.declared.call.Planned.TheVariants as planned
+use Rattle.tree_plans.specs.declared.call.Spot.{Spot}
+use Rattle.tree_reading.specs.declared.reading.Standing.{Standing}
 use Rattle.stored_tree.specs.Stores.{stored}
 use Rattle.tree_calls.specs.declared.asked.Asked.{Asked}
 use Rattle.tree_calls.specs.declared.asked.Asked.TheVariants as asked

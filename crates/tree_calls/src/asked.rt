@@ -3,14 +3,14 @@
 ghost use Rattle.std.specs.Prelude.{◌≡◌, IfOk};
 ghost use Rattle.tree_calls.specs.Waiting.{file_of, entries_of, spot_of};
 
-use file_tree::call::Spot;
-use file_tree::entry::Entry;
 use hash_calls::call::Committed;
 use lb_base::items::Name;
 use nfs3_calls::message::Nfs;
 use std::alloc::{AllocError, Global};
 use std::marker::Model;
 use stored_tree::pair::NamePair;
+use tree_plans::call::Spot;
+use tree_plans::entry::Entry;
 use xdr_codec::answer::Answer;
 
 /// What a call was answered, and the entries of the journal that it made, in their order.
@@ -38,7 +38,7 @@ pub struct NewSpot {
 }
 
 impl Model for NewSpot {
-    ghost use Rattle.file_tree.specs.declared.call.Spot.{Spot};
+    ghost use Rattle.tree_plans.specs.declared.call.Spot.{Spot};
 
     ghost Value = { Spot };
 

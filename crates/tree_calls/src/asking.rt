@@ -13,13 +13,14 @@ use crate::asked::{Asked, Done, NewSpot, Outcome, Removing, Renaming};
 use crate::changing::{self, places};
 use crate::naming::spot_of;
 use crate::sides::{no_side, said};
-use file_tree::call::{Changed, Held, Planned, Standing};
 use file_tree::tree::Tree;
 use lb_base::items::Name;
 use nfs3_calls::message::Nfs;
 use std::alloc::{AllocError, Global};
 use store::store::Store;
 use stored_tree::pair::NamePair;
+use tree_plans::call::{Changed, Held, Planned};
+use tree_reading::reading::Standing;
 use xdr_codec::answer::Answer;
 use xdr_codec::status::Status;
 

@@ -1,7 +1,7 @@
 //! Any call of NFS (`calls` in `specs/Waiting.antt`).
 
 ghost use Rattle.std.specs.Prelude.{◌≡◌, ◌+◌, ◌≤◌, Bool, false, IfOk, OnErr};
-ghost use Rattle.file_tree.specs.declared.call.Held.{Held};
+ghost use Rattle.tree_plans.specs.declared.call.Held.{Held};
 ghost use Rattle.stored_tree.specs.Stores.{Keeps};
 ghost use Rattle.tree_calls.specs.Calling.{IsCalled, places_of, places_of_call};
 ghost use Rattle.tree_calls.specs.Telling.{id_of, told, TakesTold};
@@ -13,13 +13,13 @@ use crate::asking::{self, refuse_remove};
 use crate::naming::id_of;
 use crate::sides::said;
 use crate::{changing, telling};
-use file_tree::call::Held;
 use file_tree::tree::Tree;
 use nfs3_calls::making::{NewDir, NewFile};
 use nfs3_calls::message::Nfs;
 use nfs3_calls::place::{Place, Rename};
 use std::alloc::{AllocError, Global};
 use store::store::Store;
+use tree_plans::call::Held;
 
 #[tactic(auto, using(crate::proofs::Steps::create_misnamed, crate::proofs::Steps::kept_same))]
 fn create<S: Store>(

@@ -8,11 +8,11 @@ ghost use Rattle.tree_calls.specs.Waiting.{enters};
 use crate::asking::{asks_remove, asks_rename};
 use crate::changing::mode_of;
 use crate::naming::id_of;
-use file_tree::call::Held;
 use file_tree::tree::Tree;
 use nfs3_calls::making::{NewDir, NewFile};
 use nfs3_calls::message::Nfs;
 use nfs3_calls::place::{Place, Rename};
+use tree_plans::call::Held;
 
 fn create_enters(tree: &Tree, held: Held, busy: bool, new: &NewFile) -> bool
     ensures { result ≡ enters tree.now.tree held busy (nfs.Create new.now) }

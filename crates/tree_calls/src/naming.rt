@@ -1,13 +1,12 @@
 //! What handles name, and names in directories (`specs/Telling.antt`).
 
 ghost use Rattle.std.specs.Prelude.{◌≡◌, IfOk};
-ghost use Rattle.tree_calls.specs.Telling.{id_of, target};
+ghost use Rattle.tree_calls.specs.Telling.{id_of};
 ghost use Rattle.tree_calls.specs.Waiting.{spot_of};
 
-use file_tree::call::Spot;
-use file_tree::tree::Tree;
 use lb_base::items::Name;
 use std::alloc::{AllocError, Global};
+use tree_plans::call::Spot;
 use xdr_codec::handle::Handle;
 use xdr_codec::status::Status;
 
@@ -19,15 +18,6 @@ pub fn id_of(handle: &Handle) -> Result<u64, Status>
         Some(id) => Ok(id),
         None => Err(Status::BadHandle),
     }
-}
-
-/// The id of the file that a handle names. It takes no memory.
-pub fn target(tree: &Tree, handle: &Handle) -> Result<u64, Status>
-    ensures { result ≡ target tree.now.tree.nodes handle.now }
-{
-    let id = id_of(handle)?;
-    let _bytes = tree.bytes_of(id)?;
-    Ok(id)
 }
 
 /// A name in a directory. The one error is want of memory.

@@ -11,7 +11,6 @@ use crate::asked::{Asked, Committing, Done, Removing, Renaming};
 use crate::asking::refuse_remove;
 use crate::changing;
 use crate::sides::{before, both_sides, did};
-use file_tree::call::{Changed, Held, Spot, Standing};
 use file_tree::tree::Tree;
 use hash_calls::call::Committed;
 use nfs3_calls::change::Before;
@@ -20,6 +19,8 @@ use shared_bytes::SharedBytes;
 use store::store::Store;
 use stored_tree::steps;
 use tree_nodes::content::Content;
+use tree_plans::call::{Changed, Held, Spot};
+use tree_reading::reading::Standing;
 use xdr_codec::answer::Answer;
 use xdr_codec::status::Status;
 

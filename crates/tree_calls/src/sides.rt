@@ -2,13 +2,13 @@
 
 ghost use Rattle.std.specs.Prelude.{◌≡◌};
 ghost use Rattle.tree_calls.specs.Changing.{before_of, known, before, both_sides, no_side, said, did};
-ghost use Rattle.file_tree.specs.Reading.{attr};
+ghost use Rattle.tree_reading.specs.Reading.{attr};
 
 use crate::asked::Done;
-use file_tree::call::Changed;
 use file_tree::tree::Tree;
 use nfs3_calls::change::{Before, Wcc};
 use nfs3_calls::message::Nfs;
+use tree_plans::call::Changed;
 use xdr_codec::attr::Attr;
 
 fn before_of(attr: Attr) -> Before

@@ -2,13 +2,11 @@
 
 ghost use Rattle.std.specs.Prelude.{◌≡◌, Some, None, IfOk, OnErr, IsOk};
 ghost use Rattle.nfs3_calls.specs.declared.message.Nfs.TheVariants as nfs;
-ghost use Rattle.file_tree.specs.Reading.{Answers};
-ghost use Rattle.tree_calls.specs.Telling.{getattr, found, granted, piece, listing, info_of, info, leased, answer_of, told, TakesTold};
+ghost use Rattle.tree_reading.specs.Reading.{Answers};
+ghost use Rattle.tree_calls.specs.Telling.{getattr, found, granted, piece, listing, info_of, info, answer_of, told, TakesTold};
 
-use crate::naming::{id_of, target};
-use file_tree::error::TreeErr;
+use crate::naming::id_of;
 use file_tree::tree::Tree;
-use hash_calls::call::Leased;
 use limits::{FILE_MOST, LISTING_MOST, PIECE_MOST};
 use nfs3_calls::call::{Access, Granted, Piece, Range};
 use nfs3_calls::fs_info::{FsInfo, Sizes};
@@ -16,6 +14,7 @@ use nfs3_calls::listing::{ListRange, Listing};
 use nfs3_calls::message::Nfs;
 use nfs3_calls::place::{Found, Place};
 use std::alloc::{AllocError, Global};
+use tree_reading::error::TreeErr;
 use xdr_codec::answer::Answer;
 use xdr_codec::attr::{Attr, Time};
 use xdr_codec::handle::Handle;
@@ -159,29 +158,6 @@ fn tell_info(tree: &Tree, handle: &Handle) -> Nfs
     match getattr(tree, handle) {
         Ok(attr) => Nfs::FsInfoAnswer(Answer::Done(info_of(attr))),
         Err(status) => Nfs::FsInfoAnswer(Answer::Failed(status, None)),
-    }
-}
-
-fn leased(tree: &Tree, handle: &Handle, term: u32) -> Result<Leased, Status>
-    ensures { result ≡ leased tree.now.tree.nodes handle.now term }
-{
-    let id = target(tree, handle)?;
-    let attr = tree.attr(id)?;
-    let version = tree.version(id)?;
-    Ok(Leased {
-        attr,
-        version,
-        term,
-    })
-}
-
-/// What a GETLEASE is answered, where a lease holds so long. It takes no memory.
-pub fn lease_answer(tree: &Tree, handle: &Handle, term: u32) -> Answer<Leased, ()>
-    ensures { result ≡ answer_of tt (leased tree.now.tree.nodes handle.now term) }
-{
-    match leased(tree, handle, term) {
-        Ok(leased) => Answer::Done(leased),
-        Err(status) => Answer::Failed(status, ()),
     }
 }
 
