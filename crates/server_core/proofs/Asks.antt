@@ -18,14 +18,15 @@ use Rattle.tree_nodes.specs.declared.node.Node.{Node as TreeNode}
 use Rattle.tree_nodes.specs.declared.node.Body.{Body as NodeBody}
 use Rattle.tree_nodes.specs.declared.node.Body.TheVariants.{Directory, File as Content}
 use Rattle.tree_nodes.specs.Nodes.{with_id}
-use Rattle.file_tree.specs.Chain.{◌>>=◌}
-use Rattle.file_tree.specs.Reading.{attr, attr_of, file_attr, version, content, piece_of}
-use Rattle.file_tree.specs.Step.{created, mkdir_if, remove_if, create_plan, may_mkdir, rmdir_plan}
-use Rattle.file_tree.specs.Tree.{Tree, content_of, or_stale, file_or}
-use Rattle.file_tree.specs.declared.call.Changed.{Changed}
-use Rattle.file_tree.specs.declared.call.Held.{Held}
-use Rattle.file_tree.specs.declared.entry.Entry.{Entry as TreeEntry}
-use Rattle.tree_calls.specs.Telling.{id_of, or_bad_handle, answer_of, piece, leased, told}
+use Rattle.tree_reading.specs.Chain.{◌>>=◌}
+use Rattle.tree_reading.specs.Reading.{attr, attr_of, file_attr, version, content, piece_of}
+use Rattle.tree_plans.specs.Plans.{create_plan, may_mkdir, rmdir_plan}
+use Rattle.file_tree.specs.Step.{created, mkdir_if, remove_if}
+use Rattle.tree_reading.specs.Tree.{Tree, content_of, or_stale, file_or}
+use Rattle.tree_plans.specs.declared.call.Changed.{Changed}
+use Rattle.tree_plans.specs.declared.call.Held.{Held}
+use Rattle.tree_plans.specs.declared.entry.Entry.{Entry as TreeEntry}
+use Rattle.tree_calls.specs.Telling.{id_of, or_bad_handle, answer_of, piece, told}
 use Rattle.tree_calls.specs.Changing.{before, with_done, mode_of, created as created_answer, made_directory, removed_directory}
 use Rattle.stored_tree.specs.Stores.{stored}
 use Rattle.tree_calls.specs.Calling.{IsCalled}
@@ -36,7 +37,8 @@ use Rattle.tree_calls.specs.declared.asked.Outcome.TheVariants.{Answered, Waits}
 use Rattle.server_core.specs.declared.event.ServerStep.{ServerStep}
 use Rattle.server_core.specs.declared.journal.Entry.{Entry}
 use Rattle.server_core.specs.declared.state.ServerState.{ServerState}
-use Rattle.server_core.specs.Answers.{node_with, node_found, node_named, node_of, lease_answer, read_answer}
+use Rattle.chunk_calls.specs.Answers.{node_with, node_found, node_named, node_of, lease_answer}
+use Rattle.server_core.specs.Answers.{read_answer}
 use Rattle.server_core.specs.Closing.{to, has_waiting, count_of, one_if}
 use Rattle.server_core.specs.State.{State, held}
 use Rattle.server_core.specs.Served.{IsServed}
@@ -60,39 +62,6 @@ module _ (t : Tree) (r : Range) where
 
   pub read_told : answer_of None (piece t.nodes r) ≡ read_answer (node_of t r.handle) r
   read_told = read_named (file_of r.handle)
-
--- ---- GETLEASE
-
-module _ (t : Tree) where
-  abbrev leased_as : Attr → ℕ → Leased
-  leased_as a v = record { attr = a; version = v; term = 0 }
-
-  abbrev lease_of : (id : ℕ) → Result (List ℕ) Status → Answer Leased Unit
-  lease_of id r = answer_of tt (r >>= (λ _. Ok id) >>= λ i. attr t.nodes i >>= λ a. version t.nodes i >>= λ v. Ok (leased_as a v))
-
-  lease_body : (id : ℕ) (n : TreeNode) (b : NodeBody) → with_id t.nodes id ≡ Some (record n { body = b }) → lease_of id (content t.nodes id) ≡ lease_answer (Ok (node_with (record n { body = b }) b))
-  lease_body id n Directory at = ap (λ (o : Option TreeNode). lease_of id (or_stale o >>= file_or status.IsDir >>= λ (m : TreeNode). Ok (content_of m.body))) at
-  lease_body id n (Content c) at =
-      ap (λ (o : Option TreeNode). lease_of id (or_stale o >>= file_or status.IsDir >>= λ (m : TreeNode). Ok (content_of m.body))) at
-      ∙ ap (λ (r : Result Attr Status). answer_of tt (r >>= λ a. version t.nodes id >>= λ v. Ok (leased_as a v))) attr_is
-      ∙ ap (λ (r : Result ℕ Status). answer_of tt (r >>= λ v. Ok (leased_as (file_attr n.id n.version (length c)) v))) version_is
-    where
-      attr_is : attr t.nodes id ≡ Ok (file_attr n.id n.version (length c))
-      attr_is = ap (λ (o : Option TreeNode). or_stale o >>= λ (m : TreeNode). Ok (attr_of t.nodes m)) at
-
-      version_is : version t.nodes id ≡ Ok n.version
-      version_is = ap (λ (o : Option TreeNode). or_stale o >>= λ (m : TreeNode). Ok m.version) at
-
-  lease_found : (id : ℕ) (o : Option TreeNode) → with_id t.nodes id ≡ o → lease_of id (content t.nodes id) ≡ lease_answer (node_found o)
-  lease_found id None at = ap (λ (o : Option TreeNode). lease_of id (or_stale o >>= file_or status.IsDir >>= λ (m : TreeNode). Ok (content_of m.body))) at
-  lease_found id (Some n) at = lease_body id n n.body at
-
-  lease_named : (o : Option ℕ) → answer_of tt (or_bad_handle o >>= (λ id. content t.nodes id >>= λ _. Ok id) >>= λ i. attr t.nodes i >>= λ a. version t.nodes i >>= λ v. Ok (leased_as a v)) ≡ lease_answer (node_named t o)
-  lease_named None = refl
-  lease_named (Some id) = lease_found id (with_id t.nodes id) refl
-
-  pub lease_told : (handle : List ℕ) → answer_of tt (leased t.nodes handle 0) ≡ lease_answer (node_of t handle)
-  lease_told handle = lease_named (file_of handle)
 
 -- ---- any call
 

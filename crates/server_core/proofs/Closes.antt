@@ -12,67 +12,12 @@ use Rattle.wire.specs.declared.message.Message.TheVariants as message
 use Rattle.temp_files.specs.Pieces.{size_most, all_bytes}
 use Rattle.temp_files.specs.Temps.{Temp, Temps, temp_at, with_temp, with_more, without_temp, empty_temp, room_fault, piece_fault, assembled, whole_of}
 use Rattle.server_core.specs.declared.event.ServerStep.{ServerStep}
-use Rattle.server_core.specs.Answers.{Node, directory, file, node_of}
-use Rattle.server_core.specs.Asking.{target_in, commit_target, admits}
+use Rattle.chunk_calls.specs.Answers.{Node, directory, file, node_of, target_in}
+use Rattle.server_core.specs.Asking.{commit_target, admits}
 use Rattle.server_core.specs.Closing.{answers, sends, to, makes, makes_unless, writes, writes_unless, has_waiting, is_full, commits_whole, commits_to, commits}
 use Rattle.server_core.specs.State.{State, Change, size_wanted, waiting_size}
 use Rattle.server_core.specs.declared.change.Wanted.TheVariants as wanted
 use Rattle.temp_files.proofs.Joins.{joined_size, joined_all}
-
--- ---- MKTMPFILE, by the file that the handle names
-
-abbrev pub makes_for : State → (session xid fd : ℕ) → Result ℕ Status → State × ServerStep
-makes_for s session xid fd (Err e) = answers s session xid (lb.MkTmpFileAnswer (Failed e tt))
-makes_for s session xid fd (Ok id) = makes_unless s session xid fd id (room_fault s.temps session fd)
-
-pub makes_as : (s : State) (session xid fd : ℕ) (n : Result Node Status) → makes s session xid fd n ≡ makes_for s session xid fd (target_in n)
-makes_as s session xid fd (Err e) = refl
-makes_as s session xid fd (Ok directory) = refl
-makes_as s session xid fd (Ok (file f)) = refl
-
--- one for no file
-pub makes_none : (s : State) (session xid fd : ℕ) (n : Result Node Status) (e : Status) (o : ServerStep) → target_in n ≡ Err e
-    → o ≡ to session (message.Answer xid (body.Lb (lb.MkTmpFileAnswer (Failed e tt)))) → makes s session xid fd n ≡ (s, o)
-makes_none s session xid fd n e o target said =
-    makes_as s session xid fd n
-    ∙ ap (λ (r : Result ℕ Status). makes_for s session xid fd r) target
-    ∙ ap (λ (x : ServerStep). (s, x)) (sym said)
-
--- one that has room
-pub makes_new : (s : State) (session xid fd id : ℕ) (n : Result Node Status) (temps : Temps) (o : ServerStep) → target_in n ≡ Ok id → room_fault s.temps session fd ≡ None
-    → temps ≡ with_temp s.temps (empty_temp session fd id) → o ≡ to session (message.Answer xid (body.Lb (lb.MkTmpFileAnswer (Done tt)))) → makes s session xid fd n ≡ (record s { temps = temps }, o)
-makes_new s session xid fd id n temps o target room is said =
-    makes_as s session xid fd n
-    ∙ ap (λ (r : Result ℕ Status). makes_for s session xid fd r) target
-    ∙ ap (λ (f : Option Status). makes_unless s session xid fd id f) room
-    ∙ ap (λ (l : Temps). (record s { temps = l }, to session (message.Answer xid (body.Lb (lb.MkTmpFileAnswer (Done tt)))))) (sym is)
-    ∙ ap (λ (x : ServerStep). (record s { temps = temps }, x)) (sym said)
-
--- one that has none
-pub makes_refused : (s : State) (session xid fd id : ℕ) (n : Result Node Status) (e : Status) (temps : Temps) (o : ServerStep) → target_in n ≡ Ok id → room_fault s.temps session fd ≡ Some e
-    → temps ≡ s.temps → o ≡ to session (message.Answer xid (body.Lb (lb.MkTmpFileAnswer (Failed e tt)))) → makes s session xid fd n ≡ (record s { temps = temps }, o)
-makes_refused s session xid fd id n e temps o target room is said =
-    makes_as s session xid fd n
-    ∙ ap (λ (r : Result ℕ Status). makes_for s session xid fd r) target
-    ∙ ap (λ (f : Option Status). makes_unless s session xid fd id f) room
-    ∙ ap (λ (l : Temps). (record s { temps = l }, to session (message.Answer xid (body.Lb (lb.MkTmpFileAnswer (Failed e tt)))))) (sym is)
-    ∙ ap (λ (x : ServerStep). (record s { temps = temps }, x)) (sym said)
-
--- ---- TMPWRITE
-
--- a piece that may be put is put
-pub writes_put : (s : State) (session xid : ℕ) (a : TempPiece) (t : Option Temp) (new : Temps) → piece_fault t a.offset (length a.bytes) ≡ None → new ≡ with_more s.temps t a.offset a.bytes
-    → writes s session xid a t ≡ (record s { temps = new }, to session (message.Answer xid (body.Lb (lb.TmpWriteAnswer (Done tt)))))
-writes_put s session xid a None new fits is = absurd (true≢false (ap is_some fits))
-writes_put s session xid a (Some t) new fits is =
-    ap (λ (f : Option Status). writes_unless s session xid a (Some t) f) fits
-    ∙ ap (λ (l : Temps). (record s { temps = l }, to session (message.Answer xid (body.Lb (lb.TmpWriteAnswer (Done tt)))))) (sym is)
-
--- one that may not is refused
-pub writes_refused : (s : State) (session xid : ℕ) (a : TempPiece) (t : Option Temp) (e : Status) → piece_fault t a.offset (length a.bytes) ≡ Some e
-    → writes s session xid a t ≡ (s, to session (message.Answer xid (body.Lb (lb.TmpWriteAnswer (Failed e tt)))))
-writes_refused s session xid a None e is = ap (λ (f : Option Status). writes_unless s session xid a None f) is
-writes_refused s session xid a (Some t) e is = ap (λ (f : Option Status). writes_unless s session xid a (Some t) f) is
 
 -- ---- COMMITTMP
 
@@ -148,10 +93,6 @@ commit_taken s n session xid id a t content o at target whole waits said =
 pub whole_of_size : (t : Option Temp) (size : ℕ) (content : List ℕ) → Some content ≡ whole_of t size → length content ≡ size
 whole_of_size None size content is = absurd (true≢false (ap is_some is))
 whole_of_size (Some t) size content is = whole_size t size content is
-
--- what a temporary file comes to is the bytes of its pieces
-pub whole_bytes : (t : Temp) (size : ℕ) (content : List ℕ) → Some content ≡ assembled t size → content ≡ all_bytes t.pieces
-whole_bytes t size content is = joined_all 0 size t.pieces content (sym is)
 
 -- what is there
 pub there : (o : Option (List ℕ)) → is_some o ≡ true → (content : List ℕ) × (Some content ≡ o)

@@ -13,16 +13,17 @@ use Rattle.tree_nodes.specs.declared.node.Node.{Node}
 use Rattle.tree_nodes.specs.declared.node.Body.TheVariants.{File as Content}
 use Rattle.tree_nodes.specs.Nodes.{with_id}
 use Rattle.tree_nodes.proofs.Lists.{with_id_changed}
-use Rattle.file_tree.specs.Chain.{◌>>=◌}
-use Rattle.file_tree.specs.Step.{replaced, replace_if, replace_plan, spared, spared_bytes, within_file}
-use Rattle.file_tree.specs.Tree.{Tree, contents_size, or_stale, file_or}
-use Rattle.file_tree.specs.declared.call.Changed.{Changed}
-use Rattle.file_tree.specs.declared.call.Held.{Held}
+use Rattle.tree_reading.specs.Chain.{◌>>=◌}
+use Rattle.tree_plans.specs.Plans.{replace_plan, spared, spared_bytes, within_file}
+use Rattle.file_tree.specs.Step.{replaced, replace_if}
+use Rattle.tree_reading.specs.Tree.{Tree, contents_size, or_stale, file_or}
+use Rattle.tree_plans.specs.declared.call.Changed.{Changed}
+use Rattle.tree_plans.specs.declared.call.Held.{Held}
 use Rattle.stored_tree.specs.Stores.{stored}
 use Rattle.tree_calls.specs.Calling.{IsCalled}
 use Rattle.tree_calls.specs.Waiting.{with_committed, commits_under}
 use Rattle.tree_calls.specs.declared.asked.Committing.{Committing}
-use Rattle.server_core.specs.State.{file_of_node, file_at, chunks_at}
+use Rattle.chunk_calls.specs.Files.{file_of_node, file_at, chunks_at}
 
 abbrev IsDone : Answer Committed Unit → Type 0
 IsDone (answer.Done a) = Unit {0}

@@ -15,10 +15,10 @@ use Rattle.wire.specs.declared.message.Message.TheVariants as message
 use Rattle.server_core.specs.declared.event.Event.{Event}
 use Rattle.server_core.specs.declared.event.Event.TheVariants as event
 use Rattle.server_core.specs.declared.event.ServerStep.{ServerStep}
-use Rattle.file_tree.specs.Tree.{Tree}
+use Rattle.tree_reading.specs.Tree.{Tree}
 use Rattle.file_tree.specs.Step.{replace}
-use Rattle.file_tree.specs.declared.call.Changed.{Changed}
-use Rattle.file_tree.specs.declared.call.Held.{Held}
+use Rattle.tree_plans.specs.declared.call.Changed.{Changed}
+use Rattle.tree_plans.specs.declared.call.Held.{Held}
 use Rattle.stored_tree.specs.Stores.{stored}
 use Rattle.tree_calls.specs.Calling.{IsCalled}
 use Rattle.tree_calls.specs.Waiting.{with_committed, commits as tree_commits, commits_under as tree_commits_under, settles_under as tree_settles_under}
@@ -27,34 +27,12 @@ use Rattle.tree_calls.specs.declared.asked.Committing.{Committing}
 use Rattle.tree_calls.specs.declared.asked.Done.{Done}
 use Rattle.server_core.specs.declared.change.Wanted.TheVariants as wanted
 use Rattle.server_core.specs.declared.journal.Entry.{Entry}
-use Rattle.server_core.specs.Answers.{Node, hash_answer, chunks_told}
+use Rattle.chunk_calls.specs.Answers.{Node, hash_answer, chunks_told}
 use Rattle.server_core.specs.Closing.{to, at, entries_by, count_of, index_with, committed_by, settled_by, told_change, makes_change, makes_change_under, settles, settles_under}
 use Rattle.server_core.specs.Served.{IsServed}
 use Rattle.server_core.specs.State.{State, Change, held}
-use Rattle.server_core.specs.Step.{with_told, tells_hashes, got_if, stands, change_entered, chunks_got, chunks_of_change, chunks_if, chunks_called, has_room, missed_step, IsLacking, Lacks, MissesCall, Misses, nothing, lacks}
-
--- ---- a GETHASH
-
-pub tells_all : (s : State) (session xid : ℕ) (r : HashRange) (n : Result Node Status) (index : Indexed) (told : Answer Hashes Unit) (left : Bool) (o : ServerStep)
-    → told ≡ hash_answer n r → index ≡ with_told s.index (chunks_told n r) → o ≡ to session (message.Answer xid (body.Lb (lb.GetHashAnswer told))) → left ≡ false
-    → tells_hashes s session xid r n ≡ (record s { index = index }, record o { missed = left })
-tells_all s session xid r n index told left o is entered said none =
-    ap (λ (i : Indexed). (record s { index = i }, to session (message.Answer xid (body.Lb (lb.GetHashAnswer (hash_answer n r)))))) (sym entered)
-    ∙ ap (λ (a : Answer Hashes Unit). (record s { index = index }, to session (message.Answer xid (body.Lb (lb.GetHashAnswer a))))) (sym is)
-    ∙ ap (λ (x : ServerStep). (record s { index = index }, record x { missed = false })) (sym said)
-    ∙ ap (λ (b : Bool). (record s { index = index }, record o { missed = b })) (sym none)
-
-pub tells_some : (s : State) (session xid : ℕ) (r : HashRange) (n : Result Node Status) (index : Indexed) (told : Answer Hashes Unit) (left : Bool) (o : ServerStep)
-    → told ≡ hash_answer n r → IsLacking s.index (chunks_told n r) index → o ≡ to session (message.Answer xid (body.Lb (lb.GetHashAnswer told))) → left ≡ true
-    → Lacks s.index (chunks_told n r) (tells_hashes s session xid r n) (record s { index = index }) (record o { missed = left })
-tells_some s session xid r n index told left o is lack said some = (
-  index,
-  lack,
-  refl,
-  ap (λ (b : Bool). record o { missed = b }) some
-      ∙ ap (λ (x : ServerStep). record x { missed = true }) said
-      ∙ ap (λ (a : Answer Hashes Unit). record (to session (message.Answer xid (body.Lb (lb.GetHashAnswer a)))) { missed = true }) is,
-)
+use Rattle.chunk_calls.specs.Entering.{with_told, IsLacking}
+use Rattle.server_core.specs.Step.{tells_hashes, got_if, stands, change_entered, chunks_got, chunks_of_change, chunks_if, chunks_called, has_room, missed_step, Lacks, MissesCall, Misses, nothing, lacks}
 
 -- ---- a change that is made
 

@@ -2,7 +2,7 @@
 use Rattle.std.proofs.Common.{◌≡◌, refl, sym, subst, ℕ, List, Option, Some, None, Bool, true, false, arith}
 use Rattle.stored_tree.specs.Stores.{IsFault, Keeps}
 use Rattle.store.specs.declared.record.Kept.{Kept}
-use Rattle.file_tree.specs.Tree.{Tree}
+use Rattle.tree_reading.specs.Tree.{Tree}
 use Rattle.server_core.specs.declared.event.ServerStep.{ServerStep}
 use Rattle.server_core.specs.Served.{IsServed}
 use Rattle.server_core.specs.State.{State}
@@ -25,4 +25,4 @@ keeps_same old new t u same stays = subst (λ (o : Option (List Kept)). Keeps ol
   where
     by : (o : Option (List Kept)) → Keeps o t o t
     by None = refl
-    by (Some records) = (records, refl, λ k. k)
+    by (Some records) = (records, refl, record { stored = λ k. k; counted = omega arith; same = λ _. refl })

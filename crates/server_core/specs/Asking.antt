@@ -5,16 +5,10 @@ use Rattle.xdr_codec.specs.declared.status.Status.TheVariants as status
 use Rattle.hash_calls.specs.declared.call.Commit.{Commit}
 use Rattle.temp_files.specs.Pieces.{size_most}
 use Rattle.temp_files.specs.Temps.{Temp, without_temp, assembled}
-use Rattle.server_core.specs.Answers.{Node, directory, file, node_of}
+use Rattle.chunk_calls.specs.Answers.{Node, directory, file, node_of, target_in}
 use Rattle.server_core.specs.Closing.{has_waiting, is_full}
 use Rattle.server_core.specs.State.{State}
 use Rattle.server_core.specs.declared.change.Wanted.TheVariants as wanted
-
--- the id of the file that a handle names; a directory is none
-abbrev pub target_in : Result Node Status → Result ℕ Status
-target_in (Err e) = Err e
-target_in (Ok directory) = Err status.IsDir
-target_in (Ok (file f)) = Ok f.id
 
 -- the file that is to get what a temporary file comes to, or why it can't get it
 abbrev pub commit_target : State → (session size : ℕ) → Temp → Result ℕ Status → Result ℕ Status

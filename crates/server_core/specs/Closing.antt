@@ -19,29 +19,28 @@ use Rattle.wire.specs.declared.message.Body.{Body}
 use Rattle.wire.specs.declared.message.Body.TheVariants as body
 use Rattle.wire.specs.declared.message.Message.{Message}
 use Rattle.wire.specs.declared.message.Message.TheVariants as message
+use Rattle.wire.specs.declared.message.RpcRefusal.TheVariants as refusal
 use Rattle.temp_files.specs.Pieces.{size_most}
 use Rattle.temp_files.specs.Temps.{Temp, with_temp, without_temp, empty_temp, room_fault, piece_fault, with_piece, assembled}
+use Rattle.chunk_calls.specs.Writing.{done_unless, cond_fault, bytes_known}
 use Rattle.server_core.specs.declared.event.Sent.{Sent}
 use Rattle.server_core.specs.declared.event.ServerStep.{ServerStep}
 use Rattle.server_core.specs.declared.event.Told.TheVariants as told
 use Rattle.server_core.specs.declared.change.Wanted.{Wanted}
 use Rattle.server_core.specs.declared.change.Wanted.TheVariants as wanted
 use Rattle.server_core.specs.declared.journal.Entry.{Entry}
-use Rattle.server_core.specs.Answers.{Node, directory, file, node_of}
+use Rattle.chunk_calls.specs.Answers.{Node, directory, file, node_of}
 use Rattle.chunk_places.specs.Places.{indexed}
-use Rattle.server_core.specs.Indexing.{wanted_bytes, with_digest}
-use Rattle.server_core.specs.State.{State, Change, file_at, held, entries_held, bytes_held}
-use Rattle.file_tree.specs.Tree.{Tree}
-use Rattle.file_tree.specs.declared.entry.Entry.{Entry as TreeEntry}
+use Rattle.chunk_calls.specs.Indexing.{wanted_bytes, with_digest}
+use Rattle.server_core.specs.State.{State, Change, held, entries_held, bytes_held}
+use Rattle.chunk_calls.specs.Files.{file_at}
+use Rattle.tree_reading.specs.Tree.{Tree}
+use Rattle.tree_plans.specs.declared.entry.Entry.{Entry as TreeEntry}
 use Rattle.tree_calls.specs.Waiting.{commits_under as tree_commits_under, settles_under as tree_settles_under}
 use Rattle.tree_calls.specs.declared.asked.Committing.{Committing}
 use Rattle.tree_calls.specs.declared.asked.Done.{Done as Outcome}
 
 -- ---- limits
-
--- the most bytes that one CONDWRITE names
-abbrev pub cond_most : ℕ
-cond_most = PIECE_MOST
 
 -- the most bytes of the tree, with those of the changes that wait
 abbrev pub tree_most : ℕ
@@ -60,13 +59,13 @@ sends send = record { send = send; told = told.Nothing; entries = 0; missed = fa
 abbrev pub to : ℕ → Message → ServerStep
 to session m = sends (record { session = session; message = m } ∷ [])
 
+-- what is said of a call of LBFS that was looked at: a message that is none of its calls is refused
+abbrev pub told_if : (session xid : ℕ) → Option Lb → ServerStep
+told_if session xid None = to session (message.Refuse xid refusal.ProcUnavail)
+told_if session xid (Some m) = to session (message.Answer xid (body.Lb m))
+
 abbrev pub answers : State → (session xid : ℕ) → Lb → State × ServerStep
 answers s session xid b = (s, to session (message.Answer xid (body.Lb b)))
-
--- the answer of a call that has nothing else to tell than whether it was done
-abbrev pub done_unless : Option Status → Answer Unit Unit
-done_unless None = Done tt
-done_unless (Some e) = Failed e tt
 
 -- ---- MKTMPFILE
 
@@ -91,21 +90,6 @@ abbrev pub writes : State → (session xid : ℕ) → TempPiece → Option Temp 
 writes s session xid a t = writes_unless s session xid a t (piece_fault t a.offset (length a.bytes))
 
 -- ---- CONDWRITE
-
--- why it can't be done, before any bytes are looked for
-abbrev pub cond_fault : CondPiece → Option Temp → Option Status
-cond_fault a t =
-    if a.count == 0 || nat_lt cond_most a.count then Some status.Inval
-    else piece_fault t a.offset a.count
-
--- the bytes that a place has for it, which are compared with its digest
-abbrev pub bytes_found : Tree → CondPiece → Option Place → Option (List ℕ)
-bytes_found t a None = None
-bytes_found t a (Some p) = wanted_bytes (file_at t p.file) p a.count
-
--- the bytes that are known by its digest
-abbrev pub bytes_known : Tree → CondPiece → Option Place → Option (List ℕ)
-bytes_known t a p = with_digest a.digest (bytes_found t a p)
 
 abbrev pub names_bytes : State → (session xid : ℕ) → CondPiece → Option Temp → Option (List ℕ) → State × ServerStep
 names_bytes s session xid a (Some t) (Some bytes) = answers (record s { temps = with_temp s.temps (with_piece t a.offset bytes) }) session xid (lb.CondWriteAnswer (Done tt))

@@ -10,8 +10,8 @@ use Rattle.wire.specs.declared.message.Message.{Message}
 use Rattle.wire.specs.declared.message.Message.TheVariants as message
 use Rattle.chunk_index.specs.Index.{key_of, place_of}
 use Rattle.temp_files.specs.Temps.{temp_at}
-use Rattle.server_core.specs.Answers.{Node, file, node_of, told_chunks}
-use Rattle.server_core.specs.Closing.{cond_fault, bytes_found}
+use Rattle.chunk_calls.specs.Answers.{Node, file, node_of, told_chunks}
+use Rattle.chunk_calls.specs.Writing.{cond_fault, bytes_found}
 use Rattle.server_core.specs.State.{State}
 
 abbrev pub bytes_told : Result Node Status → HashRange → List (List ℕ)

@@ -17,7 +17,7 @@ use Rattle.server_core.specs.declared.event.Event.{Event}
 use Rattle.server_core.specs.declared.event.Event.TheVariants as event
 use Rattle.server_core.specs.declared.event.ServerStep.{ServerStep}
 use Rattle.server_core.specs.declared.event.Told.TheVariants as told
-use Rattle.server_core.specs.Answers.{attr_of}
+use Rattle.chunk_calls.specs.Answers.{attr_of}
 use Rattle.server_core.specs.Closing.{sends, to}
 use Rattle.tree_nodes.specs.declared.node.Body.TheVariants.{File as Content}
 use Rattle.server_core.specs.State.{State, empty}

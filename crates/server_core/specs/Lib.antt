@@ -1,6 +1,4 @@
-pub mod Indexing
 pub mod State
-pub mod Chunks
 pub mod Answers
 pub mod Closing
 pub mod Asking

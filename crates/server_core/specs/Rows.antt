@@ -19,11 +19,12 @@ use Rattle.server_core.specs.declared.event.Event.TheVariants as event
 use Rattle.server_core.specs.declared.event.ServerStep.{ServerStep}
 use Rattle.server_core.specs.declared.event.Told.TheVariants as told
 use Rattle.tree_nodes.specs.declared.node.Body.TheVariants.{File as Content}
-use Rattle.file_tree.specs.declared.entry.EntryKind.TheVariants as entry
-use Rattle.file_tree.specs.Tree.{root}
-use Rattle.server_core.specs.Answers.{attr_of, hashes_of}
+use Rattle.tree_plans.specs.declared.entry.EntryKind.TheVariants as entry
+use Rattle.tree_reading.specs.Tree.{root}
+use Rattle.chunk_calls.specs.Answers.{attr_of, hashes_of}
 use Rattle.server_core.specs.Closing.{sends, to}
-use Rattle.server_core.specs.State.{State, File, empty}
+use Rattle.server_core.specs.State.{State, empty}
+use Rattle.chunk_calls.specs.Files.{File}
 use Rattle.server_core.specs.Step.{server_step, server_step_under, opens_with}
 
 -- ---- a run

@@ -19,6 +19,7 @@ use Rattle.chunk_cut.specs.declared.chunk.Chunk.{Chunk}
 use Rattle.chunk_index.specs.Index.{Indexed, key_of, place_of, put, cleared}
 use Rattle.chunk_index.specs.declared.place.Place.{Place}
 use Rattle.temp_files.specs.Temps.{temp_at, without_session, room_fault, piece_fault}
+use Rattle.chunk_calls.specs.Entering.{with_told, IsLacking}
 use Rattle.server_core.specs.declared.event.Event.{Event}
 use Rattle.server_core.specs.declared.event.Event.TheVariants as event
 use Rattle.server_core.specs.declared.event.ServerStep.{ServerStep}
@@ -28,25 +29,22 @@ use Rattle.server_core.specs.declared.change.Wanted.TheVariants as wanted
 use Rattle.server_core.specs.State.{State, Change, empty, held}
 use Rattle.tree_nodes.specs.declared.node.Body.{Body as NodeBody}
 use Rattle.file_tree.specs.Opening.{opens}
-use Rattle.file_tree.specs.Tree.{Tree}
+use Rattle.tree_reading.specs.Tree.{Tree}
 use Rattle.tree_calls.specs.Waiting.{calls_under, enters, file_of, Takes, commits as tree_commits}
 use Rattle.tree_calls.specs.declared.asked.Done.{Done}
 use Rattle.tree_calls.specs.declared.asked.Outcome.{Outcome}
 use Rattle.tree_calls.specs.declared.asked.Outcome.TheVariants.{Answered, Waits}
-use Rattle.server_core.specs.Answers.{Node, file, node_of, lease_answer, hash_answer, chunks_told, read_answer}
+use Rattle.chunk_calls.specs.Answers.{Node, file, node_of, lease_answer, hash_answer, chunks_told, IsFile}
+use Rattle.server_core.specs.Answers.{read_answer}
 use Rattle.server_core.specs.Asking.{CanWait}
-use Rattle.server_core.specs.Closing.{sends, to, at, has_waiting, entries_by, count_of, makes, writes, names, cond_fault, bytes_known, looked_up, commits, settles_under}
+use Rattle.server_core.specs.Closing.{sends, to, at, has_waiting, entries_by, count_of, makes, writes, names, looked_up, commits, settles_under}
+use Rattle.chunk_calls.specs.Writing.{cond_fault, bytes_known}
 use Rattle.chunk_places.specs.Places.{indexed, LeavesSome}
 
 -- ---- a message
 
 abbrev pub says : State → (session xid : ℕ) → Body → State × ServerStep
 says s session xid b = (s, to session (message.Answer xid b))
-
--- the places of chunks of a file that are told enter the index
-abbrev pub with_told : Indexed → Option (ℕ × List Chunk) → Indexed
-with_told index None = index
-with_told index (Some e) = indexed index e.0 e.1
 
 -- what a GETHASH is told; it changes the index alone
 abbrev pub tells_hashes : State → (session xid : ℕ) → HashRange → Result Node Status → State × ServerStep
@@ -211,16 +209,6 @@ abbrev pub chunks_entered : State → Event → Option (ℕ × List Chunk)
 chunks_entered s (event.Got session (message.Call xid b) now) = chunks_if (stands s session) (chunks_called s b)
 chunks_entered s (event.Settle now) = chunks_of_change s s.waiting
 chunks_entered s e = None
-
--- an index that lacks at least one of the places that it was to gain
-abbrev pub IsLacking : Indexed → Option (ℕ × List Chunk) → Indexed → Type 0
-IsLacking index None new = ⊥
-IsLacking index (Some e) new = LeavesSome index e.0 e.1 new
-
--- a handle names a file
-abbrev pub IsFile : Result Node Status → Type 0
-IsFile (Ok (file f)) = Unit {0}
-IsFile n = ⊥
 
 -- The calls that take memory: those that give chunks or bytes of a file, a handle or names, and those that keep something. One that is refused, or answered by a
 -- failure, takes none.

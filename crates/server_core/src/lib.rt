@@ -4,13 +4,10 @@
 //! out, each to a session. One event is one atomic step.
 #![tactic(auto)]
 
-mod answers;
 pub mod change;
 mod closing;
 pub mod event;
 mod hanging;
-mod hashes;
-mod indexing;
 pub mod journal;
 mod naming;
 pub mod server;

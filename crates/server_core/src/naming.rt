@@ -18,12 +18,12 @@ use crate::settling::enter_both;
 use crate::state::ServerState;
 use crate::steps::{answer, nothing, refuse};
 use crate::waiting::{has_waiting, held};
-use file_tree::call::Held;
 use nfs3_calls::message::Nfs;
 use std::alloc::{AllocError, Global};
 use store::store::Store;
 use tree_calls::asked::{Done, Outcome};
 use tree_calls::{calls, entering};
+use tree_plans::call::Held;
 use wire::message::{Body, RpcRefusal};
 
 impl ServerState {

@@ -7,7 +7,7 @@ ghost use Rattle.server_core.specs.State.{empty, entries_held};
 ghost use Rattle.server_core.specs.Step.{server_step, server_step_under, with_tree, opens_with, forges, clears_index, IsTimed, Misses};
 ghost use Rattle.stored_tree.specs.Stores.{Keeps};
 ghost use Rattle.file_tree.specs.Opening.{can_open};
-ghost use Rattle.file_tree.specs.Reading.{stands_for};
+ghost use Rattle.tree_reading.specs.Reading.{stands_for};
 
 use crate::event::{Event, ServerStep};
 use crate::journal::Entry;
@@ -15,7 +15,6 @@ use crate::state::ServerState;
 use crate::unkept::NoStore;
 use crate::waiting::has_waiting;
 use chunk_index::place::Place;
-use file_tree::call::Standing;
 use file_tree::tree::Tree;
 use lb_base::items::Name;
 use std::alloc::{AllocError, Global};
@@ -23,6 +22,7 @@ use std::marker::Model;
 use store::store::Store;
 use temp_files::temps::Temps;
 use tree_nodes::node::Body;
+use tree_reading::reading::Standing;
 
 /// A server of a tree of files and directories.
 #[derive(Drop)]

@@ -7,21 +7,22 @@ ghost use Rattle.tree_calls.specs.Calling.{IsCalled};
 ghost use Rattle.tree_calls.specs.Waiting.{commits_under, entries_of};
 ghost use Rattle.server_core.specs.Closing.{settles, settles_under, makes_change, makes_change_under, index_with, entered_by, one_if, entries_by, count_of};
 ghost use Rattle.server_core.specs.Served.{IsServed};
-ghost use Rattle.server_core.specs.State.{chunks_at, file_at, entries_held, entries_wanted};
-ghost use Rattle.server_core.specs.Step.{with_told, Lacks, IsLacking, chunks_got, chunks_of_change, change_entered};
+ghost use Rattle.server_core.specs.State.{entries_held, entries_wanted};
+ghost use Rattle.server_core.specs.Step.{Lacks, chunks_got, chunks_of_change, change_entered};
+ghost use Rattle.chunk_calls.specs.Entering.{IsLacking};
 ghost use Rattle.server_core.specs.View.{state_of, IsBounded, IsSettling};
 ghost use Rattle.server_core.specs.declared.event.Told.TheVariants as told;
 ghost use Rattle.server_core.specs.declared.change.Wanted.TheVariants as wanted;
 
-use crate::change::{Change, ContentPair, Wanted};
+use crate::change::{Change, Wanted};
 use crate::event::{Sent, ServerStep, Told};
 use crate::journal::Entry;
 use crate::state::ServerState;
 use crate::steps;
 use crate::waiting::held;
+use chunk_calls::contents::ContentPair;
+use chunk_calls::entering::enter_content;
 use chunk_index::index::Index;
-use file_tree::call::Held;
-use file_tree::entry::Entry as TreeEntry;
 use file_tree::tree::Tree;
 use hash_calls::message::Lb;
 use send_list::SendList;
@@ -29,7 +30,8 @@ use std::alloc::Global;
 use store::store::Store;
 use tree_calls::asked::{Asked, Committing, Done};
 use tree_calls::settling;
-use tree_nodes::node::Body as NodeBody;
+use tree_plans::call::Held;
+use tree_plans::entry::Entry as TreeEntry;
 use wire::message::{Body, Message};
 use xdr_codec::answer::Answer;
 
@@ -84,21 +86,6 @@ fn tell_change(alloc: Global, session: u32, xid: u32, entries: u32, body: Body) 
         told: Told::Settled { session, xid },
         entries,
         missed: false,
-    }
-}
-
-/// Puts the chunks of a file into the index. A place for which memory is wanting is left out; says
-/// whether one was.
-fn enter_content(index: &mut Index, tree: &Tree, file: u64) -> bool
-    ensures all { result ≡ false → index.new ≡ with_told index.old (chunks_at file (file_at tree.now.tree file)) }
-    ensures lacks { result ≡ true → IsLacking index.old (chunks_at file (file_at tree.now.tree file)) index.new }
-{
-    let Some(node) = tree.node(file) else {
-        return false;
-    };
-    match &node.body {
-        NodeBody::Directory => false,
-        NodeBody::File(content) => chunk_places::enter(index, file, content.chunks()),
     }
 }
 

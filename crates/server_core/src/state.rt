@@ -7,34 +7,31 @@ ghost use Rattle.hash_calls.specs.declared.message.Lb.TheVariants as lb;
 ghost use Rattle.wire.specs.declared.message.Body.TheVariants as body;
 ghost use Rattle.wire.specs.declared.message.Message.TheVariants as message;
 ghost use Rattle.wire.specs.declared.message.RpcRefusal.TheVariants as refusal;
-ghost use Rattle.server_core.specs.Closing.{at, sends, to};
-ghost use Rattle.server_core.specs.Answers.{node_of, chunks_told};
+ghost use Rattle.server_core.specs.Closing.{at, sends, to, told_if};
+ghost use Rattle.chunk_calls.specs.Calling.{commits};
 ghost use Rattle.stored_tree.specs.Stores.{Keeps};
 ghost use Rattle.server_core.specs.Served.{IsServed};
 ghost use Rattle.server_core.specs.State.{entries_held};
-ghost use Rattle.server_core.specs.Step.{server_step_under, called, called_under, got_if_under, stands, connect, has_room, opens_with, tells_hashes, chunks_called, IsTimed, missed_call, TakesMemory, Lacks, MissesCall, Misses};
+ghost use Rattle.server_core.specs.Step.{server_step_under, called, called_under, got_if_under, stands, connect, has_room, opens_with, chunks_called, IsTimed, missed_call, TakesMemory, Lacks, MissesCall, Misses};
 ghost use Rattle.server_core.specs.View.{state_of, IsBounded};
 ghost use Rattle.server_core.specs.declared.event.Event.TheVariants as event;
 ghost use Rattle.server_core.specs.declared.event.Told.TheVariants as told;
 
 use crate::change::Change;
 use crate::event::{Event, ServerStep, Told};
-use crate::hashes;
 use crate::journal::Entry;
 use crate::steps::{self, answer, refuse};
+use chunk_calls::calls::{self, Outcome};
 use chunk_index::index::Index;
 use file_tree::tree::Tree;
-use hash_calls::call::HashRange;
 use hash_calls::message::Lb;
 use lb_base::items::Name;
 use limits::{SESSIONS_EVER_MOST, SESSIONS_MOST};
 use std::alloc::{AllocError, Global};
 use store::store::Store;
 use temp_files::temps::Temps;
-use tree_calls::telling;
 use tree_nodes::node::Body as NodeBody;
 use wire::message::{Body, Message, RpcRefusal};
-use xdr_codec::handle::Handle;
 
 /// A server's fields.
 #[derive(Drop)]
@@ -62,6 +59,16 @@ pub fn stands(sessions: &Vec<u32>, session: u32) -> bool
     ensures { result ≡ list_any (λ k. k == session) sessions.now.items }
 {
     sessions.contains(&session)
+}
+
+/// What is said of a call of LBFS that was looked at.
+fn tell(alloc: Global, session: u32, xid: u32, told: Option<Lb>) -> ServerStep
+    ensures { result ≡ told_if session xid told }
+{
+    match told {
+        Some(told) => answer(alloc, session, xid, Body::Lb(told)),
+        None => refuse(alloc, session, xid, RpcRefusal::ProcUnavail),
+    }
 }
 
 impl ServerState {
@@ -231,47 +238,43 @@ impl ServerState {
         ensures later { S.faults store.old ≤ S.faults store.new }
     {
         match call {
-            Lb::Null => Ok(answer(alloc, session, xid, Body::Lb(Lb::NullAnswer))),
-            Lb::GetLease(handle) => Ok(self.tell_lease(alloc, session, xid, handle)),
-            Lb::GetHash(range) => self.tell_hashes(alloc, session, xid, range),
-            Lb::MkTmpFile(new) => self.make_temp(alloc, session, xid, new),
-            Lb::TmpWrite(piece) => self.write_temp(alloc, session, xid, piece),
-            Lb::CondWrite(piece) => self.cond_write(alloc, session, xid, piece),
             Lb::CommitTmp(commit) => self.commit(alloc, store, session, xid, commit),
-            _ => Ok(refuse(alloc, session, xid, RpcRefusal::ProcUnavail)),
+            _ => self.call_chunks(alloc, session, xid, call),
         }
     }
 
-    /// A GETLEASE.
-    fn tell_lease(&self, alloc: Global, session: u32, xid: u32, handle: &Handle) -> ServerStep
-        requires { IsBounded self.now }
-        ensures ok { called (state_of self.now) session xid (body.Lb (lb.GetLease handle.now)) ≡ (state_of self.now, result) }
-        ensures done { result.missed ≡ false }
-    {
-        let told = telling::lease_answer(&self.tree, handle, 0);
-        answer(alloc, session, xid, Body::Lb(Lb::GetLeaseAnswer(told)))
-    }
-
-    /// A GETHASH. An `Err` changes nothing.
-    fn tell_hashes(
+    /// A call of LBFS but COMMITTMP. An `Err` changes nothing, but for a look-up.
+    #[tactic(auto, using(crate::proofs::Delegated::takes_memory, crate::proofs::Delegated::missed_is))]
+    fn call_chunks(
         &mut self,
         alloc: Global,
         session: u32,
         xid: u32,
-        range: &HashRange,
+        call: &mut Lb,
     ) -> Result<ServerStep, AllocError>
-        requires { IsBounded self.old }
-        ensures ok { IfOk result (λ o. o.missed ≡ false → tells_hashes (state_of self.old) session xid range.now (node_of (state_of self.old).tree range.now.handle) ≡ (state_of self.new, o)) }
-        ensures lacks { IfOk result (λ o. o.missed ≡ true → Lacks (state_of self.old).index (chunks_told (node_of (state_of self.old).tree range.now.handle) range.now) (tells_hashes (state_of self.old) session xid range.now (node_of (state_of self.old).tree range.now.handle)) (state_of self.new) o) }
-        ensures err { OnErr result (state_of self.new ≡ state_of self.old) }
-        ensures takes { OnErr result (TakesMemory (state_of self.old) session (body.Lb (lb.GetHash range.now))) }
+        requires bounded { IsBounded self.old }
+        requires other { commits call.old ≡ false }
+        ensures ok { IfOk result (λ o. o.missed ≡ false → called (state_of self.old) session xid (body.Lb call.old) ≡ (state_of self.new, o)) }
+        ensures lacks { IfOk result (λ o. o.missed ≡ true → Lacks (state_of self.old).index (chunks_called (state_of self.old) (body.Lb call.old)) (called (state_of self.old) session xid (body.Lb call.old)) (state_of self.new) o) }
+        ensures err { OnErr result (state_of self.new ≡ missed_call (state_of self.old) (body.Lb call.old)) }
+        ensures takes { OnErr result (TakesMemory (state_of self.old) session (body.Lb call.old)) }
         ensures bounded { IsBounded self.new }
         ensures tree { self.new.tree ≡ self.old.tree }
         ensures waiting { self.new.waiting.items ≡ self.old.waiting.items }
     {
-        let told = hashes::hash_answer(alloc, &self.tree, range)?;
-        let left_out = hashes::enter_told(&mut self.index, &self.tree, range);
-        let mut step = answer(alloc, session, xid, Body::Lb(Lb::GetHashAnswer(told)));
+        let outcome = calls::call(
+            alloc,
+            &self.tree,
+            &mut self.temps,
+            &mut self.index,
+            session,
+            call,
+        )?;
+        let Outcome {
+            answer: told,
+            left_out,
+        } = outcome;
+        let mut step = tell(alloc, session, xid, told);
         step.missed = left_out;
         Ok(step)
     }

@@ -2,8 +2,8 @@
 use Rattle.std.proofs.Common.{Bool, true, false, Ok, Err, Result, ◌==◌, if◌then◌else◌}
 use Rattle.xdr_codec.specs.declared.status.Status.{Status}
 use Rattle.xdr_codec.specs.declared.status.Status.TheVariants as status
-use Rattle.file_tree.specs.Tree.{Tree}
-use Rattle.file_tree.specs.declared.call.Changed.{Changed}
+use Rattle.tree_reading.specs.Tree.{Tree}
+use Rattle.tree_plans.specs.declared.call.Changed.{Changed}
 use Rattle.stored_tree.specs.Stores.{stored}
 
 -- what holds of the step, and where IO is told and the tree stays, holds however the store does

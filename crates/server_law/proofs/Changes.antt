@@ -6,16 +6,17 @@ use Rattle.xdr_codec.specs.declared.status.Status.{Status}
 use Rattle.xdr_codec.specs.declared.status.Status.TheVariants as status
 use Rattle.tree_nodes.specs.declared.node.Node.{Node}
 use Rattle.tree_nodes.specs.Nodes.{named}
-use Rattle.file_tree.specs.Chain.{◌>>=◌}
-use Rattle.file_tree.specs.Names.{spelt, undotted}
-use Rattle.file_tree.specs.Tree.{Tree, node_of, directory_or, or_no_entry}
-use Rattle.file_tree.specs.Step.{Target, itself, over, nothing, move_done, may_create, create_plan, created, create, may_mkdir, mkdir_if, mkdir, remove_if, remove_plan, remove, rmdir_plan, rmdir, is_same, or_within, rename_over, rename_found, planned, planned_found, rename_plan, shifted, moved, rename_if, rename, replace_plan, replace_if, replace, removed, spared, may_replace}
-use Rattle.file_tree.specs.declared.call.Changed.{Changed}
-use Rattle.file_tree.specs.declared.call.CreateMode.{CreateMode}
-use Rattle.file_tree.specs.declared.call.Held.{Held}
-use Rattle.file_tree.specs.declared.call.Planned.{Planned}
-use Rattle.file_tree.specs.declared.call.Planned.TheVariants as planned_as
-use Rattle.file_tree.proofs.Admitted.{IsPlannedGone, remove_there, rmdir_there, rename_there}
+use Rattle.tree_reading.specs.Chain.{◌>>=◌}
+use Rattle.tree_reading.specs.Names.{spelt, undotted}
+use Rattle.tree_reading.specs.Tree.{Tree, node_of, directory_or, or_no_entry}
+use Rattle.tree_plans.specs.Plans.{Target, itself, over, nothing, move_done, may_create, create_plan, may_mkdir, remove_plan, rmdir_plan, is_same, or_within, rename_over, rename_found, planned, planned_found, rename_plan, replace_plan, spared, may_replace}
+use Rattle.file_tree.specs.Step.{created, create, mkdir_if, mkdir, remove_if, remove, rmdir, shifted, moved, rename_if, rename, replace_if, replace, removed}
+use Rattle.tree_plans.specs.declared.call.Changed.{Changed}
+use Rattle.tree_plans.specs.declared.call.CreateMode.{CreateMode}
+use Rattle.tree_plans.specs.declared.call.Held.{Held}
+use Rattle.tree_plans.specs.declared.call.Planned.{Planned}
+use Rattle.tree_plans.specs.declared.call.Planned.TheVariants as planned_as
+use Rattle.tree_plans.proofs.Admitted.{IsPlannedGone, remove_there, rmdir_there, rename_there}
 use Rattle.file_tree.proofs.States.{named_id}
 use Rattle.server_law.proofs.Facts.{IsTelling, tells_none, tells_file, tells_directory, tells_removed, tells_replaced, tells_moved, tells_over}
 use Rattle.server_law.proofs.TreeCalls.{bind_ok, ok_is, create_in, mkdir_in, remove_in, rmdir_in, rename_in, replace_in, no_file_in, HasDirectory}

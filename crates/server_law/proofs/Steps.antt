@@ -17,8 +17,8 @@ use Rattle.wire.specs.declared.message.Message.{Message}
 use Rattle.wire.specs.declared.message.Message.TheVariants as message
 use Rattle.temp_files.specs.Pieces.{size_most}
 use Rattle.temp_files.specs.Temps.{Temp, temp_at, room_fault, piece_fault, without_temp, assembled}
-use Rattle.file_tree.specs.Tree.{Tree}
-use Rattle.file_tree.specs.declared.entry.Entry.{Entry as TreeEntry}
+use Rattle.tree_reading.specs.Tree.{Tree}
+use Rattle.tree_plans.specs.declared.entry.Entry.{Entry as TreeEntry}
 use Rattle.tree_calls.specs.declared.asked.Outcome.{Outcome}
 use Rattle.tree_calls.specs.declared.asked.Outcome.TheVariants.{Answered, Waits}
 use Rattle.tree_calls.specs.Waiting.{calls_under, commits_under as tree_commits_under, settles_under as tree_settles_under}
@@ -27,8 +27,9 @@ use Rattle.server_core.specs.declared.change.Wanted.TheVariants as wanted
 use Rattle.server_core.specs.declared.event.Event.{Event}
 use Rattle.server_core.specs.declared.event.Event.TheVariants as event
 use Rattle.server_core.specs.declared.journal.Entry.{Entry}
-use Rattle.server_core.specs.Answers.{Node, directory, file, node_of}
-use Rattle.server_core.specs.Closing.{answers, sends, at, entries_by, has_waiting, is_full, makes, makes_unless, writes, writes_unless, names, names_unless, names_bytes, looked_up, cond_fault, commits, commits_to, commits_whole, makes_change_under, settles_under}
+use Rattle.chunk_calls.specs.Answers.{Node, directory, file, node_of}
+use Rattle.server_core.specs.Closing.{answers, sends, at, entries_by, has_waiting, is_full, makes, makes_unless, writes, writes_unless, names, names_unless, names_bytes, looked_up, commits, commits_to, commits_whole, makes_change_under, settles_under}
+use Rattle.chunk_calls.specs.Writing.{cond_fault}
 use Rattle.server_core.specs.declared.change.Change.{Change}
 use Rattle.server_core.specs.State.{State, held}
 use Rattle.server_core.specs.Step.{connect, has_room, called_under, asks, asks_tree, got_under, got_if_under, stands, hangs_if, server_step_under}

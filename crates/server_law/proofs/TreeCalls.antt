@@ -10,16 +10,17 @@ use Rattle.tree_nodes.specs.declared.node.Node.{Node}
 use Rattle.tree_nodes.specs.declared.node.Body.{Body}
 use Rattle.tree_nodes.specs.declared.node.Body.TheVariants.{Directory, File as Plain}
 use Rattle.tree_nodes.specs.Nodes.{with_id, named}
-use Rattle.file_tree.specs.Chain.{◌>>=◌}
-use Rattle.file_tree.specs.Names.{spelt, undotted}
-use Rattle.file_tree.specs.declared.call.Changed.{Changed}
-use Rattle.file_tree.specs.declared.call.CreateMode.{CreateMode}
-use Rattle.file_tree.specs.declared.call.Held.{Held}
-use Rattle.file_tree.specs.declared.call.Planned.{Planned}
-use Rattle.file_tree.specs.declared.call.Planned.TheVariants as planned
-use Rattle.file_tree.specs.Tree.{Tree, is_directory, contents_size, node_of, or_stale, directory_or, directory_of, file_or, or_no_entry, or_taken}
-use Rattle.file_tree.specs.Step.{changes_most, file_most, tree_most, replaced, spared, may_create, create_plan, create_mode, nothing, create, created as create_made, new_file, new_directory, may_mkdir, mkdir, mkdir_if, may_remove, remove_done, remove_plan, remove_if, remove, may_rmdir, rmdir_plan, rmdir, or_not_empty, rename_plan, planned_found, shifted, rename_if, rename, within_file, spared_bytes, may_replace_content, replace_plan, replace_if, replace, commit_entry}
-use Rattle.file_tree.proofs.Admitted.{rename_there}
+use Rattle.tree_reading.specs.Chain.{◌>>=◌}
+use Rattle.tree_reading.specs.Names.{spelt, undotted}
+use Rattle.tree_plans.specs.declared.call.Changed.{Changed}
+use Rattle.tree_plans.specs.declared.call.CreateMode.{CreateMode}
+use Rattle.tree_plans.specs.declared.call.Held.{Held}
+use Rattle.tree_plans.specs.declared.call.Planned.{Planned}
+use Rattle.tree_plans.specs.declared.call.Planned.TheVariants as planned
+use Rattle.tree_reading.specs.Tree.{Tree, is_directory, contents_size, node_of, or_stale, directory_or, directory_of, file_or, or_no_entry, or_taken, changes_most, file_most, tree_most}
+use Rattle.tree_plans.specs.Plans.{spared, may_create, create_plan, create_mode, nothing, may_mkdir, may_remove, remove_done, remove_plan, may_rmdir, rmdir_plan, or_not_empty, rename_plan, planned_found, within_file, spared_bytes, may_replace_content, replace_plan, commit_entry}
+use Rattle.file_tree.specs.Step.{replaced, create, created as create_made, new_file, new_directory, mkdir, mkdir_if, remove_if, remove, rmdir, shifted, rename_if, rename, replace_if, replace}
+use Rattle.tree_plans.proofs.Admitted.{rename_there}
 use Rattle.file_tree.proofs.States.{named_id}
 use Rattle.nfs3_calls.specs.declared.message.Nfs.{Nfs}
 use Rattle.nfs3_calls.specs.declared.message.Nfs.TheVariants as nfs
@@ -31,7 +32,8 @@ use Rattle.tree_calls.specs.Changing.{mode_of}
 use Rattle.stored_tree.specs.Stores.{stored}
 use Rattle.tree_calls.specs.Waiting.{commits, commits_under, with_committed, settles, settles_under, removes_if_under, renames_if_under, remove_again, rename_again, calls, calls_under, creates_in_under, mkdirs_in_under, rmdirs_in_under, renaming_under, asks_rename, renames_in_under}
 use Rattle.server_core.specs.declared.change.Change.{Change}
-use Rattle.server_core.specs.State.{File, file_of_body, file_of_node, file_at, entries_wanted, size_wanted, entries_held, waiting_size}
+use Rattle.chunk_calls.specs.Files.{File, file_of_body, file_of_node, file_at}
+use Rattle.server_core.specs.State.{entries_wanted, size_wanted, entries_held, waiting_size}
 use Rattle.server_law.proofs.Asked.{asked_holds}
 use Rattle.server_law.proofs.Trees.{file_node, NoFile, no_file, Keeps, keeps_same, made_keeps, removed_keeps, replaced_keeps, moved_keeps}
 

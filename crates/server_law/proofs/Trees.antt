@@ -10,13 +10,14 @@ use Rattle.tree_nodes.specs.declared.node.Body.TheVariants.{Directory, File as P
 use Rattle.tree_nodes.specs.Nodes.{with_id, with_node, without, versioned}
 use Rattle.tree_nodes.specs.View.{NodesState}
 use Rattle.tree_nodes.proofs.Lists.{with_id_with, with_id_without, with_id_changed}
-use Rattle.file_tree.specs.Tree.{Tree, is_directory, content_of, contents_size}
-use Rattle.file_tree.specs.Step.{changes_most, file_most, tree_most, made, removed, placed, moved_at, moved, replaced}
-use Rattle.file_tree.specs.View.{IsNodeBounded, AreIdsApart, IsWithinLimits}
-use Rattle.file_tree.proofs.Found.{found_all}
+use Rattle.tree_reading.specs.Tree.{Tree, is_directory, content_of, contents_size, changes_most, file_most, tree_most}
+use Rattle.file_tree.specs.Step.{made, removed, placed, moved_at, moved, replaced}
+use Rattle.tree_reading.specs.View.{IsNodeBounded}
+use Rattle.file_tree.specs.View.{AreIdsApart, IsWithinLimits}
+use Rattle.tree_reading.proofs.Found.{found_all}
 use Rattle.file_tree.proofs.Limits.{all_map, all_with, all_filter, all_changed, apart_with, apart_without, apart_changed, counted, limits_refilled, size_changed}
 use Rattle.file_tree.proofs.States.{id_is}
-use Rattle.server_core.specs.State.{File, file_of_body, file_of_node, file_at}
+use Rattle.chunk_calls.specs.Files.{File, file_of_body, file_of_node, file_at}
 pub use Rattle.server_law.specs.Facts.{IsGiven}
 
 -- ---- what always holds

@@ -1,7 +1,7 @@
 //! The law of the server alone (`specs/Facts.antt`).
 
 ghost use Rattle.std.specs.Prelude.{◌≡◌, ℕ, [], List, Bool};
-ghost use Rattle.file_tree.specs.Tree.{Tree};
+ghost use Rattle.tree_reading.specs.Tree.{Tree};
 ghost use Rattle.server_core.specs.declared.event.Event.{Event};
 ghost use Rattle.server_core.specs.State.{State};
 ghost use Rattle.server_core.specs.Step.{server_step_under};

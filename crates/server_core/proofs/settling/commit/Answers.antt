@@ -5,7 +5,8 @@ use Rattle.chunk_cut.specs.Chunks.{chunks_of}
 use Rattle.chunk_places.specs.Places.{indexed}
 use Rattle.chunk_cut.specs.declared.chunk.Chunk.{Chunk}
 use Rattle.server_core.specs.Closing.{index_with}
-use Rattle.server_core.specs.Step.{with_told, chunks_got, IsLacking}
+use Rattle.chunk_calls.specs.Entering.{with_told, IsLacking}
+use Rattle.server_core.specs.Step.{chunks_got}
 use Rattle.server_core.proofs.Got.{got_places}
 use Rattle.server_core.proofs.settling.commit.Goals as goal
 

@@ -2,8 +2,7 @@ use Rattle.std.proofs.Common.{◌≡◌, Some, ◌∙◌, ap, sym, Option}
 use Rattle.std.specs.Prelude.{is_some}
 use Rattle.std.specs.Option.{option_copied}
 use Rattle.temp_files.specs.Temps.{Temp, temp_at, whole_of, assembled}
-use Rattle.server_core.specs.Answers.{node_of}
-use Rattle.server_core.specs.Asking.{target_in}
+use Rattle.chunk_calls.specs.Answers.{node_of, target_in}
 use Rattle.server_core.specs.View.{state_of}
 use Rattle.server_core.proofs.Closes.{commit_refused, commit_taken, target_fits, there}
 use Rattle.server_core.proofs.state.ServerState.commit.Goals as goal

@@ -1,7 +1,0 @@
-use Rattle.std.specs.Prelude.{◌++◌}
-use Rattle.temp_files.specs.Pieces.{all_bytes}
-use Rattle.server_core.proofs.Cuttings.{IsCut}
-use Rattle.server_core.proofs.answers.cut_pieces.Given as goal
-
-abbrev pub invariant-loop-at : goal.invariant-loop-at
-invariant-loop-at l = IsCut l.cutter l.chunks (all_bytes l._at-iterator) (l.front ++ all_bytes l.fn.pieces.entries)

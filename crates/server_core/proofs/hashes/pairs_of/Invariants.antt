@@ -1,7 +1,0 @@
-use Rattle.std.proofs.Common.{◌≡◌, map, take}
-use Rattle.server_core.specs.Answers.{pair_of}
-use Rattle.server_core.proofs.hashes.pairs_of.Given as goal
-
--- the pairs of the chunks so far
-abbrev pub invariant-loop-chunk : goal.invariant-loop-chunk
-invariant-loop-chunk l = l.pairs.items ≡ map pair_of (take l.chunk-index l.chunks)
