@@ -1,5 +1,5 @@
 -- Why an operation ended as it did: for each outcome what must have happened.
-use Rattle.std.specs.Prelude.{◌≡◌, ℕ, zero, suc, ◌+◌, ◌<◌, ◌≤◌, List, [], ◌∷◌, length, take, ◌⊎◌, Bool, true, false, ◌&&◌, ◌==◌, nat_lt, nat_le, Option, Some, None, Ok, IsSome, Contains, option_map, slice_get, if◌then◌else◌}
+use Rattle.std.specs.Prelude.{◌≡◌, ℕ, zero, suc, ◌+◌, ◌<◌, ◌≤◌, List, [], ◌∷◌, length, take, ◌⊎◌, Bool, true, false, ◌&&◌, ◌==◌, nat_lt, nat_le, Option, Some, None, Ok, Contains, option_map, slice_get, if◌then◌else◌}
 use Rattle.std.specs.List.{list_any}
 use Rattle.sha1.specs.Sha1.{sha1}
 use Rattle.command_text.specs.Content.{content_length, content_bytes}
@@ -9,14 +9,12 @@ use Rattle.command_text.specs.declared.path.PathCommand.{PathCommand}
 use Rattle.command_text.specs.declared.path.PathCommand.TheVariants as path
 use Rattle.command_text.specs.declared.path.Spot.{Spot}
 use Rattle.tree_nodes.specs.declared.node.Node.{Node}
-use Rattle.file_tree.specs.Tree.{directory_of}
+use Rattle.tree_reading.specs.Tree.{directory_of}
 use Rattle.hash_calls.specs.declared.call.Commit.{Commit}
 use Rattle.hash_calls.specs.declared.message.Lb.TheVariants as lb
 use Rattle.wire.specs.Parse.{parse_of}
-use Rattle.wire.specs.declared.message.Body.{Body}
 use Rattle.wire.specs.declared.message.Body.TheVariants as body
 use Rattle.wire.specs.declared.message.Message.TheVariants as message
-use Rattle.client_state.specs.State.{pending, has_call}
 use Rattle.client_state.specs.Local.{local_most, written_size, written, truncated, part_of}
 use Rattle.server_core.specs.Closing.{is_full}
 use Rattle.server_core.specs.declared.journal.Entry.{Entry}
@@ -24,10 +22,11 @@ use Rattle.register_model.specs.Register.{Absent}
 use Rattle.register_model.specs.declared.op.Op.{Op}
 use Rattle.register_model.specs.declared.op.Outcome.{Outcome}
 use Rattle.register_model.specs.declared.op.Outcome.TheVariants as told
-use Rattle.trace_replay.specs.Core.{Seat, Event.Cuts, Event.Serves, numbered, server_waiting}
+use Rattle.trace_ends.specs.Core.{Event.Cuts, Event.Serves, server_waiting}
 use Rattle.trace_replay.specs.Trail.{Deed, Moment, step_of}
 use Rattle.trace_replay.specs.Book.{Book, Or, value_at, version_at}
-use Rattle.trace_replay.specs.Naming.{tree_at, IsInside, FindsFile, IsSeen, IsRootSeen, IsListed, ListsTooLong, NameDone, IsRefused}
+use Rattle.trace_replay.specs.OwnCalls.{WaitsFor}
+use Rattle.trace_replay.specs.Naming.{tree_at, IsInside, HasFound, IsSeen, IsRootSeen, IsListed, ListsTooLong, NameDone, IsRefused}
 
 -- ---- local contents
 
@@ -116,25 +115,6 @@ can_ask joined calls = joined && nat_le (calls + 1000000) 4294967295
 abbrev pub Within : Op → (point : ℕ) → Type 0
 Within o p = (o.point ≡ Some p) × (o.begin ≤ p) × ((e : ℕ) × (o.end ≡ Some e) × (p ≤ e))
 
--- At a moment a client is at this session, and its operation under way waits for the answer to the call of this number there.
-pub record WaitsFor (m : Moment) (client session xid : ℕ) : Type 0 where
-  pub seat : Seat
-  pub seat_is : numbered m.before.seats client ≡ Some seat
-  pub newest : seat.session ≡ Some session
-  pub own : has_call (pending seat.client.task) xid ≡ true
-
--- In this step the server took this call, of this number, and the operation under way of the client waited for its answer.
-pub record TakesCall (book : Book) (client step xid : ℕ) (call : Body) : Type 0 where
-  pub moment : Moment
-  pub there : Contains book.moments moment
-  pub step_is : step_of moment ≡ step
-  pub session : ℕ
-  pub now : ℕ
-  pub bytes : List ℕ
-  pub event_is : moment.event ≡ Serves session now bytes
-  pub parsed : parse_of server_waiting bytes ≡ Ok (message.Call xid call)
-  pub waits : WaitsFor moment client session xid
-
 -- an open got the content that its file had at its point (`HasPoint` says which step that is)
 pub record IsOpened (book : Book) (file : ℕ) (o : Op) (len : ℕ) (digest : List ℕ) : Type 0 where
   pub length_is : len ≡ length o.value
@@ -202,9 +182,13 @@ pub record IsDirectory (book : Book) (o : Op) (id : ℕ) : Type 0 where
 abbrev pub IsOpenRefused : Book → (file : ℕ) → Op → (status : ℕ) → Type 0
 IsOpenRefused book file o status = ((status ≡ 21) × IsDirectory book o file) ⊎ ((status ≡ 70) × ((p : ℕ) × Within o p × (value_at book file p ≡ Absent)))
 
--- One of a path was refused so, or a look-up was: then it has no file, and where a directory was gone (70) its point is the step in which that was found.
+-- the point of an open of a path whose look-up was refused in this step: this one, where a directory was gone (70), and else none
+abbrev pub look_up_point : (status step : ℕ) → Option ℕ
+look_up_point status step = if status == 70 then Some step else None
+
+-- One of a path was refused so, or a look-up was, and then it has no file.
 abbrev pub IsPathRefused : Book → Op → Spot → (status : ℕ) → Type 0
-IsPathRefused book o s status = (FindsFile book o s × IsOpenRefused book o.file o status) ⊎ ((o.file ≡ 0) × IsRefused book o status × (status ≡ 70 → (p : ℕ) × Within o p))
+IsPathRefused book o s status = (HasFound book o s × IsOpenRefused book o.file o status) ⊎ ((o.file ≡ 0) × ((r : IsRefused book o status) × (o.point ≡ look_up_point status (step_of r.moment))))
 
 -- A close was refused by the server for want of room, by 28 (NFS3ERR_NOSPC of RFC 1813): when its COMMITTMP was taken, within it, one
 -- more change, or its bytes beside those of the tree, had no place. It takes no effect.
@@ -241,18 +225,22 @@ pub record IsGone (book : Book) (o : Op) (status : ℕ) : Type 0 where
 abbrev pub IsCloseRefused : Book → Op → (status : ℕ) → Type 0
 IsCloseRefused book o status = HasNoRoom book o status ⊎ IsGone book o status
 
--- The cause of how an operation on names ended, or goes on, that asked the server. One that makes, removes or renames has no point where it was refused.
+-- it has no file, and no point
+abbrev pub HasNeither : Op → Type 0
+HasNeither o = (o.file ≡ 0) × (o.point ≡ None)
+
+-- The cause of how an operation on names ended, or goes on, that asked the server. What was refused, but an open, has no file and no point, nor has a list.
 abbrev pub NamedCause : Book → PathCommand → Op → Outcome → Type 0
-NamedCause book (path.Find s) o (told.Opened len digest) = FindsFile book o s × IsOpened book o.file o len digest
-NamedCause book (path.Find s) o told.AlreadyOpen = FindsFile book o s × (o.point ≡ None)
-NamedCause book (path.Find s) o (told.Changed first last) = FindsFile book o s × IsChanged book o.file o first last
+NamedCause book (path.Find s) o (told.Opened len digest) = HasFound book o s × IsOpened book o.file o len digest
+NamedCause book (path.Find s) o told.AlreadyOpen = HasFound book o s × (o.point ≡ None)
+NamedCause book (path.Find s) o (told.Changed first last) = HasFound book o s × IsChanged book o.file o first last
 NamedCause book (path.Find s) o (told.Refused status) = IsPathRefused book o s status
-NamedCause book (path.Look s) o (told.Seen id kind version len) = IsSeen book o s id kind version len × (o.file ≡ id)
-NamedCause book path.LookRoot o (told.Seen id kind version len) = IsRootSeen book o id kind version len × (o.file ≡ 0)
-NamedCause book (path.List p) o (told.Names list) = IsListed book o p list
-NamedCause book (path.List p) o told.NoLink = ListsTooLong book o
+NamedCause book (path.Look s) o (told.Seen id kind version len) = IsSeen book o s id kind version len × (o.file ≡ id) × (o.point ≡ None)
+NamedCause book path.LookRoot o (told.Seen id kind version len) = IsRootSeen book o id kind version len × HasNeither o
+NamedCause book (path.List p) o (told.Names list) = IsListed book o p list × HasNeither o
+NamedCause book (path.List p) o told.NoLink = ListsTooLong book o × HasNeither o
 NamedCause book k o told.Done = NameDone book o k
-NamedCause book k o (told.Refused status) = IsRefused book o status × (o.point ≡ None)
+NamedCause book k o (told.Refused status) = IsRefused book o status × HasNeither o
 NamedCause book k o told.Lost = IsLost book o
 NamedCause book k o told.Running = o.end ≡ None
 NamedCause book k o outcome = ⊥

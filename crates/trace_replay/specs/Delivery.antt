@@ -1,8 +1,10 @@
 -- Bytes that come to an end, in whatever pieces: each record that they complete is a step of that end.
-use Rattle.std.specs.Prelude.{ℕ, zero, suc, List, [], ◌∷◌, map, Option, Some, None, Bool, true, false, ◌&&◌, length, take, drop}
+use Rattle.std.specs.Prelude.{ℕ, zero, suc, List, [], ◌∷◌, map, Option, Some, None, Bool, true, false, length, take, drop}
 use Rattle.rpc_record.specs.Records.{fed}
-use Rattle.trace_replay.specs.Core.{Event, Event.Serves, Event.Hears, numbered, with_numbered}
-use Rattle.trace_replay.specs.World.{World, Wire, happened}
+use Rattle.trace_ends.specs.Core.{Event, Event.Serves, Event.Hears}
+use Rattle.trace_sessions.specs.Numbers.{numbered, with_numbered}
+use Rattle.trace_replay.specs.World.{World, happened}
+use Rattle.trace_sessions.specs.Wires.{Wire, is_still_at}
 
 -- one event after the other
 abbrev pub all_happened : World → List Event → World
@@ -42,15 +44,6 @@ abbrev pub down_some : World → (number count now : ℕ) → World
 down_some w number count now = down_at w number count now (numbered w.wires number)
 
 -- ---- both
-
-abbrev pub is_none : List ℕ → Bool
-is_none [] = true
-is_none (b ∷ bs) = false
-
--- nothing is on its way on a session
-abbrev pub is_still_at : Option Wire → Bool
-is_still_at None = true
-is_still_at (Some q) = is_none q.up && is_none q.down
 
 abbrev pub is_still : World → (number : ℕ) → Bool
 is_still w number = is_still_at (numbered w.wires number)

@@ -15,8 +15,8 @@ use Rattle.client_state.specs.Limits.{calls_most}
 use Rattle.server_core.specs.declared.change.Change.{Change}
 use Rattle.server_core.specs.declared.change.Wanted.TheVariants as wanted
 use Rattle.server_core.specs.declared.journal.Entry.{Entry}
-use Rattle.file_tree.specs.declared.entry.EntryKind.{EntryKind}
-use Rattle.file_tree.specs.declared.entry.EntryKind.TheVariants as kind
+use Rattle.tree_plans.specs.declared.entry.EntryKind.{EntryKind}
+use Rattle.tree_plans.specs.declared.entry.EntryKind.TheVariants as kind
 use Rattle.xdr_codec.specs.declared.status.Status.{Status}
 use Rattle.register_model.specs.Register.{changes, value_from}
 use Rattle.register_model.specs.declared.op.Word.{Word}
@@ -24,18 +24,21 @@ use Rattle.register_model.specs.declared.op.Op.{Op}
 use Rattle.register_model.specs.declared.op.Outcome.{Outcome}
 use Rattle.register_model.specs.declared.op.Outcome.TheVariants as told
 use Rattle.register_model.specs.declared.op.Word.TheVariants as word
-use Rattle.trace_replay.specs.Ops.{no_traffic, is_of_file}
+use Rattle.trace_ops.specs.Ops.{no_traffic}
+use Rattle.trace_ends.specs.Core.{is_of_file, Event.Settles, Event.Cuts, happens}
 use Rattle.trace_replay.specs.Naming.{failed_by, refusal_of}
 use Rattle.trace_replay.specs.Walking.{AreCalls}
-use Rattle.trace_replay.specs.Commands.{word_of, file_of}
-use Rattle.trace_replay.specs.Core.{Session, Event.Settles, Event.Cuts, numbered, happens}
+use Rattle.trace_ops.specs.Commands.{word_of, file_of}
+use Rattle.trace_sessions.specs.Session.{Session}
+use Rattle.trace_sessions.specs.Numbers.{numbered}
 use Rattle.trace_replay.specs.Trail.{Deed, Moment, Said, AreCounted, told_of, events_of, deeds_of, told_in, openings_of, commands_of, step_of, sent_of, taken_of}
 use Rattle.trace_replay.specs.Traffic.{is_of, attempts_of, traffic_of, stored_traffic, CountsOwn, SentCommit, AttemptsEnd, AttemptsMet, deals_of, IsFor, NamesChunks}
 use Rattle.trace_replay.specs.Fetches.{EachReaches, GotBy, last_fetch, read_traffic}
 use Rattle.trace_replay.specs.Owing.{owes_nothing, PaysAll}
 use Rattle.trace_replay.specs.Numbered.{numbers_of, CountOn}
 use Rattle.trace_replay.specs.Book.{Book, Or, version_at}
-use Rattle.trace_replay.specs.Causes.{TakesCall, HasCause, can_ask, is_busy, local_before, own_answer}
+use Rattle.trace_replay.specs.OwnCalls.{TakesCall}
+use Rattle.trace_replay.specs.Causes.{HasCause, can_ask, is_busy, local_before, own_answer}
 
 -- ---- an operation
 

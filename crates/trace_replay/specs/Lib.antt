@@ -1,10 +1,5 @@
-pub mod Commands
-pub mod Ops
-pub mod Core
-pub mod View
 pub mod World
 pub mod Delivery
-pub mod Queue
 pub mod Run
 pub mod Timed
 pub mod Lines
@@ -13,6 +8,7 @@ pub mod Turns
 pub mod Readings
 pub mod Trail
 pub mod Book
+pub mod OwnCalls
 pub mod Causes
 pub mod Rows
 pub mod NameRows
@@ -20,6 +16,7 @@ pub mod TrailRows
 pub mod Traffic
 pub mod Naming
 pub mod Walking
+pub mod WalkingRows
 pub mod Fetches
 pub mod Owing
 pub mod Numbered

@@ -1,5 +1,5 @@
 -- What commands on names come to: what names led to, what the server's tree told, and what was made of it, at moments within the operation.
-use Rattle.std.specs.Prelude.{◌≡◌, ◌⊎◌, ℕ, ◌+◌, ◌≤◌, List, [], ◌∷◌, ◌++◌, map, Option, Some, None, Result, Ok, Err, Contains, if◌then◌else◌}
+use Rattle.std.specs.Prelude.{◌≡◌, ℕ, ◌+◌, ◌<◌, ◌≤◌, List, [], ◌∷◌, ◌++◌, map, Option, Some, None, Result, Ok, Contains, if◌then◌else◌}
 use Rattle.std.specs.Option.{option_map}
 use Rattle.command_text.specs.declared.path.PathCommand.{PathCommand}
 use Rattle.command_text.specs.declared.path.PathCommand.TheVariants as path
@@ -15,22 +15,23 @@ use Rattle.wire.specs.declared.message.Body.TheVariants as body
 use Rattle.wire.specs.declared.message.Message.TheVariants as message
 use Rattle.tree_nodes.specs.declared.node.Node.{Node}
 use Rattle.tree_nodes.specs.Nodes.{with_id, named, names}
-use Rattle.file_tree.specs.Tree.{Tree, directory_of}
-use Rattle.file_tree.specs.Reading.{attr_of, stands_for}
+use Rattle.tree_reading.specs.Tree.{Tree, directory_of}
+use Rattle.tree_reading.specs.Reading.{attr_of, stands_for}
 use Rattle.file_tree.specs.Step.{create, mkdir, remove, rmdir, rename}
-use Rattle.file_tree.specs.declared.call.Changed.{Changed}
-use Rattle.file_tree.specs.declared.call.CreateMode.TheVariants as mode
-use Rattle.file_tree.specs.declared.call.Held.{Held}
-use Rattle.file_tree.specs.declared.call.Standing.{Standing}
-use Rattle.file_tree.specs.declared.entry.Entry.{Entry}
-use Rattle.path_calls.specs.Walk.{pages_most}
+use Rattle.tree_plans.specs.declared.call.Changed.{Changed}
+use Rattle.tree_plans.specs.declared.call.CreateMode.TheVariants as mode
+use Rattle.tree_plans.specs.declared.call.Held.{Held}
+use Rattle.tree_reading.specs.declared.reading.Standing.{Standing}
+use Rattle.tree_plans.specs.declared.entry.Entry.{Entry}
+use Rattle.path_calls.specs.Walk.{pages_most, place, create_call, make_dir_call, rename_call}
+use Rattle.server_core.specs.Closing.{entries_by}
 use Rattle.register_model.specs.declared.op.Op.{Op}
 use Rattle.trace_replay.specs.declared.opening.TheConstants.{ROOT}
-use Rattle.trace_replay.specs.Ops.{is_of_file}
-use Rattle.trace_replay.specs.Core.{happens}
+use Rattle.trace_ends.specs.Core.{is_of_file, Event.Hears, happens}
 use Rattle.trace_replay.specs.Trail.{Moment, step_of, taken_by}
 use Rattle.trace_replay.specs.Traffic.{Deal, Deal.Sent, deals_of}
 use Rattle.trace_replay.specs.Book.{Book}
+use Rattle.trace_replay.specs.OwnCalls.{TakesCall, ComesTo, held_at}
 
 -- ---- what names led to
 
@@ -55,6 +56,10 @@ pub record FindsFile (book : Book) (o : Op) (s : Spot) : Type 0 where
   pub step : ℕ
   pub found : Leads book o.begin ROOT (all_names s) o.file step
   pub inside : IsInside o o.begin step
+
+-- and that has an id: 0 is no file's
+abbrev pub HasFound : Book → Op → Spot → Type 0
+HasFound book o s = FindsFile book o s × (0 < o.file)
 
 -- ---- what was told of the tree
 
@@ -120,31 +125,36 @@ abbrev pub IsPointed : Op → (step : ℕ) → (changed : Option ℕ) → Type 0
 IsPointed o step None = (o.point ≡ None) × (o.file ≡ 0)
 IsPointed o step (Some file) = (o.point ≡ Some step) × (o.file ≡ file)
 
--- In one step within the operation the server made of its tree what this call makes of it, which was not refused.
-pub record Makes (book : Book) (o : Op) (behind : ℕ) (call : Tree → Held → Tree × Result Changed Status) : Type 0 where
+-- The server took this call of the operation, whose client waited for the answer. In that step, or in the one in which it settled what the call left
+-- waiting, it made of its tree what this makes of it, and it was not refused: the others that waited kept their room. The journal grew by its entries.
+pub record Makes (book : Book) (o : Op) (behind : ℕ) (asks : Nfs) (call : Tree → Held → Tree × Result Changed Status) : Type 0 where
+  pub xid : ℕ
+  pub taken : ℕ
+  pub takes : TakesCall book o.client taken xid (body.Nfs asks)
+  pub after : behind ≤ taken
   pub moment : Moment
   pub there : Contains book.moments moment
-  pub inside : IsInside o behind (step_of moment)
-  -- what the changes that waited needed
-  pub held : Held
+  pub comes : ComesTo moment takes.session xid taken
+  pub inside : IsInside o taken (step_of moment)
   pub done : Changed
-  pub done_is : (call (tree_at moment) held).1 ≡ Ok done
-  pub tree_is : (happens moment.before moment.event).core.server.tree ≡ (call (tree_at moment) held).0
+  pub done_is : (call (tree_at moment) (held_at moment)).1 ≡ Ok done
+  pub tree_is : (happens moment.before moment.event).core.server.tree ≡ (call (tree_at moment) (held_at moment)).0
+  pub journal_is : (happens moment.before moment.event).core.server.journal ≡ moment.before.server.journal ++ entries_by takes.session done.first done.second
   pub pointed : IsPointed o (step_of moment) (entry_file done.first)
 
 -- the same, in the directory that a path led to
-abbrev pub MakesIn : Book → Op → List (List ℕ) → ((dir : ℕ) → Tree → Held → Tree × Result Changed Status) → Type 0
-MakesIn book o dirs call = (dir : ℕ) × (step : ℕ) × Leads book o.begin ROOT dirs dir step × Makes book o step (call dir)
+abbrev pub MakesIn : Book → Op → List (List ℕ) → (asks : (dir : ℕ) → Nfs) → ((dir : ℕ) → Tree → Held → Tree × Result Changed Status) → Type 0
+MakesIn book o dirs asks call = (dir : ℕ) × (step : ℕ) × Leads book o.begin ROOT dirs dir step × Makes book o step (asks dir) (call dir)
 
 -- a rename, whose first name's directory is found first
 abbrev pub Renames : Book → Op → Spot → Spot → Type 0
-Renames book o s t = (dir : ℕ) × (first : ℕ) × (to : ℕ) × (second : ℕ) × Leads book o.begin ROOT s.dirs dir first × Leads book first ROOT t.dirs to second × Makes book o second (λ tree held. rename tree held dir s.name to t.name)
+Renames book o s t = (dir : ℕ) × (first : ℕ) × (to : ℕ) × (second : ℕ) × Leads book o.begin ROOT s.dirs dir first × Leads book first ROOT t.dirs to second × Makes book o second (rename_call dir s.name to t.name) (λ tree held. rename tree held dir s.name to t.name)
 
 abbrev pub NameDone : Book → Op → PathCommand → Type 0
-NameDone book o (path.Make s) = MakesIn book o s.dirs (λ dir t held. create t held dir s.name mode.Guarded)
-NameDone book o (path.MakeDir s) = MakesIn book o s.dirs (λ dir t held. mkdir t held dir s.name)
-NameDone book o (path.Remove s) = MakesIn book o s.dirs (λ dir t held. remove t held dir s.name)
-NameDone book o (path.RemoveDir s) = MakesIn book o s.dirs (λ dir t held. rmdir t held dir s.name)
+NameDone book o (path.Make s) = MakesIn book o s.dirs (λ dir. create_call dir s.name) (λ dir t held. create t held dir s.name mode.Guarded)
+NameDone book o (path.MakeDir s) = MakesIn book o s.dirs (λ dir. make_dir_call dir s.name) (λ dir t held. mkdir t held dir s.name)
+NameDone book o (path.Remove s) = MakesIn book o s.dirs (λ dir. nfs.Remove (place dir s.name)) (λ dir t held. remove t held dir s.name)
+NameDone book o (path.RemoveDir s) = MakesIn book o s.dirs (λ dir. nfs.RmDir (place dir s.name)) (λ dir t held. rmdir t held dir s.name)
 NameDone book o (path.Rename s t) = Renames book o s t
 NameDone book o k = ⊥
 
@@ -166,8 +176,8 @@ refusal_of (nfs.RmDirAnswer a) = failed_by a
 refusal_of (nfs.RenameAnswer a) = failed_by a
 refusal_of m = None
 
--- In a step within the operation the server sent an answer that refuses by this status, and the client took it for the operation, which ended in that
--- step.
+-- In a step within the operation the server sent an answer that refuses by this status, and the client took it on that session for the operation, which
+-- ended in that step.
 pub record IsRefused (book : Book) (o : Op) (status : ℕ) : Type 0 where
   pub moment : Moment
   pub there : Contains book.moments moment
@@ -179,5 +189,8 @@ pub record IsRefused (book : Book) (o : Op) (status : ℕ) : Type 0 where
   pub refuses : option_map status_number (refusal_of answer) ≡ Some status
   pub taken : Moment
   pub taken_there : Contains book.moments taken
+  pub now : ℕ
+  pub bytes : List ℕ
+  pub event_is : taken.event ≡ Hears session now bytes
   pub ends : o.end ≡ Some (step_of taken)
   pub takes : Contains (taken_by taken.before o.client taken.event) (message.Answer xid (body.Nfs answer))

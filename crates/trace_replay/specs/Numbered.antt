@@ -2,7 +2,8 @@
 use Rattle.std.specs.Prelude.{◌≡◌, ℕ, ◌+◌, List, [], ◌∷◌, ◌++◌, Bool, true, false}
 use Rattle.wire.specs.declared.message.Message.{Message}
 use Rattle.wire.specs.declared.message.Message.TheVariants as message
-use Rattle.trace_replay.specs.Core.{CoreStep, is_newest, happens}
+use Rattle.trace_ends.specs.Core.{CoreStep, happens}
+use Rattle.trace_sessions.specs.Session.{is_newest}
 use Rattle.trace_replay.specs.Trail.{Moment}
 
 -- of the calls among messages

@@ -1,13 +1,11 @@
 -- A trace run line by line.
-use Rattle.std.specs.Prelude.{ℕ, zero, suc, ◌+◌, List, [], ◌∷◌, ◌++◌, length, replicate, Option, Some, None, Result, Ok, Err, Bool, true, false, not, ◌&&◌, nat_lt, nat_le, if◌then◌else◌}
+use Rattle.std.specs.Prelude.{ℕ, ◌+◌, List, [], ◌∷◌, ◌++◌, length, replicate, Option, Some, None, Result, Ok, Err, Bool, true, false, nat_lt, nat_le, if◌then◌else◌}
 use Rattle.limits.specs.declared.TheConstants.{FILE_MOST, LINES_MOST, SESSIONS_MOST, TREE_MOST}
 use Rattle.command_text.specs.Content.{content_length, content_bytes}
 use Rattle.command_text.specs.declared.content.Part.{Part}
 use Rattle.command_text.specs.Parts.{lines_of}
 use Rattle.command_text.specs.declared.path.Spot.{Spot}
 use Rattle.trace_text.specs.Grammar.{line_of}
-use Rattle.trace_text.specs.declared.line.Amount.{Amount}
-use Rattle.trace_text.specs.declared.line.Amount.TheVariants as amount
 use Rattle.trace_text.specs.declared.line.Line.{Line}
 use Rattle.trace_text.specs.declared.line.Who.{Who}
 use Rattle.trace_text.specs.declared.line.Who.TheVariants as who
@@ -17,8 +15,8 @@ use Rattle.trace_text.specs.declared.refusal.LineFault.{LineFault}
 use Rattle.trace_text.specs.declared.refusal.LineFault.TheVariants.{Grammar, Limit}
 use Rattle.server_core.specs.Step.{opens_with}
 use Rattle.file_tree.specs.Opening.{can_open}
-use Rattle.file_tree.specs.Reading.{stands_for}
-use Rattle.file_tree.specs.Tree.{Tree}
+use Rattle.tree_reading.specs.Reading.{stands_for}
+use Rattle.tree_reading.specs.Tree.{Tree}
 use Rattle.tree_nodes.specs.declared.node.Node.{Node}
 use Rattle.tree_nodes.specs.declared.node.Body.{Body}
 use Rattle.tree_nodes.specs.declared.node.Body.TheVariants.{Directory, File}
@@ -26,12 +24,15 @@ use Rattle.trace_replay.specs.declared.opening.TheConstants.{ROOT}
 use Rattle.trace_replay.specs.declared.fault.Refused.{Refused}
 use Rattle.trace_replay.specs.declared.stage.Stage.{Stage}
 use Rattle.trace_replay.specs.declared.stage.Stage.TheVariants as stage
-use Rattle.trace_replay.specs.declared.adjusting.Adjustment.TheVariants as adjustment
+use Rattle.trace_ends.specs.declared.adjusting.Adjustment.TheVariants as adjustment
 use Rattle.trace_replay.specs.declared.turn.Turn.{Turn}
 use Rattle.trace_replay.specs.declared.turn.Turn.TheVariants as turn
-use Rattle.trace_replay.specs.Core.{Core, Seat, new_seat, Event, Event.Joins, Event.Does, Event.Settles, Event.Cuts, Event.Hangs, numbered}
-use Rattle.trace_replay.specs.World.{World, Wire, start, happened, adjusts}
+use Rattle.trace_ends.specs.Core.{Core, Event.Joins, Event.Does, Event.Settles, Event.Cuts, Event.Hangs}
+use Rattle.trace_sessions.specs.Session.{Seat, new_seat}
+use Rattle.trace_sessions.specs.Numbers.{numbered}
+use Rattle.trace_replay.specs.World.{World, start, happened, adjusts}
 use Rattle.trace_replay.specs.Delivery.{up_some, down_some, up_length, down_length, passes}
+use Rattle.trace_sessions.specs.Queue.{count_of}
 
 -- ---- limits
 
@@ -169,11 +170,6 @@ abbrev pub asked : World → ℕ → Line → Result Turn LineFault
 asked w n l = asks_within (nat_le n line_most) (asks w l)
 
 -- ---- what it does
-
--- all bytes of a queue, or so many
-abbrev pub count_of : Amount → (queued : ℕ) → ℕ
-count_of amount.All queued = queued
-count_of (amount.Bytes n) queued = n
 
 -- a line of events
 abbrev pub at_events : World → World

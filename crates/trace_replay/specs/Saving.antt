@@ -17,18 +17,20 @@ use Rattle.wire.specs.declared.message.Body.TheVariants as body
 use Rattle.wire.specs.declared.message.Message.{Message}
 use Rattle.wire.specs.declared.message.Message.TheVariants as message
 use Rattle.temp_files.specs.Temps.{temp_at}
-use Rattle.server_core.specs.Closing.{cond_fault, bytes_known}
+use Rattle.chunk_calls.specs.Writing.{cond_fault, bytes_known}
 use Rattle.file_open.specs.Caching.{content_in}
 use Rattle.file_open.specs.Opening.{lease_call, hash_call}
 use Rattle.register_model.specs.declared.op.Op.{Op}
 use Rattle.register_model.specs.declared.op.Outcome.TheVariants as told
 use Rattle.register_model.specs.declared.op.Word.TheVariants as word
-use Rattle.trace_replay.specs.Ops.{no_traffic}
-use Rattle.trace_replay.specs.Core.{Seat, Event.Does, Event.Serves, Event.Hears, numbered, server_waiting, happens}
+use Rattle.trace_ops.specs.Ops.{no_traffic}
+use Rattle.trace_sessions.specs.Session.{Seat}
+use Rattle.trace_ends.specs.Core.{Event.Does, Event.Serves, Event.Hears, server_waiting, happens}
+use Rattle.trace_sessions.specs.Numbers.{numbered}
 use Rattle.trace_replay.specs.Trail.{Moment, step_of, client_of, taken_by}
 use Rattle.trace_replay.specs.Traffic.{is_in}
 use Rattle.trace_replay.specs.Book.{Book, version_at}
-use Rattle.trace_replay.specs.Causes.{TakesCall}
+use Rattle.trace_replay.specs.OwnCalls.{TakesCall}
 
 -- ---- the server knows a chunk
 

@@ -17,7 +17,7 @@ use Rattle.register_model.specs.Register.{History, IsLegal, Value}
 use Rattle.register_model.specs.declared.op.Op.{Op}
 use Rattle.register_model.specs.declared.op.Outcome.TheVariants as told
 use Rattle.register_model.specs.declared.op.Word.TheVariants as word
-use Rattle.server_core.specs.State.{File, file_at}
+use Rattle.chunk_calls.specs.Files.{File, file_at}
 use Rattle.server_core.specs.declared.change.Change.{Change}
 use Rattle.server_core.specs.declared.change.Wanted.{Wanted}
 use Rattle.server_core.specs.declared.change.Wanted.TheVariants as wanted
@@ -25,8 +25,11 @@ use Rattle.tree_calls.specs.declared.asked.Asked.TheVariants as asked
 use Rattle.trace_replay.specs.declared.fault.Refused.{Refused}
 use Rattle.trace_replay.specs.declared.fault.TraceErr.{TraceErr}
 use Rattle.trace_replay.specs.declared.fault.TraceErr.TheVariants as errors
-use Rattle.trace_replay.specs.Core.{Seat, Session, numbered, server_waiting}
-use Rattle.trace_replay.specs.World.{World, Wire, bytes_of, history_of}
+use Rattle.trace_sessions.specs.Session.{Seat, Session}
+use Rattle.trace_sessions.specs.Numbers.{numbered}
+use Rattle.trace_ends.specs.Core.{server_waiting}
+use Rattle.trace_replay.specs.World.{World, history_of}
+use Rattle.trace_sessions.specs.Wires.{Wire, bytes_of}
 use Rattle.trace_replay.specs.Trail.{moments, hashed}
 use Rattle.trace_replay.specs.Traffic.{deals_of, stored_traffic}
 use Rattle.trace_replay.specs.Book.{Book, AreApart, HadContent, Or, book_of, value_at, version_at}

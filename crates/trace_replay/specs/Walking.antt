@@ -1,5 +1,5 @@
--- Which messages a command on names sends and takes: those of its walk.
-use Rattle.std.specs.Prelude.{◌≡◌, ◌⊎◌, ℕ, List, [], ◌∷◌}
+-- Which messages a command on names sends and takes, and how that ends it: those of its walk, by the last of which it ends.
+use Rattle.std.specs.Prelude.{◌≡◌, ◌⊎◌, ℕ, List, [], ◌∷◌, Some}
 use Rattle.command_text.specs.declared.command.Command.{Command}
 use Rattle.command_text.specs.declared.command.Command.TheVariants as command
 use Rattle.wire.specs.declared.message.Body.TheVariants as body
@@ -8,7 +8,11 @@ use Rattle.path_calls.specs.Walk.{begun, next_call}
 use Rattle.path_calls.specs.Told.{walk_told}
 use Rattle.path_calls.specs.declared.answers.Told.TheVariants as told
 use Rattle.path_calls.specs.declared.walk.Walk.{Walk}
+use Rattle.open_close.specs.Walking.{outcome_of}
+use Rattle.told_outcome.specs.Told.{told_of}
 use Rattle.register_model.specs.declared.op.Op.{Op}
+use Rattle.register_model.specs.declared.op.Outcome.{Outcome}
+use Rattle.register_model.specs.declared.op.Outcome.TheVariants as outcome
 use Rattle.register_model.specs.declared.op.Word.TheVariants as word
 use Rattle.trace_replay.specs.Traffic.{Deal, Deal.Sent, Deal.Took, AreOwn}
 
@@ -18,14 +22,15 @@ pub data Part : Type 0 where
   waits : (xid : ℕ) → Walk → Part
 
 -- A walk's call is sent, then its answer taken, if it comes; that leads to the next call, or to the file with which an open goes on as one of its id
--- does, or it is the last message.
-abbrev pub IsWalk : Part → List Deal → Type 0
-IsWalk (asks w) (Sent (message.Call xid (body.Nfs m)) ∷ ds) = (m ≡ next_call w) × IsWalk (waits xid w) ds
-IsWalk (waits xid w) [] = Unit {0}
-IsWalk (waits xid w) (Took (message.Answer y (body.Nfs a)) ∷ ds) = (y ≡ xid) × elim (walk_told w a) [ told.Asks v ↦ IsWalk (asks v) ds | told.Finds id ↦ AreOwn word.Open id [] ds | _ ↦ ds ≡ [] ]
-IsWalk p ds = ⊥
+-- does, or it is the last message, and the operation ended so. Where no answer came it goes on, or its client saw its connection lost.
+abbrev pub IsWalk : Outcome → Part → List Deal → Type 0
+IsWalk o (asks w) (Sent (message.Call xid (body.Nfs m)) ∷ ds) = (m ≡ next_call w) × IsWalk o (waits xid w) ds
+IsWalk o (waits xid w) [] = (o ≡ outcome.Running) ⊎ (o ≡ outcome.Lost)
+IsWalk o (waits xid w) (Took (message.Answer y (body.Nfs a)) ∷ ds) = (y ≡ xid) × elim (walk_told w a) [ told.Asks v ↦ IsWalk o (asks v) ds | told.Finds id ↦ AreOwn word.Open id [] ds | told.Ends e ↦ (ds ≡ []) × (o ≡ told_of (outcome_of e)) | _ ↦ ⊥ ]
+IsWalk o p ds = ⊥
 
--- what was sent and taken for an operation is its own: on names its walk's, unless its client answered it by itself
+-- What was sent and taken for an operation is its own: on names its walk's, and nothing where its client answered it by itself, in its first step, since
+-- it was busy or couldn't ask.
 abbrev pub AreCalls : Command → Op → List Deal → Type 0
-AreCalls (command.Named k) o ds = (ds ≡ []) ⊎ IsWalk (asks (begun k)) ds
+AreCalls (command.Named k) o ds = ((ds ≡ []) × (o.end ≡ Some o.begin) × ((o.outcome ≡ outcome.Busy) ⊎ (o.outcome ≡ outcome.NoLink))) ⊎ IsWalk o.outcome (asks (begun k)) ds
 AreCalls k o ds = AreOwn o.word o.file o.value ds

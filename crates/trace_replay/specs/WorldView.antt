@@ -1,7 +1,7 @@
 -- The world's fields as a world, and its clocks.
 use Rattle.trace_replay.specs.declared.state.WorldState.{WorldState}
 use Rattle.trace_replay.specs.declared.timing.Times.{Times as TimeFields}
-use Rattle.trace_replay.specs.View.{core_of}
+use Rattle.trace_ends.specs.View.{core_of}
 use Rattle.trace_replay.specs.World.{World}
 use Rattle.trace_replay.specs.Timed.{Times, Timed}
 

@@ -2,15 +2,16 @@
 //! `specs/Delivery.antt` says what a delivery, a round and a pass make of a world.
 
 ghost use Rattle.std.specs.Prelude.{◌≡◌, ◌<◌, ◌^◌, map, OnOk};
-ghost use Rattle.trace_replay.specs.Core.{numbered, Event.Serves, Event.Hears};
+ghost use Rattle.trace_sessions.specs.Numbers.{numbered};
+ghost use Rattle.trace_ends.specs.Core.{Event.Serves, Event.Hears};
 ghost use Rattle.trace_replay.specs.Delivery.{all_happened, up_some, down_some, up_all, down_all, up_length, down_length, is_still, round, passes};
-ghost use Rattle.trace_replay.specs.Run.{count_of};
+ghost use Rattle.trace_sessions.specs.Queue.{count_of};
 ghost use Rattle.trace_replay.specs.WorldView.{world_of};
 
-use crate::numbered::place_of;
 use crate::state::WorldState;
 use rpc_record::record::Record;
 use std::alloc::{AllocError, Global};
+use trace_sessions::numbered::place_of;
 use trace_text::line::Amount;
 
 impl WorldState {

@@ -2,21 +2,22 @@
 //! `specs/World.antt` says what an event makes of a world.
 
 ghost use Rattle.std.specs.Prelude.{◌≡◌, ◌<◌, ◌^◌, IfOk, OnOk};
-ghost use Rattle.trace_replay.specs.Core.{Event.Joins, Event.Does, Event.Serves, Event.Hears, Event.Settles, Event.Cuts, Event.Hangs};
+ghost use Rattle.trace_ends.specs.Core.{Event.Joins, Event.Does, Event.Serves, Event.Hears, Event.Settles, Event.Cuts, Event.Hangs};
 ghost use Rattle.trace_replay.specs.World.{start, routed, happened, adjusts};
-ghost use Rattle.trace_replay.specs.View.{core_of, core_step_of};
+ghost use Rattle.trace_ends.specs.View.{core_of, core_step_of};
 ghost use Rattle.trace_replay.specs.WorldView.{world_of};
 
-use crate::adjusting::{Adjustment, adjust};
-use crate::core_step::CoreStep;
 use crate::opening::OpeningFile;
-use crate::sending::{down_put, up_put};
+use crate::sending::down_put;
 use crate::stage::Stage;
 use crate::wire_loss::lose;
-use crate::wires::Wire;
-use crate::world_core::Core;
 use command_text::command::Command;
 use std::alloc::{AllocError, Global};
+use trace_ends::adjusting::{Adjustment, adjust};
+use trace_ends::core_step::CoreStep;
+use trace_ends::world_core::Core;
+use trace_sessions::sending::up_put;
+use trace_sessions::wires::Wire;
 
 /// A world's fields.
 #[derive(Drop)]
@@ -62,7 +63,7 @@ impl WorldState {
     {
         let step = self.core.joins(alloc, client)?;
         let done = self.routes(alloc, &step);
-        drop(step);
+        step.let_go();
         done
     }
 
@@ -78,7 +79,7 @@ impl WorldState {
     {
         let step = self.core.does(alloc, client, now, command)?;
         let done = self.routes(alloc, &step);
-        drop(step);
+        step.let_go();
         done
     }
 
@@ -95,7 +96,7 @@ impl WorldState {
     {
         let step = self.core.serves(alloc, session, now, bytes)?;
         let done = self.routes(alloc, &step);
-        drop(step);
+        step.let_go();
         done
     }
 
@@ -111,7 +112,7 @@ impl WorldState {
     {
         let step = self.core.hears(alloc, session, now, bytes)?;
         let done = self.routes(alloc, &step);
-        drop(step);
+        step.let_go();
         done
     }
 
@@ -122,7 +123,7 @@ impl WorldState {
     {
         let step = self.core.settles(alloc, now)?;
         let done = self.routes(alloc, &step);
-        drop(step);
+        step.let_go();
         done
     }
 
@@ -139,7 +140,7 @@ impl WorldState {
     {
         let step = self.core.cuts(alloc, client)?;
         let done = self.routes(alloc, &step);
-        drop(step);
+        step.let_go();
         done
     }
 
@@ -149,7 +150,7 @@ impl WorldState {
     {
         let step = self.core.hangs(alloc, session)?;
         let done = self.routes(alloc, &step);
-        drop(step);
+        step.let_go();
         done
     }
 }

@@ -1,17 +1,17 @@
 //! The clocks of a trace. `specs/Timed.antt` says what a line says of them.
 
 ghost use Rattle.std.specs.Prelude.{◌≡◌, map};
-ghost use Rattle.trace_replay.specs.Core.{numbered};
+ghost use Rattle.trace_sessions.specs.Numbers.{numbered};
 ghost use Rattle.trace_replay.specs.Timed.{no_times, down_timing, pass_timing, timing_of, times_with, IsTaken};
 ghost use Rattle.trace_replay.specs.WorldView.{times_of};
 ghost use Rattle.trace_replay.specs.declared.timing.Timing.TheVariants as timing;
 ghost use Rattle.clock_rule.specs.declared.rule.Reading.TheVariants as reads;
 
-use crate::numbered::place_of;
-use crate::session::Session;
 use clock_rule::clocks::Clocks;
 use clock_rule::rule::{NoteErr, Reading};
 use std::alloc::Global;
+use trace_sessions::numbered::place_of;
+use trace_sessions::session::Session;
 use trace_text::line::Line;
 
 /// What a line says of the clocks.

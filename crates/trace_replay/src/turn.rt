@@ -2,29 +2,29 @@
 
 ghost use Rattle.std.specs.Prelude.{◌≡◌, true, nat_lt, nat_le, IfOk, Some};
 ghost use Rattle.trace_text.specs.Reading.{IsTimely};
-ghost use Rattle.trace_replay.specs.Core.{numbered};
+ghost use Rattle.trace_sessions.specs.Numbers.{numbered};
 ghost use Rattle.trace_replay.specs.World.{World};
 ghost use Rattle.trace_replay.specs.Run.{is_there, has_index, asks_if, place_for, file_asks, directory_asks, joins_within, joins_if, adjust_asks, event_asks, asks_at, asks, asks_within, asked, in_header};
 ghost use Rattle.trace_replay.specs.Turns.{IsTurnBounded, stage_after};
-ghost use Rattle.trace_replay.specs.View.{core_of};
+ghost use Rattle.trace_ends.specs.View.{core_of};
 ghost use Rattle.trace_replay.specs.WorldView.{world_of};
 ghost use Rattle.trace_replay.specs.declared.stage.Stage.TheVariants as stage;
-ghost use Rattle.trace_replay.specs.declared.adjusting.Adjustment.TheVariants as adjustment;
+ghost use Rattle.trace_ends.specs.declared.adjusting.Adjustment.TheVariants as adjustment;
 ghost use Rattle.trace_replay.specs.declared.turn.Turn.TheVariants as turn;
 
-use crate::adjusting::Adjustment;
-use crate::numbered::place_of;
 use crate::paths::place_for;
-use crate::seat::Seat;
 use crate::stage::Stage;
 use crate::state::WorldState;
-use crate::world_core::Core;
 use chunk_index::place::Place;
 use command_text::command::Command;
 use command_text::content::{Content, length_within};
 use command_text::path::Spot;
 use lb_base::items::Name;
 use limits::{FILE_MOST, LINES_MOST, SESSIONS_MOST, TREE_MOST};
+use trace_ends::adjusting::Adjustment;
+use trace_ends::world_core::Core;
+use trace_sessions::numbered::place_of;
+use trace_sessions::seat::Seat;
 use trace_text::line::{Amount, Line, Who};
 use trace_text::refusal::{Limit, LineFault};
 

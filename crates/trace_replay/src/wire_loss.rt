@@ -3,13 +3,13 @@
 
 ghost use Rattle.std.specs.Prelude.{◌≡◌, OnOk};
 ghost use Rattle.trace_replay.specs.World.{down_lost, up_lost, lost_by};
-ghost use Rattle.trace_replay.specs.Core.{numbered};
-ghost use Rattle.trace_replay.specs.View.{loss_of};
+ghost use Rattle.trace_sessions.specs.Numbers.{numbered};
+ghost use Rattle.trace_ends.specs.View.{loss_of};
 
-use crate::core_step::Loss;
-use crate::numbered::place_of;
-use crate::wires::Wire;
 use std::alloc::{AllocError, Global};
+use trace_ends::core_step::Loss;
+use trace_sessions::numbered::place_of;
+use trace_sessions::wires::Wire;
 
 /// What is on its way down a session is dropped.
 fn lose_down(alloc: Global, wires: &mut Vec<Wire>, number: u32)

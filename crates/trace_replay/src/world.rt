@@ -105,6 +105,13 @@ impl World {
         self.state.core.server.journal().len()
     }
 
+    /// The world is let go.
+    pub fn let_go(self) {
+        let World { state, .. } = self;
+        let WorldState { core, .. } = state;
+        core.let_go();
+    }
+
     /// The history that the world has come to. The ends are let go before the bytes of the opening
     /// files are made. The one error is want of memory.
     pub fn history(self, alloc: Global) -> Result<History, AllocError>

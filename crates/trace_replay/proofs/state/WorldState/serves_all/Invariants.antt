@@ -1,6 +1,6 @@
 use Rattle.std.proofs.Common.{◌≡◌, drop}
 use Rattle.std.specs.Prelude.{map}
-use Rattle.trace_replay.specs.Core.{Event.Serves}
+use Rattle.trace_ends.specs.Core.{Event.Serves}
 use Rattle.trace_replay.specs.Delivery.{all_happened}
 use Rattle.trace_replay.specs.WorldView.{world_of}
 use Rattle.trace_replay.proofs.state.WorldState.serves_all.Given as goal

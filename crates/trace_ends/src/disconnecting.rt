@@ -1,0 +1,119 @@
+//! A connection is lost, at either end. `cuts` and `hangs` in `specs/Core.antt` say what that makes of
+//! the two ends.
+
+ghost use Rattle.std.specs.Prelude.{◌≡◌, ◌+◌, ◌<◌, length, slice_get, IfOk, OnOk};
+ghost use Rattle.server_core.specs.Step.{server_step};
+ghost use Rattle.server_core.specs.declared.event.Event.TheVariants as event;
+ghost use Rattle.trace_ends.specs.Core.{loss_down, cut_session, cuts, hangs};
+ghost use Rattle.trace_sessions.specs.Session.{session_of};
+ghost use Rattle.trace_sessions.specs.Numbers.{numbered};
+ghost use Rattle.trace_ends.specs.View.{core_of, loss_of, core_step_of};
+
+use crate::core_step::{CoreStep, Loss};
+use crate::world_core::{Core, count_on};
+use server_core::event::Event;
+use server_core::server::Server;
+use std::alloc::{AllocError, Global};
+use trace_ops::ops::note_with;
+use trace_sessions::numbered::place_of;
+use trace_sessions::seat::running_at;
+use trace_sessions::session::{Session, short_number, taken_of};
+
+/// What is dropped where a client loses its newest session: what is on its way down.
+fn loss_down(session: Option<u32>) -> Loss
+    ensures { loss_of result ≡ loss_down session }
+{
+    match session {
+        None => Loss::Nothing,
+        Some(number) => Loss::DownOf(number),
+    }
+}
+
+/// A client's newest session was cut.
+fn cut_session(sessions: &mut Vec<Session>, session: Option<u32>)
+    ensures { sessions.new.items ≡ cut_session sessions.old.items session (session_of sessions.old.items session) }
+{
+    let number = match session {
+        Some(number) => number,
+        None => return,
+    };
+    match place_of(sessions.len(), u64::from(number)) {
+        Some(place) => sessions[place].cut = true,
+        None => (),
+    }
+}
+
+/// The client at this place sees its connection lost.
+fn cuts_at(alloc: Global, core: &mut Core, place: usize) -> Result<CoreStep, AllocError>
+    requires { place < length core.old.seats.items }
+    ensures { IfOk result (λ t. core_step_of core.new t ≡ cuts (core_of core.old) (place + 1) (slice_get core.old.seats.items place)) }
+{
+    let step = count_on(core.steps, 1)?;
+    core.steps = step;
+    if !core.seats[place].linked() {
+        return Ok(CoreStep::quiet(alloc));
+    }
+    let session = core.seats[place].session();
+    let running = running_at(&core.seats, place);
+    let acts = core.seats[place].cuts(alloc);
+    let taken = taken_of(&core.sessions, session);
+    let client = core.seats[place].client();
+    let done = note_with(alloc, &mut core.ops, running, client, taken, step, &acts);
+    cut_session(&mut core.sessions, session);
+    match done {
+        Ok(()) => Ok(CoreStep::acted(alloc, loss_down(session), session, acts)),
+        Err(error) => {
+            drop(acts);
+            Err(error)
+        }
+    }
+}
+
+/// A client sees its connection lost, if there is one of this number. Where it isn't joined that is
+/// a step, and no more.
+pub fn cuts(alloc: Global, core: &mut Core, client: u64) -> Result<CoreStep, AllocError>
+    ensures { IfOk result (λ t. core_step_of core.new t ≡ cuts (core_of core.old) client (numbered core.old.seats.items client)) }
+{
+    match place_of(core.seats.len(), client) {
+        Some(place) => cuts_at(alloc, core, place),
+        None => Ok(CoreStep::quiet(alloc)),
+    }
+}
+
+/// The server sees this session's connection lost, and has nothing to say.
+fn hang(alloc: Global, server: &mut Server, session: u32) -> Result<(), AllocError>
+    ensures { OnOk result (server.new ≡ (server_step server.old (event.Hang session)).0) }
+{
+    let step = server.step_unkept(alloc, Event::Hang { session });
+    let missed = step.missed;
+    drop(step);
+    if missed {
+        return Err(AllocError);
+    }
+    Ok(())
+}
+
+/// The server sees the connection lost of the session at this place, unless it did so before.
+fn hangs_at(alloc: Global, core: &mut Core, place: usize) -> Result<CoreStep, AllocError>
+    requires { place < length core.old.sessions.items }
+    ensures { IfOk result (λ t. core_step_of core.new t ≡ hangs (core_of core.old) (place + 1) (slice_get core.old.sessions.items place)) }
+{
+    if core.sessions[place].is_hung() {
+        return Ok(CoreStep::quiet(alloc));
+    }
+    let number = short_number(place as u64 + 1)?;
+    core.steps = count_on(core.steps, 1)?;
+    hang(alloc, &mut core.server, number)?;
+    core.sessions[place].hang();
+    Ok(CoreStep::losing(alloc, Loss::UpOf(number)))
+}
+
+/// The server sees a session's connection lost, if there is one of this number.
+pub fn hangs(alloc: Global, core: &mut Core, session: u64) -> Result<CoreStep, AllocError>
+    ensures { IfOk result (λ t. core_step_of core.new t ≡ hangs (core_of core.old) session (numbered core.old.sessions.items session)) }
+{
+    match place_of(core.sessions.len(), session) {
+        Some(place) => hangs_at(alloc, core, place),
+        None => Ok(CoreStep::quiet(alloc)),
+    }
+}

@@ -1,0 +1,81 @@
+//! A record comes to a client. `hears` in `specs/Core.antt` says what that makes of the two ends.
+
+ghost use Rattle.std.specs.Prelude.{◌≡◌, ◌+◌, ◌<◌, length, slice_get, IfOk};
+ghost use Rattle.trace_ends.specs.Core.{hears, hears_at};
+ghost use Rattle.trace_sessions.specs.Numbers.{numbered};
+ghost use Rattle.trace_ends.specs.View.{core_of, core_step_of};
+
+use crate::core_step::{CoreStep, Loss};
+use crate::world_core::{Core, count_on};
+use std::alloc::{AllocError, Global};
+use trace_ops::ops::note_with;
+use trace_sessions::numbered::place_of;
+use trace_sessions::session::{is_newest, taken_of};
+
+/// The client at this place hears a record of this session, unless it has left it.
+fn hears_at(
+    alloc: Global,
+    core: &mut Core,
+    number: u64,
+    place: usize,
+    now: u64,
+    bytes: &[u8],
+) -> Result<CoreStep, AllocError>
+    requires { place < length core.old.seats.items }
+    ensures { IfOk result (λ t. core_step_of core.new t ≡ hears_at (core_of core.old) number (place + 1) now bytes.now (slice_get core.old.seats.items place)) }
+{
+    let session = core.seats[place].session();
+    let running = core.seats[place].place();
+    if !is_newest(session, number) {
+        return Ok(CoreStep::quiet(alloc));
+    }
+    let step = count_on(core.steps, 1)?;
+    let acts = core.seats[place].hears(alloc, bytes, now)?;
+    let taken = taken_of(&core.sessions, session);
+    let client = core.seats[place].client();
+    let done = note_with(alloc, &mut core.ops, running, client, taken, step, &acts);
+    core.steps = step;
+    match done {
+        Ok(()) => Ok(CoreStep::acted(alloc, Loss::Nothing, session, acts)),
+        Err(error) => {
+            drop(acts);
+            Err(error)
+        }
+    }
+}
+
+/// The client of this number hears a record of this session, if there is one.
+fn hears_by(
+    alloc: Global,
+    core: &mut Core,
+    number: u64,
+    owner: u64,
+    now: u64,
+    bytes: &[u8],
+) -> Result<CoreStep, AllocError>
+    ensures { IfOk result (λ t. core_step_of core.new t ≡ hears_at (core_of core.old) number owner now bytes.now (numbered core.old.seats.items owner)) }
+{
+    match place_of(core.seats.len(), owner) {
+        Some(place) => hears_at(alloc, core, number, place, now, bytes),
+        None => Ok(CoreStep::quiet(alloc)),
+    }
+}
+
+/// A record of this session, if there is one, comes to its client.
+pub fn hears(
+    alloc: Global,
+    core: &mut Core,
+    number: u64,
+    now: u64,
+    bytes: &[u8],
+) -> Result<CoreStep, AllocError>
+    ensures { IfOk result (λ t. core_step_of core.new t ≡ hears (core_of core.old) number now bytes.now (numbered core.old.sessions.items number)) }
+{
+    match place_of(core.sessions.len(), number) {
+        Some(at) => {
+            let owner = core.sessions[at].owner;
+            hears_by(alloc, core, number, owner, now, bytes)
+        }
+        None => Ok(CoreStep::quiet(alloc)),
+    }
+}

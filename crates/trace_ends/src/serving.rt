@@ -1,0 +1,138 @@
+//! A record comes to the server. `serves` in `specs/Core.antt` says what that makes of the two ends.
+
+ghost use Rattle.std.specs.Prelude.{◌≡◌, ◌+◌, ◌<◌, ◌^◌, ◌++◌, drop, length, replicate, slice_get, slice_set, IfOk, IfSome, OnOk};
+ghost use Rattle.trace_ends.specs.Core.{changed_file, server_waiting, server_got, serves};
+ghost use Rattle.trace_ops.specs.Ops.{pointed_at};
+ghost use Rattle.trace_sessions.specs.Session.{taken_with};
+ghost use Rattle.trace_sessions.specs.Numbers.{numbered};
+ghost use Rattle.trace_ends.specs.View.{core_of, core_step_of};
+
+use crate::core_step::CoreStep;
+use crate::entering::{changed_from, enter};
+use crate::world_core::{Core, count_on};
+use lb_base::items::Items;
+use server_core::event::Event;
+use std::alloc::{AllocError, Global};
+use trace_ops::ops::point_at;
+use trace_sessions::numbered::place_of;
+use trace_sessions::parsing::parse_record;
+use trace_sessions::session::short_number;
+use wire::message::{Message, Side, Waiting};
+
+/// The server asks for nothing, so nothing waits there.
+fn server_waiting(alloc: Global) -> Waiting
+    ensures { result ≡ server_waiting }
+{
+    Waiting {
+        side: Side::Server,
+        calls: Items::new(alloc),
+    }
+}
+
+/// Counts the step in which a message of the session at this place is taken, and remembers it.
+fn note(core: &mut Core, place: usize, message: &Message) -> Result<(), AllocError>
+    requires { place < length core.old.sessions.items }
+    ensures { OnOk result (IfSome (slice_get core.old.sessions.items place) (λ x. core_of core.new ≡ record (core_of core.old) { steps = core.old.steps + 1; sessions = slice_set core.old.sessions.items place (record x { taken = taken_with x.taken message.now (core.old.steps + 1) }) })) }
+{
+    let step = count_on(core.steps, 1)?;
+    core.sessions[place].remember(message, step)?;
+    core.steps = step;
+    Ok(())
+}
+
+/// The operation of this session that changed a file has its point at this step, and each entry that
+/// the journal has behind those before this place has this step.
+fn enter_at(core: &mut Core, place: usize, before: usize, made: u32) -> Result<(), AllocError>
+    requires { place < length core.old.sessions.items }
+    ensures { OnOk result (IfSome (slice_get core.old.sessions.items place) (λ x. core_of core.new ≡ record (core_of core.old) { ops = pointed_at core.old.ops.items x.closing core.old.steps (changed_file (drop before core.old.server.journal)); entries = core.old.entries.items ++ replicate made core.old.steps })) }
+{
+    let changed = changed_from(core.server.journal(), before);
+    let closing = core.sessions[place].closing;
+    point_at(&mut core.ops, closing, core.steps, changed);
+    enter(&mut core.entries, made, core.steps)
+}
+
+/// The server takes a message of the session at this place, at this reading of its clock.
+fn got(
+    alloc: Global,
+    core: &mut Core,
+    place: usize,
+    now: u64,
+    message: Message,
+) -> Result<CoreStep, AllocError>
+    requires place { place < length core.old.sessions.items }
+    requires now { now < 2 ^ 63 }
+    ensures { IfOk result (λ t. IfSome (slice_get core.old.sessions.items place) (λ x. core_step_of core.new t ≡ server_got (core_of core.old) (place + 1) now x message)) }
+{
+    let session = match short_number(place as u64 + 1) {
+        Ok(session) => session,
+        Err(error) => {
+            drop(message);
+            return Err(error);
+        }
+    };
+    match note(core, place, &message) {
+        Ok(()) => (),
+        Err(error) => {
+            drop(message);
+            return Err(error);
+        }
+    }
+    let event = Event::Got {
+        session,
+        message,
+        now,
+    };
+    let before = core.server.journal().len();
+    let step = core.server.step_unkept(alloc, event);
+    if step.missed {
+        drop(step);
+        return Err(AllocError);
+    }
+    match enter_at(core, place, before, step.entries) {
+        Ok(()) => Ok(CoreStep::served(alloc, step)),
+        Err(error) => {
+            drop(step);
+            Err(error)
+        }
+    }
+}
+
+/// The server takes a record of the session at this place, at this reading of its clock. Bytes that
+/// are no message change nothing but the count of steps.
+fn serves_at(
+    alloc: Global,
+    core: &mut Core,
+    place: usize,
+    now: u64,
+    bytes: &[u8],
+) -> Result<CoreStep, AllocError>
+    requires place { place < length core.old.sessions.items }
+    requires now { now < 2 ^ 63 }
+    ensures { IfOk result (λ t. core_step_of core.new t ≡ serves (core_of core.old) (place + 1) now bytes.now (slice_get core.old.sessions.items place)) }
+{
+    match parse_record(alloc, bytes, &server_waiting(alloc))? {
+        Ok(message) => got(alloc, core, place, now, message),
+        Err(_) => {
+            core.steps = count_on(core.steps, 1)?;
+            Ok(CoreStep::quiet(alloc))
+        }
+    }
+}
+
+/// The server takes a record of this session, if there is one, at this reading of its clock.
+pub fn serves(
+    alloc: Global,
+    core: &mut Core,
+    number: u64,
+    now: u64,
+    bytes: &[u8],
+) -> Result<CoreStep, AllocError>
+    requires { now < 2 ^ 63 }
+    ensures { IfOk result (λ t. core_step_of core.new t ≡ serves (core_of core.old) number now bytes.now (numbered core.old.sessions.items number)) }
+{
+    match place_of(core.sessions.len(), number) {
+        Some(place) => serves_at(alloc, core, place, now, bytes),
+        None => Ok(CoreStep::quiet(alloc)),
+    }
+}

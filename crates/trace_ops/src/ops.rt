@@ -1,0 +1,223 @@
+//! The operations of a history, as the steps of their clients make them. `specs/Ops.antt` says what
+//! becomes of them.
+
+ghost use Rattle.std.specs.Prelude.{◌≡◌, ◌==◌, find, slice_get, IfOk, OnOk};
+ghost use Rattle.std.specs.Option.{option_copied};
+ghost use Rattle.trace_ops.specs.Ops.{ops_after, ops_with, has_point, taken_at, point_if, value_of, counted, ended_op, file_with, op_after, begun, pointed, pointed_at};
+
+use crate::commands::local_bytes;
+use crate::taken_call::TakenCall;
+use client_state::step;
+use client_state::step::{ClientStep, Counts, Ended};
+use open_close::client::Client;
+use register_model::op::{Op, Outcome, Traffic, Word};
+use shared_bytes::SharedBytes;
+use std::alloc::{AllocError, Global};
+use told_outcome::told_of;
+use xdr_codec::status::Status;
+
+/// Whether an open that ended so read or missed its file at one moment.
+fn has_point(word: Word, outcome: &step::Outcome) -> bool
+    ensures { result ≡ has_point word outcome.now }
+{
+    match word {
+        Word::Open => matches!(
+            outcome,
+            step::Outcome::Opened { .. } | step::Outcome::Refused(Status::Stale)
+        ),
+        _ => false,
+    }
+}
+
+/// The call with this xid.
+fn find_taken(taken: &[TakenCall], xid: u32) -> Option<&TakenCall>
+    ensures { option_copied result ≡ find (λ t. t.xid == xid) taken.now }
+{
+    taken.iter().find(|t| t.xid == xid)
+}
+
+/// The step at which the call was taken that an outcome rests on.
+fn taken_at(taken: &[TakenCall], xid: u32) -> Option<u64>
+    ensures { result ≡ taken_at taken.now xid }
+{
+    find_taken(taken, xid).map(|t| t.step)
+}
+
+/// The point that an operation has by its end; that of a change is the step at which it was
+/// made.
+fn point_of(word: Word, point: Option<u64>, ended: &Ended, taken: &[TakenCall]) -> Option<u64>
+    ensures { result ≡ point_if (has_point word ended.now.outcome) taken.now ended.now.rests_on point }
+{
+    if has_point(word, &ended.outcome) {
+        taken_at(taken, ended.rests_on)
+    } else {
+        point
+    }
+}
+
+/// Puts the content that an open got in its place. A close has its value from its begin.
+fn put_value(
+    value: &mut SharedBytes,
+    client: &Client,
+    outcome: &step::Outcome,
+) -> Result<(), AllocError>
+    ensures { OnOk result (value.new ≡ value_of value.old client.now outcome.now) }
+{
+    match outcome {
+        step::Outcome::Opened { file, .. } => {
+            *value = local_bytes(client, *file)?;
+            Ok(())
+        }
+        _ => Ok(()),
+    }
+}
+
+/// What was sent and received, with a step's share. No run comes to 2^64 bytes, so there it is want
+/// of memory.
+fn counted(traffic: Traffic, counts: Counts) -> Result<Traffic, AllocError>
+    ensures { IfOk result (λ t. t ≡ counted traffic counts) }
+{
+    let cond = traffic
+        .cond
+        .checked_add(counts.cond_writes)
+        .ok_or(AllocError)?;
+    let tmp = traffic
+        .tmp
+        .checked_add(counts.temp_writes)
+        .ok_or(AllocError)?;
+    let read = traffic.read.checked_add(counts.reads).ok_or(AllocError)?;
+    let data = traffic.data.checked_add(counts.bytes).ok_or(AllocError)?;
+    Ok(Traffic {
+        cond,
+        tmp,
+        read,
+        data,
+    })
+}
+
+/// An operation that begins.
+pub fn begun(client: u32, word: Word, file: u64, value: SharedBytes, step: u64) -> Op
+    ensures { result ≡ begun client word file value step }
+{
+    Op {
+        client,
+        word,
+        file,
+        begin: step,
+        end: None,
+        point: None,
+        outcome: Outcome::Running,
+        value,
+        traffic: Traffic {
+            cond: 0,
+            tmp: 0,
+            read: 0,
+            data: 0,
+        },
+    }
+}
+
+/// An operation ends.
+fn end(
+    alloc: Global,
+    op: &mut Op,
+    client: &Client,
+    taken: &[TakenCall],
+    step: u64,
+    ended: &Ended,
+) -> Result<(), AllocError>
+    ensures { OnOk result (op.new ≡ ended_op op.old client.now taken.now step ended.now) }
+{
+    op.outcome = told_of(alloc, &ended.outcome)?;
+    put_value(&mut op.value, client, &ended.outcome)?;
+    op.end = Some(step);
+    op.point = point_of(op.word, op.point, ended, taken);
+    Ok(())
+}
+
+/// The file of an operation whose path was found to stand for this, if it was found in a step.
+fn file_with(file: u64, found: Option<u64>) -> u64
+    ensures { result ≡ file_with file found }
+{
+    match found {
+        None => file,
+        Some(id) => id,
+    }
+}
+
+/// What becomes of an operation in a step of its client.
+pub fn note(
+    alloc: Global,
+    op: &mut Op,
+    client: &Client,
+    taken: &[TakenCall],
+    step: u64,
+    acts: &ClientStep,
+) -> Result<(), AllocError>
+    ensures { OnOk result (op.new ≡ op_after op.old client.now taken.now step acts.now) }
+{
+    op.file = file_with(op.file, acts.found);
+    op.traffic = counted(op.traffic, acts.counts)?;
+    match &acts.ended {
+        None => Ok(()),
+        Some(ended) => end(alloc, op, client, taken, step, ended),
+    }
+}
+
+/// What becomes of the operation at this place, if there is one, in a step of its client.
+fn note_at(
+    alloc: Global,
+    ops: &mut Vec<Op>,
+    place: usize,
+    client: &Client,
+    taken: &[TakenCall],
+    step: u64,
+    acts: &ClientStep,
+) -> Result<(), AllocError>
+    ensures { OnOk result (ops.new.items ≡ ops_after ops.old.items place (slice_get ops.old.items place) client.now taken.now step acts.now) }
+{
+    if ops.len() <= place {
+        return Ok(());
+    }
+    note(alloc, &mut ops[place], client, taken, step, acts)
+}
+
+/// What becomes of the operations in a step of a client, whose own under way is at this place.
+pub fn note_with(
+    alloc: Global,
+    ops: &mut Vec<Op>,
+    place: Option<usize>,
+    client: &Client,
+    taken: &[TakenCall],
+    step: u64,
+    acts: &ClientStep,
+) -> Result<(), AllocError>
+    ensures { OnOk result (ops.new.items ≡ ops_with ops.old.items place client.now taken.now step acts.now) }
+{
+    match place {
+        None => Ok(()),
+        Some(place) => note_at(alloc, ops, place, client, taken, step, acts),
+    }
+}
+
+/// The operation of this place, if there is one, changed this file in this step, which is its point.
+fn point(ops: &mut Vec<Op>, place: usize, file: u64, step: u64)
+    ensures { ops.new.items ≡ pointed ops.old.items place file step (slice_get ops.old.items place) }
+{
+    if ops.len() <= place {
+        return;
+    }
+    let op = &mut ops[place];
+    op.file = file;
+    op.point = Some(step);
+}
+
+/// The operation at a place, if there is one, changed a file in this step, if one was changed.
+pub fn point_at(ops: &mut Vec<Op>, place: Option<usize>, step: u64, changed: Option<u64>)
+    ensures { ops.new.items ≡ pointed_at ops.old.items place step changed }
+{
+    match (place, changed) {
+        (Some(place), Some(file)) => point(ops, place, file, step),
+        _ => (),
+    }
+}

@@ -1,0 +1,4 @@
+pub mod Numbers
+pub mod Session
+pub mod Queue
+pub mod Wires

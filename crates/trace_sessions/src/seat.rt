@@ -1,0 +1,162 @@
+//! A client of the trace, with what is kept of it beside its own state. `Seat` in
+//! `specs/Session.antt` says what that is.
+
+ghost use Rattle.std.specs.Prelude.{◌≡◌, ◌<◌, Some, length, slice_get, IfOk, IfSome, OnOk};
+ghost use Rattle.wire.specs.Parse.{parse_of};
+ghost use Rattle.client_state.specs.State.{waiting_of, forged, index_cleared, evicted};
+ghost use Rattle.open_close.specs.Step.{command_step, got_step};
+ghost use Rattle.client_state.specs.Ending.{joined, cut};
+ghost use Rattle.trace_sessions.specs.Session.{new_seat};
+ghost use Rattle.trace_ops.specs.Ops.{place_after, place_with};
+
+use crate::parsing::parse_record;
+use chunk_index::place::Place;
+use client_state::drops;
+use client_state::step::ClientStep;
+use command_text::command::Command;
+use open_close::client::Client;
+use std::alloc::{AllocError, Global};
+use std::marker::Model;
+use trace_ops::places::{place_after, place_with};
+
+/// A client, which may have joined or not.
+#[derive(Drop)]
+pub struct Seat {
+    client: Client,
+    /// The number of its newest session, if it ever had one.
+    session: Option<u32>,
+    /// The place of its operation under way.
+    place: Option<usize>,
+}
+
+impl Model for Seat {
+    ghost use Rattle.trace_sessions.specs.Session.{Seat as CoreSeat};
+
+    ghost Value = { CoreSeat };
+
+    ghost view = { λ s. record { client = s.client; session = s.session; place = s.place } };
+}
+
+impl Seat {
+    /// A client that has not joined. The one error is want of memory.
+    pub fn new(alloc: Global) -> Result<Seat, AllocError>
+        ensures { IfOk result (λ seat. seat ≡ new_seat) }
+    {
+        let client = Client::new(alloc)?;
+        Ok(Seat {
+            client,
+            session: None,
+            place: None,
+        })
+    }
+
+    /// The client.
+    pub fn client(&self) -> &Client
+        ensures { result.now ≡ self.now.client }
+    {
+        &self.client
+    }
+
+    /// Whether it is joined.
+    pub fn linked(&self) -> bool
+        ensures { result ≡ self.now.client.linked }
+    {
+        self.client.linked()
+    }
+
+    /// The number of its newest session, if it ever had one.
+    pub fn session(&self) -> Option<u32>
+        ensures { result ≡ self.now.session }
+    {
+        self.session
+    }
+
+    /// The place of its operation under way.
+    pub fn place(&self) -> Option<usize>
+        ensures { result ≡ self.now.place }
+    {
+        self.place
+    }
+
+    /// The client joins, and has the session of this number then.
+    pub fn joins(&mut self, alloc: Global, made: u32)
+        ensures { self.new ≡ record self.old { client = joined self.old.client; session = Some made } }
+    {
+        self.client.joined(alloc);
+        self.session = Some(made);
+    }
+
+    /// The client does what it is told to; the command's own operation has this place.
+    pub fn does(
+        &mut self,
+        alloc: Global,
+        command: Command,
+        now: u64,
+        place: usize,
+    ) -> Result<ClientStep, AllocError>
+        ensures acts { IfOk result (λ acts. (command_step self.old.client command now).1 ≡ acts) }
+        ensures seat { IfOk result (λ acts. self.new ≡ record self.old { client = (command_step self.old.client command now).0; place = place_with self.old.place place acts.ended }) }
+    {
+        let acts = self.client.command(alloc, command, now);
+        if acts.missed {
+            drops::step(acts);
+            return Err(AllocError);
+        }
+        self.place = place_with(self.place, place, &acts.ended);
+        Ok(acts)
+    }
+
+    /// A record comes to the client.
+    pub fn hears(&mut self, alloc: Global, bytes: &[u8], now: u64) -> Result<ClientStep, AllocError>
+        ensures acts { IfOk result (λ acts. (got_step self.old.client (parse_of (waiting_of self.old.client) bytes.now) now).1 ≡ acts) }
+        ensures seat { IfOk result (λ acts. self.new ≡ record self.old { client = (got_step self.old.client (parse_of (waiting_of self.old.client) bytes.now) now).0; place = place_after self.old.place acts.ended }) }
+    {
+        let said = parse_record(alloc, bytes, self.client.waiting())?;
+        let acts = self.client.got(alloc, said, now);
+        if acts.missed {
+            drops::step(acts);
+            return Err(AllocError);
+        }
+        self.place = place_after(self.place, &acts.ended);
+        Ok(acts)
+    }
+
+    /// The client's index gets this place for the key. The one error is want of memory.
+    pub fn forge(&mut self, key: u64, place: Place) -> Result<(), AllocError>
+        ensures { OnOk result (self.new ≡ record self.old { client = forged self.old.client key place }) }
+    {
+        self.client.forge(key, place)
+    }
+
+    /// The client's index has no place any more.
+    pub fn clear_index(&mut self)
+        ensures { self.new ≡ record self.old { client = index_cleared self.old.client } }
+    {
+        self.client.clear_index();
+    }
+
+    /// The client drops the content that it keeps of this file.
+    pub fn evict(&mut self, file: u64)
+        ensures { self.new ≡ record self.old { client = evicted self.old.client file } }
+    {
+        self.client.evict(file);
+    }
+
+    /// The client sees its connection lost.
+    pub fn cuts(&mut self, alloc: Global) -> ClientStep
+        ensures acts { (cut self.old.client).1 ≡ result }
+        ensures seat { self.new ≡ record self.old { client = (cut self.old.client).0; place = place_after self.old.place result.ended } }
+    {
+        let acts = self.client.cut(alloc);
+        self.place = place_after(self.place, &acts.ended);
+        acts
+    }
+}
+
+/// Where the operation under way of the client at this place stands, if it has one.
+pub fn running_at(seats: &[Seat], place: usize) -> Option<usize>
+    requires { place < length seats.now }
+    ensures { IfSome (slice_get seats.now place) (λ seat. result ≡ seat.place) }
+{
+    seats[place].place()
+}

@@ -1,0 +1,69 @@
+//! What is sent on a session put on its way. `specs/Wires.antt` says where it goes.
+
+ghost use Rattle.std.specs.Prelude.{◌≡◌, OnOk};
+ghost use Rattle.trace_sessions.specs.Numbers.{numbered};
+ghost use Rattle.trace_sessions.specs.Wires.{up_put_in, up_put, message_put_in};
+
+use crate::numbered::place_of;
+use crate::session::Session;
+use crate::wires::Wire;
+use send_list::SendList;
+use std::alloc::{AllocError, Global};
+use wire::message::Message;
+
+/// Puts messages on their way up a session, unless the server saw it lost.
+fn put_up(
+    alloc: Global,
+    sessions: &[Session],
+    wires: &mut Vec<Wire>,
+    number: u32,
+    messages: &SendList<Message>,
+) -> Result<(), AllocError>
+    ensures { OnOk result (wires.new.items ≡ up_put_in wires.old.items number messages.now (numbered sessions.now number) (numbered wires.old.items number)) }
+{
+    let Some(session) = place_of(sessions.len(), u64::from(number)) else {
+        return Ok(());
+    };
+    let Some(place) = place_of(wires.len(), u64::from(number)) else {
+        return Ok(());
+    };
+    let session = &sessions[session];
+    wires[place].put_up(alloc, session.hung, messages)
+}
+
+/// Puts the messages that a client sends on their way up its newest session.
+pub fn up_put(
+    alloc: Global,
+    sessions: &[Session],
+    wires: &mut Vec<Wire>,
+    number: Option<u32>,
+    messages: &SendList<Message>,
+) -> Result<(), AllocError>
+    ensures { OnOk result (wires.new.items ≡ up_put sessions.now wires.old.items number messages.now) }
+{
+    match number {
+        None => Ok(()),
+        Some(number) => put_up(alloc, sessions, wires, number, messages),
+    }
+}
+
+/// Puts a message of the server on its way down its session, unless the client saw it lost.
+pub fn put_down(
+    alloc: Global,
+    sessions: &[Session],
+    wires: &mut Vec<Wire>,
+    number: u32,
+    message: &Message,
+) -> Result<(), AllocError>
+    ensures { OnOk result (wires.new.items ≡ message_put_in wires.old.items number message.now (numbered sessions.now number) (numbered wires.old.items number)) }
+{
+    let number = u64::from(number);
+    let Some(session) = place_of(sessions.len(), number) else {
+        return Ok(());
+    };
+    let Some(place) = place_of(wires.len(), number) else {
+        return Ok(());
+    };
+    let session = &sessions[session];
+    wires[place].put_down(alloc, session.cut, message)
+}
