@@ -6,9 +6,9 @@ use Rattle.server_core.specs.State as server
 use Rattle.server_core.specs.Step.{with_index}
 use Rattle.client_state.specs.State as client
 use Rattle.trace_text.specs.declared.line.Who.TheVariants as who
-use Rattle.trace_replay.specs.declared.adjusting.Adjustment.{Adjustment}
-use Rattle.trace_replay.specs.declared.adjusting.Adjustment.TheVariants as adjustment
-use Rattle.trace_replay.specs.Core.{with_client, adjusted}
+use Rattle.trace_ends.specs.declared.adjusting.Adjustment.{Adjustment}
+use Rattle.trace_ends.specs.declared.adjusting.Adjustment.TheVariants as adjustment
+use Rattle.trace_ends.specs.Core.{with_client, adjusted}
 use Rattle.kept_promise.proofs.Common.{Entries, Core, Seat, Session, numbered, with_numbered, Book, Queue}
 use Rattle.kept_promise.proofs.Lists.{some_is, same_or_not}
 use Rattle.kept_promise.proofs.Orderly.{Orderly}

@@ -1,6 +1,7 @@
 -- In one version a file has one content, at all moments of a run: the server changes a file's content only with its version, whatever it is asked.
 use Rattle.std.proofs.Common.{◌⊎◌, inl, inr, ◌≡◌, ℕ, zero, suc, ◌+◌, List, [], ◌∷◌, ◌++◌, append-nil, append_assoc, Option, Some, None, Result, Ok, Err, Bool, true, false, refl, sym, ap, ◌∙◌, subst, arith, ◌≤◌, ◌<◌}
 use Rattle.server_core.specs.State as server
+use Rattle.chunk_calls.specs.Files as the_files
 use Rattle.server_core.specs.Closing.{settles as server_settles}
 use Rattle.server_core.specs.declared.change.Wanted.TheVariants as wanted
 use Rattle.tree_calls.specs.Waiting.{commits, settles as tree_settles}
@@ -11,9 +12,9 @@ use Rattle.trace_replay.specs.declared.stage.Stage.TheVariants as part
 use Rattle.trace_replay.specs.declared.turn.Turn.TheVariants as turn
 use Rattle.client_state.specs.State as client
 use Rattle.trace_text.specs.declared.line.Who.TheVariants as who
-use Rattle.trace_replay.specs.declared.adjusting.Adjustment.{Adjustment}
-use Rattle.trace_replay.specs.declared.adjusting.Adjustment.TheVariants as adjustment
-use Rattle.trace_replay.specs.Core.{adjusted, with_client}
+use Rattle.trace_ends.specs.declared.adjusting.Adjustment.{Adjustment}
+use Rattle.trace_ends.specs.declared.adjusting.Adjustment.TheVariants as adjustment
+use Rattle.trace_ends.specs.Core.{adjusted, with_client}
 use Rattle.kept_promise.proofs.Common.{Contains, Contains-push_cases, parse_of, WireFault, Message, content_bytes, Command, is_newest, stands, has_room, connect, at, makes_change, lines_of, line_of, Line, LineFault, Turn, Event, Event.Joins, Event.Does, Event.Serves, Event.Hears, Event.Settles, Event.Cuts, Event.Hangs, File, Change, Core, Seat, Session, numbered, server_waiting, serves_if, serves, does, hears_at, hears_if, hears, joins_as, joins, settles, cuts_if, cuts, hangs_if, hangs, happens, World, Wire, start, happened, all_happened, up_taken, up_events, up_at, up_length, up_all, down_taken, down_events, down_at, down_length, round, is_still, passes, asked, asked_by, at_events, count_of, turned, Moment, moments_of, up_moments_at, down_moments_at, round_moments, passes_moments, turn_moments, moments_from, moments, Wanted, Tree, step_of}
 use Rattle.kept_promise.proofs.Lists.{some_is}
 use Rattle.kept_promise.proofs.Rights.{AreAlike}
@@ -241,8 +242,8 @@ pub record Rises (past : List Moment) (w : World) : Type 0 where
 abbrev Goes : List Moment → World → Type 0
 Goes past w = Rises past w × (w.stage ≡ part.Events)
 
-alike_by : (a b : Tree) (f : ℕ) (g h : File) → IsGiven a → IsLater a b → server.file_at a f ≡ Some g → server.file_at b f ≡ Some h → g.version ≡ h.version → g.content ≡ h.content
-alike_by a b f g h known later at is same = by (subst (λ (o : Option File). IsSince o (Some h)) at (subst (IsSince (server.file_at a f)) is (later.files f (file_below a f g known at))))
+alike_by : (a b : Tree) (f : ℕ) (g h : File) → IsGiven a → IsLater a b → the_files.file_at a f ≡ Some g → the_files.file_at b f ≡ Some h → g.version ≡ h.version → g.content ≡ h.content
+alike_by a b f g h known later at is same = by (subst (λ (o : Option File). IsSince o (Some h)) at (subst (IsSince (the_files.file_at a f)) is (later.files f (file_below a f g known at))))
   where
     by : IsSince (Some g) (Some h) → g.content ≡ h.content
     by (inl lt) = absurd (omega (arith, lt, same))
@@ -269,11 +270,11 @@ rises_event past w e (h, at) = (
     alike = λ f g d p q same. elim (Contains-push_cases past now p.at p.there) [
       | inl old ↦ elim (Contains-push_cases past now q.at q.there) [
         | inl also ↦ h.alike f g d (record { at = p.at; there = old; held = p.held }) (record { at = q.at; there = also; held = q.held }) same
-        | inr new ↦ alike_by (tree p.at.before) (tree w.core) f g d (h.before p.at old) (h.older p.at old) p.held (ap (λ (z : Moment). server.file_at (tree z.before) f) new ∙ q.held) same
+        | inr new ↦ alike_by (tree p.at.before) (tree w.core) f g d (h.before p.at old) (h.older p.at old) p.held (ap (λ (z : Moment). the_files.file_at (tree z.before) f) new ∙ q.held) same
       ]
       | inr new ↦ elim (Contains-push_cases past now q.at q.there) [
-        | inl also ↦ sym (alike_by (tree q.at.before) (tree w.core) f d g (h.before q.at also) (h.older q.at also) q.held (ap (λ (z : Moment). server.file_at (tree z.before) f) new ∙ p.held) (sym same))
-        | inr both ↦ ap (λ (z : File). z.content) (some_is g d (sym p.held ∙ ap (λ (z : Moment). server.file_at (tree z.before) f) (sym new ∙ both) ∙ q.held))
+        | inl also ↦ sym (alike_by (tree q.at.before) (tree w.core) f d g (h.before q.at also) (h.older q.at also) q.held (ap (λ (z : Moment). the_files.file_at (tree z.before) f) new ∙ p.held) (sym same))
+        | inr both ↦ ap (λ (z : File). z.content) (some_is g d (sym p.held ∙ ap (λ (z : Moment). the_files.file_at (tree z.before) f) (sym new ∙ both) ∙ q.held))
       ]
     ];
     counted = dirs_.0;

@@ -117,10 +117,6 @@ wrote s file offset content l at = by (content_length content == 0) refl
 
 -- ---- what is told of the local content
 
-none_map : (o : Option Local) → option_map (λ (z : Local). z.bytes) o ≡ None → o ≡ None
-none_map None e = refl
-none_map (Some l) e = absurd cc
-
 -- a command on an open file
 local_one : (s : client.State) (d : Command) (file : ℕ) (does_it : Local → client.State × ClientStep) → s.task ≡ None → file_of d ≡ file
     → free_answer (may_ask s) d None ≡ Some told.NotOpen → ((v : List ℕ) (l : Option (List ℕ)) → leaves d told.NotOpen v l ≡ l)
@@ -133,11 +129,6 @@ local_one s d file does_it free mine shut idle goes = subst (λ (f : ℕ). (let 
     by (Some l) e = goes l e (ap (option_map (λ (z : Local). z.bytes)) e)
 
 -- ---- the server is asked
-
-asking : (s : client.State) (d : Command) (b : Bool) (begins : client.State × ClientStep) → begins.1.ended ≡ None → begins.0.opened ≡ s.opened → Stays s begins.0 → ValueIs s d → ((v : List ℕ) (l : Option (List ℕ)) → leaves d told.NoLink v l ≡ l)
-    → (let r : client.State × ClientStep = elim b [ true ↦ begins | false ↦ (s, ends outcome.NoLink 0 0) ] in Stays s r.0 × AnswersBy s d r (unless_asks b))
-asking s d true begins a b c v idle = (c, (a, b, v))
-asking s d false begins a b c v idle = (stays s, so s d outcome.NoLink told.NoLink refl (λ v. refl) idle)
 
 opened_answer : (s : client.State) (file : ℕ) → s.task ≡ None → IsAnswered s (command.Open file) (opens s file s.task)
 opened_answer s file free = subst (λ (t : Option Task). IsAnswered s (command.Open file) (opens s file t)) (sym free) (by (client.local_at s.opened file))

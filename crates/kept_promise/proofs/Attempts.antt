@@ -1,5 +1,5 @@
 -- An attempt to fetch a file: its chunks, as they are told, and what another version makes of it.
-use Rattle.std.proofs.Common.{◌⊎◌, inl, inr, ◌≡◌, ℕ, zero, suc, ◌+◌, ◌*◌, ◌<◌, ◌≤◌, List, [], ◌∷◌, ◌++◌, length, Option, Some, None, Bool, true, false, refl, sym, ap, ◌∙◌, subst, arith, map, take, drop}
+use Rattle.std.proofs.Common.{inl, inr, ◌≡◌, ℕ, zero, suc, ◌+◌, ◌<◌, ◌≤◌, List, [], ◌∷◌, ◌++◌, length, Option, Some, None, Bool, true, false, refl, sym, ap, ◌∙◌, subst, arith, map, take, drop}
 use Rattle.std.proofs.lemmas.List.{length-append}
 use Rattle.kept_promise.proofs.Common.{nat_tests, slice_get, nat_le, Contains, chunks_of, chunk_bytes, end_of, Chunk, Hashes, hashes_of, told_chunks, pair_of, is_end, fetch_of, with_hashes, slots_bytes, broken_of, with_pairs, Fetch, TakenCall, Stage, taken_at, Book, Or, value_at, version_at, hashed_of, Tried}
 use Rattle.kept_promise.proofs.Lists.{some_is, nothing_there, take_whole, of_both}
@@ -11,16 +11,6 @@ use Rattle.kept_promise.proofs.Chunks.{Row, row_of, tells_next, tells_end, pairs
 use Rattle.kept_promise.proofs.CloseSteps.{chunks_few}
 
 -- ---- chunks
-
--- a file has 32,769 of them at most
-few_from : (x : List ℕ) (s : ℕ) (cs : List Chunk) → Row x s cs → 2048 * length cs + s ≤ length x + 2048
-few_from x s [] r = omega (arith, r)
-few_from x s (c ∷ []) r = let w = r.0.within in omega (arith, w)
-few_from x s (c ∷ d ∷ cs) r = by r.0.long (few_from x (c.start + c.len) (d ∷ cs) r.1)
-  where
-    by : (s + c.len ≡ length x) ⊎ (2048 ≤ c.len) → 2048 * length (d ∷ cs) + (c.start + c.len) ≤ length x + 2048 → 2048 * length (c ∷ d ∷ cs) + s ≤ length x + 2048
-    by (inl e) h = let at = r.0.start in let w = r.1.0.within in let p = r.1.0.some in absurd (omega (arith, e, at, w, p))
-    by (inr le) h = let at = r.0.start in omega (arith, le, at, h)
 
 take_past : {A : Type 0} (i : ℕ) (xs : List A) → length xs ≤ i → take i xs ≡ xs
 take_past zero [] le = refl

@@ -40,11 +40,11 @@ free_commits book closing cut o contents (a ∷ us) uncut free all = by a.call a
     by (Walks w) h none = creates w (is_creating w) refl h none
     by _ h none = omega (arith, none)
 
-free_waiting : (book : Book) (closing : Option ℕ) (cut : Bool) (o : Option Job) (cs : List Change) → cut ≡ false → o ≡ None → ((i : ℕ) (d : Change) → slice_get cs i ≡ Some d → WaitsFor book closing cut o d.xid d.file d.what) → cs ≡ []
+free_waiting : (book : Book) (closing : Option ℕ) (cut : Bool) (o : Option Job) (cs : List Change) → cut ≡ false → o ≡ None → ((i : ℕ) (d : Change) → slice_get cs i ≡ Some d → WaitsFor book d.session closing cut o d.xid d.file d.what) → cs ≡ []
 free_waiting book closing cut o [] uncut free all = refl
 free_waiting book closing cut o (d ∷ cs) uncut free all = by d.what (all 0 d refl)
   where
-    by : (what : Wanted) → WaitsFor book closing cut o d.xid d.file what → d ∷ cs ≡ []
+    by : (what : Wanted) → WaitsFor book d.session closing cut o d.xid d.file what → d ∷ cs ≡ []
     by (wanted.Content content) p = nothing_there _ (sym free ∙ p.waited uncut)
     by (wanted.Asked a) p = nothing_there _ (sym free ∙ (p.waited uncut).1)
 
@@ -74,9 +74,6 @@ answer_first book taken closing next j s a f is y (Bytes h) lt = λ i g c e at w
 answer_first book taken closing next j s a f is y (Changed h) lt = λ i e w. absurd (f.commit y (sym is ∙ ap (λ (z : Job). z.stage) (some_is j i e) ∙ w))
 answer_first book taken closing next j s a f is y (Walked r) lt = λ i w e at. absurd (f.walk y w lt (sym is ∙ ap (λ (z : Job). z.stage) (some_is j i e) ∙ at))
 answer_first book taken closing next j s a f is y _ lt = tt
-
-map_asks : (P Q : Ask → Type 0) → ((a : Ask) → P a → Q a) → (us : List Ask) → AllAsks P us → AllAsks Q us
-map_asks P Q f us h = all_asks P Q f us h
 
 unless_rising : (hung : Bool) (n : ℕ) (us : List Ask) (a : Ask) (top : ℕ) → Rising n us top → a.xid ≡ top → Rising n (unless hung us (a ∷ [])) (top + 1)
 unless_rising true n us a top r e = wider n us r

@@ -3,9 +3,9 @@ use Rattle.std.proofs.Common.{inl, inr, ◌≡◌, ℕ, zero, suc, ◌+◌, ◌<
 use Rattle.xdr_codec.specs.declared.status.Status.TheVariants as status
 use Rattle.server_core.specs.State as server
 use Rattle.client_state.specs.State as client
-use Rattle.server_core.specs.Answers.{chunks_told}
-use Rattle.server_core.specs.Closing.{done_unless}
-use Rattle.server_core.specs.Step.{with_told}
+use Rattle.chunk_calls.specs.Answers.{chunks_told}
+use Rattle.chunk_calls.specs.Writing.{done_unless}
+use Rattle.chunk_calls.specs.Entering.{with_told}
 use Rattle.temp_files.specs.Temps.{with_piece}
 use Rattle.client_state.specs.declared.task.Way.TheVariants as way
 use Rattle.kept_promise.proofs.Common.{slice_get, Chunk, handle_bytes, Done, Failed, Status, message_spell, MessageFits, Node, directory, file, node_of, at, makes, makes_unless, writes_unless, room_fault, Temp, temp_at, with_temp, key_of, piece_fault, range_fault, insert_entry, nat_cmp, ServerStep, Indexed, File, Core, Session, Event.Serves, CoreStep, Loss.Nothing, numbered, with_numbered, unless, hashed_of, Book, Call.Lease, Call.Hash, Call.Read, Call.Make, Call.Send, Reply, Reply.Made, Reply.Stored, Ask, Told, Queue, ask_message, told_message, call_program, reply_program, Tree, Call.Walks, Reply.Walked, happens, serves, serves_if, got_if, stands, Message, WireFault, Contains, Contains-push, name_answer, not, value_at}
@@ -205,7 +205,7 @@ serve_walk laws book k qs n now x q xid w us g none =
     let r : Reply = Walked (walk_reply k.server.tree w) in
     let h = session_in book k qs n now x q a us g in
     let fits = first_fits book k qs n now x q a us g in
-    leads_by book k qs n now x q a us k.server.temps k.server.index (Walked (walk_reply k.server.tree w)) g (same_temps book k n x q a (Walked (walk_reply k.server.tree w)) h g.kept.shelf (λ uncut. tt) (λ uncut vs e. held_still book k qs n now x q a us g (Walked (walk_reply k.server.tree w)) tt tt uncut vs e) (ap (λ p. program.Nfs p) (reply_its k.server.tree w fits.1 none)) (laws.names xid k.server.tree w (walk_reply k.server.tree w) fits.0 g.kept.server.bounded fits.1 (reply_told k.server.tree w fits.1 none)) (λ uncut. walk_told book k qs n now x q xid w us h.seat g.kept h.owner (h.talk uncut) g.first fits none g.noted sent))
+    leads_by book k qs n now x q a us k.server.temps k.server.index (Walked (walk_reply k.server.tree w)) g (same_temps book k n x q a (Walked (walk_reply k.server.tree w)) h g.kept.shelf (λ uncut. tt) (λ uncut vs e. held_still book k qs n now x q a us g (Walked (walk_reply k.server.tree w)) tt tt uncut vs e) (ap (λ p. program.Nfs p) (reply_its k.server.tree w fits.1 none)) (laws.names xid k.server.tree w (walk_reply k.server.tree w) fits.0 g.kept.server.bounded fits.1 (reply_told k.server.tree w fits.1 none)) (λ uncut. walk_told book k qs n now x q xid w us h.seat g.kept h.owner (h.here uncut).0 (h.talk uncut) g.first fits none g.noted sent))
   where
     answer : Sent
     answer = record { session = n; message = message.Answer xid (body.Nfs (name_answer (walk_reply k.server.tree w))) }

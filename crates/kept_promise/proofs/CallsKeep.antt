@@ -9,7 +9,8 @@ use Rattle.wire.specs.declared.message.Message.TheVariants as message
 use Rattle.xdr_codec.specs.declared.status.Status.TheVariants as status
 use Rattle.chunk_index.specs.Index.{key_of as digest_key, place_of}
 use Rattle.server_core.specs.State as server
-use Rattle.server_core.specs.Closing.{answers, sends, names_unless, names_bytes, bytes_known, looked_up as index_found, writes_unless, cond_fault}
+use Rattle.server_core.specs.Closing.{answers, sends, names_unless, names_bytes, looked_up as index_found, writes_unless}
+use Rattle.chunk_calls.specs.Writing.{bytes_known, cond_fault}
 use Rattle.server_core.specs.declared.event.Event.TheVariants as event
 use Rattle.kept_promise.proofs.Common.{Temp, size_most, temp_at, room_fault, piece_fault, assembled, without_temp, nat_lt, if◌then◌else◌, Failed, Status, Body, Message, Indexed, Node, directory, file, node_of, File, Change, ServerStep, server_step, called, got_if, stands, at, makes, makes_unless, commits, commits_to, commits_whole, has_waiting, is_full, Tree, Ask, ask_message, Call, Call.Lease, Call.Hash, Call.Read, Call.Make, Call.Name, Call.Send, Call.Commit, Call.Walks, Entry}
 use Rattle.server_core.specs.declared.change.Wanted.TheVariants as wanted
@@ -18,7 +19,6 @@ use Rattle.tree_calls.specs.Waiting.{calls}
 use Rattle.tree_calls.specs.declared.asked.Outcome.{Outcome}
 use Rattle.tree_calls.specs.declared.asked.Outcome.TheVariants.{Answered, Waits as ToWait}
 use Rattle.server_law.proofs.Trees.{Keeps, keeps_same}
-use Rattle.kept_promise.proofs.TreeBounds.{Stays, stays_same, calls_stays}
 use Rattle.server_law.proofs.TreeCalls.{calls_keep}
 use Rattle.kept_promise.proofs.TreeNameCalls.{calls_dirs}
 use Rattle.kept_promise.proofs.TreeNames.{KeepsDirs, dirs_same}
@@ -198,7 +198,3 @@ got_tree s session m now = got_any s session m now (Keeps s.tree) (keeps_same s.
 -- directories have their names, or later versions
 pub got_dirs : (s : server.State) (session : ℕ) (m : Message) (now : ℕ) → KeepsDirs s.tree (server_step s (event.Got session m now)).0.tree
 got_dirs s session m now = got_any s session m now (KeepsDirs s.tree) (dirs_same s.tree) (λ busy c. calls_dirs s.tree (server.held s.waiting) busy c)
-
--- the limits, and the room of what waits, are kept
-pub got_room : (s : server.State) (session : ℕ) (m : Message) (now : ℕ) → Stays (server.held s.waiting) s.tree (server_step s (event.Got session m now)).0.tree
-got_room s session m now = got_any s session m now (Stays (server.held s.waiting) s.tree) (stays_same (server.held s.waiting) s.tree) (λ busy c. calls_stays s.tree (server.held s.waiting) busy c)

@@ -55,11 +55,11 @@ commits_apart book closing cut o j contents (a ∷ us) uncut is apart all = by a
 abbrev NoneLeft : Job → List Change → Type 0
 NoneLeft j cs = ((i : ℕ) (d : Change) (content : List ℕ) → slice_get cs i ≡ Some d → d.what ≡ wanted.Content content → j.stage ≡ stage.Committing d.xid → ⊥) × ((i : ℕ) (d : Change) (a : Asked) (w : Walk) → slice_get cs i ≡ Some d → d.what ≡ wanted.Asked a → AsksFor w a → j.stage ≡ stage.Walking d.xid w → ⊥)
 
-waiting_apart : (book : Book) (closing : Option ℕ) (cut : Bool) (o : Option Job) (j : Job) (cs : List Change) → cut ≡ false → o ≡ Some j → NoneLeft j cs → ((i : ℕ) (d : Change) → slice_get cs i ≡ Some d → WaitsFor book closing cut o d.xid d.file d.what) → cs ≡ []
+waiting_apart : (book : Book) (closing : Option ℕ) (cut : Bool) (o : Option Job) (j : Job) (cs : List Change) → cut ≡ false → o ≡ Some j → NoneLeft j cs → ((i : ℕ) (d : Change) → slice_get cs i ≡ Some d → WaitsFor book d.session closing cut o d.xid d.file d.what) → cs ≡ []
 waiting_apart book closing cut o j [] uncut is apart all = refl
 waiting_apart book closing cut o j (d ∷ cs) uncut is apart all = by d.what refl (all 0 d refl)
   where
-    by : (what : Wanted) → d.what ≡ what → WaitsFor book closing cut o d.xid d.file what → d ∷ cs ≡ []
+    by : (what : Wanted) → d.what ≡ what → WaitsFor book d.session closing cut o d.xid d.file what → d ∷ cs ≡ []
     by (wanted.Content content) e p = absurd (apart.0 0 d content refl e (ap (λ (z : Job). z.stage) (some_is j _ (sym is ∙ p.waited uncut))))
     by (wanted.Asked a) e p = let w = p.waited uncut in absurd (apart.1 0 d a w.0 refl e w.2 (ap (λ (z : Job). z.stage) (some_is j _ (sym is ∙ w.1))))
 

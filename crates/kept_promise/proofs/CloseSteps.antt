@@ -8,7 +8,7 @@ use Rattle.client_state.specs.State as client
 use Rattle.client_state.specs.declared.task.Stage.TheVariants as stage
 use Rattle.client_state.specs.declared.task.Way.TheVariants as way
 use Rattle.register_model.specs.declared.op.Word.TheVariants as words
-use Rattle.kept_promise.proofs.Common.{nat_tests, slice_get, not, cond, ◌==◌, ◌&&◌, nat_le, chunks_of, chunk_bytes, Chunk, Pending, Program, Temp, store_pending, without_call, names_from, names_all, store_of, is_stored, store_at, without_store, answered, with_whole, commit_call, temp_call, calls_most, is_none, Names, Stage, Store, StoreCall, Task, Way, Op, Contains, Contains-append_left, Contains-append_right, Contains-push, Message, call_message, hashed_of, Core, Seat, Session, Book, unless, Call, Call.Name, Call.Send, Call.Commit, Ask, Told, Queue, ask_message, reply_program}
+use Rattle.kept_promise.proofs.Common.{nat_tests, slice_get, not, cond, ◌==◌, ◌&&◌, nat_le, chunks_of, chunk_bytes, Chunk, Pending, Program, Temp, store_pending, without_call, names_from, names_all, store_of, is_stored, store_at, without_store, answered, with_whole, commit_call, calls_most, is_none, Names, Stage, Store, StoreCall, Task, Way, Op, Contains, Contains-append_left, Contains-append_right, Contains-push, Message, call_message, hashed_of, Core, Seat, Session, Book, unless, Call, Call.Name, Call.Send, Call.Commit, Ask, Told, Queue, ask_message, reply_program}
 use Rattle.kept_promise.proofs.Statements.{CallFits, AreInRow, PiecesOf, SameShape}
 use Rattle.kept_promise.proofs.Lists.{some_is, nothing_there, of_appended, at_end, there_at, false_and_true}
 use Rattle.kept_promise.proofs.Keys.{times, times_append, there_by}
@@ -452,9 +452,6 @@ goes_committing book k qs n x q t ts j g st fits_file w filled noted on_ =
 
 abbrev pub sending : (st : Store) (next : ℕ) (content : List ℕ) → Chunk → List Ask
 sending st next content c = record { xid = next; call = Send st.temp c.start (chunk_bytes content c) } ∷ []
-
-pub sending_sent : (st : Store) (next : ℕ) (content : List ℕ) (c : Chunk) → temp_call next st.temp content c ∷ [] ≡ map ask_message (sending st next content c)
-sending_sent st next content c = refl
 
 pub goes_whole : (book : Book) (k : Core) (qs : List Queue) (n : ℕ) (x : Session) (q : Queue) (t : Told) (ts : List Told) (j : Job) (g : Here book k qs n x q t ts j) (st : Store) (u : StoreCall) (d : Chunk) → Ready book k qs n x q t ts j g st → u.index < st.named → slice_get st.chunks u.index ≡ Some d
     → (let c = (seat_at g).client in

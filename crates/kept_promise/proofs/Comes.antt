@@ -10,7 +10,7 @@ use Rattle.kept_promise.proofs.Common.{refused, slice_get, slice_set, not, Pendi
 use Rattle.kept_promise.proofs.Lists.{some_is, nothing_there, false_and_true, true_and_false}
 use Rattle.kept_promise.proofs.Messages.{Job, stage_word, IsTold, RefusedTold}
 use Rattle.kept_promise.proofs.Rights.{is_remote, Caused, RefusedBy, WasThere}
-use Rattle.file_tree.specs.Tree.{directory_of}
+use Rattle.tree_reading.specs.Tree.{directory_of}
 use Rattle.trace_replay.specs.Causes.{IsDirectory}
 use Rattle.trace_replay.specs.Naming.{tree_at}
 use Rattle.kept_promise.proofs.Growth.{Grows, value_later}

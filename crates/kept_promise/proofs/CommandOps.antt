@@ -1,13 +1,13 @@
 -- The operation that a command makes, and what is known of it at once.
 use Rattle.std.proofs.Common.{◌≡◌, ℕ, ◌+◌, ◌<◌, List, [], ◌∷◌, ◌++◌, length, Option, Some, None, Bool, true, false, refl, sym, ap, ◌∙◌, arith}
 use Rattle.client_state.specs.State as client
-use Rattle.kept_promise.proofs.Common.{slice_get, Command, no_counts, command_step, ClientStep, Ended, Task, Op, word_of, file_of, value_at_begin, no_traffic, counted, begun, has_point, point_if, op_after, place_with, Core, Seat, numbered, Book, Queue}
-use Rattle.kept_promise.proofs.Lists.{some_is, nothing_there, at_end, within}
+use Rattle.kept_promise.proofs.Common.{slice_get, Command, no_counts, command_step, ClientStep, Ended, Op, word_of, file_of, value_at_begin, no_traffic, counted, begun, has_point, point_if, op_after, place_with, Core, Seat, numbered, Book, Queue}
+use Rattle.kept_promise.proofs.Lists.{nothing_there, at_end, within}
 use Rattle.kept_promise.proofs.Rights.{IsRight, IsSound}
 use Rattle.kept_promise.proofs.Messages.{Job, job, job_of}
 use Rattle.kept_promise.proofs.Facts.{IsKept}
 use Rattle.kept_promise.proofs.Counted.{traffic_is}
-use Rattle.kept_promise.proofs.Actors.{job_place, job_task}
+use Rattle.kept_promise.proofs.Actors.{job_place}
 
 -- the operation, where its client goes on as said
 abbrev pub made_by : Core → (c now : ℕ) → Command → Seat → client.State → ClientStep → Op
@@ -50,10 +50,3 @@ job_stays seat i place is j e q = by seat.place (job_place seat.place seat.clien
     by : (l : Option ℕ) → l ≡ Some i.place → job_of (place_with l place e) seat.client.task ≡ Some j → job_of l seat.client.task ≡ Some j
     by None w q = nothing_there i.place w
     by (Some p) w q = q
-
--- where none was, it is the new one that is its client's job
-pub job_begins : (ops : List Op) (n o : Op) (task : Option Task) (e : Option Ended) (j : Job) → job_of (place_with None (length ops) e) task ≡ Some j → slice_get (ops ++ n ∷ []) j.place ≡ Some o → (n ≡ o) × (task ≡ Some (record { file = j.file; stage = j.stage }))
-job_begins ops n o task (Some e) j is at = nothing_there j is
-job_begins ops n o task None j is at =
-    let place : length ops ≡ j.place = some_is (length ops) j.place (job_place (Some (length ops)) task j is) in
-    (some_is n o (sym (at_end ops n) ∙ ap (slice_get (ops ++ n ∷ [])) place ∙ at), job_task (Some (length ops)) task j is)

@@ -18,7 +18,7 @@ pub use Rattle.xdr_codec.specs.declared.answer.Answer.{Answer}
 pub use Rattle.xdr_codec.specs.declared.answer.Answer.TheVariants.{Failed, Done}
 pub use Rattle.xdr_codec.specs.declared.attr.Attr.{Attr}
 pub use Rattle.xdr_codec.specs.declared.status.Status.{Status}
-pub use Rattle.sha1.specs.Sha1.{sha1, digest_bytes}
+pub use Rattle.sha1.specs.Sha1.{sha1}
 pub use Rattle.rpc_record.proofs.Streaming.{stream_comes}
 pub use Rattle.rpc_record.specs.Records.{fed, Unread, Parts, stream, split, Came, record_of, nothing_read, marked}
 pub use Rattle.rpc_record.specs.declared.records.Fed.{Fed}
@@ -30,7 +30,6 @@ pub use Rattle.hash_calls.specs.declared.call.HashRange.{HashRange}
 pub use Rattle.hash_calls.specs.declared.call.Hashes.{Hashes}
 pub use Rattle.hash_calls.specs.declared.call.Leased.{Leased}
 pub use Rattle.hash_calls.specs.declared.call.Pair.{Pair}
-pub use Rattle.hash_calls.specs.declared.call.TempPiece.{TempPiece}
 pub use Rattle.wire.specs.Message.{MessageFits, message_spell}
 pub use Rattle.wire.specs.Parse.{parse_of, IsExpected, waiting}
 pub use Rattle.wire.specs.declared.fault.WireFault.{WireFault}
@@ -60,15 +59,17 @@ pub use Rattle.register_model.specs.declared.op.Op.{Op}
 pub use Rattle.register_model.specs.declared.op.Opening.{Opening}
 pub use Rattle.register_model.specs.declared.op.Traffic.{Traffic}
 pub use Rattle.register_model.specs.declared.op.Word.{Word}
-pub use Rattle.file_tree.specs.Tree.{Tree}
+pub use Rattle.tree_reading.specs.Tree.{Tree}
 pub use Rattle.file_tree.specs.Opening.{can_open}
-pub use Rattle.server_core.specs.Answers.{node_of, file, told_chunks, Node, directory, hashes_of, pair_of, is_end, piece_of, meets, attr_of, piece_bytes, leased_of, lease_answer}
-pub use Rattle.server_core.specs.Closing.{is_full, makes_change, at, makes, makes_unless, writes_unless, commits, commits_to, commits_whole, has_waiting, cond_fault, entry_by, names, names_unless, names_bytes, bytes_known, bytes_found}
+pub use Rattle.chunk_calls.specs.Answers.{node_of, file, told_chunks, Node, directory, hashes_of, pair_of, is_end, meets, attr_of, leased_of}
+pub use Rattle.server_core.specs.Answers.{piece_of, piece_bytes}
+pub use Rattle.server_core.specs.Closing.{is_full, makes_change, at, makes, makes_unless, writes_unless, commits, commits_to, commits_whole, has_waiting, entry_by, names, names_unless, names_bytes}
+pub use Rattle.chunk_calls.specs.Writing.{cond_fault, bytes_known, bytes_found}
 pub use Rattle.server_core.specs.Step.{server_step, stands, connect, has_room, got_if, called}
 pub use Rattle.server_core.specs.declared.change.Change.{Change}
 pub use Rattle.server_core.specs.declared.event.ServerStep.{ServerStep}
 pub use Rattle.server_core.specs.declared.change.Wanted.{Wanted}
-pub use Rattle.server_core.specs.State.{File}
+pub use Rattle.chunk_calls.specs.Files.{File}
 pub use Rattle.server_core.specs.declared.journal.Entry.{Entry}
 pub use Rattle.client_state.proofs.Locals.{local_at_itself, local_at_another, without_at_itself, without_at_another}
 pub use Rattle.file_close.specs.Closing.{store_at, is_stored, answered, store_of, names_all, names_from, names_next, names_more, commit_call, without_store, cond_call, with_whole, temp_call}
@@ -82,7 +83,7 @@ pub use Rattle.client_state.specs.State.{has_call, store_pending, State, local_b
 pub use Rattle.client_state.specs.Ending.{idle, may_ask, on_local, ended_by, is_open, drops, joined, cut, refused, bad_peer, denied, has_xids, forgets}
 pub use Rattle.open_close.specs.Step.{command_step, took, got_step, done_with, edits, truncates, reads, abandons, too_big, writes, took_if, got_message, denied_if, got_fault}
 pub use Rattle.file_open.specs.Fetching.{reads_on, reads_if, asks_file, asks_kept, opens_if, opens, retries, lists_on, told_shape, told_version, told_hashes, misfits, told_bytes, told_chunk, told_piece, told_first, tries_anew, told_lease, uses_kept, opened_with}
-pub use Rattle.file_close.specs.Storing.{goes_if, goes_on, asks_temp, closes, sends_whole, told_named, told_way, told_stored, told_temp, told_whole, closed}
+pub use Rattle.file_close.specs.Storing.{goes_if, goes_on, asks_temp, closes, sends_whole, told_named, told_way, told_stored, told_temp, told_whole}
 pub use Rattle.file_close.specs.declared.calls.Names.{Names}
 pub use Rattle.file_open.specs.declared.calls.Reads.{Reads}
 pub use Rattle.client_state.specs.declared.step.BadPeer.{BadPeer}
@@ -100,19 +101,23 @@ pub use Rattle.client_state.specs.declared.task.Task.{Task}
 pub use Rattle.client_state.specs.declared.task.Way.{Way}
 pub use Rattle.trace_replay.specs.Book.{Book, value_at, version_at, Or, book_of, Collides, history, HadContent}
 pub use Rattle.trace_replay.specs.Causes.{Tried, own_answer, is_busy, leaves, after_one, local_from, IsOpenRefused, can_ask, IsOpened, lasts, unless_asks, write_outcome, sized_outcome, local_before, IsClosed, IsChanged, HasCause, IsLost, IsEntered}
-pub use Rattle.trace_replay.specs.Commands.{word_of, file_of, value_at_begin}
-pub use Rattle.trace_replay.specs.Core.{numbered, Session, Core, Seat, with_numbered, Event.Serves, CoreStep, Event.Hears, happens, Event, Event.Cuts, server_waiting, ops_with, Event.Joins, Event.Does, Event.Settles, Event.Hangs, session_of, serves_if, serves, cuts_if, ops_after, does, joins_as, cuts, joins, hangs_if, hangs, acted, Loss.Nothing, is_newest, hears, hears_at, hears_if, settles, Loss, commanded_sessions, taken_of, settled_ops, settled_by, cut_session, new_seat, Loss.Down_of, Loss.Up_of, quiet, new_session, commanded_session, taken_with}
-pub use Rattle.trace_replay.specs.Delivery.{all_happened, up_at, down_at, up_length, down_length, up_some, down_some, up_all, round, is_still, passes, up_taken, down_taken, is_still_at, up_events, down_events}
-pub use Rattle.trace_replay.specs.Faithful.{is_running, StoresLocal, CameTo, IsDone, HasJournal, OpenedBy, TellsVersion}
-pub use Rattle.trace_replay.specs.Ops.{op_after, counted, has_point, point_if, place_after, told_of, no_traffic, begun, place_with, taken_at, value_of, ended_op, pointed, pointed_at, op_ended, closing_with}
+pub use Rattle.trace_ops.specs.Commands.{word_of, file_of, value_at_begin}
+pub use Rattle.trace_sessions.specs.Numbers.{numbered, with_numbered}
+pub use Rattle.trace_sessions.specs.Session.{Session, Seat, session_of, is_newest, taken_of, settled_ops, new_seat, new_session, commanded_session, taken_with}
+pub use Rattle.trace_ends.specs.Core.{Core, Event.Serves, CoreStep, Event.Hears, happens, Event, Event.Cuts, server_waiting, Event.Joins, Event.Does, Event.Settles, Event.Hangs, serves_if, serves, cuts_if, does, joins_as, cuts, joins, hangs_if, hangs, acted, Loss.Nothing, hears, hears_at, hears_if, settles, Loss, commanded_sessions, settled_by, cut_session, Loss.Down_of, Loss.Up_of, quiet}
+pub use Rattle.trace_ops.specs.Ops.{ops_with, ops_after, op_after, counted, has_point, point_if, place_after, told_of, no_traffic, begun, place_with, taken_at, value_of, ended_op, pointed, pointed_at, op_ended, closing_with}
+pub use Rattle.trace_replay.specs.Delivery.{all_happened, up_at, down_at, up_length, down_length, up_some, down_some, up_all, round, is_still, passes, up_taken, down_taken, up_events, down_events}
+pub use Rattle.trace_sessions.specs.Wires.{is_still_at, unless, Wire, bytes_of, up_put, up_put_in, new_wire}
+pub use Rattle.trace_replay.specs.Faithful.{is_running, CameTo, IsDone, TellsVersion}
 pub use Rattle.trace_replay.specs.Readings.{KeepsClocks}
-pub use Rattle.trace_replay.specs.Run.{turned, run, asked, run_from, at_events, count_of, asked_by, line_most, sessions_most, asks_if, sized, joins_if, joins_within, event_asks, asks_at, asks, in_header, ended, asks_within}
+pub use Rattle.trace_replay.specs.Run.{turned, run, asked, run_from, at_events, asked_by, line_most, sessions_most, asks_if, sized, joins_if, joins_within, event_asks, asks_at, asks, in_header, ended, asks_within}
+pub use Rattle.trace_sessions.specs.Queue.{count_of}
 pub use Rattle.trace_replay.specs.Timed.{owners_of, accepted}
 pub use Rattle.trace_replay.specs.Traffic.{Deal, deals_with, Deal.Sent, deals_of, Deal.Took, Deal.Found, stored_traffic, until, is_of, SentCommit, sent_traffic, taken_traffic, both, is_in, deals_in, CountsOwn, is_commit, number_if, first_number}
 pub use Rattle.trace_replay.specs.Trail.{Moment, hashed_of, owner_in, Deed, step_of, Said, all_said, client_of, wanted_by, taken_by, deeds_of, turn_moments, moments, sent_of, deed_by, moments_from, hashed_by, wanted_if, taken_if, taken_from, deeds_from, moments_of, up_moments_at, up_moments, down_moments_at, down_moments, round_moments, passes_moments, sent_in, joined_by, joined_from, calls_among, sent_if, calls_by, calls_from, given_by}
-pub use Rattle.trace_replay.specs.World.{World, unless, adjusts, Wire, happened, bytes_of, start, up_put, lost_by, down_put, routed, up_put_in, down_put_in, new_wire, down_lost, up_lost}
+pub use Rattle.trace_replay.specs.World.{World, adjusts, happened, start, lost_by, down_put, routed, down_put_in, down_lost, up_lost}
 pub use Rattle.trace_replay.specs.declared.fault.Refused.{Refused}
-pub use Rattle.trace_replay.specs.declared.taken_call.TakenCall.{TakenCall}
+pub use Rattle.trace_ops.specs.declared.taken_call.TakenCall.{TakenCall}
 pub use Rattle.trace_replay.specs.declared.turn.Turn.{Turn}
 pub use Rattle.kept_promise.specs.Rounds.{rounds}
 pub use Rattle.kept_promise.specs.Talk.{Call.Walks, Reply.Walked, NameReply, NameReply.LookedUp, NameReply.Shown, NameReply.Listed, NameReply.MadeFile, NameReply.MadeDir, NameReply.NoDir, NameReply.Gone, NameReply.Renamed, name_answer, Queue, Ask, Told, told_message, Reply, Call.Commit, Call, ask_message, Call.Lease, Reply.Versioned, Reply.Changed, Reply.Bytes, Call.Send, reply_program, Reply.Hashed, Reply.Named, Call.Name, Call.Hash, Call.Read, Call.Make, Reply.Made, Reply.Stored, reply_body, call_program, no_queue, Carries, call_message}

@@ -1,11 +1,12 @@
 -- A client sees its connection lost: its operation ends by that, and what is on its way down goes.
 use Rattle.std.proofs.Common.{inl, inr, ◌≡◌, ℕ, ◌+◌, ◌<◌, List, [], Option, Some, None, Bool, true, false, refl, sym, ap, ◌∙◌, subst, arith, append-nil}
 use Rattle.server_core.specs.State as server
+use Rattle.chunk_calls.specs.Files as the_files
 use Rattle.client_state.specs.State as client
 use Rattle.client_state.specs.declared.step.Outcome.TheVariants as outcome
 use Rattle.register_model.specs.declared.op.Outcome.TheVariants as told
 use Rattle.register_model.specs.declared.op.Word.TheVariants as words
-use Rattle.trace_replay.specs.Core.{idles, loss_down}
+use Rattle.trace_ends.specs.Core.{idles, loss_down}
 use Rattle.server_core.specs.declared.change.Wanted.TheVariants as wanted
 use Rattle.kept_promise.proofs.Common.{slice_get, slice_set, cut, ended_by, nothing_done, ClientStep, Ended, Task, Op, Word, TakenCall, Core, Seat, Session, Event.Cuts, CoreStep, taken_of, session_of, ops_after, ops_with, cut_session, cuts_if, cuts, numbered, with_numbered, has_point, point_if, op_after, place_after, unless, hashed_of, Book, Ask, Queue, Call, Call.Commit, Call.Walks, Wanted}
 use Rattle.kept_promise.proofs.Lists.{some_is, nothing_there, same_or_not, of_replaced}
@@ -26,9 +27,9 @@ use Rattle.kept_promise.proofs.Growth.{there_later}
 cut_pending : (book : Book) (closing : Option ℕ) (b : Bool) (j r : Option Job) (x f : ℕ) (v : List ℕ) → IsPending book closing b j x f v → IsPending book closing true r x f v
 cut_pending book closing b j r x f v p = record { place = p.place; known = p.known; op = p.op; there = p.there; unmade = p.unmade; word_is = p.word_is; file_is = p.file_is; size_is = p.size_is; value_is = p.value_is; waited = λ e. absurd cc }
 
-cut_waits : (book : Book) (closing : Option ℕ) (b : Bool) (j r : Option Job) (x f : ℕ) (what : Wanted) → WaitsFor book closing b j x f what → WaitsFor book closing true r x f what
-cut_waits book closing b j r x f (wanted.Content content) p = cut_pending book closing b j r x f content p
-cut_waits book closing b j r x f (wanted.Asked a) p = record { place = p.place; known = p.known; op = p.op; there = p.there; unmade = p.unmade; word_is = p.word_is; file_is = p.file_is; waited = λ e. absurd cc }
+cut_waits : (book : Book) (closing : Option ℕ) (b : Bool) (j r : Option Job) (s x f : ℕ) (what : Wanted) → WaitsFor book s closing b j x f what → WaitsFor book s closing true r x f what
+cut_waits book closing b j r s x f (wanted.Content content) p = cut_pending book closing b j r x f content p
+cut_waits book closing b j r s x f (wanted.Asked a) p = record { place = p.place; known = p.known; op = p.op; there = p.there; unmade = p.unmade; word_is = p.word_is; file_is = p.file_is; waited = λ e. absurd cc; taken = λ e. absurd cc }
 
 cut_commit : (book : Book) (closing : Option ℕ) (b : Bool) (j r : Option Job) (contents : ℕ → List ℕ) (x : ℕ) (c : Call) → CommitOf book closing b j contents x c → CommitOf book closing true r contents x c
 cut_commit book closing b j r contents x (Commit temp file size) h = (cut_pending book closing b j r x file (contents temp) h.0, h.1)
@@ -68,7 +69,7 @@ cut_kept book more k qs c n x q seat ended after kept here at is owner newest go
       seat_around = subst (λ (z : ℕ). Around k.seats seats z d) (sym owner) seated;
       owner = refl;
       goes = goes;
-      server = record { held = λ f. file_still book more None ended f (server.file_at k.server.tree f) g still (kept.server.held f); fresh = fresh_still book more None ended k.server.tree g still kept.server.fresh; bounded = kept.server.bounded; zero = kept.server.zero; rooted = kept.server.rooted; wants = kept.server.wants; changes = kept.server.changes; bytes = kept.server.bytes; lengths = kept.server.lengths; targets = λ i z e. there_later book more None ended z.file g (kept.server.targets i z e); xids = kept.server.xids };
+      server = record { held = λ f. file_still book more None ended f (the_files.file_at k.server.tree f) g still (kept.server.held f); fresh = fresh_still book more None ended k.server.tree g still kept.server.fresh; bounded = kept.server.bounded; zero = kept.server.zero; rooted = kept.server.rooted; wants = kept.server.wants; changes = kept.server.changes; bytes = kept.server.bytes; lengths = kept.server.lengths; targets = λ i z e. there_later book more None ended z.file g (kept.server.targets i z e); xids = kept.server.xids };
       sessions_made = refl;
       view = λ m apart. same_view m k.server;
       elsewhere = inr newest;
@@ -92,7 +93,7 @@ cut_kept book more k qs c n x q seat ended after kept here at is owner newest go
         temps = λ i m e lt f key. let o = h.temps i m e lt f key in (parts_later (hashed_of book.moments) (hashed_of more.moments) (h.contents m) e.1.pieces g.hashed o.0, o.1);
         temps_below = λ e. absurd cc;
         closes = λ e. absurd cc;
-        pending = λ i z f. waits_later book more None ended x.closing true (job d) (job d) z.xid z.file z.what g spares (λ e. refl) (cut_waits book x.closing x.cut (job h.seat) (job d) z.xid z.file z.what (h.pending i z f));
+        pending = λ i z f. waits_later book more None ended x.closing true (job d) (job d) z.session z.xid z.file z.what g spares (λ e. refl) (cut_waits book x.closing x.cut (job h.seat) (job d) z.session z.xid z.file z.what (h.pending i z f));
         single = h.single;
         old = λ p f. let o = h.old p f in let u = g.each p o.0 o.1 in (u.0, u.1, u.2.client ∙ o.2);
         orderly = λ e. absurd cc;
@@ -183,7 +184,7 @@ idle_kept : (book : Book) (k : Core) (qs : List Queue) → IsKept book k qs → 
 idle_kept book k qs kept =
     subst (λ (z : Core). IsKept (onward book 1 book.ops) z qs) (core_is book k qs k.server k.seats k.sessions kept)
     (kept_rest book (onward book 1 book.ops) k qs k.server (goes_same book 1 kept.sound)
-    (record { held = λ f. file_still book (onward book 1 book.ops) None None f (server.file_at k.server.tree f) (grows_same book 1) (still_same book 1 kept.sound) (kept.server.held f); fresh = fresh_still book (onward book 1 book.ops) None None k.server.tree (grows_same book 1) (still_same book 1 kept.sound) kept.server.fresh; bounded = kept.server.bounded; zero = kept.server.zero; rooted = kept.server.rooted; wants = kept.server.wants; changes = kept.server.changes; bytes = kept.server.bytes; lengths = kept.server.lengths; targets = λ i c e. there_later book (onward book 1 book.ops) None None c.file (grows_same book 1) (kept.server.targets i c e); xids = kept.server.xids })
+    (record { held = λ f. file_still book (onward book 1 book.ops) None None f (the_files.file_at k.server.tree f) (grows_same book 1) (still_same book 1 kept.sound) (kept.server.held f); fresh = fresh_still book (onward book 1 book.ops) None None k.server.tree (grows_same book 1) (still_same book 1 kept.sound) kept.server.fresh; bounded = kept.server.bounded; zero = kept.server.zero; rooted = kept.server.rooted; wants = kept.server.wants; changes = kept.server.changes; bytes = kept.server.bytes; lengths = kept.server.lengths; targets = λ i c e. there_later book (onward book 1 book.ops) None None c.file (grows_same book 1) (kept.server.targets i c e); xids = kept.server.xids })
     refl (λ m. same_view m k.server) kept.home kept.running kept.journal kept.shelf kept)
 
 pub leads_idle : (book : Book) (k : Core) (qs : List Queue) → IsKept book k qs → Leads book qs (idles k)

@@ -13,14 +13,15 @@ use Rattle.tree_nodes.specs.declared.node.Node.{Node}
 use Rattle.tree_nodes.specs.declared.node.Body.{Body}
 use Rattle.tree_nodes.specs.declared.node.Body.TheVariants.{File as Plain}
 use Rattle.tree_nodes.specs.Nodes.{with_id, named}
-use Rattle.file_tree.specs.Chain.{◌>>=◌}
-use Rattle.file_tree.specs.Step.{one, move_done, gone_entry, name_entry, removed, moved}
+use Rattle.tree_reading.specs.Chain.{◌>>=◌}
+use Rattle.tree_plans.specs.Plans.{one, move_done, gone_entry, name_entry}
+use Rattle.file_tree.specs.Step.{removed, moved}
 use Rattle.file_tree.proofs.States.{named_id}
-use Rattle.file_tree.specs.Tree.{Tree, is_directory, or_stale, directory_of, directory_or}
-use Rattle.file_tree.specs.declared.call.Changed.{Changed}
-use Rattle.file_tree.specs.declared.call.Held.{Held}
-use Rattle.file_tree.specs.declared.entry.Entry.{Entry}
-use Rattle.file_tree.specs.declared.entry.EntryKind.TheVariants as kind
+use Rattle.tree_reading.specs.Tree.{Tree, is_directory, or_stale, directory_of, directory_or}
+use Rattle.tree_plans.specs.declared.call.Changed.{Changed}
+use Rattle.tree_plans.specs.declared.call.Held.{Held}
+use Rattle.tree_plans.specs.declared.entry.Entry.{Entry}
+use Rattle.tree_plans.specs.declared.entry.EntryKind.TheVariants as kind
 use Rattle.tree_calls.specs.Telling.{id_of}
 use Rattle.tree_calls.specs.Changing.{said}
 use Rattle.tree_calls.specs.Waiting.{removing, asks_remove, removes_in, renaming, asks_rename, renames_in, some, settles, file_of, entries_of, spot_of}
@@ -38,6 +39,7 @@ use Rattle.path_calls.specs.declared.walk.Goal.{Goal}
 use Rattle.path_calls.specs.declared.walk.Goal.TheVariants as goal
 use Rattle.path_calls.specs.declared.walk.Walk.{Walk}
 use Rattle.server_core.specs.State as server
+use Rattle.chunk_calls.specs.Files as the_files
 use Rattle.server_core.specs.Step.{asks_tree}
 use Rattle.trace_replay.specs.Naming.{refusal_of}
 use Rattle.kept_promise.proofs.Common.{called, has_waiting, File, NameReply, name_answer}
@@ -79,8 +81,8 @@ pub data ComesSo (t : Tree) (held : Held) (busy : Bool) (w : Walk) : Type 0 wher
   refused : (s : Status) (r : NameReply) → comes_by t held busy w.dir w.goal ≡ (t, Answered (said (name_answer r))) → RefusedAs t w s → refusal_of (name_answer r) ≡ Some s → walk_told w (name_answer r) ≡ told.Ends (ended.Refused s) → nfs_proc (name_answer r) ≡ nfs_proc (next_call w) → ComesSo t held busy w
   -- a rename over no file
   done_now : (done : Changed) (r : NameReply) (after : Tree) → comes_by t held busy w.dir w.goal ≡ (after, Answered (record { answer = name_answer r; first = done.first; second = done.second })) → step_by t held w.dir w.goal ≡ (after, Ok done) → IsName done.first → IsName done.second → walk_told w (name_answer r) ≡ told.Ends ended.Done → nfs_proc (name_answer r) ≡ nfs_proc (next_call w)
-      → ((f : ℕ) → server.file_at after f ≡ server.file_at t f) → ((f : ℕ) → with_id t.nodes f ≡ None → with_id after.nodes f ≡ None) → (IsRooted t.nodes → IsRooted after.nodes) → after.next ≡ t.next → ComesSo t held busy w
-  waits : (a : Asked) (g : File) → comes_by t held busy w.dir w.goal ≡ (t, Waits a) → AsksFor w a → server.file_at t (file_of a) ≡ Some g → IsSpared t held (entries_of a) → busy ≡ false → AreTwo a → ComesSo t held busy w
+      → ((f : ℕ) → the_files.file_at after f ≡ the_files.file_at t f) → ((f : ℕ) → with_id t.nodes f ≡ None → with_id after.nodes f ≡ None) → (IsRooted t.nodes → IsRooted after.nodes) → after.next ≡ t.next → ComesSo t held busy w
+  waits : (a : Asked) (g : File) → comes_by t held busy w.dir w.goal ≡ (t, Waits a) → AsksFor w a → the_files.file_at t (file_of a) ≡ Some g → IsSpared t held (entries_of a) → busy ≡ false → AreTwo a → ComesSo t held busy w
 
 -- ---- once it has waited
 
@@ -93,19 +95,19 @@ pub record IsGoneEntry (t : Tree) (file : ℕ) (o : Option Entry) : Type 0 where
   pub len_is : entry.len ≡ 0
   pub digest_is : entry.sha1 ≡ sha1 []
   pub old : File
-  pub there : server.file_at t file ≡ Some old
+  pub there : the_files.file_at t file ≡ Some old
   pub version_is : entry.version ≡ old.version + 1
 
 pub data SettlesSo (t : Tree) (held : Held) (w : Walk) (a : Asked) : Type 0 where
   refused_late : (s : Status) (r : NameReply) → settles t held a ≡ (t, said (name_answer r)) → RefusedAs t w s → refusal_of (name_answer r) ≡ Some s → walk_told w (name_answer r) ≡ told.Ends (ended.Refused s) → nfs_proc (name_answer r) ≡ nfs_proc (next_call w) → SettlesSo t held w a
   goes : (done : Changed) (r : NameReply) (after : Tree) → settles t held a ≡ (after, record { answer = name_answer r; first = done.first; second = done.second }) → step_by t held w.dir w.goal ≡ (after, Ok done) → IsGoneEntry t (file_of a) done.first → IsName done.second → walk_told w (name_answer r) ≡ told.Ends ended.Done → nfs_proc (name_answer r) ≡ nfs_proc (next_call w)
-      → ((f : ℕ) → server.file_at after f ≡ (if file_of a == f then None else server.file_at t f)) → ((f : ℕ) → with_id t.nodes f ≡ None → with_id after.nodes f ≡ None) → with_id after.nodes (file_of a) ≡ None → (IsRooted t.nodes → IsRooted after.nodes) → after.next ≡ t.next → SettlesSo t held w a
+      → ((f : ℕ) → the_files.file_at after f ≡ (if file_of a == f then None else the_files.file_at t f)) → ((f : ℕ) → with_id t.nodes f ≡ None → with_id after.nodes f ≡ None) → with_id after.nodes (file_of a) ≡ None → (IsRooted t.nodes → IsRooted after.nodes) → after.next ≡ t.next → SettlesSo t held w a
 
 -- ---- each call
 
 -- what a name stands for is a file, if its body is a content
-file_there : (t : Tree) (dir : ℕ) (name : List ℕ) (n : Node) (content : List ℕ) → IsGiven t → named t.nodes dir name ≡ Some n → n.body ≡ Plain content → server.file_at t n.id ≡ Some (record { id = n.id; version = n.version; content = content })
-file_there t dir name n content given at body = ap server.file_of_node (named_id t.nodes dir name n given.apart at) ∙ ap (server.file_of_body n) body
+file_there : (t : Tree) (dir : ℕ) (name : List ℕ) (n : Node) (content : List ℕ) → IsGiven t → named t.nodes dir name ≡ Some n → n.body ≡ Plain content → the_files.file_at t n.id ≡ Some (record { id = n.id; version = n.version; content = content })
+file_there t dir name n content given at body = ap the_files.file_of_node (named_id t.nodes dir name n given.apart at) ∙ ap (the_files.file_of_body n) body
 
 remove_so : (t : Tree) (held : Held) (busy : Bool) (dir : ℕ) (name : List ℕ) → IsGiven t → RemoveComes t held busy dir name → ComesSo t held busy (record { dir = dir; left = []; goal = goal.Remove name })
 remove_so t held busy dir name given (remove_turned s r is why refuses leads procs) = refused s r (ap (λ (o : Outcome). (t, o)) is) why refuses leads procs
@@ -149,12 +151,12 @@ gone_entry_is t dir name n content file given at body same = record {
   len_is = refl;
   digest_is = refl;
   old = record { id = n.id; version = n.version; content = content };
-  there = ap (server.file_at t) (sym same) ∙ file_there t dir name n content given at body;
+  there = ap (the_files.file_at t) (sym same) ∙ file_there t dir name n content given at body;
   version_is = refl;
 }
 
-gone_at : (t after : Tree) (id file f : ℕ) → id ≡ file → server.file_at after f ≡ (if id == f then None else server.file_at t f) → server.file_at after f ≡ (if file == f then None else server.file_at t f)
-gone_at t after id file f same e = e ∙ ap (λ (i : ℕ). if i == f then None else server.file_at t f) same
+gone_at : (t after : Tree) (id file f : ℕ) → id ≡ file → the_files.file_at after f ≡ (if id == f then None else the_files.file_at t f) → the_files.file_at after f ≡ (if file == f then None else the_files.file_at t f)
+gone_at t after id file f same e = e ∙ ap (λ (i : ℕ). if i == f then None else the_files.file_at t f) same
 
 remove_late_so : (t : Tree) (held : Held) (r : Removing) → IsGiven t → IsGoalNamed (goal.Remove r.spot.name) → RemoveSettles t held r → SettlesSo t held (record { dir = r.spot.dir; left = []; goal = goal.Remove r.spot.name }) (asked.Remove r)
 remove_late_so t held r given h (remove_fails s m is why refuses leads procs) = refused_late s m is why refuses leads procs

@@ -110,7 +110,7 @@ kept_dropped book ops k qs n x q t ts seats after kept at is first uncut i there
       old_asks = talk.asked;
       old_tolds = (subst (AllTolds (IsAnswer more x.taken x.closing (job h.seat))) first (all_tolds (IsAnswer book x.taken x.closing (job h.seat)) (IsAnswer more x.taken x.closing (job h.seat)) (λ u a. answer_later book more None None x.taken x.closing (job h.seat) u goes.grows spares a) q.downs talk.answers)).1;
       old_commits = all_asks (IsCommit book x.closing x.cut (job h.seat) h.contents) (IsCommit more x.closing x.cut (job h.seat) h.contents) (λ a m. commit_later book more None None x.closing x.cut (job h.seat) (job h.seat) h.contents a goes.grows spares (λ u. refl) m) q.ups h.commits;
-      old_pending = λ m d f. waits_later book more None None x.closing x.cut (job h.seat) (job h.seat) d.xid d.file d.what goes.grows spares (λ u. refl) (h.pending m d f);
+      old_pending = λ m d f. waits_later book more None None x.closing x.cut (job h.seat) (job h.seat) d.session d.xid d.file d.what goes.grows spares (λ u. refl) (h.pending m d f);
       moves = moves_drops (client.pending h.seat.client.task) h.seat.client.forgotten i t there (talk.balanced.once t.xid);
       rising = omega arith;
       asked = tt;

@@ -36,7 +36,7 @@ pub record Shows (book more : Book) (k : Core) (n : ℕ) (x : Session) (q : Queu
   pub answers : x.cut ≡ false → AllTolds (IsAnswer more (x.taken ++ record { xid = a.xid; step = book.steps + 1 } ∷ []) x.closing (job h.seat)) q.downs
   pub commits : AllAsks (IsCommit more x.closing x.cut (job h.seat) h.contents) us
   pub closes : x.cut ≡ false → (j : Job) → job h.seat ≡ Some j → CloseOf more x.closing h.contents h.seat.client.next_temp j (client.local_bytes h.seat.client.opened j.file) j.stage
-  pub pending : (i : ℕ) (c : Change) → slice_get (own n k.server.waiting) i ≡ Some c → WaitsFor more x.closing x.cut (job h.seat) c.xid c.file c.what
+  pub pending : (i : ℕ) (c : Change) → slice_get (own n k.server.waiting) i ≡ Some c → WaitsFor more c.session x.closing x.cut (job h.seat) c.xid c.file c.what
   pub wanted : x.cut ≡ false → Wanted more (job h.seat) a.xid r
   pub held : x.cut ≡ false → Held k.server.temps n us (unless x.cut q.downs (record { xid = a.xid; reply = r } ∷ [])) (locals_of h.seat.client) (job h.seat)
   pub running : (p : ℕ) (o : Op) → slice_get more.ops p ≡ Some o → o.outcome ≡ told.Running → (e : Seat) × (j : Job) × (numbered k.seats o.client ≡ Some e) × (job e ≡ Some j) × (j.place ≡ p)

@@ -3,6 +3,7 @@ use Rattle.std.proofs.Common.{◌≡◌, ℕ, suc, ◌+◌, ◌*◌, ◌<◌, �
 use Rattle.client_cache.specs.Cache.{Entries, content_of as kept_of}
 use Rattle.client_cache.specs.declared.kept.Content.{Content}
 use Rattle.server_core.specs.State as server
+use Rattle.chunk_calls.specs.Files as the_files
 use Rattle.client_state.specs.State as client
 use Rattle.client_state.specs.declared.task.Stage.TheVariants as stage
 use Rattle.client_state.specs.declared.task.Way.TheVariants as way
@@ -92,7 +93,7 @@ pub record IsSession (book : Book) (seats : List Seat) (s : server.State) (n : �
   pub temps : (i m : ℕ) (e : ℕ × Temp) → m < 4294967296 → slice_get s.temps i ≡ Some e → e.0 ≡ key_of n m → AreParts (hashed_of book.moments) (contents m) e.1.pieces × (key_of e.1.session e.1.fd ≡ e.0)
   pub temps_below : x.cut ≡ false → AllAsks (λ a. TempUnder seat.client.next_temp a.call) q.ups × ((i m : ℕ) (e : ℕ × Temp) → m < 4294967296 → slice_get s.temps i ≡ Some e → e.0 ≡ key_of n m → m < seat.client.next_temp)
   pub closes : x.cut ≡ false → (j : Job) → job seat ≡ Some j → CloseOf book x.closing contents seat.client.next_temp j (client.local_bytes seat.client.opened j.file) j.stage
-  pub pending : (i : ℕ) (c : Change) → slice_get (own n s.waiting) i ≡ Some c → WaitsFor book x.closing x.cut (job seat) c.xid c.file c.what
+  pub pending : (i : ℕ) (c : Change) → slice_get (own n s.waiting) i ≡ Some c → WaitsFor book c.session x.closing x.cut (job seat) c.xid c.file c.what
   pub single : commits_in q.ups + length (own n s.waiting) ≤ 1
   pub old : (k : ℕ) → x.closing ≡ Some k → (o : Op) × (slice_get book.ops k ≡ Some o) × (o.client ≡ x.owner)
   pub orderly : x.cut ≡ false → Orderly book n s.temps x.hung q seat
@@ -158,7 +159,7 @@ IsWanted file (wanted.Content content) = Unit {0}
 IsWanted file (wanted.Asked a) = (file ≡ file_of a) × AreTwo a × IsWalkSmall (walk_for a)
 
 pub record IsServer (book : Book) (s : server.State) : Type 0 where
-  pub held : (f : ℕ) → FileIs book f (server.file_at s.tree f)
+  pub held : (f : ℕ) → FileIs book f (the_files.file_at s.tree f)
   -- what no file has had as its number has no version
   pub fresh : (f : ℕ) → IsUnused s.tree f → version_at book f (book.steps + 1) ≡ 0
   -- its tree is within the limits

@@ -1,7 +1,7 @@
 -- A temporary file fills with the chunks of its close: what the server finds of a call that is in order, and what is held once it is taken.
 use Rattle.std.proofs.Common.{◌⊎◌, inl, inr, ◌≡◌, ℕ, zero, suc, ◌+◌, ◌<◌, ◌≤◌, List, [], ◌∷◌, ◌++◌, length, Some, None, Bool, true, false, refl, sym, ap, ◌∙◌, subst, arith, eq-eqb, ne_eqb}
 use Rattle.xdr_codec.specs.declared.status.Status.TheVariants as status
-use Rattle.server_core.specs.Closing.{cond_most}
+use Rattle.chunk_calls.specs.Writing.{cond_most}
 use Rattle.client_state.specs.declared.task.Way.TheVariants as way
 use Rattle.kept_promise.proofs.Common.{nat_tests, slice_get, ◌==◌, ◌||◌, nat_lt, nat_le, is_some, if◌then◌else◌, insert_entry, nat_cmp, chunks_of, chunk_bytes, Chunk, cond_fault, room_fault, Temp, temp_at, temps_of, range_fault, Store, StoreCall, Call.Name, Call.Send, Ask, Told}
 use Rattle.kept_promise.proofs.Statements.{PiecesOf, SameShape, AreInRow}

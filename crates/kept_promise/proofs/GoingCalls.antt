@@ -10,16 +10,17 @@ use Rattle.tree_nodes.specs.declared.node.Node.{Node}
 use Rattle.tree_nodes.specs.declared.node.Body.{Body}
 use Rattle.tree_nodes.specs.declared.node.Body.TheVariants.{Directory, File as Plain}
 use Rattle.tree_nodes.specs.Nodes.{with_id, named}
-use Rattle.file_tree.specs.Chain.{◌>>=◌}
-use Rattle.file_tree.specs.Reading.{stands_for, standing_of, version}
-use Rattle.file_tree.specs.Tree.{Tree, is_directory}
-use Rattle.file_tree.specs.Step.{one, nothing, move_done, gone_entry, name_entry, remove_plan, remove_if, remove, removed, moved, is_same, rename_plan, rename, rename_if}
-use Rattle.file_tree.specs.declared.call.Changed.{Changed}
-use Rattle.file_tree.specs.declared.call.Held.{Held}
-use Rattle.file_tree.specs.declared.call.Planned.TheVariants as plan
-use Rattle.file_tree.specs.declared.call.Standing.{Standing}
-use Rattle.file_tree.specs.declared.entry.Entry.{Entry}
-use Rattle.file_tree.specs.declared.entry.EntryKind.TheVariants as kind
+use Rattle.tree_reading.specs.Chain.{◌>>=◌}
+use Rattle.tree_reading.specs.Reading.{stands_for, standing_of, version}
+use Rattle.tree_reading.specs.Tree.{Tree, is_directory}
+use Rattle.tree_plans.specs.Plans.{one, nothing, move_done, gone_entry, name_entry, remove_plan, is_same, rename_plan}
+use Rattle.file_tree.specs.Step.{remove_if, remove, removed, moved, rename, rename_if}
+use Rattle.tree_plans.specs.declared.call.Changed.{Changed}
+use Rattle.tree_plans.specs.declared.call.Held.{Held}
+use Rattle.tree_plans.specs.declared.call.Planned.TheVariants as plan
+use Rattle.tree_reading.specs.declared.reading.Standing.{Standing}
+use Rattle.tree_plans.specs.declared.entry.Entry.{Entry}
+use Rattle.tree_plans.specs.declared.entry.EntryKind.TheVariants as kind
 use Rattle.file_tree.proofs.States.{named_id}
 use Rattle.tree_calls.specs.declared.asked.Asked.{Asked}
 use Rattle.tree_calls.specs.declared.asked.Asked.TheVariants as asked
@@ -35,7 +36,7 @@ use Rattle.path_calls.specs.declared.answers.Ended.TheVariants as ended
 use Rattle.path_calls.specs.declared.answers.Told.TheVariants as told
 use Rattle.path_calls.specs.declared.walk.Goal.TheVariants as goal
 use Rattle.path_calls.specs.declared.walk.Walk.{Walk}
-use Rattle.server_core.specs.State as server
+use Rattle.chunk_calls.specs.Files as the_files
 use Rattle.server_law.proofs.Trees.{IsGiven, no_file}
 use Rattle.server_law.proofs.TreeCalls.{HasDirectory, bind_ok}
 use Rattle.trace_replay.specs.Naming.{refusal_of}
@@ -53,7 +54,7 @@ IsName o = (e : Entry) → o ≡ Some e → e.kind ≡ kind.Name
 
 -- each file is as it was, and no node has another id, or a new one
 pub record KeepsFiles (t after : Tree) : Type 0 where
-  pub files : (f : ℕ) → server.file_at after f ≡ server.file_at t f
+  pub files : (f : ℕ) → the_files.file_at after f ≡ the_files.file_at t f
   pub none : (f : ℕ) → with_id t.nodes f ≡ None → with_id after.nodes f ≡ None
   pub next : after.next ≡ t.next
 
@@ -77,9 +78,9 @@ gone_name n Directory e = name_is n.id
 gone_name n (Plain c) e = absurd cc
 
 -- a directory is no file
-no_file_goes : (t : Tree) (m : Node) (f : ℕ) → with_id t.nodes m.id ≡ Some m → is_directory m.body ≡ true → (b : Bool) → (m.id == f) ≡ b → (if b then None else server.file_at t f) ≡ server.file_at t f
+no_file_goes : (t : Tree) (m : Node) (f : ℕ) → with_id t.nodes m.id ≡ Some m → is_directory m.body ≡ true → (b : Bool) → (m.id == f) ≡ b → (if b then None else the_files.file_at t f) ≡ the_files.file_at t f
 no_file_goes t m f there is false e = refl
-no_file_goes t m f there is true e = sym (ap (server.file_at t) (sym same) ∙ no_file t.nodes m.id m there is)
+no_file_goes t m f there is true e = sym (ap (the_files.file_at t) (sym same) ∙ no_file t.nodes m.id m there is)
   where
     same : m.id ≡ f
     same = grind (arith, nat_tests, e)

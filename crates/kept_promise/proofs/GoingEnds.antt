@@ -1,5 +1,5 @@
 -- A remove, or a rename over a file, that waited is settled: by what its tree makes of it.
-use Rattle.std.proofs.Common.{inl, inr, ◌≡◌, ℕ, zero, suc, ◌+◌, ◌≤◌, List, [], ◌∷◌, ◌++◌, length, replicate, append-nil, Option, Some, None, Result, Ok, Bool, true, false, ◌==◌, refl, sym, ap, ◌∙◌, subst, arith, if◌then◌else◌, is_some, find}
+use Rattle.std.proofs.Common.{inl, inr, ◌≡◌, ℕ, zero, suc, ◌+◌, ◌≤◌, List, [], ◌∷◌, ◌++◌, length, replicate, append-nil, drop, Option, Some, None, Result, Ok, Bool, true, false, ◌==◌, refl, sym, ap, ◌∙◌, subst, arith, if◌then◌else◌, is_some, find}
 use Rattle.sha1.specs.Sha1.{sha1}
 use Rattle.xdr_codec.specs.declared.status.Status.{Status}
 use Rattle.nfs3_calls.specs.Nfs.{nfs_proc}
@@ -7,12 +7,11 @@ use Rattle.nfs3_calls.specs.declared.message.Nfs.{Nfs}
 use Rattle.wire.specs.declared.message.Body.TheVariants as body
 use Rattle.wire.specs.declared.message.Message.TheVariants as message
 use Rattle.tree_nodes.specs.Nodes.{with_id}
-use Rattle.tree_nodes.specs.declared.node.Node.{Node}
-use Rattle.file_tree.specs.Tree.{Tree, contents_size, directory_of}
-use Rattle.file_tree.specs.declared.call.Changed.{Changed as TreeChange}
-use Rattle.file_tree.specs.declared.call.Held.{Held}
-use Rattle.file_tree.specs.declared.entry.Entry.{Entry as TreeEntry}
-use Rattle.file_tree.specs.declared.entry.EntryKind.TheVariants as kind
+use Rattle.tree_reading.specs.Tree.{Tree, contents_size}
+use Rattle.tree_plans.specs.declared.call.Changed.{Changed as TreeChange}
+use Rattle.tree_plans.specs.declared.call.Held.{Held}
+use Rattle.tree_plans.specs.declared.entry.Entry.{Entry as TreeEntry}
+use Rattle.tree_plans.specs.declared.entry.EntryKind.TheVariants as kind
 use Rattle.tree_calls.specs.Changing.{said}
 use Rattle.tree_calls.specs.Waiting.{file_of, settles as tree_settles}
 use Rattle.tree_calls.specs.declared.asked.Asked.{Asked}
@@ -20,11 +19,13 @@ use Rattle.tree_calls.specs.declared.asked.Asked.TheVariants as asked
 use Rattle.tree_calls.specs.declared.asked.Done.{Done as Finished}
 use Rattle.path_calls.specs.Told.{walk_told}
 use Rattle.path_calls.specs.Walk.{next_call}
+use Rattle.path_calls.specs.declared.walk.Walk.{Walk}
 use Rattle.path_calls.specs.declared.answers.Ended.TheVariants as walk_end
 use Rattle.path_calls.specs.declared.answers.Told.TheVariants as leading
 use Rattle.server_core.specs.State as server
+use Rattle.chunk_calls.specs.Files as the_files
 use Rattle.server_core.specs.Closing as closing
-use Rattle.server_core.specs.Closing.{entries_by, entry_by as written_by, count_of}
+use Rattle.server_core.specs.Closing.{entered_by, entries_by, entry_by as written_by, count_of}
 use Rattle.server_core.specs.declared.change.Wanted.{Wanted}
 use Rattle.server_core.specs.declared.change.Wanted.TheVariants as wanted
 use Rattle.server_core.specs.declared.event.Sent.{Sent}
@@ -33,35 +34,35 @@ use Rattle.client_state.specs.declared.task.Stage.TheVariants as stage
 use Rattle.register_model.specs.Register.{IsFit}
 use Rattle.register_model.specs.declared.op.Outcome.TheVariants as told
 use Rattle.register_model.specs.declared.op.Word.TheVariants as words
-use Rattle.trace_replay.specs.Core.{entries_since, settles, settled_by, settled_ops}
+use Rattle.trace_ends.specs.Core.{entries_since, settles, settled_by, changed_file, is_of_file}
+use Rattle.trace_sessions.specs.Session.{settled_ops}
 use Rattle.trace_replay.specs.Faithful.{IsKind, left_by as left_of}
 use Rattle.trace_replay.specs.Naming.{entry_file, refusal_of}
-use Rattle.trace_replay.specs.Ops.{changed_file, is_of_file, pointed_at, pointed}
+use Rattle.trace_ops.specs.Ops.{pointed_at, pointed}
 use Rattle.server_law.proofs.Trees.{IsBounded, given}
-use Rattle.kept_promise.proofs.Common.{slice_get, slice_set, cond, option_map, unwrap_or, value_from, changes, Contains, Contains-push, MessageFits, at, Change, Entry, Op, Word, Core, Seat, Session, Event.Settles, CoreStep, numbered, with_numbered, happens, unless, quiet, Book, value_at, version_at, Reply.Walked, NameReply, name_answer, Told, Queue, told_message}
+use Rattle.kept_promise.proofs.Common.{slice_get, slice_set, cond, option_map, unwrap_or, value_from, Contains, Contains-push, MessageFits, at, Change, Entry, Op, Word, Core, Seat, Session, Event.Settles, CoreStep, numbered, with_numbered, happens, unless, quiet, Book, value_at, version_at, Reply.Walked, NameReply, name_answer, Told, Queue, told_message}
 use Rattle.kept_promise.proofs.Lists.{some_is, nothing_there, at_replaced, of_replaced}
 use Rattle.kept_promise.proofs.PathNames.{is_creating}
 use Rattle.kept_promise.proofs.Makings.{step_by}
 use Rattle.kept_promise.proofs.MakingTrees.{step_stays}
 use Rattle.kept_promise.proofs.Goings.{RefusedAs}
 use Rattle.kept_promise.proofs.GoingCalls.{IsName}
-use Rattle.kept_promise.proofs.Departures.{IsGoneEntry, SettlesSo, refused_late, goes, settles_so}
-use Rattle.kept_promise.proofs.Keys.{own}
-use Rattle.kept_promise.proofs.Messages.{Job, job, asked_word, walk_for, asks_for, walk_is, IsGoing, WaitsFor, UnmadeBy, PointedBy}
-use Rattle.kept_promise.proofs.Rights.{WasThere, IsUnmade}
+use Rattle.kept_promise.proofs.Departures.{IsGoneEntry, SettlesSo, refused_late, goes}
+use Rattle.kept_promise.proofs.Messages.{Job, job, asked_word, walk_for, walk_is, IsGoing, UnmadeBy, PointedBy}
+use Rattle.kept_promise.proofs.Rights.{IsUnmade}
 use Rattle.kept_promise.proofs.Growth.{there_later}
 use Rattle.kept_promise.proofs.History.{onward, AreNames, made_op, made_book, IsEntryOf, grows_same, goes_same, still_same, goes_made}
+use Rattle.kept_promise.proofs.Later.{taken_for_later, taken_for_same}
 use Rattle.kept_promise.proofs.MadeFiles.{LetsGo, gone_files, gone_fresh}
 use Rattle.kept_promise.proofs.Takes.{file_still, fresh_still}
-use Rattle.kept_promise.proofs.Turns.{also_numbered, turned_core}
+use Rattle.kept_promise.proofs.Turns.{turned_core}
 use Rattle.kept_promise.proofs.Fits.{FitLaws}
-use Rattle.kept_promise.proofs.Facts.{FileIs, IsWanted, IsServer, IsSession, IsKept}
-use Rattle.kept_promise.proofs.Remains.{there_version}
-use Rattle.kept_promise.proofs.Unused.{directory_unused}
+use Rattle.kept_promise.proofs.Facts.{FileIs, IsServer, IsSession, IsKept}
 use Rattle.kept_promise.proofs.ServesFiles.{pointed_none, drop_more}
 use Rattle.kept_promise.proofs.Leading.{IsNoted, Leads, downs_put, downs_put_in}
 use Rattle.kept_promise.proofs.Rooted.{IsRooted}
-use Rattle.kept_promise.proofs.GoingSettles.{makes_for, answer_key, first_own, behind, settled_server, ShowsSettled, kept_settled, settled_came}
+use Rattle.kept_promise.proofs.GoingServes.{count_is}
+use Rattle.kept_promise.proofs.GoingSettles.{makes_for, answer_key, behind, settled_server, ShowsSettled, kept_settled, settled_came}
 use Rattle.kept_promise.proofs.Unused.{unused_gone}
 
 -- ---- the step
@@ -104,10 +105,6 @@ left_for : (a : Asked) (o : Op) → o.word ≡ asked_word a → left_of o ≡ []
 left_for (asked.Remove r) o is = ap (λ (w : Word). unwrap_or (value_from w o.value) []) is
 left_for (asked.Rename r) o is = ap (λ (w : Word). unwrap_or (value_from w o.value) []) is
 
-absent_for : (a : Asked) (o : Op) → o.word ≡ asked_word a → value_from o.word o.value ≡ None
-absent_for (asked.Remove r) o is = ap (λ (w : Word). value_from w o.value) is
-absent_for (asked.Rename r) o is = ap (λ (w : Word). value_from w o.value) is
-
 not_close : (a : Asked) → asked_word a ≡ words.Close → ⊥
 not_close (asked.Remove r) e = absurd cc
 not_close (asked.Rename r) e = absurd cc
@@ -117,19 +114,13 @@ fit_for (asked.Remove r) v x is = ap is_some is
 fit_for (asked.Rename r) v x is = ap is_some is
 
 -- the entries of what is done, where the first is of the file that goes
-abbrev second_entries : (n : ℕ) → Option TreeEntry → List Entry
-second_entries n None = []
-second_entries n (Some y) = written_by n y ∷ []
+entries_gone : (n : ℕ) (first second : Option TreeEntry) (e : TreeEntry) → first ≡ Some e → entries_by n first second ≡ written_by n e ∷ entered_by n second
+entries_gone n first second e is = ap (λ (o : Option TreeEntry). entries_by n o second) is
 
-entries_gone : (n : ℕ) (first second : Option TreeEntry) (e : TreeEntry) → first ≡ Some e → entries_by n first second ≡ written_by n e ∷ second_entries n second
-entries_gone n first None e is = ap (λ (o : Option TreeEntry). entries_by n o None) is
-entries_gone n first (Some y) e is = ap (λ (o : Option TreeEntry). entries_by n o (Some y)) is
+count_gone : (n : ℕ) (first second : Option TreeEntry) (e : TreeEntry) → first ≡ Some e → count_of first second ≡ length (written_by n e ∷ entered_by n second)
+count_gone n first second e is = count_is n first second ∙ ap (λ (l : List Entry). length l) (entries_gone n first second e is)
 
-count_gone : (n : ℕ) (first second : Option TreeEntry) (e : TreeEntry) → first ≡ Some e → count_of first second ≡ length (written_by n e ∷ second_entries n second)
-count_gone n first None e is = ap (λ (o : Option TreeEntry). count_of o None) is
-count_gone n first (Some y) e is = ap (λ (o : Option TreeEntry). count_of o (Some y)) is
-
-second_names : (n : ℕ) (second : Option TreeEntry) → IsName second → AreNames (second_entries n second)
+second_names : (n : ℕ) (second : Option TreeEntry) → IsName second → AreNames (entered_by n second)
 second_names n None a i e at = nothing_there e at
 second_names n (Some y) a zero e at = ap (λ (z : Entry). is_of_file z.kind) (sym (some_is (written_by n y) e at)) ∙ ap is_of_file (a y refl)
 second_names n (Some y) a (suc i) e at = nothing_there e at
@@ -142,7 +133,7 @@ lets_for (asked.Remove r) o is = inl is
 lets_for (asked.Rename r) o is = inr is
 
 module _ (laws : FitLaws) (book : Book) (k : Core) (qs : List Queue) (now : ℕ) (c : Change) (cs : List Change) (a : Asked) (kept : IsKept book k qs) (noted : IsNoted book k (Settles now)) (waits : k.server.waiting ≡ c ∷ cs) (what : c.what ≡ wanted.Asked a)
-    (x : Session) (q : Queue) (here : numbered k.sessions c.session ≡ Some x) (unhung : x.hung ≡ false) (is : numbered qs c.session ≡ Some q) (p : IsGoing book x.closing x.cut (job (kept.sessions c.session x q here is).seat) c.xid a) where
+    (x : Session) (q : Queue) (here : numbered k.sessions c.session ≡ Some x) (unhung : x.hung ≡ false) (is : numbered qs c.session ≡ Some q) (p : IsGoing book c.session x.closing x.cut (job (kept.sessions c.session x q here is).seat) c.xid a) where
   abbrev n : ℕ
   n = c.session
 
@@ -158,7 +149,11 @@ module _ (laws : FitLaws) (book : Book) (k : Core) (qs : List Queue) (now : ℕ)
   first : slice_get k.server.waiting 0 ≡ Some c
   first = ap (λ (l : List Change). slice_get l 0) waits
 
-  -- what the others need is there
+  -- what the others need
+  left_held : server.held (drop 1 k.server.waiting) ≡ held
+  left_held = ap (λ (l : List Change). server.held (drop 1 l)) waits
+
+  -- and is there
   room : t.changes + server.entries_held cs + 0 ≤ 4294967295
   room = let z = kept.server.changes in let e = ap server.entries_held waits in omega (arith, z, e)
 
@@ -186,6 +181,11 @@ module _ (laws : FitLaws) (book : Book) (k : Core) (qs : List Queue) (now : ℕ)
       let w = p.waited uncut in
       let same : j ≡ record { place = p.place; file = 0; stage = stage.Walking c.xid w.0 } = some_is j (record { place = p.place; file = 0; stage = stage.Walking c.xid w.0 }) (sym at ∙ w.1) in
       (ap (λ (z : Job). z.place) same, ap (λ (z : Job). z.stage) same ∙ ap (stage.Walking c.xid) (walk_is w.0 a w.2))
+
+  job_own : x.cut ≡ false → (j : Job) → job h.seat ≡ Some j → ◌≡◌ {A = Job} (record { place = p.place; file = 0; stage = stage.Walking c.xid (walk_for a) }) j
+  job_own uncut j at =
+      let w = p.waited uncut in
+      ap (λ (v : Walk). record { place = p.place; file = 0; stage = stage.Walking c.xid v }) (sym (walk_is w.0 a w.2)) ∙ some_is (record { place = p.place; file = 0; stage = stage.Walking c.xid w.0 }) j (sym w.1 ∙ at)
 
   op_is : x.cut ≡ false → (j : Job) (o : Op) → job h.seat ≡ Some j → slice_get book.ops j.place ≡ Some o → p.op ≡ o
   op_is uncut j o at there = some_is p.op o (sym p.there ∙ ap (slice_get book.ops) (sym (job_walks uncut j at).0) ∙ there)
@@ -235,7 +235,7 @@ module _ (laws : FitLaws) (book : Book) (k : Core) (qs : List Queue) (now : ℕ)
       let b = was.bytes in
       let u = ap server.waiting_size waits in
       subst (λ (tree : Tree). IsServer more (settled_server k.server now cs tree k.server.journal)) same (record {
-        held = λ f. file_still book more None None f (server.file_at t f) grows still (was.held f);
+        held = λ f. file_still book more None None f (the_files.file_at t f) grows still (was.held f);
         fresh = λ f u. fresh_still book more None None t grows still was.fresh f u;
         bounded = was.bounded;
         zero = was.zero;
@@ -265,7 +265,7 @@ module _ (laws : FitLaws) (book : Book) (k : Core) (qs : List Queue) (now : ℕ)
         made_here = λ z f. nothing_there z f;
         key_is = answer_key c a r what procs;
         fits = fits r bounded answer;
-        answer = λ uncut. settled_came book more k qs now n x q c.xid a h.seat r kept h.owner noted (sent r answer) refl refl (λ j at. (job_walks uncut j at).1)
+        answer = λ uncut. settled_came book more k qs now n x q c.xid a h.seat r kept h.owner (h.here uncut).0 noted (sent r answer) refl refl (λ j at. (job_walks uncut j at).1)
             (λ j o at there. (o, there, refl, refl, inr (inl (record { making = makes_for a; why = s; why_is = why; refuses = refuses; leads = leads; unmade = subst (λ (b : Bool). UnmadeBy b x.closing j o) (sym (alters_for a)) (unmade_at uncut j o at there) }))));
         running = kept.running;
       })
@@ -273,11 +273,11 @@ module _ (laws : FitLaws) (book : Book) (k : Core) (qs : List Queue) (now : ℕ)
   -- ---- its file goes
 
   ends_gone : (done : TreeChange) (r : NameReply) (after : Tree) → settled ≡ (after, record { answer = name_answer r; first = done.first; second = done.second }) → step_by t held (walk_for a).dir (walk_for a).goal ≡ (after, Ok done) → IsGoneEntry t (file_of a) done.first → IsName done.second → walk_told (walk_for a) (name_answer r) ≡ leading.Ends walk_end.Done → nfs_proc (name_answer r) ≡ nfs_proc (next_call (walk_for a))
-      → ((f : ℕ) → server.file_at after f ≡ (if file_of a == f then None else server.file_at t f)) → ((f : ℕ) → with_id t.nodes f ≡ None → with_id after.nodes f ≡ None) → with_id after.nodes (file_of a) ≡ None → IsRooted after.nodes → after.next ≡ t.next → Leads book qs (happens k (Settles now))
+      → ((f : ℕ) → the_files.file_at after f ≡ (if file_of a == f then None else the_files.file_at t f)) → ((f : ℕ) → with_id t.nodes f ≡ None → with_id after.nodes f ≡ None) → with_id after.nodes (file_of a) ≡ None → IsRooted after.nodes → after.next ≡ t.next → Leads book qs (happens k (Settles now))
   ends_gone done r after settled_is step gone names leads procs files none off root next =
       let e = gone.entry in
       let file : ℕ = file_of a in
-      let ns = second_entries n done.second in
+      let ns = entered_by n done.second in
       let es : List Entry = written_by n e ∷ ns in
       let entries = entries_gone n done.first done.second e gone.is in
       let count = count_gone n done.first done.second e gone.is in
@@ -324,7 +324,7 @@ module _ (laws : FitLaws) (book : Book) (k : Core) (qs : List Queue) (now : ℕ)
         made_here = λ z f. p.known ∙ f;
         key_is = answer_key c a r what procs;
         fits = fits r bounded answer;
-        answer = λ uncut. settled_came book more k qs now n x q c.xid a h.seat r kept h.owner noted (sent r answer) refl refl (λ j at. (job_walks uncut j at).1)
+        answer = λ uncut. settled_came book more k qs now n x q c.xid a h.seat r kept h.owner (h.here uncut).0 noted (sent r answer) refl refl (λ j at. (job_walks uncut j at).1)
             (λ j o at there.
             let place = (job_walks uncut j at).0 in
             let same : p.op ≡ o = op_is uncut j o at there in (
@@ -334,10 +334,15 @@ module _ (laws : FitLaws) (book : Book) (k : Core) (qs : List Queue) (now : ℕ)
               ap (λ (z : Op). z.client) same,
               inr (inr (record {
                 making = makes_for a;
-                held = held;
+                session = n;
+                xid = c.xid;
+                taken = taken_for_same more new.client (record { place = p.place; file = 0; stage = stage.Walking c.xid (walk_for a) }) j n c.xid (walk_for a) (job_own uncut j at) (taken_for_later book more (Some p.place) None p.op.client new.client (record { place = p.place; file = 0; stage = stage.Walking c.xid (walk_for a) }) n c.xid (walk_for a) g refl (p.taken uncut));
+                comes = inr (record { now = now; event_is = refl; change = c; first = first; session_is = refl; xid_is = refl });
+                before = (let z = (p.taken uncut).past in omega (arith, z));
                 done = done;
-                step_is = ap (λ (z : Tree × Result TreeChange Status). z.1) step;
-                tree_is = ap (λ (z : CoreStep). z.core.server.tree) step_is ∙ ap (λ (z : Tree × Finished). z.0) settled_is ∙ sym (ap (λ (z : Tree × Result TreeChange Status). z.0) step);
+                step_is = ap (λ (u : Held). (step_by t u (walk_for a).dir (walk_for a).goal).1) left_held ∙ ap (λ (z : Tree × Result TreeChange Status). z.1) step;
+                tree_is = ap (λ (z : CoreStep). z.core.server.tree) step_is ∙ ap (λ (z : Tree × Finished). z.0) settled_is ∙ sym (ap (λ (u : Held). (step_by t u (walk_for a).dir (walk_for a).goal).0) left_held ∙ ap (λ (z : Tree × Result TreeChange Status). z.0) step);
+                journal_is = ap (λ (z : CoreStep). z.core.server.journal) step_is ∙ ap (λ (z : Tree × Finished). k.server.journal ++ entries_by n z.1.first z.1.second) settled_is;
                 leads = leads;
                 pointed = subst (λ (b : Bool). PointedBy b x.closing j new (book.steps + 1) (entry_file done.first)) (sym (alters_for a)) (inr (file, gone_file done.first e file gone.is gone.kind_is gone.file_is, p.unmade.0, refl, refl));
               })),
@@ -358,22 +363,3 @@ module _ (laws : FitLaws) (book : Book) (k : Core) (qs : List Queue) (now : ℕ)
   pub ends_so : SettlesSo t held (walk_for a) a → Leads book qs (happens k (Settles now))
   ends_so (refused_late s r settled_is why refuses leads procs) = ends_refused s r settled_is why refuses leads procs
   ends_so (goes done r after settled_is step gone names leads procs files none off root next) = ends_gone done r after settled_is step gone names leads procs files none off (root kept.server.rooted) next
-
--- ---- of any session
-
--- what was a file is no directory
-never_directory : (book : Book) (s : server.State) (f : ℕ) → IsServer book s → WasThere book f → (n : Node) → directory_of s.tree.nodes f ≡ Ok n → ⊥
-never_directory book s f h was n e = there_version book f was (h.fresh f (directory_unused s.tree f n e))
-
-pub ends_asked : FitLaws → (book : Book) (k : Core) (qs : List Queue) (now : ℕ) (c : Change) (cs : List Change) (a : Asked) → IsKept book k qs → IsNoted book k (Settles now) → k.server.waiting ≡ c ∷ cs → c.what ≡ wanted.Asked a → Leads book qs (happens k (Settles now))
-ends_asked laws book k qs now c cs a kept noted waits what =
-    let first : slice_get k.server.waiting 0 ≡ Some c = ap (λ (l : List Change). slice_get l 0) waits in
-    let home = kept.home 0 c first in
-    let x = home.0 in
-    let q = also_numbered k.sessions qs c.session x kept.made.1 home.1 in
-    let h = kept.sessions c.session x q.0 home.1 q.1 in
-    let own_is : slice_get (own c.session k.server.waiting) 0 ≡ Some c = ap (λ (l : List Change). slice_get (own c.session l) 0) waits ∙ ap (λ (l : List Change). slice_get l 0) (first_own c cs) in
-    let p : IsGoing book x.closing x.cut (job h.seat) c.xid a = subst (WaitsFor book x.closing x.cut (job h.seat) c.xid c.file) what (h.pending 0 c own_is) in
-    let w = subst (IsWanted c.file) what (kept.server.wants 0 c first) in
-    ends_so laws book k qs now c cs a kept noted waits what x q.0 home.1 home.2 q.1 p
-    (settles_so k.server.tree (server.held cs) (walk_for a) a kept.server.bounded w.2 (asks_for a) w.1 (never_directory book k.server (file_of a) kept.server (subst (WasThere book) w.0 (kept.server.targets 0 c first))))

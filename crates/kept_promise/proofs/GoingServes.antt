@@ -7,10 +7,10 @@ use Rattle.wire.specs.declared.message.Body.TheVariants as body
 use Rattle.wire.specs.declared.message.Message.TheVariants as message
 use Rattle.wire.specs.declared.message.Program.TheVariants as program
 use Rattle.tree_nodes.specs.Nodes.{with_id}
-use Rattle.file_tree.specs.Tree.{Tree, contents_size}
-use Rattle.file_tree.specs.declared.call.Changed.{Changed as TreeChange}
-use Rattle.file_tree.specs.declared.call.Held.{Held}
-use Rattle.file_tree.specs.declared.entry.Entry.{Entry as TreeEntry}
+use Rattle.tree_reading.specs.Tree.{Tree, contents_size}
+use Rattle.tree_plans.specs.declared.call.Changed.{Changed as TreeChange}
+use Rattle.tree_plans.specs.declared.call.Held.{Held}
+use Rattle.tree_plans.specs.declared.entry.Entry.{Entry as TreeEntry}
 use Rattle.tree_calls.specs.Changing.{said}
 use Rattle.tree_calls.specs.Waiting.{file_of, entries_of}
 use Rattle.tree_calls.specs.declared.asked.Asked.{Asked}
@@ -24,12 +24,14 @@ use Rattle.path_calls.specs.declared.answers.Told.TheVariants as leading
 use Rattle.path_calls.specs.declared.walk.Goal.{Goal}
 use Rattle.path_calls.specs.declared.walk.Walk.{Walk}
 use Rattle.server_core.specs.State as server
+use Rattle.chunk_calls.specs.Files as the_files
 use Rattle.server_core.specs.Closing.{entries_by, entry_by as written_by, count_of}
 use Rattle.server_core.specs.declared.event.Sent.{Sent}
 use Rattle.client_state.specs.State as client
 use Rattle.client_state.specs.declared.task.Stage.TheVariants as stage
 use Rattle.trace_replay.specs.Naming.{entry_file, refusal_of}
-use Rattle.trace_replay.specs.Ops.{changed_file, is_of_file, pointed_at}
+use Rattle.trace_ends.specs.Core.{changed_file, is_of_file}
+use Rattle.trace_ops.specs.Ops.{pointed_at}
 use Rattle.server_law.proofs.Trees.{IsBounded}
 use Rattle.server_law.proofs.TreeCalls.{entries_more, sizes_more}
 use Rattle.kept_promise.proofs.Common.{slice_get, cond, option_map, Contains, Contains-push, message_spell, MessageFits, stands, not, has_waiting, at, Entry, File, Op, TakenCall, Core, Session, Event.Serves, CoreStep, with_numbered, happens, serves, serves_if, quiet, Book, Call.Walks, Reply.Walked, NameReply, name_answer, Ask, Queue, ask_message, told_message}
@@ -44,7 +46,7 @@ use Rattle.kept_promise.proofs.GoingCalls.{IsName}
 use Rattle.kept_promise.proofs.Departures.{comes_by, AreTwo, ComesSo, refused, done_now, waits, comes_so}
 use Rattle.kept_promise.proofs.Rooted.{IsRooted}
 use Rattle.kept_promise.proofs.GoingSteps.{coming, waits_got, got_answered, got_waits}
-use Rattle.kept_promise.proofs.Messages.{Job, job, goal_word, asked_word, AllAsks, IsCommit, IsCreating, AsksFor, walk_is, IsAnswer, UnmadeBy, PointedBy}
+use Rattle.kept_promise.proofs.Messages.{Job, job, goal_word, asked_word, AllAsks, IsCommit, IsCreating, IsTakenFor, AsksFor, walk_for, walk_is, IsAnswer, UnmadeBy, PointedBy}
 use Rattle.kept_promise.proofs.Rights.{IsUnmade}
 use Rattle.kept_promise.proofs.Growth.{there_later}
 use Rattle.kept_promise.proofs.History.{onward, entered, AreNames, grows_named, goes_named, still_named}
@@ -58,7 +60,7 @@ use Rattle.kept_promise.proofs.ServesFiles.{making_got, pointed_none}
 use Rattle.kept_promise.proofs.Calls.{Given, session_in, first_fits, rest_of, leads_by, same_temps, held_still}
 use Rattle.kept_promise.proofs.Orderly.{locals_of, Orderly}
 use Rattle.kept_promise.proofs.Ordered.{held_rest, held_first}
-use Rattle.kept_promise.proofs.Tells.{walk_came}
+use Rattle.kept_promise.proofs.Tells.{walk_came, taken_now}
 use Rattle.kept_promise.proofs.Entering.{entered_server, entered_step, leads_entered}
 use Rattle.kept_promise.proofs.Waitings.{ComesToWait, leads_coming}
 use Rattle.kept_promise.proofs.Leading.{Leads}
@@ -175,8 +177,11 @@ module _ (laws : FitLaws) (book : Book) (k : Core) (qs : List Queue) (n now : �
   serve_refused s r is why refuses leads procs fit =
       subst (Leads book (rest_of qs n q us)) (sym (answered_is t (said (name_answer r)) is ∙ refused_step r))
       (leads_by book k qs n now x q a us k.server.temps k.server.index (Walked r) g (same_temps book k n x q a (Walked r) h g.kept.shelf (λ uncut. tt) (λ uncut vs e. held_still book k qs n now x q a us g (Walked r) tt tt uncut vs e) (ap (λ p. program.Nfs p) procs) fit
-      (λ uncut. walk_came book (onward book 1 book.ops) k qs n now x q xid w us h.seat r g.kept h.owner (h.talk uncut) g.first g.noted (sent t (said (name_answer r)) r is refl) refl refl
+      (λ uncut. walk_came book (onward book 1 book.ops) k qs n now x q xid w us h.seat r g.kept h.owner (h.here uncut).0 (h.talk uncut) g.first g.noted (sent t (said (name_answer r)) r is refl) refl refl
       (λ j o at is there. (o, there, refl, refl, inr (inl (record { making = making; why = s; why_is = why; refuses = refuses; leads = leads; unmade = unmade uncut j o at there })))))))
+
+  step_now : k.steps + 1 ≤ book.steps + 1
+  step_now = let e = g.kept.steps in omega (arith, e)
 
   -- ---- a rename is done at once, and no file goes
 
@@ -192,7 +197,7 @@ module _ (laws : FitLaws) (book : Book) (k : Core) (qs : List Queue) (n now : �
   stays : (after : Tree) (done : TreeChange) → step_by t held w.dir w.goal ≡ (after, Ok done) → IsBounded after × (after.changes + server.entries_held k.server.waiting + 0 ≤ 4294967295) × (contents_size after.nodes ≤ contents_size t.nodes)
   stays after done is = subst (λ (p : Tree × Result TreeChange Status). IsBounded p.0 × (p.0.changes + server.entries_held k.server.waiting + 0 ≤ 4294967295) × (contents_size p.0.nodes ≤ contents_size t.nodes)) is (step_stays t held w.dir w.goal g.kept.server.bounded room)
 
-  server_named : (after : Tree) (done : TreeChange) → step_by t held w.dir w.goal ≡ (after, Ok done) → ((f : ℕ) → server.file_at after f ≡ server.file_at t f) → ((f : ℕ) → with_id t.nodes f ≡ None → with_id after.nodes f ≡ None) → IsRooted after.nodes → after.next ≡ t.next → IsServer (named done) (entered_server k.server moment after (k.server.journal ++ entries_of_names done))
+  server_named : (after : Tree) (done : TreeChange) → step_by t held w.dir w.goal ≡ (after, Ok done) → ((f : ℕ) → the_files.file_at after f ≡ the_files.file_at t f) → ((f : ℕ) → with_id t.nodes f ≡ None → with_id after.nodes f ≡ None) → IsRooted after.nodes → after.next ≡ t.next → IsServer (named done) (entered_server k.server moment after (k.server.journal ++ entries_of_names done))
   server_named after done is files none root next =
       let more = named done in
       let grows = grows_named book (entries_of_names done) in
@@ -202,7 +207,7 @@ module _ (laws : FitLaws) (book : Book) (k : Core) (qs : List Queue) (n now : �
       let size = s.2 in
       let bytes = g.kept.server.bytes in
       record {
-        held = λ f. subst (FileIs more f) (sym (files f)) (file_still book more None None f (server.file_at t f) grows still (g.kept.server.held f));
+        held = λ f. subst (FileIs more f) (sym (files f)) (file_still book more None None f (the_files.file_at t f) grows still (g.kept.server.held f));
         fresh = λ f u. fresh_still book more None None t grows still g.kept.server.fresh f (unused_same t after f next (none f) (files f) u);
         bounded = s.0;
         zero = none 0 g.kept.server.zero;
@@ -222,7 +227,7 @@ module _ (laws : FitLaws) (book : Book) (k : Core) (qs : List Queue) (n now : �
       ∙ ap (λ (l : List Op). entered_step k n moment x a after (k.server.journal ++ entries_of_names done) l (k.entries ++ replicate (count_of done.first done.second) (k.steps + 1)) (Walked r)) (pointed_none k.ops x.closing (k.steps + 1))
       ∙ ap (λ (m : ℕ). entered_step k n moment x a after (k.server.journal ++ entries_of_names done) k.ops (k.entries ++ replicate m (k.steps + 1)) (Walked r)) (count_is n done.first done.second)
 
-  serve_now : (done : TreeChange) (r : NameReply) (after : Tree) → comes_by t held busy w.dir w.goal ≡ (after, Answered (record { answer = name_answer r; first = done.first; second = done.second })) → step_by t held w.dir w.goal ≡ (after, Ok done) → IsName done.first → IsName done.second → walk_told w (name_answer r) ≡ leading.Ends walk_end.Done → nfs_proc (name_answer r) ≡ nfs_proc (next_call w) → ((f : ℕ) → server.file_at after f ≡ server.file_at t f) → ((f : ℕ) → with_id t.nodes f ≡ None → with_id after.nodes f ≡ None) → IsRooted after.nodes → after.next ≡ t.next → MessageFits (told_message (record { xid = xid; reply = Walked r }))
+  serve_now : (done : TreeChange) (r : NameReply) (after : Tree) → comes_by t held busy w.dir w.goal ≡ (after, Answered (record { answer = name_answer r; first = done.first; second = done.second })) → step_by t held w.dir w.goal ≡ (after, Ok done) → IsName done.first → IsName done.second → walk_told w (name_answer r) ≡ leading.Ends walk_end.Done → nfs_proc (name_answer r) ≡ nfs_proc (next_call w) → ((f : ℕ) → the_files.file_at after f ≡ the_files.file_at t f) → ((f : ℕ) → with_id t.nodes f ≡ None → with_id after.nodes f ≡ None) → IsRooted after.nodes → after.next ≡ t.next → MessageFits (told_message (record { xid = xid; reply = Walked r }))
       → Leads book (rest_of qs n q us) (happens k (Serves n now (message_spell (ask_message a))))
   serve_now done r after is step first second leads procs files none root next fit =
       let d : Finished = record { answer = name_answer r; first = done.first; second = done.second } in
@@ -241,7 +246,7 @@ module _ (laws : FitLaws) (book : Book) (k : Core) (qs : List Queue) (n now : �
         made_here = λ p f. nothing_there p f;
         program = ap (λ p. program.Nfs p) procs;
         fits = fit;
-        answer = λ uncut. walk_came book more k qs n now x q xid w us h.seat r g.kept h.owner (h.talk uncut) g.first g.noted (sent after d r is refl) refl refl
+        answer = λ uncut. walk_came book more k qs n now x q xid w us h.seat r g.kept h.owner (h.here uncut).0 (h.talk uncut) g.first g.noted (sent after d r is refl) refl refl
             (λ j o at on there. (
               o,
               there,
@@ -249,10 +254,15 @@ module _ (laws : FitLaws) (book : Book) (k : Core) (qs : List Queue) (n now : �
               refl,
               inr (inr (record {
                 making = making;
-                held = held;
+                session = n;
+                xid = xid;
+                taken = taken_now book more k qs n now x a w h.seat o.client j o g.kept h.owner (h.here uncut).0 g.noted (parsed laws a fits) refl refl refl refl at there on;
+                comes = inl refl;
+                before = step_now;
                 done = done;
                 step_is = ap (λ (p : Tree × Result TreeChange Status). p.1) step;
                 tree_is = ap (λ (c : CoreStep). c.core.server.tree) (answered_is after d is) ∙ sym (ap (λ (p : Tree × Result TreeChange Status). p.0) step);
+                journal_is = ap (λ (c : CoreStep). c.core.server.journal) (answered_is after d is);
                 leads = leads;
                 pointed = subst (λ (b : Bool). PointedBy b x.closing j o (book.steps + 1) (entry_file done.first)) (sym (going_creates w.left w.goal going)) (inl (names_file done.first first, subst (λ (b : Bool). UnmadeBy b x.closing j o) (going_creates w.left w.goal going) (unmade uncut j o at there)));
               })),
@@ -260,7 +270,7 @@ module _ (laws : FitLaws) (book : Book) (k : Core) (qs : List Queue) (n now : �
         answers = λ uncut. all_tolds (IsAnswer book x.taken x.closing (job h.seat)) (IsAnswer more (x.taken ++ z ∷ []) x.closing (job h.seat)) (λ u f. answer_found more x.taken (x.taken ++ z ∷ []) x.closing (job h.seat) u finds (answer_later book more None None x.taken x.closing (job h.seat) u grows spares f)) q.downs (h.talk uncut).answers;
         commits = (subst (AllAsks (IsCommit more x.closing x.cut (job h.seat) h.contents)) g.first (all_asks (IsCommit book x.closing x.cut (job h.seat) h.contents) (IsCommit more x.closing x.cut (job h.seat) h.contents) (λ b m. commit_later book more None None x.closing x.cut (job h.seat) (job h.seat) h.contents b grows spares (λ u. refl) m) q.ups h.commits)).1;
         closes = λ uncut j f. close_later book more None None x.closing h.contents h.seat.client.next_temp j (client.local_bytes h.seat.client.opened j.file) j.stage grows spares (h.closes uncut j f);
-        pending = λ i c f. waits_later book more None None x.closing x.cut (job h.seat) (job h.seat) c.xid c.file c.what grows spares (λ u. refl) (h.pending i c f);
+        pending = λ i c f. waits_later book more None None x.closing x.cut (job h.seat) (job h.seat) c.session c.xid c.file c.what grows spares (λ u. refl) (h.pending i c f);
         wanted = λ uncut. tt;
         held = λ uncut. held_still book k qs n now x q a us g (Walked r) tt tt uncut us g.first;
         running = g.kept.running;
@@ -268,7 +278,14 @@ module _ (laws : FitLaws) (book : Book) (k : Core) (qs : List Queue) (n now : �
 
   -- ---- it comes to wait
 
-  comes_waiting : (b : Asked) (f : File) → AsksFor w b → server.file_at t (file_of b) ≡ Some f → t.changes + server.entries_held k.server.waiting + entries_of b ≤ 4294967295 → AreTwo b → ComesToWait book k n x q a us k.server.temps (coming n xid b) h
+  -- its client waits for the answer
+  taken_first : x.cut ≡ false → (b : Asked) → AsksFor w b → IsTakenFor (onward book 1 book.ops) altering.op.client (record { place = altering.place; file = 0; stage = stage.Walking xid (walk_for b) }) n xid (walk_for b)
+  taken_first uncut b asks =
+      let c = altering in
+      subst (λ (v : Walk). IsTakenFor (onward book 1 book.ops) c.op.client (record { place = c.place; file = 0; stage = stage.Walking xid v }) n xid v) (walk_is w b asks)
+      (taken_now book (onward book 1 book.ops) k qs n now x a w h.seat c.op.client (record { place = c.place; file = 0; stage = stage.Walking xid w }) c.op g.kept h.owner (h.here uncut).0 g.noted (parsed laws a fits) refl refl refl refl (c.waited uncut) c.there refl)
+
+  comes_waiting : (b : Asked) (f : File) → AsksFor w b → the_files.file_at t (file_of b) ≡ Some f → t.changes + server.entries_held k.server.waiting + entries_of b ≤ 4294967295 → AreTwo b → ComesToWait book k n x q a us k.server.temps (coming n xid b) h
   comes_waiting b f asks there room_left two =
       let c = altering in
       let e = entries_more k.server.waiting (coming n xid b) in
@@ -288,10 +305,10 @@ module _ (laws : FitLaws) (book : Book) (k : Core) (qs : List Queue) (n now : �
         shelf = g.kept.shelf;
         found = λ o apart m lt. refl;
         held = λ uncut. held_rest k.server.temps n a us q.downs (locals_of h.seat.client) (job h.seat) tt (held_first book n k.server.temps q a us h.seat g.first (subst (λ (z : Bool). Orderly book n k.server.temps z q h.seat) g.unhung (h.orderly uncut)));
-        waits = record { place = c.place; known = c.known; op = c.op; there = c.there; unmade = c.unmade; word_is = c.word_is ∙ word_wanted w b asks; file_is = c.file_is; waited = λ uncut. (w, c.waited uncut, asks) };
+        waits = record { place = c.place; known = c.known; op = c.op; there = c.there; unmade = c.unmade; word_is = c.word_is ∙ word_wanted w b asks; file_is = c.file_is; waited = λ uncut. (w, c.waited uncut, asks); taken = λ uncut. taken_first uncut b asks };
       }
 
-  serve_waits : (b : Asked) (f : File) → comes_by t held busy w.dir w.goal ≡ (t, Waits b) → AsksFor w b → server.file_at t (file_of b) ≡ Some f → t.changes + server.entries_held k.server.waiting + entries_of b ≤ 4294967295 → AreTwo b → Leads book (rest_of qs n q us) (happens k (Serves n now (message_spell (ask_message a))))
+  serve_waits : (b : Asked) (f : File) → comes_by t held busy w.dir w.goal ≡ (t, Waits b) → AsksFor w b → the_files.file_at t (file_of b) ≡ Some f → t.changes + server.entries_held k.server.waiting + entries_of b ≤ 4294967295 → AreTwo b → Leads book (rest_of qs n q us) (happens k (Serves n now (message_spell (ask_message a))))
   serve_waits b f is asks there room_left two = subst (Leads book (rest_of qs n q us)) (sym (waits_is b is)) (leads_coming book k qs n now x q a us k.server.temps (coming n xid b) g (comes_waiting b f asks there room_left two))
 
   -- ---- any of them

@@ -1,11 +1,10 @@
 -- A remove, or a rename over a file, that waited is settled, and its session told: it's refused, or its file goes.
 use Rattle.std.proofs.Common.{inl, ◌≡◌, ℕ, suc, ◌+◌, ◌≤◌, List, [], ◌∷◌, ◌++◌, length, max, map, Option, Some, None, Bool, true, false, refl, sym, ap, ◌∙◌, subst, arith, eq-eqb, ne_eqb}
 use Rattle.nfs3_calls.specs.Nfs.{nfs_proc}
-use Rattle.nfs3_calls.specs.declared.message.Nfs.{Nfs}
 use Rattle.wire.specs.declared.message.Body.TheVariants as body
 use Rattle.wire.specs.declared.message.Message.TheVariants as message
 use Rattle.wire.specs.declared.message.Program.TheVariants as program
-use Rattle.file_tree.specs.Tree.{Tree}
+use Rattle.tree_reading.specs.Tree.{Tree}
 use Rattle.tree_calls.specs.declared.asked.Asked.{Asked}
 use Rattle.tree_calls.specs.declared.asked.Asked.TheVariants as asked
 use Rattle.path_calls.specs.Walk.{next_call}
@@ -94,7 +93,7 @@ pub record ShowsSettled (book more : Book) (k : Core) (now : ℕ) (c : Change) (
 
 module _ (book more : Book) (k : Core) (qs : List Queue) (now : ℕ) (c : Change) (cs : List Change) (a : Asked) (x : Session) (q : Queue) (tree : Tree) (journal : List Entry) (r : NameReply) (made : Option ℕ)
     (kept : IsKept book k qs) (waits : k.server.waiting ≡ c ∷ cs) (here : numbered k.sessions c.session ≡ Some x) (unhung : x.hung ≡ false) (is : numbered qs c.session ≡ Some q)
-    (pending : IsGoing book x.closing x.cut (job (kept.sessions c.session x q here is).seat) c.xid a) (shows : ShowsSettled book more k now c cs x q tree journal r made (kept.sessions c.session x q here is)) where
+    (pending : IsGoing book c.session x.closing x.cut (job (kept.sessions c.session x q here is).seat) c.xid a) (shows : ShowsSettled book more k now c cs x q tree journal r made (kept.sessions c.session x q here is)) where
   abbrev n : ℕ
   n = c.session
 
@@ -198,12 +197,12 @@ module _ (book more : Book) (k : Core) (qs : List Queue) (now : ℕ) (c : Change
 
 -- ---- what is told of it
 
-pub settled_came : (book more : Book) (k : Core) (qs : List Queue) (now n : ℕ) (x : Session) (q : Queue) (xid : ℕ) (a : Asked) (c : Seat) (r : NameReply) → IsKept book k qs → numbered k.seats x.owner ≡ Some c → IsNoted book k (Settles now)
+pub settled_came : (book more : Book) (k : Core) (qs : List Queue) (now n : ℕ) (x : Session) (q : Queue) (xid : ℕ) (a : Asked) (c : Seat) (r : NameReply) → IsKept book k qs → numbered k.seats x.owner ≡ Some c → c.session ≡ Some n → IsNoted book k (Settles now)
     → Contains (happens k (Settles now)).down (record { session = n; message = message.Answer xid (body.Nfs (name_answer r)) }) → more.moments ≡ book.moments → more.steps ≡ book.steps + 1
     → ((j : Job) → job c ≡ Some j → j.stage ≡ stage.Walking xid (walk_for a))
     → ((j : Job) (o : Op) → job c ≡ Some j → slice_get book.ops j.place ≡ Some o → (z : Op) × (slice_get more.ops j.place ≡ Some z) × (z.begin ≡ o.begin) × (z.client ≡ o.client) × WalkCame more (record { before = k; event = Settles now }) (book.steps + 1) x.closing j z (walk_for a) (name_answer r))
     → AnswerOf more x.taken x.closing (job c) xid (Walked r)
-settled_came book more k qs now n x q xid a c r kept was noted sent moments steps waits came = λ j v is at.
+settled_came book more k qs now n x q xid a c r kept was here noted sent moments steps waits came = λ j v is at.
     let of = (kept.seats x.owner c was).task j is in
     let begun = (kept.sound.rights j.place of.op of.there).begun in
     let passed = kept.steps in
@@ -226,6 +225,7 @@ settled_came book more k qs now n x q xid a c r kept was noted sent moments step
       sent = sent;
       seat = c;
       seat_is = ap (numbered k.seats) (z.3 ∙ of.client) ∙ was;
+      newest = here;
       job_is = is;
       then_op = of.op;
       then_is = ap (λ (l : List Op). slice_get l j.place) (sym kept.ops) ∙ of.there;

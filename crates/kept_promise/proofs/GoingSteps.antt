@@ -2,7 +2,7 @@
 use Rattle.std.proofs.Common.{◌≡◌, ℕ, ◌+◌, List, [], ◌∷◌, ◌++◌, replicate, append-nil, Bool, true, refl, ap, ◌∙◌}
 use Rattle.wire.specs.declared.message.Body.TheVariants as body
 use Rattle.wire.specs.declared.message.Message.TheVariants as message
-use Rattle.file_tree.specs.Tree.{Tree}
+use Rattle.tree_reading.specs.Tree.{Tree}
 use Rattle.tree_calls.specs.Waiting.{some, file_of}
 use Rattle.tree_calls.specs.declared.asked.Asked.{Asked}
 use Rattle.tree_calls.specs.declared.asked.Done.{Done}
@@ -16,8 +16,8 @@ use Rattle.server_core.specs.Step.{asks_tree}
 use Rattle.server_core.specs.declared.change.Wanted.TheVariants as wanted
 use Rattle.server_core.specs.declared.event.ServerStep.{ServerStep}
 use Rattle.server_core.specs.declared.journal.Entry.{Entry}
-use Rattle.trace_replay.specs.Core.{entries_since, server_got}
-use Rattle.trace_replay.specs.Ops.{changed_file, pointed_at}
+use Rattle.trace_ends.specs.Core.{entries_since, server_got, changed_file}
+use Rattle.trace_ops.specs.Ops.{pointed_at}
 use Rattle.kept_promise.proofs.Common.{Op, Change, at, has_waiting, got_if, stands, Core, Session, CoreStep, with_numbered, quiet}
 use Rattle.kept_promise.proofs.PathNames.{IsWalkSmall, is_going}
 use Rattle.kept_promise.proofs.Departures.{comes_by, called_going}

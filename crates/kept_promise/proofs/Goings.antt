@@ -1,6 +1,6 @@
 -- What REMOVE and RENAME make of a tree: nothing, where they are refused; or a file goes, or a node goes under another name, over what has that name, if anything has.
 -- And what the tree has then: its files, and no node of another id.
-use Rattle.std.proofs.Common.{◌⊎◌, inl, inr, ◌≡◌, ℕ, ◌+◌, List, [], Option, Some, None, Result, Ok, Err, Bool, true, false, ◌&&◌, ◌==◌, refl, sym, ap, ◌∙◌, arith, length, if◌then◌else◌}
+use Rattle.std.proofs.Common.{◌⊎◌, inl, inr, ◌≡◌, ℕ, ◌+◌, List, Option, Some, None, Result, Ok, Err, Bool, true, false, ◌&&◌, ◌==◌, refl, sym, ap, ◌∙◌, arith, length, if◌then◌else◌}
 use Rattle.std.proofs.lemmas.Bool.Decides.{nat_tests}
 use Rattle.xdr_codec.specs.declared.status.Status.{Status}
 use Rattle.xdr_codec.specs.declared.status.Status.TheVariants as status
@@ -9,19 +9,20 @@ use Rattle.tree_nodes.specs.declared.node.Body.{Body}
 use Rattle.tree_nodes.specs.declared.node.Body.TheVariants.{Directory, File as Plain}
 use Rattle.tree_nodes.specs.Nodes.{with_id, named, names, without, versioned}
 use Rattle.tree_nodes.proofs.Lists.{with_id_with, with_id_without}
-use Rattle.file_tree.specs.Chain.{◌>>=◌}
-use Rattle.file_tree.specs.Tree.{Tree, is_directory}
-use Rattle.file_tree.specs.Step.{Target, Target.itself, Target.over, spared, last_version, gone_entry, one, nothing, move_done, remove_done, remove_plan, remove_if, remove, removed, placed, moved_at, moved, shifted, or_within, may_replace, rename_over, is_same, planned as planned_as, planned_found, rename_plan, rename_if, rename, create, mkdir, rmdir}
-use Rattle.file_tree.specs.declared.call.Changed.{Changed}
-use Rattle.file_tree.specs.declared.call.CreateMode.TheVariants as mode
-use Rattle.file_tree.specs.declared.call.Held.{Held}
-use Rattle.file_tree.specs.declared.call.Planned.{Planned}
-use Rattle.file_tree.specs.declared.call.Planned.TheVariants as plan
+use Rattle.tree_reading.specs.Chain.{◌>>=◌}
+use Rattle.tree_reading.specs.Tree.{Tree, is_directory}
+use Rattle.tree_plans.specs.Plans.{Target, Target.itself, Target.over, spared, last_version, gone_entry, one, nothing, move_done, remove_done, remove_plan, or_within, may_replace, rename_over, is_same, planned as planned_as, planned_found, rename_plan}
+use Rattle.file_tree.specs.Step.{remove_if, remove, removed, placed, moved_at, moved, shifted, rename_if, rename, create, mkdir, rmdir}
+use Rattle.tree_plans.specs.declared.call.Changed.{Changed}
+use Rattle.tree_plans.specs.declared.call.CreateMode.TheVariants as mode
+use Rattle.tree_plans.specs.declared.call.Held.{Held}
+use Rattle.tree_plans.specs.declared.call.Planned.{Planned}
+use Rattle.tree_plans.specs.declared.call.Planned.TheVariants as plan
 use Rattle.tree_calls.specs.Waiting.{asks_remove, asks_rename, remove_again, rename_again, spot_of}
 use Rattle.path_calls.specs.declared.walk.Goal.{Goal}
 use Rattle.path_calls.specs.declared.walk.Goal.TheVariants as goal
 use Rattle.path_calls.specs.declared.walk.Walk.{Walk}
-use Rattle.server_core.specs.State as server
+use Rattle.chunk_calls.specs.Files as the_files
 use Rattle.server_law.proofs.Trees.{moved_at_files, removed_files, without_none}
 use Rattle.server_law.proofs.TreeCalls.{bind_ok, ok_is, HasDirectory, no_file_in, remove_in, rename_in}
 use Rattle.kept_promise.proofs.Lists.{nothing_there}
@@ -140,21 +141,21 @@ RefusedAs t w s = RefusedBy t w.dir w.goal s
 -- ---- files
 
 -- one goes
-pub file_gone : (t : Tree) (dir : ℕ) (n : Node) (f : ℕ) → HasDirectory t dir → server.file_at (removed t dir n.id) f ≡ (if n.id == f then None else server.file_at t f)
+pub file_gone : (t : Tree) (dir : ℕ) (n : Node) (f : ℕ) → HasDirectory t dir → the_files.file_at (removed t dir n.id) f ≡ (if n.id == f then None else the_files.file_at t f)
 file_gone t dir n f d = removed_files t dir n.id f (no_file_in t dir d)
 
 -- none is another where a node goes under another name
-pub file_moved : (t : Tree) (dir : ℕ) (n : Node) (to : ℕ) (to_name : List ℕ) (f : ℕ) → with_id t.nodes n.id ≡ Some n → HasDirectory t dir × HasDirectory t to → server.file_at (moved t dir n None to to_name) f ≡ server.file_at t f
+pub file_moved : (t : Tree) (dir : ℕ) (n : Node) (to : ℕ) (to_name : List ℕ) (f : ℕ) → with_id t.nodes n.id ≡ Some n → HasDirectory t dir × HasDirectory t to → the_files.file_at (moved t dir n None to to_name) f ≡ the_files.file_at t f
 file_moved t dir n to to_name f at d = moved_at_files t t.nodes n dir to (t.changes + 1) to_name f at (no_file_in t dir d.0) (no_file_in t to d.1)
 
 -- but what had that name
-pub file_over : (t : Tree) (dir : ℕ) (n m : Node) (to : ℕ) (to_name : List ℕ) (f : ℕ) → with_id t.nodes n.id ≡ Some n → (m.id == n.id) ≡ false → HasDirectory t dir × HasDirectory t to → server.file_at (moved t dir n (Some m) to to_name) f ≡ (if m.id == f then None else server.file_at t f)
+pub file_over : (t : Tree) (dir : ℕ) (n m : Node) (to : ℕ) (to_name : List ℕ) (f : ℕ) → with_id t.nodes n.id ≡ Some n → (m.id == n.id) ≡ false → HasDirectory t dir × HasDirectory t to → the_files.file_at (moved t dir n (Some m) to to_name) f ≡ (if m.id == f then None else the_files.file_at t f)
 file_over t dir n m to to_name f at apart d =
     let still : with_id (without t.nodes m.id) n.id ≡ Some n = with_id_without t.nodes m.id n.id ∙ ap (λ (b : Bool). if b then None else with_id t.nodes n.id) apart ∙ at in
     moved_at_files t (without t.nodes m.id) n dir to (t.changes + 2) to_name f still (without_none t.nodes m.id dir (no_file_in t dir d.0)) (without_none t.nodes m.id to (no_file_in t to d.1))
-    ∙ ap server.file_of_node (with_id_without t.nodes m.id f) ∙ by (m.id == f)
+    ∙ ap the_files.file_of_node (with_id_without t.nodes m.id f) ∙ by (m.id == f)
   where
-    by : (b : Bool) → server.file_of_node (if b then None else with_id t.nodes f) ≡ (if b then None else server.file_at t f)
+    by : (b : Bool) → the_files.file_of_node (if b then None else with_id t.nodes f) ≡ (if b then None else the_files.file_at t f)
     by true = refl
     by false = refl
 

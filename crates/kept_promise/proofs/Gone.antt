@@ -2,8 +2,9 @@
 use Rattle.std.proofs.Common.{◌⊎◌, inl, inr, ◌≡◌, ℕ, ◌+◌, ◌<◌, List, Some, None, Ok, Err, false, ap, ◌∙◌, subst, arith}
 use Rattle.xdr_codec.specs.declared.status.Status.TheVariants as status
 use Rattle.tree_nodes.specs.declared.node.Node.{Node as TreeNode}
-use Rattle.file_tree.specs.Tree.{directory_of}
+use Rattle.tree_reading.specs.Tree.{directory_of}
 use Rattle.server_core.specs.State as server
+use Rattle.chunk_calls.specs.Files as the_files
 use Rattle.register_model.specs.declared.op.Word.TheVariants as words
 use Rattle.kept_promise.proofs.Common.{slice_get, handle_bytes, file, node_of, File, Op, Core, Seat, numbered, Book, Queue, value_at}
 use Rattle.kept_promise.proofs.Rights.{WasThere}
@@ -21,11 +22,11 @@ no_directory book s f n h there e = there_version book f there (h.fresh f (direc
 
 -- it is in the tree
 abbrev pub IsStill : (s : server.State) (f : ℕ) → Type 0
-IsStill s f = (z : File) × (server.file_at s.tree f ≡ Some z) × (node_of s.tree (handle_bytes f) ≡ Ok (file z))
+IsStill s f = (z : File) × (the_files.file_at s.tree f ≡ Some z) × (node_of s.tree (handle_bytes f) ≡ Ok (file z))
 
 -- or no longer
 abbrev pub IsNone : (book : Book) (s : server.State) (f : ℕ) → Type 0
-IsNone book s f = (server.file_at s.tree f ≡ None) × (node_of s.tree (handle_bytes f) ≡ Err status.Stale) × (value_at book f (book.steps + 1) ≡ None)
+IsNone book s f = (the_files.file_at s.tree f ≡ None) × (node_of s.tree (handle_bytes f) ≡ Err status.Stale) × (value_at book f (book.steps + 1) ≡ None)
 
 pub still_or_none : (book : Book) (s : server.State) (f : ℕ) → IsServer book s → WasThere book f → f < 18446744073709551616 → IsStill s f ⊎ IsNone book s f
 still_or_none book s f h there lt = by (looked s.tree f lt)

@@ -6,7 +6,7 @@ use Rattle.register_model.specs.declared.op.Outcome.TheVariants as told
 use Rattle.register_model.specs.declared.op.Word.TheVariants as words
 use Rattle.trace_replay.specs.Book.{first_version}
 use Rattle.register_model.specs.Register.{changes, IsFit}
-use Rattle.trace_replay.specs.Causes.{WaitsFor, TakesCall}
+use Rattle.trace_replay.specs.OwnCalls.{WaitsFor, TakesCall}
 use Rattle.kept_promise.proofs.Common.{Body, slice_get, bytes_eq, Contains, sha1, Entry, File, Value, content_of, Op, Opening, Word, Moment, hashed_of, Book, Or, Collides, history, value_at, version_at, Tried, IsEntered}
 use Rattle.kept_promise.proofs.Lists.{false_and_true}
 use Rattle.kept_promise.proofs.Marks.{Mark, marks, latest_mark, left_by, value_is, count_is}

@@ -1,10 +1,11 @@
 -- The server sees a connection lost: what is on its way up goes, the session's temporary files, and its change that waits.
 use Rattle.std.proofs.Common.{inl, inr, ◌≡◌, ℕ, zero, suc, ◌+◌, ◌≤◌, List, [], ◌∷◌, ◌++◌, length, Option, Some, None, Bool, true, false, refl, sym, ap, ◌∙◌, subst, arith, eq-eqb, eqb-true, map}
 use Rattle.server_core.specs.State as server
+use Rattle.chunk_calls.specs.Files as the_files
 use Rattle.server_core.specs.Step.{hangs, hangs_if}
 use Rattle.server_core.specs.declared.event.Event.TheVariants as event
 use Rattle.client_state.specs.State as client
-use Rattle.trace_replay.specs.Core.{hangs_if as core_hangs_if, hangs as core_hangs}
+use Rattle.trace_ends.specs.Core.{hangs_if as core_hangs_if, hangs as core_hangs}
 use Rattle.kept_promise.proofs.Common.{slice_get, not, cond, ◌==◌, filter, list_any, stands, server_step, Change, Op, Core, Seat, Session, quiet, numbered, with_numbered, Book, Ask, Queue, version_at}
 use Rattle.kept_promise.proofs.Lists.{some_is, nothing_there, same_or_not}
 use Rattle.kept_promise.proofs.Keys.{times, times_append, own, on_way, change_key, ask_key, told_key, pending_key}
@@ -88,7 +89,7 @@ left_there n (d ∷ ws) i c e = by (d.session == n) refl i e (λ k f. left_there
 
 -- ---- the event
 
-server_hung : (book : Book) (s : server.State) (n : ℕ) → (kept : IsServer book s) → ((f : ℕ) → FileIs (onward book 1 book.ops) f (server.file_at s.tree f)) → ((f : ℕ) → IsUnused s.tree f → version_at (onward book 1 book.ops) f (book.steps + 1 + 1) ≡ 0) → IsServer (onward book 1 book.ops) (hangs s n)
+server_hung : (book : Book) (s : server.State) (n : ℕ) → (kept : IsServer book s) → ((f : ℕ) → FileIs (onward book 1 book.ops) f (the_files.file_at s.tree f)) → ((f : ℕ) → IsUnused s.tree f → version_at (onward book 1 book.ops) f (book.steps + 1 + 1) ≡ 0) → IsServer (onward book 1 book.ops) (hangs s n)
 server_hung book s n kept held fresh = record {
   held = held;
   bounded = kept.bounded;
@@ -159,7 +160,7 @@ hung_now book k qs n x q kept at is unhung =
       seat_around = around_same k.seats x.owner c h.owner;
       owner = refl;
       goes = goes_same book 1 kept.sound;
-      server = server_hung book k.server n kept.server (λ f. file_still book more None None f (server.file_at k.server.tree f) g (still_same book 1 kept.sound) (kept.server.held f)) (fresh_still book more None None k.server.tree g (still_same book 1 kept.sound) kept.server.fresh);
+      server = server_hung book k.server n kept.server (λ f. file_still book more None None f (the_files.file_at k.server.tree f) g (still_same book 1 kept.sound) (kept.server.held f)) (fresh_still book more None None k.server.tree g (still_same book 1 kept.sound) kept.server.fresh);
       sessions_made = refl;
       view = λ o apart. record { stands_is = stands_else o n apart k.server.sessions; waiting = own_else o n apart k.server.waiting; temps = λ i m e lt f g. was_there (λ z. not (z.1.session == n)) k.server.temps i e f; found = λ m lt. else_left k.server.temps n o m apart lt kept.shelf.1 };
       elsewhere = inl refl;

@@ -5,7 +5,6 @@ use Rattle.hash_calls.specs.declared.message.LbProc.{LbProc}
 use Rattle.nfs3_calls.specs.declared.message.NfsProc.{NfsProc}
 use Rattle.wire.specs.declared.message.Program.{Program}
 use Rattle.wire.specs.declared.message.Program.TheVariants as program
-use Rattle.server_core.specs.State as server
 use Rattle.client_state.specs.State as client
 use Rattle.file_open.specs.Fetching.{changes}
 use Rattle.client_state.specs.declared.step.Outcome.TheVariants as outcome

@@ -61,7 +61,7 @@ pub record Hearing (book : Book) (ops : List Op) (k : Core) (n : ℕ) (x : Sessi
   pub old_asks : AllAsks (IsAsked (job_of place c.task)) q.ups
   pub old_tolds : AllTolds (IsAnswer (onward book 1 ops) x.taken x.closing (job_of place c.task)) ts
   pub old_commits : AllAsks (IsCommit (onward book 1 ops) x.closing x.cut (job_of place c.task) h.contents) q.ups
-  pub old_pending : (i : ℕ) (d : Change) → slice_get (own n k.server.waiting) i ≡ Some d → WaitsFor (onward book 1 ops) x.closing x.cut (job_of place c.task) d.xid d.file d.what
+  pub old_pending : (i : ℕ) (d : Change) → slice_get (own n k.server.waiting) i ≡ Some d → WaitsFor (onward book 1 ops) d.session x.closing x.cut (job_of place c.task) d.xid d.file d.what
   -- what goes up
   pub moves : Moves (client.calls_of h.seat.client) (client.calls_of c) t asks
   pub rising : Rising h.seat.client.next asks c.next

@@ -1,7 +1,7 @@
 -- A fact of each operation, or of each that is under way: what is left of it where one gets another form, one begins, or a client goes on.
 use Rattle.std.proofs.Common.{◌⊎◌, inl, inr, ◌≡◌, ℕ, ◌<◌, List, [], ◌∷◌, ◌++◌, length, Option, Some, None, refl, sym, ap, ◌∙◌, subst, arith}
 use Rattle.client_state.specs.State as client
-use Rattle.kept_promise.proofs.Common.{slice_get, slice_set, ClientStep, Ended, Stage, Task, Op, TakenCall, Seat, numbered, with_numbered, ops_after, ops_with, op_after, place_after}
+use Rattle.kept_promise.proofs.Common.{slice_get, ClientStep, Ended, Stage, Task, Op, TakenCall, Seat, numbered, with_numbered, ops_after, ops_with, op_after, place_after}
 use Rattle.kept_promise.proofs.Lists.{some_is, nothing_there, of_replaced, of_appended}
 use Rattle.kept_promise.proofs.Messages.{Job, job, job_of}
 use Rattle.kept_promise.proofs.Adjusts.{SameSeats}
@@ -24,20 +24,6 @@ jobs_seat P seats ops c new own h = λ i seat j o here is at. elim (of_numbered 
 -- other indexes, or other contents that are kept
 pub jobs_kept : (P : Op → Stage → Type 0) (seats after : List Seat) (ops : List Op) → SameSeats seats after → AllJobs P seats ops → AllJobs P after ops
 jobs_kept P seats after ops same h = λ i seat j o here is at. let w = same.was i seat here in h i w.0 j o w.3 (ap job (sym w.4) ∙ is) at
-
--- ---- one operation gets another form
-
-pub jobs_set : (P : Op → Stage → Type 0) (seats : List Seat) (ops : List Op) (place : ℕ) (o r : Op) → slice_get ops place ≡ Some o → ((st : Stage) → P o st → P r st) → AllJobs P seats ops → AllJobs P seats (slice_set ops place r)
-jobs_set P seats ops place o r was own h = λ i seat j z here is at. elim (of_replaced ops place r j.place z at) [
-  | inr other ↦ h i seat j z here is other.1
-  | inl same ↦ subst (λ (y : Op). P y j.stage) (sym same.1) (own j.stage (h i seat j o here is (ap (slice_get ops) same.0 ∙ was)))
-]
-
-pub ops_set : (P Q : Op → Type 0) (ops : List Op) (place : ℕ) (o r : Op) → slice_get ops place ≡ Some o → ((p : ℕ) (z : Op) → slice_get ops p ≡ Some z → P z → Q z) → (P o → Q r) → AllOps P ops → AllOps Q (slice_set ops place r)
-ops_set P Q ops place o r was others own h = λ p z at. elim (of_replaced ops place r p z at) [
-  | inr other ↦ others p z other.1 (h p z other.1)
-  | inl same ↦ subst Q (sym same.1) (own (h place o was))
-]
 
 -- ---- one more operation
 

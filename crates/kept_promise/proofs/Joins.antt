@@ -2,6 +2,7 @@
 use Rattle.std.proofs.Common.{◌⊎◌, inl, inr, ◌≡◌, ℕ, zero, suc, ◌+◌, ◌<◌, List, [], ◌∷◌, ◌++◌, length, Option, Some, None, Bool, true, false, refl, sym, ap, ◌∙◌, subst, arith, eq-eqb, ne_eqb, map}
 use Rattle.std.proofs.lemmas.List.Folds.{list_any-append}
 use Rattle.server_core.specs.State as server
+use Rattle.chunk_calls.specs.Files as the_files
 use Rattle.client_state.specs.State as client
 use Rattle.kept_promise.proofs.Common.{nat_tests, slice_get, cond, ◌==◌, ◌||◌, nat_lt, list_any, has_room, connect, Temp, temp_at, key_of, Change, ServerStep, joined, Task, Pending, Op, Core, Seat, Session, new_session, numbered, with_numbered, joins_as, joins, Book, Queue, no_queue}
 use Rattle.kept_promise.proofs.Lists.{some_is, nothing_there, same_or_not, at_end, of_appended, kept_appended, count_more}
@@ -123,7 +124,7 @@ joined_now book k qs c n seat kept number at unlinked =
       journal = kept.journal;
       entries = refl;
       sound = (goes_same book 2 kept.sound).sound;
-      server = record { held = λ f. file_still book more None None f (server.file_at s.tree f) g (still_same book 2 kept.sound) (kept.server.held f); fresh = fresh_still book more None None s.tree g (still_same book 2 kept.sound) kept.server.fresh; bounded = kept.server.bounded; zero = kept.server.zero; rooted = kept.server.rooted; wants = kept.server.wants; changes = kept.server.changes; bytes = kept.server.bytes; lengths = kept.server.lengths; targets = λ i c e. there_later book more None None c.file g (kept.server.targets i c e); xids = kept.server.xids };
+      server = record { held = λ f. file_still book more None None f (the_files.file_at s.tree f) g (still_same book 2 kept.sound) (kept.server.held f); fresh = fresh_still book more None None s.tree g (still_same book 2 kept.sound) kept.server.fresh; bounded = kept.server.bounded; zero = kept.server.zero; rooted = kept.server.rooted; wants = kept.server.wants; changes = kept.server.changes; bytes = kept.server.bytes; lengths = kept.server.lengths; targets = λ i c e. there_later book more None None c.file g (kept.server.targets i c e); xids = kept.server.xids };
       made = (let a = count_more k.sessions (new_session c) in omega (arith, a, made), count_more qs no_queue ∙ ap suc kept.made.1 ∙ sym (count_more k.sessions (new_session c)));
       sessions = λ m z p f h. elim (of_new k.sessions (new_session c) m z f) [
         | inl new ↦ elim (of_new qs no_queue m p h) [

@@ -1,5 +1,5 @@
 -- Calls by their keys: an xid, and which procedure it is of. Each call that waits for its answer is on its way once.
-use Rattle.std.proofs.Common.{◌≡◌, ℕ, zero, suc, ◌+◌, ◌*◌, ◌<◌, List, [], ◌∷◌, ◌++◌, Some, Bool, true, false, refl, sym, ap, subst, arith, eq-eqb, ne_eqb, map}
+use Rattle.std.proofs.Common.{◌≡◌, ℕ, zero, suc, ◌+◌, ◌*◌, ◌<◌, List, [], ◌∷◌, ◌++◌, Some, Bool, true, false, refl, sym, ap, subst, arith, eq-eqb, map}
 use Rattle.hash_calls.specs.declared.message.LbProc.TheVariants as lb_proc
 use Rattle.nfs3_calls.specs.declared.message.NfsProc.TheVariants as nfs_proc
 use Rattle.nfs3_calls.specs.Nfs.{nfs_proc as nfs_proc_of}
@@ -77,9 +77,6 @@ times_append y (x ∷ xs) ys = by (x == y) (times_append y xs ys)
 
 pub times_head : (x : ℕ) (xs : List ℕ) → times x (x ∷ xs) ≡ suc (times x xs)
 times_head x xs = ap (λ b. cond b (suc (times x xs)) (times x xs)) (eq-eqb x x refl)
-
-pub times_else : (y x : ℕ) (xs : List ℕ) → (x ≡ y → ⊥) → times y (x ∷ xs) ≡ times y xs
-times_else y x xs apart = ap (λ b. cond b (suc (times y xs)) (times y xs)) (ne_eqb x y apart)
 
 -- what is found by key is there
 pub found_by : {A : Type 0} (f : A → ℕ) (xs : List A) (y : ℕ) → 0 < times y (map f xs) → (i : ℕ) × (x : A) × (slice_get xs i ≡ Some x) × (f x ≡ y)

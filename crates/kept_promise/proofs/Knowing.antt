@@ -8,9 +8,10 @@ use Rattle.hash_calls.specs.declared.message.LbProc.TheVariants as lb_proc
 use Rattle.wire.specs.declared.message.Program.TheVariants as program
 use Rattle.xdr_codec.specs.declared.status.Status.TheVariants as status
 use Rattle.server_core.specs.State as server
+use Rattle.chunk_calls.specs.Files as the_files
 use Rattle.server_core.specs.Closing.{looked_up}
 use Rattle.server_core.specs.Hashed.{bytes_compared, listed}
-use Rattle.server_core.specs.Indexing.{bytes_of, wanted_bytes, with_digest}
+use Rattle.chunk_calls.specs.Indexing.{bytes_of, wanted_bytes, with_digest}
 use Rattle.temp_files.specs.Temps.{with_piece}
 use Rattle.client_state.specs.State as client
 use Rattle.client_state.specs.declared.task.Way.TheVariants as way
@@ -57,7 +58,7 @@ wanted_many f p n bytes e = by (p.count == n) refl e
 
 found_many : (t : Tree) (a : CondPiece) (p : Option Place) (bytes : List ℕ) → bytes_found t a p ≡ Some bytes → length bytes ≡ a.count
 found_many t a None bytes e = nothing_there bytes e
-found_many t a (Some p) bytes e = wanted_many (server.file_at t p.file) p a.count bytes e
+found_many t a (Some p) bytes e = wanted_many (the_files.file_at t p.file) p a.count bytes e
 
 -- they were compared, and have the digest
 digest_is : (digest : List ℕ) (o : Option (List ℕ)) (bytes : List ℕ) → with_digest digest o ≡ Some bytes → (o ≡ Some bytes) × (sha1 bytes ≡ digest)

@@ -1,29 +1,34 @@
 -- Why a command on names that asked the server ended as it did, by what its names led to.
-use Rattle.std.proofs.Common.{◌⊎◌, inl, inr, ◌≡◌, ℕ, List, [], ◌∷◌, Some, Result, Bool, true, false, refl, sym, ap, ◌∙◌, subst, arith}
+use Rattle.std.proofs.Common.{◌⊎◌, inl, inr, ◌≡◌, ℕ, zero, suc, ◌<◌, List, [], ◌∷◌, ◌++◌, Some, Result, Bool, true, false, refl, sym, ap, ◌∙◌, subst, arith}
 use Rattle.command_text.specs.declared.path.PathCommand.{PathCommand}
 use Rattle.command_text.specs.declared.path.PathCommand.TheVariants as path
 use Rattle.command_text.specs.declared.path.Spot.{Spot}
 use Rattle.register_model.specs.declared.op.Outcome.{Outcome}
 use Rattle.register_model.specs.declared.op.Outcome.TheVariants as told
 use Rattle.register_model.specs.declared.op.Word.TheVariants as words
-use Rattle.trace_replay.specs.Causes.{NamedCause, IsPathRefused, Within}
+use Rattle.trace_replay.specs.Causes.{NamedCause, IsPathRefused}
 use Rattle.trace_replay.specs.Complete.{EndsNamed}
-use Rattle.trace_replay.specs.Commands.{path_word}
+use Rattle.trace_ops.specs.Commands.{path_word, word_of}
 use Rattle.trace_replay.specs.Trail.{step_of}
 use Rattle.trace_replay.specs.declared.opening.TheConstants.{ROOT}
 use Rattle.xdr_codec.specs.declared.status.Status.{Status}
-use Rattle.file_tree.specs.Tree.{Tree}
+use Rattle.tree_reading.specs.Tree.{Tree}
 use Rattle.file_tree.specs.Step.{create, mkdir, remove, rmdir, rename}
-use Rattle.file_tree.specs.declared.call.Changed.{Changed}
-use Rattle.file_tree.specs.declared.call.CreateMode.TheVariants as mode
-use Rattle.file_tree.specs.declared.call.Held.{Held}
-use Rattle.trace_replay.specs.Naming.{Leads, all_names, FindsFile, IsSeen, IsRootSeen, IsListed, ListsTooLong, IsRefused, Makes, MakesIn, Renames}
+use Rattle.tree_plans.specs.declared.call.Changed.{Changed}
+use Rattle.tree_plans.specs.declared.call.CreateMode.TheVariants as mode
+use Rattle.tree_plans.specs.declared.call.Held.{Held}
+use Rattle.nfs3_calls.specs.declared.message.Nfs.{Nfs}
+use Rattle.nfs3_calls.specs.declared.message.Nfs.TheVariants as nfs
+use Rattle.wire.specs.declared.message.Body.TheVariants as body
+use Rattle.path_calls.specs.Walk.{place, create_call, make_dir_call, rename_call}
+use Rattle.server_core.specs.Closing.{entries_by}
+use Rattle.trace_replay.specs.OwnCalls.{ComesTo}
+use Rattle.trace_replay.specs.Naming.{Leads, all_names, FindsFile, HasFound, IsSeen, IsRootSeen, IsListed, ListsTooLong, IsRefused, Makes, MakesIn, Renames}
 use Rattle.kept_promise.proofs.Common.{Op, Word, Book, IsOpenRefused, Contains, Contains-push}
 use Rattle.kept_promise.proofs.Rights.{RefusedBy, Caused}
 use Rattle.command_text.specs.declared.command.Command.TheVariants as command
-use Rattle.trace_replay.specs.Commands.{word_of}
 use Rattle.kept_promise.proofs.Common.{Command, Deed, local_before, slice_get}
-use Rattle.kept_promise.proofs.WalkRuns.{bare, EndsAs, IsOver}
+use Rattle.kept_promise.proofs.WalkRuns.{bare, EndsAs, IsOver, takes_on}
 use Rattle.kept_promise.proofs.Opens.{FindsBy, HasOpens}
 use Rattle.kept_promise.proofs.Done.{IsKnown}
 
@@ -54,17 +59,19 @@ root_in book o id kind version len h = record { moment = h.moment; there = h.the
 listed_in : (book : Book) (o : Op) (p list : List (List ℕ)) → IsListed (bare book.moments) o p list → IsListed book o p list
 listed_in book o p list h = record { dir = h.dir; found_at = h.found_at; found = leads_in book o.begin ROOT p h.dir h.found_at h.found; moment = h.moment; there = h.there; inside = h.inside; node = h.node; directory = h.directory; names_are = h.names_are }
 
-refused_in : (book : Book) (o : Op) (status : ℕ) → IsRefused (bare book.moments) o status → IsRefused book o status
-refused_in book o status h = record { moment = h.moment; there = h.there; inside = h.inside; session = h.session; xid = h.xid; answer = h.answer; sent = h.sent; refuses = h.refuses; taken = h.taken; taken_there = h.taken_there; ends = h.ends; takes = h.takes }
+abbrev refused_in : (book : Book) (o : Op) (status : ℕ) → IsRefused (bare book.moments) o status → IsRefused book o status
+refused_in book o status h = record { moment = h.moment; there = h.there; inside = h.inside; session = h.session; xid = h.xid; answer = h.answer; sent = h.sent; refuses = h.refuses; taken = h.taken; taken_there = h.taken_there; now = h.now; bytes = h.bytes; event_is = h.event_is; ends = h.ends; takes = h.takes }
 
-makes_in : (book : Book) (o : Op) (behind : ℕ) (call : Tree → Held → Tree × Result Changed Status) → Makes (bare book.moments) o behind call → Makes book o behind call
-makes_in book o behind call h = record { moment = h.moment; there = h.there; inside = h.inside; held = h.held; done = h.done; done_is = h.done_is; tree_is = h.tree_is; pointed = h.pointed }
+makes_in : (book : Book) (o : Op) (behind : ℕ) (asks : Nfs) (call : Tree → Held → Tree × Result Changed Status) → Makes (bare book.moments) o behind asks call → Makes book o behind asks call
+makes_in book o behind asks call h =
+    let t = takes_on (bare book.moments) book o.client o.client h.taken h.xid (body.Nfs asks) (λ m there. there) refl h.takes in
+    record { xid = h.xid; taken = h.taken; takes = t.0; after = h.after; moment = h.moment; there = h.there; comes = subst (λ (n : ℕ). ComesTo h.moment n h.xid h.taken) (sym t.1) h.comes; inside = h.inside; done = h.done; done_is = h.done_is; tree_is = h.tree_is; journal_is = h.journal_is ∙ ap (λ (n : ℕ). h.moment.before.server.journal ++ entries_by n h.done.first h.done.second) (sym t.1); pointed = h.pointed }
 
-made_in : (book : Book) (o : Op) (dirs : List (List ℕ)) (call : (dir : ℕ) → Tree → Held → Tree × Result Changed Status) → MakesIn (bare book.moments) o dirs call → MakesIn book o dirs call
-made_in book o dirs call (dir, step, leads, made) = (dir, step, leads_in book o.begin ROOT dirs dir step leads, makes_in book o step (call dir) made)
+made_in : (book : Book) (o : Op) (dirs : List (List ℕ)) (asks : (dir : ℕ) → Nfs) (call : (dir : ℕ) → Tree → Held → Tree × Result Changed Status) → MakesIn (bare book.moments) o dirs asks call → MakesIn book o dirs asks call
+made_in book o dirs asks call (dir, step, leads, made) = (dir, step, leads_in book o.begin ROOT dirs dir step leads, makes_in book o step (asks dir) (call dir) made)
 
 renamed_in : (book : Book) (o : Op) (s t : Spot) → Renames (bare book.moments) o s t → Renames book o s t
-renamed_in book o s t (dir, first, to, second, leads, more, made) = (dir, first, to, second, leads_in book o.begin ROOT s.dirs dir first leads, leads_in book first ROOT t.dirs to second more, makes_in book o second (λ tree held. rename tree held dir s.name to t.name) made)
+renamed_in book o s t (dir, first, to, second, leads, more, made) = (dir, first, to, second, leads_in book o.begin ROOT s.dirs dir first leads, leads_in book first ROOT t.dirs to second more, makes_in book o second (rename_call dir s.name to t.name) (λ tree held. rename tree held dir s.name to t.name) made)
 
 -- ---- what is known beside
 
@@ -87,23 +94,26 @@ open_list e = absurd cc
 open_look : words.Open ≡ words.Look → ⊥
 open_look e = absurd cc
 
--- where it was refused so, it had a point
-stale_point : (book : Book) (file status : ℕ) (o : Op) → IsOpenRefused book file o status → status ≡ 70 → (p : ℕ) × Within o p
-stale_point book file status o (inl directory) e = let d = directory.0 in absurd (omega (arith, d, e))
-stale_point book file status o (inr stale) e = (stale.1.0, stale.1.1)
+-- the id 0 is no file's
+has_found : (book : Book) (o : Op) (s : Spot) → (FindsFile (bare book.moments) o s → o.file ≡ 0 → ⊥) → FindsFile (bare book.moments) o s → HasFound book o s
+has_found book o s positive f = (finds_in book o s f, by o.file (positive f))
+  where
+    by : (n : ℕ) → (n ≡ 0 → ⊥) → 0 < n
+    by zero not = absurd (not refl)
+    by (suc n) not = omega arith
 
 path_refused : (book : Book) (o : Op) (s : Spot) (status : ℕ) → (FindsFile (bare book.moments) o s → o.file ≡ 0 → ⊥) → RefusedBy book o words.Open status → EndsAs book.moments (path.Find s) o (told.Refused status) → IsPathRefused book o s status
-path_refused book o s status positive (inl r) (inl f) = inl (finds_in book o s f.0, r)
+path_refused book o s status positive (inl r) (inl f) = inl (has_found book o s positive f.0, r)
 path_refused book o s status positive (inr z) (inl f) = absurd (positive f.0 z.0)
-path_refused book o s status positive (inl r) (inr u) = inr (u.0, refused_in book o status u.1.0, stale_point book o.file status o r)
-path_refused book o s status positive (inr z) (inr u) = inr (u.0, refused_in book o status u.1.0, z.1)
+path_refused book o s status positive (inl r) (inr u) = inr (u.0, (refused_in book o status u.1.0, u.1.1))
+path_refused book o s status positive (inr z) (inr u) = inr (u.0, (refused_in book o status u.1.0, u.1.1))
 
 found_as : (book : Book) (o : Op) (s : Spot) (u : Outcome) → o.word ≡ words.Open → (FindsFile (bare book.moments) o s → o.file ≡ 0 → ⊥) → Caused book o u → EndsAs book.moments (path.Find s) o u → NamedCause book (path.Find s) o u
-found_as book o s (told.Opened len digest) w positive h (inl f) = (finds_in book o s f.0, h.1)
+found_as book o s (told.Opened len digest) w positive h (inl f) = (has_found book o s positive f.0, h.1)
 found_as book o s (told.Opened len digest) w positive h (inr x) = absurd x.1
-found_as book o s told.AlreadyOpen w positive h (inl f) = (finds_in book o s f.0, f.1 refl)
+found_as book o s told.AlreadyOpen w positive h (inl f) = (has_found book o s positive f.0, f.1 refl)
 found_as book o s told.AlreadyOpen w positive h (inr x) = absurd x.1
-found_as book o s (told.Changed first last) w positive h (inl f) = (finds_in book o s f.0, h.1)
+found_as book o s (told.Changed first last) w positive h (inl f) = (has_found book o s positive f.0, h.1)
 found_as book o s (told.Changed first last) w positive h (inr x) = absurd x.1
 found_as book o s (told.Refused status) w positive h ends = path_refused book o s status positive (subst (λ (v : Word). RefusedBy book o v status) w h) ends
 found_as book o s told.Lost w positive h ends = h.1
@@ -130,7 +140,7 @@ found_as book o s told.NoLink w positive h (inr x) = absurd x.1
 -- ---- a look, and a listing
 
 look_as : (book : Book) (o : Op) (s : Spot) (u : Outcome) → Caused book o u → EndsAs book.moments (path.Look s) o u → NamedCause book (path.Look s) o u
-look_as book o s (told.Seen id kind version len) h ends = (seen_in book o s id kind version len ends.0, ends.1)
+look_as book o s (told.Seen id kind version len) h ends = (seen_in book o s id kind version len ends.0, ends.1, ends.2)
 look_as book o s (told.Refused status) h ends = (refused_in book o status ends.0, ends.1)
 look_as book o s told.Lost h ends = h.1
 look_as book o s told.Running h ends = h.1
@@ -144,8 +154,8 @@ root_as book o told.Running h ends = h.1
 root_as book o _ h ends = absurd ends
 
 list_as : (book : Book) (o : Op) (p : List (List ℕ)) (u : Outcome) → (u ≡ told.NoLink → ListsTooLong book o) → Caused book o u → EndsAs book.moments (path.List p) o u → NamedCause book (path.List p) o u
-list_as book o p (told.Names list) long h ends = listed_in book o p list ends
-list_as book o p told.NoLink long h ends = long refl
+list_as book o p (told.Names list) long h ends = (listed_in book o p list ends.0, ends.1)
+list_as book o p told.NoLink long h ends = (long refl, ends)
 list_as book o p (told.Refused status) long h ends = (refused_in book o status ends.0, ends.1)
 list_as book o p told.Lost long h ends = h.1
 list_as book o p told.Running long h ends = h.1
@@ -154,22 +164,22 @@ list_as book o p _ long h ends = absurd ends
 -- ---- one that makes, removes or renames something
 
 change_as : (book : Book) (o : Op) (c : PathCommand) (u : Outcome) → is_making_command c ≡ true → Caused book o u → EndsAs book.moments c o u → NamedCause book c o u
-change_as book o (path.Make s) told.Done e h ends = made_in book o s.dirs (λ dir t held. create t held dir s.name mode.Guarded) ends
+change_as book o (path.Make s) told.Done e h ends = made_in book o s.dirs (λ dir. create_call dir s.name) (λ dir t held. create t held dir s.name mode.Guarded) ends
 change_as book o (path.Make s) (told.Refused status) e h ends = (refused_in book o status ends.0, ends.1)
 change_as book o (path.Make s) told.Lost e h ends = h.1
 change_as book o (path.Make s) told.Running e h ends = h.1
 change_as book o (path.Make s) _ e h ends = absurd ends
-change_as book o (path.MakeDir s) told.Done e h ends = made_in book o s.dirs (λ dir t held. mkdir t held dir s.name) ends
+change_as book o (path.MakeDir s) told.Done e h ends = made_in book o s.dirs (λ dir. make_dir_call dir s.name) (λ dir t held. mkdir t held dir s.name) ends
 change_as book o (path.MakeDir s) (told.Refused status) e h ends = (refused_in book o status ends.0, ends.1)
 change_as book o (path.MakeDir s) told.Lost e h ends = h.1
 change_as book o (path.MakeDir s) told.Running e h ends = h.1
 change_as book o (path.MakeDir s) _ e h ends = absurd ends
-change_as book o (path.RemoveDir s) told.Done e h ends = made_in book o s.dirs (λ dir t held. rmdir t held dir s.name) ends
+change_as book o (path.RemoveDir s) told.Done e h ends = made_in book o s.dirs (λ dir. nfs.RmDir (place dir s.name)) (λ dir t held. rmdir t held dir s.name) ends
 change_as book o (path.RemoveDir s) (told.Refused status) e h ends = (refused_in book o status ends.0, ends.1)
 change_as book o (path.RemoveDir s) told.Lost e h ends = h.1
 change_as book o (path.RemoveDir s) told.Running e h ends = h.1
 change_as book o (path.RemoveDir s) _ e h ends = absurd ends
-change_as book o (path.Remove s) told.Done e h ends = made_in book o s.dirs (λ dir t held. remove t held dir s.name) ends
+change_as book o (path.Remove s) told.Done e h ends = made_in book o s.dirs (λ dir. nfs.Remove (place dir s.name)) (λ dir t held. remove t held dir s.name) ends
 change_as book o (path.Remove s) (told.Refused status) e h ends = (refused_in book o status ends.0, ends.1)
 change_as book o (path.Remove s) told.Lost e h ends = h.1
 change_as book o (path.Remove s) told.Running e h ends = h.1

@@ -12,7 +12,7 @@ use Rattle.kept_promise.proofs.Keys.{times, own, on_way, change_key, ask_key, to
 use Rattle.kept_promise.proofs.Lists.{some_is}
 use Rattle.nfs3_calls.specs.declared.message.Nfs.{Nfs}
 use Rattle.path_calls.specs.declared.walk.Walk.{Walk}
-use Rattle.kept_promise.proofs.Messages.{WalkTold, Job, job, lease_body, hash_body, AllAsks, AllTolds, IsTold, IsServed, IsTried, Trying, RefusedTold, HashTold, LeaseTold, PieceOf, IsPiece, IsPartOf, AreParts, ReadTold, CommitTold, TriedBy, AnswerOf, IsAnswer, IsFetch, IsReading, FetchOf, HasFetch, IsPending, CommitOf, IsCommit, IsOwed, CloseOf, TempUnder, WalkCame, UnmadeBy, PointedBy, IsCreating, IsNameOwed, goal_word, stage_word, IsGoing, WaitsFor}
+use Rattle.kept_promise.proofs.Messages.{WalkTold, Job, job, lease_body, hash_body, AllAsks, AllTolds, IsTold, IsServed, IsTried, Trying, RefusedTold, HashTold, LeaseTold, PieceOf, IsPiece, IsPartOf, AreParts, ReadTold, CommitTold, TriedBy, AnswerOf, IsAnswer, IsFetch, IsReading, FetchOf, HasFetch, IsPending, CommitOf, IsCommit, IsOwed, CloseOf, TempUnder, WalkCame, UnmadeBy, PointedBy, IsCreating, IsNameOwed, goal_word, stage_word, walk_for, IsGoing, WaitsFor, IsTakenFor}
 use Rattle.kept_promise.proofs.Growth.{Grows, takes_later, value_later, version_later, or_later, held_later, tried_later, tried_wider, made_later, there_later, Follows}
 use Rattle.kept_promise.proofs.Orderly.{Orderly}
 use Rattle.kept_promise.proofs.Ordered.{SameFound, orderly_later}
@@ -114,6 +114,17 @@ tried_by_later book more made ended taken j x (stage.Hashing tries y) g h = is_t
 tried_by_later book more made ended taken j x (stage.Listing y f) g h = h
 tried_by_later book more made ended taken j x _ g h = tt
 
+-- a walk's call was taken
+abbrev pub taken_for_later : (book more : Book) (made ended : Option ℕ) (c d : ℕ) (j : Job) (s x : ℕ) (w : Walk) → Grows book more made ended → d ≡ c → IsTakenFor book c j s x w → IsTakenFor more d j s x w
+taken_for_later book more made ended c d j s x w g same h =
+    let le = h.past in
+    let n = g.passes in
+    record { at = h.at; noted = g.happened h.at h.noted; past = omega (arith, le, n); now = h.now; bytes = h.bytes; event_is = h.event_is; parsed = h.parsed; seat = h.seat; seat_is = ap (numbered h.at.before.seats) same ∙ h.seat_is; newest = h.newest; job_is = h.job_is; stage_is = h.stage_is }
+
+-- for what is the same job
+abbrev pub taken_for_same : (book : Book) (c : ℕ) (i j : Job) (s x : ℕ) (w : Walk) → i ≡ j → IsTakenFor book c i s x w → IsTakenFor book c j s x w
+taken_for_same book c i j s x w same h = record { at = h.at; noted = h.noted; past = h.past; now = h.now; bytes = h.bytes; event_is = h.event_is; parsed = h.parsed; seat = h.seat; seat_is = h.seat_is; newest = h.newest; job_is = h.job_is ∙ ap (λ (z : Job). Some z) same; stage_is = ap (λ (z : Job). z.stage) (sym same) ∙ h.stage_is }
+
 -- what came of a walk's call
 walk_came_later : (book more : Book) (made ended closing : Option ℕ) (at : Moment) (step : ℕ) (j : Job) (o r : Op) (w : Walk) (m : Nfs) → Grows book more made ended → Spares closing made → step ≤ book.steps → Follows book made ended j.place o r → WalkCame book at step closing j o w m → WalkCame more at step closing j r w m
 walk_came_later book more made ended closing at step j o r w m g spares le f (inl h) = inl (h.0, λ i e. elim (g.entries_new i step e) [ inl old ↦ h.1 i old | inr new ↦ omega (arith, le, new) ])
@@ -122,7 +133,7 @@ walk_came_later book more made ended closing at step j o r w m g spares le f (in
     unmade : (b : Bool) → UnmadeBy b closing j o → UnmadeBy b closing j r
     unmade false u = tt
     unmade true u = (f.unmade (spares j.place u.2) u.0, f.own_file u.0.0 (spares j.place u.2) ∙ u.1, u.2)
-walk_came_later book more made ended closing at step j o r w m g spares le f (inr (inr h)) = inr (inr (record { making = h.making; held = h.held; done = h.done; step_is = h.step_is; tree_is = h.tree_is; leads = h.leads; pointed = pointed (is_creating w) h.pointed }))
+walk_came_later book more made ended closing at step j o r w m g spares le f (inr (inr h)) = inr (inr (record { making = h.making; session = h.session; xid = h.xid; taken = taken_for_later book more made ended o.client r.client j h.session h.xid w g f.client h.taken; comes = h.comes; before = h.before; done = h.done; step_is = h.step_is; tree_is = h.tree_is; journal_is = h.journal_is; leads = h.leads; pointed = pointed (is_creating w) h.pointed }))
   where
     pointed : (b : Bool) → PointedBy b closing j o step (entry_file h.done.first) → PointedBy b closing j r step (entry_file h.done.first)
     pointed false u = tt
@@ -134,7 +145,7 @@ walk_told_later book more made ended taken closing j x w m g spares h =
     let r = g.each j.place h.op h.there in
     let le = h.past in
     let n = g.passes in
-    record { at = h.at; noted = g.happened h.at h.noted; moment = h.moment; step_is = h.step_is; was = h.was; past = omega (arith, le, n); op = r.0; there = r.1; after = subst (λ (b : ℕ). b ≤ h.moment) (sym r.2.begin) h.after; bounded = h.bounded; rooted = h.rooted; came = walk_came_later book more made ended closing h.at h.moment j h.op r.0 w m g spares h.past r.2 h.came; session = h.session; sent = h.sent; seat = h.seat; seat_is = ap (numbered h.at.before.seats) r.2.client ∙ h.seat_is; job_is = h.job_is; then_op = h.then_op; then_is = h.then_is; then_began = h.then_began ∙ sym r.2.begin }
+    record { at = h.at; noted = g.happened h.at h.noted; moment = h.moment; step_is = h.step_is; was = h.was; past = omega (arith, le, n); op = r.0; there = r.1; after = subst (λ (b : ℕ). b ≤ h.moment) (sym r.2.begin) h.after; bounded = h.bounded; rooted = h.rooted; came = walk_came_later book more made ended closing h.at h.moment j h.op r.0 w m g spares h.past r.2 h.came; session = h.session; sent = h.sent; seat = h.seat; seat_is = ap (numbered h.at.before.seats) r.2.client ∙ h.seat_is; newest = h.newest; job_is = h.job_is; then_op = h.then_op; then_is = h.then_is; then_began = h.then_began ∙ sym r.2.begin }
 
 answer_of_later : (book more : Book) (made ended : Option ℕ) (taken : List TakenCall) (closing : Option ℕ) (job : Option Job) (x : ℕ) (r : Reply) → Grows book more made ended → Spares closing made → AnswerOf book taken closing job x r → AnswerOf more taken closing job x r
 answer_of_later book more made ended taken closing job x (Versioned a) g spares h = λ j e s. lease_later book more made ended taken j x a g (h j e s)
@@ -170,15 +181,15 @@ pending_later book more made ended closing cut job after x f v g spares same h =
     record { place = h.place; known = h.known; op = r.0; there = r.1; unmade = r.2.unmade (spares h.place h.known) h.unmade; word_is = r.2.word ∙ h.word_is; file_is = r.2.close_file h.word_is ∙ h.file_is; size_is = ap (λ (l : List ℕ). length l) (r.2.value h.unmade.0) ∙ h.size_is; value_is = or_later book more made ended _ _ g (λ e. r.2.value h.unmade.0 ∙ e) h.value_is; waited = λ at. same at ∙ h.waited at }
 
 -- a remove, or a rename over a file, that waits
-pub going_later : (book more : Book) (made ended closing : Option ℕ) (cut : Bool) (job after : Option Job) (x : ℕ) (a : Asked) → Grows book more made ended → Spares closing made → (cut ≡ false → after ≡ job) → IsGoing book closing cut job x a → IsGoing more closing cut after x a
-going_later book more made ended closing cut job after x a g spares same h =
+pub going_later : (book more : Book) (made ended closing : Option ℕ) (cut : Bool) (job after : Option Job) (s x : ℕ) (a : Asked) → Grows book more made ended → Spares closing made → (cut ≡ false → after ≡ job) → IsGoing book s closing cut job x a → IsGoing more s closing cut after x a
+going_later book more made ended closing cut job after s x a g spares same h =
     let r = g.each h.place h.op h.there in
-    record { place = h.place; known = h.known; op = r.0; there = r.1; unmade = r.2.unmade (spares h.place h.known) h.unmade; word_is = r.2.word ∙ h.word_is; file_is = r.2.own_file h.unmade.0 (spares h.place h.known) ∙ h.file_is; waited = λ at. (let w = h.waited at in (w.0, same at ∙ w.1, w.2)) }
+    record { place = h.place; known = h.known; op = r.0; there = r.1; unmade = r.2.unmade (spares h.place h.known) h.unmade; word_is = r.2.word ∙ h.word_is; file_is = r.2.own_file h.unmade.0 (spares h.place h.known) ∙ h.file_is; waited = λ at. (let w = h.waited at in (w.0, same at ∙ w.1, w.2)); taken = λ at. taken_for_later book more made ended h.op.client r.0.client (record { place = h.place; file = 0; stage = stage.Walking x (walk_for a) }) s x (walk_for a) g r.2.client (h.taken at) }
 
 -- whatever waits
-pub waits_later : (book more : Book) (made ended closing : Option ℕ) (cut : Bool) (job after : Option Job) (x f : ℕ) (what : Wanted) → Grows book more made ended → Spares closing made → (cut ≡ false → after ≡ job) → WaitsFor book closing cut job x f what → WaitsFor more closing cut after x f what
-waits_later book more made ended closing cut job after x f (wanted.Content content) g spares same h = pending_later book more made ended closing cut job after x f content g spares same h
-waits_later book more made ended closing cut job after x f (wanted.Asked a) g spares same h = going_later book more made ended closing cut job after x a g spares same h
+pub waits_later : (book more : Book) (made ended closing : Option ℕ) (cut : Bool) (job after : Option Job) (s x f : ℕ) (what : Wanted) → Grows book more made ended → Spares closing made → (cut ≡ false → after ≡ job) → WaitsFor book s closing cut job x f what → WaitsFor more s closing cut after x f what
+waits_later book more made ended closing cut job after s x f (wanted.Content content) g spares same h = pending_later book more made ended closing cut job after x f content g spares same h
+waits_later book more made ended closing cut job after s x f (wanted.Asked a) g spares same h = going_later book more made ended closing cut job after s x a g spares same h
 
 -- a call that may change a file
 creating_later : (book more : Book) (made ended closing : Option ℕ) (cut : Bool) (job after : Option Job) (x : ℕ) (w : Walk) → Grows book more made ended → Spares closing made → (cut ≡ false → after ≡ job) → IsCreating book closing cut job x w → IsCreating more closing cut after x w
@@ -294,7 +305,7 @@ session_later book more made ended seats others s r n x q c d g was is same spar
       temps = λ i m u lt at k. let w = view.temps i m u lt at k in let o = h.temps w.0 m u lt w.1 k in (parts_later (hashed_of book.moments) (hashed_of more.moments) (h.contents m) u.1.pieces g.hashed o.0, o.1);
       temps_below = λ at. let f = h.temps_below at in subst (λ (z : Seat). AllAsks (λ a. TempUnder z.client.next_temp a.call) q.ups × ((i m : ℕ) (u : ℕ × Temp) → m < 4294967296 → slice_get r.temps i ≡ Some u → u.0 ≡ key_of n m → m < z.client.next_temp)) (sym (there at)) (f.0, λ i m u lt is k. let w = view.temps i m u lt is k in f.1 w.0 m u lt w.1 k);
       closes = λ at j q. subst (λ (z : Seat). CloseOf more x.closing h.contents z.client.next_temp j (client.local_bytes z.client.opened j.file) j.stage) (sym (there at)) (close_later book more made ended x.closing h.contents h.seat.client.next_temp j (client.local_bytes h.seat.client.opened j.file) j.stage g spares (h.closes at j (sym (jobs at) ∙ q)));
-      pending = λ i c at. waits_later book more made ended x.closing x.cut (job h.seat) (job d) c.xid c.file c.what g spares jobs (h.pending i c (ap (λ (l : List Change). slice_get l i) (sym view.waiting) ∙ at));
+      pending = λ i c at. waits_later book more made ended x.closing x.cut (job h.seat) (job d) c.session c.xid c.file c.what g spares jobs (h.pending i c (ap (λ (l : List Change). slice_get l i) (sym view.waiting) ∙ at));
       single = subst (λ (l : List Change). commits_in q.ups + length l ≤ 1) (sym view.waiting) h.single;
       old = λ k at. let o = h.old k at in let p = g.each k o.0 o.1 in (p.0, p.1, p.2.client ∙ o.2);
       orderly = λ at. subst (λ (z : Seat). Orderly more n r.temps x.hung q z) (sym (there at)) (orderly_later book more made ended n s.temps r.temps x.hung q h.seat g view.found (h.orderly at));

@@ -17,7 +17,7 @@ use Rattle.client_state.specs.State as client
 use Rattle.client_state.specs.declared.step.Outcome.TheVariants as outcome
 use Rattle.client_state.specs.declared.task.Stage.TheVariants as stage
 use Rattle.client_state.specs.declared.task.Way.TheVariants as way
-use Rattle.kept_promise.proofs.Common.{nat_tests, slice_get, nat_lt, if◌then◌else◌, ◌==◌, ◌&&◌, Chunk, Answer, Done, Failed, Status, Hashes, Piece, Body, Message, Pending, RpcRefusal, WireFault, names_from, names_next, names_more, names_all, is_stored, store_of, store_at, answered, calls_most, is_none, fetch_of, with_hashes, listed, reads_from, reads_next, reads_more, reads_all, is_here, read_at, fault_in, other_version, with_bytes, Broken, broken_of, idle, refused, bad_peer, reads_if, reads_on, lists_on, told_shape, told_version, told_hashes, told_first, retries, misfits, told_bytes, told_chunk, told_piece, goes_if, goes_on, told_temp, sends_whole, told_named, told_whole, told_way, told_stored, denied, took, drops, took_if, denied_if, got_message, got_fault, got_step, Names, Reads, BadPeer, ClientStep, Ended, Outcome, Fetch, Local, ReadCall, Stage, Store, StoreCall, Task, Way}
+use Rattle.kept_promise.proofs.Common.{nat_tests, slice_get, nat_lt, if◌then◌else◌, ◌==◌, ◌&&◌, Chunk, Answer, Done, Failed, Status, Hashes, Piece, Body, Message, Pending, RpcRefusal, WireFault, names_from, names_next, names_more, names_all, is_stored, store_of, store_at, answered, calls_most, is_none, fetch_of, with_hashes, listed, reads_from, reads_next, reads_more, reads_all, is_here, read_at, fault_in, other_version, with_bytes, Broken, broken_of, idle, refused, reads_if, reads_on, lists_on, told_shape, told_version, told_hashes, told_first, retries, misfits, told_bytes, told_chunk, told_piece, goes_if, goes_on, told_temp, sends_whole, told_named, told_whole, told_way, told_stored, denied, took, drops, took_if, denied_if, got_message, got_fault, got_step, Names, Reads, BadPeer, ClientStep, Ended, Outcome, Fetch, Local, ReadCall, Stage, Store, StoreCall, Task, Way}
 use Rattle.kept_promise.proofs.StepCases.{some_call, IsOfFile}
 
 -- ---- what is said
@@ -106,9 +106,6 @@ none_named st next e = by (names_all st next).store.under e (names_more_most (ca
 
 refused_left : (s : client.State) (calls : List Pending) (file xid : ℕ) (t : Status) → IsLeft s file (refused s calls xid t)
 refused_left s calls file xid t = (omega arith, refl)
-
-fault_left : (s : client.State) (file : ℕ) (b : BadPeer) (bytes : ℕ) → IsLeft s file (bad_peer s b bytes)
-fault_left s file b bytes = (omega arith, refl)
 
 reads_if_left : (s : client.State) (calls : List Pending) (file xid : ℕ) (r : Reads) (bytes : ℕ) (b : Bool) → r.next ≤ s.next + calls_most → IsLeft s file (reads_if s calls file xid r bytes b)
 reads_if_left s calls file xid r bytes true le = (omega arith, (refl, (_, refl)))

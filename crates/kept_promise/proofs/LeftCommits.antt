@@ -1,7 +1,7 @@
 -- A session that its client left gets no new call that may change a file, and remembers the operation that it did.
 use Rattle.std.proofs.Common.{◌⊎◌, inl, inr, ◌≡◌, ℕ, zero, suc, ◌+◌, ◌≤◌, List, [], ◌∷◌, ◌++◌, length, Option, Some, None, Bool, true, false, refl, sym, ap, ◌∙◌, subst, arith, append-nil, map, Ok}
 use Rattle.std.proofs.lemmas.List.{length-append}
-use Rattle.file_tree.specs.Tree.{Tree}
+use Rattle.tree_reading.specs.Tree.{Tree}
 use Rattle.tree_calls.specs.Waiting.{some}
 use Rattle.tree_calls.specs.declared.asked.Outcome.{Outcome}
 use Rattle.tree_calls.specs.declared.asked.Outcome.TheVariants.{Answered, Waits as ToWait}
@@ -16,7 +16,7 @@ use Rattle.path_calls.specs.Walk.{begun}
 use Rattle.path_calls.specs.declared.walk.Walk.{Walk}
 use Rattle.client_state.specs.View.{walk_left}
 use Rattle.kept_promise.proofs.Common.{nat_lt, ◌&&◌, not, cond, filter, ◌==◌, Command, parse_of, makes_change, got_if, stands, connect, has_room, Change, may_ask, command_step, ended_by, ClientStep, Ended, Task, Opening, Word, word_of, Core, Seat, Session, Event, Event.Joins, Event.Does, Event.Serves, Event.Hears, Event.Settles, Event.Cuts, Event.Hangs, CoreStep, numbered, with_numbered, server_waiting, session_of, serves_if, serves, is_newest, hears_if, hears_at, hears, commanded_session, commanded_sessions, does, joins_as, joins, settles, cut_session, cuts_if, cuts, hangs_if, hangs, happens, closing_with, Moment, unless, Call, Call.Commit, Ask, Told, Queue, ask_message, Loss, Loss.Nothing, Loss.Down_of, Loss.Up_of, no_queue, Wanted, Call.Walks, has_waiting}
-use Rattle.trace_replay.specs.Core.{Loss.Made}
+use Rattle.trace_ends.specs.Core.{Loss.Made}
 use Rattle.kept_promise.proofs.StepCases.{command_cases}
 use Rattle.kept_promise.proofs.CallsKeep.{IsCommitCall, is_of_files, Waits, got_if_keeps, makes_call, walk_made}
 use Rattle.kept_promise.proofs.Statements.{CallFits}
@@ -276,7 +276,7 @@ leaves_plain k qs mid t were same none less = record { were = were; count = ap (
 leaves_joins : (k : Core) (qs mid : List Queue) (c : ℕ) → mid ≡ qs → Leaves k qs mid (joins k c (numbered k.seats c))
 leaves_joins k qs mid c same = by (numbered k.seats c)
   where
-    new_apart : (n m : ℕ) (y : Session) → ((n ≡ suc (length k.sessions)) × (y ≡ Rattle.trace_replay.specs.Core.new_session m)) ⊎ (numbered k.sessions n ≡ Some y) → y.cut ≡ true → SessionWas k n y
+    new_apart : (n m : ℕ) (y : Session) → ((n ≡ suc (length k.sessions)) × (y ≡ Rattle.trace_sessions.specs.Session.new_session m)) ⊎ (numbered k.sessions n ≡ Some y) → y.cut ≡ true → SessionWas k n y
     new_apart n m y (inr was) gone = (y, was, refl)
     new_apart n m y (inl new) gone = absurd (not_true (sym (ap (λ (z : Session). z.cut) new.1) ∙ gone))
       where
@@ -284,7 +284,7 @@ leaves_joins k qs mid c same = by (numbered k.seats c)
         not_true e = absurd cc
 
     by_room : (seat : Seat) (b : Bool) → (let r = connect k.server b in Leaves k qs mid (joins_as k c seat r.0 r.1.told))
-    by_room seat true = leaves_plain k qs mid _ (λ n y at gone. new_apart n c y (of_more k.sessions n (Rattle.trace_replay.specs.Core.new_session c) y at) gone) same refl (λ n. omega arith)
+    by_room seat true = leaves_plain k qs mid _ (λ n y at gone. new_apart n c y (of_more k.sessions n (Rattle.trace_sessions.specs.Session.new_session c) y at) gone) same refl (λ n. omega arith)
     by_room seat false = leaves_plain k qs mid _ (were_same k) same refl (λ n. omega arith)
 
     by : (o : Option Seat) → Leaves k qs mid (joins k c o)

@@ -17,6 +17,7 @@ pub mod OpensLog
 pub mod MetLog
 pub mod OwnLog
 pub mod OpsAfter
+pub mod OneSession
 pub mod OwnedRuns
 pub mod Making
 pub mod Marks
@@ -49,6 +50,7 @@ pub mod TreeNames
 pub mod TreeOpens
 pub mod TreeTold
 pub mod TreeWalks
+pub mod Checks
 pub mod NameStatuses
 pub mod MakingStatuses
 pub mod GoingStatuses
@@ -66,6 +68,7 @@ pub mod Known
 pub mod Refusals
 pub mod OpensRuns
 pub mod WalkEvents
+pub mod WalksOnward
 pub mod WalkPages
 pub mod WalkSaid
 pub mod Turns

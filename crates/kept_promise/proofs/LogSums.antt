@@ -4,7 +4,7 @@ use Rattle.hash_calls.specs.declared.message.Lb.TheVariants as lb
 use Rattle.nfs3_calls.specs.declared.message.Nfs.TheVariants as nfs
 use Rattle.wire.specs.declared.message.Body.TheVariants as body
 use Rattle.wire.specs.declared.message.Message.TheVariants as message
-use Rattle.trace_replay.specs.Traffic.{traffic_if, sent_for, taken_for, traffic_of, named_by, named_in, unknown_in, made_in, commit_number, commits_in, bytes_number, bytes_in, attempts_of, deals_if}
+use Rattle.trace_replay.specs.Traffic.{traffic_if, sent_for, taken_for, traffic_of, named_by, named_in, made_in, commit_number, commits_in, bytes_number, bytes_in, attempts_of, deals_if}
 use Rattle.trace_replay.specs.Trail.{sent_of, taken_of}
 use Rattle.kept_promise.proofs.Common.{Deal.Sent, Deal.Took, Deal.Found, nat_tests, nat_lt, Contains-append_right, Contains, Chunk, Message, Op, Traffic, no_traffic, happens, Moment, step_of, client_of, taken_by, given_by, Deal, deals_with, deals_in, deals_of, Said, all_said, is_of, is_commit, SentCommit, number_if, first_number, sent_traffic, taken_traffic, both, sent_in}
 use Rattle.kept_promise.proofs.Tallies.{sent_sum, taken_sum}
@@ -24,10 +24,6 @@ named_join (d ∷ a) b = ap (λ l. named_by d ++ l) (named_join a b) ∙ sym (jo
     joined [] ys zs = refl
     joined (x ∷ xs) ys zs = ap (λ l. x ∷ l) (joined xs ys zs)
 
-pub unknown_join : (a b : List Deal) → unknown_in (a ++ b) ≡ unknown_in a + unknown_in b
-unknown_join [] b = omega arith
-unknown_join (d ∷ a) b = let h = unknown_join a b in omega (arith, h)
-
 -- how many TMPWRITEs were sent
 abbrev pub whole_number : Deal → ℕ
 whole_number (Sent (message.Call xid (body.Lb (lb.TmpWrite a)))) = 1
@@ -36,10 +32,6 @@ whole_number d = 0
 abbrev pub whole_in : List Deal → ℕ
 whole_in [] = 0
 whole_in (d ∷ ds) = whole_number d + whole_in ds
-
-pub whole_join : (a b : List Deal) → whole_in (a ++ b) ≡ whole_in a + whole_in b
-whole_join [] b = omega arith
-whole_join (d ∷ a) b = let h = whole_join a b in omega (arith, h)
 
 pub made_join : (a b : List Deal) → made_in (a ++ b) ≡ made_in a + made_in b
 made_join [] b = omega arith
@@ -83,11 +75,6 @@ came_join (d ∷ a) b = let h = came_join a b in omega (arith, h)
 pub sum_join : (f : Message → ℕ) (a b : List Deal) → deal_sum f (a ++ b) ≡ deal_sum f a + deal_sum f b
 sum_join f [] b = omega arith
 sum_join f (d ∷ a) b = let h = sum_join f a b in omega (arith, h)
-
--- what is sent is no answer
-pub none_unknown : (ms : List Message) → unknown_in (map Sent ms) ≡ 0
-none_unknown [] = refl
-none_unknown (m ∷ ms) = let h = none_unknown ms in omega (arith, h)
 
 pub none_came : (ms : List Message) → came_in (map Sent ms) ≡ 0
 none_came [] = refl

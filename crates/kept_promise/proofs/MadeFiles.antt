@@ -1,19 +1,14 @@
 -- What the history says of the files of a tree once an operation has changed one of them, or let one go.
-use Rattle.std.proofs.Common.{◌⊎◌, inl, inr, ◌≡◌, ℕ, ◌+◌, List, [], length, Option, Some, None, Bool, true, false, ◌==◌, refl, sym, ap, ◌∙◌, subst, arith, if◌then◌else◌, IsSome}
+use Rattle.std.proofs.Common.{◌⊎◌, inl, inr, ◌≡◌, ℕ, ◌+◌, List, Option, Some, None, Bool, true, false, ◌==◌, refl, sym, ap, ◌∙◌, subst, arith, if◌then◌else◌}
 use Rattle.std.proofs.lemmas.Bool.Decides.{nat_tests}
-use Rattle.server_core.specs.State as server
-use Rattle.server_core.specs.Closing.{entry_by}
-use Rattle.register_model.specs.Register.{IsFit}
+use Rattle.chunk_calls.specs.Files as the_files
 use Rattle.register_model.specs.declared.op.Word.TheVariants as words
-use Rattle.trace_replay.specs.Faithful.{IsKind}
-use Rattle.file_tree.specs.Tree.{Tree}
-use Rattle.file_tree.specs.declared.entry.Entry.{Entry as TreeEntry}
-use Rattle.file_tree.specs.declared.entry.EntryKind.TheVariants as kind
-use Rattle.kept_promise.proofs.Common.{File, Op, Word, Value, Entry, Book, value_at, version_at, value_from, slice_get, slice_set, unwrap_or, sha1}
+use Rattle.tree_reading.specs.Tree.{Tree}
+use Rattle.kept_promise.proofs.Common.{File, Op, Word, Entry, Book, value_at, version_at, value_from, slice_get, slice_set}
 use Rattle.kept_promise.proofs.Marks.{marks}
 use Rattle.kept_promise.proofs.Rights.{IsSound, IsUnmade}
 use Rattle.kept_promise.proofs.Growth.{Grows, or_later, value_alike, version_alike}
-use Rattle.kept_promise.proofs.History.{made_op, made_book, grows_made, value_now, version_now, marks_else, IsEntryOf}
+use Rattle.kept_promise.proofs.History.{made_op, made_book, grows_made, value_now, version_now, marks_else}
 use Rattle.kept_promise.proofs.Facts.{FileIs}
 use Rattle.kept_promise.proofs.Unused.{IsUnused, file_used}
 use Rattle.server_law.proofs.Trees.{IsGiven}
@@ -64,29 +59,9 @@ pub leaves_none : (w : Word) (x : List ℕ) → LetsGo w → value_from w x ≡ 
 leaves_none w x (inl e) = ap (λ (z : Word). value_from z x) e
 leaves_none w x (inr e) = ap (λ (z : Word). value_from z x) e
 
--- the entry of a file that goes
-abbrev pub going_entry : File → TreeEntry
-going_entry g = record { file = g.id; version = g.version + 1; kind = kind.Remove; len = 0; sha1 = sha1 [] }
-
--- what the journal tells of it
-pub going_tells : (book : Book) (n : ℕ) (o : Op) (g : File) → LetsGo o.word → FileIs book g.id (Some g) → IsEntryOf book g.id o (entry_by n (going_entry g))
-going_tells book n o g goes h = record {
-  kind_is = elim goes [ inl e ↦ subst (λ (w : Word). IsKind w kind.Remove) (sym e) refl | inr e ↦ subst (λ (w : Word). IsKind w kind.Remove) (sym e) refl ];
-  file = refl;
-  len = ap (λ (v : Value). length (unwrap_or v [])) (leaves_none o.word o.value goes);
-  digest = inl (ap (λ (v : Value). sha1 (unwrap_or v [])) (leaves_none o.word o.value goes));
-  version = ap (λ (v : ℕ). v + 1) (sym h.4);
-  own = λ close. absurd (lets_not_close o.word goes close);
-  positive = h.1;
-  fit = elim goes [ inl e ↦ subst (λ (w : Word). IsFit w (value_at book g.id (book.steps + 1))) (sym e) there | inr e ↦ subst (λ (w : Word). IsFit w (value_at book g.id (book.steps + 1))) (sym e) there ];
-}
-  where
-    there : IsSome (value_at book g.id (book.steps + 1))
-    there = subst (λ (v : Value). IsSome v) (sym h.3.is) refl
-
 -- the files of the tree then
-pub gone_files : (book : Book) (es : List Entry) (j : ℕ) (o : Op) (id : ℕ) (t after : Tree) → slice_get book.ops j ≡ Some o → IsUnmade o → LetsGo o.word → IsSound book → ((f : ℕ) → server.file_at after f ≡ (if id == f then None else server.file_at t f))
-    → ((f : ℕ) → FileIs book f (server.file_at t f)) → (f : ℕ) → FileIs (made_book book es j id o) f (server.file_at after f)
+pub gone_files : (book : Book) (es : List Entry) (j : ℕ) (o : Op) (id : ℕ) (t after : Tree) → slice_get book.ops j ≡ Some o → IsUnmade o → LetsGo o.word → IsSound book → ((f : ℕ) → the_files.file_at after f ≡ (if id == f then None else the_files.file_at t f))
+    → ((f : ℕ) → FileIs book f (the_files.file_at t f)) → (f : ℕ) → FileIs (made_book book es j id o) f (the_files.file_at after f)
 gone_files book es j o id t after at u goes sound is held f = subst (FileIs more f) (sym (is f)) (by (id == f) refl)
   where
     more : Book
@@ -98,13 +73,13 @@ gone_files book es j o id t after at u goes sound is held f = subst (FileIs more
     gone : FileIs more id None
     gone = (own_alike book es id j o at u sound).0 ∙ leaves_none o.word o.value goes
 
-    by : (b : Bool) → (id == f) ≡ b → FileIs more f (if b then None else server.file_at t f)
+    by : (b : Bool) → (id == f) ≡ b → FileIs more f (if b then None else the_files.file_at t f)
     by true is = let same : id ≡ f = grind (arith, nat_tests, is) in subst (λ (i : ℕ). FileIs more i None) same gone
     by false is =
         let apart : id ≡ f → ⊥ = λ same. (let z : (id == f) ≡ true = grind (arith, nat_tests, same) in absurd cc) in
         let same = others_alike book es id j o f at u apart sound in
-        file_alike book more (Some j) None f (server.file_at t f) grows same.0 same.1 (held f)
+        file_alike book more (Some j) None f (the_files.file_at t f) grows same.0 same.1 (held f)
 
 -- what no file has had as its number has no version
-pub gone_fresh : (book : Book) (es : List Entry) (j : ℕ) (o : Op) (id : ℕ) (t : Tree) (g : File) → slice_get book.ops j ≡ Some o → IsUnmade o → IsSound book → IsGiven t → server.file_at t id ≡ Some g → ((f : ℕ) → IsUnused t f → version_at book f (book.steps + 1) ≡ 0) → (f : ℕ) → IsUnused t f → (let more = made_book book es j id o in version_at more f (more.steps + 1) ≡ 0)
+pub gone_fresh : (book : Book) (es : List Entry) (j : ℕ) (o : Op) (id : ℕ) (t : Tree) (g : File) → slice_get book.ops j ≡ Some o → IsUnmade o → IsSound book → IsGiven t → the_files.file_at t id ≡ Some g → ((f : ℕ) → IsUnused t f → version_at book f (book.steps + 1) ≡ 0) → (f : ℕ) → IsUnused t f → (let more = made_book book es j id o in version_at more f (more.steps + 1) ≡ 0)
 gone_fresh book es j o id t g at u sound h there fresh f unused = (others_alike book es id j o f at u (λ same. file_used t id g h there (subst (IsUnused t) (sym same) unused)) sound).1 ∙ fresh f unused

@@ -9,9 +9,8 @@ use Rattle.register_model.specs.declared.op.Word.TheVariants as words
 use Rattle.server_core.specs.declared.change.Wanted.{Wanted}
 use Rattle.server_core.specs.declared.change.Wanted.TheVariants as wanted
 use Rattle.server_core.specs.declared.event.Told.TheVariants as announced
-use Rattle.file_tree.specs.declared.entry.EntryKind.TheVariants as kind
-use Rattle.trace_replay.specs.Core.{entries_since}
-use Rattle.trace_replay.specs.Ops.{changed_file}
+use Rattle.tree_plans.specs.declared.entry.EntryKind.TheVariants as kind
+use Rattle.trace_ends.specs.Core.{entries_since, changed_file}
 use Rattle.trace_replay.specs.Faithful.{IsSettled, SettlesFirst, IsMadeOrRefused}
 use Rattle.kept_promise.proofs.Common.{Contains-push_cases, slice_get, slice_set, Contains, makes_change, connect, has_room, stands, Change, ServerStep, File, Entry, ClientStep, Ended, Op, Opening, TakenCall, has_point, op_after, Core, Seat, Session, Event, Event.Joins, Event.Does, Event.Serves, Event.Hears, Event.Settles, Event.Cuts, Event.Hangs, CoreStep, numbered, joins_as, joins, does, cuts_if, cuts, hangs_if, hangs, ops_with, settles, happens, Moment, step_of, Book, Queue}
 use Rattle.kept_promise.proofs.Lists.{some_is, nothing_there, at_end, at_replaced, kept_appended, of_appended, same_or_not, set_else, within, of_more, in_front}
@@ -53,9 +52,9 @@ acted_points more ops (Some l) c taken step acts rights = by (slice_get ops l) r
   where
     closed : (o : Op) (p : ℕ) → o.word ≡ words.Close → o.point ≡ Some p → (e : Option Ended) → (let r = op_after o c taken step (record acts { ended = e }) in (r.client ≡ o.client) × (r.word ≡ words.Close) × (r.point ≡ Some p))
     closed o p word point None = (refl, word, point)
-    closed o p word point (Some e) = (refl, word, ap (λ w. Rattle.trace_replay.specs.Ops.point_if (has_point w e.outcome) taken e.rests_on o.point) word ∙ point)
+    closed o p word point (Some e) = (refl, word, ap (λ w. Rattle.trace_ops.specs.Ops.point_if (has_point w e.outcome) taken e.rests_on o.point) word ∙ point)
 
-    by : (q : Option Op) → slice_get ops l ≡ q → ((j : ℕ) (r : Op) → slice_get (Rattle.trace_replay.specs.Core.ops_after ops l q c taken step acts) j ≡ Some r → IsRight more r) → KeepsPoints ops (Rattle.trace_replay.specs.Core.ops_after ops l q c taken step acts)
+    by : (q : Option Op) → slice_get ops l ≡ q → ((j : ℕ) (r : Op) → slice_get (Rattle.trace_ops.specs.Ops.ops_after ops l q c taken step acts) j ≡ Some r → IsRight more r) → KeepsPoints ops (Rattle.trace_ops.specs.Ops.ops_after ops l q c taken step acts)
     by None e rights = same_points ops
     by (Some q) e rights = λ j p o at word point. elim (same_or_not j l) [
       | inr apart ↦ (o, else_at ops l j (op_after q c taken step acts) apart ∙ at, refl, word, point, refl)
@@ -203,7 +202,7 @@ made_entered opening all past k e count q points tells h = record {
 
 -- what a settling leaves, by what the server did
 abbrev left_by : Core → server.State × ServerStep → Core
-left_by k r = record k { steps = k.steps + 1; server = r.0; ops = Rattle.trace_replay.specs.Core.settled_by k (changed_file (entries_since k.server r.0)) r.1.told; entries = k.entries ++ replicate r.1.entries (k.steps + 1) }
+left_by k r = record k { steps = k.steps + 1; server = r.0; ops = Rattle.trace_ends.specs.Core.settled_by k (changed_file (entries_since k.server r.0)) r.1.told; entries = k.entries ++ replicate r.1.entries (k.steps + 1) }
 
 -- a close that had no point gets one
 pointed_points : (ops : List Op) (place file step : ℕ) (o : Op) → slice_get ops place ≡ Some o → o.point ≡ None → KeepsPoints ops (slice_set ops place (record o { file = file; point = Some step }))
@@ -236,15 +235,15 @@ made_settling all past rest opening k qs now mid after s h = by (settling (book_
         let q = also_numbered k.sessions qs c.session home.0 kept.made.1 home.1 in
         let mine = own_there k.server.waiting 0 c first in
         let x = kept.sessions c.session home.0 q.0 home.1 q.1 in
-        let pending = subst (λ (z : Wanted). WaitsFor (book_at opening k all) home.0.closing home.0.cut (job x.seat) c.xid c.file z) what (x.pending mine.0 c mine.1) in
+        let pending = subst (λ (z : Wanted). WaitsFor (book_at opening k all) c.session home.0.closing home.0.cut (job x.seat) c.xid c.file z) what (x.pending mine.0 c mine.1) in
         let old = x.old pending.place pending.known in
         let op : Op = record pending.op { file = c.file; point = Some (k.steps + 1) } in
         let made_op : slice_get (slice_set k.ops pending.place op) pending.place ≡ Some op = at_replaced k.ops pending.place op pending.op pending.there in
         let ops_are : (left_by k (made_change (at_reading (record k.server { waiting = cs }) now) c (content_wanted c.what) f)).ops ≡ slice_set k.ops pending.place op =
-        ap (λ (z : Option ℕ). Rattle.trace_replay.specs.Core.settled_by k z (announced.Settled c.session c.xid)) (one_since k.server (made_change (at_reading (record k.server { waiting = cs }) now) c (content_wanted c.what) f).0 (entry_of c (content_wanted c.what) f) refl)
-        ∙ ap (Rattle.trace_replay.specs.Core.settled_ops k.ops (k.steps + 1) (Some c.file)) home.1
-        ∙ ap (λ l. Rattle.trace_replay.specs.Ops.pointed_at k.ops l (k.steps + 1) (Some c.file)) pending.known
-        ∙ ap (Rattle.trace_replay.specs.Ops.pointed k.ops pending.place c.file (k.steps + 1)) pending.there in
+        ap (λ (z : Option ℕ). Rattle.trace_ends.specs.Core.settled_by k z (announced.Settled c.session c.xid)) (one_since k.server (made_change (at_reading (record k.server { waiting = cs }) now) c (content_wanted c.what) f).0 (entry_of c (content_wanted c.what) f) refl)
+        ∙ ap (Rattle.trace_sessions.specs.Session.settled_ops k.ops (k.steps + 1) (Some c.file)) home.1
+        ∙ ap (λ l. Rattle.trace_ops.specs.Ops.pointed_at k.ops l (k.steps + 1) (Some c.file)) pending.known
+        ∙ ap (Rattle.trace_ops.specs.Ops.pointed k.ops pending.place c.file (k.steps + 1)) pending.there in
         let points : KeepsPoints k.ops (left_by k (made_change (at_reading (record k.server { waiting = cs }) now) c (content_wanted c.what) f)).ops = subst (KeepsPoints k.ops) (sym ops_are) (pointed_points k.ops pending.place c.file (k.steps + 1) pending.op pending.there pending.unmade.1) in
         let old_entry : (i p : ℕ) (d : Entry) → slice_get k.entries i ≡ Some p → slice_get (k.server.journal ++ entry_of c (content_wanted c.what) f ∷ []) i ≡ Some d → slice_get k.server.journal i ≡ Some d = λ i p d had is. elim (of_appended k.server.journal (entry_of c (content_wanted c.what) f) i d is) [ inr was ↦ was | inl last ↦ let x = last.0 in let y = within k.entries i p had in absurd (omega (arith, x, y, count)) ] in
         record {

@@ -1,10 +1,12 @@
 -- A commit that waits is made once it is the first, where its file is there: it has its room.
 use Rattle.std.proofs.Common.{◌≡◌, ℕ, ◌+◌, List, [], ◌∷◌, ◌++◌, length, Some, ap, ◌∙◌, arith}
 use Rattle.chunk_places.specs.Places.{indexed}
-use Rattle.file_tree.specs.Step.{replaced, commit_entry}
+use Rattle.tree_plans.specs.Plans.{commit_entry}
+use Rattle.file_tree.specs.Step.{replaced}
 use Rattle.hash_calls.specs.declared.message.Lb.TheVariants as lb
 use Rattle.wire.specs.declared.message.Body.TheVariants as body
 use Rattle.server_core.specs.State as server
+use Rattle.chunk_calls.specs.Files as the_files
 use Rattle.server_core.specs.declared.change.Wanted.TheVariants as wanted
 use Rattle.server_core.specs.Closing.{committed_by, told_change}
 use Rattle.kept_promise.proofs.Common.{slice_get, chunks_of, Done, makes_change, at, entry_by, Change, ServerStep, File, Entry, Book}
@@ -41,7 +43,7 @@ room_there book s c cs h e what =
       small = omega (arith, bytes, sizes, size);
     }
 
-pub made_is : (book : Book) (s : server.State) (now : ℕ) (c : Change) (cs : List Change) (f : File) → IsServer book s → s.waiting ≡ c ∷ cs → server.file_at s.tree c.file ≡ Some f → c.what ≡ wanted.Content (content_wanted c.what) → makes_change (at (record s { waiting = cs }) now) c c.what ≡ made_change (at (record s { waiting = cs }) now) c (content_wanted c.what) f
+pub made_is : (book : Book) (s : server.State) (now : ℕ) (c : Change) (cs : List Change) (f : File) → IsServer book s → s.waiting ≡ c ∷ cs → the_files.file_at s.tree c.file ≡ Some f → c.what ≡ wanted.Content (content_wanted c.what) → makes_change (at (record s { waiting = cs }) now) c c.what ≡ made_change (at (record s { waiting = cs }) now) c (content_wanted c.what) f
 made_is book s now c cs f h e there what =
     ap (makes_change (at (record s { waiting = cs }) now) c) what
     ∙ ap (committed_by (at (record s { waiting = cs }) now) c (content_wanted c.what)) (commits_made s.tree (server.held cs) c.file (content_wanted c.what) f there (room_there book s c cs h e what))

@@ -2,11 +2,12 @@
 use Rattle.std.proofs.Common.{◌⊎◌, inl, inr, ◌≡◌, ℕ, ◌+◌, List, [], Some, None, Result, Ok, Err, true, refl, sym, ap, ◌∙◌}
 use Rattle.xdr_codec.specs.declared.status.Status.{Status}
 use Rattle.tree_nodes.specs.declared.node.Body.TheVariants.{File as Plain}
-use Rattle.file_tree.specs.Tree.{Tree}
-use Rattle.file_tree.specs.Step.{one, gone_entry, remove}
-use Rattle.file_tree.specs.declared.call.Changed.{Changed}
-use Rattle.file_tree.specs.declared.call.Held.{Held}
-use Rattle.file_tree.specs.declared.entry.Entry.{Entry as TreeEntry}
+use Rattle.tree_reading.specs.Tree.{Tree}
+use Rattle.tree_plans.specs.Plans.{one, gone_entry}
+use Rattle.file_tree.specs.Step.{remove}
+use Rattle.tree_plans.specs.declared.call.Changed.{Changed}
+use Rattle.tree_plans.specs.declared.call.Held.{Held}
+use Rattle.tree_plans.specs.declared.entry.Entry.{Entry as TreeEntry}
 use Rattle.path_calls.specs.declared.walk.Goal.{Goal}
 use Rattle.path_calls.specs.declared.walk.Goal.TheVariants as goal
 use Rattle.path_calls.specs.declared.walk.Walk.{Walk}
@@ -28,7 +29,7 @@ make_enters t held dir name done is none = by (made_walk t held (record { dir = 
   where
     by : MadeSo t held (record { dir = dir; left = []; goal = goal.Make name }) → ⊥
     by (refuses s r m err refused leads procs) = not_both done s (sym err ∙ is)
-    by (enters other e r after m step first entry a leads procs) =
+    by (enters other e r after m step first second entry a leads procs) =
         let same : other ≡ done = ok_is other done (sym (ap (λ (p : Tree × Result Changed Status). p.1) step) ∙ is) in
         nothing_there t.next (sym none ∙ sym (ap (λ (c : Changed). entry_file c.first) same) ∙ ap entry_file first ∙ ap (λ (z : TreeEntry). entry_file (Some z)) entry)
 

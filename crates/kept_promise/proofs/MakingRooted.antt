@@ -1,8 +1,8 @@
 -- What a call that makes a file or a directory, or removes one, leaves of the root and of names.
 use Rattle.std.proofs.Common.{◌≡◌, ℕ, ◌+◌, List, length, Bool, true, false, ◌||◌, ◌==◌, refl, sym, subst, arith}
 use Rattle.tree_nodes.specs.Nodes.{with_node}
-use Rattle.file_tree.specs.Names.{is_misspelt}
-use Rattle.file_tree.specs.Tree.{Tree}
+use Rattle.tree_reading.specs.Names.{is_misspelt}
+use Rattle.tree_reading.specs.Tree.{Tree}
 use Rattle.file_tree.specs.Step.{new_file, new_directory}
 use Rattle.path_calls.specs.declared.walk.Goal.{Goal}
 use Rattle.path_calls.specs.declared.walk.Goal.TheVariants as goal

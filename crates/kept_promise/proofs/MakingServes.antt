@@ -8,12 +8,12 @@ use Rattle.wire.specs.declared.message.Body.TheVariants as body
 use Rattle.wire.specs.declared.message.Message.TheVariants as message
 use Rattle.wire.specs.declared.message.Program.TheVariants as program
 use Rattle.tree_nodes.specs.Nodes.{with_id}
-use Rattle.file_tree.specs.Tree.{Tree, contents_size}
-use Rattle.file_tree.specs.Step.{made_entry}
-use Rattle.file_tree.specs.declared.call.Changed.{Changed as TreeChange}
-use Rattle.file_tree.specs.declared.call.Held.{Held}
-use Rattle.file_tree.specs.declared.entry.Entry.{Entry as TreeEntry}
-use Rattle.file_tree.specs.declared.entry.EntryKind.TheVariants as kind
+use Rattle.tree_reading.specs.Tree.{Tree, contents_size}
+use Rattle.tree_plans.specs.Plans.{made_entry}
+use Rattle.tree_plans.specs.declared.call.Changed.{Changed as TreeChange}
+use Rattle.tree_plans.specs.declared.call.Held.{Held}
+use Rattle.tree_plans.specs.declared.entry.Entry.{Entry as TreeEntry}
+use Rattle.tree_plans.specs.declared.entry.EntryKind.TheVariants as kind
 use Rattle.tree_calls.specs.Changing.{said}
 use Rattle.tree_calls.specs.declared.asked.Done.{Done as Finished}
 use Rattle.path_calls.specs.Told.{walk_told}
@@ -24,16 +24,18 @@ use Rattle.path_calls.specs.declared.walk.Goal.{Goal}
 use Rattle.path_calls.specs.declared.walk.Goal.TheVariants as goal
 use Rattle.path_calls.specs.declared.walk.Walk.{Walk}
 use Rattle.server_core.specs.State as server
+use Rattle.chunk_calls.specs.Files as the_files
 use Rattle.server_core.specs.declared.event.Sent.{Sent}
 use Rattle.client_state.specs.State as client
-use Rattle.server_core.specs.Closing.{entry_by as written_by}
+use Rattle.server_core.specs.Closing.{entries_by, entry_by as written_by}
 use Rattle.client_state.specs.declared.task.Stage.TheVariants as stage
 use Rattle.register_model.specs.declared.op.Word.TheVariants as words
 use Rattle.register_model.specs.declared.op.Outcome.TheVariants as told
 use Rattle.trace_replay.specs.Naming.{entry_file, refusal_of}
-use Rattle.trace_replay.specs.Ops.{changed_file, is_of_file, pointed_at, pointed}
+use Rattle.trace_ends.specs.Core.{changed_file, is_of_file}
+use Rattle.trace_ops.specs.Ops.{pointed_at, pointed}
 use Rattle.server_law.proofs.Trees.{given, IsBounded}
-use Rattle.kept_promise.proofs.Common.{slice_get, slice_set, cond, option_map, Contains, Contains-push, message_spell, MessageFits, stands, not, at, Entry, File, Op, TakenCall, Change, Stage, Word, Core, Seat, Session, Event.Serves, CoreStep, numbered, with_numbered, happens, serves, serves_if, quiet, Book, value_at, version_at, Call.Walks, Reply.Walked, changes, value_from, unwrap_or, NameReply, name_answer, Ask, Told, Queue, ask_message, told_message}
+use Rattle.kept_promise.proofs.Common.{slice_get, slice_set, cond, option_map, Contains, Contains-push, message_spell, MessageFits, stands, not, at, Entry, File, Op, TakenCall, Change, Stage, Word, Core, Seat, Session, Event.Serves, CoreStep, numbered, with_numbered, happens, serves, serves_if, quiet, Book, value_at, version_at, Call.Walks, Reply.Walked, value_from, unwrap_or, NameReply, name_answer, Ask, Told, Queue, ask_message, told_message}
 use Rattle.kept_promise.proofs.Statements.{CallFits}
 use Rattle.trace_replay.specs.Faithful.{IsKind}
 use Rattle.register_model.specs.Register.{IsFit}
@@ -61,7 +63,7 @@ use Rattle.kept_promise.proofs.Facts.{FileIs, IsServer, IsSession, commits_in}
 use Rattle.kept_promise.proofs.Serves.{answered, parsed}
 use Rattle.kept_promise.proofs.ServesFiles.{making_got, got_making, pointed_none}
 use Rattle.kept_promise.proofs.Calls.{Given, session_in, first_fits, rest_of, leads_by, same_temps, held_still}
-use Rattle.kept_promise.proofs.Tells.{walk_came}
+use Rattle.kept_promise.proofs.Tells.{walk_came, taken_now}
 use Rattle.kept_promise.proofs.Entering.{entered_server, entered_step, leads_entered}
 use Rattle.kept_promise.proofs.Leading.{Leads}
 use Rattle.kept_promise.proofs.Unused.{IsUnused, unused_named, unused_created, created_used}
@@ -173,7 +175,7 @@ module _ (laws : FitLaws) (book : Book) (k : Core) (qs : List Queue) (n now : �
       subst (λ (p : Tree × Finished). Leads book (rest_of qs n q us) (making_got k n now x xid p)) (sym is)
       (subst (Leads book (rest_of qs n q us)) (sym (refused_step r))
       (leads_by book k qs n now x q a us k.server.temps k.server.index (Walked r) g (same_temps book k n x q a (Walked r) h g.kept.shelf (λ uncut. tt) (λ uncut vs e. held_still book k qs n now x q a us g (Walked r) tt tt uncut vs e) (ap (λ p. program.Nfs p) procs) (reply_fits r t (ap (λ (p : Tree × Finished). p.0) is) g.kept.server.bounded answer)
-      (λ uncut. walk_came book (onward book 1 book.ops) k qs n now x q xid w us h.seat r g.kept h.owner (h.talk uncut) g.first g.noted (sent r answer) refl refl
+      (λ uncut. walk_came book (onward book 1 book.ops) k qs n now x q xid w us h.seat r g.kept h.owner (h.here uncut).0 (h.talk uncut) g.first g.noted (sent r answer) refl refl
       (λ j o at is there. (o, there, refl, refl, inr (inl (record { making = building_makes w.left w.goal making; why = s; why_is = refused_building t held w.dir w.left w.goal s making err; refuses = leads.0; leads = leads.1; unmade = unmade (is_creating w) refl uncut j o at there }))))))))
 
   -- ---- it's done
@@ -195,14 +197,19 @@ module _ (laws : FitLaws) (book : Book) (k : Core) (qs : List Queue) (n now : �
   done_step after e r ops is = ap (λ (l : List Op). entered_step k n moment x a after (k.server.journal ++ written_by n e ∷ []) l (k.entries ++ (k.steps + 1) ∷ []) (Walked r)) is
 
   -- what came of it, of an operation
-  makes : (r : NameReply) (done : TreeChange) (after : Tree) → step_by t held w.dir w.goal ≡ (after, Ok done) → walk_told w (name_answer r) ≡ leading.Ends walk_end.Done → (j : Job) (o : Op) → PointedBy (is_creating w) x.closing j o (book.steps + 1) (entry_file done.first) → (e : TreeEntry) → made ≡ (after, record { answer = name_answer r; first = Some e; second = None })
-      → MakesWalk (record { before = k; event = Serves n now (message_spell (ask_message a)) }) (book.steps + 1) x.closing j o w (name_answer r)
-  makes r done after step leads j o pointed_ e is = record {
+  makes : (r : NameReply) (done : TreeChange) (after : Tree) → step_by t held w.dir w.goal ≡ (after, Ok done) → walk_told w (name_answer r) ≡ leading.Ends walk_end.Done → x.cut ≡ false → (more : Book) → more.moments ≡ book.moments → more.steps ≡ book.steps + 1 → (j : Job) (o z : Op) → job h.seat ≡ Some j → j.stage ≡ stage.Walking xid w → slice_get book.ops j.place ≡ Some z → o.client ≡ z.client → PointedBy (is_creating w) x.closing j o (book.steps + 1) (entry_file done.first) → (e : TreeEntry) → made ≡ (after, record { answer = name_answer r; first = Some e; second = None }) → done.first ≡ Some e → done.second ≡ None
+      → MakesWalk more (record { before = k; event = Serves n now (message_spell (ask_message a)) }) (book.steps + 1) x.closing j o w (name_answer r)
+  makes r done after step leads uncut more moments steps j o z at on there same pointed_ e is first second = record {
     making = building_makes w.left w.goal making;
-    held = held;
+    session = n;
+    xid = xid;
+    taken = taken_now book more k qs n now x a w h.seat o.client j z g.kept h.owner (h.here uncut).0 g.noted (parsed laws a fits) refl moments steps same at there on;
+    comes = inl refl;
+    before = (let s = g.kept.steps in omega (arith, s));
     done = done;
     step_is = ap (λ (p : Tree × Result TreeChange Status). p.1) step;
     tree_is = ap (λ (c : CoreStep). c.core.server.tree) step_is ∙ ap (λ (p : Tree × Finished). p.0) is ∙ sym (ap (λ (p : Tree × Result TreeChange Status). p.0) step);
+    journal_is = ap (λ (c : CoreStep). c.core.server.journal) step_is ∙ ap (λ (p : Tree × Finished). k.server.journal ++ entries_by n p.1.first p.1.second) is ∙ sym (ap (λ (o : Option TreeEntry). k.server.journal ++ entries_by n o done.second) first ∙ ap (λ (o : Option TreeEntry). k.server.journal ++ entries_by n (Some e) o) second);
     leads = leads;
     pointed = pointed_;
   }
@@ -227,7 +234,7 @@ module _ (laws : FitLaws) (book : Book) (k : Core) (qs : List Queue) (n now : �
       let bytes = g.kept.server.bytes in
       let fewer = next_after t w.dir w.goal after a in
       record {
-        held = λ f. subst (FileIs more f) (sym (files_same t w.dir w.goal after (given t g.kept.server.bounded) a names f)) (file_still book more None None f (server.file_at t f) grows still (g.kept.server.held f));
+        held = λ f. subst (FileIs more f) (sym (files_same t w.dir w.goal after (given t g.kept.server.bounded) a names f)) (file_still book more None None f (the_files.file_at t f) grows still (g.kept.server.held f));
         fresh = λ f u. fresh_still book more None None t grows still g.kept.server.fresh f (unused_named t w.dir w.goal after f (given t g.kept.server.bounded) a names u);
         bounded = s.0;
         zero = zero_after after a;
@@ -240,9 +247,9 @@ module _ (laws : FitLaws) (book : Book) (k : Core) (qs : List Queue) (n now : �
         xids = g.kept.server.xids;
       }
 
-  serve_named : (done : TreeChange) (e : TreeEntry) (r : NameReply) (after : Tree) → is_creating w ≡ false → made ≡ (after, record { answer = name_answer r; first = Some e; second = None }) → step_by t held w.dir w.goal ≡ (after, Ok done) → EntryAt t w.goal e → AfterAt t w.dir w.goal after → walk_told w (name_answer r) ≡ leading.Ends walk_end.Done → nfs_proc (name_answer r) ≡ nfs_proc (next_call w)
+  serve_named : (done : TreeChange) (e : TreeEntry) (r : NameReply) (after : Tree) → is_creating w ≡ false → made ≡ (after, record { answer = name_answer r; first = Some e; second = None }) → step_by t held w.dir w.goal ≡ (after, Ok done) → done.first ≡ Some e → done.second ≡ None → EntryAt t w.goal e → AfterAt t w.dir w.goal after → walk_told w (name_answer r) ≡ leading.Ends walk_end.Done → nfs_proc (name_answer r) ≡ nfs_proc (next_call w)
       → Leads book (rest_of qs n q us) (making_got k n now x xid made)
-  serve_named done e r after none is step entry_is after_is leads procs =
+  serve_named done e r after none is step first second entry_is after_is leads procs =
       let names = name_goal w.left w.goal making none in
       let kind_is = entry_name t w.goal e names entry_is in
       let more = named e in
@@ -262,12 +269,12 @@ module _ (laws : FitLaws) (book : Book) (k : Core) (qs : List Queue) (n now : �
         made_here = λ p f. nothing_there p f;
         program = ap (λ p. program.Nfs p) procs;
         fits = reply_fits r after (ap (λ (p : Tree × Finished). p.0) is) (stays after done step).0 answer;
-        answer = λ uncut. walk_came book more k qs n now x q xid w us h.seat r g.kept h.owner (h.talk uncut) g.first g.noted (sent r answer) refl refl
-            (λ j o at on there. (o, there, refl, refl, inr (inr (makes r done after step leads j o (subst (λ (b : Bool). PointedBy b x.closing j o (book.steps + 1) (entry_file done.first)) (sym none) tt) e is))));
+        answer = λ uncut. walk_came book more k qs n now x q xid w us h.seat r g.kept h.owner (h.here uncut).0 (h.talk uncut) g.first g.noted (sent r answer) refl refl
+            (λ j o at on there. (o, there, refl, refl, inr (inr (makes r done after step leads uncut more refl refl j o o at on there refl (subst (λ (b : Bool). PointedBy b x.closing j o (book.steps + 1) (entry_file done.first)) (sym none) tt) e is first second))));
         answers = λ uncut. all_tolds (IsAnswer book x.taken x.closing (job h.seat)) (IsAnswer more (x.taken ++ z ∷ []) x.closing (job h.seat)) (λ u f. answer_found more x.taken (x.taken ++ z ∷ []) x.closing (job h.seat) u finds (answer_later book more None None x.taken x.closing (job h.seat) u grows spares f)) q.downs (h.talk uncut).answers;
         commits = (subst (AllAsks (IsCommit more x.closing x.cut (job h.seat) h.contents)) g.first (all_asks (IsCommit book x.closing x.cut (job h.seat) h.contents) (IsCommit more x.closing x.cut (job h.seat) h.contents) (λ b m. commit_later book more None None x.closing x.cut (job h.seat) (job h.seat) h.contents b grows spares (λ u. refl) m) q.ups h.commits)).1;
         closes = λ uncut j f. close_later book more None None x.closing h.contents h.seat.client.next_temp j (client.local_bytes h.seat.client.opened j.file) j.stage grows spares (h.closes uncut j f);
-        pending = λ i d f. waits_later book more None None x.closing x.cut (job h.seat) (job h.seat) d.xid d.file d.what grows spares (λ u. refl) (h.pending i d f);
+        pending = λ i d f. waits_later book more None None x.closing x.cut (job h.seat) (job h.seat) d.session d.xid d.file d.what grows spares (λ u. refl) (h.pending i d f);
         wanted = λ uncut. tt;
         held = λ uncut. held_still book k qs n now x q a us g (Walked r) tt tt uncut us g.first;
         running = g.kept.running;
@@ -297,13 +304,13 @@ module _ (laws : FitLaws) (book : Book) (k : Core) (qs : List Queue) (n now : �
   two = omega arith
 
   -- what the tree has of each file then
-  file_now : (c : IsCreating book x.closing x.cut (job h.seat) xid w) (e : TreeEntry) → FileIs (made_file c e) t.next (Some (record { id = t.next; version = 1; content = [] })) → (name : List ℕ) (after : Tree) → AfterAt t w.dir (goal.Make name) after → (f : ℕ) → FileIs (made_file c e) f (server.file_at after f)
+  file_now : (c : IsCreating book x.closing x.cut (job h.seat) xid w) (e : TreeEntry) → FileIs (made_file c e) t.next (Some (record { id = t.next; version = 1; content = [] })) → (name : List ℕ) (after : Tree) → AfterAt t w.dir (goal.Make name) after → (f : ℕ) → FileIs (made_file c e) f (the_files.file_at after f)
   file_now c e own name after a f = elim (same_or_not f t.next) [
-    | inl here ↦ subst (λ (z : ℕ). FileIs (made_file c e) z (server.file_at after z)) (sym here) (subst (FileIs (made_file c e) t.next) (sym (file_made t w.dir name after (given t g.kept.server.bounded) a t.next ∙ ap (λ (b : Bool). if b then Some (record { id = t.next; version = 1; content = [] }) else server.file_at t t.next) (eq-eqb t.next t.next refl))) own)
+    | inl here ↦ subst (λ (z : ℕ). FileIs (made_file c e) z (the_files.file_at after z)) (sym here) (subst (FileIs (made_file c e) t.next) (sym (file_made t w.dir name after (given t g.kept.server.bounded) a t.next ∙ ap (λ (b : Bool). if b then Some (record { id = t.next; version = 1; content = [] }) else the_files.file_at t t.next) (eq-eqb t.next t.next refl))) own)
     | inr apart ↦
         let marks_ : marks f (book.steps + 1 + 1) (slice_set book.ops c.place (made_op book t.next c.op)) ≡ marks f (book.steps + 1) book.ops = subst (λ m. marks f m (slice_set book.ops c.place (made_op book t.next c.op)) ≡ marks f (book.steps + 1) book.ops) two (marks_else book t.next c.place c.op f c.there c.unmade (λ q. apart (sym q)) g.kept.sound) in
-        subst (FileIs (made_file c e) f) (sym (file_made t w.dir name after (given t g.kept.server.bounded) a f ∙ ap (λ (b : Bool). if b then Some (record { id = t.next; version = 1; content = [] }) else server.file_at t f) (ne_eqb t.next f (λ q. apart (sym q)))))
-        (others (server.file_at t f) (g.kept.server.held f) (value_alike book (made_file c e) f (book.steps + 1 + 1) (book.steps + 1) refl marks_) (version_alike book (made_file c e) f (book.steps + 1 + 1) (book.steps + 1) refl marks_))
+        subst (FileIs (made_file c e) f) (sym (file_made t w.dir name after (given t g.kept.server.bounded) a f ∙ ap (λ (b : Bool). if b then Some (record { id = t.next; version = 1; content = [] }) else the_files.file_at t f) (ne_eqb t.next f (λ q. apart (sym q)))))
+        (others (the_files.file_at t f) (g.kept.server.held f) (value_alike book (made_file c e) f (book.steps + 1 + 1) (book.steps + 1) refl marks_) (version_alike book (made_file c e) f (book.steps + 1 + 1) (book.steps + 1) refl marks_))
   ]
     where
       others : (z : Option File) → FileIs book f z → value_at (made_file c e) f (book.steps + 1 + 1) ≡ value_at book f (book.steps + 1) → version_at (made_file c e) f (book.steps + 1 + 1) ≡ version_at book f (book.steps + 1) → FileIs (made_file c e) f z
@@ -355,9 +362,9 @@ module _ (laws : FitLaws) (book : Book) (k : Core) (qs : List Queue) (n now : �
   alone : is_creating w ≡ true → (commits_in us ≡ 0) × (length (own n k.server.waiting) ≡ 0)
   alone is = let single = h.single in let one = ap commits_in g.first in let mine : cond (is_creating w) 1 0 ≡ 1 = ap {B = ℕ} (λ (b : Bool). cond b 1 0) is in (omega (arith, single, one, mine), omega (arith, single, one, mine))
 
-  serve_made : (done : TreeChange) (e : TreeEntry) (r : NameReply) (after : Tree) → is_creating w ≡ true → made ≡ (after, record { answer = name_answer r; first = Some e; second = None }) → step_by t held w.dir w.goal ≡ (after, Ok done) → done.first ≡ Some e → EntryAt t w.goal e → AfterAt t w.dir w.goal after → walk_told w (name_answer r) ≡ leading.Ends walk_end.Done → nfs_proc (name_answer r) ≡ nfs_proc (next_call w)
+  serve_made : (done : TreeChange) (e : TreeEntry) (r : NameReply) (after : Tree) → is_creating w ≡ true → made ≡ (after, record { answer = name_answer r; first = Some e; second = None }) → step_by t held w.dir w.goal ≡ (after, Ok done) → done.first ≡ Some e → done.second ≡ None → EntryAt t w.goal e → AfterAt t w.dir w.goal after → walk_told w (name_answer r) ≡ leading.Ends walk_end.Done → nfs_proc (name_answer r) ≡ nfs_proc (next_call w)
       → Leads book (rest_of qs n q us) (making_got k n now x xid made)
-  serve_made done e r after is_file is step first entry_is after_is leads procs =
+  serve_made done e r after is_file is step first second entry_is after_is leads procs =
       let c = creating is_file in
       let aim = make_goal w.left w.goal making is_file in
       let make : c.op.word ≡ words.Make = c.word_is ∙ ap goal_word aim.1 in
@@ -386,11 +393,11 @@ module _ (laws : FitLaws) (book : Book) (k : Core) (qs : List Queue) (n now : �
         made_here = λ p f. c.known ∙ f;
         program = ap (λ p. program.Nfs p) procs;
         fits = reply_fits r after (ap (λ (p : Tree × Finished). p.0) is) (stays after done step).0 answer;
-        answer = λ uncut. walk_came book more k qs n now x q xid w us h.seat r g.kept h.owner (h.talk uncut) g.first g.noted (sent r answer) refl refl
+        answer = λ uncut. walk_came book more k qs n now x q xid w us h.seat r g.kept h.owner (h.here uncut).0 (h.talk uncut) g.first g.noted (sent r answer) refl refl
             (λ j o at on there.
             let place = (waits_here c uncut j at).0 in
             let same : c.op ≡ o = some_is c.op o (sym c.there ∙ ap (slice_get book.ops) (sym place) ∙ there) in
-            (new, ap (slice_get (slice_set book.ops c.place new)) place ∙ at_replaced book.ops c.place new c.op c.there, ap (λ (z : Op). z.begin) same, ap (λ (z : Op). z.client) same, inr (inr (makes r done after step leads j new (subst (λ (b : Bool). PointedBy b x.closing j new (book.steps + 1) (entry_file done.first)) (sym is_file) (inr (t.next, points, c.unmade.0, refl, refl))) e is))));
+            (new, ap (slice_get (slice_set book.ops c.place new)) place ∙ at_replaced book.ops c.place new c.op c.there, ap (λ (z : Op). z.begin) same, ap (λ (z : Op). z.client) same, inr (inr (makes r done after step leads uncut more refl refl j new o at on there (ap (λ (z : Op). z.client) same) (subst (λ (b : Bool). PointedBy b x.closing j new (book.steps + 1) (entry_file done.first)) (sym is_file) (inr (t.next, points, c.unmade.0, refl, refl))) e is first second))));
         answers = λ uncut. tolds_at (IsAnswer book x.taken x.closing (job h.seat)) (IsAnswer more (x.taken ++ z ∷ []) x.closing (job h.seat)) q.downs (λ i u told f. old_answers c more (x.taken ++ z ∷ []) uncut i u told f) (h.talk uncut).answers;
         commits = no_commits more x.closing x.cut (job h.seat) h.contents us none.0;
         closes = λ uncut j f. subst (λ (s : Stage). CloseOf more x.closing h.contents h.seat.client.next_temp j (client.local_bytes h.seat.client.opened j.file) s) (sym (waits_here c uncut j f).1) (λ later. absurd (last_call w.left w.goal is_file later));
@@ -420,11 +427,11 @@ module _ (laws : FitLaws) (book : Book) (k : Core) (qs : List Queue) (n now : �
 
   serve_so : MadeSo t held w → Leads book (rest_of qs n q us) (making_got k n now x xid made)
   serve_so (refuses s r is err refused leads procs) = serve_refused s r is err (refused, leads) procs
-  serve_so (enters done e r after is step first entry_is after_is leads procs) = by (is_creating w) refl
+  serve_so (enters done e r after is step first second entry_is after_is leads procs) = by (is_creating w) refl
     where
       by : (b : Bool) → is_creating w ≡ b → Leads book (rest_of qs n q us) (making_got k n now x xid made)
-      by false none = serve_named done e r after none is step entry_is after_is leads procs
-      by true some = serve_made done e r after some is step first entry_is after_is leads procs
+      by false none = serve_named done e r after none is step first second entry_is after_is leads procs
+      by true some = serve_made done e r after some is step first second entry_is after_is leads procs
 
   pub serve_making : Leads book (rest_of qs n q us) (happens k (Serves n now (message_spell (ask_message (record { xid = xid; call = Walks w })))))
   serve_making = subst (Leads book (rest_of qs n q us)) (sym step_is) (serve_so (made_walk t held w making))

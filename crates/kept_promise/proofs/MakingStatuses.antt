@@ -1,70 +1,47 @@
 -- What a call that makes a file or a directory, or removes one, may be refused by, where its name is spelt.
-use Rattle.std.proofs.Common.{inl, inr, ◌≡◌, ℕ, ◌≤◌, List, [], ◌∷◌, length, Option, Some, None, Result, Ok, Err, Bool, true, false, ◌==◌, refl, sym, subst, arith, nat_lt, ◌+◌, if◌then◌else◌}
+use Rattle.std.proofs.Common.{inl, inr, ◌≡◌, ℕ, ◌≤◌, List, [], ◌∷◌, length, Option, Some, None, Result, Ok, Err, Bool, true, false, ◌==◌, refl, sym, subst, nat_lt, ◌+◌, if◌then◌else◌}
 use Rattle.std.specs.Option.{option_map}
-use Rattle.std.proofs.lemmas.Bool.Decides.{nat_tests}
 use Rattle.xdr_codec.specs.Status.{status_number}
 use Rattle.xdr_codec.specs.declared.status.Status.{Status}
 use Rattle.xdr_codec.specs.declared.status.Status.TheVariants as status
 use Rattle.tree_nodes.specs.declared.node.Node.{Node}
-use Rattle.tree_nodes.specs.Nodes.{with_id, named, names}
-use Rattle.file_tree.specs.Chain.{◌>>=◌}
-use Rattle.file_tree.specs.Names.{is_dot_dot, is_misspelt, spelt, undotted}
-use Rattle.file_tree.specs.Tree.{Tree, is_directory, or_stale, node_of, directory_of, directory_or, or_no_entry, or_taken}
-use Rattle.file_tree.specs.Step.{changes_most, spared, nothing, create_found, may_create, create_plan, created, create, may_mkdir, mkdir_if, mkdir, or_not_empty, remove_done, may_rmdir, rmdir_plan, remove_if, rmdir}
-use Rattle.file_tree.specs.declared.call.Changed.{Changed}
-use Rattle.file_tree.specs.declared.call.CreateMode.TheVariants as mode
-use Rattle.file_tree.specs.declared.call.Held.{Held}
+use Rattle.tree_nodes.specs.Nodes.{named, names}
+use Rattle.tree_reading.specs.Chain.{◌>>=◌}
+use Rattle.tree_reading.specs.Names.{is_dot_dot, is_misspelt, spelt, undotted}
+use Rattle.tree_reading.specs.Tree.{Tree, is_directory, directory_of, directory_or, or_no_entry, or_taken, changes_most}
+use Rattle.tree_plans.specs.Plans.{spared, nothing, create_found, may_create, create_plan, may_mkdir, or_not_empty, remove_done, may_rmdir, rmdir_plan}
+use Rattle.file_tree.specs.Step.{created, create, mkdir_if, mkdir, remove_if, rmdir}
+use Rattle.tree_plans.specs.declared.call.Changed.{Changed}
+use Rattle.tree_plans.specs.declared.call.CreateMode.TheVariants as mode
+use Rattle.tree_plans.specs.declared.call.Held.{Held}
 use Rattle.trace_replay.specs.Complete.{IsNameRefused}
 use Rattle.kept_promise.proofs.Common.{Contains, Contains-append_left, Contains-push}
+use Rattle.kept_promise.proofs.Checks.{FailsBy, done, fails, chain, directory_fails, spelt_fails}
 use Rattle.kept_promise.proofs.TreeWalks.{IsUndotted}
 
--- it is refused so, if it is: by what its path is found to be, or by one of these
+-- by what its path is found to be, or by one of these
+abbrev pub IsWith : List ℕ → (status : ℕ) → Type 0
+IsWith others status = IsNameRefused status others
+
 abbrev pub Refuses : {A : Type 0} → List ℕ → Result A Status → Type 0
-Refuses others r = (s : Status) → r ≡ Err s → IsNameRefused (status_number s) others
-
-pub done : {A : Type 0} (others : List ℕ) (x : A) → Refuses others (Ok x)
-done others x s e = absurd cc
-
-pub fails : {A : Type 0} (others : List ℕ) (t : Status) → IsNameRefused (status_number t) others → Refuses {A = A} others (Err t)
-fails {A = A} others t h s e = subst (λ (z : Status). IsNameRefused (status_number z) others) (same e) h
-  where
-    same : ◌≡◌ {A = Result A Status} (Err t) (Err s) → t ≡ s
-    same e = cc
-
-pub chain : {A B : Type 0} (others : List ℕ) (r : Result A Status) (f : A → Result B Status) → Refuses others r → ((x : A) → Refuses others (f x)) → Refuses others (r >>= f)
-chain others (Ok x) f h g = g x
-chain others (Err t) f h g = fails others t (h t refl)
+Refuses others r = FailsBy (IsWith others) r
 
 -- ---- the directory, the name, and room for one more change
 
 pub directory_refused : (others : List ℕ) (nodes : List Node) (id : ℕ) → Refuses others (directory_of nodes id)
-directory_refused others nodes id = chain others (node_of nodes id) (directory_or status.NotDir) (by (with_id nodes id)) (λ n. of n (is_directory n.body))
-  where
-    by : (o : Option Node) → Refuses others (or_stale o)
-    by None = fails others status.Stale (inl (inr (inr refl)))
-    by (Some n) = done others n
-
-    of : (n : Node) (b : Bool) → Refuses others (if b then Ok n else Err status.NotDir)
-    of n true = done others n
-    of n false = fails others status.NotDir (inl (inr (inl refl)))
-
-pub spelt_refused : (others : List ℕ) (name : List ℕ) → length name ≤ 255 → is_misspelt name ≡ false → Refuses others (spelt name)
-spelt_refused others name short right =
-    let not_long : nat_lt 255 (length name) ≡ false = grind (arith, nat_tests, short) in
-    subst (λ (b : Bool). Refuses others (if b then Err status.NameTooLong else (if is_misspelt name then Err status.Acces else Ok tt))) (sym not_long)
-    (subst (λ (b : Bool). Refuses others (if b then Err status.Acces else Ok tt)) (sym right) (done others tt))
+directory_refused others nodes id = directory_fails (IsWith others) nodes id (inl (inr (inl refl))) (inl (inr (inr refl)))
 
 pub undotted_refused : (others : List ℕ) (dot two : Status) (name : List ℕ) → IsUndotted name → Refuses others (undotted dot two name)
 undotted_refused others dot two name plain =
     subst (λ (b : Bool). Refuses others (if b then Err dot else (if is_dot_dot name then Err two else Ok tt))) (sym plain.0)
-    (subst (λ (b : Bool). Refuses others (if b then Err two else Ok tt)) (sym plain.1) (done others tt))
+    (subst (λ (b : Bool). Refuses others (if b then Err two else Ok tt)) (sym plain.1) (done (IsWith others) tt))
 
 pub spared_refused : (others : List ℕ) (changes : ℕ) (held : Held) (n : ℕ) → Contains others 28 → Refuses others (spared changes held n)
 spared_refused others changes held n there = by (nat_lt changes_most (changes + held.entries + n))
   where
     by : (b : Bool) → (let r : Result Unit Status = if b then Err status.NoSpc else Ok tt in Refuses others r)
-    by true = fails others status.NoSpc (inr there)
-    by false = done others tt
+    by true = fails (IsWith others) status.NoSpc (inr there)
+    by false = done (IsWith others) tt
 
 -- ---- CREATE
 
@@ -78,14 +55,14 @@ full_there : Contains made_others 28
 full_there = Contains-push (17 ∷ []) 28
 
 found_refused : (changes : ℕ) (held : Held) (o : Option Node) → Refuses made_others (create_found changes held mode.Guarded o)
-found_refused changes held None = chain made_others (spared changes held 1) _ (spared_refused made_others changes held 1 full_there) (λ u. done made_others None)
-found_refused changes held (Some n) = fails made_others status.Exist (inr taken_there)
+found_refused changes held None = chain (IsWith made_others) (spared changes held 1) _ (spared_refused made_others changes held 1 full_there) (λ u. done (IsWith made_others) None)
+found_refused changes held (Some n) = fails (IsWith made_others) status.Exist (inr taken_there)
 
 plan_refused : (t : Tree) (held : Held) (dir : ℕ) (name : List ℕ) → IsUndotted name → length name ≤ 255 → is_misspelt name ≡ false → Refuses made_others (create_plan t held dir name mode.Guarded)
 plan_refused t held dir name plain short right =
-    chain made_others (may_create t held dir name mode.Guarded) _
-    (chain made_others (directory_of t.nodes dir) _ (directory_refused made_others t.nodes dir) (λ d. chain made_others (spelt name) _ (spelt_refused made_others name short right) (λ u. chain made_others (undotted status.Inval status.Inval name) _ (undotted_refused made_others status.Inval status.Inval name plain) (λ v. found_refused t.changes held (named t.nodes dir name)))))
-    (λ f. done made_others (option_map nothing f))
+    chain (IsWith made_others) (may_create t held dir name mode.Guarded) _
+    (chain (IsWith made_others) (directory_of t.nodes dir) _ (directory_refused made_others t.nodes dir) (λ d. chain (IsWith made_others) (spelt name) _ (spelt_fails (IsWith made_others) name short right) (λ u. chain (IsWith made_others) (undotted status.Inval status.Inval name) _ (undotted_refused made_others status.Inval status.Inval name plain) (λ v. found_refused t.changes held (named t.nodes dir name)))))
+    (λ f. done (IsWith made_others) (option_map nothing f))
 
 created_err : (t : Tree) (dir : ℕ) (name : List ℕ) (r : Result (Option Changed) Status) (s : Status) → (created t dir name r).1 ≡ Err s → r ≡ Err s
 created_err t dir name (Err e) s h = again h
@@ -102,12 +79,12 @@ create_refused t held dir name s plain short right e = plan_refused t held dir n
 
 may_mkdir_refused : (t : Tree) (held : Held) (dir : ℕ) (name : List ℕ) → IsUndotted name → length name ≤ 255 → is_misspelt name ≡ false → Refuses made_others (may_mkdir t held dir name)
 may_mkdir_refused t held dir name plain short right =
-    chain made_others (directory_of t.nodes dir) _ (directory_refused made_others t.nodes dir) (λ d. chain made_others (spelt name) _ (spelt_refused made_others name short right) (λ u. chain made_others (undotted status.Exist status.Exist name) _ (undotted_refused made_others status.Exist status.Exist name plain)
-    (λ v. chain made_others (or_taken (named t.nodes dir name)) _ (by (named t.nodes dir name)) (λ x. spared_refused made_others t.changes held 1 full_there))))
+    chain (IsWith made_others) (directory_of t.nodes dir) _ (directory_refused made_others t.nodes dir) (λ d. chain (IsWith made_others) (spelt name) _ (spelt_fails (IsWith made_others) name short right) (λ u. chain (IsWith made_others) (undotted status.Exist status.Exist name) _ (undotted_refused made_others status.Exist status.Exist name plain)
+    (λ v. chain (IsWith made_others) (or_taken (named t.nodes dir name)) _ (by (named t.nodes dir name)) (λ x. spared_refused made_others t.changes held 1 full_there))))
   where
     by : (o : Option Node) → Refuses made_others (or_taken o)
-    by None = done made_others tt
-    by (Some n) = fails made_others status.Exist (inr taken_there)
+    by None = done (IsWith made_others) tt
+    by (Some n) = fails (IsWith made_others) status.Exist (inr taken_there)
 
 mkdir_err : (t : Tree) (dir : ℕ) (name : List ℕ) (r : Result Unit Status) (s : Status) → (mkdir_if t dir name r).1 ≡ Err s → r ≡ Err s
 mkdir_err t dir name (Err e) s h = again h
@@ -134,24 +111,24 @@ empty_refused : (nodes : List Node) (n : Node) → Refuses gone_others (or_not_e
 empty_refused nodes n = by (length (names nodes n.id) == 0)
   where
     by : (b : Bool) → (let r : Result Unit Status = if b then Ok tt else Err status.NotEmpty in Refuses gone_others r)
-    by true = done gone_others tt
-    by false = fails gone_others status.NotEmpty (inr filled_there)
+    by true = done (IsWith gone_others) tt
+    by false = fails (IsWith gone_others) status.NotEmpty (inr filled_there)
 
 rmdir_plan_refused : (t : Tree) (held : Held) (dir : ℕ) (name : List ℕ) → IsUndotted name → length name ≤ 255 → is_misspelt name ≡ false → Refuses gone_others (rmdir_plan t held dir name)
 rmdir_plan_refused t held dir name plain short right =
-    chain gone_others (may_rmdir t held dir name) _
-    (chain gone_others (directory_of t.nodes dir) _ (directory_refused gone_others t.nodes dir) (λ d. chain gone_others (spelt name) _ (spelt_refused gone_others name short right) (λ u. chain gone_others (undotted status.Inval status.Exist name) _ (undotted_refused gone_others status.Inval status.Exist name plain)
-    (λ v. chain gone_others (or_no_entry (named t.nodes dir name) >>= directory_or status.NotDir) _ (chain gone_others (or_no_entry (named t.nodes dir name)) (directory_or status.NotDir) (by (named t.nodes dir name)) (λ n. of n (is_directory n.body)))
-    (λ n. chain gone_others (or_not_empty t.nodes n) _ (empty_refused t.nodes n) (λ x. chain gone_others (spared t.changes held 1) _ (spared_refused gone_others t.changes held 1 room_there) (λ y. done gone_others n)))))))
-    (λ n. done gone_others (remove_done n))
+    chain (IsWith gone_others) (may_rmdir t held dir name) _
+    (chain (IsWith gone_others) (directory_of t.nodes dir) _ (directory_refused gone_others t.nodes dir) (λ d. chain (IsWith gone_others) (spelt name) _ (spelt_fails (IsWith gone_others) name short right) (λ u. chain (IsWith gone_others) (undotted status.Inval status.Exist name) _ (undotted_refused gone_others status.Inval status.Exist name plain)
+    (λ v. chain (IsWith gone_others) (or_no_entry (named t.nodes dir name) >>= directory_or status.NotDir) _ (chain (IsWith gone_others) (or_no_entry (named t.nodes dir name)) (directory_or status.NotDir) (by (named t.nodes dir name)) (λ n. of n (is_directory n.body)))
+    (λ n. chain (IsWith gone_others) (or_not_empty t.nodes n) _ (empty_refused t.nodes n) (λ x. chain (IsWith gone_others) (spared t.changes held 1) _ (spared_refused gone_others t.changes held 1 room_there) (λ y. done (IsWith gone_others) n)))))))
+    (λ n. done (IsWith gone_others) (remove_done n))
   where
     by : (o : Option Node) → Refuses gone_others (or_no_entry o)
-    by None = fails gone_others status.NoEnt (inl (inl refl))
-    by (Some n) = done gone_others n
+    by None = fails (IsWith gone_others) status.NoEnt (inl (inl refl))
+    by (Some n) = done (IsWith gone_others) n
 
     of : (n : Node) (b : Bool) → Refuses gone_others (if b then Ok n else Err status.NotDir)
-    of n true = done gone_others n
-    of n false = fails gone_others status.NotDir (inl (inr (inl refl)))
+    of n true = done (IsWith gone_others) n
+    of n false = fails (IsWith gone_others) status.NotDir (inl (inr (inl refl)))
 
 remove_err : (t : Tree) (dir : ℕ) (r : Result Changed Status) (s : Status) → (remove_if t dir r).1 ≡ Err s → r ≡ Err s
 remove_err t dir (Err e) s h = h

@@ -6,15 +6,15 @@ use Rattle.xdr_codec.specs.declared.status.Status.{Status}
 use Rattle.tree_nodes.specs.declared.node.Node.{Node}
 use Rattle.tree_nodes.specs.Nodes.{with_id, with_node, without, versioned}
 use Rattle.tree_nodes.proofs.Lists.{with_id_with, with_id_without, with_id_changed}
-use Rattle.file_tree.specs.Tree.{Tree, is_directory}
+use Rattle.tree_reading.specs.Tree.{Tree, is_directory}
 use Rattle.file_tree.specs.Step.{made, removed, new_file, new_directory}
-use Rattle.file_tree.specs.declared.call.Changed.{Changed}
-use Rattle.file_tree.specs.declared.call.CreateMode.TheVariants as mode
-use Rattle.file_tree.specs.declared.call.Held.{Held}
+use Rattle.tree_plans.specs.declared.call.Changed.{Changed}
+use Rattle.tree_plans.specs.declared.call.CreateMode.TheVariants as mode
+use Rattle.tree_plans.specs.declared.call.Held.{Held}
 use Rattle.file_tree.proofs.States.{named_id}
 use Rattle.path_calls.specs.declared.walk.Goal.{Goal}
 use Rattle.path_calls.specs.declared.walk.Goal.TheVariants as goal
-use Rattle.server_core.specs.State as server
+use Rattle.chunk_calls.specs.Files as the_files
 use Rattle.server_law.proofs.Trees.{IsGiven, IsBounded, given, below_next, next_free, made_files, removed_files, no_file, file_below}
 use Rattle.server_law.proofs.TreeCalls.{no_file_in}
 use Rattle.kept_promise.proofs.Common.{File}
@@ -23,10 +23,10 @@ use Rattle.kept_promise.proofs.TreeBounds.{Stays, stays_same, create_stays, mkdi
 use Rattle.kept_promise.proofs.Makings.{step_by, AfterAt, EntryAt, MadeSo, refuses, enters, made_walk}
 use Rattle.kept_promise.proofs.PathNames.{is_building}
 use Rattle.path_calls.specs.declared.walk.Walk.{Walk}
-use Rattle.file_tree.specs.declared.entry.Entry.{Entry as TreeEntry}
-use Rattle.file_tree.specs.declared.entry.EntryKind.TheVariants as kind
+use Rattle.tree_plans.specs.declared.entry.Entry.{Entry as TreeEntry}
+use Rattle.tree_plans.specs.declared.entry.EntryKind.TheVariants as kind
 use Rattle.trace_replay.specs.Naming.{entry_file}
-use Rattle.trace_replay.specs.Ops.{is_of_file}
+use Rattle.trace_ends.specs.Core.{is_of_file}
 use Rattle.server_law.proofs.TreeCalls.{ok_is}
 
 -- ---- the limits
@@ -86,21 +86,21 @@ next_after t dir g after a = absurd a
 -- ---- files
 
 -- a file is there that has no bytes, and all others are as they were
-pub file_made : (t : Tree) (dir : ℕ) (name : List ℕ) (after : Tree) → IsGiven t → AfterAt t dir (goal.Make name) after → (f : ℕ) → server.file_at after f ≡ (if t.next == f then Some (record { id = t.next; version = 1; content = [] }) else server.file_at t f)
-file_made t dir name after h a f = ap (λ (z : Tree). server.file_at z f) a.0 ∙ made_files t (new_file t dir name) a.1.0 f h refl a.1.1 a.1.2
+pub file_made : (t : Tree) (dir : ℕ) (name : List ℕ) (after : Tree) → IsGiven t → AfterAt t dir (goal.Make name) after → (f : ℕ) → the_files.file_at after f ≡ (if t.next == f then Some (record { id = t.next; version = 1; content = [] }) else the_files.file_at t f)
+file_made t dir name after h a f = ap (λ (z : Tree). the_files.file_at z f) a.0 ∙ made_files t (new_file t dir name) a.1.0 f h refl a.1.1 a.1.2
 
 -- a directory is none
-none_made_directory : (t : Tree) (dir : ℕ) (name : List ℕ) (f : ℕ) → IsGiven t → (b : Bool) → (t.next == f) ≡ b → (if b then None else server.file_at t f) ≡ server.file_at t f
+none_made_directory : (t : Tree) (dir : ℕ) (name : List ℕ) (f : ℕ) → IsGiven t → (b : Bool) → (t.next == f) ≡ b → (if b then None else the_files.file_at t f) ≡ the_files.file_at t f
 none_made_directory t dir name f h false is = refl
-none_made_directory t dir name f h true is = by (server.file_at t f) refl
+none_made_directory t dir name f h true is = by (the_files.file_at t f) refl
   where
-    by : (o : Option File) → server.file_at t f ≡ o → None ≡ o
+    by : (o : Option File) → the_files.file_at t f ≡ o → None ≡ o
     by None e = refl
     by (Some g) e = (let lt = file_below t f g h e in absurd (grind (arith, nat_tests, lt, is)))
 
-none_removed_directory : (t : Tree) (n : Node) (f : ℕ) → with_id t.nodes n.id ≡ Some n → is_directory n.body ≡ true → (b : Bool) → (n.id == f) ≡ b → (if b then None else server.file_at t f) ≡ server.file_at t f
+none_removed_directory : (t : Tree) (n : Node) (f : ℕ) → with_id t.nodes n.id ≡ Some n → is_directory n.body ≡ true → (b : Bool) → (n.id == f) ≡ b → (if b then None else the_files.file_at t f) ≡ the_files.file_at t f
 none_removed_directory t n f there is false e = refl
-none_removed_directory t n f there is true e = sym (ap (server.file_at t) (sym same) ∙ no_file t.nodes n.id n there is)
+none_removed_directory t n f there is true e = sym (ap (the_files.file_at t) (sym same) ∙ no_file t.nodes n.id n there is)
   where
     same : n.id ≡ f
     same = grind (arith, nat_tests, e)
@@ -111,9 +111,9 @@ IsNameGoal (goal.MakeDir name) = Unit {0}
 IsNameGoal (goal.RemoveDir name) = Unit {0}
 IsNameGoal g = ⊥
 
-pub files_same : (t : Tree) (dir : ℕ) (g : Goal) (after : Tree) → IsGiven t → AfterAt t dir g after → IsNameGoal g → (f : ℕ) → server.file_at after f ≡ server.file_at t f
-files_same t dir (goal.MakeDir name) after h a names f = ap (λ (z : Tree). server.file_at z f) a.0 ∙ made_files t (new_directory t dir name) a.1.0 f h refl a.1.1 a.1.2 ∙ none_made_directory t dir name f h (t.next == f) refl
-files_same t dir (goal.RemoveDir name) after h a names f = ap (λ (z : Tree). server.file_at z f) a.1 ∙ removed_files t dir a.0.id f (no_file_in t dir a.2) ∙ none_removed_directory t a.0 f (named_id t.nodes dir name a.0 h.apart a.3) a.4 (a.0.id == f) refl
+pub files_same : (t : Tree) (dir : ℕ) (g : Goal) (after : Tree) → IsGiven t → AfterAt t dir g after → IsNameGoal g → (f : ℕ) → the_files.file_at after f ≡ the_files.file_at t f
+files_same t dir (goal.MakeDir name) after h a names f = ap (λ (z : Tree). the_files.file_at z f) a.0 ∙ made_files t (new_directory t dir name) a.1.0 f h refl a.1.1 a.1.2 ∙ none_made_directory t dir name f h (t.next == f) refl
+files_same t dir (goal.RemoveDir name) after h a names f = ap (λ (z : Tree). the_files.file_at z f) a.1 ∙ removed_files t dir a.0.id f (no_file_in t dir a.2) ∙ none_removed_directory t a.0 f (named_id t.nodes dir name a.0 h.apart a.3) a.4 (a.0.id == f) refl
 files_same t dir g after h a names f = absurd names
 
 -- one id more was given
@@ -138,8 +138,8 @@ pub next_small : (t : Tree) → IsBounded t → t.next < 18446744073709551616
 next_small t h = let x = h.next in let c = h.count in omega (arith, x, c)
 
 -- nothing was there of that id
-pub next_none : (t : Tree) → IsGiven t → server.file_at t t.next ≡ None
-next_none t h = ap server.file_of_node (next_free t h)
+pub next_none : (t : Tree) → IsGiven t → the_files.file_at t t.next ≡ None
+next_none t h = ap the_files.file_of_node (next_free t h)
 
 -- ---- what is told of a change that is no file's
 
@@ -153,6 +153,6 @@ names_file t held w done making names is = by (made_walk t held w making)
 
     by : MadeSo t held w → entry_file done.first ≡ None
     by (refuses s r m err refused leads procs) = (let z : ◌≡◌ {A = Result Changed Status} (Err s) (Ok done) = sym err ∙ is in absurd cc)
-    by (enters other e r after m step first entry a leads procs) =
+    by (enters other e r after m step first second entry a leads procs) =
         let same : other ≡ done = ok_is other done (sym (ap (λ (p : Tree × Result Changed Status). p.1) step) ∙ is) in
         ap (λ (c : Changed). entry_file c.first) (sym same) ∙ ap entry_file first ∙ ap (λ (b : Bool). if b then Some e.file else None) (ap is_of_file (name_kind t w.goal e names entry))

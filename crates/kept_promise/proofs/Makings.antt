@@ -14,15 +14,16 @@ use Rattle.tree_nodes.specs.declared.node.Node.{Node}
 use Rattle.tree_nodes.specs.declared.node.Body.{Body}
 use Rattle.tree_nodes.specs.declared.node.Body.TheVariants.{Directory, File}
 use Rattle.tree_nodes.specs.Nodes.{named}
-use Rattle.file_tree.specs.Chain.{◌>>=◌}
-use Rattle.file_tree.specs.Names.{spelt, undotted}
-use Rattle.file_tree.specs.Tree.{Tree, is_directory, directory_of, directory_or, or_no_entry}
-use Rattle.file_tree.specs.Step.{create, created as create_made, create_plan, create_mode, create_found, may_create, mkdir, mkdir_if, may_mkdir, remove, rename, rmdir, rmdir_plan, may_rmdir, or_not_empty, remove_if, removed, remove_done, gone_entry, made, made_entry, name_entry, new_file, new_directory, nothing, one, spared}
-use Rattle.file_tree.specs.declared.call.Changed.{Changed}
-use Rattle.file_tree.specs.declared.call.CreateMode.TheVariants as mode
-use Rattle.file_tree.specs.declared.call.Held.{Held}
-use Rattle.file_tree.specs.declared.entry.Entry.{Entry}
-use Rattle.file_tree.specs.declared.entry.EntryKind.TheVariants as kind
+use Rattle.tree_reading.specs.Chain.{◌>>=◌}
+use Rattle.tree_reading.specs.Names.{spelt, undotted}
+use Rattle.tree_reading.specs.Tree.{Tree, is_directory, directory_of, directory_or, or_no_entry}
+use Rattle.tree_plans.specs.Plans.{create_plan, create_mode, create_found, may_create, may_mkdir, rmdir_plan, may_rmdir, or_not_empty, remove_done, gone_entry, made_entry, name_entry, nothing, one, spared}
+use Rattle.file_tree.specs.Step.{create, created as create_made, mkdir, mkdir_if, remove, rename, rmdir, remove_if, removed, made, new_file, new_directory}
+use Rattle.tree_plans.specs.declared.call.Changed.{Changed}
+use Rattle.tree_plans.specs.declared.call.CreateMode.TheVariants as mode
+use Rattle.tree_plans.specs.declared.call.Held.{Held}
+use Rattle.tree_plans.specs.declared.entry.Entry.{Entry}
+use Rattle.tree_plans.specs.declared.entry.EntryKind.TheVariants as kind
 use Rattle.tree_calls.specs.Telling.{id_of, or_bad_handle}
 use Rattle.tree_calls.specs.Changing.{before, both_sides, no_side, said, with_done, made_of, created, creates, made_directory, mkdirs, removed_directory, rmdirs}
 use Rattle.tree_calls.specs.Waiting.{creates_in, mkdirs_in, rmdirs_in}
@@ -98,7 +99,7 @@ AfterAt t dir g after = ⊥
 -- it's refused and nothing is changed, or the tree's own step is made, with one entry; either way its answer ends the walk
 pub data MadeSo (t : Tree) (held : Held) (w : Walk) : Type 0 where
   refuses : (s : Status) (r : NameReply) → made_by t held w.dir w.goal ≡ (t, said (name_answer r)) → (step_by t held w.dir w.goal).1 ≡ Err s → refusal_of (name_answer r) ≡ Some s → walk_told w (name_answer r) ≡ told.Ends (ended.Refused s) → nfs_proc (name_answer r) ≡ nfs_proc (next_call w) → MadeSo t held w
-  enters : (done : Changed) (e : Entry) (r : NameReply) (after : Tree) → made_by t held w.dir w.goal ≡ (after, record { answer = name_answer r; first = Some e; second = None }) → step_by t held w.dir w.goal ≡ (after, Ok done) → done.first ≡ Some e → EntryAt t w.goal e → AfterAt t w.dir w.goal after → walk_told w (name_answer r) ≡ told.Ends ended.Done → nfs_proc (name_answer r) ≡ nfs_proc (next_call w) → MadeSo t held w
+  enters : (done : Changed) (e : Entry) (r : NameReply) (after : Tree) → made_by t held w.dir w.goal ≡ (after, record { answer = name_answer r; first = Some e; second = None }) → step_by t held w.dir w.goal ≡ (after, Ok done) → done.first ≡ Some e → done.second ≡ None → EntryAt t w.goal e → AfterAt t w.dir w.goal after → walk_told w (name_answer r) ≡ told.Ends ended.Done → nfs_proc (name_answer r) ≡ nfs_proc (next_call w) → MadeSo t held w
 
 -- a file is made where its name is free, and else it's refused
 guarded_plan : (t : Tree) (held : Held) (dir : ℕ) (name : List ℕ) (done : Changed) → create_plan t held dir name mode.Guarded ≡ Ok (Some done) → ⊥
@@ -150,7 +151,7 @@ made_so t held dir [] (goal.Make name) e = by (create_plan t held dir name mode.
     by (Ok None) is =
         let done : Changed = one t.next 1 (made_entry t.next) in
         let after : Tree = made t (new_file t dir name) in
-        enters done (made_entry t.next) (MadeFile (answer.Done (made_of (before t.nodes dir) dir after.nodes done))) after (ap (λ z. with_done (created (before t.nodes dir) dir) (create_made t dir name z)) is) (ap (create_made t dir name) is) refl refl (refl, create_in t held dir name mode.Guarded None is) refl refl
+        enters done (made_entry t.next) (MadeFile (answer.Done (made_of (before t.nodes dir) dir after.nodes done))) after (ap (λ z. with_done (created (before t.nodes dir) dir) (create_made t dir name z)) is) (ap (create_made t dir name) is) refl refl refl (refl, create_in t held dir name mode.Guarded None is) refl refl
 made_so t held dir [] (goal.MakeDir name) e = by (may_mkdir t held dir name) refl
   where
     by : (r : Result Unit Status) → may_mkdir t held dir name ≡ r → MadeSo t held (record { dir = dir; left = []; goal = goal.MakeDir name })
@@ -158,7 +159,7 @@ made_so t held dir [] (goal.MakeDir name) e = by (may_mkdir t held dir name) ref
     by (Ok u) is =
         let done : Changed = one t.next (t.changes + 1) (name_entry t.next) in
         let after : Tree = made t (new_directory t dir name) in
-        enters done (name_entry t.next) (MadeDir (answer.Done (made_of (before t.nodes dir) dir after.nodes done))) after (ap (λ z. with_done (made_directory (before t.nodes dir) dir) (mkdir_if t dir name z)) is) (ap (mkdir_if t dir name) is) refl refl (refl, mkdir_in t held dir name u is) refl refl
+        enters done (name_entry t.next) (MadeDir (answer.Done (made_of (before t.nodes dir) dir after.nodes done))) after (ap (λ z. with_done (made_directory (before t.nodes dir) dir) (mkdir_if t dir name z)) is) (ap (mkdir_if t dir name) is) refl refl refl (refl, mkdir_in t held dir name u is) refl refl
 made_so t held dir [] (goal.RemoveDir name) e = by (rmdir_plan t held dir name) refl
   where
     by : (r : Result Changed Status) → rmdir_plan t held dir name ≡ r → MadeSo t held (record { dir = dir; left = []; goal = goal.RemoveDir name })
@@ -167,7 +168,7 @@ made_so t held dir [] (goal.RemoveDir name) e = by (rmdir_plan t held dir name) 
         let f = rmdir_entry t held dir name done is in
         let same : rmdir_plan t held dir name ≡ Ok (remove_done f.0) = is ∙ ap (λ (z : Changed). Ok z) f.1 in
         let after : Tree = removed t dir f.0.id in
-        enters (remove_done f.0) (gone_entry f.0 f.0.body) (NoDir (answer.Done (both_sides (before t.nodes dir) after.nodes dir))) after (ap (λ z. with_done (removed_directory (before t.nodes dir) dir) (remove_if t dir z)) same) (ap (remove_if t dir) same) refl (gone_name f.0 f.0.body f.2) (f.0, refl, rmdir_in t held dir name done is, f.3, f.2) refl refl
+        enters (remove_done f.0) (gone_entry f.0 f.0.body) (NoDir (answer.Done (both_sides (before t.nodes dir) after.nodes dir))) after (ap (λ z. with_done (removed_directory (before t.nodes dir) dir) (remove_if t dir z)) same) (ap (remove_if t dir) same) refl refl (gone_name f.0 f.0.body f.2) (f.0, refl, rmdir_in t held dir name done is, f.3, f.2) refl refl
 made_so t held dir left g e = absurd cc
 
 pub made_walk : (t : Tree) (held : Held) (w : Walk) → is_building w ≡ true → MadeSo t held w

@@ -1,5 +1,5 @@
 -- What holds of a call and of an answer on its way, if its owner waits for it.
-use Rattle.std.proofs.Common.{◌≡◌, refl, ap, ◌∙◌, ℕ, suc, ◌+◌, ◌<◌, ◌≤◌, List, [], ◌∷◌, ◌⊎◌, Option, Some, None, Ok, Bool, true, false, length, take, drop}
+use Rattle.std.proofs.Common.{◌≡◌, ap, ◌∙◌, ℕ, suc, ◌+◌, ◌<◌, ◌≤◌, List, [], ◌∷◌, ◌++◌, ◌⊎◌, Option, Some, None, Ok, Bool, true, false, length, take, drop}
 use Rattle.hash_calls.specs.declared.call.Leased.{Leased}
 use Rattle.xdr_codec.specs.declared.status.Status.TheVariants as status
 use Rattle.hash_calls.specs.declared.message.Lb.TheVariants as lb
@@ -19,15 +19,17 @@ use Rattle.kept_promise.proofs.Makings.{step_by}
 use Rattle.kept_promise.proofs.Goings.{RefusedAs}
 use Rattle.tree_calls.specs.declared.asked.Asked.{Asked}
 use Rattle.tree_calls.specs.declared.asked.Asked.TheVariants as asked
-use Rattle.file_tree.specs.declared.call.Changed.{Changed as TreeChange}
-use Rattle.file_tree.specs.declared.call.Held.{Held}
+use Rattle.tree_plans.specs.declared.call.Changed.{Changed as TreeChange}
 use Rattle.path_calls.specs.Told.{walk_told}
 use Rattle.path_calls.specs.declared.answers.Ended.TheVariants as walk_end
 use Rattle.path_calls.specs.declared.answers.Told.TheVariants as leading
 use Rattle.register_model.specs.declared.op.Word.TheVariants as words
 use Rattle.tree_nodes.specs.declared.node.Node.{Node}
-use Rattle.file_tree.specs.Tree.{directory_of}
-use Rattle.trace_replay.specs.Causes.{TakesCall}
+use Rattle.tree_reading.specs.Tree.{directory_of}
+use Rattle.server_core.specs.Closing.{entries_by}
+use Rattle.wire.specs.Parse.{parse_of}
+use Rattle.trace_ends.specs.Core.{Event.Serves, server_waiting}
+use Rattle.trace_replay.specs.OwnCalls.{TakesCall, ComesTo, held_at}
 use Rattle.trace_replay.specs.Naming.{tree_at, entry_file, refusal_of}
 use Rattle.trace_replay.specs.Trail.{Moment, step_of}
 use Rattle.kept_promise.proofs.Common.{handle_bytes, Body, slice_get, cond, Status, Collides, ◌==◌, Contains, chunk_bytes, end_of, chunks_of, Chunk, Answer, Done, Failed, Attr, Committed, Hashes, HashRange, Piece, Range, hashes_of, piece_of, told_chunks, File, read_at, Fetch, ReadCall, Stage, Store, StoreCall, Task, Value, Op, Word, TakenCall, Seat, taken_at, hashed_of, sha1, Book, Or, value_at, version_at, Tried, Call, Call.Lease, Call.Hash, Call.Read, Call.Make, Call.Name, Call.Send, Call.Commit, Reply, Reply.Versioned, Reply.Hashed, Reply.Bytes, Reply.Changed, Ask, Told, Wanted, Call.Walks, Reply.Walked, name_answer, numbered, happens, changes}
@@ -265,18 +267,38 @@ pub record RefusesWalk (at : Moment) (closing : Option ℕ) (j : Job) (o : Op) (
   pub leads : walk_told w m ≡ leading.Ends (walk_end.Refused why)
   pub unmade : UnmadeBy (is_creating w) closing j o
 
--- or the tree's own step was made
-pub record MakesWalk (at : Moment) (step : ℕ) (closing : Option ℕ) (j : Job) (o : Op) (w : Walk) (m : Nfs) : Type 0 where
+-- a walk's call was taken on this session, and its client had this job then, which waited for the answer
+pub record IsTakenFor (book : Book) (client : ℕ) (j : Job) (session xid : ℕ) (w : Walk) : Type 0 where
+  pub at : Moment
+  pub noted : Contains book.moments at
+  pub past : step_of at ≤ book.steps
+  pub now : ℕ
+  pub bytes : List ℕ
+  pub event_is : at.event ≡ Serves session now bytes
+  pub parsed : parse_of server_waiting bytes ≡ Ok (message.Call xid (body.Nfs (next_call w)))
+  pub seat : Seat
+  pub seat_is : numbered at.before.seats client ≡ Some seat
+  pub newest : seat.session ≡ Some session
+  pub job_is : job seat ≡ Some j
+  pub stage_is : j.stage ≡ stage.Walking xid w
+
+-- or the tree's own step was made, as that was taken, or once it had waited
+pub record MakesWalk (book : Book) (at : Moment) (step : ℕ) (closing : Option ℕ) (j : Job) (o : Op) (w : Walk) (m : Nfs) : Type 0 where
   pub making : is_making w ≡ true
-  pub held : Held
+  pub session : ℕ
+  pub xid : ℕ
+  pub taken : IsTakenFor book o.client j session xid w
+  pub comes : ComesTo at session xid (step_of taken.at)
+  pub before : step_of taken.at ≤ step
   pub done : TreeChange
-  pub step_is : (step_by (tree_at at) held w.dir w.goal).1 ≡ Ok done
-  pub tree_is : (happens at.before at.event).core.server.tree ≡ (step_by (tree_at at) held w.dir w.goal).0
+  pub step_is : (step_by (tree_at at) (held_at at) w.dir w.goal).1 ≡ Ok done
+  pub tree_is : (happens at.before at.event).core.server.tree ≡ (step_by (tree_at at) (held_at at) w.dir w.goal).0
+  pub journal_is : (happens at.before at.event).core.server.journal ≡ at.before.server.journal ++ entries_by session done.first done.second
   pub leads : walk_told w m ≡ leading.Ends walk_end.Done
   pub pointed : PointedBy (is_creating w) closing j o step (entry_file done.first)
 
 abbrev pub WalkCame : Book → (at : Moment) → (step : ℕ) → (closing : Option ℕ) → Job → Op → Walk → Nfs → Type 0
-WalkCame book at step closing j o w m = TellsWalk book at step w m ⊎ (RefusesWalk at closing j o w m ⊎ MakesWalk at step closing j o w m)
+WalkCame book at step closing j o w m = TellsWalk book at step w m ⊎ (RefusesWalk at closing j o w m ⊎ MakesWalk book at step closing j o w m)
 
 -- the call of a walk with this xid was taken within the job's operation, at a moment at which the server's tree told this of it, or this came of it
 pub record WalkTold (book : Book) (taken : List TakenCall) (closing : Option ℕ) (j : Job) (xid : ℕ) (w : Walk) (m : Nfs) : Type 0 where
@@ -296,9 +318,10 @@ pub record WalkTold (book : Book) (taken : List TakenCall) (closing : Option ℕ
   -- it was sent in that step
   pub session : ℕ
   pub sent : Contains (happens at.before at.event).down (record { session = session; message = message.Answer xid (body.Nfs m) })
-  -- and the client had this job then
+  -- and the client, which was at this session, had this job then
   pub seat : Seat
   pub seat_is : numbered at.before.seats op.client ≡ Some seat
+  pub newest : seat.session ≡ Some session
   pub job_is : job seat ≡ Some j
   -- of this operation
   pub then_op : Op
@@ -403,16 +426,12 @@ abbrev pub walk_for : Asked → Walk
 walk_for (asked.Remove r) = record { dir = r.spot.dir; left = []; goal = goal.Remove r.spot.name }
 walk_for (asked.Rename r) = record { dir = r.to.dir; left = []; goal = goal.RenameTo r.from.dir r.from.name r.to.name }
 
-pub asks_for : (a : Asked) → AsksFor (walk_for a) a
-asks_for (asked.Remove r) = (refl, refl, refl)
-asks_for (asked.Rename r) = (refl, refl, refl)
-
 pub walk_is : (w : Walk) (a : Asked) → AsksFor w a → w ≡ walk_for a
 walk_is w (asked.Remove r) h = ap (λ (l : List (List ℕ)). record w { left = l }) h.0 ∙ ap (λ (g : Goal). record { dir = w.dir; left = []; goal = g }) h.1 ∙ ap (λ (d : ℕ). record { dir = d; left = []; goal = goal.Remove r.spot.name }) h.2
 walk_is w (asked.Rename r) h = ap (λ (l : List (List ℕ)). record w { left = l }) h.0 ∙ ap (λ (g : Goal). record { dir = w.dir; left = []; goal = g }) h.1 ∙ ap (λ (d : ℕ). record { dir = d; left = []; goal = goal.RenameTo r.from.dir r.from.name r.to.name }) h.2
 
 -- A remove, or a rename over a file, waits: it is that of the operation which the session remembers, which may still take effect.
-pub record IsGoing (book : Book) (closing : Option ℕ) (cut : Bool) (job : Option Job) (xid : ℕ) (a : Asked) : Type 0 where
+pub record IsGoing (book : Book) (session : ℕ) (closing : Option ℕ) (cut : Bool) (job : Option Job) (xid : ℕ) (a : Asked) : Type 0 where
   pub place : ℕ
   pub known : closing ≡ Some place
   pub op : Op
@@ -422,11 +441,13 @@ pub record IsGoing (book : Book) (closing : Option ℕ) (cut : Bool) (job : Opti
   pub file_is : op.file ≡ 0
   -- as long as the owner is at this session, it waits for it
   pub waited : cut ≡ false → (w : Walk) × (job ≡ Some (record { place = place; file = 0; stage = stage.Walking xid w })) × AsksFor w a
+  -- and waited for it when the call was taken
+  pub taken : cut ≡ false → IsTakenFor book op.client (record { place = place; file = 0; stage = stage.Walking xid (walk_for a) }) session xid (walk_for a)
 
 -- a change that waits
-abbrev pub WaitsFor : Book → (closing : Option ℕ) → (cut : Bool) → Option Job → (xid file : ℕ) → Wanted → Type 0
-WaitsFor book closing cut job xid file (wanted.Content content) = IsPending book closing cut job xid file content
-WaitsFor book closing cut job xid file (wanted.Asked a) = IsGoing book closing cut job xid a
+abbrev pub WaitsFor : Book → (session : ℕ) → (closing : Option ℕ) → (cut : Bool) → Option Job → (xid file : ℕ) → Wanted → Type 0
+WaitsFor book session closing cut job xid file (wanted.Content content) = IsPending book closing cut job xid file content
+WaitsFor book session closing cut job xid file (wanted.Asked a) = IsGoing book session closing cut job xid a
 
 -- A call that may change a file is on its way: it is that of the operation which the session remembers, which may still take effect.
 pub record IsCreating (book : Book) (closing : Option ℕ) (cut : Bool) (job : Option Job) (xid : ℕ) (w : Walk) : Type 0 where

@@ -9,7 +9,8 @@ use Rattle.xdr_codec.specs.declared.status.Status.TheVariants as status
 use Rattle.chunk_index.specs.Index.{key_of as digest_key, place_of}
 use Rattle.server_core.specs.State as server
 use Rattle.temp_files.specs.Pieces.{overlaps}
-use Rattle.server_core.specs.Closing.{answers, sends, cond_most, looked_up, settles as server_settles}
+use Rattle.server_core.specs.Closing.{answers, sends, looked_up, settles as server_settles}
+use Rattle.chunk_calls.specs.Writing.{cond_most}
 use Rattle.server_core.specs.declared.event.Sent.{Sent}
 use Rattle.server_core.specs.declared.event.Told.{Told as Announced}
 use Rattle.server_core.specs.declared.event.Told.TheVariants as announced

@@ -4,62 +4,34 @@ use Rattle.std.specs.List.{AllByRecursion}
 use Rattle.std.proofs.lemmas.Bool.Decides.{nat_tests}
 use Rattle.limits.specs.declared.TheConstants.{LISTING_MOST}
 use Rattle.xdr_codec.specs.Handle.{handle_bytes}
-use Rattle.xdr_codec.specs.Status.{status_number}
 use Rattle.xdr_codec.specs.declared.status.Status.{Status}
 use Rattle.xdr_codec.specs.declared.status.Status.TheVariants as status
 use Rattle.nfs3_calls.specs.declared.listing.Entry.{Entry}
 use Rattle.nfs3_calls.specs.declared.listing.Listing.{Listing}
 use Rattle.tree_nodes.specs.declared.node.Node.{Node}
 use Rattle.tree_nodes.specs.Nodes.{with_id, named, names}
-use Rattle.file_tree.specs.Chain.{◌>>=◌}
-use Rattle.file_tree.specs.Names.{is_dot_dot, is_misspelt, spelt}
-use Rattle.file_tree.specs.Tree.{is_directory, or_stale, node_of, directory_of, directory_or, or_no_entry}
-use Rattle.file_tree.specs.Reading.{attr_of, attr, looked, lookup, above, entry_size, page, is_too_small, listing_of, listed, is_bad_cookie, list}
+use Rattle.tree_reading.specs.Chain.{◌>>=◌}
+use Rattle.tree_reading.specs.Names.{is_dot_dot, is_misspelt, spelt}
+use Rattle.tree_reading.specs.Tree.{or_stale, node_of, directory_of, or_no_entry}
+use Rattle.tree_reading.specs.Reading.{attr_of, attr, looked, lookup, above, entry_size, page, is_too_small, listing_of, listed, is_bad_cookie, list}
 use Rattle.file_tree.proofs.Limits.{all_filter}
 use Rattle.tree_calls.specs.Telling.{found, found_of, id_of, or_bad_handle, getattr, listing}
 use Rattle.path_calls.specs.Walk.{place}
 use Rattle.trace_replay.specs.Complete.{IsPathRefused, IsNameRefused}
 use Rattle.kept_promise.proofs.Common.{Contains-push}
+use Rattle.kept_promise.proofs.Checks.{FailsBy, done, fails, chain, directory_fails, spelt_fails}
 use Rattle.kept_promise.proofs.Rooted.{IsShort}
 use Rattle.kept_promise.proofs.TreeWalks.{own_handle, IsUndotted}
 use Rattle.kept_promise.proofs.NamesSpelled.{all_drop}
 
--- it is refused so, if it is
-abbrev pub RefusedAs : {A : Type 0} → (ℕ → Type 0) → Result A Status → Type 0
-RefusedAs P r = (s : Status) → r ≡ Err s → P (status_number s)
-
+-- by what a path is found to be
 abbrev pub Refuses : {A : Type 0} → Result A Status → Type 0
-Refuses r = RefusedAs IsPathRefused r
-
-module _ (P : ℕ → Type 0) where
-  done : {A : Type 0} (x : A) → RefusedAs P (Ok x)
-  done x s e = absurd cc
-
-  fails : {A : Type 0} (t : Status) → P (status_number t) → RefusedAs {A = A} P (Err t)
-  fails {A = A} t h s e = subst (λ (z : Status). P (status_number z)) (same e) h
-    where
-      same : ◌≡◌ {A = Result A Status} (Err t) (Err s) → t ≡ s
-      same e = cc
-
-  chain : {A B : Type 0} (r : Result A Status) (f : A → Result B Status) → RefusedAs P r → ((x : A) → RefusedAs P (f x)) → RefusedAs P (r >>= f)
-  chain (Ok x) f h g = g x
-  chain (Err t) f h g = fails t (h t refl)
+Refuses r = FailsBy IsPathRefused r
 
 -- ---- the directory, and the name in it
 
-node_refused : (nodes : List Node) (id : ℕ) → Refuses (node_of nodes id)
-node_refused nodes id = by (with_id nodes id)
-  where
-    by : (o : Option Node) → Refuses (or_stale o)
-    by None = fails IsPathRefused status.Stale (inr (inr refl))
-    by (Some n) = done IsPathRefused n
-
 directory_refused : (nodes : List Node) (id : ℕ) → Refuses (directory_of nodes id)
-directory_refused nodes id = chain IsPathRefused (node_of nodes id) (directory_or status.NotDir) (node_refused nodes id) (λ n. by n (is_directory n.body))
-  where
-    by : (n : Node) (b : Bool) → Refuses (if b then Ok n else Err status.NotDir)
-    by n true = done IsPathRefused n
-    by n false = fails IsPathRefused status.NotDir (inr (inl refl))
+directory_refused nodes id = directory_fails IsPathRefused nodes id (inr (inl refl)) (inr (inr refl))
 
 looked_refused : (nodes : List Node) (d : Node) (name : List ℕ) → IsUndotted name → Refuses (looked nodes d name)
 looked_refused nodes d name plain =
@@ -70,15 +42,9 @@ looked_refused nodes d name plain =
     by None = fails IsPathRefused status.NoEnt (inl refl)
     by (Some n) = done IsPathRefused n
 
-spelt_refused : (name : List ℕ) → length name ≤ 255 → is_misspelt name ≡ false → Refuses (spelt name)
-spelt_refused name short right =
-    let not_long : nat_lt 255 (length name) ≡ false = grind (arith, nat_tests, short) in
-    subst (λ (b : Bool). Refuses (if b then Err status.NameTooLong else (if is_misspelt name then Err status.Acces else Ok tt))) (sym not_long)
-    (subst (λ (b : Bool). Refuses (if b then Err status.Acces else Ok tt)) (sym right) (done IsPathRefused tt))
-
 -- a handle of its own is one
-own_id : (P : ℕ → Type 0) (dir : ℕ) → dir < 18446744073709551616 → RefusedAs P (id_of (handle_bytes dir))
-own_id P dir small = subst (λ (o : Option ℕ). RefusedAs P (or_bad_handle o)) (sym (own_handle dir small)) (done P dir)
+own_id : (P : ℕ → Type 0) (dir : ℕ) → dir < 18446744073709551616 → FailsBy P (id_of (handle_bytes dir))
+own_id P dir small = subst (λ (o : Option ℕ). FailsBy P (or_bad_handle o)) (sym (own_handle dir small)) (done P dir)
 
 pub found_refused : (nodes : List Node) (dir : ℕ) (name : List ℕ) → dir < 18446744073709551616 → IsUndotted name → length name ≤ 255 → is_misspelt name ≡ false → Refuses (found nodes (place dir name))
 found_refused nodes dir name small plain short right =
@@ -86,7 +52,7 @@ found_refused nodes dir name small plain short right =
     (λ d. chain IsPathRefused (lookup nodes d name) (λ l. Ok (found_of l)) (looks d) (λ l. done IsPathRefused (found_of l)))
   where
     looks : (d : ℕ) → Refuses (lookup nodes d name)
-    looks d = chain IsPathRefused (directory_of nodes d) _ (directory_refused nodes d) (λ n. chain IsPathRefused (spelt name) _ (spelt_refused name short right) (λ u. chain IsPathRefused (looked nodes n name) _ (looked_refused nodes n name plain) (λ m. done IsPathRefused _)))
+    looks d = chain IsPathRefused (directory_of nodes d) _ (directory_refused nodes d) (λ n. chain IsPathRefused (spelt name) _ (spelt_fails IsPathRefused name short right) (λ u. chain IsPathRefused (looked nodes n name) _ (looked_refused nodes n name plain) (λ m. done IsPathRefused _)))
 
 -- ---- the root's attributes
 
@@ -95,10 +61,10 @@ abbrev pub Never : ℕ → Type 0
 Never status = ⊥
 
 -- those of a node that is there
-pub attr_refused : (nodes : List Node) (id : ℕ) → id < 18446744073709551616 → IsSome (with_id nodes id) → RefusedAs Never (getattr nodes (handle_bytes id))
-attr_refused nodes id small there = subst (λ (o : Option ℕ). RefusedAs Never (or_bad_handle o >>= λ i. attr nodes i)) (sym (own_handle id small)) (chain Never (node_of nodes id) (λ n. Ok (attr_of nodes n)) (by (with_id nodes id) there) (λ n. done Never (attr_of nodes n)))
+pub attr_refused : (nodes : List Node) (id : ℕ) → id < 18446744073709551616 → IsSome (with_id nodes id) → FailsBy Never (getattr nodes (handle_bytes id))
+attr_refused nodes id small there = subst (λ (o : Option ℕ). FailsBy Never (or_bad_handle o >>= λ i. attr nodes i)) (sym (own_handle id small)) (chain Never (node_of nodes id) (λ n. Ok (attr_of nodes n)) (by (with_id nodes id) there) (λ n. done Never (attr_of nodes n)))
   where
-    by : (o : Option Node) → IsSome o → RefusedAs Never (or_stale o)
+    by : (o : Option Node) → IsSome o → FailsBy Never (or_stale o)
     by None h = absurd cc
     by (Some n) h = done Never n
 
@@ -128,11 +94,11 @@ entry_there room cookie (n ∷ ns) all large =
     by true e = ap (λ (t : Bool). not (length (n ∷ ns) == 0) && t) (some_entry (record { fileid = n.id; name = n.name; cookie = cookie + 1 }) (page (room - entry_size n.name) (cookie + 1) ns)) ∙ none_small (not (length (n ∷ ns) == 0))
     by false e = absurd cc
 
-listed_refused : (nodes : List Node) (d : Node) (cookie room : ℕ) → AllByRecursion IsShort nodes → 386 ≤ room → RefusedAs IsPageRefused (listed nodes d cookie room)
+listed_refused : (nodes : List Node) (d : Node) (cookie room : ℕ) → AllByRecursion IsShort nodes → 386 ≤ room → FailsBy IsPageRefused (listed nodes d cookie room)
 listed_refused nodes d cookie room short large =
     let fits : nat_lt room 104 ≡ false = grind (arith, nat_tests, large) in
-    subst (λ (b : Bool). RefusedAs IsPageRefused (if b then Err status.TooSmall else listing_of nodes d left (page (room - 104) cookie left))) (sym fits)
-    (subst (λ (b : Bool). RefusedAs IsPageRefused (if b then Err status.TooSmall else Ok whole))
+    subst (λ (b : Bool). FailsBy IsPageRefused (if b then Err status.TooSmall else listing_of nodes d left (page (room - 104) cookie left))) (sym fits)
+    (subst (λ (b : Bool). FailsBy IsPageRefused (if b then Err status.TooSmall else Ok whole))
     (sym (entry_there (room - 104) cookie left (all_drop IsShort cookie (names nodes d.id) (all_filter IsShort (λ n. n.parent == d.id) nodes short)) (omega (arith, large)))) (done IsPageRefused whole))
   where
     left : List Node
@@ -141,11 +107,11 @@ listed_refused nodes d cookie room short large =
     whole : Listing
     whole = record { attr = Some (attr_of nodes d); verifier = d.version; entries = page (room - 104) cookie left; eof = length (page (room - 104) cookie left) == length left }
 
-pub page_refused : (nodes : List Node) (dir cookie verifier : ℕ) → dir < 18446744073709551616 → AllByRecursion IsShort nodes → RefusedAs IsPageRefused (listing nodes (record { dir = handle_bytes dir; cookie = cookie; verifier = verifier; count = LISTING_MOST }))
+pub page_refused : (nodes : List Node) (dir cookie verifier : ℕ) → dir < 18446744073709551616 → AllByRecursion IsShort nodes → FailsBy IsPageRefused (listing nodes (record { dir = handle_bytes dir; cookie = cookie; verifier = verifier; count = LISTING_MOST }))
 page_refused nodes dir cookie verifier small short =
     chain IsPageRefused (id_of (handle_bytes dir)) (λ d. list nodes d cookie verifier LISTING_MOST) (own_id IsPageRefused dir small)
     (λ d. chain IsPageRefused (directory_of nodes d) (λ n. if is_bad_cookie nodes n cookie verifier then Err status.BadCookie else listed nodes n cookie (min LISTING_MOST 65536)) (λ s e. inl (directory_refused nodes d s e)) (λ n. by n (is_bad_cookie nodes n cookie verifier)))
   where
-    by : (n : Node) (b : Bool) → RefusedAs IsPageRefused (if b then Err status.BadCookie else listed nodes n cookie (min LISTING_MOST 65536))
+    by : (n : Node) (b : Bool) → FailsBy IsPageRefused (if b then Err status.BadCookie else listed nodes n cookie (min LISTING_MOST 65536))
     by n true = fails IsPageRefused status.BadCookie (inr (Contains-push [] 10003))
     by n false = listed_refused nodes n cookie (min LISTING_MOST 65536) short (omega arith)

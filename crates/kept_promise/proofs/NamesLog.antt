@@ -1,5 +1,5 @@
 -- What is said for a walk: calls on names and their answers, which count nothing of files.
-use Rattle.std.proofs.Common.{◌≡◌, ℕ, ◌+◌, List, [], ◌∷◌, ◌++◌, None, true, false, ◌==◌, refl, sym, ap, ◌∙◌, subst, arith, append-nil}
+use Rattle.std.proofs.Common.{◌≡◌, ℕ, List, [], ◌∷◌, ◌++◌, None, true, false, ◌==◌, refl, sym, ap, ◌∙◌, subst, arith, append-nil}
 use Rattle.nfs3_calls.specs.Nfs.{nfs_proc, proc_number}
 use Rattle.nfs3_calls.specs.declared.message.Nfs.{Nfs}
 use Rattle.nfs3_calls.specs.declared.message.Nfs.TheVariants as nfs

@@ -32,12 +32,13 @@ use Rattle.tree_nodes.specs.declared.node.Node.{Node}
 use Rattle.tree_nodes.specs.declared.node.Body.{Body}
 use Rattle.tree_nodes.specs.declared.node.Body.TheVariants.{Directory, File}
 use Rattle.tree_nodes.specs.Nodes.{with_id, named, names, without}
-use Rattle.file_tree.specs.Chain.{◌>>=◌}
-use Rattle.file_tree.specs.Names.{is_dot_dot, spelt}
-use Rattle.file_tree.specs.Tree.{Tree, content_of, directory_of, directory_or, is_directory, node_of, or_stale, or_no_entry}
-use Rattle.file_tree.specs.View.{IsNodeBounded, AreIdsApart}
-use Rattle.file_tree.specs.Reading.{attr_of, attr_body, attr, time_of, looked, lookup, found_of, above, entry_size, page, is_too_small, listing_of, listed, is_bad_cookie, list}
-use Rattle.file_tree.proofs.Found.{named_bounded, id_bounded}
+use Rattle.tree_reading.specs.Chain.{◌>>=◌}
+use Rattle.tree_reading.specs.Names.{is_dot_dot, spelt}
+use Rattle.tree_reading.specs.Tree.{Tree, content_of, directory_of, directory_or, is_directory, node_of, or_stale, or_no_entry}
+use Rattle.tree_reading.specs.View.{IsNodeBounded}
+use Rattle.file_tree.specs.View.{AreIdsApart}
+use Rattle.tree_reading.specs.Reading.{attr_of, attr_body, attr, time_of, looked, lookup, found_of, above, entry_size, page, is_too_small, listing_of, listed, is_bad_cookie, list}
+use Rattle.tree_reading.proofs.Found.{named_bounded, id_bounded}
 use Rattle.file_tree.proofs.Limits.{all_map, all_filter, apart_without, bounds}
 use Rattle.tree_calls.specs.Telling.{id_of, getattr, found, found_of as told_of, listing, answer_of}
 use Rattle.server_law.proofs.TreeCalls.{bind_ok, ok_is}

@@ -7,7 +7,7 @@ use Rattle.hash_calls.specs.declared.message.Lb.TheVariants as lb
 use Rattle.wire.specs.declared.message.Body.TheVariants as body
 use Rattle.wire.specs.declared.message.Message.TheVariants as message
 use Rattle.client_state.specs.State as client
-use Rattle.trace_replay.specs.Causes.{WaitsFor}
+use Rattle.trace_replay.specs.OwnCalls.{WaitsFor}
 use Rattle.client_state.specs.declared.task.Stage.TheVariants as stage
 use Rattle.client_state.specs.declared.task.Way.TheVariants as way
 use Rattle.register_model.specs.declared.op.Word.TheVariants as words

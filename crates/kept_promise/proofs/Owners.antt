@@ -2,10 +2,10 @@
 use Rattle.std.proofs.Common.{◌≡◌, ℕ, zero, suc, List, [], ◌∷◌, ◌++◌, length, Option, Some, None, Bool, true, false, refl, sym, ap, ◌∙◌, Result, Ok, Err, map, take}
 use Rattle.trace_text.specs.declared.line.Who.TheVariants as who
 use Rattle.client_state.specs.State as client
-use Rattle.trace_replay.specs.Core.{with_client, adjusted}
+use Rattle.trace_ends.specs.Core.{with_client, adjusted}
 use Rattle.trace_replay.specs.World.{adjusts}
-use Rattle.trace_replay.specs.declared.adjusting.Adjustment.{Adjustment}
-use Rattle.trace_replay.specs.declared.adjusting.Adjustment.TheVariants as adjustment
+use Rattle.trace_ends.specs.declared.adjusting.Adjustment.{Adjustment}
+use Rattle.trace_ends.specs.declared.adjusting.Adjustment.TheVariants as adjustment
 use Rattle.trace_replay.specs.declared.stage.Stage.{Stage}
 use Rattle.trace_replay.specs.declared.stage.Stage.TheVariants as stage
 use Rattle.trace_replay.specs.declared.turn.Turn.TheVariants as turn

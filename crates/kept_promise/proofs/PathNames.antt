@@ -3,7 +3,7 @@ use Rattle.std.proofs.Common.{◌≡◌, ◌⊎◌, inl, inr, ℕ, zero, suc, �
 use Rattle.std.specs.Prelude.{codes, bytes_eq, slice_index_or}
 use Rattle.std.specs.List.{AllByRecursion, list_all, list_any}
 use Rattle.std.proofs.lemmas.Bool.Decides.{nat_tests}
-use Rattle.file_tree.specs.Names.{is_misspelt}
+use Rattle.tree_reading.specs.Names.{is_misspelt}
 use Rattle.command_text.specs.Fields.{is_letter, is_text, is_name, name_of}
 use Rattle.command_text.specs.Parts.{cut_at}
 use Rattle.command_text.specs.Paths.{names_of, within_path, names_in, spot_at, spot_in, spot_of, path_of}
@@ -13,7 +13,7 @@ use Rattle.command_text.specs.declared.command.Command.TheVariants as command
 use Rattle.command_text.specs.declared.path.PathCommand.{PathCommand}
 use Rattle.command_text.specs.declared.path.PathCommand.TheVariants as path
 use Rattle.command_text.specs.declared.path.Spot.{Spot}
-use Rattle.trace_replay.specs.Commands.{file_of}
+use Rattle.trace_ops.specs.Commands.{file_of}
 use Rattle.path_calls.specs.declared.walk.Goal.{Goal}
 use Rattle.path_calls.specs.declared.walk.Goal.TheVariants as goal
 use Rattle.path_calls.specs.declared.walk.Walk.{Walk}
@@ -144,10 +144,6 @@ abbrev pub IsSmall : Command → Type 0
 IsSmall (command.Named k) = HasNames k
 IsSmall d = file_of d < 18446744073709551616
 
-pub file_small : (d : Command) → IsSmall d → file_of d < 18446744073709551616
-file_small (command.Named k) h = omega arith
-file_small d h = h
-
 -- its id has a number of 64 bits, or its names are names
 abbrev pub IsPlain : Command → Type 0
 IsPlain (command.Named k) = HasNames k
@@ -232,22 +228,6 @@ begun_named (path.MakeDir s) h = h
 begun_named (path.Remove s) h = h
 begun_named (path.RemoveDir s) h = h
 begun_named (path.Rename s t) h = arrives_named 1 s.dirs (goal.RenameFrom s.name t) h.0.0 (h.0.1, h.1)
-
-goal_short : (g : Goal) → IsGoalNamed g → goal_left g ≤ 900000
-goal_short (goal.List p) aim = omega arith
-goal_short (goal.RenameFrom n to) aim = let few = aim.1.0.1 in omega (arith, few)
-goal_short (goal.Find n) aim = omega arith
-goal_short (goal.Look n) aim = omega arith
-goal_short goal.LookRoot aim = omega arith
-goal_short (goal.Make n) aim = omega arith
-goal_short (goal.MakeDir n) aim = omega arith
-goal_short (goal.Remove n) aim = omega arith
-goal_short (goal.RemoveDir n) aim = omega arith
-goal_short (goal.RenameTo from n to) aim = omega arith
-
--- a walk never sends many calls
-pub walk_short : (w : Walk) → IsWalkNamed w → calls_left w ≤ 900064
-walk_short w h = let few = h.0.1 in let short = goal_short w.goal h.1 in omega (arith, few, short)
 
 -- ---- what a walk that is under way is
 

@@ -1,10 +1,10 @@
 -- The promise, of every trace that is accepted.
-use Rattle.std.proofs.Common.{◌≡◌, ℕ, List, [], ◌∷◌, Some, refl, sym, ◌∙◌, subst, arith, Ok, ap, true}
+use Rattle.std.proofs.Common.{◌≡◌, ℕ, List, [], ◌∷◌, Some, refl, sym, ◌∙◌, subst, arith, Ok, ap}
 use Rattle.register_model.specs.declared.op.Outcome.TheVariants as told
 use Rattle.register_model.specs.declared.op.Word.TheVariants as words
 use Rattle.trace_replay.specs.Traces.{IsKeptPromise}
 use Rattle.command_text.specs.declared.command.Command.TheVariants as command
-use Rattle.kept_promise.proofs.Common.{Command, Contains-append_right, Contains-push, World, Op, slice_get, passes, run, accepted, Moment, deeds_of, moments, local_before, Deed, hashed_of, book_of, rounds, changes, deals_of}
+use Rattle.kept_promise.proofs.Common.{Command, Contains-append_right, Contains-push, World, Op, slice_get, passes, run, accepted, Moment, deeds_of, moments, local_before, Deed, hashed_of, book_of, rounds, deals_of}
 use Rattle.kept_promise.proofs.Statements.{ClocksKeepTheRule}
 use Rattle.kept_promise.proofs.Rounds.{passes_are_rounds}
 use Rattle.kept_promise.proofs.Laws.{fit_laws, kept_laws}
@@ -27,6 +27,7 @@ use Rattle.kept_promise.proofs.OpensRuns.{IsOpening, carried_opens}
 use Rattle.kept_promise.proofs.NoZero.{HaveNoZero, finds_positive}
 use Rattle.kept_promise.proofs.NoZeroRuns.{carried_no_zero}
 use Rattle.kept_promise.proofs.WalkRuns.{Walks, bare}
+use Rattle.kept_promise.proofs.OneSession.{OneSession, carried_one_session}
 use Rattle.kept_promise.proofs.WalkEvents.{WalksAt, carried_walks}
 use Rattle.kept_promise.proofs.Known.{known_by}
 use Rattle.kept_promise.proofs.Refusals.{open_refused}
@@ -86,7 +87,7 @@ Used all past opening k qs = Told all past opening k qs × (UsedAt all past open
 
 -- how far commands on names came, and what was open where their paths led
 abbrev Walked : Fact
-Walked all past opening k qs = WalksAt all past opening k qs × ((IsFollowed past k × IsOpening past k) × HaveNoZero past)
+Walked all past opening k qs = WalksAt all past opening k qs × ((IsFollowed past k × IsOpening past k) × (HaveNoZero past × OneSession past k))
 
 -- all that is carried
 abbrev More : Fact
@@ -111,8 +112,9 @@ used_carried = record {
 
 walked_carried : Carried Walked
 walked_carried =
-    carried_both WalksAt (λ all past opening k qs. (IsFollowed past k × IsOpening past k) × HaveNoZero past) (carried_walks fit_laws)
-    (carried_both (λ all past opening k qs. IsFollowed past k × IsOpening past k) (λ all past opening k qs. HaveNoZero past) (carried_opens fit_laws) carried_no_zero)
+    carried_both WalksAt (λ all past opening k qs. (IsFollowed past k × IsOpening past k) × (HaveNoZero past × OneSession past k)) (carried_walks fit_laws)
+    (carried_both (λ all past opening k qs. IsFollowed past k × IsOpening past k) (λ all past opening k qs. HaveNoZero past × OneSession past k) (carried_opens fit_laws)
+    (carried_both (λ all past opening k qs. HaveNoZero past) (λ all past opening k qs. OneSession past k) carried_no_zero (carried_one_session fit_laws)))
 
 more_carried : Carried More
 more_carried =
@@ -122,9 +124,6 @@ more_carried =
 
 -- ---- the promise of what a run leaves
 
-close_changes : (o : Op) → o.word ≡ words.Close → changes o.word ≡ true
-close_changes o close = ap changes close
-
 -- what is known of each command
 is_known : (w : World) (all : List Moment) (h : Stands More all all w) → Walks all all w.core → (k : ℕ) (d : Deed) (o : Op) → slice_get (deeds_of all) k ≡ Some d → slice_get w.core.ops k ≡ Some o → IsKnown (book_of w all) d o (local_before (deeds_of all) w.core.ops k d.client o.file)
 is_known w all h walks k d o was at =
@@ -132,7 +131,7 @@ is_known w all h walks k d o was at =
     let cause = (h.kept.sound.rights k o at).cause in
     known_by (book_of w all) (deeds_of all) k d o (deeds.each k d o was at).word cause (walks.over k d o was at) h.more.1.1.1.1.0.1.opens was at
     (λ c is late. record {
-      positive = λ s found. finds_positive (bare all) h.more.1.1.1.1.1 o s found;
+      positive = λ s found. finds_positive (bare all) h.more.1.1.1.1.1.0 o s found;
       too_long = λ p list none. begun_pages p (deals_of o all) (subst (λ (x : Command). GaveNow x o.outcome o.end o.begin (deals_of o all)) (is ∙ ap (λ z. command.Named z) list) (h.more.0.1.1.gave k d o was at) none late);
     })
     (λ f is status refused. open_refused (book_of w all) (deeds_of all) deeds.rising deeds.each deeds.count walks.before k d o was at f is cause status refused)
@@ -144,7 +143,7 @@ promise_of input w ran h =
     let versions : Versions all all w.opening w.core h.queues = h.more.0.0.1.1.0 in
     let changes : Changes all all w.opening w.core h.queues = h.more.0.0.1.1.1.0 in
     let logs : Logs all all w.opening w.core h.queues = h.more.0.0.1.1.1.1 in
-    let walks : Walks all all w.core = h.more.1.1.1.0 (runs_in_order input) (w.core.steps, steps_counted (kept_laws fit_laws) fit_laws input w ran) in
+    let walks : Walks all all w.core = h.more.1.1.1.0 (runs_in_order input) (w.core.steps, steps_counted (kept_laws fit_laws) fit_laws input w ran) h.more.1.1.1.1.1.1.each in
     record {
       faithful = record {
         opening = opening_said input w ran;

@@ -4,6 +4,7 @@ use Rattle.std.proofs.lemmas.Option.{slice_get-get_or}
 use Rattle.tree_calls.specs.declared.asked.Asked.{Asked}
 use Rattle.tree_calls.specs.declared.asked.Asked.TheVariants as asked
 use Rattle.server_core.specs.State as server
+use Rattle.chunk_calls.specs.Files as the_files
 use Rattle.server_core.specs.declared.change.Wanted.TheVariants as wanted
 use Rattle.register_model.specs.Register as register
 use Rattle.register_model.specs.Register.{Absent, IsLegal, IsApart, IsWithin, OpensWhole, FindsGone, ChangesOnce, ChangesNothing, is_opened, is_stale}
@@ -14,7 +15,6 @@ use Rattle.trace_replay.specs.Book.{AreApart}
 use Rattle.trace_replay.specs.Traces.{IsWanted, HasTarget, HoldsValues, HoldsFile, HoldsFiles, HoldsContents, HoldsValue}
 use Rattle.kept_promise.proofs.Common.{nat_tests, ◌==◌, ◌&&◌, ◌||◌, nat_lt, All, slice_get, cond, Change, File, changes, is_closed, is_untold, Op, Word, Core, Session, numbered, World, hashed_of, stored_traffic, deals_of, Moment, Book, Or, history, value_at, version_at, Queue, Wanted}
 use Rattle.kept_promise.proofs.Lists.{some_is, nothing_there, within}
-use Rattle.kept_promise.proofs.Marks.{value_is}
 use Rattle.kept_promise.proofs.Keys.{own}
 use Rattle.kept_promise.proofs.Rights.{DoneBy, Caused, RefusedBy, IsRight, IsSound, IsFitted}
 use Rattle.kept_promise.proofs.Remains.{zero_never}
@@ -30,9 +30,6 @@ pub no_fault : (book : Book) → IsSound book → (k n : ℕ) (o : Op) → slice
 no_fault book sound k n o at e = subst (Caused book o) e (sound.rights k o at).cause
 
 -- ---- legality
-
-false_is : {A : Type 0} (b : Bool) → b ≡ false → b ≡ true → A
-false_is b e f = absurd cc
 
 either_true : (a b : Bool) → (a || b) ≡ true → (a ≡ true) ⊎ (b ≡ true)
 either_true true b e = inl refl
@@ -61,7 +58,7 @@ opens_whole book o apart r = λ is_open opened. by o.outcome r.cause opened
 
 -- no file has the number 0
 none_zero : (book : Book) (s : server.State) → IsSound book → IsServer book s → (p : ℕ) → value_at book 0 p ≡ Absent
-none_zero book s sound held p = by (server.file_at s.tree 0) (held.held 0)
+none_zero book s sound held p = by (the_files.file_at s.tree 0) (held.held 0)
   where
     by : (g : Option File) → FileIs book 0 g → value_at book 0 p ≡ Absent
     by None h = zero_never book sound h p
@@ -133,7 +130,7 @@ legal_kept book k qs kept apart = record {
 -- ---- what the server holds
 
 pub holds_files : (book : Book) (w : World) (qs : List Queue) → book.steps ≡ w.core.steps → IsKept book w.core qs → HoldsFiles book w
-holds_files book w qs now kept = λ file. by file (server.file_at w.core.server.tree file) ((kept.server).held file)
+holds_files book w qs now kept = λ file. by file (the_files.file_at w.core.server.tree file) ((kept.server).held file)
   where
     by : (file : ℕ) (g : Option File) → FileIs book file g → HoldsFile book w file g (value_at book file (w.core.steps + 1))
     by file None h = subst (HoldsFile book w file None) (sym (ap (λ n. value_at book file (n + 1)) (sym now) ∙ h)) tt
@@ -214,7 +211,7 @@ held_value book w qs kept stored i c at = by c.what refl (h.pending there.0 c th
         let old = h.old place known in
         (ap (λ (l : List Op). slice_get l place) (sym kept.ops) ∙ is, sym old.2 ∙ ap (λ (z : Op). z.client) (some_is old.0 op (sym old.1 ∙ is)))
 
-    by : (what : Wanted) → c.what ≡ what → WaitsFor book home.0.closing home.0.cut (job h.seat) c.xid c.file what → HoldsValue book w c
+    by : (what : Wanted) → c.what ≡ what → WaitsFor book c.session home.0.closing home.0.cut (job h.seat) c.xid c.file what → HoldsValue book w c
     by (wanted.Content content) e p =
         let o = placed p.place p.op p.known p.there in
         record {

@@ -9,7 +9,7 @@ use Rattle.clock_rule.specs.declared.rule.Reading.TheVariants as reads
 use Rattle.clock_rule.proofs.Whole.{taken_whole}
 use Rattle.command_text.specs.declared.path.Spot.{Spot}
 use Rattle.trace_text.specs.declared.line.Line.TheVariants as line
-use Rattle.trace_replay.specs.declared.adjusting.Adjustment.TheVariants as adjustment
+use Rattle.trace_ends.specs.declared.adjusting.Adjustment.TheVariants as adjustment
 use Rattle.trace_replay.specs.declared.stage.Stage.{Stage}
 use Rattle.trace_replay.specs.declared.stage.Stage.TheVariants as stage
 use Rattle.trace_replay.specs.declared.timing.Timing.{Timing}

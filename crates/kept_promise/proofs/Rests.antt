@@ -67,7 +67,7 @@ session_opened book seats others s n x q c o free was is h =
       temps = h.temps;
       temps_below = λ at. let f = h.temps_below at in subst (λ (z : Seat). AllAsks (λ a. TempUnder z.client.next_temp a.call) q.ups × ((i m : ℕ) (u : ℕ × Temp) → m < 4294967296 → slice_get s.temps i ≡ Some u → u.0 ≡ key_of n m → m < z.client.next_temp)) e f;
       closes = λ at j f. nothing_there j (sym free ∙ f);
-      pending = λ i g at. subst (λ (z : Option Job). WaitsFor book x.closing x.cut z g.xid g.file g.what) jobs (h.pending i g at);
+      pending = λ i g at. subst (λ (z : Option Job). WaitsFor book g.session x.closing x.cut z g.xid g.file g.what) jobs (h.pending i g at);
       single = h.single;
       old = h.old;
       orderly = λ at. orderly_free book n s.temps x.hung q h.seat (with_opened c o) (none_free (job h.seat) (jobs ∙ free)) (none_free (job c) free) (h.orderly at);

@@ -2,11 +2,12 @@
 use Rattle.std.proofs.Common.{◌≡◌, ◌⊎◌, ℕ, ◌+◌, ◌<◌, ◌≤◌, List, length, Some, None, Bool, true, false, IsSome, refl}
 use Rattle.path_calls.specs.declared.walk.Walk.{Walk}
 use Rattle.server_core.specs.State as server
+use Rattle.chunk_calls.specs.Files as the_files
 use Rattle.client_state.specs.declared.task.Stage.TheVariants as stage
 use Rattle.register_model.specs.declared.op.Outcome.{Outcome}
 use Rattle.register_model.specs.declared.op.Outcome.TheVariants as told
 use Rattle.register_model.specs.declared.op.Word.TheVariants as words
-use Rattle.file_tree.specs.declared.entry.EntryKind.{EntryKind}
+use Rattle.tree_plans.specs.declared.entry.EntryKind.{EntryKind}
 use Rattle.register_model.specs.Register.{succeeded, IsFit}
 use Rattle.trace_replay.specs.Causes.{HasNoRoom, IsGone, Within}
 use Rattle.trace_replay.specs.Faithful.{IsKind, left_by, HasJournal}
@@ -127,7 +128,7 @@ IsMade book place v = (o : Op) × (p : ℕ) × (slice_get book.ops place ≡ Som
 pub record IsHeld (moments : List Moment) (f : ℕ) (g : File) : Type 0 where
   pub at : Moment
   pub there : Contains moments at
-  pub held : server.file_at at.before.server.tree f ≡ Some g
+  pub held : the_files.file_at at.before.server.tree f ≡ Some g
 
 -- in one version a file has one content
 abbrev pub AreAlike : List Moment → Type 0

@@ -11,14 +11,15 @@ use Rattle.tree_nodes.specs.declared.node.Body.{Body}
 use Rattle.tree_nodes.specs.declared.node.Body.TheVariants.{Directory, File as Plain}
 use Rattle.tree_nodes.specs.Nodes.{before, with_id, named, with_node, without, changed, versioned}
 use Rattle.tree_nodes.proofs.Lists.{with_id_without}
-use Rattle.file_tree.specs.Chain.{◌>>=◌}
-use Rattle.file_tree.specs.Names.{is_misspelt, spelt, undotted}
+use Rattle.tree_reading.specs.Chain.{◌>>=◌}
+use Rattle.tree_reading.specs.Names.{is_misspelt, spelt, undotted}
 use Rattle.file_tree.specs.Opening.{may_open, can_open, counted_at, with_change, opened, opens}
-use Rattle.file_tree.specs.Step.{removed, placed, moved_at, moved, shifted, rename_plan, rename_if, rename, replaced}
-use Rattle.file_tree.specs.declared.call.Held.{Held}
-use Rattle.file_tree.specs.declared.call.Planned.{Planned}
-use Rattle.file_tree.specs.declared.call.Planned.TheVariants as planned
-use Rattle.file_tree.specs.Tree.{Tree, is_directory, directory_of, or_taken, root as root_of}
+use Rattle.tree_plans.specs.Plans.{rename_plan}
+use Rattle.file_tree.specs.Step.{removed, placed, moved_at, moved, shifted, rename_if, rename, replaced}
+use Rattle.tree_plans.specs.declared.call.Held.{Held}
+use Rattle.tree_plans.specs.declared.call.Planned.{Planned}
+use Rattle.tree_plans.specs.declared.call.Planned.TheVariants as planned
+use Rattle.tree_reading.specs.Tree.{Tree, is_directory, directory_of, or_taken, root as root_of}
 use Rattle.file_tree.proofs.Limits.{all_map, all_with, all_filter}
 use Rattle.server_law.proofs.Trees.{IsGiven, refill, below_next, some_is}
 

@@ -1,7 +1,7 @@
 -- Rounds of deliveries: where nothing is on its way a round does nothing, so that K rounds are K times the two deliveries.
 use Rattle.std.proofs.Common.{◌≡◌, ℕ, zero, suc, List, [], ◌∷◌, ◌++◌, Option, Some, None, take, drop, refl, sym, ap, subst, ◌∙◌, arith, append-nil, Bool, true, false, map}
-use Rattle.trace_replay.specs.Core.{Loss.Made}
-use Rattle.trace_replay.specs.Delivery.{is_none}
+use Rattle.trace_ends.specs.Core.{Loss.Made}
+use Rattle.trace_sessions.specs.Queue.{is_none}
 use Rattle.trace_replay.specs.Delivery.{down_all}
 use Rattle.server_core.specs.declared.event.Sent.{Sent}
 use Rattle.kept_promise.proofs.Common.{◌&&◌, slice_get, take_all, Fed, Refusal, Unread, Parts, nothing_read, fed, Message, Session, Event, Event.Serves, Event.Hears, CoreStep, Loss, Loss.Nothing, Loss.Down_of, Loss.Up_of, numbered, happens, World, Wire, new_wire, up_put, down_lost, up_lost, lost_by, routed, happened, all_happened, up_some, down_some, is_still_at, is_still, up_length, down_length, up_all, round, passes, rounds}
@@ -172,14 +172,6 @@ rests_down w number count now r = by (numbered w.wires number) refl
 
 pub rests_round : (w : World) (number server at : ℕ) → AreRested w.wires → AreRested (round w number server at).wires
 rests_round w number server at r = rests_down (up_all w number server) number (down_length (numbered (up_all w number server).wires number)) at (rests_up w number (up_length (numbered w.wires number)) server r)
-
-pub rests_passes : (k : ℕ) (w : World) (number server at : ℕ) → AreRested w.wires → AreRested (passes k w number server at).wires
-rests_passes zero w number server at r = r
-rests_passes (suc k) w number server at r = by (is_still w number) (rests_passes k (round w number server at) number server at (rests_round w number server at r))
-  where
-    by : (b : Bool) → AreRested (passes k (round w number server at) number server at).wires → AreRested (elim b as (λ (x : Bool). World) [ true ↦ w | false ↦ passes k (round w number server at) number server at ]).wires
-    by true h = r
-    by false h = h
 
 -- ---- a round where nothing is on its way
 

@@ -12,7 +12,7 @@ use Rattle.kept_promise.proofs.RunsEvents.{Fact}
 use Rattle.kept_promise.proofs.RunsLines.{line_fits, allowed, within_lines}
 use Rattle.kept_promise.proofs.RunsTurns.{IsFirst, Before, first_stands, may_turn, before_next}
 use Rattle.kept_promise.proofs.RunsResults.{no_world, ended_is, ran_by, moments_by}
-use Rattle.file_tree.specs.Tree.{empty as root_alone}
+use Rattle.tree_reading.specs.Tree.{empty as root_alone}
 
 -- ---- the start
 

@@ -2,7 +2,7 @@
 use Rattle.std.proofs.Common.{◌≡◌, ℕ, Option, Some, None, Bool, true, false, List, Result, Ok, Err}
 use Rattle.command_text.specs.declared.path.Spot.{Spot}
 use Rattle.trace_text.specs.declared.line.Line.TheVariants as line
-use Rattle.trace_replay.specs.declared.adjusting.Adjustment.TheVariants as adjustment
+use Rattle.trace_ends.specs.declared.adjusting.Adjustment.TheVariants as adjustment
 use Rattle.trace_replay.specs.Run.{place_for, file_asks, directory_asks}
 use Rattle.trace_replay.specs.declared.stage.Stage.{Stage}
 use Rattle.trace_replay.specs.declared.stage.Stage.TheVariants as stage

@@ -1,6 +1,6 @@
 -- The two ends before the first event: the files are those of the opening tree, and nothing happened.
 use Rattle.std.proofs.Common.{◌⊎◌, inl, inr, ◌≡◌, ℕ, zero, suc, ◌+◌, ◌<◌, ◌≤◌, List, [], ◌∷◌, ◌++◌, length, Option, Some, None, Bool, true, false, refl, sym, ap, ◌∙◌, subst, arith, eq-eqb, ne_eqb, replicate}
-use Rattle.server_core.specs.State as server
+use Rattle.chunk_calls.specs.Files as the_files
 use Rattle.kept_promise.proofs.Common.{slice_get, find, option_map, cond, ◌==◌, File, content_of, Opening, Seat, new_seat, numbered, Moment, Book, Tree, can_open, nat_tests, if◌then◌else◌}
 use Rattle.kept_promise.proofs.Lists.{some_is, nothing_there, same_or_not}
 use Rattle.kept_promise.proofs.Rights.{AreAlike}
@@ -9,7 +9,7 @@ use Rattle.kept_promise.proofs.RunsCarried.{book_at, first_core}
 use Rattle.tree_nodes.specs.Nodes.{with_id}
 use Rattle.tree_nodes.specs.declared.node.Body.TheVariants.{Directory, File as Plain}
 use Rattle.file_tree.specs.Opening.{opens}
-use Rattle.file_tree.specs.Tree.{contents_size, root as root_of, empty as root_alone}
+use Rattle.tree_reading.specs.Tree.{contents_size, root as root_of, empty as root_alone}
 use Rattle.trace_replay.specs.Book.{first_version}
 use Rattle.server_law.proofs.Trees.{IsBounded, given}
 use Rattle.kept_promise.proofs.Rooted.{IsRooted, root_rooted, opens_rooted}
@@ -23,7 +23,7 @@ IsOpening opening f None = content_of opening f ≡ None
 IsOpening opening f (Some g) = (g.id ≡ f) × (1 < f) × (f < 18446744073709551616) × (content_of opening f ≡ Some g.content) × (g.version ≡ 1) × (length g.content ≤ 67108864)
 
 pub record IsTree (opening : List Opening) (t : Tree) : Type 0 where
-  pub held : (f : ℕ) → IsOpening opening f (server.file_at t f)
+  pub held : (f : ℕ) → IsOpening opening f (the_files.file_at t f)
   -- the root has the id 1, and no file has one that is still to be given
   pub above : 1 < t.next
   pub below : (f : ℕ) → t.next ≤ f → content_of opening f ≡ None
@@ -45,9 +45,9 @@ no_tree = record {
     other : (f : ℕ) → (f ≡ 1 → ⊥) → with_id root_alone.nodes f ≡ None
     other f apart = ap (λ (b : Bool). if b then Some (root_of 0) else None) (ne_eqb 1 f (λ e. apart (sym e)))
 
-    nothing : (f : ℕ) (b : Bool) → (f == 1) ≡ b → IsOpening [] f (server.file_at root_alone f)
-    nothing f true e = let one : f ≡ 1 = grind (arith, nat_tests, e) in subst (λ (i : ℕ). IsOpening [] i (server.file_at root_alone i)) (sym one) refl
-    nothing f false e = subst (IsOpening [] f) (sym (ap server.file_of_node (other f (λ one. differ one e)))) refl
+    nothing : (f : ℕ) (b : Bool) → (f == 1) ≡ b → IsOpening [] f (the_files.file_at root_alone f)
+    nothing f true e = let one : f ≡ 1 = grind (arith, nat_tests, e) in subst (λ (i : ℕ). IsOpening [] i (the_files.file_at root_alone i)) (sym one) refl
+    nothing f false e = subst (IsOpening [] f) (sym (ap the_files.file_of_node (other f (λ one. differ one e)))) refl
       where
         differ : f ≡ 1 → (f == 1) ≡ false → ⊥
         differ one e = let z : (f == 1) ≡ true = grind (arith, nat_tests, one) in absurd cc
@@ -110,11 +110,11 @@ tree_more opening t dir name content can few size small h = record {
     stays f apart None h = content_else opening o f h (λ e. apart (sym e))
     stays f apart (Some g) h = (h.0, h.1, h.2, content_stays opening o f g.content h.3, h.4, h.5)
 
-    held : (f : ℕ) → ((f ≡ t.next) ⊎ (f ≡ t.next → ⊥)) → IsOpening (opening ++ o ∷ []) f (server.file_at (opens t dir name (Plain content)) f)
+    held : (f : ℕ) → ((f ≡ t.next) ⊎ (f ≡ t.next → ⊥)) → IsOpening (opening ++ o ∷ []) f (the_files.file_at (opens t dir name (Plain content)) f)
     held f (inl same) =
-        subst (λ (i : ℕ). IsOpening (opening ++ o ∷ []) i (server.file_at (opens t dir name (Plain content)) i)) (sym same) (subst (IsOpening (opening ++ o ∷ []) t.next) (sym more.own)
+        subst (λ (i : ℕ). IsOpening (opening ++ o ∷ []) i (the_files.file_at (opens t dir name (Plain content)) i)) (sym same) (subst (IsOpening (opening ++ o ∷ []) t.next) (sym more.own)
         (refl, above, omega (arith, few), content_own opening o t.next none refl, refl, size))
-    held f (inr apart) = subst (IsOpening (opening ++ o ∷ []) f) (sym (more.others f apart)) (stays f apart (server.file_at t f) (h.held f))
+    held f (inr apart) = subst (IsOpening (opening ++ o ∷ []) f) (sym (more.others f apart)) (stays f apart (the_files.file_at t f) (h.held f))
 
     below : (f : ℕ) → t.next + 1 ≤ f → content_of (opening ++ o ∷ []) f ≡ None
     below f le = content_else opening o f (h.below f (omega (arith, le))) (λ e. omega (arith, e, le))
@@ -171,7 +171,7 @@ seat_first book i = record {
 
 server_first : (opening : List Opening) (tree : Tree) (count : ℕ) (all : List Moment) → IsTree opening tree → IsServer (book_at opening (first_core tree count) all) (first_core tree count).server
 server_first opening tree count all t = record {
-  held = λ f. held f (server.file_at tree f) (t.held f);
+  held = λ f. held f (the_files.file_at tree f) (t.held f);
   fresh = λ f u. ap (λ (z : Option (List ℕ)). 0 + first_version z) (elim u [ inl le ↦ t.below f le | inr node ↦ subst (IsOpening opening f) node.1 (t.held f) ]);
   bounded = t.bounded;
   zero = t.zero;

@@ -10,7 +10,7 @@ use Rattle.command_text.specs.declared.path.Spot.{Spot}
 use Rattle.trace_text.specs.Fields.{reading_of, amount_of, who_of, key_of}
 use Rattle.trace_text.specs.Grammar.{version_of, term_of, drift_of, clients_of, dir_of, file_of, join_of, do_of, up_of, down_of, pass_of, settle_of, cut_of, hang_of, forge_of, clear_of, evict_of, event_from, line_from, said_by, is_skipped}
 use Rattle.trace_text.specs.declared.line.Line.TheVariants as line
-use Rattle.trace_replay.specs.declared.adjusting.Adjustment.TheVariants as adjustment
+use Rattle.trace_ends.specs.declared.adjusting.Adjustment.TheVariants as adjustment
 use Rattle.trace_replay.specs.declared.stage.Stage.{Stage}
 use Rattle.trace_replay.specs.declared.stage.Stage.TheVariants as stage
 use Rattle.trace_replay.specs.declared.turn.Turn.TheVariants as turn
@@ -20,7 +20,7 @@ use Rattle.kept_promise.proofs.Parsed.{Gives, gives_some, gives_none, gives_if, 
 use Rattle.kept_promise.proofs.PathNames.{IsNamed, IsPlain, IsSmall, find_named, path_command_named}
 use Rattle.kept_promise.proofs.RunsResults.{asking, turn_is, refused_line}
 use Rattle.kept_promise.proofs.Lists.{some_is, nothing_there}
-use Rattle.file_tree.specs.Tree.{Tree}
+use Rattle.tree_reading.specs.Tree.{Tree}
 use Rattle.trace_replay.specs.declared.opening.TheConstants.{ROOT}
 
 -- ---- numbers of a text

@@ -1,13 +1,12 @@
 -- One line of a run: what stands before it stands behind it, with its moments among those that are past.
 use Rattle.std.proofs.Common.{◌≡◌, ℕ, zero, suc, ◌+◌, ◌<◌, ◌≤◌, List, [], ◌∷◌, ◌++◌, length, Some, Bool, true, false, refl, sym, ap, ◌∙◌, subst, arith, append-nil, map, replicate}
-use Rattle.server_core.specs.State as server
 use Rattle.trace_replay.specs.declared.stage.Stage.{Stage}
 use Rattle.trace_replay.specs.declared.stage.Stage.TheVariants as stage
 use Rattle.trace_replay.specs.declared.turn.Turn.TheVariants as turn
 use Rattle.trace_replay.specs.Run.{with_file, with_directory, with_clients}
 use Rattle.kept_promise.proofs.Common.{nat_tests, nat_lt, ◌&&◌, content_bytes, Part, content_size, Turn, Core, new_seat, Session, Event.Joins, Event.Does, Event.Settles, Event.Cuts, Event.Hangs, numbered, World, adjusts, Wire, up_length, down_length, at_events, count_of, turned, owners_of, Moment, turn_moments, Tree, can_open}
 use Rattle.kept_promise.proofs.Lists.{nothing_there, count_more}
-use Rattle.trace_replay.specs.declared.adjusting.Adjustment.{Adjustment}
+use Rattle.trace_ends.specs.declared.adjusting.Adjustment.{Adjustment}
 use Rattle.kept_promise.proofs.Rights.{AreAlike}
 use Rattle.kept_promise.proofs.Adjusts.{adjusted_core, kept_adjusted, adjusts_is}
 use Rattle.kept_promise.proofs.Facts.{IsKept}
@@ -22,7 +21,7 @@ use Rattle.kept_promise.proofs.RunsDeliveries.{up_stands, down_stands, passes_st
 use Rattle.kept_promise.proofs.RunsLines.{is_early, Allows}
 use Rattle.tree_nodes.specs.declared.node.Body.TheVariants.{Directory, File as Plain}
 use Rattle.file_tree.specs.Opening.{opens}
-use Rattle.file_tree.specs.Tree.{contents_size}
+use Rattle.tree_reading.specs.Tree.{contents_size}
 use Rattle.server_core.specs.Step.{opens_with}
 use Rattle.server_law.proofs.Trees.{given}
 use Rattle.kept_promise.proofs.TreeOpens.{opens_file, opens_directory}

@@ -1,9 +1,9 @@
 -- The server takes the first call on its way.
 use Rattle.std.proofs.Common.{◌≡◌, ℕ, zero, suc, ◌+◌, ◌<◌, List, [], ◌∷◌, Some, None, false, refl, sym, ap, ◌∙◌, subst, map, Ok}
 use Rattle.std.proofs.lemmas.Nat.{from_be_bytes-to_be_bytes_8}
-use Rattle.server_core.specs.Answers.{node_named}
-use Rattle.kept_promise.proofs.Common.{slice_get, Contains, Contains-append_left, Contains-append_right, Contains-push, handle_bytes, message_spell, MessageFits, parse_of, node_of, Indexed, Temp, Core, Session, CoreStep, Loss.Nothing, numbered, with_numbered, server_waiting, Book, Reply, Ask, Told, Queue, ask_message, told_message, Tree}
-use Rattle.kept_promise.proofs.Statements.{CallFits, IsPlain}
+use Rattle.chunk_calls.specs.Answers.{node_named}
+use Rattle.kept_promise.proofs.Common.{slice_get, Contains, Contains-append_left, Contains-append_right, Contains-push, handle_bytes, message_spell, parse_of, node_of, Indexed, Temp, Core, Session, CoreStep, Loss.Nothing, numbered, with_numbered, server_waiting, Book, Reply, Ask, Told, Queue, ask_message, Tree}
+use Rattle.kept_promise.proofs.Statements.{CallFits}
 use Rattle.kept_promise.proofs.Lists.{some_is, nothing_there}
 use Rattle.kept_promise.proofs.History.{onward}
 use Rattle.kept_promise.proofs.Turns.{Around, around_with, turned_core}
@@ -69,9 +69,6 @@ leads_answer book k qs n moment x q a us temps index r kept at is e unhung shows
     }
 
 -- ---- what is told
-
-plain_fits : FitLaws → (a : Ask) (r : Reply) → a.xid < 4294967296 → IsPlain r → MessageFits (told_message (record { xid = a.xid; reply = r }))
-plain_fits laws a r lt plain = laws.plain a.xid r lt plain
 
 pub contains_at : {A : Type 0} (xs : List A) (i : ℕ) (x : A) → slice_get xs i ≡ Some x → Contains xs x
 contains_at [] i x e = nothing_there x e

@@ -14,14 +14,14 @@ use Rattle.server_core.specs.declared.event.Event.TheVariants as event
 use Rattle.server_core.specs.declared.event.ServerStep.{ServerStep}
 use Rattle.server_core.specs.declared.journal.Entry.{Entry}
 use Rattle.server_core.specs.declared.change.Wanted.TheVariants as wanted
-use Rattle.server_core.specs.Answers.{Node, directory, file, node_of}
+use Rattle.chunk_calls.specs.Answers.{Node, directory, file, node_of}
 use Rattle.server_core.specs.Closing.{sends, answers, looked_up as index_found}
 use Rattle.temp_files.specs.Temps.{without_temp}
-use Rattle.trace_replay.specs.Core.{entries_since, server_got}
-use Rattle.trace_replay.specs.Ops.{changed_file, pointed_at}
+use Rattle.trace_ends.specs.Core.{entries_since, server_got, changed_file}
+use Rattle.trace_ops.specs.Ops.{pointed_at}
 use Rattle.kept_promise.proofs.Common.{size_most, room_fault, piece_fault, temp_at, Temp, assembled, nat_lt, Op, File, at, is_full, has_waiting, cond_fault, bytes_known, makes, makes_unless, writes_unless, names_unless, names_bytes, commits, commits_to, commits_whole, server_step, stands, got_if, called, Core, Session, CoreStep, with_numbered, quiet, taken_with}
 use Rattle.server_core.specs.Closing.{entries_by, count_of}
-use Rattle.file_tree.specs.Tree.{Tree}
+use Rattle.tree_reading.specs.Tree.{Tree}
 use Rattle.tree_calls.specs.declared.asked.Done.{Done}
 use Rattle.path_calls.specs.Walk.{next_call}
 use Rattle.path_calls.specs.declared.walk.Walk.{Walk}

@@ -1,9 +1,9 @@
 -- A call is taken at the server: clients are as they were, nothing goes up, and operations are as they were, but for one that made a file.
 use Rattle.std.proofs.Common.{◌⊎◌, inl, inr, ◌≡◌, ℕ, ◌+◌, ◌≤◌, List, [], ◌∷◌, ◌++◌, length, replicate, zero, suc, append-nil, Option, Some, None, Bool, true, false, Result, Ok, refl, sym, ap, ◌∙◌, subst, arith}
-use Rattle.file_tree.specs.Tree.{Tree}
-use Rattle.file_tree.specs.Step.{made_entry}
-use Rattle.file_tree.specs.declared.entry.Entry.{Entry as TreeEntry}
-use Rattle.file_tree.specs.declared.entry.EntryKind.TheVariants as kind
+use Rattle.tree_reading.specs.Tree.{Tree}
+use Rattle.tree_plans.specs.Plans.{made_entry}
+use Rattle.tree_plans.specs.declared.entry.Entry.{Entry as TreeEntry}
+use Rattle.tree_plans.specs.declared.entry.EntryKind.TheVariants as kind
 use Rattle.tree_calls.specs.declared.asked.Done.{Done as Finished}
 use Rattle.path_calls.specs.declared.walk.Goal.{Goal}
 use Rattle.path_calls.specs.declared.walk.Walk.{Walk}
@@ -15,8 +15,8 @@ use Rattle.path_calls.specs.Walk.{next_call}
 use Rattle.wire.specs.declared.message.Body.TheVariants as body
 use Rattle.wire.specs.declared.message.Message.TheVariants as message
 use Rattle.server_law.proofs.Trees.{IsBounded}
-use Rattle.trace_replay.specs.Core.{server_got}
-use Rattle.trace_replay.specs.Ops.{changed_file, is_of_file, pointed_at, pointed}
+use Rattle.trace_ends.specs.Core.{server_got, changed_file, is_of_file}
+use Rattle.trace_ops.specs.Ops.{pointed_at, pointed}
 use Rattle.kept_promise.proofs.Common.{slice_get, slice_set, cond, option_map, not, stands, has_waiting, name_answer, Call, Call.Walks, Entry, Op, Message, WireFault, Core, Session, Event.Serves, CoreStep, numbered, serves_if, serves, happens, Book, Queue, Ask, ask_message}
 use Rattle.kept_promise.proofs.Lists.{some_is, nothing_there, true_and_false}
 use Rattle.kept_promise.proofs.Fits.{FitLaws}
@@ -84,7 +84,7 @@ making_entered k n now x xid w making = by (made_walk k.server.tree (server.held
 
     by : MadeSo k.server.tree (server.held k.server.waiting) w → Entered k (making_got k n now x xid (made_by k.server.tree (server.held k.server.waiting) w.dir w.goal))
     by (refuses s r is err turned leads procs) = subst (λ (p : Tree × Finished). Entered k (making_got k n now x xid p)) (sym is) (record { es = []; entries = refl; journal = refl; plain = λ i e at. nothing_there e at })
-    by (enters done e r after is step first_is entry_is after_is leads procs) = subst (λ (p : Tree × Finished). Entered k (making_got k n now x xid p)) (sym is) (record { es = written_by n e ∷ []; entries = refl; journal = refl; plain = plain e entry_is })
+    by (enters done e r after is step first_is second_is entry_is after_is leads procs) = subst (λ (p : Tree × Finished). Entered k (making_got k n now x xid p)) (sym is) (record { es = written_by n e ∷ []; entries = refl; journal = refl; plain = plain e entry_is })
 
 -- what a call that makes something leaves of the operations
 making_ops : (book : Book) (k : Core) (qs : List Queue) (n now : ℕ) (x : Session) (q : Queue) (xid : ℕ) (w : Walk) (us : List Ask) → IsKept book k qs → IsSession book k.seats k.server n x q → q.ups ≡ record { xid = xid; call = Walks w } ∷ us → is_building w ≡ true → (let r = making_got k n now x xid (made_by k.server.tree (server.held k.server.waiting) w.dir w.goal) in (r.core.ops ≡ k.ops) ⊎ MadeHere k r.core.ops)
@@ -92,7 +92,7 @@ making_ops book k qs n now x q xid w us kept h first making = by (made_walk k.se
   where
     by : MadeSo k.server.tree (server.held k.server.waiting) w → (let r = making_got k n now x xid (made_by k.server.tree (server.held k.server.waiting) w.dir w.goal) in (r.core.ops ≡ k.ops) ⊎ MadeHere k r.core.ops)
     by (refuses s r is err turned leads procs) = subst (λ (p : Tree × Finished). let r = making_got k n now x xid p in (r.core.ops ≡ k.ops) ⊎ MadeHere k r.core.ops) (sym is) (inl (pointed_none k.ops x.closing (k.steps + 1)))
-    by (enters done e r after is step first_is entry_is after_is leads procs) = subst (λ (p : Tree × Finished). let r = making_got k n now x xid p in (r.core.ops ≡ k.ops) ⊎ MadeHere k r.core.ops) (sym is) (of (is_creating w) refl)
+    by (enters done e r after is step first_is second_is entry_is after_is leads procs) = subst (λ (p : Tree × Finished). let r = making_got k n now x xid p in (r.core.ops ≡ k.ops) ⊎ MadeHere k r.core.ops) (sym is) (of (is_creating w) refl)
       where
         of : (b : Bool) → is_creating w ≡ b → (let o = pointed_at k.ops x.closing (k.steps + 1) (changed_file (written_by n e ∷ [])) in (o ≡ k.ops) ⊎ MadeHere k o)
         of false none =

@@ -4,6 +4,7 @@ use Rattle.tree_calls.specs.Waiting.{file_of}
 use Rattle.tree_calls.specs.declared.asked.Asked.{Asked}
 use Rattle.tree_calls.specs.declared.asked.Asked.TheVariants as asked
 use Rattle.server_core.specs.State as server
+use Rattle.chunk_calls.specs.Files as the_files
 use Rattle.server_core.specs.declared.change.Wanted.TheVariants as wanted
 use Rattle.file_tree.specs.Step.{replaced}
 use Rattle.server_core.specs.Closing as closing
@@ -23,8 +24,7 @@ use Rattle.kept_promise.proofs.Messages.{Job, job, hash_offset, FetchOf, CommitT
 use Rattle.kept_promise.proofs.Rights.{IsSound, IsUnmade, IsMade, WasThere}
 use Rattle.kept_promise.proofs.Growth.{Grows, or_map, made_later, or_later, there_later}
 use Rattle.kept_promise.proofs.History.{made_op, IsEntryOf, grows_made, goes_made, value_now, version_now, made_book}
-use Rattle.trace_replay.specs.Core.{entries_since}
-use Rattle.trace_replay.specs.Ops.{changed_file}
+use Rattle.trace_ends.specs.Core.{entries_since, changed_file}
 use Rattle.kept_promise.proofs.ServesFiles.{one_since}
 use Rattle.kept_promise.proofs.Later.{seat_later}
 use Rattle.kept_promise.proofs.Taken.{tolds_append}
@@ -60,18 +60,18 @@ own_other m c cs apart = ap (λ b. cond b (c ∷ own m cs) (own m cs)) (ne_eqb c
 -- ---- the tree
 
 -- what the tree has of each file, once one got this content
-held_made : (book : Book) (e : Entry) (j : ℕ) (o : Op) (t : Tree) (id : ℕ) (g : File) (x : List ℕ) → slice_get book.ops j ≡ Some o → IsUnmade o → o.word ≡ words.Close → IsSound book → o.file ≡ id → length o.value ≡ length x → Or book (o.value ≡ x) → length x ≤ 67108864 → ((f : ℕ) → FileIs book f (server.file_at t f)) → server.file_at t id ≡ Some g
-    → (f : ℕ) → FileIs (made_book book (e ∷ []) j id o) f (server.file_at (replaced t id (g.version + 1) x) f)
+held_made : (book : Book) (e : Entry) (j : ℕ) (o : Op) (t : Tree) (id : ℕ) (g : File) (x : List ℕ) → slice_get book.ops j ≡ Some o → IsUnmade o → o.word ≡ words.Close → IsSound book → o.file ≡ id → length o.value ≡ length x → Or book (o.value ≡ x) → length x ≤ 67108864 → ((f : ℕ) → FileIs book f (the_files.file_at t f)) → the_files.file_at t id ≡ Some g
+    → (f : ℕ) → FileIs (made_book book (e ∷ []) j id o) f (the_files.file_at (replaced t id (g.version + 1) x) f)
 held_made book e j o t id g x there_ unmade word sound mine size same short held there f = elim (same_or_not f id) [
   | inl here ↦
       let was : FileIs book id (Some g) = subst (FileIs book id) there (held id) in
       let left = own_alike book (e ∷ []) id j o there_ unmade sound in
       let now : IsValue more id x = record { value = o.value; is = left.0 ∙ ap (λ (w : Word). value_from w o.value) word; size = size; same = or_later book more (Some j) None _ _ grows (λ q. q) same } in
       let own : FileIs more id (Some (record g { version = g.version + 1; content = x })) = (was.0, was.1, was.2, now, left.1 ∙ ap (λ z. z + 1) was.4, short) in
-      subst (λ (z : ℕ). FileIs more z (server.file_at (replaced t id (g.version + 1) x) z)) (sym here) (subst (FileIs more id) (sym (replaced_own t id (g.version + 1) x g there)) own)
+      subst (λ (z : ℕ). FileIs more z (the_files.file_at (replaced t id (g.version + 1) x) z)) (sym here) (subst (FileIs more id) (sym (replaced_own t id (g.version + 1) x g there)) own)
   | inr apart ↦
       let alike = others_alike book (e ∷ []) id j o f there_ unmade (λ q. apart (sym q)) sound in
-      subst (FileIs more f) (sym (replaced_other t id (g.version + 1) x f apart)) (file_alike book more (Some j) None f (server.file_at t f) grows alike.0 alike.1 (held f))
+      subst (FileIs more f) (sym (replaced_other t id (g.version + 1) x f apart)) (file_alike book more (Some j) None f (the_files.file_at t f) grows alike.0 alike.1 (held f))
 ]
   where
     more : Book
@@ -176,7 +176,7 @@ fewer_waiting s c cs e i d f = ap (λ (l : List Change). slice_get l (suc i)) e 
 abbrev settled_server : server.State → (now : ℕ) → Change → List Change → File → server.State
 settled_server s now c cs f = (made_change (at (record s { waiting = cs }) now) c (content_wanted c.what) f).0
 
-settled_now : FitLaws → (book : Book) (k : Core) (qs : List Queue) (now : ℕ) (c : Change) (cs : List Change) (f : File) (x : Session) (q : Queue) (j : ℕ) (o : Op) → (kept : IsKept book k qs) → k.server.waiting ≡ c ∷ cs → c.what ≡ wanted.Content (content_wanted c.what) → server.file_at k.server.tree c.file ≡ Some f → (here : numbered k.sessions c.session ≡ Some x) → x.hung ≡ false → (is : numbered qs c.session ≡ Some q)
+settled_now : FitLaws → (book : Book) (k : Core) (qs : List Queue) (now : ℕ) (c : Change) (cs : List Change) (f : File) (x : Session) (q : Queue) (j : ℕ) (o : Op) → (kept : IsKept book k qs) → k.server.waiting ≡ c ∷ cs → c.what ≡ wanted.Content (content_wanted c.what) → the_files.file_at k.server.tree c.file ≡ Some f → (here : numbered k.sessions c.session ≡ Some x) → x.hung ≡ false → (is : numbered qs c.session ≡ Some q)
     → (pending : IsPending book x.closing x.cut (job (kept.sessions c.session x q here is).seat) c.xid c.file (content_wanted c.what)) → pending.place ≡ j → pending.op ≡ o
     → IsKept (made_book book (entry_of c (content_wanted c.what) f ∷ []) j c.file o) (turned_core (made_book book (entry_of c (content_wanted c.what) f ∷ []) j c.file o) (settled_server k.server now c cs f) k.seats k.sessions) (with_numbered qs c.session (record q { downs = unless x.cut q.downs (answer c (f.version + 1) ∷ []) }))
 settled_now laws book k qs now c cs f x q j o kept waits what there here unhung is pending place_is op_is =
@@ -214,7 +214,7 @@ settled_now laws book k qs now c cs f x q j o kept waits what there here unhung 
     let none : own n cs ≡ [] = empty_is (own n cs) alone.1 in
     let short : length (content_wanted c.what) ≤ 67108864 = kept.server.lengths 0 c (ap (λ (l : List Change). slice_get l 0) waits) in
     let room = room_there book k.server c cs kept.server waits what in
-    let held : (z : ℕ) → FileIs more z (server.file_at r.tree z) = λ z. held_made book e j o k.server.tree c.file f (content_wanted c.what) at_ unmade word kept.sound file_is size same short kept.server.held there z in
+    let held : (z : ℕ) → FileIs more z (the_files.file_at r.tree z) = λ z. held_made book e j o k.server.tree c.file f (content_wanted c.what) at_ unmade word kept.sound file_is size same short kept.server.held there z in
     let entries = room.count in
     let sizes = replaced_size k.server.tree c.file (f.version + 1) (content_wanted c.what) f kept.server.bounded there in
     let small = room.small in
@@ -357,14 +357,14 @@ settled_core book more k r ops entries a b c =
 queue_told : (sessions : List Session) (qs : List Queue) (n : ℕ) (x : Session) (q : Queue) (t : Told) → numbered sessions n ≡ Some x → numbered qs n ≡ Some q → downs_put sessions qs ((n, t) ∷ []) ≡ with_numbered qs n (record q { downs = unless x.cut q.downs (t ∷ []) })
 queue_told sessions qs n x q t at is = ap (λ (o : Option Session). downs_put_in qs (n, t) o (numbered qs n)) at ∙ ap (λ (o : Option Queue). downs_put_in qs (n, t) (Some x) o) is
 
-settled_leads : FitLaws → (book : Book) (k : Core) (qs : List Queue) (now : ℕ) (c : Change) (cs : List Change) (f : File) → IsKept book k qs → k.server.waiting ≡ c ∷ cs → c.what ≡ wanted.Content (content_wanted c.what) → server.file_at k.server.tree c.file ≡ Some f → Leads book qs (settled_by_step k (made_change (at (record k.server { waiting = cs }) now) c (content_wanted c.what) f))
+settled_leads : FitLaws → (book : Book) (k : Core) (qs : List Queue) (now : ℕ) (c : Change) (cs : List Change) (f : File) → IsKept book k qs → k.server.waiting ≡ c ∷ cs → c.what ≡ wanted.Content (content_wanted c.what) → the_files.file_at k.server.tree c.file ≡ Some f → Leads book qs (settled_by_step k (made_change (at (record k.server { waiting = cs }) now) c (content_wanted c.what) f))
 settled_leads laws book k qs now c cs f kept waits what there =
     let n : ℕ = c.session in
     let home = kept.home 0 c (ap (λ (l : List Change). slice_get l 0) waits) in
     let x : Session = home.0 in
     let q = also_numbered k.sessions qs n x kept.made.1 home.1 in
     let h = kept.sessions n x q.0 home.1 q.1 in
-    let pending = subst (λ (w : Wanted). WaitsFor book x.closing x.cut (job h.seat) c.xid c.file w) what (h.pending 0 c (ap (λ (l : List Change). slice_get (own n l) 0) waits ∙ ap (λ (l : List Change). slice_get l 0) (own_first c cs))) in
+    let pending = subst (λ (w : Wanted). WaitsFor book c.session x.closing x.cut (job h.seat) c.xid c.file w) what (h.pending 0 c (ap (λ (l : List Change). slice_get (own n l) 0) waits ∙ ap (λ (l : List Change). slice_get l 0) (own_first c cs))) in
     let j : ℕ = pending.place in
     let o : Op = pending.op in
     let t : Told = answer c (f.version + 1) in
@@ -395,7 +395,7 @@ asks_itself (asked.Remove r) = (refl, refl, refl)
 asks_itself (asked.Rename r) = (refl, refl, refl)
 
 -- a commit, by whether its file is there
-settled_commit : FitLaws → (book : Book) (k : Core) (qs : List Queue) (now : ℕ) (c : Change) (cs : List Change) (content : List ℕ) → IsKept book k qs → k.server.waiting ≡ c ∷ cs → c.what ≡ wanted.Content content → (o : Option File) → server.file_at k.server.tree c.file ≡ o → Leads book qs (happens k (Settles now))
+settled_commit : FitLaws → (book : Book) (k : Core) (qs : List Queue) (now : ℕ) (c : Change) (cs : List Change) (content : List ℕ) → IsKept book k qs → k.server.waiting ≡ c ∷ cs → c.what ≡ wanted.Content content → (o : Option File) → the_files.file_at k.server.tree c.file ≡ o → Leads book qs (happens k (Settles now))
 settled_commit laws book k qs now c cs content kept waits what (Some f) there =
     let wants = what ∙ ap (λ (x : List ℕ). wanted.Content x) (sym (ap content_wanted what)) in
     subst (λ (ws : List Change). Leads book qs (settled_by_step k (closing.settles k.server now ws))) (sym waits)
@@ -405,7 +405,7 @@ settled_commit laws book k qs now c cs content kept waits what None none =
     let home = kept.home 0 c first in
     let q = also_numbered k.sessions qs c.session home.0 kept.made.1 home.1 in
     let h = kept.sessions c.session home.0 q.0 home.1 q.1 in
-    let pending = subst (λ (w : Wanted). WaitsFor book home.0.closing home.0.cut (job h.seat) c.xid c.file w) what (h.pending 0 c (ap (λ (l : List Change). slice_get (own c.session l) 0) waits ∙ ap (λ (l : List Change). slice_get l 0) (own_first c cs))) in
+    let pending = subst (λ (w : Wanted). WaitsFor book c.session home.0.closing home.0.cut (job h.seat) c.xid c.file w) what (h.pending 0 c (ap (λ (l : List Change). slice_get (own c.session l) 0) waits ∙ ap (λ (l : List Change). slice_get l 0) (own_first c cs))) in
     subst (Leads book qs) (sym (unmade_settles k now c cs content waits what (node_gone book k.server c.file kept.server (kept.server.targets 0 c first) none))) (leads_unmade laws book k qs now c cs content kept waits what none home.0 q.0 home.1 home.2 q.1 pending)
 
 -- a remove, or a rename over a file
@@ -415,7 +415,7 @@ settled_asked laws book k qs now c cs a kept noted waits what =
     let home = kept.home 0 c first in
     let q = also_numbered k.sessions qs c.session home.0 kept.made.1 home.1 in
     let h = kept.sessions c.session home.0 q.0 home.1 q.1 in
-    let pending = subst (λ (w : Wanted). WaitsFor book home.0.closing home.0.cut (job h.seat) c.xid c.file w) what (h.pending 0 c (ap (λ (l : List Change). slice_get (own c.session l) 0) waits ∙ ap (λ (l : List Change). slice_get l 0) (own_first c cs))) in
+    let pending = subst (λ (w : Wanted). WaitsFor book c.session home.0.closing home.0.cut (job h.seat) c.xid c.file w) what (h.pending 0 c (ap (λ (l : List Change). slice_get (own c.session l) 0) waits ∙ ap (λ (l : List Change). slice_get l 0) (own_first c cs))) in
     let wants = subst (IsWanted c.file) what (kept.server.wants 0 c first) in
     ends_so laws book k qs now c cs a kept noted waits what home.0 q.0 home.1 home.2 q.1 pending
     (settles_so k.server.tree (server.held cs) (walk_for a) a kept.server.bounded wants.2 (asks_itself a) wants.1 (λ n d. no_directory book k.server (file_of a) n kept.server (subst (λ (f : ℕ). WasThere book f) wants.0 (kept.server.targets 0 c first)) d))
@@ -428,5 +428,5 @@ kept_settles laws = λ book k qs now kept noted. by book k qs now kept noted k.s
     by book k qs now kept noted (c ∷ cs) e = first c.what refl
       where
         first : (w : Wanted) → c.what ≡ w → Leads book qs (happens k (Settles now))
-        first (wanted.Content content) what = settled_commit laws book k qs now c cs content kept e what (server.file_at k.server.tree c.file) refl
+        first (wanted.Content content) what = settled_commit laws book k qs now c cs content kept e what (the_files.file_at k.server.tree c.file) refl
         first (wanted.Asked a) what = settled_asked laws book k qs now c cs a kept noted e what

@@ -4,20 +4,22 @@ use Rattle.xdr_codec.specs.declared.status.Status.{Status}
 use Rattle.xdr_codec.specs.declared.status.Status.TheVariants as status
 use Rattle.wire.specs.declared.message.Body.TheVariants as body
 use Rattle.wire.specs.declared.message.Message.TheVariants as message
-use Rattle.file_tree.specs.Tree.{Tree}
-use Rattle.file_tree.specs.declared.entry.Entry.{Entry as TreeEntry}
-use Rattle.file_tree.specs.declared.entry.EntryKind.TheVariants as kind
+use Rattle.tree_reading.specs.Tree.{Tree}
+use Rattle.tree_plans.specs.declared.entry.Entry.{Entry as TreeEntry}
+use Rattle.tree_plans.specs.declared.entry.EntryKind.TheVariants as kind
 use Rattle.tree_calls.specs.Changing.{said}
 use Rattle.tree_calls.specs.Waiting.{file_of, settles as tree_settles}
 use Rattle.tree_calls.specs.declared.asked.Asked.{Asked}
 use Rattle.tree_calls.specs.declared.asked.Asked.TheVariants as asked
 use Rattle.tree_calls.specs.declared.asked.Done.{Done as Finished}
 use Rattle.server_core.specs.State as server
-use Rattle.server_core.specs.Closing.{entries_by, entered_by, count_of, entry_by}
+use Rattle.chunk_calls.specs.Files as the_files
+use Rattle.server_core.specs.Closing.{entries_by, entered_by, entry_by}
 use Rattle.server_core.specs.Closing as closing
 use Rattle.server_core.specs.declared.change.Wanted.TheVariants as wanted
 use Rattle.trace_replay.specs.Faithful.{change_refusal}
-use Rattle.trace_replay.specs.Ops.{changed_file, is_of_file, pointed, pointed_at}
+use Rattle.trace_ends.specs.Core.{changed_file, is_of_file}
+use Rattle.trace_ops.specs.Ops.{pointed, pointed_at}
 use Rattle.kept_promise.proofs.Common.{slice_get, slice_set, cond, option_map, find, Contains, Contains-push, Message, name_answer, told_message, Change, Wanted, File, Entry, Op, Core, Session, CoreStep, quiet, numbered, settles, settled_ops, Book, Queue}
 use Rattle.kept_promise.proofs.Lists.{some_is, nothing_there}
 use Rattle.kept_promise.proofs.Rights.{WasThere, IsUnmade, gets_file}
@@ -31,6 +33,7 @@ use Rattle.kept_promise.proofs.GoingEnds.{asked_step, asked_settles}
 use Rattle.kept_promise.proofs.Gone.{no_directory}
 use Rattle.kept_promise.proofs.Unmade.{node_gone, unmade_step, unmade_told, unmade_settles}
 use Rattle.kept_promise.proofs.ServesFiles.{pointed_none}
+use Rattle.kept_promise.proofs.GoingServes.{count_is}
 use Rattle.kept_promise.proofs.ServesQuietly.{Entered}
 
 -- the file of an operation went in this step, which is its point
@@ -53,16 +56,10 @@ abbrev pub TellsFirst : (k : Core) (t : CoreStep) → List Entry → Type 0
 TellsFirst k t es = (c : Change) → slice_get k.server.waiting 0 ≡ Some c → (0 < length es) ⊎ RefusesFor t c
 
 pub data Settling (k : Core) (t : CoreStep) : Type 0 where
-  makes_commit : (c : Change) (cs : List Change) (f : File) → k.server.waiting ≡ c ∷ cs → c.what ≡ wanted.Content (content_wanted c.what) → server.file_at k.server.tree c.file ≡ Some f → Settling k t
+  makes_commit : (c : Change) (cs : List Change) (f : File) → k.server.waiting ≡ c ∷ cs → c.what ≡ wanted.Content (content_wanted c.what) → the_files.file_at k.server.tree c.file ≡ Some f → Settling k t
   makes_else : (t.core.ops ≡ k.ops) ⊎ GoesHere k t.core.ops → (q : Entered k t) → TellsFirst k t q.es → Settling k t
 
 -- ---- the entries of what goes
-
-counted : (n : ℕ) (first second : Option TreeEntry) → count_of first second ≡ length (entries_by n first second)
-counted n None None = refl
-counted n None (Some y) = refl
-counted n (Some e) None = refl
-counted n (Some e) (Some y) = refl
 
 no_commit : (n : ℕ) (first second : Option TreeEntry) (e : TreeEntry) → first ≡ Some e → e.kind ≡ kind.Remove → IsName second → (i : ℕ) (d : Entry) → slice_get (entries_by n first second) i ≡ Some d → d.kind ≡ kind.Commit → ⊥
 no_commit n first second e is removes names i d at commit = by i second names (ap (λ (o : Option TreeEntry). slice_get (entries_by n o second) i) (sym is) ∙ at)
@@ -130,7 +127,7 @@ settling book k qs now kept = by k.server.waiting refl
         }))
         (record {
           es = entries_by c.session done.first done.second;
-          entries = ap (λ (m : ℕ). k.entries ++ replicate m (k.steps + 1)) (counted c.session done.first done.second);
+          entries = ap (λ (m : ℕ). k.entries ++ replicate m (k.steps + 1)) (count_is c.session done.first done.second);
           journal = refl;
           plain = no_commit c.session done.first done.second gone.entry gone.is gone.kind_is names;
         })
@@ -140,7 +137,7 @@ settling book k qs now kept = by k.server.waiting refl
     by [] e = makes_else (inl (ap (λ (ws : List Change). (did ws).core.ops) e)) (record { es = []; entries = ap (λ (ws : List Change). (did ws).core.entries) e; journal = ap (λ (ws : List Change). (did ws).core.server.journal) e ∙ sym (append-nil k.server.journal); plain = λ i d at. nothing_there d at }) (λ c at. nothing_there c (ap (λ (l : List Change). slice_get l 0) (sym e) ∙ at))
       where
         did : List Change → CoreStep
-        did ws = let r = closing.settles k.server now ws in record (quiet (record k { steps = k.steps + 1; server = r.0; ops = Rattle.kept_promise.proofs.Common.settled_by k (changed_file (Rattle.trace_replay.specs.Core.entries_since k.server r.0)) r.1.told; entries = k.entries ++ replicate r.1.entries (k.steps + 1) })) { down = r.1.send }
+        did ws = let r = closing.settles k.server now ws in record (quiet (record k { steps = k.steps + 1; server = r.0; ops = Rattle.kept_promise.proofs.Common.settled_by k (changed_file (Rattle.trace_ends.specs.Core.entries_since k.server r.0)) r.1.told; entries = k.entries ++ replicate r.1.entries (k.steps + 1) })) { down = r.1.send }
     by (c ∷ cs) e = first c.what refl
       where
         at_first : slice_get k.server.waiting 0 ≡ Some c
@@ -155,19 +152,19 @@ settling book k qs now kept = by k.server.waiting refl
         h : IsSession book k.seats k.server c.session home.0 q.0
         h = kept.sessions c.session home.0 q.0 home.1 q.1
 
-        pending : WaitsFor book home.0.closing home.0.cut (job h.seat) c.xid c.file c.what
+        pending : WaitsFor book c.session home.0.closing home.0.cut (job h.seat) c.xid c.file c.what
         pending = let mine = own_there k.server.waiting 0 c at_first in h.pending mine.0 c mine.1
 
-        commit : (content : List ℕ) → c.what ≡ wanted.Content content → (o : Option File) → server.file_at k.server.tree c.file ≡ o → Settling k (settles k now)
+        commit : (content : List ℕ) → c.what ≡ wanted.Content content → (o : Option File) → the_files.file_at k.server.tree c.file ≡ o → Settling k (settles k now)
         commit content what (Some f) there = makes_commit c cs f e (what ∙ ap (λ (x : List ℕ). wanted.Content x) (sym (ap content_wanted what))) there
         commit content what None none =
             let is = unmade_settles k now c cs content e what (node_gone book k.server c.file kept.server (kept.server.targets 0 c at_first) none) in
             subst (Settling k) (sym is) (makes_else (inl refl) (record { es = []; entries = sym (append-nil k.entries); journal = sym (append-nil k.server.journal); plain = λ i d at. nothing_there d at }) (tells_first k c cs (unmade_step k now c cs) [] e (inr (told_message (unmade_told c), status.Stale, Contains-push [] (record { session = c.session; message = told_message (unmade_told c) }), refl))))
 
         first : (w : Wanted) → c.what ≡ w → Settling k (settles k now)
-        first (wanted.Content content) what = commit content what (server.file_at k.server.tree c.file) refl
+        first (wanted.Content content) what = commit content what (the_files.file_at k.server.tree c.file) refl
         first (wanted.Asked a) what =
-            let p : IsGoing book home.0.closing home.0.cut (job h.seat) c.xid a = subst (λ (w : Wanted). WaitsFor book home.0.closing home.0.cut (job h.seat) c.xid c.file w) what pending in
+            let p : IsGoing book c.session home.0.closing home.0.cut (job h.seat) c.xid a = subst (λ (w : Wanted). WaitsFor book c.session home.0.closing home.0.cut (job h.seat) c.xid c.file w) what pending in
             let wants = subst (IsWanted c.file) what (kept.server.wants 0 c at_first) in
             subst (Settling k) (sym (asked_settles k now c cs a e what)) (asked_so c cs a home.0 e home.1
             (p.place, p.op, p.known, ap (λ (l : List Op). slice_get l p.place) (sym kept.ops) ∙ p.there, p.unmade, p.word_is, p.file_is)

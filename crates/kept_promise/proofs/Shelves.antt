@@ -101,10 +101,6 @@ put_alike (p ∷ ps) (q ∷ qs) o b c e h = subst (λ (z : ℕ). SameShape (inse
 put_alike [] (q ∷ qs) o b c e h = absurd h
 put_alike (p ∷ ps) [] o b c e h = absurd h
 
-pub same_shape : (ps : List (ℕ × List ℕ)) → SameShape ps ps
-same_shape [] = tt
-same_shape (p ∷ ps) = (refl, refl, same_shape ps)
-
 -- they can be joined where the others can
 pub joined_alike : (ps qs : List (ℕ × List ℕ)) (at size : ℕ) (y : List ℕ) → SameShape ps qs → joined at size qs ≡ Some y → (x : List ℕ) × (joined at size ps ≡ Some x)
 joined_alike [] [] at size y h e = (y, e)

@@ -14,7 +14,7 @@ use Rattle.client_state.specs.State as client
 use Rattle.client_state.specs.declared.task.Stage.TheVariants as stage
 use Rattle.register_model.specs.declared.op.Outcome.{Outcome as History}
 use Rattle.register_model.specs.declared.op.Word.TheVariants as words
-use Rattle.trace_replay.specs.Core.{taken_of as session_taken}
+use Rattle.trace_sessions.specs.Session.{taken_of as session_taken}
 use Rattle.trace_replay.specs.Trail.{taken_of}
 use Rattle.trace_replay.specs.Traffic.{traffic_of, commit_number, commits_in as commits_said, IsFetchCall}
 use Rattle.kept_promise.proofs.Common.{slice_get, Change, cut, ClientStep, Ended, Outcome, Op, Opening, Word, TakenCall, has_point, point_if, op_after, Core, Seat, Session, Event, numbered, session_of, ops_with, happens, Moment, sent_in, sent_of, SentCommit, Book, Message, Call, Call.Commit, Ask, Queue, Contains-append_left, Said, Deal, Deal.Took, Deal.Found, Deal.Sent, deals_of, stored_traffic, cond, Call.Walks, Wanted}
@@ -73,7 +73,7 @@ Waits past k qs cut = (n p : ℕ) (x : Session) (q : Queue) (o : Op) → numbere
 
 -- what is on its way, or waits, is known: a COMMITTMP, a call that may change a file, or a remove or a rename
 abbrev OnWay : (book : Book) → Option ℕ → (cut : Bool) → Option Job → Type 0
-OnWay book closing cut job = ((xid file : ℕ) × (v : List ℕ) × IsPending book closing cut job xid file v) ⊎ (((xid : ℕ) × (w : Walk) × IsCreating book closing cut job xid w) ⊎ ((xid : ℕ) × (a : Asked) × IsGoing book closing cut job xid a))
+OnWay book closing cut job = ((xid file : ℕ) × (v : List ℕ) × IsPending book closing cut job xid file v) ⊎ (((xid : ℕ) × (w : Walk) × IsCreating book closing cut job xid w) ⊎ ((xid : ℕ) × (a : Asked) × (session : ℕ) × IsGoing book session closing cut job xid a))
 
 on_its_way : (book : Book) (seats : List Seat) (k : Core) (n : ℕ) (x : Session) (q : Queue) → (h : IsSession book seats k.server n x q) → 0 < commits_in q.ups + length (own n k.server.waiting) → OnWay book x.closing x.cut (job h.seat)
 on_its_way book seats k n x q h lt = by (own n k.server.waiting) refl
@@ -94,9 +94,9 @@ on_its_way book seats k n x q h lt = by (own n k.server.waiting) refl
     by : (cs : List Change) → own n k.server.waiting ≡ cs → OnWay book x.closing x.cut (job h.seat)
     by (c ∷ cs) e = waiting c.what (h.pending 0 c (ap (λ (l : List Change). slice_get l 0) e))
       where
-        waiting : (w : Wanted) → WaitsFor book x.closing x.cut (job h.seat) c.xid c.file w → OnWay book x.closing x.cut (job h.seat)
+        waiting : (w : Wanted) → WaitsFor book c.session x.closing x.cut (job h.seat) c.xid c.file w → OnWay book x.closing x.cut (job h.seat)
         waiting (wanted.Content content) p = inl (c.xid, c.file, content, p)
-        waiting (wanted.Asked a) p = inr (inr (c.xid, a, p))
+        waiting (wanted.Asked a) p = inr (inr (c.xid, a, c.session, p))
     by [] e = asked q.ups h.commits (let z = ap length e in omega (arith, lt, z))
 
 -- as long as the owner is there, its job tells that it has sent its COMMITTMP
@@ -116,7 +116,7 @@ waits_here book past k qs kept closes = λ n p x q o at is uncut known lt there 
             let same : c.op ≡ o = some_is c.op o (sym c.there ∙ ap (slice_get book.ops) place ∙ ap (λ (l : List Op). slice_get l p) kept.ops ∙ there) in
             absurd (goal_not_close w.1.goal (sym c.word_is ∙ ap (λ (z : Op). z.word) same ∙ close))
         | inr w ↦
-            let c = w.2 in
+            let c = w.3 in
             let place : c.place ≡ p = some_is c.place p (sym c.known ∙ known) in
             let same : c.op ≡ o = some_is c.op o (sym c.there ∙ ap (slice_get book.ops) place ∙ ap (λ (l : List Op). slice_get l p) kept.ops ∙ there) in
             absurd (asked_not_close w.1 (sym c.word_is ∙ ap (λ (z : Op). z.word) same ∙ close))

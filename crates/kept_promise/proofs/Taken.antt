@@ -1,5 +1,5 @@
 -- Calls that were taken: what was told of them stays so when a further one is taken.
-use Rattle.std.proofs.Common.{inl, inr, ◌≡◌, ℕ, suc, ◌+◌, ◌≤◌, List, [], ◌∷◌, ◌++◌, Option, Some, None, Bool, true, false, refl, sym, ap, ◌∙◌, arith, eq-eqb, ne_eqb, map}
+use Rattle.std.proofs.Common.{inl, inr, ◌≡◌, ℕ, suc, ◌+◌, ◌≤◌, List, [], ◌∷◌, ◌++◌, Option, Some, None, Bool, true, false, refl, ap, ◌∙◌, arith, eq-eqb, ne_eqb, map}
 use Rattle.std.specs.Option.{option_map}
 use Rattle.hash_calls.specs.declared.call.Leased.{Leased}
 use Rattle.client_state.specs.declared.task.Stage.TheVariants as stage
@@ -57,14 +57,7 @@ lease_found book taken after j x (Failed s u) f h = refused_found book taken aft
 lease_found book taken after j x (Done a) f h = record { value = h.value; told = told_found book taken after j x (Some h.value) a.version f h.told; call = served_found book taken after j x (lease_body j.file) f h.call; known = h.known }
 
 walk_found : (book : Book) (taken after : List TakenCall) (closing : Option ℕ) (j : Job) (x : ℕ) (w : Walk) (m : Nfs) → Finds taken after → WalkTold book taken closing j x w m → WalkTold book after closing j x w m
-walk_found book taken after closing j x w m f h = record { then_op = h.then_op; then_is = h.then_is; then_began = h.then_began; at = h.at; noted = h.noted; moment = h.moment; step_is = h.step_is; was = λ m. f x h.moment (h.was m); past = h.past; op = h.op; there = h.there; after = h.after; bounded = h.bounded; rooted = h.rooted; came = h.came; session = h.session; sent = h.sent; seat = h.seat; seat_is = h.seat_is; job_is = h.job_is }
-
--- what is to come wasn't taken
-pub not_taken : (floor : ℕ) (taken : List TakenCall) (x p : ℕ) → AllUnder floor taken → floor ≤ x → taken_at taken x ≡ Some p → ⊥
-not_taken floor [] x p u le e = nothing_there p e
-not_taken floor (v ∷ taken) x p u le e =
-    let lt = u.0 in
-    not_taken floor taken x p u.1 le (sym (ap (λ b. option_map (λ z. z.step) (cond b (Some v) (find (λ z. z.xid == x) taken))) (ne_eqb v.xid x (λ s. omega (arith, lt, le, s)))) ∙ e)
+walk_found book taken after closing j x w m f h = record { then_op = h.then_op; then_is = h.then_is; then_began = h.then_began; at = h.at; noted = h.noted; moment = h.moment; step_is = h.step_is; was = λ m. f x h.moment (h.was m); past = h.past; op = h.op; there = h.there; after = h.after; bounded = h.bounded; rooted = h.rooted; came = h.came; session = h.session; sent = h.sent; seat = h.seat; seat_is = h.seat_is; newest = h.newest; job_is = h.job_is }
 
 tried_by_found : (book : Book) (taken after : List TakenCall) (j : Job) (x : ℕ) (s : Stage) → Finds taken after → TriedBy book taken j x s → TriedBy book after j x s
 tried_by_found book taken after j x (stage.Hashing tries y) f h = tried_found book taken after j x tries f h

@@ -1,7 +1,8 @@
 -- The server takes a call: the frame of all that it answers at once.
 use Rattle.std.proofs.Common.{inl, inr, ◌≡◌, ℕ, ◌+◌, ◌<◌, ◌≤◌, List, [], ◌∷◌, ◌++◌, Option, Some, None, Bool, true, false, refl, sym, ap, ◌∙◌, subst, arith, map}
-use Rattle.file_tree.specs.Tree.{Tree}
+use Rattle.tree_reading.specs.Tree.{Tree}
 use Rattle.server_core.specs.State as server
+use Rattle.chunk_calls.specs.Files as the_files
 use Rattle.client_state.specs.State as client
 use Rattle.kept_promise.proofs.Common.{slice_get, Indexed, MessageFits, Temp, key_of, Change, File, TakenCall, Core, Session, numbered, unless, hashed_of, Book, value_at, Reply, Ask, Told, Queue, told_message, call_program, reply_program, version_at}
 use Rattle.kept_promise.proofs.Statements.{CallFits}
@@ -33,7 +34,7 @@ pub fresh_still : (book more : Book) (made ended : Option ℕ) (t : Tree) → Gr
 fresh_still book more made ended t grows still h f le = version_alike book more f (more.steps + 1) (book.steps + 1) grows.opening (still f) ∙ h f le
 
 pub server_still : (book more : Book) (made ended : Option ℕ) (s : server.State) (moment : ℕ) (temps : List (ℕ × Temp)) (index : Indexed) → Grows book more made ended → Still book more → IsServer book s → IsServer more (record s { moment = moment; temps = temps; index = index })
-server_still book more made ended s moment temps index grows still h = record { held = λ f. file_still book more made ended f (server.file_at s.tree f) grows still (h.held f); fresh = fresh_still book more made ended s.tree grows still h.fresh; bounded = h.bounded; zero = h.zero; rooted = h.rooted; wants = h.wants; changes = h.changes; bytes = h.bytes; lengths = h.lengths; targets = λ i c e. there_later book more made ended c.file grows (h.targets i c e); xids = h.xids }
+server_still book more made ended s moment temps index grows still h = record { held = λ f. file_still book more made ended f (the_files.file_at s.tree f) grows still (h.held f); fresh = fresh_still book more made ended s.tree grows still h.fresh; bounded = h.bounded; zero = h.zero; rooted = h.rooted; wants = h.wants; changes = h.changes; bytes = h.bytes; lengths = h.lengths; targets = λ i c e. there_later book more made ended c.file grows (h.targets i c e); xids = h.xids }
 
 -- ---- a session that took a call
 
@@ -123,7 +124,7 @@ kept_reply book k qs n moment x q a us temps index r sessions after kept at is e
         temps = shows.pieces;
         temps_below = λ uncut. ((ups_of (λ b. TempUnder c.client.next_temp b.call) (h.temps_below uncut).0).1, shows.below uncut);
         closes = λ uncut j f. close_later book more None None x.closing h.contents c.client.next_temp j (client.local_bytes c.client.opened j.file) j.stage g spares (h.closes uncut j f);
-        pending = λ i d f. waits_later book more None None x.closing x.cut (job c) (job c) d.xid d.file d.what g spares (λ u. refl) (h.pending i d f);
+        pending = λ i d f. waits_later book more None None x.closing x.cut (job c) (job c) d.session d.xid d.file d.what g spares (λ u. refl) (h.pending i d f);
         single = let a1 = h.single in let b1 = commits_tail a us in let c1 = ap commits_in e in omega (arith, a1, b1, c1);
         old = λ p f. let o = h.old p f in let u = g.each p o.0 o.1 in (u.0, u.1, u.2.client ∙ o.2);
         orderly = λ uncut. subst (λ (b : Bool). Orderly more n temps b (put_down q us x.cut t) c) (sym unhung) (orderly_answered book more None None n k.server.temps temps x.cut q a us t c g e (shows.wanted uncut) (shows.held uncut us e) (subst (λ (b : Bool). Orderly book n k.server.temps b q c) unhung (h.orderly uncut)));

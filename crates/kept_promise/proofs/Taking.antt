@@ -6,10 +6,9 @@ use Rattle.client_state.specs.State as client
 use Rattle.client_state.specs.declared.task.Stage.TheVariants as stage
 use Rattle.register_model.specs.declared.op.Outcome.TheVariants as told
 use Rattle.register_model.specs.declared.op.Word.TheVariants as words
-use Rattle.kept_promise.proofs.Common.{nat_tests, ◌==◌, ◌&&◌, ◌||◌, nat_lt, cond, not, slice_get, slice_set, filter, option_map_or, chunks_of, Chunk, Done, Hashes, Body, Pending, ClientStep, Fetch, ReadCall, Stage, without_read, with_hashes, fetch_of, end_of, content_of, changes, changed_before, latest, value_after, Op, Opening, TakenCall, op_after, ops_after, ops_with, Book, value_at, Tried, Reply, Reply.Hashed, reply_body}
+use Rattle.kept_promise.proofs.Common.{nat_tests, ◌==◌, ◌&&◌, ◌||◌, nat_lt, cond, not, slice_get, slice_set, filter, option_map_or, chunks_of, Done, Hashes, Body, Pending, ClientStep, Fetch, ReadCall, Stage, without_read, with_hashes, fetch_of, end_of, content_of, changes, changed_before, latest, value_after, Op, Opening, TakenCall, op_after, ops_after, ops_with, Book, value_at, Tried, Reply, Reply.Hashed, reply_body}
 use Rattle.kept_promise.proofs.Lists.{some_is}
 use Rattle.kept_promise.proofs.Keys.{times}
-use Rattle.kept_promise.proofs.Chunks.{Row}
 use Rattle.kept_promise.proofs.Messages.{Job, stage_word, hash_offset, IsTried, TriedBy, AnswerOf, IsHashed, IsFetch, FetchOf, Trying, IsTrying}
 use Rattle.kept_promise.proofs.Rights.{IsSound, close_not_open}
 use Rattle.kept_promise.proofs.Attempts.{fetch_first, fetch_next}
@@ -128,14 +127,6 @@ moved_by book taken j o at trying fetch word more = by j.stage refl fetch word m
     by _ e f w more = absurd (close_not_open w)
 
 -- ---- chunks
-
-pub no_bytes : (x : List ℕ) → length x ≡ 0 → x ≡ []
-no_bytes [] e = refl
-no_bytes (b ∷ x) e = absurd (omega (arith, e))
-
-pub no_chunks : (cs : List Chunk) → Row [] 0 cs → length cs ≡ 0
-no_chunks [] r = refl
-no_chunks (c ∷ cs) r = let some = r.0.some in let most = r.0.within in absurd (omega (arith, some, most))
 
 -- what is known of an operation as its client takes an answer
 pub record Taking (book more : Book) (taken : List TakenCall) (j : Job) (o : Op) (p : ℕ) : Type 0 where

@@ -2,20 +2,22 @@
 use Rattle.std.proofs.Common.{inl, inr, ◌≡◌, ℕ, ◌+◌, ◌<◌, ◌≤◌, List, [], ◌∷◌, ◌++◌, Option, Some, None, Bool, true, false, refl, sym, ap, ◌∙◌, subst, arith, eq-eqb, map, Result, Ok, Err}
 use Rattle.xdr_codec.specs.declared.status.Status.TheVariants as status
 use Rattle.server_core.specs.State as server
+use Rattle.chunk_calls.specs.Files as the_files
 use Rattle.tree_nodes.specs.declared.node.Node.{Node as TreeNode}
-use Rattle.file_tree.specs.Tree.{directory_of}
-use Rattle.server_core.specs.Answers.{hash_answer, lease_answer, read_answer}
+use Rattle.tree_reading.specs.Tree.{directory_of}
+use Rattle.chunk_calls.specs.Answers.{hash_answer, lease_answer}
+use Rattle.server_core.specs.Answers.{read_answer}
 use Rattle.server_core.specs.Hashed.{bytes_told}
 use Rattle.wire.specs.declared.message.Message.TheVariants as message
 use Rattle.wire.specs.declared.message.Body.TheVariants as body
 use Rattle.client_state.specs.State as client
 use Rattle.client_state.specs.declared.task.Stage.TheVariants as stage
-use Rattle.trace_replay.specs.Causes.{TakesCall}
+use Rattle.trace_replay.specs.OwnCalls.{TakesCall}
 use Rattle.trace_replay.specs.Trail.{served_hashed}
-use Rattle.kept_promise.proofs.Common.{slice_get, cond, ◌==◌, ◌||◌, Contains, end_of, parse_of, server_waiting, Body, Op, Task, chunk_bytes, Chunk, handle_bytes, Failed, Status, HashRange, Range, message_spell, MessageFits, Node, directory, file, node_of, told_chunks, hashes_of, piece_of, leased_of, File, Fetch, Stage, Value, TakenCall, Core, Seat, Session, Event.Serves, numbered, hashed_of, Book, value_at, version_at, Call.Lease, Call.Hash, Call.Read, Reply, Reply.Versioned, Reply.Hashed, Reply.Bytes, Ask, Queue, ask_message, told_message, Tree, Call.Walks, Reply.Walked, name_answer, happens, NameReply, Moment}
+use Rattle.kept_promise.proofs.Common.{slice_get, cond, ◌==◌, ◌||◌, Contains, end_of, parse_of, server_waiting, Body, Message, Op, Task, chunk_bytes, Chunk, handle_bytes, Failed, Status, HashRange, Range, message_spell, MessageFits, Node, directory, file, node_of, told_chunks, hashes_of, piece_of, leased_of, File, Fetch, Stage, Value, TakenCall, Core, Seat, Session, Event.Serves, numbered, hashed_of, Book, value_at, version_at, Call.Lease, Call.Hash, Call.Read, Reply, Reply.Versioned, Reply.Hashed, Reply.Bytes, Ask, Queue, ask_message, told_message, Tree, Call.Walks, Reply.Walked, name_answer, happens, NameReply, Moment}
 use Rattle.kept_promise.proofs.Statements.{CallFits}
 use Rattle.kept_promise.proofs.Lists.{some_is, nothing_there}
-use Rattle.kept_promise.proofs.Messages.{Job, job, job_of, lease_body, hash_body, AllAsks, Rising, IsAsked, hash_offset, IsTold, IsHashed, RefusedTold, HashTold, IsLeased, LeaseTold, IsRead, ReadTold, TriedBy, AnswerOf, IsFetch, IsReading, FetchOf, range_from, WalkCame, WalkTold}
+use Rattle.kept_promise.proofs.Messages.{Job, job, job_of, lease_body, hash_body, AllAsks, Rising, IsAsked, hash_offset, IsTold, IsHashed, RefusedTold, HashTold, IsLeased, LeaseTold, IsRead, ReadTold, TriedBy, AnswerOf, IsFetch, IsReading, FetchOf, range_from, WalkCame, WalkTold, IsTakenFor}
 use Rattle.kept_promise.proofs.Rights.{IsHeld, WasThere}
 use Rattle.kept_promise.proofs.Growth.{value_later, version_later, tried_later, there_later}
 use Rattle.kept_promise.proofs.History.{onward, grows_same}
@@ -28,6 +30,7 @@ use Rattle.kept_promise.proofs.Leading.{IsNoted}
 use Rattle.server_law.proofs.Trees.{file_bounded}
 use Rattle.kept_promise.proofs.TreeOpens.{Named, a_directory, nobody, a_file, named_in}
 use Rattle.path_calls.specs.declared.walk.Walk.{Walk}
+use Rattle.path_calls.specs.Walk.{next_call}
 use Rattle.kept_promise.proofs.PathNames.{is_making}
 use Rattle.kept_promise.proofs.WalkReplies.{walk_reply, reply_told}
 use Rattle.kept_promise.proofs.Unused.{directory_unused}
@@ -35,9 +38,9 @@ use Rattle.kept_promise.proofs.Unused.{directory_unused}
 -- ---- what a name stands for
 
 pub data Found (t : Tree) (f : ℕ) : Type 0 where
-  is_directory : (n : TreeNode) → directory_of t.nodes f ≡ Ok n → server.file_at t f ≡ None → node_of t (handle_bytes f) ≡ Ok directory → Found t f
-  is_gone : server.file_at t f ≡ None → node_of t (handle_bytes f) ≡ Err status.Stale → Found t f
-  is_file : (g : File) → server.file_at t f ≡ Some g → node_of t (handle_bytes f) ≡ Ok (file g) → Found t f
+  is_directory : (n : TreeNode) → directory_of t.nodes f ≡ Ok n → the_files.file_at t f ≡ None → node_of t (handle_bytes f) ≡ Ok directory → Found t f
+  is_gone : the_files.file_at t f ≡ None → node_of t (handle_bytes f) ≡ Err status.Stale → Found t f
+  is_file : (g : File) → the_files.file_at t f ≡ Some g → node_of t (handle_bytes f) ≡ Ok (file g) → Found t f
 
 pub looked : (t : Tree) (f : ℕ) → f < 18446744073709551616 → Found t f
 looked t f lt = by (named_in t f)
@@ -148,8 +151,8 @@ tried_now book k qs n x q a us c j (stage.Listing y f) o waits call kept was tal
 tried_now book k qs n x q a us c j _ o waits call kept was talk e is at = tt
 
 -- what the server has of a file then
-pub held_now : (book : Book) (k : Core) (n now : ℕ) (a : Ask) (i f : ℕ) (g : File) → IsNoted book k (Serves n now (message_spell (ask_message a))) → i ≡ f → server.file_at k.server.tree f ≡ Some g → IsHeld book.moments i g
-held_now book k n now a i f g noted same there = record { at = record { before = k; event = Serves n now (message_spell (ask_message a)) }; there = noted.there; held = ap (server.file_at k.server.tree) same ∙ there }
+pub held_now : (book : Book) (k : Core) (n now : ℕ) (a : Ask) (i f : ℕ) (g : File) → IsNoted book k (Serves n now (message_spell (ask_message a))) → i ≡ f → the_files.file_at k.server.tree f ≡ Some g → IsHeld book.moments i g
+held_now book k n now a i f g noted same there = record { at = record { before = k; event = Serves n now (message_spell (ask_message a)) }; there = noted.there; held = ap (the_files.file_at k.server.tree) same ∙ there }
 
 -- a directory
 directory_told : (book : Book) (k : Core) (qs : List Queue) (n now : ℕ) (x : Session) (q : Queue) (a : Ask) (f : ℕ) (us : List Ask) (c : Seat) (j : Job) (d : TreeNode) → IsKept book k qs → numbered k.seats x.owner ≡ Some c → IsTalk book n k.server.waiting x q c → q.ups ≡ a ∷ us → job c ≡ Some j
@@ -178,7 +181,7 @@ directory_told book k qs n now x q a f us c j d kept was talk e is noted same th
 
 -- a file that is not in the tree
 gone_told : (book : Book) (k : Core) (qs : List Queue) (n : ℕ) (x : Session) (q : Queue) (a : Ask) (f : ℕ) (us : List Ask) (c : Seat) (j : Job) → IsKept book k qs → numbered k.seats x.owner ≡ Some c → IsTalk book n k.server.waiting x q c → q.ups ≡ a ∷ us → job c ≡ Some j
-    → j.file ≡ f → server.file_at k.server.tree f ≡ None → RefusedTold (onward book 1 book.ops) (with_taken x a.xid (book.steps + 1)) j a.xid status.Stale
+    → j.file ≡ f → the_files.file_at k.server.tree f ≡ None → RefusedTold (onward book 1 book.ops) (with_taken x a.xid (book.steps + 1)) j a.xid status.Stale
 gone_told book k qs n x q a f us c j kept was talk e is same none =
     let held = subst (FileIs book f) none (kept.server.held f) in
     inr (refl, (version_at book j.file (book.steps + 1), told_now book k qs n x q a us c j None (version_at book j.file (book.steps + 1)) kept was talk e is (ap (λ (i : ℕ). value_at book i (book.steps + 1)) same ∙ held) refl))
@@ -235,13 +238,34 @@ lease_told laws book k qs n now x q xid f us c kept was here talk e fits noted =
 
 -- ---- a walk's call
 
+-- it is taken in this step, and its client waits for the answer
+abbrev pub taken_now : (book more : Book) (k : Core) (qs : List Queue) (n now : ℕ) (x : Session) (a : Ask) (w : Walk) (c : Seat) (client_ : ℕ) (j : Job) (o : Op) → IsKept book k qs → numbered k.seats x.owner ≡ Some c → c.session ≡ Some n → IsNoted book k (Serves n now (message_spell (ask_message a)))
+    → parse_of server_waiting (message_spell (ask_message a)) ≡ Ok (ask_message a) → ask_message a ≡ message.Call a.xid (body.Nfs (next_call w)) → more.moments ≡ book.moments → more.steps ≡ book.steps + 1 → client_ ≡ o.client → job c ≡ Some j → slice_get book.ops j.place ≡ Some o → j.stage ≡ stage.Walking a.xid w → IsTakenFor more client_ j n a.xid w
+taken_now book more k qs n now x a w c client_ j o kept was here noted parsed_ asks moments steps same is at on =
+    let of = (kept.seats x.owner c was).task j is in
+    let passed = kept.steps in
+    record {
+      at = record { before = k; event = Serves n now (message_spell (ask_message a)) };
+      noted = subst (λ (l : List Moment). Contains l (record { before = k; event = Serves n now (message_spell (ask_message a)) })) (sym moments) noted.there;
+      past = omega (arith, passed, steps);
+      now = now;
+      bytes = message_spell (ask_message a);
+      event_is = refl;
+      parsed = parsed_ ∙ ap (λ (m : Message). Ok m) asks;
+      seat = c;
+      seat_is = ap (numbered k.seats) (same ∙ ap (λ (z : Op). z.client) (some_is o of.op (sym at ∙ of.there)) ∙ of.client) ∙ was;
+      newest = here;
+      job_is = is;
+      stage_is = on;
+    }
+
 -- an answer to it, which came of it in this step
-pub walk_came : (book more : Book) (k : Core) (qs : List Queue) (n now : ℕ) (x : Session) (q : Queue) (xid : ℕ) (w : Walk) (us : List Ask) (c : Seat) (r : NameReply) → IsKept book k qs → numbered k.seats x.owner ≡ Some c → IsTalk book n k.server.waiting x q c → q.ups ≡ record { xid = xid; call = Walks w } ∷ us
+pub walk_came : (book more : Book) (k : Core) (qs : List Queue) (n now : ℕ) (x : Session) (q : Queue) (xid : ℕ) (w : Walk) (us : List Ask) (c : Seat) (r : NameReply) → IsKept book k qs → numbered k.seats x.owner ≡ Some c → c.session ≡ Some n → IsTalk book n k.server.waiting x q c → q.ups ≡ record { xid = xid; call = Walks w } ∷ us
     → IsNoted book k (Serves n now (message_spell (ask_message (record { xid = xid; call = Walks w })))) → Contains (happens k (Serves n now (message_spell (ask_message (record { xid = xid; call = Walks w }))))).down (record { session = n; message = message.Answer xid (body.Nfs (name_answer r)) })
     → more.moments ≡ book.moments → more.steps ≡ book.steps + 1
     → ((j : Job) (o : Op) → job c ≡ Some j → j.stage ≡ stage.Walking xid w → slice_get book.ops j.place ≡ Some o → (z : Op) × (slice_get more.ops j.place ≡ Some z) × (z.begin ≡ o.begin) × (z.client ≡ o.client) × WalkCame more (record { before = k; event = Serves n now (message_spell (ask_message (record { xid = xid; call = Walks w }))) }) (book.steps + 1) x.closing j z w (name_answer r))
     → AnswerOf more (with_taken x xid (book.steps + 1)) x.closing (job c) xid (Walked r)
-walk_came book more k qs n now x q xid w us c r kept was talk e noted sent moments steps came = λ j v is at.
+walk_came book more k qs n now x q xid w us c r kept was here talk e noted sent moments steps came = λ j v is at.
     let of = (kept.seats x.owner c was).task j is in
     let begun = (kept.sound.rights j.place of.op of.there).begun in
     let rising = subst (λ (l : List Ask). Rising talk.floor l c.client.next) e talk.rising in
@@ -265,6 +289,7 @@ walk_came book more k qs n now x q xid w us c r kept was talk e noted sent momen
       sent = sent;
       seat = c;
       seat_is = ap (numbered k.seats) (z.3 ∙ of.client) ∙ was;
+      newest = here;
       job_is = is;
       then_op = of.op;
       then_is = ap (λ (l : List Op). slice_get l j.place) (sym kept.ops) ∙ of.there;
@@ -272,10 +297,10 @@ walk_came book more k qs n now x q xid w us c r kept was talk e noted sent momen
     })
 
 -- what the tree tells of it now
-pub walk_told : (book : Book) (k : Core) (qs : List Queue) (n now : ℕ) (x : Session) (q : Queue) (xid : ℕ) (w : Walk) (us : List Ask) (c : Seat) → IsKept book k qs → numbered k.seats x.owner ≡ Some c → IsTalk book n k.server.waiting x q c → q.ups ≡ record { xid = xid; call = Walks w } ∷ us → CallFits xid (Walks w) → is_making w ≡ false
+pub walk_told : (book : Book) (k : Core) (qs : List Queue) (n now : ℕ) (x : Session) (q : Queue) (xid : ℕ) (w : Walk) (us : List Ask) (c : Seat) → IsKept book k qs → numbered k.seats x.owner ≡ Some c → c.session ≡ Some n → IsTalk book n k.server.waiting x q c → q.ups ≡ record { xid = xid; call = Walks w } ∷ us → CallFits xid (Walks w) → is_making w ≡ false
     → IsNoted book k (Serves n now (message_spell (ask_message (record { xid = xid; call = Walks w })))) → Contains (happens k (Serves n now (message_spell (ask_message (record { xid = xid; call = Walks w }))))).down (record { session = n; message = message.Answer xid (body.Nfs (name_answer (walk_reply k.server.tree w))) }) → AnswerOf (onward book 1 book.ops) (with_taken x xid (book.steps + 1)) x.closing (job c) xid (Walked (walk_reply k.server.tree w))
-walk_told book k qs n now x q xid w us c kept was talk e fits none noted sent =
-    walk_came book (onward book 1 book.ops) k qs n now x q xid w us c (walk_reply k.server.tree w) kept was talk e noted sent refl refl
+walk_told book k qs n now x q xid w us c kept was here talk e fits none noted sent =
+    walk_came book (onward book 1 book.ops) k qs n now x q xid w us c (walk_reply k.server.tree w) kept was here talk e noted sent refl refl
     (λ j o is at there. (o, there, refl, refl, inl (reply_told k.server.tree w fits.1 none, λ i f. let le = (kept.sound.past i (book.steps + 1) f).1 in omega (arith, le))))
 
 -- ---- a GETHASH

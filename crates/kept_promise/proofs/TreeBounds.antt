@@ -5,31 +5,22 @@ use Rattle.std.specs.Option.{option_map}
 use Rattle.std.proofs.lemmas.Bool.Decides.{nat_tests}
 use Rattle.xdr_codec.specs.declared.status.Status.{Status}
 use Rattle.xdr_codec.specs.declared.status.Status.TheVariants as status
-use Rattle.nfs3_calls.specs.declared.message.Nfs.{Nfs}
-use Rattle.nfs3_calls.specs.declared.message.Nfs.TheVariants as nfs
 use Rattle.tree_nodes.specs.declared.node.Node.{Node}
 use Rattle.tree_nodes.specs.Nodes.{with_id, with_node, without, versioned, named}
 use Rattle.tree_nodes.proofs.Lists.{with_id_without}
-use Rattle.file_tree.specs.Chain.{◌>>=◌}
-use Rattle.file_tree.specs.Names.{spelt, undotted}
-use Rattle.file_tree.specs.Reading.{stands_for}
-use Rattle.file_tree.specs.declared.call.Changed.{Changed}
-use Rattle.file_tree.specs.declared.call.CreateMode.{CreateMode}
-use Rattle.file_tree.specs.declared.call.CreateMode.TheVariants as mode
-use Rattle.file_tree.specs.declared.call.Held.{Held}
-use Rattle.file_tree.specs.declared.call.Planned.{Planned}
-use Rattle.file_tree.specs.declared.call.Planned.TheVariants as planned
-use Rattle.file_tree.specs.Tree.{Tree, content_of, contents_size, node_of, directory_of, directory_or, file_or, or_no_entry, or_taken}
-use Rattle.file_tree.specs.Step.{changes_most, spared, made, removed, placed, moved_at, moved, nothing, create_found, create_mode, may_create, create_plan, create, created as create_made, new_file, new_directory, may_mkdir, mkdir, mkdir_if, or_not_empty, may_remove, may_rmdir, remove_done, remove_plan, remove_if, remove, rmdir_plan, rmdir, Target, itself, over, or_within, may_replace, is_same, rename_over, planned as planned_as, planned_found, rename_plan, shifted, rename_if, rename}
+use Rattle.tree_reading.specs.Chain.{◌>>=◌}
+use Rattle.tree_reading.specs.Names.{spelt, undotted}
+use Rattle.tree_plans.specs.declared.call.Changed.{Changed}
+use Rattle.tree_plans.specs.declared.call.CreateMode.{CreateMode}
+use Rattle.tree_plans.specs.declared.call.CreateMode.TheVariants as mode
+use Rattle.tree_plans.specs.declared.call.Held.{Held}
+use Rattle.tree_plans.specs.declared.call.Planned.{Planned}
+use Rattle.tree_plans.specs.declared.call.Planned.TheVariants as planned
+use Rattle.tree_reading.specs.Tree.{Tree, content_of, contents_size, node_of, directory_of, directory_or, file_or, or_no_entry, or_taken, changes_most}
+use Rattle.tree_plans.specs.Plans.{spared, nothing, create_found, create_mode, may_create, create_plan, may_mkdir, or_not_empty, may_remove, may_rmdir, remove_done, remove_plan, rmdir_plan, Target, itself, over, or_within, may_replace, is_same, rename_over, planned as planned_as, planned_found, rename_plan}
+use Rattle.file_tree.specs.Step.{made, removed, placed, moved_at, moved, create, created as create_made, new_file, new_directory, mkdir, mkdir_if, remove_if, remove, rmdir, shifted, rename_if, rename}
 use Rattle.file_tree.proofs.Limits.{counted, limits_with, limits_without, limits_versioned, limits_moved, size_with, size_same, size_without}
 use Rattle.file_tree.proofs.States.{named_id}
-use Rattle.tree_calls.specs.declared.asked.Asked.{Asked}
-use Rattle.tree_calls.specs.declared.asked.Asked.TheVariants as asked
-use Rattle.tree_calls.specs.declared.asked.Outcome.{Outcome}
-use Rattle.tree_calls.specs.declared.asked.Outcome.TheVariants.{Answered, Waits}
-use Rattle.tree_calls.specs.Telling.{id_of, told}
-use Rattle.tree_calls.specs.Changing.{mode_of}
-use Rattle.tree_calls.specs.Waiting.{entries_of, remove_comes, rename_comes, settles, removes_if, renames_if, remove_again, rename_again, calls, creates_in, mkdirs_in, rmdirs_in, removing, asks_remove, removes_in, renaming, asks_rename, renames_in, told_outcome}
 use Rattle.server_law.proofs.Trees.{nodes_of, IsBounded}
 use Rattle.server_law.proofs.TreeCalls.{bind_ok, ok_is}
 use Rattle.kept_promise.proofs.TreeTold.{entry_is}
@@ -53,9 +44,6 @@ spared_room t held n u e = by (nat_lt changes_most (t.changes + held.entries + n
     by false is same = grind (arith, nat_tests, is)
 
 -- ---- the trees
-
-version_as : ℕ → Node → Node
-version_as version n = record n { version = version }
 
 versioned_size : (ns : List Node) (id version : ℕ) → contents_size (versioned ns id version) ≡ contents_size ns
 versioned_size ns id version = size_same (λ n. record n { version = version }) (λ m. refl) ns id
@@ -277,111 +265,3 @@ rename_stays t held dir name to to_name = by (rename_plan t held dir name to to_
         let f = rename_finds t held dir name to to_name (planned.Over done) e in
         let g = move_is t held f.0 to (named t.nodes to to_name) (planned.Over done) f.2 in
         over_node f.0 g.0 (named t.nodes dir name) (named t.nodes to to_name) f.1 f.1 g.1 g.2 g.3
-
--- ---- all of them
-
-pub settles_stays : (t : Tree) (held : Held) (a : Asked) → Stays held t (settles t held a).0
-settles_stays t held (asked.Remove r) = by (remove_again t.nodes r)
-  where
-    by : (o : Result Unit Status) → Stays held t (removes_if t held r.spot o).0
-    by (Err e) = stays_same held t
-    by (Ok u) = remove_stays t held r.spot.dir r.spot.name
-settles_stays t held (asked.Rename r) = by (rename_again t.nodes r)
-  where
-    by : (o : Result Unit Status) → Stays held t (renames_if t held r.from r.to o).0
-    by (Err e) = stays_same held t
-    by (Ok u) = rename_stays t held r.from.dir r.from.name r.to.dir r.to.name
-
-pub calls_stays : (t : Tree) (held : Held) (busy : Bool) (m : Nfs) → Stays held t (calls t held busy m).0
-calls_stays t held busy (nfs.Create f) = by (id_of f.place.dir)
-  where
-    by : (r : Result ℕ Status) → Stays held t (creates_in t held f r).0
-    by (Err s) = stays_same held t
-    by (Ok dir) = create_stays t held dir f.place.name (mode_of f.how)
-calls_stays t held busy (nfs.MkDir d) = by (id_of d.place.dir)
-  where
-    by : (r : Result ℕ Status) → Stays held t (mkdirs_in t held d.place.name r).0
-    by (Err s) = stays_same held t
-    by (Ok dir) = mkdir_stays t held dir d.place.name
-calls_stays t held busy (nfs.RmDir p) = by (id_of p.dir)
-  where
-    by : (r : Result ℕ Status) → Stays held t (rmdirs_in t held p.name r).0
-    by (Err s) = stays_same held t
-    by (Ok dir) = rmdir_stays t held dir p.name
-calls_stays t held busy (nfs.Rename r) = by (id_of r.from.dir) (id_of r.to.dir)
-  where
-    comes : (dir to : ℕ) (o : Result (Option (ℕ × ℕ)) Status) → Stays held t (renaming t held dir r.from.name to r.to.name o).0
-    comes dir to (Err s) = stays_same held t
-    comes dir to (Ok None) = rename_stays t held dir r.from.name to r.to.name
-    comes dir to (Ok (Some p)) = stays_same held t
-
-    by : (a b : Result ℕ Status) → Stays held t (renames_in t held busy r.from.name r.to.name a b).0
-    by (Ok dir) (Ok to) = comes dir to (asks_rename t held busy dir r.from.name to r.to.name)
-    by (Ok dir) (Err s) = stays_same held t
-    by (Err s) b = stays_same held t
-calls_stays t held busy m = stays_same held t
-
--- ---- what comes to wait has its room beside those that wait
-
-waits_is : (a b : Asked) → ◌≡◌ {A = Option Outcome} (Some (Waits a)) (Some (Waits b)) → a ≡ b
-waits_is a b e = ap (λ o. or_else o) e
-  where
-    asked_in : Outcome → Asked
-    asked_in (Waits c) = c
-    asked_in (Answered d) = a
-
-    or_else : Option Outcome → Asked
-    or_else None = a
-    or_else (Some x) = asked_in x
-
-remove_waits : (t : Tree) (held : Held) (busy : Bool) (dir : ℕ) (name : List ℕ) (file : ℕ) → asks_remove t held busy dir name ≡ Ok file → IsSpared t held 1
-remove_waits t held busy dir name file e = by busy (remove_plan t held dir name) refl e
-  where
-    by : (b : Bool) (r : Result Changed Status) → remove_plan t held dir name ≡ r → remove_comes b r ≡ Ok file → IsSpared t held 1
-    by b (Err s) is e = absurd cc
-    by true (Ok c) is e = absurd cc
-    by false (Ok c) is e = remove_room t held dir name c is
-
-rename_waits : (t : Tree) (held : Held) (busy : Bool) (dir : ℕ) (name : List ℕ) (to : ℕ) (to_name : List ℕ) (p : ℕ × ℕ) → asks_rename t held busy dir name to to_name ≡ Ok (Some p) → IsSpared t held 2
-rename_waits t held busy dir name to to_name p e = by (rename_plan t held dir name to to_name) refl e
-  where
-    nothing_waits : ◌≡◌ {A = Result (Option (ℕ × ℕ)) Status} (Ok None) (Ok (Some p)) → ⊥
-    nothing_waits e = absurd cc
-
-    by : (r : Result Planned Status) → rename_plan t held dir name to to_name ≡ r → rename_comes busy (stands_for t.nodes to to_name) r ≡ Ok (Some p) → IsSpared t held 2
-    by (Err s) is e = absurd cc
-    by (Ok (planned.Nothing c)) is e = absurd (nothing_waits e)
-    by (Ok (planned.Free c)) is e = absurd (nothing_waits e)
-    by (Ok (planned.Over c)) is e =
-        let f = rename_finds t held dir name to to_name (planned.Over c) is in
-        (move_is t held f.0 to (named t.nodes to to_name) (planned.Over c) f.2).3
-
-told_waits : (o : Option Nfs) (a : Asked) → told_outcome o ≡ Some (Waits a) → ⊥
-told_waits None a e = absurd cc
-told_waits (Some m) a e = absurd cc
-
-pub waits_room : (t : Tree) (held : Held) (busy : Bool) (m : Nfs) (a : Asked) → (calls t held busy m).1 ≡ Some (Waits a) → IsSpared t held (entries_of a)
-waits_room t held busy (nfs.Remove p) a e = by (id_of p.dir) e
-  where
-    got : (dir : ℕ) (r : Result ℕ Status) → asks_remove t held busy dir p.name ≡ r → ◌≡◌ {A = Option Outcome} (Some (removing dir p.name r)) (Some (Waits a)) → IsSpared t held (entries_of a)
-    got dir (Err s) is e = absurd cc
-    got dir (Ok file) is e = subst (λ (z : Asked). IsSpared t held (entries_of z)) (waits_is (asked.Remove (record { spot = record { dir = dir; name = p.name }; file = file })) a e) (remove_waits t held busy dir p.name file is)
-
-    by : (r : Result ℕ Status) → ◌≡◌ {A = Option Outcome} (Some (removes_in t held busy p.name r)) (Some (Waits a)) → IsSpared t held (entries_of a)
-    by (Err s) e = absurd cc
-    by (Ok dir) e = got dir (asks_remove t held busy dir p.name) refl e
-waits_room t held busy (nfs.Rename r) a e = by (id_of r.from.dir) (id_of r.to.dir) e
-  where
-    got : (dir to : ℕ) (o : Result (Option (ℕ × ℕ)) Status) → asks_rename t held busy dir r.from.name to r.to.name ≡ o → ◌≡◌ {A = Option Outcome} (Some (renaming t held dir r.from.name to r.to.name o).1) (Some (Waits a)) → IsSpared t held (entries_of a)
-    got dir to (Err s) is e = absurd cc
-    got dir to (Ok None) is e = absurd cc
-    got dir to (Ok (Some p)) is e = subst (λ (z : Asked). IsSpared t held (entries_of z)) (waits_is (asked.Rename (record { from = record { dir = dir; name = r.from.name }; to = record { dir = to; name = r.to.name }; node = p.0; file = p.1 })) a e) (rename_waits t held busy dir r.from.name to r.to.name p is)
-
-    by : (x y : Result ℕ Status) → ◌≡◌ {A = Option Outcome} (Some (renames_in t held busy r.from.name r.to.name x y).1) (Some (Waits a)) → IsSpared t held (entries_of a)
-    by (Ok dir) (Ok to) e = got dir to (asks_rename t held busy dir r.from.name to r.to.name) refl e
-    by (Ok dir) (Err s) e = absurd cc
-    by (Err s) y e = absurd cc
-waits_room t held busy (nfs.Create f) a e = absurd cc
-waits_room t held busy (nfs.MkDir d) a e = absurd cc
-waits_room t held busy (nfs.RmDir p) a e = absurd cc
-waits_room t held busy m a e = absurd (told_waits (told t.nodes m) a e)

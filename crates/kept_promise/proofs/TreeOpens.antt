@@ -9,16 +9,16 @@ use Rattle.tree_nodes.specs.declared.node.Node.{Node}
 use Rattle.tree_nodes.specs.declared.node.Body.{Body}
 use Rattle.tree_nodes.specs.declared.node.Body.TheVariants.{Directory, File as Plain}
 use Rattle.tree_nodes.specs.Nodes.{with_id, with_node}
-use Rattle.file_tree.specs.Chain.{◌>>=◌}
-use Rattle.file_tree.specs.Tree.{Tree, is_directory, directory_of, directory_or, or_stale, content_of, contents_size}
-use Rattle.file_tree.specs.Step.{file_most, tree_most}
+use Rattle.tree_reading.specs.Chain.{◌>>=◌}
+use Rattle.tree_reading.specs.Tree.{Tree, is_directory, directory_of, directory_or, or_stale, content_of, contents_size, file_most, tree_most}
 use Rattle.file_tree.specs.Opening.{can_open, counted_at, with_change, with_next, opened, opens}
-use Rattle.file_tree.specs.View.{IsNodeBounded, AreIdsApart}
+use Rattle.tree_reading.specs.View.{IsNodeBounded}
+use Rattle.file_tree.specs.View.{AreIdsApart}
 use Rattle.file_tree.proofs.Limits.{all_map, all_with, size_with}
-use Rattle.server_core.specs.Answers.{directory, file, node_with, node_found, node_named, Node as ServerNode}
-use Rattle.server_core.specs.State.{File, file_of_body, file_of_node, file_at}
+use Rattle.chunk_calls.specs.Answers.{directory, file, node_with, node_found, node_named, Node as ServerNode}
+use Rattle.chunk_calls.specs.Files.{File, file_of_body, file_of_node, file_at}
 use Rattle.kept_promise.proofs.TreeNames.{IsCounted as AreCounted}
-use Rattle.server_law.proofs.Trees.{IsBounded, IsGiven, given, next_free, given_with, with_files}
+use Rattle.server_law.proofs.Trees.{IsBounded, IsGiven, next_free, given_with, with_files}
 use Rattle.tree_nodes.proofs.Lists.{with_id_with}
 
 -- ---- the opening tree

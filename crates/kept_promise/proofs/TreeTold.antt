@@ -14,10 +14,10 @@ use Rattle.nfs3_calls.specs.declared.place.Found.{Found}
 use Rattle.nfs3_calls.specs.declared.place.Place.{Place}
 use Rattle.tree_nodes.specs.declared.node.Node.{Node}
 use Rattle.tree_nodes.specs.Nodes.{with_id, named, names}
-use Rattle.file_tree.specs.Chain.{◌>>=◌}
-use Rattle.file_tree.specs.Names.{is_dot, is_dot_dot, spelt}
-use Rattle.file_tree.specs.Tree.{directory_of, node_of, or_stale, directory_or, or_no_entry}
-use Rattle.file_tree.specs.Reading.{attr_of, attr, looked, lookup, found_of, above, stands_for, standing_of, entry_size, page, is_too_small, listing_of, listed, is_bad_cookie, list}
+use Rattle.tree_reading.specs.Chain.{◌>>=◌}
+use Rattle.tree_reading.specs.Names.{is_dot, is_dot_dot, spelt}
+use Rattle.tree_reading.specs.Tree.{directory_of, node_of, or_stale, directory_or, or_no_entry}
+use Rattle.tree_reading.specs.Reading.{attr_of, attr, looked, lookup, found_of, above, stands_for, standing_of, entry_size, page, is_too_small, listing_of, listed, is_bad_cookie, list}
 use Rattle.file_tree.proofs.States.{id_is}
 use Rattle.tree_calls.specs.Telling.{id_of, or_bad_handle, getattr, found, found_of as told_of, listing}
 use Rattle.path_calls.specs.Told.{last_cookie, with_page}
@@ -53,7 +53,7 @@ directory_id nodes dir d e = by (with_id nodes dir) refl e
 
     by : (o : Option Node) → with_id nodes dir ≡ o → (or_stale o >>= directory_or status.NotDir) ≡ Ok d → d.id ≡ dir
     by None at same = absurd cc
-    by (Some n) at same = is_it n (Rattle.file_tree.specs.Tree.is_directory n.body) at same
+    by (Some n) at same = is_it n (Rattle.tree_reading.specs.Tree.is_directory n.body) at same
 
 pub lookup_tells : (nodes : List Node) (p : Place) (f : Found) → is_dot p.name ≡ false → is_dot_dot p.name ≡ false → found nodes p ≡ Ok f → (dir : ℕ) × (file_of p.dir ≡ Some dir) × IsFound nodes dir p.name f
 lookup_tells nodes p f plain plain2 e =

@@ -5,7 +5,6 @@ use native.Mathlib.Nat.{div-add-mod'}
 use Rattle.std.proofs.lemmas.Nat.{from_be_bytes-to_be_bytes_8}
 use Rattle.limits.specs.declared.TheConstants.{LISTING_MOST}
 use Rattle.xdr_codec.specs.Handle.{file_of, handle_bytes}
-use Rattle.xdr_codec.specs.declared.answer.Answer.TheVariants.{Done, Failed}
 use Rattle.xdr_codec.specs.declared.attr.Attr.{Attr}
 use Rattle.xdr_codec.specs.declared.status.Status.{Status}
 use Rattle.nfs3_calls.specs.declared.listing.Listing.{Listing}
@@ -17,11 +16,11 @@ use Rattle.tree_nodes.specs.declared.node.Node.{Node}
 use Rattle.tree_nodes.specs.declared.node.Body.{Body}
 use Rattle.tree_nodes.specs.declared.node.Body.TheVariants.{Directory, File}
 use Rattle.tree_nodes.specs.Nodes.{with_id, named}
-use Rattle.file_tree.specs.Names.{is_dot, is_dot_dot}
-use Rattle.file_tree.specs.Tree.{Tree}
-use Rattle.file_tree.specs.Reading.{attr_of, attr_body, stands_for, standing_of}
-use Rattle.file_tree.specs.declared.call.Standing.{Standing}
-use Rattle.file_tree.proofs.Found.{named_bounded}
+use Rattle.tree_reading.specs.Names.{is_dot, is_dot_dot}
+use Rattle.tree_reading.specs.Tree.{Tree}
+use Rattle.tree_reading.specs.Reading.{attr_of, attr_body, stands_for, standing_of}
+use Rattle.tree_reading.specs.declared.reading.Standing.{Standing}
+use Rattle.tree_reading.proofs.Found.{named_bounded}
 use Rattle.file_tree.proofs.Limits.{bounds}
 use Rattle.file_tree.proofs.States.{id_is}
 use Rattle.tree_calls.specs.Telling.{answer_of, found, getattr, listing, told as told_by}
@@ -182,28 +181,3 @@ lists_page t w p a small left aim e =
         let h = listing_tells t.nodes range x is in
         let same : h.0 ≡ w.dir = some_id h.0 w.dir (sym h.1 ∙ own_handle w.dir small) in
         inr (x, subst (λ (i : ℕ). IsPage t.nodes i p.cookie p.verifier x) same h.2, ap (λ (g : Goal). told_page w.dir g x) aim)
-
--- ---- what changes names
-
--- an answer of theirs
-abbrev pub IsOfChange : Nfs → Type 0
-IsOfChange (nfs.CreateAnswer a) = Unit {0}
-IsOfChange (nfs.MkDirAnswer a) = Unit {0}
-IsOfChange (nfs.RemoveAnswer a) = Unit {0}
-IsOfChange (nfs.RmDirAnswer a) = Unit {0}
-IsOfChange (nfs.RenameAnswer a) = Unit {0}
-IsOfChange a = ⊥
-
--- it's refused, or done
-pub ends_change : (w : Walk) (a : Nfs) → IsOfChange a → IsRefusal a (walk_told w a) ⊎ ((refusal_of a ≡ None) × (walk_told w a ≡ told.Ends ended.Done))
-ends_change w (nfs.CreateAnswer (Done d)) is = inr (refl, refl)
-ends_change w (nfs.CreateAnswer (Failed s f)) is = inl (s, refl, refl)
-ends_change w (nfs.MkDirAnswer (Done d)) is = inr (refl, refl)
-ends_change w (nfs.MkDirAnswer (Failed s f)) is = inl (s, refl, refl)
-ends_change w (nfs.RemoveAnswer (Done d)) is = inr (refl, refl)
-ends_change w (nfs.RemoveAnswer (Failed s f)) is = inl (s, refl, refl)
-ends_change w (nfs.RmDirAnswer (Done d)) is = inr (refl, refl)
-ends_change w (nfs.RmDirAnswer (Failed s f)) is = inl (s, refl, refl)
-ends_change w (nfs.RenameAnswer (Done d)) is = inr (refl, refl)
-ends_change w (nfs.RenameAnswer (Failed s f)) is = inl (s, refl, refl)
-ends_change w a is = absurd is

@@ -4,21 +4,22 @@ use Rattle.xdr_codec.specs.declared.answer.Answer.TheVariants as answer
 use Rattle.xdr_codec.specs.declared.status.Status.TheVariants as status
 use Rattle.tree_nodes.specs.declared.node.Node.{Node}
 use Rattle.tree_nodes.specs.Nodes.{with_id}
-use Rattle.file_tree.specs.Chain.{◌>>=◌}
-use Rattle.file_tree.specs.Tree.{Tree, or_stale, file_or, contents_size}
-use Rattle.file_tree.specs.Step.{within_file, spared, spared_bytes, replace_if}
-use Rattle.file_tree.specs.declared.call.Held.{Held}
+use Rattle.tree_reading.specs.Chain.{◌>>=◌}
+use Rattle.tree_reading.specs.Tree.{Tree, or_stale, file_or, contents_size}
+use Rattle.tree_plans.specs.Plans.{within_file, spared, spared_bytes}
+use Rattle.file_tree.specs.Step.{replace_if}
+use Rattle.tree_plans.specs.declared.call.Held.{Held}
 use Rattle.tree_calls.specs.declared.asked.Committing.{Committing}
 use Rattle.tree_calls.specs.Waiting.{commits, with_committed}
 use Rattle.server_core.specs.State as server
+use Rattle.chunk_calls.specs.Files as the_files
 use Rattle.server_core.specs.Closing as closing
 use Rattle.server_core.specs.declared.change.Wanted.TheVariants as wanted
 use Rattle.server_core.specs.declared.event.ServerStep.{ServerStep}
 use Rattle.server_core.specs.declared.event.Told.TheVariants as announced
 use Rattle.client_state.specs.State as client
 use Rattle.client_state.specs.declared.task.Stage.TheVariants as stage
-use Rattle.trace_replay.specs.Core.{entries_since}
-use Rattle.trace_replay.specs.Ops.{changed_file}
+use Rattle.trace_ends.specs.Core.{entries_since, changed_file}
 use Rattle.kept_promise.proofs.Common.{slice_get, at, Failed, MessageFits, Change, Wanted, Entry, Op, Core, Session, CoreStep, quiet, numbered, with_numbered, settles, settled_by, unless, hashed_of, Book, Reply.Changed, Told, Queue, told_message, value_at}
 use Rattle.kept_promise.proofs.Lists.{some_is, nothing_there}
 use Rattle.kept_promise.proofs.Keys.{own, change_key, told_key}
@@ -44,7 +45,7 @@ use Rattle.kept_promise.proofs.GoingSettles.{first_own, other_own, behind, way_s
 -- ---- what the tree makes of it
 
 -- what was a file and is none has no node
-pub node_gone : (book : Book) (s : server.State) (f : ℕ) → IsServer book s → WasThere book f → server.file_at s.tree f ≡ None → with_id s.tree.nodes f ≡ None
+pub node_gone : (book : Book) (s : server.State) (f : ℕ) → IsServer book s → WasThere book f → the_files.file_at s.tree f ≡ None → with_id s.tree.nodes f ≡ None
 node_gone book s f h there none = by (with_id s.tree.nodes f) refl
   where
     by : (o : Option Node) → with_id s.tree.nodes f ≡ o → o ≡ None
@@ -84,13 +85,13 @@ unmade_settles k now c cs content waits what none =
     with_parts : List Entry → List Op → List ℕ → CoreStep
     with_parts journal ops entries = record (quiet (record k { steps = k.steps + 1; server = record before { journal = journal }; ops = ops; entries = entries })) { down = record { session = c.session; message = told_message (unmade_told c) } ∷ [] }
 
-    same : (o : Option Session) → Rattle.trace_replay.specs.Core.settled_ops k.ops (k.steps + 1) None o ≡ k.ops
+    same : (o : Option Session) → Rattle.trace_sessions.specs.Session.settled_ops k.ops (k.steps + 1) None o ≡ k.ops
     same None = refl
     same (Some x) = pointed_none k.ops x.closing (k.steps + 1)
 
 -- ---- the frame
 
-module _ (laws : FitLaws) (book : Book) (k : Core) (qs : List Queue) (now : ℕ) (c : Change) (cs : List Change) (content : List ℕ) (kept : IsKept book k qs) (waits : k.server.waiting ≡ c ∷ cs) (what : c.what ≡ wanted.Content content) (none : server.file_at k.server.tree c.file ≡ None)
+module _ (laws : FitLaws) (book : Book) (k : Core) (qs : List Queue) (now : ℕ) (c : Change) (cs : List Change) (content : List ℕ) (kept : IsKept book k qs) (waits : k.server.waiting ≡ c ∷ cs) (what : c.what ≡ wanted.Content content) (none : the_files.file_at k.server.tree c.file ≡ None)
     (x : Session) (q : Queue) (here : numbered k.sessions c.session ≡ Some x) (unhung : x.hung ≡ false) (is : numbered qs c.session ≡ Some q) (p : IsPending book x.closing x.cut (job (kept.sessions c.session x q here is).seat) c.xid c.file content) where
   abbrev n : ℕ
   n = c.session
@@ -184,7 +185,7 @@ module _ (laws : FitLaws) (book : Book) (k : Core) (qs : List Queue) (now : ℕ)
       let b = kept.server.bytes in
       let u = ap server.waiting_size waits in
       record {
-        held = λ f. file_still book more None None f (server.file_at k.server.tree f) grows still (kept.server.held f);
+        held = λ f. file_still book more None None f (the_files.file_at k.server.tree f) grows still (kept.server.held f);
         fresh = fresh_still book more None None k.server.tree grows still kept.server.fresh;
         bounded = kept.server.bounded;
         zero = kept.server.zero;

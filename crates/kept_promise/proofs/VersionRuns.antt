@@ -14,8 +14,8 @@ use Rattle.client_state.specs.declared.task.Stage.TheVariants as stage
 use Rattle.register_model.specs.declared.op.Outcome.{Outcome as History}
 use Rattle.register_model.specs.declared.op.Outcome.TheVariants as told
 use Rattle.register_model.specs.declared.op.Word.TheVariants as words
-use Rattle.trace_replay.specs.Ops.{taken_on}
-use Rattle.trace_replay.specs.Core.{taken_of as session_taken}
+use Rattle.trace_ops.specs.Ops.{taken_on, file_with}
+use Rattle.trace_sessions.specs.Session.{taken_of as session_taken}
 use Rattle.trace_replay.specs.Trail.{taken_of}
 use Rattle.trace_replay.specs.Faithful.{Carries, OpensVersion}
 use Rattle.kept_promise.proofs.Common.{nat_tests, Contains-append_left, Contains-append_right, Contains-append_cases, Contains-push, ◌==◌, ◌&&◌, ◌||◌, nat_le, slice_get, slice_set, cond, find, Contains, Command, Done, Hashes, parse_of, WireFault, Message, Change, File, server_step, has_call, pending, command_step, got_step, ended_by, joined, ClientStep, Ended, Outcome, Stage, Task, changes, changed_before, Op, Opening, TakenCall, word_of, told_of, has_point, point_if, op_after, begun, taken_at, place_after, place_with, pointed, pointed_at, Core, Seat, Session, Event, Event.Joins, Event.Does, Event.Serves, Event.Hears, Event.Settles, Event.Cuts, Event.Hangs, CoreStep, numbered, with_numbered, new_session, taken_with, commanded_session, commanded_sessions, cut_session, server_waiting, serves_if, serves, session_of, ops_after, ops_with, acted, does, joins_as, joins, settled_ops, settled_by, settles, cuts_if, cuts, hangs_if, hangs, happens, Moment, Said, all_said, owner_in, client_of, wanted_if, wanted_by, taken_by, Book, version_at, until, TellsVersion, Reply, Reply.Versioned, Reply.Hashed, Reply.Bytes, Told, Queue, reply_body, told_message, ServerStep, ask_message, Reply.Walked, NameReply.LookedUp, NameReply.Shown, NameReply.Listed, NameReply.MadeFile, NameReply.MadeDir, NameReply.NoDir, Wanted}
@@ -35,8 +35,7 @@ use Rattle.kept_promise.proofs.JobFacts.{ops_shape, job_after}
 use Rattle.kept_promise.proofs.Actors.{acts_alone, job_place, job_task, placed, Heard, heard_at, heard_acts, heard_takes, serves_read}
 use Rattle.kept_promise.proofs.CountedRuns.{CountedAt, carried_counts, taken_more}
 use Rattle.kept_promise.proofs.Shapes.{TaskGood, OutcomeGood, EndGood, Good, TookIn, TaskTook, good_answer, good_command, busy_command, StageGood}
-use Rattle.trace_replay.specs.Core.{entries_since}
-use Rattle.trace_replay.specs.Ops.{changed_file, file_with}
+use Rattle.trace_ends.specs.Core.{entries_since, changed_file}
 use Rattle.kept_promise.proofs.ServesFiles.{one_since}
 use Rattle.kept_promise.proofs.Found.{heard_quiet, heard_apart, Quietly, IsFresh, step_found}
 use Rattle.kept_promise.proofs.Versions.{of_numbered, version_by, early_of, by_counts, count_replaced, count_appended, CameTo, Since, Attempt, Untold, takens, JobVersion, HaveVersions, Alike, alike_same, Extends, extends_same, came_alike, since_alike, job_alike, JobCame, versions_onward}
@@ -185,7 +184,7 @@ settled_are book k qs now kept = by (settling book k qs now kept)
         let q = also_numbered k.sessions qs c.session home.0 kept.made.1 home.1 in
         let mine = own_there k.server.waiting 0 c first in
         let h = kept.sessions c.session home.0 q.0 home.1 q.1 in
-        let pending = subst (λ (w : Wanted). WaitsFor book home.0.closing home.0.cut (job h.seat) c.xid c.file w) what (h.pending mine.0 c mine.1) in
+        let pending = subst (λ (w : Wanted). WaitsFor book c.session home.0.closing home.0.cut (job h.seat) c.xid c.file w) what (h.pending mine.0 c mine.1) in
         let there : slice_get k.ops pending.place ≡ Some pending.op = ap (λ (l : List Op). slice_get l pending.place) (sym kept.ops) ∙ pending.there in
         inr (record {
           place = pending.place;

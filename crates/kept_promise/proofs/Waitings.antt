@@ -1,10 +1,11 @@
 -- A change comes to wait at the server: the frame of all such.
 use Rattle.std.proofs.Common.{inl, inr, ◌≡◌, ℕ, ◌+◌, ◌<◌, ◌≤◌, List, [], ◌∷◌, ◌++◌, length, max, Some, None, Bool, true, false, refl, sym, ap, ◌∙◌, subst, arith, eq-eqb, ne_eqb, map}
-use Rattle.file_tree.specs.Tree.{contents_size}
+use Rattle.tree_reading.specs.Tree.{contents_size}
 use Rattle.server_core.specs.State as server
-use Rattle.server_core.specs.Closing.{answers, sends}
+use Rattle.chunk_calls.specs.Files as the_files
+use Rattle.server_core.specs.Closing.{sends}
 use Rattle.client_state.specs.State as client
-use Rattle.kept_promise.proofs.Common.{slice_get, cond, ◌==◌, file, at, commits, Temp, Change, TakenCall, Core, Session, numbered, with_numbered, hashed_of, Book, Call, Call.Lease, Call.Hash, Call.Read, Call.Make, Call.Name, Call.Send, Call.Walks, Call.Commit, Ask, Queue}
+use Rattle.kept_promise.proofs.Common.{slice_get, cond, ◌==◌, at, Temp, Change, TakenCall, Core, Session, numbered, with_numbered, hashed_of, Book, Call, Call.Lease, Call.Hash, Call.Read, Call.Make, Call.Name, Call.Send, Call.Walks, Call.Commit, Ask, Queue}
 use Rattle.kept_promise.proofs.Lists.{some_is, nothing_there, same_or_not, of_appended, count_more, false_and_true}
 use Rattle.kept_promise.proofs.Keys.{times, times_append, own, on_way, change_key, ask_key, told_key}
 use Rattle.kept_promise.proofs.Messages.{job, AllAsks, Rising, IsAsked, IsAnswer, IsCommit, IsPiece, WaitsFor, TempUnder, content_wanted}
@@ -81,7 +82,7 @@ pub record ComesToWait (book : Book) (k : Core) (n : ℕ) (x : Session) (q : Que
   pub shelf : IsShelf temps
   pub found : (o : ℕ) → (o ≡ n → ⊥) → SameFound k.server.temps temps o
   pub held : x.cut ≡ false → Held temps n us q.downs (locals_of h.seat.client) (job h.seat)
-  pub waits : WaitsFor (onward book 1 book.ops) x.closing x.cut (job h.seat) d.xid d.file d.what
+  pub waits : WaitsFor (onward book 1 book.ops) d.session x.closing x.cut (job h.seat) d.xid d.file d.what
 
 kept_coming : (book : Book) (k : Core) (qs : List Queue) (n now : ℕ) (x : Session) (q : Queue) (a : Ask) (us : List Ask) (temps : List (ℕ × Temp)) (d : Change) (sessions : List Session) (after : List Queue) → (g : Given book k qs n now x q a us) → ComesToWait book k n x q a us temps d (session_in book k qs n now x q a us g)
     → Around k.sessions sessions n (took x a.xid (book.steps + 1)) → Around qs after n (record q { ups = us })
@@ -105,7 +106,7 @@ kept_coming book k qs n now x q a us temps d sessions after g comes around queue
       owner = refl;
       goes = goes_same book 1 kept.sound;
       server = record {
-        held = λ i. file_still book more None None i (server.file_at k.server.tree i) grows (still_same book 1 kept.sound) (kept.server.held i);
+        held = λ i. file_still book more None None i (the_files.file_at k.server.tree i) grows (still_same book 1 kept.sound) (kept.server.held i);
         fresh = fresh_still book more None None k.server.tree grows (still_same book 1 kept.sound) kept.server.fresh;
         bounded = kept.server.bounded;
         zero = kept.server.zero;
@@ -173,8 +174,8 @@ kept_coming book k qs n now x q a us temps d sessions after g comes around queue
         temps_below = λ uncut. ((subst (AllAsks (λ b. TempUnder c.client.next_temp b.call)) g.first (h.temps_below uncut).0).1, λ i o e lt is key. let w = comes.were i e is in (h.temps_below uncut).1 w.0 o e lt w.1 key);
         closes = λ uncut j u. close_later book more None None x.closing h.contents c.client.next_temp j (client.local_bytes c.client.opened j.file) j.stage grows spares (h.closes uncut j u);
         pending = λ i u at. elim (of_appended (own n k.server.waiting) d i u (ap (λ (l : List Change). slice_get l i) (sym (own_here n k.server.waiting d comes.session_is)) ∙ at)) [
-          | inl new ↦ subst (λ (z : Change). WaitsFor more x.closing x.cut (job c) z.xid z.file z.what) (sym new.1) comes.waits
-          | inr old ↦ waits_later book more None None x.closing x.cut (job c) (job c) u.xid u.file u.what grows spares (λ z. refl) (h.pending i u old)
+          | inl new ↦ subst (λ (z : Change). WaitsFor more z.session x.closing x.cut (job c) z.xid z.file z.what) (sym new.1) comes.waits
+          | inr old ↦ waits_later book more None None x.closing x.cut (job c) (job c) u.session u.xid u.file u.what grows spares (λ z. refl) (h.pending i u old)
         ];
         single =
             let s = h.single in

@@ -10,8 +10,8 @@ use Rattle.nfs3_calls.specs.declared.listing.Listing.{Listing}
 use Rattle.nfs3_calls.specs.declared.message.Nfs.{Nfs}
 use Rattle.tree_nodes.specs.declared.node.Node.{Node}
 use Rattle.tree_nodes.specs.Nodes.{with_id, named, names}
-use Rattle.file_tree.specs.Tree.{directory_of}
-use Rattle.file_tree.specs.declared.call.Standing.{Standing}
+use Rattle.tree_reading.specs.Tree.{directory_of}
+use Rattle.tree_reading.specs.declared.reading.Standing.{Standing}
 use Rattle.tree_calls.specs.Telling.{told as told_by}
 use Rattle.path_calls.specs.declared.answers.Ended.TheVariants as ended
 use Rattle.path_calls.specs.declared.answers.Told.{Told}

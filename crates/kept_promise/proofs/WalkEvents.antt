@@ -1,17 +1,14 @@
 -- A run carries how far each command on names has come, and what each that ended was told.
-use Rattle.register_model.specs.declared.op.Outcome.{Outcome as History}
 use Rattle.std.proofs.Common.{◌⊎◌, inl, inr, ◌≡◌, ℕ, ◌+◌, ◌≤◌, List, [], ◌∷◌, ◌++◌, length, append-nil, Option, Some, None, Ok, Bool, true, false, refl, sym, ap, ◌∙◌, subst, arith, suc, eqb-true}
 use Rattle.command_text.specs.declared.command.Command.TheVariants as command
 use Rattle.command_text.specs.declared.path.PathCommand.{PathCommand}
 use Rattle.command_text.specs.declared.path.Spot.{Spot}
 use Rattle.client_state.specs.Ending.{unknown}
 use Rattle.trace_replay.specs.declared.opening.TheConstants.{ROOT}
+use Rattle.trace_replay.specs.Causes.{HasNeither}
 use Rattle.trace_replay.specs.Naming.{Leads, all_names}
 use Rattle.command_text.specs.declared.path.PathCommand.TheVariants as path
-use Rattle.server_core.specs.State as server
 use Rattle.server_core.specs.declared.event.Event.TheVariants as event
-use Rattle.server_core.specs.declared.event.Told.{Told as Announced}
-use Rattle.server_core.specs.declared.event.Told.TheVariants as announced
 use Rattle.client_state.specs.State as client
 use Rattle.wire.specs.declared.message.Body.TheVariants as body
 use Rattle.wire.specs.declared.message.Message.TheVariants as message
@@ -25,25 +22,24 @@ use Rattle.path_calls.specs.declared.walk.Walk.{Walk}
 use Rattle.client_cache.specs.Cache.{content_of, reserved}
 use Rattle.client_cache.specs.declared.kept.Content.{Content}
 use Rattle.path_calls.specs.Walk.{begun}
-use Rattle.trace_replay.specs.Ops.{begun as op_begun}
+use Rattle.trace_ops.specs.Ops.{begun as op_begun}
 use Rattle.client_state.specs.Ending.{may_walk}
 use Rattle.open_close.specs.Walking.{walks, walks_if, is_its, is_look, told_walk, walked}
-use Rattle.trace_replay.specs.Core.{taken_of as session_taken}
+use Rattle.trace_sessions.specs.Session.{taken_of as session_taken}
 use Rattle.trace_replay.specs.Trail.{AreCounted, steps_by}
-use Rattle.trace_replay.specs.Commands.{path_word}
-use Rattle.kept_promise.proofs.Common.{slice_get, slice_set, Contains, Contains-push_cases, Command, ClientStep, Ended, ended_by, joined, command_step, Pending, Stage, Task, Op, Opening, TakenCall, op_after, ops_with, ops_after, place_after, Core, Seat, CoreStep, Event, Event.Joins, Event.Does, Event.Serves, Event.Hears, Event.Settles, Event.Cuts, Event.Hangs, numbered, with_numbered, joins, joins_as, does, cuts, cuts_if, acted, session_of, server_step, happens, Moment, step_of, Deed, deeds_of, deed_by, Book, Queue, taken_by, got_step, told_message, Body, took, took_if, got_message, has_call, pending, idle, drops, reply_body, ◌==◌, ◌||◌, Contains-append_cases, Reply, Reply.Walked, Reply.Bytes, Reply.Versioned, Reply.Hashed, Reply.Made, Reply.Named, Reply.Stored, Reply.Changed, name_answer, Message, wanted_if, Contains-push, file_of, joined_from, calls_from, place_with, nat_lt, if◌then◌else◌, Local, Part, content_length, content_bytes, on_local, edits, truncates, reads, abandons, too_big, writes, done_with, closes, asks_temp, opens, opens_if, asks_file, asks_kept, is_open, may_ask, local_most, written_size, written, truncated, ends, word_of, value_at_begin, Word, point_if, has_point, told_of, Outcome, is_untold}
+use Rattle.trace_ops.specs.Commands.{path_word}
+use Rattle.kept_promise.proofs.Common.{slice_get, Contains, Contains-push_cases, Command, ClientStep, Ended, ended_by, command_step, Pending, Stage, Task, Op, Opening, TakenCall, op_after, ops_with, place_after, Core, Seat, CoreStep, Event, Event.Joins, Event.Does, Event.Serves, Event.Hears, Event.Settles, Event.Cuts, Event.Hangs, numbered, joins, does, cuts, cuts_if, acted, session_of, server_step, happens, Moment, step_of, Deed, deeds_of, Book, Queue, taken_by, got_step, told_message, Body, took, took_if, got_message, has_call, pending, idle, drops, reply_body, ◌==◌, ◌||◌, Contains-append_cases, Reply, Reply.Walked, Reply.Bytes, Reply.Versioned, Reply.Hashed, Reply.Made, Reply.Named, Reply.Stored, Reply.Changed, name_answer, Message, wanted_if, Contains-push, file_of, joined_from, calls_from, place_with, nat_lt, if◌then◌else◌, Local, Part, content_length, content_bytes, on_local, edits, truncates, reads, abandons, too_big, writes, done_with, closes, asks_temp, opens, opens_if, asks_file, asks_kept, is_open, may_ask, local_most, written_size, written, truncated, ends, word_of, value_at_begin, Word, point_if, has_point, told_of, Outcome}
 use Rattle.kept_promise.proofs.Actors.{job_place, job_task, Heard, heard_at, heard_acts, heard_takes}
-use Rattle.kept_promise.proofs.Lists.{set_count, some_is, nothing_there, of_appended, kept_appended, at_replaced, same_or_not, set_else, count_more, within, at_end, true_and_false}
-use Rattle.kept_promise.proofs.Messages.{Job, job, job_of, WalkTold, AllTolds, IsAnswer, AnswerOf, FetchOf, CloseOf}
+use Rattle.kept_promise.proofs.Lists.{some_is, nothing_there, of_appended, kept_appended, count_more, within, at_end}
+use Rattle.kept_promise.proofs.Messages.{Job, job, job_of, WalkCame, WalkTold, AllTolds, IsAnswer, AnswerOf, FetchOf, CloseOf}
 use Rattle.kept_promise.proofs.PathNames.{IsSmall, IsWalkSmall, makes_later}
 use Rattle.kept_promise.proofs.Facts.{IsKept, IsMatched}
 use Rattle.kept_promise.proofs.Fits.{FitLaws}
-use Rattle.kept_promise.proofs.Locally.{deeds_more}
-use Rattle.kept_promise.proofs.JobFacts.{ops_shape, job_after}
+use Rattle.kept_promise.proofs.JobFacts.{job_after}
 use Rattle.kept_promise.proofs.RunsCarried.{book_at, moment, Step, Carried}
 use Rattle.kept_promise.proofs.Versions.{of_numbered}
-use Rattle.kept_promise.proofs.VersionRuns.{settled_are, own_op, foreign_at, IsChange, Remembers, change_of}
-use Rattle.kept_promise.proofs.Rights.{Caused, IsRight, gets_file}
+use Rattle.kept_promise.proofs.VersionRuns.{own_op, change_of}
+use Rattle.kept_promise.proofs.Rights.{Caused, IsRight}
 use Rattle.kept_promise.proofs.CommandOps.{made_by, job_stays}
 use Rattle.kept_promise.proofs.Shapes.{busy_command}
 use Rattle.kept_promise.proofs.ServesQuietly.{serves_quiet}
@@ -54,320 +50,9 @@ use Rattle.kept_promise.proofs.Leaving.{Leaves, took_left}
 use Rattle.kept_promise.proofs.Found.{took_finds, file_after, command_finds}
 use Rattle.kept_promise.proofs.StepCases.{IsOfFile}
 use Rattle.kept_promise.proofs.Walked.{HasWalk, leads_past, walk_begins}
-use Rattle.kept_promise.proofs.WalkRuns.{bare, OnWay, IsOn, EndsAs, JobsOn, IsOver, Walks, SameWay, same_way, is_on, is_over, took_file, heard_walk, IsBare}
-
--- ---- an operation as it was
-
--- one that gets its file from the server has got it, and nobody was told
-record MadeWay (o r : Op) : Type 0 where
-  client : r.client ≡ o.client
-  word : r.word ≡ o.word
-  begin : r.begin ≡ o.begin
-  end : r.end ≡ o.end
-  outcome : r.outcome ≡ o.outcome
-  gets : gets_file o.word ≡ true
-  untold : is_untold o.outcome ≡ true
-
-abbrev WayKept : Op → Op → Type 0
-WayKept o r = SameWay o r ⊎ MadeWay o r
-
-same_kept : (o : Op) → WayKept o o
-same_kept o = inl (same_way o)
-
-kept_begin : (o r : Op) → WayKept o r → r.begin ≡ o.begin
-kept_begin o r (inl s) = s.begin
-kept_begin o r (inr s) = s.begin
-
-kept_word : (o r : Op) → WayKept o r → r.word ≡ o.word
-kept_word o r (inl s) = s.word
-kept_word o r (inr s) = s.word
-
-bare_make : (c : PathCommand) (r : Op) → gets_file (path_word c) ≡ true → IsBare c r
-bare_make (path.Make s) r e = tt
-bare_make (path.Remove s) r e = tt
-bare_make (path.Rename s t) r e = tt
-bare_make c r e = absurd cc
-
-no_make : (c : PathCommand) (s : Spot) → c ≡ path.Find s → gets_file (path_word c) ≡ true → ⊥
-no_make c s is e = true_and_false (gets_file (path_word c)) e (ap (λ (z : PathCommand). gets_file (path_word z)) is)
-
-made_on : (all : List Moment) (c : PathCommand) (o r : Op) (st : Stage) (n m : ℕ) → MadeWay o r → n ≤ m → OnWay all c o st n → OnWay all c r st m
-made_on all c o r (stage.Walking x w) n m s le (step, has, before, plain, is) = (step, subst (λ (b : ℕ). HasWalk (bare all) b c w step) (sym s.begin) has, omega (arith, le, before), bare_make c r (ap gets_file (sym is) ∙ s.gets), s.word ∙ is)
-made_on all c o r (stage.Asking x) n m s le h = absurd (no_make c h.0.0 h.0.1 (ap gets_file (sym h.2) ∙ s.gets))
-made_on all c o r (stage.Hashing t x) n m s le h = absurd (no_make c h.0.0 h.0.1 (ap gets_file (sym h.2) ∙ s.gets))
-made_on all c o r (stage.Listing x f) n m s le h = absurd (no_make c h.0.0 h.0.1 (ap gets_file (sym h.2) ∙ s.gets))
-made_on all c o r (stage.Reading f) n m s le h = absurd (no_make c h.0.0 h.0.1 (ap gets_file (sym h.2) ∙ s.gets))
-made_on all c o r (stage.Making x t) n m s le h = absurd (no_make c h.0.0 h.0.1 (ap gets_file (sym h.2) ∙ s.gets))
-made_on all c o r (stage.Storing t) n m s le h = absurd (no_make c h.0.0 h.0.1 (ap gets_file (sym h.2) ∙ s.gets))
-made_on all c o r (stage.Committing x) n m s le h = absurd (no_make c h.0.0 h.0.1 (ap gets_file (sym h.2) ∙ s.gets))
-
-kept_on : (all : List Moment) (d : Command) (o r : Op) (st : Stage) (n m : ℕ) → WayKept o r → n ≤ m → IsOn all d o st n → IsOn all d r st m
-kept_on all d o r st n m (inl s) le h = is_on all d o r st n m s.word s.point s.begin s.file le h
-kept_on all (command.Named c) o r st n m (inr s) le h = made_on all c o r st n m s le h
-kept_on all (command.Open f) o r st n m (inr s) le h = h
-kept_on all (command.Write f a b) o r st n m (inr s) le h = h
-kept_on all (command.Trunc f a) o r st n m (inr s) le h = h
-kept_on all (command.Read f a b) o r st n m (inr s) le h = h
-kept_on all (command.Close f) o r st n m (inr s) le h = h
-kept_on all (command.Abandon f) o r st n m (inr s) le h = h
-
-made_ends : (all : List Moment) (c : PathCommand) (o r : Op) (u : History) → gets_file (path_word c) ≡ true → is_untold u ≡ true → EndsAs all c o u → EndsAs all c r u
-made_ends all (path.Make s) o r told.Lost e t h = tt
-made_ends all (path.Make s) o r told.Running e t h = tt
-made_ends all (path.Make s) o r u e t h = absurd cc
-made_ends all (path.Remove s) o r told.Lost e t h = tt
-made_ends all (path.Remove s) o r told.Running e t h = tt
-made_ends all (path.Remove s) o r u e t h = absurd cc
-made_ends all (path.Rename s z) o r told.Lost e t h = tt
-made_ends all (path.Rename s z) o r told.Running e t h = tt
-made_ends all (path.Rename s z) o r u e t h = absurd cc
-made_ends all c o r u e t h = absurd cc
-
-over_kept : (all : List Moment) (d : Command) (o r : Op) → WayKept o r → IsOver all d o → IsOver all d r
-over_kept all d o r (inl s) h = is_over all d o r s h
-over_kept all (command.Named c) o r (inr s) h = (
-  s.word ∙ h.0,
-  elim h.1 [
-    | inl running ↦ inl (s.outcome ∙ running)
-    | inr over ↦ inr (elim over [
-      | inl first ↦ inl (s.end ∙ first ∙ ap (λ (n : ℕ). Some n) (sym s.begin))
-      | inr ends ↦ inr (subst (EndsAs all c r) (sym s.outcome) (made_ends all c o r o.outcome (ap gets_file (sym h.0) ∙ s.gets) s.untold ends))
-    ])
-  ],
-)
-over_kept all (command.Open f) o r (inr s) h = tt
-over_kept all (command.Write f a b) o r (inr s) h = tt
-over_kept all (command.Trunc f a) o r (inr s) h = tt
-over_kept all (command.Read f a b) o r (inr s) h = tt
-over_kept all (command.Close f) o r (inr s) h = tt
-over_kept all (command.Abandon f) o r (inr s) h = tt
-
--- ---- an event
-
--- what is told of the commands of these moments, where one more came
-abbrev More : (past : List Moment) → (k : Core) → Event → List Deed
-More past k e = deeds_of past ++ deed_by past (k.steps + 1) e
-
--- an operation is as it was, as far as its way goes
-abbrev Still : List Op → List Op → Type 0
-Still ops after = (p : ℕ) (o : Op) → slice_get ops p ≡ Some o → (q : Op) × (slice_get after p ≡ Some q) × WayKept o q
-
--- a job behind the event was there, and its operation is as it was; or its operation is this one, which is on its way so
-abbrev JobCame : (all : List Moment) → (ds : List Deed) → (k r : Core) → Type 0
-JobCame all ds k r = (i : ℕ) (seat : Seat) (j : Job) → numbered r.seats i ≡ Some seat → job seat ≡ Some j
-    → ((old : Seat) × (numbered k.seats i ≡ Some old) × (job old ≡ Some j) × ((o : Op) → slice_get k.ops j.place ≡ Some o → (q : Op) × (slice_get r.ops j.place ≡ Some q) × WayKept o q)) ⊎ ((d : Deed) × (o : Op) × (slice_get ds j.place ≡ Some d) × (slice_get r.ops j.place ≡ Some o) × (o.begin ≡ d.begin) × (o.word ≡ word_of d.command) × IsOn all d.command o j.stage r.steps)
-
--- and so is each operation
-abbrev OpCame : (all past : List Moment) → (ds : List Deed) → (k r : Core) → Type 0
-OpCame all past ds k r = (p : ℕ) (d : Deed) (q : Op) → slice_get ds p ≡ Some d → slice_get r.ops p ≡ Some q → ((o : Op) × (slice_get (deeds_of past) p ≡ Some d) × (slice_get k.ops p ≡ Some o) × WayKept o q) ⊎ IsOver all d.command q
-
-prefixed : (past : List Moment) (k : Core) (e : Event) (p : ℕ) (d : Deed) → slice_get (deeds_of past) p ≡ Some d → slice_get (More past k e) p ≡ Some d
-prefixed past k (Does c now x) p d at = kept_appended (deeds_of past) _ p d at
-prefixed past k (Joins c) p d at = ap (λ (l : List Deed). slice_get l p) (append-nil (deeds_of past)) ∙ at
-prefixed past k (Serves n now bytes) p d at = ap (λ (l : List Deed). slice_get l p) (append-nil (deeds_of past)) ∙ at
-prefixed past k (Hears n now bytes) p d at = ap (λ (l : List Deed). slice_get l p) (append-nil (deeds_of past)) ∙ at
-prefixed past k (Settles now) p d at = ap (λ (l : List Deed). slice_get l p) (append-nil (deeds_of past)) ∙ at
-prefixed past k (Cuts c) p d at = ap (λ (l : List Deed). slice_get l p) (append-nil (deeds_of past)) ∙ at
-prefixed past k (Hangs n) p d at = ap (λ (l : List Deed). slice_get l p) (append-nil (deeds_of past)) ∙ at
-
-jobs_longer : (all : List Moment) (ds more : List Deed) (k : Core) → ((p : ℕ) (d : Deed) → slice_get ds p ≡ Some d → slice_get more p ≡ Some d) → JobsOn all ds k → JobsOn all more k
-jobs_longer all ds more k longer h = λ i seat j here is. let w = h i seat j here is in (w.0, w.1, longer j.place w.0 w.2, w.3, w.4, w.5, w.6)
-
--- an event's walks, by what came of jobs and operations
-onward : (all past : List Moment) (k r : Core) (e : Event) → k.steps ≤ r.steps → length r.ops ≡ length (More past k e) → JobCame all (More past k e) k r → OpCame all past (More past k e) k r → Walks all past k → Walks all (past ++ moment k e ∷ []) r
-onward all past k r e le count jobs over h = record {
-  count = count ∙ ap (λ (l : List Deed). length l) (sym more);
-  jobs = subst (λ (l : List Deed). JobsOn all l r) (sym more) (λ i seat j here is. elim (jobs i seat j here is) [
-    | inr own ↦ own
-    | inl old ↦
-        let w = h.jobs i old.0 j old.1 old.2 in
-        let q = old.3 w.1 w.3 in
-        (w.0, q.0, longer j.place w.0 w.2, q.1, kept_begin w.1 q.0 q.2 ∙ w.4, kept_word w.1 q.0 q.2 ∙ w.5, kept_on all w.0.command w.1 q.0 j.stage k.steps r.steps q.2 le w.6)
-  ]);
-  over = λ p d q at is. elim (over p d q (ap (λ (l : List Deed). slice_get l p) (sym more) ∙ at) is) [
-    | inr own ↦ own
-    | inl old ↦ over_kept all d.command old.0 q old.3 (h.over p d old.0 old.1 old.2)
-  ];
-  before = λ m there. elim (Contains-push_cases past (moment k e) m there) [
-    | inl old ↦ subst (λ (l : List Deed). JobsOn all l m.before) (sym more) (jobs_longer all (deeds_of past) (More past k e) m.before longer (h.before m old))
-    | inr new ↦ subst (λ (z : Moment). JobsOn all (deeds_of (past ++ moment k e ∷ [])) z.before) new (subst (λ (l : List Deed). JobsOn all l k) (sym more) (jobs_longer all (deeds_of past) (More past k e) k longer h.jobs))
-  ];
-}
-  where
-    more : deeds_of (past ++ moment k e ∷ []) ≡ More past k e
-    more = deeds_more past (moment k e)
-
-    longer : (p : ℕ) (d : Deed) → slice_get (deeds_of past) p ≡ Some d → slice_get (More past k e) p ≡ Some d
-    longer = prefixed past k e
-
--- ---- events in which no command begins, and no client goes on
-
--- no deed is more
-abbrev IsNoDeed : (past : List Moment) → Core → Event → Type 0
-IsNoDeed past k e = More past k e ≡ deeds_of past
-
--- jobs are as they were, and operations as far as their way goes
-still_onward : (all past : List Moment) (k r : Core) (e : Event) → k.steps ≤ r.steps → IsNoDeed past k e → length r.ops ≡ length k.ops → ((i : ℕ) (seat : Seat) (j : Job) → numbered r.seats i ≡ Some seat → job seat ≡ Some j → (old : Seat) × (numbered k.seats i ≡ Some old) × (job old ≡ Some j)) → Still k.ops r.ops
-    → ((p : ℕ) (q : Op) → slice_get r.ops p ≡ Some q → (o : Op) × (slice_get k.ops p ≡ Some o) × WayKept o q) → Walks all past k → Walks all (past ++ moment k e ∷ []) r
-still_onward all past k r e le none count seats still back h = onward all past k r e le (count ∙ h.count ∙ ap (λ (l : List Deed). length l) (sym none))
-    (λ i seat j here is. let w = seats i seat j here is in inl (w.0, w.1, w.2, λ o at. still j.place o at))
-    (λ p d q at is. let w = back p q is in inl (w.0, ap (λ (l : List Deed). slice_get l p) (sym none) ∙ at, w.1, w.2)) h
-
--- nothing of them changes
-same_onward : (all past : List Moment) (k r : Core) (e : Event) → k.steps ≤ r.steps → IsNoDeed past k e → r.ops ≡ k.ops → r.seats ≡ k.seats → Walks all past k → Walks all (past ++ moment k e ∷ []) r
-same_onward all past k r e le none ops seats h = still_onward all past k r e le none (ap (λ (l : List Op). length l) ops) (λ i seat j here is. (seat, ap (λ (l : List Seat). numbered l i) (sym seats) ∙ here, is)) (λ p o at. (o, ap (λ (l : List Op). slice_get l p) ops ∙ at, same_kept o)) (λ p q at. (q, ap (λ (l : List Op). slice_get l p) (sym ops) ∙ at, same_kept q)) h
-
--- an operation's change was made
-change_onward : (all past : List Moment) (k r : Core) (e : Event) → k.steps ≤ r.steps → IsNoDeed past k e → r.seats ≡ k.seats → IsChange k r.ops → Walks all past k → Walks all (past ++ moment k e ∷ []) r
-change_onward all past k r e le none seats c h = still_onward all past k r e le none (ap (λ (l : List Op). length l) c.is ∙ set_count k.ops c.place new) (λ i seat j here w. (seat, ap (λ (l : List Seat). numbered l i) (sym seats) ∙ here, w))
-    (λ p q there. elim (same_or_not p c.place) [
-      | inr apart ↦ (q, ap (λ (l : List Op). slice_get l p) c.is ∙ set_else k.ops c.place p new apart ∙ there, same_kept q)
-      | inl mine ↦ (let e : c.op ≡ q = some_is c.op q (sym c.there ∙ ap (slice_get k.ops) (sym mine) ∙ there) in (new, ap (λ (l : List Op). slice_get l p) c.is ∙ ap (slice_get (slice_set k.ops c.place new)) mine ∙ at_replaced k.ops c.place new c.op c.there, subst (λ (z : Op). WayKept z new) e (way c.kind)))
-    ])
-    (λ p q there. elim (same_or_not p c.place) [
-      | inr apart ↦ (q, sym (set_else k.ops c.place p new apart) ∙ ap (λ (l : List Op). slice_get l p) (sym c.is) ∙ there, same_kept q)
-      | inl mine ↦ (let e : new ≡ q = some_is new q (sym (at_replaced k.ops c.place new c.op c.there) ∙ ap (slice_get (slice_set k.ops c.place new)) (sym mine) ∙ ap (λ (l : List Op). slice_get l p) (sym c.is) ∙ there) in (c.op, ap (slice_get k.ops) mine ∙ c.there, subst (WayKept c.op) e (way c.kind)))
-    ]) h
-  where
-    new : Op
-    new = record c.op { file = c.file; point = Some (k.steps + 1) }
-
-    way : ((c.op.word ≡ words.Close) × (c.file ≡ c.op.file) × Remembers k c.place) ⊎ ((gets_file c.op.word ≡ true) × (c.op.file ≡ 0)) → WayKept c.op new
-    way (inl close) = inl (record { client = refl; word = refl; file = close.1; begin = refl; end = refl; outcome = refl; point = inr close.0 })
-    way (inr make) = inr (record { client = refl; word = refl; begin = refl; end = refl; outcome = refl; gets = make.0; untold = c.unmade.2 })
-
-settled_onward : (all past : List Moment) (opening : List Opening) (k : Core) (qs : List Queue) (now : ℕ) → IsKept (book_at opening k all) k qs → Walks all past k → Walks all (past ++ moment k (Settles now) ∷ []) (happens k (Settles now)).core
-settled_onward all past opening k qs now kept h = elim (settled_are (book_at opening k all) k qs now kept) [
-  | inl same ↦ same_onward all past k (happens k (Settles now)).core (Settles now) (omega arith) (append-nil (deeds_of past)) same refl h
-  | inr c ↦ change_onward all past k (happens k (Settles now)).core (Settles now) (omega arith) (append-nil (deeds_of past)) refl c h
-]
-
--- a client joins
-joins_onward : (all past : List Moment) (opening : List Opening) (k : Core) (qs : List Queue) (c : ℕ) (seat : Seat) → IsKept (book_at opening k all) k qs → numbered k.seats c ≡ Some seat → seat.client.linked ≡ false → (s : server.State) (o : Announced) → Walks all past k → Walks all (past ++ moment k (Joins c) ∷ []) (joins_as k c seat s o).core
-joins_onward all past opening k qs c seat kept here free s (announced.Session made) h = still_onward all past k (joins_as k c seat s (announced.Session made)).core (Joins c) (omega arith) (append-nil (deeds_of past)) refl
-    (λ i z j there is. elim (of_numbered k.seats c new i z there) [
-      | inl mine ↦ nothing_there j (sym (idle seat.place) ∙ ap job (sym mine.1) ∙ is)
-      | inr other ↦ (z, other.1, is)
-    ]) (λ p o at. (o, at, same_kept o)) (λ p q at. (q, at, same_kept q)) h
-  where
-    new : Seat
-    new = record { client = joined seat.client; session = Some made; place = seat.place }
-
-    none : seat.client.task ≡ None
-    none = ((kept.seats c seat here).unlinked free).0
-
-    idle : (l : Option ℕ) → job_of l (joined seat.client).task ≡ None
-    idle None = refl
-    idle (Some l) = ap (job_of (Some l)) none
-joins_onward all past opening k qs c seat kept here free s _ h = still_onward all past k (record k { steps = k.steps + 2; server = s }) (Joins c) (omega arith) (append-nil (deeds_of past)) refl (λ i z j there is. (z, there, is)) (λ p o at. (o, at, same_kept o)) (λ p q at. (q, at, same_kept q)) h
-
--- ---- a client goes on
-
--- no other operation is another
-acted_else : (ops : List Op) (place : Option ℕ) (c : client.State) (taken : List TakenCall) (step : ℕ) (acts : ClientStep) (p : ℕ) → (place ≡ Some p → ⊥) → slice_get (ops_with ops place c taken step acts) p ≡ slice_get ops p
-acted_else ops None c taken step acts p apart = refl
-acted_else ops (Some l) c taken step acts p apart = by (slice_get ops l)
-  where
-    by : (o : Option Op) → slice_get (ops_after ops l o c taken step acts) p ≡ slice_get ops p
-    by None = refl
-    by (Some o) = set_else ops l p (op_after o c taken step acts) (λ e. apart (ap (λ (n : ℕ). Some n) (sym e)))
-
-acted_count : (ops : List Op) (place : Option ℕ) (c : client.State) (taken : List TakenCall) (step : ℕ) (acts : ClientStep) → length (ops_with ops place c taken step acts) ≡ length ops
-acted_count ops None c taken step acts = refl
-acted_count ops (Some l) c taken step acts = by (slice_get ops l)
-  where
-    by : (o : Option Op) → length (ops_after ops l o c taken step acts) ≡ length ops
-    by None = refl
-    by (Some o) = set_count ops l (op_after o c taken step acts)
-
-begin_stays : (o : Op) (c : client.State) (taken : List TakenCall) (step : ℕ) (acts : ClientStep) → (op_after o c taken step acts).begin ≡ o.begin
-begin_stays o c taken step acts = by acts.ended
-  where
-    by : (l : Option Ended) → (op_after o c taken step (record acts { ended = l })).begin ≡ o.begin
-    by None = refl
-    by (Some e) = refl
-
-word_stays : (o : Op) (c : client.State) (taken : List TakenCall) (step : ℕ) (acts : ClientStep) → (op_after o c taken step acts).word ≡ o.word
-word_stays o c taken step acts = by acts.ended
-  where
-    by : (l : Option Ended) → (op_after o c taken step (record acts { ended = l })).word ≡ o.word
-    by None = refl
-    by (Some e) = refl
-
-acted_at : (ops : List Op) (l : ℕ) (o : Op) (c : client.State) (taken : List TakenCall) (step : ℕ) (acts : ClientStep) → slice_get ops l ≡ Some o → slice_get (ops_with ops (Some l) c taken step acts) l ≡ Some (op_after o c taken step acts)
-acted_at ops l o c taken step acts at = ap (λ (z : Option Op). slice_get (ops_after ops l z c taken step acts) l) at ∙ at_replaced ops l (op_after o c taken step acts) o at
-
--- one that runs isn't over
-runs_over : (all : List Moment) (d : Command) (o : Op) → o.word ≡ word_of d → o.outcome ≡ told.Running → IsOver all d o
-runs_over all (command.Named c) o w e = (w, inl e)
-runs_over all (command.Open f) o w e = tt
-runs_over all (command.Write f a b) o w e = tt
-runs_over all (command.Trunc f a) o w e = tt
-runs_over all (command.Read f a b) o w e = tt
-runs_over all (command.Close f) o w e = tt
-runs_over all (command.Abandon f) o w e = tt
-
--- what a step of the client makes of its operation
-pub record StepComes (all : List Moment) (d : Deed) (o : Op) (r : client.State × ClientStep) (taken : List TakenCall) (now : ℕ) : Type 0 where
-  pub way : r.1.ended ≡ None → (u : Task) → r.0.task ≡ Some u → IsOn all d.command (op_after o r.0 taken now r.1) u.stage now
-  pub over : (e : Ended) → r.1.ended ≡ Some e → IsOver all d.command (op_after o r.0 taken now r.1)
-
-acted_onward : (all past : List Moment) (opening : List Opening) (k : Core) (qs : List Queue) (e : Event) (c : ℕ) (seat then_ : Seat) (s : client.State) (acts : ClientStep) (taken : List TakenCall) (r : Core) → IsKept (book_at opening k all) k qs → numbered k.seats c ≡ Some seat → IsNoDeed past k e
-    → r.steps ≡ k.steps + 1 → r.seats ≡ with_numbered k.seats c then_ → r.ops ≡ ops_with k.ops seat.place s taken (k.steps + 1) acts → ((j : Job) → job then_ ≡ Some j → (seat.place ≡ Some j.place) × (acts.ended ≡ None) × (s.task ≡ Some (record { file = j.file; stage = j.stage })))
-    → ((j : Job) (d : Deed) (o : Op) → job seat ≡ Some j → slice_get (deeds_of past) j.place ≡ Some d → slice_get k.ops j.place ≡ Some o → o.begin ≡ d.begin → o.word ≡ word_of d.command → IsOn all d.command o j.stage k.steps → StepComes all d o (s, acts) taken (k.steps + 1))
-    → Walks all past k → Walks all (past ++ moment k e ∷ []) r
-acted_onward all past opening k qs e c seat then_ s acts taken r kept here none steps seats ops after comes h = onward all past k r e (omega (arith, steps)) (ap (λ (l : List Op). length l) ops ∙ acted_count k.ops seat.place s taken (k.steps + 1) acts ∙ h.count ∙ ap (λ (l : List Deed). length l) (sym none))
-    (λ i z j there is. elim (of_numbered k.seats c then_ i z (ap (λ (l : List Seat). numbered l i) (sym seats) ∙ there)) [
-      | inr other ↦ inl (z, other.1, is, λ o at. (o, ap (λ (l : List Op). slice_get l j.place) ops ∙ acted_else k.ops seat.place s taken (k.steps + 1) acts j.place (foreign_at (book_at opening k all) k qs c seat kept here i z j o other.1 is at other.0) ∙ at, same_kept o))
-      | inl mine ↦ (let a = after j (ap job (sym mine.1) ∙ is) in inr (own j a.0 a.1 a.2))
-    ])
-    (λ p d q at is. by p d q (ap (λ (l : List Deed). slice_get l p) (sym none) ∙ at) (ops_shape k.ops seat.place s taken (k.steps + 1) acts p q (ap (λ (l : List Op). slice_get l p) (sym ops) ∙ is)))
-    h
-  where
-    -- the client's operation before
-    before : (p : ℕ) → seat.place ≡ Some p → (o : Op) → slice_get k.ops p ≡ Some o → (j : Job) × (d : Deed) × (job seat ≡ Some j) × (j.place ≡ p) × (slice_get (deeds_of past) p ≡ Some d) × (o.begin ≡ d.begin) × (o.word ≡ word_of d.command) × IsOn all d.command o j.stage k.steps
-    before p place o at =
-        let w = own_op (book_at opening k all) k qs c seat p o kept here place at in
-        let v = h.jobs c seat w.0 here w.1 in
-        let same : v.1 ≡ o = some_is v.1 o (sym v.3 ∙ ap (slice_get k.ops) w.2 ∙ at) in
-        (w.0, v.0, w.1, w.2, ap (slice_get (deeds_of past)) (sym w.2) ∙ v.2, ap (λ (z : Op). z.begin) (sym same) ∙ v.4, ap (λ (z : Op). z.word) (sym same) ∙ v.5, subst (λ (z : Op). IsOn all v.0.command z w.0.stage k.steps) same v.6)
-
-    step_of_job : (j : Job) (d : Deed) (p : ℕ) (o : Op) → job seat ≡ Some j → j.place ≡ p → slice_get (deeds_of past) p ≡ Some d → slice_get k.ops p ≡ Some o → o.begin ≡ d.begin → o.word ≡ word_of d.command → IsOn all d.command o j.stage k.steps → StepComes all d o (s, acts) taken (k.steps + 1)
-    step_of_job j d p o is place deed at begin word way = comes j d o is (ap (slice_get (deeds_of past)) place ∙ deed) (ap (slice_get k.ops) place ∙ at) begin word way
-
-    there_op : (p : ℕ) → seat.place ≡ Some p → (o : Op) × (slice_get k.ops p ≡ Some o)
-    there_op p place = from (kept.seats c seat here).matched
-      where
-        from : IsMatched seat → (o : Op) × (slice_get k.ops p ≡ Some o)
-        from (inl idle) = nothing_there p (sym idle.0 ∙ place)
-        from (inr m) = let of = (kept.seats c seat here).task m.0 m.1 in (of.op, ap (slice_get k.ops) (some_is p m.0.place (sym place ∙ job_place seat.place seat.client.task m.0 m.1)) ∙ of.there)
-
-    own : (j : Job) → seat.place ≡ Some j.place → acts.ended ≡ None → s.task ≡ Some (record { file = j.file; stage = j.stage }) → (d : Deed) × (o : Op) × (slice_get (More past k e) j.place ≡ Some d) × (slice_get r.ops j.place ≡ Some o) × (o.begin ≡ d.begin) × (o.word ≡ word_of d.command) × IsOn all d.command o j.stage r.steps
-    own j place runs task =
-        let o = there_op j.place place in
-        let b = before j.place place o.0 o.1 in
-        let comes_ = step_of_job b.0 b.1 j.place o.0 b.2 b.3 b.4 o.1 b.5 b.6 b.7 in (
-          b.1,
-          op_after o.0 s taken (k.steps + 1) acts,
-          ap (λ (l : List Deed). slice_get l j.place) none ∙ b.4,
-          ap (λ (l : List Op). slice_get l j.place) ops ∙ ap (λ (l : Option ℕ). slice_get (ops_with k.ops l s taken (k.steps + 1) acts) j.place) place ∙ acted_at k.ops j.place o.0 s taken (k.steps + 1) acts o.1,
-          begin_stays o.0 s taken (k.steps + 1) acts ∙ b.5,
-          word_stays o.0 s taken (k.steps + 1) acts ∙ b.6,
-          subst (λ (n : ℕ). IsOn all b.1.command (op_after o.0 s taken (k.steps + 1) acts) j.stage n) (sym steps) (comes_.way runs (record { file = j.file; stage = j.stage }) task),
-        )
-
-    running : (acts_ended : Option Ended) → acts.ended ≡ acts_ended → (p : ℕ) (d : Deed) (o : Op) → StepComes all d o (s, acts) taken (k.steps + 1) → slice_get k.ops p ≡ Some o → o.outcome ≡ told.Running → o.word ≡ word_of d.command → IsOver all d.command (op_after o s taken (k.steps + 1) acts)
-    running (Some x) is p d o comes_ at run word = comes_.over x is
-    running None is p d o comes_ at run word = runs_over all d.command (op_after o s taken (k.steps + 1) acts) (word_stays o s taken (k.steps + 1) acts ∙ word) (ap (λ (l : Option Ended). (op_after o s taken (k.steps + 1) (record acts { ended = l })).outcome) is ∙ run)
-
-    by : (p : ℕ) (d : Deed) (q : Op) → slice_get (deeds_of past) p ≡ Some d → ((o : Op) × (seat.place ≡ Some p) × (slice_get k.ops p ≡ Some o) × (q ≡ op_after o s taken (k.steps + 1) acts)) ⊎ ((seat.place ≡ Some p → ⊥) × (slice_get k.ops p ≡ Some q))
-        → ((o : Op) × (slice_get (deeds_of past) p ≡ Some d) × (slice_get k.ops p ≡ Some o) × WayKept o q) ⊎ IsOver all d.command q
-    by p d q deed (inr old) = inl (q, deed, old.1, same_kept q)
-    by p d q deed (inl new) =
-        let b = before p new.1 new.0 new.2 in
-        let w = own_op (book_at opening k all) k qs c seat p new.0 kept here new.1 new.2 in
-        let same : b.1 ≡ d = some_is b.1 d (sym b.4 ∙ deed) in
-        inr (subst (IsOver all d.command) (sym new.3) (subst (λ (z : Deed). IsOver all z.command (op_after new.0 s taken (k.steps + 1) acts)) same (running acts.ended refl p b.1 new.0 (step_of_job b.0 b.1 p new.0 b.2 b.3 b.4 new.2 b.5 b.6 b.7) new.2 w.4 b.6)))
+use Rattle.kept_promise.proofs.WalkRuns.{bare, OnWay, IsOn, EndsAs, IsOver, Walks, EarlyBy, is_on, took_file, heard_walk, IsBare}
+use Rattle.kept_promise.proofs.OneSession.{AtOneSession}
+use Rattle.kept_promise.proofs.WalksOnward.{WayKept, same_kept, onward, same_onward, change_onward, settled_onward, joins_onward, begin_stays, word_stays, acted_at, StepComes, acted_onward}
 
 -- ---- one on a file, and one whose file was found
 
@@ -535,9 +220,9 @@ drop_comes : (all : List Moment) (d : Deed) (o : Op) (n : ℕ) (s : client.State
 drop_comes all d o n s t x taken task on true right = record { way = λ runs u at. is_on all d.command o _ u.stage n (n + 1) refl (inl refl) refl refl (omega arith) (subst (λ (z : Task). IsOn all d.command o z.stage n) (some_is t u (sym task ∙ at)) on); over = λ e is. nothing_there e is }
 drop_comes all d o n s t x taken task on false right = fault_comes all d o s x taken (n + 1) right
 
-heard_comes : FitLaws → (all past : List Moment) (opening : List Opening) (k : Core) (qs : List Queue) (n now : ℕ) (bytes : List ℕ) (mid : List Queue) → IsKept (book_at opening k all) k qs → (h : Heard k qs n now bytes mid) → AreInOrder all → Contains all (moment k (Hears n now bytes)) → ((z : Moment) → Contains all z → step_of z ≤ k.steps → Contains past z) → Walks all past k → (j : Job) (d : Deed) (o : Op) → job h.seat ≡ Some j → slice_get (deeds_of past) j.place ≡ Some d → slice_get k.ops j.place ≡ Some o → o.begin ≡ d.begin → IsOn all d.command o j.stage k.steps
+heard_comes : FitLaws → (all past : List Moment) (opening : List Opening) (k : Core) (qs : List Queue) (n now : ℕ) (bytes : List ℕ) (mid : List Queue) → IsKept (book_at opening k all) k qs → (h : Heard k qs n now bytes mid) → AreInOrder all → AtOneSession all → Contains all (moment k (Hears n now bytes)) → ((z : Moment) → Contains all z → step_of z ≤ k.steps → Contains past z) → Walks all past k → (j : Job) (d : Deed) (o : Op) → job h.seat ≡ Some j → slice_get (deeds_of past) j.place ≡ Some d → slice_get k.ops j.place ≡ Some o → o.begin ≡ d.begin → IsOn all d.command o j.stage k.steps
     → (let r = got_step h.seat.client (Ok (told_message h.told)) now in NoFault o r (session_taken (session_of k.sessions h.seat.session)) (k.steps + 1) → StepComes all d o r (session_taken (session_of k.sessions h.seat.session)) (k.steps + 1))
-heard_comes laws all past opening k qs n now bytes mid kept h order noted is_past walks j d o is deed at begun on right = by h.seat.client.task (job_task h.seat.place h.seat.client.task j is) right
+heard_comes laws all past opening k qs n now bytes mid kept h order one noted is_past walks j d o is deed at begun on right = by h.seat.client.task (job_task h.seat.place h.seat.client.task j is) right
   where
     taken : List TakenCall
     taken = session_taken (session_of k.sessions h.seat.session)
@@ -578,25 +263,53 @@ heard_comes laws all past opening k qs n now bytes mid kept h order noted is_pas
             let walking : j.stage ≡ stage.Walking x w = e ∙ ap (λ (z : ℕ). stage.Walking z w) own in
             let answer : AnswerOf book taken h.session.closing (job sess.seat) x (Walked r) = subst (AnswerOf book taken h.session.closing (job sess.seat) x) is_reply (subst (λ (l : List TakenCall). AnswerOf book l h.session.closing (job sess.seat) x h.told.reply) taken_is first) in
             let told : WalkTold book taken h.session.closing j x w (name_answer r) = answer j w job_ walking in
-            let owed : makes_later w.left w.goal ≡ true → o.point ≡ None = λ later. (let no = subst (CloseOf book h.session.closing sess.contents sess.seat.client.next_temp j (client.local_bytes sess.seat.client.opened j.file)) walking (sess.closes h.uncut j job_) later in ap (λ (z : Op). z.point) (sym (some_is no.op o (sym no.there ∙ at))) ∙ no.unmade.1) in
+            let owed : makes_later w.left w.goal ≡ true → HasNeither o = λ later. (let no = subst (CloseOf book h.session.closing sess.contents sess.seat.client.next_temp j (client.local_bytes sess.seat.client.opened j.file)) walking (sess.closes h.uncut j job_) later in let same_op = sym (some_is no.op o (sym no.there ∙ at)) in (ap (λ (z : Op). z.file) same_op ∙ no.file_is, ap (λ (z : Op). z.point) same_op ∙ no.unmade.1)) in
             let small : IsWalkSmall w = (subst (FetchOf book h.session.taken j) e (talk.fetch j job_)).1 in
-            let step_is = told.step_is in
             let late = told.past in
-            let was = walks.before told.at (is_past told.at told.noted (omega (arith, step_is, late))) told.op.client told.seat j told.seat_is told.job_is in
-            let same_deed : was.0 ≡ d = some_is was.0 d (sym was.2 ∙ deed) in
-            let then_ : OnWay all c was.1 (stage.Walking x w) told.at.before.steps = subst (λ (z : Command). IsOn all z was.1 (stage.Walking x w) told.at.before.steps) (ap (λ (z : Deed). z.command) same_deed ∙ named) (subst (λ (z : Stage). IsOn all was.0.command was.1 z told.at.before.steps) walking was.6) in
-            let begin : was.1.begin ≡ o.begin = was.4 ∙ ap (λ (z : Deed). z.begin) same_deed ∙ sym begun in
-            let le = then_.2 in
+            let f = far told in
             let mine_ : told.op ≡ o = some_is told.op o (sym told.there ∙ at) in
-            let comes = heard_walk all book refl order taken h.session.closing j x w (name_answer r) told small c o mine_ plain owed word then_.0 (subst (λ (b : ℕ). HasWalk (bare all) b c w then_.0) begin then_.1) (omega (arith, le)) (k.steps + 1) (omega (arith, late)) (moment k (Hears n now bytes)) noted refl takes (idle s) (client.calls_of s) in
+            let own : told.op.client ≡ h.session.owner = ap (λ (z : Op). z.client) mine_ ∙ client_is in
+            -- the answer came on the session on which it was sent
+            let same_session : told.session ≡ n = some_is told.session n (sym told.newest ∙ sym (one told.at told.op.client told.seat j told.noted told.seat_is told.job_is (moment k (Hears n now bytes)) h.seat j noted (ap (numbered k.seats) own ∙ h.owner) is refl) ∙ h.newest) in
+            let comes = heard_walk all book refl order taken h.session.closing j x w (name_answer r) told small c o mine_ plain owed word f.0 f.1 f.2 f.3 (k.steps + 1) (omega (arith, late)) (moment k (Hears n now bytes)) noted refl now bytes (ap (λ (l : ℕ). Hears l now bytes) (sym same_session)) takes (idle s) (client.calls_of s) in
             record {
               way = λ runs u task. subst (λ (z : Command). IsOn all z (become (walked (idle s) (client.calls_of s) x (is_look w.goal) (walk_told w (name_answer r)))) u.stage (k.steps + 1)) (sym named) (comes.way runs u task);
               over = λ z ended. subst (λ (y : Command). IsOver all y (become (walked (idle s) (client.calls_of s) x (is_look w.goal) (walk_told w (name_answer r))))) (sym named) (word_stays o (walked (idle s) (client.calls_of s) x (is_look w.goal) (walk_told w (name_answer r))).0 taken (k.steps + 1) (walked (idle s) (client.calls_of s) x (is_look w.goal) (walk_told w (name_answer r))).1 ∙ word, inr (inr (comes.ends z ended)));
             }
           where
+            client_is : o.client ≡ h.session.owner
+            client_is = (own_op book k qs h.session.owner h.seat j.place o kept h.owner (job_place h.seat.place h.seat.client.task j is) at).3
+
+            -- how far its walk had come, by the end's job then
+            came_so : (z : Moment) (i : ℕ) (seat : Seat) → Contains all z → step_of z ≤ k.steps → numbered z.before.seats i ≡ Some seat → job seat ≡ Some j → (step : ℕ) × HasWalk (bare all) o.begin c w step × (step ≤ z.before.steps)
+            came_so z i seat there past here mine_job =
+                let was = walks.before z (is_past z there past) i seat j here mine_job in
+                let same_deed : was.0 ≡ d = some_is was.0 d (sym was.2 ∙ deed) in
+                let walking : j.stage ≡ stage.Walking x w = e ∙ ap (λ (z : ℕ). stage.Walking z w) own in
+                let then_ : OnWay all c was.1 (stage.Walking x w) z.before.steps = subst (λ (y : Command). IsOn all y was.1 (stage.Walking x w) z.before.steps) (ap (λ (y : Deed). y.command) same_deed ∙ named) (subst (λ (y : Stage). IsOn all was.0.command was.1 y z.before.steps) walking was.6) in
+                let begin : was.1.begin ≡ o.begin = was.4 ∙ ap (λ (y : Deed). y.begin) same_deed ∙ sym begun in
+                (then_.0, subst (λ (b : ℕ). HasWalk (bare all) b c w then_.0) begin then_.1, then_.2)
+
+            -- as its call was taken, if that made something, and else as it was answered
+            far : (told : WalkTold book taken h.session.closing j x w (name_answer r)) → (step : ℕ) × HasWalk (bare all) o.begin c w step × (step ≤ step_of told.at) × EarlyBy book told.at told.moment h.session.closing j told.op w (name_answer r) step told.came
+            far told = by told.came
+              where
+                late : step_of told.at ≤ k.steps
+                late = let is = told.step_is in let past = told.past in omega (arith, is, past)
+
+                by : (z : WalkCame book told.at told.moment h.session.closing j told.op w (name_answer r)) → (step : ℕ) × HasWalk (bare all) o.begin c w step × (step ≤ step_of told.at) × EarlyBy book told.at told.moment h.session.closing j told.op w (name_answer r) step z
+                by (inl t) = let f = came_so told.at told.op.client told.seat told.noted late told.seat_is told.job_is in let le = f.2 in (f.0, f.1, omega (arith, le), tt)
+                by (inr (inl t)) = let f = came_so told.at told.op.client told.seat told.noted late told.seat_is told.job_is in let le = f.2 in (f.0, f.1, omega (arith, le), tt)
+                by (inr (inr m)) =
+                    let before = m.before in
+                    let is = told.step_is in
+                    let past = told.past in
+                    let f = came_so m.taken.at told.op.client m.taken.seat m.taken.noted (omega (arith, before, past)) m.taken.seat_is m.taken.job_is in
+                    let le = f.2 in
+                    (f.0, f.1, omega (arith, le, before, is), omega (arith, le))
+
             takes : Contains (taken_by k o.client (Hears n now bytes)) (message.Answer x (body.Nfs (name_answer r)))
             takes =
-                let client_is : o.client ≡ h.session.owner = (own_op book k qs h.session.owner h.seat j.place o kept h.owner (job_place h.seat.place h.seat.client.task j is) at).3 in
                 let one : Contains (message.Answer x (body.Nfs (name_answer r)) ∷ []) (message.Answer x (body.Nfs (name_answer r))) = Contains-push [] (message.Answer x (body.Nfs (name_answer r))) in
                 subst (λ (i : ℕ). Contains (taken_by k i (Hears n now bytes)) (message.Answer x (body.Nfs (name_answer r)))) (sym client_is)
                 (subst (λ (l : List Message). Contains l (message.Answer x (body.Nfs (name_answer r)))) (sym (heard_takes laws book k qs n now bytes mid kept h ∙ ap (λ (b : Bool). wanted_if b (told_message h.told)) waits ∙ ap (λ (z : Reply). message.Answer x (reply_body z) ∷ []) is_reply)) one)
@@ -790,26 +503,26 @@ does_onward all past opening k qs c now d seat small kept here h = onward all pa
 
 -- ---- any event
 
-walks_event : FitLaws → (all past rest : List Moment) (opening : List Opening) (k : Core) (qs : List Queue) (e : Event) (mid after : List Queue) → Step all past rest opening k qs e mid after → AreInOrder all → Dated all → Walks all past k → Walks all (past ++ moment k e ∷ []) (happens k e).core
-walks_event laws all past rest opening k qs (Joins c) mid after s order dated h = subst (λ (o : Option Seat). Walks all (past ++ moment k (Joins c) ∷ []) (joins k c o).core) (sym s.finds.1) (let r = server_step k.server event.Connect in joins_onward all past opening k qs c s.finds.0 s.kept s.finds.1 s.finds.2 r.0 r.1.told h)
-walks_event laws all past rest opening k qs (Does c now d) mid after s order dated h = subst (λ (o : Option Seat). Walks all (past ++ moment k (Does c now d) ∷ []) (does k c now d o).core) (sym s.finds.1) (does_onward all past opening k qs c now d s.finds.0 s.finds.2 s.kept s.finds.1 h)
-walks_event laws all past rest opening k qs (Serves n now bytes) mid after s order dated h =
+walks_event : FitLaws → (all past rest : List Moment) (opening : List Opening) (k : Core) (qs : List Queue) (e : Event) (mid after : List Queue) → Step all past rest opening k qs e mid after → AreInOrder all → Dated all → AtOneSession all → Walks all past k → Walks all (past ++ moment k e ∷ []) (happens k e).core
+walks_event laws all past rest opening k qs (Joins c) mid after s order dated one h = subst (λ (o : Option Seat). Walks all (past ++ moment k (Joins c) ∷ []) (joins k c o).core) (sym s.finds.1) (let r = server_step k.server event.Connect in joins_onward all past opening k qs c s.finds.0 s.kept s.finds.1 s.finds.2 r.0 r.1.told h)
+walks_event laws all past rest opening k qs (Does c now d) mid after s order dated one h = subst (λ (o : Option Seat). Walks all (past ++ moment k (Does c now d) ∷ []) (does k c now d o).core) (sym s.finds.1) (does_onward all past opening k qs c now d s.finds.0 s.finds.2 s.kept s.finds.1 h)
+walks_event laws all past rest opening k qs (Serves n now bytes) mid after s order dated one h =
     let q = serves_quiet laws (book_at opening k all) k qs n now bytes mid s.kept s.finds in
     elim q.ops [
       | inl same ↦ same_onward all past k (happens k (Serves n now bytes)).core (Serves n now bytes) q.passes (append-nil (deeds_of past)) same q.seats h
       | inr made ↦ change_onward all past k (happens k (Serves n now bytes)).core (Serves n now bytes) q.passes (append-nil (deeds_of past)) q.seats (change_of made) h
     ]
-walks_event laws all past rest opening k qs (Hears n now bytes) mid after s order dated h =
+walks_event laws all past rest opening k qs (Hears n now bytes) mid after s order dated one h =
     let w = heard_at (book_at opening k all) k qs n now bytes mid s.kept s.finds in
     let r = got_step w.seat.client (Ok (told_message w.told)) now in
     let acts = heard_acts laws (book_at opening k all) k qs n now bytes mid s.kept w in
     subst (λ (t : CoreStep). Walks all (past ++ moment k (Hears n now bytes) ∷ []) t.core) (sym acts)
     (acted_onward all past opening k qs (Hears n now bytes) w.session.owner w.seat (record w.seat { client = r.0; place = place_after w.seat.place r.1.ended }) r.0 r.1 (session_taken (session_of k.sessions w.seat.session)) (acted k w.session.owner w.seat r.0 r.1).core s.kept w.owner (append-nil (deeds_of past)) refl refl refl
     (λ j is. job_after r.0 w.seat.place r.1.ended j is)
-    (λ j d o is deed at begun word on. heard_comes laws all past opening k qs n now bytes mid s.kept w order s.noted.there (in_past all past rest k (Hears n now bytes) dated.0 s.split dated.1) h j d o is deed at begun on (λ f bad. fault_not (book_at opening (happens k (Hears n now bytes)).core all) (op_after o r.0 (session_taken (session_of k.sessions w.seat.session)) (k.steps + 1) r.1) f (s.left.sound.rights j.place (op_after o r.0 (session_taken (session_of k.sessions w.seat.session)) (k.steps + 1) r.1)
+    (λ j d o is deed at begun word on. heard_comes laws all past opening k qs n now bytes mid s.kept w order one s.noted.there (in_past all past rest k (Hears n now bytes) dated.0 s.split dated.1) h j d o is deed at begun on (λ f bad. fault_not (book_at opening (happens k (Hears n now bytes)).core all) (op_after o r.0 (session_taken (session_of k.sessions w.seat.session)) (k.steps + 1) r.1) f (s.left.sound.rights j.place (op_after o r.0 (session_taken (session_of k.sessions w.seat.session)) (k.steps + 1) r.1)
     (ap (λ (t : CoreStep). slice_get t.core.ops j.place) acts ∙ ap (λ (l : Option ℕ). slice_get (ops_with k.ops l r.0 (session_taken (session_of k.sessions w.seat.session)) (k.steps + 1) r.1) j.place) (job_place w.seat.place w.seat.client.task j is) ∙ acted_at k.ops j.place o r.0 (session_taken (session_of k.sessions w.seat.session)) (k.steps + 1) r.1 at)) bad)) h)
-walks_event laws all past rest opening k qs (Settles now) mid after s order dated h = settled_onward all past opening k qs now s.kept h
-walks_event laws all past rest opening k qs (Cuts c) mid after s order dated h = subst (λ (o : Option Seat). Walks all (past ++ moment k (Cuts c) ∷ []) (cuts k c o).core) (sym s.finds.1) (by s.finds.0.client.linked)
+walks_event laws all past rest opening k qs (Settles now) mid after s order dated one h = settled_onward all past opening k qs now s.kept h
+walks_event laws all past rest opening k qs (Cuts c) mid after s order dated one h = subst (λ (o : Option Seat). Walks all (past ++ moment k (Cuts c) ∷ []) (cuts k c o).core) (sym s.finds.1) (by s.finds.0.client.linked)
   where
     seat : Seat
     seat = s.finds.0
@@ -832,14 +545,14 @@ walks_event laws all past rest opening k qs (Cuts c) mid after s order dated h =
     by true = acted_onward all past opening k qs (Cuts c) c seat (record seat { client = gone; place = place_after seat.place (ended_by seat.client.task lost).ended }) gone (ended_by seat.client.task lost) taken (cuts_if k c seat true).core s.kept s.finds.1 (append-nil (deeds_of past)) refl refl refl
         (λ j is. nothing_there j (sym (no_job (place_after seat.place (ended_by seat.client.task lost).ended)) ∙ is))
         (λ j d o is deed at begun word on. lost_comes all d o j k.steps gone taken on seat.client.task (job_task seat.place seat.client.task j is)) h
-walks_event laws all past rest opening k qs (Hangs n) mid after s order dated h = let q = hangs_silent k n (numbered k.sessions n) in same_onward all past k (happens k (Hangs n)).core (Hangs n) q.3 (append-nil (deeds_of past)) q.1 q.2 h
+walks_event laws all past rest opening k qs (Hangs n) mid after s order dated one h = let q = hangs_silent k n (numbered k.sessions n) in same_onward all past k (happens k (Hangs n)).core (Hangs n) q.3 (append-nil (deeds_of past)) q.1 q.2 h
 
 abbrev pub WalksAt : (all past : List Moment) → List Opening → Core → List Queue → Type 0
-WalksAt all past opening k qs = AreInOrder all → Dated all → Walks all past k
+WalksAt all past opening k qs = AreInOrder all → Dated all → AtOneSession all → Walks all past k
 
 pub carried_walks : FitLaws → Carried WalksAt
 carried_walks laws = record {
-  first = λ all opening tree count kept. λ order dated. record { count = refl; jobs = λ i seat j here is. (let of = (kept.seats i seat here).task j is in nothing_there of.op of.there); over = λ p d o at is. nothing_there o is; before = λ m there. (let lt = there.1 in absurd (omega (arith, lt))) };
-  steps = λ all past rest opening k qs e mid after s h. λ order dated. walks_event laws all past rest opening k qs e mid after s order dated (h order dated);
-  adjusts = λ all past opening k qs index seats same h. λ order dated. (let w = h order dated in record { count = w.count; jobs = λ i seat j here is. (let z = same.was i seat here in w.jobs i z.0 j z.3 (ap job (sym z.4) ∙ is)); over = w.over; before = w.before });
+  first = λ all opening tree count kept. λ order dated one. record { count = refl; jobs = λ i seat j here is. (let of = (kept.seats i seat here).task j is in nothing_there of.op of.there); over = λ p d o at is. nothing_there o is; before = λ m there. (let lt = there.1 in absurd (omega (arith, lt))) };
+  steps = λ all past rest opening k qs e mid after s h. λ order dated one. walks_event laws all past rest opening k qs e mid after s order dated one (h order dated one);
+  adjusts = λ all past opening k qs index seats same h. λ order dated one. (let w = h order dated one in record { count = w.count; jobs = λ i seat j here is. (let z = same.was i seat here in w.jobs i z.0 j z.3 (ap job (sym z.4) ∙ is)); over = w.over; before = w.before });
 }

@@ -1,5 +1,5 @@
 -- What is sent and taken for an operation on names is its walk's, and then its file's.
-use Rattle.std.proofs.Common.{◌≡◌, ℕ, List, [], ◌∷◌, ◌++◌, length, Option, Some, None, true, refl, sym, ap, ◌∙◌, subst, map, append-nil}
+use Rattle.std.proofs.Common.{◌⊎◌, inl, inr, ◌≡◌, ℕ, List, [], ◌∷◌, ◌++◌, length, Option, Some, None, true, refl, sym, ap, ◌∙◌, subst, map, append-nil}
 use Rattle.command_text.specs.declared.command.Command.TheVariants as command
 use Rattle.command_text.specs.declared.path.PathCommand.{PathCommand}
 use Rattle.nfs3_calls.specs.declared.message.Nfs.{Nfs}
@@ -19,11 +19,13 @@ use Rattle.path_calls.specs.declared.answers.Ended.{Ended as WalkEnd}
 use Rattle.path_calls.specs.declared.answers.Ended.TheVariants as walk_end
 use Rattle.client_state.specs.declared.step.Outcome.TheVariants as outcome
 use Rattle.client_state.specs.declared.step.BadPeer.{BadPeer}
+use Rattle.register_model.specs.declared.op.Outcome.{Outcome as History}
+use Rattle.register_model.specs.declared.op.Outcome.TheVariants as told
 use Rattle.register_model.specs.declared.op.Word.TheVariants as words
-use Rattle.trace_replay.specs.Ops.{file_with}
+use Rattle.trace_ops.specs.Ops.{file_with}
 use Rattle.trace_replay.specs.Traffic.{AreOwn, IsOwnCall}
 use Rattle.trace_replay.specs.Walking.{Part, Part.asks, Part.waits, IsWalk}
-use Rattle.kept_promise.proofs.Common.{Body, Message, Pending, Command, command_step, commit_call, names_all, took, ends, ClientStep, Ended, Stage, Task, Word, Deal, Deal.Sent, Deal.Took, Deal.Found}
+use Rattle.kept_promise.proofs.Common.{Body, Message, Pending, Command, command_step, commit_call, names_all, took, ClientStep, Ended, Stage, Task, Word, told_of, Deal, Deal.Sent, Deal.Took, Deal.Found}
 use Rattle.kept_promise.proofs.Lists.{some_is, nothing_there}
 use Rattle.kept_promise.proofs.Messages.{stage_word}
 use Rattle.kept_promise.proofs.StepCases.{IsOfFile, IsFault, Walks, fronts, walk_cases, took_cases, command_cases, reads_of}
@@ -40,17 +42,43 @@ IsUnder (waits xid w) [] file st = st ≡ stage.Walking xid w
 IsUnder (waits xid w) (Took (message.Answer y (body.Nfs a)) ∷ ds) file st = (y ≡ xid) × (is_its w a ≡ true) × elim (walk_told w a) [ leading.Asks v ↦ IsUnder (asks v) ds file st | leading.Finds id ↦ (id ≡ file) × AreOwn words.Open id [] ds × IsOfFile st × (stage_word st ≡ words.Open) | _ ↦ ⊥ ]
 IsUnder p ds file st = ⊥
 
+-- what its walk leads to, of an operation that ends so
+abbrev LedTo : History → Leading → List Deal → Type 0
+LedTo u (leading.Asks v) ds = IsWalk u (asks v) ds
+LedTo u (leading.Finds id) ds = AreOwn words.Open id [] ds
+LedTo u (leading.Ends e) ds = (ds ≡ []) × (u ≡ told_of (outcome_of e))
+LedTo u t ds = ⊥
+
+led : (u : History) (t : Leading) (ds : List Deal) → LedTo u t ds → elim t as (λ (x : Leading). Type 0) [ leading.Asks v ↦ IsWalk u (asks v) ds | leading.Finds id ↦ AreOwn words.Open id [] ds | leading.Ends e ↦ (ds ≡ []) × (u ≡ told_of (outcome_of e)) | _ ↦ ⊥ ]
+led u (leading.Asks v) ds k = k
+led u (leading.Finds id) ds k = k
+led u (leading.Ends e) ds k = k
+led u t ds k = absurd k
+
+-- where a walk waits, its operation is under way, or its connection was lost
+abbrev pub WaitsSo : History → Stage → Type 0
+WaitsSo u (stage.Walking x w) = (u ≡ told.Running) ⊎ (u ≡ told.Lost)
+WaitsSo u st = Unit {0}
+
+pub runs_so : (st : Stage) → WaitsSo told.Running st
+runs_so (stage.Walking x w) = inl refl
+runs_so st = tt
+
+pub lost_so : (st : Stage) → WaitsSo told.Lost st
+lost_so (stage.Walking x w) = inr refl
+lost_so st = tt
+
 -- so it is its walk's
-pub under_walk : (p : Part) (ds : List Deal) (file : ℕ) (st : Stage) → IsUnder p ds file st → IsWalk p ds
-under_walk (asks w) (Sent (message.Call xid (body.Nfs m)) ∷ ds) file st h = (h.0, under_walk (waits xid w) ds file st h.1)
-under_walk (waits xid w) [] file st h = tt
-under_walk (waits xid w) (Took (message.Answer y (body.Nfs a)) ∷ ds) file st h = (h.0, by (walk_told w a) (λ v k. under_walk (asks v) ds file st k) h.2)
+pub under_walk : (u : History) (p : Part) (ds : List Deal) (file : ℕ) (st : Stage) → WaitsSo u st → IsUnder p ds file st → IsWalk u p ds
+under_walk u (asks w) (Sent (message.Call xid (body.Nfs m)) ∷ ds) file st so h = (h.0, under_walk u (waits xid w) ds file st so h.1)
+under_walk u (waits xid w) [] file st so h = subst (WaitsSo u) h so
+under_walk u (waits xid w) (Took (message.Answer y (body.Nfs a)) ∷ ds) file st so h = (h.0, led u (walk_told w a) ds (by (walk_told w a) (λ v k. under_walk u (asks v) ds file st so k) h.2))
   where
-    by : (t : Leading) → ((v : Walk) → IsUnder (asks v) ds file st → IsWalk (asks v) ds) → elim t as (λ (x : Leading). Type 0) [ leading.Asks v ↦ IsUnder (asks v) ds file st | leading.Finds id ↦ (id ≡ file) × AreOwn words.Open id [] ds × IsOfFile st × (stage_word st ≡ words.Open) | _ ↦ ⊥ ] → elim t as (λ (x : Leading). Type 0) [ leading.Asks v ↦ IsWalk (asks v) ds | leading.Finds id ↦ AreOwn words.Open id [] ds | _ ↦ ds ≡ [] ]
+    by : (t : Leading) → ((v : Walk) → IsUnder (asks v) ds file st → IsWalk u (asks v) ds) → elim t as (λ (x : Leading). Type 0) [ leading.Asks v ↦ IsUnder (asks v) ds file st | leading.Finds id ↦ (id ≡ file) × AreOwn words.Open id [] ds × IsOfFile st × (stage_word st ≡ words.Open) | _ ↦ ⊥ ] → LedTo u t ds
     by (leading.Asks v) rest k = rest v k
     by (leading.Finds id) rest k = k.1
     by t rest k = absurd k
-under_walk p ds file st h = absurd h
+under_walk u p ds file st so h = absurd h
 
 -- ---- more is said
 
@@ -78,8 +106,8 @@ module _ (z : List Deal → Part → Type 0)
 told_to : (w : Walk) (a : Nfs) (x file : ℕ) (ds : List Deal) (st : Stage) (t : Leading) → is_its w a ≡ true → walk_told w a ≡ t → elim t as (λ (x : Leading). Type 0) [ leading.Asks v ↦ IsUnder (asks v) ds file st | leading.Finds id ↦ (id ≡ file) × AreOwn words.Open id [] ds × IsOfFile st × (stage_word st ≡ words.Open) | _ ↦ ⊥ ] → IsUnder (waits x w) (Took (message.Answer x (body.Nfs a)) ∷ ds) file st
 told_to w a x file ds st t its is k = (refl, its, subst (λ (z : Leading). elim z as (λ (x : Leading). Type 0) [ leading.Asks v ↦ IsUnder (asks v) ds file st | leading.Finds id ↦ (id ≡ file) × AreOwn words.Open id [] ds × IsOfFile st × (stage_word st ≡ words.Open) | _ ↦ ⊥ ]) (sym is) k)
 
-told_walk : (w : Walk) (a : Nfs) (x : ℕ) (ds : List Deal) (t : Leading) → walk_told w a ≡ t → elim t as (λ (x : Leading). Type 0) [ leading.Asks v ↦ IsWalk (asks v) ds | leading.Finds id ↦ AreOwn words.Open id [] ds | _ ↦ ds ≡ [] ] → IsWalk (waits x w) (Took (message.Answer x (body.Nfs a)) ∷ ds)
-told_walk w a x ds t is k = (refl, subst (λ (z : Leading). elim z as (λ (x : Leading). Type 0) [ leading.Asks v ↦ IsWalk (asks v) ds | leading.Finds id ↦ AreOwn words.Open id [] ds | _ ↦ ds ≡ [] ]) (sym is) k)
+told_walk : (u : History) (w : Walk) (a : Nfs) (x : ℕ) (ds : List Deal) (t : Leading) → walk_told w a ≡ t → LedTo u t ds → IsWalk u (waits x w) (Took (message.Answer x (body.Nfs a)) ∷ ds)
+told_walk u w a x ds t is k = (refl, led u (walk_told w a) ds (subst (λ (z : Leading). LedTo u z ds) (sym is) k))
 
 pub under_more : (p : Part) (ds : List Deal) (file x : ℕ) (w : Walk) → IsUnder p ds file (stage.Walking x w) → (more : List Deal) (later : ℕ) (st : Stage) → IsUnder (waits x w) more later st → IsUnder p (ds ++ more) later st
 under_more p ds file x w h more later st k = walk_more (λ (l : List Deal) (q : Part). IsUnder q l later st) (λ u y l g. (refl, g)) (λ u v y a l its is g. told_to u a y later l st (leading.Asks v) its is g) p ds file x w h more k
@@ -88,8 +116,8 @@ under_more p ds file x w h more later st k = walk_more (λ (l : List Deal) (q : 
 pub under_walking : (p : Part) (ds : List Deal) (f g x : ℕ) (w : Walk) → IsUnder p ds f (stage.Walking x w) → IsUnder p ds g (stage.Walking x w)
 under_walking p ds f g x w h = subst (λ (l : List Deal). IsUnder p l g (stage.Walking x w)) (append-nil ds) (under_more p ds f x w h [] g (stage.Walking x w) refl)
 
-pub over_more : (p : Part) (ds : List Deal) (file x : ℕ) (w : Walk) → IsUnder p ds file (stage.Walking x w) → (more : List Deal) → IsWalk (waits x w) more → IsWalk p (ds ++ more)
-over_more p ds file x w h more k = walk_more (λ (l : List Deal) (q : Part). IsWalk q l) (λ u y l g. (refl, g)) (λ u v y a l its is g. told_walk u a y l (leading.Asks v) is g) p ds file x w h more k
+pub over_more : (o : History) (p : Part) (ds : List Deal) (file x : ℕ) (w : Walk) → IsUnder p ds file (stage.Walking x w) → (more : List Deal) → IsWalk o (waits x w) more → IsWalk o p (ds ++ more)
+over_more o p ds file x w h more k = walk_more (λ (l : List Deal) (q : Part). IsWalk o q l) (λ u y l g. (refl, g)) (λ u v y a l its is g. told_walk o u a y l (leading.Asks v) is g) p ds file x w h more k
 
 -- what was said ends by giving up
 abbrev pub GaveUp : Part → List Deal → Type 0
@@ -142,10 +170,15 @@ under_word p ds file st h of = absurd h
 
 -- ---- an answer comes
 
+-- how an operation under way is told by what ends it
+abbrev pub outcome_by : Option Ended → History
+outcome_by None = told.Running
+outcome_by (Some e) = told_of e.outcome
+
 -- what is true then, of an operation with this file
 pub record SaidOn (p : Part) (log : List Deal) (file : ℕ) (r : client.State × ClientStep) : Type 0 where
   pub stage : (u : Task) → r.1.ended ≡ None → r.0.task ≡ Some u → IsUnder p log file u.stage
-  pub each : IsWalk p log
+  pub each : IsWalk (outcome_by r.1.ended) p log
 
 -- behind the answer
 abbrev pub SaidBy : Part → List Deal → (file x : ℕ) → Body → client.State × ClientStep → Type 0
@@ -168,14 +201,14 @@ walk_gave p log file s calls task y w x b same h = walk_cases (GaveBy p log x b)
   open_already = λ id k is e at link. absurd (not_already (ap (λ (z : Ended). z.outcome) (some_is _ e at) ∙ link));
   fetches = λ id k shut none e at link. nothing_there e at;
   leases = λ id c k shut there e at link. nothing_there e at;
-  ends = λ v z k is e at link. gave_more p log file y w h (Took (message.Answer x b) ∷ []) (takes (λ (m : Deal). GaveUp (waits y w) (m ∷ [])) k (told_gave w k.answer y [] (leading.Ends z) (its k) (told k) (refl, end_no_link z (ap (λ (q : Ended). q.outcome) (some_is _ e at) ∙ link))));
+  ends = λ v z k is e at link. gave_more p log file y w h (Took (message.Answer x b) ∷ []) (takes (λ (m : Deal). GaveUp (waits y w) (m ∷ [])) k (told_gave w k.answer y [] (leading.Ends z) (its k) (told_by k) (refl, end_no_link z (ap (λ (q : Ended). q.outcome) (some_is _ e at) ∙ link))));
 })
   where
     walk_is : (z : ℕ) (v : Walk) → stage.Walking y w ≡ stage.Walking z v → w ≡ v
     walk_is z v e = cc
 
-    told : {t : Leading} (k : Walks (stage.Walking y w) b t) → walk_told w k.answer ≡ t
-    told k = ap (λ (u : Walk). walk_told u k.answer) (walk_is k.asked k.walk k.stage_is) ∙ k.told_is
+    told_by : {t : Leading} (k : Walks (stage.Walking y w) b t) → walk_told w k.answer ≡ t
+    told_by k = ap (λ (u : Walk). walk_told u k.answer) (walk_is k.asked k.walk k.stage_is) ∙ k.told_is
 
     its : {t : Leading} (k : Walks (stage.Walking y w) b t) → is_its w k.answer ≡ true
     its k = ap (λ (u : Walk). is_its u k.answer) (walk_is k.asked k.walk k.stage_is) ∙ k.its
@@ -188,32 +221,32 @@ pub walk_said : (p : Part) (log : List Deal) (file : ℕ) (s : client.State) (ca
 walk_said p log file s calls task y w x b same h = walk_cases (SaidBy p log file x b) s calls task y w x b (record {
   fault = λ f bad no. absurd (no (f, refl));
   asks = λ v k no. record {
-    stage = λ u running is. subst (λ (t : Task). IsUnder p (log ++ Took (message.Answer x b) ∷ Sent (message.Call s.next (body.Nfs (next_call v))) ∷ []) file t.stage) (some_is (record { file = 0; stage = stage.Walking s.next v }) u is) (under_more p log file y w h (Took (message.Answer x b) ∷ Sent (message.Call s.next (body.Nfs (next_call v))) ∷ []) file (stage.Walking s.next v) (takes (λ (m : Deal). IsUnder (waits y w) (m ∷ Sent (message.Call s.next (body.Nfs (next_call v))) ∷ []) file (stage.Walking s.next v)) k (told_to w k.answer y file (Sent (message.Call s.next (body.Nfs (next_call v))) ∷ []) (stage.Walking s.next v) (leading.Asks v) (its k) (told k) (refl, refl))));
-    each = over_more p log file y w h (Took (message.Answer x b) ∷ Sent (message.Call s.next (body.Nfs (next_call v))) ∷ []) (takes (λ (m : Deal). IsWalk (waits y w) (m ∷ Sent (message.Call s.next (body.Nfs (next_call v))) ∷ [])) k (told_walk w k.answer y (Sent (message.Call s.next (body.Nfs (next_call v))) ∷ []) (leading.Asks v) (told k) (refl, tt)));
+    stage = λ u running is. subst (λ (t : Task). IsUnder p (log ++ Took (message.Answer x b) ∷ Sent (message.Call s.next (body.Nfs (next_call v))) ∷ []) file t.stage) (some_is (record { file = 0; stage = stage.Walking s.next v }) u is) (under_more p log file y w h (Took (message.Answer x b) ∷ Sent (message.Call s.next (body.Nfs (next_call v))) ∷ []) file (stage.Walking s.next v) (takes (λ (m : Deal). IsUnder (waits y w) (m ∷ Sent (message.Call s.next (body.Nfs (next_call v))) ∷ []) file (stage.Walking s.next v)) k (told_to w k.answer y file (Sent (message.Call s.next (body.Nfs (next_call v))) ∷ []) (stage.Walking s.next v) (leading.Asks v) (its k) (told_by k) (refl, refl))));
+    each = over_more told.Running p log file y w h (Took (message.Answer x b) ∷ Sent (message.Call s.next (body.Nfs (next_call v))) ∷ []) (takes (λ (m : Deal). IsWalk told.Running (waits y w) (m ∷ Sent (message.Call s.next (body.Nfs (next_call v))) ∷ [])) k (told_walk told.Running w k.answer y (Sent (message.Call s.next (body.Nfs (next_call v))) ∷ []) (leading.Asks v) (told_by k) (refl, inl refl)));
   };
   open_already = λ id k is no. record {
     stage = λ u running. nothing_there _ (sym running);
-    each = over_more p log file y w h (Took (message.Answer x b) ∷ []) (takes (λ (m : Deal). IsWalk (waits y w) (m ∷ [])) k (told_walk w k.answer y [] (leading.Finds id) (told k) tt));
+    each = over_more told.AlreadyOpen p log file y w h (Took (message.Answer x b) ∷ []) (takes (λ (m : Deal). IsWalk told.AlreadyOpen (waits y w) (m ∷ [])) k (told_walk told.AlreadyOpen w k.answer y [] (leading.Finds id) (told_by k) tt));
   };
   fetches = λ id k shut none no. record {
-    stage = λ u running is. subst (λ (t : Task). IsUnder p (log ++ Took (message.Answer x b) ∷ map Sent (asks_kept (fronts s id) id None).1.send) id t.stage) (some_is (record { file = id; stage = stage.Hashing 1 s.next }) u is) (under_more p log file y w h (Took (message.Answer x b) ∷ map Sent (asks_kept (fronts s id) id None).1.send) id (stage.Hashing 1 s.next) (takes (λ (m : Deal). IsUnder (waits y w) (m ∷ map Sent (asks_kept (fronts s id) id None).1.send) id (stage.Hashing 1 s.next)) k (told_to w k.answer y id (map Sent (asks_kept (fronts s id) id None).1.send) (stage.Hashing 1 s.next) (leading.Finds id) (its k) (told k) (refl, (refl, tt), tt, refl))));
-    each = over_more p log file y w h (Took (message.Answer x b) ∷ map Sent (asks_kept (fronts s id) id None).1.send) (takes (λ (m : Deal). IsWalk (waits y w) (m ∷ map Sent (asks_kept (fronts s id) id None).1.send)) k (told_walk w k.answer y (map Sent (asks_kept (fronts s id) id None).1.send) (leading.Finds id) (told k) (refl, tt)));
+    stage = λ u running is. subst (λ (t : Task). IsUnder p (log ++ Took (message.Answer x b) ∷ map Sent (asks_kept (fronts s id) id None).1.send) id t.stage) (some_is (record { file = id; stage = stage.Hashing 1 s.next }) u is) (under_more p log file y w h (Took (message.Answer x b) ∷ map Sent (asks_kept (fronts s id) id None).1.send) id (stage.Hashing 1 s.next) (takes (λ (m : Deal). IsUnder (waits y w) (m ∷ map Sent (asks_kept (fronts s id) id None).1.send) id (stage.Hashing 1 s.next)) k (told_to w k.answer y id (map Sent (asks_kept (fronts s id) id None).1.send) (stage.Hashing 1 s.next) (leading.Finds id) (its k) (told_by k) (refl, (refl, tt), tt, refl))));
+    each = over_more told.Running p log file y w h (Took (message.Answer x b) ∷ map Sent (asks_kept (fronts s id) id None).1.send) (takes (λ (m : Deal). IsWalk told.Running (waits y w) (m ∷ map Sent (asks_kept (fronts s id) id None).1.send)) k (told_walk told.Running w k.answer y (map Sent (asks_kept (fronts s id) id None).1.send) (leading.Finds id) (told_by k) (refl, tt)));
   };
   leases = λ id c k shut there no. record {
-    stage = λ u running is. subst (λ (t : Task). IsUnder p (log ++ Took (message.Answer x b) ∷ map Sent (asks_kept (fronts s id) id (Some c)).1.send) id t.stage) (some_is (record { file = id; stage = stage.Asking s.next }) u is) (under_more p log file y w h (Took (message.Answer x b) ∷ map Sent (asks_kept (fronts s id) id (Some c)).1.send) id (stage.Asking s.next) (takes (λ (m : Deal). IsUnder (waits y w) (m ∷ map Sent (asks_kept (fronts s id) id (Some c)).1.send) id (stage.Asking s.next)) k (told_to w k.answer y id (map Sent (asks_kept (fronts s id) id (Some c)).1.send) (stage.Asking s.next) (leading.Finds id) (its k) (told k) (refl, (refl, tt), tt, refl))));
-    each = over_more p log file y w h (Took (message.Answer x b) ∷ map Sent (asks_kept (fronts s id) id (Some c)).1.send) (takes (λ (m : Deal). IsWalk (waits y w) (m ∷ map Sent (asks_kept (fronts s id) id (Some c)).1.send)) k (told_walk w k.answer y (map Sent (asks_kept (fronts s id) id (Some c)).1.send) (leading.Finds id) (told k) (refl, tt)));
+    stage = λ u running is. subst (λ (t : Task). IsUnder p (log ++ Took (message.Answer x b) ∷ map Sent (asks_kept (fronts s id) id (Some c)).1.send) id t.stage) (some_is (record { file = id; stage = stage.Asking s.next }) u is) (under_more p log file y w h (Took (message.Answer x b) ∷ map Sent (asks_kept (fronts s id) id (Some c)).1.send) id (stage.Asking s.next) (takes (λ (m : Deal). IsUnder (waits y w) (m ∷ map Sent (asks_kept (fronts s id) id (Some c)).1.send) id (stage.Asking s.next)) k (told_to w k.answer y id (map Sent (asks_kept (fronts s id) id (Some c)).1.send) (stage.Asking s.next) (leading.Finds id) (its k) (told_by k) (refl, (refl, tt), tt, refl))));
+    each = over_more told.Running p log file y w h (Took (message.Answer x b) ∷ map Sent (asks_kept (fronts s id) id (Some c)).1.send) (takes (λ (m : Deal). IsWalk told.Running (waits y w) (m ∷ map Sent (asks_kept (fronts s id) id (Some c)).1.send)) k (told_walk told.Running w k.answer y (map Sent (asks_kept (fronts s id) id (Some c)).1.send) (leading.Finds id) (told_by k) (refl, tt)));
   };
   ends = λ v e k is no. record {
     stage = λ u running. nothing_there _ (sym running);
-    each = over_more p log file y w h (Took (message.Answer x b) ∷ []) (takes (λ (m : Deal). IsWalk (waits y w) (m ∷ [])) k (told_walk w k.answer y [] (leading.Ends e) (told k) refl));
+    each = over_more (told_of (outcome_of e)) p log file y w h (Took (message.Answer x b) ∷ []) (takes (λ (m : Deal). IsWalk (told_of (outcome_of e)) (waits y w) (m ∷ [])) k (told_walk (told_of (outcome_of e)) w k.answer y [] (leading.Ends e) (told_by k) (refl, refl)));
   };
 })
   where
     walk_is : (z : ℕ) (v : Walk) → stage.Walking y w ≡ stage.Walking z v → w ≡ v
     walk_is z v e = cc
 
-    told : {t : Leading} (k : Walks (stage.Walking y w) b t) → walk_told w k.answer ≡ t
-    told k = ap (λ (u : Walk). walk_told u k.answer) (walk_is k.asked k.walk k.stage_is) ∙ k.told_is
+    told_by : {t : Leading} (k : Walks (stage.Walking y w) b t) → walk_told w k.answer ≡ t
+    told_by k = ap (λ (u : Walk). walk_told u k.answer) (walk_is k.asked k.walk k.stage_is) ∙ k.told_is
 
     its : {t : Leading} (k : Walks (stage.Walking y w) b t) → is_its w k.answer ≡ true
     its k = ap (λ (u : Walk). is_its u k.answer) (walk_is k.asked k.walk k.stage_is) ∙ k.its
@@ -252,8 +285,8 @@ file_said p log file s calls st x b found of word h = record {
     own : AreOwn words.Open file [] ds
     own = opens_join file (map Found found) (map Sent (took s calls file st x b).1.send) (found_own file found) sends.1
 
-    over : IsWalk p (log ++ ds)
-    over = under_walk p (log ++ ds) file (stage.Asking 0) (file_more p log file st h of ds own (stage.Asking 0) tt refl)
+    over : IsWalk (outcome_by (took s calls file st x b).1.ended) p (log ++ ds)
+    over = under_walk (outcome_by (took s calls file st x b).1.ended) p (log ++ ds) file (stage.Asking 0) tt (file_more p log file st h of ds own (stage.Asking 0) tt refl)
 
 -- ---- it begins
 

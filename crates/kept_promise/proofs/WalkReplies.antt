@@ -9,7 +9,7 @@ use Rattle.nfs3_calls.specs.declared.message.Nfs.{Nfs}
 use Rattle.wire.specs.Message.{MessageFits}
 use Rattle.wire.specs.declared.message.Body.TheVariants as body
 use Rattle.wire.specs.declared.message.Message.TheVariants as message
-use Rattle.file_tree.specs.Tree.{Tree}
+use Rattle.tree_reading.specs.Tree.{Tree}
 use Rattle.tree_calls.specs.Telling.{answer_of, found, getattr, listing, told as told_by}
 use Rattle.path_calls.specs.Walk.{place, call_at, next_call}
 use Rattle.path_calls.specs.declared.walk.Goal.{Goal}

@@ -1,8 +1,10 @@
 -- How far each command on names under way has come, by what its names led to; and what each that ended was told.
-use Rattle.std.proofs.Common.{◌⊎◌, inl, inr, ◌≡◌, ℕ, ◌<◌, ◌≤◌, List, [], ◌∷◌, length, Option, Some, None, Result, Bool, true, false, refl, sym, ap, ◌∙◌, subst, arith}
+use Rattle.std.proofs.Common.{◌⊎◌, inl, inr, ◌≡◌, ℕ, ◌<◌, ◌≤◌, List, [], ◌∷◌, ◌++◌, length, Option, Some, None, Result, Ok, Bool, true, false, eq-eqb, refl, sym, ap, ◌∙◌, subst, arith}
 use Rattle.std.specs.Option.{option_map}
 use Rattle.xdr_codec.specs.Status.{status_number}
 use Rattle.xdr_codec.specs.declared.status.Status.{Status}
+use Rattle.xdr_codec.specs.declared.status.Status.TheVariants as statuses
+use Rattle.trace_replay.specs.Causes.{look_up_point, HasNeither}
 use Rattle.command_text.specs.declared.command.Command.TheVariants as command
 use Rattle.command_text.specs.declared.path.PathCommand.{PathCommand}
 use Rattle.command_text.specs.declared.path.PathCommand.TheVariants as path
@@ -27,31 +29,33 @@ use Rattle.open_close.specs.Walking.{finding, finds_if, is_look, walked}
 use Rattle.register_model.specs.declared.op.Outcome.{Outcome as History}
 use Rattle.register_model.specs.declared.op.Outcome.TheVariants as told
 use Rattle.register_model.specs.declared.op.Word.TheVariants as words
-use Rattle.trace_replay.specs.Commands.{path_word, word_of}
+use Rattle.trace_ops.specs.Commands.{path_word, word_of}
 use Rattle.trace_replay.specs.declared.opening.TheConstants.{ROOT}
 use Rattle.xdr_codec.specs.declared.answer.Answer.TheVariants.{Done, Failed}
 use Rattle.nfs3_calls.specs.declared.message.Nfs.TheVariants as nfs
-use Rattle.file_tree.specs.Tree.{Tree}
+use Rattle.tree_reading.specs.Tree.{Tree}
 use Rattle.file_tree.specs.Step.{create, mkdir, remove, rmdir, rename}
-use Rattle.file_tree.specs.declared.call.Changed.{Changed}
-use Rattle.file_tree.specs.declared.call.CreateMode.TheVariants as mode
-use Rattle.file_tree.specs.declared.call.Held.{Held}
+use Rattle.tree_plans.specs.declared.call.Changed.{Changed}
+use Rattle.tree_plans.specs.declared.call.CreateMode.TheVariants as mode
+use Rattle.tree_plans.specs.declared.call.Held.{Held}
 use Rattle.tree_calls.specs.Telling.{told as told_by}
-use Rattle.path_calls.specs.Walk.{next_call}
+use Rattle.path_calls.specs.Walk.{next_call, call_at, goal_call, place, create_call, make_dir_call, rename_call}
+use Rattle.server_core.specs.Closing.{entries_by}
 use Rattle.path_calls.specs.declared.walk.Goal.TheVariants as goal
 use Rattle.trace_replay.specs.Complete.{EndsNamed}
 use Rattle.trace_replay.specs.Naming.{tree_at, Leads, IsInside, all_names, FindsFile, IsSeen, IsRootSeen, IsListed, IsRefused, refusal_of, entry_file, IsPointed, Makes, MakesIn, NameDone}
-use Rattle.kept_promise.proofs.Rights.{IsUnmade}
+use Rattle.trace_replay.specs.OwnCalls.{TakesCall, ComesTo, held_at}
+use Rattle.kept_promise.proofs.Tells.{waits_in}
 use Rattle.kept_promise.proofs.Makings.{step_by}
 use Rattle.kept_promise.proofs.MakingTrees.{IsNameGoal, names_file}
 use Rattle.kept_promise.proofs.MakingGoals.{making_left, MakesGoal, making_goal, creates_makes, changes_owed}
 use Rattle.kept_promise.proofs.WalkReplies.{making_untold}
-use Rattle.kept_promise.proofs.Common.{slice_get, Contains, Command, ClientStep, Ended, Pending, Stage, Task, Op, TakenCall, op_after, Core, Seat, numbered, Moment, step_of, Deed, deeds_of, Book, taken_by, Body, took, Word, point_if, has_point, is_untold, changes}
+use Rattle.kept_promise.proofs.Common.{slice_get, ◌||◌, ◌==◌, if◌then◌else◌, has_call, Contains, Command, ClientStep, Ended, Pending, Stage, Task, Op, TakenCall, op_after, Core, Seat, numbered, Moment, step_of, Deed, deeds_of, Book, taken_by, Body, took, Word, Event.Hears, point_if, has_point, changes}
 use Rattle.kept_promise.proofs.Lists.{some_is, nothing_there}
-use Rattle.kept_promise.proofs.Messages.{Job, job, goal_word, UnmadeBy, PointedBy, RefusesWalk, MakesWalk, WalkCame, WalkTold}
-use Rattle.kept_promise.proofs.PathNames.{IsWalkSmall, is_creating, creates_at, makes_at, builds_at, makes_later}
+use Rattle.kept_promise.proofs.Messages.{Job, job, goal_word, UnmadeBy, PointedBy, RefusesWalk, IsTakenFor, MakesWalk, WalkCame, WalkTold}
+use Rattle.kept_promise.proofs.PathNames.{IsWalkSmall, is_making, is_creating, creates_at, makes_at, builds_at, makes_later}
 use Rattle.kept_promise.proofs.StepCases.{IsOfFile, Cases, took_cases}
-use Rattle.file_tree.specs.Reading.{attr_of}
+use Rattle.tree_reading.specs.Reading.{attr_of}
 use Rattle.kept_promise.proofs.TreeDirs.{names_in}
 use Rattle.kept_promise.proofs.Walked.{HasWalk, reached_all}
 use Rattle.kept_promise.proofs.WalkComes.{WalkEnds, WalkComes, walk_comes}
@@ -82,14 +86,14 @@ abbrev pub IsOn : List Moment → Command → Op → Stage → (now : ℕ) → T
 IsOn all (command.Named c) o st now = OnWay all c o st now
 IsOn all d o st now = IsOfFile st
 
--- what is refused of a look or a list has no point
-abbrev pub IsPointless : PathCommand → Op → Type 0
-IsPointless (path.Find s) o = Unit {0}
-IsPointless k o = o.point ≡ None
+-- what was refused in this step has no file and no point, but an open for which a directory was gone has a point
+abbrev pub IsPointless : PathCommand → Op → (status step : ℕ) → Type 0
+IsPointless (path.Find s) o status step = o.point ≡ look_up_point status step
+IsPointless k o status step = HasNeither o
 
 -- how one ended whose path led to no file: where it was refused, by a status that its command may have
 abbrev pub EndsUnfound : List Moment → PathCommand → Op → History → Type 0
-EndsUnfound all k o (told.Refused status) = IsRefused (bare all) o status × IsPointless k o × EndsNamed k (told.Refused status)
+EndsUnfound all k o (told.Refused status) = (r : IsRefused (bare all) o status) × IsPointless k o status (step_of r.moment) × EndsNamed k (told.Refused status)
 EndsUnfound all k o told.Lost = Unit {0}
 EndsUnfound all k o told.Running = Unit {0}
 EndsUnfound all k o u = ⊥
@@ -97,10 +101,10 @@ EndsUnfound all k o u = ⊥
 -- how one ended that asked the server: an open's path led to its file, or it has none
 abbrev pub EndsAs : List Moment → PathCommand → Op → History → Type 0
 EndsAs all (path.Find s) o u = (FindsFile (bare all) o s × (u ≡ told.AlreadyOpen → o.point ≡ None) × IsFetched u) ⊎ ((o.file ≡ 0) × EndsUnfound all (path.Find s) o u)
-EndsAs all (path.Look s) o (told.Seen id kind version len) = IsSeen (bare all) o s id kind version len × (o.file ≡ id)
-EndsAs all path.LookRoot o (told.Seen id kind version len) = IsRootSeen (bare all) o id kind version len × (o.file ≡ 0)
-EndsAs all (path.List p) o (told.Names list) = IsListed (bare all) o p list
-EndsAs all (path.List p) o told.NoLink = Unit {0}
+EndsAs all (path.Look s) o (told.Seen id kind version len) = IsSeen (bare all) o s id kind version len × (o.file ≡ id) × (o.point ≡ None)
+EndsAs all path.LookRoot o (told.Seen id kind version len) = IsRootSeen (bare all) o id kind version len × HasNeither o
+EndsAs all (path.List p) o (told.Names list) = IsListed (bare all) o p list × HasNeither o
+EndsAs all (path.List p) o told.NoLink = HasNeither o
 -- the tree's own step was made
 EndsAs all k o told.Done = NameDone (bare all) o k
 EndsAs all k o u = EndsUnfound all k o u
@@ -161,9 +165,47 @@ name_builds [] (goal.RemoveDir n) e names = refl
 name_builds [] g e names = absurd names
 name_builds (m ∷ ms) g e names = absurd cc
 
-module _ (all : List Moment) (book : Book) (are : book.moments ≡ all) (order : AreInOrder all) (taken : List TakenCall) (closing : Option ℕ) (j : Job) (x : ℕ) (w : Walk) (a : Nfs) (h : WalkTold book taken closing j x w a) (small : IsWalkSmall w) (c : PathCommand) (o : Op) (mine : h.op ≡ o) (idle : IsBare c o) (owed : makes_later w.left w.goal ≡ true → o.point ≡ None) (word : o.word ≡ path_word c)
-    (step : ℕ) (old : HasWalk (bare all) o.begin c w step) (le : step ≤ step_of h.at) (now : ℕ) (late : h.moment < now)
-    (heard : Moment) (noted : Contains all heard) (heard_is : step_of heard ≡ now) (takes : Contains (taken_by heard.before o.client heard.event) (message.Answer x (body.Nfs a))) where
+-- a look-up for an open makes nothing
+abbrev is_find_goal : Goal → Bool
+is_find_goal (goal.Find name) = true
+is_find_goal g = false
+
+making_none : (left : List (List ℕ)) (g : Goal) → is_find_goal g ≡ true → makes_at left g ≡ false
+making_none [] (goal.Find name) e = refl
+making_none (n ∷ ns) (goal.Find name) e = refl
+making_none left g e = absurd cc
+
+-- a status says that an id is nothing's, or it gives no open a point
+stale_or_not : (e : Status) → (e ≡ statuses.Stale) ⊎ (((status_number e == 70) ≡ false) × (has_point words.Open (outcome.Refused e) ≡ false))
+stale_or_not statuses.Stale = inl refl
+stale_or_not _ = inr (refl, refl)
+
+-- a walk whose last call made something had come so far before that was taken
+abbrev pub EarlyBy : (book : Book) (at : Moment) (moment : ℕ) (closing : Option ℕ) (j : Job) (o : Op) (w : Walk) (a : Nfs) (step : ℕ) → WalkCame book at moment closing j o w a → Type 0
+EarlyBy book at moment closing j o w a step (inl t) = Unit {0}
+EarlyBy book at moment closing j o w a step (inr (inl f)) = Unit {0}
+EarlyBy book at moment closing j o w a step (inr (inr m)) = step ≤ step_of m.taken.at
+
+-- it is the operation's own call that was taken
+taken_own : (all : List Moment) (book : Book) → book.moments ≡ all → (client_ c : ℕ) (j : Job) (session xid : ℕ) (w : Walk) (asks : Nfs) → c ≡ client_ → next_call w ≡ asks → (t : IsTakenFor book client_ j session xid w) → (h : TakesCall (bare all) c (step_of t.at) xid (body.Nfs asks)) × (h.session ≡ session)
+taken_own all book are client_ c j session xid w asks same is t = (
+  record {
+    moment = t.at;
+    there = subst (λ (l : List Moment). Contains l t.at) are t.noted;
+    step_is = refl;
+    session = session;
+    now = t.now;
+    bytes = t.bytes;
+    event_is = t.event_is;
+    parsed = t.parsed ∙ ap (λ (m : Nfs). Ok (message.Call xid (body.Nfs m))) is;
+    waits = record { seat = t.seat; seat_is = ap (numbered t.at.before.seats) same ∙ t.seat_is; newest = t.newest; own = waits_in t.seat.place t.seat.client.task j xid t.job_is (ap (λ (z : Stage). has_call (client.pending_in z) xid) t.stage_is ∙ ap (λ (b : Bool). b || false) (eq-eqb xid xid refl)) };
+  },
+  refl,
+)
+
+module _ (all : List Moment) (book : Book) (are : book.moments ≡ all) (order : AreInOrder all) (taken : List TakenCall) (closing : Option ℕ) (j : Job) (x : ℕ) (w : Walk) (a : Nfs) (h : WalkTold book taken closing j x w a) (small : IsWalkSmall w) (c : PathCommand) (o : Op) (mine : h.op ≡ o) (idle : IsBare c o) (owed : makes_later w.left w.goal ≡ true → HasNeither o) (word : o.word ≡ path_word c)
+    (step : ℕ) (old : HasWalk (bare all) o.begin c w step) (le : step ≤ step_of h.at) (early : EarlyBy book h.at h.moment closing j h.op w a step h.came) (now : ℕ) (late : h.moment < now)
+    (heard : Moment) (noted : Contains all heard) (heard_is : step_of heard ≡ now) (reading : ℕ) (bytes : List ℕ) (on_session : heard.event ≡ Hears h.session reading bytes) (takes : Contains (taken_by heard.before o.client heard.event) (message.Answer x (body.Nfs a))) where
   there : Contains all h.at
   there = subst (λ (l : List Moment). Contains l h.at) are h.noted
 
@@ -187,7 +229,7 @@ module _ (all : List Moment) (book : Book) (are : book.moments ≡ all) (order :
           or_else None = 0
           or_else (Some n) = n
 
-  refused_is : (new : Op) (s : Status) → new.end ≡ Some now → new.begin ≡ o.begin → new.client ≡ o.client → refusal_of a ≡ Some s → IsRefused (bare all) new (status_number s)
+  abbrev refused_is : (new : Op) (s : Status) → new.end ≡ Some now → new.begin ≡ o.begin → new.client ≡ o.client → refusal_of a ≡ Some s → IsRefused (bare all) new (status_number s)
   refused_is new s end begin client_is is = record {
     moment = h.at;
     there = there;
@@ -199,6 +241,9 @@ module _ (all : List Moment) (book : Book) (are : book.moments ≡ all) (order :
     refuses = ap (option_map status_number) is;
     taken = heard;
     taken_there = noted;
+    now = reading;
+    bytes = bytes;
+    event_is = on_session;
     ends = end ∙ ap (λ (n : ℕ). Some n) (sym heard_is);
     takes = subst (λ (i : ℕ). Contains (taken_by heard.before i heard.event) (message.Answer x (body.Nfs a))) (sym client_is) takes;
   }
@@ -215,9 +260,9 @@ module _ (all : List Moment) (book : Book) (are : book.moments ≡ all) (order :
   bare_file (path.Find s) is e = (subst (λ (k : PathCommand). IsBare k o) is idle).0
   bare_file _ is e = absurd cc
 
-  refused_as : (k : PathCommand) (new : Op) (status : ℕ) → (is_find k ≡ true → new.file ≡ 0) → IsPointless k new → EndsNamed k (told.Refused status) → IsRefused (bare all) new status → EndsAs all k new (told.Refused status)
-  refused_as (path.Find s) new status none point named is = inr (none refl, (is, point, named))
-  refused_as _ new status none point named is = (is, point, named)
+  refused_as : (k : PathCommand) (new : Op) (status : ℕ) → (is_find k ≡ true → new.file ≡ 0) → (r : IsRefused (bare all) new status) → IsPointless k new status (step_of r.moment) → EndsNamed k (told.Refused status) → EndsAs all k new (told.Refused status)
+  refused_as (path.Find s) new status none is point named = inr (none refl, (is, point, named))
+  refused_as _ new status none is point named = (is, point, named)
 
   -- what is refused, or is open already, gets no point by that
   same_point : (k : PathCommand) → o.word ≡ path_word k → (is_find k ≡ false) → (e : Ended) → (r : client.State × ClientStep) → r.1.ended ≡ Some e → (become r).point ≡ o.point
@@ -235,32 +280,32 @@ module _ (all : List Moment) (book : Book) (are : book.moments ≡ all) (order :
       by (path.Rename p q) w other = ap (λ (z : Word). point_if (has_point z e.outcome) taken e.rests_on o.point) w
 
   -- one that may change a file has none while its call is still to come, and none if that was refused
-  at_last : changes (goal_word w.goal) ≡ true → is_creating w ≡ false → o.point ≡ None
+  at_last : changes (goal_word w.goal) ≡ true → is_creating w ≡ false → HasNeither o
   at_last alters none = owed (changes_owed w.left w.goal alters none)
 
-  unmade_before : (s : Status) → refusal_of a ≡ Some s → changes (goal_word w.goal) ≡ true → o.point ≡ None
+  unmade_before : (s : Status) → refusal_of a ≡ Some s → changes (goal_word w.goal) ≡ true → HasNeither o
   unmade_before s refused alters = by h.came
     where
       not_done : (t : Leading) → t ≡ leading.Ends (walk_end.Refused s) → t ≡ leading.Ends walk_end.Done → ⊥
       not_done t e f = (let z : leading.Ends (walk_end.Refused s) ≡ leading.Ends walk_end.Done = sym e ∙ f in absurd cc)
 
-      refused_by : (f : RefusesWalk h.at closing j h.op w a) → (b : Bool) → is_creating w ≡ b → o.point ≡ None
+      refused_by : (f : RefusesWalk h.at closing j h.op w a) → (b : Bool) → is_creating w ≡ b → HasNeither o
       refused_by f false none = at_last alters none
-      refused_by f true some = ap (λ (z : Op). z.point) (sym mine) ∙ (subst (λ (b : Bool). UnmadeBy b closing j h.op) some f.unmade).0.1
+      refused_by f true some = let u = subst (λ (b : Bool). UnmadeBy b closing j h.op) some f.unmade in (ap (λ (z : Op). z.file) (sym mine) ∙ u.1, ap (λ (z : Op). z.point) (sym mine) ∙ u.0.1)
 
-      by : WalkCame book h.at h.moment closing j h.op w a → o.point ≡ None
+      by : WalkCame book h.at h.moment closing j h.op w a → HasNeither o
       by (inl t) = at_last alters (creates_makes w.left w.goal (making_untold (tree_at h.at) w a t.0))
       by (inr (inl f)) = refused_by f (is_creating w) refl
       by (inr (inr m)) = absurd (not_done (walk_told w a) (refused_leads w a s refused) m.leads)
 
   -- it has none before, if what it waited for was refused
-  none_before : (s : Status) → refusal_of a ≡ Some s → (k : PathCommand) → c ≡ k → is_find k ≡ false → o.point ≡ None
+  none_before : (s : Status) → refusal_of a ≡ Some s → (k : PathCommand) → c ≡ k → is_find k ≡ false → HasNeither o
   none_before s refused (path.Find p) is other = absurd cc
-  none_before s refused (path.Look p) is other = (subst (λ (k : PathCommand). IsBare k o) is idle).1
-  none_before s refused path.LookRoot is other = (subst (λ (k : PathCommand). IsBare k o) is idle).1
-  none_before s refused (path.List p) is other = (subst (λ (k : PathCommand). IsBare k o) is idle).1
-  none_before s refused (path.MakeDir p) is other = (subst (λ (k : PathCommand). IsBare k o) is idle).1
-  none_before s refused (path.RemoveDir p) is other = (subst (λ (k : PathCommand). IsBare k o) is idle).1
+  none_before s refused (path.Look p) is other = subst (λ (k : PathCommand). IsBare k o) is idle
+  none_before s refused path.LookRoot is other = subst (λ (k : PathCommand). IsBare k o) is idle
+  none_before s refused (path.List p) is other = subst (λ (k : PathCommand). IsBare k o) is idle
+  none_before s refused (path.MakeDir p) is other = subst (λ (k : PathCommand). IsBare k o) is idle
+  none_before s refused (path.RemoveDir p) is other = subst (λ (k : PathCommand). IsBare k o) is idle
   none_before s refused (path.Make p) is other = unmade_before s refused (ap (λ (g : Goal). changes (goal_word g)) (subst (λ (k : PathCommand). HasWalk (bare all) o.begin k w step) is old).1)
   none_before s refused (path.Remove p) is other = unmade_before s refused (ap (λ (g : Goal). changes (goal_word g)) (subst (λ (k : PathCommand). HasWalk (bare all) o.begin k w step) is old).1)
   none_before s refused (path.Rename p q) is other = unmade_before s refused (by (subst (λ (k : PathCommand). HasWalk (bare all) o.begin k w step) is old))
@@ -269,20 +314,34 @@ module _ (all : List Moment) (book : Book) (are : book.moments ≡ all) (order :
       by (inl has) = ap (λ (g : Goal). changes (goal_word g)) has.has.1
       by (inr has) = ap (λ (g : Goal). changes (goal_word g)) has.has.1
 
-  refused_pointless : (k : PathCommand) → c ≡ k → o.word ≡ path_word k → (e : Status) → refusal_of a ≡ Some e → (r : client.State × ClientStep) → r.1.ended ≡ Some (record { outcome = outcome.Refused e; rests_on = x }) → IsPointless k (become r)
-  refused_pointless k same w e refused r is = by k same w (is_find k) refl
+  refused_pointless : (k : PathCommand) → c ≡ k → o.word ≡ path_word k → (e : Status) → refusal_of a ≡ Some e → (r : client.State × ClientStep) → r.1.ended ≡ Some (record { outcome = outcome.Refused e; rests_on = x }) → (become r).file ≡ o.file → IsPointless k (become r) (status_number e) (step_of h.at)
+  refused_pointless k same own_word e refused r is file = by k same own_word (is_find k) refl
     where
-      pointless_as : (k : PathCommand) → is_find k ≡ false → (become r).point ≡ None → IsPointless k (become r)
-      pointless_as (path.Find s) other none = tt
+      pointless_as : (k : PathCommand) → is_find k ≡ false → HasNeither (become r) → IsPointless k (become r) (status_number e) (step_of h.at)
+      pointless_as (path.Find s) other none = absurd cc
       pointless_as _ other none = none
 
-      pointless_find : (k : PathCommand) → is_find k ≡ true → IsPointless k (become r)
-      pointless_find (path.Find s) e = tt
-      pointless_find _ e = absurd cc
+      -- a look-up is answered as it is taken
+      looks : (s : Spot) → c ≡ path.Find s → is_making w ≡ false
+      looks s same = making_none w.left w.goal (ap (λ (g : Goal). is_find_goal g) (subst (λ (k : PathCommand). HasWalk (bare all) o.begin k w step) same old).1)
 
-      by : (k : PathCommand) → c ≡ k → o.word ≡ path_word k → (b : Bool) → is_find k ≡ b → IsPointless k (become r)
-      by k same w true found = pointless_find k found
-      by k same w false other = pointless_as k other (same_point k w other (record { outcome = outcome.Refused e; rests_on = x }) r is ∙ none_before e refused k same other)
+      pointless_find : (k : PathCommand) → c ≡ k → o.word ≡ path_word k → is_find k ≡ true → IsPointless k (become r) (status_number e) (step_of h.at)
+      pointless_find (path.Find s) same own_word found = ap (λ (l : Option Ended). (op_after o r.0 taken now (record r.1 { ended = l })).point) is ∙ ap (λ (z : Word). point_if (has_point z (outcome.Refused e)) taken x o.point) own_word ∙ elim (stale_or_not e) [
+        | inl stale ↦
+            ap (λ (z : Status). point_if (has_point words.Open (outcome.Refused z)) taken x o.point) stale
+            ∙ h.was (looks s same)
+            ∙ ap (λ (n : ℕ). Some n) (sym h.step_is)
+            ∙ sym (ap (λ (z : Status). look_up_point (status_number z) (step_of h.at)) stale)
+        | inr other ↦
+            ap (λ (b : Bool). point_if b taken x o.point) other.1
+            ∙ (subst (λ (k : PathCommand). IsBare k o) same idle).1
+            ∙ sym (ap (λ (b : Bool). let p : Option ℕ = if b then Some (step_of h.at) else None in p) other.0)
+      ]
+      pointless_find _ same own_word found = absurd cc
+
+      by : (k : PathCommand) → c ≡ k → o.word ≡ path_word k → (b : Bool) → is_find k ≡ b → IsPointless k (become r) (status_number e) (step_of h.at)
+      by k same own_word true found = pointless_find k same own_word found
+      by k same own_word false other = (let n = none_before e refused k same other in pointless_as k other (file ∙ n.0, same_point k own_word other (record { outcome = outcome.Refused e; rests_on = x }) r is ∙ n.1))
 
   -- by a status that its command may have
   named : (e : Status) → refusal_of a ≡ Some e → EndsNamed c (told.Refused (status_number e))
@@ -299,8 +358,8 @@ module _ (all : List Moment) (book : Book) (are : book.moments ≡ all) (order :
           done_not t x y = (let z : leading.Ends (walk_end.Refused e) ≡ leading.Ends walk_end.Done = sym x ∙ y in absurd cc)
 
   refusal : (s : client.State) (calls : List Pending) (l : Bool) (e : Status) → refusal_of a ≡ Some e → Comes s calls l c (leading.Ends (walk_end.Refused e))
-  refusal s calls true e is = record { way = λ none u at. some_none _ none; ends = λ z at. refused_as c (become (walked s calls x true (leading.Ends (walk_end.Refused e)))) (status_number e) (bare_file c refl) (refused_pointless c refl word e is (walked s calls x true (leading.Ends (walk_end.Refused e))) refl) (named e is) (refused_is (become (walked s calls x true (leading.Ends (walk_end.Refused e)))) e refl refl refl is) }
-  refusal s calls false e is = record { way = λ none u at. some_none _ none; ends = λ z at. refused_as c (become (walked s calls x false (leading.Ends (walk_end.Refused e)))) (status_number e) (bare_file c refl) (refused_pointless c refl word e is (walked s calls x false (leading.Ends (walk_end.Refused e))) refl) (named e is) (refused_is (become (walked s calls x false (leading.Ends (walk_end.Refused e)))) e refl refl refl is) }
+  refusal s calls true e is = record { way = λ none u at. some_none _ none; ends = λ z at. refused_as c (become (walked s calls x true (leading.Ends (walk_end.Refused e)))) (status_number e) (bare_file c refl) (refused_is (become (walked s calls x true (leading.Ends (walk_end.Refused e)))) e refl refl refl is) (refused_pointless c refl word e is (walked s calls x true (leading.Ends (walk_end.Refused e))) refl refl) (named e is) }
+  refusal s calls false e is = record { way = λ none u at. some_none _ none; ends = λ z at. refused_as c (become (walked s calls x false (leading.Ends (walk_end.Refused e)))) (status_number e) (bare_file c refl) (refused_is (become (walked s calls x false (leading.Ends (walk_end.Refused e)))) e refl refl refl is) (refused_pointless c refl word e is (walked s calls x false (leading.Ends (walk_end.Refused e))) refl refl) (named e is) }
 
   asks_on : (s : client.State) (calls : List Pending) (l : Bool) (k : PathCommand) (v : Walk) → o.word ≡ path_word k → IsBare k o → HasWalk (bare all) o.begin k v (step_of h.at) → Comes s calls l k (leading.Asks v)
   asks_on s calls l k v w plain has = record { way = λ none u at. subst (λ (t : Task). OnWay all k (become (walked s calls x l (leading.Asks v))) t.stage now) (some_is (record { file = 0; stage = stage.Walking s.next v }) u at) (step_of h.at, has, at_le, bare_same k o (become (walked s calls x l (leading.Asks v))) refl refl plain, w); ends = λ e at. none_some e at }
@@ -317,17 +376,17 @@ module _ (all : List Moment) (book : Book) (are : book.moments ≡ all) (order :
   ends_by s calls (path.Find spot) wd plain has t (found, is, leads) = subst (Comes s calls (is_look w.goal) (path.Find spot)) (sym is) (finds_of s calls spot found.id wd plain.1 leads (is_open s.opened found.id))
   ends_by s calls (path.Look spot) wd plain has t (n, leads, named_is, is) = subst (λ (g : Goal). Comes s calls (is_look g) (path.Look spot) t) (sym has.1) (subst (Comes s calls true (path.Look spot)) (sym is) (record {
     way = λ none u at. some_none _ none;
-    ends = λ e at. (record { dir = w.dir; found_at = step; found = leads; moment = h.at; there = there; inside = inside (become (walked s calls x true (leading.Ends (walk_end.Seen n.id (attr_of (tree_at h.at).nodes n).kind n.version (attr_of (tree_at h.at).nodes n).size)))) refl step le; node = n; node_is = named_is; shows = (refl, refl, refl, refl) }, refl);
+    ends = λ e at. (record { dir = w.dir; found_at = step; found = leads; moment = h.at; there = there; inside = inside (become (walked s calls x true (leading.Ends (walk_end.Seen n.id (attr_of (tree_at h.at).nodes n).kind n.version (attr_of (tree_at h.at).nodes n).size)))) refl step le; node = n; node_is = named_is; shows = (refl, refl, refl, refl) }, refl, same_point (path.Look spot) wd refl e (walked s calls x true (leading.Ends (walk_end.Seen n.id (attr_of (tree_at h.at).nodes n).kind n.version (attr_of (tree_at h.at).nodes n).size))) at ∙ plain.1);
   }))
   ends_by s calls path.LookRoot wd plain has t (n, root_is, is) = subst (λ (g : Goal). Comes s calls (is_look g) path.LookRoot t) (sym has.1) (subst (Comes s calls false path.LookRoot) (sym is) (record {
     way = λ none u at. some_none _ none;
-    ends = λ e at. (record { moment = h.at; there = there; inside = inside (become (walked s calls x false (leading.Ends (walk_end.Seen n.id (attr_of (tree_at h.at).nodes n).kind n.version (attr_of (tree_at h.at).nodes n).size)))) refl o.begin begun; node = n; node_is = root_is; shows = (refl, refl, refl, refl) }, plain.0);
+    ends = λ e at. (record { moment = h.at; there = there; inside = inside (become (walked s calls x false (leading.Ends (walk_end.Seen n.id (attr_of (tree_at h.at).nodes n).kind n.version (attr_of (tree_at h.at).nodes n).size)))) refl o.begin begun; node = n; node_is = root_is; shows = (refl, refl, refl, refl) }, (plain.0, same_point path.LookRoot wd refl e (walked s calls x false (leading.Ends (walk_end.Seen n.id (attr_of (tree_at h.at).nodes n).kind n.version (attr_of (tree_at h.at).nodes n).size))) at ∙ plain.1));
   }))
   ends_by s calls (path.List p) wd plain has t (found_at, leads, before, inl (d, directory, is)) = subst (λ (g : Goal). Comes s calls (is_look g) (path.List p) t) (sym has.goal_is) (subst (Comes s calls false (path.List p)) (sym is) (record {
     way = λ none u at. some_none _ none;
-    ends = λ e at. record { dir = w.dir; found_at = found_at; found = leads; moment = h.at; there = there; inside = inside (become (walked s calls x false (leading.Ends (walk_end.Names (names_in (tree_at h.at).nodes w.dir))))) refl found_at (omega (arith, before, le)); node = d; directory = directory; names_are = refl };
+    ends = λ e at. (record { dir = w.dir; found_at = found_at; found = leads; moment = h.at; there = there; inside = inside (become (walked s calls x false (leading.Ends (walk_end.Names (names_in (tree_at h.at).nodes w.dir))))) refl found_at (omega (arith, before, le)); node = d; directory = directory; names_are = refl }, (plain.0, same_point (path.List p) wd refl e (walked s calls x false (leading.Ends (walk_end.Names (names_in (tree_at h.at).nodes w.dir)))) at ∙ plain.1));
   }))
-  ends_by s calls (path.List p) wd plain has t (found_at, leads, before, inr is) = subst (λ (g : Goal). Comes s calls (is_look g) (path.List p) t) (sym has.goal_is) (subst (Comes s calls false (path.List p)) (sym is) (record { way = λ none u at. some_none _ none; ends = λ e at. tt }))
+  ends_by s calls (path.List p) wd plain has t (found_at, leads, before, inr is) = subst (λ (g : Goal). Comes s calls (is_look g) (path.List p) t) (sym has.goal_is) (subst (Comes s calls false (path.List p)) (sym is) (record { way = λ none u at. some_none _ none; ends = λ e at. (plain.0, same_point (path.List p) wd refl e (walked s calls x false (leading.Ends walk_end.NoLink)) at ∙ plain.1) }))
   ends_by s calls _ wd plain has t e = absurd e
 
   -- ---- something was made, removed or renamed
@@ -350,6 +409,13 @@ module _ (all : List Moment) (book : Book) (are : book.moments ≡ all) (order :
       by true = refl
       by false = refl
 
+  new_client : (s : client.State) (calls : List Pending) (l : Bool) (r : client.State × ClientStep) → r ≡ ends_done s calls l → (become r).client ≡ o.client
+  new_client s calls l r same = ap (λ (z : client.State × ClientStep). (become z).client) same ∙ by l
+    where
+      by : (l : Bool) → (become (ends_done s calls l)).client ≡ o.client
+      by true = refl
+      by false = refl
+
   new_file : (s : client.State) (calls : List Pending) (l : Bool) (r : client.State × ClientStep) → r ≡ ends_done s calls l → (become r).file ≡ o.file
   new_file s calls l r same = ap (λ (z : client.State × ClientStep). (become z).file) same ∙ by l
     where
@@ -365,7 +431,7 @@ module _ (all : List Moment) (book : Book) (are : book.moments ≡ all) (order :
       by false = same_point k wd other (record { outcome = outcome.Done; rests_on = x }) (ends_done s calls false) refl
 
   -- the file of one that changed one is that of the entry; one that changed none has none
-  pointed_file : (m : MakesWalk h.at h.moment closing j h.op w a) → is_creating w ≡ true → (new : Op) → new.point ≡ o.point → new.file ≡ o.file → IsPointed new (step_of h.at) (entry_file m.done.first)
+  pointed_file : (m : MakesWalk book h.at h.moment closing j h.op w a) → is_creating w ≡ true → (new : Op) → new.point ≡ o.point → new.file ≡ o.file → IsPointed new (step_of h.at) (entry_file m.done.first)
   pointed_file m some new point file = by (subst (λ (b : Bool). PointedBy b closing j h.op h.moment (entry_file m.done.first)) some m.pointed)
     where
       by : PointedBy true closing j h.op h.moment (entry_file m.done.first) → IsPointed new (step_of h.at) (entry_file m.done.first)
@@ -373,62 +439,73 @@ module _ (all : List Moment) (book : Book) (are : book.moments ≡ all) (order :
       by (inr was) = subst (IsPointed new (step_of h.at)) (sym was.1) (point ∙ ap (λ (z : Op). z.point) (sym mine) ∙ was.3 ∙ ap (λ (n : ℕ). Some n) (sym h.step_is), file ∙ ap (λ (z : Op). z.file) (sym mine) ∙ was.4)
 
   -- its call is the one that may change a file
-  is_last : MakesWalk h.at h.moment closing j h.op w a → (g : Goal) → w.goal ≡ g → creates_at [] g ≡ true → is_creating w ≡ true
+  is_last : MakesWalk book h.at h.moment closing j h.op w a → (g : Goal) → w.goal ≡ g → creates_at [] g ≡ true → is_creating w ≡ true
   is_last m g aim last = ap (λ (l : List (List ℕ)). creates_at l w.goal) (making_left w.left w.goal m.making) ∙ ap (creates_at []) aim ∙ last
 
-  pointed_name : (m : MakesWalk h.at h.moment closing j h.op w a) → IsNameGoal w.goal → (o.file ≡ 0) × (o.point ≡ None) → (new : Op) → new.point ≡ o.point → new.file ≡ o.file → IsPointed new (step_of h.at) (entry_file m.done.first)
-  pointed_name m names plain new point file = subst (IsPointed new (step_of h.at)) (sym (names_file (tree_at h.at) m.held w m.done (name_builds w.left w.goal m.making names) names m.step_is)) (point ∙ plain.1, file ∙ plain.0)
+  pointed_name : (m : MakesWalk book h.at h.moment closing j h.op w a) → IsNameGoal w.goal → (o.file ≡ 0) × (o.point ≡ None) → (new : Op) → new.point ≡ o.point → new.file ≡ o.file → IsPointed new (step_of h.at) (entry_file m.done.first)
+  pointed_name m names plain new point file = subst (IsPointed new (step_of h.at)) (sym (names_file (tree_at h.at) (held_at h.at) w m.done (name_builds w.left w.goal m.making names) names m.step_is)) (point ∙ plain.1, file ∙ plain.0)
 
-  makes : (m : MakesWalk h.at h.moment closing j h.op w a) (new : Op) → new.end ≡ Some now → (g : Goal) → w.goal ≡ g → (call : ℕ → Tree → Held → Tree × Result Changed Status) → ((t : Tree) (held : Held) → step_by t held w.dir g ≡ call w.dir t held) → IsPointed new (step_of h.at) (entry_file m.done.first) → Makes (bare all) new step (call w.dir)
-  makes m new end g aim call same pointed = record {
+  makes : (m : MakesWalk book h.at h.moment closing j h.op w a) → step ≤ step_of m.taken.at → (new : Op) → new.end ≡ Some now → new.client ≡ o.client → (g : Goal) → w.goal ≡ g → (call : ℕ → Tree → Held → Tree × Result Changed Status) → ((t : Tree) (held : Held) → step_by t held w.dir g ≡ call w.dir t held) → IsPointed new (step_of h.at) (entry_file m.done.first) → Makes (bare all) new step (goal_call w.dir g) (call w.dir)
+  makes m first new end client_is g aim call same pointed = record {
+    xid = m.xid;
+    taken = step_of m.taken.at;
+    takes = own.0;
+    after = first;
     moment = h.at;
     there = there;
-    inside = inside new end step le;
-    held = m.held;
+    comes = subst (λ (s : ℕ). ComesTo h.at s m.xid (step_of m.taken.at)) (sym own.1) m.comes;
+    inside = inside new end (step_of m.taken.at) (let is = h.step_is in let before = m.before in omega (arith, is, before));
     done = m.done;
-    done_is = ap (λ (p : Tree × Result Changed Status). p.1) (sym (ap (λ (z : Goal). step_by (tree_at h.at) m.held w.dir z) aim ∙ same (tree_at h.at) m.held)) ∙ m.step_is;
-    tree_is = m.tree_is ∙ ap (λ (p : Tree × Result Changed Status). p.0) (ap (λ (z : Goal). step_by (tree_at h.at) m.held w.dir z) aim ∙ same (tree_at h.at) m.held);
+    done_is = ap (λ (p : Tree × Result Changed Status). p.1) (sym (ap (λ (z : Goal). step_by (tree_at h.at) (held_at h.at) w.dir z) aim ∙ same (tree_at h.at) (held_at h.at))) ∙ m.step_is;
+    tree_is = m.tree_is ∙ ap (λ (p : Tree × Result Changed Status). p.0) (ap (λ (z : Goal). step_by (tree_at h.at) (held_at h.at) w.dir z) aim ∙ same (tree_at h.at) (held_at h.at));
+    journal_is = m.journal_is ∙ ap (λ (s : ℕ). h.at.before.server.journal ++ entries_by s m.done.first m.done.second) (sym own.1);
     pointed = pointed;
   }
+    where
+      call_is : next_call w ≡ goal_call w.dir g
+      call_is = ap (λ (l : List (List ℕ)). call_at w.dir l w.goal) (making_left w.left w.goal m.making) ∙ ap (goal_call w.dir) aim
 
-  done_as : (s : client.State) (calls : List Pending) (l : Bool) (k : PathCommand) → c ≡ k → o.word ≡ path_word k → IsBare k o → HasWalk (bare all) o.begin k w step → MakesWalk h.at h.moment closing j h.op w a → (r : client.State × ClientStep) → r ≡ ends_done s calls l → EndsAs all k (become r) told.Done
-  done_as s calls l (path.Make p) is wd plain has m r same =
-      let new = become r in
-      (w.dir, step, subst (λ (b : ℕ). Leads (bare all) b ROOT p.dirs w.dir step) (sym (new_begin s calls l r same)) (reached_all (bare all) o.begin p.dirs w step has.0 (making_left w.left w.goal m.making)), makes m new (new_end s calls l r same) (goal.Make p.name) has.1 (λ dir t held. create t held dir p.name mode.Guarded) (λ t held. refl) (pointed_file m (is_last m (goal.Make p.name) has.1 refl) new (new_point (path.Make p) wd refl s calls l r same) (new_file s calls l r same)))
-  done_as s calls l (path.MakeDir p) is wd plain has m r same =
-      let new = become r in
-      (w.dir, step, subst (λ (b : ℕ). Leads (bare all) b ROOT p.dirs w.dir step) (sym (new_begin s calls l r same)) (reached_all (bare all) o.begin p.dirs w step has.0 (making_left w.left w.goal m.making)), makes m new (new_end s calls l r same) (goal.MakeDir p.name) has.1 (λ dir t held. mkdir t held dir p.name) (λ t held. refl) (pointed_name m (subst IsNameGoal (sym has.1) tt) plain new (new_point (path.MakeDir p) wd refl s calls l r same) (new_file s calls l r same)))
-  done_as s calls l (path.RemoveDir p) is wd plain has m r same =
-      let new = become r in
-      (w.dir, step, subst (λ (b : ℕ). Leads (bare all) b ROOT p.dirs w.dir step) (sym (new_begin s calls l r same)) (reached_all (bare all) o.begin p.dirs w step has.0 (making_left w.left w.goal m.making)), makes m new (new_end s calls l r same) (goal.RemoveDir p.name) has.1 (λ dir t held. rmdir t held dir p.name) (λ t held. refl) (pointed_name m (subst IsNameGoal (sym has.1) tt) plain new (new_point (path.RemoveDir p) wd refl s calls l r same) (new_file s calls l r same)))
-  done_as s calls l (path.Find p) is wd plain has m r same = absurd (subst MakesGoal has.1 (making_goal w.left w.goal m.making))
-  done_as s calls l (path.Look p) is wd plain has m r same = absurd (subst MakesGoal has.1 (making_goal w.left w.goal m.making))
-  done_as s calls l path.LookRoot is wd plain has m r same = absurd (subst MakesGoal has.1 (making_goal w.left w.goal m.making))
-  done_as s calls l (path.List p) is wd plain has m r same = absurd (subst MakesGoal has.goal_is (making_goal w.left w.goal m.making))
-  done_as s calls l (path.Remove p) is wd plain has m r same =
-      let new = become r in
-      (w.dir, step, subst (λ (b : ℕ). Leads (bare all) b ROOT p.dirs w.dir step) (sym (new_begin s calls l r same)) (reached_all (bare all) o.begin p.dirs w step has.0 (making_left w.left w.goal m.making)), makes m new (new_end s calls l r same) (goal.Remove p.name) has.1 (λ dir t held. remove t held dir p.name) (λ t held. refl) (pointed_file m (is_last m (goal.Remove p.name) has.1 refl) new (new_point (path.Remove p) wd refl s calls l r same) (new_file s calls l r same)))
-  done_as s calls l (path.Rename p q) is wd plain (inl has) m r same = absurd (subst MakesGoal has.has.1 (making_goal w.left w.goal m.making))
-  done_as s calls l (path.Rename p q) is wd plain (inr has) m r same =
-      let new = become r in
-      (has.dir, has.found_at, w.dir, step, subst (λ (b : ℕ). Leads (bare all) b ROOT p.dirs has.dir has.found_at) (sym (new_begin s calls l r same)) has.found, reached_all (bare all) has.found_at q.dirs w step has.has.0 (making_left w.left w.goal m.making), makes m new (new_end s calls l r same) (goal.RenameTo has.dir p.name q.name) has.has.1 (λ to t held. rename t held has.dir p.name to q.name) (λ t held. refl) (pointed_file m (is_last m (goal.RenameTo has.dir p.name q.name) has.has.1 refl) new (new_point (path.Rename p q) wd refl s calls l r same) (new_file s calls l r same)))
+      own : (t : TakesCall (bare all) new.client (step_of m.taken.at) m.xid (body.Nfs (goal_call w.dir g))) × (t.session ≡ m.session)
+      own = taken_own all book are h.op.client new.client j m.session m.xid w (goal_call w.dir g) (client_is ∙ ap (λ (z : Op). z.client) (sym mine)) call_is m.taken
 
-  finished : (s : client.State) (calls : List Pending) (l : Bool) → MakesWalk h.at h.moment closing j h.op w a → Comes s calls l c (leading.Ends walk_end.Done)
-  finished s calls true m = record { way = λ none u at. some_none _ none; ends = λ e at. done_as s calls true c refl word idle old m (ends_done s calls true) refl }
-  finished s calls false m = record { way = λ none u at. some_none _ none; ends = λ e at. done_as s calls false c refl word idle old m (ends_done s calls false) refl }
+  done_as : (s : client.State) (calls : List Pending) (l : Bool) (k : PathCommand) → c ≡ k → o.word ≡ path_word k → IsBare k o → HasWalk (bare all) o.begin k w step → (m : MakesWalk book h.at h.moment closing j h.op w a) → step ≤ step_of m.taken.at → (r : client.State × ClientStep) → r ≡ ends_done s calls l → EndsAs all k (become r) told.Done
+  done_as s calls l (path.Make p) is wd plain has m first r same =
+      let new = become r in
+      (w.dir, step, subst (λ (b : ℕ). Leads (bare all) b ROOT p.dirs w.dir step) (sym (new_begin s calls l r same)) (reached_all (bare all) o.begin p.dirs w step has.0 (making_left w.left w.goal m.making)), makes m first new (new_end s calls l r same) (new_client s calls l r same) (goal.Make p.name) has.1 (λ dir t held. create t held dir p.name mode.Guarded) (λ t held. refl) (pointed_file m (is_last m (goal.Make p.name) has.1 refl) new (new_point (path.Make p) wd refl s calls l r same) (new_file s calls l r same)))
+  done_as s calls l (path.MakeDir p) is wd plain has m first r same =
+      let new = become r in
+      (w.dir, step, subst (λ (b : ℕ). Leads (bare all) b ROOT p.dirs w.dir step) (sym (new_begin s calls l r same)) (reached_all (bare all) o.begin p.dirs w step has.0 (making_left w.left w.goal m.making)), makes m first new (new_end s calls l r same) (new_client s calls l r same) (goal.MakeDir p.name) has.1 (λ dir t held. mkdir t held dir p.name) (λ t held. refl) (pointed_name m (subst IsNameGoal (sym has.1) tt) plain new (new_point (path.MakeDir p) wd refl s calls l r same) (new_file s calls l r same)))
+  done_as s calls l (path.RemoveDir p) is wd plain has m first r same =
+      let new = become r in
+      (w.dir, step, subst (λ (b : ℕ). Leads (bare all) b ROOT p.dirs w.dir step) (sym (new_begin s calls l r same)) (reached_all (bare all) o.begin p.dirs w step has.0 (making_left w.left w.goal m.making)), makes m first new (new_end s calls l r same) (new_client s calls l r same) (goal.RemoveDir p.name) has.1 (λ dir t held. rmdir t held dir p.name) (λ t held. refl) (pointed_name m (subst IsNameGoal (sym has.1) tt) plain new (new_point (path.RemoveDir p) wd refl s calls l r same) (new_file s calls l r same)))
+  done_as s calls l (path.Find p) is wd plain has m first r same = absurd (subst MakesGoal has.1 (making_goal w.left w.goal m.making))
+  done_as s calls l (path.Look p) is wd plain has m first r same = absurd (subst MakesGoal has.1 (making_goal w.left w.goal m.making))
+  done_as s calls l path.LookRoot is wd plain has m first r same = absurd (subst MakesGoal has.1 (making_goal w.left w.goal m.making))
+  done_as s calls l (path.List p) is wd plain has m first r same = absurd (subst MakesGoal has.goal_is (making_goal w.left w.goal m.making))
+  done_as s calls l (path.Remove p) is wd plain has m first r same =
+      let new = become r in
+      (w.dir, step, subst (λ (b : ℕ). Leads (bare all) b ROOT p.dirs w.dir step) (sym (new_begin s calls l r same)) (reached_all (bare all) o.begin p.dirs w step has.0 (making_left w.left w.goal m.making)), makes m first new (new_end s calls l r same) (new_client s calls l r same) (goal.Remove p.name) has.1 (λ dir t held. remove t held dir p.name) (λ t held. refl) (pointed_file m (is_last m (goal.Remove p.name) has.1 refl) new (new_point (path.Remove p) wd refl s calls l r same) (new_file s calls l r same)))
+  done_as s calls l (path.Rename p q) is wd plain (inl has) m first r same = absurd (subst MakesGoal has.has.1 (making_goal w.left w.goal m.making))
+  done_as s calls l (path.Rename p q) is wd plain (inr has) m first r same =
+      let new = become r in
+      (has.dir, has.found_at, w.dir, step, subst (λ (b : ℕ). Leads (bare all) b ROOT p.dirs has.dir has.found_at) (sym (new_begin s calls l r same)) has.found, reached_all (bare all) has.found_at q.dirs w step has.has.0 (making_left w.left w.goal m.making), makes m first new (new_end s calls l r same) (new_client s calls l r same) (goal.RenameTo has.dir p.name q.name) has.has.1 (λ to t held. rename t held has.dir p.name to q.name) (λ t held. refl) (pointed_file m (is_last m (goal.RenameTo has.dir p.name q.name) has.has.1 refl) new (new_point (path.Rename p q) wd refl s calls l r same) (new_file s calls l r same)))
+
+  finished : (s : client.State) (calls : List Pending) (l : Bool) → (m : MakesWalk book h.at h.moment closing j h.op w a) → step ≤ step_of m.taken.at → Comes s calls l c (leading.Ends walk_end.Done)
+  finished s calls true m first = record { way = λ none u at. some_none _ none; ends = λ e at. done_as s calls true c refl word idle old m first (ends_done s calls true) refl }
+  finished s calls false m first = record { way = λ none u at. some_none _ none; ends = λ e at. done_as s calls false c refl word idle old m first (ends_done s calls false) refl }
 
   pub heard_walk : (s : client.State) (calls : List Pending) → Comes s calls (is_look w.goal) c (walk_told w a)
-  heard_walk s calls = came h.came
+  heard_walk s calls = came h.came early
     where
       by : (t : Leading) → WalkComes (bare all) o.begin step h.at c w a t → Comes s calls (is_look w.goal) c t
       by t (inl (e, is, ends)) = subst (Comes s calls (is_look w.goal) c) (sym ends) (refusal s calls (is_look w.goal) e is)
       by t (inr (inl (v, is, has))) = subst (Comes s calls (is_look w.goal) c) (sym is) (asks_on s calls (is_look w.goal) c v word idle has)
       by t (inr (inr ends)) = ends_by s calls c word idle old t ends
 
-      came : WalkCame book h.at h.moment closing j h.op w a → Comes s calls (is_look w.goal) c (walk_told w a)
-      came (inl t) = by (walk_told w a) (comes t.0)
-      came (inr (inl f)) = subst (Comes s calls (is_look w.goal) c) (sym f.leads) (refusal s calls (is_look w.goal) f.why f.refuses)
-      came (inr (inr m)) = subst (Comes s calls (is_look w.goal) c) (sym m.leads) (finished s calls (is_look w.goal) m)
+      came : (z : WalkCame book h.at h.moment closing j h.op w a) → EarlyBy book h.at h.moment closing j h.op w a step z → Comes s calls (is_look w.goal) c (walk_told w a)
+      came (inl t) first = by (walk_told w a) (comes t.0)
+      came (inr (inl f)) first = subst (Comes s calls (is_look w.goal) c) (sym f.leads) (refusal s calls (is_look w.goal) f.why f.refuses)
+      came (inr (inr m)) first = subst (Comes s calls (is_look w.goal) c) (sym m.leads) (finished s calls (is_look w.goal) m first)
 
 -- ---- an answer comes to an operation on a file
 
@@ -506,9 +583,6 @@ found_on : (all : List Moment) (c : PathCommand) (o r : Op) (n m : ℕ) → r.be
     → (s : Spot) × (c ≡ path.Find s) × ((step : ℕ) × Leads (bare all) r.begin ROOT (all_names s) r.file step × (step ≤ m))
 found_on all c o r n m begin file le (s, is, (step, leads, before)) = (s, is, (step, subst (λ (b : ℕ). Leads (bare all) b ROOT (all_names s) r.file step) (sym begin) (subst (λ (f : ℕ). Leads (bare all) o.begin ROOT (all_names s) f step) (sym file) leads), omega (arith, le, before)))
 
-open_changes : changes words.Open ≡ true → ⊥
-open_changes e = absurd cc
-
 point_stays : (c : PathCommand) (o r : Op) → (r.point ≡ o.point) ⊎ (o.word ≡ words.Close) → o.point ≡ None → o.word ≡ path_word c → r.point ≡ None
 point_stays c o r (inl same) none is = same ∙ none
 point_stays c o r (inr close) none is = absurd (not_close c (sym is ∙ close))
@@ -539,8 +613,8 @@ is_on all (command.Abandon f) o r st n m word point begin file le h = h
 inside_on : (o r : Op) (from step : ℕ) → r.end ≡ o.end → IsInside o from step → IsInside r from step
 inside_on o r from step end h = (h.0, λ e is. h.1 e (sym end ∙ is))
 
-refused_on : (all : List Moment) (o r : Op) (status : ℕ) → SameWay o r → IsRefused (bare all) o status → IsRefused (bare all) r status
-refused_on all o r status s h = record { moment = h.moment; there = h.there; inside = subst (λ (b : ℕ). IsInside r b (step_of h.moment)) (sym s.begin) (inside_on o r o.begin (step_of h.moment) s.end h.inside); session = h.session; xid = h.xid; answer = h.answer; sent = h.sent; refuses = h.refuses; taken = h.taken; taken_there = h.taken_there; ends = s.end ∙ h.ends; takes = subst (λ (i : ℕ). Contains (taken_by h.taken.before i h.taken.event) (message.Answer h.xid (body.Nfs h.answer))) (sym s.client) h.takes }
+abbrev refused_on : (all : List Moment) (o r : Op) (status : ℕ) → SameWay o r → IsRefused (bare all) o status → IsRefused (bare all) r status
+refused_on all o r status s h = record { moment = h.moment; there = h.there; inside = subst (λ (b : ℕ). IsInside r b (step_of h.moment)) (sym s.begin) (inside_on o r o.begin (step_of h.moment) s.end h.inside); session = h.session; xid = h.xid; answer = h.answer; sent = h.sent; refuses = h.refuses; taken = h.taken; taken_there = h.taken_there; now = h.now; bytes = h.bytes; event_is = h.event_is; ends = s.end ∙ h.ends; takes = subst (λ (i : ℕ). Contains (taken_by h.taken.before i h.taken.event) (message.Answer h.xid (body.Nfs h.answer))) (sym s.client) h.takes }
 
 finds_on : (all : List Moment) (o r : Op) (spot : Spot) → SameWay o r → FindsFile (bare all) o spot → FindsFile (bare all) r spot
 finds_on all o r spot s h = record {
@@ -558,21 +632,21 @@ root_on all o r id k v n s h = record { moment = h.moment; there = h.there; insi
 listed_on : (all : List Moment) (o r : Op) (p list : List (List ℕ)) → SameWay o r → IsListed (bare all) o p list → IsListed (bare all) r p list
 listed_on all o r p list s h = record { dir = h.dir; found_at = h.found_at; found = subst (λ (b : ℕ). Leads (bare all) b ROOT p h.dir h.found_at) (sym s.begin) h.found; moment = h.moment; there = h.there; inside = inside_on o r h.found_at (step_of h.moment) s.end h.inside; node = h.node; directory = h.directory; names_are = h.names_are }
 
-pointless_on : (c : PathCommand) (o r : Op) → o.word ≡ path_word c → SameWay o r → IsPointless c o → IsPointless c r
-pointless_on c o r is s h = by s.point
+pointless_on : (c : PathCommand) (o r : Op) → o.word ≡ path_word c → SameWay o r → (status step : ℕ) → IsPointless c o status step → IsPointless c r status step
+pointless_on c o r is s status step h = by s.point
   where
-    none : (k : PathCommand) → r.point ≡ o.point → IsPointless k o → IsPointless k r
-    none (path.Find z) same h = tt
-    none (path.Look z) same h = same ∙ h
-    none path.LookRoot same h = same ∙ h
-    none (path.List z) same h = same ∙ h
-    none (path.Make z) same h = same ∙ h
-    none (path.MakeDir z) same h = same ∙ h
-    none (path.Remove z) same h = same ∙ h
-    none (path.RemoveDir z) same h = same ∙ h
-    none (path.Rename z t) same h = same ∙ h
+    none : (k : PathCommand) → r.point ≡ o.point → IsPointless k o status step → IsPointless k r status step
+    none (path.Find z) same h = same ∙ h
+    none (path.Look z) same h = (s.file ∙ h.0, same ∙ h.1)
+    none path.LookRoot same h = (s.file ∙ h.0, same ∙ h.1)
+    none (path.List z) same h = (s.file ∙ h.0, same ∙ h.1)
+    none (path.Make z) same h = (s.file ∙ h.0, same ∙ h.1)
+    none (path.MakeDir z) same h = (s.file ∙ h.0, same ∙ h.1)
+    none (path.Remove z) same h = (s.file ∙ h.0, same ∙ h.1)
+    none (path.RemoveDir z) same h = (s.file ∙ h.0, same ∙ h.1)
+    none (path.Rename z t) same h = (s.file ∙ h.0, same ∙ h.1)
 
-    by : (r.point ≡ o.point) ⊎ (o.word ≡ words.Close) → IsPointless c r
+    by : (r.point ≡ o.point) ⊎ (o.word ≡ words.Close) → IsPointless c r status step
     by (inl same) = none c same h
     by (inr close) = absurd (not_close c (sym is ∙ close))
 
@@ -580,21 +654,27 @@ pointed_on : (o r : Op) (at_step : ℕ) (changed : Option ℕ) → r.point ≡ o
 pointed_on o r at_step None point file p = (point ∙ p.0, file ∙ p.1)
 pointed_on o r at_step (Some f) point file p = (point ∙ p.0, file ∙ p.1)
 
-makes_on : (all : List Moment) (o r : Op) (behind : ℕ) (call : Tree → Held → Tree × Result Changed Status) → SameWay o r → r.point ≡ o.point → Makes (bare all) o behind call → Makes (bare all) r behind call
-makes_on all o r behind call s point h = record { moment = h.moment; there = h.there; inside = inside_on o r behind (step_of h.moment) s.end h.inside; held = h.held; done = h.done; done_is = h.done_is; tree_is = h.tree_is; pointed = pointed_on o r (step_of h.moment) (entry_file h.done.first) point s.file h.pointed }
+-- what was taken for an operation was taken for it as it is now
+pub takes_on : (book more : Book) (c d step xid : ℕ) (call : Body) → ((m : Moment) → Contains book.moments m → Contains more.moments m) → d ≡ c → (t : TakesCall book c step xid call) → (u : TakesCall more d step xid call) × (u.session ≡ t.session)
+takes_on book more c d step xid call there same t = (record { moment = t.moment; there = there t.moment t.there; step_is = t.step_is; session = t.session; now = t.now; bytes = t.bytes; event_is = t.event_is; parsed = t.parsed; waits = record { seat = t.waits.seat; seat_is = ap (numbered t.moment.before.seats) same ∙ t.waits.seat_is; newest = t.waits.newest; own = t.waits.own } }, refl)
 
-makes_in_on : (all : List Moment) (o r : Op) (dirs : List (List ℕ)) (call : (dir : ℕ) → Tree → Held → Tree × Result Changed Status) → SameWay o r → r.point ≡ o.point → MakesIn (bare all) o dirs call → MakesIn (bare all) r dirs call
-makes_in_on all o r dirs call s point (dir, step, leads, made) = (dir, step, subst (λ (b : ℕ). Leads (bare all) b ROOT dirs dir step) (sym s.begin) leads, makes_on all o r step (call dir) s point made)
+makes_on : (all : List Moment) (o r : Op) (behind : ℕ) (asks : Nfs) (call : Tree → Held → Tree × Result Changed Status) → SameWay o r → r.point ≡ o.point → Makes (bare all) o behind asks call → Makes (bare all) r behind asks call
+makes_on all o r behind asks call s point h =
+    let t = takes_on (bare all) (bare all) o.client r.client h.taken h.xid (body.Nfs asks) (λ m there. there) s.client h.takes in
+    record { xid = h.xid; taken = h.taken; takes = t.0; after = h.after; moment = h.moment; there = h.there; comes = subst (λ (n : ℕ). ComesTo h.moment n h.xid h.taken) (sym t.1) h.comes; inside = inside_on o r h.taken (step_of h.moment) s.end h.inside; done = h.done; done_is = h.done_is; tree_is = h.tree_is; journal_is = h.journal_is ∙ ap (λ (n : ℕ). h.moment.before.server.journal ++ entries_by n h.done.first h.done.second) (sym t.1); pointed = pointed_on o r (step_of h.moment) (entry_file h.done.first) point s.file h.pointed }
+
+makes_in_on : (all : List Moment) (o r : Op) (dirs : List (List ℕ)) (asks : (dir : ℕ) → Nfs) (call : (dir : ℕ) → Tree → Held → Tree × Result Changed Status) → SameWay o r → r.point ≡ o.point → MakesIn (bare all) o dirs asks call → MakesIn (bare all) r dirs asks call
+makes_in_on all o r dirs asks call s point (dir, step, leads, made) = (dir, step, subst (λ (b : ℕ). Leads (bare all) b ROOT dirs dir step) (sym s.begin) leads, makes_on all o r step (asks dir) (call dir) s point made)
 
 done_on : (all : List Moment) (c : PathCommand) (o r : Op) → o.word ≡ path_word c → SameWay o r → NameDone (bare all) o c → NameDone (bare all) r c
 done_on all c o r is s h = by s.point
   where
     same : (c : PathCommand) → r.point ≡ o.point → NameDone (bare all) o c → NameDone (bare all) r c
-    same (path.Make p) point h = makes_in_on all o r p.dirs (λ dir t held. create t held dir p.name mode.Guarded) s point h
-    same (path.MakeDir p) point h = makes_in_on all o r p.dirs (λ dir t held. mkdir t held dir p.name) s point h
-    same (path.Remove p) point h = makes_in_on all o r p.dirs (λ dir t held. remove t held dir p.name) s point h
-    same (path.RemoveDir p) point h = makes_in_on all o r p.dirs (λ dir t held. rmdir t held dir p.name) s point h
-    same (path.Rename p q) point (dir, first, to, second, leads, more, made) = (dir, first, to, second, subst (λ (b : ℕ). Leads (bare all) b ROOT p.dirs dir first) (sym s.begin) leads, more, makes_on all o r second (λ tree held. rename tree held dir p.name to q.name) s point made)
+    same (path.Make p) point h = makes_in_on all o r p.dirs (λ dir. create_call dir p.name) (λ dir t held. create t held dir p.name mode.Guarded) s point h
+    same (path.MakeDir p) point h = makes_in_on all o r p.dirs (λ dir. make_dir_call dir p.name) (λ dir t held. mkdir t held dir p.name) s point h
+    same (path.Remove p) point h = makes_in_on all o r p.dirs (λ dir. nfs.Remove (place dir p.name)) (λ dir t held. remove t held dir p.name) s point h
+    same (path.RemoveDir p) point h = makes_in_on all o r p.dirs (λ dir. nfs.RmDir (place dir p.name)) (λ dir t held. rmdir t held dir p.name) s point h
+    same (path.Rename p q) point (dir, first, to, second, leads, more, made) = (dir, first, to, second, subst (λ (b : ℕ). Leads (bare all) b ROOT p.dirs dir first) (sym s.begin) leads, more, makes_on all o r second (rename_call dir p.name to q.name) (λ tree held. rename tree held dir p.name to q.name) s point made)
     same (path.Find p) point h = absurd h
     same (path.Look p) point h = absurd h
     same path.LookRoot point h = absurd h
@@ -605,7 +685,7 @@ done_on all c o r is s h = by s.point
     by (inr close) = absurd (not_close c (sym is ∙ close))
 
 unfound_on : (all : List Moment) (c : PathCommand) (o r : Op) (u : History) → o.word ≡ path_word c → SameWay o r → EndsUnfound all c o u → EndsUnfound all c r u
-unfound_on all c o r (told.Refused status) is s h = (refused_on all o r status s h.0, pointless_on c o r is s h.1, h.2)
+unfound_on all c o r (told.Refused status) is s h = (refused_on all o r status s h.0, pointless_on c o r is s status (step_of h.0.moment) h.1, h.2)
 unfound_on all c o r told.Lost is s h = tt
 unfound_on all c o r told.Running is s h = tt
 unfound_on all c o r _ is s h = absurd h
@@ -617,65 +697,21 @@ already_on c o r u is s h e = by s.point
     by (inl same) = same ∙ h e
     by (inr close) = absurd (not_close c (sym is ∙ close))
 
+no_point_on : (c : PathCommand) (o r : Op) → o.word ≡ path_word c → SameWay o r → o.point ≡ None → r.point ≡ None
+no_point_on c o r is s none = elim s.point [ inl same ↦ same ∙ none | inr close ↦ absurd (not_close c (sym is ∙ close)) ]
+
 ends_on : (all : List Moment) (c : PathCommand) (o r : Op) (u : History) → o.word ≡ path_word c → SameWay o r → EndsAs all c o u → EndsAs all c r u
 ends_on all (path.Find spot) o r u is s (inl h) = inl (finds_on all o r spot s h.0, already_on (path.Find spot) o r u is s h.1, h.2)
 ends_on all (path.Find spot) o r u is s (inr h) = inr (s.file ∙ h.0, unfound_on all (path.Find spot) o r u is s h.1)
-ends_on all (path.Look spot) o r (told.Seen id k v n) is s h = (seen_on all o r spot id k v n s h.0, s.file ∙ h.1)
-ends_on all path.LookRoot o r (told.Seen id k v n) is s h = (root_on all o r id k v n s h.0, s.file ∙ h.1)
-ends_on all (path.List p) o r (told.Names list) is s h = listed_on all o r p list s h
-ends_on all (path.List p) o r told.NoLink is s h = tt
+ends_on all (path.Look spot) o r (told.Seen id k v n) is s h = (seen_on all o r spot id k v n s h.0, s.file ∙ h.1, no_point_on (path.Look spot) o r is s h.2)
+ends_on all path.LookRoot o r (told.Seen id k v n) is s h = (root_on all o r id k v n s h.0, (s.file ∙ h.1.0, no_point_on path.LookRoot o r is s h.1.1))
+ends_on all (path.List p) o r (told.Names list) is s h = (listed_on all o r p list s h.0, (s.file ∙ h.1.0, no_point_on (path.List p) o r is s h.1.1))
+ends_on all (path.List p) o r told.NoLink is s h = (s.file ∙ h.0, no_point_on (path.List p) o r is s h.1)
 ends_on all (path.Look p) o r told.Done is s h = absurd h
 ends_on all path.LookRoot o r told.Done is s h = absurd h
 ends_on all (path.List p) o r told.Done is s h = absurd h
 ends_on all k o r told.Done is s h = done_on all k o r is s h
 ends_on all k o r u is s h = unfound_on all k o r u is s h
-
--- one that changed a file goes on, or was lost
-pub way_made : (all : List Moment) (d : Command) (o r : Op) (st : Stage) (n m : ℕ) → IsUnmade o → changes o.word ≡ true → r.word ≡ o.word → r.begin ≡ o.begin → n ≤ m → IsOn all d o st n → IsOn all d r st m
-way_made all (command.Named c) o r (stage.Walking x w) n m unmade make word begin le (step, has, before, plain, is) = (step, subst (λ (b : ℕ). HasWalk (bare all) b c w step) (sym begin) has, omega (arith, le, before), by c (ap changes (sym is) ∙ make), word ∙ is)
-  where
-    by : (c : PathCommand) → changes (path_word c) ≡ true → IsBare c r
-    by (path.Make s) e = tt
-    by (path.Find s) e = absurd cc
-    by (path.Look s) e = absurd cc
-    by path.LookRoot e = absurd cc
-    by (path.List p) e = absurd cc
-    by (path.MakeDir s) e = absurd cc
-    by (path.Remove s) e = tt
-    by (path.RemoveDir s) e = absurd cc
-    by (path.Rename s t) e = tt
-way_made all (command.Named c) o r (stage.Asking x) n m unmade make word begin le h = absurd (open_changes (sym (ap changes (h.2 ∙ ap path_word h.0.1)) ∙ make))
-way_made all (command.Named c) o r (stage.Hashing t x) n m unmade make word begin le h = absurd (open_changes (sym (ap changes (h.2 ∙ ap path_word h.0.1)) ∙ make))
-way_made all (command.Named c) o r (stage.Listing x f) n m unmade make word begin le h = absurd (open_changes (sym (ap changes (h.2 ∙ ap path_word h.0.1)) ∙ make))
-way_made all (command.Named c) o r (stage.Reading f) n m unmade make word begin le h = absurd (open_changes (sym (ap changes (h.2 ∙ ap path_word h.0.1)) ∙ make))
-way_made all (command.Named c) o r (stage.Making x t) n m unmade make word begin le h = absurd (open_changes (sym (ap changes (h.2 ∙ ap path_word h.0.1)) ∙ make))
-way_made all (command.Named c) o r (stage.Storing t) n m unmade make word begin le h = absurd (open_changes (sym (ap changes (h.2 ∙ ap path_word h.0.1)) ∙ make))
-way_made all (command.Named c) o r (stage.Committing x) n m unmade make word begin le h = absurd (open_changes (sym (ap changes (h.2 ∙ ap path_word h.0.1)) ∙ make))
-way_made all (command.Open f) o r st n m unmade make word begin le h = h
-way_made all (command.Write f a b) o r st n m unmade make word begin le h = h
-way_made all (command.Trunc f a) o r st n m unmade make word begin le h = h
-way_made all (command.Read f a b) o r st n m unmade make word begin le h = h
-way_made all (command.Close f) o r st n m unmade make word begin le h = h
-way_made all (command.Abandon f) o r st n m unmade make word begin le h = h
-
-pub over_made : (all : List Moment) (d : Command) (o r : Op) → IsUnmade o → changes o.word ≡ true → r.word ≡ o.word → r.begin ≡ o.begin → r.end ≡ o.end → r.outcome ≡ o.outcome → IsOver all d o → IsOver all d r
-over_made all (command.Named c) o r unmade make word begin end outcome (is, inl h) = (word ∙ is, inl (outcome ∙ h))
-over_made all (command.Named c) o r unmade make word begin end outcome (is, inr (inl h)) = (word ∙ is, inr (inl (end ∙ h ∙ ap (λ (n : ℕ). Some n) (sym begin))))
-over_made all (command.Named c) o r unmade make word begin end outcome (is, inr (inr h)) = (word ∙ is, by o.outcome refl unmade.2 c (ap changes (sym is) ∙ make))
-  where
-    by : (u : History) → o.outcome ≡ u → is_untold u ≡ true → (c : PathCommand) → changes (path_word c) ≡ true → (r.outcome ≡ told.Running) ⊎ ((r.end ≡ Some r.begin) ⊎ EndsAs all c r r.outcome)
-    by told.Running e u c w = inl (outcome ∙ e)
-    by told.Lost e u (path.Make s) w = inr (inr (subst (EndsAs all (path.Make s) r) (sym (outcome ∙ e)) tt))
-    by told.Lost e u (path.Remove s) w = inr (inr (subst (EndsAs all (path.Remove s) r) (sym (outcome ∙ e)) tt))
-    by told.Lost e u (path.Rename s t) w = inr (inr (subst (EndsAs all (path.Rename s t) r) (sym (outcome ∙ e)) tt))
-    by told.Lost e u c w = absurd cc
-    by u e untold c w = absurd cc
-over_made all (command.Open f) o r unmade make word begin end outcome h = tt
-over_made all (command.Write f a b) o r unmade make word begin end outcome h = tt
-over_made all (command.Trunc f a) o r unmade make word begin end outcome h = tt
-over_made all (command.Read f a b) o r unmade make word begin end outcome h = tt
-over_made all (command.Close f) o r unmade make word begin end outcome h = tt
-over_made all (command.Abandon f) o r unmade make word begin end outcome h = tt
 
 pub is_over : (all : List Moment) (d : Command) (o r : Op) → SameWay o r → IsOver all d o → IsOver all d r
 is_over all (command.Named c) o r s (is, inl h) = (s.word ∙ is, inl (s.outcome ∙ h))

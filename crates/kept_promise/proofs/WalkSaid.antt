@@ -20,8 +20,8 @@ use Rattle.client_state.specs.declared.task.Stage.TheVariants as stage
 use Rattle.open_close.specs.Walking.{walks, walks_if}
 use Rattle.register_model.specs.declared.op.Outcome.TheVariants as told
 use Rattle.register_model.specs.declared.op.Word.TheVariants as words
-use Rattle.trace_replay.specs.Core.{taken_of as session_taken}
-use Rattle.trace_replay.specs.Ops.{begun as op_begun, file_with}
+use Rattle.trace_sessions.specs.Session.{taken_of as session_taken}
+use Rattle.trace_ops.specs.Ops.{begun as op_begun, file_with}
 use Rattle.trace_replay.specs.Trail.{given_in, given_by_message}
 use Rattle.file_open.specs.Looking.{reading_by, with_file, reading_if, reading}
 use Rattle.trace_replay.specs.Walking.{Part, Part.asks, IsWalk, AreCalls}
@@ -47,7 +47,7 @@ use Rattle.kept_promise.proofs.Found.{took_finds, command_finds}
 use Rattle.kept_promise.proofs.StepCases.{IsOfFile, IsFault}
 use Rattle.kept_promise.proofs.Logs.{IsSilent, ArePast, AreAsBefore, as_before, deals_more, deals_same, deals_silent, deals_pointed, deals_alike, deals_apart, deals_own, deals_early, deals_filed}
 use Rattle.kept_promise.proofs.LogEvents.{joins_silent, cuts_silent, hangs_silent, is_new, IsNew}
-use Rattle.kept_promise.proofs.WalkLog.{GaveUp, walk_gave, IsUnder, SaidOn, SendsNone, PlainOn, under_walk, under_word, walk_said, file_said, plain_said, first_said, command_none, command_plain, none_named, under_walking}
+use Rattle.kept_promise.proofs.WalkLog.{GaveUp, walk_gave, IsUnder, SaidOn, outcome_by, runs_so, lost_so, SendsNone, PlainOn, under_walk, under_word, walk_said, file_said, plain_said, first_said, command_none, command_plain, none_named, under_walking}
 use Rattle.kept_promise.proofs.OwnLog.{AreNear, near_is_own}
 use Rattle.kept_promise.proofs.WalkPages.{begun_file}
 use Rattle.kept_promise.proofs.Turns.{around_with}
@@ -58,6 +58,27 @@ under_moves : (p : Part) (ds : List Deal) (f g : ℕ) (st : Stage) → (is_namin
 under_moves p ds f g (stage.Walking x w) same h = under_walking p ds f g x w h
 under_moves p ds f g st same h = subst (λ (z : ℕ). IsUnder p ds z st) (same refl) h
 
+-- ---- an operation that is under way, after a step of its client
+
+-- where it ends, in this step
+abbrev end_by : (step : ℕ) → Option Ended → Option ℕ
+end_by step None = None
+end_by step (Some e) = Some step
+
+end_now : (o : Op) (c : client.State) (taken : List TakenCall) (step : ℕ) (acts : ClientStep) → o.end ≡ None → (op_after o c taken step acts).end ≡ end_by step acts.ended
+end_now o c taken step acts none = by acts.ended
+  where
+    by : (e : Option Ended) → (op_after o c taken step (record acts { ended = e })).end ≡ end_by step e
+    by None = none
+    by (Some e) = refl
+
+outcome_now : (o : Op) (c : client.State) (taken : List TakenCall) (step : ℕ) (acts : ClientStep) → o.outcome ≡ told.Running → (op_after o c taken step acts).outcome ≡ outcome_by acts.ended
+outcome_now o c taken step acts running = by acts.ended
+  where
+    by : (e : Option Ended) → (op_after o c taken step (record acts { ended = e })).outcome ≡ outcome_by e
+    by None = running
+    by (Some e) = refl
+
 -- ---- what is carried
 
 -- of one under way
@@ -67,9 +88,19 @@ IsSaid (command.Named c) log file st = IsUnder (asks (begun c)) log file st
 IsSaid d log file st = IsOfFile st × SendsNone log
 
 -- of any
-abbrev pub HasCalls : Command → List Deal → Type 0
-HasCalls (command.Named c) log = (log ≡ []) ⊎ IsWalk (asks (begun c)) log
-HasCalls d log = SendsNone log
+abbrev pub HasCalls : Command → History → (end : Option ℕ) → (begin : ℕ) → List Deal → Type 0
+HasCalls (command.Named c) u end begin log = ((log ≡ []) × (end ≡ Some begin) × ((u ≡ told.Busy) ⊎ (u ≡ told.NoLink))) ⊎ IsWalk u (asks (begun c)) log
+HasCalls d u end begin log = SendsNone log
+
+-- also where its connection was lost
+lost_calls : (d : Command) (end : Option ℕ) (begin : ℕ) (log : List Deal) (file : ℕ) (st : Stage) → IsSaid d log file st → HasCalls d told.Lost end begin log
+lost_calls (command.Named c) end begin log file st h = inr (under_walk told.Lost (asks (begun c)) log file st (lost_so st) h)
+lost_calls (command.Open f) end begin log file st h = h.1
+lost_calls (command.Write f a b) end begin log file st h = h.1
+lost_calls (command.Trunc f a) end begin log file st h = h.1
+lost_calls (command.Read f a b) end begin log file st h = h.1
+lost_calls (command.Close f) end begin log file st h = h.1
+lost_calls (command.Abandon f) end begin log file st h = h.1
 
 -- a listing that ended so, behind its first step, gave up
 abbrev pub GaveNow : Command → History → (end : Option ℕ) → (begin : ℕ) → List Deal → Type 0
@@ -92,11 +123,11 @@ running_link e = absurd cc
 
 pub record AreSaid (past : List Moment) (k : Core) : Type 0 where
   pub jobs : (i : ℕ) (seat : Seat) (j : Job) (d : Deed) (o : Op) → numbered k.seats i ≡ Some seat → job seat ≡ Some j → slice_get (deeds_of past) j.place ≡ Some d → slice_get k.ops j.place ≡ Some o → IsSaid d.command (deals_of o past) o.file j.stage
-  pub each : (p : ℕ) (d : Deed) (o : Op) → slice_get (deeds_of past) p ≡ Some d → slice_get k.ops p ≡ Some o → HasCalls d.command (deals_of o past)
+  pub each : (p : ℕ) (d : Deed) (o : Op) → slice_get (deeds_of past) p ≡ Some d → slice_get k.ops p ≡ Some o → HasCalls d.command o.outcome o.end o.begin (deals_of o past)
   pub gave : (p : ℕ) (d : Deed) (o : Op) → slice_get (deeds_of past) p ≡ Some d → slice_get k.ops p ≡ Some o → GaveNow d.command o.outcome o.end o.begin (deals_of o past)
 
 -- so what was said for a command is its operation's own, or its walk's
-pub own_calls : (d : Command) (o : Op) (ds : List Deal) → HasCalls d ds → AreNear o.word o.file o.value ds → AreCalls d o ds
+pub own_calls : (d : Command) (o : Op) (ds : List Deal) → HasCalls d o.outcome o.end o.begin ds → AreNear o.word o.file o.value ds → AreCalls d o ds
 own_calls (command.Named k) o ds said near = said
 own_calls _ o ds said near = near_is_own o.word o.file o.value ds near (none_named ds said)
 
@@ -110,7 +141,7 @@ said_quiet past m k r none silent same were h = record {
       subst (λ (z : Op). IsSaid d.command (deals_of z (past ++ m ∷ [])) z.file j.stage) (sym w.3) (subst (λ (l : List Deal). IsSaid d.command l w.0.file j.stage) (sym (pointed w.0 w.1)) (h.jobs i old.0 j d w.0 old.1 old.2 (deed_was j.place d deed) w.2));
   each = λ p d q deed at.
       let w = were p q at in
-      subst (λ (z : Op). HasCalls d.command (deals_of z (past ++ m ∷ []))) (sym w.3) (subst (HasCalls d.command) (sym (pointed w.0 w.1)) (h.each p d w.0 (deed_was p d deed) w.2));
+      subst (λ (z : Op). HasCalls d.command z.outcome z.end z.begin (deals_of z (past ++ m ∷ []))) (sym w.3) (subst (HasCalls d.command w.0.outcome w.0.end w.0.begin) (sym (pointed w.0 w.1)) (h.each p d w.0 (deed_was p d deed) w.2));
   gave = λ p d q deed at.
       let w = were p q at in
       subst (λ (z : Op). GaveNow d.command z.outcome z.end z.begin (deals_of z (past ++ m ∷ []))) (sym w.3) (subst (GaveNow d.command w.0.outcome w.0.end w.0.begin) (sym (pointed w.0 w.1)) (h.gave p d w.0 (deed_was p d deed) w.2));
@@ -142,8 +173,8 @@ said_change past book k qs e after kept none silent seats c h = record {
     | inl made ↦ subst (λ (z : Op). IsSaid d.command (deals_of z (past ++ moment k e ∷ [])) z.file j.stage) (sym made.1) (subst (λ (l : List Deal). IsSaid d.command l c.file j.stage) (sym quiet_new) (job_moves d i seat j (was_here i seat here) is made.0 c.kind (h.jobs i seat j d c.op (was_here i seat here) is (deed_was j.place d deed) (ap (slice_get k.ops) made.0 ∙ c.there))))
   ];
   each = λ p d q deed at. elim (of_replaced k.ops c.place new p q (ap (λ (l : List Op). slice_get l p) (sym c.is) ∙ at)) [
-    | inr old ↦ subst (HasCalls d.command) (sym (quiet q)) (h.each p d q (deed_was p d deed) old.1)
-    | inl made ↦ subst (λ (z : Op). HasCalls d.command (deals_of z (past ++ moment k e ∷ []))) (sym made.1) (subst (HasCalls d.command) (sym quiet_new) (h.each p d c.op (deed_was p d deed) (ap (slice_get k.ops) made.0 ∙ c.there)))
+    | inr old ↦ subst (HasCalls d.command q.outcome q.end q.begin) (sym (quiet q)) (h.each p d q (deed_was p d deed) old.1)
+    | inl made ↦ subst (λ (z : Op). HasCalls d.command z.outcome z.end z.begin (deals_of z (past ++ moment k e ∷ []))) (sym made.1) (subst (HasCalls d.command c.op.outcome c.op.end c.op.begin) (sym quiet_new) (h.each p d c.op (deed_was p d deed) (ap (slice_get k.ops) made.0 ∙ c.there)))
   ];
   gave = λ p d q deed at. elim (of_replaced k.ops c.place new p q (ap (λ (l : List Op). slice_get l p) (sym c.is) ∙ at)) [
     | inr old ↦ subst (GaveNow d.command q.outcome q.end q.begin) (sym (quiet q)) (h.gave p d q (deed_was p d deed) old.1)
@@ -194,7 +225,7 @@ said_settles past book k qs now kept h = elim (settled_are book k qs now kept) [
 -- what is said of its operation then
 pub record SaidNow (past : List Moment) (d : Command) (c : client.State) (acts : ClientStep) (new : Op) : Type 0 where
   pub stage : (u : Task) → acts.ended ≡ None → c.task ≡ Some u → IsSaid d (deals_of new past) new.file u.stage
-  pub each : HasCalls d (deals_of new past)
+  pub each : HasCalls d new.outcome new.end new.begin (deals_of new past)
   pub gave : GaveNow d new.outcome new.end new.begin (deals_of new past)
 
 said_acts : (past : List Moment) (m : Moment) (k r : Core) (c : ℕ) (seat : Seat) (s : client.State) (taken : List TakenCall) (acts : ClientStep) → deeds_of (past ++ m ∷ []) ≡ deeds_of past
@@ -212,8 +243,8 @@ said_acts past m k r c seat s taken acts none seats ops others foreign renewed h
     ]
   ];
   each = λ p d q deed at. elim (shape p q at) [
-    | inl new ↦ subst (λ (x : Op). HasCalls d.command (deals_of x (past ++ m ∷ []))) (sym new.3) (renewed p d new.0 new.1 (deed_was p d deed) new.2).each
-    | inr old ↦ subst (HasCalls d.command) (sym (deals_same q past m (others p q old.1 old.0))) (h.each p d q (deed_was p d deed) old.1)
+    | inl new ↦ subst (λ (x : Op). HasCalls d.command x.outcome x.end x.begin (deals_of x (past ++ m ∷ []))) (sym new.3) (renewed p d new.0 new.1 (deed_was p d deed) new.2).each
+    | inr old ↦ subst (HasCalls d.command q.outcome q.end q.begin) (sym (deals_same q past m (others p q old.1 old.0))) (h.each p d q (deed_was p d deed) old.1)
   ];
   gave = λ p d q deed at. elim (shape p q at) [
     | inl new ↦ subst (λ (x : Op). GaveNow d.command x.outcome x.end x.begin (deals_of x (past ++ m ∷ []))) (sym new.3) (renewed p d new.0 new.1 (deed_was p d deed) new.2).gave
@@ -251,6 +282,12 @@ said_cuts past book k qs c seat kept here before h = by seat.client.linked
     log_is : (o r : Op) → AlikeUpTo k.steps o r → deals_of r (past ++ moment k (Cuts c) ∷ []) ≡ deals_of o past
     log_is o r same = deals_more r past (moment k (Cuts c)) ∙ ap (λ l. deals_of r past ++ l) (deals_silent r (moment k (Cuts c)) (cuts_silent k c)) ∙ append-nil (deals_of r past) ∙ deals_alike k.steps o r past same before
 
+    cut_calls : (p : ℕ) (d : Deed) (o : Op) → seat.place ≡ Some p → slice_get (deeds_of past) p ≡ Some d → slice_get k.ops p ≡ Some o → (t : Option Task) → seat.client.task ≡ t → (let new : Op = op_after o gone taken (k.steps + 1) (ended_by t lost) in HasCalls d.command new.outcome new.end new.begin (deals_of o past))
+    cut_calls p d o place deed at None task = h.each p d o deed at
+    cut_calls p d o place deed at (Some t) task =
+        let w = own_op book k qs c seat p o kept here place at in
+        lost_calls d.command (Some (k.steps + 1)) o.begin (deals_of o past) o.file w.0.stage (h.jobs c seat w.0 d o here w.1 (ap (slice_get (deeds_of past)) w.2 ∙ deed) (ap (slice_get k.ops) w.2 ∙ at))
+
     cut_gave : (p : ℕ) (d : Deed) (o : Op) → slice_get (deeds_of past) p ≡ Some d → slice_get k.ops p ≡ Some o → (t : Option Task) → (let new : Op = op_after o gone taken (k.steps + 1) (ended_by t lost) in GaveNow d.command new.outcome new.end new.begin (deals_of o past))
     cut_gave p d o deed at None = h.gave p d o deed at
     cut_gave p d o deed at (Some t) = gave_not d.command told.Lost (Some (k.steps + 1)) o.begin (deals_of o past) lost_link
@@ -260,7 +297,7 @@ said_cuts past book k qs c seat kept here before h = by seat.client.linked
     by true = said_acts past (moment k (Cuts c)) k (cuts_if k c seat true).core c seat gone taken (ended_by seat.client.task lost) (deeds_more past (moment k (Cuts c)) ∙ append-nil (deeds_of past)) refl refl (λ p o at apart. deals_silent o (moment k (Cuts c)) (cuts_silent k c)) (foreign_at book k qs c seat kept here)
         (λ p d o e deed at. record {
           stage = λ u a is. nothing_there u is;
-          each = subst (HasCalls d.command) (sym (log_is o (op_after o gone taken (k.steps + 1) (ended_by seat.client.task lost)) (running_past o gone taken k.steps (ended_by seat.client.task lost) ((acts_alone book k qs c seat kept here).own p o e at).1))) (h.each p d o deed at);
+          each = subst (HasCalls d.command (op_after o gone taken (k.steps + 1) (ended_by seat.client.task lost)).outcome (op_after o gone taken (k.steps + 1) (ended_by seat.client.task lost)).end (op_after o gone taken (k.steps + 1) (ended_by seat.client.task lost)).begin) (sym (log_is o (op_after o gone taken (k.steps + 1) (ended_by seat.client.task lost)) (running_past o gone taken k.steps (ended_by seat.client.task lost) ((acts_alone book k qs c seat kept here).own p o e at).1))) (cut_calls p d o e deed at seat.client.task refl);
           gave =
               let new : Op = op_after o gone taken (k.steps + 1) (ended_by seat.client.task lost) in
               subst (GaveNow d.command (op_after o gone taken (k.steps + 1) (ended_by seat.client.task lost)).outcome (op_after o gone taken (k.steps + 1) (ended_by seat.client.task lost)).end (op_after o gone taken (k.steps + 1) (ended_by seat.client.task lost)).begin) (sym (log_is o (op_after o gone taken (k.steps + 1) (ended_by seat.client.task lost)) (running_past o gone taken k.steps (ended_by seat.client.task lost) ((acts_alone book k qs c seat kept here).own p o e at).1))) (cut_gave p d o deed at seat.client.task);
@@ -285,22 +322,23 @@ command_first s (command.Read f a b) now none u at file = (command_plain s (comm
 command_first s (command.Close f) now none u at file = (command_plain s (command.Close f) now (λ c e. absurd cc) none u at, command_none s (command.Close f) now (λ c e. absurd cc))
 command_first s (command.Abandon f) now none u at file = (command_plain s (command.Abandon f) now (λ c e. absurd cc) none u at, command_none s (command.Abandon f) now (λ c e. absurd cc))
 
-walk_calls : (s : client.State) (c : PathCommand) (t : Option Task) → HasCalls (command.Named c) (map Sent (walks s c t).1.send)
-walk_calls s c (Some t) = inl refl
-walk_calls s c None = by (may_walk s (begun c))
+-- of an operation that begins in this step
+walk_calls : (s : client.State) (c : PathCommand) (t : Option Task) (step : ℕ) → (let r = walks s c t in HasCalls (command.Named c) (outcome_by r.1.ended) (end_by step r.1.ended) step (map Sent r.1.send))
+walk_calls s c (Some t) step = inl (refl, refl, inl refl)
+walk_calls s c None step = by (may_walk s (begun c))
   where
-    by : (b : Bool) → HasCalls (command.Named c) (map Sent (walks_if s (begun c) b).1.send)
-    by true = inr (refl, tt)
-    by false = inl refl
+    by : (b : Bool) → (let r = walks_if s (begun c) b in HasCalls (command.Named c) (outcome_by r.1.ended) (end_by step r.1.ended) step (map Sent r.1.send))
+    by true = inr (refl, inl refl)
+    by false = inl (refl, refl, inr refl)
 
-command_calls : (s : client.State) (d : Command) (now : ℕ) → HasCalls d (map Sent (command_step s d now).1.send)
-command_calls s (command.Named c) now = walk_calls s c s.task
-command_calls s (command.Open f) now = command_none s (command.Open f) now (λ c e. absurd cc)
-command_calls s (command.Write f a b) now = command_none s (command.Write f a b) now (λ c e. absurd cc)
-command_calls s (command.Trunc f a) now = command_none s (command.Trunc f a) now (λ c e. absurd cc)
-command_calls s (command.Read f a b) now = command_none s (command.Read f a b) now (λ c e. absurd cc)
-command_calls s (command.Close f) now = command_none s (command.Close f) now (λ c e. absurd cc)
-command_calls s (command.Abandon f) now = command_none s (command.Abandon f) now (λ c e. absurd cc)
+command_calls : (s : client.State) (d : Command) (now step : ℕ) → (let r = command_step s d now in HasCalls d (outcome_by r.1.ended) (end_by step r.1.ended) step (map Sent r.1.send))
+command_calls s (command.Named c) now step = walk_calls s c s.task step
+command_calls s (command.Open f) now step = command_none s (command.Open f) now (λ c e. absurd cc)
+command_calls s (command.Write f a b) now step = command_none s (command.Write f a b) now (λ c e. absurd cc)
+command_calls s (command.Trunc f a) now step = command_none s (command.Trunc f a) now (λ c e. absurd cc)
+command_calls s (command.Read f a b) now step = command_none s (command.Read f a b) now (λ c e. absurd cc)
+command_calls s (command.Close f) now step = command_none s (command.Close f) now (λ c e. absurd cc)
+command_calls s (command.Abandon f) now step = command_none s (command.Abandon f) now (λ c e. absurd cc)
 
 said_does : (past : List Moment) (book : Book) (k : Core) (qs : List Queue) (c now : ℕ) (d : Command) (seat : Seat) → IsSmall d → IsKept book k qs → numbered k.seats c ≡ Some seat → ArePast k.steps past → length k.ops ≡ length (deeds_of past) → AreSaid past k → AreSaid (past ++ moment k (Does c now d) ∷ []) (does k c now d (Some seat)).core
 said_does past book k qs c now d seat small kept here before count h = record {
@@ -309,8 +347,8 @@ said_does past book k qs c now d seat small kept here before count h = record {
     | inr other ↦ old_job i z j x q other.1 is (deed_there j.place x deed) at
   ];
   each = λ p x q deed at. elim (of_appended k.ops new p q at) [
-    | inr old ↦ subst (HasCalls x.command) (sym (deals_same q past m (others p q old))) (h.each p x q (deed_before p x (deed_there p x deed) (within k.ops p q old)) old)
-    | inl last ↦ subst (λ (z : Op). HasCalls x.command (deals_of z (past ++ moment k (Does c now d) ∷ []))) (sym last.1) (subst (λ (z : Deed). HasCalls z.command (deals_of new (past ++ moment k (Does c now d) ∷ []))) (sym (deed_last p x (deed_there p x deed) last.0)) (subst (HasCalls d) (sym log_is) (command_calls seat.client d now)))
+    | inr old ↦ subst (HasCalls x.command q.outcome q.end q.begin) (sym (deals_same q past m (others p q old))) (h.each p x q (deed_before p x (deed_there p x deed) (within k.ops p q old)) old)
+    | inl last ↦ subst (λ (z : Op). HasCalls x.command z.outcome z.end z.begin (deals_of z (past ++ moment k (Does c now d) ∷ []))) (sym last.1) (subst (λ (z : Deed). HasCalls z.command new.outcome new.end new.begin (deals_of new (past ++ moment k (Does c now d) ∷ []))) (sym (deed_last p x (deed_there p x deed) last.0)) (subst (HasCalls d new.outcome new.end new.begin) (sym log_is) begins_calls))
   ];
   gave = λ p x q deed at. elim (of_appended k.ops new p q at) [
     | inr old ↦ subst (GaveNow x.command q.outcome q.end q.begin) (sym (deals_same q past m (others p q old))) (h.gave p x q (deed_before p x (deed_there p x deed) (within k.ops p q old)) old)
@@ -361,6 +399,14 @@ said_does past book k qs c now d seat small kept here before count h = record {
         ∙ ap (λ l. l ++ deals_in new (moment k (Does c now d))) (deals_early k.steps new past (omega (arith, begin)) before)
         ∙ deals_own new (moment k (Does c now d)) is.here
         ∙ ap (λ l. deals_with [] [] l) sent
+
+    begins_calls : HasCalls d new.outcome new.end new.begin (map Sent (command_step seat.client d now).1.send)
+    begins_calls =
+        let o : Op = op_begun c (word_of d) (file_of d) (value_at_begin seat.client (word_of d) (file_of d) (command_step seat.client d now).1.ended) (k.steps + 1) in
+        let r = command_step seat.client d now in
+        subst (λ (u : History). HasCalls d u new.end new.begin (map Sent (command_step seat.client d now).1.send)) (sym (outcome_now o r.0 [] (k.steps + 1) r.1 refl))
+        (subst (λ (t : Option ℕ). HasCalls d (outcome_by (command_step seat.client d now).1.ended) t new.begin (map Sent (command_step seat.client d now).1.send)) (sym (end_now o r.0 [] (k.steps + 1) r.1 refl))
+        (subst (λ (b : ℕ). HasCalls d (outcome_by (command_step seat.client d now).1.ended) (end_by (k.steps + 1) (command_step seat.client d now).1.ended) b (map Sent (command_step seat.client d now).1.send)) (sym is.begin) (command_calls seat.client d now (k.steps + 1))))
 
     begins_gave : (e : Option Ended) → (command_step seat.client d now).1.ended ≡ e → GaveNow d new.outcome new.end new.begin (deals_of new (past ++ moment k (Does c now d) ∷ []))
     begins_gave None running = gave_not d new.outcome new.end new.begin (deals_of new (past ++ moment k (Does c now d) ∷ [])) (λ z. running_link (sym (is.running running) ∙ z))
@@ -423,7 +469,7 @@ heard_said p log c j x b task was =
     dropped : (forgotten : Bool) → AnswerSaid p log j.file (drops c (Some (record { file = j.file; stage = j.stage })) x forgotten) [] []
     dropped true = λ well. record {
       stage = λ u running is. subst (λ (l : List Deal). IsUnder p l j.file u.stage) (sym (append-nil log)) (subst (IsUnder p log j.file) (ap (λ (z : Task). z.stage) (some_is (record { file = j.file; stage = j.stage }) u (sym task ∙ is))) was);
-      each = subst (IsWalk p) (sym (append-nil log)) (under_walk p log j.file j.stage was);
+      each = subst (IsWalk told.Running p) (sym (append-nil log)) (under_walk told.Running p log j.file j.stage (runs_so j.stage) was);
     }
     dropped false = λ well. absurd (well (bad.UnknownXid x, refl))
 
@@ -597,7 +643,7 @@ said_hears fits all past opening k qs after n now bytes mid kept h left before s
             let a = heard_said (asks (begun c)) (deals_of o past) h.seat.client w.0 h.told.xid (reply_body h.told.reply) (job_task h.seat.place h.seat.client.task w.0 w.1) (under_moves (asks (begun c)) (deals_of o past) o.file w.0.file w.0.stage w.5 was) (λ fault. no_fault_after more o r.0 taken (k.steps + 1) r.1 right fault) in
             record {
               stage = λ u running is. subst (λ (l : List Deal). IsUnder (asks (begun c)) l new.file u.stage) (sym log) (now_under c u running is u.stage refl (a.stage u running is));
-              each = inr (subst (IsWalk (asks (begun c))) (sym log) a.each);
+              each = inr (subst (λ (u : History). IsWalk u (asks (begun c)) (deals_of new (past ++ moment k (Hears n now bytes) ∷ []))) (sym (outcome_now o r.0 taken (k.steps + 1) r.1 w.4)) (subst (IsWalk (outcome_by (got_step h.seat.client (Ok (told_message h.told)) now).1.ended) (asks (begun c))) (sym log) a.each));
               gave = listed c was;
             }
         on (command.Open f) was = record { stage = λ u running is. ((plain was).stage u running is, subst SendsNone (sym log) (plain was).each); each = subst SendsNone (sym log) (plain was).each; gave = tt }

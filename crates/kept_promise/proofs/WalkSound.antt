@@ -6,8 +6,8 @@ use Rattle.nfs3_calls.specs.declared.listing.Entry.{Entry}
 use Rattle.nfs3_calls.specs.declared.listing.Listing.{Listing}
 use Rattle.nfs3_calls.specs.declared.message.Nfs.{Nfs}
 use Rattle.tree_nodes.specs.Nodes.{names}
-use Rattle.file_tree.specs.Tree.{Tree}
-use Rattle.file_tree.specs.Reading.{entry_size, page as page_of}
+use Rattle.tree_reading.specs.Tree.{Tree}
+use Rattle.tree_reading.specs.Reading.{entry_size, page as page_of}
 use Rattle.tree_nodes.specs.declared.node.Node.{Node}
 use Rattle.tree_calls.specs.Telling.{told as told_by}
 use Rattle.path_calls.specs.declared.answers.Ended.{Ended}
@@ -21,7 +21,7 @@ use Rattle.path_calls.specs.declared.walk.Walk.{Walk}
 use Rattle.path_calls.specs.Walk.{pages_most, arrives, goal_left, next_call, goal_call, call_at}
 use Rattle.path_calls.specs.Told.{last_cookie, with_page, asks_page, more_pages, lists_on, walk_told}
 use Rattle.register_model.specs.declared.op.Word.TheVariants as words
-use Rattle.file_tree.proofs.Found.{id_bounded}
+use Rattle.tree_reading.proofs.Found.{id_bounded}
 use Rattle.file_tree.proofs.Limits.{bounds}
 use Rattle.server_law.proofs.Trees.{nodes_of, IsBounded}
 use Rattle.kept_promise.proofs.PathNames.{AreNames, IsGoalNamed, IsAsking, IsAhead, IsWalkSmall, arrives_named, arrives_ahead, open_calls, walk_calls, is_making, makes_later, makes_at}

@@ -13,7 +13,7 @@ use Rattle.nfs3_calls.specs.declared.message.Nfs.{Nfs}
 use Rattle.nfs3_calls.specs.declared.message.Nfs.TheVariants as nfs
 use Rattle.nfs3_calls.specs.declared.place.Found.{Found}
 use Rattle.tree_nodes.specs.declared.node.Node.{Node}
-use Rattle.file_tree.specs.Tree.{Tree}
+use Rattle.tree_reading.specs.Tree.{Tree}
 use Rattle.tree_calls.specs.Waiting.{spot_of}
 use Rattle.tree_calls.specs.Telling.{answer_of, found, getattr, listing, told as told_by}
 use Rattle.path_calls.specs.declared.walk.Goal.{Goal}

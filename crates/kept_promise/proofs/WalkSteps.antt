@@ -27,7 +27,8 @@ use Rattle.register_model.specs.declared.op.Outcome.TheVariants as told
 use Rattle.register_model.specs.declared.op.Word.TheVariants as words
 use Rattle.trace_replay.specs.Causes.{Within}
 use Rattle.trace_replay.specs.Naming.{tree_at, entry_file}
-use Rattle.trace_replay.specs.Ops.{op_ended, file_with, told_of, taken_at, value_of}
+use Rattle.trace_replay.specs.OwnCalls.{held_at}
+use Rattle.trace_ops.specs.Ops.{op_ended, file_with, told_of, taken_at, value_of}
 use Rattle.kept_promise.proofs.Common.{cond, ask_message, place_after, TakenCall, Contains, Moment, numbered, slice_get, slice_set, changes, is_running, has_point, point_if, counted, no_counts, op_after, ClientStep, Stage, Op, Word, Traffic, Core, Session, Book, Call.Walks, Call.Hash, Call.Lease, Reply.Walked, NameReply, name_answer, Ask, Told, Queue, idle, took, acted, not, Pending, Program, reply_program, is_untold, nat_lt, nat_tests}
 use Rattle.kept_promise.proofs.Keys.{times}
 use Rattle.kept_promise.proofs.Lists.{some_is, nothing_there, false_and_true}
@@ -386,7 +387,7 @@ module _ (book : Book) (k : Core) (qs : List Queue) (n : ℕ) (x : Session) (q :
     | inl tells ↦ absurd (untold_making (tree_at heard.at).nodes w.dir w.left w.goal (name_answer r) making tells.0)
     | inr (inl refuses) ↦ absurd (never refuses.why (sym led ∙ refuses.leads))
     | inr (inr makes) ↦ elim (subst (λ (b : Bool). PointedBy b x.closing j heard.op heard.moment (entry_file makes.done.first)) creating makes.pointed) [
-      | inl none ↦ inl (subst IsUnmade mine none.1.0, ap (λ (z : Op). z.file) (sym mine) ∙ none.1.1, none.1.2, of.word ∙ word_is ∙ fileless_rename (tree_at heard.at) makes.held w makes.done making makes.step_is none.0 may)
+      | inl none ↦ inl (subst IsUnmade mine none.1.0, ap (λ (z : Op). z.file) (sym mine) ∙ none.1.1, none.1.2, of.word ∙ word_is ∙ fileless_rename (tree_at heard.at) (held_at heard.at) w makes.done making makes.step_is none.0 may)
       | inr p ↦ inr (ap (λ (z : Op). z.point) (sym mine) ∙ p.3)
     ]
   ]
@@ -411,13 +412,6 @@ module _ (book : Book) (k : Core) (qs : List Queue) (n : ℕ) (x : Session) (q :
   unseen true (walk_end.Seen id kind version len) u = absurd u
   unseen true (walk_end.Refused s) u = refl
   unseen true walk_end.NoLink u = refl
-
-  same_value : (s : client.State) (e : WalkEnd) → value_of of.op.value s (outcome_of e) ≡ of.op.value
-  same_value s walk_end.Done = refl
-  same_value s (walk_end.Names ns) = refl
-  same_value s (walk_end.Seen id kind version len) = refl
-  same_value s (walk_end.Refused x) = refl
-  same_value s walk_end.NoLink = refl
 
   -- what changes no file is as its client left it
   unchanged : (named : ℕ) (p : Option ℕ) (u : Outcome) (v : List ℕ) → changes of.op.word ≡ false → IsAsBefore x.closing j.place of.op None named p u v
@@ -569,9 +563,6 @@ module _ (book : Book) (k : Core) (qs : List Queue) (n : ℕ) (x : Session) (q :
       by (walk_end.Seen id kind version len) led f true change = absurd (false_and_true (changes of.op.word) (word_of_goal words.Look f refl) change)
       by walk_end.NoLink led f true change = absurd (false_and_true (changes of.op.word) (word_of_goal words.List f refl) change)
       by e led f false unlike = over_so e None led f (unchanged _ _ _ _ unlike)
-
-  open_word : goal_word w.goal ≡ words.Open → of.op.word ≡ words.Open
-  open_word e = of.word ∙ word_is ∙ e
 
   already : (id : ℕ) → goal_word w.goal ≡ words.Open → Leads_to book k qs n x q t ts j g (finding id (forgets_of (idle c) (client.calls_of c) t.xid, ends outcome.AlreadyOpen 0 0))
   already id opens = leads_over book k qs n x q t ts j g None outcome.AlreadyOpen 0 (Some id) quiet word refl (λ m e. inl (open_unpointed of.op.word m e)) (unchanged _ _ _ _ (word_of_goal words.Open opens refl)) (λ more noted. tt)

@@ -11,10 +11,10 @@ use Rattle.tree_nodes.specs.declared.node.Node.{Node}
 use Rattle.tree_nodes.specs.declared.node.Body.{Body}
 use Rattle.tree_nodes.specs.declared.node.Body.TheVariants.{Directory, File}
 use Rattle.tree_nodes.specs.Nodes.{with_id}
-use Rattle.file_tree.specs.Tree.{Tree, is_directory, directory_of, directory_or, or_stale}
-use Rattle.file_tree.specs.Chain.{◌>>=◌}
-use Rattle.file_tree.specs.Reading.{stands_for}
-use Rattle.file_tree.specs.declared.call.Standing.{Standing}
+use Rattle.tree_reading.specs.Tree.{Tree, is_directory, directory_of, directory_or, or_stale}
+use Rattle.tree_reading.specs.Chain.{◌>>=◌}
+use Rattle.tree_reading.specs.Reading.{stands_for}
+use Rattle.tree_reading.specs.declared.reading.Standing.{Standing}
 use Rattle.path_calls.specs.declared.walk.Goal.{Goal}
 use Rattle.path_calls.specs.declared.walk.Goal.TheVariants as goal
 use Rattle.path_calls.specs.declared.walk.Pages.{Pages}
@@ -51,11 +51,6 @@ leads_more book from dir (x ∷ ns) id step n m s h there le at = (h.0, h.1, h.2
 pub leads_past : (book : Book) (from dir : ℕ) (ns : List (List ℕ)) (id step : ℕ) → Leads book from dir ns id step → from ≤ step
 leads_past book from dir [] id step h = let same = h.1 in omega (arith, same)
 leads_past book from dir (x ∷ ns) id step h = let le = h.3 in let later = leads_past book (step_of h.0) h.1.id ns id step h.5 in omega (arith, le, later)
-
--- what was so stays so in a book that has more moments
-pub leads_on : (book after : Book) → ((m : Moment) → Contains book.moments m → Contains after.moments m) → (from dir : ℕ) (ns : List (List ℕ)) (id step : ℕ) → Leads book from dir ns id step → Leads after from dir ns id step
-leads_on book after kept from dir [] id step h = h
-leads_on book after kept from dir (x ∷ ns) id step h = (h.0, h.1, kept h.0 h.2, h.3, h.4, leads_on book after kept (step_of h.0) h.1.id ns id step h.5)
 
 -- ---- as far as the names of a path go
 

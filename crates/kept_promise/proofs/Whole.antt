@@ -3,7 +3,7 @@ use Rattle.std.proofs.Common.{◌≡◌, ℕ, ◌<◌, ◌≤◌, List, [], ◌�
 use Rattle.std.proofs.lemmas.List.{drop_all}
 use Rattle.rpc_record.proofs.Streaming.{marked_begun, marked_whole}
 use Rattle.rpc_record.proofs.Splitting.{split_begun, split_whole}
-use Rattle.trace_replay.specs.Core.{server_got}
+use Rattle.trace_ends.specs.Core.{server_got}
 use Rattle.kept_promise.specs.Whole.{Comes, client_got, UpsComeWhole, DownsComeWhole}
 use Rattle.kept_promise.proofs.Common.{take_all, take-append-drop, length-drop, nat_tests, Fed, Unread, Parts, nothing_read, record_of, fed, marked, message_spell, MessageFits, IsExpected, Message, waiting_of, got_step, Core, Seat, Session, Event.Serves, Event.Hears, numbered, server_waiting, serves, serves_if, hears, hears_at, hears_if, is_newest, acted, World, Wire, bytes_of, routed, all_happened, up_at, up_some, down_at, down_some, up_with, down_with}
 use Rattle.kept_promise.proofs.Fits.{FitLaws}

@@ -6,8 +6,11 @@ use Rattle.wire.specs.Parse.{IsExpected}
 use Rattle.wire.specs.declared.message.Message.{Message}
 use Rattle.client_state.specs.State.{waiting_of}
 use Rattle.open_close.specs.Step.{got_step}
-use Rattle.trace_replay.specs.Core.{Core, Seat, Session, CoreStep, numbered, with_numbered, server_waiting, server_got, acted}
-use Rattle.trace_replay.specs.World.{World, Wire, bytes_of, routed}
+use Rattle.trace_ends.specs.Core.{Core, CoreStep, server_waiting, server_got, acted}
+use Rattle.trace_sessions.specs.Session.{Seat, Session}
+use Rattle.trace_sessions.specs.Numbers.{numbered, with_numbered}
+use Rattle.trace_replay.specs.World.{World, routed}
+use Rattle.trace_sessions.specs.Wires.{Wire, bytes_of}
 use Rattle.trace_replay.specs.Delivery.{up_some, down_some}
 
 -- what an end has of a record, and what is on its way to it, are together the bytes of this message, and some of them are still on their way
