@@ -12,6 +12,7 @@ use lb_base::streams::StreamSource;
 use limits::FILE_MOST;
 use std::alloc::{AllocError, Global};
 use std::fmt::Write as WriteText;
+use std::fs::File;
 use std::io::{ErrorKind, Write};
 use std::rt::Files;
 use std::{fs, io};
@@ -37,6 +38,8 @@ pub struct FolderStore<R> {
 /// A folder that was loaded.
 #[derive(Drop)]
 struct Folder {
+    /// The folder itself, which is locked as long as this is open.
+    lock: File,
     paths: Paths,
     /// What the change does that is being written, or that was made last.
     list: String,
@@ -140,12 +143,24 @@ fn finish<R: Files>(rt: &R, alloc: Global, paths: &mut Paths) -> Result<(), Stor
     }
 }
 
-fn load_folder<R: Files + AllocGlobal + Clone + Drop>(
+/// Locks a folder, which no other program may have locked.
+fn lock_folder<R: Files<File = File>>(rt: &R, folder: &str) -> Result<File, StoreErr> {
+    let Ok(file) = fs::open(rt, folder) else {
+        return Err(StoreErr::Failed);
+    };
+    match file.try_lock() {
+        Ok(()) => Ok(file),
+        Err(_) => Err(StoreErr::Failed),
+    }
+}
+
+fn load_folder<R: Files<File = File> + AllocGlobal + Clone + Drop>(
     rt: &R,
     alloc: Global,
     place: &str,
 ) -> Result<(Folder, Vec<Kept>), StoreErr> {
     let mut paths = Paths::new(alloc, place)?;
+    let lock = lock_folder(rt, place)?;
     finish(rt, alloc, &mut paths)?;
     let there = match records_there(rt, alloc, paths.folder()) {
         Ok(there) => there,
@@ -162,6 +177,7 @@ fn load_folder<R: Files + AllocGlobal + Clone + Drop>(
     let mut list = String::new(alloc);
     list.reserve(LIST_ROOM)?;
     let folder = Folder {
+        lock,
         paths,
         list,
         unfinished: false,
@@ -243,7 +259,7 @@ impl Folder {
     }
 }
 
-impl<R: Files + AllocGlobal + Clone + Drop> Store for FolderStore<R> {
+impl<R: Files<File = File> + AllocGlobal + Clone + Drop> Store for FolderStore<R> {
     ghost records = { λ _. None };
 
     ghost spare = { λ s. s.spare };
@@ -251,6 +267,8 @@ impl<R: Files + AllocGlobal + Clone + Drop> Store for FolderStore<R> {
     ghost faults = { λ s. s.faults };
 
     fn load(&mut self, alloc: Global, place: &str) -> Result<Vec<Kept>, StoreErr> {
+        // The folder that was loaded before is let go, so that it may be this one.
+        self.folder = None;
         match load_folder(&self.rt, alloc, place) {
             Ok((folder, records)) => {
                 self.folder = Some(folder);

@@ -1,5 +1,5 @@
 -- A connection that is made.
-use Rattle.std.specs.Prelude.{◌≡◌, ◌⊎◌, ℕ, ◌+◌, [], Bool, true, false, List, Option}
+use Rattle.std.specs.Prelude.{◌≡◌, ◌⊎◌, ℕ, ◌+◌, [], ◌∷◌, Bool, true, false, List, Option}
 use Rattle.std.proofs.Common.{inl, inr, refl, sym, ap, ◌∙◌, subst}
 use Rattle.slab.specs.Slab.{Slab}
 use Rattle.outboxes.specs.declared.boxes.Outbox.{Outbox}
@@ -74,9 +74,14 @@ module _ {S : Type 0} (records : S → Option (List Kept)) (faults : S → ℕ) 
     others = subst (λ z. KeepsOthers old.boxes new.boxes z) (made_last _ _ old.kept.server between.kept.server step session steps made) (subst (λ z. KeepsOthers z new.boxes session) same w.others);
     full = λ is. absurd (never w.known is);
     known = making session said w.known;
+    own = own w.own;
     store = store_more records faults old.kept between.kept new.kept kept w.store;
   }
     where
+      own : (w.lost ≡ []) ⊎ (w.lost ≡ session ∷ []) → (w.lost ≡ []) ⊎ (k : ℕ) × (step.told ≡ told.Session k) × (w.lost ≡ k ∷ [])
+      own (inl none) = inl none
+      own (inr one) = inr (session, made, one)
+
       never : (said ≡ went.Open session) ⊎ (said ≡ went.Memory) → said ≡ went.Full → ⊥
       never (inl a) b = let no : went.Open session ≡ went.Full = sym a ∙ b in cc
       never (inr a) b = let no : went.Memory ≡ went.Full = sym a ∙ b in cc
@@ -93,5 +98,6 @@ module _ {S : Type 0} (records : S → Option (List Kept)) (faults : S → ℕ) 
     others = subst (λ z. KeepsOthers z new.boxes new.kept.server.sessions_made) boxes (keeps_all new.boxes new.kept.server.sessions_made);
     full = λ is. (full is, full_same _ _ old.kept.server new.kept.server step steps (full is), boxes);
     known = known;
+    own = inl refl;
     store = kept;
   }

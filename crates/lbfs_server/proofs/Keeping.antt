@@ -3,8 +3,8 @@ use Rattle.std.specs.Prelude.{◌≡◌, ℕ, ◌≤◌, List, Option, Some, Non
 use Rattle.std.proofs.Common.{refl, sym, ap, ◌∙◌, subst, arith}
 use Rattle.lb_base.specs.Causes.{Rose}
 use Rattle.store.specs.declared.record.Kept.{Kept}
-use Rattle.file_tree.specs.Tree.{Tree}
-use Rattle.stored_tree.specs.Stores.{Keeps, IsFault}
+use Rattle.tree_reading.specs.Tree.{Tree}
+use Rattle.stored_tree.specs.Stores.{Keeps, IsLeft, IsFault}
 use Rattle.server_core.specs.declared.event.Event.{Event}
 use Rattle.server_core.specs.declared.event.ServerStep.{ServerStep}
 use Rattle.server_core.specs.Served.{IsServed}
@@ -13,13 +13,20 @@ use Rattle.lbfs_server.specs.Kept.{KeptState, Steps, StoreKeeps}
 
 keeps_none : (a : Option (List Kept)) (t : Tree) → Keeps a t a t
 keeps_none None t = refl
-keeps_none (Some records) t = (records, refl, λ stored. stored)
+keeps_none (Some records) t = (records, refl, record { stored = λ stored. stored; counted = omega arith; same = λ _. refl })
+
+left_more : (a b c : List Kept) (t u v : Tree) → IsLeft a t b u → IsLeft b u c v → IsLeft a t c v
+left_more a b c t u v first second = record {
+  stored = λ stored. second.stored (first.stored stored);
+  counted = let p = first.counted in let q = second.counted in omega (arith, p, q);
+  same = λ same. let p = first.counted in let q = second.counted in second.same (omega (arith, p, q, same)) ∙ first.same (omega (arith, p, q, same));
+}
 
 keeps_more : (a b c : Option (List Kept)) (t u v : Tree) → Keeps a t b u → Keeps b u c v → Keeps a t c v
 keeps_more None b c t u v first second = subst (λ o. Keeps o u c v) first second
 keeps_more (Some records) b c t u v first second =
     let next = subst (λ o. Keeps o u c v) first.1 second in
-    (next.0, next.1, λ stored. next.2 (first.2 stored))
+    (next.0, next.1, left_more records first.0 next.0 t u v first.2 next.2)
 
 fault_later : (fault : Bool) (a b c : ℕ) → b ≤ c → IsFault fault a b → IsFault fault a c
 fault_later false a b c le is = tt

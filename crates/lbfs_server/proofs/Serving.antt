@@ -2,7 +2,7 @@
 use Rattle.std.specs.Prelude.{◌≡◌, ℕ, ◌≤◌, List, Option, Result, Ok, Err}
 use Rattle.std.proofs.Common.{ap, sym, subst, arith}
 use Rattle.store.specs.declared.record.Kept.{Kept}
-use Rattle.file_tree.specs.Tree.{Tree}
+use Rattle.tree_reading.specs.Tree.{Tree}
 use Rattle.server_core.specs.State.{State, entries_held}
 use Rattle.server_core.specs.Step.{with_tree}
 use Rattle.tree_load.specs.Load.{load}

@@ -8,7 +8,7 @@ use Rattle.outboxes.specs.declared.boxes.Outbox.{Outbox}
 use Rattle.outboxes.specs.Boxes.{Holds, Lacks, KeepsOthers}
 use Rattle.wire.specs.declared.message.Message.{Message}
 use Rattle.server_core.specs.declared.event.Sent.{Sent}
-use Rattle.lbfs_server.specs.Held.{messages_to, Adds, Spares, AllLack}
+use Rattle.lbfs_server.specs.Held.{messages_to, Adds, Spares, AllLack, AllOwed}
 
 abbrev Boxes : Type 0
 Boxes = Slab (Outbox Message)
@@ -35,6 +35,21 @@ all_lack_both : (boxes : Boxes) (xs ys : List ℕ) → AllLack boxes xs → AllL
 all_lack_both boxes [] ys one other = other
 all_lack_both boxes (x ∷ xs) ys one other = (one.0, all_lack_both boxes xs ys one.1 other)
 
+-- ---- sessions that were to be told something
+
+none_left : (a b : List Message) → a ++ b ≡ [] → a ≡ []
+none_left [] b is = refl
+none_left (m ∷ ms) b is = cc
+
+none_right : (a b : List Message) → a ++ b ≡ [] → b ≡ []
+none_right [] b is = is
+none_right (m ∷ ms) b is = cc
+
+owed_both : (xs ys : List Sent) (ls ks : List ℕ) → AllOwed xs ls → AllOwed ys ks → AllOwed (xs ++ ys) (ls ++ ks)
+owed_both xs ys [] [] one other = tt
+owed_both xs ys [] (k ∷ ks) one other = (λ none. other.0 (none_right (messages_to k xs) (messages_to k ys) (sym (messages_to_append k xs ys) ∙ none)), owed_both xs ys [] ks tt other.1)
+owed_both xs ys (l ∷ ls) ks one other = (λ none. one.0 (none_left (messages_to l xs) (messages_to l ys) (sym (messages_to_append l xs ys) ∙ none)), owed_both xs ys ls ks one.1 other)
+
 -- ---- none, and first these, then those
 
 pub adds_none : (boxes : Boxes) → Adds boxes [] [] boxes
@@ -42,6 +57,7 @@ adds_none boxes = record {
   held = λ session messages spares holds. subst (λ ms. Holds boxes session ms) (sym (append-nil messages)) holds;
   none = λ session lacks. lacks;
   gone = tt;
+  owed = tt;
 }
 
 pub adds_more : (a b c : Boxes) (xs ys : List Sent) (ls ks : List ℕ) → Adds a xs ls b → Adds b ys ks c → Adds a (xs ++ ys) (ls ++ ks) c
@@ -52,6 +68,7 @@ adds_more a b c xs ys ls ks first second = record {
       subst (λ ms. Holds c session ms) both (second.held session (messages ++ messages_to session xs) spared.1 (first.held session messages spared.0 holds));
   none = λ session lacks. second.none session (first.none session lacks);
   gone = all_lack_both c ls ks (all_lack_later b c ls second.none first.gone) second.gone;
+  owed = owed_both xs ys ls ks first.owed second.owed;
 }
 
 -- ---- one
@@ -85,6 +102,7 @@ adds_one old s new p = record {
   held = λ session messages spares holds. by_session session messages holds (s.session == session) refl;
   none = λ session lacks. lacks_on session lacks (s.session == session) refl;
   gone = tt;
+  owed = tt;
 }
   where
     by_session : (session : ℕ) (messages : List Message) → Holds old session messages → (same : Bool) → (s.session == session) ≡ same → Holds new session (messages ++ (if same then s.message ∷ [] else []))
@@ -97,12 +115,17 @@ adds_one old s new p = record {
     lacks_on session lacks true e = subst (λ k. Lacks new k) (here s.session session e) (p.none (subst (λ k. Lacks old k) (sym (here s.session session e)) lacks))
     lacks_on session lacks false e = others_lack old new s.session session p.others (away s.session session e) lacks
 
+told_some : (s : Sent) (same : Bool) → same ≡ true → ¬ ((if same then s.message ∷ [] else []) ≡ [])
+told_some s true is none = cc
+told_some s false is none = cc
+
 -- the session of a message was lost
 pub adds_lost : (old : Boxes) (s : Sent) (new : Boxes) → KeepsOthers old new s.session → Lacks new s.session → Adds old (s ∷ []) (s.session ∷ []) new
 adds_lost old s new keeps gone = record {
   held = λ session messages spares holds. by_session session messages spares.0 holds (s.session == session) refl;
   none = λ session lacks. lacks_on session lacks (s.session == session) refl;
   gone = (gone, tt);
+  owed = (told_some s (s.session == s.session) (grind (arith, nat_tests)), tt);
 }
   where
     by_session : (session : ℕ) (messages : List Message) → ¬ (session ≡ s.session) → Holds old session messages → (same : Bool) → (s.session == session) ≡ same → Holds new session (messages ++ (if same then s.message ∷ [] else []))

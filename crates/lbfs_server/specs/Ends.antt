@@ -1,5 +1,5 @@
 -- Why a loop over a link's records ended, and how many links were taken.
-use Rattle.std.specs.Prelude.{◌≡◌, ℕ, ◌+◌, ◌-◌, ◌^◌, min, List, Option, None}
+use Rattle.std.specs.Prelude.{◌≡◌, ℕ, ◌+◌, ◌-◌, ◌^◌, ◌≤◌, min, List, Option, None}
 use Rattle.std.specs.Io.KnownBytes.{Consumes}
 use Rattle.record_ends.specs.Ends.{coming, nothing_kept}
 
@@ -7,6 +7,6 @@ use Rattle.record_ends.specs.Ends.{coming, nothing_kept}
 abbrev pub IsSpoilt : Option (List ℕ) → Option (List ℕ) → Type 0
 IsSpoilt before after = (bytes : List ℕ) × Consumes before after bytes × ¬ ((coming nothing_kept bytes).spoilt ≡ None)
 
--- so many more were counted, as far as a count goes
+-- at least so many more were counted, as far as a count goes
 abbrev pub CountsMore : (before more after : ℕ) → Type 0
-CountsMore before more after = min after (2 ^ 64 - 1) ≡ min (before + more) (2 ^ 64 - 1)
+CountsMore before more after = min (before + more) (2 ^ 64 - 1) ≤ after

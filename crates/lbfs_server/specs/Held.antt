@@ -45,11 +45,17 @@ abbrev pub AllLack : Slab (Outbox Message) → List ℕ → Type 0
 AllLack boxes [] = Unit {0}
 AllLack boxes (k ∷ ks) = Lacks boxes k × AllLack boxes ks
 
--- Each box has its messages of these behind what it had, but for those of sessions that were lost, which are gone.
+-- each of these sessions was to be told something of this
+abbrev pub AllOwed : List Sent → List ℕ → Type 0
+AllOwed sent [] = Unit {0}
+AllOwed sent (k ∷ ks) = ¬ (messages_to k sent ≡ []) × AllOwed sent ks
+
+-- Each box has its messages of these behind what it had, but for those of sessions that were lost, which are gone; to each of these went a message.
 pub record Adds (old : Slab (Outbox Message)) (sent : List Sent) (lost : List ℕ) (new : Slab (Outbox Message)) : Type 0 where
   pub held : (session : ℕ) (messages : List Message) → Spares lost session → Holds old session messages → Holds new session (messages ++ messages_to session sent)
   pub none : (session : ℕ) → Lacks old session → Lacks new session
   pub gone : AllLack new lost
+  pub owed : AllOwed sent lost
 
 -- ---- the server
 
@@ -109,16 +115,17 @@ module _ {S : Type 0} (records : S → Option (List Kept)) (faults : S → ℕ) 
     pub answer : Answers e step new said
     pub store : StoreKeeps records faults old.kept new.kept
 
-  -- The session has an empty box. Where memory was wanting for it the session was hung.
+  -- The session has an empty box. Where memory was wanting for it this session was hung, and no other.
   pub record Welcomed (old : Held S) (session : ℕ) (said : Went) (new : Held S) : Type 0 where
     pub lost : List ℕ
     pub hangs : new.kept.server ≡ hung old.kept.server lost
     pub opened : (k : ℕ) → said ≡ went.Open k → (k ≡ session) × (lost ≡ []) × Holds new.boxes session []
     pub others : KeepsOthers old.boxes new.boxes session
     pub known : (said ≡ went.Open session) ⊎ (said ≡ went.Memory)
+    pub own : (lost ≡ []) ⊎ (lost ≡ session ∷ [])
     pub store : StoreKeeps records faults old.kept new.kept
 
-  -- A session was made, which has an empty box; or none was. Where memory was wanting for the box the session was hung.
+  -- A session was made, which has an empty box; or none was. Where memory was wanting for the box that session was hung, and no other.
   pub record Joined (old : Held S) (said : Went) (new : Held S) : Type 0 where
     pub step : ServerStep
     pub between : State
@@ -129,6 +136,7 @@ module _ {S : Type 0} (records : S → Option (List Kept)) (faults : S → ℕ) 
     pub others : KeepsOthers old.boxes new.boxes between.sessions_made
     pub full : said ≡ went.Full → (step.told ≡ told.Full) × (new.kept.server ≡ old.kept.server) × (new.boxes ≡ old.boxes)
     pub known : IsOfMaking said
+    pub own : (lost ≡ []) ⊎ (session : ℕ) × (step.told ≡ told.Session session) × (lost ≡ session ∷ [])
     pub store : StoreKeeps records faults old.kept new.kept
 
   -- the session was hung, and its box went

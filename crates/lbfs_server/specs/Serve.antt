@@ -1,7 +1,7 @@
 -- What a server is opened with.
 use Rattle.std.specs.Prelude.{◌≡◌, ℕ, List, Option, Some, Ok, Err}
 use Rattle.store.specs.declared.record.Kept.{Kept}
-use Rattle.file_tree.specs.Tree.{Tree}
+use Rattle.tree_reading.specs.Tree.{Tree}
 use Rattle.server_core.specs.State.{State}
 use Rattle.server_core.specs.Step.{with_tree}
 use Rattle.tree_load.specs.Load.{load}

@@ -2,7 +2,7 @@
 //! `specs/Held.antt` states what an event makes of it.
 
 ghost use Rattle.std.specs.Prelude.{◌≡◌, ℕ, ◌<◌, ◌≤◌, ◌^◌, ◌↔◌, List, [], ◌∷◌, length, IsTrue, false};
-ghost use Rattle.outboxes.specs.Boxes.{Holds, Lacks, KeepsOthers};
+ghost use Rattle.outboxes.specs.Boxes.{AllEmpty, Holds, Lacks, KeepsOthers};
 ghost use Rattle.server_core.specs.Closing.{has_waiting};
 ghost use Rattle.server_core.specs.State.{entries_held};
 ghost use Rattle.server_core.specs.Step.{IsTimed};
@@ -106,6 +106,13 @@ impl<S: Store + Drop> Held<S> {
         ensures { IsTrue result ↔ Holds self.now.boxes session [] }
     {
         self.boxes.is_quiet(session)
+    }
+
+    /// Whether nothing is to be said to any session.
+    pub fn is_still(&self) -> bool
+        ensures { IsTrue result ↔ AllEmpty self.now.boxes }
+    {
+        self.boxes.is_still()
     }
 
     /// Whether a change of the session waits.

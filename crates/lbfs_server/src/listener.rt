@@ -34,7 +34,7 @@ fn serve_twins<
     C: Clock + Sync,
 >(
     rt: &'x R,
-    shared: &'x Shared<S, G>,
+    shared: &'x Shared<S, G, L>,
     session: u32,
     gives: &'x Mutex<L>,
     twin: L,
@@ -59,21 +59,24 @@ fn serve_session<
     G: Gate + Drop + Sync,
     L: Link + Drop + Send,
     C: Clock + Sync,
->(rt: &R, shared: &Shared<S, G>, session: u32, link: L, clock: &C) -> End {
+>(rt: &R, shared: &Shared<S, G, L>, session: u32, link: L, clock: &C) -> End {
     let mut link = link;
-    match link.twin() {
-        Ok(twin) => {
-            let gives = Mutex::new(link);
-            serve_twins(rt, shared, session, &gives, twin, clock)
-        }
-        Err(_) => session_both(rt, shared, session, &mut link, clock),
+    let Ok(twin) = link.twin() else {
+        return session_both(rt, shared, session, &mut link, clock);
+    };
+    if let Ok(further) = link.twin() {
+        shared.keep_link(rt, session, further);
     }
+    let gives = Mutex::new(link);
+    let end = serve_twins(rt, shared, session, &gives, twin, clock);
+    shared.drop_link(rt, session);
+    end
 }
 
 /// Lets changes be made that wait for a moment, until all sessions were served.
-fn tick<R: Wait, S: Store + Drop, G: Gate + Drop, C: Clock, T: Rest>(
+fn tick<R: Wait, S: Store + Drop, G: Gate + Drop, L: Link + Drop, C: Clock, T: Rest>(
     rt: &R,
-    shared: &Shared<S, G>,
+    shared: &Shared<S, G, L>,
     clock: &C,
     rest: &T,
     done: &AtomicBool,
@@ -87,8 +90,8 @@ fn tick<R: Wait, S: Store + Drop, G: Gate + Drop, C: Clock, T: Rest>(
     }
 }
 
-/// Makes a session of a link, and has threads serve it. The link is shut where no session can
-/// stand.
+/// Makes a session of a link, and has threads serve it; the answer is whether it did. The link is
+/// shut where no session can stand.
 fn begin<
     's,
     'e,
@@ -97,7 +100,13 @@ fn begin<
     G: Gate + Drop + Sync,
     L: Link + Drop + Send + 's,
     C: Clock + Sync,
->(scope: &'s Scope<'s, &'e ()>, rt: &'e R, shared: &'e Shared<S, G>, link: L, clock: &'e C) {
+>(
+    scope: &'s Scope<'s, &'e ()>,
+    rt: &'e R,
+    shared: &'e Shared<S, G, L>,
+    link: L,
+    clock: &'e C,
+) -> bool {
     let mut link = link;
     match shared.event(rt, Event::Connect) {
         Went::Open { session } => {
@@ -105,12 +114,47 @@ fn begin<
             if let Err(refused) = scope.spawn(serve) {
                 (refused.value)();
             }
+            true
         }
-        Went::NotReady | Went::Closed | Went::Full | Went::Memory => link.shut(),
+        Went::NotReady | Went::Closed | Went::Full | Went::Memory => {
+            link.shut();
+            false
+        }
     }
 }
 
-/// Takes as many links as are asked for off the network, and begins a session for each.
+/// Takes links off the network until of one a session has begun.
+fn begin_next<
+    's,
+    'e,
+    R: Threads + Wait + Sync,
+    S: Store + Drop + Send,
+    G: Gate + Drop + Sync,
+    N: Network,
+    C: Clock + Sync,
+>(
+    scope: &'s Scope<'s, &'e ()>,
+    rt: &'e R,
+    shared: &'e Shared<S, G, N::L>,
+    net: &mut N,
+    clock: &'e C,
+) -> Result<(), Failed>
+where
+    N::L: Drop + Send + 's,
+    ensures counted { OnOk result (CountsMore (N.accepted net.old) 1 (N.accepted net.new)) }
+    ensures later { N.faults net.old ≤ N.faults net.new }
+    ensures cause { OnErr result (Rose (N.faults net.old) (N.faults net.new)) }
+{
+    for _turn in rt.forever() {
+        let link = net.accept()?;
+        if begin(scope, rt, shared, link, clock) {
+            return Ok(());
+        }
+    }
+    unreachable!()
+}
+
+/// Takes links off the network until as many sessions as are asked for have begun.
 fn accept_all<
     's,
     'e,
@@ -122,7 +166,7 @@ fn accept_all<
 >(
     scope: &'s Scope<'s, &'e ()>,
     rt: &'e R,
-    shared: &'e Shared<S, G>,
+    shared: &'e Shared<S, G, N::L>,
     net: &mut N,
     clock: &'e C,
     sessions: u32,
@@ -134,8 +178,7 @@ where
     ensures cause { OnErr result (Rose (N.faults net.old) (N.faults net.new)) }
 {
     for _at in 0..sessions {
-        let link = net.accept()?;
-        begin(scope, rt, shared, link, clock);
+        begin_next(scope, rt, shared, net, clock)?;
     }
     Ok(())
 }
@@ -151,7 +194,7 @@ fn serve_all<
     C: Clock + Sync,
 >(
     rt: &'x R,
-    shared: &'x Shared<S, G>,
+    shared: &'x Shared<S, G, N::L>,
     net: N,
     clock: &'x C,
     sessions: u32,
@@ -178,10 +221,11 @@ where
 }
 
 /// Listens at a port and serves as many sessions as are asked for, each in threads of its own; it
-/// returns once they have ended. A link for which no session can stand is shut at once.
+/// returns once they have ended. A link for which no session can stand is shut at once, and is none
+/// of these.
 ///
-/// `Ok` comes once so many links were accepted, and `Failed` only where the network's count of
-/// faults rose.
+/// `Ok` comes once at least so many links were accepted, and `Failed` only where the network's count
+/// of faults rose.
 pub fn serve_links<
     'x,
     R: Threads + Wait + Sync,
@@ -192,7 +236,7 @@ pub fn serve_links<
     T: Rest + Sync,
 >(
     rt: &'x R,
-    shared: &'x Shared<S, G>,
+    shared: &'x Shared<S, G, N::L>,
     net: N,
     clock: &'x C,
     rest: &'x T,

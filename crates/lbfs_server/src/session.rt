@@ -8,28 +8,24 @@ ghost use Rattle.record_ends.specs.declared.end.End.TheVariants as ends;
 ghost use Rattle.lbfs_server.specs.Ends.{IsSpoilt};
 
 use crate::gate::Gate;
-use crate::shared::Shared;
+use crate::shared::{Outgoing, Shared};
 use links::clock::Clock;
 use links::link::Link;
 use record_ends::end::End;
 use record_ends::inbox::Inbox;
 use record_ends::outgoing::put_out;
 use server_core::event::Event;
+use std::alloc::Global;
 use std::sync::{Mutex, Wait};
 use store::store::Store;
 
-/// Puts out what there is to say to a session, and answers whether more may follow; where none may
-/// it shuts the link. Whoever takes what there is to say holds the link, so that what is taken first
-/// goes out first.
-fn say_by<W: Wait, S: Store + Drop, G: Gate + Drop, L: Link>(
-    rt: &W,
-    shared: &Shared<S, G>,
-    session: u32,
-    gives: &Mutex<L>,
-) -> bool {
-    let mut link = gives.lock(rt);
-    let out = shared.take_out(rt, session);
-    let said = put_out(shared.alloc(), &mut *link, &out.messages);
+/// Gives a link what there is to say to a session, and answers whether more may follow; where none
+/// may it shuts the link.
+fn give_out<L: Link>(alloc: Global, link: &mut L, out: &Outgoing) -> bool
+    ensures come { L.left link.new ≡ L.left link.old }
+    ensures later { L.faults link.old ≤ L.faults link.new }
+{
+    let said = put_out(alloc, link, &out.messages);
     if said.is_err() || !out.stands {
         link.shut();
         return false;
@@ -37,11 +33,12 @@ fn say_by<W: Wait, S: Store + Drop, G: Gate + Drop, L: Link>(
     true
 }
 
-/// Takes a session's records off its link, each in a turn of its own, lets its change be made where
-/// one waits, and puts out what there is to say then: no other thread has to be woken for it.
-fn read_on<W: Wait, S: Store + Drop, G: Gate + Drop, L: Link, C: Clock>(
+/// Takes a session's records off its link, each in a turn of its own, and puts out what there is to
+/// say then: no other thread has to be woken for it. Whoever takes what there is to say holds the
+/// link, so that what is taken first goes out first.
+fn read_on<W: Wait, S: Store + Drop, G: Gate + Drop, L: Link + Drop, C: Clock>(
     rt: &W,
-    shared: &Shared<S, G>,
+    shared: &Shared<S, G, L>,
     session: u32,
     link: &mut L,
     gives: &Mutex<L>,
@@ -60,10 +57,9 @@ fn read_on<W: Wait, S: Store + Drop, G: Gate + Drop, L: Link, C: Clock>(
     for _turn in rt.forever() {
         match inbox.next(shared.alloc(), link) {
             Ok(record) => {
-                if shared.got(rt, session, record.as_slice(), clock.now()) {
-                    shared.event(rt, Event::Settle { now: clock.now() });
-                }
-                say_by(rt, shared, session, gives);
+                let mut gives = gives.lock(rt);
+                let out = shared.got(rt, session, record.as_slice(), clock.now());
+                give_out(shared.alloc(), &mut *gives, &out);
             }
             Err(end) => return end,
         }
@@ -71,14 +67,15 @@ fn read_on<W: Wait, S: Store + Drop, G: Gate + Drop, L: Link, C: Clock>(
     unreachable!()
 }
 
-/// Takes records off a session's link until it ends, and hangs the session then. What there is to say
-/// after each goes out by the other link.
+/// Takes records off a session's link until it ends. Then it hangs the session, and shuts the link,
+/// so that a thread comes back that waits for its client to take something. What there is to say
+/// after each record goes out by the other link.
 ///
 /// `InputEnd` comes where the input ended, `Failed` only where the link's count of faults rose, and
 /// `Spoilt` only where no record can stand behind the bytes that came.
-pub fn session_in<W: Wait, S: Store + Drop, G: Gate + Drop, L: Link, C: Clock>(
+pub fn session_in<W: Wait, S: Store + Drop, G: Gate + Drop, L: Link + Drop, C: Clock>(
     rt: &W,
-    shared: &Shared<S, G>,
+    shared: &Shared<S, G, L>,
     session: u32,
     link: &mut L,
     gives: &Mutex<L>,
@@ -92,46 +89,31 @@ pub fn session_in<W: Wait, S: Store + Drop, G: Gate + Drop, L: Link, C: Clock>(
 {
     let end = read_on(rt, shared, session, link, gives, clock);
     shared.event(rt, Event::Hang { session });
+    link.shut();
     end
 }
 
 /// Puts out what there is to say to a session until it is gone, or its link fails; then it shuts the
 /// link.
-pub fn session_out<W: Wait, S: Store + Drop, G: Gate + Drop, L: Link>(
+pub fn session_out<W: Wait, S: Store + Drop, G: Gate + Drop, L: Link + Drop>(
     rt: &W,
-    shared: &Shared<S, G>,
+    shared: &Shared<S, G, L>,
     session: u32,
     gives: &Mutex<L>,
 ) {
     for _turn in rt.forever() {
         shared.await_said(rt, session);
-        if !say_by(rt, shared, session, gives) {
+        let mut link = gives.lock(rt);
+        let out = shared.take_out(rt, session);
+        if !give_out(shared.alloc(), &mut *link, &out) {
             return;
         }
     }
 }
 
-/// Puts out what there is to say to a session, and shuts the link where the session is gone or the
-/// link failed.
-fn say<W: Wait, S: Store + Drop, G: Gate + Drop, L: Link>(
+fn both_on<W: Wait, S: Store + Drop, G: Gate + Drop, L: Link + Drop, C: Clock>(
     rt: &W,
-    shared: &Shared<S, G>,
-    session: u32,
-    link: &mut L,
-)
-    ensures come { L.left link.new ≡ L.left link.old }
-    ensures later { L.faults link.old ≤ L.faults link.new }
-{
-    let out = shared.take_out(rt, session);
-    let said = put_out(shared.alloc(), link, &out.messages);
-    if said.is_err() || !out.stands {
-        link.shut();
-    }
-}
-
-fn both_on<W: Wait, S: Store + Drop, G: Gate + Drop, L: Link, C: Clock>(
-    rt: &W,
-    shared: &Shared<S, G>,
+    shared: &Shared<S, G, L>,
     session: u32,
     link: &mut L,
     clock: &C,
@@ -148,9 +130,8 @@ fn both_on<W: Wait, S: Store + Drop, G: Gate + Drop, L: Link, C: Clock>(
     for _turn in rt.forever() {
         match inbox.next(shared.alloc(), link) {
             Ok(record) => {
-                shared.got(rt, session, record.as_slice(), clock.now());
-                shared.event(rt, Event::Settle { now: clock.now() });
-                say(rt, shared, session, link);
+                let out = shared.got(rt, session, record.as_slice(), clock.now());
+                give_out(shared.alloc(), link, &out);
             }
             Err(end) => return end,
         }
@@ -158,12 +139,12 @@ fn both_on<W: Wait, S: Store + Drop, G: Gate + Drop, L: Link, C: Clock>(
     unreachable!()
 }
 
-/// A session in one thread: each record is taken, a change that waits may be made, and what there
-/// is to say is put out. It answers as `session_in` does, and has shut the link where the session
+/// A session in one thread: each record is taken, a change of it that waits may be made, and what
+/// there is to say is put out. It answers as `session_in` does, and has shut the link where the session
 /// was closed before its input ended.
-pub fn session_both<W: Wait, S: Store + Drop, G: Gate + Drop, L: Link, C: Clock>(
+pub fn session_both<W: Wait, S: Store + Drop, G: Gate + Drop, L: Link + Drop, C: Clock>(
     rt: &W,
-    shared: &Shared<S, G>,
+    shared: &Shared<S, G, L>,
     session: u32,
     link: &mut L,
     clock: &C,

@@ -1,12 +1,13 @@
-//! The turns of a server: each locks what the threads share, and changes it by one call of `Held`.
-//! That a call is what its contract says is proved of `Held`; of a turn no clause speaks, since
-//! another thread's may stand before and behind it.
+//! The turns of a server: each locks what the threads share, and changes it by calls of `Held`. That
+//! a call is what its contract says is proved of `Held`; of a turn no clause speaks, since another
+//! thread's may stand before and behind it.
 
 ghost use Rattle.std.specs.Prelude.{◌<◌, ◌^◌};
 ghost use Rattle.server_core.specs.Step.{IsTimed};
 
 use crate::gate::Gate;
 use crate::held::{Held, Went};
+use links::link::Link;
 use server_core::event::Event;
 use std::alloc::Global;
 use std::sync::{Condvar, Mutex, Wait};
@@ -15,12 +16,21 @@ use wire::message::Message;
 
 /// What the threads of a server share, and by what those are woken that have nothing to say.
 #[derive(Drop)]
-pub struct Shared<S: Store, G> {
+pub struct Shared<S: Store, G, L> {
     held: Mutex<Held<S>>,
-    /// Something was put into a box, or a session went.
+    /// Something was put into a box that another thread has to take out, or a session went.
     said: Condvar,
+    /// A link of each session that has threads, by which whoever hangs it shuts it.
+    links: Mutex<Vec<SessionLink<L>>>,
     gate: G,
     alloc: Global,
+}
+
+/// A further link to a session's client, on which nothing is taken and nothing given.
+#[derive(Drop)]
+struct SessionLink<L> {
+    session: u32,
+    link: L,
 }
 
 /// What there is to say to a session.
@@ -31,12 +41,18 @@ pub struct Outgoing {
     pub stands: bool,
 }
 
-impl<S: Store + Drop, G: Gate + Drop> Shared<S, G> {
+/// Whether a session went in a turn.
+fn is_of_leaving(went: Went) -> bool {
+    went == Went::Closed || went == Went::Memory
+}
+
+impl<S: Store + Drop, G: Gate + Drop, L: Link + Drop> Shared<S, G, L> {
     /// What a server's threads share. It takes no memory.
-    pub fn new(alloc: Global, held: Held<S>, gate: G) -> Shared<S, G> {
+    pub fn new(alloc: Global, held: Held<S>, gate: G) -> Shared<S, G, L> {
         Shared {
             held: Mutex::new(held),
             said: Condvar::new(),
+            links: Mutex::new(Vec::new(alloc)),
             gate,
             alloc,
         }
@@ -52,10 +68,12 @@ impl<S: Store + Drop, G: Gate + Drop> Shared<S, G> {
         let Shared {
             held,
             said,
+            links,
             gate,
             ..
         } = self;
         drop(said);
+        drop(links);
         drop(gate);
         held.into_inner()
     }
@@ -65,27 +83,37 @@ impl<S: Store + Drop, G: Gate + Drop> Shared<S, G> {
         requires { IsTimed event }
     {
         self.gate.before();
-        let went = self.held.lock(rt).event(self.alloc, event);
+        let mut held = self.held.lock(rt);
+        let went = held.event(self.alloc, event);
         // Where no change could be made nothing was said to anybody.
-        if went != Went::NotReady {
-            self.said.notify_all();
-        }
+        let says = went != Went::NotReady && !held.is_still();
+        drop(held);
+        self.wake(rt, went, says);
         self.gate.after();
         went
     }
 
-    /// A turn of one record of a session; it answers whether a change of the session waits.
-    pub fn got<W: Wait>(&self, rt: &W, session: u32, bytes: &[u8], now: u64) -> bool
+    /// A turn of one record of a session. Where a change of the session waits then, one that waits
+    /// is made, if it may be; and what there is to say to the session is taken.
+    pub fn got<W: Wait>(&self, rt: &W, session: u32, bytes: &[u8], now: u64) -> Outgoing
         requires { now < 2 ^ 63 }
     {
         self.gate.before();
         let mut held = self.held.lock(rt);
-        held.got(self.alloc, session, bytes, now);
-        let waits = held.waits(session);
+        let heard = held.got(self.alloc, session, bytes, now);
+        let settled = if held.waits(session) {
+            held.event(self.alloc, Event::Settle { now })
+        } else {
+            Went::NotReady
+        };
+        let messages = held.take_out(session);
+        let stands = held.stands(session);
+        let says = !held.is_still();
         drop(held);
-        self.said.notify_all();
+        self.wake(rt, heard, says);
+        self.wake(rt, settled, false);
         self.gate.after();
-        waits
+        Outgoing { messages, stands }
     }
 
     /// A turn that takes what there is to say to a session.
@@ -107,5 +135,41 @@ impl<S: Store + Drop, G: Gate + Drop> Shared<S, G> {
             .said
             .wait_while(rt, held, |held| held.is_quiet(session));
         drop(spoke);
+    }
+
+    /// Wakes the threads that have nothing to say, where one of them has now, or its session went.
+    /// Where memory was wanting, another thread's session may have been hung: its link is shut, so
+    /// that its threads come back that wait there.
+    fn wake<W: Wait>(&self, rt: &W, went: Went, says: bool) {
+        if says || is_of_leaving(went) {
+            self.said.notify_all();
+        }
+        if went == Went::Memory {
+            self.shut_links(rt);
+        }
+    }
+
+    /// Keeps a link of a session's client, by which the session can be shut. Where memory is wanting
+    /// for it none is kept.
+    pub fn keep_link<W: Wait>(&self, rt: &W, session: u32, link: L) {
+        let mut links = self.links.lock(rt);
+        let kept = links.push(SessionLink { session, link });
+        drop(kept);
+    }
+
+    /// Lets the link of a session's client go.
+    pub fn drop_link<W: Wait>(&self, rt: &W, session: u32) {
+        let mut links = self.links.lock(rt);
+        links.retain(|one| one.session != session);
+    }
+
+    /// Shuts the links of the sessions that don't stand any more.
+    pub fn shut_links<W: Wait>(&self, rt: &W) {
+        let mut links = self.links.lock(rt);
+        for one in links.iter_mut() {
+            if !self.held.lock(rt).stands(one.session) {
+                one.link.shut();
+            }
+        }
     }
 }

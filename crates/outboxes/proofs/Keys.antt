@@ -199,6 +199,10 @@ module _ {T : Type 0} where
       let same : KeepsOthers old (record old { capacity = new.capacity }) session = record { there = λ other messages differ held. held; back = λ other messages differ held. held } in
       subst (λ b. KeepsOthers old b session) (sym e) same
 
+pub is_empty_unless : {A : Type 0} (xs : List A) → ¬ ¬ (xs ≡ []) → xs ≡ []
+is_empty_unless [] not = refl
+is_empty_unless (x ∷ xs) not = absurd (not (λ is. cc))
+
 pub no_ok : {A E : Type 0} (r : Result A E) (P : Type 0) → IsErr r → OnOk r P
 no_ok (Ok x) P e = cc
 no_ok (Err d) P e = tt

@@ -1,5 +1,5 @@
 -- The boxes of messages that sessions have.
-use Rattle.std.specs.Prelude.{◌≡◌, ℕ, List, Some}
+use Rattle.std.specs.Prelude.{◌≡◌, ℕ, List, [], Some}
 use Rattle.slab.specs.Slab.{Slab, get}
 use Rattle.outboxes.specs.declared.boxes.Outbox.{Outbox}
 
@@ -11,6 +11,10 @@ module _ {T : Type 0} where
   -- the session has no box
   abbrev pub Lacks : Slab (Outbox T) → ℕ → Type 0
   Lacks boxes session = (key : ℕ) (one : Outbox T) → get boxes key ≡ Some one → ¬ (one.session ≡ session)
+
+  -- nothing is in any box
+  abbrev pub AllEmpty : Slab (Outbox T) → Type 0
+  AllEmpty boxes = (key : ℕ) (one : Outbox T) → get boxes key ≡ Some one → one.messages ≡ []
 
   -- a session has one box at most
   abbrev pub IsUnique : Slab (Outbox T) → Type 0

@@ -3,7 +3,7 @@
 
 ghost use Rattle.std.specs.Prelude.{◌≡◌, ◌≢◌, ℕ, List, [], ◌∷◌, ◌++◌, Some, None, IfSome, IfNone, OnOk, OnErr, IsTrue, ◌↔◌};
 ghost use Rattle.slab.specs.Slab.{Slab, get};
-ghost use Rattle.outboxes.specs.Boxes.{Holds, Lacks, IsUnique, KeepsOthers};
+ghost use Rattle.outboxes.specs.Boxes.{AllEmpty, Holds, Lacks, IsUnique, KeepsOthers};
 ghost use Rattle.outboxes.specs.declared.boxes.Outbox.{Outbox};
 
 use lb_base::items::Items;
@@ -50,6 +50,18 @@ pub fn is_quiet_in<T>(boxes: &Slab<Outbox<T>>, session: u32) -> bool
         Some(key) => is_empty_at(boxes, key),
         None => false,
     }
+}
+
+/// Whether nothing is in any box.
+pub fn is_still_in<T>(boxes: &Slab<Outbox<T>>) -> bool
+    ensures { IsTrue result ↔ AllEmpty boxes.now }
+{
+    for (_key, one) in boxes.iter() {
+        if !one.messages.is_empty() {
+            return false;
+        }
+    }
+    true
 }
 
 /// Adds a message to the box under a key, where there is one. The one error is want of memory, and

@@ -1,9 +1,9 @@
 //! The outboxes of all sessions. `specs/Boxes.antt` states what they hold.
 
 ghost use Rattle.std.specs.Prelude.{◌≡◌, ℕ, List, [], ◌∷◌, ◌++◌, OnOk, OnErr, IsTrue, false, ◌↔◌};
-ghost use Rattle.outboxes.specs.Boxes.{Holds, Lacks, KeepsOthers};
+ghost use Rattle.outboxes.specs.Boxes.{AllEmpty, Holds, Lacks, KeepsOthers};
 
-use crate::boxes::{Outbox, close_in, is_quiet_in, key_of, open_in, put_in, take_in};
+use crate::boxes::{Outbox, close_in, is_quiet_in, is_still_in, key_of, open_in, put_in, take_in};
 use lb_base::items::Items;
 use slab::Slab;
 use std::alloc::{AllocError, Global};
@@ -52,6 +52,13 @@ impl<T: Drop> Outboxes<T> {
         ensures { IsTrue result ↔ Holds self.now session [] }
     {
         is_quiet_in(&self.boxes, session)
+    }
+
+    /// Whether nothing is in any box.
+    pub fn is_still(&self) -> bool
+        ensures { IsTrue result ↔ AllEmpty self.now }
+    {
+        is_still_in(&self.boxes)
     }
 
     /// Gives a session an empty box, in place of one that it had. The one error is want of memory;

@@ -4,6 +4,8 @@
 
 mod beside;
 mod both;
+mod deaf;
+mod failing;
 
 use std::io;
 
@@ -19,6 +21,14 @@ const TWO_CALLS: [u8; 116] = [
 const CALL: [u8; 44] = [
     128, 0, 0, 40, 0, 0, 0, 7, 0, 0, 0, 0, 0, 0, 0, 2, 32, 0, 76, 66, 0, 0, 0, 1, 0, 0, 0, 0, 0, 0,
     0, 0, 0, 0, 0, 0, 0, 0, 0, 0, 0, 0, 0, 0,
+];
+
+/// A CREATE of a file in the root.
+const CREATE: [u8; 100] = [
+    128, 0, 0, 96, 0, 0, 0, 7, 0, 0, 0, 0, 0, 0, 0, 2, 0, 1, 134, 163, 0, 0, 0, 3, 0, 0, 0, 8, 0,
+    0, 0, 0, 0, 0, 0, 0, 0, 0, 0, 0, 0, 0, 0, 0, 0, 0, 0, 16, 76, 66, 48, 49, 0, 0, 0, 0, 0, 0, 0,
+    0, 0, 0, 0, 1, 0, 0, 0, 1, 97, 0, 0, 0, 0, 0, 0, 0, 0, 0, 0, 0, 0, 0, 0, 0, 0, 0, 0, 0, 0, 0,
+    0, 0, 0, 0, 0, 0, 0, 0, 0, 0,
 ];
 
 /// An answer under xid 5, for which nobody waits.
@@ -49,5 +59,14 @@ fn main(rt: HostRuntime) -> io::Result<()> {
     both::run(&rt, "no message", &NO_MESSAGE, &CALL, 1000)?;
     both::run(&rt, "half a record", &CALL, &HALF, 1000)?;
     both::run(&rt, "noise", &CALL, &NOISE, 1000)?;
-    beside::run(&rt, 70)
+    beside::run(&rt, 70)?;
+    deaf::run(&rt, "a client that takes nothing, and ends", true)?;
+    deaf::run(&rt, "a client that takes nothing, and is hung", false)?;
+    failing::network(&rt, "no failing call", &[], &[])?;
+    failing::network(&rt, "no listening", &[0], &[])?;
+    failing::network(&rt, "no link", &[1], &[])?;
+    failing::network(&rt, "one link", &[2], &[])?;
+    failing::network(&rt, "no twins", &[], &[0])?;
+    failing::network(&rt, "no third twins", &[], &[1])?;
+    failing::stores(&rt)
 }

@@ -11,6 +11,7 @@ returns-in-Ok g c = record {
   opened = λ k is. (cc, refl, c.in-Ok.ensures.opened);
   others = c.in-Ok.ensures.others;
   known = inl refl;
+  own = inl refl;
   store = store_same g.S.Store.records g.S.Store.faults c.args.self.now.kept;
 }
 
@@ -21,5 +22,6 @@ returns-in-Err g c = record {
   opened = λ k is. absurd (cc);
   others = keeps_more _ _ _ c.args.session c.in-Err.ensures.others c.hang.ensures.others;
   known = inr refl;
+  own = inr refl;
   store = c.hang.ensures.store;
 }
