@@ -40,6 +40,6 @@ fn main(rt: HostRuntime) -> ExitCode {
         clock: HostClock::new(rt),
         rest: HostRest::new(rt),
     };
-    let (status, _outside) = run(&rt, rt.alloc(), &words, outside);
+    let (status, _outside, _unpaired) = run(&rt, rt.alloc(), &words, outside);
     ExitCode::from(status)
 }

@@ -1,6 +1,6 @@
 -- How far a script was read, and what was written for its lines.
-use Rattle.std.proofs.Common.{◌≡◌, ◌⊎◌, inl, inr, ℕ, ◌+◌, ◌≤◌, ◌<◌, List, [], ◌∷◌, ◌++◌, length, Bool, true, false, refl, sym, ap, ◌∙◌, subst, arith, append_assoc, length-append}
-use Rattle.std.specs.Prelude.{Option, Some, None, Result, Ok, Err, OnOk, OnErr, IfErr, IfOk, IfSome, IsErrOf, ◌^◌, ◌-◌, min}
+use Rattle.std.proofs.Common.{◌≡◌, inl, inr, ℕ, ◌+◌, ◌≤◌, ◌<◌, List, [], ◌∷◌, ◌++◌, length, Bool, true, false, refl, sym, ap, ◌∙◌, subst, arith, append_assoc, length-append}
+use Rattle.std.specs.Prelude.{Option, Some, None, Result, Ok, Err, OnOk, OnErr, IfErr, IfSome, IsErrOf, ◌-◌}
 use Rattle.std.proofs.lemmas.List.{append-nil}
 use Rattle.std.specs.Io.KnownBytes.{Appends, Consumes, IsAtEnd}
 use Rattle.lb_base.specs.Causes.{Rose}
@@ -19,7 +19,7 @@ use Rattle.lbfs_mount.specs.declared.mount_err.MountErr.{MountErr}
 use Rattle.lbfs_mount.specs.declared.mount_err.MountErr.TheVariants as errors
 use Rattle.script_lines.specs.Script.{Coming, nothing_yet, coming, MayFollow, Takes, Gives}
 use Rattle.script_lines.proofs.Coming.{apart, consumes_more}
-use Rattle.lbfs_mount.specs.Mounts.{IsAnswer, TellsIf, is_skip, BeginsWith, IsBadLine, IsTooLong, IsDone, Tells, TellsLine, Writes, WritesPart, LinkFails, Outside, Unjoined, Unwritten, Untold, WriteEnds, AnswerEnds, TextFails, TextEnds, Fails, Ends, written_as, read_end}
+use Rattle.lbfs_mount.specs.Mounts.{IsAnswer, TellsIf, is_skip, IsDone, Tells, TellsLine, Writes, WritesPart, Outside, Unjoined, Untold, WriteEnds, AnswerEnds, TextFails, TextEnds, Fails, Ends, written_as, read_end}
 
 -- ---- known bytes
 
@@ -66,27 +66,27 @@ write_ends (Ok u) held held' writes writes' bytes is all part rose = (bytes, is,
 write_ends (Err give.Failed) held held' writes writes' bytes is all part rose = ((bytes, is, part_of held held' bytes part), rose refl)
 write_ends (Err give.Memory) held held' writes writes' bytes is all part rose = ((bytes, is, part_of held held' bytes part), tt)
 
-untold_of : {L : Type 0} (links : L → ℕ) (writes dials dials' : ℕ) (e : MountErr) → Unjoined links dials dials' e → Untold links writes writes dials dials' e
-untold_of links writes dials dials' errors.ReadFault p = absurd p
-untold_of links writes dials dials' errors.WriteFault p = absurd p
-untold_of links writes dials dials' (errors.BadLine n) p = absurd p
-untold_of links writes dials dials' errors.Network p = p
-untold_of links writes dials dials' errors.Memory p = tt
-untold_of links writes dials dials' errors.TooLong p = absurd p
+untold_of : (link_fails : Type 0) (writes dials dials' : ℕ) (e : MountErr) → Unjoined link_fails dials dials' e → Untold link_fails writes writes dials dials' e
+untold_of link_fails writes dials dials' errors.ReadFault p = absurd p
+untold_of link_fails writes dials dials' errors.WriteFault p = absurd p
+untold_of link_fails writes dials dials' (errors.BadLine n) p = absurd p
+untold_of link_fails writes dials dials' errors.Network p = p
+untold_of link_fails writes dials dials' errors.Memory p = tt
+untold_of link_fails writes dials dials' errors.TooLong p = absurd p
 
 -- the line didn't run to its end
-pub unjoined_ends : {L : Type 0} (links : L → ℕ) (held : Option (List ℕ)) (writes dials dials' : ℕ) (e : MountErr) → Unjoined links dials dials' e → AnswerEnds links held held writes writes dials dials' (Err e)
-unjoined_ends links held writes dials dials' e p = (prefix_none held, untold_of links writes dials dials' e p)
+pub unjoined_ends : (link_fails : Type 0) (held : Option (List ℕ)) (writes dials dials' : ℕ) (e : MountErr) → Unjoined link_fails dials dials' e → AnswerEnds link_fails held held writes writes dials dials' (Err e)
+unjoined_ends link_fails held writes dials dials' e p = (prefix_none held, untold_of link_fails writes dials dials' e p)
 
 -- it did
-pub answer_ends : {L : Type 0} (links : L → ℕ) (held held' : Option (List ℕ)) (writes writes' dials dials' : ℕ) (r : Result Unit MountErr) → WriteEnds held held' writes writes' r → AnswerEnds links held held' writes writes' dials dials' r
-answer_ends links held held' writes writes' dials dials' (Ok u) p = p
-answer_ends links held held' writes writes' dials dials' (Err errors.ReadFault) p = absurd p.1
-answer_ends links held held' writes writes' dials dials' (Err errors.WriteFault) p = p
-answer_ends links held held' writes writes' dials dials' (Err (errors.BadLine n)) p = absurd p.1
-answer_ends links held held' writes writes' dials dials' (Err errors.Network) p = absurd p.1
-answer_ends links held held' writes writes' dials dials' (Err errors.Memory) p = p
-answer_ends links held held' writes writes' dials dials' (Err errors.TooLong) p = absurd p.1
+pub answer_ends : (link_fails : Type 0) (held held' : Option (List ℕ)) (writes writes' dials dials' : ℕ) (r : Result Unit MountErr) → WriteEnds held held' writes writes' r → AnswerEnds link_fails held held' writes writes' dials dials' r
+answer_ends link_fails held held' writes writes' dials dials' (Ok u) p = p
+answer_ends link_fails held held' writes writes' dials dials' (Err errors.ReadFault) p = absurd p.1
+answer_ends link_fails held held' writes writes' dials dials' (Err errors.WriteFault) p = p
+answer_ends link_fails held held' writes writes' dials dials' (Err (errors.BadLine n)) p = absurd p.1
+answer_ends link_fails held held' writes writes' dials dials' (Err errors.Network) p = absurd p.1
+answer_ends link_fails held held' writes writes' dials dials' (Err errors.Memory) p = p
+answer_ends link_fails held held' writes writes' dials dials' (Err errors.TooLong) p = absurd p.1
 
 tells_if : (b : Bool) (told : List ℕ) → b ≡ false → IsAnswer told → TellsIf b told
 tells_if b told is p = subst (λ (x : Bool). TellsIf x told) (sym is) p
@@ -94,29 +94,29 @@ tells_if b told is p = subst (λ (x : Bool). TellsIf x told) (sym is) p
 tells_some : (o : Option MountLine) (l : MountLine) (told : List ℕ) → o ≡ Some l → TellsIf (is_skip l) told → TellsLine o told
 tells_some o l told is p = subst (λ (x : Option MountLine). TellsLine x told) (sym is) p
 
-untold_fails : {L : Type 0} (links : L → ℕ) (l : Option MountLine) (number : ℕ) (held held' : Option (List ℕ)) (writes writes' dials dials' : ℕ) (e : MountErr) → Untold links writes writes' dials dials' e → TextFails links l number held held' writes writes' dials dials' e
-untold_fails links l number held held' writes writes' dials dials' errors.ReadFault p = absurd p
-untold_fails links l number held held' writes writes' dials dials' errors.WriteFault p = p
-untold_fails links l number held held' writes writes' dials dials' (errors.BadLine n) p = absurd p
-untold_fails links l number held held' writes writes' dials dials' errors.Network p = p
-untold_fails links l number held held' writes writes' dials dials' errors.Memory p = tt
-untold_fails links l number held held' writes writes' dials dials' errors.TooLong p = absurd p
+untold_fails : (link_fails : Type 0) (l : Option MountLine) (number : ℕ) (held held' : Option (List ℕ)) (writes writes' dials dials' : ℕ) (e : MountErr) → Untold link_fails writes writes' dials dials' e → TextFails link_fails l number held held' writes writes' dials dials' e
+untold_fails link_fails l number held held' writes writes' dials dials' errors.ReadFault p = absurd p
+untold_fails link_fails l number held held' writes writes' dials dials' errors.WriteFault p = p
+untold_fails link_fails l number held held' writes writes' dials dials' (errors.BadLine n) p = absurd p
+untold_fails link_fails l number held held' writes writes' dials dials' errors.Network p = p
+untold_fails link_fails l number held held' writes writes' dials dials' errors.Memory p = tt
+untold_fails link_fails l number held held' writes writes' dials dials' errors.TooLong p = absurd p
 
 -- a line that isn't skipped
-pub text_ends : {L : Type 0} (links : L → ℕ) (o : Option MountLine) (l : MountLine) (number : ℕ) (held held' : Option (List ℕ)) (writes writes' dials dials' : ℕ) (r : Result Unit MountErr) → o ≡ Some l → is_skip l ≡ false → AnswerEnds links held held' writes writes' dials dials' r → TextEnds links o number held held' writes writes' dials dials' r
-text_ends links o l number held held' writes writes' dials dials' (Ok u) is runs p = (p.0, tells_some o l p.0 is (tells_if (is_skip l) p.0 runs p.1), p.2)
-text_ends links o l number held held' writes writes' dials dials' (Err e) is runs ((t, tells, out), why) = (inr (t, tells_some o l t is (tells_if (is_skip l) t runs tells), out), untold_fails links o number held held' writes writes' dials dials' e why)
+pub text_ends : (link_fails : Type 0) (o : Option MountLine) (l : MountLine) (number : ℕ) (held held' : Option (List ℕ)) (writes writes' dials dials' : ℕ) (r : Result Unit MountErr) → o ≡ Some l → is_skip l ≡ false → AnswerEnds link_fails held held' writes writes' dials dials' r → TextEnds link_fails o number held held' writes writes' dials dials' r
+text_ends link_fails o l number held held' writes writes' dials dials' (Ok u) is runs p = (p.0, tells_some o l p.0 is (tells_if (is_skip l) p.0 runs p.1), p.2)
+text_ends link_fails o l number held held' writes writes' dials dials' (Err e) is runs ((t, tells, out), why) = (inr (t, tells_some o l t is (tells_if (is_skip l) t runs tells), out), untold_fails link_fails o number held held' writes writes' dials dials' e why)
 
 -- one that is
-pub skipped_ends : {L : Type 0} (links : L → ℕ) (o : Option MountLine) (l : MountLine) (number : ℕ) (held : Option (List ℕ)) (writes dials : ℕ) (u : Unit {0}) → o ≡ Some l → is_skip l ≡ true → TextEnds links o number held held writes writes dials dials (Ok u)
-skipped_ends links o l number held writes dials u is skips = ([], tells_some o l [] is (subst (λ (x : Bool). TellsIf x []) (sym skips) refl), appends_none held)
+pub skipped_ends : (link_fails : Type 0) (o : Option MountLine) (l : MountLine) (number : ℕ) (held : Option (List ℕ)) (writes dials : ℕ) (u : Unit {0}) → o ≡ Some l → is_skip l ≡ true → TextEnds link_fails o number held held writes writes dials dials (Ok u)
+skipped_ends link_fails o l number held writes dials u is skips = ([], tells_some o l [] is (subst (λ (x : Bool). TellsIf x []) (sym skips) refl), appends_none held)
 
 -- none of a script
-pub bad_ends : {L : Type 0} (links : L → ℕ) (o : Option MountLine) (number : ℕ) (held : Option (List ℕ)) (writes dials : ℕ) → o ≡ None → TextEnds links o number held held writes writes dials dials (Err (errors.BadLine number))
-bad_ends links o number held writes dials is = (inl (appends_none held), (refl, is, appends_none held))
+pub bad_ends : (link_fails : Type 0) (o : Option MountLine) (number : ℕ) (held : Option (List ℕ)) (writes dials : ℕ) → o ≡ None → TextEnds link_fails o number held held writes writes dials dials (Err (errors.BadLine number))
+bad_ends link_fails o number held writes dials is = (inl (appends_none held), (refl, is, appends_none held))
 
-pub starved_ends : {L : Type 0} (links : L → ℕ) (o : Option MountLine) (number : ℕ) (held : Option (List ℕ)) (writes dials : ℕ) → TextEnds links o number held held writes writes dials dials (Err errors.Memory)
-starved_ends links o number held writes dials = (inl (appends_none held), tt)
+pub starved_ends : (link_fails : Type 0) (o : Option MountLine) (number : ℕ) (held : Option (List ℕ)) (writes dials : ℕ) → TextEnds link_fails o number held held writes writes dials dials (Err errors.Memory)
+starved_ends link_fails o number held writes dials = (inl (appends_none held), tt)
 
 -- ---- how far a script was read
 
@@ -220,13 +220,13 @@ given_some left o s s' reads reads' held writes dials k k' count came text p is 
     let took : (b : List ℕ) × Consumes (left s) (left s') b × Gives k b text k' = subst (λ (x : Option (List ℕ)). IfSome x (λ line. (b : List ℕ) × Consumes (left s) (left s') b × Gives k b line k')) is some in
     given left o s s' reads reads' held writes dials k k' count took.0 text p took.1 took.2 still ended later
 
-told_by : {L : Type 0} (links : L → ℕ) (r : Result Unit MountErr) (slice text : List ℕ) (number : ℕ) (held held' : Option (List ℕ)) (writes writes' dials dials' : ℕ) (u : Unit {0}) → r ≡ Ok u → slice ≡ text → TextEnds links (line_of slice) number held held' writes writes' dials dials' r → (t : List ℕ) × TellsLine (line_of text) t × Appends held held' t
-told_by links r slice text number held held' writes writes' dials dials' u is same p = subst (λ (z : List ℕ). (t : List ℕ) × TellsLine (line_of z) t × Appends held held' t) same (subst (λ (x : Result Unit MountErr). TextEnds links (line_of slice) number held held' writes writes' dials dials' x) is p)
+told_by : (link_fails : Type 0) (r : Result Unit MountErr) (slice text : List ℕ) (number : ℕ) (held held' : Option (List ℕ)) (writes writes' dials dials' : ℕ) (u : Unit {0}) → r ≡ Ok u → slice ≡ text → TextEnds link_fails (line_of slice) number held held' writes writes' dials dials' r → (t : List ℕ) × TellsLine (line_of text) t × Appends held held' t
+told_by link_fails r slice text number held held' writes writes' dials dials' u is same p = subst (λ (z : List ℕ). (t : List ℕ) × TellsLine (line_of z) t × Appends held held' t) same (subst (λ (x : Result Unit MountErr). TextEnds link_fails (line_of slice) number held held' writes writes' dials dials' x) is p)
 
 -- it was told
-pub told : {L : Type 0} (links : L → ℕ) (o : Outside) (left : Option (List ℕ)) (reads : ℕ) (held held' : Option (List ℕ)) (writes writes' dials dials' : ℕ) (k : Coming) (count number : ℕ) (text slice : List ℕ) (r : Result Unit MountErr) (u : Unit {0}) → Given o (outside left reads held writes dials) k count text → r ≡ Ok u → slice ≡ text → TextEnds links (line_of slice) number held held' writes writes' dials dials' r → writes ≤ writes' → dials ≤ dials' → Progress o (outside left reads held' writes' dials') k (count + 1)
-told links o left reads held held' writes writes' dials dials' k count number text slice r u g is same ends more_writes more_dials =
-    let t : (t : List ℕ) × TellsLine (line_of text) t × Appends held held' t = told_by links r slice text number held held' writes writes' dials dials' u is same ends in
+pub told : (link_fails : Type 0) (o : Outside) (left : Option (List ℕ)) (reads : ℕ) (held held' : Option (List ℕ)) (writes writes' dials dials' : ℕ) (k : Coming) (count number : ℕ) (text slice : List ℕ) (r : Result Unit MountErr) (u : Unit {0}) → Given o (outside left reads held writes dials) k count text → r ≡ Ok u → slice ≡ text → TextEnds link_fails (line_of slice) number held held' writes writes' dials dials' r → writes ≤ writes' → dials ≤ dials' → Progress o (outside left reads held' writes' dials') k (count + 1)
+told link_fails o left reads held held' writes writes' dials dials' k count number text slice r u g is same ends more_writes more_dials =
+    let t : (t : List ℕ) × TellsLine (line_of text) t × Appends held held' t = told_by link_fails r slice text number held held' writes writes' dials dials' u is same ends in
     record {
       bytes = g.bytes;
       taken = g.taken;
@@ -266,22 +266,22 @@ done left o s s' reads held writes dials k k' count b p took takes now none stil
     )
 
 -- the script wasn't read
-pub unread : {L : Type 0} (links : L → ℕ) (o s : Outside) (left' : Option (List ℕ)) (reads' : ℕ) (k : Coming) (count : ℕ) (why : ReadError) → Progress o s k count → (why ≡ read.Fault → Rose s.reads reads') → (why ≡ read.TooLong → (b : List ℕ) × Consumes s.left left' b × (INPUT_MOST < k.taken + length b)) → Ends links o (record s { left = left'; reads = reads' }) (Err (read_end why))
-unread links o s left' reads' k count read.Fault p rose longer = ((p.lines, p.written, p.told, prefix_all o.held s.held p.written p.out), rose_more o.reads s.reads reads' p.reads (rose refl))
-unread links o s left' reads' k count read.TooLong p rose longer =
+pub unread : (link_fails : Type 0) (o s : Outside) (left' : Option (List ℕ)) (reads' : ℕ) (k : Coming) (count : ℕ) (why : ReadError) → Progress o s k count → (why ≡ read.Fault → Rose s.reads reads') → (why ≡ read.TooLong → (b : List ℕ) × Consumes s.left left' b × (INPUT_MOST < k.taken + length b)) → Ends link_fails o (record s { left = left'; reads = reads' }) (Err (read_end why))
+unread link_fails o s left' reads' k count read.Fault p rose longer = ((p.lines, p.written, p.told, prefix_all o.held s.held p.written p.out), rose_more o.reads s.reads reads' p.reads (rose refl))
+unread link_fails o s left' reads' k count read.TooLong p rose longer =
     let more = longer refl in
     let size : INPUT_MOST < k.taken + length more.0 = more.2 in
     ((p.lines, p.written, p.told, prefix_all o.held s.held p.written p.out), (p.bytes ++ more.0, consumes_more o.left s.left left' p.bytes more.0 p.taken more.1, omega (arith, size, p.size, length-append p.bytes more.0)))
-unread links o s left' reads' k count read.Memory p rose longer = ((p.lines, p.written, p.told, prefix_all o.held s.held p.written p.out), tt)
+unread link_fails o s left' reads' k count read.Memory p rose longer = ((p.lines, p.written, p.told, prefix_all o.held s.held p.written p.out), tt)
 
 part : (o s : Outside) (held' : Option (List ℕ)) (k : Coming) (count : ℕ) (text : List ℕ) → Given o s k count text → WritesPart (line_of text) s.held held' → Writes o.held held'
 part o s held' k count text g (inl none) = (g.lines, g.written, g.told, prefix_all o.held held' g.written (appends_nothing o.held s.held held' g.written g.out none))
 part o s held' k count text g (inr (t, tells, out)) = (g.lines ++ text ∷ [], g.written ++ t, Tells.more g.lines g.written text t g.told tells, prefix_more o.held s.held held' g.written t g.out out)
 
-fails : {L : Type 0} (links : L → ℕ) (o : Outside) (left : Option (List ℕ)) (reads : ℕ) (held held' : Option (List ℕ)) (writes writes' dials dials' : ℕ) (k : Coming) (count number : ℕ) (text : List ℕ) (e : MountErr) → Given o (outside left reads held writes dials) k count text → number ≡ count + 1 → TextFails links (line_of text) number held held' writes writes' dials dials' e → Fails links o (outside left reads held' writes' dials') e
-fails links o left reads held held' writes writes' dials dials' k count number text errors.ReadFault g is p = absurd p
-fails links o left reads held held' writes writes' dials dials' k count number text errors.WriteFault g is p = rose_more o.writes writes writes' g.writes p
-fails links o left reads held held' writes writes' dials dials' k count number text (errors.BadLine n) g is p = record {
+fails : (link_fails : Type 0) (o : Outside) (left : Option (List ℕ)) (reads : ℕ) (held held' : Option (List ℕ)) (writes writes' dials dials' : ℕ) (k : Coming) (count number : ℕ) (text : List ℕ) (e : MountErr) → Given o (outside left reads held writes dials) k count text → number ≡ count + 1 → TextFails link_fails (line_of text) number held held' writes writes' dials dials' e → Fails link_fails o (outside left reads held' writes' dials') e
+fails link_fails o left reads held held' writes writes' dials dials' k count number text errors.ReadFault g is p = absurd p
+fails link_fails o left reads held held' writes writes' dials dials' k count number text errors.WriteFault g is p = rose_more o.writes writes writes' g.writes p
+fails link_fails o left reads held held' writes writes' dials dials' k count number text (errors.BadLine n) g is p = record {
   bytes = g.bytes;
   taken = g.taken;
   ended = k.ended;
@@ -295,78 +295,78 @@ fails links o left reads held held' writes writes' dials dials' k count number t
   told = g.told;
   out = appends_nothing o.held held held' g.written g.out p.2;
 }
-fails links o left reads held held' writes writes' dials dials' k count number text errors.Network g is (inl p) = inl (rose_more o.dials dials dials' g.dials p)
-fails links o left reads held held' writes writes' dials dials' k count number text errors.Network g is (inr p) = inr p
-fails links o left reads held held' writes writes' dials dials' k count number text errors.Memory g is p = tt
-fails links o left reads held held' writes writes' dials dials' k count number text errors.TooLong g is p = absurd p
+fails link_fails o left reads held held' writes writes' dials dials' k count number text errors.Network g is (inl p) = inl (rose_more o.dials dials dials' g.dials p)
+fails link_fails o left reads held held' writes writes' dials dials' k count number text errors.Network g is (inr p) = inr p
+fails link_fails o left reads held held' writes writes' dials dials' k count number text errors.Memory g is p = tt
+fails link_fails o left reads held held' writes writes' dials dials' k count number text errors.TooLong g is p = absurd p
 
 -- a line wasn't run, or told
-pub untold : {L : Type 0} (links : L → ℕ) (o : Outside) (left : Option (List ℕ)) (reads : ℕ) (held held' : Option (List ℕ)) (writes writes' dials dials' : ℕ) (k : Coming) (count number : ℕ) (text slice : List ℕ) (r : Result Unit MountErr) (e : MountErr) → Given o (outside left reads held writes dials) k count text → number ≡ count + 1 → r ≡ Err e → slice ≡ text → TextEnds links (line_of slice) number held held' writes writes' dials dials' r → Ends links o (outside left reads held' writes' dials') (Err e)
-untold links o left reads held held' writes writes' dials dials' k count number text slice r e g counts is same ends =
-    let p : TextEnds links (line_of text) number held held' writes writes' dials dials' (Err e) = subst (λ (z : List ℕ). TextEnds links (line_of z) number held held' writes writes' dials dials' (Err e)) same (subst (λ (x : Result Unit MountErr). TextEnds links (line_of slice) number held held' writes writes' dials dials' x) is ends) in
-    (part o (outside left reads held writes dials) held' k count text g p.0, fails links o left reads held held' writes writes' dials dials' k count number text e g counts p.1)
+pub untold : (link_fails : Type 0) (o : Outside) (left : Option (List ℕ)) (reads : ℕ) (held held' : Option (List ℕ)) (writes writes' dials dials' : ℕ) (k : Coming) (count number : ℕ) (text slice : List ℕ) (r : Result Unit MountErr) (e : MountErr) → Given o (outside left reads held writes dials) k count text → number ≡ count + 1 → r ≡ Err e → slice ≡ text → TextEnds link_fails (line_of slice) number held held' writes writes' dials dials' r → Ends link_fails o (outside left reads held' writes' dials') (Err e)
+untold link_fails o left reads held held' writes writes' dials dials' k count number text slice r e g counts is same ends =
+    let p : TextEnds link_fails (line_of text) number held held' writes writes' dials dials' (Err e) = subst (λ (z : List ℕ). TextEnds link_fails (line_of z) number held held' writes writes' dials dials' (Err e)) same (subst (λ (x : Result Unit MountErr). TextEnds link_fails (line_of slice) number held held' writes writes' dials dials' x) is ends) in
+    (part o (outside left reads held writes dials) held' k count text g p.0, fails link_fails o left reads held held' writes writes' dials dials' k count number text e g counts p.1)
 
 -- memory ran out
-pub starved : {L : Type 0} (links : L → ℕ) (o s : Outside) (k : Coming) (count : ℕ) → Progress o s k count → Ends links o s (Err errors.Memory)
-starved links o s k count p = ((p.lines, p.written, p.told, prefix_all o.held s.held p.written p.out), tt)
+pub starved : (link_fails : Type 0) (o s : Outside) (k : Coming) (count : ℕ) → Progress o s k count → Ends link_fails o s (Err errors.Memory)
+starved link_fails o s k count p = ((p.lines, p.written, p.told, prefix_all o.held s.held p.written p.out), tt)
 
-pub starved_first : {L : Type 0} (links : L → ℕ) (o : Outside) → Ends links o o (Err errors.Memory)
-starved_first links o = (([], [], Tells.nothing, prefix_all o.held o.held [] (appends_none o.held)), tt)
+pub starved_first : (link_fails : Type 0) (o : Outside) → Ends link_fails o o (Err errors.Memory)
+starved_first link_fails o = (([], [], Tells.nothing, prefix_all o.held o.held [] (appends_none o.held)), tt)
 
-unjoined_fails : {L : Type 0} (links : L → ℕ) (o : Outside) (dials' : ℕ) (e : MountErr) → Unjoined links o.dials dials' e → Fails links o (record o { dials = dials' }) e
-unjoined_fails links o dials' errors.ReadFault p = absurd p
-unjoined_fails links o dials' errors.WriteFault p = absurd p
-unjoined_fails links o dials' (errors.BadLine n) p = absurd p
-unjoined_fails links o dials' errors.Network p = p
-unjoined_fails links o dials' errors.Memory p = tt
-unjoined_fails links o dials' errors.TooLong p = absurd p
+unjoined_fails : (link_fails : Type 0) (o : Outside) (dials' : ℕ) (e : MountErr) → Unjoined link_fails o.dials dials' e → Fails link_fails o (record o { dials = dials' }) e
+unjoined_fails link_fails o dials' errors.ReadFault p = absurd p
+unjoined_fails link_fails o dials' errors.WriteFault p = absurd p
+unjoined_fails link_fails o dials' (errors.BadLine n) p = absurd p
+unjoined_fails link_fails o dials' errors.Network p = p
+unjoined_fails link_fails o dials' errors.Memory p = tt
+unjoined_fails link_fails o dials' errors.TooLong p = absurd p
 
-unjoined_more : {L : Type 0} (links : L → ℕ) (dials dials' : ℕ) (e : MountErr) → dials ≤ dials' → Unjoined links dials' dials' e → Unjoined links dials dials' e
-unjoined_more links dials dials' errors.ReadFault later p = absurd p
-unjoined_more links dials dials' errors.WriteFault later p = absurd p
-unjoined_more links dials dials' (errors.BadLine n) later p = absurd p
-unjoined_more links dials dials' errors.Network later (inl p) = inl (rose_more dials dials' dials' later p)
-unjoined_more links dials dials' errors.Network later (inr p) = inr p
-unjoined_more links dials dials' errors.Memory later p = tt
-unjoined_more links dials dials' errors.TooLong later p = absurd p
+unjoined_more : (link_fails : Type 0) (dials dials' : ℕ) (e : MountErr) → dials ≤ dials' → Unjoined link_fails dials' dials' e → Unjoined link_fails dials dials' e
+unjoined_more link_fails dials dials' errors.ReadFault later p = absurd p
+unjoined_more link_fails dials dials' errors.WriteFault later p = absurd p
+unjoined_more link_fails dials dials' (errors.BadLine n) later p = absurd p
+unjoined_more link_fails dials dials' errors.Network later (inl p) = inl (rose_more dials dials' dials' later p)
+unjoined_more link_fails dials dials' errors.Network later (inr p) = inr p
+unjoined_more link_fails dials dials' errors.Memory later p = tt
+unjoined_more link_fails dials dials' errors.TooLong later p = absurd p
 
 -- a link that has no twin
-pub unpaired : {A L : Type 0} (r : Result A MountErr) (links : L → ℕ) (dials dials' : ℕ) → dials ≤ dials' → IfErr r (λ e. Unjoined links dials' dials' e) → IfErr r (λ e. Unjoined links dials dials' e)
-unpaired (Ok x) links dials dials' later p = tt
-unpaired (Err e) links dials dials' later p = unjoined_more links dials dials' e later p
+pub unpaired : {A : Type 0} (r : Result A MountErr) (link_fails : Type 0) (dials dials' : ℕ) → dials ≤ dials' → IfErr r (λ e. Unjoined link_fails dials' dials' e) → IfErr r (λ e. Unjoined link_fails dials dials' e)
+unpaired (Ok x) link_fails dials dials' later p = tt
+unpaired (Err e) link_fails dials dials' later p = unjoined_more link_fails dials dials' e later p
 
 -- no connection was joined
-pub unjoined : {L : Type 0} (links : L → ℕ) (o : Outside) (dials' : ℕ) (e : MountErr) → Unjoined links o.dials dials' e → Ends links o (record o { dials = dials' }) (Err e)
-unjoined links o dials' e p = (([], [], Tells.nothing, prefix_all o.held o.held [] (appends_none o.held)), unjoined_fails links o dials' e p)
+pub unjoined : (link_fails : Type 0) (o : Outside) (dials' : ℕ) (e : MountErr) → Unjoined link_fails o.dials dials' e → Ends link_fails o (record o { dials = dials' }) (Err e)
+unjoined link_fails o dials' e p = (([], [], Tells.nothing, prefix_all o.held o.held [] (appends_none o.held)), unjoined_fails link_fails o dials' e p)
 
-later_fails : {L : Type 0} (links : L → ℕ) (o : Outside) (dials : ℕ) (s : Outside) (e : MountErr) → o.dials ≤ dials → Fails links (record o { dials = dials }) s e → Fails links o s e
-later_fails links o dials s errors.ReadFault later p = p
-later_fails links o dials s errors.WriteFault later p = p
-later_fails links o dials s (errors.BadLine n) later p = p
-later_fails links o dials s errors.Network later (inl p) = inl (rose_more o.dials dials s.dials later p)
-later_fails links o dials s errors.Network later (inr p) = inr p
-later_fails links o dials s errors.Memory later p = tt
-later_fails links o dials s errors.TooLong later p = p
+later_fails : (link_fails : Type 0) (o : Outside) (dials : ℕ) (s : Outside) (e : MountErr) → o.dials ≤ dials → Fails link_fails (record o { dials = dials }) s e → Fails link_fails o s e
+later_fails link_fails o dials s errors.ReadFault later p = p
+later_fails link_fails o dials s errors.WriteFault later p = p
+later_fails link_fails o dials s (errors.BadLine n) later p = p
+later_fails link_fails o dials s errors.Network later (inl p) = inl (rose_more o.dials dials s.dials later p)
+later_fails link_fails o dials s errors.Network later (inr p) = inr p
+later_fails link_fails o dials s errors.Memory later p = tt
+later_fails link_fails o dials s errors.TooLong later p = p
 
 -- one was
-pub joined : {L : Type 0} (links : L → ℕ) (o : Outside) (dials : ℕ) (s : Outside) (r : Result Unit MountErr) → o.dials ≤ dials → Ends links (record o { dials = dials }) s r → Ends links o s r
-joined links o dials s (Ok u) later p = p
-joined links o dials s (Err e) later p = (p.0, later_fails links o dials s e later p.1)
+pub joined : (link_fails : Type 0) (o : Outside) (dials : ℕ) (s : Outside) (r : Result Unit MountErr) → o.dials ≤ dials → Ends link_fails (record o { dials = dials }) s r → Ends link_fails o s r
+joined link_fails o dials s (Ok u) later p = p
+joined link_fails o dials s (Err e) later p = (p.0, later_fails link_fails o dials s e later p.1)
 
 -- ---- by the answer
 
-pub ends_done : {L : Type 0} (links : L → ℕ) (o s : Outside) (r : Result Unit MountErr) → Ends links o s r → OnOk r (IsDone o.left s.left o.held s.held)
-ends_done links o s (Ok u) p = p
-ends_done links o s (Err e) p = tt
+pub ends_done : (link_fails : Type 0) (o s : Outside) (r : Result Unit MountErr) → Ends link_fails o s r → OnOk r (IsDone o.left s.left o.held s.held)
+ends_done link_fails o s (Ok u) p = p
+ends_done link_fails o s (Err e) p = tt
 
-pub ends_writes : {L : Type 0} (links : L → ℕ) (o s : Outside) (r : Result Unit MountErr) → Ends links o s r → Writes o.held s.held
-ends_writes links o s (Ok u) p =
+pub ends_writes : (link_fails : Type 0) (o s : Outside) (r : Result Unit MountErr) → Ends link_fails o s r → Writes o.held s.held
+ends_writes link_fails o s (Ok u) p =
     let script = p.0 in let written = p.1 in
     (lines_of script, written, p.4, prefix_all o.held s.held written p.5)
-ends_writes links o s (Err e) p = p.0
+ends_writes link_fails o s (Err e) p = p.0
 
-pub ends_fails : {L : Type 0} (links : L → ℕ) (o s : Outside) (r : Result Unit MountErr) (e : MountErr) → Ends links o s r → r ≡ Err e → Fails links o s e
-ends_fails links o s r e p is = (subst (λ (x : Result Unit MountErr). Ends links o s x) is p).1
+pub ends_fails : (link_fails : Type 0) (o s : Outside) (r : Result Unit MountErr) (e : MountErr) → Ends link_fails o s r → r ≡ Err e → Fails link_fails o s e
+ends_fails link_fails o s r e p is = (subst (λ (x : Result Unit MountErr). Ends link_fails o s x) is p).1
 
 pub writes_nothing : (held : Option (List ℕ)) → Writes held held
 writes_nothing held = ([], [], Tells.nothing, prefix_all held held [] (appends_none held))

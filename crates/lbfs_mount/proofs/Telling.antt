@@ -1,5 +1,5 @@
 -- What a mounted client says of an operation that ended is the line of an answer.
-use Rattle.std.proofs.Common.{◌≡◌, ℕ, List, [], Bool, true, false, refl, sym, ap, subst}
+use Rattle.std.proofs.Common.{◌≡◌, ℕ, List, [], Bool, true, false, refl, sym, subst}
 use Rattle.std.specs.Prelude.{Option, Some, None, Result, Ok, Err, IfOk, IsOk}
 use Rattle.links.specs.declared.files.FilesErr.{FilesErr}
 use Rattle.record_ends.specs.declared.end.End.{End}
@@ -19,8 +19,8 @@ use Rattle.mount_text.specs.declared.line.MountLine.{MountLine}
 use Rattle.mount_text.specs.declared.line.MountLine.TheVariants as line
 use Rattle.mount_text.specs.declared.line.Place.{Place}
 use Rattle.lbfs_client.specs.Host.{Host}
-use Rattle.lbfs_client.specs.Mounting.{Mount, Walks, Leads, Begins, PutsRead, PutLine, GetLine, Wants, JoinLine, Runs, Hearing, Receives, Loses, Stops, is_joining, joined_if, joined_walk, joined_step, unread_answer}
-use Rattle.lbfs_client.specs.Walks.{says, answer_of, answer_to, is_closed, opened_file, Ends, ClosedIf, Closed, Closes, PutsIf, Opened, KeepsIf, Fetched, kept_answer}
+use Rattle.lbfs_client.specs.Mounting.{Mount, Walks, Leads, Begins, PutsRead, PutLine, GetLine, Wants, JoinLine, Runs, Hearing, Receives, Loses, Stops, is_joining, joined_if, joined_step, unread_answer}
+use Rattle.lbfs_client.specs.Walks.{says, answer_of, answer_to, is_closed, opened_file, ClosedIf, Closes, PutsIf, KeepsIf, kept_answer}
 use Rattle.lbfs_client.specs.declared.said.Said.{Said}
 use Rattle.lbfs_client.specs.declared.walk.Walk.{Walk}
 use Rattle.lbfs_client.specs.declared.walk.Walk.TheVariants as walk

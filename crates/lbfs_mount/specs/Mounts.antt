@@ -75,11 +75,12 @@ pub record IsBadLine (left left' held held' : Option (List ℕ)) (number : ℕ) 
 abbrev pub IsTooLong : (left left' : Option (List ℕ)) → Type 0
 IsTooLong left left' = (bytes : List ℕ) × Consumes left left' bytes × (INPUT_MOST < length bytes)
 
--- of two states of a link, the count of faults rose from the one to the other
-abbrev pub LinkFails : {L : Type 0} → (L → ℕ) → Type 0
-LinkFails faults = (before : _) × (after : _) × Rose (faults before) (faults after)
+-- the link that was given back, if one was: a fault was counted on it
+abbrev pub IsFaulty : {L : Type 0} → (faults : L → ℕ) → Option L → Type 0
+IsFaulty faults None = ⊥
+IsFaulty faults (Some link) = 0 < faults link
 
--- ---- the same, by the answer of each call
+-- ---- the same, by the answer of each call. Where no connection could be joined, `link_fails` is what is known of the link that has no twin.
 
 -- what a mount works with: the bytes that are left to read and those that were written, and the faults of the source, the sink and the network
 pub record Outside : Type 0 where
@@ -90,10 +91,10 @@ pub record Outside : Type 0 where
   pub dials : ℕ
 
 -- why a connection isn't joined
-abbrev pub Unjoined : {L : Type 0} → (L → ℕ) → (dials dials' : ℕ) → MountErr → Type 0
-Unjoined links dials dials' errors.Network = Rose dials dials' ⊎ LinkFails links
-Unjoined links dials dials' errors.Memory = Unit {0}
-Unjoined links dials dials' e = ⊥
+abbrev pub Unjoined : (link_fails : Type 0) → (dials dials' : ℕ) → MountErr → Type 0
+Unjoined link_fails dials dials' errors.Network = Rose dials dials' ⊎ link_fails
+Unjoined link_fails dials dials' errors.Memory = Unit {0}
+Unjoined link_fails dials dials' e = ⊥
 
 -- why an answer wasn't written
 abbrev pub Unwritten : (writes writes' : ℕ) → MountErr → Type 0
@@ -102,11 +103,11 @@ Unwritten writes writes' errors.Memory = Unit {0}
 Unwritten writes writes' e = ⊥
 
 -- why a line wasn't told
-abbrev pub Untold : {L : Type 0} → (L → ℕ) → (writes writes' dials dials' : ℕ) → MountErr → Type 0
-Untold links writes writes' dials dials' errors.WriteFault = Rose writes writes'
-Untold links writes writes' dials dials' errors.Network = Rose dials dials' ⊎ LinkFails links
-Untold links writes writes' dials dials' errors.Memory = Unit {0}
-Untold links writes writes' dials dials' e = ⊥
+abbrev pub Untold : (link_fails : Type 0) → (writes writes' dials dials' : ℕ) → MountErr → Type 0
+Untold link_fails writes writes' dials dials' errors.WriteFault = Rose writes writes'
+Untold link_fails writes writes' dials dials' errors.Network = Rose dials dials' ⊎ link_fails
+Untold link_fails writes writes' dials dials' errors.Memory = Unit {0}
+Untold link_fails writes writes' dials dials' e = ⊥
 
 -- a sink's errors, and a source's
 abbrev pub written_as : Result Unit GiveErr → Result Unit MountErr
@@ -125,36 +126,36 @@ WriteEnds held held' writes writes' (Ok u) = (told : List ℕ) × IsAnswer told 
 WriteEnds held held' writes writes' (Err e) = ((told : List ℕ) × IsAnswer told × AppendsPrefix held held' told) × Unwritten writes writes' e
 
 -- the same, where its line ran first
-abbrev pub AnswerEnds : {L : Type 0} → (L → ℕ) → (held held' : Option (List ℕ)) → (writes writes' dials dials' : ℕ) → Result Unit MountErr → Type 0
-AnswerEnds links held held' writes writes' dials dials' (Ok u) = (told : List ℕ) × IsAnswer told × Appends held held' told
-AnswerEnds links held held' writes writes' dials dials' (Err e) = ((told : List ℕ) × IsAnswer told × AppendsPrefix held held' told) × Untold links writes writes' dials dials' e
+abbrev pub AnswerEnds : (link_fails : Type 0) → (held held' : Option (List ℕ)) → (writes writes' dials dials' : ℕ) → Result Unit MountErr → Type 0
+AnswerEnds link_fails held held' writes writes' dials dials' (Ok u) = (told : List ℕ) × IsAnswer told × Appends held held' told
+AnswerEnds link_fails held held' writes writes' dials dials' (Err e) = ((told : List ℕ) × IsAnswer told × AppendsPrefix held held' told) × Untold link_fails writes writes' dials dials' e
 
 -- why a line of this number, read so, wasn't run or told
-abbrev pub TextFails : {L : Type 0} → (L → ℕ) → Option MountLine → (number : ℕ) → (held held' : Option (List ℕ)) → (writes writes' dials dials' : ℕ) → MountErr → Type 0
-TextFails links l number held held' writes writes' dials dials' errors.ReadFault = ⊥
-TextFails links l number held held' writes writes' dials dials' errors.TooLong = ⊥
-TextFails links l number held held' writes writes' dials dials' (errors.BadLine n) = (n ≡ number) × (l ≡ None) × Appends held held' []
-TextFails links l number held held' writes writes' dials dials' errors.WriteFault = Rose writes writes'
-TextFails links l number held held' writes writes' dials dials' errors.Network = Rose dials dials' ⊎ LinkFails links
-TextFails links l number held held' writes writes' dials dials' errors.Memory = Unit {0}
+abbrev pub TextFails : (link_fails : Type 0) → Option MountLine → (number : ℕ) → (held held' : Option (List ℕ)) → (writes writes' dials dials' : ℕ) → MountErr → Type 0
+TextFails link_fails l number held held' writes writes' dials dials' errors.ReadFault = ⊥
+TextFails link_fails l number held held' writes writes' dials dials' errors.TooLong = ⊥
+TextFails link_fails l number held held' writes writes' dials dials' (errors.BadLine n) = (n ≡ number) × (l ≡ None) × Appends held held' []
+TextFails link_fails l number held held' writes writes' dials dials' errors.WriteFault = Rose writes writes'
+TextFails link_fails l number held held' writes writes' dials dials' errors.Network = Rose dials dials' ⊎ link_fails
+TextFails link_fails l number held held' writes writes' dials dials' errors.Memory = Unit {0}
 
 -- nothing was written for a line, or a front of what tells it
 abbrev pub WritesPart : Option MountLine → (held held' : Option (List ℕ)) → Type 0
 WritesPart l held held' = Appends held held' [] ⊎ ((told : List ℕ) × TellsLine l told × AppendsPrefix held held' told)
 
-abbrev pub TextEnds : {L : Type 0} → (L → ℕ) → Option MountLine → (number : ℕ) → (held held' : Option (List ℕ)) → (writes writes' dials dials' : ℕ) → Result Unit MountErr → Type 0
-TextEnds links l number held held' writes writes' dials dials' (Ok u) = (told : List ℕ) × TellsLine l told × Appends held held' told
-TextEnds links l number held held' writes writes' dials dials' (Err e) = WritesPart l held held' × TextFails links l number held held' writes writes' dials dials' e
+abbrev pub TextEnds : (link_fails : Type 0) → Option MountLine → (number : ℕ) → (held held' : Option (List ℕ)) → (writes writes' dials dials' : ℕ) → Result Unit MountErr → Type 0
+TextEnds link_fails l number held held' writes writes' dials dials' (Ok u) = (told : List ℕ) × TellsLine l told × Appends held held' told
+TextEnds link_fails l number held held' writes writes' dials dials' (Err e) = WritesPart l held held' × TextFails link_fails l number held held' writes writes' dials dials' e
 
 -- why a mount ended before its script did
-abbrev pub Fails : {L : Type 0} → (L → ℕ) → (old new : Outside) → MountErr → Type 0
-Fails links o s errors.ReadFault = Rose o.reads s.reads
-Fails links o s errors.WriteFault = Rose o.writes s.writes
-Fails links o s errors.Network = Rose o.dials s.dials ⊎ LinkFails links
-Fails links o s (errors.BadLine n) = IsBadLine o.left s.left o.held s.held n
-Fails links o s errors.TooLong = IsTooLong o.left s.left
-Fails links o s errors.Memory = Unit {0}
+abbrev pub Fails : (link_fails : Type 0) → (old new : Outside) → MountErr → Type 0
+Fails link_fails o s errors.ReadFault = Rose o.reads s.reads
+Fails link_fails o s errors.WriteFault = Rose o.writes s.writes
+Fails link_fails o s errors.Network = Rose o.dials s.dials ⊎ link_fails
+Fails link_fails o s (errors.BadLine n) = IsBadLine o.left s.left o.held s.held n
+Fails link_fails o s errors.TooLong = IsTooLong o.left s.left
+Fails link_fails o s errors.Memory = Unit {0}
 
-abbrev pub Ends : {L : Type 0} → (L → ℕ) → (old new : Outside) → Result Unit MountErr → Type 0
-Ends links o s (Ok u) = IsDone o.left s.left o.held s.held
-Ends links o s (Err e) = Writes o.held s.held × Fails links o s e
+abbrev pub Ends : (link_fails : Type 0) → (old new : Outside) → Result Unit MountErr → Type 0
+Ends link_fails o s (Ok u) = IsDone o.left s.left o.held s.held
+Ends link_fails o s (Err e) = Writes o.held s.held × Fails link_fails o s e

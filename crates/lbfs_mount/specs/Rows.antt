@@ -1,6 +1,5 @@
 -- Worked rows: what is written for three lines, of which one is skipped.
-use Rattle.std.specs.Prelude.{[], ◌∷◌, ◌++◌, refl, codes}
-use Rattle.mount_text.specs.Answers.{answer_line}
+use Rattle.std.specs.Prelude.{[], ◌∷◌, refl, codes}
 use Rattle.mount_text.specs.declared.answer.Answer.TheVariants as answer
 use Rattle.lbfs_mount.specs.Mounts.{Tells}
 

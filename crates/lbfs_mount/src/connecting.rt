@@ -1,7 +1,7 @@
 //! Connections: a link on which messages go, its twin, at which records come, and their thread.
 
 ghost use Rattle.std.specs.Prelude.{ℕ, ◌≤◌, IfErr};
-ghost use Rattle.lbfs_mount.specs.Mounts.{Unjoined};
+ghost use Rattle.lbfs_mount.specs.Mounts.{IsFaulty, Unjoined};
 
 use crate::hearing::hear_all;
 use crate::mount_err::MountErr;
@@ -16,6 +16,17 @@ use std::alloc::Global;
 use std::sync::Wait;
 use std::thread::{Scope, Threads};
 
+/// By what a mount gets its connections.
+#[derive(Drop)]
+pub(crate) struct Dialler<N, L> {
+    /// The network in which the server is dialled.
+    pub(crate) net: N,
+    /// The server's port.
+    pub(crate) port: u16,
+    /// The link whose twin could not be made, where that was so.
+    pub(crate) unpaired: Option<L>,
+}
+
 /// A connection, whose records aren't taken yet.
 #[derive(Drop)]
 struct Dialled<L> {
@@ -26,30 +37,39 @@ struct Dialled<L> {
     inbox: Inbox,
 }
 
-/// A link with its twin, and nothing that came on it.
-fn pair<L: Link + Drop>(link: L, inbox: Inbox) -> Result<Dialled<L>, MountErr>
-    ensures { (dials : ℕ) → IfErr result (λ e. Unjoined L.faults dials dials e) }
+/// A link with its twin, and nothing that came on it. Where there can be no twin the link is shut, and
+/// kept aside.
+fn pair<L: Link + Drop>(
+    link: L,
+    inbox: Inbox,
+    unpaired: &mut Option<L>,
+) -> Result<Dialled<L>, MountErr>
+    ensures { (dials : ℕ) → IfErr result (λ e. Unjoined (IsFaulty L.faults unpaired.new) dials dials e) }
 {
     let mut link = link;
     match link.twin() {
         Ok(twin) => Ok(Dialled { link, twin, inbox }),
         Err(Failed) => {
             link.shut();
+            *unpaired = Some(link);
             Err(MountErr::Network)
         }
     }
 }
 
 /// Dials the port.
-fn dial<N: Network>(alloc: Global, net: &mut N, port: u16) -> Result<Dialled<N::L>, MountErr>
+fn dial<N: Network>(
+    alloc: Global,
+    dialler: &mut Dialler<N, N::L>,
+) -> Result<Dialled<N::L>, MountErr>
 where
     N::L: Drop,
-    ensures why { IfErr result (λ e. Unjoined N.L.faults (N.faults net.old) (N.faults net.new) e) }
-    ensures later { N.faults net.old ≤ N.faults net.new }
+    ensures why { IfErr result (λ e. Unjoined (IsFaulty N.L.faults dialler.new.unpaired) (N.faults dialler.old.net) (N.faults dialler.new.net) e) }
+    ensures later { N.faults dialler.old.net ≤ N.faults dialler.new.net }
 {
     match Inbox::new(alloc) {
-        Ok(inbox) => match net.dial(port) {
-            Ok(link) => pair(link, inbox),
+        Ok(inbox) => match dialler.net.dial(dialler.port) {
+            Ok(link) => pair(link, inbox, &mut dialler.unpaired),
             Err(Failed) => {
                 drop(inbox);
                 Err(MountErr::Network)
@@ -72,16 +92,15 @@ pub(crate) fn connect<
     scope: &'s Scope<'s, &'e ()>,
     rt: &'e R,
     shared: &'e Shared<F, N::L>,
-    net: &mut N,
+    dialler: &mut Dialler<N, N::L>,
     clock: &'e C,
-    port: u16,
 ) -> Result<(), MountErr>
 where
     N::L: Drop + Send + 's,
-    ensures why { IfErr result (λ e. Unjoined N.L.faults (N.faults net.old) (N.faults net.new) e) }
-    ensures later { N.faults net.old ≤ N.faults net.new }
+    ensures why { IfErr result (λ e. Unjoined (IsFaulty N.L.faults dialler.new.unpaired) (N.faults dialler.old.net) (N.faults dialler.new.net) e) }
+    ensures later { N.faults dialler.old.net ≤ N.faults dialler.new.net }
 {
-    match dial(shared.alloc(), net, port) {
+    match dial(shared.alloc(), dialler) {
         Ok(dialled) => {
             let Dialled { link, twin, inbox } = dialled;
             let connection = shared.join(rt, link, clock.now());

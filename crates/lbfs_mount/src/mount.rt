@@ -2,9 +2,10 @@
 
 ghost use Rattle.std.specs.Prelude.{ℕ, ◌≤◌, ◌⊎◌, OnOk, IsErrOf};
 ghost use Rattle.lb_base.specs.Causes.{Rose};
-ghost use Rattle.lbfs_mount.specs.Mounts.{Ends, IsBadLine, IsDone, IsTooLong, LinkFails, Writes};
+ghost use Rattle.lbfs_mount.specs.Mounts.{Ends, IsBadLine, IsDone, IsFaulty, IsTooLong, Writes};
 ghost use Rattle.lbfs_mount.specs.declared.mount_err.MountErr.TheVariants as errors;
 
+use crate::connecting::Dialler;
 use crate::mount_err::MountErr;
 use crate::running::run_lines;
 use crate::shared::Shared;
@@ -33,37 +34,35 @@ fn run_shared<
     shared: &'x Shared<F, N::L>,
     script: S,
     sink: K,
-    net: N,
+    dialler: Dialler<N, N::L>,
     clock: &'x C,
-    port: u16,
-) -> (Result<(), MountErr>, S, K, N)
+) -> (Result<(), MountErr>, S, K, Dialler<N, N::L>)
 where
     N::L: Drop + Send,
-    ensures ends { Ends N.L.faults (record { left = S.left script; reads = S.faults script; held = K.held sink; writes = K.faults sink; dials = N.faults net }) (record { left = S.left result.1; reads = S.faults result.1; held = K.held result.2; writes = K.faults result.2; dials = N.faults result.3 }) result.0 }
+    ensures ends { Ends (IsFaulty N.L.faults result.3.unpaired) (record { left = S.left script; reads = S.faults script; held = K.held sink; writes = K.faults sink; dials = N.faults dialler.net }) (record { left = S.left result.1; reads = S.faults result.1; held = K.held result.2; writes = K.faults result.2; dials = N.faults result.3.net }) result.0 }
     ensures later { (S.faults script ≤ S.faults result.1) × (K.faults sink ≤ K.faults result.2) }
 {
     thread::scope(
         thread::scope_env(),
         rt,
-        move |scope| -> (Result<(), MountErr>, S, K, N)
-            ensures ends { Ends N.L.faults (record { left = S.left script; reads = S.faults script; held = K.held sink; writes = K.faults sink; dials = N.faults net }) (record { left = S.left result.1; reads = S.faults result.1; held = K.held result.2; writes = K.faults result.2; dials = N.faults result.3 }) result.0 }
+        move |scope| -> (Result<(), MountErr>, S, K, Dialler<N, N::L>)
+            ensures ends { Ends (IsFaulty N.L.faults result.3.unpaired) (record { left = S.left script; reads = S.faults script; held = K.held sink; writes = K.faults sink; dials = N.faults dialler.net }) (record { left = S.left result.1; reads = S.faults result.1; held = K.held result.2; writes = K.faults result.2; dials = N.faults result.3.net }) result.0 }
             ensures later { (S.faults script ≤ S.faults result.1) × (K.faults sink ≤ K.faults result.2) }
         {
             let mut script = script;
             let mut sink = sink;
-            let mut net = net;
+            let mut dialler = dialler;
             let ended = run_lines(
                 scope,
                 rt,
                 shared,
-                &mut net,
+                &mut dialler,
                 clock,
-                port,
                 &mut script,
                 &mut sink,
             );
             shared.close(rt);
-            (ended, script, sink, net)
+            (ended, script, sink, dialler)
         },
     )
 }
@@ -75,9 +74,10 @@ where
 ///
 /// `Ok` comes once the script was read to its end; then one line was written for each of its lines
 /// that isn't skipped, in order. `ReadFault` and `WriteFault` come only where the source's, or the
-/// sink's, count of faults rose, `Network` where the network's or a link's did, `BadLine` at the first
-/// line that is none of a script, and `TooLong` where the script has more bytes than `INPUT_MOST`.
-/// All that it works with is given back.
+/// sink's, count of faults rose, `Network` where the network's did, or where a link that was dialled has
+/// no twin, which is then given back with a fault counted on it; `BadLine` at the first line that is
+/// none of a script, and `TooLong` where the script has more bytes than `INPUT_MOST`. All that it works
+/// with is given back.
 pub fn mount<
     R: Threads + Wait + Sync,
     S: Source + Drop,
@@ -94,14 +94,14 @@ pub fn mount<
     net: N,
     clock: &C,
     port: u16,
-) -> (Result<(), MountErr>, S, K, F, N)
+) -> (Result<(), MountErr>, S, K, F, N, Option<N::L>)
 where
     N::L: Drop + Send,
     ensures done { OnOk result.0 (IsDone (S.left script) (S.left result.1) (K.held sink) (K.held result.2)) }
     ensures written { Writes (K.held sink) (K.held result.2) }
     ensures read { IsErrOf result.0 errors.ReadFault → Rose (S.faults script) (S.faults result.1) }
     ensures write { IsErrOf result.0 errors.WriteFault → Rose (K.faults sink) (K.faults result.2) }
-    ensures network { IsErrOf result.0 errors.Network → Rose (N.faults net) (N.faults result.4) ⊎ LinkFails N.L.faults }
+    ensures network { IsErrOf result.0 errors.Network → Rose (N.faults net) (N.faults result.4) ⊎ IsFaulty N.L.faults result.5 }
     ensures read_later { S.faults script ≤ S.faults result.1 }
     ensures write_later { K.faults sink ≤ K.faults result.2 }
     ensures bad_line { (n : ℕ) → IsErrOf result.0 (errors.BadLine n) → IsBadLine (S.left script) (S.left result.1) (K.held sink) (K.held result.2) n }
@@ -109,9 +109,15 @@ where
 {
     let mounted = match Mounted::new(alloc, files) {
         Ok(mounted) => mounted,
-        Err(files) => return (Err(MountErr::Memory), script, sink, files, net),
+        Err(files) => return (Err(MountErr::Memory), script, sink, files, net, None),
     };
     let shared = Shared::new(alloc, mounted);
-    let (ended, script, sink, net) = run_shared(rt, &shared, script, sink, net, clock, port);
-    (ended, script, sink, shared.into_files(), net)
+    let dialler = Dialler {
+        net,
+        port,
+        unpaired: None,
+    };
+    let (ended, script, sink, dialler) = run_shared(rt, &shared, script, sink, dialler, clock);
+    let Dialler { net, unpaired, .. } = dialler;
+    (ended, script, sink, shared.into_files(), net, unpaired)
 }

@@ -3,10 +3,10 @@
 
 ghost use Rattle.std.specs.Prelude.{◌≡◌, ℕ, ◌≤◌, IfErr};
 ghost use Rattle.mount_text.specs.Lines.{line_of};
-ghost use Rattle.lbfs_mount.specs.Mounts.{AnswerEnds, Ends, TextEnds, Unjoined, WriteEnds, is_skip, read_end, written_as};
+ghost use Rattle.lbfs_mount.specs.Mounts.{AnswerEnds, Ends, IsFaulty, TextEnds, Unjoined, WriteEnds, is_skip, read_end, written_as};
 
 use crate::answer_line::AnswerLine;
-use crate::connecting::connect;
+use crate::connecting::{Dialler, connect};
 use crate::mount_err::MountErr;
 use crate::shared::Shared;
 use command_text::line_err::LineErr;
@@ -63,18 +63,17 @@ fn run_line<'s, 'e, R: Threads + Wait + Sync, F: Files + Drop + Send, N: Network
     scope: &'s Scope<'s, &'e ()>,
     rt: &'e R,
     shared: &'e Shared<F, N::L>,
-    net: &mut N,
+    dialler: &mut Dialler<N, N::L>,
     clock: &'e C,
-    port: u16,
     line: MountLine,
 ) -> Result<AnswerLine, MountErr>
 where
     N::L: Drop + Send + 's,
-    ensures why { IfErr result (λ e. Unjoined N.L.faults (N.faults net.old) (N.faults net.new) e) }
-    ensures later { N.faults net.old ≤ N.faults net.new }
+    ensures why { IfErr result (λ e. Unjoined (IsFaulty N.L.faults dialler.new.unpaired) (N.faults dialler.old.net) (N.faults dialler.new.net) e) }
+    ensures later { N.faults dialler.old.net ≤ N.faults dialler.new.net }
 {
     if shared.run(rt, line, clock.now()) {
-        match connect(scope, rt, shared, net, clock, port) {
+        match connect(scope, rt, shared, dialler, clock) {
             Ok(()) => {}
             Err(why) => return Err(why),
         }
@@ -98,18 +97,17 @@ fn tell_line<
     scope: &'s Scope<'s, &'e ()>,
     rt: &'e R,
     shared: &'e Shared<F, N::L>,
-    net: &mut N,
+    dialler: &mut Dialler<N, N::L>,
     clock: &'e C,
-    port: u16,
     sink: &mut K,
     line: MountLine,
 ) -> Result<(), MountErr>
 where
     N::L: Drop + Send + 's,
-    ensures ends { AnswerEnds N.L.faults (K.held sink.old) (K.held sink.new) (K.faults sink.old) (K.faults sink.new) (N.faults net.old) (N.faults net.new) result }
-    ensures later { (N.faults net.old ≤ N.faults net.new) × (K.faults sink.old ≤ K.faults sink.new) }
+    ensures ends { AnswerEnds (IsFaulty N.L.faults dialler.new.unpaired) (K.held sink.old) (K.held sink.new) (K.faults sink.old) (K.faults sink.new) (N.faults dialler.old.net) (N.faults dialler.new.net) result }
+    ensures later { (N.faults dialler.old.net ≤ N.faults dialler.new.net) × (K.faults sink.old ≤ K.faults sink.new) }
 {
-    match run_line(scope, rt, shared, net, clock, port, line) {
+    match run_line(scope, rt, shared, dialler, clock, line) {
         Ok(answer) => write_answer(sink, &answer),
         Err(why) => Err(why),
     }
@@ -128,17 +126,16 @@ fn run_text<
     scope: &'s Scope<'s, &'e ()>,
     rt: &'e R,
     shared: &'e Shared<F, N::L>,
-    net: &mut N,
+    dialler: &mut Dialler<N, N::L>,
     clock: &'e C,
-    port: u16,
     sink: &mut K,
     text: &[u8],
     number: u64,
 ) -> Result<(), MountErr>
 where
     N::L: Drop + Send + 's,
-    ensures ends { TextEnds N.L.faults (line_of text.now) number (K.held sink.old) (K.held sink.new) (K.faults sink.old) (K.faults sink.new) (N.faults net.old) (N.faults net.new) result }
-    ensures later { (N.faults net.old ≤ N.faults net.new) × (K.faults sink.old ≤ K.faults sink.new) }
+    ensures ends { TextEnds (IsFaulty N.L.faults dialler.new.unpaired) (line_of text.now) number (K.held sink.old) (K.held sink.new) (K.faults sink.old) (K.faults sink.new) (N.faults dialler.old.net) (N.faults dialler.new.net) result }
+    ensures later { (N.faults dialler.old.net ≤ N.faults dialler.new.net) × (K.faults sink.old ≤ K.faults sink.new) }
 {
     match MountLine::read(shared.alloc(), text) {
         Ok(line) => {
@@ -146,7 +143,7 @@ where
                 drop(line);
                 return Ok(());
             }
-            tell_line(scope, rt, shared, net, clock, port, sink, line)
+            tell_line(scope, rt, shared, dialler, clock, sink, line)
         }
         Err(LineErr::BadLine) => Err(MountErr::BadLine { number }),
         Err(LineErr::Memory) => Err(MountErr::Memory),
@@ -167,15 +164,14 @@ fn run_on<
     scope: &'s Scope<'s, &'e ()>,
     rt: &'e R,
     shared: &'e Shared<F, N::L>,
-    net: &mut N,
+    dialler: &mut Dialler<N, N::L>,
     clock: &'e C,
-    port: u16,
     script: &mut S,
     sink: &mut K,
 ) -> Result<(), MountErr>
 where
     N::L: Drop + Send + 's,
-    ensures ends { Ends N.L.faults (record { left = S.left script.old; reads = S.faults script.old; held = K.held sink.old; writes = K.faults sink.old; dials = N.faults net.old }) (record { left = S.left script.new; reads = S.faults script.new; held = K.held sink.new; writes = K.faults sink.new; dials = N.faults net.new }) result }
+    ensures ends { Ends (IsFaulty N.L.faults dialler.new.unpaired) (record { left = S.left script.old; reads = S.faults script.old; held = K.held sink.old; writes = K.faults sink.old; dials = N.faults dialler.old.net }) (record { left = S.left script.new; reads = S.faults script.new; held = K.held sink.new; writes = K.faults sink.new; dials = N.faults dialler.new.net }) result }
     ensures later { (S.faults script.old ≤ S.faults script.new) × (K.faults sink.old ≤ K.faults sink.new) }
 {
     let mut lines = match Script::new(shared.alloc()) {
@@ -190,9 +186,8 @@ where
                         scope,
                         rt,
                         shared,
-                        net,
+                        dialler,
                         clock,
-                        port,
                         sink,
                         text.as_slice(),
                         at + 1,
@@ -225,19 +220,18 @@ pub(crate) fn run_lines<
     scope: &'s Scope<'s, &'e ()>,
     rt: &'e R,
     shared: &'e Shared<F, N::L>,
-    net: &mut N,
+    dialler: &mut Dialler<N, N::L>,
     clock: &'e C,
-    port: u16,
     script: &mut S,
     sink: &mut K,
 ) -> Result<(), MountErr>
 where
     N::L: Drop + Send + 's,
-    ensures ends { Ends N.L.faults (record { left = S.left script.old; reads = S.faults script.old; held = K.held sink.old; writes = K.faults sink.old; dials = N.faults net.old }) (record { left = S.left script.new; reads = S.faults script.new; held = K.held sink.new; writes = K.faults sink.new; dials = N.faults net.new }) result }
+    ensures ends { Ends (IsFaulty N.L.faults dialler.new.unpaired) (record { left = S.left script.old; reads = S.faults script.old; held = K.held sink.old; writes = K.faults sink.old; dials = N.faults dialler.old.net }) (record { left = S.left script.new; reads = S.faults script.new; held = K.held sink.new; writes = K.faults sink.new; dials = N.faults dialler.new.net }) result }
     ensures later { (S.faults script.old ≤ S.faults script.new) × (K.faults sink.old ≤ K.faults sink.new) }
 {
-    match connect(scope, rt, shared, net, clock, port) {
-        Ok(()) => run_on(scope, rt, shared, net, clock, port, script, sink),
+    match connect(scope, rt, shared, dialler, clock) {
+        Ok(()) => run_on(scope, rt, shared, dialler, clock, script, sink),
         Err(why) => Err(why),
     }
 }

@@ -30,7 +30,7 @@ serve_output (Err errors.Store) = (status.Store, fault_text)
 serve_output (Err (errors.BadRecord which)) = (status.Store, record_text which)
 serve_output (Err errors.Memory) = (status.Memory, [])
 
--- why serving ended so: as many links were accepted as sessions were asked for; the network's count of faults rose; the
+-- why serving ended so: at least as many links were accepted as sessions were asked for; the network's count of faults rose; the
 -- store's did; this record is the first that breaks a rule
 abbrev pub ServeCause : ServeOptions → (accepted accepted' net net' store store' : ℕ) → Option (List Kept) → Result Served ServeErr → Type 0
 ServeCause o accepted accepted' net net' store store' records (Ok s) = (s.sessions ≡ o.sessions) × CountsMore accepted o.sessions accepted'

@@ -3,7 +3,7 @@
 
 ghost use Rattle.std.specs.Prelude.{◌≡◌, ◌≤◌, ◌⊎◌, [], IfOk, IsErrOf};
 ghost use Rattle.lb_base.specs.Causes.{Rose};
-ghost use Rattle.lbfs_mount.specs.Mounts.{LinkFails};
+ghost use Rattle.lbfs_mount.specs.Mounts.{IsFaulty};
 ghost use Rattle.lbfs_mount.specs.declared.mount_err.MountErr.TheVariants as errors;
 ghost use Rattle.lbfs_run.specs.Mounting.{MountEnds, mount_output};
 ghost use Rattle.lbfs_run.specs.Telling.{Tells};
@@ -70,7 +70,8 @@ fn tell_mounted<K: Sink>(alloc: Global, ended: Result<(), MountErr>, sink: &mut 
     }
 }
 
-/// Runs the source's lines on the tree of a server, tells how that ended, and answers the status.
+/// Runs the source's lines on the tree of a server, tells how that ended, and answers the status, with
+/// the link whose twin could not be made, if it ended by that.
 pub(crate) fn run_mount<
     H: Threads + Wait + Sync,
     S: Source + Drop,
@@ -85,16 +86,16 @@ pub(crate) fn run_mount<
     alloc: Global,
     options: MountOptions,
     out: Outside<S, K, D, F, N, C, R>,
-) -> (u8, Outside<S, K, D, F, N, C, R>)
+) -> (u8, Outside<S, K, D, F, N, C, R>, Option<N::L>)
 where
     N::L: Drop + Send,
-    ensures mounts { MountEnds (S.left out.source) (S.left result.1.source) (K.held out.sink) (K.held result.1.sink) (S.faults out.source) (S.faults result.1.source) (K.faults out.sink) (N.faults out.network) (N.faults result.1.network) (LinkFails N.L.faults) result.0 }
+    ensures mounts { MountEnds (S.left out.source) (S.left result.1.source) (K.held out.sink) (K.held result.1.sink) (S.faults out.source) (S.faults result.1.source) (K.faults out.sink) (N.faults out.network) (N.faults result.1.network) (IsFaulty N.L.faults result.2) result.0 }
     ensures unstored { result.1.store ≡ out.store }
     ensures read_later { S.faults out.source ≤ S.faults result.1.source }
     ensures write_later { K.faults out.sink ≤ K.faults result.1.sink }
     ensures read_fault { result.0 ≡ 3 → Rose (S.faults out.source) (S.faults result.1.source) }
     ensures write_fault { result.0 ≡ 4 → Rose (K.faults out.sink) (K.faults result.1.sink) }
-    ensures network_fault { result.0 ≡ 7 → Rose (N.faults out.network) (N.faults result.1.network) ⊎ LinkFails N.L.faults }
+    ensures network_fault { result.0 ≡ 7 → Rose (N.faults out.network) (N.faults result.1.network) ⊎ IsFaulty N.L.faults result.2 }
     ensures known { (result.0 ≡ 0) ⊎ (result.0 ≡ 3) ⊎ (result.0 ≡ 4) ⊎ (result.0 ≡ 5) ⊎ (result.0 ≡ 6) ⊎ (result.0 ≡ 7) }
 {
     let Outside {
@@ -106,7 +107,7 @@ where
         clock,
         rest,
     } = out;
-    let (ended, source, mut sink, files, network) = mount(
+    let (ended, source, mut sink, files, network, unpaired) = mount(
         rt,
         alloc,
         source,
@@ -126,5 +127,5 @@ where
         clock,
         rest,
     };
-    (status, out)
+    (status, out, unpaired)
 }

@@ -15,7 +15,7 @@ ghost use Rattle.program_words.specs.declared.asked.ServeOptions.{ServeOptions};
 ghost use Rattle.program_words.specs.declared.asked.MountOptions.{MountOptions};
 ghost use Rattle.program_words.specs.declared.asked.Asked.TheVariants as ask;
 ghost use Rattle.plain_run.specs.Ends.{IsAnswered, IsAnsweredFrom, IsBegun, IsBegunFrom, IsBroken, IsBrokenFrom, IsReplayed, IsRun};
-ghost use Rattle.lbfs_mount.specs.Mounts.{LinkFails};
+ghost use Rattle.lbfs_mount.specs.Mounts.{IsFaulty};
 ghost use Rattle.lbfs_run.specs.Ends.{StoreFails, takes_input};
 ghost use Rattle.lbfs_run.specs.Mounting.{MountEnds};
 ghost use Rattle.lbfs_run.specs.Serving.{ServeEnds};
@@ -37,12 +37,13 @@ use std::sync::Wait;
 use std::thread::Threads;
 use store::store::Store;
 
-/// A run of a command that needs nothing but the source and the sink, or the refusal of the words.
-fn run_plain<S: Source, K: Sink, D, F, N, C, R>(
+/// A run of a command that needs nothing but the source and the sink, or the refusal of the words. No
+/// link is left over.
+fn run_plain<S: Source, K: Sink, D, F, N: Network, C, R>(
     alloc: Global,
     command: Option<Command>,
     out: Outside<S, K, D, F, N, C, R>,
-) -> (u8, Outside<S, K, D, F, N, C, R>)
+) -> (u8, Outside<S, K, D, F, N, C, R>, Option<N::L>)
     requires { IsFew command }
     ensures replayed { (view : View) → command ≡ Some (OfInput (input.Replay view)) → result.0 ≡ 0 → (trace : List ℕ) → S.left out.source ≡ Some trace → IsRun view (K.held out.sink) (K.held result.1.sink) trace }
     ensures generated { (view : View) (seed blocks : ℕ) → command ≡ Some (OfSeed seed blocks (seeded.Replay view)) → result.0 ≡ 0 → IsRun view (K.held out.sink) (K.held result.1.sink) (generated_text seed blocks) }
@@ -82,7 +83,7 @@ fn run_plain<S: Source, K: Sink, D, F, N, C, R>(
         clock,
         rest,
     };
-    (status, out)
+    (status, out, None)
 }
 
 /// Does what the words ask for, as `run` says.
@@ -100,7 +101,7 @@ fn run_asked<
     alloc: Global,
     asked: Option<Asked>,
     out: Outside<S, K, D, F, N, C, R>,
-) -> (u8, Outside<S, K, D, F, N, C, R>)
+) -> (u8, Outside<S, K, D, F, N, C, R>, Option<N::L>)
 where
     N::L: Drop + Send,
     requires { IsFew (command_in asked) }
@@ -124,9 +125,9 @@ where
     ensures apart { is_alone asked ≡ true → (result.1.store ≡ out.store) × (result.1.files ≡ out.files) × (result.1.network ≡ out.network) }
     ensures serves { (o : ServeOptions) → asked ≡ Some (ask.Serve o) → ServeEnds o (N.accepted out.network) (N.accepted result.1.network) (N.faults out.network) (N.faults result.1.network) (D.faults out.store) (D.faults result.1.store) (D.records out.store) (K.held out.sink) (K.held result.1.sink) result.0 }
     ensures unfiled { (o : ServeOptions) → asked ≡ Some (ask.Serve o) → result.1.files ≡ out.files }
-    ensures mounts { (o : MountOptions) → asked ≡ Some (ask.Mount o) → MountEnds (S.left out.source) (S.left result.1.source) (K.held out.sink) (K.held result.1.sink) (S.faults out.source) (S.faults result.1.source) (K.faults out.sink) (N.faults out.network) (N.faults result.1.network) (LinkFails N.L.faults) result.0 }
+    ensures mounts { (o : MountOptions) → asked ≡ Some (ask.Mount o) → MountEnds (S.left out.source) (S.left result.1.source) (K.held out.sink) (K.held result.1.sink) (S.faults out.source) (S.faults result.1.source) (K.faults out.sink) (N.faults out.network) (N.faults result.1.network) (IsFaulty N.L.faults result.2) result.0 }
     ensures unstored { (o : MountOptions) → asked ≡ Some (ask.Mount o) → result.1.store ≡ out.store }
-    ensures network_fault { result.0 ≡ 7 → Rose (N.faults out.network) (N.faults result.1.network) ⊎ LinkFails N.L.faults }
+    ensures network_fault { result.0 ≡ 7 → Rose (N.faults out.network) (N.faults result.1.network) ⊎ IsFaulty N.L.faults result.2 }
     ensures store_fault { result.0 ≡ 8 → StoreFails (D.faults out.store) (D.faults result.1.store) (D.records out.store) (K.held out.sink) (K.held result.1.sink) }
     ensures told { (result.0 ≡ 0) ⊎ (result.0 ≡ 2) ⊎ (result.0 ≡ 3) ⊎ (result.0 ≡ 4) ⊎ (result.0 ≡ 5) ⊎ (result.0 ≡ 6) ⊎ (result.0 ≡ 7) ⊎ (result.0 ≡ 8) }
 {
@@ -154,8 +155,9 @@ where
 /// cause and what was written (`serves`, `mounts`). `serve` touches neither the source nor the files,
 /// and `mount` not the store (`unread`, `unfiled`, `unstored`).
 ///
-/// Of all words: with 3 the source failed and its faults rose, with 4 the sink's, with 7 the network's
-/// or a link's; with 8 the store's rose, or a record of it breaks a rule, and which, was written. With 6
+/// Of all words: with 3 the source failed and its faults rose, with 4 the sink's, with 7 the network's,
+/// or `mount` dialled a link that has no twin, which is then given back with a fault counted on it; with
+/// 8 the store's rose, or a record of it breaks a rule, and which, was written. With 6
 /// memory ran out, which no clause gives a cause. Which bytes a source gave and a sink took is known
 /// only where they tell, as those in memory do; streams of the system don't.
 pub fn run<
@@ -172,7 +174,7 @@ pub fn run<
     alloc: Global,
     words: &[String],
     out: Outside<S, K, D, F, N, C, R>,
-) -> (u8, Outside<S, K, D, F, N, C, R>)
+) -> (u8, Outside<S, K, D, F, N, C, R>, Option<N::L>)
 where
     N::L: Drop + Send,
     ensures headline { map (λ w. string_bytes w) words.now ≡ codes "replay" ∷ [] → result.0 ≡ 0 → (input : List ℕ) → S.left out.source ≡ Some input → IsReplayed (K.held out.sink) (K.held result.1.sink) input }
@@ -196,14 +198,14 @@ where
     ensures apart { is_alone (asked_of (map (λ w. string_bytes w) words.now)) ≡ true → (result.1.store ≡ out.store) × (result.1.files ≡ out.files) × (result.1.network ≡ out.network) }
     ensures serves { (o : ServeOptions) → (asked_of (map (λ w. string_bytes w) words.now)) ≡ Some (ask.Serve o) → ServeEnds o (N.accepted out.network) (N.accepted result.1.network) (N.faults out.network) (N.faults result.1.network) (D.faults out.store) (D.faults result.1.store) (D.records out.store) (K.held out.sink) (K.held result.1.sink) result.0 }
     ensures unfiled { (o : ServeOptions) → (asked_of (map (λ w. string_bytes w) words.now)) ≡ Some (ask.Serve o) → result.1.files ≡ out.files }
-    ensures mounts { (o : MountOptions) → (asked_of (map (λ w. string_bytes w) words.now)) ≡ Some (ask.Mount o) → MountEnds (S.left out.source) (S.left result.1.source) (K.held out.sink) (K.held result.1.sink) (S.faults out.source) (S.faults result.1.source) (K.faults out.sink) (N.faults out.network) (N.faults result.1.network) (LinkFails N.L.faults) result.0 }
+    ensures mounts { (o : MountOptions) → (asked_of (map (λ w. string_bytes w) words.now)) ≡ Some (ask.Mount o) → MountEnds (S.left out.source) (S.left result.1.source) (K.held out.sink) (K.held result.1.sink) (S.faults out.source) (S.faults result.1.source) (K.faults out.sink) (N.faults out.network) (N.faults result.1.network) (IsFaulty N.L.faults result.2) result.0 }
     ensures unstored { (o : MountOptions) → (asked_of (map (λ w. string_bytes w) words.now)) ≡ Some (ask.Mount o) → result.1.store ≡ out.store }
-    ensures network_fault { result.0 ≡ 7 → Rose (N.faults out.network) (N.faults result.1.network) ⊎ LinkFails N.L.faults }
+    ensures network_fault { result.0 ≡ 7 → Rose (N.faults out.network) (N.faults result.1.network) ⊎ IsFaulty N.L.faults result.2 }
     ensures store_fault { result.0 ≡ 8 → StoreFails (D.faults out.store) (D.faults result.1.store) (D.records out.store) (K.held out.sink) (K.held result.1.sink) }
     ensures told { (result.0 ≡ 0) ⊎ (result.0 ≡ 2) ⊎ (result.0 ≡ 3) ⊎ (result.0 ≡ 4) ⊎ (result.0 ≡ 5) ⊎ (result.0 ≡ 6) ⊎ (result.0 ≡ 7) ⊎ (result.0 ≡ 8) }
 {
     match asked_of(alloc, words) {
         Ok(asked) => run_asked(rt, alloc, asked, out),
-        Err(_) => (Status::Memory.code(), out),
+        Err(_) => (Status::Memory.code(), out, None),
     }
 }

@@ -70,7 +70,7 @@ fn tell_served<K: Sink>(alloc: Global, ended: Result<Served, ServeErr>, sink: &m
     }
 }
 
-/// Serves the store's tree, tells how that ended, and answers the status.
+/// Serves the store's tree, tells how that ended, and answers the status. No link is left over.
 pub(crate) fn run_serve<
     H: Threads + Wait + Sync,
     S,
@@ -85,7 +85,7 @@ pub(crate) fn run_serve<
     alloc: Global,
     options: &ServeOptions,
     out: Outside<S, K, D, F, N, C, R>,
-) -> (u8, Outside<S, K, D, F, N, C, R>)
+) -> (u8, Outside<S, K, D, F, N, C, R>, Option<N::L>)
 where
     N::L: Drop + Send,
     ensures serves { ServeEnds options.now (N.accepted out.network) (N.accepted result.1.network) (N.faults out.network) (N.faults result.1.network) (D.faults out.store) (D.faults result.1.store) (D.records out.store) (K.held out.sink) (K.held result.1.sink) result.0 }
@@ -128,5 +128,5 @@ where
         clock,
         rest,
     };
-    (status, out)
+    (status, out, None)
 }

@@ -40,6 +40,13 @@ pub struct PlaceLink<'a, R> {
     faults: u64,
 }
 
+impl<'a, R> PlaceLink<'a, R> {
+    /// How many faults there were.
+    pub fn faults(&self) -> u64 {
+        self.faults
+    }
+}
+
 impl<'a, R: Wait> Link for PlaceLink<'a, R> {
     ghost left = { λ _. None };
 
@@ -60,7 +67,7 @@ impl<'a, R: Wait> Link for PlaceLink<'a, R> {
 
     fn give(&mut self, from: &[u8]) -> Result<usize, GiveErr> {
         let mut peer = self.place.peer.lock(self.rt);
-        if !peer.stands(self.connection) {
+        if !peer.is_open(self.connection) {
             self.faults = one_more(self.faults);
             return Err(GiveErr::Failed);
         }
@@ -83,6 +90,10 @@ impl<'a, R: Wait> Link for PlaceLink<'a, R> {
     }
 
     fn twin(&mut self) -> Result<PlaceLink<'a, R>, Failed> {
+        if !self.place.peer.lock(self.rt).pairs(self.connection) {
+            self.faults = one_more(self.faults);
+            return Err(Failed);
+        }
         Ok(PlaceLink {
             rt: self.rt,
             place: self.place,

@@ -13,13 +13,26 @@ use store::mem_store::SureStore;
 /// No record can begin with these.
 const NOISE: [u8; 4] = [255, 255, 255, 255];
 
+/// How a connection ends.
+#[derive(Clone, Copy, Debug, PartialEq, Eq)]
+pub enum Ending {
+    /// It is cut.
+    Cut,
+    /// Noise comes on it.
+    Noise,
+    /// Nothing can be given to it any more, and nothing comes on it.
+    Stuck,
+}
+
 /// What becomes of a connection.
 #[derive(Clone, Copy, Debug)]
 pub struct Plan {
+    /// Whether its link has a twin.
+    pub pairs: bool,
     /// How many records the server takes on it.
     pub records: u32,
-    /// Whether noise comes then; else it is cut.
-    pub noise: bool,
+    /// How it ends at the next one.
+    pub ending: Ending,
 }
 
 /// A server, and its connection to a mount.
@@ -47,8 +60,9 @@ impl Peer {
             connection: 0,
             session: None,
             plan: Plan {
+                pairs: false,
                 records: 0,
-                noise: false,
+                ending: Ending::Cut,
             },
             records: Records::new(alloc),
             coming: Vec::new(alloc),
@@ -74,6 +88,17 @@ impl Peer {
             self.held.event(alloc, Event::Hang { session });
         }
         self.session = None;
+    }
+
+    /// Whether a link of this connection has a twin.
+    pub fn pairs(&self, connection: u64) -> bool {
+        self.stands(connection) && self.plan.pairs
+    }
+
+    /// Whether bytes can be given on this connection.
+    pub fn is_open(&self, connection: u64) -> bool {
+        let is_stuck = self.plan.records == 0 && self.plan.ending == Ending::Stuck;
+        self.stands(connection) && !is_stuck
     }
 
     /// Whether this connection stands.
@@ -125,12 +150,13 @@ impl Peer {
         self.answer(alloc, session)
     }
 
-    /// The connection's end has come: it is cut, or noise comes on it.
+    /// The connection's end has come.
     fn end(&mut self, alloc: Global) -> Result<(), AllocError> {
-        if self.plan.noise {
-            return self.coming.extend_from_slice(&NOISE);
+        match self.plan.ending {
+            Ending::Cut => self.cut(alloc),
+            Ending::Noise => return self.coming.extend_from_slice(&NOISE),
+            Ending::Stuck => {}
         }
-        self.cut(alloc);
         Ok(())
     }
 
