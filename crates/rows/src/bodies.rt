@@ -1,72 +1,93 @@
 //! Arguments and results of procedures.
 
+use crate::out::Out;
 use crate::procedures::of_number;
-use crate::text::{parts, put_same, read_bytes};
+use crate::text::{number_of, put_same, read_bytes, split};
 use crate::values::{Put, put_error};
-use std::alloc::{AllocError, Global};
+use hash_calls::message::{Back, Lb};
+use nfs3_calls::message::Nfs;
+use std::alloc::Global;
 use wire::message::Program;
 use xdr_codec::fault::ReadError;
 use xdr_codec::program::{ProgramBody, read_args, read_results, write};
 use xdr_codec::reader::Reader;
+
+/// What is to be read: arguments or results of a procedure, behind a header of `at` bytes.
+#[derive(Clone, Copy)]
+struct Plan {
+    at: u32,
+    is_call: bool,
+    program: Program,
+}
 
 /// What was read, and its spelling.
 fn put_read<M: ProgramBody + Put>(
     alloc: Global,
     read: &Result<M, ReadError>,
     bytes: &[u8],
-    out: &mut String,
-) -> Result<(), AllocError> {
+    out: &mut Out,
+) {
     match read {
         Ok(body) => {
-            body.put(out)?;
-            let written = write(alloc, body)?;
-            put_same(out, written.as_slice(), bytes)
+            body.put(out);
+            match write(alloc, body) {
+                Ok(written) => put_same(out, written.as_slice(), bytes),
+                Err(_) => out.lack(),
+            }
         }
         Err(error) => put_error(out, error),
     }
 }
 
-/// What the bytes are behind a header of `at` bytes, as arguments or as results.
+/// What the bytes are, as arguments or as results of this procedure.
 fn put_body<M: ProgramBody + Put>(
     alloc: Global,
+    plan: Plan,
     procedure: M::Procedure,
-    is_call: bool,
-    at: u32,
     bytes: &[u8],
-    out: &mut String,
-) -> Result<(), AllocError> {
-    let mut rest = Reader::behind(at as usize, bytes);
-    let read: Result<M, ReadError> = if is_call {
+    out: &mut Out,
+) {
+    let mut rest = Reader::behind(plan.at as usize, bytes);
+    let read: Result<M, ReadError> = if plan.is_call {
         read_args(alloc, procedure, &mut rest)
     } else {
         read_results(alloc, procedure, &mut rest)
     };
-    let done = put_read(alloc, &read, bytes, out);
-    drop(read);
-    done
+    put_read(alloc, &read, bytes, out);
+    drop(read)
+}
+
+/// What the bytes are.
+fn put_planned(alloc: Global, plan: Plan, bytes: &[u8], out: &mut Out) {
+    match plan.program {
+        Program::Nfs(found) => put_body::<Nfs>(alloc, plan, found, bytes, out),
+        Program::Lb(found) => put_body::<Lb>(alloc, plan, found, bytes, out),
+        Program::Back(found) => put_body::<Back>(alloc, plan, found, bytes, out),
+    }
+}
+
+/// What is to be read, as `AT args|results PROGRAM NUMBER` says.
+fn plan_of(front: &str) -> Option<Plan> {
+    let (at, rest) = split(front, ' ');
+    let (kind, rest) = split(rest, ' ');
+    let (program, number) = split(rest, ' ');
+    match of_number(program, number.trim_end()) {
+        Some(program) => Some(Plan {
+            at: number_of(at),
+            is_call: kind == "args",
+            program,
+        }),
+        None => None,
+    }
 }
 
 /// `AT args|results PROGRAM NUMBER : BYTES`: what stands there behind a header of `AT` bytes, and
 /// whether it is spelled so.
-pub fn put(alloc: Global, row: &str, out: &mut String) -> Result<(), AllocError> {
-    let (front, bytes) = parts(row);
-    let bytes = read_bytes(alloc, bytes)?;
-    let words: Vec<&str> = front.split_whitespace().collect(alloc)?;
-    let [at, kind, program, number] = words.as_slice() else {
-        return out.push_str(" no row");
-    };
-    let at = at.parse::<u32>().unwrap_or(0);
-    let is_call = *kind == "args";
-    match of_number(program, number.parse::<u32>().unwrap_or(99)) {
-        Some(Program::Nfs(found)) => {
-            put_body::<nfs3_calls::message::Nfs>(alloc, found, is_call, at, bytes.as_slice(), out)
-        }
-        Some(Program::Lb(found)) => {
-            put_body::<hash_calls::message::Lb>(alloc, found, is_call, at, bytes.as_slice(), out)
-        }
-        Some(Program::Back(found)) => {
-            put_body::<hash_calls::message::Back>(alloc, found, is_call, at, bytes.as_slice(), out)
-        }
-        None => out.push_str(" no procedure"),
+pub fn put(alloc: Global, row: &str, out: &mut Out) {
+    let (front, bytes) = split(row, ':');
+    let bytes = read_bytes(alloc, bytes, out);
+    match plan_of(front) {
+        Some(plan) => put_planned(alloc, plan, bytes.as_slice(), out),
+        None => out.text(" no procedure"),
     }
 }

@@ -1,94 +1,92 @@
 //! Arguments and results of LBFS and of the callback program as they are printed.
 
+use crate::out::Out;
 use crate::values::Put;
 use hash_calls::call::{
     Commit, Committed, CondPiece, HashRange, Hashes, Leased, NewTemp, Pair, TempPiece,
 };
 use hash_calls::message::{Back, Lb};
 use lb_base::items::Items;
-use std::alloc::AllocError;
-use std::fmt::Write;
 
 impl Put for Leased {
-    fn put(&self, out: &mut String) -> Result<(), AllocError> {
-        self.attr.put(out)?;
-        self.version.put(out)?;
+    fn put(&self, out: &mut Out) {
+        self.attr.put(out);
+        self.version.put(out);
         self.term.put(out)
     }
 }
 
 impl Put for HashRange {
-    fn put(&self, out: &mut String) -> Result<(), AllocError> {
-        self.handle.put(out)?;
-        self.offset.put(out)?;
+    fn put(&self, out: &mut Out) {
+        self.handle.put(out);
+        self.offset.put(out);
         self.count.put(out)
     }
 }
 
 impl Put for Items<Pair> {
-    fn put(&self, out: &mut String) -> Result<(), AllocError> {
-        write!(out, " {}", self.len())?;
+    fn put(&self, out: &mut Out) {
+        out.number(self.len() as u64);
         for pair in self.as_slice() {
-            pair.digest.put(out)?;
-            pair.size.put(out)?;
+            pair.digest.put(out);
+            pair.size.put(out);
         }
-        Ok(())
     }
 }
 
 impl Put for Hashes {
-    fn put(&self, out: &mut String) -> Result<(), AllocError> {
-        self.version.put(out)?;
-        self.term.put(out)?;
-        self.size.put(out)?;
-        self.pairs.put(out)?;
+    fn put(&self, out: &mut Out) {
+        self.version.put(out);
+        self.term.put(out);
+        self.size.put(out);
+        self.pairs.put(out);
         self.eof.put(out)
     }
 }
 
 impl Put for NewTemp {
-    fn put(&self, out: &mut String) -> Result<(), AllocError> {
-        self.fd.put(out)?;
+    fn put(&self, out: &mut Out) {
+        self.fd.put(out);
         self.handle.put(out)
     }
 }
 
 impl Put for TempPiece {
-    fn put(&self, out: &mut String) -> Result<(), AllocError> {
-        self.fd.put(out)?;
-        self.offset.put(out)?;
+    fn put(&self, out: &mut Out) {
+        self.fd.put(out);
+        self.offset.put(out);
         self.bytes.put(out)
     }
 }
 
 impl Put for CondPiece {
-    fn put(&self, out: &mut String) -> Result<(), AllocError> {
-        self.fd.put(out)?;
-        self.offset.put(out)?;
-        self.count.put(out)?;
+    fn put(&self, out: &mut Out) {
+        self.fd.put(out);
+        self.offset.put(out);
+        self.count.put(out);
         self.digest.put(out)
     }
 }
 
 impl Put for Commit {
-    fn put(&self, out: &mut String) -> Result<(), AllocError> {
-        self.fd.put(out)?;
-        self.handle.put(out)?;
+    fn put(&self, out: &mut Out) {
+        self.fd.put(out);
+        self.handle.put(out);
         self.size.put(out)
     }
 }
 
 impl Put for Committed {
-    fn put(&self, out: &mut String) -> Result<(), AllocError> {
-        self.version.put(out)?;
+    fn put(&self, out: &mut Out) {
+        self.version.put(out);
         self.term.put(out)
     }
 }
 
 impl Put for Lb {
-    fn put(&self, out: &mut String) -> Result<(), AllocError> {
+    fn put(&self, out: &mut Out) {
         match self {
-            Lb::Null | Lb::NullAnswer => Ok(()),
+            Lb::Null | Lb::NullAnswer => (),
             Lb::GetLease(handle) => handle.put(out),
             Lb::GetLeaseAnswer(answer) => answer.put(out),
             Lb::GetHash(range) => range.put(out),
@@ -106,10 +104,10 @@ impl Put for Lb {
 }
 
 impl Put for Back {
-    fn put(&self, out: &mut String) -> Result<(), AllocError> {
+    fn put(&self, out: &mut Out) {
         match self {
             Back::Recall(handle) => handle.put(out),
-            Back::Null | Back::NullAnswer | Back::RecallAnswer => Ok(()),
+            Back::Null | Back::NullAnswer | Back::RecallAnswer => (),
         }
     }
 }

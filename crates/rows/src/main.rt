@@ -10,6 +10,7 @@ mod headers;
 mod items;
 mod lbfs_values;
 mod nfs_values;
+mod out;
 mod procedures;
 mod records;
 mod shown;
@@ -17,6 +18,7 @@ mod streams;
 mod text;
 mod values;
 
+use out::Out;
 use std::alloc::{AllocError, Global};
 use std::{fs, io};
 
@@ -55,14 +57,14 @@ const FILES: [(&str, Kind); 9] = [
 ];
 
 /// What comes of a row.
-fn put_row(alloc: Global, kind: Kind, row: &str, out: &mut String) -> Result<(), AllocError> {
+fn put_row(alloc: Global, kind: Kind, row: &str, out: &mut Out) {
     match kind {
         Kind::Items => items::put(alloc, row, out),
         Kind::Handles => handles::put(alloc, row, out),
         Kind::Streams => streams::put(alloc, row, out),
         Kind::Headers => headers::put(alloc, row, out),
         Kind::Bodies => bodies::put(alloc, row, out),
-        Kind::Procedures => procedures::put(alloc, row, out),
+        Kind::Procedures => procedures::put(row, out),
         Kind::Records => records::put(alloc, row, out),
         Kind::Shown => shown::put(alloc, row, out),
     }
@@ -74,24 +76,23 @@ fn is_remark(row: &str) -> bool {
 }
 
 /// Each row of a text, and what comes of it.
-fn put_rows(alloc: Global, kind: Kind, text: &str, out: &mut String) -> Result<(), AllocError> {
+fn rows_of(alloc: Global, kind: Kind, text: &str) -> Result<String, AllocError> {
+    let mut out = Out::new(alloc);
     for row in text.lines() {
         if !is_remark(row) {
-            out.push_str(row)?;
-            out.push_str(" =>")?;
-            put_row(alloc, kind, row, out)?;
-            out.push_str("\n")?;
+            out.text(row);
+            out.text(" =>");
+            put_row(alloc, kind, row, &mut out);
+            out.text("\n");
         }
     }
-    Ok(())
+    out.done()
 }
 
 /// What comes of all rows of a file.
 fn print_file(rt: &HostRuntime, name: &str, kind: Kind) -> io::Result<()> {
-    let alloc = rt.alloc();
     let text = fs::read_to_string(rt, name)?;
-    let mut out = String::new(alloc);
-    put_rows(alloc, kind, text.as_str(), &mut out)?;
+    let out = rows_of(rt.alloc(), kind, text.as_str())?;
     println!(rt; "== {name}")?;
     print!(rt; "{out}")
 }

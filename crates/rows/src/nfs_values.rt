@@ -1,5 +1,6 @@
 //! Arguments and results of NFS version 3 as they are printed.
 
+use crate::out::Out;
 use crate::values::{Put, put_numbers};
 use lb_base::items::Items;
 use nfs3_calls::call::{Access, Granted, Piece, Range};
@@ -9,90 +10,89 @@ use nfs3_calls::listing::{Entry, ListRange, Listing};
 use nfs3_calls::making::{HowMade, Made, NewDir, NewFile, SetAttr, SetTime};
 use nfs3_calls::message::Nfs;
 use nfs3_calls::place::{Found, Place, Rename};
-use std::alloc::AllocError;
 
 impl Put for Place {
-    fn put(&self, out: &mut String) -> Result<(), AllocError> {
-        self.dir.put(out)?;
+    fn put(&self, out: &mut Out) {
+        self.dir.put(out);
         self.name.put(out)
     }
 }
 
 impl Put for Found {
-    fn put(&self, out: &mut String) -> Result<(), AllocError> {
-        self.handle.put(out)?;
-        self.attr.put(out)?;
+    fn put(&self, out: &mut Out) {
+        self.handle.put(out);
+        self.attr.put(out);
         self.dir.put(out)
     }
 }
 
 impl Put for Rename {
-    fn put(&self, out: &mut String) -> Result<(), AllocError> {
-        self.from.put(out)?;
+    fn put(&self, out: &mut Out) {
+        self.from.put(out);
         self.to.put(out)
     }
 }
 
 impl Put for Access {
-    fn put(&self, out: &mut String) -> Result<(), AllocError> {
-        self.handle.put(out)?;
+    fn put(&self, out: &mut Out) {
+        self.handle.put(out);
         self.bits.put(out)
     }
 }
 
 impl Put for Granted {
-    fn put(&self, out: &mut String) -> Result<(), AllocError> {
-        self.attr.put(out)?;
+    fn put(&self, out: &mut Out) {
+        self.attr.put(out);
         self.bits.put(out)
     }
 }
 
 impl Put for Range {
-    fn put(&self, out: &mut String) -> Result<(), AllocError> {
-        self.handle.put(out)?;
-        self.offset.put(out)?;
+    fn put(&self, out: &mut Out) {
+        self.handle.put(out);
+        self.offset.put(out);
         self.count.put(out)
     }
 }
 
 impl Put for Piece {
-    fn put(&self, out: &mut String) -> Result<(), AllocError> {
-        self.attr.put(out)?;
-        self.count.put(out)?;
-        self.eof.put(out)?;
+    fn put(&self, out: &mut Out) {
+        self.attr.put(out);
+        self.count.put(out);
+        self.eof.put(out);
         self.bytes.put(out)
     }
 }
 
 impl Put for Before {
-    fn put(&self, out: &mut String) -> Result<(), AllocError> {
-        self.size.put(out)?;
-        self.mtime.put(out)?;
+    fn put(&self, out: &mut Out) {
+        self.size.put(out);
+        self.mtime.put(out);
         self.ctime.put(out)
     }
 }
 
 impl Put for Wcc {
-    fn put(&self, out: &mut String) -> Result<(), AllocError> {
-        self.before.put(out)?;
+    fn put(&self, out: &mut Out) {
+        self.before.put(out);
         self.after.put(out)
     }
 }
 
 impl Put for Moved {
-    fn put(&self, out: &mut String) -> Result<(), AllocError> {
-        self.from.put(out)?;
+    fn put(&self, out: &mut Out) {
+        self.from.put(out);
         self.to.put(out)
     }
 }
 
 impl Put for SetTime {
-    fn put(&self, out: &mut String) -> Result<(), AllocError> {
+    fn put(&self, out: &mut Out) {
         match self {
-            SetTime::Keep => out.push_str(" 0"),
-            SetTime::Server => out.push_str(" 1"),
+            SetTime::Keep => out.text(" 0"),
+            SetTime::Server => out.text(" 1"),
             SetTime::Client(time) => {
-                out.push_str(" 2")?;
+                out.text(" 2");
                 time.put(out)
             }
         }
@@ -100,29 +100,29 @@ impl Put for SetTime {
 }
 
 impl Put for SetAttr {
-    fn put(&self, out: &mut String) -> Result<(), AllocError> {
-        self.mode.put(out)?;
-        self.uid.put(out)?;
-        self.gid.put(out)?;
-        self.size.put(out)?;
-        self.atime.put(out)?;
+    fn put(&self, out: &mut Out) {
+        self.mode.put(out);
+        self.uid.put(out);
+        self.gid.put(out);
+        self.size.put(out);
+        self.atime.put(out);
         self.mtime.put(out)
     }
 }
 
 impl Put for HowMade {
-    fn put(&self, out: &mut String) -> Result<(), AllocError> {
+    fn put(&self, out: &mut Out) {
         match self {
             HowMade::Unchecked(attr) => {
-                out.push_str(" 0")?;
+                out.text(" 0");
                 attr.put(out)
             }
             HowMade::Guarded(attr) => {
-                out.push_str(" 1")?;
+                out.text(" 1");
                 attr.put(out)
             }
             HowMade::Exclusive(verifier) => {
-                out.push_str(" 2")?;
+                out.text(" 2");
                 verifier.put(out)
             }
         }
@@ -130,59 +130,59 @@ impl Put for HowMade {
 }
 
 impl Put for NewFile {
-    fn put(&self, out: &mut String) -> Result<(), AllocError> {
-        self.place.put(out)?;
+    fn put(&self, out: &mut Out) {
+        self.place.put(out);
         self.how.put(out)
     }
 }
 
 impl Put for NewDir {
-    fn put(&self, out: &mut String) -> Result<(), AllocError> {
-        self.place.put(out)?;
+    fn put(&self, out: &mut Out) {
+        self.place.put(out);
         self.attr.put(out)
     }
 }
 
 impl Put for Made {
-    fn put(&self, out: &mut String) -> Result<(), AllocError> {
-        self.handle.put(out)?;
-        self.attr.put(out)?;
+    fn put(&self, out: &mut Out) {
+        self.handle.put(out);
+        self.attr.put(out);
         self.dir.put(out)
     }
 }
 
 impl Put for ListRange {
-    fn put(&self, out: &mut String) -> Result<(), AllocError> {
-        self.dir.put(out)?;
-        self.cookie.put(out)?;
-        self.verifier.put(out)?;
+    fn put(&self, out: &mut Out) {
+        self.dir.put(out);
+        self.cookie.put(out);
+        self.verifier.put(out);
         self.count.put(out)
     }
 }
 
 impl Put for Items<Entry> {
-    fn put(&self, out: &mut String) -> Result<(), AllocError> {
+    fn put(&self, out: &mut Out) {
         for entry in self.as_slice() {
-            out.push_str(" true")?;
-            entry.fileid.put(out)?;
-            entry.name.put(out)?;
-            entry.cookie.put(out)?;
+            out.text(" true");
+            entry.fileid.put(out);
+            entry.name.put(out);
+            entry.cookie.put(out);
         }
-        out.push_str(" false")
+        out.text(" false")
     }
 }
 
 impl Put for Listing {
-    fn put(&self, out: &mut String) -> Result<(), AllocError> {
-        self.attr.put(out)?;
-        self.verifier.put(out)?;
-        self.entries.put(out)?;
+    fn put(&self, out: &mut Out) {
+        self.attr.put(out);
+        self.verifier.put(out);
+        self.entries.put(out);
         self.eof.put(out)
     }
 }
 
 impl Put for Sizes {
-    fn put(&self, out: &mut String) -> Result<(), AllocError> {
+    fn put(&self, out: &mut Out) {
         put_numbers(
             out,
             &[
@@ -195,21 +195,21 @@ impl Put for Sizes {
 }
 
 impl Put for FsInfo {
-    fn put(&self, out: &mut String) -> Result<(), AllocError> {
-        self.attr.put(out)?;
-        self.reading.put(out)?;
-        self.writing.put(out)?;
-        self.dtpref.put(out)?;
-        self.maxfilesize.put(out)?;
-        self.time_delta.put(out)?;
+    fn put(&self, out: &mut Out) {
+        self.attr.put(out);
+        self.reading.put(out);
+        self.writing.put(out);
+        self.dtpref.put(out);
+        self.maxfilesize.put(out);
+        self.time_delta.put(out);
         self.properties.put(out)
     }
 }
 
 impl Put for Nfs {
-    fn put(&self, out: &mut String) -> Result<(), AllocError> {
+    fn put(&self, out: &mut Out) {
         match self {
-            Nfs::Null | Nfs::NullAnswer => Ok(()),
+            Nfs::Null | Nfs::NullAnswer => (),
             Nfs::GetAttr(handle) => handle.put(out),
             Nfs::GetAttrAnswer(answer) => answer.put(out),
             Nfs::Lookup(place) => place.put(out),

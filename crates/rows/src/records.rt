@@ -1,20 +1,21 @@
 //! Whole records as messages.
 
+use crate::out::Out;
 use crate::procedures::of_number;
-use crate::text::{parts, put_bytes, read_bytes};
+use crate::text::{number_of, put_same, read_bytes, split};
 use crate::values::Put;
 use lb_base::items::Items;
-use std::alloc::{AllocError, Global};
-use std::fmt::Write;
+use std::alloc::Global;
 use wire::fault::WireErr;
 use wire::message::{Body, Message, Pending, Side, Waiting};
 use wire::parse::parse;
 use wire::spell::spell;
 
 impl Put for Body {
-    fn put(&self, out: &mut String) -> Result<(), AllocError> {
+    fn put(&self, out: &mut Out) {
         let program = self.program();
-        write!(out, " {} {}", program.number(), program.procedure())?;
+        out.number(u64::from(program.number()));
+        out.number(u64::from(program.procedure()));
         match self {
             Body::Nfs(message) => message.put(out),
             Body::Lb(message) => message.put(out),
@@ -25,76 +26,90 @@ impl Put for Body {
 
 /// A call that waits, as `XID=PROGRAM.NUMBER` says.
 fn pending(word: &str) -> Option<Pending> {
-    let (xid, rest) = word.split_once('=')?;
-    let (program, number) = rest.split_once('.')?;
-    let xid = xid.parse::<u32>().unwrap_or(0);
-    let program = of_number(program, number.parse::<u32>().unwrap_or(99))?;
-    Some(Pending { xid, program })
+    let (xid, rest) = split(word, '=');
+    let (program, number) = split(rest, '.');
+    match of_number(program, number) {
+        Some(program) => Some(Pending {
+            xid: number_of(xid),
+            program,
+        }),
+        None => None,
+    }
 }
 
-/// What is expected, as `SIDE XID=PROGRAM.NUMBER ..` says.
-fn waiting(alloc: Global, front: &str) -> Result<Waiting, AllocError> {
-    let side = if front.starts_with("server") {
-        Side::Server
-    } else if front.starts_with("client") {
-        Side::Client
-    } else {
-        Side::Either
-    };
+/// The calls that wait, as `SIDE XID=PROGRAM.NUMBER ..` says.
+fn calls_of(alloc: Global, front: &str, out: &mut Out) -> Items<Pending> {
     let mut calls = Items::new(alloc);
     for word in front.split_whitespace() {
         if let Some(call) = pending(word) {
-            calls.push(call)?;
+            if calls.push(call).is_err() {
+                out.lack();
+            }
         }
     }
-    Ok(Waiting { side, calls })
+    calls
 }
 
-fn put_message(out: &mut String, message: &Message) -> Result<(), AllocError> {
+/// The side that reads.
+fn side_of(front: &str) -> Side {
+    if front.starts_with("server") {
+        return Side::Server;
+    }
+    if front.starts_with("client") {
+        return Side::Client;
+    }
+    Side::Either
+}
+
+fn put_message(out: &mut Out, message: &Message) {
     match message {
         Message::Call(xid, body) => {
-            write!(out, " Call {xid}")?;
+            out.text(" Call");
+            out.number(u64::from(*xid));
             body.put(out)
         }
         Message::Answer(xid, body) => {
-            write!(out, " Answer {xid}")?;
+            out.text(" Answer");
+            out.number(u64::from(*xid));
             body.put(out)
         }
-        Message::Refuse(xid, why) => write!(out, " Refuse {xid} {why:?}"),
-        Message::Unfit(xid, why) => write!(out, " Unfit {xid} {why:?}"),
+        Message::Refuse(xid, why) => {
+            out.text(" Refuse");
+            out.number(u64::from(*xid));
+            out.name(why)
+        }
+        Message::Unfit(xid, why) => {
+            out.text(" Unfit");
+            out.number(u64::from(*xid));
+            out.name(why)
+        }
     }
 }
 
 /// What was read, and what is sent of it: the same, or other bytes.
-fn put_read(
-    alloc: Global,
-    read: &Result<Message, WireErr>,
-    record: &[u8],
-    out: &mut String,
-) -> Result<(), AllocError> {
+fn put_read(alloc: Global, read: &Result<Message, WireErr>, record: &[u8], out: &mut Out) {
     match read {
         Ok(message) => {
-            put_message(out, message)?;
-            let sent = spell(alloc, message)?;
-            if sent.as_slice() == record {
-                return out.push_str("; same");
+            put_message(out, message);
+            match spell(alloc, message) {
+                Ok(sent) => put_same(out, sent.as_slice(), record),
+                Err(_) => out.lack(),
             }
-            out.push_str(";")?;
-            put_bytes(out, sent.as_slice())
         }
-        Err(WireErr::Fault(fault)) => write!(out, " {fault:?}"),
-        Err(WireErr::Memory) => Err(AllocError),
+        Err(WireErr::Fault(fault)) => out.name(fault),
+        Err(WireErr::Memory) => out.lack(),
     }
 }
 
 /// `SIDE XID=PROGRAM.NUMBER .. : BYTES`: the message that the record is where this side reads it and
 /// these calls wait, and what is sent of it.
-pub fn put(alloc: Global, row: &str, out: &mut String) -> Result<(), AllocError> {
-    let (front, bytes) = parts(row);
-    let expected = waiting(alloc, front)?;
-    let record = read_bytes(alloc, bytes)?;
+pub fn put(alloc: Global, row: &str, out: &mut Out) {
+    let (front, bytes) = split(row, ':');
+    let side = side_of(front);
+    let calls = calls_of(alloc, front, out);
+    let expected = Waiting { side, calls };
+    let record = read_bytes(alloc, bytes, out);
     let read = parse(alloc, record.as_slice(), &expected);
-    let done = put_read(alloc, &read, record.as_slice(), out);
-    drop(read);
-    done
+    put_read(alloc, &read, record.as_slice(), out);
+    drop(read)
 }

@@ -1,20 +1,27 @@
 //! Streams as they are shown.
 
+use crate::out::Out;
 use crate::text::read_bytes;
 use record_show::show::shown;
-use std::alloc::{AllocError, Global};
+use std::alloc::Global;
 
-/// `BYTES`: the lines that are shown of them, each behind a blank and with a `;` for its end.
-pub fn put(alloc: Global, row: &str, out: &mut String) -> Result<(), AllocError> {
-    let bytes = read_bytes(alloc, row)?;
-    let lines = shown(alloc, bytes.as_slice())?;
-    let Ok(text) = String::from_utf8(lines.into_vec()) else {
-        return out.push_str(" no text");
-    };
+/// The lines of a text, each behind a blank and with a `;` for its end.
+fn put_lines(text: &str, out: &mut Out) {
     for line in text.lines() {
-        out.push_str(" ")?;
-        out.push_str(line)?;
-        out.push_str(";")?;
+        out.text(" ");
+        out.text(line);
+        out.text(";");
     }
-    Ok(())
+}
+
+/// `BYTES`: the lines that are shown of them.
+pub fn put(alloc: Global, row: &str, out: &mut Out) {
+    let bytes = read_bytes(alloc, row, out);
+    match shown(alloc, bytes.as_slice()) {
+        Ok(lines) => match str::from_utf8(lines.as_slice()) {
+            Ok(text) => put_lines(text, out),
+            Err(_) => out.text(" no text"),
+        },
+        Err(_) => out.lack(),
+    }
 }

@@ -1,54 +1,62 @@
 //! Streams of records, and records that are marked.
 
-use crate::text::{put_bytes, read_bytes};
+use crate::out::Out;
+use crate::text::{put_bytes, read_bytes, split};
 use lb_base::items::Bytes;
 use rpc_record::marking::{mark, mark_in_place};
 use rpc_record::records::{Fed, Records};
 use rpc_record::refusal::MarkError;
 use std::alloc::{AllocError, Global};
-use std::fmt::Write;
 
 /// What a piece gave: each record, and the refusal.
-fn put_fed(fed: &Fed, out: &mut String) -> Result<(), AllocError> {
+fn put_fed(fed: &Result<Fed, AllocError>, out: &mut Out) {
+    let Ok(fed) = fed else {
+        return out.lack();
+    };
     for record in fed.records.as_slice() {
-        put_bytes(out, record.as_slice())?;
+        put_bytes(out, record.as_slice());
     }
-    match fed.spoilt {
-        Some(refusal) => write!(out, " {refusal:?}"),
-        None => Ok(()),
+    if let Some(refusal) = fed.spoilt {
+        out.name(&refusal);
     }
 }
 
-/// The pieces of a stream, one behind the other, each by reference or by value.
-fn put_pieces(
-    alloc: Global,
-    pieces: &str,
-    by_value: bool,
-    out: &mut String,
-) -> Result<(), AllocError> {
+/// How many bytes are kept.
+fn put_rest(records: &Records, out: &mut Out) {
+    out.text(" rest");
+    out.number(records.rest_len() as u64)
+}
+
+/// The pieces of a stream, one behind the other, each by reference.
+fn put_pieces(alloc: Global, pieces: &str, out: &mut Out) {
     let mut records = Records::new(alloc);
     for piece in pieces.split('|') {
-        let piece = read_bytes(alloc, piece)?;
-        let fed = if by_value {
-            records.take(alloc, piece)?
-        } else {
-            records.feed(alloc, piece.as_slice())?
-        };
-        put_fed(&fed, out)?;
-        out.push_str(" |")?;
+        let piece = read_bytes(alloc, piece, out);
+        put_fed(&records.feed(alloc, piece.as_slice()), out);
+        out.text(" |");
     }
-    write!(out, " rest {}", records.rest_len())
+    put_rest(&records, out)
+}
+
+/// The same by value.
+fn put_taken(alloc: Global, pieces: &str, out: &mut Out) {
+    let mut records = Records::new(alloc);
+    for piece in pieces.split('|') {
+        let piece = read_bytes(alloc, piece, out);
+        put_fed(&records.take(alloc, piece), out);
+        out.text(" |");
+    }
+    put_rest(&records, out)
 }
 
 /// A stream, byte by byte.
-fn put_single(alloc: Global, bytes: &str, out: &mut String) -> Result<(), AllocError> {
-    let bytes = read_bytes(alloc, bytes)?;
+fn put_single(alloc: Global, bytes: &str, out: &mut Out) {
+    let bytes = read_bytes(alloc, bytes, out);
     let mut records = Records::new(alloc);
     for byte in bytes.as_slice() {
-        let fed = records.feed(alloc, &[*byte])?;
-        put_fed(&fed, out)?;
+        put_fed(&records.feed(alloc, &[*byte]), out);
     }
-    write!(out, " rest {}", records.rest_len())
+    put_rest(&records, out)
 }
 
 /// A record behind four bytes, marked where it stands.
@@ -62,31 +70,32 @@ fn marked_in_place(alloc: Global, contents: &[u8]) -> Result<Bytes, MarkError> {
     }
 }
 
-/// A record in its one fragment, and whether it is marked so where it stands.
-fn put_marked(alloc: Global, bytes: &str, out: &mut String) -> Result<(), AllocError> {
-    let bytes = read_bytes(alloc, bytes)?;
-    let marked = mark(alloc, bytes.as_slice());
-    let is_same = marked == marked_in_place(alloc, bytes.as_slice());
+/// The record, or why it is none.
+fn put_record(marked: &Result<Bytes, MarkError>, out: &mut Out) {
     match marked {
-        Ok(marked) => put_bytes(out, marked.as_slice())?,
-        Err(MarkError::Memory) => return Err(AllocError),
-        Err(error) => write!(out, " {error:?}")?,
+        Ok(marked) => put_bytes(out, marked.as_slice()),
+        Err(MarkError::Memory) => out.lack(),
+        Err(error) => out.name(error),
     }
-    out.push_str(if is_same { "; same" } else { "; other" })
+}
+
+/// A record in its one fragment, and whether it is marked so where it stands.
+fn put_marked(alloc: Global, bytes: &str, out: &mut Out) {
+    let bytes = read_bytes(alloc, bytes, out);
+    let marked = mark(alloc, bytes.as_slice());
+    put_record(&marked, out);
+    let is_same = marked == marked_in_place(alloc, bytes.as_slice());
+    out.text(if is_same { "; same" } else { "; other" })
 }
 
 /// `feed BYTES | BYTES ..`: the records that each piece gives, and the refusal. `take ..`: the same of
 /// pieces by value. `single BYTES`: the same byte by byte. `mark BYTES`: the record in its fragment.
-pub fn put(alloc: Global, row: &str, out: &mut String) -> Result<(), AllocError> {
-    let (word, bytes) = row.split_once(' ').unwrap_or((row, ""));
-    if word == "feed" {
-        return put_pieces(alloc, bytes, false, out);
+pub fn put(alloc: Global, row: &str, out: &mut Out) {
+    let (word, bytes) = split(row, ' ');
+    match word {
+        "feed" => put_pieces(alloc, bytes, out),
+        "take" => put_taken(alloc, bytes, out),
+        "single" => put_single(alloc, bytes, out),
+        _ => put_marked(alloc, bytes, out),
     }
-    if word == "take" {
-        return put_pieces(alloc, bytes, true, out);
-    }
-    if word == "single" {
-        return put_single(alloc, bytes, out);
-    }
-    put_marked(alloc, bytes, out)
 }

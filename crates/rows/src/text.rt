@@ -1,65 +1,72 @@
 //! Bytes as rows write them, and as they are printed.
 
+use crate::out::Out;
+use hex::FromHexError;
 use lb_base::items::{Bytes, Items};
-use std::alloc::{AllocError, Global};
-use std::fmt::Write;
+use std::alloc::Global;
 
 /// How many equal bytes are printed as one run.
-const LEAST_RUN: usize = 8;
+const LEAST_RUN: u64 = 8;
 
-/// So many times the byte, as `COUNT*BYTE` says.
-fn push_run(alloc: Global, run: &str, bytes: &mut Vec<u8>) -> Result<(), AllocError> {
-    let (count, byte) = run.split_once('*').unwrap_or(("0", ""));
-    let Ok(byte) = hex::decode(alloc, byte) else {
-        return Ok(());
-    };
-    for _ in 0..count.parse::<u32>().unwrap_or(0) {
-        bytes.extend_from_slice(byte.as_slice())?;
+/// The digits of so many times the byte, as `COUNT*BYTE` says.
+fn put_repeated(run: &str, digits: &mut Out) {
+    let (count, byte) = split(run, '*');
+    for _ in 0..number_of(count) {
+        digits.text(byte);
     }
-    Ok(())
 }
 
-/// The bytes that a word stands for: digits in hexadecimal, or a run, `[2047*00]`.
-fn push_word(alloc: Global, word: &str, bytes: &mut Vec<u8>) -> Result<(), AllocError> {
-    if let Some(run) = word.strip_prefix('[') {
-        return push_run(alloc, run.strip_suffix(']').unwrap_or(run), bytes);
+/// The digits that a word stands for: its own, or those of a run, `[2047*00]`.
+fn put_word(word: &str, digits: &mut Out) {
+    match word.strip_prefix('[') {
+        Some(run) => put_repeated(run.strip_suffix(']').unwrap_or(run), digits),
+        None => digits.text(word),
     }
-    match hex::decode(alloc, word) {
-        Ok(more) => bytes.extend_from_slice(more.as_slice()),
-        Err(_) => Ok(()),
+}
+
+/// The bytes that these digits in hexadecimal are; none where they are none of any.
+fn of_digits(alloc: Global, digits: Out, out: &mut Out) -> Bytes {
+    let Ok(digits) = digits.done() else {
+        out.lack();
+        return Bytes::new(alloc);
+    };
+    match hex::decode(alloc, digits.as_str()) {
+        Ok(bytes) => return Items::from_vec(bytes),
+        Err(FromHexError::OutOfMemory) => out.lack(),
+        Err(_) => (),
     }
+    Bytes::new(alloc)
 }
 
 /// The bytes that the words of a text stand for.
-pub fn read_bytes(alloc: Global, text: &str) -> Result<Bytes, AllocError> {
-    let mut bytes = Vec::new(alloc);
+pub fn read_bytes(alloc: Global, text: &str, out: &mut Out) -> Bytes {
+    let mut digits = Out::new(alloc);
     for word in text.split_whitespace() {
-        push_word(alloc, word, &mut bytes)?;
+        put_word(word, &mut digits);
     }
-    Ok(Items::from_vec(bytes))
+    of_digits(alloc, digits, out)
 }
 
 /// So many times the same byte, in hexadecimal.
-fn put_run(out: &mut String, byte: u8, count: usize) -> Result<(), AllocError> {
+fn put_run(out: &mut Out, byte: u8, count: u64) {
     if count >= LEAST_RUN {
-        return write!(out, "[{count}*{byte:02x}]");
+        return out.run(byte, count);
     }
     for _ in 0..count {
-        write!(out, "{byte:02x}")?;
+        out.byte(byte);
     }
-    Ok(())
 }
 
 /// Bytes in hexadecimal behind a blank and an `x`; eight and more equal ones as a run, `[2047*00]`.
-pub fn put_bytes(out: &mut String, bytes: &[u8]) -> Result<(), AllocError> {
-    out.push_str(" x")?;
+pub fn put_bytes(out: &mut Out, bytes: &[u8]) {
+    out.text(" x");
     let mut last = 0u8;
-    let mut count = 0usize;
+    let mut count = 0u64;
     for byte in bytes {
         if *byte == last {
             count = count.saturating_add(1);
         } else {
-            put_run(out, last, count)?;
+            put_run(out, last, count);
             last = *byte;
             count = 1;
         }
@@ -68,15 +75,20 @@ pub fn put_bytes(out: &mut String, bytes: &[u8]) -> Result<(), AllocError> {
 }
 
 /// That the bytes are those of the row, or which they are.
-pub fn put_same(out: &mut String, written: &[u8], row: &[u8]) -> Result<(), AllocError> {
+pub fn put_same(out: &mut Out, written: &[u8], row: &[u8]) {
     if written == row {
-        return out.push_str("; same");
+        return out.text("; same");
     }
-    out.push_str(";")?;
+    out.text(";");
     put_bytes(out, written)
 }
 
-/// The two parts of a row, before and behind ` : `.
-pub fn parts(row: &str) -> (&str, &str) {
-    row.split_once(':').unwrap_or((row, ""))
+/// A text up to the first such mark, and what stands behind that.
+pub fn split(text: &str, mark: char) -> (&str, &str) {
+    text.split_once(mark).unwrap_or((text, ""))
+}
+
+/// The number that a word is; 0 where it is none.
+pub fn number_of(word: &str) -> u32 {
+    word.parse::<u32>().unwrap_or(0)
 }

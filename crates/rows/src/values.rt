@@ -1,9 +1,8 @@
 //! Values as they are printed: their numbers, truth values and bytes in the order of their spelling.
 
+use crate::out::Out;
 use crate::text::put_bytes;
 use lb_base::items::Items;
-use std::alloc::AllocError;
-use std::fmt::Write;
 use xdr_codec::answer::Answer;
 use xdr_codec::attr::{Attr, Kind, Time};
 use xdr_codec::fault::ReadError;
@@ -13,77 +12,74 @@ use xdr_codec::status;
 /// What is printed.
 pub trait Put {
     /// Prints it, each part behind a blank.
-    fn put(&self, out: &mut String) -> Result<(), AllocError>;
+    fn put(&self, out: &mut Out);
 }
 
 /// Why nothing was read.
-pub fn put_error(out: &mut String, error: &ReadError) -> Result<(), AllocError> {
+pub fn put_error(out: &mut Out, error: &ReadError) {
     match error {
-        ReadError::Memory => Err(AllocError),
-        ReadError::Fault(fault) => write!(out, " {fault:?}"),
+        ReadError::Memory => out.lack(),
+        ReadError::Fault(fault) => out.name(fault),
     }
 }
 
 /// Numbers.
-pub fn put_numbers(out: &mut String, numbers: &[u64]) -> Result<(), AllocError> {
+pub fn put_numbers(out: &mut Out, numbers: &[u64]) {
     for number in numbers {
-        write!(out, " {number}")?;
+        out.number(*number);
     }
-    Ok(())
 }
 
 impl Put for () {
-    fn put(&self, _out: &mut String) -> Result<(), AllocError> {
-        Ok(())
-    }
+    fn put(&self, _out: &mut Out) {}
 }
 
 impl Put for u32 {
-    fn put(&self, out: &mut String) -> Result<(), AllocError> {
-        write!(out, " {self}")
+    fn put(&self, out: &mut Out) {
+        out.number(u64::from(*self))
     }
 }
 
 impl Put for u64 {
-    fn put(&self, out: &mut String) -> Result<(), AllocError> {
-        write!(out, " {self}")
+    fn put(&self, out: &mut Out) {
+        out.number(*self)
     }
 }
 
 impl Put for bool {
-    fn put(&self, out: &mut String) -> Result<(), AllocError> {
-        write!(out, " {self}")
+    fn put(&self, out: &mut Out) {
+        out.text(if *self { " true" } else { " false" })
     }
 }
 
 impl Put for Items<u8> {
-    fn put(&self, out: &mut String) -> Result<(), AllocError> {
+    fn put(&self, out: &mut Out) {
         put_bytes(out, self.as_slice())
     }
 }
 
 impl Put for [u8; 20] {
-    fn put(&self, out: &mut String) -> Result<(), AllocError> {
+    fn put(&self, out: &mut Out) {
         put_bytes(out, self.as_slice())
     }
 }
 
 /// A handle of this file system by its file's number, `#2`.
 impl Put for Handle {
-    fn put(&self, out: &mut String) -> Result<(), AllocError> {
+    fn put(&self, out: &mut Out) {
         match self.file_of() {
-            Some(file) => write!(out, " #{file}"),
+            Some(file) => out.file(file),
             None => put_bytes(out, self.as_slice()),
         }
     }
 }
 
 impl<T: Put> Put for Option<T> {
-    fn put(&self, out: &mut String) -> Result<(), AllocError> {
+    fn put(&self, out: &mut Out) {
         match self {
-            None => out.push_str(" false"),
+            None => out.text(" false"),
             Some(item) => {
-                out.push_str(" true")?;
+                out.text(" true");
                 item.put(out)
             }
         }
@@ -91,14 +87,14 @@ impl<T: Put> Put for Option<T> {
 }
 
 impl<T: Put, F: Put> Put for Answer<T, F> {
-    fn put(&self, out: &mut String) -> Result<(), AllocError> {
+    fn put(&self, out: &mut Out) {
         match self {
             Answer::Done(body) => {
-                out.push_str(" 0")?;
+                out.text(" 0");
                 body.put(out)
             }
             Answer::Failed(status, body) => {
-                status::number(*status).put(out)?;
+                status::number(*status).put(out);
                 body.put(out)
             }
         }
@@ -106,8 +102,8 @@ impl<T: Put, F: Put> Put for Answer<T, F> {
 }
 
 impl Put for Kind {
-    fn put(&self, out: &mut String) -> Result<(), AllocError> {
-        out.push_str(match self {
+    fn put(&self, out: &mut Out) {
+        out.text(match self {
             Kind::File => " 1",
             Kind::Directory => " 2",
         })
@@ -115,14 +111,14 @@ impl Put for Kind {
 }
 
 impl Put for Time {
-    fn put(&self, out: &mut String) -> Result<(), AllocError> {
+    fn put(&self, out: &mut Out) {
         put_numbers(out, &[u64::from(self.seconds), u64::from(self.nanoseconds)])
     }
 }
 
 impl Put for Attr {
-    fn put(&self, out: &mut String) -> Result<(), AllocError> {
-        self.kind.put(out)?;
+    fn put(&self, out: &mut Out) {
+        self.kind.put(out);
         put_numbers(
             out,
             &[
@@ -137,9 +133,9 @@ impl Put for Attr {
                 self.fsid,
                 self.fileid,
             ],
-        )?;
-        self.atime.put(out)?;
-        self.mtime.put(out)?;
+        );
+        self.atime.put(out);
+        self.mtime.put(out);
         self.ctime.put(out)
     }
 }

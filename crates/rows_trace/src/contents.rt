@@ -1,56 +1,87 @@
 //! Contents: how many bytes they have, and which.
 
-use crate::text::put_bytes;
+use crate::out::Out;
+use crate::text::{first, number, put_bytes};
 use command_text::content::{Content, build, length, length_within};
 use command_text::line_err::LineErr;
 use lb_base::items::Bytes;
-use std::alloc::{AllocError, Global};
-use std::fmt::Write;
+use std::alloc::Global;
 use trace_text::line::Line;
 
 /// The most bytes of a content that are printed.
 const MOST_SHOWN: u64 = 131_072;
 
-/// The bytes of a content, or `..` of a long one, which is not built.
-pub fn put_content(alloc: Global, out: &mut String, content: &Content) -> Result<(), AllocError> {
-    if length_within(content, MOST_SHOWN).is_none() {
-        return out.push_str("..");
+/// The bytes of a content; none where memory is wanting.
+fn built(alloc: Global, content: &Content, out: &mut Out) -> Bytes {
+    match build(alloc, content) {
+        Ok(bytes) => bytes,
+        Err(_) => {
+            out.lack();
+            Bytes::new(alloc)
+        }
     }
-    let bytes = build(alloc, content)?;
+}
+
+/// The bytes of a content, or `..` of a long one, which is not built.
+pub fn put_content(alloc: Global, out: &mut Out, content: &Content) {
+    if length_within(content, MOST_SHOWN).is_none() {
+        return out.text("..");
+    }
+    let bytes = built(alloc, content, out);
     put_bytes(out, bytes.as_slice())
 }
 
-/// The content that a word stands for, if it stands for one.
-pub fn content_of(alloc: Global, word: &str) -> Result<Option<Content>, AllocError> {
-    let line = format!(in alloc; "file a {word}")?;
-    match Line::read(alloc, line.as_bytes()) {
-        Ok(
-            Line::File {
-                spot: _spot,
-                content,
-            },
-        ) => Ok(Some(content)),
-        Ok(_) | Err(LineErr::BadLine) => Ok(None),
-        Err(LineErr::Memory) => Err(AllocError),
+/// A line of a trace that has the word for its content.
+fn line_of(alloc: Global, word: &str) -> Result<Line, LineErr> {
+    let mut line = Out::new(alloc);
+    line.text("file a ");
+    line.text(word);
+    match line.done() {
+        Ok(line) => Line::read(alloc, line.as_bytes()),
+        Err(_) => Err(LineErr::Memory),
+    }
+}
+
+/// The content of the line, if it has one.
+fn content_in<'a>(line: &'a Result<Line, LineErr>, out: &mut Out) -> Option<&'a Content> {
+    match line {
+        Ok(Line::File { content, .. }) => Some(content),
+        Err(LineErr::Memory) => {
+            out.lack();
+            None
+        }
+        _ => None,
     }
 }
 
 /// The bytes that a word stands for; none where it stands for no content.
-pub fn bytes_of(alloc: Global, word: &str) -> Result<Bytes, AllocError> {
-    match content_of(alloc, word)? {
-        Some(content) => build(alloc, &content),
-        None => Ok(Bytes::new(alloc)),
-    }
+pub fn bytes_of(alloc: Global, word: &str, out: &mut Out) -> Bytes {
+    let line = line_of(alloc, word);
+    let bytes = match content_in(&line, out) {
+        Some(content) => built(alloc, content, out),
+        None => Bytes::new(alloc),
+    };
+    drop(line);
+    bytes
+}
+
+/// The length of a content, its length where that is at most so many, and its bytes.
+fn put_lengths(alloc: Global, content: &Content, most: u64, out: &mut Out) {
+    out.text("length ");
+    out.value(&length(content));
+    out.text(" within ");
+    out.value(&length_within(content, most));
+    out.text(" ");
+    put_content(alloc, out, content)
 }
 
 /// `WORD MOST`: its length, its length where that is at most so many, and its bytes.
-pub fn put(alloc: Global, row: &str, out: &mut String) -> Result<(), AllocError> {
-    let (word, most) = row.split_once(' ').unwrap_or((row, ""));
-    let Some(content) = content_of(alloc, word)? else {
-        return out.push_str("refused");
-    };
-    let whole = length(&content);
-    let within = length_within(&content, most.parse::<u64>().unwrap_or(0));
-    write!(out, "length {whole:?} within {within:?} ")?;
-    put_content(alloc, out, &content)
+pub fn put(alloc: Global, row: &str, out: &mut Out) {
+    let (word, most) = first(row);
+    let line = line_of(alloc, word);
+    match content_in(&line, out) {
+        Some(content) => put_lengths(alloc, content, number(most), out),
+        None => out.text("refused"),
+    }
+    drop(line)
 }

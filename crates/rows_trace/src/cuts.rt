@@ -1,20 +1,30 @@
 //! Cuts of contents, whole and in pieces.
 
 use crate::contents::bytes_of;
+use crate::out::Out;
 use chunk_cut::chunk::Chunk;
 use chunk_cut::cutter::Cutter;
 use chunk_cut::{cut, digest};
 use std::alloc::{AllocError, Global};
-use std::fmt::Write;
+
+/// A digest.
+fn put_digest(out: &mut Out, digest: &[u8; 20]) {
+    for byte in digest {
+        out.byte(*byte);
+    }
+}
 
 /// The chunks, each with its digest.
-fn put_chunks(alloc: Global, chunks: &[Chunk], out: &mut String) -> Result<(), AllocError> {
+fn put_chunks(chunks: &[Chunk], out: &mut Out) {
     for chunk in chunks {
-        let (start, len) = (chunk.start, chunk.len);
-        let name = hex::encode(alloc, chunk.digest.as_slice())?;
-        write!(out, " {start} {len} {name};")?;
+        out.text(" ");
+        out.number(chunk.start as u64);
+        out.text(" ");
+        out.number(chunk.len as u64);
+        out.text(" ");
+        put_digest(out, &chunk.digest);
+        out.text(";");
     }
-    Ok(())
 }
 
 /// Whether the content has these chunks where it comes in three pieces, of which the second has
@@ -42,35 +52,39 @@ fn is_cut_so(
 }
 
 /// How many ways to cut the content into pieces about these places give its chunks.
-fn put_pieces(
-    alloc: Global,
-    content: &[u8],
-    first: usize,
-    out: &mut String,
-) -> Result<(), AllocError> {
-    let whole = cut(alloc, content)?;
-    let mut alike = 0usize;
+fn put_pieces(alloc: Global, content: &[u8], wanted: &[Chunk], first: usize, out: &mut Out) {
+    let mut alike = 0u64;
     for place in first..content.len() + 1 {
         for middle in 0..2usize {
-            if is_cut_so(alloc, content, place, middle, whole.as_slice())? {
-                alike = alike.saturating_add(1);
+            match is_cut_so(alloc, content, place, middle, wanted) {
+                Ok(is_alike) => alike = alike.saturating_add(u64::from(is_alike)),
+                Err(_) => out.lack(),
             }
         }
     }
-    write!(out, " {alike} ways to come in pieces are alike")
+    out.text(" ");
+    out.number(alike);
+    out.text(" ways to come in pieces are alike")
+}
+
+/// The chunks of the content, and how many ways to come in pieces from the place on.
+fn put_cut(alloc: Global, content: &[u8], chunks: &[Chunk], place: &str, out: &mut Out) {
+    out.text("whole ");
+    put_digest(out, &digest(content));
+    out.text(";");
+    put_chunks(chunks, out);
+    if let Ok(first) = place.parse::<usize>() {
+        put_pieces(alloc, content, chunks, first, out);
+    }
 }
 
 /// `WORD`, or `WORD pieces PLACE`: the chunks of the content, and how many ways to come in pieces, cut
 /// at the place or behind it, are cut so too.
-pub fn put(alloc: Global, row: &str, out: &mut String) -> Result<(), AllocError> {
+pub fn put(alloc: Global, row: &str, out: &mut Out) {
     let (word, place) = row.split_once(" pieces ").unwrap_or((row, ""));
-    let content = bytes_of(alloc, word)?;
-    let chunks = cut(alloc, content.as_slice())?;
-    let name = hex::encode(alloc, digest(content.as_slice()).as_slice())?;
-    write!(out, "whole {name};")?;
-    put_chunks(alloc, chunks.as_slice(), out)?;
-    match place.parse::<usize>() {
-        Ok(first) => put_pieces(alloc, content.as_slice(), first, out),
-        Err(_) => Ok(()),
+    let content = bytes_of(alloc, word, out);
+    match cut(alloc, content.as_slice()) {
+        Ok(chunks) => put_cut(alloc, content.as_slice(), chunks.as_slice(), place, out),
+        Err(_) => out.lack(),
     }
 }

@@ -1,6 +1,8 @@
 //! A history and its variants: whether each is legal, by the test and by a plain one beside it; and its
 //! texts.
 
+use crate::out::Out;
+use crate::text::{first, number};
 use crate::{plain, random};
 use chunk_cut::digest;
 use lb_base::items::{Bytes, Items};
@@ -10,7 +12,6 @@ use register_model::op::{Op, Opening, Outcome, Traffic, Word};
 use register_model::text::{summary_text, text};
 use shared_bytes::SharedBytes;
 use std::alloc::{AllocError, Global};
-use std::fmt::Write;
 
 /// The number of steps of each history.
 const STEPS: u64 = 23;
@@ -59,23 +60,46 @@ fn word_of(name: &str) -> Word {
     }
 }
 
+/// A copy of the bytes; none where memory is wanting.
+pub fn copied(alloc: Global, bytes: &[u8], out: &mut Out) -> Bytes {
+    match Bytes::copy_of(alloc, bytes) {
+        Ok(copy) => copy,
+        Err(_) => {
+            out.lack();
+            Bytes::new(alloc)
+        }
+    }
+}
+
+/// The value that these bytes are; none where memory is wanting.
+pub fn value(alloc: Global, bytes: &[u8], out: &mut Out) -> SharedBytes {
+    match SharedBytes::new(alloc, copied(alloc, bytes, out)) {
+        Ok(value) => value,
+        Err(_) => {
+            out.lack();
+            SharedBytes::empty()
+        }
+    }
+}
+
 /// How it ended: a word, or the status of a refusal.
-fn outcome_of(alloc: Global, name: &str, value: &[u8]) -> Result<Outcome, AllocError> {
+fn outcome_of(alloc: Global, name: &str, value: &[u8], out: &mut Out) -> Outcome {
     let len = value.len() as u64;
-    let sha1 = Bytes::copy_of(alloc, digest(value).as_slice())?;
-    let outcome = match name {
-        "Opened" => Outcome::Opened { len, sha1 },
+    match name {
+        "Opened" => Outcome::Opened {
+            len,
+            sha1: copied(alloc, digest(value).as_slice(), out),
+        },
         "Closed" => Outcome::Closed {
             version: 2,
             len,
-            sha1,
+            sha1: copied(alloc, digest(value).as_slice(), out),
         },
         "Done" => Outcome::Done,
         "Lost" => Outcome::Lost,
         "Running" => Outcome::Running,
         status => Outcome::Refused(status.parse::<u32>().unwrap_or(0)),
-    };
-    Ok(outcome)
+    }
 }
 
 /// The bytes of a value; `-` is none.
@@ -84,160 +108,169 @@ fn value_of(name: &str) -> &[u8] {
 }
 
 /// `WORD FILE BEGIN END POINT OUTCOME VALUE`, with `-` where there is none.
-fn read_op(alloc: Global, line: &str) -> Result<Option<Op>, AllocError> {
-    let words: Vec<&str> = line.split_whitespace().collect(alloc)?;
-    let [word, file, begin, end, point, outcome, value] = words.as_slice() else {
-        return Ok(None);
-    };
+fn read_op(alloc: Global, line: &str, out: &mut Out) -> Op {
+    let (word, rest) = first(line);
+    let (file, rest) = first(rest);
+    let (begin, rest) = first(rest);
+    let (end, rest) = first(rest);
+    let (point, rest) = first(rest);
+    let (outcome, name) = first(rest);
     let times = (
-        begin.parse::<u64>().unwrap_or(0),
+        number(begin),
         end.parse::<u64>().ok(),
         point.parse::<u64>().ok(),
     );
-    let bytes = value_of(value);
-    let value = SharedBytes::new(alloc, Bytes::copy_of(alloc, bytes)?)?;
-    let file = file.parse::<u64>().unwrap_or(0);
-    let outcome = outcome_of(alloc, outcome, bytes)?;
-    Ok(Some(op(word_of(word), file, times, outcome, value)))
+    let bytes = value_of(name);
+    let outcome = outcome_of(alloc, outcome, bytes, out);
+    let value = value(alloc, bytes, out);
+    op(word_of(word), number(file), times, outcome, value)
 }
 
 /// Adds an operation. One for which memory is wanting is let go by a call, since the compiler would do
 /// it variant by variant.
-pub fn push_op(ops: &mut Vec<Op>, op: Op) -> Result<(), AllocError> {
-    match ops.push(op) {
-        Ok(()) => Ok(()),
-        Err(failed) => {
-            drop(failed);
-            Err(AllocError)
-        }
+pub fn push_op(ops: &mut Vec<Op>, op: Op, out: &mut Out) {
+    let pushed = ops.push(op);
+    if pushed.is_err() {
+        out.lack();
     }
+    drop(pushed)
 }
 
 /// `FILE CONTENT`: a file that is there at first.
-fn read_file(alloc: Global, line: &str) -> Result<Opening, AllocError> {
-    let (file, content) = line.split_once(' ').unwrap_or((line, "-"));
-    Ok(Opening {
-        file: file.parse::<u64>().unwrap_or(0),
-        content: Bytes::copy_of(alloc, value_of(content))?,
-    })
+fn read_file(alloc: Global, line: &str, out: &mut Out) -> Opening {
+    let (file, content) = first(line);
+    Opening {
+        file: number(file),
+        content: copied(alloc, value_of(content), out),
+    }
 }
 
 /// The files that these lines give.
-pub fn files_of(alloc: Global, lines: &[&str]) -> Result<Items<Opening>, AllocError> {
-    let mut files = Vec::new(alloc);
+pub fn files_of(alloc: Global, lines: &[&str], out: &mut Out) -> Items<Opening> {
+    let mut files = Items::new(alloc);
     for line in lines {
-        files.push(read_file(alloc, line)?)?;
-    }
-    Ok(Items::from_vec(files))
-}
-
-/// The history of the rows, with this line in place of that of the operation with this number, which
-/// counts from 1.
-fn history_of(
-    alloc: Global,
-    rows: &Rows,
-    number: usize,
-    instead: &str,
-) -> Result<History, AllocError> {
-    let mut ops = Vec::new(alloc);
-    for (place, line) in rows.ops.as_slice().iter().enumerate() {
-        let is_other = place.wrapping_add(1) == number;
-        let line = if is_other { instead } else { line };
-        if let Some(op) = read_op(alloc, line)? {
-            push_op(&mut ops, op)?;
+        if files.push(read_file(alloc, line, out)).is_err() {
+            out.lack();
         }
     }
-    Ok(History::new(
-        files_of(alloc, rows.files.as_slice())?,
-        Items::from_vec(ops),
-        STEPS,
-    ))
+    files
+}
+
+/// The operations of the rows, with this line in place of that of the operation with this number,
+/// which counts from 1.
+fn ops_of(alloc: Global, lines: &[&str], number: usize, instead: &str, out: &mut Out) -> Items<Op> {
+    let mut ops = Vec::new(alloc);
+    for (place, line) in lines.iter().enumerate() {
+        let is_other = place.wrapping_add(1) == number;
+        let op = read_op(alloc, if is_other { instead } else { line }, out);
+        push_op(&mut ops, op, out);
+    }
+    Items::from_vec(ops)
+}
+
+/// The history of the rows with these operations.
+fn history_of(alloc: Global, rows: &Rows, number: usize, instead: &str, out: &mut Out) -> History {
+    let files = files_of(alloc, rows.files.as_slice(), out);
+    let ops = ops_of(alloc, rows.ops.as_slice(), number, instead, out);
+    History::new(files, ops, STEPS)
 }
 
 /// Whether a history is legal by the test, and by the plain one.
-pub fn verdicts(alloc: Global, history: History) -> Result<(bool, bool), AllocError> {
+pub fn verdicts(alloc: Global, history: History, out: &mut Out) -> (bool, bool) {
     let plain = plain::is_legal(&history);
-    let indexed = history.indexed(alloc)?;
-    Ok((is_legal(&indexed), plain))
+    match history.indexed(alloc) {
+        Ok(indexed) => (is_legal(&indexed), plain),
+        Err(_) => {
+            out.lack();
+            (false, plain)
+        }
+    }
+}
+
+/// A verdict.
+pub fn put_truth(out: &mut Out, truth: bool) {
+    out.text(if truth { "true" } else { "false" })
 }
 
 /// What both tests say.
-fn put_verdicts(alloc: Global, history: History, out: &mut String) -> Result<(), AllocError> {
-    match verdicts(alloc, history)? {
-        (true, true) => out.push_str("legal"),
-        (false, false) => out.push_str("not legal"),
-        (test, plain) => write!(out, "the test says {test}, and the plain one {plain}"),
+fn put_verdicts(alloc: Global, history: History, out: &mut Out) {
+    let (test, plain) = verdicts(alloc, history, out);
+    if test == plain {
+        return out.text(if test { "legal" } else { "not legal" });
     }
+    out.text("the test says ");
+    put_truth(out, test);
+    out.text(", and the plain one ");
+    put_truth(out, plain)
 }
 
 /// `K OP`: with another operation in the place of the one with this number.
-fn put_variant(alloc: Global, rows: &Rows, row: &str, out: &mut String) -> Result<(), AllocError> {
-    let (number, line) = row.split_once(' ').unwrap_or((row, ""));
+fn put_variant(alloc: Global, rows: &Rows, row: &str, out: &mut Out) {
+    let (number, line) = first(row);
     let number = number.parse::<usize>().unwrap_or(0);
-    put_verdicts(alloc, history_of(alloc, rows, number, line)?, out)
+    let history = history_of(alloc, rows, number, line, out);
+    put_verdicts(alloc, history, out)
 }
 
 /// The text of the history, and that of its counts with so many entries of a journal.
-fn put_texts(alloc: Global, rows: &Rows, row: &str, out: &mut String) -> Result<(), AllocError> {
-    let history = history_of(alloc, rows, 0, "")?;
-    let journal = row.parse::<u64>().unwrap_or(0);
-    out.push_str("\n")?;
-    put_text(out, &text(alloc, &history)?)?;
-    put_text(out, &summary_text(alloc, &history, journal)?)
+fn put_texts(alloc: Global, rows: &Rows, row: &str, out: &mut Out) {
+    let history = history_of(alloc, rows, 0, "", out);
+    out.text("\n");
+    put_text(out, &text(alloc, &history));
+    put_text(out, &summary_text(alloc, &history, number(row)))
 }
 
 /// The bytes of a text.
-fn put_text(out: &mut String, bytes: &Bytes) -> Result<(), AllocError> {
-    for byte in bytes.as_slice() {
-        out.push(char::from(*byte))?;
+fn put_text(out: &mut Out, text: &Result<Bytes, AllocError>) {
+    match text {
+        Ok(bytes) => {
+            for byte in bytes.as_slice() {
+                out.letter(char::from(*byte));
+            }
+        }
+        Err(_) => out.lack(),
     }
-    Ok(())
 }
 
-/// What comes of a row.
-fn put<'a>(
-    alloc: Global,
-    rows: &mut Rows<'a>,
-    kind: &str,
-    row: &'a str,
-    out: &mut String,
-) -> Result<(), AllocError> {
+/// What comes of a row that prints something.
+fn put(alloc: Global, rows: &Rows, kind: &str, row: &str, out: &mut Out) {
     match kind {
-        "file" => {
-            rows.files.push(row)?;
-            Ok(())
-        }
-        "op" => {
-            rows.ops.push(row)?;
-            Ok(())
-        }
-        "anew" => {
-            rows.ops = Vec::new(alloc);
-            Ok(())
-        }
+        "file" | "op" | "anew" => (),
         "with" => put_variant(alloc, rows, row, out),
         "texts" => put_texts(alloc, rows, row, out),
-        "rounds" => random::put_rounds(alloc, files_of(alloc, rows.files.as_slice())?, row, out),
+        "rounds" => random::put_rounds(alloc, rows.files.as_slice(), row, out),
         "random" => random::put_random(alloc, rows.files.as_slice(), row, out),
-        _ => out.push_str("no row"),
+        _ => out.text("no row"),
+    }
+}
+
+/// Adds a row of the history, or drops its operations.
+fn take<'a>(alloc: Global, rows: &mut Rows<'a>, kind: &str, row: &'a str, out: &mut Out) {
+    match kind {
+        "file" => out.note(rows.files.extend_from_slice(&[row])),
+        "op" => out.note(rows.ops.extend_from_slice(&[row])),
+        "anew" => rows.ops = Vec::new(alloc),
+        _ => (),
     }
 }
 
 /// What comes of each row of a text: `file` and `op` give the history, `anew` drops its operations,
 /// `with` looks at a variant of it, and the others say what they print.
-pub fn put_all(alloc: Global, text: &str, out: &mut String) -> Result<(), AllocError> {
+pub fn rows_of(alloc: Global, text: &str) -> Result<String, AllocError> {
+    let mut out = Out::new(alloc);
     let mut rows = Rows {
         files: Vec::new(alloc),
         ops: Vec::new(alloc),
     };
     for line in text.lines() {
         if !line.is_empty() && !line.starts_with("## ") {
-            let (kind, row) = line.split_once(' ').unwrap_or((line, ""));
-            out.push_str(line)?;
-            out.push_str(" => ")?;
-            put(alloc, &mut rows, kind, row, out)?;
-            out.push_str("\n")?;
+            let (kind, row) = first(line);
+            out.text(line);
+            out.text(" => ");
+            take(alloc, &mut rows, kind, row, &mut out);
+            put(alloc, &rows, kind, row, &mut out);
+            out.text("\n");
         }
     }
-    Ok(())
+    out.done()
 }

@@ -1,34 +1,40 @@
 //! Lines of traces: what each is read as.
 
 use crate::contents::put_content;
+use crate::out::Out;
 use crate::text::{put_bytes, unescaped};
 use command_text::command::Command;
 use command_text::line_err::LineErr;
 use command_text::path::Spot;
-use std::alloc::{AllocError, Global};
-use std::fmt::Write;
+use std::alloc::Global;
 use trace_text::line::Line;
 
 /// A path, as it is written.
-fn put_spot(out: &mut String, spot: &Spot) -> Result<(), AllocError> {
+fn put_spot(out: &mut Out, spot: &Spot) {
     for dir in spot.dirs.as_slice() {
-        put_bytes(out, dir.as_slice())?;
-        out.push('/')?;
+        put_bytes(out, dir.as_slice());
+        out.text("/");
     }
     put_bytes(out, spot.name.as_slice())
 }
 
+/// A number behind a word.
+fn put_number(out: &mut Out, word: &str, number: u64) {
+    out.text(word);
+    out.number(number)
+}
+
 /// What a line says, with the bytes of its content.
-fn put_line(alloc: Global, line: &Line, out: &mut String) -> Result<(), AllocError> {
+fn put_line(alloc: Global, line: &Line, out: &mut Out) {
     match line {
         Line::Dir(spot) => {
-            out.push_str("Dir ")?;
+            out.text("Dir ");
             put_spot(out, spot)
         }
         Line::File { spot, content } => {
-            out.push_str("File ")?;
-            put_spot(out, spot)?;
-            out.push_str(" of ")?;
+            out.text("File ");
+            put_spot(out, spot);
+            out.text(" of ");
             put_content(alloc, out, content)
         }
         Line::Do {
@@ -40,19 +46,25 @@ fn put_line(alloc: Global, line: &Line, out: &mut String) -> Result<(), AllocErr
                 content,
             },
         } => {
-            write!(out, "Do {client} at {at} Write {file} from {offset} ")?;
+            put_number(out, "Do ", *client);
+            put_number(out, " at ", *at);
+            put_number(out, " Write ", *file);
+            put_number(out, " from ", *offset);
+            out.text(" ");
             put_content(alloc, out, content)
         }
-        _ => write!(out, "{line:?}"),
+        _ => out.value(line),
     }
 }
 
 /// What the row is read as, or that it is refused.
-pub fn put(alloc: Global, row: &str, out: &mut String) -> Result<(), AllocError> {
-    let line = unescaped(alloc, row)?;
-    match Line::read(alloc, line.as_slice()) {
-        Ok(line) => put_line(alloc, &line, out),
-        Err(LineErr::BadLine) => out.push_str("refused"),
-        Err(LineErr::Memory) => Err(AllocError),
+pub fn put(alloc: Global, row: &str, out: &mut Out) {
+    let bytes = unescaped(alloc, row, out);
+    let line = Line::read(alloc, bytes.as_slice());
+    match &line {
+        Ok(line) => put_line(alloc, line, out),
+        Err(LineErr::BadLine) => out.text("refused"),
+        Err(LineErr::Memory) => out.lack(),
     }
+    drop(line)
 }

@@ -9,6 +9,7 @@ mod contents;
 mod cuts;
 mod histories;
 mod lines;
+mod out;
 mod plain;
 mod prints;
 mod random;
@@ -16,6 +17,7 @@ mod readings;
 mod refusals;
 mod text;
 
+use out::Out;
 use std::alloc::{AllocError, Global};
 use std::{fs, io};
 
@@ -50,7 +52,7 @@ const FILES: [(&str, Kind); 6] = [
 const HISTORIES: &str = "histories";
 
 /// What comes of a row.
-fn put_row(alloc: Global, kind: Kind, row: &str, out: &mut String) -> Result<(), AllocError> {
+fn put_row(alloc: Global, kind: Kind, row: &str, out: &mut Out) {
     match kind {
         Kind::Lines => lines::put(alloc, row, out),
         Kind::Contents => contents::put(alloc, row, out),
@@ -67,26 +69,30 @@ fn is_remark(row: &str) -> bool {
 }
 
 /// Each row of a text, and what comes of it.
-fn put_rows(alloc: Global, kind: Kind, text: &str, out: &mut String) -> Result<(), AllocError> {
+fn rows_of(alloc: Global, kind: Kind, text: &str) -> Result<String, AllocError> {
+    let mut out = Out::new(alloc);
     for row in text.lines() {
         if !is_remark(row) {
-            out.push_str(row)?;
-            out.push_str(" => ")?;
-            put_row(alloc, kind, row, out)?;
-            out.push_str("\n")?;
+            out.text(row);
+            out.text(" => ");
+            put_row(alloc, kind, row, &mut out);
+            out.text("\n");
         }
     }
-    Ok(())
+    out.done()
+}
+
+/// Prints what came of the rows of a file.
+fn print_rows(rt: &HostRuntime, name: &str, rows: Result<String, AllocError>) -> io::Result<()> {
+    let rows = rows?;
+    println!(rt; "== {name}")?;
+    print!(rt; "{rows}")
 }
 
 /// What comes of all rows of a file.
 fn print_file(rt: &HostRuntime, name: &str, kind: Kind) -> io::Result<()> {
-    let alloc = rt.alloc();
     let text = fs::read_to_string(rt, name)?;
-    let mut out = String::new(alloc);
-    put_rows(alloc, kind, text.as_str(), &mut out)?;
-    println!(rt; "== {name}")?;
-    print!(rt; "{out}")
+    print_rows(rt, name, rows_of(rt.alloc(), kind, text.as_str()))
 }
 
 fn main(rt: HostRuntime) -> io::Result<()> {
@@ -94,8 +100,9 @@ fn main(rt: HostRuntime) -> io::Result<()> {
         print_file(&rt, name, kind)?;
     }
     let text = fs::read_to_string(&rt, HISTORIES)?;
-    let mut out = String::new(rt.alloc());
-    histories::put_all(rt.alloc(), text.as_str(), &mut out)?;
-    println!(rt; "== {HISTORIES}")?;
-    print!(rt; "{out}")
+    print_rows(
+        &rt,
+        HISTORIES,
+        histories::rows_of(rt.alloc(), text.as_str()),
+    )
 }

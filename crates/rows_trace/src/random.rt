@@ -2,13 +2,13 @@
 
 ghost use Rattle.std.specs.Prelude.{◌<◌};
 
-use crate::histories::{Times, files_of, op, push_op, verdicts};
+use crate::histories::{Times, files_of, op, push_op, put_truth, value, verdicts};
+use crate::out::Out;
+use crate::text::{first, number};
 use lb_base::items::{Bytes, Items};
 use register_model::history::History;
-use register_model::op::{Op, Opening, Outcome, Word};
-use shared_bytes::SharedBytes;
-use std::alloc::{AllocError, Global};
-use std::fmt::Write;
+use register_model::op::{Op, Outcome, Word};
+use std::alloc::Global;
 
 /// An open or a close that got or stored a byte.
 fn told(word: Word, sha1: Bytes) -> Outcome {
@@ -23,37 +23,35 @@ fn told(word: Word, sha1: Bytes) -> Outcome {
 }
 
 /// An operation on file 2 that takes one step.
-fn at_step(alloc: Global, word: Word, step: u64, value: &[u8]) -> Result<Op, AllocError> {
+fn at_step(alloc: Global, word: Word, step: u64, bytes: &[u8], out: &mut Out) -> Op {
     let times = (step, Some(step), Some(step));
-    let value = SharedBytes::new(alloc, Bytes::copy_of(alloc, value)?)?;
-    Ok(op(word, 2, times, told(word, Bytes::new(alloc)), value))
+    let value = value(alloc, bytes, out);
+    op(word, 2, times, told(word, Bytes::new(alloc)), value)
 }
 
 /// File 2 is closed and opened again, so many times; the last open got the content.
-fn rounds(alloc: Global, count: u64, last: &[u8]) -> Result<Items<Op>, AllocError> {
+fn rounds(alloc: Global, count: u64, last: &[u8], out: &mut Out) -> Items<Op> {
     let mut ops = Vec::new(alloc);
     for round in 1..count.saturating_add(1) {
         let step = round.wrapping_mul(2);
         let got = if round == count { last } else { b"b" };
-        let close = at_step(alloc, Word::Close, step.wrapping_sub(1), b"b")?;
-        push_op(&mut ops, close)?;
-        let open = at_step(alloc, Word::Open, step, got)?;
-        push_op(&mut ops, open)?;
+        let close = at_step(alloc, Word::Close, step.wrapping_sub(1), b"b", out);
+        push_op(&mut ops, close, out);
+        let open = at_step(alloc, Word::Open, step, got, out);
+        push_op(&mut ops, open, out);
     }
-    Ok(Items::from_vec(ops))
+    Items::from_vec(ops)
 }
 
 /// `COUNT CONTENT`: what both tests say of so many rounds of which the last open got the content.
-pub fn put_rounds(
-    alloc: Global,
-    files: Items<Opening>,
-    row: &str,
-    out: &mut String,
-) -> Result<(), AllocError> {
-    let (count, last) = row.split_once(' ').unwrap_or((row, ""));
-    let ops = rounds(alloc, count.parse::<u64>().unwrap_or(0), last.as_bytes())?;
-    let (test, plain) = verdicts(alloc, History::new(files, ops, 23))?;
-    write!(out, "{test} {plain}")
+pub fn put_rounds(alloc: Global, files: &[&str], row: &str, out: &mut Out) {
+    let (count, last) = first(row);
+    let files = files_of(alloc, files, out);
+    let ops = rounds(alloc, number(count), last.as_bytes(), out);
+    let (test, plain) = verdicts(alloc, History::new(files, ops, 23), out);
+    put_truth(out, test);
+    out.text(" ");
+    put_truth(out, plain)
 }
 
 /// The next number of a fixed sequence, below the bound.
@@ -100,50 +98,46 @@ fn some_moment(state: &mut u64) -> Option<u64> {
 }
 
 /// An operation on file 2 or 3, whose begin, end and point are any.
-fn some_op(alloc: Global, state: &mut u64) -> Result<Op, AllocError> {
+fn some_op(alloc: Global, state: &mut u64, out: &mut Out) -> Op {
     let word = some_word(state);
     let file = next(state, 2).wrapping_add(2);
     let begin = next(state, 4);
     let end = some_moment(state);
     let point = some_moment(state);
     let way = next(state, 6);
-    let value = if next(state, 2) == 0 { b"a" } else { b"b" };
+    let bytes = if next(state, 2) == 0 { b"a" } else { b"b" };
     let times: Times = (begin, end, point);
-    let value = SharedBytes::new(alloc, Bytes::copy_of(alloc, value)?)?;
-    Ok(op(word, file, times, outcome_of(alloc, way), value))
+    let value = value(alloc, bytes, out);
+    op(word, file, times, outcome_of(alloc, way), value)
 }
 
 /// One to four operations.
-fn some_ops(alloc: Global, state: &mut u64) -> Result<Items<Op>, AllocError> {
+fn some_ops(alloc: Global, state: &mut u64, out: &mut Out) -> Items<Op> {
     let mut ops = Vec::new(alloc);
     for _ in 0..next(state, 4).wrapping_add(1) {
-        let op = some_op(alloc, state)?;
-        push_op(&mut ops, op)?;
+        let op = some_op(alloc, state, out);
+        push_op(&mut ops, op, out);
     }
-    Ok(Items::from_vec(ops))
+    Items::from_vec(ops)
+}
+
+/// What both tests say of one such history.
+fn some_verdicts(alloc: Global, files: &[&str], state: &mut u64, out: &mut Out) -> (bool, bool) {
+    let ops = some_ops(alloc, state, out);
+    let files = files_of(alloc, files, out);
+    verdicts(alloc, History::new(files, ops, 23), out)
 }
 
 /// `COUNT`: of so many histories how many are legal, and of how many the two tests say different things.
-pub fn put_random(
-    alloc: Global,
-    files: &[&str],
-    row: &str,
-    out: &mut String,
-) -> Result<(), AllocError> {
+pub fn put_random(alloc: Global, files: &[&str], row: &str, out: &mut Out) {
     let (mut state, mut legal, mut apart) = (1u64, 0u64, 0u64);
-    for _ in 0..row.parse::<u64>().unwrap_or(0) {
-        let ops = some_ops(alloc, &mut state)?;
-        let history = History::new(files_of(alloc, files)?, ops, 23);
-        let (test, plain) = verdicts(alloc, history)?;
-        if test {
-            legal = legal.saturating_add(1);
-        }
-        if test != plain {
-            apart = apart.saturating_add(1);
-        }
+    for _ in 0..number(row) {
+        let (test, plain) = some_verdicts(alloc, files, &mut state, out);
+        legal = legal.saturating_add(u64::from(test));
+        apart = apart.saturating_add(u64::from(test != plain));
     }
-    write!(
-        out,
-        "{legal} legal, of {apart} the plain test says otherwise"
-    )
+    out.number(legal);
+    out.text(" legal, of ");
+    out.number(apart);
+    out.text(" the plain test says otherwise")
 }

@@ -1,6 +1,7 @@
 //! Readings of clocks as rows write them: `server:S`, `client:C:R` and `both:S:C:R`, where S and R may
 //! be `FROM+STEP`, and `N*` before one means that it stands there so often, each a step further on.
 
+use crate::text::{number, split};
 use clock_rule::rule::Reading;
 
 /// A number that goes up by a step.
@@ -12,12 +13,12 @@ struct Going {
 
 impl Going {
     /// `FROM`, or `FROM+STEP`.
-    fn read(word: &str) -> Option<Going> {
-        let (from, step) = word.split_once('+').unwrap_or((word, "0"));
-        Some(Going {
-            from: from.parse::<u64>().ok()?,
-            step: step.parse::<u64>().ok()?,
-        })
+    fn read(word: &str) -> Going {
+        let (from, step) = split(word, '+');
+        Going {
+            from: number(from),
+            step: number(step),
+        }
     }
 
     /// After so many steps.
@@ -52,42 +53,54 @@ pub struct Series {
     whose: Whose,
 }
 
-/// A client and its reading.
-fn client_of(word: &str) -> Option<(u64, Going)> {
-    let (client, at) = word.split_once(':')?;
-    Some((client.parse::<u64>().ok()?, Going::read(at)?))
+/// The clock of a client, `CLIENT:AT`.
+fn client_of(word: &str) -> Whose {
+    let (client, at) = split(word, ':');
+    Whose::Client {
+        client: number(client),
+        at: Going::read(at),
+    }
 }
 
-/// Whose clocks the word reads.
-fn whose_of(word: &str) -> Option<Whose> {
-    let (kind, rest) = word.split_once(':')?;
+/// Both clocks, `SERVER:CLIENT:AT`.
+fn both_of(word: &str) -> Whose {
+    let (server, rest) = split(word, ':');
+    let (client, at) = split(rest, ':');
+    Whose::Both {
+        server: Going::read(server),
+        client: number(client),
+        at: Going::read(at),
+    }
+}
+
+/// Whose clocks a word of this kind reads.
+fn whose_of(kind: &str, word: &str) -> Option<Whose> {
     match kind {
-        "server" => Some(Whose::Server(Going::read(rest)?)),
-        "client" => {
-            let (client, at) = client_of(rest)?;
-            Some(Whose::Client { client, at })
-        }
-        "both" => {
-            let (server, rest) = rest.split_once(':')?;
-            let (client, at) = client_of(rest)?;
-            Some(Whose::Both {
-                server: Going::read(server)?,
-                client,
-                at,
-            })
-        }
+        "server" => Some(Whose::Server(Going::read(word))),
+        "client" => Some(client_of(word)),
+        "both" => Some(both_of(word)),
         _ => None,
+    }
+}
+
+/// So many readings of the clocks that the word says.
+fn series_of(count: u64, word: &str) -> Option<Series> {
+    let (kind, rest) = split(word, ':');
+    match whose_of(kind, rest) {
+        Some(whose) => Some(Series { count, whose }),
+        None => None,
     }
 }
 
 impl Series {
     /// The readings that a word stands for.
     pub fn read(word: &str) -> Option<Series> {
-        let (count, word) = word.split_once('*').unwrap_or(("1", word));
-        Some(Series {
-            count: count.parse::<u64>().ok()?,
-            whose: whose_of(word)?,
-        })
+        let (count, each) = split(word, '*');
+        if each.is_empty() {
+            series_of(1, word)
+        } else {
+            series_of(number(count), each)
+        }
     }
 
     /// The reading at this place, from 0.

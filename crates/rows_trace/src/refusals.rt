@@ -1,67 +1,96 @@
 //! The texts of refusals.
 
+use crate::out::Out;
+use crate::text::{first, number};
 use clock_rule::rule::ClockFault;
-use std::alloc::{AllocError, Global};
+use std::alloc::Global;
 use trace_text::refusal::{Limit, LineFault, Refusal};
 
-/// The numbers of a fault by the clock: all words behind the first that are numbers.
-fn number(words: &[&str], place: usize) -> u64 {
-    words
-        .get(place)
-        .and_then(|word| word.parse::<u64>().ok())
-        .unwrap_or(0)
+/// The fault by the clock that has the name and these numbers, if it has one.
+fn clock_fault(name: &str, numbers: [u64; 5]) -> Option<ClockFault> {
+    let [one, two, three, four, five] = numbers;
+    match name {
+        "server" => Some(ClockFault::Server { from: one, to: two }),
+        "client" => Some(ClockFault::Client {
+            client: one,
+            from: two,
+            to: three,
+        }),
+        "drift" => Some(ClockFault::Drift {
+            client: one,
+            from: two,
+            server_from: three,
+            to: four,
+            server_to: five,
+        }),
+        _ => None,
+    }
 }
 
-/// The fault that these words name.
-fn fault_of(words: &[&str]) -> Option<LineFault> {
-    let fault = match *words.first()? {
-        "grammar" => LineFault::Grammar,
-        "lines" => LineFault::Limit(Limit::Lines),
-        "file" => LineFault::Limit(Limit::File),
-        "tree" => LineFault::Limit(Limit::Tree),
-        "sessions" => LineFault::Limit(Limit::Sessions),
-        "server" => LineFault::Clock(ClockFault::Server {
-            from: number(words, 1),
-            to: number(words, 2),
-        }),
-        "client" => LineFault::Clock(ClockFault::Client {
-            client: number(words, 1),
-            from: number(words, 2),
-            to: number(words, 3),
-        }),
-        "drift" => LineFault::Clock(ClockFault::Drift {
-            client: number(words, 1),
-            from: number(words, 2),
-            server_from: number(words, 3),
-            to: number(words, 4),
-            server_to: number(words, 5),
-        }),
-        _ => return None,
-    };
-    Some(fault)
+/// The numbers that stand in a text, one behind the other.
+fn numbers_of(text: &str) -> [u64; 5] {
+    let (one, rest) = first(text);
+    let (two, rest) = first(rest);
+    let (three, rest) = first(rest);
+    let (four, five) = first(rest);
+    [
+        number(one),
+        number(two),
+        number(three),
+        number(four),
+        number(five),
+    ]
 }
 
-/// The refusal that these words name.
-fn refusal_of(words: &[&str]) -> Option<Refusal> {
-    match words {
-        ["words"] => Some(Refusal::Words),
-        ["bytes"] => Some(Refusal::LimitBytes),
-        [_number, rest @ ..] => Some(Refusal::Line {
-            number: number(words, 0),
-            fault: fault_of(rest)?,
+/// The fault that has the name and these numbers, if it has one.
+fn fault_of(name: &str, numbers: [u64; 5]) -> Option<LineFault> {
+    match name {
+        "grammar" => Some(LineFault::Grammar),
+        "lines" => Some(LineFault::Limit(Limit::Lines)),
+        "file" => Some(LineFault::Limit(Limit::File)),
+        "tree" => Some(LineFault::Limit(Limit::Tree)),
+        "sessions" => Some(LineFault::Limit(Limit::Sessions)),
+        _ => match clock_fault(name, numbers) {
+            Some(fault) => Some(LineFault::Clock(fault)),
+            None => None,
+        },
+    }
+}
+
+/// The refusal of a line, as `NUMBER FAULT ..` says.
+fn line_refusal(row: &str) -> Option<Refusal> {
+    let (line, rest) = first(row);
+    let (name, numbers) = first(rest);
+    match fault_of(name, numbers_of(numbers)) {
+        Some(fault) => Some(Refusal::Line {
+            number: number(line),
+            fault,
         }),
-        [] => None,
+        None => None,
+    }
+}
+
+/// The refusal that the row says.
+fn refusal_of(row: &str) -> Option<Refusal> {
+    match row {
+        "words" => Some(Refusal::Words),
+        "bytes" => Some(Refusal::LimitBytes),
+        _ => line_refusal(row),
+    }
+}
+
+/// The text of a refusal without its line feed.
+fn put_refusal(alloc: Global, refusal: Refusal, out: &mut Out) {
+    match refusal.text(alloc) {
+        Ok(text) => out.text(text.as_str().trim_end()),
+        Err(_) => out.lack(),
     }
 }
 
 /// `words`, `bytes`, or a line's number and its fault: the text without its line feed.
-pub fn put(alloc: Global, row: &str, out: &mut String) -> Result<(), AllocError> {
-    let words: Vec<&str> = row.split_whitespace().collect(alloc)?;
-    match refusal_of(words.as_slice()) {
-        Some(refusal) => {
-            let text = refusal.text(alloc)?;
-            out.push_str(text.as_str().trim_end())
-        }
-        None => out.push_str("no row"),
+pub fn put(alloc: Global, row: &str, out: &mut Out) {
+    match refusal_of(row) {
+        Some(refusal) => put_refusal(alloc, refusal, out),
+        None => out.text("no row"),
     }
 }

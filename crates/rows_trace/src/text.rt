@@ -1,10 +1,10 @@
 //! Bytes as rows write them, and as they are printed.
 
-use std::alloc::{AllocError, Global};
-use std::fmt::Write;
+use crate::out::Out;
+use std::alloc::Global;
 
 /// How many equal bytes are printed as one run.
-const LEAST_RUN: usize = 8;
+const LEAST_RUN: u64 = 8;
 
 /// Where the reading of a text stands.
 #[derive(Clone, Copy)]
@@ -54,39 +54,53 @@ fn step(at: At, letter: u8) -> (At, Option<u8>) {
 }
 
 /// The bytes that a text stands for: `\n`, `\t`, `\r`, `\\` and `\xHH` are one byte each.
-pub fn unescaped(alloc: Global, text: &str) -> Result<Vec<u8>, AllocError> {
+pub fn unescaped(alloc: Global, text: &str, out: &mut Out) -> Vec<u8> {
     let mut bytes = Vec::new(alloc);
     let mut at = At::Plain;
     for letter in text.bytes() {
         let (next, byte) = step(at, letter);
         at = next;
         if let Some(byte) = byte {
-            bytes.push(byte)?;
+            out.note(bytes.extend_from_slice(&[byte]));
         }
     }
-    Ok(bytes)
+    bytes
+}
+
+/// A text up to the first such mark, and what stands behind that.
+pub fn split(text: &str, mark: char) -> (&str, &str) {
+    text.split_once(mark).unwrap_or((text, ""))
+}
+
+/// A text up to its first blank, and what stands behind that.
+pub fn first(text: &str) -> (&str, &str) {
+    split(text, ' ')
+}
+
+/// The number that a word is; 0 where it is none.
+pub fn number(word: &str) -> u64 {
+    word.parse::<u64>().unwrap_or(0)
 }
 
 /// So many times the same byte, in hexadecimal.
-fn put_run(out: &mut String, byte: u8, count: usize) -> Result<(), AllocError> {
+fn put_run(out: &mut Out, byte: u8, count: u64) {
     if count >= LEAST_RUN {
-        return write!(out, "[{count}*{byte:02x}]");
+        return out.run(byte, count);
     }
     for _ in 0..count {
-        write!(out, "{byte:02x}")?;
+        out.byte(byte);
     }
-    Ok(())
 }
 
 /// Bytes in hexadecimal; eight and more equal ones as a run, `[2047*00]`.
-pub fn put_bytes(out: &mut String, bytes: &[u8]) -> Result<(), AllocError> {
+pub fn put_bytes(out: &mut Out, bytes: &[u8]) {
     let mut last = 0u8;
-    let mut count = 0usize;
+    let mut count = 0u64;
     for byte in bytes {
         if *byte == last {
             count = count.saturating_add(1);
         } else {
-            put_run(out, last, count)?;
+            put_run(out, last, count);
             last = *byte;
             count = 1;
         }
